@@ -1,0 +1,2 @@
+pub mod NamedCalls
+pub mod Pieces

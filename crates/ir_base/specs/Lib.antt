@@ -1,0 +1,10 @@
+pub mod Answers
+pub mod Calls
+pub mod Files
+pub mod HostFiles
+pub mod MemoryFiles
+pub mod MemorySink
+pub mod MemorySource
+pub mod Name
+pub mod Outside
+pub mod Standard

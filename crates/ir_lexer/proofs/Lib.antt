@@ -1,0 +1,16 @@
+pub mod Runs
+pub mod Fronts
+pub mod Rows
+pub mod First
+pub mod Gaps
+pub mod TokenLists
+pub mod Lexed
+pub mod Walks
+pub mod Lexes
+pub mod Answering
+pub mod Strings
+pub mod AheadSteps
+pub mod QuotedTokens
+pub mod Examples
+pub mod KnownRuns
+pub mod Placing

@@ -1,0 +1,5 @@
+use Rattle.ir_lexer.proofs.Lexes.{front_fits}
+use Rattle.ir_lexer.proofs.front.fitting_token_of.Goals as goal
+
+pub returns-clause-in_text : goal.returns-clause-in_text
+returns-clause-in_text c = front_fits c.args.text.now c.token_of.result c.token_of.ensures.token

@@ -1,0 +1,15 @@
+-- Reading: the separators and comments at the front of a text.
+use Rattle.std.specs.Prelude.{ℕ, suc, Bool, true, false, not, cond, List, [], ◌∷◌, Option, Some, None}
+use Rattle.ir_lexer.specs.Class.{byte_class, is_blank, is_semicolon, is_line_feed}
+use Rattle.ir_lexer.specs.declared.class.Class.{Class}
+
+-- how many bytes of separators and comments stand at the front, where a comment is open or not
+unfoldable pub gap_length : Bool → List ℕ → ℕ
+gap_length within [] = 0
+gap_length true (b ∷ bs) = suc (gap_length (not (is_line_feed (byte_class b))) bs)
+gap_length false (b ∷ bs) = cond (is_blank (byte_class b)) (suc (gap_length false bs)) (cond (is_semicolon (byte_class b)) (suc (gap_length true bs)) 0)
+
+-- whether a comment is open behind a byte, and was before it
+abbrev pub stepped : Bool → Class → Option Bool
+stepped true x = Some (not (is_line_feed x))
+stepped false x = cond (is_blank x) (Some false) (cond (is_semicolon x) (Some true) None)

@@ -1,0 +1,14 @@
+pub mod Class
+pub mod Form
+pub mod Quoted
+pub mod Table
+pub mod Tokens
+pub mod Names
+pub mod Gap
+pub mod Front
+pub mod Label
+pub mod Place
+pub mod Lexer
+pub mod Ahead
+pub mod Pieces
+pub mod Laws

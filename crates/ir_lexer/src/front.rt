@@ -1,0 +1,188 @@
+//! The token at the front of a text, by its first byte.
+ghost use Rattle.std.specs.Prelude.{◌≡◌, ◌≤◌, length, IfSome};
+ghost use Rattle.ir_lexer.specs.Form.{longest};
+ghost use Rattle.ir_lexer.specs.Front.{next_token, token_from};
+ghost use Rattle.ir_lexer.specs.Label.{KnownRun};
+ghost use Rattle.ir_lexer.specs.Table.{Label, tail_of};
+ghost use Rattle.ir_lexer.specs.declared.class.Class.TheVariants.{Quote, LetterC, Letter, Digit, Minus, Dollar, Dot, At, Percent, Bang, Hash};
+
+use crate::class::{Class, ClassSet, class_of};
+use crate::label::label_unless;
+use crate::quoted::{inside_of, label_inside_of, quoted_name_of, text_of};
+use crate::run::{begins, digits_of, dots_of, identifier_of, letter_word_of, run_of};
+use crate::token::TokenKind;
+
+/// What begins with a letter other than c, or with `_`.
+fn after_letter(label: Option<usize>, bytes: &[u8]) -> Option<(TokenKind, usize)>
+    requires is { label ≡ longest (tail_of Label) bytes.now }
+    requires small { IfSome label (λ n. n ≤ length bytes.now) }
+    ensures { result ≡ token_from Letter bytes.now }
+{
+    match label {
+        Some(n) => Some((TokenKind::Label, n + 1)),
+        None => Some((TokenKind::Word, run_of(ClassSet::InWord, bytes) + 1)),
+    }
+}
+
+/// What begins with c. Directly before a quote that is a byte string, or no token.
+fn after_c(label: Option<usize>, bytes: &[u8]) -> Option<(TokenKind, usize)>
+    requires is { label ≡ longest (tail_of Label) bytes.now }
+    requires small { IfSome label (λ n. n ≤ length bytes.now) }
+    ensures { result ≡ token_from LetterC bytes.now }
+{
+    if let Some(n) = label {
+        return Some((TokenKind::Label, n + 1));
+    }
+    match text_of(bytes) {
+        Some(n) => Some((TokenKind::ByteString, n + 1)),
+        None if begins(ClassSet::Quotes, bytes) => None,
+        None => Some((TokenKind::Word, run_of(ClassSet::InWord, bytes) + 1)),
+    }
+}
+
+/// What begins with a digit.
+fn after_digit(label: Option<usize>, bytes: &[u8]) -> Option<(TokenKind, usize)>
+    requires is { label ≡ longest (tail_of Label) bytes.now }
+    requires small { IfSome label (λ n. n ≤ length bytes.now) }
+    ensures { result ≡ token_from Digit bytes.now }
+{
+    match label {
+        Some(n) => Some((TokenKind::Label, n + 1)),
+        None => Some((TokenKind::Integer, run_of(ClassSet::Digits, bytes) + 1)),
+    }
+}
+
+/// What begins with `-`.
+fn after_minus(label: Option<usize>, bytes: &[u8]) -> Option<(TokenKind, usize)>
+    requires is { label ≡ longest (tail_of Label) bytes.now }
+    requires small { IfSome label (λ n. n ≤ length bytes.now) }
+    ensures { result ≡ token_from Minus bytes.now }
+{
+    if let Some(n) = label {
+        return Some((TokenKind::Label, n + 1));
+    }
+    let n = digits_of(bytes)?;
+    Some((TokenKind::Integer, n + 1))
+}
+
+/// What begins with `$`.
+fn after_dollar(label: Option<usize>, bytes: &[u8]) -> Option<(TokenKind, usize)>
+    requires is { label ≡ longest (tail_of Label) bytes.now }
+    requires small { IfSome label (λ n. n ≤ length bytes.now) }
+    ensures { result ≡ token_from Dollar bytes.now }
+{
+    let n = label?;
+    Some((TokenKind::Label, n + 1))
+}
+
+/// What begins with a dot.
+fn after_dot(label: Option<usize>, bytes: &[u8]) -> Option<(TokenKind, usize)>
+    requires is { label ≡ longest (tail_of Label) bytes.now }
+    requires small { IfSome label (λ n. n ≤ length bytes.now) }
+    ensures { result ≡ token_from Dot bytes.now }
+{
+    if let Some(n) = label {
+        return Some((TokenKind::Label, n + 1));
+    }
+    let n = dots_of(bytes)?;
+    Some((TokenKind::Punctuation, n + 1))
+}
+
+/// What begins with a quote.
+fn after_quote(bytes: &[u8]) -> Option<(TokenKind, usize)>
+    ensures { result ≡ token_from Quote bytes.now }
+{
+    if let Some(n) = label_inside_of(bytes) {
+        return Some((TokenKind::Label, n + 1));
+    }
+    let n = inside_of(bytes)?;
+    Some((TokenKind::Quoted, n + 1))
+}
+
+/// What begins with `@`.
+fn after_at(bytes: &[u8]) -> Option<(TokenKind, usize)>
+    ensures { result ≡ token_from At bytes.now }
+{
+    if let Some(n) = identifier_of(bytes) {
+        return Some((TokenKind::GlobalName, n + 1));
+    }
+    if let Some(n) = quoted_name_of(bytes) {
+        return Some((TokenKind::GlobalName, n + 1));
+    }
+    let n = digits_of(bytes)?;
+    Some((TokenKind::UnnamedGlobal, n + 1))
+}
+
+/// What begins with `%`.
+fn after_percent(bytes: &[u8]) -> Option<(TokenKind, usize)>
+    ensures { result ≡ token_from Percent bytes.now }
+{
+    if let Some(n) = identifier_of(bytes) {
+        return Some((TokenKind::LocalName, n + 1));
+    }
+    if let Some(n) = quoted_name_of(bytes) {
+        return Some((TokenKind::LocalName, n + 1));
+    }
+    let n = digits_of(bytes)?;
+    Some((TokenKind::UnnamedLocal, n + 1))
+}
+
+/// What begins with `!`.
+fn after_bang(bytes: &[u8]) -> Option<(TokenKind, usize)>
+    ensures { result ≡ token_from Bang bytes.now }
+{
+    if let Some(n) = identifier_of(bytes) {
+        return Some((TokenKind::MetaName, n + 1));
+    }
+    if let Some(n) = digits_of(bytes) {
+        return Some((TokenKind::MetaNumber, n + 1));
+    }
+    Some((TokenKind::MetaMark, 1))
+}
+
+/// What begins with `#`.
+fn after_hash(bytes: &[u8]) -> Option<(TokenKind, usize)>
+    ensures { result ≡ token_from Hash bytes.now }
+{
+    if let Some(n) = digits_of(bytes) {
+        return Some((TokenKind::Group, n + 1));
+    }
+    let n = letter_word_of(bytes)?;
+    Some((TokenKind::RecordMark, n + 1))
+}
+
+/// The kind and the length of the token at the front.
+#[tactic(auto, unfolding(crate::specs::Front::next_token))]
+fn token_of(known: usize, text: &[u8]) -> Option<(TokenKind, usize)>
+    requires { KnownRun known text.now }
+    ensures token { result ≡ next_token text.now }
+{
+    if text.is_empty() {
+        return None;
+    }
+    let bytes = &text[1..];
+    match class_of(text[0]) {
+        Class::LetterC => after_c(label_unless(known, text), bytes),
+        Class::Letter | Class::Underscore => after_letter(label_unless(known, text), bytes),
+        Class::Digit => after_digit(label_unless(known, text), bytes),
+        Class::Minus => after_minus(label_unless(known, text), bytes),
+        Class::Dollar => after_dollar(label_unless(known, text), bytes),
+        Class::Dot => after_dot(label_unless(known, text), bytes),
+        Class::Quote => after_quote(bytes),
+        Class::At => after_at(bytes),
+        Class::Percent => after_percent(bytes),
+        Class::Bang => after_bang(bytes),
+        Class::Hash => after_hash(bytes),
+        Class::Colon | Class::Mark => Some((TokenKind::Punctuation, 1)),
+        _ => None,
+    }
+}
+
+/// The kind and the length of the token at the front, which is no longer than the text.
+pub fn fitting_token_of(known: usize, text: &[u8]) -> Option<(TokenKind, usize)>
+    requires { KnownRun known text.now }
+    ensures token { result ≡ next_token text.now }
+    ensures in_text { IfSome result (λ found. found.1 ≤ length text.now) }
+{
+    token_of(known, text)
+}

@@ -1,0 +1,49 @@
+//! Labels, and the look-ahead that they need.
+ghost use Rattle.std.specs.Prelude.{◌≡◌, ◌<◌, ◌≤◌, length, drop, IfSome};
+ghost use Rattle.ir_lexer.specs.Form.{longest};
+ghost use Rattle.ir_lexer.specs.Label.{KnownRun};
+ghost use Rattle.ir_lexer.specs.Table.{Label, tail_of};
+
+use crate::class::ClassSet;
+use crate::run::{begins, run_of};
+
+/// The length of what makes a label of the byte before.
+fn label_of(bytes: &[u8]) -> Option<usize>
+    ensures length { result ≡ longest (tail_of Label) bytes.now }
+    ensures in_bytes { IfSome result (λ n. n ≤ length bytes.now) }
+{
+    let n = run_of(ClassSet::InName, bytes);
+    if begins(ClassSet::Colons, &bytes[n..]) {
+        Some(n + 1)
+    } else {
+        None
+    }
+}
+
+/// What makes a label of the byte before, where `known` bytes from that byte on are those of a name and no colon
+/// follows them, or nothing is known.
+pub fn label_unless(known: usize, text: &[u8]) -> Option<usize>
+    requires some { 0 < length text.now }
+    requires known { KnownRun known text.now }
+    ensures length { result ≡ longest (tail_of Label) (drop 1 text.now) }
+    ensures in_bytes { IfSome result (λ n. n ≤ length (drop 1 text.now)) }
+{
+    if known > 0 {
+        None
+    } else {
+        label_of(&text[1..])
+    }
+}
+
+/// The length of the run of bytes of a name at the front, or 0 where a colon follows it.
+pub fn run_without_label(text: &[u8]) -> usize
+    ensures known { KnownRun result text.now }
+    ensures in_text { result ≤ length text.now }
+{
+    let n = run_of(ClassSet::InName, text);
+    if begins(ClassSet::Colons, &text[n..]) {
+        0
+    } else {
+        n
+    }
+}

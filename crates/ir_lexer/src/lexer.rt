@@ -1,0 +1,164 @@
+//! A lexer: it goes over a text that it borrows, token by token.
+ghost use Rattle.std.specs.Prelude.{◌≡◌, ◌≤◌, length, IfSome};
+ghost use Rattle.ir_lexer.specs.Front.{next_token};
+ghost use Rattle.ir_lexer.specs.Place.{place_of};
+ghost use Rattle.ir_lexer.specs.Lexer.{at_start, rest, spelled, Says, IsPlaced, Stays, answer, after, advanced, skipped, token_at, is_nil};
+
+use crate::front::fitting_token_of;
+use crate::gap::gap_of;
+use crate::label::run_without_label;
+use crate::place::place_behind;
+use crate::token::{BadByte, Token, TokenKind};
+use ir_base::Place;
+use std::marker::Model;
+
+/// Goes over a text, token by token. It copies none of the text, and takes no memory.
+#[derive(Drop)]
+pub struct Lexer<'t> {
+    text: &'t [u8],
+    at: usize,
+    place: Place,
+    /// Up to here the text is known to go on with bytes of names and then no colon.
+    known: usize,
+}
+
+impl<'t> Model for Lexer<'t> {
+    ghost use Rattle.std.specs.Prelude.{◌≡◌, ℕ, ◌+◌, ◌-◌, ◌≤◌, length, drop};
+    ghost use Rattle.ir_lexer.specs.Label.{KnownRun};
+    ghost use Rattle.ir_lexer.specs.Lexer.{Lexing};
+    ghost use Rattle.ir_lexer.specs.Place.{place_of};
+
+    ghost Value = { Lexing };
+
+    ghost view = { λ x. record { text = x.text.now; at = x.at } };
+
+    ghost invariant = { λ x. (x.at ≤ length x.text.now) × (length x.text.now ≤ 16777216) × (x.place ≡ place_of x.text.now x.at) × (x.known ≤ length x.text.now) × KnownRun (x.known - x.at) (drop x.at x.text.now) };
+}
+
+impl<'t> Lexer<'t> {
+    /// A lexer at the first byte of the text.
+    pub fn new(text: &'t [u8]) -> Lexer<'t>
+        requires { length text.now ≤ 16777216 }
+        ensures { result ≡ at_start text.now }
+    {
+        Lexer {
+            text,
+            at: 0,
+            place: Place { line: 1, column: 1 },
+            known: 0,
+        }
+    }
+
+    /// Goes over bytes of the rest.
+    fn advance(&mut self, n: usize)
+        requires { n ≤ length (rest self.old) }
+        ensures { self.new ≡ advanced self.old n }
+    {
+        let end = self.at + n;
+        self.place = place_behind(self.place, &self.text[self.at..end]);
+        self.at = end;
+    }
+
+    /// Goes over separators and comments.
+    #[tactic(auto, unfolding(crate::specs::Lexer::skipped))]
+    fn skip(&mut self)
+        ensures skipped { self.new ≡ skipped self.old }
+        ensures within { self.old.at ≤ length self.old.text }
+    {
+        let gap = gap_of(&self.text[self.at..]);
+        self.advance(gap);
+    }
+
+    /// Whether nothing is left.
+    fn is_at_end(&self) -> bool
+        ensures { result ≡ is_nil (rest self.now) }
+    {
+        self.text[self.at..].is_empty()
+    }
+
+    /// Looks once for the end of a run of bytes of names.
+    fn scout(&mut self)
+        ensures { self.new ≡ self.old }
+    {
+        if self.known <= self.at {
+            self.known = self.at + run_without_label(&self.text[self.at..]);
+        }
+    }
+
+    /// The kind and the length of the token here.
+    fn front(&self) -> Option<(TokenKind, usize)>
+        ensures token { result ≡ next_token (rest self.now) }
+        ensures in_rest { IfSome result (λ found. found.1 ≤ length (rest self.now)) }
+    {
+        let known = self.known.saturating_sub(self.at);
+        fitting_token_of(known, &self.text[self.at..])
+    }
+
+    /// The place of the byte at which the lexer stands, or of the end of the text.
+    pub fn place(&self) -> Place
+        ensures { result ≡ place_of self.now.text self.now.at }
+    {
+        self.place
+    }
+
+    /// The token of this kind and length, which it goes over.
+    fn take(&mut self, kind: TokenKind, count: usize) -> Token
+        requires { count ≤ length (rest self.old) }
+        ensures token { result ≡ token_at self.old kind count }
+        ensures after { self.new ≡ advanced self.old count }
+    {
+        let place = self.place;
+        let start = self.at;
+        self.advance(count);
+        Token {
+            kind,
+            place,
+            start,
+            end: self.at,
+        }
+    }
+
+    /// The next token as reading gives it.
+    #[tactic(auto, using(crate::proofs::Lexes::nothing_next), unfolding(crate::specs::Lexer::answer, crate::specs::Lexer::after))]
+    fn read(&mut self) -> Result<Option<Token>, BadByte>
+        ensures answer { result ≡ answer self.old }
+        ensures after { self.new ≡ after self.old }
+        ensures within { self.old.at ≤ length self.old.text }
+    {
+        self.skip();
+        if self.is_at_end() {
+            return Ok(None);
+        }
+        self.scout();
+        match self.front() {
+            Some((kind, count)) => Ok(Some(self.take(kind, count))),
+            None => Err(BadByte {
+                place: self.place(),
+            }),
+        }
+    }
+
+    /// The next token, or None at the end of the text.
+    ///
+    /// It is refused exactly where the separators and comments end at a byte at which no token begins. After that, and
+    /// at the end, each later call answers the same.
+    pub fn next(&mut self) -> Result<Option<Token>, BadByte>
+        ensures says { Says self.old result self.new }
+        ensures placed { IsPlaced self.old result self.new }
+        ensures text { self.new.text ≡ self.old.text }
+        ensures stays { Stays result self.new }
+        ensures answer { result ≡ answer self.old }
+        ensures after { self.new ≡ after self.old }
+    {
+        self.read()
+    }
+
+    /// The bytes of a token. Its start and end lie in the text, in this order.
+    pub fn spelling(&self, token: &Token) -> &[u8]
+        requires order { token.now.start ≤ token.now.«end» }
+        requires within { token.now.«end» ≤ length self.now.text }
+        ensures { result.now ≡ (spelled self.now.text token.now).spelling }
+    {
+        &self.text[token.start..token.end]
+    }
+}

@@ -1,0 +1,28 @@
+//! Splits a module's text into tokens, and says where each of them begins (LangRef, "Identifiers" and "Comments").
+//!
+//! It stands on `ir_base`. Its promise: the tokens are those of the text, each the longest that begins there, or
+//! the first byte where none begins is told. What a token means to a phrase is not its concern. Definitions:
+//! `specs/Table` has the spellings of each kind, `specs/Tokens` the tokens of a text.
+#![tactic(auto)]
+
+mod class;
+mod front;
+mod gap;
+mod label;
+mod laws;
+mod lexer;
+mod names;
+mod place;
+mod quoted;
+mod run;
+#[cfg(test)]
+mod tests;
+mod token;
+
+pub use laws::{
+    answers_ahead, list_or_bad, one_list, pieces_are_tokens, strings_stand_for_their_bytes,
+};
+pub use lexer::Lexer;
+pub use names::{is_number, name_of};
+pub use quoted::{is_quoted, unquote};
+pub use token::{BadByte, Token, TokenKind};

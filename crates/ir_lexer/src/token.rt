@@ -1,0 +1,52 @@
+//! What a lexer answers.
+use ir_base::Place;
+
+/// What a token is.
+#[derive(Clone, Copy, Debug, PartialEq, Eq)]
+pub enum TokenKind {
+    /// The name of a block, with the colon that follows it: `entry:`, `5:`, `"a b":`.
+    Label,
+    /// A letter or `_`, then letters, digits and `_`.
+    Word,
+    /// Digits, or `-` and digits.
+    Integer,
+    /// `@main`, `@"a b"`.
+    GlobalName,
+    /// `%x`, `%"a b"`.
+    LocalName,
+    /// `@0`.
+    UnnamedGlobal,
+    /// `%0`.
+    UnnamedLocal,
+    /// `"text"`.
+    Quoted,
+    /// `c"text"`.
+    ByteString,
+    /// `!dbg`.
+    MetaName,
+    /// `!5`.
+    MetaNumber,
+    /// `!` alone.
+    MetaMark,
+    /// `#0`.
+    Group,
+    /// `#dbg_value`.
+    RecordMark,
+    /// One of `=,()[]{}<>*|:`, or `...`.
+    Punctuation,
+}
+
+/// A token: what it is, the place of its first byte, and where its bytes start and end in the text, counted from 0.
+#[derive(Clone, Copy, Debug, PartialEq, Eq)]
+pub struct Token {
+    pub kind: TokenKind,
+    pub place: Place,
+    pub start: usize,
+    pub end: usize,
+}
+
+/// No token begins at the byte with this place.
+#[derive(Clone, Copy, Debug, PartialEq, Eq)]
+pub struct BadByte {
+    pub place: Place,
+}

@@ -1,0 +1,4 @@
+pub mod Symbols
+pub mod Small
+pub mod SymbolsLeft
+pub mod Reading

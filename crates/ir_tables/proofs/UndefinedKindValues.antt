@@ -1,0 +1,21 @@
+-- Every value of `UndefinedKind` stands in the list of its table.
+use Rattle.std.proofs.Common.{refl}
+use Rattle.ir_tables.specs.declared.undefined_kind.UndefinedKind.TheVariants.{DivisionByZero, DivisionOverflow, BranchOnPoison, PoisonAddress, OutsideBlock, EndedBlock, Misaligned, WriteToConstant, BadFree, Overlap, NoFunction, AnotherFunctionType, PoisonArgument, Unreachable}
+use Rattle.ir_tables.specs.UndefinedKind.{undefined_kinds}
+use Rattle.ir_tables.proofs.Tables.{IsListed}
+
+pub undefined_listed : IsListed undefined_kinds
+undefined_listed DivisionByZero = (0, refl)
+undefined_listed DivisionOverflow = (1, refl)
+undefined_listed BranchOnPoison = (2, refl)
+undefined_listed PoisonAddress = (3, refl)
+undefined_listed OutsideBlock = (4, refl)
+undefined_listed EndedBlock = (5, refl)
+undefined_listed Misaligned = (6, refl)
+undefined_listed WriteToConstant = (7, refl)
+undefined_listed BadFree = (8, refl)
+undefined_listed Overlap = (9, refl)
+undefined_listed NoFunction = (10, refl)
+undefined_listed AnotherFunctionType = (11, refl)
+undefined_listed PoisonArgument = (12, refl)
+undefined_listed Unreachable = (13, refl)

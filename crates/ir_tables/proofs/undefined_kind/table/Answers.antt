@@ -1,0 +1,7 @@
+use Rattle.std.proofs.Common.{lit<, refl}
+use Rattle.ir_tables.specs.UndefinedKind.{undefined_table}
+use Rattle.ir_tables.proofs.Tables.{IsTable-tested}
+use Rattle.ir_tables.proofs.undefined_kind.table.Goals as goal
+
+pub new-requires : goal.new-requires
+new-requires c = (lit< tt, IsTable-tested _ undefined_table refl)

@@ -1,0 +1,23 @@
+//! The word lists of the language as tables: each word, its row and its code.
+//!
+//! It stands on nothing. Its promise: a word, its row and its code determine each other, a set of flags
+//! and its code determine each other, and nothing takes memory. Definitions: `specs/Table`, and a file
+//! for each enum.
+#![tactic(auto)]
+
+mod flag;
+mod linkage;
+mod opcode;
+mod predicate;
+mod table;
+mod undefined_kind;
+
+pub use flag::{Flag, Flags};
+pub use linkage::Linkage;
+pub use opcode::Opcode;
+pub use predicate::Predicate;
+pub use table::{Row, Table};
+pub use undefined_kind::UndefinedKind;
+
+#[cfg(test)]
+mod tests;
