@@ -62,6 +62,7 @@ pub fn read_all<I: Source>(alloc: Global, input: &mut I, limit: usize) -> Result
     ensures lost { IfOk result (λ text. Lost (I.left input.old) (I.left input.new) text) }
     ensures few { IfOk result (λ text. length text ≤ limit) }
     ensures all { IfOk result (λ text. IfSome (I.left input.new) (λ rest. (rest ≡ []) ⊎ (length text ≡ limit))) }
+    ensures front { IfOk result (λ text. IfSome (I.left input.old) (λ bytes. text ≡ take limit bytes)) }
     ensures err { OnErr result (LostUpTo limit (I.left input.old) (I.left input.new)) }
     ensures fine { OnOk result (I.faults input.new ≡ I.faults input.old) }
     ensures memory { IsErrOf result ReadFault.Memory → I.faults input.new ≡ I.faults input.old }

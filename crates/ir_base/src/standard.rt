@@ -1,6 +1,7 @@
 //! The process's own streams, or any reader and writer of std. They tell nothing of their bytes as
 //! sources and sinks; what a reader or a writer itself tells, their own clauses keep.
 ghost use Rattle.std.specs.Prelude.{◌≡◌, ◌<◌, ◌≤◌, ◌+◌, ◌-◌, ◌^◌, min, ℕ, List, None, length, take, Option, IfOk, OnOk, OnErr};
+ghost use Rattle.std.specs.IoError.{error_kind};
 ghost use Rattle.std.specs.Io.{ReadsAtMost, WritesAtMost};
 ghost use Rattle.std.specs.Io.KnownBytes.{Appends, Keeps, ReadConsumes, WriteAppends};
 ghost use Rattle.ir_base.specs.Calls.{next_count};
@@ -14,7 +15,9 @@ use std::marker::Model;
 // How often a call that the system interrupted is made before it counts as a fault.
 const TRIES: u32 = 1_000;
 
-fn interrupted() -> io::Error {
+fn interrupted() -> io::Error
+    ensures { error_kind result ≡ ErrorKind.Interrupted }
+{
     io::Error::from(ErrorKind::Interrupted)
 }
 

@@ -29,6 +29,14 @@ pub record IsNear (p q : Place) (n : ℕ) : Type 0 where
   pub column : q.column ≤ p.column + n
   pub first : 1 ≤ q.column
 
+-- behind one byte
+pub next_near : (p : Place) (b : ℕ) → 1 ≤ p.column → IsNear p (next_place p b) 1
+next_near p b h = go (b == 10)
+  where
+    go : (line : Bool) → IsNear p (if line then record { line = p.line + 1; column = 1 } else record { line = p.line; column = p.column + 1 }) 1
+    go true = record { line = omega arith; column = omega arith; first = omega arith }
+    go false = record { line = omega arith; column = omega arith; first = omega arith }
+
 pub near : (p : Place) (s : List ℕ) → 1 ≤ p.column → IsNear p (place_after p s) (length s)
 unfolding place_after
 near p [] h = record { line = omega arith; column = omega arith; first = h }

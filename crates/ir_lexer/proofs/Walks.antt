@@ -1,7 +1,6 @@
 -- Steps of the loops.
-use Rattle.std.proofs.Common.{◌≡◌, ℕ, suc, ◌+◌, ◌≤◌, ◌<◌, List, [], ◌∷◌, ◌++◌, length, drop, get_or, Bool, true, false, not, inl, inr, refl, sym, ap, ◌∙◌, arith, cond, Option, Some, None, add-one, drop-cons, length-drop, ◌==◌, ◌||◌, if◌then◌else◌, append_assoc, append-nil}
+use Rattle.std.proofs.Common.{◌≡◌, ℕ, suc, ◌+◌, ◌≤◌, ◌<◌, List, [], ◌∷◌, ◌++◌, length, drop, get_or, Bool, true, false, not, inl, inr, refl, sym, ap, ◌∙◌, arith, cond, Option, Some, None, add-one, drop-cons, length-drop, ◌==◌, ◌||◌, append_assoc, append-nil}
 use Rattle.std.proofs.Math.ListN.{drop_of_length-le}
-use Rattle.std.proofs.lemmas.Bool.{ne_eqb}
 use Rattle.ir_lexer.specs.declared.quoted.Unescaped.{Unescaped}
 use Rattle.ir_lexer.specs.declared.quoted.Unescaped.TheVariants.{More, Byte, Bad}
 use Rattle.ir_lexer.specs.declared.class.Class.{Class}
@@ -94,18 +93,9 @@ gap_at_end true s n h = rw (drop_of_length-le s h) refl
 gap_at_end false s n h = rw (drop_of_length-le s h) refl
 
 -- Places.
-place_step : (p : Place) (s : List ℕ) (n : ℕ) → n < length s → place_after p (drop n s) ≡ place_after (next_place p (get_or s n 0)) (drop (n + 1) s)
+pub place_step : (p : Place) (s : List ℕ) (n : ℕ) → n < length s → place_after p (drop n s) ≡ place_after (next_place p (get_or s n 0)) (drop (n + 1) s)
 unfolding place_after
 place_step p s n h = rw (add-one n, drop-cons s n 0) refl
-
-pub place_line : (p : Place) (s : List ℕ) (n : ℕ) → n < length s → get_or s n 0 ≡ 10 → place_after p (drop n s) ≡ place_after (record { line = p.line + 1; column = 1 }) (drop (n + 1) s)
-place_line p s n h e =
-    let t : (get_or s n 0 == 10) ≡ true = rw e refl in
-    place_step p s n h ∙ ap (λ (b : Bool). place_after (if b then record { line = p.line + 1; column = 1 } else record { line = p.line; column = p.column + 1 }) (drop (n + 1) s)) t
-
-pub place_column : (p : Place) (s : List ℕ) (n : ℕ) → n < length s → (get_or s n 0 ≡ 10 → ⊥) → place_after p (drop n s) ≡ place_after (record { line = p.line; column = p.column + 1 }) (drop (n + 1) s)
-place_column p s n h e =
-    place_step p s n h ∙ ap (λ (b : Bool). place_after (if b then record { line = p.line + 1; column = 1 } else record { line = p.line; column = p.column + 1 }) (drop (n + 1) s)) (ne_eqb (get_or s n 0) 10 e)
 
 pub place_at_end : (p : Place) (s : List ℕ) (n : ℕ) → length s ≤ n → place_after p (drop n s) ≡ p
 unfolding place_after

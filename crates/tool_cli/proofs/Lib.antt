@@ -1,2 +1,5 @@
-pub mod Answering
-pub mod Words
+pub mod Numerals
+pub mod Contents
+pub mod Turns
+pub mod Works
+pub mod Outcomes

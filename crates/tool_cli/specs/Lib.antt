@@ -1,2 +1,4 @@
 pub mod Ended
+pub mod Inputs
+pub mod Causes
 pub mod Told

@@ -2,21 +2,39 @@
 ghost use Rattle.std.specs.Prelude.{◌≡◌};
 ghost use Rattle.tool_cli.specs.Ended.{status_of};
 
+use command_line::UsageKind;
 use ir_base::Text;
+use std::alloc::AllocError;
 
-/// What a run of a tool ended with. Each name but `Exit` has one line on standard error.
+/// What a run of a tool ended with. Each but `Exit` has one line on standard error.
 #[derive(Debug, Drop, PartialEq, Eq)]
 pub enum Ended {
     /// The program ended with this status.
     Exit(u8),
-    /// No tool is built for the words.
-    NotBuilt,
-    /// The text is not one that can be run yet.
-    NotYet,
+    /// The program has more steps than it was given.
+    StepsUsed,
+    /// The words have this fault, at the word with this number, counted from 0.
+    Usage(UsageKind, u64),
     /// The input of this name could not be read.
     CannotRead(Text),
+    /// The input of this name, or all up to it together, passes this many bytes.
+    InputTooLarge(Text, u64),
+    /// The text is not one that can be run yet.
+    NotYet,
+    /// The tool is not built, or not for such an input.
+    NotBuilt,
     /// Memory ran out.
     Memory,
+}
+
+impl From<AllocError> for Ended {
+    ghost use Rattle.tool_cli.specs.declared.ended.Ended.TheVariants.{Memory};
+
+    ghost from_gives = { λ _ ended. ended ≡ Memory };
+
+    fn from(_: AllocError) -> Self {
+        Ended::Memory
+    }
 }
 
 /// The process's exit status, and what it stands for.
@@ -32,7 +50,12 @@ pub fn status_of(ended: &Ended) -> u8
 {
     match ended {
         Ended::Exit(status) => *status,
-        Ended::NotBuilt | Ended::NotYet | Ended::CannotRead(_) => 1,
+        Ended::StepsUsed => 124,
+        Ended::Usage(_, _)
+        | Ended::CannotRead(_)
+        | Ended::InputTooLarge(_, _)
+        | Ended::NotYet
+        | Ended::NotBuilt => 1,
         Ended::Memory => 120,
     }
 }

@@ -1,21 +1,91 @@
 //! The one line that tells an end on standard error.
+ghost use Rattle.std.specs.Prelude.{◌≡◌, ◌++◌, codes};
 ghost use Rattle.ir_base.specs.Outside.{Wrote};
-ghost use Rattle.tool_cli.specs.Ended.{line_of};
+ghost use Rattle.command_line.specs.Tools.{line_name};
+ghost use Rattle.tool_cli.specs.Ended.{error_line, line_of};
 
+use crate::digits::Digits;
 use crate::ended::Ended;
-use ir_base::{Sink, write_pieces};
+use command_line::line_name;
+use ir_base::{Failed, Sink, Text, write_pieces};
+
+// The tool's name, as bytes.
+fn name_of<'t>(words: &[Text]) -> &'t [u8]
+    ensures { result.now ≡ line_name words.now }
+{
+    line_name(words).as_bytes()
+}
+
+// The line of a fault of this kind at the word with this number.
+fn tell_usage<'t, E: Sink>(
+    errors: &mut E,
+    words: &[Text],
+    kind: &'t [u8],
+    number: &'t [u8],
+) -> Result<(), Failed>
+    ensures { Wrote (E.taken errors.old) (E.taken errors.new) (E.faults errors.old) (E.faults errors.new)
+        (error_line words.now (codes "usage: " ++ (kind.now ++ (codes " at word " ++ number.now)))) }
+{
+    write_pieces(
+        errors,
+        &[
+            name_of(words),
+            b": usage: ",
+            kind,
+            b" at word ",
+            number,
+            b"\n",
+        ],
+    )
+}
+
+// The line of an input that passes a limit of so many bytes.
+fn tell_limit<'t, E: Sink>(
+    errors: &mut E,
+    words: &[Text],
+    name: &'t [u8],
+    limit: &'t [u8],
+) -> Result<(), Failed>
+    ensures { Wrote (E.taken errors.old) (E.taken errors.new) (E.faults errors.old) (E.faults errors.new)
+        (error_line words.now (name.now ++ (codes ": over " ++ (limit.now ++ codes " bytes")))) }
+{
+    write_pieces(
+        errors,
+        &[name_of(words), b": ", name, b": over ", limit, b" bytes\n"],
+    )
+}
+
+// A line with a text behind the tool's name, and a name behind that.
+fn tell_text<'t, E: Sink>(
+    errors: &mut E,
+    words: &[Text],
+    text: &'t [u8],
+    name: &'t [u8],
+) -> Result<(), Failed>
+    ensures { Wrote (E.taken errors.old) (E.taken errors.new) (E.faults errors.old) (E.faults errors.new)
+        (error_line words.now (text.now ++ name.now)) }
+{
+    write_pieces(errors, &[name_of(words), b": ", text, name, b"\n"])
+}
 
 /// Writes the line of the end, by pieces and without memory. A sink that fails has taken a front of it.
-pub fn tell<E: Sink>(errors: &mut E, ended: &Ended)
-    ensures { Wrote (E.taken errors.old) (E.taken errors.new) (E.faults errors.old) (E.faults errors.new) (line_of ended.now) }
+pub fn tell<E: Sink>(errors: &mut E, words: &[Text], ended: &Ended)
+    ensures { Wrote (E.taken errors.old) (E.taken errors.new) (E.faults errors.old) (E.faults errors.new) (line_of words.now ended.now) }
 {
     let _ = match ended {
         Ended::Exit(_) => Ok(()),
-        Ended::NotBuilt => write_pieces(errors, &[b"ir-tools: not built\n"]),
-        Ended::NotYet => write_pieces(errors, &[b"lli: not yet\n"]),
-        Ended::CannotRead(name) => {
-            write_pieces(errors, &[b"lli: cannot read ", name.bytes(), b"\n"])
+        Ended::StepsUsed => tell_text(errors, words, b"steps used up", b""),
+        Ended::Usage(kind, word) => {
+            let digits = Digits::of(*word);
+            tell_usage(errors, words, kind.words().as_bytes(), digits.bytes())
         }
-        Ended::Memory => write_pieces(errors, &[b"lli: out of memory\n"]),
+        Ended::CannotRead(name) => tell_text(errors, words, b"cannot read ", name.bytes()),
+        Ended::InputTooLarge(name, limit) => {
+            let digits = Digits::of(*limit);
+            tell_limit(errors, words, name.bytes(), digits.bytes())
+        }
+        Ended::NotYet => tell_text(errors, words, b"not yet", b""),
+        Ended::NotBuilt => tell_text(errors, words, b"not built", b""),
+        Ended::Memory => tell_text(errors, words, b"out of memory", b""),
     };
 }

@@ -5,11 +5,14 @@
 //! Definitions: `specs/Told` for the meaning of an answer, `specs/Ended` for its line and status.
 #![tactic(auto)]
 
+mod digits;
 mod ended;
 mod error_line;
+mod inputs;
 mod run_tool;
 #[cfg(test)]
 mod tests;
+mod work;
 
 use ir_base::{HostFiles, StdSink, StdSource, Text};
 use std::alloc::Global;

@@ -1,111 +1,108 @@
 //! The whole program, over whatever it reads and writes.
-ghost use Rattle.std.specs.Prelude.{◌≡◌, ◌≢◌, ◌⊎◌, ◌↔◌, ◌<◌, ◌≤◌, ◌+◌, ◌^◌, ℕ, List, length, Some, IfSome, IsTrue};
+ghost use Rattle.std.specs.Prelude.{◌≡◌, ◌⊎◌, ◌<◌, ◌≤◌, ◌+◌, ◌^◌, ℕ, List, true, false};
+ghost use Rattle.std.specs.List.{IsAmong};
 ghost use Rattle.ir_base.specs.Outside.{Rose, LostUpTo, Wrote};
+ghost use Rattle.ir_base.specs.Files.{Named};
+ghost use Rattle.command_line.specs.declared.command.UsageKind.{UsageKind};
+ghost use Rattle.command_line.specs.Faults.{IsFirstFault};
 ghost use Rattle.tool_cli.specs.Ended.{line_of, status_of};
-ghost use Rattle.tool_cli.specs.Told.{built_words, standard_input, GaveUp, Answers, IsOfText};
+ghost use Rattle.tool_cli.specs.Inputs.{inputs_named, has_stdin, TellsAll};
+ghost use Rattle.tool_cli.specs.Causes.{IsEmptied, GaveUp, IsUnread, IsPassed, IsStdinOrMemory, IsUnreadOrMemory};
+ghost use Rattle.tool_cli.specs.Told.{IsTold, IsAfterReading};
 
 use crate::ended::{Ended, Report, status_of};
 use crate::error_line::tell;
-use ir_base::{Files, ReadFault, Sink, Source, Text, read_all};
-use ir_run::run_straight;
-use ir_syntax::{SmallFault, read_small};
+use crate::inputs::{inputs_of, read_inputs};
+use crate::work::work;
+use command_line::{WordsFault, read_words};
+use ir_base::{Files, Sink, Source, Text};
 use std::alloc::Global;
 
-/// The most bytes of one input: 16 MiB.
-const LARGEST: usize = 1 << 24;
+// Reads the words, then all inputs, and then does the work.
+fn ended_of<F: Files, I: Source>(
+    alloc: Global,
+    words: &[Text],
+    files: &mut F,
+    input: &mut I,
+) -> Ended
+    // What is answered.
+    ensures usage { (kind : UsageKind) (k : ℕ) → result ≡ Ended.Usage kind k → IsFirstFault words.now kind k }
+    ensures is_usage { (kind : UsageKind) (k : ℕ) → IsFirstFault words.now kind k
+        → (result ≡ Ended.Usage kind k) ⊎ (result ≡ Ended.Memory) }
+    ensures told { (held : Named) (stdin : List ℕ)
+        → TellsAll (inputs_named words.now) (F.contents files.old) (I.left input.old) held stdin
+        → IsTold words.now held stdin result
+        ⊎ GaveUp (Rose (I.faults input.old) (I.faults input.new)) (Rose (F.read_faults files.old) (F.read_faults files.new)) result }
+    ensures cannot_read { (name : List ℕ) → result ≡ Ended.CannotRead name → IsAmong (inputs_named words.now) name
+        × IsUnread (F.contents files.old) (Rose (I.faults input.old) (I.faults input.new)) (Rose (F.read_faults files.old) (F.read_faults files.new)) name }
+    ensures too_large { (name : List ℕ) (limit : ℕ) → result ≡ Ended.InputTooLarge name limit
+        → IsAmong (inputs_named words.now) name × IsPassed (F.contents files.old) (I.left input.old) name limit }
+    ensures input_fault { I.faults input.old < I.faults input.new → IsStdinOrMemory result }
+    ensures file_fault { F.read_faults files.old < F.read_faults files.new → IsUnreadOrMemory result }
 
-/// The most steps of a run.
-const MOST_STEPS: u64 = 1_000_000_000;
-
-/// Whether a tool is built for the words.
-fn is_built(words: &[Text]) -> bool
-    ensures { IsTrue result ↔ (words.now ≡ built_words) }
-{
-    match words {
-        [tool, input] => { tool.bytes() == b"lli".as_slice() && input.bytes() == b"-".as_slice() }
-        _ => false,
-    }
-}
-
-/// Runs the text.
-fn run_text(alloc: Global, text: &[u8]) -> Ended
-    ensures answers { Answers text.now result }
-    ensures of_text { IsOfText result }
-{
-    if text.len() > LARGEST {
-        return Ended::NotYet;
-    }
-    let program = match read_small(alloc, text) {
-        Ok(program) => program,
-        Err(SmallFault::NotYet) => return Ended::NotYet,
-        Err(SmallFault::Memory) => return Ended::Memory,
-    };
-    match run_straight(alloc, &program, MOST_STEPS) {
-        // A text of so few bytes has fewer lines than that.
-        Ok(status) => Ended::Exit(status.unwrap()),
-        Err(_) => Ended::Memory,
-    }
-}
-
-/// The end where standard input could not be read.
-fn cannot_read(alloc: Global) -> Ended
-    ensures { GaveUp result }
-{
-    match Text::from_slice(alloc, b"-") {
-        Ok(name) => Ended::CannotRead(name),
-        Err(_) => Ended::Memory,
-    }
-}
-
-/// Reads the whole input, and runs it.
-fn run<I: Source>(alloc: Global, input: &mut I) -> Ended
-    ensures built { result ≢ Ended.NotBuilt }
-    ensures answers { IfSome (I.left input.old) (λ text. Answers text result) }
-    ensures passed_on { I.faults input.old < I.faults input.new → GaveUp result }
-    ensures cause { (name : List ℕ) → result ≡ Ended.CannotRead name → (name ≡ standard_input) × Rose (I.faults input.old) (I.faults input.new) }
+    // What is read and written.
+    ensures before_reading { (kind : UsageKind) (k : ℕ) → result ≡ Ended.Usage kind k → input.new ≡ input.old }
+    ensures unread { has_stdin (inputs_named words.now) ≡ false → input.new ≡ input.old }
     ensures lost { LostUpTo (2 ^ 24 + 1) (I.left input.old) (I.left input.new) }
-    ensures later { I.faults input.old ≤ I.faults input.new }
+    ensures whole { IsAfterReading result → has_stdin (inputs_named words.now) ≡ true → IsEmptied (I.left input.new) }
+    ensures input_later { I.faults input.old ≤ I.faults input.new }
+    ensures file_later { F.read_faults files.old ≤ F.read_faults files.new }
+    ensures contents { F.contents files.new ≡ F.contents files.old }
+    ensures writes { F.write_faults files.new ≡ F.write_faults files.old }
 {
-    match read_all(alloc, input, LARGEST + 1) {
-        Ok(text) => run_text(alloc, text.bytes()),
-        Err(ReadFault::CannotRead) => cannot_read(alloc),
-        Err(ReadFault::Memory) => Ended::Memory,
+    let command = match read_words(alloc, words) {
+        Ok(command) => command,
+        Err(WordsFault::Usage(kind, word)) => return Ended::Usage(kind, word),
+        Err(WordsFault::Memory) => return Ended::Memory,
+    };
+    match read_inputs(alloc, files, input, inputs_of(&command)) {
+        Ok(texts) => work(alloc, &command, &texts),
+        Err(ended) => ended,
     }
 }
 
 /// Runs the tool that the words name, and answers the status and what it stands for.
 ///
-/// `words` are those of the command line behind the program's own name. Words that no tool is built for are
-/// refused before anything is read.
+/// `words` are those of the command line behind the program's own name. They are read first, then all inputs
+/// whole, in the order of the words; then the tool does its work. The first refusal is the answer.
 pub fn run_tool<F: Files, I: Source, O: Sink, E: Sink>(
     alloc: Global,
     words: &[Text],
-    _files: &mut F,
+    files: &mut F,
     input: &mut I,
     _output: &mut O,
     errors: &mut E,
 ) -> Report
     // What is answered.
-    ensures built { (result.ended ≡ Ended.NotBuilt) ↔ (words.now ≢ built_words) }
-    ensures answers { words.now ≡ built_words → IfSome (I.left input.old) (λ text. Answers text result.ended) }
-    ensures passed_on { I.faults input.old < I.faults input.new → GaveUp result.ended }
-    ensures cause { (name : List ℕ) → result.ended ≡ Ended.CannotRead name → (name ≡ standard_input) × Rose (I.faults input.old) (I.faults input.new) }
+    ensures usage { (kind : UsageKind) (k : ℕ) → result.ended ≡ Ended.Usage kind k → IsFirstFault words.now kind k }
+    ensures is_usage { (kind : UsageKind) (k : ℕ) → IsFirstFault words.now kind k
+        → (result.ended ≡ Ended.Usage kind k) ⊎ (result.ended ≡ Ended.Memory) }
+    ensures told { (held : Named) (stdin : List ℕ)
+        → TellsAll (inputs_named words.now) (F.contents files.old) (I.left input.old) held stdin
+        → IsTold words.now held stdin result.ended
+        ⊎ GaveUp (Rose (I.faults input.old) (I.faults input.new)) (Rose (F.read_faults files.old) (F.read_faults files.new)) result.ended }
+    ensures cannot_read { (name : List ℕ) → result.ended ≡ Ended.CannotRead name → IsAmong (inputs_named words.now) name
+        × IsUnread (F.contents files.old) (Rose (I.faults input.old) (I.faults input.new)) (Rose (F.read_faults files.old) (F.read_faults files.new)) name }
+    ensures too_large { (name : List ℕ) (limit : ℕ) → result.ended ≡ Ended.InputTooLarge name limit
+        → IsAmong (inputs_named words.now) name × IsPassed (F.contents files.old) (I.left input.old) name limit }
+    ensures input_fault { I.faults input.old < I.faults input.new → IsStdinOrMemory result.ended }
+    ensures file_fault { F.read_faults files.old < F.read_faults files.new → IsUnreadOrMemory result.ended }
     ensures status { result.status ≡ status_of result.ended }
 
     // What is read and written.
-    ensures unread { words.now ≢ built_words → input.new ≡ input.old }
+    ensures before_reading { (kind : UsageKind) (k : ℕ) → result.ended ≡ Ended.Usage kind k → input.new ≡ input.old }
+    ensures unread { has_stdin (inputs_named words.now) ≡ false → input.new ≡ input.old }
     ensures lost { LostUpTo (2 ^ 24 + 1) (I.left input.old) (I.left input.new) }
-    ensures later { I.faults input.old ≤ I.faults input.new }
-    ensures files { _files.new ≡ _files.old }
+    ensures whole { IsAfterReading result.ended → has_stdin (inputs_named words.now) ≡ true → IsEmptied (I.left input.new) }
+    ensures input_later { I.faults input.old ≤ I.faults input.new }
+    ensures file_later { F.read_faults files.old ≤ F.read_faults files.new }
+    ensures contents { F.contents files.new ≡ F.contents files.old }
+    ensures writes { F.write_faults files.new ≡ F.write_faults files.old }
     ensures output { _output.new ≡ _output.old }
-    ensures errors { Wrote (E.taken errors.old) (E.taken errors.new) (E.faults errors.old) (E.faults errors.new) (line_of result.ended) }
+    ensures errors { Wrote (E.taken errors.old) (E.taken errors.new) (E.faults errors.old) (E.faults errors.new) (line_of words.now result.ended) }
 {
-    let ended = if is_built(words) {
-        run(alloc, input)
-    } else {
-        Ended::NotBuilt
-    };
-    tell(errors, &ended);
+    let ended = ended_of(alloc, words, files, input);
+    tell(errors, words, &ended);
     Report {
         status: status_of(&ended),
         ended,

@@ -2,7 +2,7 @@ use Rattle.std.proofs.Common.{◌≡◌}
 use Rattle.tool_cli.proofs.error_line.tell.Goals as goal
 
 pub returns-in-CannotRead : goal.returns-in-CannotRead
-returns-in-CannotRead g c = rw c.in-CannotRead.is (rw c.bytes.ensures at c.write_pieces-in-CannotRead.ensures.wrote)
+returns-in-CannotRead g c = rw c.in-CannotRead.is (rw c.bytes-in-CannotRead.ensures at c.tell_text-in-CannotRead.ensures)
 
 pub returns-in-Memory : goal.returns-in-Memory
-returns-in-Memory g c = rw c.in-Memory.is c.write_pieces-in-Memory.ensures.wrote
+returns-in-Memory g c = rw c.in-Memory.is c.tell_text-in-Memory.ensures

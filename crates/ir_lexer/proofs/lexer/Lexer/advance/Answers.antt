@@ -46,5 +46,5 @@ invariant_of-self c =
     let all = length-drop r.at s in
     let in_text : r.at + c.args.n ≤ length s = omega (arith, i.0) in
     let n : r.at + c.args.n - r.at ≡ c.args.n = omega arith in
-    let there = rw (n, i.2) at c.place_behind-self-inside.ensures.place in
+    let there = rw (n, i.2) at c.place_behind-self-inside.ensures in
     (in_text, i.1, there ∙ sym (place_on r.at c.args.n s), i.3, known_further c.args.n r.at r.known s i.4)

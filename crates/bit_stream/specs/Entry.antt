@@ -1,0 +1,154 @@
+-- An entry of a stream (LLVM Bitcode File Format, "Abbreviation IDs" and "Blocks").
+use Rattle.std.specs.Prelude.{◌≡◌, ℕ, ◌+◌, ◌-◌, ◌/◌, ◌^◌, Bool, false, List, [], ◌∷◌, ◌++◌, length, take, Option, Some, None, Result, Ok, Err, if◌then◌else◌, ◌==◌, ◌&&◌, ◌||◌, nat_lt, nat_le, slice_index_or}
+use Rattle.bits.specs.Cursor.{Cursor, Found, ◌>>=◌}
+use Rattle.bits.specs.Reading.{fixed, vbr, align}
+use Rattle.bits.specs.declared.fault.BitFault.{BitFault}
+use Rattle.bits.specs.declared.fault.BitFaultKind.TheVariants.{BadAbbreviation, BadBlockLength, NestedTooDeep}
+use Rattle.bit_stream.specs.declared.entry.Entry.{Entry}
+use Rattle.bit_stream.specs.declared.entry.Entry.TheVariants.{Block, EndBlock, Record, End}
+use Rattle.bit_stream.specs.Abbreviation.{Template}
+use Rattle.bit_stream.specs.Answers.{refuse}
+use Rattle.bit_stream.specs.Definition.{template}
+use Rattle.bit_stream.specs.Record.{Read, unabbreviated, abbreviated}
+use Rattle.bit_stream.specs.Scope.{Scope, given_to, give, template_of}
+
+-- what stands at a place: an entry, or none where it is a definition; the blocks that are open behind it; and the
+-- operands and the blob, where it is a record
+pub record Item : Type 0 where
+  pub entry : Option Entry
+  pub scope : Scope
+  pub operands : List ℕ
+  pub blob : List ℕ
+
+abbrev pub plain : Option Entry → Scope → Item
+plain entry s = record { entry = entry; scope = s; operands = []; blob = [] }
+
+abbrev pub is_top : Scope → Bool
+is_top s = length s.around == 0
+
+-- BLOCKINFO is block 0
+abbrev pub is_zero : Option ℕ → Bool
+is_zero None = false
+is_zero (Some id) = id == 0
+
+abbrev pub is_blockinfo : Scope → Bool
+is_blockinfo s = is_zero s.block.id
+
+-- a block is entered: its id, its width, the bit of its count of words, and the count
+abbrev pub entered : Scope → ℕ → ℕ → ℕ → ℕ → Scope
+entered s id width bit words = record {
+  block = record { id = Some id; width = width; count_bit = bit; words = words; given = length (given_to s.given id); own = []; target = None };
+  around = s.around ++ s.block ∷ [];
+  given = s.given;
+}
+
+-- The block is left for the one around it.
+abbrev pub left : Scope → Scope
+left s = record {
+  block = slice_index_or s.around (length s.around - 1) s.block;
+  around = take (length s.around - 1) s.around;
+  given = s.given;
+}
+
+-- a definition of the block's own
+abbrev pub defined : Scope → Template → Scope
+defined s t = record s { block = record s.block { own = s.block.own ++ t ∷ [] } }
+
+-- a definition in BLOCKINFO, for another block
+abbrev pub given_for : Scope → ℕ → Template → Scope
+given_for s id t = record s { given = give s.given id t }
+
+-- the definitions of this BLOCKINFO are for this block from now on
+abbrev pub targeting : Scope → ℕ → Scope
+targeting s id = record s { block = record s.block { target = Some id } }
+
+-- what follows the width of a block: alignment, and the count of words
+abbrev pub enter_sized : Scope → ℕ → ℕ → Cursor → Found Item
+enter_sized s id width c = align c >>= λ _ d. fixed 32 d >>= λ words e. Ok (plain (Some (Block id)) (entered s id width d.at words), e)
+
+-- a width, which stands at this bit, is from 2 to 32
+abbrev pub enter_wide : Scope → ℕ → ℕ → ℕ → Cursor → Found Item
+enter_wide s id bit width c = if nat_lt width 2 || nat_lt 32 width then refuse bit else enter_sized s id width c
+
+-- a block id, which stands at this bit, is below 2 ^ 32, and at most 16 blocks are open at once
+abbrev pub enter_named : Scope → ℕ → ℕ → Cursor → Found Item
+enter_named s bit id c =
+    if nat_le (2 ^ 32) id then refuse bit
+    else (if length s.around == 16 then Err (record { kind = NestedTooDeep; bit = bit })
+    else (vbr 4 c >>= λ width d. enter_wide s id c.at width d))
+
+-- ENTER_SUBBLOCK behind its id
+unfoldable pub enter_block : Scope → Cursor → Found Item
+enter_block s c = vbr 8 c >>= λ id d. enter_named s c.at id d
+
+-- how many words there are from behind a count, which begins at a bit, to another bit; both begin words
+abbrev pub words_since : ℕ → ℕ → ℕ
+words_since count_bit at = at / 32 - (count_bit / 32 + 1)
+
+-- END_BLOCK behind its id
+unfoldable pub end_block : Scope → Cursor → Found Item
+end_block s c = align c >>= λ _ d.
+    if words_since s.block.count_bit d.at == s.block.words then Ok (plain (Some EndBlock) (left s), d)
+    else Err (record { kind = BadBlockLength; bit = s.block.count_bit })
+
+-- DEFINE_ABBREV behind its id, which stands at this bit
+unfoldable pub define_for : Option ℕ → ℕ → Scope → Cursor → Found Item
+define_for None bit s c = refuse bit
+define_for (Some id) bit s c = template c >>= λ t d. Ok (plain None (given_for s id t), d)
+
+unfoldable pub define : ℕ → Scope → Cursor → Found Item
+define bit s c =
+    if is_blockinfo s then define_for s.block.target bit s c
+    else (template c >>= λ t d. Ok (plain None (defined s t), d))
+
+-- A record of code 1 in BLOCKINFO names by its first operand the block that definitions are for from then on. Without
+-- an operand it is refused, at its abbreviation id, which stands at this bit.
+abbrev pub named : ℕ → Scope → List ℕ → Result Scope BitFault
+named bit s [] = Err (record { kind = BadAbbreviation; bit = bit })
+named bit s (id ∷ others) = Ok (targeting s id)
+
+unfoldable pub recorded : ℕ → Scope → ℕ → List ℕ → Result Scope BitFault
+recorded bit s code operands = if is_blockinfo s && (code == 1) then named bit s operands else Ok s
+
+-- a record was read, and left these blocks open
+abbrev pub came : Read → Cursor → Result Scope BitFault → Found Item
+came r c (Ok s) = Ok (record { entry = Some (Record r.code); scope = s; operands = r.operands; blob = r.blob }, c)
+came r c (Err fault) = Err fault
+
+-- the values of a record by an abbreviation, whose id stands at this bit
+unfoldable pub by_template : Option Template → ℕ → Bool → Cursor → Found Read
+by_template None bit in_blockinfo c = refuse bit
+by_template (Some t) bit in_blockinfo c = abbreviated in_blockinfo t c
+
+-- a record behind its abbreviation id, which stands at this bit: 3 is UNABBREV_RECORD
+unfoldable pub record_by : ℕ → ℕ → Scope → Cursor → Found Item
+record_by id bit s c =
+    if id == 3 then (unabbreviated (is_blockinfo s) c >>= λ r d. came r d (recorded bit s r.code r.operands))
+    else (by_template (template_of s id) bit (is_blockinfo s) c >>= λ r d. came r d (recorded bit s r.code r.operands))
+
+-- what stands behind an abbreviation id in a block; the id stands at this bit
+unfoldable pub inside : ℕ → ℕ → Scope → Cursor → Found Item
+inside id bit s c =
+    if id == 0 then end_block s c
+    else (if id == 1 then (if is_blockinfo s then refuse bit else enter_block s c)
+    else (if id == 2 then define bit s c
+    else record_by id bit s c))
+
+-- what stands at a place
+unfoldable pub item : Scope → Cursor → Found Item
+item s c =
+    if is_top s && (length c.rest == 0) then Ok (plain (Some End) s, c)
+    else (fixed s.block.width c >>= λ id d.
+    if is_top s then (if id == 1 then enter_block s d else refuse c.at)
+    else inside id c.at s d)
+
+-- what a call that changes the open blocks answered and which it left
+abbrev pub settled : {X : Type 0} → Result X BitFault → Scope → Result Scope BitFault
+settled (Ok x) s = Ok s
+settled (Err fault) s = Err fault
+
+-- what stands at a place behind the definitions in front
+pub data Next : Scope → Cursor → Found Item → Type 0 where
+  here : {s : Scope} {c d : Cursor} {i : Item} {e : Entry} → item s c ≡ Ok (i, d) → i.entry ≡ Some e → Next s c (Ok (i, d))
+  refused : {s : Scope} {c : Cursor} {x : BitFault} → item s c ≡ Err x → Next s c (Err x)
+  behind : {s : Scope} {c d : Cursor} {i : Item} {r : Found Item} → item s c ≡ Ok (i, d) → i.entry ≡ None → Next i.scope d r → Next s c r

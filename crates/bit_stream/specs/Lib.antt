@@ -1,0 +1,10 @@
+pub mod Abbreviation
+pub mod Answers
+pub mod Definition
+pub mod Record
+pub mod Entry
+pub mod Scope
+pub mod Reader
+pub mod Spelling
+pub mod Writer
+pub mod Law

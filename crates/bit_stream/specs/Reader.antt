@@ -1,0 +1,62 @@
+-- A reader of a stream, and what its calls answer.
+use Rattle.std.specs.Prelude.{◌≡◌, ℕ, Bool, List, [], length, take, drop, Option, Some, None, Result, Ok, Err, if◌then◌else◌, ◌==◌, ◌&&◌, not, nat_lt}
+use Rattle.bits.specs.Bits.{value, stream_bits}
+use Rattle.bits.specs.Cursor.{Cursor, Found}
+use Rattle.bits.specs.declared.fault.BitFault.{BitFault}
+use Rattle.bits.specs.declared.fault.BitFaultKind.TheVariants.{BadMagic}
+use Rattle.bit_stream.specs.declared.entry.Entry.{Entry}
+use Rattle.bit_stream.specs.declared.fault.StreamFault.{StreamFault}
+use Rattle.bit_stream.specs.declared.fault.StreamFault.TheVariants.{Bit, Memory}
+use Rattle.bit_stream.specs.Scope.{Scope, top_level}
+use Rattle.bit_stream.specs.Entry.{Next}
+
+-- Its place, the blocks that are open there, why it stopped if it did, and what the last entry held if that was a
+-- record. Where it stopped, its place and its blocks mean nothing.
+pub record Reader : Type 0 where
+  pub cursor : Cursor
+  pub scope : Scope
+  pub stopped : Option StreamFault
+  pub operands : List ℕ
+  pub blob : List ℕ
+
+-- a stream begins with the bytes 42 43 C0 DE
+abbrev pub begins : List ℕ → Bool
+begins bytes = not (nat_lt (length bytes) 4) && (value (take 32 (stream_bits bytes)) == 0xdec0_4342)
+
+abbrev pub opened : List ℕ → Result Reader BitFault
+opened bytes =
+    if begins bytes then Ok (record { cursor = record { at = 32; rest = drop 32 (stream_bits bytes) }; scope = top_level; stopped = None; operands = []; blob = [] })
+    else Err (record { kind = BadMagic; bit = 0 })
+
+-- the reader stopped at a fault, and holds no record
+pub record Stopped (fault : StreamFault) (r : Reader) : Type 0 where
+  pub why : r.stopped ≡ Some fault
+  pub operands : r.operands ≡ []
+  pub blob : r.blob ≡ []
+
+-- a number was read, or its field was refused: the reader goes on behind it, or stops
+abbrev pub ReadNumber : Reader → Found ℕ → Result ℕ BitFault → Reader → Type 0
+ReadNumber old reading (Ok number) new = (reading ≡ Ok (number, new.cursor)) × (new ≡ record old { cursor = new.cursor })
+ReadNumber old reading (Err fault) new = (reading ≡ Err fault) × Stopped (Bit fault) new
+
+-- a call that reads a number, at a reader that is not spent: a fault is repeated
+abbrev pub Numbered : Option StreamFault → Reader → Found ℕ → Result ℕ BitFault → Reader → Type 0
+Numbered None old reading answer new = ReadNumber old reading answer new
+Numbered (Some (Bit fault)) old reading answer new = (answer ≡ Err fault) × (new ≡ old)
+Numbered (Some Memory) old reading answer new = Unit {0}
+
+-- the next entry was read, or is refused, or memory ran out
+abbrev pub Reached : Reader → Result Entry StreamFault → Reader → Type 0
+Reached old (Ok entry) new = (new.stopped ≡ None) × Next old.scope old.cursor (Ok (record { entry = Some entry; scope = new.scope; operands = new.operands; blob = new.blob }, new.cursor))
+Reached old (Err (Bit fault)) new = Next old.scope old.cursor (Err fault)
+Reached old (Err Memory) new = Unit {0}
+
+-- the same of a reader that stops where no entry was read
+abbrev pub ReadEntry : Reader → Result Entry StreamFault → Reader → Type 0
+ReadEntry old (Ok entry) new = Reached old (Ok entry) new
+ReadEntry old (Err fault) new = Reached old (Err fault) new × Stopped fault new
+
+-- a call that reads an entry: what stopped the reader is repeated
+abbrev pub Entered : Option StreamFault → Reader → Result Entry StreamFault → Reader → Type 0
+Entered None old answer new = ReadEntry old answer new
+Entered (Some fault) old answer new = (answer ≡ Err fault) × (new ≡ old)

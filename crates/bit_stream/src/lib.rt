@@ -1,0 +1,29 @@
+//! The container of LLVM bitcode (LLVM Bitcode File Format): blocks, abbreviations and records, both ways.
+//!
+//! It stands on `bits` and gives no meaning to a record. Its promise: the reader gives the entries of the bits
+//! in order, or the first field that is refused with its bit, from then on; each call of the writer adds the
+//! bits of its entry. Definitions: `specs/Entry` and `specs/Reader`, `specs/Spelling` and `specs/Writer`.
+#![tactic(auto)]
+
+mod abbreviation;
+mod definition;
+mod entry;
+mod fault;
+mod item;
+mod law;
+mod reader;
+mod record;
+mod scope;
+mod spelling;
+mod writer;
+
+pub use abbreviation::{AbbrevOp, Abbreviation};
+pub use bits::{BitFault, BitFaultKind};
+pub use entry::Entry;
+pub use fault::StreamFault;
+pub use law::{abbreviated_is_read_back, record_is_read_back};
+pub use reader::BitReader;
+pub use writer::BitWriter;
+
+#[cfg(test)]
+mod tests;

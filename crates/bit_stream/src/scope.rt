@@ -1,0 +1,225 @@
+//! The blocks that are open, and the abbreviations that are in force in them.
+ghost use Rattle.std.specs.Prelude.{◌≡◌, ℕ, ◌<◌, ◌≤◌, ◌^◌, [], ◌++◌, ◌∷◌, length, Some, None, OnOk, option_copied, ◌==◌};
+ghost use Rattle.bit_stream.specs.Scope.{Scope, top_level, template_of};
+ghost use Rattle.bit_stream.specs.Writer.{in_force};
+ghost use Rattle.bit_stream.specs.Entry.{is_top, is_blockinfo, entered, left, defined, given_for, targeting};
+
+use crate::abbreviation::{NarrowWidth, Template};
+use ir_base::ItemList;
+use std::alloc::{AllocError, Global};
+use std::collections::BTreeMap;
+use std::marker::Model;
+use std::mem;
+
+/// An open block, or the top level.
+#[derive(Drop)]
+struct Frame {
+    /// None at the top level.
+    id: Option<u32>,
+    width: NarrowWidth,
+    /// The first bit of the count of words.
+    count_bit: u64,
+    words: u64,
+    /// How many of the abbreviations that were given to its id are in force.
+    given: usize,
+    own: Vec<Template>,
+    /// In a BLOCKINFO, the block that definitions are for.
+    target: Option<u64>,
+}
+
+impl Model for Frame {
+    ghost use Rattle.bit_stream.specs.Scope.{Frame};
+
+    ghost Value = { Frame };
+
+    ghost view = { λ f. record { id = f.id; width = f.width; count_bit = f.count_bit; words = f.words; given = f.given; own = f.own.items; target = f.target } };
+}
+
+/// The blocks that are open, and the abbreviations that BLOCKINFO gave to each block id.
+#[derive(Drop)]
+pub struct Scope {
+    block: Frame,
+    around: Vec<Frame>,
+    given: BTreeMap<u64, ItemList<Template>>,
+    alloc: Global,
+}
+
+impl Model for Scope {
+    ghost use Rattle.bit_stream.specs.Scope.{Scope};
+
+    ghost Value = { Scope };
+
+    ghost view = { λ s. record { block = s.block; around = s.around.items; given = s.given.entries } };
+}
+
+impl Scope {
+    /// The top level.
+    pub fn new(alloc: Global) -> Self
+        ensures { result ≡ top_level }
+    {
+        Scope {
+            block: Frame {
+                id: None,
+                width: NarrowWidth::new(2),
+                count_bit: 0,
+                words: 0,
+                given: 0,
+                own: Vec::new(alloc),
+                target: None,
+            },
+            around: Vec::new(alloc),
+            given: BTreeMap::new(alloc),
+            alloc,
+        }
+    }
+
+    /// How many bits an abbreviation id has.
+    pub fn width(&self) -> NarrowWidth
+        ensures { result ≡ self.now.block.width }
+    {
+        let block = &self.block;
+        block.width
+    }
+
+    /// How many blocks are open.
+    pub fn depth(&self) -> usize
+        ensures { result ≡ length self.now.around }
+    {
+        self.around.len()
+    }
+
+    /// Whether the block is BLOCKINFO.
+    pub fn is_blockinfo(&self) -> bool
+        ensures { result ≡ is_blockinfo self.now }
+    {
+        let block = &self.block;
+        match block.id {
+            Some(id) => id == 0,
+            None => false,
+        }
+    }
+
+    /// The block that a BLOCKINFO's definitions are for.
+    pub fn target(&self) -> Option<u64>
+        ensures { result ≡ self.now.block.target }
+    {
+        let block = &self.block;
+        block.target
+    }
+
+    /// The first bit of the block's count of words.
+    pub fn count_bit(&self) -> u64
+        ensures { result ≡ self.now.block.count_bit }
+    {
+        let block = &self.block;
+        block.count_bit
+    }
+
+    /// The block's count of words.
+    pub fn words(&self) -> u64
+        ensures { result ≡ self.now.block.words }
+    {
+        let block = &self.block;
+        block.words
+    }
+
+    /// Enters a block.
+    pub fn enter(
+        &mut self,
+        id: u32,
+        width: NarrowWidth,
+        count_bit: u64,
+        words: u64,
+    ) -> Result<(), AllocError>
+        ensures { OnOk result (self.new ≡ entered self.old id width count_bit words) }
+    {
+        let given = match self.given.get(&u64::from(id)) {
+            Some(list) => list.len(),
+            None => 0,
+        };
+        let block = Frame {
+            id: Some(id),
+            width,
+            count_bit,
+            words,
+            given,
+            own: Vec::new(self.alloc),
+            target: None,
+        };
+        let outer = mem::replace(&mut self.block, block);
+        self.around.push(outer)?;
+        Ok(())
+    }
+
+    /// Leaves the block for the one around it.
+    pub fn leave(&mut self)
+        ensures { self.new ≡ left self.old }
+    {
+        if let Some(outer) = self.around.pop() {
+            self.block = outer;
+        }
+    }
+
+    /// Adds a definition of the block's own.
+    pub fn define(&mut self, template: Template) -> Result<(), AllocError>
+        ensures { OnOk result (self.new ≡ defined self.old template) }
+    {
+        let block = &mut self.block;
+        block.own.push(template)?;
+        Ok(())
+    }
+
+    /// Adds a definition for a block id.
+    pub fn give(&mut self, id: u64, template: Template) -> Result<(), AllocError>
+        ensures { OnOk result (self.new ≡ given_for self.old id template) }
+    {
+        let mut list = match self.given.remove(&id) {
+            Some(list) => list,
+            None => ItemList::new(self.alloc),
+        };
+        list.push(template)?;
+        self.given.insert(id, list)?;
+        Ok(())
+    }
+
+    /// How many abbreviations are in force where the next one is defined.
+    pub fn in_force(&self) -> usize
+        requires { in_force self.now < 2 ^ 32 }
+        ensures { result ≡ in_force self.now }
+    {
+        if !self.is_blockinfo() {
+            let block = &self.block;
+            return block.given + block.own.len();
+        }
+        let Some(id) = self.target() else {
+            return 0;
+        };
+        match self.given.get(&id) {
+            Some(list) => list.len(),
+            None => 0,
+        }
+    }
+
+    /// From now on the definitions of this BLOCKINFO are for this block.
+    pub fn set_target(&mut self, id: u64)
+        ensures { self.new ≡ targeting self.old id }
+    {
+        let block = &mut self.block;
+        block.target = Some(id);
+    }
+
+    /// The abbreviation of an id from 4 on.
+    pub fn template(&self, id: u64) -> Option<&Template>
+        requires { 4 ≤ id }
+        ensures { option_copied result ≡ template_of self.now id }
+    {
+        let index = (id - 4) as usize;
+        let block = &self.block;
+        if index < block.given {
+            let list = self.given.get(&u64::from(block.id?))?;
+            list.as_slice().get(index)
+        } else {
+            block.own.as_slice().get(index - block.given)
+        }
+    }
+}

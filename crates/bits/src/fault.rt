@@ -1,0 +1,34 @@
+//! What a bit stream is refused for.
+
+use thiserror::Error;
+
+/// Why a field is refused (LLVM Bitcode File Format).
+#[derive(Clone, Copy, Debug, PartialEq, Eq, Error)]
+pub enum BitFaultKind {
+    /// The stream does not begin with the bytes 42 43 C0 DE.
+    #[error("bad magic")]
+    BadMagic,
+    /// The field ends after the stream.
+    #[error("truncated")]
+    Truncated,
+    /// An abbreviation is not defined, or its definition cannot stand.
+    #[error("bad abbreviation")]
+    BadAbbreviation,
+    /// A number in chunks has more than 64 bits of data.
+    #[error("vbr too long")]
+    VbrTooLong,
+    /// A block has more or fewer words than it says.
+    #[error("bad block length")]
+    BadBlockLength,
+    /// A block would be the 17th that is open at once.
+    #[error("nested too deep")]
+    NestedTooDeep,
+}
+
+/// A fault, and the first bit of the field that is refused, counted from 0.
+#[derive(Clone, Copy, Debug, PartialEq, Eq, Error)]
+#[error("bit {bit}: {kind}")]
+pub struct BitFault {
+    pub kind: BitFaultKind,
+    pub bit: u64,
+}

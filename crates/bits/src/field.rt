@@ -1,0 +1,108 @@
+//! Fields cut out of words.
+//!
+//! A field of up to 57 bits lies in the 64 bits that begin with the byte of its first bit, since at most 7 bits
+//! of that byte come before it. So one word is read there, the bits before the field are shifted out, and those
+//! behind it are masked off. A wider field is cut in two.
+ghost use Rattle.std.specs.Prelude.{◌≡◌, ℕ, ◌+◌, ◌*◌, ◌^◌, ◌%◌, ◌<◌, ◌≤◌, length, take, drop};
+ghost use Rattle.bits.specs.Bits.{value, stream_bits};
+ghost use Rattle.bits.specs.Reading.{vbr_at, bytes_of};
+
+use crate::BitFaultKind;
+
+/// The number of up to eight bytes, the low one first.
+fn word_of(bytes: &[u8]) -> u64
+    requires { length bytes.now ≤ 8 }
+    ensures { result ≡ value (stream_bits bytes.now) }
+{
+    if bytes.len() == 8 {
+        return u64::from_le_bytes([
+            bytes[0], bytes[1], bytes[2], bytes[3], bytes[4], bytes[5], bytes[6], bytes[7],
+        ]);
+    }
+    let mut at = bytes.len();
+    let mut word = 0;
+    while at > 0 {
+        at -= 1;
+        word = word << 8 | u64::from(bytes[at]);
+    }
+    word
+}
+
+/// The first 64 bits from byte `from` on, or fewer where the bytes end.
+fn word_at(bytes: &[u8], from: usize) -> u64
+    requires { from ≤ length bytes.now }
+    ensures { result ≡ value (take 64 (drop (8 * from) (stream_bits bytes.now))) }
+{
+    let count = (bytes.len() - from).min(8);
+    word_of(&bytes[from..from + count])
+}
+
+/// The field of `width` bits from bit `at` on.
+pub fn field_at(bytes: &[u8], at: u64, width: u32) -> u64
+    requires width_in { width ≤ 64 }
+    requires whole { at + width ≤ 8 * length bytes.now }
+    requires small { length bytes.now < 2 ^ 60 }
+    ensures { result ≡ value (take width (drop at (stream_bits bytes.now))) }
+{
+    if width <= 57 {
+        short_field_at(bytes, at, width)
+    } else {
+        let low = short_field_at(bytes, at, 32);
+        let high = short_field_at(bytes, at + 32, width - 32);
+        high << 32 | low
+    }
+}
+
+/// The same, for a field that one word holds wherever it begins.
+fn short_field_at(bytes: &[u8], at: u64, width: u32) -> u64
+    requires width_in { width ≤ 57 }
+    requires whole { at + width ≤ 8 * length bytes.now }
+    requires small { length bytes.now < 2 ^ 60 }
+    ensures { result ≡ value (take width (drop at (stream_bits bytes.now))) }
+{
+    let word = word_at(bytes, (at / 8) as usize);
+    word >> (at % 8) & ((1 << width) - 1)
+}
+
+/// The `count` bytes from bit `at` on, which begins a byte.
+pub fn bytes_at(bytes: &[u8], at: u64, count: u64) -> &[u8]
+    requires byte { at % 8 ≡ 0 }
+    requires whole { at + 8 * count ≤ 8 * length bytes.now }
+    requires small { length bytes.now < 2 ^ 60 }
+    ensures { result.now ≡ bytes_of count (drop at (stream_bits bytes.now)) }
+{
+    let start = (at / 8) as usize;
+    &bytes[start..start + count as usize]
+}
+
+/// The number in chunks of `width` bits from bit `start` on, and how many bits it takes.
+pub fn vbr_in(bytes: &[u8], start: u64, width: u32) -> Result<(u64, u64), BitFaultKind>
+    requires width_low { 2 ≤ width }
+    requires width_high { width ≤ 32 }
+    requires start_in { start ≤ 8 * length bytes.now }
+    requires small { length bytes.now < 2 ^ 60 }
+    ensures { result ≡ vbr_at width (drop start (stream_bits bytes.now)) }
+{
+    let end = bytes.len() as u64 * 8;
+    let data_bits = width - 1;
+    let mut value = 0;
+    let mut shift = 0;
+    let mut at = start;
+    for _ in 0..65u32 {
+        if end - at < u64::from(width) {
+            return Err(BitFaultKind::Truncated);
+        }
+        let chunk = field_at(bytes, at, width);
+        let data = chunk & ((1 << data_bits) - 1);
+        if shift >= 64 || data > u64::MAX >> shift {
+            return Err(BitFaultKind::VbrTooLong);
+        }
+        value |= data << shift;
+        at += u64::from(width);
+        if chunk >> data_bits == 0 {
+            return Ok((value, at - start));
+        }
+        shift += data_bits;
+    }
+    Err(BitFaultKind::VbrTooLong)
+}

@@ -1,0 +1,10 @@
+pub mod Kinds
+pub mod Tools
+pub mod Options
+pub mod Numbers
+pub mod Outputs
+pub mod Roles
+pub mod Faults
+pub mod Commands
+pub mod Reading
+pub mod Examples

@@ -1,0 +1,22 @@
+//! The words of the command line, as the users of LLVM's tools write them.
+//!
+//! It stands on `ir_base` alone. Its promise: `read_words` answers a command exactly where the words
+//! are read as that one, and a fault exactly where it is the first from the left, of one word the first
+//! in the order of `UsageKind`; want of memory is the one free answer. Definitions: `specs/Tools` (each
+//! tool's options), `Options` and `Roles` (what each word is), `Faults` (what is wrong), `Commands`.
+#![tactic(auto)]
+
+mod command;
+mod given;
+mod number;
+mod options;
+mod output;
+mod tool;
+mod words;
+
+pub use command::{Command, OutputName, Selection, UsageKind, WordsFault};
+pub use tool::{Tool, line_name, tool_of};
+pub use words::read_words;
+
+#[cfg(test)]
+mod tests;

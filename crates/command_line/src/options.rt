@@ -1,0 +1,142 @@
+//! How an option is written.
+ghost use Rattle.std.specs.Prelude.{◌≡◌};
+ghost use Rattle.std.specs.Option.{option_copied};
+ghost use Rattle.command_line.specs.Options.{is_dash, is_marker, flag_named, setting_named, undashed, equals_sign, name_part, value_part, named, spelled, seen};
+
+use crate::Tool;
+
+/// An option without a value.
+#[derive(Clone, Copy)]
+pub(crate) enum Flag {
+    Text,
+    Delete,
+    Recursive,
+}
+
+/// An option with a value.
+#[derive(Clone, Copy)]
+pub(crate) enum Setting {
+    Output,
+    Function,
+    Variable,
+    MaxSteps,
+}
+
+/// What a word is that stands where an option may stand.
+#[derive(Clone, Copy)]
+pub(crate) enum Spelling<'w> {
+    /// The two dashes after which there are no options.
+    Marker,
+    /// An option without a value.
+    Lone(Flag),
+    /// An option with its value behind `=`.
+    Full(Setting, &'w [u8]),
+    /// An option whose value is the next word.
+    Open(Setting),
+    Unknown,
+    Input,
+}
+
+// The word for a standard stream.
+pub(crate) fn is_dash(word: &[u8]) -> bool
+    ensures { result ≡ is_dash word.now }
+{
+    matches!(word, b"-")
+}
+
+// The two dashes after which there are no options.
+fn is_marker(word: &[u8]) -> bool
+    ensures { result ≡ is_marker word.now }
+{
+    matches!(word, b"--")
+}
+
+fn flag_named(name: &[u8]) -> Option<Flag>
+    ensures { result ≡ flag_named name.now }
+{
+    match name {
+        b"S" => Some(Flag::Text),
+        b"delete" => Some(Flag::Delete),
+        b"recursive" => Some(Flag::Recursive),
+        _ => None,
+    }
+}
+
+fn setting_named(name: &[u8]) -> Option<Setting>
+    ensures { result ≡ setting_named name.now }
+{
+    match name {
+        b"o" => Some(Setting::Output),
+        b"func" => Some(Setting::Function),
+        b"glob" => Some(Setting::Variable),
+        b"max-steps" => Some(Setting::MaxSteps),
+        _ => None,
+    }
+}
+
+// Behind one dash or two.
+fn undashed(word: &[u8]) -> Option<&[u8]>
+    ensures { option_copied result ≡ undashed word.now }
+{
+    if word.starts_with(b"--") {
+        Some(&word[2..])
+    } else if word.starts_with(b"-") {
+        Some(&word[1..])
+    } else {
+        None
+    }
+}
+
+fn equals_sign(option: &[u8]) -> Option<usize>
+    ensures { result ≡ equals_sign option.now }
+{
+    option.iter().position(|byte| *byte == b'=')
+}
+
+// What stands before the first `=`, and what stands behind it.
+fn parts(option: &[u8]) -> (&[u8], Option<&[u8]>)
+    ensures name { result.0.now ≡ name_part option.now }
+    ensures value { option_copied result.1 ≡ value_part option.now }
+{
+    match equals_sign(option) {
+        Some(at) => (&option[..at], Some(&option[at + 1..])),
+        None => (option, None),
+    }
+}
+
+// An option of the tool, with the value behind its `=` where it has one.
+fn named<'w>(tool: Tool, name: &[u8], value: Option<&'w [u8]>) -> Spelling<'w>
+    ensures { seen result
+        ≡ named tool (flag_named name.now) (setting_named name.now) (option_copied value.entry) }
+{
+    if let Some(flag) = flag_named(name) {
+        return if value.is_none() && tool.has(flag) {
+            Spelling::Lone(flag)
+        } else {
+            Spelling::Unknown
+        };
+    }
+    match (setting_named(name), value) {
+        (Some(setting), None) if tool.takes(setting) => Spelling::Open(setting),
+        (Some(setting), Some(value)) if tool.takes(setting) => Spelling::Full(setting, value),
+        _ => Spelling::Unknown,
+    }
+}
+
+/// What the word is for the tool.
+#[tactic(auto, unfolding(crate::specs::Options::spelled))]
+pub(crate) fn spelled(tool: Tool, word: &[u8]) -> Spelling<'_>
+    ensures { seen result ≡ spelled tool word.now }
+{
+    if is_dash(word) {
+        return Spelling::Input;
+    }
+    if is_marker(word) {
+        return Spelling::Marker;
+    }
+    let Some(option) = undashed(word) else {
+        return Spelling::Input;
+    };
+    let (name, value) = parts(option);
+    named(tool, name, value)
+}

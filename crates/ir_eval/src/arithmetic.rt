@@ -1,0 +1,56 @@
+//! Sums, differences and products.
+ghost use Rattle.std.specs.Prelude.{◌≡◌, ◌^◌, ◌<◌};
+ghost use Rattle.ir_eval.specs.Value.{IsWidth};
+ghost use Rattle.ir_eval.specs.Arithmetic.{sum_of, difference_of, product_of};
+
+use crate::Scalar;
+use crate::width::{fits_signed, fits_unsigned, low_bits, signed};
+use ir_tables::{Flag, Flags};
+
+/// `add`: the sum modulo 2^width; `nuw` and `nsw` give poison where the exact sum does not fit.
+pub fn sum(flags: Flags, width: u8, a: u128, b: u128) -> Scalar
+    requires width { IsWidth width }
+    requires a { a < 2 ^ width }
+    requires b { b < 2 ^ width }
+    ensures { result ≡ sum_of flags width a b }
+{
+    if flags.has(Flag::Nuw) && !fits_unsigned(width, a.checked_add(b)) {
+        return Scalar::Poison;
+    }
+    if flags.has(Flag::Nsw) && !fits_signed(width, signed(width, a).checked_add(signed(width, b))) {
+        return Scalar::Poison;
+    }
+    Scalar::Int(low_bits(width, a.wrapping_add(b)))
+}
+
+/// `sub`: the difference modulo 2^width, with the flags of `add`.
+pub fn difference(flags: Flags, width: u8, a: u128, b: u128) -> Scalar
+    requires width { IsWidth width }
+    requires a { a < 2 ^ width }
+    requires b { b < 2 ^ width }
+    ensures { result ≡ difference_of flags width a b }
+{
+    if flags.has(Flag::Nuw) && !fits_unsigned(width, a.checked_sub(b)) {
+        return Scalar::Poison;
+    }
+    if flags.has(Flag::Nsw) && !fits_signed(width, signed(width, a).checked_sub(signed(width, b))) {
+        return Scalar::Poison;
+    }
+    Scalar::Int(low_bits(width, a.wrapping_sub(b)))
+}
+
+/// `mul`: the product modulo 2^width, with the flags of `add`.
+pub fn product(flags: Flags, width: u8, a: u128, b: u128) -> Scalar
+    requires width { IsWidth width }
+    requires a { a < 2 ^ width }
+    requires b { b < 2 ^ width }
+    ensures { result ≡ product_of flags width a b }
+{
+    if flags.has(Flag::Nuw) && !fits_unsigned(width, a.checked_mul(b)) {
+        return Scalar::Poison;
+    }
+    if flags.has(Flag::Nsw) && !fits_signed(width, signed(width, a).checked_mul(signed(width, b))) {
+        return Scalar::Poison;
+    }
+    Scalar::Int(low_bits(width, a.wrapping_mul(b)))
+}

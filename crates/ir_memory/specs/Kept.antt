@@ -1,0 +1,27 @@
+-- What holds of memory at every moment.
+use Rattle.std.specs.Prelude.{◌≡◌, ℕ, ◌+◌, ◌<◌, ◌≤◌, ◌^◌, List, [], ◌∷◌, length, ⊤}
+use Rattle.std.specs.List.{All}
+use Rattle.ir_memory.specs.declared.cell.Cell.{Cell}
+use Rattle.ir_memory.specs.declared.cell.Cell.TheVariants as cell
+use Rattle.ir_memory.specs.Block.{Block}
+use Rattle.ir_memory.specs.Memory.{live_bytes, byte_limit}
+use Rattle.ir_memory.specs.Given.{IsBlock}
+
+-- addresses only grow, and 16 are free between two blocks
+abbrev pub IsPlaced : ℕ → List Block → ℕ → Type 0
+IsPlaced from [] next = from ≤ next
+IsPlaced from (b ∷ bs) next = (from ≤ b.start) × IsPlaced (b.start + b.size + 16) bs next
+
+-- a piece is of a pointer whose block is one of the first so many
+abbrev pub IsKnownCell : ℕ → Cell → Type 0
+IsKnownCell count (cell.Piece p k) = IsBlock count p.block
+IsKnownCell count (cell.Byte b) = ⊤
+IsKnownCell count cell.Poison = ⊤
+
+-- each piece in the blocks is so
+abbrev pub AreKnown : ℕ → List Block → Type 0
+AreKnown count blocks = All (λ b. All (IsKnownCell count) b.cells) blocks
+
+-- blocks are placed, so many bytes are live, and each piece is of a pointer whose block was made
+abbrev pub IsKept : List Block → ℕ → ℕ → Type 0
+IsKept blocks next live = IsPlaced 65536 blocks next × (live ≡ live_bytes blocks) × (live ≤ byte_limit) × (next < 2 ^ 62) × AreKnown (length blocks) blocks

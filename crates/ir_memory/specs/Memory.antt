@@ -1,0 +1,178 @@
+-- Memory: blocks in the order of their addresses, and what each call does to them.
+use Rattle.std.specs.Prelude.{ℕ, zero, suc, ◌+◌, ◌-◌, ◌*◌, ◌/◌, ◌%◌, Bool, true, false, not, ◌&&◌, nat_eq, nat_lt, List, [], ◌∷◌, ◌++◌, Option, Some, None, Result, Ok, Err, is_none, position, slice_get, slice_range, replicate, if◌then◌else◌}
+use Rattle.ir_eval.specs.declared.value.Pointer.{Pointer}
+use Rattle.ir_eval.specs.declared.value.Scalar.{Scalar}
+use Rattle.ir_eval.specs.declared.value.Scalar.TheVariants.{Int, Ptr, Poison}
+use Rattle.ir_tables.specs.declared.undefined_kind.UndefinedKind.{UndefinedKind}
+use Rattle.ir_tables.specs.declared.undefined_kind.UndefinedKind.TheVariants.{PoisonAddress, EndedBlock, OutsideBlock, WriteToConstant, Misaligned, Overlap, BadFree}
+use Rattle.ir_memory.specs.declared.kind.BlockKind.{BlockKind}
+use Rattle.ir_memory.specs.declared.leaf.Leaf.{Leaf}
+use Rattle.ir_memory.specs.declared.cell.Cell.{Cell}
+use Rattle.ir_memory.specs.declared.cell.Cell.TheVariants.{Byte}
+use Rattle.ir_memory.specs.declared.access.Place.{Place}
+use Rattle.ir_memory.specs.Cell.{size, read, spelled}
+use Rattle.ir_memory.specs.Block.{is_constant, Block, new_block, ended_block, holds, starts, written}
+
+-- all blocks, live or ended; where the next one may start; whether constants are sealed
+pub record Blocks : Type 0 where
+  pub list : List Block
+  pub next : ℕ
+  pub sealed : Bool
+
+abbrev pub no_blocks : Blocks
+no_blocks = record { list = []; next = 65536; sealed = false }
+
+-- how many bytes live blocks may have together
+abbrev pub byte_limit : ℕ
+byte_limit = 16777216
+
+abbrev pub live_bytes : List Block → ℕ
+live_bytes [] = 0
+live_bytes (b ∷ bs) = (if b.live then b.size else 0) + live_bytes bs
+
+-- the least multiple that is not below
+abbrev pub round_up : ℕ → ℕ → ℕ
+round_up n align = (n + (align - 1)) / align * align
+
+-- a block is placed at the next address rounded up, and 16 addresses are left free behind it
+abbrev pub added : ℕ → ℕ → BlockKind → Blocks → Blocks
+added size align kind m =
+    let start = round_up m.next align in
+    record m { list = m.list ++ new_block start size align kind ∷ []; next = start + size + 16 }
+
+-- the n-th block is changed
+abbrev pub changed : ℕ → (Block → Block) → List Block → List Block
+changed i f [] = []
+changed zero f (b ∷ bs) = f b ∷ bs
+changed (suc i) f (b ∷ bs) = b ∷ changed i f bs
+
+-- the number of a block, where the block passes a test
+abbrev pub named : ℕ → (Block → Bool) → Option Block → Option ℕ
+named i test None = None
+named i test (Some b) = if test b then Some i else None
+
+-- the block that a pointer speaks of, where it passes a test: the pointer's own, else the first that passes
+abbrev pub found : List Block → (Block → Bool) → Option ℕ → Option ℕ
+found blocks test None = position test blocks
+found blocks test (Some i) = named i test (slice_get blocks i)
+
+-- the live block of that kind that the pointer starts
+abbrev pub started : List Block → Scalar → BlockKind → Option ℕ
+started blocks (Int n) kind = None
+started blocks Poison kind = None
+started blocks (Ptr p) kind = found blocks (λ b. starts b p.address kind) p.block
+
+abbrev pub ended_at : Blocks → Option ℕ → Result Blocks UndefinedKind
+ended_at m None = Err BadFree
+ended_at m (Some i) = Ok (record m { list = changed i ended_block m.list })
+
+-- that block ends, or there is none and the free is bad
+abbrev pub ended : Scalar → BlockKind → Blocks → Result Blocks UndefinedKind
+ended pointer kind m = ended_at m (started m.list pointer kind)
+
+abbrev pub bounds_of : Option Block → Option (ℕ × ℕ)
+bounds_of None = None
+bounds_of (Some b) = if b.live then Some (b.start, b.start + b.size) else None
+
+-- where a pointer's live block starts and ends
+abbrev pub bounds_at : List Block → Option ℕ → Option (ℕ × ℕ)
+bounds_at blocks None = None
+bounds_at blocks (Some i) = bounds_of (slice_get blocks i)
+
+-- the live block that holds so many bytes from the pointer on
+abbrev pub home : List Block → Pointer → ℕ → Option ℕ
+home blocks p count = found blocks (λ b. b.live && holds b p.address count) p.block
+
+abbrev pub is_over : Option Block → Bool
+is_over None = false
+is_over (Some b) = not b.live
+
+-- the pointer's own block has ended
+abbrev pub has_ended : List Block → Option ℕ → Bool
+has_ended blocks None = false
+has_ended blocks (Some i) = is_over (slice_get blocks i)
+
+abbrev pub is_fixed : Option Block → Bool
+is_fixed None = false
+is_fixed (Some b) = is_constant b.kind
+
+abbrev pub has_constant : List Block → Option ℕ → Bool
+has_constant blocks None = false
+has_constant blocks (Some i) = is_fixed (slice_get blocks i)
+
+abbrev pub place_in : ℕ → ℕ → Option Block → Option Place
+place_in i address None = None
+place_in i address (Some b) = Some (record { index = i; offset = address - b.start })
+
+-- the place of an address in its block
+abbrev pub place_at : List Block → ℕ → Option ℕ → Option Place
+place_at blocks address None = None
+place_at blocks address (Some i) = place_in i address (slice_get blocks i)
+
+-- the checks of an access, in their order; then the place of its first byte, and none where it has no bytes
+abbrev pub access : Blocks → ℕ → ℕ → Bool → Scalar → Result (Option Place) UndefinedKind
+access m count align writes (Int n) = Err PoisonAddress
+access m count align writes Poison = Err PoisonAddress
+access m count align writes (Ptr p) =
+    if nat_eq count 0 then Ok None
+    else (if has_ended m.list p.block then Err EndedBlock
+    else (if is_none (home m.list p count) then Err OutsideBlock
+    else (if writes && m.sealed && has_constant m.list (home m.list p count) then Err WriteToConstant
+    else (if not (nat_eq (p.address % align) 0) then Err Misaligned
+    else Ok (place_at m.list p.address (home m.list p count))))))
+
+abbrev pub cells_of : ℕ → ℕ → Option Block → List Cell
+cells_of offset count None = []
+cells_of offset count (Some b) = slice_range b.cells offset (offset + count)
+
+-- so many cells from a place on
+abbrev pub cells_at : List Block → ℕ → Option Place → List Cell
+cells_at blocks count None = []
+cells_at blocks count (Some place) = cells_of place.offset count (slice_get blocks place.index)
+
+-- cells are put at a place
+abbrev pub put : Blocks → List Cell → Option Place → Blocks
+put m cells None = m
+put m cells (Some place) = record m { list = changed place.index (written place.offset cells) m.list }
+
+abbrev pub read_at : Blocks → Leaf → Result (Option Place) UndefinedKind → Result Scalar UndefinedKind
+read_at m leaf (Err kind) = Err kind
+read_at m leaf (Ok place) = Ok (read leaf (cells_at m.list (size leaf) place))
+
+-- a load of a leaf
+abbrev pub loaded : Blocks → Scalar → Leaf → ℕ → Result Scalar UndefinedKind
+loaded m address leaf align = read_at m leaf (access m (size leaf) align false address)
+
+abbrev pub put_at : Blocks → List Cell → Result (Option Place) UndefinedKind → Result Blocks UndefinedKind
+put_at m cells (Err kind) = Err kind
+put_at m cells (Ok place) = Ok (put m cells place)
+
+-- a store of a leaf
+abbrev pub stored : Scalar → Leaf → ℕ → Scalar → Blocks → Result Blocks UndefinedKind
+stored address leaf align value m = put_at m (spelled leaf value) (access m (size leaf) align true address)
+
+-- one byte in so many places
+abbrev pub filled : Scalar → ℕ → ℕ → Blocks → Result Blocks UndefinedKind
+filled to byte count m = put_at m (replicate count (Byte byte)) (access m count 1 true to)
+
+-- two ranges of one block meet and are not equal
+abbrev pub overlap : ℕ → Option Place → Option Place → Bool
+overlap count None other = false
+overlap count (Some one) None = false
+overlap count (Some one) (Some other) =
+    nat_eq one.index other.index && not (nat_eq one.offset other.offset)
+    && nat_lt ((one.offset - other.offset) + (other.offset - one.offset)) count
+
+-- the source is judged, then the target, then how they lie
+abbrev pub copied_at : Blocks → ℕ → Bool → Result (Option Place) UndefinedKind → Result (Option Place) UndefinedKind → Result Blocks UndefinedKind
+copied_at m count may_overlap (Err kind) target = Err kind
+copied_at m count may_overlap (Ok source) (Err kind) = Err kind
+copied_at m count may_overlap (Ok source) (Ok target) =
+    if not may_overlap && overlap count source target then Err Overlap
+    else Ok (put m (cells_at m.list count source) target)
+
+-- a copy of so many cells; a copy of none does nothing
+abbrev pub copied : Scalar → Scalar → ℕ → Bool → Blocks → Result Blocks UndefinedKind
+copied to from count may_overlap m =
+    if nat_eq count 0 then Ok m
+    else copied_at m count may_overlap (access m count 1 false from) (access m count 1 true to)

@@ -1,0 +1,158 @@
+//! One byte of memory, and leaves as cells.
+ghost use Rattle.std.specs.Prelude.{◌≡◌, ◌<◌, ◌≤◌, ◌^◌, ◌%◌, length, IfSome};
+ghost use Rattle.ir_memory.specs.Cell as of;
+ghost use Rattle.ir_memory.specs.Given.{IsLeaf, Fits};
+
+use crate::Leaf;
+use ir_eval::{Pointer, Scalar};
+
+/// What one byte of a block holds: a byte, poison, or a piece of a pointer, counted from its lowest
+/// byte.
+#[derive(Clone, Copy, PartialEq, Eq, Debug)]
+pub enum Cell {
+    Byte(u8),
+    Poison,
+    Piece(Pointer, u8),
+}
+
+/// The byte at a place of a number, the least first.
+fn byte_at(number: u128, place: u8) -> u8
+    ensures { result ≡ of.byte_at number place }
+{
+    if place >= 16 {
+        return 0;
+    }
+    ((number >> (8 * u32::from(place))) % 256) as u8
+}
+
+impl Cell {
+    /// The cell as a byte, where it is not poison.
+    fn byte(self) -> Option<u8>
+        ensures { result ≡ of.byte_of self }
+    {
+        match self {
+            Cell::Byte(byte) => Some(byte),
+            Cell::Poison => None,
+            Cell::Piece(pointer, place) => Some(byte_at(u128::from(pointer.address), place)),
+        }
+    }
+
+    fn is_piece(self, pointer: Pointer, place: usize) -> bool
+        ensures { result ≡ of.is_piece pointer place self }
+    {
+        match self {
+            Cell::Piece(other, piece) => other == pointer && usize::from(piece) == place,
+            Cell::Byte(_) | Cell::Poison => false,
+        }
+    }
+}
+
+/// The number that cells spell, the lowest byte first, where none is poison.
+fn number_of(cells: &[Cell]) -> Option<u128>
+    requires { length cells.now ≤ 16 }
+    ensures value { result ≡ of.number_of cells.now }
+    ensures fits { IfSome result (λ n. n < 256 ^ length cells.now) }
+{
+    let mut number = 0;
+    let mut left = cells.len();
+    while left > 0 {
+        left -= 1;
+        let byte = cells[left].byte()?;
+        number = number * 256 + u128::from(byte);
+    }
+    Some(number)
+}
+
+/// Whether the cells are the pieces of a pointer, in order.
+fn are_pieces(pointer: Pointer, cells: &[Cell]) -> bool
+    ensures { result ≡ of.are_pieces pointer 0 cells.now }
+{
+    for (place, cell) in cells.iter().enumerate() {
+        if !cell.is_piece(pointer, place) {
+            return false;
+        }
+    }
+    true
+}
+
+/// The pointer of which the cells are the pieces, in order.
+fn pointer_of(cells: &[Cell]) -> Option<Pointer>
+    ensures { result ≡ of.pointer_of cells.now }
+{
+    if let [Cell::Piece(pointer, _), ..] = cells {
+        if are_pieces(*pointer, cells) {
+            return Some(*pointer);
+        }
+    }
+    None
+}
+
+/// A number cut to a width.
+fn low_bits(number: u128, width: u8) -> u128
+    requires { width ≤ 128 }
+    ensures { result ≡ number % 2 ^ width }
+{
+    if width == 128 {
+        number
+    } else {
+        number % (1 << width)
+    }
+}
+
+/// The value that a load of these cells gives.
+pub fn read(leaf: Leaf, cells: &[Cell]) -> Scalar
+    requires leaf { IsLeaf leaf }
+    requires count { length cells.now ≡ of.size leaf }
+    ensures { result ≡ of.read leaf cells.now }
+{
+    match leaf {
+        Leaf::Int(width) => match number_of(cells) {
+            None => Scalar::Poison,
+            Some(number) => Scalar::Int(low_bits(number, width)),
+        },
+        Leaf::Ptr => {
+            if let Some(pointer) = pointer_of(cells) {
+                return Scalar::Ptr(pointer);
+            }
+            match number_of(cells) {
+                None => Scalar::Poison,
+                Some(number) => Scalar::Ptr(Pointer {
+                    block: None,
+                    address: number as u64,
+                }),
+            }
+        }
+    }
+}
+
+/// Writes the cells that a store of this value gives.
+pub fn spell(leaf: Leaf, value: Scalar, cells: &mut [Cell])
+    requires leaf { IsLeaf leaf }
+    requires value { Fits leaf value }
+    requires count { length cells.old ≡ of.size leaf }
+    ensures { cells.new ≡ of.spelled leaf value }
+{
+    match value {
+        Scalar::Poison => cells.fill(Cell::Poison),
+        Scalar::Int(number) => spell_number(number, cells),
+        Scalar::Ptr(pointer) => spell_pointer(pointer, cells),
+    }
+}
+
+fn spell_number(number: u128, cells: &mut [Cell])
+    requires { length cells.old ≤ 16 }
+    ensures { cells.new ≡ of.bytes (length cells.old) number }
+{
+    for i in 0..cells.len() {
+        cells[i] = Cell::Byte(byte_at(number, i as u8));
+    }
+}
+
+fn spell_pointer(pointer: Pointer, cells: &mut [Cell])
+    requires { length cells.old ≡ 8 }
+    ensures { cells.new ≡ of.pieces pointer }
+{
+    for i in 0..cells.len() {
+        cells[i] = Cell::Piece(pointer, i as u8);
+    }
+}

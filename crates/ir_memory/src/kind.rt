@@ -1,0 +1,9 @@
+//! What a block is for.
+
+/// What a block is for: a variable, which may be a constant, the stack of a function, or the heap.
+#[derive(Clone, Copy, PartialEq, Eq, Debug)]
+pub enum BlockKind {
+    Variable(bool),
+    Stack,
+    Heap,
+}

@@ -1,0 +1,296 @@
+//! All blocks of a run.
+ghost use Rattle.std.specs.Prelude.{◌≡◌, ◌≢◌, ◌+◌, ◌<◌, ◌≤◌, ◌^◌, ◌↔◌, IfOk, OnOk, OnErr, length, true, slice_index_or, Some, Ok, Err, vec_len, replicate};
+ghost use Rattle.ir_memory.specs.Memory as of;
+ghost use Rattle.ir_memory.specs.Memory.{live_bytes, round_up};
+ghost use Rattle.ir_memory.specs.Kept.{IsPlaced};
+ghost use Rattle.ir_memory.specs.Block as block;
+ghost use Rattle.ir_memory.specs.Given.{IsKnown, IsAddress, IsAlignment, IsLeaf, Fits, HasKnown, CanEnd};
+ghost use Rattle.ir_memory.specs.Answer.{Answers, NeedsNone, IsInteger, Keeps};
+ghost use Rattle.ir_memory.specs.Cell as cell;
+ghost use Rattle.ir_memory.specs.Cell.{size, spelled};
+
+use crate::access::{Place, Request, access, started};
+use crate::block::Block;
+use crate::cell::{Cell, read};
+use crate::copy::{copy_cells, overlap};
+use crate::{BlockKind, Leaf, MemoryFault};
+use ir_eval::{Pointer, Scalar};
+use ir_tables::UndefinedKind;
+use std::alloc::Global;
+use std::marker::Model;
+
+/// How many bytes live blocks may have together.
+const BYTE_LIMIT: u64 = 16_777_216;
+
+/// The first address that a block may have.
+const FIRST_ADDRESS: u64 = 65_536;
+
+/// How many addresses are left free behind a block.
+const GAP: u64 = 16;
+
+/// The blocks of a run, live or ended, in the order of their addresses. Pointers name a block by its number,
+/// counted from 0.
+#[derive(Drop)]
+pub struct Memory {
+    alloc: Global,
+    blocks: Vec<Block>,
+    next: u64,
+    sealed: bool,
+    live: u64,
+}
+
+impl Model for Memory {
+    ghost use Rattle.ir_memory.specs.Memory.{Blocks};
+    ghost use Rattle.ir_memory.specs.Kept.{IsKept};
+
+    ghost Value = { Blocks };
+
+    ghost view = { λ m. record { list = m.blocks.items; next = m.next; sealed = m.sealed } };
+
+    ghost invariant = { λ m. IsKept m.blocks.items m.next m.live };
+}
+
+impl Memory {
+    /// No blocks. The first one may start at 65,536.
+    pub fn new(alloc: Global) -> Memory
+        ensures { result ≡ of.no_blocks }
+    {
+        Memory {
+            alloc,
+            blocks: Vec::new(alloc),
+            next: FIRST_ADDRESS,
+            sealed: false,
+            live: 0,
+        }
+    }
+
+    /// How many bytes the live blocks have together: at most 2^24.
+    pub fn live_bytes(&self) -> u64
+        ensures value { result ≡ live_bytes self.now.list }
+        ensures limit { result ≤ of.byte_limit }
+        ensures placed { IsPlaced 65536 self.now.list self.now.next }
+    {
+        self.live
+    }
+
+    /// From now on no constant is written.
+    pub fn seal_constants(&mut self)
+        ensures { self.new ≡ record self.old { sealed = true } }
+    {
+        self.sealed = true;
+    }
+
+    /// A new live block of so many zeros, at the next address that is a multiple of the alignment. It is
+    /// refused exactly where live bytes would pass 2^24.
+    pub fn add_block(
+        &mut self,
+        size: u64,
+        align: u32,
+        kind: BlockKind,
+    ) -> Result<Pointer, MemoryFault>
+        requires align { IsAlignment align }
+        requires next { self.old.next ≤ 2 ^ 61 }
+        ensures added { OnOk result (self.new ≡ of.added size align kind self.old) }
+        ensures pointer { IfOk result (λ p. p ≡ record { block = Some (length self.old.list); address = round_up self.old.next align }) }
+        ensures limit { (result ≡ Err MemoryFault.MemoryLimit) ↔ (of.byte_limit < live_bytes self.old.list + size) }
+        ensures defined { (kind : UndefinedKind) → result ≢ Err (MemoryFault.Undefined kind) }
+        ensures err { OnErr result (self.new ≡ self.old) }
+        ensures growth { self.new.next ≤ self.old.next + 2 ^ 25 }
+    {
+        if size > BYTE_LIMIT - self.live {
+            return Err(MemoryFault::MemoryLimit);
+        }
+        let start = round_up(self.next, align);
+        let index = self.blocks.len() as u64;
+        let block = Block::new(self.alloc, start, size, align, kind)?;
+        self.blocks.push(block)?;
+        self.next = start + size + GAP;
+        self.live += size;
+        Ok(Pointer {
+            block: Some(index),
+            address: start,
+        })
+    }
+
+    /// Ends the live block of that kind, Stack or Heap, that starts at the pointer. It is refused exactly where
+    /// there is none.
+    pub fn end_block(&mut self, pointer: Scalar, kind: BlockKind) -> Result<(), MemoryFault>
+        requires pointer { IsAddress self.old.list pointer }
+        requires kind { CanEnd kind }
+        ensures answer { Answers (of.ended pointer kind self.old) self.old self.new result }
+        ensures kept { Keeps self.old self.new }
+        ensures memory { NeedsNone result }
+    {
+        let Some(index) = started(self.blocks.as_slice(), pointer, kind) else {
+            return Err(MemoryFault::Undefined(UndefinedKind::BadFree));
+        };
+        let block = &mut self.blocks[index];
+        self.live -= block.size();
+        block.end(self.alloc);
+        Ok(())
+    }
+
+    /// The start and the end of the pointer's live block, and None exactly where the pointer has no block or
+    /// its block has ended.
+    pub fn bounds(&self, pointer: Pointer) -> Option<(u64, u64)>
+        requires { IsKnown self.now.list pointer }
+        ensures { result ≡ of.bounds_at self.now.list pointer.block }
+    {
+        let index = pointer.block?;
+        let block = &self.blocks[index as usize];
+        if block.is_live() {
+            Some((block.start(), block.start() + block.size()))
+        } else {
+            None
+        }
+    }
+
+    /// The leaf at an address (LangRef, "load"). It is refused exactly where the access is undefined.
+    pub fn load(&self, address: Scalar, leaf: Leaf, align: u32) -> Result<Scalar, UndefinedKind>
+        requires address { IsAddress self.now.list address }
+        requires leaf { IsLeaf leaf }
+        requires align { IsAlignment align }
+        ensures value { result ≡ of.loaded self.now address leaf align }
+        ensures fits { IfOk result (Fits leaf) }
+        ensures known { IfOk result (HasKnown self.now.list) }
+    {
+        let count = leaf.size();
+        let asked = Request {
+            count: count as u64,
+            align,
+            writes: false,
+        };
+        let place = access(self.blocks.as_slice(), self.sealed, asked, address)?;
+        let block = &self.blocks[place.index];
+        Ok(read(leaf, block.cells(place.offset, count)))
+    }
+
+    /// Writes a leaf at an address (LangRef, "store"). It is refused exactly where the access is undefined.
+    #[tactic(auto, using(crate::proofs::Known::count_steps))]
+    pub fn store(
+        &mut self,
+        address: Scalar,
+        leaf: Leaf,
+        align: u32,
+        value: Scalar,
+    ) -> Result<(), MemoryFault>
+        requires address { IsAddress self.old.list address }
+        requires leaf { IsLeaf leaf }
+        requires align { IsAlignment align }
+        requires fits { Fits leaf value }
+        requires known { HasKnown self.old.list value }
+        ensures answer { Answers (of.stored address leaf align value self.old) self.old self.new result }
+        ensures kept { Keeps self.old self.new }
+        ensures memory { IsInteger leaf → NeedsNone result }
+        ensures back { OnOk result (of.loaded self.new address leaf align ≡ Ok value) }
+    {
+        let asked = Request {
+            count: leaf.size() as u64,
+            align,
+            writes: true,
+        };
+        let place = access(self.blocks.as_slice(), self.sealed, asked, address)?;
+        put_leaf(&mut self.blocks, place, leaf, value);
+        Ok(())
+    }
+
+    /// Writes one byte at so many addresses. It is refused exactly where the access is undefined.
+    #[tactic(auto, using(crate::proofs::Known::count_steps))]
+    pub fn fill(&mut self, to: Scalar, byte: u8, count: u64) -> Result<(), MemoryFault>
+        requires { IsAddress self.old.list to }
+        ensures answer { Answers (of.filled to byte count self.old) self.old self.new result }
+        ensures kept { Keeps self.old self.new }
+        ensures memory { NeedsNone result }
+    {
+        let Scalar::Ptr(_) = to else {
+            return Err(MemoryFault::Undefined(UndefinedKind::PoisonAddress));
+        };
+        if count == 0 {
+            return Ok(());
+        }
+        let asked = Request {
+            count,
+            align: 1,
+            writes: true,
+        };
+        let place = access(self.blocks.as_slice(), self.sealed, asked, to)?;
+        put_many(&mut self.blocks, place, count as usize, Cell::Byte(byte));
+        Ok(())
+    }
+
+    /// Copies so many cells as if through a buffer; a copy of none does nothing. The source is judged before the
+    /// target, and ranges that meet and are not equal last, unless they may.
+    #[tactic(auto, using(crate::proofs::Known::count_steps))]
+    pub fn copy(
+        &mut self,
+        to: Scalar,
+        from: Scalar,
+        count: u64,
+        may_overlap: bool,
+    ) -> Result<(), MemoryFault>
+        requires to { IsAddress self.old.list to }
+        requires from { IsAddress self.old.list from }
+        ensures answer { Answers (of.copied to from count may_overlap self.old) self.old self.new result }
+        ensures kept { Keeps self.old self.new }
+    {
+        if count == 0 {
+            return Ok(());
+        }
+        let reading = Request {
+            count,
+            align: 1,
+            writes: false,
+        };
+        let source = access(self.blocks.as_slice(), self.sealed, reading, from)?;
+        let writing = Request {
+            writes: true,
+            ..reading
+        };
+        let target = access(self.blocks.as_slice(), self.sealed, writing, to)?;
+        if !may_overlap && overlap(source, target, count as usize) {
+            return Err(MemoryFault::Undefined(UndefinedKind::Overlap));
+        }
+        copy_cells(&mut self.blocks, target, source, count as usize);
+        Ok(())
+    }
+}
+
+/// Puts the cells of a leaf at a place.
+#[tactic(auto, using(crate::proofs::Placed::written_steps))]
+fn put_leaf(blocks: &mut Vec<Block>, place: Place, leaf: Leaf, value: Scalar)
+    requires index { place.index < vec_len blocks.old }
+    requires leaf { IsLeaf leaf }
+    requires value { Fits leaf value }
+    requires live { (d : block.Block) → (slice_index_or blocks.old.items place.index d).live ≡ true }
+    requires within { (d : block.Block) → place.offset + size leaf ≤ (slice_index_or blocks.old.items place.index d).size }
+    ensures value { blocks.new.items ≡ of.changed place.index (block.written place.offset (spelled leaf value)) blocks.old.items }
+    ensures back { cell.read leaf (of.cells_at blocks.new.items (size leaf) (Some place)) ≡ value }
+{
+    let block = &mut blocks[place.index];
+    block.put(place.offset, leaf, value);
+}
+
+/// Puts one cell in so many places.
+#[tactic(auto, using(crate::proofs::Placed::written_steps))]
+fn put_many(blocks: &mut Vec<Block>, place: Place, count: usize, cell: Cell)
+    requires index { place.index < vec_len blocks.old }
+    requires live { (d : block.Block) → (slice_index_or blocks.old.items place.index d).live ≡ true }
+    requires within { (d : block.Block) → place.offset + count ≤ (slice_index_or blocks.old.items place.index d).size }
+    ensures { blocks.new.items ≡ of.changed place.index (block.written place.offset (replicate count cell)) blocks.old.items }
+{
+    let block = &mut blocks[place.index];
+    block.fill(place.offset, count, cell);
+}
+
+/// The least multiple of an alignment that is not below a number.
+fn round_up(number: u64, align: u32) -> u64
+    requires align { IsAlignment align }
+    requires number { number ≤ 2 ^ 61 }
+    ensures value { result ≡ round_up number align }
+    ensures above { number ≤ result }
+    ensures below { result < number + align }
+    ensures align { align ≤ 65536 }
+{
+    let align = u64::from(align);
+    (number + (align - 1)) / align * align
+}

@@ -1,0 +1,247 @@
+//! A call on memory as a value, and its answer.
+ghost use Rattle.std.specs.Prelude.{◌≡◌, ◌+◌, ◌*◌, ◌≤◌, ◌^◌, length, IfSome, IsTrue};
+ghost use Rattle.ir_memory.specs.Given.{IsAlignment, IsAddress, HasKnown, IsKnown, IsLeaf, Fits, CanEnd};
+
+use crate::{BlockKind, Leaf, Memory, MemoryFault};
+use ir_eval::{Pointer, Scalar};
+use std::alloc::Global;
+use std::process::Abort;
+
+/// A call. A leaf is written as its width, 0 for a pointer, and a pointer as its block and address.
+#[derive(Clone, Copy, Debug)]
+pub enum Call {
+    Add(u64, u32, BlockKind),
+    End(Scalar, BlockKind),
+    Bounds(Option<u64>, u64),
+    Seal,
+    Load(Scalar, u8, u32),
+    Store(Scalar, u8, u32, Scalar),
+    Copy(Scalar, Scalar, u64, bool),
+    Fill(Scalar, u8, u64),
+    Live,
+}
+
+/// What a call answers: a new block's number and address, nothing, a value, a refusal, a block's start and end, or
+/// the live bytes. Barred: the call's own conditions do not hold.
+#[derive(Clone, Copy, Debug, PartialEq, Eq)]
+pub enum Answer {
+    Made(u64, u64),
+    Done,
+    Value(Scalar),
+    Refused(MemoryFault),
+    Span(Option<(u64, u64)>),
+    Bytes(u64),
+    Barred,
+}
+
+/// A pointer without a block.
+pub fn at(address: u64) -> Scalar {
+    Scalar::Ptr(Pointer {
+        block: None,
+        address,
+    })
+}
+
+/// A pointer with a block.
+pub fn within(block: u64, address: u64) -> Scalar {
+    Scalar::Ptr(Pointer {
+        block: Some(block),
+        address,
+    })
+}
+
+/// Memory, and how many blocks it has made.
+#[derive(Drop)]
+struct Run {
+    memory: Memory,
+    made: u64,
+    ghost known: { made ≤ length memory.list },
+    ghost low: { memory.next ≤ 65536 + made * 2 ^ 25 },
+}
+
+/// Makes each call in turn on new memory, and compares its answer.
+pub fn compare(rt: &impl Abort, alloc: Global, rows: &[(Call, Answer)]) {
+    let mut run = Run {
+        memory: Memory::new(alloc),
+        made: 0,
+    };
+    for (row, (call, want)) in rows.iter().enumerate() {
+        let got = run.answer(*call);
+        assert_eq!(rt; got, *want, "row {row}");
+    }
+}
+
+impl Run {
+    fn answer(&mut self, call: Call) -> Answer {
+        match call {
+            Call::Add(size, align, kind) => self.add(size, align, kind),
+            Call::End(pointer, kind) => self.end(pointer, kind),
+            Call::Bounds(block, address) => self.bounds(Pointer { block, address }),
+            Call::Seal => {
+                self.memory.seal_constants();
+                Answer::Done
+            }
+            Call::Load(address, width, align) => self.load(address, leaf(width), align),
+            Call::Store(address, width, align, value) => {
+                self.store(address, leaf(width), align, value)
+            }
+            Call::Copy(to, from, count, may_overlap) => self.copy(to, from, count, may_overlap),
+            Call::Fill(to, byte, count) => self.fill(to, byte, count),
+            Call::Live => Answer::Bytes(self.memory.live_bytes()),
+        }
+    }
+}
+
+/// The leaf of a width, and a pointer for 0.
+fn leaf(width: u8) -> Leaf {
+    match width {
+        0 => Leaf::Ptr,
+        _ => Leaf::Int(width),
+    }
+}
+
+/// An alignment that is one of those that can be handed in.
+fn alignment(align: u32) -> Option<u32>
+    ensures { IfSome result IsAlignment }
+{
+    for power in 0..17u32 {
+        if align == 1 << power {
+            return Some(align);
+        }
+    }
+    None
+}
+
+fn is_leaf(leaf: Leaf) -> bool
+    ensures { IsTrue result → IsLeaf leaf }
+{
+    match leaf {
+        Leaf::Int(width) => 1 <= width && width <= 128,
+        Leaf::Ptr => true,
+    }
+}
+
+fn fits(leaf: Leaf, value: Scalar) -> bool
+    ensures { IsTrue result → Fits leaf value }
+{
+    match (leaf, value) {
+        (_, Scalar::Poison) => true,
+        (Leaf::Int(width), Scalar::Int(number)) => width < 128 && number < 1 << width
+            || width == 128,
+        (Leaf::Ptr, Scalar::Ptr(_)) => true,
+        _ => false,
+    }
+}
+
+fn can_end(kind: BlockKind) -> bool
+    ensures { IsTrue result → CanEnd kind }
+{
+    matches!(kind, BlockKind::Stack | BlockKind::Heap)
+}
+
+impl Run {
+    fn is_known(&self, pointer: Pointer) -> bool
+        ensures { IsTrue result → IsKnown self.now.memory.list pointer }
+    {
+        match pointer.block {
+            Some(block) => block < self.made,
+            None => true,
+        }
+    }
+
+    fn has_known(&self, value: Scalar) -> bool
+        ensures { IsTrue result → HasKnown self.now.memory.list value }
+    {
+        match value {
+            Scalar::Ptr(pointer) => self.is_known(pointer),
+            Scalar::Int(_) | Scalar::Poison => true,
+        }
+    }
+
+    fn is_address(&self, value: Scalar) -> bool
+        ensures { IsTrue result → IsAddress self.now.memory.list value }
+    {
+        match value {
+            Scalar::Ptr(pointer) => self.is_known(pointer),
+            Scalar::Int(_) => false,
+            Scalar::Poison => true,
+        }
+    }
+
+    fn add(&mut self, size: u64, align: u32, kind: BlockKind) -> Answer {
+        let Some(align) = alignment(align) else {
+            return Answer::Barred;
+        };
+        if self.made >= 1_000_000 {
+            return Answer::Barred;
+        }
+        match self.memory.add_block(size, align, kind) {
+            Ok(Pointer { block, address }) => {
+                self.made += 1;
+                Answer::Made(block.unwrap_or(u64::MAX), address)
+            }
+            Err(fault) => Answer::Refused(fault),
+        }
+    }
+
+    fn end(&mut self, pointer: Scalar, kind: BlockKind) -> Answer {
+        if !self.is_address(pointer) || !can_end(kind) {
+            return Answer::Barred;
+        }
+        done(self.memory.end_block(pointer, kind))
+    }
+
+    fn bounds(&self, pointer: Pointer) -> Answer {
+        if !self.is_known(pointer) {
+            return Answer::Barred;
+        }
+        Answer::Span(self.memory.bounds(pointer))
+    }
+
+    fn load(&self, address: Scalar, leaf: Leaf, align: u32) -> Answer {
+        let Some(align) = alignment(align) else {
+            return Answer::Barred;
+        };
+        if !self.is_address(address) || !is_leaf(leaf) {
+            return Answer::Barred;
+        }
+        match self.memory.load(address, leaf, align) {
+            Ok(value) => Answer::Value(value),
+            Err(kind) => Answer::Refused(MemoryFault::Undefined(kind)),
+        }
+    }
+
+    fn store(&mut self, address: Scalar, leaf: Leaf, align: u32, value: Scalar) -> Answer {
+        let Some(align) = alignment(align) else {
+            return Answer::Barred;
+        };
+        if !self.is_address(address) || !is_leaf(leaf) {
+            return Answer::Barred;
+        }
+        if !fits(leaf, value) || !self.has_known(value) {
+            return Answer::Barred;
+        }
+        done(self.memory.store(address, leaf, align, value))
+    }
+
+    fn copy(&mut self, to: Scalar, from: Scalar, count: u64, may_overlap: bool) -> Answer {
+        if !self.is_address(to) || !self.is_address(from) {
+            return Answer::Barred;
+        }
+        done(self.memory.copy(to, from, count, may_overlap))
+    }
+
+    fn fill(&mut self, to: Scalar, byte: u8, count: u64) -> Answer {
+        if !self.is_address(to) {
+            return Answer::Barred;
+        }
+        done(self.memory.fill(to, byte, count))
+    }
+}
+
+fn done(answer: Result<(), MemoryFault>) -> Answer {
+    match answer {
+        Ok(()) => Answer::Done,
+        Err(fault) => Answer::Refused(fault),
+    }
+}

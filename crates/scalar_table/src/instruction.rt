@@ -1,0 +1,44 @@
+//! Instructions as they are written on a line.
+use ir_tables::{Flag, Flags, Opcode, Predicate};
+
+/// An instruction over integers of 4 bits. A cast goes to another width.
+#[derive(Clone, Copy, Debug, PartialEq, Eq)]
+pub enum Instruction {
+    Binary(Opcode, Flags),
+    Compare(Predicate, bool),
+    Cast(Opcode, Flags, u8),
+}
+
+impl Instruction {
+    /// The instruction on the line, if there is one.
+    pub fn read(line: &str) -> Option<Self> {
+        let mut op = None;
+        let mut predicate = None;
+        let mut flags = Flags::empty();
+        let mut to = None;
+        for word in line.split_whitespace() {
+            if let Some(flag) = Flag::of_word(word.as_bytes()) {
+                flags = flags.with(flag);
+            } else if let Some(opcode) = Opcode::of_word(word.as_bytes()) {
+                op = Some(opcode);
+            } else if let Some(comparison) = Predicate::of_word(word.as_bytes()) {
+                predicate = Some(comparison);
+            } else {
+                to = word.parse::<u8>().ok();
+            }
+        }
+        match (op?, predicate, to) {
+            (Opcode::ICmp, Some(predicate), None) => {
+                Some(Instruction::Compare(predicate, flags.has(Flag::Samesign)))
+            }
+            (op, None, Some(to)) => Some(Instruction::Cast(op, flags, to)),
+            (op, None, None) => Some(Instruction::Binary(op, flags)),
+            _ => None,
+        }
+    }
+
+    /// Whether it has one operand.
+    pub fn is_cast(&self) -> bool {
+        matches!(self, Instruction::Cast(_, _, _))
+    }
+}

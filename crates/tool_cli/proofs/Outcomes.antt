@@ -1,0 +1,37 @@
+-- The end of a run, by its words and by what its inputs give.
+use Rattle.std.proofs.Common.{◌≡◌, ◌⊎◌, inl, inr, ℕ, List, Result, Ok, Err, refl, sym, ap, ◌∙◌, subst}
+use Rattle.std.proofs.Common.{Option}
+use Rattle.std.specs.Prelude.{IsErrAnd}
+use Rattle.std.specs.List.{IsAmong}
+use Rattle.ir_base.specs.Files.{Named}
+use Rattle.command_line.specs.declared.command.Command.{Command}
+use Rattle.command_line.specs.Commands.{IsReadAs}
+use Rattle.tool_cli.specs.declared.ended.Ended.{Ended}
+use Rattle.tool_cli.specs.declared.ended.Ended.TheVariants.{CannotRead, InputTooLarge, Memory}
+use Rattle.tool_cli.specs.Inputs.{inputs_of, inputs_behind, inputs_named, texts_read}
+use Rattle.tool_cli.specs.Causes.{GaveUp, IsUnread, IsPassed, RefusesOne}
+use Rattle.tool_cli.specs.Told.{IsWork, IsOutcome, IsTold}
+
+pub inputs_are : (words : List (List ℕ)) (command : Command) → IsReadAs words command → inputs_named words ≡ inputs_of command
+unfolding inputs_named
+inputs_are words command read = ap inputs_behind read.is
+
+outcome : (command : Command) (names : List (List ℕ)) (held : Named) (stdin : List ℕ) (given : Result (List (List ℕ)) Ended) (ended : Ended) → names ≡ inputs_of command → given ≡ texts_read held stdin 0 names → IsOutcome command given ended → IsOutcome command (texts_read held stdin 0 (inputs_of command)) ended
+outcome command names held stdin given ended are e is =
+    let P : Result (List (List ℕ)) Ended → Type 0 = λ r. IsOutcome command r ended in
+    subst P (e ∙ ap (λ ns. texts_read held stdin 0 ns) are) is
+
+pub told_ok : (words : List (List ℕ)) (command : Command) (names texts : List (List ℕ)) (held : Named) (stdin : List ℕ) (ended : Ended) (i f : Type 0) → IsReadAs words command → names ≡ inputs_of command → (Ok texts ≡ texts_read held stdin 0 names) ⊎ IsErrAnd {T = List (List ℕ)} (Ok texts) (GaveUp i f) → IsWork command texts ended ⊎ (ended ≡ Memory) → IsTold words held stdin ended ⊎ GaveUp i f ended
+told_ok words command names texts held stdin ended i f read are (inl e) (inl work) = inl (inr (command, read, outcome command names held stdin (Ok texts) ended are e work))
+told_ok words command names texts held stdin ended i f read are (inr never) work = absurd never
+told_ok words command names texts held stdin ended i f read are (inl e) (inr none) = inr (rw none tt)
+
+pub told_err : (words : List (List ℕ)) (command : Command) (names : List (List ℕ)) (held : Named) (stdin : List ℕ) (ended : Ended) (i f : Type 0) → IsReadAs words command → names ≡ inputs_of command → (Err ended ≡ texts_read held stdin 0 names) ⊎ GaveUp i f ended → IsTold words held stdin ended ⊎ GaveUp i f ended
+told_err words command names held stdin ended i f read are (inl e) = inl (inr (command, read, outcome command names held stdin (Err ended) ended are e refl))
+told_err words command names held stdin ended i f read are (inr gave_up) = inr gave_up
+
+pub cause_of_unread : (named names : List (List ℕ)) (contents : Option Named) (left : Option (List ℕ)) (i f : Type 0) (ended : Ended) → named ≡ names → RefusesOne contents left i f names ended → (name : List ℕ) → ended ≡ CannotRead name → IsAmong named name × IsUnread contents i f name
+cause_of_unread named names contents left i f ended same why name e = rw same (rw e at why)
+
+pub cause_of_large : (named names : List (List ℕ)) (contents : Option Named) (left : Option (List ℕ)) (i f : Type 0) (ended : Ended) → named ≡ names → RefusesOne contents left i f names ended → (name : List ℕ) (limit : ℕ) → ended ≡ InputTooLarge name limit → IsAmong named name × IsPassed contents left name limit
+cause_of_large named names contents left i f ended same why name limit e = rw same (rw e at why)

@@ -1,0 +1,287 @@
+use Rattle.std.proofs.Common.{◌≡◌, ◌⊎◌, inl, inr, ℕ, ◌+◌, ◌<◌, ◌≤◌, List, [], ◌∷◌, ◌++◌, length, drop, refl, sym, ap, ◌∙◌, arith, length-append, Ok, Err}
+use Rattle.std.proofs.lemmas.Result.{err_from_is_err_and}
+use Rattle.ir_base.specs.Outside.{Rose}
+use Rattle.tool_cli.proofs.Turns.{Unread, onto_none, refused_one, over_one, told_refused, told_over, told_on, told_at_end, stdin_on, stdin_at_end, unread_on, unread_so_far, lost_by, lost_so_far}
+use Rattle.tool_cli.proofs.inputs.read_inputs.Goals as goal
+
+pub loop-name-init : goal.loop-name-init
+loop-name-init g c = record {
+  count = ap length c.new-texts.ensures;
+  few = omega arith;
+  same_contents = refl;
+  same_reads = refl;
+  same_writes = refl;
+  same_faults = refl;
+  input = Unread refl refl refl;
+  told = λ held stdin tells. (stdin, (λ e. e, rw c.new-texts.ensures (onto_none _)));
+}
+
+pub overflow_add-total : goal.overflow_add-total
+overflow_add-total g c = let few = c.in_ok-text.ensures.read.few in rw c.bytes.ensures (omega (arith, c.loop-name.invariant.few))
+
+pub returns-in_err-text-clause-told : goal.returns-in_err-text-clause-told
+returns-in_err-text-clause-told g c =
+    let left = g.I.Source.left in
+    let faults = g.I.Source.faults in
+    let contents = g.F.Files.contents in
+    let reads = g.F.Files.read_faults in
+    let why = rw (c.loop-name.invariant.same_faults, c.loop-name.invariant.same_reads) at c.in_err-text.ensures.refused in
+    let p = err_from_is_err_and c.from_residual.result c.from_residual.ensures.1 in
+    rw (p.1, p.2) (λ held stdin tells.
+    told_refused c.args.names.now c.loop-name.name-index c.name-item.result (contents c.args.files.now) (contents c.loop-name.files) (left c.args.input.now) (left c.loop-name.input) held stdin c.loop-name.total c.loop-name.texts c.in_err-text.field-0.0
+    (Rose (faults c.args.input.now) (faults c.read_input.new.input)) (Rose (reads c.args.files.now) (reads c.read_input.new.files))
+    c.loop-name-test.true c.name-item.is c.loop-name.invariant.same_contents (c.loop-name.invariant.told held stdin tells) tells why)
+
+pub returns-in_err-text-clause-refused : goal.returns-in_err-text-clause-refused
+returns-in_err-text-clause-refused g c =
+    let left = g.I.Source.left in
+    let faults = g.I.Source.faults in
+    let contents = g.F.Files.contents in
+    let reads = g.F.Files.read_faults in
+    let why = rw (c.loop-name.invariant.same_faults, c.loop-name.invariant.same_reads) at c.in_err-text.ensures.refused in
+    let p = err_from_is_err_and c.from_residual.result c.from_residual.ensures.1 in
+    rw (p.1, p.2) (refused_one c.args.names.now (drop c.loop-name.name-index c.args.names.now) c.name-item.result c.args.input.now c.loop-name.input (contents c.args.files.now) (contents c.loop-name.files) (left c.args.input.now) (left c.loop-name.input)
+    (Rose (faults c.args.input.now) (faults c.read_input.new.input)) (Rose (reads c.args.files.now) (reads c.read_input.new.files)) c.in_err-text.field-0.0
+    (c.loop-name.name-index, (c.loop-name-test.true, c.name-item.is)) c.loop-name.invariant.same_contents c.loop-name.invariant.input why)
+
+pub returns-in_err-text-clause-input_fault : goal.returns-in_err-text-clause-input_fault
+returns-in_err-text-clause-input_fault g c =
+    let p = err_from_is_err_and c.from_residual.result c.from_residual.ensures.1 in
+    rw (p.1, p.2) (rw c.loop-name.invariant.same_faults at c.in_err-text.ensures.input_fault)
+
+pub returns-in_err-text-clause-file_fault : goal.returns-in_err-text-clause-file_fault
+returns-in_err-text-clause-file_fault g c =
+    let p = err_from_is_err_and c.from_residual.result c.from_residual.ensures.1 in
+    rw (p.1, p.2) (rw c.loop-name.invariant.same_reads at c.in_err-text.ensures.file_fault)
+
+pub returns-in_err-text-clause-unread : goal.returns-in_err-text-clause-unread
+returns-in_err-text-clause-unread g c =
+    let left = g.I.Source.left in
+    let faults = g.I.Source.faults in
+    let contents = g.F.Files.contents in
+    let reads = g.F.Files.read_faults in
+    unread_on c.args.names.now c.loop-name.name-index c.name-item.result c.args.input.now c.loop-name.input c.read_input.new.input (left c.args.input.now) (left c.loop-name.input) c.loop-name-test.true c.name-item.is c.read_input.ensures.unread c.loop-name.invariant.input
+
+pub returns-in_err-text-clause-lost : goal.returns-in_err-text-clause-lost
+returns-in_err-text-clause-lost g c =
+    let left = g.I.Source.left in
+    let faults = g.I.Source.faults in
+    let contents = g.F.Files.contents in
+    let reads = g.F.Files.read_faults in
+    lost_by c.args.names.now (drop c.loop-name.name-index c.args.names.now) c.args.input.now c.loop-name.input (left c.args.input.now) (left c.loop-name.input) (left c.read_input.new.input) c.loop-name.invariant.input c.read_input.ensures.lost
+
+pub returns-in_err-text-clause-input_later : goal.returns-in_err-text-clause-input_later
+returns-in_err-text-clause-input_later g c =
+    omega (arith, c.loop-name.invariant.same_faults, c.read_input.ensures.input_later)
+
+pub returns-in_err-text-clause-file_later : goal.returns-in_err-text-clause-file_later
+returns-in_err-text-clause-file_later g c =
+    omega (arith, c.loop-name.invariant.same_reads, c.read_input.ensures.file_later)
+
+pub returns-in_err-text-clause-contents : goal.returns-in_err-text-clause-contents
+returns-in_err-text-clause-contents g c =
+    c.read_input.ensures.contents ∙ c.loop-name.invariant.same_contents
+
+pub returns-in_err-text-clause-writes : goal.returns-in_err-text-clause-writes
+returns-in_err-text-clause-writes g c =
+    c.read_input.ensures.writes ∙ c.loop-name.invariant.same_writes
+
+pub returns-then-total-gt-LARGEST_TOGETHER-clause-unread : goal.returns-then-total-gt-LARGEST_TOGETHER-clause-unread
+returns-then-total-gt-LARGEST_TOGETHER-clause-unread g c =
+    let left = g.I.Source.left in
+    let faults = g.I.Source.faults in
+    let contents = g.F.Files.contents in
+    let reads = g.F.Files.read_faults in
+    unread_on c.args.names.now c.loop-name.name-index c.name-item.result c.args.input.now c.loop-name.input c.read_input.new.input (left c.args.input.now) (left c.loop-name.input) c.loop-name-test.true c.name-item.is c.read_input.ensures.unread c.loop-name.invariant.input
+
+pub returns-then-total-gt-LARGEST_TOGETHER-clause-lost : goal.returns-then-total-gt-LARGEST_TOGETHER-clause-lost
+returns-then-total-gt-LARGEST_TOGETHER-clause-lost g c =
+    let left = g.I.Source.left in
+    let faults = g.I.Source.faults in
+    let contents = g.F.Files.contents in
+    let reads = g.F.Files.read_faults in
+    lost_by c.args.names.now (drop c.loop-name.name-index c.args.names.now) c.args.input.now c.loop-name.input (left c.args.input.now) (left c.loop-name.input) (left c.read_input.new.input) c.loop-name.invariant.input c.read_input.ensures.lost
+
+pub returns-then-total-gt-LARGEST_TOGETHER-clause-input_later : goal.returns-then-total-gt-LARGEST_TOGETHER-clause-input_later
+returns-then-total-gt-LARGEST_TOGETHER-clause-input_later g c =
+    omega (arith, c.loop-name.invariant.same_faults, c.read_input.ensures.input_later)
+
+pub returns-then-total-gt-LARGEST_TOGETHER-clause-file_later : goal.returns-then-total-gt-LARGEST_TOGETHER-clause-file_later
+returns-then-total-gt-LARGEST_TOGETHER-clause-file_later g c =
+    omega (arith, c.loop-name.invariant.same_reads, c.read_input.ensures.file_later)
+
+pub returns-then-total-gt-LARGEST_TOGETHER-clause-contents : goal.returns-then-total-gt-LARGEST_TOGETHER-clause-contents
+returns-then-total-gt-LARGEST_TOGETHER-clause-contents g c =
+    c.read_input.ensures.contents ∙ c.loop-name.invariant.same_contents
+
+pub returns-then-total-gt-LARGEST_TOGETHER-clause-writes : goal.returns-then-total-gt-LARGEST_TOGETHER-clause-writes
+returns-then-total-gt-LARGEST_TOGETHER-clause-writes g c =
+    c.read_input.ensures.writes ∙ c.loop-name.invariant.same_writes
+
+pub returns-in_err-push-clause-unread : goal.returns-in_err-push-clause-unread
+returns-in_err-push-clause-unread g c =
+    let left = g.I.Source.left in
+    let faults = g.I.Source.faults in
+    let contents = g.F.Files.contents in
+    let reads = g.F.Files.read_faults in
+    unread_on c.args.names.now c.loop-name.name-index c.name-item.result c.args.input.now c.loop-name.input c.read_input.new.input (left c.args.input.now) (left c.loop-name.input) c.loop-name-test.true c.name-item.is c.read_input.ensures.unread c.loop-name.invariant.input
+
+pub returns-in_err-push-clause-lost : goal.returns-in_err-push-clause-lost
+returns-in_err-push-clause-lost g c =
+    let left = g.I.Source.left in
+    let faults = g.I.Source.faults in
+    let contents = g.F.Files.contents in
+    let reads = g.F.Files.read_faults in
+    lost_by c.args.names.now (drop c.loop-name.name-index c.args.names.now) c.args.input.now c.loop-name.input (left c.args.input.now) (left c.loop-name.input) (left c.read_input.new.input) c.loop-name.invariant.input c.read_input.ensures.lost
+
+pub returns-in_err-push-clause-input_later : goal.returns-in_err-push-clause-input_later
+returns-in_err-push-clause-input_later g c =
+    omega (arith, c.loop-name.invariant.same_faults, c.read_input.ensures.input_later)
+
+pub returns-in_err-push-clause-file_later : goal.returns-in_err-push-clause-file_later
+returns-in_err-push-clause-file_later g c =
+    omega (arith, c.loop-name.invariant.same_reads, c.read_input.ensures.file_later)
+
+pub returns-in_err-push-clause-contents : goal.returns-in_err-push-clause-contents
+returns-in_err-push-clause-contents g c =
+    c.read_input.ensures.contents ∙ c.loop-name.invariant.same_contents
+
+pub returns-in_err-push-clause-writes : goal.returns-in_err-push-clause-writes
+returns-in_err-push-clause-writes g c =
+    c.read_input.ensures.writes ∙ c.loop-name.invariant.same_writes
+
+pub returns-then-total-gt-LARGEST_TOGETHER-clause-told : goal.returns-then-total-gt-LARGEST_TOGETHER-clause-told
+returns-then-total-gt-LARGEST_TOGETHER-clause-told g c =
+    let left = g.I.Source.left in
+    let faults = g.I.Source.faults in
+    let contents = g.F.Files.contents in
+    let reads = g.F.Files.read_faults in
+    λ held stdin tells.
+    told_over c.args.names.now c.loop-name.name-index c.name-item.result (contents c.args.files.now) (contents c.loop-name.files) (left c.args.input.now) (left c.loop-name.input) (left c.read_input.new.input) held stdin c.loop-name.total c.loop-name.texts c.in_ok-text.text c.too_large.result
+    (Rose (faults c.args.input.now) (faults c.read_input.new.input)) (Rose (reads c.args.files.now) (reads c.read_input.new.files))
+    c.loop-name-test.true c.name-item.is c.loop-name.invariant.same_contents (c.loop-name.invariant.told held stdin tells) tells c.in_ok-text.ensures.read
+    (rw c.bytes.ensures at c.if-total-gt-LARGEST_TOGETHER.true) (rw c.bytes-then-total-gt-LARGEST_TOGETHER.ensures at c.too_large.ensures)
+
+pub returns-then-total-gt-LARGEST_TOGETHER-clause-refused : goal.returns-then-total-gt-LARGEST_TOGETHER-clause-refused
+returns-then-total-gt-LARGEST_TOGETHER-clause-refused g c =
+    let left = g.I.Source.left in
+    let faults = g.I.Source.faults in
+    let contents = g.F.Files.contents in
+    let reads = g.F.Files.read_faults in
+    over_one c.args.names.now c.name-item.result (contents c.args.files.now) (left c.args.input.now)
+    (Rose (faults c.args.input.now) (faults c.read_input.new.input)) (Rose (reads c.args.files.now) (reads c.read_input.new.files)) c.too_large.result
+    (c.loop-name.name-index, (c.loop-name-test.true, c.name-item.is)) (rw c.bytes-then-total-gt-LARGEST_TOGETHER.ensures at c.too_large.ensures)
+
+pub returns-then-total-gt-LARGEST_TOGETHER-clause-input_fault : goal.returns-then-total-gt-LARGEST_TOGETHER-clause-input_fault
+returns-then-total-gt-LARGEST_TOGETHER-clause-input_fault g c =
+    λ h. absurd (omega (arith, h, c.loop-name.invariant.same_faults, c.in_ok-text.ensures.input_fine))
+
+pub returns-in_err-push-clause-input_fault : goal.returns-in_err-push-clause-input_fault
+returns-in_err-push-clause-input_fault g c =
+    λ h. absurd (omega (arith, h, c.loop-name.invariant.same_faults, c.in_ok-text.ensures.input_fine))
+
+pub returns-then-total-gt-LARGEST_TOGETHER-clause-file_fault : goal.returns-then-total-gt-LARGEST_TOGETHER-clause-file_fault
+returns-then-total-gt-LARGEST_TOGETHER-clause-file_fault g c =
+    λ h. absurd (omega (arith, h, c.loop-name.invariant.same_reads, c.in_ok-text.ensures.file_fine))
+
+pub returns-in_err-push-clause-file_fault : goal.returns-in_err-push-clause-file_fault
+returns-in_err-push-clause-file_fault g c =
+    λ h. absurd (omega (arith, h, c.loop-name.invariant.same_reads, c.in_ok-text.ensures.file_fine))
+
+pub returns-in_err-push-clause-told : goal.returns-in_err-push-clause-told
+returns-in_err-push-clause-told g c =
+    let p = err_from_is_err_and c.from_residual-in_err-push.result c.from_residual-in_err-push.ensures.1 in
+    rw (p.1, p.2) (λ held stdin tells. inr tt)
+
+pub returns-in_err-push-clause-refused : goal.returns-in_err-push-clause-refused
+returns-in_err-push-clause-refused g c =
+    let p = err_from_is_err_and c.from_residual-in_err-push.result c.from_residual-in_err-push.ensures.1 in
+    rw (p.1, p.2) tt
+
+pub loop-name-preserved : goal.loop-name-preserved
+loop-name-preserved g c =
+    let left = g.I.Source.left in
+    let faults = g.I.Source.faults in
+    let contents = g.F.Files.contents in
+    let reads = g.F.Files.read_faults in
+    record {
+      count = omega (arith, ap length c.in_ok-push.ensures.ok, length-append c.loop-name.texts (c.in_ok-text.text ∷ []), c.loop-name.invariant.count);
+      few = c.if-total-gt-LARGEST_TOGETHER.false;
+      same_contents = c.read_input.ensures.contents ∙ c.loop-name.invariant.same_contents;
+      same_reads = c.in_ok-text.ensures.file_fine ∙ c.loop-name.invariant.same_reads;
+      same_writes = c.read_input.ensures.writes ∙ c.loop-name.invariant.same_writes;
+      same_faults = c.in_ok-text.ensures.input_fine ∙ c.loop-name.invariant.same_faults;
+      input = stdin_on c.args.names.now c.loop-name.name-index c.name-item.result c.in_ok-text.text (contents c.loop-name.files) c.args.input.now c.loop-name.input c.read_input.new.input (left c.args.input.now) (left c.loop-name.input) (left c.read_input.new.input)
+          c.loop-name-test.true c.name-item.is c.in_ok-text.ensures.read c.read_input.ensures.unread (λ h. ap left (c.read_input.ensures.unread h)) c.read_input.ensures.lost c.loop-name.invariant.input;
+      told = λ held stdin tells.
+          told_on c.args.names.now c.loop-name.name-index c.name-item.result (contents c.args.files.now) (contents c.loop-name.files) (left c.args.input.now) (left c.loop-name.input) (left c.read_input.new.input) held stdin c.loop-name.total c.loop-name.texts c.push.new.self c.in_ok-text.text c.bytes.result.now
+          c.loop-name-test.true c.name-item.is c.loop-name.invariant.same_contents (c.loop-name.invariant.told held stdin tells) tells c.in_ok-text.ensures.read (λ h. ap left (c.read_input.ensures.unread h)) c.bytes.ensures c.if-total-gt-LARGEST_TOGETHER.false c.in_ok-push.ensures.ok;
+    }
+
+pub returns-clause-told : goal.returns-clause-told
+returns-clause-told g c =
+    let left = g.I.Source.left in
+    let faults = g.I.Source.faults in
+    let contents = g.F.Files.contents in
+    let reads = g.F.Files.read_faults in
+    λ held stdin tells. inl (told_at_end c.args.names.now c.loop-name.name-index (left c.args.input.now) (left c.loop-name.input) held stdin c.loop-name.total c.loop-name.texts c.loop-name-test.false (c.loop-name.invariant.told held stdin tells))
+
+pub returns-clause-count : goal.returns-clause-count
+returns-clause-count g c =
+    omega (arith, c.loop-name.invariant.count, c.loop-name-test.false, c.loop-name.auto.name-index-end)
+
+pub returns-clause-unread : goal.returns-clause-unread
+returns-clause-unread g c =
+    let left = g.I.Source.left in
+    let faults = g.I.Source.faults in
+    let contents = g.F.Files.contents in
+    let reads = g.F.Files.read_faults in
+    unread_so_far c.args.names.now (drop c.loop-name.name-index c.args.names.now) c.args.input.now c.loop-name.input (left c.args.input.now) (left c.loop-name.input) c.loop-name.invariant.input
+
+pub returns-clause-emptied : goal.returns-clause-emptied
+returns-clause-emptied g c =
+    let left = g.I.Source.left in
+    let faults = g.I.Source.faults in
+    let contents = g.F.Files.contents in
+    let reads = g.F.Files.read_faults in
+    stdin_at_end c.args.names.now c.loop-name.name-index c.args.input.now c.loop-name.input (left c.args.input.now) (left c.loop-name.input) c.loop-name-test.false c.loop-name.invariant.input
+
+pub returns-clause-lost : goal.returns-clause-lost
+returns-clause-lost g c =
+    let left = g.I.Source.left in
+    let faults = g.I.Source.faults in
+    let contents = g.F.Files.contents in
+    let reads = g.F.Files.read_faults in
+    lost_so_far c.args.names.now (drop c.loop-name.name-index c.args.names.now) c.args.input.now c.loop-name.input (left c.args.input.now) (left c.loop-name.input) c.loop-name.invariant.input
+
+pub returns-clause-input_fine : goal.returns-clause-input_fine
+returns-clause-input_fine g c =
+    c.loop-name.invariant.same_faults
+
+pub returns-clause-file_fine : goal.returns-clause-file_fine
+returns-clause-file_fine g c =
+    c.loop-name.invariant.same_reads
+
+pub returns-clause-input_fault : goal.returns-clause-input_fault
+returns-clause-input_fault g c =
+    λ h. absurd (omega (arith, h, c.loop-name.invariant.same_faults))
+
+pub returns-clause-file_fault : goal.returns-clause-file_fault
+returns-clause-file_fault g c =
+    λ h. absurd (omega (arith, h, c.loop-name.invariant.same_reads))
+
+pub returns-clause-input_later : goal.returns-clause-input_later
+returns-clause-input_later g c =
+    omega (arith, c.loop-name.invariant.same_faults)
+
+pub returns-clause-file_later : goal.returns-clause-file_later
+returns-clause-file_later g c =
+    omega (arith, c.loop-name.invariant.same_reads)
+
+pub returns-clause-contents : goal.returns-clause-contents
+returns-clause-contents g c =
+    c.loop-name.invariant.same_contents
+
+pub returns-clause-writes : goal.returns-clause-writes
+returns-clause-writes g c =
+    c.loop-name.invariant.same_writes

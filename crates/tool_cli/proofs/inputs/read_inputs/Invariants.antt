@@ -1,0 +1,25 @@
+use Rattle.std.proofs.Common.{◌≡◌, ◌≤◌, ℕ, List, length, drop}
+use Rattle.ir_base.specs.Files.{Named}
+use Rattle.tool_cli.specs.Inputs.{TellsAll}
+use Rattle.tool_cli.proofs.Turns.{Stdin, GoesOn}
+use Rattle.tool_cli.proofs.inputs.read_inputs.Given as goal
+
+-- nothing failed so far, and what the inputs give is these texts and then what the rest of them give
+abbrev pub invariant-loop-name : goal.invariant-loop-name
+invariant-loop-name g l =
+    let left = g.I.Source.left in
+    let faults = g.I.Source.faults in
+    let contents = g.F.Files.contents in
+    let reads = g.F.Files.read_faults in
+    let writes = g.F.Files.write_faults in
+    record {
+      count : length l.texts ≡ l.name-index;
+      few : l.total ≤ 33554432;
+      same_contents : contents l.files ≡ contents l.fn.files;
+      same_reads : reads l.files ≡ reads l.fn.files;
+      same_writes : writes l.files ≡ writes l.fn.files;
+      same_faults : faults l.input ≡ faults l.fn.input;
+      input : Stdin l.names (drop l.name-index l.names) l.fn.input l.input (left l.fn.input) (left l.input);
+      told : (held : Named) (stdin : List ℕ) → TellsAll l.names (contents l.fn.files) (left l.fn.input) held stdin
+          → GoesOn l.names l.name-index (left l.fn.input) (left l.input) held stdin l.total l.texts;
+    }

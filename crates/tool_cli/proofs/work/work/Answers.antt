@@ -1,0 +1,6 @@
+use Rattle.std.proofs.Common.{◌≡◌}
+use Rattle.tool_cli.proofs.Works.{lli_work}
+use Rattle.tool_cli.proofs.work.work.Goals as goal
+
+pub returns-in-Lli-clause-work : goal.returns-in-Lli-clause-work
+returns-in-Lli-clause-work c = lli_work _ _ _ _ _ _ _ c.in-Lli.is c.requires c.at.ensures (rw c.bytes.ensures at c.run.ensures.run)

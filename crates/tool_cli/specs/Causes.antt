@@ -1,0 +1,78 @@
+-- What reading an input took, and why inputs were not read.
+use Rattle.std.specs.Prelude.{◌≡◌, ◌⊎◌, ℕ, ◌<◌, ◌≤◌, List, [], ◌∷◌, length, codes, Option, IfSome}
+use Rattle.std.specs.Bool.{MatchBool}
+use Rattle.std.specs.List.{IsAmong}
+use Rattle.ir_base.specs.Outside.{Lost}
+use Rattle.ir_base.specs.Files.{Named, IsMissing, IsOver, ReadsFrom}
+use Rattle.command_line.specs.Options.{is_dash}
+use Rattle.tool_cli.specs.declared.ended.Ended.{Ended}
+use Rattle.tool_cli.specs.declared.ended.Ended.TheVariants.{CannotRead, InputTooLarge, Memory}
+
+-- no bytes are left, where that is told
+abbrev pub IsEmptied : Option (List ℕ) → Type 0
+IsEmptied left = IfSome left (λ bytes. bytes ≡ [])
+
+-- the input of this name is this text: all that was left of standard input, or a file
+pub record HasRead (contents : Option Named) (left_before left_now : Option (List ℕ)) (name text : List ℕ) : Type 0 where
+  pub content : MatchBool (is_dash name) (Lost left_before left_now text × IsEmptied left_now) (ReadsFrom contents name text)
+  pub few : length text ≤ 16777216
+
+-- `input_rose` and `files_rose` say that the count of faults of standard input, or of reads of files, rose.
+
+-- the run gave up for what is outside of it: a read failed, or memory ran out
+abbrev pub GaveUp : Type 0 → Type 0 → Ended → Type 0
+GaveUp input_rose files_rose (CannotRead name) = MatchBool (is_dash name) input_rose files_rose
+GaveUp input_rose files_rose Memory = Unit {0}
+GaveUp input_rose files_rose ended = ⊥
+
+-- an input of this name was not read: a read failed, or it is told that there is no such file
+abbrev pub IsUnread : Option Named → Type 0 → Type 0 → List ℕ → Type 0
+IsUnread contents input_rose files_rose name = MatchBool (is_dash name) input_rose (files_rose ⊎ IsMissing contents name)
+
+-- where its content is told, an input of this name is over 16 MiB
+abbrev pub IsLarge : Option Named → Option (List ℕ) → List ℕ → Type 0
+IsLarge contents left name = MatchBool (is_dash name) (IfSome left (λ bytes. 16777216 < length bytes)) (IfSome contents (λ files. IsOver 16777216 files name))
+
+-- the limit that an input of this name passed: that of one input, or that of all up to it
+abbrev pub IsPassed : Option Named → Option (List ℕ) → List ℕ → ℕ → Type 0
+IsPassed contents left name limit = ((limit ≡ 16777216) × IsLarge contents left name) ⊎ (limit ≡ 33554432)
+
+-- this end refuses standard input
+abbrev pub RefusesStdin : Option (List ℕ) → Type 0 → Ended → Type 0
+RefusesStdin left rose (CannotRead name) = (name ≡ codes "-") × rose
+RefusesStdin left rose (InputTooLarge name limit) = (name ≡ codes "-") × (limit ≡ 16777216) × IfSome left (λ bytes. 16777216 < length bytes)
+RefusesStdin left rose Memory = Unit {0}
+RefusesStdin left rose ended = ⊥
+
+-- this end refuses the file of this name
+abbrev pub RefusesFile : Option Named → Type 0 → List ℕ → Ended → Type 0
+RefusesFile contents rose name (CannotRead other) = (other ≡ name) × (rose ⊎ IsMissing contents name)
+RefusesFile contents rose name (InputTooLarge other limit) = (other ≡ name) × (limit ≡ 16777216) × IfSome contents (λ files. IsOver 16777216 files name)
+RefusesFile contents rose name Memory = Unit {0}
+RefusesFile contents rose name ended = ⊥
+
+-- this end refuses the input of this name, by itself
+abbrev pub Refuses : Option Named → Option (List ℕ) → Type 0 → Type 0 → List ℕ → Ended → Type 0
+Refuses contents left input_rose files_rose name (CannotRead other) = (other ≡ name) × IsUnread contents input_rose files_rose name
+Refuses contents left input_rose files_rose name (InputTooLarge other limit) = (other ≡ name) × (limit ≡ 16777216) × IsLarge contents left name
+Refuses contents left input_rose files_rose name Memory = Unit {0}
+Refuses contents left input_rose files_rose name ended = ⊥
+
+-- this end refuses one of the inputs of these names
+abbrev pub RefusesOne : Option Named → Option (List ℕ) → Type 0 → Type 0 → List (List ℕ) → Ended → Type 0
+RefusesOne contents left input_rose files_rose names (CannotRead name) = IsAmong names name × IsUnread contents input_rose files_rose name
+RefusesOne contents left input_rose files_rose names (InputTooLarge name limit) = IsAmong names name × IsPassed contents left name limit
+RefusesOne contents left input_rose files_rose names Memory = Unit {0}
+RefusesOne contents left input_rose files_rose names ended = ⊥
+
+-- standard input was not read, or memory ran out
+abbrev pub IsStdinOrMemory : Ended → Type 0
+IsStdinOrMemory (CannotRead name) = name ≡ codes "-"
+IsStdinOrMemory Memory = Unit {0}
+IsStdinOrMemory ended = ⊥
+
+-- an input was not read, or memory ran out
+abbrev pub IsUnreadOrMemory : Ended → Type 0
+IsUnreadOrMemory (CannotRead name) = Unit {0}
+IsUnreadOrMemory Memory = Unit {0}
+IsUnreadOrMemory ended = ⊥
