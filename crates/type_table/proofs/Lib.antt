@@ -1,0 +1,17 @@
+pub mod Added
+pub mod Caps
+pub mod Defined
+pub mod Judged
+pub mod Laid
+pub mod Named
+pub mod Offsets
+pub mod Outlined
+pub mod PassLists
+pub mod Redefined
+pub mod Rooms
+pub mod Settled
+pub mod ShapeMeasures
+pub mod Steps
+pub mod UnderIds
+pub mod Walked
+pub mod Wide

@@ -1,0 +1,7 @@
+use Rattle.std.proofs.Common.{◌≡◌, take}
+use Rattle.indexmap.specs.IndexMap.{values}
+use Rattle.type_table.specs.Measures.{struct_measures}
+use Rattle.type_table.proofs.settle.measure_structs.Given as goal
+
+abbrev pub invariant-loop-i : goal.invariant-loop-i
+invariant-loop-i l = l.measures.items ≡ struct_measures l.types (take l.i l.had) (take l.i (values l.structs))

@@ -1,0 +1,60 @@
+-- What holds of the measures that a table keeps.
+use Rattle.std.specs.Prelude.{◌≡◌, ℕ, ◌^◌, ◌<◌, ◌≤◌, ◌⊎◌, List, length, All, Any, ⊤, Option, Some, None}
+use Rattle.type_table.specs.declared.fault.TypeFault.{TypeFault}
+use Rattle.type_table.specs.declared.fault.TypeFault.TheVariants.{Duplicate, SelfContaining, TooDeep, TooLarge, Memory}
+use Rattle.type_table.specs.declared.ir_type.IrType.{IrType}
+use Rattle.type_table.specs.declared.ir_type.IrType.TheVariants.{Int, Ptr, Void, Array, Struct, Named}
+use Rattle.type_table.specs.declared.layout.Layout.{Layout}
+use Rattle.type_table.specs.declared.measure.Measure.{Measure}
+use Rattle.type_table.specs.Measures.{type_measures, measure_of, Measures}
+use Rattle.type_table.specs.Tree.{body_of}
+use Rattle.type_table.specs.Types.{Types, names, structs, IsGood}
+
+abbrev pub HasSmallSize : Option Layout → Type 0
+HasSmallSize None = ⊤
+HasSmallSize (Some l) = l.size ≤ 2 ^ 40
+
+-- no number is past its limit
+pub record IsSmall (m : Measure) : Type 0 where
+  pub nests : m.nesting ≤ 64
+  pub parts_fit : m.parts ≤ 2 ^ 20
+  pub size_fits : HasSmallSize m.layout
+
+abbrev pub HasLargeSize : Option Layout → Type 0
+HasLargeSize None = ⊥
+HasLargeSize (Some l) = 2 ^ 40 < l.size
+
+-- a number other than the nesting is past its limit
+abbrev pub IsLarge : Measure → Type 0
+IsLarge m = (2 ^ 20 < m.parts) ⊎ HasLargeSize m.layout
+
+-- what is wrong with some of these measures: the first of these that is
+abbrev pub HasListFault : List Measure → TypeFault → Type 0
+HasListFault ms Duplicate = ⊥
+HasListFault ms SelfContaining = ⊥
+HasListFault ms TooDeep = Any (λ m. 64 < m.nesting) ms
+HasListFault ms TooLarge = All (λ m. m.nesting ≤ 64) ms × Any IsLarge ms
+HasListFault ms Memory = ⊥
+
+-- how many elements a type has if it is an array
+abbrev pub type_length : IrType → ℕ
+type_length (Int w) = 0
+type_length Ptr = 0
+type_length Void = 0
+type_length (Array n part) = n
+type_length (Struct packed parts) = 0
+type_length (Named id) = 0
+
+-- these are the measures of the table's structs and types, each found from those of its parts
+pub record IsMeasured (t : Types) (struct_list type_list : List Measure) : Type 0 where
+  pub good : IsGood t
+  pub as_many : length struct_list ≡ length t.structs
+  pub types_kept : type_list ≡ type_measures struct_list t.types
+  pub structs_kept : Measures (body_of (structs t)) (measure_of (names t) struct_list)
+
+-- the same, in a table of which no type is past a limit
+pub record IsKept (t : Types) (struct_list type_list : List Measure) : Type 0 where
+  pub measured : IsMeasured t struct_list type_list
+  pub small_structs : All IsSmall struct_list
+  pub small_types : All IsSmall type_list
+  pub lengths : All (λ ty. type_length ty ≤ 2 ^ 40) t.types

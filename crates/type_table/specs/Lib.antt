@@ -1,0 +1,9 @@
+pub mod Contains
+pub mod Kept
+pub mod Layout
+pub mod Limits
+pub mod Measures
+pub mod Outline
+pub mod Shape
+pub mod Tree
+pub mod Types

@@ -1,0 +1,12 @@
+//! How a type lies in memory.
+
+/// How a type lies in memory (LangRef, "Data Layout").
+#[derive(Clone, Copy, Debug, PartialEq, Eq)]
+pub struct Layout {
+    /// The bytes from one element of an array to the next.
+    pub size: u64,
+    /// The alignment in bytes, a power of two.
+    pub align: u32,
+    /// The integers and pointers of a value, written out.
+    pub leaves: u64,
+}

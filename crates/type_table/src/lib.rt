@@ -1,0 +1,26 @@
+//! The types of a module and its named structs, under typed ids: their layouts, field offsets and shapes.
+//!
+//! It stands on `ir_base` and `indexmap`. It promises that a layout, an offset and whether two shapes are equal are
+//! those of the types written out through the bodies of their structs, that no type of a table is past the limits
+//! on nesting, parts and size, and that a change is refused exactly where it would make one so.
+//! Definitions: `specs/Tree`, `Shape`, `Layout`, `Contains`, `Limits` and `Types`.
+#![tactic(auto)]
+
+mod fault;
+mod ids;
+mod ir_type;
+mod layout;
+mod measure;
+mod outline;
+mod settle;
+mod structs;
+mod table;
+
+pub use fault::TypeFault;
+pub use ids::{StructId, TypeId};
+pub use ir_type::{IrType, StructBody, TypeList};
+pub use layout::Layout;
+pub use table::TypeTable;
+
+#[cfg(test)]
+mod tests;

@@ -1,0 +1,284 @@
+//! The table of types.
+ghost use Rattle.std.specs.Prelude.{◌≡◌, IsTrue, ◌+◌, ◌<◌, ◌↔◌, ◌⊎◌, ◌^◌, ◌-◌, [], ◌∷◌, ◌++◌, length, slice_get, Some, None, Err, Contains, IfOk, IsSome, IfErr, IfSome, OnOk, OnErr, vec_len, vec_capacity};
+ghost use Rattle.std.specs.Option.{option_copied, option_and_then};
+ghost use Rattle.type_table.specs.Tree.{body_of};
+ghost use Rattle.type_table.specs.Types.{Types, no_types, names, bodies, with_type, with_struct, with_body, IsKnown, IsKnownBody, IsGood, trees, tree_of, structs, shape};
+ghost use Rattle.type_table.specs.Kept.{IsLarge, type_length};
+ghost use Rattle.type_table.specs.Limits.{IsWithin, HasFault};
+ghost use Rattle.type_table.specs.Layout.{layout, offset};
+ghost use Rattle.type_table.specs.Outline.{head_of, parts_of};
+
+use crate::measure::{Measure, NESTING_LIMIT, SIZE_LIMIT};
+use crate::outline::{Head, parts_of_body};
+use crate::settle::{Measures, field_offset, measure_at, measure_body, measure_type, remeasured};
+use crate::structs::{StructMap, add_name, has_name, place_of, set_body};
+use crate::{IrType, Layout, StructBody, StructId, TypeFault, TypeId};
+use indexmap::IndexMap;
+use ir_base::Name;
+use std::alloc::Global;
+use std::marker::Model;
+use std::slice;
+
+/// The types of a module and its named structs, under their ids.
+#[derive(Drop)]
+pub struct TypeTable {
+    types: Vec<IrType>,
+    structs: StructMap,
+    measures: Measures,
+}
+
+impl Model for TypeTable {
+    ghost use Rattle.type_table.specs.Types.{Types};
+    ghost use Rattle.type_table.specs.Kept.{IsKept};
+
+    ghost Value = { Types };
+
+    ghost view = { λ t. record { types = t.types.items; structs = t.structs.entries } };
+
+    ghost invariant = { λ t.
+        IsKept (record { types = t.types.items; structs = t.structs.entries })
+        t.measures.structs.items t.measures.types.items };
+}
+
+impl TypeTable {
+    /// A table without types.
+    pub fn new(alloc: Global) -> TypeTable
+        ensures { result ≡ no_types }
+    {
+        TypeTable {
+            types: Vec::new(alloc),
+            structs: IndexMap::new(alloc),
+            measures: Measures {
+                structs: Vec::new(alloc),
+                types: Vec::new(alloc),
+            },
+        }
+    }
+
+    /// How many types there are.
+    pub fn type_count(&self) -> u64
+        ensures count { result ≡ length self.now.types }
+        ensures good { IsGood self.now }
+        ensures within { IsWithin self.now }
+    {
+        // The limits are kept by the measures, so these are looked at.
+        let _measures = &self.measures;
+        self.types.len() as u64
+    }
+
+    /// How many structs have a name.
+    pub fn struct_count(&self) -> u32
+        ensures { result ≡ length self.now.structs }
+    {
+        self.structs.len() as u32
+    }
+
+    /// Adds a type, under an id of its own even where an equal type is there.
+    pub fn add(&mut self, ty: IrType) -> Result<TypeId, TypeFault>
+        requires { IsKnown self.old ty }
+        ensures id { IfOk result (λ id. id ≡ length self.old.types) }
+        ensures ok { OnOk result (self.new ≡ with_type self.old ty) }
+        ensures within { OnOk result (IsWithin self.new) }
+        ensures trees { OnOk result (trees self.new
+            ≡ trees self.old ++ tree_of (names self.old) (trees self.old) ty ∷ []) }
+        ensures kept { OnOk result (structs self.new ≡ structs self.old) }
+        ensures fault { IfErr result (HasFault (with_type self.old ty)) }
+        ensures never { ¬ (result ≡ Err TypeFault.SelfContaining) }
+        ensures err { OnErr result (self.new ≡ self.old) }
+    {
+        let measure = measure_type(&self.measures.structs, &self.measures.types, &ty);
+        if measure.nesting > NESTING_LIMIT {
+            return Err(TypeFault::TooDeep);
+        }
+        if is_too_large(&measure, &ty) {
+            return Err(TypeFault::TooLarge);
+        }
+        self.measures.types.reserve(1)?;
+        let number = self.types.len() as u64;
+        self.types.push(ty)?;
+        push_into_room(&mut self.measures.types, measure);
+        Ok(TypeId::new(number))
+    }
+
+    /// Adds a struct without a body.
+    pub fn name_struct(&mut self, name: Name) -> Result<StructId, TypeFault>
+        requires { length self.old.structs < 2 ^ 32 - 1 }
+        ensures id { IfOk result (λ id. id ≡ length self.old.structs) }
+        ensures ok { OnOk result (self.new ≡ with_struct self.old name) }
+        ensures trees { trees self.new ≡ trees self.old }
+        ensures bodies { OnOk result (body_of (structs self.new) ≡ body_of (structs self.old)) }
+        ensures duplicate { (result ≡ Err TypeFault.Duplicate) ↔ Contains (names self.old) name }
+        ensures fault { IfErr result (λ fault. (fault ≡ TypeFault.Duplicate) ⊎ (fault ≡ TypeFault.Memory)) }
+        ensures err { OnErr result (self.new ≡ self.old) }
+    {
+        if has_name(&self.structs, &name) {
+            return Err(TypeFault::Duplicate);
+        }
+        self.measures.structs.reserve(1)?;
+        let number = self.structs.len() as u32;
+        add_name(&mut self.structs, name)?;
+        push_into_room(&mut self.measures.structs, Measure::opaque());
+        Ok(StructId::new(number))
+    }
+
+    /// Gives a struct its body. The measures of all types that hold the struct follow, in passes over the
+    /// whole table: one for each level to which its structs nest, 64 at most.
+    pub fn define_struct(&mut self, id: StructId, body: StructBody) -> Result<(), TypeFault>
+        requires known { id < length self.old.structs }
+        requires fields { IsKnownBody self.old body }
+        requires undefined { slice_get (bodies self.old) id ≡ Some None }
+        ensures ok { OnOk result (self.new ≡ with_body self.old id body) }
+        ensures trees { trees self.new ≡ trees self.old }
+        ensures within { OnOk result (IsWithin self.new) }
+        ensures fault { IfErr result (HasFault (with_body self.old id body)) }
+        ensures err { OnErr result (self.new ≡ self.old) }
+    {
+        let index = id.number() as usize;
+        let measure = measure_body(&self.measures.types, Measure::opaque(), &body);
+        let alloc = *self.types.allocator();
+        let kept = &self.measures.structs;
+        let measures = remeasured(alloc, kept, &self.types, &self.structs, index, measure)?;
+        let again = measure_body(&measures.types, Measure::opaque(), &body);
+        if again.nesting != measure.nesting {
+            return Err(TypeFault::SelfContaining);
+        }
+        measures.check()?;
+        set_body(&mut self.structs, index, body);
+        self.measures = measures;
+        Ok(())
+    }
+
+    /// The type with that id.
+    pub fn get(&self, ty: TypeId) -> &IrType
+        requires { ty < length self.now.types }
+        ensures { slice_get self.now.types ty ≡ Some result.now }
+    {
+        &self.types[ty.number() as usize]
+    }
+
+    /// How the type lies in memory, by a look-up. There is no layout exactly where the type is or
+    /// contains `void`, or is or contains a struct that is opaque or not defined.
+    pub fn layout(&self, ty: TypeId) -> Option<Layout>
+        requires { ty < length self.now.types }
+        ensures { result ≡ option_and_then layout (shape self.now ty) }
+    {
+        measure_at(&self.measures.types, ty.number() as usize).layout
+    }
+
+    /// What the type is but for its parts.
+    fn head(&self, ty: TypeId) -> Head
+        requires { ty < length self.now.types }
+        ensures { result ≡ head_of self.now ty }
+    {
+        match &self.types[ty.number() as usize] {
+            IrType::Int(width) => Head::Int(*width),
+            IrType::Ptr => Head::Ptr,
+            IrType::Void => Head::Void,
+            IrType::Array(length, _) => Head::Array(*length),
+            IrType::Struct(packed, _) => Head::Struct(*packed),
+            IrType::Named(id) => Head::of_body(&self.structs[id.number() as usize]),
+        }
+    }
+
+    /// The parts of the type: the elements' type, or the fields' types.
+    fn parts(&self, ty: TypeId) -> &[TypeId]
+        requires { ty < length self.now.types }
+        ensures { result.now ≡ parts_of self.now ty }
+    {
+        match &self.types[ty.number() as usize] {
+            IrType::Int(_) | IrType::Ptr | IrType::Void => &[],
+            IrType::Array(_, element) => slice::from_ref(element),
+            IrType::Struct(_, fields) => fields.as_slice(),
+            IrType::Named(id) => parts_of_body(&self.structs[id.number() as usize]),
+        }
+    }
+
+    /// Where the field with that index begins, in bytes. There is no offset exactly where the type is no
+    /// struct with a layout or has no such field.
+    pub fn offset(&self, ty: TypeId, field: u32) -> Option<u64>
+        requires { ty < length self.now.types }
+        ensures { result ≡ option_and_then (λ s. offset s field) (shape self.now ty) }
+    {
+        let types = &self.measures.types;
+        self.layout(ty)?;
+        let Head::Struct(packed) = self.head(ty) else {
+            return None;
+        };
+        let parts = self.parts(ty);
+        field_offset(packed, types, parts, field as usize)
+    }
+
+    /// Whether two types have one shape: whether they are equal once every struct's name is replaced by
+    /// its body. Types with unlike numbers of parts are told apart by a look-up. Else both are walked
+    /// together: over no more than the 2^20 parts of a type, shared or not, up to the first difference.
+    pub fn shape_eq(&self, ty: TypeId, other: &TypeTable, other_ty: TypeId) -> bool
+        requires own { ty < length self.now.types }
+        requires others { other_ty < length other.now.types }
+        ensures { IsTrue result ↔ (shape self.now ty ≡ shape other.now other_ty) }
+    {
+        let measure = measure_at(&self.measures.types, ty.number() as usize);
+        let other_measure = measure_at(&other.measures.types, other_ty.number() as usize);
+        if measure.parts != other_measure.parts {
+            return false;
+        }
+        if !self.head(ty).is_same(other.head(other_ty)) {
+            return false;
+        }
+        let parts = self.parts(ty);
+        let other_parts = other.parts(other_ty);
+        if parts.len() != other_parts.len() {
+            return false;
+        }
+        for i in 0..parts.len() {
+            if !self.shape_eq(parts[i], other, other_parts[i]) {
+                return false;
+            }
+        }
+        true
+    }
+
+    /// The name of a struct.
+    pub fn struct_name(&self, id: StructId) -> &Name
+        requires { id < length self.now.structs }
+        ensures { slice_get (names self.now) id ≡ Some result.now }
+    {
+        let (name, _) = self
+            .structs
+            .as_slice()
+            .get_index(id.number() as usize)
+            .unwrap();
+        name
+    }
+
+    /// The struct with that name. There is none exactly where no struct has it.
+    pub fn struct_of(&self, name: &Name) -> Option<StructId>
+        ensures found { IfSome result (λ id. slice_get (names self.now) id ≡ Some name.now) }
+        ensures present { IsSome result ↔ Contains (names self.now) name.now }
+    {
+        let index = place_of(&self.structs, name)?;
+        Some(StructId::new(index as u32))
+    }
+
+    /// What a struct holds. There is nothing exactly where the struct has no body yet.
+    pub fn struct_body(&self, id: StructId) -> Option<&StructBody>
+        requires { id < length self.now.structs }
+        ensures { slice_get (bodies self.now) id ≡ Some (option_copied result) }
+    {
+        self.structs[id.number() as usize].as_ref()
+    }
+}
+
+/// Whether a type with that measure is too large, by its parts, its size or, for an array, its length.
+fn is_too_large(measure: &Measure, ty: &IrType) -> bool
+    ensures { IsTrue result ↔ (IsLarge measure.now ⊎ (2 ^ 40 < type_length ty.now)) }
+{
+    measure.is_too_large() || matches!(ty, IrType::Array(length, _) if *length > SIZE_LIMIT)
+}
+
+/// Adds a measure for which there is room, so that nothing is allocated.
+fn push_into_room(measures: &mut Vec<Measure>, measure: Measure)
+    requires { vec_len measures.old < vec_capacity measures.old }
+    ensures { measures.new.items ≡ measures.old.items ++ measure ∷ [] }
+{
+    measures.push(measure).unwrap();
+}
