@@ -1,0 +1,14 @@
+pub mod Ahead
+pub mod Alike
+pub mod Back
+pub mod Blocks
+pub mod Defined
+pub mod Facts
+pub mod From
+pub mod Faults
+pub mod One
+pub mod Path
+pub mod Reading
+pub mod Sound
+pub mod Step
+pub mod Values

@@ -1,0 +1,5 @@
+use Rattle.bit_tree.proofs.One.{one_tree}
+use Rattle.bit_tree.proofs.law.a_stream_has_one_tree.Goals as goal
+
+pub returns : goal.returns
+returns c = one_tree

@@ -1,0 +1,94 @@
+-- A whole stream: its blocks, definitions and records as a tree, or the first field that is refused.
+use Rattle.std.specs.Prelude.{◌≡◌, ℕ, zero, suc, Bool, true, false, List, [], ◌∷◌, ◌++◌, length, drop, Option, Some, None, Ok, Err, if◌then◌else◌}
+use Rattle.bits.specs.Bits.{stream_bits}
+use Rattle.bits.specs.Cursor.{Cursor, Found, ◌>>=◌}
+use Rattle.bits.specs.Reading.{fixed}
+use Rattle.bits.specs.declared.fault.BitFault.{BitFault}
+use Rattle.bits.specs.declared.fault.BitFaultKind.TheVariants.{BadMagic}
+use Rattle.bit_stream.specs.declared.entry.Entry.{Entry}
+use Rattle.bit_stream.specs.declared.entry.Entry.TheVariants.{Block, EndBlock, Record, End}
+use Rattle.bit_stream.specs.Abbreviation.{Template}
+use Rattle.bit_stream.specs.Definition.{template}
+use Rattle.bit_stream.specs.Scope.{Scope, top_level}
+use Rattle.bit_stream.specs.Entry.{Item, item, is_top}
+use Rattle.bit_stream.specs.Reader.{begins}
+
+-- What stands one behind another: a block with its id and what is inside it, a definition, or a record with its code,
+-- its operands and its blob; and then what stands behind that.
+pub data Tree : Type 0 where
+  nothing : Tree
+  block : ℕ → Tree → Tree → Tree
+  definition : Template → Tree → Tree
+  values : ℕ → List ℕ → List ℕ → Tree → Tree
+
+-- at a place stands such an entry, or a definition where it is none
+pub record Stands (s : Scope) (c : Cursor) (entry : Option Entry) (i : Item) (d : Cursor) : Type 0 where
+  pub reads : item s c ≡ Ok (i, d)
+  pub is : i.entry ≡ entry
+
+-- the abbreviation that is defined behind an abbreviation id
+unfoldable pub defined_at : Scope → Cursor → Found Template
+defined_at s c = fixed s.block.width c >>= λ _ d. template d
+
+-- from one place to another, with the blocks and abbreviations in force at each, stands a tree
+pub data Holds : Scope → Cursor → Tree → Scope → Cursor → Type 0 where
+  none : {s : Scope} {c : Cursor} → Holds s c nothing s c
+  of_block : {s t u : Scope} {c d e f g : Cursor} {i j : Item} {id : ℕ} {inside behind : Tree}
+      → Stands s c (Some (Block id)) i d → Holds i.scope d inside t e → Stands t e (Some EndBlock) j f → Holds j.scope f behind u g → Holds s c (block id inside behind) u g
+  of_definition : {s u : Scope} {c d g : Cursor} {i : Item} {t : Template} {behind : Tree}
+      → Stands s c None i d → defined_at s c ≡ Ok (t, d) → Holds i.scope d behind u g → Holds s c (definition t behind) u g
+  of_record : {s u : Scope} {c d g : Cursor} {i : Item} {code : ℕ} {behind : Tree}
+      → Stands s c (Some (Record code)) i d → Holds i.scope d behind u g → Holds s c (values code i.operands i.blob behind) u g
+
+-- the place behind the bytes that a stream begins with
+abbrev pub opening : List ℕ → Cursor
+opening bytes = record { at = 32; rest = drop 32 (stream_bits bytes) }
+
+-- the bits are a tree, from the opening to the top level where no bit is left
+pub record Stream (bytes : List ℕ) (tree : Tree) : Type 0 where
+  pub opens : begins bytes ≡ true
+  pub scope : Scope
+  pub cursor : Cursor
+  pub all : Holds top_level (opening bytes) tree scope cursor
+  pub closed : is_top scope ≡ true
+  pub whole : cursor.rest ≡ []
+
+-- whether it is the end of the stream
+abbrev pub is_end : Option Entry → Bool
+is_end None = false
+is_end (Some (Block id)) = false
+is_end (Some EndBlock) = false
+is_end (Some (Record code)) = false
+is_end (Some End) = true
+
+-- the field that is refused at a place, or else the first one behind it
+abbrev pub fault_or : Found Item → (Scope → Cursor → Option BitFault) → Option BitFault
+fault_or (Ok x) later = if is_end x.0.entry then None else later x.0.scope x.1
+fault_or (Err fault) later = Some fault
+
+-- the first field that is refused from a place on, among so many entries and definitions
+unfoldable pub fault_from : ℕ → Scope → Cursor → Option BitFault
+fault_from zero s c = None
+fault_from (suc more) s c = fault_or (item s c) (fault_from more)
+
+-- The first field of a stream that is refused. There are no more entries and definitions than bits.
+abbrev pub stream_fault : List ℕ → Option BitFault
+stream_fault bytes =
+    if begins bytes then fault_from (length (stream_bits bytes)) top_level (opening bytes)
+    else Some (record { kind = BadMagic; bit = 0 })
+
+-- an entry with the operands and the blob that a reader holds behind it
+pub record Shown : Type 0 where
+  pub entry : Entry
+  pub operands : List ℕ
+  pub blob : List ℕ
+
+abbrev pub bare : Entry → Shown
+bare entry = record { entry = entry; operands = []; blob = [] }
+
+-- the entries of a tree, in order; a definition is none
+unfoldable pub entries : Tree → List Shown
+entries nothing = []
+entries (block id inside behind) = bare (Block id) ∷ (entries inside ++ bare EndBlock ∷ entries behind)
+entries (definition t behind) = entries behind
+entries (values code operands blob behind) = record { entry = Record code; operands = operands; blob = blob } ∷ entries behind
