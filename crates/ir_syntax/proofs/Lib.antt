@@ -1,6 +1,6 @@
-pub mod Decimals
-pub mod NeverEnd
-pub mod SymbolsOf
-pub mod Plain
-pub mod SmallSteps
-pub mod Programs
+pub mod Grammar
+pub mod Loops
+pub mod Results
+pub mod Refusals
+pub mod SmallLines
+pub mod Sizes

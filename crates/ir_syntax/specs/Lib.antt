@@ -1,4 +1,10 @@
-pub mod Symbols
+pub mod Tree
+pub mod View
+pub mod Heads
+pub mod Variables
+pub mod Functions
+pub mod Items
+pub mod Answers
+pub mod Refusal
+pub mod Counts
 pub mod Small
-pub mod SymbolsLeft
-pub mod Reading

@@ -1,15 +1,22 @@
-//! Reads a text as the program that its tokens spell.
+//! The items of a text: reads them all, or tells the first place with which no list of items can go on.
 //!
-//! It stands on the tokens of `ir_lexer`. Its promise: a text that is small is read as its one program,
-//! and every other text is refused. Definitions: `specs/Small`, `specs/Symbols`.
+//! It stands on the blocks of `ir_instructions`. Its promise: `read_items` gives the items of the text's tokens, and
+//! no others, or the first bad place with the one right kind. Names and numbers are not joined here. Definitions:
+//! `specs/Items` and the files of rows beside it, `specs/Answers`, `specs/Refusal`.
 #![tactic(auto)]
 
+mod functions;
+mod heads;
+mod item;
+mod items;
+mod read;
 mod small;
 mod straight;
-mod symbol;
-mod symbols;
+#[cfg(test)]
+mod tests;
+mod variables;
 
-pub use small::{SmallFault, read_small};
+pub use item::{Head, Item, Items, Parameter, StructBody, Variable};
+pub use read::{SyntaxFault, read_items};
+pub use small::straight_of;
 pub use straight::{Line, LineList, Operand, Straight};
-pub use symbol::Symbol;
-pub use symbols::Symbols;

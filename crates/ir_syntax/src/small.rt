@@ -1,177 +1,192 @@
-//! Reads a small text: one function of additions.
-ghost use Rattle.std.specs.Prelude.{◌≡◌, ◌≢◌, [], ◌∷◌, ◌++◌, ◌+◌, ◌≤◌, ◌^◌, List, length, true, IfOk, IfSome, IfNone, IsErrOf, is_some};
-ghost use Rattle.ir_syntax.specs.Small.{Small, operand_symbol, sum_symbols, return_symbols, NamesEarlier};
-ghost use Rattle.ir_syntax.specs.Reading.{IsTurn, HasLines};
-ghost use Rattle.ir_syntax.specs.SymbolsLeft.{is_plain, are_plain};
-ghost use Rattle.ir_syntax.specs.declared.small.Turn.{Turn};
-ghost use Rattle.ir_syntax.specs.declared.straight.Line.{Line};
-ghost use Rattle.ir_syntax.specs.declared.straight.Operand.{Operand};
-ghost use Rattle.ir_syntax.specs.declared.straight.Straight.{Straight};
-ghost use Rattle.ir_syntax.specs.declared.symbol.Symbol.{Symbol};
+//! Tells the items of the small grammar, one function of additions.
+ghost use Rattle.std.specs.Prelude.{◌≡◌, ◌+◌, map, IfOk, IfSome};
+ghost use Rattle.ir_constants.specs.View.{type_view, constant_view, value_view};
+ghost use Rattle.ir_instructions.specs.View.{operation_view, instruction_view, ending_view, block_view};
+ghost use Rattle.ir_syntax.specs.Small.{IsStraight, is_word, number_in, line_named, constant_operand, local_operand, operand_in, sum_in, is_numbered, line_in, lines_in, result_in, program_in, is_main, straight_item, straight};
+ghost use Rattle.ir_syntax.specs.View.{head_view, item_view, items_view};
 
-use crate::symbols::Symbols;
-use crate::{Line, LineList, Operand, Straight, Symbol};
+use crate::item::{Head, Item, Items};
+use crate::straight::{Line, LineList, Operand, Straight};
+use ir_constants::{Constant, Type, Value};
+use ir_instructions::{Block, Ending, Instruction, Operation};
+use ir_tables::Opcode;
+use ir_terminals::{Integer, Local};
 use std::alloc::{AllocError, Global};
-use thiserror::Error;
 
-/// Why a text was not read as a small one.
-#[derive(Clone, Copy, Debug, PartialEq, Eq, Error)]
-pub enum SmallFault {
-    /// The text is not small.
-    #[error("the text is not small")]
-    NotYet,
-    /// Memory ran out.
-    #[error("memory ran out")]
-    Memory,
-}
-
-impl From<AllocError> for SmallFault {
-    ghost use Rattle.std.specs.Prelude.{◌≡◌};
-    ghost use Rattle.ir_syntax.specs.declared.small.SmallFault.TheVariants.{Memory};
-
-    ghost from_gives = { λ _ fault. fault ≡ Memory };
-
-    fn from(_: AllocError) -> Self {
-        SmallFault::Memory
+/// Whether the type is `i32`.
+fn is_word(ty: &Type) -> bool
+    ensures { result ≡ is_word (type_view ty.now) }
+{
+    match ty {
+        Type::Integer(_, width) => *width == 32,
+        _ => false,
     }
 }
 
-/// What stands where a line may begin.
-enum Turn {
-    Line(Line),
-    Return,
-}
-
-/// `define i32 @main ( ) {`
-const OPENING: [Symbol; 6] = [
-    Symbol::Define,
-    Symbol::I32,
-    Symbol::Main,
-    Symbol::OpenParenthesis,
-    Symbol::CloseParenthesis,
-    Symbol::OpenBrace,
-];
-
-/// `= add i32`, behind the name of a line.
-const SUM: [Symbol; 3] = [Symbol::Equals, Symbol::Add, Symbol::I32];
-
-/// Reads this symbol, where it is the next.
-fn expect(symbols: &mut Symbols, wanted: Symbol) -> Option<()>
-    requires { is_plain wanted ≡ true }
-    ensures some { IfSome result (λ _. symbols.old ≡ wanted ∷ symbols.new) }
-    ensures none { IfNone result ((rest : List Symbol) → symbols.old ≢ wanted ∷ rest) }
+/// The number modulo 2^32 that the integer is, if it is from -2^31 to 2^32 - 1.
+fn number_in(written: &Integer) -> Option<u32>
+    ensures { result ≡ number_in written.now }
 {
-    if symbols.next() == wanted {
-        Some(())
+    let magnitude = u32::try_from(written.magnitude.to_u64()?).ok()?;
+    if !written.negative {
+        Some(magnitude)
+    } else if magnitude <= 1 << 31 {
+        Some(magnitude.wrapping_neg())
     } else {
         None
     }
 }
 
-/// Reads these symbols, where they are the next.
-fn expect_all(symbols: &mut Symbols, wanted: &[Symbol]) -> Option<()>
-    requires { are_plain wanted.now ≡ true }
-    ensures some { IfSome result (λ _. symbols.old ≡ wanted.now ++ symbols.new) }
-    ensures none { IfNone result ((rest : List Symbol) → symbols.old ≢ wanted.now ++ rest) }
+/// The integer that the constant is.
+fn constant_operand(constant: &Constant) -> Option<Operand>
+    ensures { result ≡ constant_operand (constant_view constant.now) }
 {
-    'wanted: for symbol in wanted {
-        expect(symbols, *symbol)?;
-    }
-    Some(())
-}
-
-/// Reads the end, where nothing is left.
-fn expect_end(symbols: &mut Symbols) -> Option<()>
-    ensures some { IfSome result (λ _. symbols.old ≡ []) }
-    ensures none { IfNone result (symbols.old ≢ []) }
-{
-    match symbols.next() {
-        Symbol::End => Some(()),
+    match constant {
+        Constant::Integer(written) => Some(Operand::Number(number_in(written)?)),
         _ => None,
     }
 }
 
-/// Reads an operand, which may name one of so many lines before it.
-fn operand(symbols: &mut Symbols, before: usize) -> Option<Operand>
-    ensures some { IfSome result (λ operand. NamesEarlier before operand × (symbols.old ≡ operand_symbol operand ∷ symbols.new)) }
-    ensures none { IfNone result ((operand : Operand) (rest : List Symbol) → NamesEarlier before operand → symbols.old ≢ operand_symbol operand ∷ rest) }
+/// The line that the local is, if it is one of so many.
+fn local_operand(before: usize, local: &Local) -> Option<Operand>
+    ensures { result ≡ local_operand before local.now }
 {
-    match symbols.next() {
-        Symbol::Number(number) => Some(Operand::Number(number)),
-        Symbol::Local(number) if number >= 1 && number as usize <= before => Some(Operand::Line(
-            number,
-        )),
-        _ => None,
+    match local {
+        Local::Numbered(number, _) => {
+            let number = u32::try_from(number.to_u64()?).ok()?;
+            if number >= 1 && number as usize <= before {
+                Some(Operand::Line(number))
+            } else {
+                None
+            }
+        }
+        Local::Named(_) => None,
     }
 }
 
-/// Reads `= add i32 A, B`, which may name so many lines before it.
-fn sum(symbols: &mut Symbols, before: usize) -> Option<Line>
-    ensures some { IfSome result (λ line. NamesEarlier before line.a × NamesEarlier before line.b × (symbols.old ≡ sum_symbols line ++ symbols.new)) }
-    ensures none { IfNone result ((line : Line) (rest : List Symbol) → NamesEarlier before line.a → NamesEarlier before line.b → symbols.old ≢ sum_symbols line ++ rest) }
+/// An operand behind so many lines.
+fn operand_in(before: usize, value: &Value) -> Option<Operand>
+    ensures { result ≡ operand_in before (value_view value.now) }
 {
-    expect_all(symbols, &SUM)?;
-    let a = operand(symbols, before)?;
-    expect(symbols, Symbol::Comma)?;
-    let b = operand(symbols, before)?;
-    Some(Line { a, b })
+    match value {
+        Value::Constant(constant) => constant_operand(constant),
+        Value::Local(local) => local_operand(before, local),
+    }
 }
 
-/// Reads `ret`, or the next line behind so many.
-fn next_turn(symbols: &mut Symbols, before: usize) -> Option<Turn>
-    ensures some { IfSome result (λ turn. IsTurn before symbols.old turn symbols.new) }
-    ensures none { IfNone result ((turn : Turn) (rest : List Symbol) → IsTurn before symbols.old turn rest → ⊥) }
+/// `add i32 A, B`, behind so many lines.
+fn sum_in(before: usize, operation: &Operation) -> Option<Line>
+    ensures { result ≡ sum_in before (operation_view operation.now) }
 {
-    match symbols.next() {
-        Symbol::Ret => Some(Turn::Return),
-        Symbol::Local(number) if number >= 1 && (number - 1) as usize == before => {
-            Some(Turn::Line(sum(symbols, before)?))
+    match operation {
+        Operation::Binary(Opcode::Add, flags, left, right)
+            if flags.code() == 0 && is_word(&left.ty) => {
+            let a = operand_in(before, &left.value)?;
+            let b = operand_in(before, right)?;
+            Some(Line { a, b })
         }
         _ => None,
     }
 }
 
-/// Reads all lines, and `ret`.
-fn read_lines(alloc: Global, symbols: &mut Symbols) -> Result<LineList, SmallFault>
-    ensures ok { IfOk result (λ lines. HasLines symbols.old lines symbols.new) }
-    ensures err { IsErrOf result SmallFault.NotYet → (lines : List Line) (rest : List Symbol) → HasLines symbols.old lines rest → ⊥ }
+/// Whether the result is `%K`, one more than so many.
+fn is_next_number(before: usize, name: &Option<Local>) -> bool
+    ensures { result ≡ is_numbered (before + 1) name.now }
+{
+    match name {
+        Some(Local::Numbered(number, _)) => match number.to_u128() {
+            Some(number) => number == before as u128 + 1,
+            None => false,
+        },
+        _ => false,
+    }
+}
+
+/// `%K = add i32 A, B`, the line behind so many.
+fn line_in(before: usize, instruction: &Instruction) -> Option<Line>
+    ensures { result ≡ line_in before (instruction_view instruction.now) }
+{
+    if is_next_number(before, &instruction.result) {
+        sum_in(before, &instruction.operation)
+    } else {
+        None
+    }
+}
+
+/// The lines, counted from 1.
+fn lines_in(alloc: Global, instructions: &[Instruction]) -> Result<Option<LineList>, AllocError>
+    ensures { IfOk result (λ lines. lines ≡ lines_in 0 (map instruction_view instructions.now)) }
 {
     let mut lines = LineList::new(alloc);
-    'lines: loop {
-        match next_turn(symbols, lines.len()) {
-            Some(Turn::Line(line)) => lines.push(line)?,
-            Some(Turn::Return) => return Ok(lines),
-            None => return Err(SmallFault::NotYet),
+    'lines: for instruction in instructions {
+        match line_in(lines.len(), instruction) {
+            Some(line) => lines.push(line)?,
+            None => return Ok(None),
         }
+    }
+    Ok(Some(lines))
+}
+
+/// `ret i32 A`, behind so many lines.
+fn result_in(before: usize, ending: &Ending) -> Option<Operand>
+    ensures { result ≡ result_in before (ending_view ending.now) }
+{
+    match ending {
+        Ending::Return(value) if is_word(&value.ty) => operand_in(before, &value.value),
+        _ => None,
     }
 }
 
-/// Reads what follows `ret` behind so many lines, to the end.
-fn read_return(symbols: &mut Symbols, before: usize) -> Option<Operand>
-    ensures some { IfSome result (λ operand. NamesEarlier before operand × (symbols.old ≡ return_symbols operand)) }
-    ensures none { IfNone result ((operand : Operand) → NamesEarlier before operand → symbols.old ≢ return_symbols operand) }
+/// Lines and `ret`, without a label.
+fn program_in(alloc: Global, block: &Block) -> Result<Option<Straight>, AllocError>
+    ensures { IfOk result (λ program. program ≡ program_in (block_view block.now)) }
 {
-    expect(symbols, Symbol::I32)?;
-    let operand = operand(symbols, before)?;
-    expect(symbols, Symbol::CloseBrace)?;
-    expect_end(symbols)?;
-    Some(operand)
+    if block.label.is_some() {
+        return Ok(None);
+    }
+    let Some(lines) = lines_in(alloc, &block.instructions)? else {
+        return Ok(None);
+    };
+    match result_in(lines.len(), &block.ending) {
+        Some(result) => Ok(Some(Straight { lines, result })),
+        None => Ok(None),
+    }
 }
 
-/// The program of a text of at most 16 MiB, which is refused as `NotYet` exactly where it is not small.
-pub fn read_small(alloc: Global, text: &[u8]) -> Result<Straight, SmallFault>
-    requires { length text.now ≤ 2 ^ 24 }
-    ensures ok { IfOk result (Small text.now) }
-    ensures one { IfOk result (λ program. (other : Straight) → Small text.now other → other ≡ program) }
-    ensures err { IsErrOf result SmallFault.NotYet → (program : Straight) → Small text.now program → ⊥ }
+/// Whether this is `i32 @main`, without a linkage.
+fn is_main(head: &Head) -> bool
+    ensures { result ≡ is_main (head_view head.now) }
 {
-    let mut symbols = Symbols::new(text);
-    let Some(()) = expect_all(&mut symbols, &OPENING) else {
-        return Err(SmallFault::NotYet);
-    };
-    let lines = read_lines(alloc, &mut symbols)?;
-    let Some(result) = read_return(&mut symbols, lines.len()) else {
-        return Err(SmallFault::NotYet);
-    };
-    Ok(Straight { lines, result })
+    head.linkage.is_none()
+        && is_word(&head.returns)
+        && head.name.name.text().bytes() == b"main".as_slice()
+}
+
+/// `define i32 @main() { LINE* ret i32 A }`
+fn straight_item(alloc: Global, item: &Item) -> Result<Option<Straight>, AllocError>
+    ensures { IfOk result (λ program. program ≡ straight_item (item_view item.now)) }
+{
+    match item {
+        Item::Definition(_, head, parameters, blocks) if parameters.is_empty() && is_main(head) => {
+            match blocks.as_slice() {
+                [block] => program_in(alloc, block),
+                _ => Ok(None),
+            }
+        }
+        _ => Ok(None),
+    }
+}
+
+/// The program that the items are, and None exactly where they are not of the small grammar: one definition of `i32
+/// @main()` without a linkage, with one block without a label, of lines `%K = add i32 A, B` for K = 1, 2, .. without
+/// flags and `ret i32 A`, where operands are integers from -2^31 to 2^32 - 1 and numbers of earlier lines.
+pub fn straight_of(alloc: Global, items: &Items) -> Result<Option<Straight>, AllocError>
+    ensures found { IfOk result (λ program. program ≡ straight (items_view items.now)) }
+    // Each line that an operand of the program names is an earlier one.
+    ensures earlier { IfOk result (λ program. IfSome program IsStraight) }
+{
+    match items.as_slice() {
+        [item] => straight_item(alloc, item),
+        _ => Ok(None),
+    }
 }

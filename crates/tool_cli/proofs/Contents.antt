@@ -8,7 +8,7 @@ use Rattle.ir_base.specs.Outside.{Lost}
 use Rattle.ir_base.specs.Files.{Named, ReadsFrom, IsMissing, IsOver}
 use Rattle.command_line.specs.Options.{is_dash}
 use Rattle.tool_cli.specs.declared.ended.Ended.{Ended}
-use Rattle.tool_cli.specs.declared.ended.Ended.TheVariants.{Exit, StepsUsed, Usage, CannotRead, InputTooLarge, NotYet, NotBuilt, Memory}
+use Rattle.tool_cli.specs.declared.ended.Ended.TheVariants.{Exit, StepsUsed, Usage, CannotRead, InputTooLarge, BadByte, NoItemHere, LeftOutWord, TooDeep, NotBuilt, Memory}
 use Rattle.tool_cli.specs.Inputs.{content, stdin_after, Tells, alone, together, input_read}
 use Rattle.tool_cli.specs.Causes.{IsEmptied, HasRead, GaveUp, IsUnread, IsLarge, Refuses}
 
@@ -103,5 +103,8 @@ refusal_told contents left held stdin name before i f Memory told why = inr tt
 refusal_told contents left held stdin name before i f (Exit status) told why = absurd why
 refusal_told contents left held stdin name before i f StepsUsed told why = absurd why
 refusal_told contents left held stdin name before i f (Usage kind k) told why = absurd why
-refusal_told contents left held stdin name before i f NotYet told why = absurd why
+refusal_told contents left held stdin name before i f (BadByte other place) told why = absurd why
+refusal_told contents left held stdin name before i f (NoItemHere other place) told why = absurd why
+refusal_told contents left held stdin name before i f (LeftOutWord other place word) told why = absurd why
+refusal_told contents left held stdin name before i f (TooDeep other place) told why = absurd why
 refusal_told contents left held stdin name before i f NotBuilt told why = absurd why

@@ -3,3 +3,4 @@ pub mod Contents
 pub mod Turns
 pub mod Works
 pub mod Outcomes
+pub mod Judging

@@ -9,7 +9,7 @@ use Rattle.ir_base.specs.Outside.{Lost, LostUpTo}
 use Rattle.ir_base.specs.Files.{Named, IsMissing, IsOver, ReadsFrom}
 use Rattle.command_line.specs.Options.{is_dash}
 use Rattle.tool_cli.specs.declared.ended.Ended.{Ended}
-use Rattle.tool_cli.specs.declared.ended.Ended.TheVariants.{Exit, StepsUsed, Usage, CannotRead, InputTooLarge, NotYet, NotBuilt, Memory}
+use Rattle.tool_cli.specs.declared.ended.Ended.TheVariants.{Exit, StepsUsed, Usage, CannotRead, InputTooLarge, BadByte, NoItemHere, LeftOutWord, TooDeep, NotBuilt, Memory}
 use Rattle.tool_cli.specs.Inputs.{content, has_stdin, stdin_after, Tells, TellsAll, input_read, with_text, read_on, texts_read}
 use Rattle.tool_cli.specs.Causes.{IsEmptied, HasRead, GaveUp, IsUnread, IsLarge, Refuses, RefusesOne}
 use Rattle.tool_cli.proofs.Contents.{content_read, input_ok, input_over, left_told, refusal_told}
@@ -146,7 +146,10 @@ refused_one names others name before now contents contents_now left left_now i f
 refused_one names others name before now contents contents_now left left_now i f (Exit status) among e stdin why = absurd why
 refused_one names others name before now contents contents_now left left_now i f StepsUsed among e stdin why = absurd why
 refused_one names others name before now contents contents_now left left_now i f (Usage kind k) among e stdin why = absurd why
-refused_one names others name before now contents contents_now left left_now i f NotYet among e stdin why = absurd why
+refused_one names others name before now contents contents_now left left_now i f (BadByte other place) among e stdin why = absurd why
+refused_one names others name before now contents contents_now left left_now i f (NoItemHere other place) among e stdin why = absurd why
+refused_one names others name before now contents contents_now left left_now i f (LeftOutWord other place word) among e stdin why = absurd why
+refused_one names others name before now contents contents_now left left_now i f (TooDeep other place) among e stdin why = absurd why
 refused_one names others name before now contents contents_now left left_now i f NotBuilt among e stdin why = absurd why
 
 -- The turn at the name with this index.

@@ -1,10 +1,11 @@
 -- The status of an end, and the line that tells it.
 use Rattle.std.specs.Prelude.{ℕ, List, [], ◌∷◌, ◌++◌, codes}
 use Rattle.std.specs.Fmt.{decimal}
+use Rattle.ir_base.specs.declared.place.Place.{Place}
 use Rattle.command_line.specs.Kinds.{kind_words}
 use Rattle.command_line.specs.Tools.{line_name}
 use Rattle.tool_cli.specs.declared.ended.Ended.{Ended}
-use Rattle.tool_cli.specs.declared.ended.Ended.TheVariants.{Exit, StepsUsed, Usage, CannotRead, InputTooLarge, NotYet, NotBuilt, Memory}
+use Rattle.tool_cli.specs.declared.ended.Ended.TheVariants.{Exit, StepsUsed, Usage, CannotRead, InputTooLarge, BadByte, NoItemHere, LeftOutWord, TooDeep, NotBuilt, Memory}
 
 -- a program's own status; 1 where a tool refuses; 120 where memory ran out, and 124 where the steps did
 abbrev pub status_of : Ended → ℕ
@@ -13,13 +14,24 @@ status_of StepsUsed = 124
 status_of (Usage kind k) = 1
 status_of (CannotRead name) = 1
 status_of (InputTooLarge name limit) = 1
-status_of NotYet = 1
+status_of (BadByte name place) = 1
+status_of (NoItemHere name place) = 1
+status_of (LeftOutWord name place word) = 1
+status_of (TooDeep name place) = 1
 status_of NotBuilt = 1
 status_of Memory = 120
 
 -- the tool's name, or `ir-tools` where the words name none, a colon and a space, the text, and a line feed
 abbrev pub error_line : List (List ℕ) → List ℕ → List ℕ
 error_line words text = line_name words ++ (codes ": " ++ (text ++ 10 ∷ []))
+
+-- a text about this line and column of the input of this name, which stand before it
+abbrev pub located_by : List ℕ → List ℕ → List ℕ → List ℕ → List ℕ
+located_by name line column text = name ++ (codes ":" ++ (line ++ (codes ":" ++ (column ++ (codes ": " ++ text)))))
+
+-- a text about a place in the input of this name
+abbrev pub located : List ℕ → Place → List ℕ → List ℕ
+located name place text = located_by name (decimal place.line) (decimal place.column) text
 
 -- what standard error is told: one line, or nothing of a program that ended
 abbrev pub line_of : List (List ℕ) → Ended → List ℕ
@@ -28,6 +40,9 @@ line_of words StepsUsed = error_line words (codes "steps used up")
 line_of words (Usage kind k) = error_line words (codes "usage: " ++ (kind_words kind ++ (codes " at word " ++ decimal k)))
 line_of words (CannotRead name) = error_line words (codes "cannot read " ++ name)
 line_of words (InputTooLarge name limit) = error_line words (name ++ (codes ": over " ++ (decimal limit ++ codes " bytes")))
-line_of words NotYet = error_line words (codes "not yet")
+line_of words (BadByte name place) = error_line words (located name place (codes "bad byte"))
+line_of words (NoItemHere name place) = error_line words (located name place (codes "no item here"))
+line_of words (LeftOutWord name place word) = error_line words (located name place (codes "left out: " ++ word))
+line_of words (TooDeep name place) = error_line words (located name place (codes "too deep"))
 line_of words NotBuilt = error_line words (codes "not built")
 line_of words Memory = error_line words (codes "out of memory")

@@ -1,4 +1,5 @@
 pub mod Ended
 pub mod Inputs
 pub mod Causes
+pub mod Judged
 pub mod Told

@@ -3,7 +3,7 @@ ghost use Rattle.std.specs.Prelude.{◌≡◌};
 ghost use Rattle.tool_cli.specs.Ended.{status_of};
 
 use command_line::UsageKind;
-use ir_base::Text;
+use ir_base::{Place, Text};
 use std::alloc::AllocError;
 
 /// What a run of a tool ended with. Each but `Exit` has one line on standard error.
@@ -19,8 +19,14 @@ pub enum Ended {
     CannotRead(Text),
     /// The input of this name, or all up to it together, passes this many bytes.
     InputTooLarge(Text, u64),
-    /// The text is not one that can be run yet.
-    NotYet,
+    /// In the input of this name no token begins at this place.
+    BadByte(Text, Place),
+    /// In the input of this name no item goes on, or begins, with the token at this place.
+    NoItemHere(Text, Place),
+    /// In the input of this name the token at this place, spelled so, begins or is what the language leaves out.
+    LeftOutWord(Text, Place, Text),
+    /// In the input of this name the token at this place opens a type or a constant 65 deep.
+    TooDeep(Text, Place),
     /// The tool is not built, or not for such an input.
     NotBuilt,
     /// Memory ran out.
@@ -54,7 +60,10 @@ pub fn status_of(ended: &Ended) -> u8
         Ended::Usage(_, _)
         | Ended::CannotRead(_)
         | Ended::InputTooLarge(_, _)
-        | Ended::NotYet
+        | Ended::BadByte(_, _)
+        | Ended::NoItemHere(_, _)
+        | Ended::LeftOutWord(_, _, _)
+        | Ended::TooDeep(_, _)
         | Ended::NotBuilt => 1,
         Ended::Memory => 120,
     }

@@ -2,12 +2,12 @@
 ghost use Rattle.std.specs.Prelude.{◌≡◌, ◌++◌, codes};
 ghost use Rattle.ir_base.specs.Outside.{Wrote};
 ghost use Rattle.command_line.specs.Tools.{line_name};
-ghost use Rattle.tool_cli.specs.Ended.{error_line, line_of};
+ghost use Rattle.tool_cli.specs.Ended.{error_line, located, located_by, line_of};
 
 use crate::digits::Digits;
 use crate::ended::Ended;
 use command_line::line_name;
-use ir_base::{Failed, Sink, Text, write_pieces};
+use ir_base::{Failed, Place, Sink, Text, write_pieces};
 
 // The tool's name, as bytes.
 fn name_of<'t>(words: &[Text]) -> &'t [u8]
@@ -68,6 +68,62 @@ fn tell_text<'t, E: Sink>(
     write_pieces(errors, &[name_of(words), b": ", text, name, b"\n"])
 }
 
+// The line of a text, and of what stands behind it, about this line and column of the input of this name.
+fn tell_located<'t, E: Sink>(
+    errors: &mut E,
+    words: &[Text],
+    name: &'t [u8],
+    line: &'t [u8],
+    column: &'t [u8],
+    text: &'t [u8],
+    behind: &'t [u8],
+) -> Result<(), Failed>
+    ensures { Wrote (E.taken errors.old) (E.taken errors.new) (E.faults errors.old) (E.faults errors.new)
+        (error_line words.now (located_by name.now line.now column.now (text.now ++ behind.now))) }
+{
+    write_pieces(
+        errors,
+        &[
+            name_of(words),
+            b": ",
+            name,
+            b":",
+            line,
+            b":",
+            column,
+            b": ",
+            text,
+            behind,
+            b"\n",
+        ],
+    )
+}
+
+// The line of a text, and of what stands behind it, about a place in the input of this name.
+fn tell_place<'t, E: Sink>(
+    errors: &mut E,
+    words: &[Text],
+    name: &'t Text,
+    place: Place,
+    text: &'t [u8],
+    behind: &'t [u8],
+) -> Result<(), Failed>
+    ensures { Wrote (E.taken errors.old) (E.taken errors.new) (E.faults errors.old) (E.faults errors.new)
+        (error_line words.now (located name.now place (text.now ++ behind.now))) }
+{
+    let line = Digits::of(u64::from(place.line));
+    let column = Digits::of(u64::from(place.column));
+    tell_located(
+        errors,
+        words,
+        name.bytes(),
+        line.bytes(),
+        column.bytes(),
+        text,
+        behind,
+    )
+}
+
 /// Writes the line of the end, by pieces and without memory. A sink that fails has taken a front of it.
 pub fn tell<E: Sink>(errors: &mut E, words: &[Text], ended: &Ended)
     ensures { Wrote (E.taken errors.old) (E.taken errors.new) (E.faults errors.old) (E.faults errors.new) (line_of words.now ended.now) }
@@ -84,7 +140,14 @@ pub fn tell<E: Sink>(errors: &mut E, words: &[Text], ended: &Ended)
             let digits = Digits::of(*limit);
             tell_limit(errors, words, name.bytes(), digits.bytes())
         }
-        Ended::NotYet => tell_text(errors, words, b"not yet", b""),
+        Ended::BadByte(name, place) => tell_place(errors, words, name, *place, b"bad byte", b""),
+        Ended::NoItemHere(name, place) => {
+            tell_place(errors, words, name, *place, b"no item here", b"")
+        }
+        Ended::LeftOutWord(name, place, word) => {
+            tell_place(errors, words, name, *place, b"left out: ", word.bytes())
+        }
+        Ended::TooDeep(name, place) => tell_place(errors, words, name, *place, b"too deep", b""),
         Ended::NotBuilt => tell_text(errors, words, b"not built", b""),
         Ended::Memory => tell_text(errors, words, b"out of memory", b""),
     };

@@ -4,6 +4,7 @@ ghost use Rattle.ir_base.specs.Outside.{Rose, Lost, LostUpTo};
 ghost use Rattle.ir_base.specs.Files.{Named, ReadsFrom};
 ghost use Rattle.command_line.specs.Options.{is_dash};
 ghost use Rattle.tool_cli.specs.Inputs.{inputs_of, has_stdin, TellsAll, texts_read};
+ghost use Rattle.tool_cli.specs.Judged.{AreShort};
 ghost use Rattle.tool_cli.specs.Causes.{IsEmptied, HasRead, GaveUp, RefusesStdin, RefusesFile, Refuses, RefusesOne, IsStdinOrMemory, IsUnreadOrMemory};
 
 use crate::ended::Ended;
@@ -132,6 +133,7 @@ pub fn read_inputs<F: Files, I: Source>(
         → (result ≡ texts_read held stdin 0 names.now)
         ⊎ IsErrAnd result (GaveUp (Rose (I.faults input.old) (I.faults input.new)) (Rose (F.read_faults files.old) (F.read_faults files.new))) }
     ensures count { IfOk result (λ texts. length texts ≡ length names.now) }
+    ensures short { IfOk result AreShort }
     ensures refused { IfErr result (RefusesOne (F.contents files.old) (I.left input.old) (Rose (I.faults input.old) (I.faults input.new)) (Rose (F.read_faults files.old) (F.read_faults files.new)) names.now) }
     ensures unread { has_stdin names.now ≡ false → input.new ≡ input.old }
     ensures emptied { OnOk result (has_stdin names.now ≡ true → IsEmptied (I.left input.new)) }

@@ -8,6 +8,7 @@ use std::test::Fail;
 mod files;
 mod large;
 mod runs;
+mod syntax;
 mod usage;
 
 const SUM: &[u8] = b"define i32 @main() { %1 = add i32 40, 2 ret i32 %1 }";

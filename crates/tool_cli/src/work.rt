@@ -1,20 +1,21 @@
 //! What the tools do with the texts of their inputs.
-ghost use Rattle.std.specs.Prelude.{◌≡◌, ◌⊎◌, length};
+ghost use Rattle.std.specs.Prelude.{◌≡◌, ◌⊎◌, ◌≤◌, length, IfErr, OnOk};
 ghost use Rattle.tool_cli.specs.Inputs.{inputs_of};
-ghost use Rattle.tool_cli.specs.Told.{is_bitcode, IsTextRun, IsRun, IsWork, IsOfTexts};
+ghost use Rattle.tool_cli.specs.Judged.{is_bitcode, refusal_told, AreShort, AreAccepted, IsPartAccepted, IsPartRefused, IsFirstRefusal};
+ghost use Rattle.tool_cli.specs.Told.{items_end, IsTextRun, IsRun, IsWork, IsOfTexts};
+ghost use Rattle.ir_syntax.specs.Small.{straight};
+ghost use Rattle.ir_syntax.specs.View.{items_view};
 
 use crate::ended::Ended;
+use crate::inputs::inputs_of;
 use command_line::Command;
-use ir_base::TextList;
+use ir_base::{Text, TextList};
 use ir_run::run_straight;
-use ir_syntax::{SmallFault, read_small};
+use ir_syntax::{Items, SyntaxFault, read_items, straight_of};
 use std::alloc::Global;
 
 /// The bytes that bitcode begins with (LLVM Bitcode File Format, "LLVM IR Magic Number").
 const BITCODE_MAGIC: [u8; 4] = [0x42, 0x43, 0xC0, 0xDE];
-
-/// The most bytes of a small text: 16 MiB.
-const LARGEST_SMALL: usize = 16_777_216;
 
 fn is_bitcode(bytes: &[u8]) -> bool
     ensures { result ≡ is_bitcode bytes.now }
@@ -22,18 +23,32 @@ fn is_bitcode(bytes: &[u8]) -> bool
     bytes.starts_with(&BITCODE_MAGIC)
 }
 
-// Runs a text for so many steps.
-fn run_text(alloc: Global, text: &[u8], max_steps: u64) -> Ended
-    ensures run { IsTextRun max_steps text.now result ⊎ (result ≡ Ended.Memory) }
+// The refusal of a text, told with the name of its input.
+fn refusal_told(alloc: Global, name: &Text, fault: SyntaxFault) -> Ended
+    ensures told { (result ≡ refusal_told name.now fault) ⊎ (result ≡ Ended.Memory) }
     ensures of_texts { IsOfTexts result }
 {
-    if text.len() > LARGEST_SMALL {
-        return Ended::NotYet;
+    let Ok(name) = Text::from_slice(alloc, name.bytes()) else {
+        return Ended::Memory;
+    };
+    match fault {
+        SyntaxFault::BadByte(place) => Ended::BadByte(name, place),
+        SyntaxFault::NoItemHere(place) => Ended::NoItemHere(name, place),
+        SyntaxFault::LeftOutWord(place, word) => Ended::LeftOutWord(name, place, word),
+        SyntaxFault::TooDeep(place) => Ended::TooDeep(name, place),
+        SyntaxFault::Memory => Ended::Memory,
     }
-    let program = match read_small(alloc, text) {
-        Ok(program) => program,
-        Err(SmallFault::NotYet) => return Ended::NotYet,
-        Err(SmallFault::Memory) => return Ended::Memory,
+}
+
+// Runs items for so many steps.
+fn run_items(alloc: Global, items: &Items, max_steps: u64) -> Ended
+    ensures run { (result ≡ items_end max_steps (straight (items_view items.now))) ⊎ (result ≡ Ended.Memory) }
+    ensures of_texts { IsOfTexts result }
+{
+    let program = match straight_of(alloc, items) {
+        Ok(Some(program)) => program,
+        Ok(None) => return Ended::NotBuilt,
+        Err(_) => return Ended::Memory,
     };
     match run_straight(alloc, &program, max_steps) {
         Ok(Some(status)) => Ended::Exit(status),
@@ -42,29 +57,80 @@ fn run_text(alloc: Global, text: &[u8], max_steps: u64) -> Ended
     }
 }
 
+// Runs the text of the input of this name for so many steps.
+fn run_text(alloc: Global, name: &Text, text: &[u8], max_steps: u64) -> Ended
+    requires { length text.now ≤ 16777216 }
+    ensures run { IsTextRun name.now max_steps text.now result ⊎ (result ≡ Ended.Memory) }
+    ensures of_texts { IsOfTexts result }
+{
+    match read_items(alloc, text) {
+        Ok(items) => run_items(alloc, &items, max_steps),
+        Err(fault) => refusal_told(alloc, name, fault),
+    }
+}
+
 // Runs a text or bitcode for so many steps.
-fn run(alloc: Global, bytes: &[u8], max_steps: u64) -> Ended
-    ensures run { IsRun max_steps bytes.now result ⊎ (result ≡ Ended.Memory) }
+fn run(alloc: Global, name: &Text, bytes: &[u8], max_steps: u64) -> Ended
+    requires { length bytes.now ≤ 16777216 }
+    ensures run { IsRun name.now max_steps bytes.now result ⊎ (result ≡ Ended.Memory) }
     ensures of_texts { IsOfTexts result }
 {
     if is_bitcode(bytes) {
         Ended::NotBuilt
     } else {
-        run_text(alloc, bytes, max_steps)
+        run_text(alloc, name, bytes, max_steps)
     }
 }
 
-/// Does what the command says with the texts of its inputs.
+// Judges the input of this name: a text is read, and bitcode is passed over.
+fn judge(alloc: Global, name: &Text, bytes: &[u8]) -> Result<(), Ended>
+    requires { length bytes.now ≤ 16777216 }
+    ensures accepted { OnOk result (IsPartAccepted bytes.now) }
+    ensures refused { IfErr result (λ ended. IsPartRefused name.now bytes.now ended ⊎ (ended ≡ Ended.Memory)) }
+    ensures of_texts { IfErr result IsOfTexts }
+{
+    if is_bitcode(bytes) {
+        return Ok(());
+    }
+    match read_items(alloc, bytes) {
+        Ok(_) => Ok(()),
+        Err(fault) => Err(refusal_told(alloc, name, fault)),
+    }
+}
+
+// Judges the inputs of these names, in their order.
+fn judge_all(alloc: Global, names: &[Text], texts: &[Text]) -> Result<(), Ended>
+    requires same { length names.now ≡ length texts.now }
+    requires short { AreShort texts.now }
+    ensures accepted { OnOk result (AreAccepted texts.now) }
+    ensures refused { IfErr result (λ ended. IsFirstRefusal names.now texts.now ended ⊎ (ended ≡ Ended.Memory)) }
+    ensures of_texts { IfErr result IsOfTexts }
+{
+    'parts: for index in 0..texts.len() {
+        judge(alloc, &names[index], texts[index].bytes())?;
+    }
+    Ok(())
+}
+
+/// Does what the command says with the texts of its inputs, each of at most 16 MiB.
 pub fn work(alloc: Global, command: &Command, texts: &TextList) -> Ended
-    requires { length texts.now ≡ length (inputs_of command.now) }
+    requires count { length texts.now ≡ length (inputs_of command.now) }
+    requires short { AreShort texts.now }
     ensures work { IsWork command.now texts.now result ⊎ (result ≡ Ended.Memory) }
     ensures of_texts { IsOfTexts result }
 {
     match command {
-        Command::Lli { max_steps, .. } => run(alloc, texts.at(0).bytes(), *max_steps),
-        Command::Assemble { .. }
-        | Command::Disassemble { .. }
-        | Command::Link { .. }
-        | Command::Extract { .. } => Ended::NotBuilt,
+        Command::Lli {
+            input,
+            max_steps,
+            ..
+        } => run(alloc, input, texts.at(0).bytes(), *max_steps),
+        Command::Disassemble { .. } => Ended::NotBuilt,
+        Command::Assemble { .. } | Command::Link { .. } | Command::Extract { .. } => {
+            match judge_all(alloc, inputs_of(command), texts.as_slice()) {
+                Ok(()) => Ended::NotBuilt,
+                Err(ended) => ended,
+            }
+        }
     }
 }

@@ -36,7 +36,7 @@ fn one_input_has_a_limit(rt: HostRuntime) -> Result<(), Fail> {
         b"llvm-as: a.ll: over 16777216 bytes\n".as_slice()
     );
     let within = told(alloc, &["lli", "b.ll"], 16 * MIB, 0)?;
-    assert_eq!(rt; within.taken().bytes(), b"lli: not yet\n".as_slice());
+    assert_eq!(rt; within.taken().bytes(), b"lli: not built\n".as_slice());
     Ok(())
 }
 

@@ -13,47 +13,40 @@ fn small_texts() -> [Case; 6] {
             b"",
         ),
         run_of(b"define i32 @main(){ret i32 -2147483648};x", 0, b""),
-        run_of(b"; c\ndefine\ti32 @main ( )\r\n{ ret i32 007 }", 7, b""),
+        run_of(
+            b"; c\ndefine\tdso_local i32 @\"main\" ( )\r\n{ ret i32 007 }",
+            7,
+            b"",
+        ),
         run_of(b"define i32 @main() { ret i32 120 }", 120, b""),
     ]
 }
 
-fn other_texts() -> [Case; 10] {
+fn other_texts() -> [Case; 7] {
     [
-        run_of(b"", 1, b"lli: not yet\n"),
-        run_of(
-            b"define i32 @main() { %2 = add i32 40, 2 ret i32 %1 }",
-            1,
-            b"lli: not yet\n",
-        ),
+        run_of(b"", 1, b"lli: not built\n"),
         run_of(
             b"define i32 @main() { %1 = add i32 %1, 2 ret i32 %1 }",
             1,
-            b"lli: not yet\n",
+            b"lli: not built\n",
         ),
         run_of(
             b"define i32 @main() { ret i32 4294967296 }",
             1,
-            b"lli: not yet\n",
-        ),
-        run_of(
-            b"define i32 @main() { ret i32 -2147483649 }",
-            1,
-            b"lli: not yet\n",
+            b"lli: not built\n",
         ),
         run_of(
             b"define i32 @main() { ret i32 0 } ret",
             1,
-            b"lli: not yet\n",
+            b"lli: -:1:34: no item here\n",
         ),
-        run_of(b"define i32 @main() { ret i32 0 } \"", 1, b"lli: not yet\n"),
         run_of(
-            b"define i32 @main() { ret: ret i32 0 }",
+            b"define i32 @main() { ret i32 0 } \"",
             1,
-            b"lli: not yet\n",
+            b"lli: -:1:34: bad byte\n",
         ),
         run_of(b"BC\xC0\xDE", 1, b"lli: not built\n"),
-        run_of(b"BC\xC0", 1, b"lli: not yet\n"),
+        run_of(b"BC\xC0", 1, b"lli: -:1:1: no item here\n"),
     ]
 }
 

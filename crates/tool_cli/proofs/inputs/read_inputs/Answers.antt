@@ -2,12 +2,14 @@ use Rattle.std.proofs.Common.{◌≡◌, ◌⊎◌, inl, inr, ℕ, ◌+◌, ◌<
 use Rattle.std.proofs.lemmas.Result.{err_from_is_err_and}
 use Rattle.ir_base.specs.Outside.{Rose}
 use Rattle.tool_cli.proofs.Turns.{Unread, onto_none, refused_one, over_one, told_refused, told_over, told_on, told_at_end, stdin_on, stdin_at_end, unread_on, unread_so_far, lost_by, lost_so_far}
+use Rattle.tool_cli.proofs.Judging.{short_more}
 use Rattle.tool_cli.proofs.inputs.read_inputs.Goals as goal
 
 pub loop-name-init : goal.loop-name-init
 loop-name-init g c = record {
   count = ap length c.new-texts.ensures;
   few = omega arith;
+  short = rw c.new-texts.ensures tt;
   same_contents = refl;
   same_reads = refl;
   same_writes = refl;
@@ -207,6 +209,7 @@ loop-name-preserved g c =
     record {
       count = omega (arith, ap length c.in_ok-push.ensures.ok, length-append c.loop-name.texts (c.in_ok-text.text ∷ []), c.loop-name.invariant.count);
       few = c.if-total-gt-LARGEST_TOGETHER.false;
+      short = rw c.in_ok-push.ensures.ok (short_more c.loop-name.texts c.in_ok-text.text c.loop-name.invariant.short c.in_ok-text.ensures.read.few);
       same_contents = c.read_input.ensures.contents ∙ c.loop-name.invariant.same_contents;
       same_reads = c.in_ok-text.ensures.file_fine ∙ c.loop-name.invariant.same_reads;
       same_writes = c.read_input.ensures.writes ∙ c.loop-name.invariant.same_writes;
@@ -285,3 +288,7 @@ returns-clause-contents g c =
 pub returns-clause-writes : goal.returns-clause-writes
 returns-clause-writes g c =
     c.loop-name.invariant.same_writes
+
+pub returns-clause-short : goal.returns-clause-short
+returns-clause-short g c =
+    c.loop-name.invariant.short

@@ -1,6 +1,7 @@
 use Rattle.std.proofs.Common.{◌≡◌, ◌≤◌, ℕ, List, length, drop}
 use Rattle.ir_base.specs.Files.{Named}
 use Rattle.tool_cli.specs.Inputs.{TellsAll}
+use Rattle.tool_cli.specs.Judged.{AreShort}
 use Rattle.tool_cli.proofs.Turns.{Stdin, GoesOn}
 use Rattle.tool_cli.proofs.inputs.read_inputs.Given as goal
 
@@ -15,6 +16,7 @@ invariant-loop-name g l =
     record {
       count : length l.texts ≡ l.name-index;
       few : l.total ≤ 33554432;
+      short : AreShort l.texts;
       same_contents : contents l.files ≡ contents l.fn.files;
       same_reads : reads l.files ≡ reads l.fn.files;
       same_writes : writes l.files ≡ writes l.fn.files;

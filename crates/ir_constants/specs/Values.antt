@@ -1,0 +1,29 @@
+-- The values.
+use Rattle.std.specs.Prelude.{false, [], ◌∷◌}
+use Rattle.phrase_rows.specs.Row.{Row, Shape, mapped, pair, alt, labelled}
+use Rattle.ir_lexer.specs.Ahead.{Located}
+use Rattle.ir_terminals.specs.declared.limits.Limits.{Limits}
+use Rattle.ir_terminals.specs.Role.{class}
+use Rattle.ir_terminals.specs.Terminal.{code}
+use Rattle.ir_terminals.specs.declared.terminal.Terminal.TheVariants as terminal
+use Rattle.ir_terminals.specs.Tokens.{local_row}
+use Rattle.ir_constants.specs.Types.{type_shape, type_row}
+use Rattle.ir_constants.specs.Constants.{constant_shape, constant_row}
+use Rattle.ir_constants.specs.Tree.{ValueTree, LocalValue, ConstantValue, TypedValueTree}
+
+abbrev pub value_shape : Shape
+value_shape = record { first = code terminal.Local ∷ constant_shape.first; more = []; empty = false }
+
+-- a LOCAL or a CONST
+unfoldable pub value_core : Limits → Row Located ValueTree
+value_core limits = alt class (mapped LocalValue local_row) (mapped ConstantValue (constant_row limits))
+
+abbrev pub value_row : Limits → Row Located ValueTree
+value_row limits = labelled value_shape (value_core limits)
+
+-- TYPE VALUE
+unfoldable pub typed_value_core : Limits → Row Located TypedValueTree
+typed_value_core limits = pair (type_row limits) (value_row limits)
+
+abbrev pub typed_value_row : Limits → Row Located TypedValueTree
+typed_value_row limits = labelled type_shape (typed_value_core limits)

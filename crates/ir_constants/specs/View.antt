@@ -1,0 +1,49 @@
+-- The plain tree of a type, a constant or a value as it lies in memory.
+use Rattle.ir_constants.specs.declared.ty.Type as the_type
+use Rattle.ir_constants.specs.declared.ty.Type.TheOpen as open_type
+use Rattle.ir_constants.specs.declared.ty.Type.TheFolds.{fold-Type}
+use Rattle.ir_constants.specs.declared.constant.Constant as the_constant
+use Rattle.ir_constants.specs.declared.constant.Constant.TheOpen as open_constant
+use Rattle.ir_constants.specs.declared.constant.Constant.TheFolds.{fold-Constant}
+use Rattle.ir_constants.specs.declared.constant.TypedConstant.{TypedConstant}
+use Rattle.ir_constants.specs.declared.value.Value.{Value}
+use Rattle.ir_constants.specs.declared.value.Value.TheVariants as value
+use Rattle.ir_constants.specs.declared.value.TypedValue.{TypedValue}
+use Rattle.ir_constants.specs.Tree.{TypeTree, IntegerType, PointerType, VoidType, ArrayType, StructType, NamedType, types, ConstantTree, IntegerConstant, SimpleConstant, AddressConstant, BytesConstant, ListConstant, ElementAddress, Conversion, Arithmetic, TypedConstantTree, constants, ValueTree, LocalValue, ConstantValue, TypedValueTree}
+
+abbrev pub type_step : open_type.Type-F TypeTree → TypeTree
+type_step (open_type.Integer place width) = IntegerType place width
+type_step (open_type.Ptr place) = PointerType place
+type_step (open_type.Void place) = VoidType place
+type_step (open_type.Array place count element) = ArrayType place count element.value
+type_step (open_type.Struct place packed fields) = StructType place packed (types fields.items)
+type_step (open_type.Named name) = NamedType name
+
+abbrev pub type_view : the_type.Type → TypeTree
+type_view = fold-Type TypeTree type_step
+
+abbrev pub constant_step : open_constant.Constant-F ConstantTree TypedConstantTree → ConstantTree
+constant_step (open_constant.Integer integer) = IntegerConstant integer
+constant_step (open_constant.Simple simple place) = SimpleConstant simple place
+constant_step (open_constant.Global name) = AddressConstant name
+constant_step (open_constant.Bytes text) = BytesConstant text
+constant_step (open_constant.List place brackets elements) = ListConstant place brackets (constants elements.items)
+constant_step (open_constant.GetElementPtr place flags source operands) = ElementAddress place flags (type_view source) (constants operands.items)
+constant_step (open_constant.Cast place opcode operand to) = Conversion place opcode operand.value.0 operand.value.1 (type_view to)
+constant_step (open_constant.Binary place opcode flags left right) = Arithmetic place opcode flags left.value.0 left.value.1 right.value.0 right.value.1
+
+abbrev pub typed_step : open_constant.TypedConstant-F ConstantTree TypedConstantTree → TypedConstantTree
+typed_step typed = (type_view typed.ty, typed.value)
+
+abbrev pub constant_view : the_constant.Constant → ConstantTree
+constant_view = fold-Constant ConstantTree TypedConstantTree constant_step typed_step
+
+abbrev pub typed_constant_view : TypedConstant → TypedConstantTree
+typed_constant_view typed = (type_view typed.ty, constant_view typed.value)
+
+abbrev pub value_view : Value → ValueTree
+value_view (value.Local local) = LocalValue local
+value_view (value.Constant constant) = ConstantValue (constant_view constant)
+
+abbrev pub typed_value_view : TypedValue → TypedValueTree
+typed_value_view typed = (type_view typed.ty, value_view typed.value)

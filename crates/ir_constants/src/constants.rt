@@ -1,0 +1,176 @@
+//! Reads constants.
+ghost use Rattle.std.specs.Prelude.{◌≡◌, map};
+ghost use Rattle.phrase_rows.specs.Row.{begins};
+ghost use Rattle.ir_constants.specs.Constants.{simple_classes, simple_word, simple_row, elements_row, array_constant_row, struct_constant_row, packed_constant_row, holder_row, constant_at, typed_at, constant_row, typed_constant_row};
+ghost use Rattle.ir_constants.specs.View.{constant_view, typed_constant_view};
+ghost use Rattle.ir_terminals.specs.Position.{left};
+ghost use Rattle.ir_terminals.specs.Role.{class};
+ghost use Rattle.ir_terminals.specs.Follows.{Follows};
+
+use crate::constant::{Brackets, Constant, Simple, TypedConstant};
+use crate::expressions::expression;
+use crate::types::{begins_type, type_of};
+use ir_terminals::{Cursor, Fault, Terminal};
+
+/// The constant that a word is by itself.
+fn simple_word(terminal: Terminal) -> Option<Simple>
+    ensures { result ≡ simple_word terminal }
+{
+    match terminal {
+        Terminal::True => Some(Simple::True),
+        Terminal::False => Some(Simple::False),
+        Terminal::Null => Some(Simple::Null),
+        Terminal::Undef => Some(Simple::Undef),
+        Terminal::Poison => Some(Simple::Poison),
+        Terminal::ZeroInitializer => Some(Simple::ZeroInitializer),
+        _ => None,
+    }
+}
+
+/// Whether a constant that is one word is next.
+fn is_simple_next(cursor: &Cursor) -> bool
+    ensures { result ≡ begins class simple_classes (left cursor.now) }
+{
+    matches!(
+        cursor.terminal(),
+        Some(
+            Terminal::True
+                | Terminal::False
+                | Terminal::Null
+                | Terminal::Undef
+                | Terminal::Poison
+                | Terminal::ZeroInitializer
+        )
+    )
+}
+
+/// `true`, `false`, `null`, `undef`, `poison` or `zeroinitializer`.
+fn simple_constant(cursor: &mut Cursor) -> Result<Constant, Fault>
+    ensures { Follows (λ _. simple_row) constant_view cursor.old result cursor.new }
+{
+    let Some(terminal) = cursor.terminal() else {
+        return Err(Fault::Refused);
+    };
+    let Some(simple) = simple_word(terminal) else {
+        return Err(Fault::Refused);
+    };
+    let place = cursor.take(terminal)?;
+    Ok(Constant::Simple(simple, place))
+}
+
+/// `TYPE CONST`, the constant nested no more than so deep.
+#[cycle(constants)]
+#[tactic(auto, unfolding(crate::specs::Constants::typed_core))]
+pub fn typed_at(cursor: &mut Cursor, depth: u8) -> Result<TypedConstant, Fault>
+    ensures { Follows (λ limits. typed_at limits depth) typed_constant_view cursor.old result cursor.new }
+{
+    let ty = type_of(cursor)?;
+    let value = constant_at(cursor, depth)?;
+    Ok(TypedConstant { ty, value })
+}
+
+/// `(TYPE CONST),*`
+#[cycle(constants)]
+#[tactic(auto, unfolding(crate::specs::Constants::elements_core))]
+fn elements(cursor: &mut Cursor, depth: u8) -> Result<Vec<TypedConstant>, Fault>
+    ensures { Follows (λ limits. elements_row (typed_at limits depth)) (λ elements. map typed_constant_view elements.items) cursor.old result cursor.new }
+{
+    let mut elements = Vec::new(cursor.alloc());
+    if !begins_type(cursor) {
+        return Ok(elements);
+    }
+    elements.push(typed_at(cursor, depth)?)?;
+    'elements: while cursor.is_next(Terminal::Comma) {
+        cursor.take(Terminal::Comma)?;
+        elements.push(typed_at(cursor, depth)?)?;
+    }
+    Ok(elements)
+}
+
+/// `[ (TYPE CONST),* ]`
+#[cycle(constants)]
+fn square(cursor: &mut Cursor, depth: u8) -> Result<Constant, Fault>
+    ensures { Follows (λ limits. array_constant_row (typed_at limits depth)) constant_view cursor.old result cursor.new }
+{
+    let place = cursor.take(Terminal::OpenBracket)?;
+    let elements = elements(cursor, depth)?;
+    cursor.take(Terminal::CloseBracket)?;
+    Ok(Constant::List(place, Brackets::Square, elements))
+}
+
+/// `{ (TYPE CONST),* }`
+#[cycle(constants)]
+fn braces(cursor: &mut Cursor, depth: u8) -> Result<Constant, Fault>
+    ensures { Follows (λ limits. struct_constant_row (typed_at limits depth)) constant_view cursor.old result cursor.new }
+{
+    let place = cursor.take(Terminal::OpenBrace)?;
+    let elements = elements(cursor, depth)?;
+    cursor.take(Terminal::CloseBrace)?;
+    Ok(Constant::List(place, Brackets::Braces, elements))
+}
+
+/// `<{ (TYPE CONST),* }>`
+#[cycle(constants)]
+fn packed(cursor: &mut Cursor, depth: u8) -> Result<Constant, Fault>
+    ensures { Follows (λ limits. packed_constant_row (typed_at limits depth)) constant_view cursor.old result cursor.new }
+{
+    let place = cursor.take(Terminal::Less)?;
+    cursor.take(Terminal::OpenBrace)?;
+    let elements = elements(cursor, depth)?;
+    cursor.take(Terminal::CloseBrace)?;
+    cursor.take(Terminal::Greater)?;
+    Ok(Constant::List(place, Brackets::Packed, elements))
+}
+
+/// A constant that holds constants, nested no more than so deep.
+#[cycle(constants)]
+#[tactic(auto, using(crate::proofs::Depth::holder_more, crate::proofs::Depth::holder_end))]
+fn holder(cursor: &mut Cursor, depth: u8) -> Result<Constant, Fault>
+    ensures { Follows (λ limits. holder_row limits depth) constant_view cursor.old result cursor.new }
+{
+    if depth == 0 {
+        return Err(Fault::Refused);
+    }
+    if cursor.is_next(Terminal::OpenBracket) {
+        square(cursor, depth - 1)
+    } else if cursor.is_next(Terminal::OpenBrace) {
+        braces(cursor, depth - 1)
+    } else if cursor.is_next(Terminal::Less) {
+        packed(cursor, depth - 1)
+    } else {
+        expression(cursor, depth - 1)
+    }
+}
+
+/// `CONST`, nested no more than so deep.
+#[cycle(constants)]
+#[tactic(auto, unfolding(crate::specs::Constants::constant_core))]
+fn constant_at(cursor: &mut Cursor, depth: u8) -> Result<Constant, Fault>
+    ensures { Follows (λ limits. constant_at limits depth) constant_view cursor.old result cursor.new }
+{
+    if cursor.is_next(Terminal::Integer) {
+        Ok(Constant::Integer(cursor.integer()?))
+    } else if cursor.is_next(Terminal::GlobalName) {
+        Ok(Constant::Global(cursor.global_name()?))
+    } else if cursor.is_next(Terminal::ByteString) {
+        Ok(Constant::Bytes(cursor.byte_string()?))
+    } else if is_simple_next(cursor) {
+        simple_constant(cursor)
+    } else {
+        holder(cursor, depth)
+    }
+}
+
+/// `CONST`: a constant, nested no deeper than the cursor's limits allow.
+pub fn constant_of(cursor: &mut Cursor) -> Result<Constant, Fault>
+    ensures { Follows constant_row constant_view cursor.old result cursor.new }
+{
+    constant_at(cursor, cursor.limits().nesting)
+}
+
+/// `TYPE CONST`: a type, and a constant nested no deeper than the cursor's limits allow.
+pub fn typed_constant_of(cursor: &mut Cursor) -> Result<TypedConstant, Fault>
+    ensures { Follows typed_constant_row typed_constant_view cursor.old result cursor.new }
+{
+    typed_at(cursor, cursor.limits().nesting)
+}

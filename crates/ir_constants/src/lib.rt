@@ -1,0 +1,25 @@
+//! Types, constants and values: reads them from the tokens of a text (LangRef, "Type System" and "Constants").
+//!
+//! It stands on the terminals of `ir_terminals` and the rows of `phrase_rows`. Its promise: each call reads its row of
+//! the grammar, with the value of that row, or stands at the first token with which the row can't go on. Whether a
+//! constant fits its type is not its concern. Definitions: `specs/Types`, `specs/Constants`, `specs/Values`.
+#![tactic(auto)]
+
+mod constant;
+mod constants;
+mod expressions;
+mod flags;
+#[cfg(test)]
+mod tests;
+mod ty;
+mod types;
+mod value;
+mod values;
+
+pub use constant::{Brackets, Constant, Simple, TypedConstant};
+pub use constants::{constant_of, typed_constant_of};
+pub use flags::flags_of;
+pub use ty::Type;
+pub use types::{begins_type, fields_of, type_of, value_type_of};
+pub use value::{TypedValue, Value};
+pub use values::{typed_value_of, value_of};

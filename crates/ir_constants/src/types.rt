@@ -1,0 +1,177 @@
+//! Reads types.
+ghost use Rattle.std.specs.Prelude.{◌≡◌, [], ◌∷◌, map};
+ghost use Rattle.phrase_rows.specs.Row.{begins};
+ghost use Rattle.ir_terminals.specs.Position.{left};
+ghost use Rattle.ir_terminals.specs.Role.{class};
+ghost use Rattle.ir_terminals.specs.Terminal.{integer_type_class};
+ghost use Rattle.ir_constants.specs.Types.{type_shape, int_row, array_row, types_row, struct_row, packed_row, nest_row, nest_core, type_at, type_over, value_type_over, value_type_row, type_row, fields_row};
+ghost use Rattle.ir_constants.specs.View.{type_view};
+ghost use Rattle.ir_terminals.specs.Follows.{Follows};
+
+use crate::ty::Type;
+use ir_terminals::{Cursor, Fault, Terminal};
+
+/// Whether an integer type is next.
+fn is_integer_type_next(cursor: &Cursor) -> bool
+    ensures { result ≡ begins class (integer_type_class ∷ []) (left cursor.now) }
+{
+    matches!(cursor.terminal(), Some(Terminal::IntegerType(_)))
+}
+
+/// `iN`
+fn integer_type(cursor: &mut Cursor) -> Result<Type, Fault>
+    ensures { Follows (λ _. int_row) type_view cursor.old result cursor.new }
+{
+    let Some(Terminal::IntegerType(width)) = cursor.terminal() else {
+        return Err(Fault::Refused);
+    };
+    let place = cursor.take(Terminal::IntegerType(width))?;
+    Ok(Type::Integer(place, width))
+}
+
+/// `[ INT x TYPE ]`
+#[cycle(types)]
+fn array(cursor: &mut Cursor, depth: u8) -> Result<Type, Fault>
+    ensures { Follows (λ limits. array_row (type_at limits depth)) type_view cursor.old result cursor.new }
+{
+    let place = cursor.take(Terminal::OpenBracket)?;
+    let count = cursor.integer()?;
+    cursor.take(Terminal::X)?;
+    let element = type_at(cursor, depth)?;
+    cursor.take(Terminal::CloseBracket)?;
+    Ok(Type::Array(place, count, Box::new(cursor.alloc(), element)?))
+}
+
+/// `TYPE,*`
+#[cycle(types)]
+#[tactic(auto, unfolding(crate::specs::Types::types_core))]
+fn fields(cursor: &mut Cursor, depth: u8) -> Result<Vec<Type>, Fault>
+    ensures { Follows (λ limits. types_row (type_at limits depth)) (λ fields. map type_view fields.items) cursor.old result cursor.new }
+{
+    let mut fields = Vec::new(cursor.alloc());
+    if !begins_type(cursor) {
+        return Ok(fields);
+    }
+    fields.push(type_at(cursor, depth)?)?;
+    'fields: while cursor.is_next(Terminal::Comma) {
+        cursor.take(Terminal::Comma)?;
+        fields.push(type_at(cursor, depth)?)?;
+    }
+    Ok(fields)
+}
+
+/// `{ TYPE,* }`
+#[cycle(types)]
+fn structure(cursor: &mut Cursor, depth: u8) -> Result<Type, Fault>
+    ensures { Follows (λ limits. struct_row (type_at limits depth)) type_view cursor.old result cursor.new }
+{
+    let place = cursor.take(Terminal::OpenBrace)?;
+    let fields = fields(cursor, depth)?;
+    cursor.take(Terminal::CloseBrace)?;
+    Ok(Type::Struct(place, false, fields))
+}
+
+/// `<{ TYPE,* }>`
+#[cycle(types)]
+fn packed(cursor: &mut Cursor, depth: u8) -> Result<Type, Fault>
+    ensures { Follows (λ limits. packed_row (type_at limits depth)) type_view cursor.old result cursor.new }
+{
+    let place = cursor.take(Terminal::Less)?;
+    cursor.take(Terminal::OpenBrace)?;
+    let fields = fields(cursor, depth)?;
+    cursor.take(Terminal::CloseBrace)?;
+    cursor.take(Terminal::Greater)?;
+    Ok(Type::Struct(place, true, fields))
+}
+
+/// A type that holds types, nested no more than so deep.
+#[cycle(types)]
+#[tactic(auto, using(crate::proofs::Depth::nest_more, crate::proofs::Depth::nest_end))]
+fn nested(cursor: &mut Cursor, depth: u8) -> Result<Type, Fault>
+    ensures { Follows (λ limits. nest_row limits depth) type_view cursor.old result cursor.new }
+{
+    if depth == 0 {
+        return Err(Fault::Refused);
+    }
+    if cursor.is_next(Terminal::OpenBracket) {
+        array(cursor, depth - 1)
+    } else if cursor.is_next(Terminal::OpenBrace) {
+        structure(cursor, depth - 1)
+    } else {
+        packed(cursor, depth - 1)
+    }
+}
+
+/// `TYPE` but `void`, nested no more than so deep.
+#[cycle(types)]
+#[tactic(auto, unfolding(crate::specs::Types::value_type_core))]
+fn value_type_at(cursor: &mut Cursor, depth: u8) -> Result<Type, Fault>
+    ensures { Follows (λ limits. value_type_over limits (nest_row limits depth)) type_view cursor.old result cursor.new }
+{
+    if is_integer_type_next(cursor) {
+        integer_type(cursor)
+    } else if cursor.is_next(Terminal::Ptr) {
+        Ok(Type::Ptr(cursor.take(Terminal::Ptr)?))
+    } else if cursor.is_next(Terminal::Local) {
+        Ok(Type::Named(cursor.named_local()?))
+    } else {
+        nested(cursor, depth)
+    }
+}
+
+/// `TYPE`, nested no more than so deep.
+#[cycle(types)]
+#[tactic(auto, unfolding(crate::specs::Types::type_core))]
+fn type_at(cursor: &mut Cursor, depth: u8) -> Result<Type, Fault>
+    ensures { Follows (λ limits. type_at limits depth) type_view cursor.old result cursor.new }
+{
+    if cursor.is_next(Terminal::Void) {
+        Ok(Type::Void(cursor.take(Terminal::Void)?))
+    } else {
+        value_type_at(cursor, depth)
+    }
+}
+
+/// Whether a type may begin here.
+pub fn begins_type(cursor: &Cursor) -> bool
+    ensures { result ≡ begins class type_shape.first (left cursor.now) }
+{
+    matches!(
+        cursor.terminal(),
+        Some(
+            Terminal::IntegerType(_)
+                | Terminal::Ptr
+                | Terminal::Void
+                | Terminal::Local
+                | Terminal::OpenBracket
+                | Terminal::OpenBrace
+                | Terminal::Less
+        )
+    )
+}
+
+/// `TYPE`: a type, nested no deeper than the cursor's limits allow.
+pub fn type_of(cursor: &mut Cursor) -> Result<Type, Fault>
+    ensures { Follows type_row type_view cursor.old result cursor.new }
+{
+    type_at(cursor, cursor.limits().nesting)
+}
+
+/// `TYPE` but `void`: a type, nested no deeper than the cursor's limits allow.
+pub fn value_type_of(cursor: &mut Cursor) -> Result<Type, Fault>
+    ensures { Follows value_type_row type_view cursor.old result cursor.new }
+{
+    value_type_at(cursor, cursor.limits().nesting)
+}
+
+/// `TYPE,*`: the fields of a struct whose own braces are the outermost.
+#[tactic(auto, using(crate::proofs::Depth::fields_more, crate::proofs::Depth::fields_end))]
+pub fn fields_of(cursor: &mut Cursor) -> Result<Vec<Type>, Fault>
+    ensures { Follows fields_row (λ fields. map type_view fields.items) cursor.old result cursor.new }
+{
+    let nesting = cursor.limits().nesting;
+    if nesting == 0 {
+        return Err(Fault::Refused);
+    }
+    fields(cursor, nesting - 1)
+}

@@ -1,0 +1,19 @@
+//! Values, as a text writes them.
+
+use crate::constant::Constant;
+use crate::ty::Type;
+use ir_terminals::Local;
+
+/// What an instruction works on: a parameter, a result or a constant.
+#[derive(Debug, Drop)]
+pub enum Value {
+    Local(Local),
+    Constant(Constant),
+}
+
+/// A value and the type that is written before it.
+#[derive(Debug, Drop)]
+pub struct TypedValue {
+    pub ty: Type,
+    pub value: Value,
+}

@@ -1,0 +1,9 @@
+pub mod DroppedGrammar
+pub mod TailsGrammar
+pub mod CallsGrammar
+pub mod OperationsGrammar
+pub mod Grammar
+pub mod Loops
+pub mod Lists
+pub mod Sizes
+pub mod Firsts

@@ -1,0 +1,30 @@
+-- The blocks of a function.
+use Rattle.std.specs.Prelude.{false, List, ◌∷◌, ◌++◌}
+use Rattle.phrase_rows.specs.Row.{Row, Shape, mapped, both, second, before, pair, optional, many, labelled}
+use Rattle.ir_lexer.specs.Ahead.{Located}
+use Rattle.ir_terminals.specs.declared.limits.Limits.{Limits}
+use Rattle.ir_terminals.specs.declared.terminal.Terminal.TheVariants as terminal
+use Rattle.ir_terminals.specs.Role.{class}
+use Rattle.ir_terminals.specs.Terminal.{code}
+use Rattle.ir_terminals.specs.Tokens.{word, label_row}
+use Rattle.ir_instructions.specs.Tree.{BlockTree}
+use Rattle.ir_instructions.specs.Instructions.{instruction_shape, instructions_row}
+use Rattle.ir_instructions.specs.Endings.{ending_shape, ending_row}
+
+abbrev pub block_shape : Shape
+block_shape = record { first = code terminal.Label ∷ instruction_shape.first ++ ending_shape.first; more = ending_shape.more; empty = false }
+
+-- LABEL? INST* END
+unfoldable pub block_core : Limits → Row Located BlockTree
+block_core limits = mapped (λ v. record { label = v.0; instructions = v.1.0; ending = v.1.1 }) (pair (optional class label_row) (pair (instructions_row limits) (ending_row limits)))
+
+abbrev pub block_row : Limits → Row Located BlockTree
+block_row limits = labelled block_shape (block_core limits)
+
+-- BLOCK+
+abbrev pub block_list_row : Limits → Row Located (List BlockTree)
+block_list_row limits = both (λ b bs. b ∷ bs) (block_row limits) (many class (block_row limits))
+
+-- { BLOCK+ }
+abbrev pub blocks_row : Limits → Row Located (List BlockTree)
+blocks_row limits = second (word terminal.OpenBrace) (before (block_list_row limits) (word terminal.CloseBrace))

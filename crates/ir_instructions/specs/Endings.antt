@@ -1,0 +1,137 @@
+-- The instructions that end a block.
+use Rattle.std.specs.Prelude.{false, List, [], ◌∷◌}
+use Rattle.phrase_rows.specs.Row.{Row, Shape, mapped, second, before, pair, alt, many, labelled}
+use Rattle.ir_lexer.specs.Ahead.{Located}
+use Rattle.ir_tables.specs.declared.opcode.Opcode.TheVariants as op
+use Rattle.ir_terminals.specs.declared.limits.Limits.{Limits}
+use Rattle.ir_terminals.specs.declared.terminal.Terminal.TheVariants as terminal
+use Rattle.ir_terminals.specs.declared.values.Local.{Local}
+use Rattle.ir_terminals.specs.Role.{class}
+use Rattle.ir_terminals.specs.Terminal.{code}
+use Rattle.ir_terminals.specs.Tokens.{word, local_row}
+use Rattle.ir_constants.specs.Types.{type_shape, value_type_row}
+use Rattle.ir_constants.specs.Constants.{typed_constant_row}
+use Rattle.ir_constants.specs.Values.{value_row, typed_value_row}
+use Rattle.ir_instructions.specs.Tree.{CaseTree, EndingTree, ReturnVoid, Return, Jump, Branch, Switch, Unreachable}
+use Rattle.ir_instructions.specs.Dropped.{comma_shape, attachments_row}
+use Rattle.ir_instructions.specs.Operations.{tail_shape}
+
+abbrev pub target_shape : Shape
+target_shape = record { first = code terminal.LabelWord ∷ []; more = []; empty = false }
+
+unfoldable pub target_core : Row Located Local
+target_core = second (word terminal.LabelWord) local_row
+
+-- label LOCAL
+abbrev pub target_row : Row Located Local
+target_row = labelled target_shape target_core
+
+unfoldable pub next_target_core : Row Located Local
+next_target_core = second (word terminal.Comma) target_row
+
+-- , label LOCAL
+abbrev pub next_target_row : Row Located Local
+next_target_row = labelled comma_shape next_target_core
+
+-- TYPE VALUE, the type not `void`
+abbrev pub returned_row : Limits → Row Located EndingTree
+returned_row limits = mapped (λ v. Return (v.0, v.1)) (pair (value_type_row limits) (value_row limits))
+
+unfoldable pub return_value_core : Limits → Row Located EndingTree
+return_value_core limits = alt class (mapped (λ p. ReturnVoid) (word terminal.Void)) (returned_row limits)
+
+-- void, or TYPE VALUE
+abbrev pub return_value_row : Limits → Row Located EndingTree
+return_value_row limits = labelled type_shape (return_value_core limits)
+
+abbrev pub return_shape : Shape
+return_shape = record { first = code (terminal.Opcode op.Ret) ∷ []; more = comma_shape.first; empty = false }
+
+unfoldable pub return_core : Limits → Row Located EndingTree
+return_core limits = second (word (terminal.Opcode op.Ret)) (before (return_value_row limits) attachments_row)
+
+-- ret void, or ret TYPE VALUE
+abbrev pub return_row : Limits → Row Located EndingTree
+return_row limits = labelled return_shape (return_core limits)
+
+-- TYPE VALUE , label LOCAL , label LOCAL
+abbrev pub condition_row : Limits → Row Located EndingTree
+condition_row limits = mapped (λ v. Branch v.0 v.1.0 v.1.1) (pair (typed_value_row limits) (pair next_target_row next_target_row))
+
+abbrev pub branch_target_shape : Shape
+branch_target_shape = record { first = code terminal.LabelWord ∷ type_shape.first; more = []; empty = false }
+
+unfoldable pub branch_target_core : Limits → Row Located EndingTree
+branch_target_core limits = alt class (mapped Jump target_row) (condition_row limits)
+
+-- label LOCAL, or TYPE VALUE , label LOCAL , label LOCAL
+abbrev pub branch_target_row : Limits → Row Located EndingTree
+branch_target_row limits = labelled branch_target_shape (branch_target_core limits)
+
+abbrev pub branch_shape : Shape
+branch_shape = record { first = code (terminal.Opcode op.Br) ∷ []; more = comma_shape.first; empty = false }
+
+unfoldable pub branch_core : Limits → Row Located EndingTree
+branch_core limits = second (word (terminal.Opcode op.Br)) (before (branch_target_row limits) attachments_row)
+
+-- br label LOCAL, or br TYPE VALUE , label LOCAL , label LOCAL
+abbrev pub branch_row : Limits → Row Located EndingTree
+branch_row limits = labelled branch_shape (branch_core limits)
+
+unfoldable pub case_core : Limits → Row Located CaseTree
+case_core limits = pair (typed_constant_row limits) next_target_row
+
+-- TYPE CONST , label LOCAL
+abbrev pub case_row : Limits → Row Located CaseTree
+case_row limits = labelled type_shape (case_core limits)
+
+-- (TYPE CONST , label LOCAL)*
+abbrev pub case_list_row : Limits → Row Located (List CaseTree)
+case_list_row limits = many class (case_row limits)
+
+abbrev pub cases_shape : Shape
+cases_shape = record { first = code terminal.OpenBracket ∷ []; more = []; empty = false }
+
+unfoldable pub cases_core : Limits → Row Located (List CaseTree)
+cases_core limits = second (word terminal.OpenBracket) (before (case_list_row limits) (word terminal.CloseBracket))
+
+-- [ (TYPE CONST , label LOCAL)* ]
+abbrev pub cases_row : Limits → Row Located (List CaseTree)
+cases_row limits = labelled cases_shape (cases_core limits)
+
+unfoldable pub switch_targets_core : Limits → Row Located (Local × List CaseTree)
+switch_targets_core limits = pair next_target_row (before (cases_row limits) attachments_row)
+
+-- , label LOCAL [ (TYPE CONST , label LOCAL)* ] (, MD)*
+abbrev pub switch_targets_row : Limits → Row Located (Local × List CaseTree)
+switch_targets_row limits = labelled tail_shape (switch_targets_core limits)
+
+abbrev pub switch_shape : Shape
+switch_shape = record { first = code (terminal.Opcode op.Switch) ∷ []; more = comma_shape.first; empty = false }
+
+unfoldable pub switch_core : Limits → Row Located EndingTree
+switch_core limits = second (word (terminal.Opcode op.Switch)) (mapped (λ v. Switch v.0 v.1.0 v.1.1) (pair (typed_value_row limits) (switch_targets_row limits)))
+
+-- switch TYPE VALUE , label LOCAL [ (TYPE CONST , label LOCAL)* ]
+abbrev pub switch_row : Limits → Row Located EndingTree
+switch_row limits = labelled switch_shape (switch_core limits)
+
+abbrev pub unreachable_shape : Shape
+unreachable_shape = record { first = code (terminal.Opcode op.Unreachable) ∷ []; more = comma_shape.first; empty = false }
+
+unfoldable pub unreachable_core : Row Located EndingTree
+unreachable_core = mapped (λ p. Unreachable) (before (word (terminal.Opcode op.Unreachable)) attachments_row)
+
+-- unreachable
+abbrev pub unreachable_row : Row Located EndingTree
+unreachable_row = labelled unreachable_shape unreachable_core
+
+abbrev pub ending_shape : Shape
+ending_shape = record { first = code (terminal.Opcode op.Ret) ∷ code (terminal.Opcode op.Br) ∷ code (terminal.Opcode op.Switch) ∷ code (terminal.Opcode op.Unreachable) ∷ []; more = code terminal.Comma ∷ []; empty = false }
+
+-- END
+unfoldable pub ending_core : Limits → Row Located EndingTree
+ending_core limits = alt class (return_row limits) (alt class (branch_row limits) (alt class (switch_row limits) unreachable_row))
+
+abbrev pub ending_row : Limits → Row Located EndingTree
+ending_row limits = labelled ending_shape (ending_core limits)

@@ -1,0 +1,10 @@
+pub mod Tree
+pub mod View
+pub mod Dropped
+pub mod Tails
+pub mod Operations
+pub mod Calls
+pub mod Instructions
+pub mod Endings
+pub mod Blocks
+pub mod Counts

@@ -1,0 +1,61 @@
+-- Instructions and blocks as plain trees.
+use Rattle.std.specs.Prelude.{ℕ, Bool, List, Option}
+use Rattle.ir_tables.specs.declared.opcode.Opcode.{Opcode}
+use Rattle.ir_tables.specs.declared.predicate.Predicate.{Predicate}
+use Rattle.ir_terminals.specs.declared.values.Integer.{Integer}
+use Rattle.ir_terminals.specs.declared.values.Local.{Local}
+use Rattle.ir_constants.specs.Tree.{TypeTree, TypedConstantTree, ValueTree, TypedValueTree}
+
+-- the parameters that a call writes, and whether `...` ends them
+abbrev pub SignatureTree : Type 0
+SignatureTree = List TypeTree × Bool
+
+-- a call: its return type, the parameters where it writes them, what is called, and the arguments
+pub record CallTree : Type 0 where
+  pub returns : TypeTree
+  pub signature : Option SignatureTree
+  pub callee : ValueTree
+  pub arguments : List TypedValueTree
+
+-- a value of a phi, and the block that it comes from
+abbrev pub IncomingTree : Type 0
+IncomingTree = ValueTree × Local
+
+-- What an instruction does; flags are the sum of their codes.
+pub data OperationTree : Type 0 where
+  Binary : Opcode → (flags : ℕ) → (left : TypedValueTree) → (right : ValueTree) → OperationTree
+  Compare : (flags : ℕ) → Predicate → (left : TypedValueTree) → (right : ValueTree) → OperationTree
+  Cast : Opcode → (flags : ℕ) → TypedValueTree → (to : TypeTree) → OperationTree
+  Select : (condition : TypedValueTree) → (first second : TypedValueTree) → OperationTree
+  Freeze : TypedValueTree → OperationTree
+  Phi : TypeTree → List IncomingTree → OperationTree
+  Load : (flags : ℕ) → TypeTree → (address : TypedValueTree) → (alignment : Option Integer) → OperationTree
+  Store : (flags : ℕ) → TypedValueTree → (address : TypedValueTree) → (alignment : Option Integer) → OperationTree
+  Alloca : TypeTree → (count : Option TypedValueTree) → (alignment : Option Integer) → OperationTree
+  GetElementPtr : (flags : ℕ) → (source : TypeTree) → (operands : List TypedValueTree) → OperationTree
+  Call : CallTree → OperationTree
+  ExtractValue : TypedValueTree → (indices : List Integer) → OperationTree
+  InsertValue : TypedValueTree → (part : TypedValueTree) → (indices : List Integer) → OperationTree
+
+-- an instruction, and what its result is called where that is written
+pub record InstructionTree : Type 0 where
+  pub result : Option Local
+  pub operation : OperationTree
+
+-- a case of a switch, and where it goes
+abbrev pub CaseTree : Type 0
+CaseTree = TypedConstantTree × Local
+
+-- how a block ends
+pub data EndingTree : Type 0 where
+  ReturnVoid : EndingTree
+  Return : TypedValueTree → EndingTree
+  Jump : Local → EndingTree
+  Branch : TypedValueTree → (then_to else_to : Local) → EndingTree
+  Switch : TypedValueTree → (otherwise : Local) → List CaseTree → EndingTree
+  Unreachable : EndingTree
+
+pub record BlockTree : Type 0 where
+  pub label : Option Local
+  pub instructions : List InstructionTree
+  pub ending : EndingTree

@@ -1,0 +1,70 @@
+//! Reads the blocks of a function.
+ghost use Rattle.std.specs.Prelude.{◌≡◌, map};
+ghost use Rattle.phrase_rows.specs.Row.{begins, optional};
+ghost use Rattle.ir_instructions.specs.Blocks.{block_shape, block_row, block_list_row, blocks_row};
+ghost use Rattle.ir_instructions.specs.View.{block_view};
+ghost use Rattle.ir_terminals.specs.Follows.{Follows};
+ghost use Rattle.ir_terminals.specs.Position.{left};
+ghost use Rattle.ir_terminals.specs.Role.{class};
+ghost use Rattle.ir_terminals.specs.Tokens.{label_row};
+
+use crate::block::Block;
+use crate::endings::{ending, is_ending_next};
+use crate::instructions::{instructions, is_instruction_next};
+use ir_terminals::{Cursor, Fault, Local, Terminal};
+
+/// `LABEL?`
+fn label(cursor: &mut Cursor) -> Result<Option<Local>, Fault>
+    ensures { Follows (λ _. optional class label_row) (λ x. x) cursor.old result cursor.new }
+{
+    if !cursor.is_next(Terminal::Label) {
+        return Ok(None);
+    }
+    let label = cursor.label()?;
+    Ok(Some(label))
+}
+
+/// `LABEL? INST* END`
+#[tactic(auto, unfolding(crate::specs::Blocks::block_core))]
+fn block(cursor: &mut Cursor) -> Result<Block, Fault>
+    ensures { Follows block_row block_view cursor.old result cursor.new }
+{
+    let label = label(cursor)?;
+    let instructions = instructions(cursor)?;
+    let ending = ending(cursor)?;
+    Ok(Block {
+        label,
+        instructions,
+        ending,
+    })
+}
+
+/// Whether a block is next.
+#[tactic(auto, using(crate::proofs::Firsts::block_begins))]
+fn is_block_next(cursor: &Cursor) -> bool
+    ensures { result ≡ begins class block_shape.first (left cursor.now) }
+{
+    cursor.is_next(Terminal::Label) || is_instruction_next(cursor) || is_ending_next(cursor)
+}
+
+/// `BLOCK+`
+fn block_list(cursor: &mut Cursor) -> Result<Vec<Block>, Fault>
+    ensures { Follows block_list_row (λ x. map block_view x.items) cursor.old result cursor.new }
+{
+    let mut blocks = Vec::new(cursor.alloc());
+    blocks.push(block(cursor)?)?;
+    'list: while is_block_next(cursor) {
+        blocks.push(block(cursor)?)?;
+    }
+    Ok(blocks)
+}
+
+/// `{ BLOCK+ }`: the blocks of a definition, of which there is at least one.
+pub fn blocks_of(cursor: &mut Cursor) -> Result<Vec<Block>, Fault>
+    ensures { Follows blocks_row (λ x. map block_view x.items) cursor.old result cursor.new }
+{
+    cursor.take(Terminal::OpenBrace)?;
+    let blocks = block_list(cursor)?;
+    cursor.take(Terminal::CloseBrace)?;
+    Ok(blocks)
+}

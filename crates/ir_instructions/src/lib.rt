@@ -1,0 +1,26 @@
+//! Instructions and blocks: reads them from the tokens of a text (LangRef, "Instruction Reference").
+//!
+//! It stands on the values of `ir_constants`. Its promise: each call reads its row of the grammar, with the value of
+//! that row, or stands at the first token with which the row can't go on. Metadata, attributes and calling conventions
+//! are read and dropped. Definitions: `specs/Operations`, `specs/Instructions`, `specs/Endings`, `specs/Blocks`.
+#![tactic(auto)]
+
+mod attributes;
+mod block;
+mod blocks;
+mod calls;
+mod endings;
+mod instructions;
+mod metadata;
+mod operation;
+mod operations;
+mod parts;
+mod tails;
+#[cfg(test)]
+mod tests;
+
+pub use attributes::{convention, function_attributes, parameter_attributes};
+pub use block::{Block, Case, Ending, Instruction};
+pub use blocks::blocks_of;
+pub use metadata::{attachment, attachments};
+pub use operation::{Call, Incoming, Operation, Signature};

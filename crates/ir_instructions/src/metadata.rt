@@ -1,0 +1,30 @@
+//! Reads metadata, which is dropped.
+ghost use Rattle.ir_instructions.specs.Dropped.{attachment_row, attachments_row};
+ghost use Rattle.ir_terminals.specs.Follows.{Follows};
+
+use ir_terminals::{Cursor, Fault, Terminal};
+
+/// `MNAME MNUMBER`, or `MNAME ! { .. }`.
+pub fn attachment(cursor: &mut Cursor) -> Result<(), Fault>
+    ensures { Follows (λ _. attachment_row) (λ x. x) cursor.old result cursor.new }
+{
+    cursor.take(Terminal::MetaName)?;
+    if cursor.is_next(Terminal::MetaNumber) {
+        cursor.take(Terminal::MetaNumber)?;
+        return Ok(());
+    }
+    cursor.take(Terminal::MetaMark)?;
+    cursor.skip_brackets(Terminal::OpenBrace)
+}
+
+/// `(, MD)*`
+#[tactic(auto, unfolding(crate::specs::Dropped::attachments_core))]
+pub fn attachments(cursor: &mut Cursor) -> Result<(), Fault>
+    ensures { Follows (λ _. attachments_row) (λ x. x) cursor.old result cursor.new }
+{
+    'attachments: while cursor.is_next(Terminal::Comma) {
+        cursor.take(Terminal::Comma)?;
+        attachment(cursor)?;
+    }
+    Ok(())
+}

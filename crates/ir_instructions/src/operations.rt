@@ -1,0 +1,179 @@
+//! Reads instructions behind their opcodes.
+ghost use Rattle.ir_instructions.specs.Operations.{binary_row, compare_row, cast_row, select_row, freeze_row, phi_row, load_row, store_row, alloca_row, element_address_row, extract_row, insert_row, operation_behind};
+ghost use Rattle.ir_instructions.specs.View.{operation_view};
+ghost use Rattle.ir_terminals.specs.Follows.{Follows};
+
+use crate::calls::call;
+use crate::metadata::attachments;
+use crate::operation::Operation;
+use crate::parts::{
+    address, arms, cast_type, incoming, indices, next_typed_value, operand_list, operands,
+};
+use crate::tails::{count, more_incoming};
+use ir_constants::{flags_of, type_of, typed_value_of};
+use ir_tables::Opcode;
+use ir_terminals::{Cursor, Fault};
+
+/// `FLAG* TYPE VALUE , VALUE (, MD)*`
+#[tactic(auto, unfolding(crate::specs::Operations::binary_core))]
+fn binary(cursor: &mut Cursor, opcode: Opcode) -> Result<Operation, Fault>
+    ensures { Follows (binary_row opcode) operation_view cursor.old result cursor.new }
+{
+    let flags = flags_of(cursor, opcode)?;
+    let (left, right) = operands(cursor)?;
+    Ok(Operation::Binary(opcode, flags, left, right))
+}
+
+/// `FLAG* PREDICATE TYPE VALUE , VALUE (, MD)*`
+#[tactic(auto, unfolding(crate::specs::Operations::compare_core))]
+fn compare(cursor: &mut Cursor) -> Result<Operation, Fault>
+    ensures { Follows compare_row operation_view cursor.old result cursor.new }
+{
+    let flags = flags_of(cursor, Opcode::ICmp)?;
+    let predicate = cursor.predicate()?;
+    let (left, right) = operands(cursor)?;
+    Ok(Operation::Compare(flags, predicate, left, right))
+}
+
+/// `FLAG* TYPE VALUE to TYPE (, MD)*`
+#[tactic(auto, unfolding(crate::specs::Operations::cast_core))]
+fn cast(cursor: &mut Cursor, opcode: Opcode) -> Result<Operation, Fault>
+    ensures { Follows (cast_row opcode) operation_view cursor.old result cursor.new }
+{
+    let flags = flags_of(cursor, opcode)?;
+    let value = typed_value_of(cursor)?;
+    let to = cast_type(cursor)?;
+    Ok(Operation::Cast(opcode, flags, value, to))
+}
+
+/// `TYPE VALUE , TYPE VALUE , TYPE VALUE (, MD)*`
+#[tactic(auto, unfolding(crate::specs::Operations::select_core))]
+fn select(cursor: &mut Cursor) -> Result<Operation, Fault>
+    ensures { Follows select_row operation_view cursor.old result cursor.new }
+{
+    let condition = typed_value_of(cursor)?;
+    let (first, second) = arms(cursor)?;
+    Ok(Operation::Select(condition, first, second))
+}
+
+/// `TYPE VALUE (, MD)*`
+#[tactic(auto, unfolding(crate::specs::Operations::freeze_core))]
+fn freeze(cursor: &mut Cursor) -> Result<Operation, Fault>
+    ensures { Follows freeze_row operation_view cursor.old result cursor.new }
+{
+    let value = typed_value_of(cursor)?;
+    attachments(cursor)?;
+    Ok(Operation::Freeze(value))
+}
+
+/// `TYPE [ VALUE , LOCAL ] (, [ VALUE , LOCAL ])* (, MD)*`
+#[tactic(auto, unfolding(crate::specs::Operations::phi_core))]
+fn phi(cursor: &mut Cursor) -> Result<Operation, Fault>
+    ensures { Follows phi_row operation_view cursor.old result cursor.new }
+{
+    let ty = type_of(cursor)?;
+    let first = incoming(cursor)?;
+    let all = more_incoming(cursor, first)?;
+    Ok(Operation::Phi(ty, all))
+}
+
+/// `FLAG* TYPE , TYPE VALUE (, align INT)? (, MD)*`
+#[tactic(auto, unfolding(crate::specs::Operations::load_core))]
+fn load(cursor: &mut Cursor) -> Result<Operation, Fault>
+    ensures { Follows load_row operation_view cursor.old result cursor.new }
+{
+    let flags = flags_of(cursor, Opcode::Load)?;
+    let ty = type_of(cursor)?;
+    let (address, alignment) = address(cursor)?;
+    Ok(Operation::Load(flags, ty, address, alignment))
+}
+
+/// `FLAG* TYPE VALUE , TYPE VALUE (, align INT)? (, MD)*`
+#[tactic(auto, unfolding(crate::specs::Operations::store_core))]
+fn store(cursor: &mut Cursor) -> Result<Operation, Fault>
+    ensures { Follows store_row operation_view cursor.old result cursor.new }
+{
+    let flags = flags_of(cursor, Opcode::Store)?;
+    let value = typed_value_of(cursor)?;
+    let (address, alignment) = address(cursor)?;
+    Ok(Operation::Store(flags, value, address, alignment))
+}
+
+/// `TYPE (, TYPE VALUE)? (, align INT)? (, MD)*`
+#[tactic(auto, unfolding(crate::specs::Operations::alloca_core))]
+fn alloca(cursor: &mut Cursor) -> Result<Operation, Fault>
+    ensures { Follows alloca_row operation_view cursor.old result cursor.new }
+{
+    let ty = type_of(cursor)?;
+    let (count, alignment) = count(cursor)?;
+    Ok(Operation::Alloca(ty, count, alignment))
+}
+
+/// `FLAG* TYPE , TYPE VALUE (, TYPE VALUE)* (, MD)*`
+#[tactic(auto, unfolding(crate::specs::Operations::element_address_core))]
+fn element_address(cursor: &mut Cursor) -> Result<Operation, Fault>
+    ensures { Follows element_address_row operation_view cursor.old result cursor.new }
+{
+    let flags = flags_of(cursor, Opcode::GetElementPtr)?;
+    let source = type_of(cursor)?;
+    let operands = operand_list(cursor)?;
+    Ok(Operation::GetElementPtr(flags, source, operands))
+}
+
+/// `TYPE VALUE (, INT)+ (, MD)*`
+#[tactic(auto, unfolding(crate::specs::Operations::extract_core))]
+fn extract(cursor: &mut Cursor) -> Result<Operation, Fault>
+    ensures { Follows extract_row operation_view cursor.old result cursor.new }
+{
+    let value = typed_value_of(cursor)?;
+    let indices = indices(cursor)?;
+    Ok(Operation::ExtractValue(value, indices))
+}
+
+/// `TYPE VALUE , TYPE VALUE (, INT)+ (, MD)*`
+#[tactic(auto, unfolding(crate::specs::Operations::insert_core))]
+fn insert(cursor: &mut Cursor) -> Result<Operation, Fault>
+    ensures { Follows insert_row operation_view cursor.old result cursor.new }
+{
+    let value = typed_value_of(cursor)?;
+    let part = next_typed_value(cursor)?;
+    let indices = indices(cursor)?;
+    Ok(Operation::InsertValue(value, part, indices))
+}
+
+/// What follows the opcode of an instruction that does not end a block.
+#[tactic(auto, unfolding(crate::specs::Operations::operation_core))]
+pub fn operation_behind(cursor: &mut Cursor, opcode: Opcode) -> Result<Operation, Fault>
+    ensures { Follows (λ limits. operation_behind limits opcode) operation_view cursor.old result cursor.new }
+{
+    match opcode {
+        Opcode::ICmp => compare(cursor),
+        Opcode::Trunc | Opcode::ZExt | Opcode::SExt | Opcode::PtrToInt | Opcode::IntToPtr => cast(
+            cursor, opcode,
+        ),
+        Opcode::Select => select(cursor),
+        Opcode::Freeze => freeze(cursor),
+        Opcode::Phi => phi(cursor),
+        Opcode::Load => load(cursor),
+        Opcode::Store => store(cursor),
+        Opcode::Alloca => alloca(cursor),
+        Opcode::GetElementPtr => element_address(cursor),
+        Opcode::Call => call(cursor),
+        Opcode::ExtractValue => extract(cursor),
+        Opcode::InsertValue => insert(cursor),
+        Opcode::Ret | Opcode::Br | Opcode::Switch | Opcode::Unreachable => Err(Fault::Refused),
+        Opcode::Add
+        | Opcode::Sub
+        | Opcode::Mul
+        | Opcode::UDiv
+        | Opcode::SDiv
+        | Opcode::URem
+        | Opcode::SRem
+        | Opcode::Shl
+        | Opcode::LShr
+        | Opcode::AShr
+        | Opcode::And
+        | Opcode::Or
+        | Opcode::Xor => binary(cursor, opcode),
+    }
+}

@@ -1,0 +1,114 @@
+//! Reads parts that instructions share.
+ghost use Rattle.std.specs.Prelude.{◌≡◌, map};
+ghost use Rattle.ir_constants.specs.View.{type_view, value_view, typed_value_view};
+ghost use Rattle.ir_instructions.specs.Operations.{next_value_row, next_typed_value_row, operands_row, cast_type_row, arms_row, address_row, from_block_row, incoming_row, operand_list_row, indices_row};
+ghost use Rattle.ir_instructions.specs.View.{incoming_view};
+ghost use Rattle.ir_terminals.specs.Follows.{Follows};
+
+use crate::metadata::attachments;
+use crate::operation::Incoming;
+use crate::tails::{alignment, more_indices, more_operands};
+use ir_constants::{Type, TypedValue, Value, type_of, typed_value_of, value_of};
+use ir_terminals::{Cursor, Fault, Integer, Local, Terminal};
+
+/// `, VALUE`
+#[tactic(auto, unfolding(crate::specs::Operations::next_value_core))]
+fn next_value(cursor: &mut Cursor) -> Result<Value, Fault>
+    ensures { Follows next_value_row value_view cursor.old result cursor.new }
+{
+    cursor.take(Terminal::Comma)?;
+    value_of(cursor)
+}
+
+/// `, TYPE VALUE`
+#[tactic(auto, unfolding(crate::specs::Operations::next_typed_value_core))]
+pub fn next_typed_value(cursor: &mut Cursor) -> Result<TypedValue, Fault>
+    ensures { Follows next_typed_value_row typed_value_view cursor.old result cursor.new }
+{
+    cursor.take(Terminal::Comma)?;
+    typed_value_of(cursor)
+}
+
+/// `TYPE VALUE , VALUE (, MD)*`
+#[tactic(auto, unfolding(crate::specs::Operations::operands_core))]
+pub fn operands(cursor: &mut Cursor) -> Result<(TypedValue, Value), Fault>
+    ensures { Follows operands_row (λ x. (typed_value_view x.0, value_view x.1)) cursor.old result cursor.new }
+{
+    let left = typed_value_of(cursor)?;
+    let right = next_value(cursor)?;
+    attachments(cursor)?;
+    Ok((left, right))
+}
+
+/// `to TYPE (, MD)*`
+#[tactic(auto, unfolding(crate::specs::Operations::cast_type_core))]
+pub fn cast_type(cursor: &mut Cursor) -> Result<Type, Fault>
+    ensures { Follows cast_type_row type_view cursor.old result cursor.new }
+{
+    cursor.take(Terminal::To)?;
+    let to = type_of(cursor)?;
+    attachments(cursor)?;
+    Ok(to)
+}
+
+/// `, TYPE VALUE , TYPE VALUE (, MD)*`
+#[tactic(auto, unfolding(crate::specs::Operations::arms_core))]
+pub fn arms(cursor: &mut Cursor) -> Result<(TypedValue, TypedValue), Fault>
+    ensures { Follows arms_row (λ x. (typed_value_view x.0, typed_value_view x.1)) cursor.old result cursor.new }
+{
+    let first = next_typed_value(cursor)?;
+    let second = next_typed_value(cursor)?;
+    attachments(cursor)?;
+    Ok((first, second))
+}
+
+/// `, TYPE VALUE (, align INT)? (, MD)*`
+#[tactic(auto, unfolding(crate::specs::Operations::address_core))]
+pub fn address(cursor: &mut Cursor) -> Result<(TypedValue, Option<Integer>), Fault>
+    ensures { Follows address_row (λ x. (typed_value_view x.0, x.1)) cursor.old result cursor.new }
+{
+    let address = next_typed_value(cursor)?;
+    let alignment = alignment(cursor)?;
+    Ok((address, alignment))
+}
+
+/// `, LOCAL ]`
+#[tactic(auto, unfolding(crate::specs::Operations::from_block_core))]
+fn from_block(cursor: &mut Cursor) -> Result<Local, Fault>
+    ensures { Follows (λ _. from_block_row) (λ x. x) cursor.old result cursor.new }
+{
+    cursor.take(Terminal::Comma)?;
+    let block = cursor.local()?;
+    cursor.take(Terminal::CloseBracket)?;
+    Ok(block)
+}
+
+/// `[ VALUE , LOCAL ]`
+#[tactic(auto, unfolding(crate::specs::Operations::incoming_core))]
+pub fn incoming(cursor: &mut Cursor) -> Result<Incoming, Fault>
+    ensures { Follows incoming_row incoming_view cursor.old result cursor.new }
+{
+    cursor.take(Terminal::OpenBracket)?;
+    let value = value_of(cursor)?;
+    let block = from_block(cursor)?;
+    Ok(Incoming { value, block })
+}
+
+/// `, TYPE VALUE (, TYPE VALUE)* (, MD)*`
+#[tactic(auto, unfolding(crate::specs::Operations::operand_list_core))]
+pub fn operand_list(cursor: &mut Cursor) -> Result<Vec<TypedValue>, Fault>
+    ensures { Follows operand_list_row (λ x. map typed_value_view x.items) cursor.old result cursor.new }
+{
+    let first = next_typed_value(cursor)?;
+    more_operands(cursor, first)
+}
+
+/// `, INT (, INT)* (, MD)*`
+#[tactic(auto, unfolding(crate::specs::Operations::indices_core))]
+pub fn indices(cursor: &mut Cursor) -> Result<Vec<Integer>, Fault>
+    ensures { Follows (λ _. indices_row) (λ x. x.items) cursor.old result cursor.new }
+{
+    cursor.take(Terminal::Comma)?;
+    let first = cursor.integer()?;
+    more_indices(cursor, first)
+}

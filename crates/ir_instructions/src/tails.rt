@@ -1,0 +1,127 @@
+//! Reads what stands behind commas at the end of an instruction.
+ghost use Rattle.std.specs.Prelude.{◌≡◌, [], ◌∷◌, map, option_map};
+ghost use Rattle.ir_constants.specs.Values.{typed_value_row};
+ghost use Rattle.ir_constants.specs.View.{typed_value_view};
+ghost use Rattle.ir_instructions.specs.Operations.{incoming_row};
+ghost use Rattle.ir_instructions.specs.Tails.{alignment_behind_row, alignment_row, count_behind_row, count_row, listed_row};
+ghost use Rattle.ir_instructions.specs.View.{incoming_view};
+ghost use Rattle.ir_terminals.specs.Follows.{Follows};
+ghost use Rattle.ir_terminals.specs.Tokens.{integer_row};
+
+use crate::metadata::{attachment, attachments};
+use crate::operation::Incoming;
+use crate::parts::incoming;
+use ir_constants::{TypedValue, begins_type, typed_value_of};
+use ir_terminals::{Cursor, Fault, Integer, Terminal};
+
+/// `align INT (, MD)*`, or `MD (, MD)*`.
+fn alignment_behind(cursor: &mut Cursor) -> Result<Option<Integer>, Fault>
+    ensures { Follows (λ _. alignment_behind_row) (λ x. x) cursor.old result cursor.new }
+{
+    if cursor.is_next(Terminal::Align) {
+        cursor.take(Terminal::Align)?;
+        let alignment = cursor.integer()?;
+        attachments(cursor)?;
+        return Ok(Some(alignment));
+    }
+    attachment(cursor)?;
+    attachments(cursor)?;
+    Ok(None)
+}
+
+/// `(, align INT)? (, MD)*`
+#[tactic(auto, unfolding(crate::specs::Tails::alignment_core))]
+pub fn alignment(cursor: &mut Cursor) -> Result<Option<Integer>, Fault>
+    ensures { Follows (λ _. alignment_row) (λ x. x) cursor.old result cursor.new }
+{
+    if !cursor.is_next(Terminal::Comma) {
+        return Ok(None);
+    }
+    cursor.take(Terminal::Comma)?;
+    alignment_behind(cursor)
+}
+
+/// `TYPE VALUE (, align INT)? (, MD)*`, or `align INT (, MD)*`, or `MD (, MD)*`.
+fn count_behind(cursor: &mut Cursor) -> Result<(Option<TypedValue>, Option<Integer>), Fault>
+    ensures { Follows count_behind_row (λ x. (option_map typed_value_view x.0, x.1)) cursor.old result cursor.new }
+{
+    if begins_type(cursor) {
+        let count = typed_value_of(cursor)?;
+        let alignment = alignment(cursor)?;
+        return Ok((Some(count), alignment));
+    }
+    let alignment = alignment_behind(cursor)?;
+    Ok((None, alignment))
+}
+
+/// `(, TYPE VALUE)? (, align INT)? (, MD)*`
+#[tactic(auto, unfolding(crate::specs::Tails::count_core))]
+pub fn count(cursor: &mut Cursor) -> Result<(Option<TypedValue>, Option<Integer>), Fault>
+    ensures { Follows count_row (λ x. (option_map typed_value_view x.0, x.1)) cursor.old result cursor.new }
+{
+    if !cursor.is_next(Terminal::Comma) {
+        return Ok((None, None));
+    }
+    cursor.take(Terminal::Comma)?;
+    count_behind(cursor)
+}
+
+/// `(, TYPE VALUE)* (, MD)*`, behind a first operand.
+#[tactic(auto, unfolding(crate::specs::Tails::listed_core))]
+pub fn more_operands(cursor: &mut Cursor, first: TypedValue) -> Result<Vec<TypedValue>, Fault>
+    ensures { Follows (λ limits. listed_row (typed_value_row limits) (typed_value_view first ∷ [])) (λ x. map typed_value_view x.items) cursor.old result cursor.new }
+{
+    let mut operands = Vec::new(cursor.alloc());
+    operands.push(first)?;
+    let mut closed = false;
+    'operands: while cursor.is_next(Terminal::Comma) {
+        cursor.take(Terminal::Comma)?;
+        if closed || cursor.is_next(Terminal::MetaName) {
+            attachment(cursor)?;
+            closed = true;
+        } else {
+            operands.push(typed_value_of(cursor)?)?;
+        }
+    }
+    Ok(operands)
+}
+
+/// `(, INT)* (, MD)*`, behind a first index.
+#[tactic(auto, unfolding(crate::specs::Tails::listed_core))]
+pub fn more_indices(cursor: &mut Cursor, first: Integer) -> Result<Vec<Integer>, Fault>
+    ensures { Follows (λ _. listed_row integer_row (first ∷ [])) (λ x. x.items) cursor.old result cursor.new }
+{
+    let mut indices = Vec::new(cursor.alloc());
+    indices.push(first)?;
+    let mut closed = false;
+    'indices: while cursor.is_next(Terminal::Comma) {
+        cursor.take(Terminal::Comma)?;
+        if closed || cursor.is_next(Terminal::MetaName) {
+            attachment(cursor)?;
+            closed = true;
+        } else {
+            indices.push(cursor.integer()?)?;
+        }
+    }
+    Ok(indices)
+}
+
+/// `(, [ VALUE , LOCAL ])* (, MD)*`, behind a first value.
+#[tactic(auto, unfolding(crate::specs::Tails::listed_core))]
+pub fn more_incoming(cursor: &mut Cursor, first: Incoming) -> Result<Vec<Incoming>, Fault>
+    ensures { Follows (λ limits. listed_row (incoming_row limits) (incoming_view first ∷ [])) (λ x. map incoming_view x.items) cursor.old result cursor.new }
+{
+    let mut all = Vec::new(cursor.alloc());
+    all.push(first)?;
+    let mut closed = false;
+    'all: while cursor.is_next(Terminal::Comma) {
+        cursor.take(Terminal::Comma)?;
+        if closed || cursor.is_next(Terminal::MetaName) {
+            attachment(cursor)?;
+            closed = true;
+        } else {
+            all.push(incoming(cursor)?)?;
+        }
+    }
+    Ok(all)
+}

@@ -1,0 +1,123 @@
+-- Functions: declarations and definitions.
+use Rattle.std.specs.Prelude.{Bool, true, false, cond, List, [], ◌∷◌, ◌++◌, map, Some, None}
+use Rattle.phrase_rows.specs.Row.{Row, Shape, fail, one, chain, mapped, second, before, pair, alt, nothing, optional, loop, labelled}
+use Rattle.ir_lexer.specs.Ahead.{Located}
+use Rattle.ir_terminals.specs.declared.limits.Limits.{Limits}
+use Rattle.ir_terminals.specs.declared.terminal.Terminal.TheVariants as terminal
+use Rattle.ir_terminals.specs.Role.{class}
+use Rattle.ir_terminals.specs.Terminal.{code, linkage_class}
+use Rattle.ir_terminals.specs.Tokens.{word, global_name_row, local_row}
+use Rattle.ir_constants.specs.Tree.{TypeTree}
+use Rattle.ir_constants.specs.Types.{type_shape, type_row}
+use Rattle.ir_instructions.specs.Tree.{BlockTree}
+use Rattle.ir_instructions.specs.Dropped.{comma_shape, attachment_row, parameter_attribute_shape, parameter_attributes_row, function_attribute_shape, function_attributes_row, convention_row}
+use Rattle.ir_instructions.specs.Blocks.{blocks_row}
+use Rattle.ir_syntax.specs.Tree.{ParameterTree, HeadTree, ItemTree, Declaration, Definition}
+use Rattle.ir_syntax.specs.Heads.{optional_linkage_row, global_word_shape, global_words_row}
+
+abbrev pub parameter_shape : Shape
+parameter_shape = record { first = type_shape.first; more = code terminal.Local ∷ parameter_attribute_shape.first; empty = false }
+
+-- TYPE PDROP* LOCAL?
+unfoldable pub parameter_core : Limits → Row Located ParameterTree
+parameter_core limits = pair (type_row limits) (second parameter_attributes_row (optional class local_row))
+
+abbrev pub parameter_row : Limits → Row Located ParameterTree
+parameter_row limits = labelled parameter_shape (parameter_core limits)
+
+-- ..., where it may stand
+abbrev pub dots_row : Bool → Row Located Bool
+dots_row may_stand = one class (code terminal.Dots ∷ []) (λ t. cond may_stand (Some true) None)
+
+-- parameters, and whether `...` ends them
+abbrev pub ParametersTree : Type 0
+ParametersTree = List ParameterTree × Bool
+
+-- , PARAM or , ..., and nothing behind `...`
+abbrev pub parameter_step : Bool → Limits → ParametersTree → Row Located ParametersTree
+parameter_step dots limits s = cond s.1 (fail comma_shape) (second (word terminal.Comma) (alt class (mapped (λ d. (s.0, d)) (dots_row dots)) (mapped (λ p. (s.0 ++ p ∷ [], false)) (parameter_row limits))))
+
+abbrev pub more_parameters_shape : Shape
+more_parameters_shape = record { first = comma_shape.first; more = parameter_shape.more ++ comma_shape.first; empty = true }
+
+abbrev pub more_parameters_row : Bool → Limits → ParametersTree → Row Located ParametersTree
+more_parameters_row dots limits s = labelled more_parameters_shape (loop class (record { first = comma_shape.first; more = parameter_shape.more; empty = false }) (parameter_step dots limits) s)
+
+-- PARAM (, PARAM)* (, ...)?
+abbrev pub some_parameters_row : Bool → Limits → Row Located ParametersTree
+some_parameters_row dots limits = chain (parameter_row limits) more_parameters_shape (λ p. more_parameters_row dots limits (p ∷ [], false))
+
+-- PARAM,*, which may end in `...` where that may stand
+abbrev pub parameter_list_row : Bool → Limits → Row Located ParametersTree
+parameter_list_row dots limits = alt class (mapped (λ d. ([], d)) (dots_row dots)) (alt class (some_parameters_row dots limits) (nothing ([], false)))
+
+abbrev pub parameters_shape : Shape
+parameters_shape = record { first = code terminal.OpenParenthesis ∷ []; more = []; empty = false }
+
+-- ( PARAM,* )
+unfoldable pub parameters_core : Bool → Limits → Row Located ParametersTree
+parameters_core dots limits = second (word terminal.OpenParenthesis) (before (parameter_list_row dots limits) (word terminal.CloseParenthesis))
+
+abbrev pub parameters_row : Bool → Limits → Row Located ParametersTree
+parameters_row dots limits = labelled parameters_shape (parameters_core dots limits)
+
+abbrev pub head_shape : Shape
+head_shape = record {
+  first = linkage_class ∷ global_word_shape.first ++ code terminal.CallingConvention ∷ parameter_attribute_shape.first ++ type_shape.first;
+  more = [];
+  empty = false;
+}
+
+-- LINKAGE? GDROP* CC? PDROP* TYPE GLOBAL
+unfoldable pub head_core : Limits → Row Located HeadTree
+head_core limits =
+    mapped (λ v. record { linkage = v.0; returns = v.1.0; name = v.1.1 })
+    (pair optional_linkage_row (second global_words_row (second convention_row (second parameter_attributes_row (pair (type_row limits) global_name_row)))))
+
+abbrev pub head_row : Limits → Row Located HeadTree
+head_row limits = labelled head_shape (head_core limits)
+
+abbrev pub attachment_shape : Shape
+attachment_shape = record { first = code terminal.MetaName ∷ []; more = []; empty = false }
+
+-- MD*
+abbrev pub metadata_row : Row Located (Unit {0})
+metadata_row = loop class attachment_shape (λ u. attachment_row) tt
+
+abbrev pub parameter_types : List ParameterTree → List TypeTree
+parameter_types all = map (λ p. p.0) all
+
+abbrev pub declared_shape : Shape
+declared_shape = record { first = parameters_shape.first; more = function_attribute_shape.more ++ function_attribute_shape.first; empty = false }
+
+-- ( PARAM,* ) FDROP*, for the types, and whether `...` ends them
+unfoldable pub declared_core : Limits → Row Located (List TypeTree × Bool)
+declared_core limits = mapped (λ s. (parameter_types s.0, s.1)) (before (parameters_row true limits) function_attributes_row)
+
+abbrev pub declared_row : Limits → Row Located (List TypeTree × Bool)
+declared_row limits = labelled declared_shape (declared_core limits)
+
+-- declare MD* LINKAGE? GDROP* CC? PDROP* TYPE GLOBAL ( PARAM,* ) FDROP*
+abbrev pub declaration_row : Limits → Row Located ItemTree
+declaration_row limits = mapped (λ v. Declaration v.0 v.1.0 v.1.1.0 v.1.1.1) (pair (word terminal.Declare) (second metadata_row (pair (head_row limits) (declared_row limits))))
+
+abbrev pub body_shape : Shape
+body_shape = record { first = function_attribute_shape.first ++ code terminal.MetaName ∷ code terminal.OpenBrace ∷ []; more = []; empty = false }
+
+-- FDROP* MD* { BLOCK+ }
+unfoldable pub body_core : Limits → Row Located (List BlockTree)
+body_core limits = second function_attributes_row (second metadata_row (blocks_row limits))
+
+abbrev pub body_row : Limits → Row Located (List BlockTree)
+body_row limits = labelled body_shape (body_core limits)
+
+-- ( PARAM,* ) FDROP* MD* { BLOCK+ }
+unfoldable pub defined_core : Limits → Row Located (ParametersTree × List BlockTree)
+defined_core limits = pair (parameters_row limits.wide limits) (body_row limits)
+
+abbrev pub defined_row : Limits → Row Located (ParametersTree × List BlockTree)
+defined_row limits = labelled parameters_shape (defined_core limits)
+
+-- define LINKAGE? GDROP* CC? PDROP* TYPE GLOBAL ( PARAM,* ) FDROP* MD* { BLOCK+ }
+abbrev pub definition_row : Limits → Row Located ItemTree
+definition_row limits = mapped (λ v. Definition v.0 v.1.0 v.1.1.0.0 v.1.1.1) (pair (word terminal.Define) (pair (head_row limits) (defined_row limits)))

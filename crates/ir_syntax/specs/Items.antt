@@ -1,0 +1,76 @@
+-- The items of a text.
+use Rattle.std.specs.Prelude.{false, List, [], ◌∷◌, ◌++◌}
+use Rattle.phrase_rows.specs.Row.{Row, Shape, one, mapped, second, before, pair, alt, optional, many, labelled}
+use Rattle.phrase_rows.specs.Reads.{Front}
+use Rattle.ir_base.specs.declared.place.Place.{Place}
+use Rattle.ir_lexer.specs.Ahead.{Located}
+use Rattle.ir_terminals.specs.declared.limits.Limits.{Limits}
+use Rattle.ir_terminals.specs.declared.terminal.Terminal.TheVariants as terminal
+use Rattle.ir_terminals.specs.Role.{class}
+use Rattle.ir_terminals.specs.Terminal.{code}
+use Rattle.ir_terminals.specs.Values.{place_of_token}
+use Rattle.ir_terminals.specs.Tokens.{word, quoted_row}
+use Rattle.ir_terminals.specs.Brackets.{matched_row, braced_row}
+use Rattle.ir_instructions.specs.Dropped.{function_attribute_shape, comma_shape}
+use Rattle.ir_syntax.specs.Tree.{ItemTree, SourceFilename, DataLayout, TargetTriple, Attributes, Metadata}
+use Rattle.ir_syntax.specs.Variables.{struct_row, variable_row}
+use Rattle.ir_syntax.specs.Functions.{declaration_row, definition_row}
+
+-- source_filename = STRING
+abbrev pub source_row : Row Located ItemTree
+source_row = mapped (λ v. SourceFilename v.0 v.1) (pair (before (word terminal.SourceFilename) (word terminal.Equals)) quoted_row)
+
+-- datalayout = STRING, or triple = STRING, behind `target`
+abbrev pub target_row : Row Located ItemTree
+target_row =
+    alt class
+    (mapped (λ v. DataLayout v.0 v.1) (pair (before (word terminal.DataLayout) (word terminal.Equals)) quoted_row))
+    (mapped (λ v. TargetTriple v.0 v.1) (pair (before (word terminal.Triple) (word terminal.Equals)) quoted_row))
+
+-- attributes GROUP = { .. }
+abbrev pub attributes_row : Row Located ItemTree
+attributes_row = mapped Attributes (before (word terminal.«Attributes») (second (word terminal.Group) (second (word terminal.Equals) braced_row)))
+
+-- META
+abbrev pub metadata_name_row : Row Located Place
+metadata_name_row = one class (code terminal.MetaName ∷ code terminal.MetaNumber ∷ []) place_of_token
+
+-- ! { .. }, or MNAME ( .. )
+abbrev pub node_row : Row Located (Unit {0})
+node_row = alt class (second (word terminal.MetaMark) (matched_row terminal.OpenBrace)) (second (word terminal.MetaName) (matched_row terminal.OpenParenthesis))
+
+-- META = distinct? ! { .. }, or META = distinct? MNAME ( .. )
+abbrev pub metadata_item_row : Row Located ItemTree
+metadata_item_row = mapped Metadata (before metadata_name_row (second (word terminal.Equals) (second (optional class (word terminal.Distinct)) node_row)))
+
+abbrev pub item_shape : Shape
+item_shape = record {
+  first = code terminal.SourceFilename ∷ code terminal.Target ∷ code terminal.Local ∷ code terminal.GlobalName ∷ code terminal.Declare ∷ code terminal.Define ∷ code terminal.«Attributes» ∷ code terminal.MetaName ∷ code terminal.MetaNumber ∷ [];
+  more = comma_shape.first ++ function_attribute_shape.first ++ function_attribute_shape.more;
+  empty = false;
+}
+
+-- an item
+unfoldable pub item_core : Limits → Row Located ItemTree
+item_core limits =
+    alt class source_row (alt class (second (word terminal.Target) target_row) (alt class (struct_row limits) (alt class (variable_row limits)
+    (alt class (declaration_row limits) (alt class (definition_row limits) (alt class attributes_row metadata_item_row))))))
+
+abbrev pub item_row : Limits → Row Located ItemTree
+item_row limits = labelled item_shape (item_core limits)
+
+-- the items of a text
+abbrev pub items_row : Limits → Row Located (List ItemTree)
+items_row limits = many class (item_row limits)
+
+-- the language: types and constants nest no more than 64 deep
+abbrev pub language : Limits
+language = record { nesting = 64; wide = false }
+
+-- these tokens are these items, and no others
+abbrev pub Items : List Located → List ItemTree → Type 0
+Items tokens items = (items_row language).whole tokens items
+
+-- these tokens are whole items, followed by nothing or by one cut item
+abbrev pub IsViable : Limits → List Located → Type 0
+IsViable limits front = Front (items_row limits) front

@@ -1,0 +1,46 @@
+-- The items of a text as plain trees.
+use Rattle.std.specs.Prelude.{Bool, List, Option}
+use Rattle.ir_base.specs.declared.place.Place.{Place}
+use Rattle.ir_tables.specs.declared.linkage.Linkage.{Linkage}
+use Rattle.ir_terminals.specs.declared.values.Integer.{Integer}
+use Rattle.ir_terminals.specs.declared.values.Local.{Local}
+use Rattle.ir_terminals.specs.declared.values.PlacedName.{PlacedName}
+use Rattle.ir_terminals.specs.declared.values.PlacedText.{PlacedText}
+use Rattle.ir_constants.specs.Tree.{TypeTree, ConstantTree}
+use Rattle.ir_instructions.specs.Tree.{BlockTree}
+
+-- what a struct is
+pub data BodyTree : Type 0 where
+  OpaqueBody : BodyTree
+  PlainBody : List TypeTree → BodyTree
+  PackedBody : List TypeTree → BodyTree
+
+pub record VariableTree : Type 0 where
+  pub name : PlacedName
+  pub linkage : Option Linkage
+  pub constant : Bool
+  pub ty : TypeTree
+  pub initialiser : Option ConstantTree
+  pub alignment : Option Integer
+
+-- a parameter of a function, and what it is called where that is written
+abbrev pub ParameterTree : Type 0
+ParameterTree = TypeTree × Option Local
+
+-- what a function is called and gives
+pub record HeadTree : Type 0 where
+  pub linkage : Option Linkage
+  pub returns : TypeTree
+  pub name : PlacedName
+
+-- An item, with the place of its first token where no name has it.
+pub data ItemTree : Type 0 where
+  SourceFilename : Place → PlacedText → ItemTree
+  DataLayout : Place → PlacedText → ItemTree
+  TargetTriple : Place → PlacedText → ItemTree
+  Struct : PlacedName → BodyTree → ItemTree
+  Variable : VariableTree → ItemTree
+  Declaration : Place → HeadTree → (parameters : List TypeTree) → (variadic : Bool) → ItemTree
+  Definition : Place → HeadTree → (parameters : List ParameterTree) → (blocks : List BlockTree) → ItemTree
+  Attributes : Place → ItemTree
+  Metadata : Place → ItemTree

@@ -1,0 +1,66 @@
+-- The plain tree of an item as it lies in memory.
+use Rattle.std.specs.Prelude.{Bool, List, map, Option, option_map}
+use Rattle.ir_terminals.specs.declared.values.Integer.{Integer}
+use Rattle.ir_constants.specs.Tree.{TypeTree, ConstantTree}
+use Rattle.ir_constants.specs.View.{type_view, constant_view}
+use Rattle.ir_instructions.specs.Tree.{BlockTree}
+use Rattle.ir_instructions.specs.View.{block_view}
+use Rattle.ir_syntax.specs.declared.item.StructBody.{StructBody}
+use Rattle.ir_syntax.specs.declared.item.StructBody.TheVariants as bodies
+use Rattle.ir_syntax.specs.declared.item.Variable as the_variable
+use Rattle.ir_syntax.specs.declared.item.Head.{Head}
+use Rattle.ir_syntax.specs.declared.item.Parameter.{Parameter}
+use Rattle.ir_syntax.specs.declared.functions.FormalParameters.{FormalParameters}
+use Rattle.ir_syntax.specs.declared.functions.Declared.{Declared}
+use Rattle.ir_syntax.specs.declared.functions.Defined.{Defined}
+use Rattle.ir_syntax.specs.declared.variables.VariableRest.{VariableRest}
+use Rattle.ir_syntax.specs.declared.item.Item.{Item}
+use Rattle.ir_syntax.specs.declared.item.Item.TheVariants as items
+use Rattle.ir_syntax.specs.Tree.{BodyTree, OpaqueBody, PlainBody, PackedBody, VariableTree, ParameterTree, HeadTree, ItemTree, SourceFilename, DataLayout, TargetTriple, Struct, Variable, Declaration, Definition, Attributes, Metadata}
+
+abbrev pub body_view : StructBody → BodyTree
+body_view bodies.Opaque = OpaqueBody
+body_view (bodies.Plain fields) = PlainBody (map type_view fields.items)
+body_view (bodies.Packed fields) = PackedBody (map type_view fields.items)
+
+abbrev pub variable_view : the_variable.Variable → VariableTree
+variable_view v = record {
+  name = v.name;
+  linkage = v.linkage;
+  constant = v.constant;
+  ty = type_view v.ty;
+  initialiser = option_map constant_view v.initialiser;
+  alignment = v.alignment;
+}
+
+abbrev pub parameter_view : Parameter → ParameterTree
+parameter_view p = (type_view p.ty, p.name)
+
+abbrev pub parameters_view : FormalParameters → List ParameterTree × Bool
+parameters_view p = (map parameter_view p.parameters.items, p.variadic)
+
+abbrev pub declared_view : Declared → List TypeTree × Bool
+declared_view d = (map type_view d.types.items, d.variadic)
+
+abbrev pub defined_view : Defined → (List ParameterTree × Bool) × List BlockTree
+defined_view d = (parameters_view d.parameters, map block_view d.blocks.items)
+
+abbrev pub variable_rest_view : VariableRest → Option ConstantTree × Option Integer
+variable_rest_view v = (option_map constant_view v.initialiser, v.alignment)
+
+abbrev pub head_view : Head → HeadTree
+head_view h = record { linkage = h.linkage; returns = type_view h.returns; name = h.name }
+
+abbrev pub item_view : Item → ItemTree
+item_view (items.SourceFilename place text) = SourceFilename place text
+item_view (items.DataLayout place text) = DataLayout place text
+item_view (items.TargetTriple place text) = TargetTriple place text
+item_view (items.Struct name body) = Struct name (body_view body)
+item_view (items.Variable variable) = Variable (variable_view variable)
+item_view (items.Declaration place head parameters variadic) = Declaration place (head_view head) (map type_view parameters.items) variadic
+item_view (items.Definition place head parameters blocks) = Definition place (head_view head) (map parameter_view parameters.items) (map block_view blocks.items)
+item_view (items.Attributes place) = Attributes place
+item_view (items.Metadata place) = Metadata place
+
+abbrev pub items_view : List Item → List ItemTree
+items_view all = map item_view all

@@ -1,0 +1,245 @@
+//! Reads declarations and definitions.
+ghost use Rattle.std.specs.Prelude.{◌≡◌, map, IfOk};
+ghost use Rattle.phrase_rows.specs.Row.{optional};
+ghost use Rattle.ir_constants.specs.View.{type_view};
+ghost use Rattle.ir_instructions.specs.View.{block_view};
+ghost use Rattle.ir_syntax.specs.Functions.{parameter_row, dots_row, parameter_step, some_parameters_row, parameter_list_row, parameters_row, head_row, metadata_row, parameter_types, declared_row, declaration_row, body_row, defined_row, definition_row};
+ghost use Rattle.ir_syntax.specs.View.{parameter_view, parameters_view, declared_view, defined_view, head_view, item_view};
+ghost use Rattle.ir_terminals.specs.Role.{class};
+ghost use Rattle.ir_terminals.specs.Tokens.{local_row};
+ghost use Rattle.ir_terminals.specs.Follows.{Follows};
+
+use crate::heads::{global_words, optional_linkage};
+use crate::item::{Head, Item, Parameter};
+use ir_constants::{Type, begins_type, type_of};
+use ir_instructions::{
+    Block, attachment, blocks_of, convention, function_attributes, parameter_attributes,
+};
+use ir_terminals::{Cursor, Fault, Local, Terminal};
+use std::alloc::{AllocError, Global};
+
+/// `LOCAL?`
+fn optional_local(cursor: &mut Cursor) -> Result<Option<Local>, Fault>
+    ensures { Follows (λ _. optional class local_row) (λ x. x) cursor.old result cursor.new }
+{
+    if !cursor.is_next(Terminal::Local) {
+        return Ok(None);
+    }
+    let local = cursor.local()?;
+    Ok(Some(local))
+}
+
+/// `TYPE PDROP* LOCAL?`
+#[tactic(auto, unfolding(crate::specs::Functions::parameter_core))]
+fn parameter(cursor: &mut Cursor) -> Result<Parameter, Fault>
+    ensures { Follows parameter_row parameter_view cursor.old result cursor.new }
+{
+    let ty = type_of(cursor)?;
+    parameter_attributes(cursor)?;
+    let name = optional_local(cursor)?;
+    Ok(Parameter { ty, name })
+}
+
+/// `...`, where it may stand.
+fn dots(cursor: &mut Cursor, may_stand: bool) -> Result<bool, Fault>
+    ensures { Follows (λ _. dots_row may_stand) (λ x. x) cursor.old result cursor.new }
+{
+    if !may_stand {
+        return Err(Fault::Refused);
+    }
+    cursor.take(Terminal::Dots)?;
+    Ok(true)
+}
+
+/// Parameters, and whether `...` ends them.
+#[derive(Drop)]
+struct FormalParameters {
+    parameters: Vec<Parameter>,
+    variadic: bool,
+}
+
+/// `, PARAM` or `, ...`, behind these parameters, which `...` does not end.
+fn one_more(
+    cursor: &mut Cursor,
+    may_end_in_dots: bool,
+    before: FormalParameters,
+) -> Result<FormalParameters, Fault>
+    ensures { Follows (λ limits. parameter_step may_end_in_dots limits (parameters_view before)) parameters_view cursor.old result cursor.new }
+{
+    let FormalParameters {
+        mut parameters,
+        variadic,
+    } = before;
+    if variadic {
+        return Err(Fault::Refused);
+    }
+    cursor.take(Terminal::Comma)?;
+    if cursor.is_next(Terminal::Dots) {
+        let variadic = dots(cursor, may_end_in_dots)?;
+        return Ok(FormalParameters {
+            parameters,
+            variadic,
+        });
+    }
+    parameters.push(parameter(cursor)?)?;
+    Ok(FormalParameters {
+        parameters,
+        variadic: false,
+    })
+}
+
+/// `PARAM (, PARAM)* (, ...)?`
+fn some_parameters(cursor: &mut Cursor, may_end_in_dots: bool) -> Result<FormalParameters, Fault>
+    ensures { Follows (some_parameters_row may_end_in_dots) parameters_view cursor.old result cursor.new }
+{
+    let mut parameters = Vec::new(cursor.alloc());
+    parameters.push(parameter(cursor)?)?;
+    let mut all = FormalParameters {
+        parameters,
+        variadic: false,
+    };
+    'parameters: while cursor.is_next(Terminal::Comma) {
+        all = one_more(cursor, may_end_in_dots, all)?;
+    }
+    Ok(all)
+}
+
+/// `PARAM,*`, which may end in `...` where that may stand.
+fn parameter_list(cursor: &mut Cursor, may_end_in_dots: bool) -> Result<FormalParameters, Fault>
+    ensures { Follows (parameter_list_row may_end_in_dots) parameters_view cursor.old result cursor.new }
+{
+    if cursor.is_next(Terminal::Dots) {
+        let variadic = dots(cursor, may_end_in_dots)?;
+        return Ok(FormalParameters {
+            parameters: Vec::new(cursor.alloc()),
+            variadic,
+        });
+    }
+    if begins_type(cursor) {
+        return some_parameters(cursor, may_end_in_dots);
+    }
+    Ok(FormalParameters {
+        parameters: Vec::new(cursor.alloc()),
+        variadic: false,
+    })
+}
+
+/// `( PARAM,* )`
+#[tactic(auto, unfolding(crate::specs::Functions::parameters_core))]
+fn parameters(cursor: &mut Cursor, may_end_in_dots: bool) -> Result<FormalParameters, Fault>
+    ensures { Follows (parameters_row may_end_in_dots) parameters_view cursor.old result cursor.new }
+{
+    cursor.take(Terminal::OpenParenthesis)?;
+    let parameters = parameter_list(cursor, may_end_in_dots)?;
+    cursor.take(Terminal::CloseParenthesis)?;
+    Ok(parameters)
+}
+
+/// `LINKAGE? GDROP* CC? PDROP* TYPE GLOBAL`
+#[tactic(auto, unfolding(crate::specs::Functions::head_core))]
+fn head(cursor: &mut Cursor) -> Result<Head, Fault>
+    ensures { Follows head_row head_view cursor.old result cursor.new }
+{
+    let linkage = optional_linkage(cursor)?;
+    global_words(cursor)?;
+    convention(cursor)?;
+    parameter_attributes(cursor)?;
+    let returns = type_of(cursor)?;
+    let name = cursor.global_name()?;
+    Ok(Head {
+        linkage,
+        returns,
+        name,
+    })
+}
+
+/// `MD*`
+fn metadata(cursor: &mut Cursor) -> Result<(), Fault>
+    ensures { Follows (λ _. metadata_row) (λ x. x) cursor.old result cursor.new }
+{
+    'metadata: while cursor.is_next(Terminal::MetaName) {
+        attachment(cursor)?;
+    }
+    Ok(())
+}
+
+/// The types of the parameters.
+fn types_of(alloc: Global, parameters: Vec<Parameter>) -> Result<Vec<Type>, AllocError>
+    ensures { IfOk result (λ types. map type_view types.items ≡ parameter_types (map parameter_view parameters.items)) }
+{
+    let mut types = Vec::new(alloc);
+    'parameters: for parameter in parameters {
+        types.push(parameter.ty)?;
+    }
+    Ok(types)
+}
+
+/// What stands behind the name of a declaration: the types of the parameters, and whether `...` ends them.
+#[derive(Drop)]
+struct Declared {
+    types: Vec<Type>,
+    variadic: bool,
+}
+
+/// `( PARAM,* ) FDROP*`
+#[tactic(auto, unfolding(crate::specs::Functions::declared_core))]
+fn declared_behind(cursor: &mut Cursor) -> Result<Declared, Fault>
+    ensures { Follows declared_row declared_view cursor.old result cursor.new }
+{
+    let FormalParameters {
+        parameters,
+        variadic,
+    } = parameters(cursor, true)?;
+    function_attributes(cursor)?;
+    let types = types_of(cursor.alloc(), parameters)?;
+    Ok(Declared { types, variadic })
+}
+
+/// `declare MD* LINKAGE? GDROP* CC? PDROP* TYPE GLOBAL ( PARAM,* ) FDROP*`
+pub fn declaration(cursor: &mut Cursor) -> Result<Item, Fault>
+    ensures { Follows declaration_row item_view cursor.old result cursor.new }
+{
+    let place = cursor.take(Terminal::Declare)?;
+    metadata(cursor)?;
+    let head = head(cursor)?;
+    let Declared { types, variadic } = declared_behind(cursor)?;
+    Ok(Item::Declaration(place, head, types, variadic))
+}
+
+/// `FDROP* MD* { BLOCK+ }`
+#[tactic(auto, unfolding(crate::specs::Functions::body_core))]
+fn body(cursor: &mut Cursor) -> Result<Vec<Block>, Fault>
+    ensures { Follows body_row (λ blocks. map block_view blocks.items) cursor.old result cursor.new }
+{
+    function_attributes(cursor)?;
+    metadata(cursor)?;
+    blocks_of(cursor)
+}
+
+/// What stands behind the name of a definition.
+#[derive(Drop)]
+struct Defined {
+    parameters: FormalParameters,
+    blocks: Vec<Block>,
+}
+
+/// `( PARAM,* ) FDROP* MD* { BLOCK+ }`
+#[tactic(auto, unfolding(crate::specs::Functions::defined_core))]
+fn defined_behind(cursor: &mut Cursor) -> Result<Defined, Fault>
+    ensures { Follows defined_row defined_view cursor.old result cursor.new }
+{
+    let parameters = parameters(cursor, cursor.limits().wide)?;
+    let blocks = body(cursor)?;
+    Ok(Defined { parameters, blocks })
+}
+
+/// `define LINKAGE? GDROP* CC? PDROP* TYPE GLOBAL ( PARAM,* ) FDROP* MD* { BLOCK+ }`
+pub fn definition(cursor: &mut Cursor) -> Result<Item, Fault>
+    ensures { Follows definition_row item_view cursor.old result cursor.new }
+{
+    let place = cursor.take(Terminal::Define)?;
+    let head = head(cursor)?;
+    let Defined { parameters, blocks } = defined_behind(cursor)?;
+    let FormalParameters { parameters, .. } = parameters;
+    Ok(Item::Definition(place, head, parameters, blocks))
+}

@@ -1,0 +1,177 @@
+//! Reads a text whole, and tells why one is refused.
+ghost use Rattle.std.specs.Prelude.{◌≡◌, ◌⊎◌, ◌<◌, ◌≤◌, ◌^◌, List, Some, length, slice_get, IfOk, IfErr, IsErrAnd};
+ghost use Rattle.std.specs.Bool.{MatchBool};
+ghost use Rattle.ir_syntax.specs.Answers.{HasItems, FirstBad, passed};
+ghost use Rattle.ir_syntax.specs.Counts.{counted};
+ghost use Rattle.ir_syntax.specs.Items.{IsViable};
+ghost use Rattle.ir_syntax.specs.Refusal.{IsRefused, IsLeftOut, through};
+ghost use Rattle.ir_syntax.specs.Tree.{ItemTree};
+ghost use Rattle.ir_syntax.specs.View.{items_view};
+ghost use Rattle.ir_syntax.specs.declared.read.SyntaxFault.{SyntaxFault as TheFault};
+ghost use Rattle.ir_lexer.specs.Ahead.{Located};
+ghost use Rattle.ir_terminals.specs.Position.{text_tokens};
+
+use crate::item::Items;
+use crate::items::all_items;
+use ir_base::{Place, Text};
+use ir_terminals::{Cursor, Fault, Limits};
+use std::alloc::{AllocError, Global};
+use thiserror::Error;
+
+/// Why a text is not read: the first place with which no list of items can go on, and why it can't.
+#[derive(Debug, Drop, PartialEq, Eq, Error)]
+pub enum SyntaxFault {
+    /// No token begins there.
+    #[error("bad byte")]
+    BadByte(Place),
+    /// No item goes on, or begins, with the token there.
+    #[error("no item here")]
+    NoItemHere(Place),
+    /// The language leaves out what the token there begins or is.
+    #[error("left out")]
+    LeftOutWord(Place, Text),
+    /// The token there opens a type or a constant 65 deep.
+    #[error("too deep")]
+    TooDeep(Place),
+    /// Memory ran out.
+    #[error("memory ran out")]
+    Memory,
+}
+
+impl From<AllocError> for SyntaxFault {
+    ghost use Rattle.std.specs.Prelude.{◌≡◌};
+    ghost use Rattle.ir_syntax.specs.declared.read.SyntaxFault.TheVariants.{Memory};
+
+    ghost from_gives = { λ _ fault. fault ≡ Memory };
+
+    fn from(_: AllocError) -> Self {
+        SyntaxFault::Memory
+    }
+}
+
+/// The language: types and constants nest no more than 64 deep.
+const LANGUAGE: Limits = Limits {
+    nesting: 64,
+    wide: false,
+};
+
+/// The language with one nest more, in which what opens at 65 might stand.
+const DEEPER: Limits = Limits {
+    nesting: 65,
+    wide: false,
+};
+
+/// The language in which unnamed locals name structs, and `...` ends the parameters of a definition.
+const WIDER: Limits = Limits {
+    nesting: 64,
+    wide: true,
+};
+
+/// Whether the tokens up to and with the one with this number are viable within these limits.
+fn is_viable_through(
+    alloc: Global,
+    text: &[u8],
+    limits: Limits,
+    number: usize,
+) -> Result<bool, AllocError>
+    requires short { length text.now ≤ 2 ^ 24 }
+    requires token { number < length (text_tokens text.now) }
+    ensures { IfOk result (λ viable. MatchBool viable (IsViable limits (through text.now number)) (IsViable limits (through text.now number) → ⊥)) }
+{
+    let mut cursor = Cursor::new(alloc, text, limits);
+    match all_items(&mut cursor) {
+        Ok(_) => return Ok(true),
+        Err(Fault::Memory) => return Err(AllocError),
+        Err(Fault::Refused) => {}
+    }
+    Ok(number < cursor.taken())
+}
+
+/// Whether the token at which the cursor stands is left out: by itself, or where the wider language has it.
+fn is_left_out(alloc: Global, text: &[u8], cursor: &Cursor) -> Result<bool, AllocError>
+    requires short { length text.now ≤ 2 ^ 24 }
+    requires text { cursor.now.text ≡ text.now }
+    requires token { cursor.now.taken < length (text_tokens text.now) }
+    ensures { (t : Located) → slice_get (text_tokens text.now) cursor.now.taken ≡ Some t
+        → IfOk result (λ left_out. MatchBool left_out (IsLeftOut text.now cursor.now.taken t) (IsLeftOut text.now cursor.now.taken t → ⊥)) }
+{
+    if cursor.is_left_out() {
+        return Ok(true);
+    }
+    is_viable_through(alloc, text, WIDER, cursor.taken())
+}
+
+/// The refusal of a token with this spelling, which is left out.
+fn left_out(alloc: Global, place: Place, spelling: &[u8]) -> SyntaxFault
+    ensures { (result ≡ SyntaxFault.LeftOutWord place spelling.now) ⊎ (result ≡ SyntaxFault.Memory) }
+{
+    match Text::from_slice(alloc, spelling) {
+        Ok(word) => SyntaxFault::LeftOutWord(place, word),
+        Err(_) => SyntaxFault::Memory,
+    }
+}
+
+/// Why the text is refused at the token where the cursor stands, which is the first bad one.
+fn token_refusal(alloc: Global, text: &[u8], cursor: &Cursor) -> SyntaxFault
+    requires short { length text.now ≤ 2 ^ 24 }
+    requires text { cursor.now.text ≡ text.now }
+    requires token { cursor.now.taken < length (text_tokens text.now) }
+    requires first_bad { FirstBad text.now (passed cursor.now) }
+    ensures { IsRefused text.now result ⊎ (result ≡ SyntaxFault.Memory) }
+{
+    let place = cursor.place();
+    match is_viable_through(alloc, text, DEEPER, cursor.taken()) {
+        Ok(true) => return SyntaxFault::TooDeep(place),
+        Ok(false) => {}
+        Err(_) => return SyntaxFault::Memory,
+    }
+    match is_left_out(alloc, text, cursor) {
+        Ok(true) => left_out(alloc, place, cursor.spelling()),
+        Ok(false) => SyntaxFault::NoItemHere(place),
+        Err(_) => SyntaxFault::Memory,
+    }
+}
+
+/// Why the text is refused at the place where the cursor stands, which is the first bad one.
+fn refusal(alloc: Global, text: &[u8], cursor: &Cursor) -> SyntaxFault
+    requires short { length text.now ≤ 2 ^ 24 }
+    requires text { cursor.now.text ≡ text.now }
+    requires first_bad { FirstBad text.now (passed cursor.now) }
+    ensures { IsRefused text.now result ⊎ (result ≡ SyntaxFault.Memory) }
+{
+    let place = cursor.place();
+    if cursor.is_bad() {
+        return SyntaxFault::BadByte(place);
+    }
+    match cursor.terminal() {
+        None => SyntaxFault::NoItemHere(place),
+        Some(_) => token_refusal(alloc, text, cursor),
+    }
+}
+
+/// The items of a text of at most 16 MiB, which is refused exactly where its tokens are no list of items: at the first
+/// token with which no list of items can go on, by the first kind that applies there.
+///
+/// The items, parameters, blocks and instructions together are no more than the tokens, each of which has a byte.
+pub fn read_items(alloc: Global, text: &[u8]) -> Result<Items, SyntaxFault>
+    requires { length text.now ≤ 2 ^ 24 }
+    // What is read are the text's items.
+    ensures items { IfOk result (λ items. HasItems text.now (items_view items)) }
+    // A text has no other items.
+    ensures one { IfOk result (λ items. (others : List ItemTree) → HasItems text.now others → others ≡ items_view items) }
+    // There are no more of them than the text has bytes.
+    ensures count { IfOk result (λ items. counted (items_view items) ≤ 2 ^ 24) }
+    // What is told is the first bad place, by its kind.
+    ensures refused { IfErr result (λ fault. IsRefused text.now fault ⊎ (fault ≡ SyntaxFault.Memory)) }
+    // A text that has items is not refused, but for want of memory.
+    ensures only { IfErr result (λ fault. (items : List ItemTree) → HasItems text.now items → fault ≡ SyntaxFault.Memory) }
+    // A text that is refused is refused so, but for want of memory.
+    ensures only_refused { (fault : TheFault) → IsRefused text.now fault → IsErrAnd result (λ told. (told ≡ fault) ⊎ (told ≡ SyntaxFault.Memory)) }
+{
+    let mut cursor = Cursor::new(alloc, text, LANGUAGE);
+    match all_items(&mut cursor) {
+        Ok(items) => Ok(Items::from_vec(items)),
+        Err(Fault::Memory) => Err(SyntaxFault::Memory),
+        Err(Fault::Refused) => Err(refusal(alloc, text, &cursor)),
+    }
+}

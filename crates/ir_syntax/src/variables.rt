@@ -1,0 +1,198 @@
+//! Reads variables, and structs that have names.
+ghost use Rattle.std.specs.Prelude.{option_map};
+ghost use Rattle.phrase_rows.specs.Row.{labelled};
+ghost use Rattle.ir_constants.specs.View.{type_view, constant_view};
+ghost use Rattle.ir_instructions.specs.Dropped.{section_row};
+ghost use Rattle.ir_syntax.specs.Variables.{plain_body_row, packed_body_row, body_row, struct_row, constant_word_row, variable_head_row, initialiser_row, tail_row, tail_shape, tails_row, variable_rest_row, variable_row};
+ghost use Rattle.ir_syntax.specs.View.{body_view, variable_rest_view, item_view};
+ghost use Rattle.ir_terminals.specs.Follows.{Follows};
+
+use crate::heads::{global_words, optional_linkage};
+use crate::item::{Item, StructBody, Variable};
+use ir_constants::{Constant, Type, constant_of, fields_of, type_of};
+use ir_instructions::attachment;
+use ir_tables::Linkage;
+use ir_terminals::{Cursor, Fault, Integer, PlacedName, Terminal};
+
+/// `{ TYPE,* }`
+fn plain_body(cursor: &mut Cursor) -> Result<StructBody, Fault>
+    ensures { Follows plain_body_row body_view cursor.old result cursor.new }
+{
+    cursor.take(Terminal::OpenBrace)?;
+    let fields = fields_of(cursor)?;
+    cursor.take(Terminal::CloseBrace)?;
+    Ok(StructBody::Plain(fields))
+}
+
+/// `<{ TYPE,* }>`
+fn packed_body(cursor: &mut Cursor) -> Result<StructBody, Fault>
+    ensures { Follows packed_body_row body_view cursor.old result cursor.new }
+{
+    cursor.take(Terminal::Less)?;
+    cursor.take(Terminal::OpenBrace)?;
+    let fields = fields_of(cursor)?;
+    cursor.take(Terminal::CloseBrace)?;
+    cursor.take(Terminal::Greater)?;
+    Ok(StructBody::Packed(fields))
+}
+
+/// `opaque`, `{ TYPE,* }` or `<{ TYPE,* }>`.
+fn body(cursor: &mut Cursor) -> Result<StructBody, Fault>
+    ensures { Follows body_row body_view cursor.old result cursor.new }
+{
+    if cursor.is_next(Terminal::Opaque) {
+        cursor.take(Terminal::Opaque)?;
+        Ok(StructBody::Opaque)
+    } else if cursor.is_next(Terminal::OpenBrace) {
+        plain_body(cursor)
+    } else {
+        packed_body(cursor)
+    }
+}
+
+/// `LOCAL = type opaque`, `LOCAL = type { TYPE,* }` or `LOCAL = type <{ TYPE,* }>`.
+pub fn structure(cursor: &mut Cursor) -> Result<Item, Fault>
+    ensures { Follows struct_row item_view cursor.old result cursor.new }
+{
+    let name = cursor.named_local()?;
+    cursor.take(Terminal::Equals)?;
+    cursor.take(Terminal::Type)?;
+    let body = body(cursor)?;
+    Ok(Item::Struct(name, body))
+}
+
+/// `global` or `constant`.
+fn constant_word(cursor: &mut Cursor) -> Result<bool, Fault>
+    ensures { Follows (λ _. constant_word_row) (λ x. x) cursor.old result cursor.new }
+{
+    if cursor.is_next(Terminal::Global) {
+        cursor.take(Terminal::Global)?;
+        return Ok(false);
+    }
+    cursor.take(Terminal::Constant)?;
+    Ok(true)
+}
+
+/// What stands before an initialiser.
+#[derive(Drop)]
+struct VariableHead {
+    name: PlacedName,
+    linkage: Option<Linkage>,
+    constant: bool,
+    ty: Type,
+}
+
+/// `GLOBAL = LINKAGE? GDROP* (global|constant) TYPE`
+fn variable_head(cursor: &mut Cursor) -> Result<VariableHead, Fault>
+    ensures { Follows variable_head_row (λ h. (h.name, (h.linkage, (h.constant, type_view h.ty)))) cursor.old result cursor.new }
+{
+    let name = cursor.global_name()?;
+    cursor.take(Terminal::Equals)?;
+    let linkage = optional_linkage(cursor)?;
+    global_words(cursor)?;
+    let constant = constant_word(cursor)?;
+    let ty = type_of(cursor)?;
+    Ok(VariableHead {
+        name,
+        linkage,
+        constant,
+        ty,
+    })
+}
+
+/// `CONST`, exactly where the linkage is not `external` or `extern_weak`.
+#[tactic(auto, unfolding(crate::specs::Variables::initialiser_core))]
+fn initialiser(cursor: &mut Cursor, linkage: Option<Linkage>) -> Result<Option<Constant>, Fault>
+    ensures { Follows (λ limits. initialiser_row limits linkage) (option_map constant_view) cursor.old result cursor.new }
+{
+    match linkage {
+        Some(Linkage::External | Linkage::ExternWeak) => Ok(None),
+        _ => {
+            let constant = constant_of(cursor)?;
+            Ok(Some(constant))
+        }
+    }
+}
+
+/// `section STRING`
+fn section(cursor: &mut Cursor) -> Result<(), Fault>
+    ensures { Follows (λ _. section_row) (λ x. x) cursor.old result cursor.new }
+{
+    cursor.take(Terminal::Section)?;
+    cursor.take(Terminal::Quoted)?;
+    Ok(())
+}
+
+/// `align INT`, where no alignment is written yet, `section STRING`, or `MD`: the alignment behind it.
+fn tail(cursor: &mut Cursor, alignment: Option<Integer>) -> Result<Option<Integer>, Fault>
+    ensures { Follows (λ _. labelled tail_shape (tail_row alignment)) (λ x. x) cursor.old result cursor.new }
+{
+    if alignment.is_none() && cursor.is_next(Terminal::Align) {
+        cursor.take(Terminal::Align)?;
+        let written = cursor.integer()?;
+        return Ok(Some(written));
+    }
+    if cursor.is_next(Terminal::Section) {
+        section(cursor)?;
+    } else {
+        attachment(cursor)?;
+    }
+    Ok(alignment)
+}
+
+/// `TAIL*`, for the alignment.
+fn tails(cursor: &mut Cursor) -> Result<Option<Integer>, Fault>
+    ensures { Follows (λ _. tails_row) (λ x. x) cursor.old result cursor.new }
+{
+    let mut alignment = None;
+    'tails: while cursor.is_next(Terminal::Comma) {
+        cursor.take(Terminal::Comma)?;
+        alignment = tail(cursor, alignment)?;
+    }
+    Ok(alignment)
+}
+
+/// What stands behind the type of a variable.
+#[derive(Drop)]
+struct VariableRest {
+    initialiser: Option<Constant>,
+    alignment: Option<Integer>,
+}
+
+/// `CONST? TAIL*`, behind a type.
+#[tactic(auto, unfolding(crate::specs::Variables::variable_rest_core))]
+fn rest_behind(cursor: &mut Cursor, linkage: Option<Linkage>) -> Result<VariableRest, Fault>
+    ensures { Follows (λ limits. variable_rest_row limits linkage) variable_rest_view cursor.old result cursor.new }
+{
+    let initialiser = initialiser(cursor, linkage)?;
+    let alignment = tails(cursor)?;
+    Ok(VariableRest {
+        initialiser,
+        alignment,
+    })
+}
+
+/// `GLOBAL = LINKAGE? GDROP* (global|constant) TYPE CONST? TAIL*`
+pub fn variable(cursor: &mut Cursor) -> Result<Item, Fault>
+    ensures { Follows variable_row item_view cursor.old result cursor.new }
+{
+    let head = variable_head(cursor)?;
+    let VariableRest {
+        initialiser,
+        alignment,
+    } = rest_behind(cursor, head.linkage)?;
+    let VariableHead {
+        name,
+        linkage,
+        constant,
+        ty,
+    } = head;
+    Ok(Item::Variable(Variable {
+        name,
+        linkage,
+        constant,
+        ty,
+        initialiser,
+        alignment,
+    }))
+}

@@ -1,0 +1,10 @@
+pub mod Decimals
+pub mod Fronts
+pub mod NumberNames
+pub mod WordLists
+pub mod OpcodeClasses
+pub mod Taking
+pub mod Machines
+pub mod Stacks
+pub mod RowsRead
+pub mod Opened

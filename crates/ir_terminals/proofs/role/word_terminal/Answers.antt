@@ -1,0 +1,20 @@
+use Rattle.std.proofs.Common.{◌≡◌, ◌<◌, length, sym, ◌∙◌, arith}
+use Rattle.std.proofs.lemmas.Bool.Decides.{nat_tests}
+use Rattle.ir_terminals.specs.Words.{word_terminal, words_by_role}
+use Rattle.ir_terminals.proofs.WordLists.{by_width, by_list, empty_word, no_bytes, with_first_byte}
+use Rattle.ir_terminals.proofs.role.word_terminal.Goals as goal
+
+pub returns-in-Some : goal.returns-in-Some
+unfolding word_terminal
+returns-in-Some c = by_width _ _ _ c.in-Some.ensures
+
+pub returns-then-is_empty : goal.returns-then-is_empty
+returns-then-is_empty c =
+    let none : length c.args.word.now ≡ 0 = grind (arith, nat_tests) in
+    rw (no_bytes c.args.word.now none) (sym empty_word)
+
+pub returns : goal.returns
+unfolding word_terminal
+returns c =
+    let some : 0 < length c.args.word.now = grind (arith, nat_tests) in
+    c.meaning_in.ensures ∙ rw c.words_with.ensures (with_first_byte words_by_role c.args.word.now some) ∙ sym (by_list _ _ c.in_default.ensures)

@@ -1,0 +1,44 @@
+-- What a cursor keeps: a lexer, and what the lexer answered last.
+use Rattle.std.specs.Prelude.{◌≡◌, ℕ, ◌≤◌, ◌^◌, Bool, true, false, List, [], length, drop}
+use Rattle.ir_lexer.specs.Ahead.{Ahead, ahead, before_all}
+use Rattle.ir_lexer.specs.Lexer.{Lexing, LiesIn, spelled}
+use Rattle.ir_lexer.specs.Place.{place_of}
+use Rattle.ir_lexer.specs.Table.{IsToken}
+use Rattle.ir_terminals.specs.Position.{text_tokens, is_cut_off, end_place, is_behind_less, is_less}
+use Rattle.ir_terminals.specs.Role.{terminal}
+use Rattle.ir_terminals.specs.declared.cursor.Front.{Front}
+use Rattle.ir_terminals.specs.declared.cursor.Front.TheVariants as fronts
+
+-- the answer, and what is ahead of the lexer
+abbrev pub ahead_from : Lexing → Front → Ahead
+ahead_from l (fronts.Token t x) = before_all (record { token = spelled l.text t; place = t.place }) (ahead l)
+ahead_from l fronts.End = record { tokens = []; bad = false; place = place_of l.text l.at }
+ahead_from l (fronts.Bad place) = record { tokens = []; bad = true; place = place }
+
+-- a token lies in the text, is spelled as its kind is, and has its terminal
+abbrev pub IsSound : List ℕ → Front → Type 0
+IsSound text (fronts.Token t x) = LiesIn text t × IsToken t.kind (spelled text t).spelling × (x ≡ terminal (spelled text t))
+IsSound text fronts.End = Unit {0}
+IsSound text (fronts.Bad place) = Unit {0}
+
+-- the lexer's answer
+pub record IsFrontOf (old : Lexing) (front : Front) (new : Lexing) : Type 0 where
+  pub is_ahead : ahead old ≡ ahead_from new front
+  pub text : new.text ≡ old.text
+  pub sound : IsSound new.text front
+
+-- the lexer and its last answer are behind so many tokens of the text
+pub record IsAt (l : Lexing) (front : Front) (taken : ℕ) (behind : Bool) : Type 0 where
+  pub short : length l.text ≤ 2 ^ 24
+  pub tokens : drop taken (text_tokens l.text) ≡ (ahead_from l front).tokens
+  pub bad : is_cut_off l.text ≡ (ahead_from l front).bad
+  pub place : end_place l.text ≡ (ahead_from l front).place
+  pub within : taken ≤ length (text_tokens l.text)
+  pub sound : IsSound l.text front
+  pub behind_is : behind ≡ is_behind_less l.text taken
+
+-- whether the answer is the token `<`
+abbrev pub front_less : Front → Bool
+front_less (fronts.Token t x) = is_less x
+front_less fronts.End = false
+front_less (fronts.Bad place) = false

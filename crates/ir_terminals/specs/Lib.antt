@@ -1,0 +1,13 @@
+pub mod Digits
+pub mod Magnitude
+pub mod Terminal
+pub mod Words
+pub mod WordRows
+pub mod Role
+pub mod Values
+pub mod Position
+pub mod Front
+pub mod Follows
+pub mod Tokens
+pub mod Brackets
+pub mod LeftOut

@@ -1,0 +1,61 @@
+-- The rows of one token.
+use Rattle.std.specs.Prelude.{ℕ, [], ◌∷◌}
+use Rattle.ir_base.specs.declared.place.Place.{Place}
+use Rattle.ir_lexer.specs.Ahead.{Located}
+use Rattle.ir_tables.specs.declared.flag.Flag.{Flag}
+use Rattle.ir_tables.specs.declared.linkage.Linkage.{Linkage}
+use Rattle.ir_tables.specs.declared.opcode.Opcode.{Opcode}
+use Rattle.ir_tables.specs.declared.predicate.Predicate.{Predicate}
+use Rattle.phrase_rows.specs.Row.{Row, one}
+use Rattle.ir_terminals.specs.Role.{class}
+use Rattle.ir_terminals.specs.Values.{place_of_token, integer_of, name_of_global, local_of, named_local_of, label_of, text_of, bytes_of, linkage_of, flag_of, predicate_of, opcode_of, width_of}
+use Rattle.ir_terminals.specs.Terminal.{code, linkage_class, flag_class, predicate_class, integer_type_class, opcode_classes}
+use Rattle.ir_terminals.specs.declared.limits.Limits.{Limits}
+use Rattle.ir_terminals.specs.declared.terminal.Terminal.{Terminal}
+use Rattle.ir_terminals.specs.declared.terminal.Terminal.TheVariants as terminals
+use Rattle.ir_terminals.specs.declared.values.Integer.{Integer}
+use Rattle.ir_terminals.specs.declared.values.Local.{Local}
+use Rattle.ir_terminals.specs.declared.values.PlacedName.{PlacedName}
+use Rattle.ir_terminals.specs.declared.values.PlacedText.{PlacedText}
+
+-- a token of the terminal's class, for its place
+abbrev pub word : Terminal → Row Located Place
+word wanted = one class (code wanted ∷ []) place_of_token
+
+abbrev pub integer_row : Row Located Integer
+integer_row = one class (code terminals.Integer ∷ []) integer_of
+
+abbrev pub global_name_row : Row Located PlacedName
+global_name_row = one class (code terminals.GlobalName ∷ []) name_of_global
+
+abbrev pub local_row : Row Located Local
+local_row = one class (code terminals.Local ∷ []) local_of
+
+-- a local that names a type or a struct
+abbrev pub named_local_row : Limits → Row Located PlacedName
+named_local_row limits = one class (code terminals.Local ∷ []) (named_local_of limits.wide)
+
+abbrev pub label_row : Row Located Local
+label_row = one class (code terminals.Label ∷ []) label_of
+
+abbrev pub quoted_row : Row Located PlacedText
+quoted_row = one class (code terminals.Quoted ∷ []) text_of
+
+abbrev pub byte_string_row : Row Located PlacedText
+byte_string_row = one class (code terminals.ByteString ∷ []) bytes_of
+
+abbrev pub linkage_row : Row Located Linkage
+linkage_row = one class (linkage_class ∷ []) linkage_of
+
+abbrev pub flag_row : Row Located Flag
+flag_row = one class (flag_class ∷ []) flag_of
+
+abbrev pub predicate_row : Row Located Predicate
+predicate_row = one class (predicate_class ∷ []) predicate_of
+
+abbrev pub opcode_row : Row Located Opcode
+opcode_row = one class opcode_classes opcode_of
+
+-- iN, for its width
+abbrev pub integer_width_row : Row Located ℕ
+integer_width_row = one class (integer_type_class ∷ []) width_of

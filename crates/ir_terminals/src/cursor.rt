@@ -1,0 +1,220 @@
+//! A cursor over the tokens of a text.
+ghost use Rattle.std.specs.Prelude.{◌≡◌, ◌+◌, ◌≤◌, ◌<◌, ◌^◌, length, [], ◌∷◌};
+ghost use Rattle.ir_lexer.specs.Ahead.{AheadIs, ahead};
+ghost use Rattle.ir_lexer.specs.Lexer.{at_start};
+ghost use Rattle.ir_terminals.specs.Position.{text_tokens, left, first_kind, first_spelling, first_place, first_terminal, is_bad_next, is_behind_less, IsFirstToken, stepped};
+ghost use Rattle.ir_terminals.specs.Front.{IsFrontOf, front_less};
+ghost use Rattle.ir_terminals.specs.Role.{class};
+ghost use Rattle.ir_terminals.specs.Terminal.{code};
+ghost use Rattle.phrase_rows.specs.Row.{among, begins};
+
+use crate::limits::Limits;
+use crate::role::terminal_of;
+use crate::terminal::Terminal;
+use ir_base::Place;
+use ir_lexer::{Lexer, Token, TokenKind};
+use std::alloc::Global;
+use std::marker::Model;
+
+/// What stands next: a token with its terminal, the end of the text, or a byte at which no token begins.
+#[derive(Clone, Copy, Debug)]
+enum Front {
+    Token(Token, Terminal),
+    End,
+    Bad(Place),
+}
+
+/// Goes over the tokens of a text, of which it copies none.
+#[derive(Drop)]
+pub struct Cursor<'t> {
+    alloc: Global,
+    limits: Limits,
+    lexer: Lexer<'t>,
+    front: Front,
+    taken: usize,
+    behind_less: bool,
+}
+
+impl<'t> Model for Cursor<'t> {
+    ghost use Rattle.ir_terminals.specs.Position.{Position};
+    ghost use Rattle.ir_terminals.specs.Front.{IsAt};
+
+    ghost Value = { Position };
+
+    ghost view = { λ cursor. record { limits = cursor.limits; text = cursor.lexer.text; taken = cursor.taken } };
+
+    ghost invariant = { λ cursor. IsAt cursor.lexer cursor.front cursor.taken cursor.behind_less };
+}
+
+/// What the lexer answers next.
+fn front_of(lexer: &mut Lexer) -> Front
+    ensures { IsFrontOf lexer.old result lexer.new }
+{
+    match lexer.next() {
+        Ok(Some(token)) => {
+            let terminal = terminal_of(token.kind, lexer.spelling(&token));
+            Front::Token(token, terminal)
+        }
+        Ok(None) => Front::End,
+        Err(bad) => Front::Bad(bad.place),
+    }
+}
+
+impl<'t> Cursor<'t> {
+    /// A cursor at the first token of the text, which has at most 16 MiB. The tokens are those of the text, or those
+    /// before its first byte at which no token begins, and there are no more of them than bytes.
+    pub fn new(alloc: Global, text: &'t [u8], limits: Limits) -> Cursor<'t>
+        requires { length text.now ≤ 2 ^ 24 }
+        ensures start { result ≡ record { limits = limits; text = text.now; taken = 0 } }
+        ensures tokens { AheadIs text.now (ahead (at_start text.now)) }
+        ensures few { length (text_tokens text.now) ≤ length text.now }
+    {
+        let mut lexer = Lexer::new(text);
+        let front = front_of(&mut lexer);
+        Cursor {
+            alloc,
+            limits,
+            lexer,
+            front,
+            taken: 0,
+            behind_less: false,
+        }
+    }
+
+    /// The allocator.
+    pub fn alloc(&self) -> Global {
+        self.alloc
+    }
+
+    /// The limits of the phrases.
+    pub fn limits(&self) -> Limits
+        ensures { result ≡ self.now.limits }
+    {
+        self.limits
+    }
+
+    /// How many tokens were taken.
+    pub fn taken(&self) -> usize
+        ensures count { result ≡ self.now.taken }
+        ensures within { self.now.taken ≤ length (text_tokens self.now.text) }
+        ensures few { length (text_tokens self.now.text) ≤ length self.now.text }
+        ensures short { length self.now.text ≤ 2 ^ 24 }
+    {
+        self.taken
+    }
+
+    /// What the next token is, if one is left.
+    pub fn terminal(&self) -> Option<Terminal>
+        ensures { result ≡ first_terminal (left self.now) }
+    {
+        match self.front {
+            Front::Token(_, terminal) => Some(terminal),
+            Front::End => None,
+            Front::Bad(_) => None,
+        }
+    }
+
+    /// The kind of the next token, if one is left.
+    pub fn kind(&self) -> Option<TokenKind>
+        ensures { result ≡ first_kind (left self.now) }
+    {
+        match self.front {
+            Front::Token(token, _) => Some(token.kind),
+            Front::End => None,
+            Front::Bad(_) => None,
+        }
+    }
+
+    /// The bytes of the next token, and none if no token is left.
+    pub fn spelling(&self) -> &[u8]
+        ensures bytes { result.now ≡ first_spelling (left self.now) }
+        ensures token { IsFirstToken (left self.now) }
+    {
+        match self.front {
+            Front::Token(token, _) => self.lexer.spelling(&token),
+            Front::End => &[],
+            Front::Bad(_) => &[],
+        }
+    }
+
+    /// The place of the next token, or of the end of the text, or of the byte at which no token begins.
+    pub fn place(&self) -> Place
+        ensures { result ≡ first_place self.now (left self.now) }
+    {
+        match self.front {
+            Front::Token(token, _) => token.place,
+            Front::End => self.lexer.place(),
+            Front::Bad(place) => place,
+        }
+    }
+
+    /// Whether all tokens were taken, and behind them stands a byte at which no token begins.
+    pub fn is_bad(&self) -> bool
+        ensures { result ≡ is_bad_next self.now (left self.now) }
+    {
+        match self.front {
+            Front::Token(_, _) => false,
+            Front::End => false,
+            Front::Bad(_) => true,
+        }
+    }
+
+    /// Whether the last token that was taken is `<`.
+    pub(crate) fn is_behind_less(&self) -> bool
+        ensures { result ≡ is_behind_less self.now.text self.now.taken }
+    {
+        self.behind_less
+    }
+
+    /// Whether a token of the wanted class is next.
+    pub fn is_next(&self, wanted: Terminal) -> bool
+        ensures { result ≡ begins class (code wanted ∷ []) (left self.now) }
+    {
+        match self.terminal() {
+            Some(terminal) => terminal.code() == wanted.code(),
+            None => false,
+        }
+    }
+
+    /// Whether a token of one of these classes is next.
+    pub fn begins(&self, classes: &[u8]) -> bool
+        ensures { result ≡ begins class classes.now (left self.now) }
+    {
+        match self.terminal() {
+            Some(terminal) => is_among(terminal.code(), classes),
+            None => false,
+        }
+    }
+
+    /// Goes over the next token.
+    pub(crate) fn advance(&mut self)
+        requires { 0 < length (left self.old) }
+        ensures { self.new ≡ stepped self.old }
+    {
+        self.behind_less = is_less(self.front);
+        self.front = front_of(&mut self.lexer);
+        self.taken += 1;
+    }
+}
+
+/// Whether the token `<` stands next.
+fn is_less(front: Front) -> bool
+    ensures { result ≡ front_less front }
+{
+    match front {
+        Front::Token(_, Terminal::Less) => true,
+        _ => false,
+    }
+}
+
+/// Whether the class is one of these.
+fn is_among(class: u8, classes: &[u8]) -> bool
+    ensures { result ≡ among class classes.now }
+{
+    for other in classes {
+        if class == *other {
+            return true;
+        }
+    }
+    false
+}

@@ -1,0 +1,55 @@
+//! Numbers that digits write, while they fit.
+ghost use Rattle.std.specs.Prelude.{◌≡◌, ◌+◌, ◌-◌, ◌*◌, ◌^◌, ◌&&◌, nat_le};
+ghost use Rattle.std.specs.List.{list_all};
+ghost use Rattle.ir_terminals.specs.Digits.{are_digits, below, decimal};
+
+/// The number that a digit makes of the number that those before it write, where it is below 2^64.
+fn with_digit(number: u64, digit: u8) -> Option<u64>
+    ensures { result ≡ below (2 ^ 64) (number * 10 + (digit - 48)) }
+{
+    let digit = u64::from(digit.saturating_sub(b'0'));
+    number.checked_mul(10)?.checked_add(digit)
+}
+
+/// The same below 2^128.
+fn with_wide_digit(number: u128, digit: u8) -> Option<u128>
+    ensures { result ≡ below (2 ^ 128) (number * 10 + (digit - 48)) }
+{
+    let digit = u128::from(digit.saturating_sub(b'0'));
+    number.checked_mul(10)?.checked_add(digit)
+}
+
+/// The number that the digits write, where it is below 2^64.
+pub(crate) fn decimal_64(digits: &[u8]) -> Option<u64>
+    ensures { result ≡ below (2 ^ 64) (decimal digits.now) }
+{
+    let mut number = 0;
+    for digit in digits {
+        number = with_digit(number, *digit)?;
+    }
+    Some(number)
+}
+
+/// The number that the digits write, where it is below 2^128.
+pub(crate) fn decimal_128(digits: &[u8]) -> Option<u128>
+    ensures { result ≡ below (2 ^ 128) (decimal digits.now) }
+{
+    let mut number = 0;
+    for digit in digits {
+        number = with_wide_digit(number, *digit)?;
+    }
+    Some(number)
+}
+
+fn each_is_digit(bytes: &[u8]) -> bool
+    ensures { result ≡ list_all (λ byte. nat_le 48 byte && nat_le byte 57) bytes.now }
+{
+    bytes.iter().all(|byte| b'0' <= *byte && *byte <= b'9')
+}
+
+/// Whether there is a byte and each is a digit.
+pub(crate) fn are_digits(bytes: &[u8]) -> bool
+    ensures { result ≡ are_digits bytes.now }
+{
+    !bytes.is_empty() && each_is_digit(bytes)
+}

@@ -1,0 +1,29 @@
+//! The tokens of a text as the phrases of the language see them, and a cursor that goes over them.
+//!
+//! It stands on `ir_base`, `ir_lexer`, `ir_tables` and `phrase_rows`. Its promise: each reading call follows its row of
+//! one token or of matching brackets, whatever stands behind it. What phrases are made of tokens is not its concern.
+//! Definitions: `specs/Words`, `specs/Terminal`, `specs/Values`, `specs/Position`, `specs/Tokens`, `specs/LeftOut`.
+#![tactic(auto)]
+
+mod brackets;
+mod cursor;
+mod digits;
+mod fault;
+mod left_out;
+mod limits;
+mod number;
+mod reading;
+mod role;
+mod terminal;
+#[cfg(test)]
+mod tests;
+mod values;
+mod words;
+
+pub use cursor::Cursor;
+pub use fault::Fault;
+pub use limits::Limits;
+pub use number::Number;
+pub use role::terminal_of;
+pub use terminal::Terminal;
+pub use values::{Integer, Local, PlacedName, PlacedText};

@@ -1,0 +1,270 @@
+//! The calls that read one token.
+ghost use Rattle.std.specs.Prelude.{◌≡◌, ◌<◌, drop, length, true, IfOk, Some};
+ghost use Rattle.ir_lexer.specs.Names.{has_name, name_in};
+ghost use Rattle.ir_lexer.specs.Table.{IsToken};
+ghost use Rattle.ir_lexer.specs.declared.token.TokenKind.TheVariants.{Label, UnnamedLocal};
+ghost use Rattle.ir_terminals.specs.Follows.{Follows};
+ghost use Rattle.ir_terminals.specs.Tokens.{word, integer_row, global_name_row, local_row, named_local_row, label_row, quoted_row, byte_string_row, linkage_row, flag_row, predicate_row, opcode_row, integer_width_row};
+ghost use Rattle.ir_terminals.specs.Digits.{decimal};
+ghost use Rattle.ir_terminals.specs.Position.{left, first_kind, first_spelling};
+ghost use Rattle.ir_terminals.specs.Role.{class};
+ghost use Rattle.ir_terminals.specs.Terminal.{code, opcode_classes};
+ghost use Rattle.phrase_rows.specs.Row.{among, begins};
+ghost use Rattle.ir_terminals.specs.Values.{integer_at, label_at};
+
+use crate::cursor::Cursor;
+use crate::fault::Fault;
+use crate::number::Number;
+use crate::terminal::Terminal;
+use crate::values::{Integer, Local, PlacedName, PlacedText};
+use ir_base::{Name, Place, Text};
+use ir_lexer::{TokenKind, is_number, name_of, unquote};
+use ir_tables::{Flag, Linkage, Opcode, Predicate};
+use std::alloc::{AllocError, Global};
+
+/// The integer that is spelled so.
+fn integer_at(alloc: Global, place: Place, spelling: &[u8]) -> Result<Integer, AllocError>
+    ensures { IfOk result (λ integer. integer ≡ integer_at place spelling.now) }
+{
+    if let [b'-', digits @ ..] = spelling {
+        Ok(Integer {
+            negative: true,
+            magnitude: Number::of_digits(alloc, digits)?,
+            place,
+        })
+    } else {
+        Ok(Integer {
+            negative: false,
+            magnitude: Number::of_digits(alloc, spelling)?,
+            place,
+        })
+    }
+}
+
+/// The name that the digits of an unnamed local are.
+fn digits_name(alloc: Global, spelling: &[u8]) -> Result<Name, AllocError>
+    requires { IsToken UnnamedLocal spelling.now }
+    ensures { IfOk result (λ name. name ≡ drop 1 spelling.now) }
+{
+    let text = Text::from_slice(alloc, &spelling[1..])?;
+    Ok(Name::from_text(text).unwrap())
+}
+
+/// The number of an unnamed local.
+fn number_behind_mark(alloc: Global, spelling: &[u8]) -> Result<Number, AllocError>
+    requires { 0 < length spelling.now }
+    ensures { IfOk result (λ number. number ≡ decimal (drop 1 spelling.now)) }
+{
+    Number::of_digits(alloc, &spelling[1..])
+}
+
+/// What the label with this spelling is called.
+fn label_at(alloc: Global, place: Place, spelling: &[u8]) -> Result<Local, AllocError>
+    requires { IsToken Label spelling.now }
+    ensures { IfOk result (λ label. Some label ≡ label_at (record { token = record { kind = Label; spelling = spelling.now }; place = place })) }
+{
+    if is_number(spelling) {
+        let number = Number::of_digits(alloc, &spelling[..spelling.len() - 1])?;
+        return Ok(Local::Numbered(number, place));
+    }
+    let name = name_of(alloc, TokenKind::Label, spelling)?;
+    Ok(Local::Named(PlacedName { name, place }))
+}
+
+/// Whether this is an opcode's word.
+fn is_opcode(terminal: Terminal) -> bool
+    ensures { result ≡ among (code terminal) opcode_classes }
+{
+    terminal.code() > 100
+}
+
+impl<'t> Cursor<'t> {
+    /// Takes a token of the wanted class, and gives its place.
+    pub fn take(&mut self, wanted: Terminal) -> Result<Place, Fault>
+        ensures { Follows (λ _. word wanted) (λ place. place) self.old result self.new }
+    {
+        if !self.is_next(wanted) {
+            return Err(Fault::Refused);
+        }
+        let place = self.place();
+        self.advance();
+        Ok(place)
+    }
+
+    /// Takes an integer.
+    pub fn integer(&mut self) -> Result<Integer, Fault>
+        ensures { Follows (λ _. integer_row) (λ integer. integer) self.old result self.new }
+    {
+        let Some(TokenKind::Integer) = self.kind() else {
+            return Err(Fault::Refused);
+        };
+        let integer = integer_at(self.alloc(), self.place(), self.spelling())?;
+        self.advance();
+        Ok(integer)
+    }
+
+    /// The name that the next token spells, which is of this kind.
+    fn name_here(&self, kind: TokenKind) -> Result<Name, AllocError>
+        requires named { has_name kind ≡ true }
+        requires next { Some kind ≡ first_kind (left self.now) }
+        ensures { IfOk result (λ name. Some name ≡ name_in (record { kind = kind; spelling = first_spelling (left self.now) })) }
+    {
+        name_of(self.alloc(), kind, self.spelling())
+    }
+
+    /// Takes the name of a global.
+    pub fn global_name(&mut self) -> Result<PlacedName, Fault>
+        ensures { Follows (λ _. global_name_row) (λ name. name) self.old result self.new }
+    {
+        let Some(TokenKind::GlobalName) = self.kind() else {
+            return Err(Fault::Refused);
+        };
+        let place = self.place();
+        let name = self.name_here(TokenKind::GlobalName)?;
+        self.advance();
+        Ok(PlacedName { name, place })
+    }
+
+    /// Takes a local, named or unnamed.
+    pub fn local(&mut self) -> Result<Local, Fault>
+        ensures { Follows (λ _. local_row) (λ local. local) self.old result self.new }
+    {
+        let place = self.place();
+        match self.kind() {
+            Some(TokenKind::LocalName) => {
+                let name = self.name_here(TokenKind::LocalName)?;
+                self.advance();
+                Ok(Local::Named(PlacedName { name, place }))
+            }
+            Some(TokenKind::UnnamedLocal) => {
+                let number = number_behind_mark(self.alloc(), self.spelling())?;
+                self.advance();
+                Ok(Local::Numbered(number, place))
+            }
+            _ => Err(Fault::Refused),
+        }
+    }
+
+    /// Takes a local that names a type or a struct. In the wider language the digits of an unnamed one are its name.
+    pub fn named_local(&mut self) -> Result<PlacedName, Fault>
+        ensures { Follows named_local_row (λ name. name) self.old result self.new }
+    {
+        let place = self.place();
+        match self.kind() {
+            Some(TokenKind::LocalName) => {
+                let name = self.name_here(TokenKind::LocalName)?;
+                self.advance();
+                Ok(PlacedName { name, place })
+            }
+            Some(TokenKind::UnnamedLocal) if self.limits().wide => {
+                let name = digits_name(self.alloc(), self.spelling())?;
+                self.advance();
+                Ok(PlacedName { name, place })
+            }
+            _ => Err(Fault::Refused),
+        }
+    }
+
+    /// Takes a label. One of digits alone is a number.
+    pub fn label(&mut self) -> Result<Local, Fault>
+        ensures { Follows (λ _. label_row) (λ label. label) self.old result self.new }
+    {
+        let Some(TokenKind::Label) = self.kind() else {
+            return Err(Fault::Refused);
+        };
+        let label = label_at(self.alloc(), self.place(), self.spelling())?;
+        self.advance();
+        Ok(label)
+    }
+
+    /// Takes a string.
+    pub fn quoted(&mut self) -> Result<PlacedText, Fault>
+        ensures { Follows (λ _. quoted_row) (λ text. text) self.old result self.new }
+    {
+        let Some(TokenKind::Quoted) = self.kind() else {
+            return Err(Fault::Refused);
+        };
+        let place = self.place();
+        let text = unquote(self.alloc(), self.spelling())?;
+        self.advance();
+        Ok(PlacedText { text, place })
+    }
+
+    /// Takes a byte string.
+    pub fn byte_string(&mut self) -> Result<PlacedText, Fault>
+        ensures { Follows (λ _. byte_string_row) (λ text. text) self.old result self.new }
+    {
+        let Some(TokenKind::ByteString) = self.kind() else {
+            return Err(Fault::Refused);
+        };
+        let place = self.place();
+        let text = unquote(self.alloc(), self.spelling())?;
+        self.advance();
+        Ok(PlacedText { text, place })
+    }
+
+    /// Takes the word of a linkage.
+    pub fn linkage(&mut self) -> Result<Linkage, Fault>
+        ensures { Follows (λ _. linkage_row) (λ linkage. linkage) self.old result self.new }
+    {
+        let Some(Terminal::Linkage(linkage)) = self.terminal() else {
+            return Err(Fault::Refused);
+        };
+        self.advance();
+        Ok(linkage)
+    }
+
+    /// Takes the word of a flag.
+    pub fn flag(&mut self) -> Result<Flag, Fault>
+        ensures { Follows (λ _. flag_row) (λ flag. flag) self.old result self.new }
+    {
+        let Some(Terminal::Flag(flag)) = self.terminal() else {
+            return Err(Fault::Refused);
+        };
+        self.advance();
+        Ok(flag)
+    }
+
+    /// Takes the word of a predicate.
+    pub fn predicate(&mut self) -> Result<Predicate, Fault>
+        ensures { Follows (λ _. predicate_row) (λ predicate. predicate) self.old result self.new }
+    {
+        let Some(Terminal::Predicate(predicate)) = self.terminal() else {
+            return Err(Fault::Refused);
+        };
+        self.advance();
+        Ok(predicate)
+    }
+
+    /// Takes the word of an opcode.
+    pub fn opcode(&mut self) -> Result<Opcode, Fault>
+        ensures { Follows (λ _. opcode_row) (λ opcode. opcode) self.old result self.new }
+    {
+        let Some(Terminal::Opcode(opcode)) = self.terminal() else {
+            return Err(Fault::Refused);
+        };
+        self.advance();
+        Ok(opcode)
+    }
+
+    /// Takes an integer type, and gives its width.
+    pub fn integer_width(&mut self) -> Result<u8, Fault>
+        ensures { Follows (λ _. integer_width_row) (λ width. width) self.old result self.new }
+    {
+        let Some(Terminal::IntegerType(width)) = self.terminal() else {
+            return Err(Fault::Refused);
+        };
+        self.advance();
+        Ok(width)
+    }
+
+    /// Whether the word of an opcode is next.
+    pub fn is_opcode_next(&self) -> bool
+        ensures { result ≡ begins class opcode_classes (left self.now) }
+    {
+        match self.terminal() {
+            Some(terminal) => is_opcode(terminal),
+            None => false,
+        }
+    }
+}

@@ -1,0 +1,98 @@
+//! What a token is, by its kind and its spelling.
+ghost use Rattle.std.specs.Prelude.{◌≡◌, option_map};
+ghost use Rattle.ir_terminals.specs.Role.{marks, terminal};
+ghost use Rattle.ir_terminals.specs.Words.{meaning_in, of_width, width_in, width_or, word_terminal};
+ghost use Rattle.ir_terminals.specs.declared.terminal.Terminal.TheVariants.{Other};
+ghost use Rattle.ir_terminals.specs.WordRows.{meanings_of};
+
+use crate::digits::{are_digits, decimal_64};
+use crate::terminal::Terminal;
+use crate::words::{Word, words_with};
+use ir_lexer::TokenKind;
+
+/// What the word is, if it is among these.
+fn meaning_in(words: &[Word], spelling: &[u8]) -> Terminal
+    ensures { result ≡ meaning_in (meanings_of words.now) spelling.now }
+{
+    for word in words {
+        if word.spelling.as_bytes() == spelling {
+            return word.terminal;
+        }
+    }
+    Terminal::Other
+}
+
+/// What an integer type of this width is.
+fn width_terminal(width: Option<u64>) -> Terminal
+    ensures { result ≡ width_or width Other }
+{
+    match width {
+        Some(width) if 1 <= width && width <= 128 => Terminal::IntegerType(width as u8),
+        _ => Terminal::Other,
+    }
+}
+
+/// What the word is, if it is an `i` and digits.
+fn integer_type(word: &[u8]) -> Option<Terminal>
+    ensures { result ≡ option_map of_width (width_in word.now) }
+{
+    match word {
+        [b'i', digits @ ..] if are_digits(digits) => Some(width_terminal(decimal_64(digits))),
+        _ => None,
+    }
+}
+
+/// What a word is. Only the words with its first byte are compared with it.
+fn word_terminal(word: &[u8]) -> Terminal
+    ensures { result ≡ word_terminal word.now }
+{
+    if let Some(terminal) = integer_type(word) {
+        return terminal;
+    }
+    if word.is_empty() {
+        return Terminal::Other;
+    }
+    meaning_in(words_with(word[0]), word)
+}
+
+/// What a mark is.
+fn mark_terminal(spelling: &[u8]) -> Terminal
+    ensures { result ≡ meaning_in marks spelling.now }
+{
+    match spelling {
+        b"=" => Terminal::Equals,
+        b"," => Terminal::Comma,
+        b"(" => Terminal::OpenParenthesis,
+        b")" => Terminal::CloseParenthesis,
+        b"[" => Terminal::OpenBracket,
+        b"]" => Terminal::CloseBracket,
+        b"{" => Terminal::OpenBrace,
+        b"}" => Terminal::CloseBrace,
+        b"<" => Terminal::Less,
+        b">" => Terminal::Greater,
+        b"..." => Terminal::Dots,
+        _ => Terminal::Other,
+    }
+}
+
+/// What a token of this kind and spelling is to the phrases of the language.
+#[tactic(auto, unfolding(crate::specs::Role::terminal))]
+pub fn terminal_of(kind: TokenKind, spelling: &[u8]) -> Terminal
+    ensures { result ≡ terminal (record { kind = kind; spelling = spelling.now }) }
+{
+    match kind {
+        TokenKind::Label => Terminal::Label,
+        TokenKind::Word => word_terminal(spelling),
+        TokenKind::Integer => Terminal::Integer,
+        TokenKind::GlobalName => Terminal::GlobalName,
+        TokenKind::LocalName | TokenKind::UnnamedLocal => Terminal::Local,
+        TokenKind::Quoted => Terminal::Quoted,
+        TokenKind::ByteString => Terminal::ByteString,
+        TokenKind::MetaName => Terminal::MetaName,
+        TokenKind::MetaNumber => Terminal::MetaNumber,
+        TokenKind::MetaMark => Terminal::MetaMark,
+        TokenKind::Group => Terminal::Group,
+        TokenKind::UnnamedGlobal | TokenKind::RecordMark => Terminal::Other,
+        TokenKind::Punctuation => mark_terminal(spelling),
+    }
+}

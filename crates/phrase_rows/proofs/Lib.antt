@@ -1,0 +1,12 @@
+pub mod Tools
+pub mod Plain
+pub mod Chain
+pub mod Alt
+pub mod Many
+pub mod Loop
+pub mod Machine
+pub mod Rules
+pub mod Values
+pub mod Answer
+pub mod Sizes
+mod Examples

@@ -1,0 +1,8 @@
+use Rattle.std.proofs.Common.{◌≡◌, ◌≤◌, Option, length, drop}
+use Rattle.tool_cli.specs.declared.ended.Ended.{Ended}
+use Rattle.tool_cli.proofs.Judging.{IsJudged}
+use Rattle.tool_cli.proofs.work.judge_all.Given as goal
+
+-- the parts so far are accepted, so what is judged of the others is judged of all
+abbrev pub invariant-parts : goal.invariant-parts
+invariant-parts l = (found : Option Ended) → IsJudged (drop l.index l.names) (drop l.index l.texts) found → IsJudged l.names l.texts found

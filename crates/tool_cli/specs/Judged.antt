@@ -1,0 +1,54 @@
+-- Whether inputs are texts of the language, judged in the order of the words.
+use Rattle.std.specs.Prelude.{◌≡◌, ◌⊎◌, ◌==◌, ◌≤◌, ℕ, Bool, List, [], ◌∷◌, length}
+use Rattle.std.specs.Bool.{MatchBool}
+use Rattle.std.specs.List.{starts_with}
+use Rattle.ir_syntax.specs.Answers.{HasItems}
+use Rattle.ir_syntax.specs.Refusal.{IsRefused}
+use Rattle.ir_syntax.specs.Tree.{ItemTree}
+use Rattle.ir_syntax.specs.declared.read.SyntaxFault.{SyntaxFault}
+use Rattle.ir_syntax.specs.declared.read.SyntaxFault.TheVariants as faults
+use Rattle.tool_cli.specs.declared.ended.Ended.{Ended}
+use Rattle.tool_cli.specs.declared.ended.Ended.TheVariants.{BadByte, NoItemHere, LeftOutWord, TooDeep, Memory}
+
+-- The bytes that bitcode begins with (LLVM Bitcode File Format, "LLVM IR Magic Number").
+abbrev pub bitcode_magic : List ℕ
+bitcode_magic = 0x42 ∷ 0x43 ∷ 0xC0 ∷ 0xDE ∷ []
+
+abbrev pub is_bitcode : List ℕ → Bool
+is_bitcode text = starts_with (λ a b. a == b) text bitcode_magic
+
+-- the refusal of a text, told with the name of its input
+abbrev pub refusal_told : List ℕ → SyntaxFault → Ended
+refusal_told name (faults.BadByte place) = BadByte name place
+refusal_told name (faults.NoItemHere place) = NoItemHere name place
+refusal_told name (faults.LeftOutWord place word) = LeftOutWord name place word
+refusal_told name (faults.TooDeep place) = TooDeep name place
+refusal_told name faults.Memory = Memory
+
+-- the text of the input of this name is refused, and this is told
+pub record IsTextRefused (name text : List ℕ) (ended : Ended) : Type 0 where
+  pub fault : SyntaxFault
+  pub refused : IsRefused text fault
+  pub told : ended ≡ refusal_told name fault
+
+-- an input of this name is a text that is refused; bitcode is not judged
+abbrev pub IsPartRefused : List ℕ → List ℕ → Ended → Type 0
+IsPartRefused name text ended = MatchBool (is_bitcode text) ⊥ (IsTextRefused name text ended)
+
+-- an input is a text that has items, or bitcode
+abbrev pub IsPartAccepted : List ℕ → Type 0
+IsPartAccepted text = MatchBool (is_bitcode text) (Unit {0}) ((items : List ItemTree) × HasItems text items)
+
+abbrev pub AreAccepted : List (List ℕ) → Type 0
+AreAccepted [] = Unit {0}
+AreAccepted (text ∷ texts) = IsPartAccepted text × AreAccepted texts
+
+-- of the inputs of these names, the first that is refused is refused so
+abbrev pub IsFirstRefusal : List (List ℕ) → List (List ℕ) → Ended → Type 0
+IsFirstRefusal (name ∷ names) (text ∷ texts) ended = IsPartRefused name text ended ⊎ (IsPartAccepted text × IsFirstRefusal names texts ended)
+IsFirstRefusal _ _ ended = ⊥
+
+-- each of these texts has at most 16 MiB
+abbrev pub AreShort : List (List ℕ) → Type 0
+AreShort [] = Unit {0}
+AreShort (text ∷ texts) = (length text ≤ 16777216) × AreShort texts
