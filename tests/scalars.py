@@ -1,15 +1,16 @@
 #!/usr/bin/env python3
 """The scalar instructions over Python's whole numbers, written from the LLVM Language Reference.
 
-scalars.py rows     the rows of crates/ir_eval/src/tests/rows.rt
-scalars.py stdin    what crates/scalar_table reads: an instruction a line
-scalars.py stdout   what it must write: its results on all operands of 4 bits
+scalars.py stdin    what crates/scalar_table reads: an instruction a line, then rows with operands of their own
+scalars.py stdout   what it must write: the results on all operands of 4 bits, and those of the rows
+scalars.py --check  whether both files of the crate are those
 scalars.py module   the rows as LLVM constants to fold, to compare with opt outside the gate
 
 Integers are numbers from 0 to 2**width - 1. POISON is poison, and an undefined result is an exception.
 """
 import itertools
 import sys
+from pathlib import Path
 
 POISON = "poison"
 
@@ -140,12 +141,6 @@ BINARY = [
     ("or", [(), ("disjoint",)]), ("xor", [()]),
 ]
 PREDICATES = ["eq", "ne", "ugt", "uge", "ult", "ule", "sgt", "sge", "slt", "sle"]
-CODES = {"nuw": 1, "nsw": 2, "exact": 4, "disjoint": 8, "nneg": 16, "samesign": 32}
-NAMES = {
-    "add": "Add", "sub": "Sub", "mul": "Mul", "udiv": "UDiv", "sdiv": "SDiv", "urem": "URem", "srem": "SRem",
-    "shl": "Shl", "lshr": "LShr", "ashr": "AShr", "and": "And", "or": "Or", "xor": "Xor", "trunc": "Trunc",
-    "zext": "ZExt", "sext": "SExt", "ptrtoint": "PtrToInt", "inttoptr": "IntToPtr",
-}
 
 
 def chosen_binary():
@@ -217,96 +212,32 @@ def leaf(value):
 
 
 def address(value):
-    return "p" if value == POISON else f"(at {value})"
+    return "p" if value == POISON else f"at:{value}"
 
 
-def code(flags):
-    return sum(CODES[flag] for flag in flags)
-
-
-HEAD = """\
-//! Rows with edges of each instruction and flag, written by `tests/scalars.py rows`.
-//!
-//! A row has the instruction, the code of its flags (or whether `samesign` is there), its width or widths,
-//! its operands and its answer: `p` is poison, and `(at 7)` a pointer without a block.
-use super::{BinaryRow, CastRow, CompareRow};
-use crate::{Pointer, Scalar};
-use ir_tables::{Opcode, Predicate, UndefinedKind};
-
-macro_rules! leaf {
-    (p) => {
-        Scalar::Poison
-    };
-    ((at $address:literal)) => {
-        Scalar::Ptr(Pointer {
-            block: None,
-            address: $address,
-        })
-    };
-    ($number:literal) => {
-        Scalar::Int($number)
-    };
-}
-
-macro_rules! answer {
-    ((undefined $kind:ident)) => {
-        Err(UndefinedKind::$kind)
-    };
-    ($leaf:tt) => {
-        Ok(leaf!($leaf))
-    };
-}
-
-macro_rules! binary_rows {
-    ($($op:ident $flags:literal $width:literal $a:tt $b:tt => $answer:tt;)*) => {
-        [$(BinaryRow(Opcode::$op, $flags, $width, leaf!($a), leaf!($b), answer!($answer)),)*]
-    };
-}
-
-macro_rules! compare_rows {
-    ($($predicate:ident $samesign:literal $width:literal $a:tt $b:tt => $answer:tt;)*) => {
-        [$(CompareRow(Predicate::$predicate, $samesign, $width, leaf!($a), leaf!($b), leaf!($answer)),)*]
-    };
-}
-
-macro_rules! cast_rows {
-    ($($op:ident $flags:literal $from:literal $to:literal $operand:tt => $answer:tt;)*) => {
-        [$(CastRow(Opcode::$op, $flags, $from, $to, leaf!($operand), leaf!($answer)),)*]
-    };
-}
-"""
-
-
-def binary_answer(row):
-    try:
-        return leaf(binary(*row))
-    except Undefined as kind:
-        return f"(undefined {kind})"
+# what a pointer compares by, which arm is chosen, and what stands in the place of poison: written by hand
+BY_HAND = [
+    ("icmp eq 64 in:1:65536 at:65536", "1"), ("icmp ult 64 in:1:65536 in:1:9223372036854775808", "1"),
+    ("icmp slt 64 in:1:65536 in:1:9223372036854775808", "0"),
+    ("select 1 3 p", "3"), ("select 0 p 3", "3"), ("select 0 3 p", "p"), ("select p 3 3", "p"),
+    ("select 1 in:2:9 p", "in:2:9"),
+    ("freeze p", "0"), ("freeze pointer p", "at:0"), ("freeze 5", "5"), ("freeze pointer in:2:9", "in:2:9"),
+]
 
 
 def rows():
-    out = [HEAD]
-    chosen = list(chosen_binary())
-    out.append(f"pub static BINARY: [BinaryRow; {len(chosen)}] = binary_rows! {{")
-    for row in chosen:
-        op, flags, width, a, b = row
-        out.append(f"    {NAMES[op]} {code(flags)} {width} {leaf(a)} {leaf(b)} => {binary_answer(row)};")
-    out += ["};", ""]
-    chosen = list(chosen_compare())
-    out.append(f"pub static COMPARE: [CompareRow; {len(chosen)}] = compare_rows! {{")
-    for row in chosen:
-        predicate, flags, width, a, b = row
-        out.append(f"    {predicate.capitalize()} {'true' if flags else 'false'} {width} {leaf(a)} {leaf(b)} => {leaf(icmp(*row))};")
-    out += ["};", ""]
-    chosen = list(chosen_cast())
-    out.append(f"pub static CAST: [CastRow; {len(chosen)}] = cast_rows! {{")
-    for row in chosen:
-        op, flags, source, target, a = row
+    """Instructions at edges of many widths, as (line, result)."""
+    for op, flags, width, a, b in chosen_binary():
+        yield " ".join((op,) + flags + (str(width), leaf(a), leaf(b))), shown(tried(binary, op, flags, width, a, b))
+    for predicate, flags, width, a, b in chosen_compare():
+        words = ("icmp",) + flags + (predicate, str(width), leaf(a), leaf(b))
+        yield " ".join(words), shown(icmp(predicate, flags, width, a, b))
+    for op, flags, source, target, a in chosen_cast():
         given = address(a) if op == "ptrtoint" else leaf(a)
-        result = address(cast(*row)) if op == "inttoptr" else leaf(cast(*row))
-        out.append(f"    {NAMES[op]} {code(flags)} {source} {target} {given} => {result};")
-    out += ["};", ""]
-    return "\n".join(out)
+        result = cast(op, flags, source, target, a)
+        words = (op,) + flags + (str(source), str(target), given)
+        yield " ".join(words), address(result) if op == "inttoptr" else shown(result)
+    yield from BY_HAND
 
 
 OPERANDS = list(range(16)) + [POISON]
@@ -346,18 +277,27 @@ def module():
     return "\n".join(out)
 
 
+def stdin():
+    return "".join(line + "\n" for line, _ in lines()) + "".join(f"row {line}\n" for line, _ in rows())
+
+
+def stdout():
+    told = "".join(line + ": " + " ".join(map(shown, results)) + "\n" for line, results in lines())
+    return told + "".join(f"row {line}: {result}\n" for line, result in rows())
+
+
 def main():
     verb = sys.argv[1]
-    if verb == "rows":
-        print(rows(), end="")
-    elif verb == "stdin":
-        for line, _ in lines():
-            print(line)
+    if verb == "stdin":
+        print(stdin(), end="")
     elif verb == "stdout":
-        for line, results in lines():
-            print(line + ": " + " ".join(map(shown, results)))
+        print(stdout(), end="")
     elif verb == "module":
         print(module())
+    elif verb == "--check":
+        folder = Path(__file__).resolve().parent.parent / "crates" / "scalar_table"
+        if ((folder / "stdin").read_text(), (folder / "stdout").read_text()) != (stdin(), stdout()):
+            sys.exit("crates/scalar_table: stdin or stdout is not what tests/scalars.py writes")
 
 
 main()

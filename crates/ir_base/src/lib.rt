@@ -19,8 +19,6 @@ mod place;
 mod sink;
 mod source;
 mod standard;
-#[cfg(test)]
-mod tests;
 mod text;
 
 pub use failed::Failed;

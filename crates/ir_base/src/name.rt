@@ -7,6 +7,7 @@ ghost use Rattle.std.specs.Hash as fed;
 ghost use Rattle.std.specs.Cmp.Rules.{comparing, hashing};
 
 use crate::Text;
+use std::alloc::{AllocError, Global};
 use std::hash::{Hash, Hasher};
 use std::marker::Model;
 
@@ -53,6 +54,15 @@ impl Name {
         ensures name { IsName self.now }
     {
         &self.text
+    }
+
+    /// The same name again, in a text of its own.
+    pub fn copy(&self, alloc: Global) -> Result<Name, AllocError>
+        ensures { IfOk result (λ name. name ≡ self.now) }
+    {
+        Ok(Name {
+            text: self.text.copy(alloc)?,
+        })
     }
 }
 

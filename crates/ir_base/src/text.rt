@@ -46,6 +46,13 @@ impl Text {
         Text { bytes }
     }
 
+    /// The same bytes again, in a text of their own.
+    pub fn copy(&self, alloc: Global) -> Result<Text, AllocError>
+        ensures { IfOk result (λ text. text ≡ self.now) }
+    {
+        Text::from_slice(alloc, self.bytes())
+    }
+
     /// Adds a byte at the end, or changes nothing where memory runs out.
     pub fn push(&mut self, byte: u8) -> Result<(), AllocError>
         ensures ok { OnOk result (self.new ≡ self.old ++ byte ∷ []) }

@@ -1,6 +1,6 @@
 -- What each instruction gives is an integer of its width, a pointer where it gives a pointer, or poison.
 use Rattle.std.proofs.Common.{ℕ, ◌/◌, ◌%◌, ◌^◌, ◌<◌, Bool, true, false, not, ◌&&◌, cond, nat_eq, ℤ, pos, negsuc, ◌+ℤ◌, ◌-ℤ◌, ◌*ℤ◌, Option, Some, None, Result, Ok, Err, arith, lit<}
-use Rattle.std.specs.Prelude.{IfOk, int_div, int_rem, nat_le, bit_and, bit_or}
+use Rattle.std.specs.Prelude.{refl, zero, suc, IfOk, int_div, int_rem, nat_le, bit_and, bit_or}
 use Rattle.std.specs.Bool.{beq}
 use Rattle.std.specs.Int.{int_div_euclid}
 use Rattle.std.specs.Ordering.{int_eq}
@@ -13,18 +13,18 @@ use Rattle.ir_tables.specs.declared.undefined_kind.UndefinedKind.{UndefinedKind}
 use Rattle.ir_tables.specs.declared.undefined_kind.UndefinedKind.TheVariants.{DivisionByZero, DivisionOverflow}
 use Rattle.ir_tables.specs.declared.flag.Flag.TheVariants.{Nuw, Nsw, Exact, Disjoint, Nneg}
 use Rattle.ir_tables.specs.Flags.{has_flag}
-use Rattle.ir_eval.specs.Value.{IsInteger, signed, reduced, fits_unsigned, fits_signed, has_sign}
+use Rattle.ir_eval.specs.Value.{IsInteger, IsLeaf, IsDefined, signed, reduced, fits_unsigned, fits_signed, has_sign}
 use Rattle.ir_eval.specs.Arithmetic.{arithmetic}
 use Rattle.ir_eval.specs.Division.{quotient_of, signed_quotient_of, signed_remainder_of}
 use Rattle.ir_eval.specs.Shift.{shifted_left_of, shifted_right_of, signed_shifted_right_of}
 use Rattle.ir_eval.specs.Bitwise.{disjunction_of}
 use Rattle.ir_eval.specs.Compare.{truth, holds, number_of, compared, compare_of}
-use Rattle.ir_eval.specs.Cast.{cast_of, IsCast, IsCastTo}
-use Rattle.ir_eval.specs.Scalar.{integers, operands, binary_of, is_division, is_no_divisor}
+use Rattle.ir_eval.specs.Cast.{cast_of, IsCast, IsCastTo, IsFreeOfBlocks}
+use Rattle.ir_eval.specs.Scalar.{integers, operands, binary_of, is_division, is_no_divisor, select_of, freeze_of}
 use Rattle.ir_eval.specs.declared.value.Scalar.{Scalar}
 use Rattle.ir_eval.specs.declared.value.Scalar.TheVariants.{Int, Ptr, Poison}
 
-reduced_below : (width : ℕ) (whole : ℤ) → reduced width whole < 2 ^ width
+pub reduced_below : (width : ℕ) (whole : ℤ) → reduced width whole < 2 ^ width
 reduced_below width (pos n) = mod_below n (2 ^ width) (pow_pos width)
 reduced_below width (negsuc n) = let p = pow_pos width in omega arith
 
@@ -137,3 +137,34 @@ cast_kind IntToPtr flags from to (Int number) is = tt
 cast_kind IntToPtr flags from to (Ptr pointer) is = tt
 cast_kind IntToPtr flags from to Poison is = tt
 cast_kind _ flags from to operand is = absurd is
+
+pub cast_block : (op : Opcode) (flags from to : ℕ) (operand : Scalar) → IsFreeOfBlocks op (cast_of op flags from to operand)
+unfolding cast_of
+cast_block IntToPtr flags from to (Int number) = refl
+cast_block IntToPtr flags from to (Ptr pointer) = tt
+cast_block IntToPtr flags from to Poison = tt
+cast_block _ flags from to operand = tt
+
+pub select_kind : (condition a b : Scalar) (pointer : Bool) (width : ℕ) → IsLeaf pointer width a → IsLeaf pointer width b → IsLeaf pointer width (select_of condition a b)
+select_kind (Int zero) a b pointer width is_a is_b = is_b
+select_kind (Int (suc more)) a b pointer width is_a is_b = is_a
+select_kind (Ptr at) a b true width is_a is_b = tt
+select_kind (Ptr at) a b false width is_a is_b = tt
+select_kind Poison a b true width is_a is_b = tt
+select_kind Poison a b false width is_a is_b = tt
+
+pub freeze_kind : (pointer : Bool) (operand : Scalar) (width : ℕ) → IsLeaf pointer width operand → IsLeaf pointer width (freeze_of pointer operand)
+freeze_kind true (Int number) width is = is
+freeze_kind true (Ptr at) width is = is
+freeze_kind true Poison width is = tt
+freeze_kind false (Int number) width is = is
+freeze_kind false (Ptr at) width is = is
+freeze_kind false Poison width is = pow_pos width
+
+pub freeze_defined : (pointer : Bool) (operand : Scalar) → IsDefined (freeze_of pointer operand)
+freeze_defined true (Int number) = tt
+freeze_defined true (Ptr at) = tt
+freeze_defined true Poison = tt
+freeze_defined false (Int number) = tt
+freeze_defined false (Ptr at) = tt
+freeze_defined false Poison = tt

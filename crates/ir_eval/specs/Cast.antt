@@ -1,11 +1,11 @@
 -- LangRef, "trunc .. to Instruction", "zext .. to Instruction", "sext .. to Instruction", "ptrtoint .. to
 -- Instruction", "inttoptr .. to Instruction".
-use Rattle.std.specs.Prelude.{ℕ, ◌%◌, ◌^◌, ◌<◌, ◌≡◌, pos, ◌&&◌, None, if◌then◌else◌}
+use Rattle.std.specs.Prelude.{ℕ, ◌%◌, ◌^◌, ◌<◌, ◌≡◌, pos, ◌&&◌, None, ⊤, if◌then◌else◌}
 use Rattle.ir_tables.specs.declared.opcode.Opcode.{Opcode}
 use Rattle.ir_tables.specs.declared.opcode.Opcode.TheVariants.{Trunc, ZExt, SExt, PtrToInt, IntToPtr}
 use Rattle.ir_tables.specs.declared.flag.Flag.TheVariants.{Nneg}
 use Rattle.ir_tables.specs.Flags.{has_flag}
-use Rattle.ir_eval.specs.Value.{signed, reduced, has_sign, IsInteger, IsPointer}
+use Rattle.ir_eval.specs.Value.{signed, reduced, has_sign, IsInteger, IsPointer, HasNoBlock}
 use Rattle.ir_eval.specs.Arithmetic.{arithmetic}
 use Rattle.ir_eval.specs.declared.value.Pointer.{Pointer}
 use Rattle.ir_eval.specs.declared.value.Scalar.{Scalar}
@@ -54,3 +54,8 @@ IsCast _ _ _ _ = ⊥
 abbrev pub IsCastTo : Opcode → ℕ → Scalar → Type 0
 IsCastTo IntToPtr to result = IsPointer result
 IsCastTo _ to result = IsInteger to result
+
+-- an address that was an integer belongs to no block
+abbrev pub IsFreeOfBlocks : Opcode → Scalar → Type 0
+IsFreeOfBlocks IntToPtr result = HasNoBlock result
+IsFreeOfBlocks _ result = ⊤

@@ -1,5 +1,5 @@
 -- Leaves of values, and integers of a width as whole numbers (LangRef, "Integer Type", "Poison Values").
-use Rattle.std.specs.Prelude.{ℕ, ◌-◌, ◌<◌, ◌≤◌, ◌^◌, ℤ, pos, negsuc, ◌-ℤ◌, Bool, false, nat_lt, nat_le, ⊤, unsigned_abs, if◌then◌else◌}
+use Rattle.std.specs.Prelude.{ℕ, ◌-◌, ◌<◌, ◌≤◌, ◌^◌, ℤ, pos, negsuc, ◌-ℤ◌, Bool, true, false, ◌≡◌, None, nat_lt, nat_le, ⊤, unsigned_abs, if◌then◌else◌}
 use Rattle.std.specs.Int.{int_rem_euclid}
 use Rattle.ir_eval.specs.declared.value.Scalar.{Scalar}
 use Rattle.ir_eval.specs.declared.value.Scalar.TheVariants.{Int, Ptr, Poison}
@@ -20,6 +20,23 @@ abbrev pub IsPointer : Scalar → Type 0
 IsPointer (Int number) = ⊥
 IsPointer (Ptr pointer) = ⊤
 IsPointer Poison = ⊤
+
+-- a pointer where that is asked for, and else an integer of this width, or poison
+abbrev pub IsLeaf : Bool → ℕ → Scalar → Type 0
+IsLeaf true width leaf = IsPointer leaf
+IsLeaf false width leaf = IsInteger width leaf
+
+-- a pointer that came from no block, or poison
+abbrev pub HasNoBlock : Scalar → Type 0
+HasNoBlock (Int number) = ⊥
+HasNoBlock (Ptr pointer) = pointer.block ≡ None
+HasNoBlock Poison = ⊤
+
+-- no poison
+abbrev pub IsDefined : Scalar → Type 0
+IsDefined (Int number) = ⊤
+IsDefined (Ptr pointer) = ⊤
+IsDefined Poison = ⊥
 
 -- the number read with its sign, as two's complement
 abbrev pub signed : ℕ → ℕ → ℤ

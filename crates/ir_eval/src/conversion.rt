@@ -1,7 +1,7 @@
 //! Casts between integers of two widths, and between integers and pointers.
 ghost use Rattle.std.specs.Prelude.{◌≡◌, ◌^◌, ◌<◌};
 ghost use Rattle.ir_eval.specs.Value.{IsWidth};
-ghost use Rattle.ir_eval.specs.Cast.{truncated_of, zero_extended_of, sign_extended_of, address_of, pointer_of, cast_of, IsCast, IsCastTo};
+ghost use Rattle.ir_eval.specs.Cast.{truncated_of, zero_extended_of, sign_extended_of, address_of, pointer_of, cast_of, IsCast, IsCastTo, IsFreeOfBlocks};
 
 use crate::width::{fits_signed, greatest, has_sign, low_bits, reduced, signed};
 use crate::{Pointer, Scalar};
@@ -9,13 +9,14 @@ use ir_tables::{Flag, Flags, Opcode};
 
 /// The cast of an integer, a pointer or poison. Widths are from 1 to 128, and that of a pointer is written
 /// 64; `trunc` narrows, `zext` and `sext` widen.
-#[tactic(auto, using(crate::proofs::Ranges::cast_kind), unfolding(crate::specs::Cast::cast_of))]
+#[tactic(auto, using(crate::proofs::Ranges::cast_kind, crate::proofs::Ranges::cast_block), unfolding(crate::specs::Cast::cast_of))]
 pub fn cast(op: Opcode, flags: Flags, from: u8, to: u8, operand: Scalar) -> Scalar
     requires from { IsWidth from }
     requires to { IsWidth to }
     requires cast { IsCast op from to operand }
     ensures value { result ≡ cast_of op flags from to operand }
     ensures kind { IsCastTo op to result }
+    ensures block { IsFreeOfBlocks op result }
 {
     match (op, operand) {
         (Opcode::Trunc, Scalar::Int(number)) => truncated(flags, from, to, number),

@@ -15,13 +15,10 @@ mod division;
 mod operator;
 mod shift;
 mod value;
-mod width;
+pub mod width;
 
 pub use choice::{freeze, select};
 pub use comparison::compare;
 pub use conversion::cast;
 pub use operator::binary;
 pub use value::{Pointer, Scalar};
-
-#[cfg(test)]
-mod tests;

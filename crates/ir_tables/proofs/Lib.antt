@@ -5,3 +5,7 @@ pub mod LinkageValues
 pub mod FlagValues
 pub mod FlagBits
 pub mod UndefinedKindValues
+pub mod IntrinsicValues
+pub mod WidthTexts
+pub mod Fronts
+pub mod IntrinsicNames

@@ -10,7 +10,7 @@ use Rattle.std.proofs.lemmas.Option.{slice_get-map, slice_get_within, slice_get-
 use Rattle.ir_tables.specs.Table.{Entry, IsDistinct, is_distinct, IsTable, is_table, words, codes_of, entries, entry_of}
 use Rattle.ir_tables.specs.declared.table.Row.{Row}
 
-list_any_at : {A : Type 0} (test : A → Bool) (values : List A) (i : ℕ) (value : A) → slice_get values i ≡ Some value → test value ≡ true → list_any test values ≡ true
+pub list_any_at : {A : Type 0} (test : A → Bool) (values : List A) (i : ℕ) (value : A) → slice_get values i ≡ Some value → test value ≡ true → list_any test values ≡ true
 list_any_at test [] i value here passes = absurd (cc)
 list_any_at test (first ∷ values) zero value here passes = let e : first ≡ value = cc in let t : test first ≡ true = ap test e ∙ passes in rw t
 list_any_at test (first ∷ values) (suc i) value here passes = let t = list_any_at test values i value here passes in elim (test first) as (λ v. (v || list_any test values) ≡ true) [ true ↦ refl | false ↦ t ]

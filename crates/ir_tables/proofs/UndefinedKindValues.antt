@@ -1,6 +1,6 @@
 -- Every value of `UndefinedKind` stands in the list of its table.
 use Rattle.std.proofs.Common.{refl}
-use Rattle.ir_tables.specs.declared.undefined_kind.UndefinedKind.TheVariants.{DivisionByZero, DivisionOverflow, BranchOnPoison, PoisonAddress, OutsideBlock, EndedBlock, Misaligned, WriteToConstant, BadFree, Overlap, NoFunction, AnotherFunctionType, PoisonArgument, Unreachable}
+use Rattle.ir_tables.specs.declared.undefined_kind.UndefinedKind.TheVariants.{DivisionByZero, DivisionOverflow, BranchOnPoison, PoisonAddress, OutsideBlock, EndedBlock, Misaligned, WriteToConstant, BadFree, Overlap, NoFunction, AnotherFunctionType, PoisonArgument, Unreachable, BadFormat}
 use Rattle.ir_tables.specs.UndefinedKind.{undefined_kinds}
 use Rattle.ir_tables.proofs.Tables.{IsListed}
 
@@ -19,3 +19,4 @@ undefined_listed NoFunction = (10, refl)
 undefined_listed AnotherFunctionType = (11, refl)
 undefined_listed PoisonArgument = (12, refl)
 undefined_listed Unreachable = (13, refl)
+undefined_listed BadFormat = (14, refl)

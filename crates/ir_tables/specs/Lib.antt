@@ -5,3 +5,7 @@ pub mod Linkage
 pub mod Flag
 pub mod Flags
 pub mod UndefinedKind
+pub mod MayHave
+pub mod Intrinsic
+pub mod IntrinsicName
+pub mod WidthText

@@ -2,7 +2,7 @@
 use Rattle.std.specs.Prelude.{ℕ, List, [], ◌∷◌, map, find, Option, codes, bytes_eq, nat_eq}
 use Rattle.ir_tables.specs.Table.{Entry}
 use Rattle.ir_tables.specs.declared.undefined_kind.UndefinedKind.{UndefinedKind}
-use Rattle.ir_tables.specs.declared.undefined_kind.UndefinedKind.TheVariants.{DivisionByZero, DivisionOverflow, BranchOnPoison, PoisonAddress, OutsideBlock, EndedBlock, Misaligned, WriteToConstant, BadFree, Overlap, NoFunction, AnotherFunctionType, PoisonArgument, Unreachable}
+use Rattle.ir_tables.specs.declared.undefined_kind.UndefinedKind.TheVariants.{DivisionByZero, DivisionOverflow, BranchOnPoison, PoisonAddress, OutsideBlock, EndedBlock, Misaligned, WriteToConstant, BadFree, Overlap, NoFunction, AnotherFunctionType, PoisonArgument, Unreachable, BadFormat}
 
 abbrev pub undefined_word : UndefinedKind → List ℕ
 undefined_word DivisionByZero = codes "division by zero"
@@ -19,6 +19,7 @@ undefined_word NoFunction = codes "no function"
 undefined_word AnotherFunctionType = codes "another function type"
 undefined_word PoisonArgument = codes "poison argument"
 undefined_word Unreachable = codes "unreachable"
+undefined_word BadFormat = codes "bad format"
 
 abbrev pub undefined_code : UndefinedKind → ℕ
 undefined_code DivisionByZero = 1
@@ -35,10 +36,11 @@ undefined_code NoFunction = 11
 undefined_code AnotherFunctionType = 12
 undefined_code PoisonArgument = 13
 undefined_code Unreachable = 14
+undefined_code BadFormat = 15
 
 -- all of them, in the order of the table
 abbrev pub undefined_kinds : List UndefinedKind
-undefined_kinds = DivisionByZero ∷ DivisionOverflow ∷ BranchOnPoison ∷ PoisonAddress ∷ OutsideBlock ∷ EndedBlock ∷ Misaligned ∷ WriteToConstant ∷ BadFree ∷ Overlap ∷ NoFunction ∷ AnotherFunctionType ∷ PoisonArgument ∷ Unreachable ∷ []
+undefined_kinds = DivisionByZero ∷ DivisionOverflow ∷ BranchOnPoison ∷ PoisonAddress ∷ OutsideBlock ∷ EndedBlock ∷ Misaligned ∷ WriteToConstant ∷ BadFree ∷ Overlap ∷ NoFunction ∷ AnotherFunctionType ∷ PoisonArgument ∷ Unreachable ∷ BadFormat ∷ []
 
 abbrev pub undefined_table : List Entry
 undefined_table = map (λ kind. record { word = undefined_word kind; code = undefined_code kind }) undefined_kinds

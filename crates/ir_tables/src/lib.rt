@@ -6,6 +6,8 @@
 #![tactic(auto)]
 
 mod flag;
+mod intrinsic;
+mod intrinsic_name;
 mod linkage;
 mod opcode;
 mod predicate;
@@ -13,11 +15,9 @@ mod table;
 mod undefined_kind;
 
 pub use flag::{Flag, Flags};
+pub use intrinsic::Intrinsic;
 pub use linkage::Linkage;
 pub use opcode::Opcode;
 pub use predicate::Predicate;
 pub use table::{Row, Table};
 pub use undefined_kind::UndefinedKind;
-
-#[cfg(test)]
-mod tests;

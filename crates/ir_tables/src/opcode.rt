@@ -1,9 +1,10 @@
 //! The instructions of the language.
 ghost use Rattle.std.specs.Prelude.{◌≡◌, ◌↔◌, Some};
+ghost use Rattle.ir_tables.specs.MayHave.{may_have};
 ghost use Rattle.ir_tables.specs.Opcode.{opcode_word, opcode_code, opcode_table, opcode_of_word, opcode_of_code};
 
 use crate::table::{code_in, rows, values, word_in};
-use crate::{Row, Table};
+use crate::{Flag, Row, Table};
 
 /// The opcode of an instruction (LangRef, "Instruction Reference").
 #[derive(Clone, Copy, Debug, PartialEq, Eq)]
@@ -126,5 +127,26 @@ impl Opcode {
     {
         let place = table().code_of(code)?;
         Some(VALUES[place])
+    }
+
+    /// Whether an instruction, or a constant expression, with this opcode may have the flag.
+    #[tactic(auto, unfolding(crate::specs::MayHave::may_have))]
+    pub fn may_have(self, flag: Flag) -> bool
+        ensures { result ≡ may_have self flag }
+    {
+        match self {
+            Opcode::Add | Opcode::Sub | Opcode::Mul | Opcode::Shl | Opcode::Trunc => {
+                matches!(flag, Flag::Nuw | Flag::Nsw)
+            }
+            Opcode::UDiv | Opcode::SDiv | Opcode::LShr | Opcode::AShr => {
+                matches!(flag, Flag::Exact)
+            }
+            Opcode::Or => matches!(flag, Flag::Disjoint),
+            Opcode::ICmp => matches!(flag, Flag::Samesign),
+            Opcode::ZExt => matches!(flag, Flag::Nneg),
+            Opcode::Load | Opcode::Store => matches!(flag, Flag::Volatile),
+            Opcode::GetElementPtr => matches!(flag, Flag::Inbounds | Flag::Nusw | Flag::Nuw),
+            _ => false,
+        }
     }
 }

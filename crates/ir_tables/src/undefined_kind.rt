@@ -22,6 +22,7 @@ pub enum UndefinedKind {
     AnotherFunctionType,
     PoisonArgument,
     Unreachable,
+    BadFormat,
 }
 
 macro_rules! undefined_kinds {
@@ -41,11 +42,12 @@ macro_rules! undefined_kinds {
             AnotherFunctionType "another function type" 12,
             PoisonArgument "poison argument" 13,
             Unreachable "unreachable" 14,
+            BadFormat "bad format" 15,
         )
     };
 }
 
-const COUNT: usize = 14;
+const COUNT: usize = 15;
 
 static ROWS: [Row; COUNT] = undefined_kinds!(rows);
 

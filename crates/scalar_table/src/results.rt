@@ -4,7 +4,7 @@ ghost use Rattle.ir_eval.specs.Value.{IsInteger};
 ghost use Rattle.ir_eval.specs.Scalar.{is_binary};
 
 use crate::instruction::Instruction;
-use ir_eval::{Scalar, binary, cast, compare};
+use ir_eval::{Pointer, Scalar, binary, cast, compare};
 use ir_tables::{Opcode, UndefinedKind};
 use std::alloc::{AllocError, Global};
 
@@ -38,7 +38,8 @@ fn operand(place: u8) -> Scalar
     }
 }
 
-fn is_binary(op: Opcode) -> bool
+/// Whether it is a binary instruction.
+pub fn is_binary(op: Opcode) -> bool
     ensures { IsTrue result → IsTrue (is_binary op) }
 {
     match op {
@@ -78,12 +79,24 @@ fn result_of(
     }
 }
 
-fn push(
+/// Adds the result at the end, behind a space.
+pub fn push(
     text: &mut String,
     outcome: Option<Result<Scalar, UndefinedKind>>,
 ) -> Result<(), AllocError> {
     match outcome {
         Some(Ok(Scalar::Int(number))) => write!(text, " {number:x}"),
+        Some(
+            Ok(
+                Scalar::Ptr(
+                    Pointer {
+                        block: Some(block),
+                        address,
+                    },
+                ),
+            ),
+        ) => write!(text, " in:{block}:{address}"),
+        Some(Ok(Scalar::Ptr(Pointer { address, .. }))) => write!(text, " at:{address}"),
         Some(Ok(Scalar::Poison)) => text.push_str(" p"),
         Some(Err(UndefinedKind::DivisionByZero)) => text.push_str(" z"),
         Some(Err(UndefinedKind::DivisionOverflow)) => text.push_str(" o"),
