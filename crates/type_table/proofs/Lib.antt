@@ -1,6 +1,8 @@
 pub mod Added
 pub mod Caps
+pub mod Copied
 pub mod Defined
+pub mod Flags
 pub mod Judged
 pub mod Laid
 pub mod Named
@@ -13,5 +15,6 @@ pub mod Settled
 pub mod ShapeMeasures
 pub mod Steps
 pub mod UnderIds
+pub mod Unheld
 pub mod Walked
 pub mod Wide

@@ -42,7 +42,7 @@ trees-more ns n done count (ty ∷ types) all =
     ∙ trees-more ns n (grow ns done ty) (count + 1) types all.1
 
 -- a default at the end changes no element
-get_or-push_default : {X : Type 0} (xs : List X) (i : ℕ) (d : X) → get_or (xs ++ d ∷ []) i d ≡ get_or xs i d
+pub get_or-push_default : {X : Type 0} (xs : List X) (i : ℕ) (d : X) → get_or (xs ++ d ∷ []) i d ≡ get_or xs i d
 get_or-push_default [] zero d = refl
 get_or-push_default [] (suc i) d = refl
 get_or-push_default (x ∷ xs) zero d = refl

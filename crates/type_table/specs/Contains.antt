@@ -1,4 +1,4 @@
--- Which structs a type holds by value.
+-- For `define_struct`: which structs a type holds by value.
 use Rattle.std.specs.Prelude.{◌≡◌, ℕ, Bool, List}
 use Rattle.type_table.specs.Tree.{Tree, array, struct, named, Trees, more_trees, TreeBody, opaque_body, fields, Structs, body_of}
 

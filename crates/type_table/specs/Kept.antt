@@ -1,5 +1,5 @@
--- What holds of the measures that a table keeps.
-use Rattle.std.specs.Prelude.{◌≡◌, ℕ, ◌^◌, ◌<◌, ◌≤◌, ◌⊎◌, List, length, All, Any, ⊤, Option, Some, None}
+-- For `Measure::is_too_large`, and how the code reads: what holds of the measures that a table keeps.
+use Rattle.std.specs.Prelude.{◌≡◌, ℕ, ◌^◌, ◌<◌, ◌≤◌, ◌⊎◌, Bool, true, false, List, length, All, Any, ⊤, Option, Some, None, slice_index_or, set}
 use Rattle.type_table.specs.declared.fault.TypeFault.{TypeFault}
 use Rattle.type_table.specs.declared.fault.TypeFault.TheVariants.{Duplicate, SelfContaining, TooDeep, TooLarge, Memory}
 use Rattle.type_table.specs.declared.ir_type.IrType.{IrType}
@@ -58,3 +58,27 @@ pub record IsKept (t : Types) (struct_list type_list : List Measure) : Type 0 wh
   pub small_structs : All IsSmall struct_list
   pub small_types : All IsSmall type_list
   pub lengths : All (λ ty. type_length ty ≤ 2 ^ 40) t.types
+
+-- where the type is a struct's name, the struct's flag is set
+abbrev pub IsFlagged : List Bool → IrType → Type 0
+IsFlagged flags (Int w) = ⊤
+IsFlagged flags Ptr = ⊤
+IsFlagged flags Void = ⊤
+IsFlagged flags (Array n part) = ⊤
+IsFlagged flags (Struct packed parts) = ⊤
+IsFlagged flags (Named id) = slice_index_or flags id false ≡ true
+
+-- the flags, with that of the struct set whose name the type is
+abbrev pub flagged_by : List Bool → IrType → List Bool
+flagged_by flags (Int w) = flags
+flagged_by flags Ptr = flags
+flagged_by flags Void = flags
+flagged_by flags (Array n part) = flags
+flagged_by flags (Struct packed parts) = flags
+flagged_by flags (Named id) = set flags id true
+
+-- what is kept of a table: measures, and a flag a struct, set where its name is a type
+pub record IsTable (t : Types) (struct_list type_list : List Measure) (flags : List Bool) : Type 0 where
+  pub kept : IsKept t struct_list type_list
+  pub as_many_flags : length flags ≡ length t.structs
+  pub flagged : All (IsFlagged flags) t.types

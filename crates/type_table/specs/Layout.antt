@@ -1,4 +1,4 @@
--- How a type lies in memory (LangRef, "Data Layout"): sums and roundings over its shape.
+-- For `layout` and `offset`: how a type lies in memory (LangRef, "Data Layout"): sums and roundings over its shape.
 use Rattle.std.specs.Prelude.{ℕ, zero, suc, ◌+◌, ◌*◌, ◌/◌, max, nat_le, Bool, true, false, ◌&&◌, Option, Some, None, if◌then◌else◌}
 use Rattle.std.specs.Int.{next_multiple_of}
 use Rattle.type_table.specs.declared.layout.Layout.{Layout}

@@ -1,5 +1,6 @@
 pub mod Contains
 pub mod Kept
+pub mod Keys
 pub mod Layout
 pub mod Limits
 pub mod Measures

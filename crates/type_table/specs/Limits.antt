@@ -1,4 +1,4 @@
--- How deep and how large the types of a table may be, and why a change is refused.
+-- For `add` and `define_struct`: how deep and how large the types of a table may be, and why a change is refused.
 use Rattle.std.specs.Prelude.{◌≡◌, ℕ, ◌^◌, ◌<◌, ◌≤◌, List, ◌++◌, length, map, All, Any, ⊤, true, slice_index_or, [], Option, Some, None, ◌⊎◌}
 use Rattle.type_table.specs.declared.fault.TypeFault.{TypeFault}
 use Rattle.type_table.specs.declared.fault.TypeFault.TheVariants.{Duplicate, SelfContaining, TooDeep, TooLarge, Memory}

@@ -1,4 +1,4 @@
--- What the table keeps of each type and struct, and how it is found from what is kept of the parts.
+-- For the calls of `Measure`: what is measured of a type, and how it is found from what is measured of its parts.
 use Rattle.std.specs.Prelude.{◌≡◌, ℕ, zero, suc, ◌+◌, ◌*◌, ◌^◌, min, max, Bool, true, false, List, [], ◌∷◌, ◌++◌, map, slice_index_or, Option, Some, None, if◌then◌else◌}
 use Rattle.std.specs.List.{fold}
 use Rattle.std.specs.Option.{option_map}

@@ -1,4 +1,4 @@
--- The shape of a type: its tree with each struct's name replaced by the struct's body, down to the leaves.
+-- For `layout`, `offset` and `shape_eq`: the shape of a type, its tree with each struct's name replaced by the struct's body, down to the leaves.
 use Rattle.std.specs.Prelude.{ℕ, zero, suc, ◌+◌, max, Bool, List, Option, Some, None}
 use Rattle.std.specs.Option.{option_map}
 use Rattle.type_table.specs.Tree.{Tree, int, ptr, void, array, struct, named, Trees, no_trees, more_trees, TreeBody, opaque_body, fields, Structs, body_of}

@@ -1,10 +1,14 @@
 //! Typed ids.
-ghost use Rattle.std.specs.Prelude.{◌≡◌, ℕ};
+ghost use Rattle.std.specs.Prelude.{◌≡◌, ℕ, nat_eq};
+ghost use Rattle.std.specs.Hash as fed;
+ghost use Rattle.std.specs.Cmp.Rules.{comparing, hashing};
+ghost use Rattle.std.proofs.Common.{rules};
 
+use std::hash::{Hash, Hasher};
 use std::marker::Model;
 
 /// The number of a type in its table, counted from 0 in the order of making.
-#[derive(Clone, Copy, Debug, PartialEq, Eq)]
+#[derive(Clone, Copy)]
 pub struct TypeId {
     number: u64,
 }
@@ -33,8 +37,32 @@ impl TypeId {
     }
 }
 
+impl PartialEq for TypeId {
+    ghost eq = { nat_eq };
+
+    ghost laws = { Prim.search (comparing, rules) };
+
+    fn eq(&self, other: &TypeId) -> bool {
+        self.number == other.number
+    }
+}
+
+impl Eq for TypeId {
+    ghost laws = { Prim.search (comparing, rules) };
+}
+
+impl Hash for TypeId {
+    ghost hash_input = { fed.u64 };
+
+    ghost respects_eq = { Prim.search (hashing, rules) };
+
+    fn hash<H: Hasher>(&self, state: &mut H) {
+        self.number.hash(state);
+    }
+}
+
 /// The number of a named struct in its table, counted from 0 in the order of making.
-#[derive(Clone, Copy, Debug, PartialEq, Eq)]
+#[derive(Clone, Copy)]
 pub struct StructId {
     number: u32,
 }
@@ -60,5 +88,29 @@ impl StructId {
         ensures { result ≡ self }
     {
         self.number
+    }
+}
+
+impl PartialEq for StructId {
+    ghost eq = { nat_eq };
+
+    ghost laws = { Prim.search (comparing, rules) };
+
+    fn eq(&self, other: &StructId) -> bool {
+        self.number == other.number
+    }
+}
+
+impl Eq for StructId {
+    ghost laws = { Prim.search (comparing, rules) };
+}
+
+impl Hash for StructId {
+    ghost hash_input = { fed.u32 };
+
+    ghost respects_eq = { Prim.search (hashing, rules) };
+
+    fn hash<H: Hasher>(&self, state: &mut H) {
+        self.number.hash(state);
     }
 }

@@ -1,7 +1,7 @@
 //! How a type lies in memory.
 
 /// How a type lies in memory (LangRef, "Data Layout").
-#[derive(Clone, Copy, Debug, PartialEq, Eq)]
+#[derive(Clone, Copy)]
 pub struct Layout {
     /// The bytes from one element of an array to the next.
     pub size: u64,

@@ -3,7 +3,7 @@
 //! It stands on `ir_base` and `indexmap`. It promises that a layout, an offset and whether two shapes are equal are
 //! those of the types written out through the bodies of their structs, that no type of a table is past the limits
 //! on nesting, parts and size, and that a change is refused exactly where it would make one so.
-//! Definitions: `specs/Tree`, `Shape`, `Layout`, `Contains`, `Limits` and `Types`.
+//! Definitions: `specs/Tree`, `Shape`, `Layout`, `Contains`, `Limits`, `Types`, `Measures` and `Keys`.
 #![tactic(auto)]
 
 mod fault;
@@ -20,7 +20,5 @@ pub use fault::TypeFault;
 pub use ids::{StructId, TypeId};
 pub use ir_type::{IrType, StructBody, TypeList};
 pub use layout::Layout;
+pub use measure::{Measure, NESTING_LIMIT, PARTS_LIMIT, SIZE_LIMIT};
 pub use table::TypeTable;
-
-#[cfg(test)]
-mod tests;

@@ -1,29 +1,35 @@
-//! What the table keeps of each type, and how it is found from what is kept of the type's parts.
-ghost use Rattle.std.specs.Prelude.{◌≡◌, ◌↔◌, ◌<◌, ◌+◌, max, Some, IsTrue};
+//! The measure of a type, and how it is found from those of its parts.
+ghost use Rattle.std.specs.Prelude.{◌≡◌, ◌↔◌, ◌<◌, ◌+◌, max, Some, IsTrue, [], ◌∷◌, OnOk, IfErr};
 ghost use Rattle.std.specs.Int.{next_multiple_of};
-ghost use Rattle.type_table.specs.Kept.{IsLarge};
+ghost use Rattle.type_table.specs.Kept.{IsSmall, IsLarge, HasListFault};
 ghost use Rattle.type_table.specs.Layout.{int_align, placed};
 ghost use Rattle.type_table.specs.Shape.{int_leaf, ptr_leaf, void_leaf};
 ghost use Rattle.type_table.specs.Outline.{next_offset};
-ghost use Rattle.type_table.specs.Measures.{measure, capped, capped_nesting, capped_parts, opaque_measure, array_measure, empty_struct, with_field_layout, with_field, rounded, closed};
+ghost use Rattle.type_table.specs.Measures.{measure, capped, capped_nesting, capped_parts, opaque_measure, array_measure, empty_struct, with_field_layout, with_field, rounded, closed, struct_measure};
 
-use crate::Layout;
+use crate::{Layout, TypeFault};
 
 /// How deep types nest at most.
-pub(crate) const NESTING_LIMIT: u8 = 64;
+pub const NESTING_LIMIT: u8 = 64;
 
 /// How many parts a type has at most.
-pub(crate) const PARTS_LIMIT: u32 = 1 << 20;
+pub const PARTS_LIMIT: u32 = 1 << 20;
 
-/// The greatest size of a type, and the greatest length of an array.
-pub(crate) const SIZE_LIMIT: u64 = 1 << 40;
+/// The greatest size of a type in bytes, and the greatest length of an array.
+pub const SIZE_LIMIT: u64 = 1 << 40;
 
-/// What the table keeps of a type. A number past its limit is kept as the first one past it.
-#[derive(Clone, Copy, Debug, PartialEq, Eq)]
-pub(crate) struct Measure {
-    pub(crate) nesting: u8,
-    pub(crate) parts: u32,
-    pub(crate) layout: Option<Layout>,
+/// How deep a type nests, how many parts it has and how it lies in memory, each cut where it is too large for good: a
+/// measure is found from those of the type's parts, and the type need be in no table.
+#[derive(Clone, Copy)]
+pub struct Measure {
+    /// 0 for an integer, a pointer and `void`; for an array and a struct one more than the deepest part. 255 stands
+    /// for any number past it.
+    pub nesting: u8,
+    /// The nodes of the type, written out through the bodies of its structs; 2^20 + 1 stands for any number past 2^20.
+    pub parts: u32,
+    /// How the type lies in memory, unless it is or holds `void` or a struct without a body. A size and a number of
+    /// leaves of 2^40 + 1 stand for any past 2^40.
+    pub layout: Option<Layout>,
 }
 
 /// The number, or the first one past the limit on sizes.
@@ -95,15 +101,36 @@ fn with_field_layout(packed: bool, sofar: Layout, field: Layout) -> Layout
 }
 
 impl Measure {
-    /// Whether its parts or its size are past their limits.
-    pub(crate) fn is_too_large(&self) -> bool
+    /// Whether the type nests too deep.
+    pub fn is_too_deep(&self) -> bool
+        ensures { IsTrue result ↔ (64 < self.now.nesting) }
+    {
+        self.nesting > NESTING_LIMIT
+    }
+
+    /// Whether the type has too many parts or is too large. The length of an array is no part of a measure.
+    pub fn is_too_large(&self) -> bool
         ensures { IsTrue result ↔ IsLarge self.now }
     {
         self.parts > PARTS_LIMIT || self.layout.is_some_and(|layout| layout.size > SIZE_LIMIT)
     }
 
+    /// Refuses a type past its limits: one that nests too deep, or else one that is too large.
+    pub fn check(&self) -> Result<(), TypeFault>
+        ensures small { OnOk result (IsSmall self.now) }
+        ensures fault { IfErr result (HasListFault (self.now ∷ [])) }
+    {
+        if self.is_too_deep() {
+            return Err(TypeFault::TooDeep);
+        }
+        if self.is_too_large() {
+            return Err(TypeFault::TooLarge);
+        }
+        Ok(())
+    }
+
     /// An integer of that width in bits.
-    pub(crate) fn int(width: u8) -> Measure
+    pub fn int(width: u8) -> Measure
         ensures { result ≡ measure (int_leaf width) }
     {
         let align = int_align(width);
@@ -120,7 +147,7 @@ impl Measure {
     }
 
     /// A pointer.
-    pub(crate) fn ptr() -> Measure
+    pub fn ptr() -> Measure
         ensures { result ≡ measure ptr_leaf }
     {
         Measure {
@@ -135,7 +162,7 @@ impl Measure {
     }
 
     /// No value.
-    pub(crate) fn void() -> Measure
+    pub fn void() -> Measure
         ensures { result ≡ measure void_leaf }
     {
         Measure {
@@ -146,7 +173,7 @@ impl Measure {
     }
 
     /// A struct of which no fields are known.
-    pub(crate) fn opaque() -> Measure
+    pub fn opaque() -> Measure
         ensures { result ≡ opaque_measure }
     {
         Measure {
@@ -157,7 +184,7 @@ impl Measure {
     }
 
     /// An array of that many such elements.
-    pub(crate) fn array(length: u64, element: Measure) -> Measure
+    pub fn array(length: u64, element: Measure) -> Measure
         ensures { result ≡ array_measure length element }
     {
         Measure {
@@ -172,7 +199,7 @@ impl Measure {
     }
 
     /// The struct without fields.
-    pub(crate) fn empty_struct() -> Measure
+    pub fn empty_struct() -> Measure
         ensures { result ≡ empty_struct }
     {
         Measure {
@@ -187,7 +214,7 @@ impl Measure {
     }
 
     /// The struct of the fields so far, with one field more. Its size is not rounded up yet.
-    pub(crate) fn with_field(self, packed: bool, field: Measure) -> Measure
+    pub fn with_field(self, packed: bool, field: Measure) -> Measure
         ensures { result ≡ with_field packed self field }
     {
         Measure {
@@ -211,7 +238,7 @@ impl Measure {
     }
 
     /// The struct of the fields so far, with its size rounded up to its alignment.
-    pub(crate) fn closed(self) -> Measure
+    pub fn closed(self) -> Measure
         ensures { result ≡ closed self }
     {
         Measure {
@@ -223,5 +250,16 @@ impl Measure {
                 leaves: layout.leaves,
             }),
         }
+    }
+
+    /// The struct of these fields.
+    pub fn of_struct(packed: bool, fields: &[Measure]) -> Measure
+        ensures { result ≡ struct_measure packed fields.now }
+    {
+        let mut sofar = Measure::empty_struct();
+        for field in fields {
+            sofar = sofar.with_field(packed, *field);
+        }
+        sofar.closed()
     }
 }

@@ -18,6 +18,17 @@ pub(crate) struct Measures {
 }
 
 impl Measures {
+    /// Equal measures.
+    pub(crate) fn copy(&self, alloc: Global) -> Result<Measures, AllocError>
+        ensures types { IfOk result (λ copy. copy.types.items ≡ self.now.types.items) }
+        ensures structs { IfOk result (λ copy. copy.structs.items ≡ self.now.structs.items) }
+    {
+        Ok(Measures {
+            structs: Vec::from_slice(alloc, &self.structs)?,
+            types: Vec::from_slice(alloc, &self.types)?,
+        })
+    }
+
     /// Refuses measures past their limits: a type too deep, or else one too large.
     pub(crate) fn check(&self) -> Result<(), TypeFault>
         ensures small { OnOk result (All IsSmall (self.now.types.items ++ self.now.structs.items)) }

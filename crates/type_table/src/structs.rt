@@ -1,10 +1,11 @@
 //! The named structs, as a map from their names to their bodies. A struct's id is its place in the map.
-ghost use Rattle.std.specs.Prelude.{◌≡◌, IsTrue, ◌<◌, ◌↔◌, [], ◌∷◌, ◌++◌, slice_get, Some, None, Contains, IsSome, IfErr, IfSome, OnOk, OnErr};
+ghost use Rattle.std.specs.Prelude.{◌≡◌, IsTrue, ◌<◌, ◌↔◌, [], ◌∷◌, ◌++◌, slice_get, Some, None, Contains, IsSome, IfOk, IfSome, OnOk, OnErr, AllPairs, ◌≢◌};
 ghost use Rattle.indexmap.specs.IndexMap.{keys, index_map_len, set_value_at};
 
-use crate::{StructBody, TypeFault};
+use crate::StructBody;
 use indexmap::IndexMap;
 use ir_base::Name;
+use std::alloc::{AllocError, Global};
 
 /// The structs in the order of their names' making. One that is not defined has no body.
 pub(crate) type StructMap = IndexMap<Name, Option<StructBody>>;
@@ -25,14 +26,26 @@ pub(crate) fn place_of(structs: &StructMap, name: &Name) -> Option<usize>
     structs.get_index_of(name)
 }
 
-/// Adds a struct without a body.
-pub(crate) fn add_name(structs: &mut StructMap, name: Name) -> Result<(), TypeFault>
+/// The name of the struct at that place.
+pub(crate) fn name_at(structs: &StructMap, index: usize) -> &Name
+    requires { index < index_map_len structs.now }
+    ensures { slice_get (keys structs.now) index ≡ Some result.now }
+{
+    let (name, _) = structs.as_slice().get_index(index).unwrap();
+    name
+}
+
+/// Adds a struct with that body, or with none.
+pub(crate) fn add_struct(
+    structs: &mut StructMap,
+    name: Name,
+    body: Option<StructBody>,
+) -> Result<(), AllocError>
     requires { ¬ Contains (keys structs.old) name }
-    ensures added { OnOk result (structs.new.entries ≡ structs.old.entries ++ (name, None) ∷ []) }
-    ensures memory { IfErr result (λ fault. fault ≡ TypeFault.Memory) }
+    ensures added { OnOk result (structs.new.entries ≡ structs.old.entries ++ (name, body) ∷ []) }
     ensures err { OnErr result (structs.new.entries ≡ structs.old.entries) }
 {
-    structs.insert(name, None)?;
+    structs.insert(name, body)?;
     Ok(())
 }
 
@@ -42,4 +55,28 @@ pub(crate) fn set_body(structs: &mut StructMap, index: usize, body: StructBody)
     ensures { structs.new.entries ≡ set_value_at structs.old.entries index (Some body) }
 {
     structs[index] = Some(body);
+}
+
+/// An equal body, or none where there is none.
+fn copy_body(alloc: Global, body: &Option<StructBody>) -> Result<Option<StructBody>, AllocError>
+    ensures { IfOk result (λ copy. copy ≡ body.now) }
+{
+    match body {
+        None => Ok(None),
+        Some(body) => Ok(Some(body.copy(alloc)?)),
+    }
+}
+
+/// An equal map of structs whose names are distinct.
+pub(crate) fn copy_structs(alloc: Global, structs: &StructMap) -> Result<StructMap, AllocError>
+    requires { AllPairs (λ a b. a ≢ b) (keys structs.now) }
+    ensures { IfOk result (λ copy. copy.entries ≡ structs.now.entries) }
+{
+    let mut copy = IndexMap::new(alloc);
+    for i in 0..structs.len() {
+        let name = name_at(structs, i).copy(alloc)?;
+        let body = copy_body(alloc, &structs[i])?;
+        add_struct(&mut copy, name, body)?;
+    }
+    Ok(copy)
 }

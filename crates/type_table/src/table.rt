@@ -3,7 +3,7 @@ ghost use Rattle.std.specs.Prelude.{◌≡◌, IsTrue, ◌+◌, ◌<◌, ◌↔�
 ghost use Rattle.std.specs.Option.{option_copied, option_and_then};
 ghost use Rattle.type_table.specs.Tree.{body_of};
 ghost use Rattle.type_table.specs.Types.{Types, no_types, names, bodies, with_type, with_struct, with_body, IsKnown, IsKnownBody, IsGood, trees, tree_of, structs, shape};
-ghost use Rattle.type_table.specs.Kept.{IsLarge, type_length};
+ghost use Rattle.type_table.specs.Kept.{IsLarge, type_length, flagged_by};
 ghost use Rattle.type_table.specs.Limits.{IsWithin, HasFault};
 ghost use Rattle.type_table.specs.Layout.{layout, offset};
 ghost use Rattle.type_table.specs.Outline.{head_of, parts_of};
@@ -11,11 +11,11 @@ ghost use Rattle.type_table.specs.Outline.{head_of, parts_of};
 use crate::measure::{Measure, NESTING_LIMIT, SIZE_LIMIT};
 use crate::outline::{Head, parts_of_body};
 use crate::settle::{Measures, field_offset, measure_at, measure_body, measure_type, remeasured};
-use crate::structs::{StructMap, add_name, has_name, place_of, set_body};
+use crate::structs::{StructMap, add_struct, copy_structs, has_name, name_at, place_of, set_body};
 use crate::{IrType, Layout, StructBody, StructId, TypeFault, TypeId};
 use indexmap::IndexMap;
 use ir_base::Name;
-use std::alloc::Global;
+use std::alloc::{AllocError, Global};
 use std::marker::Model;
 use std::slice;
 
@@ -25,19 +25,21 @@ pub struct TypeTable {
     types: Vec<IrType>,
     structs: StructMap,
     measures: Measures,
+    /// For each struct, whether its name was added as a type. Until then no type holds the struct.
+    flags: Vec<bool>,
 }
 
 impl Model for TypeTable {
     ghost use Rattle.type_table.specs.Types.{Types};
-    ghost use Rattle.type_table.specs.Kept.{IsKept};
+    ghost use Rattle.type_table.specs.Kept.{IsTable};
 
     ghost Value = { Types };
 
     ghost view = { λ t. record { types = t.types.items; structs = t.structs.entries } };
 
     ghost invariant = { λ t.
-        IsKept (record { types = t.types.items; structs = t.structs.entries })
-        t.measures.structs.items t.measures.types.items };
+        IsTable (record { types = t.types.items; structs = t.structs.entries })
+        t.measures.structs.items t.measures.types.items t.flags.items };
 }
 
 impl TypeTable {
@@ -52,7 +54,20 @@ impl TypeTable {
                 structs: Vec::new(alloc),
                 types: Vec::new(alloc),
             },
+            flags: Vec::new(alloc),
         }
+    }
+
+    /// An equal table.
+    pub fn copy(&self, alloc: Global) -> Result<TypeTable, AllocError>
+        ensures { IfOk result (λ t. t ≡ self.now) }
+    {
+        Ok(TypeTable {
+            types: copy_types(alloc, &self.types)?,
+            structs: copy_structs(alloc, &self.structs)?,
+            measures: self.measures.copy(alloc)?,
+            flags: Vec::from_slice(alloc, &self.flags)?,
+        })
     }
 
     /// How many types there are.
@@ -95,6 +110,7 @@ impl TypeTable {
         }
         self.measures.types.reserve(1)?;
         let number = self.types.len() as u64;
+        set_flag(&mut self.flags, &ty);
         self.types.push(ty)?;
         push_into_room(&mut self.measures.types, measure);
         Ok(TypeId::new(number))
@@ -115,14 +131,17 @@ impl TypeTable {
             return Err(TypeFault::Duplicate);
         }
         self.measures.structs.reserve(1)?;
+        self.flags.reserve(1)?;
         let number = self.structs.len() as u32;
-        add_name(&mut self.structs, name)?;
+        add_struct(&mut self.structs, name, None)?;
         push_into_room(&mut self.measures.structs, Measure::opaque());
+        push_into_room(&mut self.flags, false);
         Ok(StructId::new(number))
     }
 
-    /// Gives a struct its body. The measures of all types that hold the struct follow, in passes over the
-    /// whole table: one for each level to which its structs nest, 64 at most.
+    /// Gives a struct its body. Where a type is the struct's name, the measures of all types that hold the struct
+    /// follow, in passes over the whole table: one for each level to which its structs nest, 64 at most. Where none
+    /// is, that is no more than one look at each field.
     pub fn define_struct(&mut self, id: StructId, body: StructBody) -> Result<(), TypeFault>
         requires known { id < length self.old.structs }
         requires fields { IsKnownBody self.old body }
@@ -135,6 +154,12 @@ impl TypeTable {
     {
         let index = id.number() as usize;
         let measure = measure_body(&self.measures.types, Measure::opaque(), &body);
+        if !self.flags[index] {
+            measure.check()?;
+            set_body(&mut self.structs, index, body);
+            self.measures.structs[index] = measure;
+            return Ok(());
+        }
         let alloc = *self.types.allocator();
         let kept = &self.measures.structs;
         let measures = remeasured(alloc, kept, &self.types, &self.structs, index, measure)?;
@@ -242,12 +267,7 @@ impl TypeTable {
         requires { id < length self.now.structs }
         ensures { slice_get (names self.now) id ≡ Some result.now }
     {
-        let (name, _) = self
-            .structs
-            .as_slice()
-            .get_index(id.number() as usize)
-            .unwrap();
-        name
+        name_at(&self.structs, id.number() as usize)
     }
 
     /// The struct with that name. There is none exactly where no struct has it.
@@ -275,10 +295,33 @@ fn is_too_large(measure: &Measure, ty: &IrType) -> bool
     measure.is_too_large() || matches!(ty, IrType::Array(length, _) if *length > SIZE_LIMIT)
 }
 
-/// Adds a measure for which there is room, so that nothing is allocated.
-fn push_into_room(measures: &mut Vec<Measure>, measure: Measure)
-    requires { vec_len measures.old < vec_capacity measures.old }
-    ensures { measures.new.items ≡ measures.old.items ++ measure ∷ [] }
+/// Adds an item for which there is room, so that nothing is allocated.
+fn push_into_room<T: Copy>(items: &mut Vec<T>, item: T)
+    requires { vec_len items.old < vec_capacity items.old }
+    ensures { items.new.items ≡ items.old.items ++ item ∷ [] }
 {
-    measures.push(measure).unwrap();
+    items.push(item).unwrap();
+}
+
+/// Sets the flag of the struct whose name the type is, if it is one.
+fn set_flag(flags: &mut Vec<bool>, ty: &IrType)
+    ensures { flags.new.items ≡ flagged_by flags.old.items ty.now }
+{
+    if let IrType::Named(id) = ty {
+        let index = id.number() as usize;
+        if index < flags.len() {
+            flags[index] = true;
+        }
+    }
+}
+
+/// Equal types.
+fn copy_types(alloc: Global, types: &[IrType]) -> Result<Vec<IrType>, AllocError>
+    ensures { IfOk result (λ copy. copy.items ≡ types.now) }
+{
+    let mut copy = Vec::with_capacity(alloc, types.len())?;
+    for ty in types {
+        copy.push(ty.copy(alloc)?)?;
+    }
+    Ok(copy)
 }

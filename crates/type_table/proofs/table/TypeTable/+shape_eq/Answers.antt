@@ -9,10 +9,10 @@ use Rattle.type_table.proofs.table.TypeTable.+shape_eq.Goals.{After-measure_at-o
 
 -- what holds of both tables
 own : (t : ℕ) (c : After-measure_at-other_measure t) → IsKept c.args.self.now c.self.inside.measures.structs.items c.self.inside.measures.types.items
-own t c = subst (λ (x : Types). IsKept x c.self.inside.measures.structs.items c.self.inside.measures.types.items) c.self.view_is c.self.invariant
+own t c = subst (λ (x : Types). IsKept x c.self.inside.measures.structs.items c.self.inside.measures.types.items) c.self.view_is c.self.invariant.kept
 
 others : (t : ℕ) (c : After-measure_at-other_measure t) → IsKept c.args.other.now c.other.inside.measures.structs.items c.other.inside.measures.types.items
-others t c = subst (λ (x : Types). IsKept x c.other.inside.measures.structs.items c.other.inside.measures.types.items) c.other.view_is c.other.invariant
+others t c = subst (λ (x : Types). IsKept x c.other.inside.measures.structs.items c.other.inside.measures.types.items) c.other.view_is c.other.invariant.kept
 
 pub returns-then-measure-other_measure : goal.returns-then-measure-other_measure
 returns-then-measure-other_measure t c =

@@ -9,13 +9,13 @@ use Rattle.type_table.proofs.table.TypeTable.head.Goals as goal
 pub index-requires-in-Named : goal.index-requires-in-Named
 index-requires-in-Named c =
     let many = ap (λ (t : Types). length t.types) c.self.view_is in
-    let named = named_in _ c.self.invariant.measured.good c.args.ty _ c.in-Named.id _ c.index.ensures c.number.ensures (omega (arith, many, c.requires)) c.in-Named.is in
+    let named = named_in _ c.self.invariant.kept.measured.good c.args.ty _ c.in-Named.id _ c.index.ensures c.number.ensures (omega (arith, many, c.requires)) c.in-Named.is in
     omega (arith, named.0, c.number-in-Named.ensures)
 
 pub returns-in-Named : goal.returns-in-Named
 returns-in-Named c =
     let many = ap (λ (t : Types). length t.types) c.self.view_is in
-    let named = named_in _ c.self.invariant.measured.good c.args.ty _ c.in-Named.id _ c.index.ensures c.number.ensures (omega (arith, many, c.requires)) c.in-Named.is in
+    let named = named_in _ c.self.invariant.kept.measured.good c.args.ty _ c.in-Named.id _ c.index.ensures c.number.ensures (omega (arith, many, c.requires)) c.in-Named.is in
     let body = sym (get_or_from_slice_get (values c.self.inside.structs) _ _ None c.index-in-Named.ensures)
     ∙ ap (λ i. get_or (values c.self.inside.structs) i None) c.number-in-Named.ensures in
     c.of_body.ensures ∙ ap body_head body ∙ sym named.1 ∙ ap (λ t. head_of t c.args.ty) c.self.view_is

@@ -11,5 +11,5 @@ pub returns : goal.returns
 returns c =
     let many = ap (λ (t : Types). length t.types) c.self.view_is in
     ap (λ (m : Measure). m.layout) (c.measure_at.ensures ∙ (λ j. get_or (c.deref.ensures.value j) (c.number.ensures j) opaque_measure))
-    ∙ layout_kept _ _ _ c.self.invariant c.args.ty (omega (arith, many, c.requires))
+    ∙ layout_kept _ _ _ c.self.invariant.kept c.args.ty (omega (arith, many, c.requires))
     ∙ ap (λ t. option_and_then layout (shape t c.args.ty)) c.self.view_is

@@ -8,7 +8,7 @@ use Rattle.type_table.proofs.table.TypeTable.offset.Goals as goal
 use Rattle.type_table.proofs.table.TypeTable.offset.Goals.{After-layout}
 
 own : (c : After-layout) → IsKept c.args.self.now c.self.inside.measures.structs.items c.self.inside.measures.types.items
-own c = subst (λ (t : Types). IsKept t c.self.inside.measures.structs.items c.self.inside.measures.types.items) c.self.view_is c.self.invariant
+own c = subst (λ (t : Types). IsKept t c.self.inside.measures.structs.items c.self.inside.measures.types.items) c.self.view_is c.self.invariant.kept
 
 pub returns-in_err-layout : goal.returns-in_err-layout
 returns-in_err-layout c = c.from_residual.ensures ∙ sym (offset_none (shape c.args.self.now c.args.ty) c.args.field (sym c.layout.ensures ∙ c.in_err-layout.was))

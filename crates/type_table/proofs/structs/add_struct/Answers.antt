@@ -3,7 +3,7 @@ use Rattle.std.specs.Map.{keys_of, lookup}
 use Rattle.std.specs.Cmp.Lexicographic.{bytes_decides}
 use Rattle.std.proofs.lemmas.Map.Views.{Contains-keys_from_lookup}
 use Rattle.indexmap.proofs.CallerLemmas.{insert_entry-new}
-use Rattle.type_table.proofs.structs.add_name.Goals as goal
+use Rattle.type_table.proofs.structs.add_struct.Goals as goal
 
 -- a name that is not among the keys is not found
 not_found : {X : Type 0} (name : List ℕ) (es : List (List ℕ × X)) → (Contains (keys_of es) name → ⊥) → lookup (bytes_eq name) es ≡ None
