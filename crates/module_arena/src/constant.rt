@@ -1,0 +1,70 @@
+//! Constants, by the ids of their parts.
+
+use crate::{Boxed, ConstId, GlobalId};
+use ir_base::{ItemList, Text};
+use ir_tables::{Flags, Opcode};
+use type_table::TypeId;
+
+/// The brackets round a list of constants.
+#[derive(Clone, Copy)]
+pub enum Brackets {
+    /// `[ .. ]`
+    Square,
+    /// `{ .. }`
+    Braces,
+    /// `<{ .. }>`
+    Packed,
+}
+
+/// A constant, and the type that is written before it.
+#[derive(Clone, Copy)]
+pub struct TypedConst {
+    pub ty: TypeId,
+    pub value: ConstId,
+}
+
+/// Some constants with their types, in order.
+pub type TypedConstList = ItemList<TypedConst>;
+
+/// The parts of a `getelementptr` constant.
+#[derive(Drop)]
+pub struct ConstAddress {
+    /// The type over which the indices step.
+    pub source: TypeId,
+    /// The base, and the indices behind it.
+    pub operands: TypedConstList,
+}
+
+/// The operands of a binary constant.
+#[derive(Clone, Copy)]
+pub struct ConstPair {
+    pub left: TypedConst,
+    pub right: TypedConst,
+}
+
+/// A constant (LangRef, "Constants" and "Constant Expressions"), one variant a form. It takes 32 bytes.
+#[derive(Drop)]
+pub enum Const {
+    /// At iN the number modulo 2^N, at any other type modulo 2^128. At i1 `true` is 1 and `false` is 0.
+    Integer(u128),
+    /// `true` or `false` at a type other than i1, which no valid module has.
+    Truth(bool),
+    Null,
+    Undef,
+    Poison,
+    ZeroInitializer,
+    /// The address of a variable, alias or function.
+    Address(GlobalId),
+    /// The bytes of `c"..."`.
+    ByteString(Text),
+    /// Constants in brackets.
+    Aggregate(Brackets, TypedConstList),
+    /// `getelementptr`
+    ElementAddress(Flags, Boxed<ConstAddress>),
+    /// `ptrtoint`, `inttoptr` or `trunc`: the value, and the type to which it is cast.
+    Cast(Opcode, TypedConst, TypeId),
+    /// `add`, `sub` or `xor`.
+    Binary(Opcode, Flags, Boxed<ConstPair>),
+}
+
+const _: () = prove!(size_of::<Const>() <= 32);

@@ -1,0 +1,148 @@
+//! Variables, aliases and functions.
+
+ghost use Rattle.std.specs.Prelude.{◌≡◌, ◌<◌, ◌^◌, length, slice_get, Some};
+ghost use Rattle.module_arena.specs.Lists.{value_names, function_blocks};
+
+use crate::{AliasId, BlockId, ConstId, Ending, FunctionId, Inst, ValueId, VariableId};
+use ir_base::{ItemList, Name};
+use ir_tables::Linkage;
+use type_table::{TypeId, TypeList};
+
+/// What a global name stands for.
+#[derive(Clone, Copy, Debug, PartialEq, Eq, Hash)]
+pub enum GlobalId {
+    Variable(VariableId),
+    Function(FunctionId),
+    Alias(AliasId),
+}
+
+/// What a parameter, a block or a result is called within its function.
+#[derive(Drop)]
+pub enum LocalName {
+    Named(Name),
+    Numbered(u32),
+}
+
+/// Some local names, in order.
+pub type LocalNameList = ItemList<LocalName>;
+
+/// A variable (LangRef, "Global Variables").
+#[derive(Drop)]
+pub struct Variable {
+    pub name: Name,
+    pub linkage: Linkage,
+    pub constant: bool,
+    pub ty: TypeId,
+    pub alignment: Option<u32>,
+    /// There exactly where the variable is defined.
+    pub initialiser: Option<ConstId>,
+}
+
+/// What an alias says of its target.
+#[derive(Drop)]
+pub enum AliasType {
+    /// The type of a variable.
+    Plain(TypeId),
+    /// What a function returns, its parameters, and whether it is variadic.
+    Function(TypeId, TypeList, bool),
+}
+
+/// A further name of a variable or function (LangRef, "Aliases").
+#[derive(Drop)]
+pub struct Alias {
+    pub name: Name,
+    pub linkage: Linkage,
+    pub ty: AliasType,
+    pub target: Option<GlobalId>,
+}
+
+/// A parameter.
+#[derive(Drop)]
+pub struct Parameter {
+    pub ty: TypeId,
+    pub name: LocalName,
+}
+
+/// The parameters of a function, in order.
+pub type ParameterList = ItemList<Parameter>;
+
+/// Some instructions, in order.
+pub type InstList = ItemList<Inst>;
+
+/// A block: instructions, and exactly one end.
+#[derive(Drop)]
+pub struct Block {
+    pub name: LocalName,
+    pub instructions: InstList,
+    pub end: Ending,
+}
+
+/// The blocks of a function, in order.
+pub type BlockList = ItemList<Block>;
+
+/// What a function does. The names of the results are in their order: the one of the value with id v is the
+/// name at v less the count of parameters.
+#[derive(Drop)]
+pub struct Body {
+    pub blocks: BlockList,
+    pub results: LocalNameList,
+}
+
+/// A function (LangRef, "Functions").
+#[derive(Drop)]
+pub struct Function {
+    pub name: Name,
+    pub linkage: Linkage,
+    pub result: TypeId,
+    pub parameters: ParameterList,
+    pub variadic: bool,
+    /// There exactly where the function is defined.
+    pub body: Option<Body>,
+}
+
+impl Function {
+    /// How many parameters and results there are.
+    pub fn value_count(&self) -> u64
+        requires { length (value_names self.now) < 2 ^ 32 }
+        ensures { result ≡ length (value_names self.now) }
+    {
+        let results = match &self.body {
+            Some(body) => body.results.len(),
+            None => 0,
+        };
+        (self.parameters.len() + results) as u64
+    }
+
+    /// What a parameter or result is called.
+    pub fn value_name(&self, id: ValueId) -> &LocalName
+        requires { id < length (value_names self.now) }
+        ensures { slice_get (value_names self.now) id ≡ Some result.now }
+    {
+        let index = id.number() as usize;
+        let count = self.parameters.len();
+        if index < count {
+            return &self.parameters.at(index).name;
+        }
+        let body = self.body.as_ref().unwrap();
+        body.results.at(index - count)
+    }
+
+    /// How many blocks there are: none where the function is only declared.
+    pub fn block_count(&self) -> u64
+        ensures { result ≡ length (function_blocks self.now) }
+    {
+        match &self.body {
+            Some(body) => body.blocks.len() as u64,
+            None => 0,
+        }
+    }
+
+    /// The block with that id.
+    pub fn block(&self, id: BlockId) -> &Block
+        requires { id < length (function_blocks self.now) }
+        ensures { slice_get (function_blocks self.now) id ≡ Some result.now }
+    {
+        let body = self.body.as_ref().unwrap();
+        body.blocks.at(id.number() as usize)
+    }
+}

@@ -1,0 +1,132 @@
+//! Instructions and ends of blocks, by the ids of their parts.
+
+use crate::{BlockId, Boxed, ConstId, ValueId};
+use ir_base::ItemList;
+use ir_tables::{Flags, Opcode, Predicate};
+use type_table::{TypeId, TypeList};
+
+/// What an instruction works on: a parameter or result of its function, or a constant.
+#[derive(Clone, Copy, PartialEq, Eq)]
+pub enum Value {
+    Local(ValueId),
+    Known(ConstId),
+}
+
+/// A value, and the type that is written before it.
+#[derive(Clone, Copy)]
+pub struct Operand {
+    pub ty: TypeId,
+    pub value: Value,
+}
+
+/// Some operands, in order.
+pub type OperandList = ItemList<Operand>;
+
+/// A value of a phi, and the block that it comes from.
+#[derive(Clone, Copy)]
+pub struct Incoming {
+    pub value: Value,
+    pub block: BlockId,
+}
+
+/// The values of a phi, in order.
+pub type IncomingList = ItemList<Incoming>;
+
+/// The indices of `extractvalue` or `insertvalue`, in order.
+pub type IndexList = ItemList<u32>;
+
+/// The parts of a `select`.
+#[derive(Clone, Copy)]
+pub struct Choice {
+    pub condition: Operand,
+    pub first: Operand,
+    pub second: Operand,
+}
+
+/// The parts of an `insertvalue`.
+#[derive(Drop)]
+pub struct Insertion {
+    pub aggregate: Operand,
+    pub part: Operand,
+    pub indices: IndexList,
+}
+
+/// A function type, written whole.
+#[derive(Drop)]
+pub struct Signature {
+    pub returns: TypeId,
+    pub parameters: TypeList,
+    pub variadic: bool,
+}
+
+/// The parts of a `call`.
+#[derive(Drop)]
+pub struct Call {
+    /// There where the call has a name or number.
+    pub result: Option<ValueId>,
+    pub signature: Signature,
+    pub callee: Value,
+    pub arguments: OperandList,
+}
+
+/// An instruction that does not end a block (LangRef, "Instruction Reference"), one variant a phrase, with the
+/// parts of the phrase in their order. `result` is the value that it defines. It takes at most 64 bytes.
+#[derive(Drop)]
+pub enum Inst {
+    /// An operation on two operands of one type.
+    Binary(Opcode, Flags, ValueId, Operand, Value),
+    /// `icmp`
+    Compare(Flags, Predicate, ValueId, Operand, Value),
+    /// A cast to the type.
+    Convert(Opcode, Flags, ValueId, Operand, TypeId),
+    /// `select`
+    Select(ValueId, Boxed<Choice>),
+    /// `freeze`
+    Freeze(ValueId, Operand),
+    /// `phi`: at least one value.
+    Phi(ValueId, TypeId, IncomingList),
+    /// `load`: the type, the address, and the alignment where it is written.
+    Load(Flags, ValueId, TypeId, Operand, Option<u32>),
+    /// `store`: the value, the address, and the alignment where it is written.
+    Store(Flags, Operand, Operand, Option<u32>),
+    /// `alloca`: the type, and the count and the alignment where they are written.
+    Alloca(ValueId, TypeId, Option<Operand>, Option<u32>),
+    /// `getelementptr`: the source type, the base, and the indices.
+    GetElementPtr(Flags, ValueId, TypeId, Operand, OperandList),
+    /// `call`
+    Call(Boxed<Call>),
+    /// `extractvalue`: at least one index.
+    ExtractValue(ValueId, Operand, IndexList),
+    /// `insertvalue`
+    InsertValue(ValueId, Boxed<Insertion>),
+}
+
+/// A case of a `switch`, and where it goes.
+#[derive(Clone, Copy)]
+pub struct Case {
+    pub ty: TypeId,
+    pub value: ConstId,
+    pub target: BlockId,
+}
+
+/// The cases of a `switch`, in order.
+pub type CaseList = ItemList<Case>;
+
+/// How a block ends (LangRef, "Terminator Instructions"), one variant a phrase.
+#[derive(Drop)]
+pub enum Ending {
+    ReturnVoid,
+    Return(Operand),
+    Jump(BlockId),
+    Branch(Operand, BlockId, BlockId),
+    Switch(Operand, BlockId, CaseList),
+    Unreachable,
+}
+
+const _: () = prove!(size_of::<Value>() <= 16);
+
+const _: () = prove!(size_of::<Operand>() <= 24);
+
+const _: () = prove!(size_of::<Inst>() <= 64);
+
+const _: () = prove!(size_of::<Ending>() <= 64);

@@ -1,0 +1,37 @@
+//! A module in memory: its types, constants, variables, aliases and functions under typed ids.
+//!
+//! It stands on `ir_base`, `ir_tables`, `type_table` and `indexmap`. It promises that an arena is a module, of which each
+//! call changes the one entry that it names and nothing else, that a sealed arena is well formed and valid, and which
+//! functions a run has of its own. Definitions: `specs/Module`, `WellFormed`, `Valid`, `HostRows`, `View`, `Changes`, `Known`.
+#![tactic(auto)]
+
+mod arena;
+mod boxed;
+mod checked;
+mod constant;
+mod copy;
+mod entity;
+mod entry;
+mod fault;
+mod host;
+mod ids;
+mod instruction;
+mod names;
+mod same;
+
+pub use arena::Arena;
+pub use boxed::Boxed;
+pub use checked::Checked;
+pub use constant::{Brackets, Const, ConstAddress, ConstPair, TypedConst, TypedConstList};
+pub use entity::Entity;
+pub use entry::{
+    Alias, AliasType, Block, BlockList, Body, Function, GlobalId, InstList, LocalName,
+    LocalNameList, Parameter, ParameterList, Variable,
+};
+pub use fault::{ArenaFault, CountKind};
+pub use host::{HostRow, host_row, host_row_fits};
+pub use ids::{AliasId, BlockId, ConstId, FunctionId, ValueId, VariableId};
+pub use instruction::{
+    Call, Case, CaseList, Choice, Ending, Incoming, IncomingList, IndexList, Insertion, Inst,
+    Operand, OperandList, Signature, Value,
+};
