@@ -16,10 +16,84 @@ CRATE = HERE.parent / "crates" / "syntax_table"
 
 CASES = []
 
+# The lines that begin a text whose items are told by their parts, and one that is told as a program.
+PARTS = "==== parts\n"
+PROGRAM = "==== program\n"
 
-def accepted(text, structs=0, variables=0, declared=0, defined=0, blocks=0, instructions=0, others=0):
+
+def accepted(text, structs=0, variables=0, declared=0, defined=0, blocks=0, instructions=0, others=0, aliases=0):
+    """Read as so many items of each kind. Aliases are told where there are some."""
+    told = f", {aliases} aliases" if aliases else ""
     CASES.append((text, f"{structs} structs, {variables} variables, {declared} declared, {defined} defined, "
-                        f"{blocks} blocks, {instructions} instructions, {others} others"))
+                        f"{blocks} blocks, {instructions} instructions, {others} others{told}"))
+
+
+def parts(text, told):
+    """Read, and told by the parts of its items."""
+    CASES.append((PARTS + text, told))
+
+
+def program(text, told):
+    """Read, and told by what `@main` returns where it is a program of additions."""
+    CASES.append((PROGRAM + text, told))
+
+
+# `int sum = 0; for (int i = 0; i < 5; i++) sum += i; return sum;`, as clang 18 prints it, with fewer attributes.
+LOOP = """; ModuleID = 'sum.c'
+source_filename = \"sum.c\"
+target datalayout = \"e-m:e-p270:32:32-p271:32:32-p272:64:64-i64:64-i128:128-f80:128-n8:16:32:64-S128\"
+target triple = \"x86_64-unknown-linux-gnu\"
+
+; Function Attrs: noinline nounwind optnone uwtable
+define dso_local i32 @main() #0 {
+  %1 = alloca i32, align 4
+  %2 = alloca i32, align 4
+  %3 = alloca i32, align 4
+  store i32 0, ptr %1, align 4
+  store i32 0, ptr %2, align 4
+  store i32 0, ptr %3, align 4
+  br label %4
+
+4:                                    ; preds = %11, %0
+  %5 = load i32, ptr %3, align 4
+  %6 = icmp slt i32 %5, 5
+  br i1 %6, label %7, label %14
+
+7:
+  %8 = load i32, ptr %3, align 4
+  %9 = load i32, ptr %2, align 4
+  %10 = add nsw i32 %9, %8
+  store i32 %10, ptr %2, align 4
+  br label %11
+
+11:
+  %12 = load i32, ptr %3, align 4
+  %13 = add nsw i32 %12, 1
+  store i32 %13, ptr %3, align 4
+  br label %4, !llvm.loop !2
+
+14:
+  %15 = load i32, ptr %2, align 4
+  ret i32 %15
+}
+
+attributes #0 = { noinline nounwind optnone uwtable \"frame-pointer\"=\"all\" }
+
+!llvm.module.flags = !{!0}
+!llvm.ident = !{!1}
+
+!0 = !{i32 1, !\"wchar_size\", i32 4}
+!1 = !{!\"clang version 18.1.3\"}
+!2 = distinct !{!2, !3}
+!3 = !{!\"llvm.loop.mustprogress\"}
+"""
+
+# Every word that is dropped, where it may stand.
+DROPPED = """@a = dso_local dso_preemptable default hidden protected unnamed_addr local_unnamed_addr global i32 1
+declare ccc zeroext signext noext inreg noalias i32 @b(ptr nocapture nofree nonnull noundef readnone readonly writeonly writable returned immarg nest allocptr allocalign dead_on_unwind align 8 align(8) dereferenceable(8) dereferenceable_or_null(8) sret(i32) captures(none) range(i32 0, 8) initializes((0, 4)) nofpclass(nan) %x)
+declare fastcc void @c() unnamed_addr local_unnamed_addr #0 \"a\" \"b\"=\"c\" align 4 section \"s\" alwaysinline builtin cold convergent hot inlinehint minsize mustprogress nobuiltin nocallback noduplicate nofree noinline norecurse noredzone noreturn nosync nounwind optnone optsize readnone readonly writeonly speculatable ssp sspreq sspstrong willreturn uwtable uwtable(sync) memory(none) alignstack(4) allockind(\"alloc\") allocsize(0)
+declare coldcc void @d()
+"""
 
 
 def place_of(marked):
@@ -131,10 +205,83 @@ def variables():
     left_out("@x = ‹thread_local global i32 1")
     left_out("@x = ‹addrspace(1) global i32 1")
     left_out("@x = ‹externally_initialized global i32 1")
-    left_out("@x = ‹alias i32, ptr @y")
+    accepted("@x = alias i32, ptr @y", aliases=1)
     left_out("@x = ‹ifunc void (), ptr @y")
     left_out("@x = global i32 1, ‹comdat")
     left_out("@x = global ‹float 0.0")
+
+
+def aliases():
+    accepted("@x = alias i32, ptr @y\n@z = alias [2 x { i8, %T }], ptr @\"a b\"", aliases=2)
+    accepted("@f = alias void (), ptr @g\n@h = alias i32 (i32, ptr), ptr @g\n@i = alias ptr (ptr, ...), ptr @g\n@j = alias void (...), ptr @g", aliases=4)
+    accepted("@x = alias void, ptr @y\n@y = alias ptr, ptr @y\n@z = alias %T (%T), ptr @z", aliases=3)
+    words = ["private", "internal", "available_externally", "linkonce", "linkonce_odr", "weak", "weak_odr", "common", "appending", "external", "extern_weak"]
+    accepted("".join(f"@{word} = {word} alias i32, ptr @y\n" for word in words), aliases=11)
+    accepted("@x = dso_local dso_preemptable default hidden protected unnamed_addr local_unnamed_addr alias i8, ptr @y", aliases=1)
+    accepted("@x = internal hidden unnamed_addr alias i32 (i8), ptr @f\n@y = global i32 1\n@z = alias i32, ptr @y", variables=1, aliases=2)
+    accepted("@x = alias " + "[1 x " * 64 + "i8" + "]" * 64 + ", ptr @y", aliases=1)
+    accepted("@x = alias void (" + "[1 x " * 64 + "i8" + "]" * 64 + "), ptr @y", aliases=1)
+    refused("@x = alias‹")
+    refused("@x = alias ‹, ptr @y")
+    refused("@x = alias ‹1, ptr @y")
+    refused("@x = alias ‹..., ptr @y")
+    refused("@x = alias i32‹")
+    refused("@x = alias i32 ‹ptr @y")
+    refused("@x = alias i32 ‹1, ptr @y")
+    refused("@x = alias i32 ‹@y")
+    refused("@x = alias i32, ‹")
+    refused("@x = alias i32, ‹@y")
+    refused("@x = alias i32, ‹i32 @y")
+    refused("@x = alias i32, ptr‹")
+    refused("@x = alias i32, ptr ‹%y")
+    refused("@x = alias i32, ptr ‹null")
+    refused("@x = alias i32, ptr ‹getelementptr (i8, ptr @y, i64 1)")
+    refused("@x = alias i32, ptr @y @z‹")
+    refused("@x = alias i32, ptr @y‹, align 4")
+    refused("@x = alias i32, ptr @y‹, section \"s\"")
+    refused("@x = alias i32, ptr @y‹, !dbg !0")
+    refused("@x = alias i32 (‹")
+    refused("@x = alias i32 (i8 ‹i8), ptr @f")
+    refused("@x = alias i32 (i8, ‹), ptr @f")
+    refused("@x = alias i32 (‹, i8), ptr @f")
+    refused("@x = alias i32 (i8 ‹%a), ptr @f")
+    refused("@x = alias i32 (i8 ‹noundef), ptr @f")
+    refused("@x = alias i32 (... ‹, i8), ptr @f")
+    refused("@x = alias i32 (i8, ... ‹, i8), ptr @f")
+    refused("@x = alias i32 (i8‹")
+    refused("@x = alias i32 (i8)‹")
+    refused("@x = alias i32 () ‹(), ptr @f")
+    refused("@x = alias i32 () ‹ptr @f")
+    refused("@x = alias ‹alias i32, ptr @y")
+    refused("@x = alias ‹internal i32, ptr @y")
+    refused("@x = internal ‹internal alias i32, ptr @y")
+    refused("@x = hidden ‹internal alias i32, ptr @y")
+    refused("@x = alias ‹hidden i32, ptr @y")
+    refused("@x ‹alias i32, ptr @y")
+    refused("‹alias i32, ptr @y")
+    refused("%x = ‹alias i32, ptr @y")
+    refused("@x = global ‹alias i32, ptr @y")
+    refused("@x = alias i32, ptr @y ‹?", "bad byte")
+    refused("@x = alias " + "[1 x " * 64 + "‹{}", "too deep")
+    refused("@x = alias void (" + "{" * 64 + "‹{", "too deep")
+    refused("@x = alias void (i8, " + "[1 x " * 64 + "‹<{ }>", "too deep")
+    left_out("‹@0 = alias i32, ptr @y")
+    left_out("@x = alias i32, ptr ‹@0")
+    left_out("@x = alias ‹%0, ptr @y")
+    left_out("@x = alias i32 (‹%0), ptr @f")
+    left_out("@x = alias i32‹*, ptr @y")
+    left_out("@x = alias i32 () ‹*, ptr @y")
+    left_out("@x = alias <‹4 x i32>, ptr @y")
+    left_out("@x = ‹thread_local alias i32, ptr @y")
+    left_out("@x = ‹addrspace(1) alias i32, ptr @y")
+    left_out("@x = alias i32, ptr ‹addrspace(1) @y")
+    left_out("@x = ‹externally_initialized alias i32, ptr @y")
+    left_out("@x = alias i32, ptr ‹bitcast (ptr @y to ptr)")
+    left_out("@x = alias i32, ptr ‹addrspacecast (ptr @y to ptr)")
+    left_out("@x = alias i32, ptr @y ‹comdat")
+    for word in ["half", "bfloat", "float", "double", "fp128", "x86_fp80", "ppc_fp128", "x86_amx", "metadata", "token"]:
+        left_out(f"@x = alias ‹{word}, ptr @y")
+        left_out(f"@x = alias void (i8, ‹{word}), ptr @f")
 
 
 def types():
@@ -416,6 +563,125 @@ def text_ends():
     refused("\n\n   @x =\n\t‹=")
 
 
+def values():
+    """A type and a constant."""
+    for text in ["i1 true", "i128 -5", "ptr null", "ptr @x", "%T undef", "{} {}", "[2 x i8] c\"ab\"", "{ i8, ptr } { i8 1, ptr poison }", "<{ i8 }> <{ i8 1 }>",
+                 "ptr getelementptr inbounds nuw ({ i8 }, ptr @x, i64 0, i32 0)", "i64 ptrtoint (ptr @x to i64)", "i8 add nsw nuw (i8 1, i8 2)", "i8 xor (i8 1, i8 2)"]:
+        accepted(f"@a = global {text}", variables=1)
+    for text in ["‹i129 5", "‹%7 undef"]:
+        left_out(f"@a = global {text}")
+    for text in ["void‹", "{ i8, ‹} zeroinitializer", "[1 x i8] [i8 false, ‹]", "ptr getelementptr ‹exact (i8, ptr @x)", "i8 sub nsw ‹nsw (i8 1, i8 2)", "i8 xor ‹nsw (i8 1, i8 2)", "i8 ‹mul (i8 1, i8 2)"]:
+        refused(f"@a = global {text}")
+    accepted("@a = global " + "[1 x " * 64 + "i8" + "]" * 64 + " undef", variables=1)
+    refused("@a = global " + "[1 x " * 64 + "‹[1 x i8" + "]" * 65 + " undef", "too deep")
+    accepted("@a = global {} " + "{ {} " * 63 + "{}" + " }" * 63, variables=1)
+    refused("@a = global {} " + "{ {} " * 64 + "‹{}" + " }" * 64, "too deep")
+    refused("@x = global " + "[1 x " * 64 + "‹")
+    refused("@x = global " + "[1 x " * 64 + "‹[1 x ", "too deep")
+    refused("@x = global [‹" + "[" * 199)
+
+
+def of(text, first, last="unreachable"):
+    """A function with this body, told by its first instruction and its first block's end."""
+    parts("define void @f() " + text, f"definition f, 0 parameters: {first}, then {last}" if first else f"definition f, 0 parameters: {last}")
+
+
+def phrases():
+    """What instructions and ends are read as, with flags as the sum of their codes."""
+    of("{ %r = add nsw i32 %x, 1 unreachable }", "add 2")
+    of("{ l: or disjoint i8 1, %y, !a !0 unreachable }", "or 8")
+    of("{ %0 = icmp ult ptr %p, null unreachable }", "icmp 0 ult")
+    of("{ %r = sext i8 %x to i32 unreachable }", "sext 0")
+    of("{ %r = select i1 %c, i8 1, i8 2 unreachable }", "select")
+    of("{ %r = freeze i8 undef, !a !{} unreachable }", "freeze")
+    of("{ %r = phi i8 [ 1, %a ], [ %x, %1 ], !a !0 unreachable }", "phi of 2")
+    of("{ %r = load i8, ptr %p, align 4, !a !0 unreachable }", "load 0 aligned")
+    of("{ store volatile i8 1, ptr @g, !a !0 unreachable }", "store 256")
+    of("{ %r = alloca i8, i32 4, align 8 unreachable }", "alloca counted aligned")
+    of("{ %r = alloca i8, align 8 unreachable }", "alloca aligned")
+    of("{ %r = getelementptr inbounds %t, ptr %p, i32 0, i32 1 unreachable }", "getelementptr 64 of 3")
+    of("{ call void @f() unreachable }", "call of 0")
+    of("{ %r = tail call fastcc noundef i32 (ptr, ...) @f(ptr noundef @g, i8 1) #0, !a !0 unreachable }", "call typed of 2")
+    of("{ call void @f(i8 signext 1) nounwind \"a\"=\"b\" memory(none) unreachable }", "call of 1")
+    of("{ %r = extractvalue { i8, i8 } %x, 1 unreachable }", "extractvalue of 1")
+    of("{ %r = extractvalue %t %x, 1, 0, !a !0 unreachable }", "extractvalue of 2")
+    of("{ %r = insertvalue %t %x, i8 1, 0 unreachable }", "insertvalue of 1")
+    of("{ ret void, !a !0 }", None, "ret void")
+    of("{ 0: ret [2 x i8] zeroinitializer }", None, "ret")
+    of("{ a: br label %b b: unreachable }", None, "br")
+    of("{ br i1 %c, label %a, label %1 }", None, "br of 2")
+    of("{ switch i8 1, label %d [ ] }", None, "switch of 0")
+    of("{ switch i8 %x, label %d [ i8 1, label %a i8 2, label %b ], !a !0 }", None, "switch of 2")
+    of("{ unreachable }", None, "unreachable")
+    for text in ["‹}", "l: ‹}", "br label %a‹", "tail ‹ret void }", "ret void ‹i8 }", "%r = ‹store i8 1, ptr %p unreachable }", "%r = icmp ‹i8 1, 2 unreachable }",
+                 "%r = load i8, ptr %p, align 4, ‹align 8 unreachable }", "%r = alloca i8, !a !0, ‹align 8 unreachable }", "%r = phi i8 [ %a, ‹1 ] unreachable }",
+                 "%r = extractvalue %t %x ‹unreachable }", "%r = extractvalue %t %x, ‹!a !0 unreachable }", "call void @f(i8 1,‹) unreachable }",
+                 "call i8 (...‹, i8) @f() unreachable }", "call i8 (i8, ...‹, i8) @f() unreachable }", "switch i8 %x, label %d [ i8 1, label %a‹, i8 2, label %b ] }"]:
+        refused("define void @f() { " + text)
+
+
+def texts():
+    """Whole texts, one after another, and what becomes of their parts."""
+    accepted(LOOP, defined=1, blocks=5, instructions=21, others=10)
+    accepted(DROPPED, variables=1, declared=3)
+    accepted("@x = global i1 true @y = constant i128 -1", variables=2)
+    accepted("@x = external global i32 @y = extern_weak constant ptr, align 8", variables=2)
+    accepted("@x = global i32 1, align 4, section \"s\", !m !0, !n !{}", variables=1)
+    accepted("%a = type opaque %b = type { i32, %a } %c = type <{ }>", structs=3)
+    accepted("declare !m !0 !n !{i32 1} extern_weak i32 @f(i32 %a, ptr, ...)", declared=1)
+    accepted("declare void @f(...)", declared=1)
+    accepted("define internal void @f(i32, ptr noundef %p) !m !0 { ret void }", defined=1, blocks=1, instructions=1)
+    accepted("define void @f() { \"a b\": br label %\"c d\" \"c d\": unreachable 5: ret void }", defined=1, blocks=3, instructions=3)
+    accepted("attributes #0 = { nounwind \"a\"=\"b\" align=4 (x) \"c\" }", others=1)
+    accepted("!0 = !{!1, [{(<i32>)}]} !n = distinct !DIFile(a: \"b\", c: (1))", others=2)
+    accepted("@x = global [2 x { i8, [1 x i8] }] zeroinitializer", variables=1)
+    accepted("@x = global ptr getelementptr inbounds (i8, ptr @y, i64 1)", variables=1)
+    accepted("@x = global [3 x i8] c\"a\\00b\"", variables=1)
+    accepted("target triple = \"a\" target datalayout = \"b\" source_filename = \"c\"", others=3)
+    parts("@x = weak constant i8 -5, align 16 declare void @f(i8, ...) %a = type <{ i8 }>", "weak constant x with a value, aligned 16; declaration at 1:36 of f, 1 parameters, variadic; packed a at 1:61 of 1")
+    parts("@x = external global i8 %a = type { i8, ptr } %b = type opaque", "external variable x; plain a at 1:25 of 2; opaque b at 1:47")
+    parts("@y = alias i32, ptr @x @g = internal alias void (ptr, ...), ptr @f", "alias y of x; internal alias g of f, 1 parameters, variadic")
+    parts("source_filename = \"a\" target triple = \"b\" target datalayout = \"c\" attributes #0 = { } !0 = !{}",
+          "file at 1:1; triple at 1:30; layout at 1:50; attributes at 1:67; metadata at 1:87")
+
+
+def refusals():
+    refused("@x = global i32 1 ‹?", "bad byte")
+    for text in ["@x = global‹", "@x = global i32‹", "‹x", "source_filename ‹\"a\"", "source_filename = ‹a", "target ‹\"a\"", "target triple = ‹3", "%a = ‹opaque", "%a = type { i32, ‹}",
+                 "%a = type <{ i32 }‹", "@x = external global i32 ‹5", "@x = extern_weak global i32 ‹5", "@x = global i32 1, align 4, ‹align 4", "@x = global i32 1 ‹dso_local",
+                 "@x = dso_local ‹external global i32", "declare void @f(i32,‹)", "declare void @f(...‹, i32)", "declare void @f() ‹{", "define void @f() { ‹}", "define void @f() {\n a: ‹}",
+                 "attributes #0 = { ‹{ }", "!0 = !{ ( ‹} )", "!0 = distinct ‹{}"]:
+        refused(text)
+    for text in ["@x = global ‹float 0.0", "‹%0 = type {}", "@x = global ‹%0 zeroinitializer", "‹@0 = global i32 1", "define void @f(‹...) { ret void }", "define void @f(i32, ‹...) { ret void }",
+                 "@x = global <‹4 x i32> undef", "@x = global ‹i0 0", "@x = global ‹i129 0", "@x = global i32 ‹s0x1F", "@x = global i32 ‹u0xFF", "@x = global i32‹* null",
+                 "@x = global ‹half 0", "@x = global ‹bfloat 0", "@x = global ‹double 0", "@x = global ‹fp128 0", "@x = global ‹x86_fp80 0", "@x = global ‹ppc_fp128 0", "@x = global ‹x86_amx 0",
+                 "declare void @f(‹metadata)", "declare ‹token @f()", "@x = ‹addrspace(1) global i32 0", "@x = global i32 0, ‹comdat", "@x = ‹thread_local global i32 0",
+                 "@x = ‹externally_initialized global i32 0", "@x = ‹ifunc i32, ptr @y", "‹module asm \"nop\"", "‹uselistorder_bb", "‹uselistorder", "@x = global ptr ‹blockaddress(@f, %a)",
+                 "@x = global ptr ‹bitcast (ptr @y to ptr)", "@x = global ptr ‹addrspacecast (ptr @y to ptr)"]:
+        left_out(text)
+    refused("‹$c = comdat any", "bad byte")
+    refused("@x = global i32 ‹^5", "bad byte")
+    for before, words in [
+            ("define void @f() { %a = ", ["fneg", "fadd", "fsub", "fmul", "fdiv", "frem", "fcmp", "fptrunc", "fpext", "fptoui", "fptosi", "uitofp", "sitofp", "extractelement", "insertelement",
+                                          "shufflevector", "cmpxchg", "atomicrmw", "invoke", "landingpad", "catchswitch", "va_arg", "callbr"]),
+            ("define void @f() { ", ["fence", "resume", "cleanupret", "catchret", "catchpad", "cleanuppad", "indirectbr", "asm"]),
+            ("declare void @f(ptr ", ["byval", "byref", "inalloca", "preallocated", "elementtype", "swiftself", "swifterror", "swiftasync"]),
+            ("declare void @f() ", ["personality", "gc", "prefix", "prologue", "strictfp", "naked"]),
+            ("declare ", ["cc"]), ("define void @f() { %a = load ", ["atomic"]), ("@x = global ptr getelementptr ", ["inrange"])]:
+        for word in words:
+            left_out(before + "‹" + word)
+
+
+def programs():
+    program("define i32 @main() { %1 = add i32 40, 2 ret i32 %1 }", "1 lines, line 1")
+    program("define i32 @main() { ret i32 -2147483648 }", "0 lines, number 2147483648")
+    program("define i32 @main() { ret i32 4294967295 }", "0 lines, number 4294967295")
+    for text in ["define i32 @main() { ret i32 4294967296 }", "define i32 @main() { ret i32 -2147483649 }", "define i32 @main() { %2 = add i32 40, 2 ret i32 %2 }",
+                 "define i32 @main() { %1 = add nsw i32 40, 2 ret i32 %1 }", "define i32 @main() { %1 = add i32 %1, 2 ret i32 %1 }", "define i32 @main(i32) { ret i32 1 }",
+                 "define i32 @main() { ret i32 1 } @x = global i32 1"]:
+        program(text, "no program")
+
+
 def count(pattern, text):
     return len(re.findall(pattern, text, re.M))
 
@@ -439,7 +705,7 @@ def clang(path):
 
 
 def main():
-    for table in [items, variables, types, constants, functions, instructions, endings, text_ends]:
+    for table in [items, variables, aliases, types, constants, functions, instructions, endings, text_ends, values, phrases, texts, refusals, programs]:
         table()
     for path in sorted((HERE / "modules").glob("*.ll")):
         clang(path)

@@ -1,67 +1,14 @@
 -- The flags of an opcode: which it may have, in any order, each once.
-use Rattle.std.specs.Prelude.{ℕ, Bool, true, false, not, ◌&&◌, [], ◌∷◌, cond, Option, Some, None}
+use Rattle.std.specs.Prelude.{ℕ, true, false, not, ◌&&◌, [], ◌∷◌, cond, Option, Some, None}
 use Rattle.phrase_rows.specs.Row.{Row, Shape, one, loop, labelled}
 use Rattle.ir_lexer.specs.Ahead.{Located}
 use Rattle.ir_tables.specs.declared.opcode.Opcode.{Opcode}
-use Rattle.ir_tables.specs.declared.opcode.Opcode.TheVariants as op
 use Rattle.ir_tables.specs.declared.flag.Flag.{Flag}
-use Rattle.ir_tables.specs.declared.flag.Flag.TheVariants as flag
+use Rattle.ir_tables.specs.MayHave.{may_have}
 use Rattle.ir_tables.specs.Flags.{has_flag, flags_with}
 use Rattle.ir_terminals.specs.Role.{class}
 use Rattle.ir_terminals.specs.Terminal.{flag_class}
 use Rattle.ir_terminals.specs.Values.{flag_of}
-
--- of results that wrap
-abbrev pub wraps : Flag → Bool
-wraps flag.Nuw = true
-wraps flag.Nsw = true
-wraps _ = false
-
-abbrev pub is_exact : Flag → Bool
-is_exact flag.Exact = true
-is_exact _ = false
-
-abbrev pub is_disjoint : Flag → Bool
-is_disjoint flag.Disjoint = true
-is_disjoint _ = false
-
-abbrev pub is_samesign : Flag → Bool
-is_samesign flag.Samesign = true
-is_samesign _ = false
-
-abbrev pub is_nneg : Flag → Bool
-is_nneg flag.Nneg = true
-is_nneg _ = false
-
-abbrev pub is_volatile : Flag → Bool
-is_volatile flag.Volatile = true
-is_volatile _ = false
-
--- of addresses
-abbrev pub is_of_address : Flag → Bool
-is_of_address flag.Inbounds = true
-is_of_address flag.Nusw = true
-is_of_address flag.Nuw = true
-is_of_address _ = false
-
--- the flags that an instruction, or a constant expression, with this opcode may have
-unfoldable pub may_have : Opcode → Flag → Bool
-may_have op.Add f = wraps f
-may_have op.Sub f = wraps f
-may_have op.Mul f = wraps f
-may_have op.Shl f = wraps f
-may_have op.Trunc f = wraps f
-may_have op.UDiv f = is_exact f
-may_have op.SDiv f = is_exact f
-may_have op.LShr f = is_exact f
-may_have op.AShr f = is_exact f
-may_have op.Or f = is_disjoint f
-may_have op.ICmp f = is_samesign f
-may_have op.ZExt f = is_nneg f
-may_have op.Load f = is_volatile f
-may_have op.Store f = is_volatile f
-may_have op.GetElementPtr f = is_of_address f
-may_have _ f = false
 
 -- the flags with one more, where the opcode may have it and it is not there yet
 abbrev pub with_flag : Opcode → ℕ → Option Flag → Option ℕ

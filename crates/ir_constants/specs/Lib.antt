@@ -5,3 +5,4 @@ pub mod Flags
 pub mod Types
 pub mod Constants
 pub mod Values
+pub mod Forms

@@ -1,4 +1,5 @@
--- The plain tree of a type, a constant or a value as it lies in memory.
+-- The plain tree of a type, a constant or a value as it lies in memory. It says how the code reads.
+use Rattle.ir_terminals.specs.declared.values.Integer.{Integer}
 use Rattle.ir_constants.specs.declared.ty.Type as the_type
 use Rattle.ir_constants.specs.declared.ty.Type.TheOpen as open_type
 use Rattle.ir_constants.specs.declared.ty.Type.TheFolds.{fold-Type}
@@ -11,16 +12,23 @@ use Rattle.ir_constants.specs.declared.value.Value.TheVariants as value
 use Rattle.ir_constants.specs.declared.value.TypedValue.{TypedValue}
 use Rattle.ir_constants.specs.Tree.{TypeTree, IntegerType, PointerType, VoidType, ArrayType, StructType, NamedType, types, ConstantTree, IntegerConstant, SimpleConstant, AddressConstant, BytesConstant, ListConstant, ElementAddress, Conversion, Arithmetic, TypedConstantTree, constants, ValueTree, LocalValue, ConstantValue, TypedValueTree}
 
-abbrev pub type_step : open_type.Type-F TypeTree → TypeTree
+-- an array's count and the type of its elements
+abbrev pub ArrayParts : Type 0
+ArrayParts = Integer × TypeTree
+
+abbrev pub type_step : open_type.Type-F TypeTree ArrayParts → TypeTree
 type_step (open_type.Integer place width) = IntegerType place width
 type_step (open_type.Ptr place) = PointerType place
 type_step (open_type.Void place) = VoidType place
-type_step (open_type.Array place count element) = ArrayType place count element.value
+type_step (open_type.Array place array) = ArrayType place array.value.0 array.value.1
 type_step (open_type.Struct place packed fields) = StructType place packed (types fields.items)
 type_step (open_type.Named name) = NamedType name
 
+abbrev pub array_step : open_type.ArrayType-F TypeTree ArrayParts → ArrayParts
+array_step array = (array.count, array.element)
+
 abbrev pub type_view : the_type.Type → TypeTree
-type_view = fold-Type TypeTree type_step
+type_view = fold-Type TypeTree ArrayParts type_step array_step
 
 abbrev pub constant_step : open_constant.Constant-F ConstantTree TypedConstantTree → ConstantTree
 constant_step (open_constant.Integer integer) = IntegerConstant integer
@@ -28,8 +36,8 @@ constant_step (open_constant.Simple simple place) = SimpleConstant simple place
 constant_step (open_constant.Global name) = AddressConstant name
 constant_step (open_constant.Bytes text) = BytesConstant text
 constant_step (open_constant.List place brackets elements) = ListConstant place brackets (constants elements.items)
-constant_step (open_constant.GetElementPtr place flags source operands) = ElementAddress place flags (type_view source) (constants operands.items)
-constant_step (open_constant.Cast place opcode operand to) = Conversion place opcode operand.value.0 operand.value.1 (type_view to)
+constant_step (open_constant.GetElementPtr place flags source operands) = ElementAddress place flags (type_view source.value) (constants operands.items)
+constant_step (open_constant.Cast place opcode operand to) = Conversion place opcode operand.value.0 operand.value.1 (type_view to.value)
 constant_step (open_constant.Binary place opcode flags left right) = Arithmetic place opcode flags left.value.0 left.value.1 right.value.0 right.value.1
 
 abbrev pub typed_step : open_constant.TypedConstant-F ConstantTree TypedConstantTree → TypedConstantTree

@@ -6,7 +6,7 @@ use ir_tables::{Flags, Opcode};
 use ir_terminals::{Integer, PlacedName, PlacedText};
 
 /// A constant that is one word (LangRef, "Simple Constants", "Undefined Values" and "Poison Values").
-#[derive(Clone, Copy, Debug, PartialEq, Eq)]
+#[derive(Clone, Copy)]
 pub enum Simple {
     True,
     False,
@@ -17,7 +17,7 @@ pub enum Simple {
 }
 
 /// The brackets round a list of constants.
-#[derive(Clone, Copy, Debug, PartialEq, Eq)]
+#[derive(Clone, Copy)]
 pub enum Brackets {
     /// `[ .. ]`
     Square,
@@ -28,7 +28,7 @@ pub enum Brackets {
 }
 
 /// A constant, with the place of its first token (LangRef, "Constants" and "Constant Expressions").
-#[derive(Debug, Drop)]
+#[derive(Drop)]
 #[cycle(constants)]
 pub enum Constant {
     Integer(Integer),
@@ -40,15 +40,15 @@ pub enum Constant {
     /// A list of constants.
     List(Place, Brackets, Vec<TypedConstant>),
     /// `getelementptr`: its flags, its source type, and the base with the indices behind it.
-    GetElementPtr(Place, Flags, Type, Vec<TypedConstant>),
+    GetElementPtr(Place, Flags, Box<Type>, Vec<TypedConstant>),
     /// `ptrtoint`, `inttoptr` or `trunc`: what is cast, and the type to which it is.
-    Cast(Place, Opcode, Box<TypedConstant>, Type),
+    Cast(Place, Opcode, Box<TypedConstant>, Box<Type>),
     /// `add`, `sub` or `xor`.
     Binary(Place, Opcode, Flags, Box<TypedConstant>, Box<TypedConstant>),
 }
 
 /// A constant and the type that is written before it.
-#[derive(Debug, Drop)]
+#[derive(Drop)]
 #[cycle(constants)]
 pub struct TypedConstant {
     pub ty: Type,

@@ -54,7 +54,7 @@ fn simple_constant(cursor: &mut Cursor) -> Result<Constant, Fault>
     let Some(simple) = simple_word(terminal) else {
         return Err(Fault::Refused);
     };
-    let place = cursor.take(terminal)?;
+    let place = cursor.take_class(terminal)?;
     Ok(Constant::Simple(simple, place))
 }
 
@@ -80,10 +80,11 @@ fn elements(cursor: &mut Cursor, depth: u8) -> Result<Vec<TypedConstant>, Fault>
         return Ok(elements);
     }
     elements.push(typed_at(cursor, depth)?)?;
-    'elements: while cursor.is_next(Terminal::Comma) {
-        cursor.take(Terminal::Comma)?;
+    'elements: while cursor.is_class_next(Terminal::Comma) {
+        cursor.take_class(Terminal::Comma)?;
         elements.push(typed_at(cursor, depth)?)?;
     }
+    elements.shrink_to_fit();
     Ok(elements)
 }
 
@@ -92,9 +93,9 @@ fn elements(cursor: &mut Cursor, depth: u8) -> Result<Vec<TypedConstant>, Fault>
 fn square(cursor: &mut Cursor, depth: u8) -> Result<Constant, Fault>
     ensures { Follows (λ limits. array_constant_row (typed_at limits depth)) constant_view cursor.old result cursor.new }
 {
-    let place = cursor.take(Terminal::OpenBracket)?;
+    let place = cursor.take_class(Terminal::OpenBracket)?;
     let elements = elements(cursor, depth)?;
-    cursor.take(Terminal::CloseBracket)?;
+    cursor.take_class(Terminal::CloseBracket)?;
     Ok(Constant::List(place, Brackets::Square, elements))
 }
 
@@ -103,9 +104,9 @@ fn square(cursor: &mut Cursor, depth: u8) -> Result<Constant, Fault>
 fn braces(cursor: &mut Cursor, depth: u8) -> Result<Constant, Fault>
     ensures { Follows (λ limits. struct_constant_row (typed_at limits depth)) constant_view cursor.old result cursor.new }
 {
-    let place = cursor.take(Terminal::OpenBrace)?;
+    let place = cursor.take_class(Terminal::OpenBrace)?;
     let elements = elements(cursor, depth)?;
-    cursor.take(Terminal::CloseBrace)?;
+    cursor.take_class(Terminal::CloseBrace)?;
     Ok(Constant::List(place, Brackets::Braces, elements))
 }
 
@@ -114,11 +115,11 @@ fn braces(cursor: &mut Cursor, depth: u8) -> Result<Constant, Fault>
 fn packed(cursor: &mut Cursor, depth: u8) -> Result<Constant, Fault>
     ensures { Follows (λ limits. packed_constant_row (typed_at limits depth)) constant_view cursor.old result cursor.new }
 {
-    let place = cursor.take(Terminal::Less)?;
-    cursor.take(Terminal::OpenBrace)?;
+    let place = cursor.take_class(Terminal::Less)?;
+    cursor.take_class(Terminal::OpenBrace)?;
     let elements = elements(cursor, depth)?;
-    cursor.take(Terminal::CloseBrace)?;
-    cursor.take(Terminal::Greater)?;
+    cursor.take_class(Terminal::CloseBrace)?;
+    cursor.take_class(Terminal::Greater)?;
     Ok(Constant::List(place, Brackets::Packed, elements))
 }
 
@@ -131,11 +132,11 @@ fn holder(cursor: &mut Cursor, depth: u8) -> Result<Constant, Fault>
     if depth == 0 {
         return Err(Fault::Refused);
     }
-    if cursor.is_next(Terminal::OpenBracket) {
+    if cursor.is_class_next(Terminal::OpenBracket) {
         square(cursor, depth - 1)
-    } else if cursor.is_next(Terminal::OpenBrace) {
+    } else if cursor.is_class_next(Terminal::OpenBrace) {
         braces(cursor, depth - 1)
-    } else if cursor.is_next(Terminal::Less) {
+    } else if cursor.is_class_next(Terminal::Less) {
         packed(cursor, depth - 1)
     } else {
         expression(cursor, depth - 1)
@@ -148,11 +149,11 @@ fn holder(cursor: &mut Cursor, depth: u8) -> Result<Constant, Fault>
 fn constant_at(cursor: &mut Cursor, depth: u8) -> Result<Constant, Fault>
     ensures { Follows (λ limits. constant_at limits depth) constant_view cursor.old result cursor.new }
 {
-    if cursor.is_next(Terminal::Integer) {
+    if cursor.is_class_next(Terminal::Integer) {
         Ok(Constant::Integer(cursor.integer()?))
-    } else if cursor.is_next(Terminal::GlobalName) {
+    } else if cursor.is_class_next(Terminal::GlobalName) {
         Ok(Constant::Global(cursor.global_name()?))
-    } else if cursor.is_next(Terminal::ByteString) {
+    } else if cursor.is_class_next(Terminal::ByteString) {
         Ok(Constant::Bytes(cursor.byte_string()?))
     } else if is_simple_next(cursor) {
         simple_constant(cursor)

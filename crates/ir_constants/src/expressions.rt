@@ -12,7 +12,7 @@ ghost use Rattle.ir_terminals.specs.Follows.{Follows};
 use crate::constant::{Constant, TypedConstant};
 use crate::constants::typed_at;
 use crate::flags::flags_of;
-use crate::types::type_of;
+use crate::types::{boxed_type_of, type_of};
 use ir_base::Place;
 use ir_tables::Opcode;
 use ir_terminals::{Cursor, Fault, Terminal};
@@ -43,7 +43,7 @@ fn expression_opcode(cursor: &mut Cursor) -> Result<(Opcode, Place), Fault>
     if !is_of_expression(opcode) {
         return Err(Fault::Refused);
     }
-    let place = cursor.take(Terminal::Opcode(opcode))?;
+    let place = cursor.take_class(Terminal::Opcode(opcode))?;
     Ok((opcode, place))
 }
 
@@ -55,10 +55,11 @@ fn operands(cursor: &mut Cursor, depth: u8) -> Result<Vec<TypedConstant>, Fault>
 {
     let mut operands = Vec::new(cursor.alloc());
     operands.push(typed_at(cursor, depth)?)?;
-    'operands: while cursor.is_next(Terminal::Comma) {
-        cursor.take(Terminal::Comma)?;
+    'operands: while cursor.is_class_next(Terminal::Comma) {
+        cursor.take_class(Terminal::Comma)?;
         operands.push(typed_at(cursor, depth)?)?;
     }
+    operands.shrink_to_fit();
     Ok(operands)
 }
 
@@ -68,11 +69,11 @@ fn element_address(cursor: &mut Cursor, depth: u8, place: Place) -> Result<Const
     ensures { Follows (λ limits. element_address_row limits (typed_at limits depth) place) constant_view cursor.old result cursor.new }
 {
     let flags = flags_of(cursor, Opcode::GetElementPtr)?;
-    cursor.take(Terminal::OpenParenthesis)?;
-    let source = type_of(cursor)?;
-    cursor.take(Terminal::Comma)?;
+    cursor.take_class(Terminal::OpenParenthesis)?;
+    let source = boxed_type_of(cursor)?;
+    cursor.take_class(Terminal::Comma)?;
     let operands = operands(cursor, depth)?;
-    cursor.take(Terminal::CloseParenthesis)?;
+    cursor.take_class(Terminal::CloseParenthesis)?;
     Ok(Constant::GetElementPtr(place, flags, source, operands))
 }
 
@@ -86,12 +87,14 @@ fn conversion(
 ) -> Result<Constant, Fault>
     ensures { Follows (λ limits. conversion_row limits (typed_at limits depth) place opcode) constant_view cursor.old result cursor.new }
 {
-    cursor.take(Terminal::OpenParenthesis)?;
+    cursor.take_class(Terminal::OpenParenthesis)?;
     let operand = typed_at(cursor, depth)?;
-    cursor.take(Terminal::To)?;
+    cursor.take_class(Terminal::To)?;
     let to = type_of(cursor)?;
-    cursor.take(Terminal::CloseParenthesis)?;
-    Ok(Constant::Cast(place, opcode, Box::new(cursor.alloc(), operand)?, to))
+    cursor.take_class(Terminal::CloseParenthesis)?;
+    let operand = Box::new(cursor.alloc(), operand)?;
+    let to = Box::new(cursor.alloc(), to)?;
+    Ok(Constant::Cast(place, opcode, operand, to))
 }
 
 /// `FLAG* ( TYPE CONST , TYPE CONST )`, behind `add`, `sub` or `xor`.
@@ -105,11 +108,11 @@ fn arithmetic(
     ensures { Follows (λ limits. arithmetic_row (typed_at limits depth) place opcode) constant_view cursor.old result cursor.new }
 {
     let flags = flags_of(cursor, opcode)?;
-    cursor.take(Terminal::OpenParenthesis)?;
+    cursor.take_class(Terminal::OpenParenthesis)?;
     let left = typed_at(cursor, depth)?;
-    cursor.take(Terminal::Comma)?;
+    cursor.take_class(Terminal::Comma)?;
     let right = typed_at(cursor, depth)?;
-    cursor.take(Terminal::CloseParenthesis)?;
+    cursor.take_class(Terminal::CloseParenthesis)?;
     let left = Box::new(cursor.alloc(), left)?;
     let right = Box::new(cursor.alloc(), right)?;
     Ok(Constant::Binary(place, opcode, flags, left, right))

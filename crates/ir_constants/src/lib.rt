@@ -9,8 +9,7 @@ mod constant;
 mod constants;
 mod expressions;
 mod flags;
-#[cfg(test)]
-mod tests;
+mod footprint;
 mod ty;
 mod types;
 mod value;
@@ -19,7 +18,7 @@ mod values;
 pub use constant::{Brackets, Constant, Simple, TypedConstant};
 pub use constants::{constant_of, typed_constant_of};
 pub use flags::flags_of;
-pub use ty::Type;
+pub use ty::{ArrayType, Type};
 pub use types::{begins_type, fields_of, type_of, value_type_of};
 pub use value::{TypedValue, Value};
 pub use values::{typed_value_of, value_of};

@@ -4,7 +4,8 @@ use ir_base::Place;
 use ir_terminals::{Integer, PlacedName};
 
 /// A type, with the place of its first token (LangRef, "Type System").
-#[derive(Debug, Drop)]
+#[derive(Drop)]
+#[cycle(ty)]
 pub enum Type {
     /// `iN`, with its width in bits, from 1 to 128.
     Integer(Place, u8),
@@ -12,10 +13,18 @@ pub enum Type {
     Ptr(Place),
     /// `void`
     Void(Place),
-    /// `[ INT x TYPE ]`, with the count of its elements as written.
-    Array(Place, Integer, Box<Type>),
+    /// `[ INT x TYPE ]`
+    Array(Place, Box<ArrayType>),
     /// `{ TYPE,* }`, or packed `<{ TYPE,* }>`.
     Struct(Place, bool, Vec<Type>),
     /// `%name`
     Named(PlacedName),
+}
+
+/// What an array holds: the count of its elements as written, and their type.
+#[derive(Drop)]
+#[cycle(ty)]
+pub struct ArrayType {
+    pub count: Integer,
+    pub element: Type,
 }

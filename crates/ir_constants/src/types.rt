@@ -8,7 +8,7 @@ ghost use Rattle.ir_constants.specs.Types.{type_shape, int_row, array_row, types
 ghost use Rattle.ir_constants.specs.View.{type_view};
 ghost use Rattle.ir_terminals.specs.Follows.{Follows};
 
-use crate::ty::Type;
+use crate::ty::{ArrayType, Type};
 use ir_terminals::{Cursor, Fault, Terminal};
 
 /// Whether an integer type is next.
@@ -25,7 +25,7 @@ fn integer_type(cursor: &mut Cursor) -> Result<Type, Fault>
     let Some(Terminal::IntegerType(width)) = cursor.terminal() else {
         return Err(Fault::Refused);
     };
-    let place = cursor.take(Terminal::IntegerType(width))?;
+    let place = cursor.take_class(Terminal::IntegerType(width))?;
     Ok(Type::Integer(place, width))
 }
 
@@ -34,12 +34,13 @@ fn integer_type(cursor: &mut Cursor) -> Result<Type, Fault>
 fn array(cursor: &mut Cursor, depth: u8) -> Result<Type, Fault>
     ensures { Follows (λ limits. array_row (type_at limits depth)) type_view cursor.old result cursor.new }
 {
-    let place = cursor.take(Terminal::OpenBracket)?;
+    let place = cursor.take_class(Terminal::OpenBracket)?;
     let count = cursor.integer()?;
-    cursor.take(Terminal::X)?;
+    cursor.take_class(Terminal::X)?;
     let element = type_at(cursor, depth)?;
-    cursor.take(Terminal::CloseBracket)?;
-    Ok(Type::Array(place, count, Box::new(cursor.alloc(), element)?))
+    cursor.take_class(Terminal::CloseBracket)?;
+    let array = Box::new(cursor.alloc(), ArrayType { count, element })?;
+    Ok(Type::Array(place, array))
 }
 
 /// `TYPE,*`
@@ -53,10 +54,11 @@ fn fields(cursor: &mut Cursor, depth: u8) -> Result<Vec<Type>, Fault>
         return Ok(fields);
     }
     fields.push(type_at(cursor, depth)?)?;
-    'fields: while cursor.is_next(Terminal::Comma) {
-        cursor.take(Terminal::Comma)?;
+    'fields: while cursor.is_class_next(Terminal::Comma) {
+        cursor.take_class(Terminal::Comma)?;
         fields.push(type_at(cursor, depth)?)?;
     }
+    fields.shrink_to_fit();
     Ok(fields)
 }
 
@@ -65,9 +67,9 @@ fn fields(cursor: &mut Cursor, depth: u8) -> Result<Vec<Type>, Fault>
 fn structure(cursor: &mut Cursor, depth: u8) -> Result<Type, Fault>
     ensures { Follows (λ limits. struct_row (type_at limits depth)) type_view cursor.old result cursor.new }
 {
-    let place = cursor.take(Terminal::OpenBrace)?;
+    let place = cursor.take_class(Terminal::OpenBrace)?;
     let fields = fields(cursor, depth)?;
-    cursor.take(Terminal::CloseBrace)?;
+    cursor.take_class(Terminal::CloseBrace)?;
     Ok(Type::Struct(place, false, fields))
 }
 
@@ -76,11 +78,11 @@ fn structure(cursor: &mut Cursor, depth: u8) -> Result<Type, Fault>
 fn packed(cursor: &mut Cursor, depth: u8) -> Result<Type, Fault>
     ensures { Follows (λ limits. packed_row (type_at limits depth)) type_view cursor.old result cursor.new }
 {
-    let place = cursor.take(Terminal::Less)?;
-    cursor.take(Terminal::OpenBrace)?;
+    let place = cursor.take_class(Terminal::Less)?;
+    cursor.take_class(Terminal::OpenBrace)?;
     let fields = fields(cursor, depth)?;
-    cursor.take(Terminal::CloseBrace)?;
-    cursor.take(Terminal::Greater)?;
+    cursor.take_class(Terminal::CloseBrace)?;
+    cursor.take_class(Terminal::Greater)?;
     Ok(Type::Struct(place, true, fields))
 }
 
@@ -93,9 +95,9 @@ fn nested(cursor: &mut Cursor, depth: u8) -> Result<Type, Fault>
     if depth == 0 {
         return Err(Fault::Refused);
     }
-    if cursor.is_next(Terminal::OpenBracket) {
+    if cursor.is_class_next(Terminal::OpenBracket) {
         array(cursor, depth - 1)
-    } else if cursor.is_next(Terminal::OpenBrace) {
+    } else if cursor.is_class_next(Terminal::OpenBrace) {
         structure(cursor, depth - 1)
     } else {
         packed(cursor, depth - 1)
@@ -110,9 +112,9 @@ fn value_type_at(cursor: &mut Cursor, depth: u8) -> Result<Type, Fault>
 {
     if is_integer_type_next(cursor) {
         integer_type(cursor)
-    } else if cursor.is_next(Terminal::Ptr) {
-        Ok(Type::Ptr(cursor.take(Terminal::Ptr)?))
-    } else if cursor.is_next(Terminal::Local) {
+    } else if cursor.is_class_next(Terminal::Ptr) {
+        Ok(Type::Ptr(cursor.take_class(Terminal::Ptr)?))
+    } else if cursor.is_class_next(Terminal::Local) {
         Ok(Type::Named(cursor.named_local()?))
     } else {
         nested(cursor, depth)
@@ -125,8 +127,8 @@ fn value_type_at(cursor: &mut Cursor, depth: u8) -> Result<Type, Fault>
 fn type_at(cursor: &mut Cursor, depth: u8) -> Result<Type, Fault>
     ensures { Follows (λ limits. type_at limits depth) type_view cursor.old result cursor.new }
 {
-    if cursor.is_next(Terminal::Void) {
-        Ok(Type::Void(cursor.take(Terminal::Void)?))
+    if cursor.is_class_next(Terminal::Void) {
+        Ok(Type::Void(cursor.take_class(Terminal::Void)?))
     } else {
         value_type_at(cursor, depth)
     }
@@ -155,6 +157,14 @@ pub fn type_of(cursor: &mut Cursor) -> Result<Type, Fault>
     ensures { Follows type_row type_view cursor.old result cursor.new }
 {
     type_at(cursor, cursor.limits().nesting)
+}
+
+/// `TYPE`, behind a box.
+pub fn boxed_type_of(cursor: &mut Cursor) -> Result<Box<Type>, Fault>
+    ensures { Follows type_row (λ boxed. type_view boxed.value) cursor.old result cursor.new }
+{
+    let ty = type_of(cursor)?;
+    Ok(Box::new(cursor.alloc(), ty)?)
 }
 
 /// `TYPE` but `void`: a type, nested no deeper than the cursor's limits allow.

@@ -5,14 +5,14 @@ use crate::ty::Type;
 use ir_terminals::Local;
 
 /// What an instruction works on: a parameter, a result or a constant.
-#[derive(Debug, Drop)]
+#[derive(Drop)]
 pub enum Value {
     Local(Local),
     Constant(Constant),
 }
 
 /// A value and the type that is written before it.
-#[derive(Debug, Drop)]
+#[derive(Drop)]
 pub struct TypedValue {
     pub ty: Type,
     pub value: Value,

@@ -13,7 +13,7 @@ use ir_terminals::{Cursor, Fault, Terminal};
 pub fn value_of(cursor: &mut Cursor) -> Result<Value, Fault>
     ensures { Follows value_row value_view cursor.old result cursor.new }
 {
-    if cursor.is_next(Terminal::Local) {
+    if cursor.is_class_next(Terminal::Local) {
         Ok(Value::Local(cursor.local()?))
     } else {
         Ok(Value::Constant(constant_of(cursor)?))

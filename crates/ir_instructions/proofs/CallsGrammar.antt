@@ -40,7 +40,7 @@ reads_signature_core limits =
     (reads_second class (reads_word terminal.OpenParenthesis)
     (reads_before class (reads_signature_types limits) (reads_word terminal.CloseParenthesis) refl) refl) refl
 
-reads_signature : (limits : Limits) → Reads class (signature_row limits) signature_shape
+pub reads_signature : (limits : Limits) → Reads class (signature_row limits) signature_shape
 reads_signature limits = reads_labelled (reads_signature_core limits)
 
 reads_argument_core : (limits : Limits) → Reads class (argument_core limits) type_shape

@@ -7,3 +7,4 @@ pub mod Loops
 pub mod Lists
 pub mod Sizes
 pub mod Firsts
+pub mod Formed

@@ -8,3 +8,4 @@ pub mod Instructions
 pub mod Endings
 pub mod Blocks
 pub mod Counts
+pub mod Forms

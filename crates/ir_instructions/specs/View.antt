@@ -1,9 +1,14 @@
 -- The plain tree of an instruction or a block as it lies in memory.
-use Rattle.std.specs.Prelude.{map, option_map}
+use Rattle.std.specs.Prelude.{map, Option, option_map, Box}
+use Rattle.std.specs.Global.{Global}
+use Rattle.ir_terminals.specs.declared.values.Integer.{Integer}
+use Rattle.ir_constants.specs.Tree.{TypedValueTree, ValueTree}
+use Rattle.ir_constants.specs.declared.value.TypedValue.{TypedValue}
 use Rattle.ir_constants.specs.View.{type_view, typed_constant_view, value_view, typed_value_view}
 use Rattle.ir_instructions.specs.declared.operation.Signature.{Signature}
 use Rattle.ir_instructions.specs.declared.operation.Call as the_call
 use Rattle.ir_instructions.specs.declared.operation.Incoming.{Incoming}
+use Rattle.ir_instructions.specs.declared.operation.Operands.{Operands}
 use Rattle.ir_instructions.specs.declared.operation.Operation as the_operation
 use Rattle.ir_instructions.specs.declared.operation.Operation.TheVariants as op
 use Rattle.ir_instructions.specs.declared.block.Instruction.{Instruction}
@@ -27,20 +32,27 @@ call_view c = record {
 abbrev pub incoming_view : Incoming → IncomingTree
 incoming_view i = (value_view i.value, i.block)
 
+abbrev pub operands_view : Operands → TypedValueTree × ValueTree
+operands_view o = (typed_value_view o.left, value_view o.right)
+
+-- a count and an alignment, where they are written
+abbrev pub count_view : Option (Box TypedValue Global) × Option Integer → Option TypedValueTree × Option Integer
+count_view c = (option_map (λ b. typed_value_view b.value) c.0, c.1)
+
 abbrev pub operation_view : the_operation.Operation → OperationTree
-operation_view (op.Binary opcode flags left right) = Binary opcode flags (typed_value_view left) (value_view right)
-operation_view (op.Compare flags predicate left right) = Compare flags predicate (typed_value_view left) (value_view right)
-operation_view (op.Cast opcode flags value to) = Cast opcode flags (typed_value_view value) (type_view to)
-operation_view (op.Select condition first second) = Select (typed_value_view condition) (typed_value_view first) (typed_value_view second)
-operation_view (op.Freeze value) = Freeze (typed_value_view value)
-operation_view (op.Phi ty incoming) = Phi (type_view ty) (map incoming_view incoming.items)
-operation_view (op.Load flags ty address alignment) = Load flags (type_view ty) (typed_value_view address) alignment
-operation_view (op.Store flags value address alignment) = Store flags (typed_value_view value) (typed_value_view address) alignment
-operation_view (op.Alloca ty count alignment) = Alloca (type_view ty) (option_map typed_value_view count) alignment
-operation_view (op.GetElementPtr flags source operands) = GetElementPtr flags (type_view source) (map typed_value_view operands.items)
-operation_view (op.Call call) = Call (call_view call)
-operation_view (op.ExtractValue value indices) = ExtractValue (typed_value_view value) indices.items
-operation_view (op.InsertValue value part indices) = InsertValue (typed_value_view value) (typed_value_view part) indices.items
+operation_view (op.Binary opcode flags operands) = Binary opcode flags (typed_value_view operands.value.left) (value_view operands.value.right)
+operation_view (op.Compare flags predicate operands) = Compare flags predicate (typed_value_view operands.value.left) (value_view operands.value.right)
+operation_view (op.Cast opcode flags conversion) = Cast opcode flags (typed_value_view conversion.value.value) (type_view conversion.value.to)
+operation_view (op.Select choice) = Select (typed_value_view choice.value.condition) (typed_value_view choice.value.first) (typed_value_view choice.value.second)
+operation_view (op.Freeze value) = Freeze (typed_value_view value.value)
+operation_view (op.Phi phi) = Phi (type_view phi.value.ty) (map incoming_view phi.value.incoming.items)
+operation_view (op.Load flags load) = Load flags (type_view load.value.ty) (typed_value_view load.value.address) load.value.alignment
+operation_view (op.Store flags store) = Store flags (typed_value_view store.value.value) (typed_value_view store.value.address) store.value.alignment
+operation_view (op.Alloca alloca) = Alloca (type_view alloca.value.ty) (option_map (λ b. typed_value_view b.value) alloca.value.count) alloca.value.alignment
+operation_view (op.GetElementPtr flags address) = GetElementPtr flags (type_view address.value.source) (map typed_value_view address.value.operands.items)
+operation_view (op.Call call) = Call (call_view call.value)
+operation_view (op.ExtractValue extraction) = ExtractValue (typed_value_view extraction.value.value) extraction.value.indices.items
+operation_view (op.InsertValue insertion) = InsertValue (typed_value_view insertion.value.value) (typed_value_view insertion.value.part) insertion.value.indices.items
 
 abbrev pub instruction_view : Instruction → InstructionTree
 instruction_view i = record { result = i.result; operation = operation_view i.operation }
@@ -50,10 +62,10 @@ case_view c = (typed_constant_view c.value, c.target)
 
 abbrev pub ending_view : Ending → EndingTree
 ending_view ending.ReturnVoid = ReturnVoid
-ending_view (ending.Return value) = Return (typed_value_view value)
+ending_view (ending.Return value) = Return (typed_value_view value.value)
 ending_view (ending.Jump target) = Jump target
-ending_view (ending.Branch condition then_to else_to) = Branch (typed_value_view condition) then_to else_to
-ending_view (ending.Switch value otherwise cases) = Switch (typed_value_view value) otherwise (map case_view cases.items)
+ending_view (ending.Branch branch) = Branch (typed_value_view branch.value.condition) branch.value.then_to branch.value.else_to
+ending_view (ending.Switch switch) = Switch (typed_value_view switch.value.value) switch.value.otherwise (map case_view switch.value.cases.items)
 ending_view ending.Unreachable = Unreachable
 
 abbrev pub block_view : Block → BlockTree

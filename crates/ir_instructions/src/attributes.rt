@@ -12,14 +12,14 @@ use ir_terminals::{Cursor, Fault, Terminal};
 fn parameter_alignment(cursor: &mut Cursor) -> Result<(), Fault>
     ensures { Follows (λ _. parameter_alignment_row) (λ x. x) cursor.old result cursor.new }
 {
-    cursor.take(Terminal::Align)?;
-    if cursor.is_next(Terminal::Integer) {
-        cursor.take(Terminal::Integer)?;
+    cursor.take_class(Terminal::Align)?;
+    if cursor.is_class_next(Terminal::Integer) {
+        cursor.take_class(Terminal::Integer)?;
         return Ok(());
     }
-    cursor.take(Terminal::OpenParenthesis)?;
-    cursor.take(Terminal::Integer)?;
-    cursor.take(Terminal::CloseParenthesis)?;
+    cursor.take_class(Terminal::OpenParenthesis)?;
+    cursor.take_class(Terminal::Integer)?;
+    cursor.take_class(Terminal::CloseParenthesis)?;
     Ok(())
 }
 
@@ -44,12 +44,12 @@ fn parameter_attribute(cursor: &mut Cursor) -> Result<(), Fault>
 {
     match cursor.terminal() {
         Some(word @ (Terminal::ParameterDropped | Terminal::AttributeDropped)) => {
-            cursor.take(word)?;
+            cursor.take_class(word)?;
             Ok(())
         }
         Some(Terminal::Align) => parameter_alignment(cursor),
         _ => {
-            cursor.take(Terminal::ParameterDroppedList)?;
+            cursor.take_class(Terminal::ParameterDroppedList)?;
             cursor.skip_brackets(Terminal::OpenParenthesis)
         }
     }
@@ -70,12 +70,12 @@ pub fn parameter_attributes(cursor: &mut Cursor) -> Result<(), Fault>
 fn function_string(cursor: &mut Cursor) -> Result<(), Fault>
     ensures { Follows (λ _. function_string_row) (λ x. x) cursor.old result cursor.new }
 {
-    cursor.take(Terminal::Quoted)?;
-    if !cursor.is_next(Terminal::Equals) {
+    cursor.take_class(Terminal::Quoted)?;
+    if !cursor.is_class_next(Terminal::Equals) {
         return Ok(());
     }
-    cursor.take(Terminal::Equals)?;
-    cursor.take(Terminal::Quoted)?;
+    cursor.take_class(Terminal::Equals)?;
+    cursor.take_class(Terminal::Quoted)?;
     Ok(())
 }
 
@@ -83,8 +83,8 @@ fn function_string(cursor: &mut Cursor) -> Result<(), Fault>
 fn unwind_table(cursor: &mut Cursor) -> Result<(), Fault>
     ensures { Follows (λ _. unwind_table_row) (λ x. x) cursor.old result cursor.new }
 {
-    cursor.take(Terminal::UnwindTable)?;
-    if !cursor.is_next(Terminal::OpenParenthesis) {
+    cursor.take_class(Terminal::UnwindTable)?;
+    if !cursor.is_class_next(Terminal::OpenParenthesis) {
         return Ok(());
     }
     cursor.skip_brackets(Terminal::OpenParenthesis)
@@ -136,7 +136,7 @@ fn function_word(cursor: &mut Cursor) -> Result<(), Fault>
             | Terminal::FunctionDropped
             | Terminal::AttributeDropped),
         ) => {
-            cursor.take(word)?;
+            cursor.take_class(word)?;
             Ok(())
         }
         _ => Err(Fault::Refused),
@@ -147,8 +147,8 @@ fn function_word(cursor: &mut Cursor) -> Result<(), Fault>
 fn function_alignment(cursor: &mut Cursor) -> Result<(), Fault>
     ensures { Follows (λ _. function_alignment_row) (λ x. x) cursor.old result cursor.new }
 {
-    cursor.take(Terminal::Align)?;
-    cursor.take(Terminal::Integer)?;
+    cursor.take_class(Terminal::Align)?;
+    cursor.take_class(Terminal::Integer)?;
     Ok(())
 }
 
@@ -156,8 +156,8 @@ fn function_alignment(cursor: &mut Cursor) -> Result<(), Fault>
 fn section(cursor: &mut Cursor) -> Result<(), Fault>
     ensures { Follows (λ _. section_row) (λ x. x) cursor.old result cursor.new }
 {
-    cursor.take(Terminal::Section)?;
-    cursor.take(Terminal::Quoted)?;
+    cursor.take_class(Terminal::Section)?;
+    cursor.take_class(Terminal::Quoted)?;
     Ok(())
 }
 
@@ -165,7 +165,7 @@ fn section(cursor: &mut Cursor) -> Result<(), Fault>
 fn function_list(cursor: &mut Cursor) -> Result<(), Fault>
     ensures { Follows (λ _. function_list_row) (λ x. x) cursor.old result cursor.new }
 {
-    cursor.take(Terminal::FunctionDroppedList)?;
+    cursor.take_class(Terminal::FunctionDroppedList)?;
     cursor.skip_brackets(Terminal::OpenParenthesis)
 }
 
@@ -176,13 +176,13 @@ fn function_attribute(cursor: &mut Cursor) -> Result<(), Fault>
 {
     if is_function_word_next(cursor) {
         function_word(cursor)
-    } else if cursor.is_next(Terminal::Quoted) {
+    } else if cursor.is_class_next(Terminal::Quoted) {
         function_string(cursor)
-    } else if cursor.is_next(Terminal::Align) {
+    } else if cursor.is_class_next(Terminal::Align) {
         function_alignment(cursor)
-    } else if cursor.is_next(Terminal::Section) {
+    } else if cursor.is_class_next(Terminal::Section) {
         section(cursor)
-    } else if cursor.is_next(Terminal::FunctionDroppedList) {
+    } else if cursor.is_class_next(Terminal::FunctionDroppedList) {
         function_list(cursor)
     } else {
         unwind_table(cursor)
@@ -204,8 +204,8 @@ pub fn function_attributes(cursor: &mut Cursor) -> Result<(), Fault>
 pub fn convention(cursor: &mut Cursor) -> Result<(), Fault>
     ensures { Follows (λ _. convention_row) (λ x. x) cursor.old result cursor.new }
 {
-    if cursor.is_next(Terminal::CallingConvention) {
-        cursor.take(Terminal::CallingConvention)?;
+    if cursor.is_class_next(Terminal::CallingConvention) {
+        cursor.take_class(Terminal::CallingConvention)?;
     }
     Ok(())
 }

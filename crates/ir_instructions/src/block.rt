@@ -5,38 +5,54 @@ use ir_constants::{TypedConstant, TypedValue};
 use ir_terminals::Local;
 
 /// An instruction, and what its result is called where that is written.
-#[derive(Debug, Drop)]
+#[derive(Drop)]
 pub struct Instruction {
     pub result: Option<Local>,
     pub operation: Operation,
 }
 
 /// A case of a switch, and the block that it goes to.
-#[derive(Debug, Drop)]
+#[derive(Drop)]
 pub struct Case {
     pub value: TypedConstant,
     pub target: Local,
 }
 
+/// A condition, and where it goes: to the first block where it is true, else to the second.
+#[derive(Drop)]
+pub struct Branch {
+    pub condition: TypedValue,
+    pub then_to: Local,
+    pub else_to: Local,
+}
+
+/// The value of a switch, the block for any other value, and the cases.
+#[derive(Drop)]
+pub struct Switch {
+    pub value: TypedValue,
+    pub otherwise: Local,
+    pub cases: Vec<Case>,
+}
+
 /// How a block ends (LangRef, "Terminator Instructions").
-#[derive(Debug, Drop)]
+#[derive(Drop)]
 pub enum Ending {
     /// `ret void`
     ReturnVoid,
     /// `ret` with a value.
-    Return(TypedValue),
+    Return(Box<TypedValue>),
     /// `br` to one block.
     Jump(Local),
-    /// `br` on a condition: to the first block where it is true, else to the second.
-    Branch(TypedValue, Local, Local),
-    /// `switch`: the value, the block for any other value, and the cases.
-    Switch(TypedValue, Local, Vec<Case>),
+    /// `br` on a condition.
+    Branch(Box<Branch>),
+    /// `switch`
+    Switch(Box<Switch>),
     /// `unreachable`
     Unreachable,
 }
 
 /// A block: what it is called where that is written, its instructions, and its end.
-#[derive(Debug, Drop)]
+#[derive(Drop)]
 pub struct Block {
     pub label: Option<Local>,
     pub instructions: Vec<Instruction>,

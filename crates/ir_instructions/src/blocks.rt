@@ -17,7 +17,7 @@ use ir_terminals::{Cursor, Fault, Local, Terminal};
 fn label(cursor: &mut Cursor) -> Result<Option<Local>, Fault>
     ensures { Follows (λ _. optional class label_row) (λ x. x) cursor.old result cursor.new }
 {
-    if !cursor.is_next(Terminal::Label) {
+    if !cursor.is_class_next(Terminal::Label) {
         return Ok(None);
     }
     let label = cursor.label()?;
@@ -44,7 +44,7 @@ fn block(cursor: &mut Cursor) -> Result<Block, Fault>
 fn is_block_next(cursor: &Cursor) -> bool
     ensures { result ≡ begins class block_shape.first (left cursor.now) }
 {
-    cursor.is_next(Terminal::Label) || is_instruction_next(cursor) || is_ending_next(cursor)
+    cursor.is_class_next(Terminal::Label) || is_instruction_next(cursor) || is_ending_next(cursor)
 }
 
 /// `BLOCK+`
@@ -56,6 +56,7 @@ fn block_list(cursor: &mut Cursor) -> Result<Vec<Block>, Fault>
     'list: while is_block_next(cursor) {
         blocks.push(block(cursor)?)?;
     }
+    blocks.shrink_to_fit();
     Ok(blocks)
 }
 
@@ -63,8 +64,8 @@ fn block_list(cursor: &mut Cursor) -> Result<Vec<Block>, Fault>
 pub fn blocks_of(cursor: &mut Cursor) -> Result<Vec<Block>, Fault>
     ensures { Follows blocks_row (λ x. map block_view x.items) cursor.old result cursor.new }
 {
-    cursor.take(Terminal::OpenBrace)?;
+    cursor.take_class(Terminal::OpenBrace)?;
     let blocks = block_list(cursor)?;
-    cursor.take(Terminal::CloseBrace)?;
+    cursor.take_class(Terminal::CloseBrace)?;
     Ok(blocks)
 }

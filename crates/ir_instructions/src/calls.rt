@@ -18,18 +18,19 @@ fn some_types(cursor: &mut Cursor) -> Result<Signature, Fault>
     let mut parameters = Vec::new(cursor.alloc());
     let mut variadic = false;
     parameters.push(type_of(cursor)?)?;
-    'parameters: while cursor.is_next(Terminal::Comma) {
+    'parameters: while cursor.is_class_next(Terminal::Comma) {
         if variadic {
             return Err(Fault::Refused);
         }
-        cursor.take(Terminal::Comma)?;
-        if cursor.is_next(Terminal::Dots) {
-            cursor.take(Terminal::Dots)?;
+        cursor.take_class(Terminal::Comma)?;
+        if cursor.is_class_next(Terminal::Dots) {
+            cursor.take_class(Terminal::Dots)?;
             variadic = true;
         } else {
             parameters.push(type_of(cursor)?)?;
         }
     }
+    parameters.shrink_to_fit();
     Ok(Signature {
         parameters,
         variadic,
@@ -40,8 +41,8 @@ fn some_types(cursor: &mut Cursor) -> Result<Signature, Fault>
 fn signature_types(cursor: &mut Cursor) -> Result<Signature, Fault>
     ensures { Follows signature_types_row signature_view cursor.old result cursor.new }
 {
-    if cursor.is_next(Terminal::Dots) {
-        cursor.take(Terminal::Dots)?;
+    if cursor.is_class_next(Terminal::Dots) {
+        cursor.take_class(Terminal::Dots)?;
         return Ok(Signature {
             parameters: Vec::new(cursor.alloc()),
             variadic: true,
@@ -58,15 +59,15 @@ fn signature_types(cursor: &mut Cursor) -> Result<Signature, Fault>
 
 /// `(( TYPE,* ))?`
 #[tactic(auto, unfolding(crate::specs::Calls::signature_core))]
-fn signature(cursor: &mut Cursor) -> Result<Option<Signature>, Fault>
+pub fn signature(cursor: &mut Cursor) -> Result<Option<Signature>, Fault>
     ensures { Follows signature_row (option_map signature_view) cursor.old result cursor.new }
 {
-    if !cursor.is_next(Terminal::OpenParenthesis) {
+    if !cursor.is_class_next(Terminal::OpenParenthesis) {
         return Ok(None);
     }
-    cursor.take(Terminal::OpenParenthesis)?;
+    cursor.take_class(Terminal::OpenParenthesis)?;
     let signature = signature_types(cursor)?;
-    cursor.take(Terminal::CloseParenthesis)?;
+    cursor.take_class(Terminal::CloseParenthesis)?;
     Ok(Some(signature))
 }
 
@@ -91,10 +92,11 @@ fn argument_list(cursor: &mut Cursor) -> Result<Vec<TypedValue>, Fault>
         return Ok(arguments);
     }
     arguments.push(argument(cursor)?)?;
-    'arguments: while cursor.is_next(Terminal::Comma) {
-        cursor.take(Terminal::Comma)?;
+    'arguments: while cursor.is_class_next(Terminal::Comma) {
+        cursor.take_class(Terminal::Comma)?;
         arguments.push(argument(cursor)?)?;
     }
+    arguments.shrink_to_fit();
     Ok(arguments)
 }
 
@@ -103,9 +105,9 @@ fn argument_list(cursor: &mut Cursor) -> Result<Vec<TypedValue>, Fault>
 fn arguments(cursor: &mut Cursor) -> Result<Vec<TypedValue>, Fault>
     ensures { Follows arguments_row (λ x. map typed_value_view x.items) cursor.old result cursor.new }
 {
-    cursor.take(Terminal::OpenParenthesis)?;
+    cursor.take_class(Terminal::OpenParenthesis)?;
     let arguments = argument_list(cursor)?;
-    cursor.take(Terminal::CloseParenthesis)?;
+    cursor.take_class(Terminal::CloseParenthesis)?;
     Ok(arguments)
 }
 
@@ -147,10 +149,11 @@ pub fn call(cursor: &mut Cursor) -> Result<Operation, Fault>
     let returns = result_type(cursor)?;
     let signature = signature(cursor)?;
     let (callee, arguments) = called(cursor)?;
-    Ok(Operation::Call(Call {
+    let call = Call {
         returns,
         signature,
         callee,
         arguments,
-    }))
+    };
+    Ok(Operation::Call(Box::new(cursor.alloc(), call)?))
 }

@@ -7,7 +7,7 @@ ghost use Rattle.ir_instructions.specs.Endings.{target_row, next_target_row, ret
 ghost use Rattle.ir_instructions.specs.View.{case_view, ending_view};
 ghost use Rattle.ir_terminals.specs.Follows.{Follows};
 
-use crate::block::{Case, Ending};
+use crate::block::{Branch, Case, Ending, Switch};
 use crate::metadata::attachments;
 use ir_constants::{
     TypedValue, begins_type, typed_constant_of, typed_value_of, value_of, value_type_of,
@@ -20,7 +20,7 @@ use ir_terminals::{Cursor, Fault, Local, Terminal};
 fn target(cursor: &mut Cursor) -> Result<Local, Fault>
     ensures { Follows (λ _. target_row) (λ x. x) cursor.old result cursor.new }
 {
-    cursor.take(Terminal::LabelWord)?;
+    cursor.take_class(Terminal::LabelWord)?;
     cursor.local()
 }
 
@@ -29,7 +29,7 @@ fn target(cursor: &mut Cursor) -> Result<Local, Fault>
 fn next_target(cursor: &mut Cursor) -> Result<Local, Fault>
     ensures { Follows (λ _. next_target_row) (λ x. x) cursor.old result cursor.new }
 {
-    cursor.take(Terminal::Comma)?;
+    cursor.take_class(Terminal::Comma)?;
     target(cursor)
 }
 
@@ -39,7 +39,8 @@ fn returned(cursor: &mut Cursor) -> Result<Ending, Fault>
 {
     let ty = value_type_of(cursor)?;
     let value = value_of(cursor)?;
-    Ok(Ending::Return(TypedValue { ty, value }))
+    let value = Box::new(cursor.alloc(), TypedValue { ty, value })?;
+    Ok(Ending::Return(value))
 }
 
 /// `void`, or `TYPE VALUE`.
@@ -47,8 +48,8 @@ fn returned(cursor: &mut Cursor) -> Result<Ending, Fault>
 fn return_value(cursor: &mut Cursor) -> Result<Ending, Fault>
     ensures { Follows return_value_row ending_view cursor.old result cursor.new }
 {
-    if cursor.is_next(Terminal::Void) {
-        cursor.take(Terminal::Void)?;
+    if cursor.is_class_next(Terminal::Void) {
+        cursor.take_class(Terminal::Void)?;
         return Ok(Ending::ReturnVoid);
     }
     returned(cursor)
@@ -59,7 +60,7 @@ fn return_value(cursor: &mut Cursor) -> Result<Ending, Fault>
 fn return_(cursor: &mut Cursor) -> Result<Ending, Fault>
     ensures { Follows return_row ending_view cursor.old result cursor.new }
 {
-    cursor.take(Terminal::Opcode(Opcode::Ret))?;
+    cursor.take_class(Terminal::Opcode(Opcode::Ret))?;
     let ending = return_value(cursor)?;
     attachments(cursor)?;
     Ok(ending)
@@ -72,7 +73,12 @@ fn condition(cursor: &mut Cursor) -> Result<Ending, Fault>
     let condition = typed_value_of(cursor)?;
     let then_to = next_target(cursor)?;
     let else_to = next_target(cursor)?;
-    Ok(Ending::Branch(condition, then_to, else_to))
+    let branch = Branch {
+        condition,
+        then_to,
+        else_to,
+    };
+    Ok(Ending::Branch(Box::new(cursor.alloc(), branch)?))
 }
 
 /// `label LOCAL`, or `TYPE VALUE , label LOCAL , label LOCAL`.
@@ -80,7 +86,7 @@ fn condition(cursor: &mut Cursor) -> Result<Ending, Fault>
 fn branch_target(cursor: &mut Cursor) -> Result<Ending, Fault>
     ensures { Follows branch_target_row ending_view cursor.old result cursor.new }
 {
-    if cursor.is_next(Terminal::LabelWord) {
+    if cursor.is_class_next(Terminal::LabelWord) {
         return Ok(Ending::Jump(target(cursor)?));
     }
     condition(cursor)
@@ -91,7 +97,7 @@ fn branch_target(cursor: &mut Cursor) -> Result<Ending, Fault>
 fn branch(cursor: &mut Cursor) -> Result<Ending, Fault>
     ensures { Follows branch_row ending_view cursor.old result cursor.new }
 {
-    cursor.take(Terminal::Opcode(Opcode::Br))?;
+    cursor.take_class(Terminal::Opcode(Opcode::Br))?;
     let ending = branch_target(cursor)?;
     attachments(cursor)?;
     Ok(ending)
@@ -115,6 +121,7 @@ fn case_list(cursor: &mut Cursor) -> Result<Vec<Case>, Fault>
     'cases: while begins_type(cursor) {
         cases.push(case(cursor)?)?;
     }
+    cases.shrink_to_fit();
     Ok(cases)
 }
 
@@ -123,9 +130,9 @@ fn case_list(cursor: &mut Cursor) -> Result<Vec<Case>, Fault>
 fn cases(cursor: &mut Cursor) -> Result<Vec<Case>, Fault>
     ensures { Follows cases_row (λ x. map case_view x.items) cursor.old result cursor.new }
 {
-    cursor.take(Terminal::OpenBracket)?;
+    cursor.take_class(Terminal::OpenBracket)?;
     let cases = case_list(cursor)?;
-    cursor.take(Terminal::CloseBracket)?;
+    cursor.take_class(Terminal::CloseBracket)?;
     Ok(cases)
 }
 
@@ -145,10 +152,15 @@ fn switch_targets(cursor: &mut Cursor) -> Result<(Local, Vec<Case>), Fault>
 fn switch(cursor: &mut Cursor) -> Result<Ending, Fault>
     ensures { Follows switch_row ending_view cursor.old result cursor.new }
 {
-    cursor.take(Terminal::Opcode(Opcode::Switch))?;
+    cursor.take_class(Terminal::Opcode(Opcode::Switch))?;
     let value = typed_value_of(cursor)?;
     let (otherwise, cases) = switch_targets(cursor)?;
-    Ok(Ending::Switch(value, otherwise, cases))
+    let switch = Switch {
+        value,
+        otherwise,
+        cases,
+    };
+    Ok(Ending::Switch(Box::new(cursor.alloc(), switch)?))
 }
 
 /// `unreachable`
@@ -156,7 +168,7 @@ fn switch(cursor: &mut Cursor) -> Result<Ending, Fault>
 fn unreachable(cursor: &mut Cursor) -> Result<Ending, Fault>
     ensures { Follows (λ _. unreachable_row) ending_view cursor.old result cursor.new }
 {
-    cursor.take(Terminal::Opcode(Opcode::Unreachable))?;
+    cursor.take_class(Terminal::Opcode(Opcode::Unreachable))?;
     attachments(cursor)?;
     Ok(Ending::Unreachable)
 }
@@ -176,11 +188,11 @@ pub fn is_ending_next(cursor: &Cursor) -> bool
 pub fn ending(cursor: &mut Cursor) -> Result<Ending, Fault>
     ensures { Follows ending_row ending_view cursor.old result cursor.new }
 {
-    if cursor.is_next(Terminal::Opcode(Opcode::Ret)) {
+    if cursor.is_class_next(Terminal::Opcode(Opcode::Ret)) {
         return_(cursor)
-    } else if cursor.is_next(Terminal::Opcode(Opcode::Br)) {
+    } else if cursor.is_class_next(Terminal::Opcode(Opcode::Br)) {
         branch(cursor)
-    } else if cursor.is_next(Terminal::Opcode(Opcode::Switch)) {
+    } else if cursor.is_class_next(Terminal::Opcode(Opcode::Switch)) {
         switch(cursor)
     } else {
         unreachable(cursor)

@@ -46,7 +46,7 @@ fn result_opcode(cursor: &mut Cursor) -> Result<Opcode, Fault>
     if !has_result(opcode) {
         return Err(Fault::Refused);
     }
-    cursor.take(Terminal::Opcode(opcode))?;
+    cursor.take_class(Terminal::Opcode(opcode))?;
     Ok(opcode)
 }
 
@@ -60,7 +60,7 @@ fn operation_opcode(cursor: &mut Cursor) -> Result<Opcode, Fault>
     if !is_operation(opcode) {
         return Err(Fault::Refused);
     }
-    cursor.take(Terminal::Opcode(opcode))?;
+    cursor.take_class(Terminal::Opcode(opcode))?;
     Ok(opcode)
 }
 
@@ -68,8 +68,8 @@ fn operation_opcode(cursor: &mut Cursor) -> Result<Opcode, Fault>
 fn marked_call(cursor: &mut Cursor) -> Result<Operation, Fault>
     ensures { Follows marked_call_row operation_view cursor.old result cursor.new }
 {
-    cursor.take(Terminal::TailMark)?;
-    cursor.take(Terminal::Opcode(Opcode::Call))?;
+    cursor.take_class(Terminal::TailMark)?;
+    cursor.take_class(Terminal::Opcode(Opcode::Call))?;
     call(cursor)
 }
 
@@ -78,7 +78,7 @@ fn marked_call(cursor: &mut Cursor) -> Result<Operation, Fault>
 fn with_result(cursor: &mut Cursor) -> Result<Operation, Fault>
     ensures { Follows (operation_over result_classes) operation_view cursor.old result cursor.new }
 {
-    if cursor.is_next(Terminal::TailMark) {
+    if cursor.is_class_next(Terminal::TailMark) {
         return marked_call(cursor);
     }
     let opcode = result_opcode(cursor)?;
@@ -90,7 +90,7 @@ fn with_result(cursor: &mut Cursor) -> Result<Operation, Fault>
 fn operation(cursor: &mut Cursor) -> Result<Operation, Fault>
     ensures { Follows (operation_over operation_classes) operation_view cursor.old result cursor.new }
 {
-    if cursor.is_next(Terminal::TailMark) {
+    if cursor.is_class_next(Terminal::TailMark) {
         return marked_call(cursor);
     }
     let opcode = operation_opcode(cursor)?;
@@ -102,7 +102,7 @@ fn operation(cursor: &mut Cursor) -> Result<Operation, Fault>
 fn instruction(cursor: &mut Cursor) -> Result<Instruction, Fault>
     ensures { Follows instruction_row instruction_view cursor.old result cursor.new }
 {
-    if !cursor.is_next(Terminal::Local) {
+    if !cursor.is_class_next(Terminal::Local) {
         let operation = operation(cursor)?;
         return Ok(Instruction {
             result: None,
@@ -110,7 +110,7 @@ fn instruction(cursor: &mut Cursor) -> Result<Instruction, Fault>
         });
     }
     let result = cursor.local()?;
-    cursor.take(Terminal::Equals)?;
+    cursor.take_class(Terminal::Equals)?;
     let operation = with_result(cursor)?;
     Ok(Instruction {
         result: Some(result),
@@ -118,15 +118,34 @@ fn instruction(cursor: &mut Cursor) -> Result<Instruction, Fault>
     })
 }
 
+/// Whether a token with the terminal is the opcode of an instruction that does not end a block.
+fn begins_operation(terminal: Terminal) -> bool
+    ensures { result ≡ among (code terminal) operation_classes }
+{
+    match terminal {
+        Terminal::Opcode(opcode) => is_operation(opcode),
+        _ => false,
+    }
+}
+
+/// Whether the opcode of an instruction that does not end a block is next.
+fn is_operation_next(cursor: &Cursor) -> bool
+    ensures { result ≡ begins class operation_classes (left cursor.now) }
+{
+    match cursor.terminal() {
+        Some(terminal) => begins_operation(terminal),
+        None => false,
+    }
+}
+
 /// Whether an instruction that does not end a block is next.
+#[tactic(auto, using(crate::proofs::Firsts::instruction_begins))]
 pub fn is_instruction_next(cursor: &Cursor) -> bool
     ensures { result ≡ begins class instruction_shape.first (left cursor.now) }
 {
-    match cursor.terminal() {
-        Some(Terminal::Local | Terminal::TailMark) => true,
-        Some(Terminal::Opcode(opcode)) => is_operation(opcode),
-        _ => false,
-    }
+    cursor.is_class_next(Terminal::Local)
+        || cursor.is_class_next(Terminal::TailMark)
+        || is_operation_next(cursor)
 }
 
 /// `INST*`
@@ -137,5 +156,6 @@ pub fn instructions(cursor: &mut Cursor) -> Result<Vec<Instruction>, Fault>
     'instructions: while is_instruction_next(cursor) {
         instructions.push(instruction(cursor)?)?;
     }
+    instructions.shrink_to_fit();
     Ok(instructions)
 }

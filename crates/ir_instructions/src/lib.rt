@@ -10,17 +10,20 @@ mod block;
 mod blocks;
 mod calls;
 mod endings;
+mod footprint;
 mod instructions;
 mod metadata;
 mod operation;
 mod operations;
 mod parts;
 mod tails;
-#[cfg(test)]
-mod tests;
 
 pub use attributes::{convention, function_attributes, parameter_attributes};
-pub use block::{Block, Case, Ending, Instruction};
+pub use block::{Block, Branch, Case, Ending, Instruction, Switch};
 pub use blocks::blocks_of;
+pub use calls::signature;
 pub use metadata::{attachment, attachments};
-pub use operation::{Call, Incoming, Operation, Signature};
+pub use operation::{
+    Address, Alloca, Call, Choice, Conversion, Extraction, Incoming, Insertion, Load, Operands,
+    Operation, Phi, Signature, Store,
+};

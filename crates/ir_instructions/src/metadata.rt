@@ -8,12 +8,12 @@ use ir_terminals::{Cursor, Fault, Terminal};
 pub fn attachment(cursor: &mut Cursor) -> Result<(), Fault>
     ensures { Follows (λ _. attachment_row) (λ x. x) cursor.old result cursor.new }
 {
-    cursor.take(Terminal::MetaName)?;
-    if cursor.is_next(Terminal::MetaNumber) {
-        cursor.take(Terminal::MetaNumber)?;
+    cursor.take_class(Terminal::MetaName)?;
+    if cursor.is_class_next(Terminal::MetaNumber) {
+        cursor.take_class(Terminal::MetaNumber)?;
         return Ok(());
     }
-    cursor.take(Terminal::MetaMark)?;
+    cursor.take_class(Terminal::MetaMark)?;
     cursor.skip_brackets(Terminal::OpenBrace)
 }
 
@@ -22,8 +22,8 @@ pub fn attachment(cursor: &mut Cursor) -> Result<(), Fault>
 pub fn attachments(cursor: &mut Cursor) -> Result<(), Fault>
     ensures { Follows (λ _. attachments_row) (λ x. x) cursor.old result cursor.new }
 {
-    'attachments: while cursor.is_next(Terminal::Comma) {
-        cursor.take(Terminal::Comma)?;
+    'attachments: while cursor.is_class_next(Terminal::Comma) {
+        cursor.take_class(Terminal::Comma)?;
         attachment(cursor)?;
     }
     Ok(())

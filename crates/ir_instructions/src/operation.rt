@@ -4,15 +4,15 @@ use ir_constants::{Type, TypedValue, Value};
 use ir_tables::{Flags, Opcode, Predicate};
 use ir_terminals::{Integer, Local};
 
-/// The parameters that a call writes, and whether `...` ends them.
-#[derive(Debug, Drop)]
+/// The parameters that a call or an alias writes, and whether `...` ends them.
+#[derive(Drop)]
 pub struct Signature {
     pub parameters: Vec<Type>,
     pub variadic: bool,
 }
 
 /// A call (LangRef, "'call' Instruction").
-#[derive(Debug, Drop)]
+#[derive(Drop)]
 pub struct Call {
     /// The return type.
     pub returns: Type,
@@ -22,40 +22,115 @@ pub struct Call {
     pub arguments: Vec<TypedValue>,
 }
 
+/// Two operands of one type: the left one with its type, and the right one.
+#[derive(Drop)]
+pub struct Operands {
+    pub left: TypedValue,
+    pub right: Value,
+}
+
+/// What a cast casts, and the type to which it does.
+#[derive(Drop)]
+pub struct Conversion {
+    pub value: TypedValue,
+    pub to: Type,
+}
+
+/// A condition, and the two arms.
+#[derive(Drop)]
+pub struct Choice {
+    pub condition: TypedValue,
+    pub first: TypedValue,
+    pub second: TypedValue,
+}
+
 /// A value of a phi, and the block that it comes from.
-#[derive(Debug, Drop)]
+#[derive(Drop)]
 pub struct Incoming {
     pub value: Value,
     pub block: Local,
 }
 
+/// The type of a phi, and at least one value.
+#[derive(Drop)]
+pub struct Phi {
+    pub ty: Type,
+    pub incoming: Vec<Incoming>,
+}
+
+/// What a load reads, from where, and the alignment where it is written.
+#[derive(Drop)]
+pub struct Load {
+    pub ty: Type,
+    pub address: TypedValue,
+    pub alignment: Option<Integer>,
+}
+
+/// What a store writes, to where, and the alignment where it is written.
+#[derive(Drop)]
+pub struct Store {
+    pub value: TypedValue,
+    pub address: TypedValue,
+    pub alignment: Option<Integer>,
+}
+
+/// What an alloca makes room for, with the count and the alignment where they are written.
+#[derive(Drop)]
+pub struct Alloca {
+    pub ty: Type,
+    pub count: Option<Box<TypedValue>>,
+    pub alignment: Option<Integer>,
+}
+
+/// The source type of a `getelementptr`, and the base with the indices behind it.
+#[derive(Drop)]
+pub struct Address {
+    pub source: Type,
+    pub operands: Vec<TypedValue>,
+}
+
+/// The whole that a part is taken from, and at least one index.
+#[derive(Drop)]
+pub struct Extraction {
+    pub value: TypedValue,
+    pub indices: Vec<Integer>,
+}
+
+/// The whole that a part is put into, the part, and at least one index.
+#[derive(Drop)]
+pub struct Insertion {
+    pub value: TypedValue,
+    pub part: TypedValue,
+    pub indices: Vec<Integer>,
+}
+
 /// What an instruction does, one variant a phrase, with the parts of the phrase in their order.
-#[derive(Debug, Drop)]
+#[derive(Drop)]
 pub enum Operation {
-    /// An operation on two operands of one type: the left one with its type, and the right one.
-    Binary(Opcode, Flags, TypedValue, Value),
+    /// An operation on two operands.
+    Binary(Opcode, Flags, Box<Operands>),
     /// `icmp`
-    Compare(Flags, Predicate, TypedValue, Value),
-    /// A cast to the type.
-    Cast(Opcode, Flags, TypedValue, Type),
-    /// `select`: the condition, and the two arms.
-    Select(TypedValue, TypedValue, TypedValue),
+    Compare(Flags, Predicate, Box<Operands>),
+    /// A cast.
+    Cast(Opcode, Flags, Box<Conversion>),
+    /// `select`
+    Select(Box<Choice>),
     /// `freeze`
-    Freeze(TypedValue),
-    /// `phi`: at least one value.
-    Phi(Type, Vec<Incoming>),
-    /// `load`: the type, the address, and the alignment where it is written.
-    Load(Flags, Type, TypedValue, Option<Integer>),
-    /// `store`: the value, the address, and the alignment where it is written.
-    Store(Flags, TypedValue, TypedValue, Option<Integer>),
-    /// `alloca`: the type, the count and the alignment where they are written.
-    Alloca(Type, Option<TypedValue>, Option<Integer>),
-    /// `getelementptr`: the source type, and the base with the indices behind it.
-    GetElementPtr(Flags, Type, Vec<TypedValue>),
+    Freeze(Box<TypedValue>),
+    /// `phi`
+    Phi(Box<Phi>),
+    /// `load`
+    Load(Flags, Box<Load>),
+    /// `store`
+    Store(Flags, Box<Store>),
+    /// `alloca`
+    Alloca(Box<Alloca>),
+    /// `getelementptr`
+    GetElementPtr(Flags, Box<Address>),
     /// `call`
-    Call(Call),
-    /// `extractvalue`: at least one index.
-    ExtractValue(TypedValue, Vec<Integer>),
-    /// `insertvalue`: the whole, the part, and at least one index.
-    InsertValue(TypedValue, TypedValue, Vec<Integer>),
+    Call(Box<Call>),
+    /// `extractvalue`
+    ExtractValue(Box<Extraction>),
+    /// `insertvalue`
+    InsertValue(Box<Insertion>),
 }

@@ -5,7 +5,9 @@ ghost use Rattle.ir_terminals.specs.Follows.{Follows};
 
 use crate::calls::call;
 use crate::metadata::attachments;
-use crate::operation::Operation;
+use crate::operation::{
+    Address, Alloca, Choice, Conversion, Extraction, Insertion, Load, Operation, Phi, Store,
+};
 use crate::parts::{
     address, arms, cast_type, incoming, indices, next_typed_value, operand_list, operands,
 };
@@ -20,8 +22,8 @@ fn binary(cursor: &mut Cursor, opcode: Opcode) -> Result<Operation, Fault>
     ensures { Follows (binary_row opcode) operation_view cursor.old result cursor.new }
 {
     let flags = flags_of(cursor, opcode)?;
-    let (left, right) = operands(cursor)?;
-    Ok(Operation::Binary(opcode, flags, left, right))
+    let operands = operands(cursor)?;
+    Ok(Operation::Binary(opcode, flags, operands))
 }
 
 /// `FLAG* PREDICATE TYPE VALUE , VALUE (, MD)*`
@@ -31,8 +33,8 @@ fn compare(cursor: &mut Cursor) -> Result<Operation, Fault>
 {
     let flags = flags_of(cursor, Opcode::ICmp)?;
     let predicate = cursor.predicate()?;
-    let (left, right) = operands(cursor)?;
-    Ok(Operation::Compare(flags, predicate, left, right))
+    let operands = operands(cursor)?;
+    Ok(Operation::Compare(flags, predicate, operands))
 }
 
 /// `FLAG* TYPE VALUE to TYPE (, MD)*`
@@ -43,7 +45,8 @@ fn cast(cursor: &mut Cursor, opcode: Opcode) -> Result<Operation, Fault>
     let flags = flags_of(cursor, opcode)?;
     let value = typed_value_of(cursor)?;
     let to = cast_type(cursor)?;
-    Ok(Operation::Cast(opcode, flags, value, to))
+    let conversion = Box::new(cursor.alloc(), Conversion { value, to })?;
+    Ok(Operation::Cast(opcode, flags, conversion))
 }
 
 /// `TYPE VALUE , TYPE VALUE , TYPE VALUE (, MD)*`
@@ -53,7 +56,12 @@ fn select(cursor: &mut Cursor) -> Result<Operation, Fault>
 {
     let condition = typed_value_of(cursor)?;
     let (first, second) = arms(cursor)?;
-    Ok(Operation::Select(condition, first, second))
+    let choice = Choice {
+        condition,
+        first,
+        second,
+    };
+    Ok(Operation::Select(Box::new(cursor.alloc(), choice)?))
 }
 
 /// `TYPE VALUE (, MD)*`
@@ -63,7 +71,7 @@ fn freeze(cursor: &mut Cursor) -> Result<Operation, Fault>
 {
     let value = typed_value_of(cursor)?;
     attachments(cursor)?;
-    Ok(Operation::Freeze(value))
+    Ok(Operation::Freeze(Box::new(cursor.alloc(), value)?))
 }
 
 /// `TYPE [ VALUE , LOCAL ] (, [ VALUE , LOCAL ])* (, MD)*`
@@ -73,8 +81,8 @@ fn phi(cursor: &mut Cursor) -> Result<Operation, Fault>
 {
     let ty = type_of(cursor)?;
     let first = incoming(cursor)?;
-    let all = more_incoming(cursor, first)?;
-    Ok(Operation::Phi(ty, all))
+    let incoming = more_incoming(cursor, first)?;
+    Ok(Operation::Phi(Box::new(cursor.alloc(), Phi { ty, incoming })?))
 }
 
 /// `FLAG* TYPE , TYPE VALUE (, align INT)? (, MD)*`
@@ -85,7 +93,12 @@ fn load(cursor: &mut Cursor) -> Result<Operation, Fault>
     let flags = flags_of(cursor, Opcode::Load)?;
     let ty = type_of(cursor)?;
     let (address, alignment) = address(cursor)?;
-    Ok(Operation::Load(flags, ty, address, alignment))
+    let load = Load {
+        ty,
+        address,
+        alignment,
+    };
+    Ok(Operation::Load(flags, Box::new(cursor.alloc(), load)?))
 }
 
 /// `FLAG* TYPE VALUE , TYPE VALUE (, align INT)? (, MD)*`
@@ -96,7 +109,12 @@ fn store(cursor: &mut Cursor) -> Result<Operation, Fault>
     let flags = flags_of(cursor, Opcode::Store)?;
     let value = typed_value_of(cursor)?;
     let (address, alignment) = address(cursor)?;
-    Ok(Operation::Store(flags, value, address, alignment))
+    let store = Store {
+        value,
+        address,
+        alignment,
+    };
+    Ok(Operation::Store(flags, Box::new(cursor.alloc(), store)?))
 }
 
 /// `TYPE (, TYPE VALUE)? (, align INT)? (, MD)*`
@@ -106,7 +124,12 @@ fn alloca(cursor: &mut Cursor) -> Result<Operation, Fault>
 {
     let ty = type_of(cursor)?;
     let (count, alignment) = count(cursor)?;
-    Ok(Operation::Alloca(ty, count, alignment))
+    let alloca = Alloca {
+        ty,
+        count,
+        alignment,
+    };
+    Ok(Operation::Alloca(Box::new(cursor.alloc(), alloca)?))
 }
 
 /// `FLAG* TYPE , TYPE VALUE (, TYPE VALUE)* (, MD)*`
@@ -117,7 +140,8 @@ fn element_address(cursor: &mut Cursor) -> Result<Operation, Fault>
     let flags = flags_of(cursor, Opcode::GetElementPtr)?;
     let source = type_of(cursor)?;
     let operands = operand_list(cursor)?;
-    Ok(Operation::GetElementPtr(flags, source, operands))
+    let address = Box::new(cursor.alloc(), Address { source, operands })?;
+    Ok(Operation::GetElementPtr(flags, address))
 }
 
 /// `TYPE VALUE (, INT)+ (, MD)*`
@@ -127,7 +151,8 @@ fn extract(cursor: &mut Cursor) -> Result<Operation, Fault>
 {
     let value = typed_value_of(cursor)?;
     let indices = indices(cursor)?;
-    Ok(Operation::ExtractValue(value, indices))
+    let extraction = Box::new(cursor.alloc(), Extraction { value, indices })?;
+    Ok(Operation::ExtractValue(extraction))
 }
 
 /// `TYPE VALUE , TYPE VALUE (, INT)+ (, MD)*`
@@ -138,7 +163,12 @@ fn insert(cursor: &mut Cursor) -> Result<Operation, Fault>
     let value = typed_value_of(cursor)?;
     let part = next_typed_value(cursor)?;
     let indices = indices(cursor)?;
-    Ok(Operation::InsertValue(value, part, indices))
+    let insertion = Insertion {
+        value,
+        part,
+        indices,
+    };
+    Ok(Operation::InsertValue(Box::new(cursor.alloc(), insertion)?))
 }
 
 /// What follows the opcode of an instruction that does not end a block.

@@ -2,11 +2,11 @@
 ghost use Rattle.std.specs.Prelude.{◌≡◌, map};
 ghost use Rattle.ir_constants.specs.View.{type_view, value_view, typed_value_view};
 ghost use Rattle.ir_instructions.specs.Operations.{next_value_row, next_typed_value_row, operands_row, cast_type_row, arms_row, address_row, from_block_row, incoming_row, operand_list_row, indices_row};
-ghost use Rattle.ir_instructions.specs.View.{incoming_view};
+ghost use Rattle.ir_instructions.specs.View.{incoming_view, operands_view};
 ghost use Rattle.ir_terminals.specs.Follows.{Follows};
 
 use crate::metadata::attachments;
-use crate::operation::Incoming;
+use crate::operation::{Incoming, Operands};
 use crate::tails::{alignment, more_indices, more_operands};
 use ir_constants::{Type, TypedValue, Value, type_of, typed_value_of, value_of};
 use ir_terminals::{Cursor, Fault, Integer, Local, Terminal};
@@ -16,7 +16,7 @@ use ir_terminals::{Cursor, Fault, Integer, Local, Terminal};
 fn next_value(cursor: &mut Cursor) -> Result<Value, Fault>
     ensures { Follows next_value_row value_view cursor.old result cursor.new }
 {
-    cursor.take(Terminal::Comma)?;
+    cursor.take_class(Terminal::Comma)?;
     value_of(cursor)
 }
 
@@ -25,19 +25,19 @@ fn next_value(cursor: &mut Cursor) -> Result<Value, Fault>
 pub fn next_typed_value(cursor: &mut Cursor) -> Result<TypedValue, Fault>
     ensures { Follows next_typed_value_row typed_value_view cursor.old result cursor.new }
 {
-    cursor.take(Terminal::Comma)?;
+    cursor.take_class(Terminal::Comma)?;
     typed_value_of(cursor)
 }
 
 /// `TYPE VALUE , VALUE (, MD)*`
 #[tactic(auto, unfolding(crate::specs::Operations::operands_core))]
-pub fn operands(cursor: &mut Cursor) -> Result<(TypedValue, Value), Fault>
-    ensures { Follows operands_row (λ x. (typed_value_view x.0, value_view x.1)) cursor.old result cursor.new }
+pub fn operands(cursor: &mut Cursor) -> Result<Box<Operands>, Fault>
+    ensures { Follows operands_row (λ x. operands_view x.value) cursor.old result cursor.new }
 {
     let left = typed_value_of(cursor)?;
     let right = next_value(cursor)?;
     attachments(cursor)?;
-    Ok((left, right))
+    Ok(Box::new(cursor.alloc(), Operands { left, right })?)
 }
 
 /// `to TYPE (, MD)*`
@@ -45,7 +45,7 @@ pub fn operands(cursor: &mut Cursor) -> Result<(TypedValue, Value), Fault>
 pub fn cast_type(cursor: &mut Cursor) -> Result<Type, Fault>
     ensures { Follows cast_type_row type_view cursor.old result cursor.new }
 {
-    cursor.take(Terminal::To)?;
+    cursor.take_class(Terminal::To)?;
     let to = type_of(cursor)?;
     attachments(cursor)?;
     Ok(to)
@@ -77,9 +77,9 @@ pub fn address(cursor: &mut Cursor) -> Result<(TypedValue, Option<Integer>), Fau
 fn from_block(cursor: &mut Cursor) -> Result<Local, Fault>
     ensures { Follows (λ _. from_block_row) (λ x. x) cursor.old result cursor.new }
 {
-    cursor.take(Terminal::Comma)?;
+    cursor.take_class(Terminal::Comma)?;
     let block = cursor.local()?;
-    cursor.take(Terminal::CloseBracket)?;
+    cursor.take_class(Terminal::CloseBracket)?;
     Ok(block)
 }
 
@@ -88,7 +88,7 @@ fn from_block(cursor: &mut Cursor) -> Result<Local, Fault>
 pub fn incoming(cursor: &mut Cursor) -> Result<Incoming, Fault>
     ensures { Follows incoming_row incoming_view cursor.old result cursor.new }
 {
-    cursor.take(Terminal::OpenBracket)?;
+    cursor.take_class(Terminal::OpenBracket)?;
     let value = value_of(cursor)?;
     let block = from_block(cursor)?;
     Ok(Incoming { value, block })
@@ -108,7 +108,7 @@ pub fn operand_list(cursor: &mut Cursor) -> Result<Vec<TypedValue>, Fault>
 pub fn indices(cursor: &mut Cursor) -> Result<Vec<Integer>, Fault>
     ensures { Follows (λ _. indices_row) (λ x. x.items) cursor.old result cursor.new }
 {
-    cursor.take(Terminal::Comma)?;
+    cursor.take_class(Terminal::Comma)?;
     let first = cursor.integer()?;
     more_indices(cursor, first)
 }

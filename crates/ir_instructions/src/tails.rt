@@ -1,10 +1,10 @@
 //! Reads what stands behind commas at the end of an instruction.
-ghost use Rattle.std.specs.Prelude.{◌≡◌, [], ◌∷◌, map, option_map};
+ghost use Rattle.std.specs.Prelude.{◌≡◌, [], ◌∷◌, map};
 ghost use Rattle.ir_constants.specs.Values.{typed_value_row};
 ghost use Rattle.ir_constants.specs.View.{typed_value_view};
 ghost use Rattle.ir_instructions.specs.Operations.{incoming_row};
 ghost use Rattle.ir_instructions.specs.Tails.{alignment_behind_row, alignment_row, count_behind_row, count_row, listed_row};
-ghost use Rattle.ir_instructions.specs.View.{incoming_view};
+ghost use Rattle.ir_instructions.specs.View.{count_view, incoming_view};
 ghost use Rattle.ir_terminals.specs.Follows.{Follows};
 ghost use Rattle.ir_terminals.specs.Tokens.{integer_row};
 
@@ -18,8 +18,8 @@ use ir_terminals::{Cursor, Fault, Integer, Terminal};
 fn alignment_behind(cursor: &mut Cursor) -> Result<Option<Integer>, Fault>
     ensures { Follows (λ _. alignment_behind_row) (λ x. x) cursor.old result cursor.new }
 {
-    if cursor.is_next(Terminal::Align) {
-        cursor.take(Terminal::Align)?;
+    if cursor.is_class_next(Terminal::Align) {
+        cursor.take_class(Terminal::Align)?;
         let alignment = cursor.integer()?;
         attachments(cursor)?;
         return Ok(Some(alignment));
@@ -34,21 +34,25 @@ fn alignment_behind(cursor: &mut Cursor) -> Result<Option<Integer>, Fault>
 pub fn alignment(cursor: &mut Cursor) -> Result<Option<Integer>, Fault>
     ensures { Follows (λ _. alignment_row) (λ x. x) cursor.old result cursor.new }
 {
-    if !cursor.is_next(Terminal::Comma) {
+    if !cursor.is_class_next(Terminal::Comma) {
         return Ok(None);
     }
-    cursor.take(Terminal::Comma)?;
+    cursor.take_class(Terminal::Comma)?;
     alignment_behind(cursor)
 }
 
+/// The count and the alignment of an alloca, where they are written.
+pub type CountAndAlignment = (Option<Box<TypedValue>>, Option<Integer>);
+
 /// `TYPE VALUE (, align INT)? (, MD)*`, or `align INT (, MD)*`, or `MD (, MD)*`.
-fn count_behind(cursor: &mut Cursor) -> Result<(Option<TypedValue>, Option<Integer>), Fault>
-    ensures { Follows count_behind_row (λ x. (option_map typed_value_view x.0, x.1)) cursor.old result cursor.new }
+fn count_behind(cursor: &mut Cursor) -> Result<CountAndAlignment, Fault>
+    ensures { Follows count_behind_row count_view cursor.old result cursor.new }
 {
     if begins_type(cursor) {
         let count = typed_value_of(cursor)?;
         let alignment = alignment(cursor)?;
-        return Ok((Some(count), alignment));
+        let count = Some(Box::new(cursor.alloc(), count)?);
+        return Ok((count, alignment));
     }
     let alignment = alignment_behind(cursor)?;
     Ok((None, alignment))
@@ -56,13 +60,13 @@ fn count_behind(cursor: &mut Cursor) -> Result<(Option<TypedValue>, Option<Integ
 
 /// `(, TYPE VALUE)? (, align INT)? (, MD)*`
 #[tactic(auto, unfolding(crate::specs::Tails::count_core))]
-pub fn count(cursor: &mut Cursor) -> Result<(Option<TypedValue>, Option<Integer>), Fault>
-    ensures { Follows count_row (λ x. (option_map typed_value_view x.0, x.1)) cursor.old result cursor.new }
+pub fn count(cursor: &mut Cursor) -> Result<CountAndAlignment, Fault>
+    ensures { Follows count_row count_view cursor.old result cursor.new }
 {
-    if !cursor.is_next(Terminal::Comma) {
+    if !cursor.is_class_next(Terminal::Comma) {
         return Ok((None, None));
     }
-    cursor.take(Terminal::Comma)?;
+    cursor.take_class(Terminal::Comma)?;
     count_behind(cursor)
 }
 
@@ -74,15 +78,16 @@ pub fn more_operands(cursor: &mut Cursor, first: TypedValue) -> Result<Vec<Typed
     let mut operands = Vec::new(cursor.alloc());
     operands.push(first)?;
     let mut closed = false;
-    'operands: while cursor.is_next(Terminal::Comma) {
-        cursor.take(Terminal::Comma)?;
-        if closed || cursor.is_next(Terminal::MetaName) {
+    'operands: while cursor.is_class_next(Terminal::Comma) {
+        cursor.take_class(Terminal::Comma)?;
+        if closed || cursor.is_class_next(Terminal::MetaName) {
             attachment(cursor)?;
             closed = true;
         } else {
             operands.push(typed_value_of(cursor)?)?;
         }
     }
+    operands.shrink_to_fit();
     Ok(operands)
 }
 
@@ -94,15 +99,16 @@ pub fn more_indices(cursor: &mut Cursor, first: Integer) -> Result<Vec<Integer>,
     let mut indices = Vec::new(cursor.alloc());
     indices.push(first)?;
     let mut closed = false;
-    'indices: while cursor.is_next(Terminal::Comma) {
-        cursor.take(Terminal::Comma)?;
-        if closed || cursor.is_next(Terminal::MetaName) {
+    'indices: while cursor.is_class_next(Terminal::Comma) {
+        cursor.take_class(Terminal::Comma)?;
+        if closed || cursor.is_class_next(Terminal::MetaName) {
             attachment(cursor)?;
             closed = true;
         } else {
             indices.push(cursor.integer()?)?;
         }
     }
+    indices.shrink_to_fit();
     Ok(indices)
 }
 
@@ -114,14 +120,15 @@ pub fn more_incoming(cursor: &mut Cursor, first: Incoming) -> Result<Vec<Incomin
     let mut all = Vec::new(cursor.alloc());
     all.push(first)?;
     let mut closed = false;
-    'all: while cursor.is_next(Terminal::Comma) {
-        cursor.take(Terminal::Comma)?;
-        if closed || cursor.is_next(Terminal::MetaName) {
+    'all: while cursor.is_class_next(Terminal::Comma) {
+        cursor.take_class(Terminal::Comma)?;
+        if closed || cursor.is_class_next(Terminal::MetaName) {
             attachment(cursor)?;
             closed = true;
         } else {
             all.push(incoming(cursor)?)?;
         }
     }
+    all.shrink_to_fit();
     Ok(all)
 }

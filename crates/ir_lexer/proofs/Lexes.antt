@@ -1,7 +1,10 @@
 -- Where a lexer stands.
-use Rattle.std.proofs.Common.{◌≡◌, ℕ, ◌≤◌, List, [], ◌∷◌, length, true, Option, Some, None, IfSome, refl, sym}
+use Rattle.std.proofs.Common.{◌≡◌, ℕ, ◌-◌, ◌<◌, ◌≤◌, List, [], ◌∷◌, length, take, drop, get_or, true, Option, Some, None, IfSome, refl, sym, arith}
 use Rattle.ir_lexer.specs.declared.token.TokenKind.{TokenKind}
-use Rattle.ir_lexer.specs.Front.{next_token}
+use Rattle.ir_lexer.specs.Class.{byte_class}
+use Rattle.ir_lexer.specs.Front.{next_token, token_from}
+use Rattle.ir_lexer.specs.declared.class.Class.{Class}
+use Rattle.ir_lexer.proofs.KnownRuns.{all_behind}
 use Rattle.ir_lexer.specs.Lexer.{is_nil}
 use Rattle.ir_lexer.proofs.First.{next_is}
 
@@ -13,3 +16,9 @@ nothing_next (b ∷ s) h = absurd cc
 pub front_fits : (s : List ℕ) (o : Option (TokenKind × ℕ)) → o ≡ next_token s → IfSome o (λ found. found.1 ≤ length s)
 front_fits s None h = tt
 front_fits s (Some (kind, n)) h = (next_is s kind n (sym h)).in_text
+
+-- the token at the front, by its first byte
+pub next_by : (s : List ℕ) (x : Class) (o : Option (TokenKind × ℕ)) → 0 < length s → x ≡ byte_class (get_or s 0 0) → o ≡ token_from x (take (length s - 1) (drop 1 s)) → o ≡ next_token s
+unfolding next_token
+next_by [] x o some is e = absurd (omega arith)
+next_by (b ∷ s) x o some is e = let k : o ≡ token_from x s = rw all_behind at e in rw (← is) k

@@ -1,4 +1,5 @@
 pub mod Runs
+pub mod ClassTable
 pub mod Fronts
 pub mod Rows
 pub mod First

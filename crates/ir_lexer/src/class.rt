@@ -2,8 +2,10 @@
 ghost use Rattle.std.specs.Prelude.{◌≡◌};
 ghost use Rattle.ir_lexer.specs.Class.{byte_class, set_of};
 
+use crate::class_table::CLASSES;
+
 /// What a byte may do in a token.
-#[derive(Clone, Copy, Debug, PartialEq, Eq)]
+#[derive(Clone, Copy)]
 pub enum Class {
     LetterC,
     Letter,
@@ -26,36 +28,15 @@ pub enum Class {
 }
 
 /// The class of a byte, by its ASCII code.
-#[tactic(auto, unfolding(crate::specs::Class::byte_class))]
+#[inline(always)]
 pub fn class_of(byte: u8) -> Class
     ensures { result ≡ byte_class byte }
 {
-    match byte {
-        b'c' => Class::LetterC,
-        b'a'..=b'z' | b'A'..=b'Z' => Class::Letter,
-        b'_' => Class::Underscore,
-        b'0'..=b'9' => Class::Digit,
-        b'-' => Class::Minus,
-        b'$' => Class::Dollar,
-        b'.' => Class::Dot,
-        b'"' => Class::Quote,
-        b'@' => Class::At,
-        b'%' => Class::Percent,
-        b'!' => Class::Bang,
-        b'#' => Class::Hash,
-        b':' => Class::Colon,
-        b'=' | b',' | b'(' | b')' | b'[' | b']' | b'{' | b'}' | b'<' | b'>' | b'*' | b'|' => {
-            Class::Mark
-        }
-        b';' => Class::Semicolon,
-        b'\n' => Class::LineFeed,
-        b' ' | b'\t' | b'\r' => Class::Blank,
-        _ => Class::Other,
-    }
+    CLASSES[usize::from(byte)]
 }
 
 /// A set of classes.
-#[derive(Clone, Copy, Debug, PartialEq, Eq)]
+#[derive(Clone, Copy)]
 pub enum ClassSet {
     InName,
     InWord,
@@ -70,6 +51,7 @@ pub enum ClassSet {
 
 impl ClassSet {
     /// Whether the class is among them.
+    #[inline(always)]
     pub fn has(self, class: Class) -> bool
         ensures { result ≡ set_of self class }
     {

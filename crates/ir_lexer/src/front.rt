@@ -1,6 +1,7 @@
 //! The token at the front of a text, by its first byte.
-ghost use Rattle.std.specs.Prelude.{◌≡◌, ◌≤◌, length, IfSome};
-ghost use Rattle.ir_lexer.specs.Form.{longest};
+ghost use Rattle.std.specs.Prelude.{◌≡◌, ◌+◌, ◌≤◌, length, IfSome};
+ghost use Rattle.ir_lexer.specs.Class.{in_word};
+ghost use Rattle.ir_lexer.specs.Form.{longest, run};
 ghost use Rattle.ir_lexer.specs.Front.{next_token, token_from};
 ghost use Rattle.ir_lexer.specs.Label.{KnownRun};
 ghost use Rattle.ir_lexer.specs.Table.{Label, tail_of};
@@ -12,22 +13,24 @@ use crate::quoted::{inside_of, label_inside_of, quoted_name_of, text_of};
 use crate::run::{begins, digits_of, dots_of, identifier_of, letter_word_of, run_of};
 use crate::token::TokenKind;
 
-/// What begins with a letter other than c, or with `_`.
-fn after_letter(label: Option<usize>, bytes: &[u8]) -> Option<(TokenKind, usize)>
+/// What begins with a letter other than c, or with `_`. So many bytes of a word begin with it.
+fn after_letter(label: Option<usize>, word: usize, bytes: &[u8]) -> Option<(TokenKind, usize)>
     requires is { label ≡ longest (tail_of Label) bytes.now }
     requires small { IfSome label (λ n. n ≤ length bytes.now) }
+    requires word { word ≡ run in_word bytes.now + 1 }
     ensures { result ≡ token_from Letter bytes.now }
 {
     match label {
         Some(n) => Some((TokenKind::Label, n + 1)),
-        None => Some((TokenKind::Word, run_of(ClassSet::InWord, bytes) + 1)),
+        None => Some((TokenKind::Word, word)),
     }
 }
 
-/// What begins with c. Directly before a quote that is a byte string, or no token.
-fn after_c(label: Option<usize>, bytes: &[u8]) -> Option<(TokenKind, usize)>
+/// What begins with c, and with it so many bytes of a word. Directly before a quote that is a byte string, or no token.
+fn after_c(label: Option<usize>, word: usize, bytes: &[u8]) -> Option<(TokenKind, usize)>
     requires is { label ≡ longest (tail_of Label) bytes.now }
     requires small { IfSome label (λ n. n ≤ length bytes.now) }
+    requires word { word ≡ run in_word bytes.now + 1 }
     ensures { result ≡ token_from LetterC bytes.now }
 {
     if let Some(n) = label {
@@ -36,7 +39,7 @@ fn after_c(label: Option<usize>, bytes: &[u8]) -> Option<(TokenKind, usize)>
     match text_of(bytes) {
         Some(n) => Some((TokenKind::ByteString, n + 1)),
         None if begins(ClassSet::Quotes, bytes) => None,
-        None => Some((TokenKind::Word, run_of(ClassSet::InWord, bytes) + 1)),
+        None => Some((TokenKind::Word, word)),
     }
 }
 
@@ -151,10 +154,11 @@ fn after_hash(bytes: &[u8]) -> Option<(TokenKind, usize)>
     Some((TokenKind::RecordMark, n + 1))
 }
 
-/// The kind and the length of the token at the front.
+/// The kind and the length of the token at the front, where so many bytes of a word stand.
 #[tactic(auto, unfolding(crate::specs::Front::next_token))]
-fn token_of(known: usize, text: &[u8]) -> Option<(TokenKind, usize)>
-    requires { KnownRun known text.now }
+fn token_of(known: usize, word: usize, text: &[u8]) -> Option<(TokenKind, usize)>
+    requires known { KnownRun known text.now }
+    requires word { word ≡ run in_word text.now }
     ensures token { result ≡ next_token text.now }
 {
     if text.is_empty() {
@@ -162,8 +166,8 @@ fn token_of(known: usize, text: &[u8]) -> Option<(TokenKind, usize)>
     }
     let bytes = &text[1..];
     match class_of(text[0]) {
-        Class::LetterC => after_c(label_unless(known, text), bytes),
-        Class::Letter | Class::Underscore => after_letter(label_unless(known, text), bytes),
+        Class::LetterC => after_c(label_unless(known, text), word, bytes),
+        Class::Letter | Class::Underscore => after_letter(label_unless(known, text), word, bytes),
         Class::Digit => after_digit(label_unless(known, text), bytes),
         Class::Minus => after_minus(label_unless(known, text), bytes),
         Class::Dollar => after_dollar(label_unless(known, text), bytes),
@@ -178,11 +182,13 @@ fn token_of(known: usize, text: &[u8]) -> Option<(TokenKind, usize)>
     }
 }
 
-/// The kind and the length of the token at the front, which is no longer than the text.
-pub fn fitting_token_of(known: usize, text: &[u8]) -> Option<(TokenKind, usize)>
-    requires { KnownRun known text.now }
+/// The kind and the length of the token at the front, which is no longer than the text. So many bytes of a word stand
+/// there.
+pub fn fitting_token_of(known: usize, word: usize, text: &[u8]) -> Option<(TokenKind, usize)>
+    requires known { KnownRun known text.now }
+    requires word { word ≡ run in_word text.now }
     ensures token { result ≡ next_token text.now }
     ensures in_text { IfSome result (λ found. found.1 ≤ length text.now) }
 {
-    token_of(known, text)
+    token_of(known, word, text)
 }

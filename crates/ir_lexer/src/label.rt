@@ -1,6 +1,7 @@
 //! Labels, and the look-ahead that they need.
-ghost use Rattle.std.specs.Prelude.{◌≡◌, ◌<◌, ◌≤◌, length, drop, IfSome};
-ghost use Rattle.ir_lexer.specs.Form.{longest};
+ghost use Rattle.std.specs.Prelude.{◌≡◌, ◌+◌, ◌<◌, ◌≤◌, length, drop, IfSome};
+ghost use Rattle.ir_lexer.specs.Class.{in_word};
+ghost use Rattle.ir_lexer.specs.Form.{longest, run};
 ghost use Rattle.ir_lexer.specs.Label.{KnownRun};
 ghost use Rattle.ir_lexer.specs.Table.{Label, tail_of};
 
@@ -35,12 +36,14 @@ pub fn label_unless(known: usize, text: &[u8]) -> Option<usize>
     }
 }
 
-/// The length of the run of bytes of a name at the front, or 0 where a colon follows it.
-pub fn run_without_label(text: &[u8]) -> usize
+/// The length of the run of bytes of a name at the front, of which the first so many are those of a word, or 0 where a
+/// colon follows it.
+pub fn run_without_label(word: usize, text: &[u8]) -> usize
+    requires { word ≡ run in_word text.now }
     ensures known { KnownRun result text.now }
     ensures in_text { result ≤ length text.now }
 {
-    let n = run_of(ClassSet::InName, text);
+    let n = word + run_of(ClassSet::InName, &text[word..]);
     if begins(ClassSet::Colons, &text[n..]) {
         0
     } else {

@@ -1,13 +1,17 @@
 //! A lexer: it goes over a text that it borrows, token by token.
 ghost use Rattle.std.specs.Prelude.{◌≡◌, ◌≤◌, length, IfSome};
+ghost use Rattle.ir_lexer.specs.Class.{in_word};
+ghost use Rattle.ir_lexer.specs.Form.{run};
 ghost use Rattle.ir_lexer.specs.Front.{next_token};
 ghost use Rattle.ir_lexer.specs.Place.{place_of};
 ghost use Rattle.ir_lexer.specs.Lexer.{at_start, rest, spelled, Says, IsPlaced, Stays, answer, after, advanced, skipped, token_at, is_nil};
 
+use crate::class::ClassSet;
 use crate::front::fitting_token_of;
 use crate::gap::gap_of;
 use crate::label::run_without_label;
 use crate::place::place_behind;
+use crate::run::run_of;
 use crate::token::{BadByte, Token, TokenKind};
 use ir_base::Place;
 use std::marker::Model;
@@ -49,6 +53,18 @@ impl<'t> Lexer<'t> {
         }
     }
 
+    /// A second lexer that stands where this one does.
+    pub fn another(&self) -> Lexer<'t>
+        ensures { result ≡ self.now }
+    {
+        Lexer {
+            text: self.text,
+            at: self.at,
+            place: self.place,
+            known: self.known,
+        }
+    }
+
     /// Goes over bytes of the rest.
     fn advance(&mut self, n: usize)
         requires { n ≤ length (rest self.old) }
@@ -76,22 +92,31 @@ impl<'t> Lexer<'t> {
         self.text[self.at..].is_empty()
     }
 
-    /// Looks once for the end of a run of bytes of names.
-    fn scout(&mut self)
+    /// How many bytes of a word stand here.
+    fn word(&self) -> usize
+        ensures { result ≡ run in_word (rest self.now) }
+    {
+        run_of(ClassSet::InWord, &self.text[self.at..])
+    }
+
+    /// Looks once for the end of a run of bytes of names, of which the first so many are those of a word.
+    fn scout(&mut self, word: usize)
+        requires { word ≡ run in_word (rest self.old) }
         ensures { self.new ≡ self.old }
     {
         if self.known <= self.at {
-            self.known = self.at + run_without_label(&self.text[self.at..]);
+            self.known = self.at + run_without_label(word, &self.text[self.at..]);
         }
     }
 
-    /// The kind and the length of the token here.
-    fn front(&self) -> Option<(TokenKind, usize)>
+    /// The kind and the length of the token here, where so many bytes of a word stand.
+    fn front(&self, word: usize) -> Option<(TokenKind, usize)>
+        requires { word ≡ run in_word (rest self.now) }
         ensures token { result ≡ next_token (rest self.now) }
         ensures in_rest { IfSome result (λ found. found.1 ≤ length (rest self.now)) }
     {
         let known = self.known.saturating_sub(self.at);
-        fitting_token_of(known, &self.text[self.at..])
+        fitting_token_of(known, word, &self.text[self.at..])
     }
 
     /// The place of the byte at which the lexer stands, or of the end of the text.
@@ -129,8 +154,9 @@ impl<'t> Lexer<'t> {
         if self.is_at_end() {
             return Ok(None);
         }
-        self.scout();
-        match self.front() {
+        let word = self.word();
+        self.scout(word);
+        match self.front(word) {
             Some((kind, count)) => Ok(Some(self.take(kind, count))),
             None => Err(BadByte {
                 place: self.place(),

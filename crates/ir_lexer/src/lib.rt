@@ -6,6 +6,7 @@
 #![tactic(auto)]
 
 mod class;
+mod class_table;
 mod front;
 mod gap;
 mod label;
@@ -15,8 +16,6 @@ mod names;
 mod place;
 mod quoted;
 mod run;
-#[cfg(test)]
-mod tests;
 mod token;
 
 pub use laws::{

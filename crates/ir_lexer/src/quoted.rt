@@ -13,7 +13,7 @@ use ir_base::Text;
 use std::alloc::{AllocError, Global};
 
 /// Where reading the inside of a string stands.
-#[derive(Clone, Copy, Debug, PartialEq, Eq)]
+#[derive(Clone, Copy)]
 pub enum Escape {
     Plain,
     Slash,
@@ -21,7 +21,7 @@ pub enum Escape {
 }
 
 /// What a byte completes: a longer escape, or a byte.
-#[derive(Clone, Copy, Debug, PartialEq, Eq)]
+#[derive(Clone, Copy)]
 pub enum Unescaped {
     More(Escape),
     Byte(u8),

@@ -7,6 +7,7 @@ ghost use Rattle.ir_lexer.specs.Table.{Dots, RecordMark, tail_of, digits, identi
 use crate::class::{ClassSet, class_of};
 
 /// How many bytes of the set stand at the front.
+#[inline(always)]
 pub fn run_of(set: ClassSet, bytes: &[u8]) -> usize
     ensures count { result ≡ run (set_of set) bytes.now }
     ensures in_bytes { result ≤ length bytes.now }
@@ -19,6 +20,7 @@ pub fn run_of(set: ClassSet, bytes: &[u8]) -> usize
 }
 
 /// Whether a byte of the set stands at the front.
+#[inline(always)]
 pub fn begins(set: ClassSet, bytes: &[u8]) -> bool
     ensures { result ≡ starts_with (set_of set) bytes.now }
 {

@@ -2,7 +2,7 @@
 use ir_base::Place;
 
 /// What a token is.
-#[derive(Clone, Copy, Debug, PartialEq, Eq)]
+#[derive(Clone, Copy)]
 pub enum TokenKind {
     /// The name of a block, with the colon that follows it: `entry:`, `5:`, `"a b":`.
     Label,
@@ -37,7 +37,7 @@ pub enum TokenKind {
 }
 
 /// A token: what it is, the place of its first byte, and where its bytes start and end in the text, counted from 0.
-#[derive(Clone, Copy, Debug, PartialEq, Eq)]
+#[derive(Clone, Copy)]
 pub struct Token {
     pub kind: TokenKind,
     pub place: Place,
@@ -46,7 +46,7 @@ pub struct Token {
 }
 
 /// No token begins at the byte with this place.
-#[derive(Clone, Copy, Debug, PartialEq, Eq)]
+#[derive(Clone, Copy)]
 pub struct BadByte {
     pub place: Place,
 }

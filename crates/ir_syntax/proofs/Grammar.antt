@@ -5,7 +5,7 @@ use Rattle.ir_tables.specs.declared.linkage.Linkage.TheVariants as linkage
 use Rattle.phrase_rows.specs.Row.{Shape, second, mapped}
 use Rattle.phrase_rows.specs.Reads.{Reads}
 use Rattle.phrase_rows.proofs.Plain.{reads_nothing, reads_fail, reads_one, reads_mapped, reads_labelled, reads_wider}
-use Rattle.phrase_rows.proofs.Chain.{reads_chain, reads_second, reads_before, reads_pair}
+use Rattle.phrase_rows.proofs.Chain.{reads_chain, reads_both, reads_second, reads_before, reads_pair}
 use Rattle.phrase_rows.proofs.Alt.{reads_alt, reads_optional}
 use Rattle.phrase_rows.proofs.Many.{reads_many}
 use Rattle.phrase_rows.proofs.Loop.{reads_loop}
@@ -19,9 +19,11 @@ use Rattle.ir_terminals.specs.Values.{place_of_token}
 use Rattle.ir_terminals.proofs.RowsRead.{reads_word, reads_integer, reads_global_name, reads_local, reads_named_local, reads_quoted, reads_linkage, reads_matched, reads_braced}
 use Rattle.ir_constants.proofs.Grammar.{reads_type, reads_fields, reads_constant}
 use Rattle.ir_instructions.specs.Dropped.{comma_shape, section_row}
+use Rattle.ir_instructions.proofs.CallsGrammar.{reads_signature}
 use Rattle.ir_instructions.proofs.Grammar.{reads_blocks, reads_attachment, reads_parameter_attributes, reads_function_attributes, reads_convention}
-use Rattle.ir_syntax.specs.Heads.{optional_linkage_row, global_word_shape, global_word_row, global_words_row}
-use Rattle.ir_syntax.specs.Variables.{opaque_row, plain_body_row, packed_body_row, body_row, struct_row, constant_word_row, VariableHead, variable_head_row, initialiser_shape, initialiser_core, initialiser_row, tail_row, tail_shape, tail_step, tails_row, variable_of, variable_rest_shape, variable_rest_core, variable_rest_row, variable_row}
+use Rattle.ir_syntax.specs.Heads.{optional_linkage_row, global_word_shape, global_word_row, global_words_row, GlobalHead, global_head_shape, global_head_core}
+use Rattle.ir_syntax.specs.Variables.{opaque_row, plain_body_row, packed_body_row, body_row, struct_row, constant_word_row, initialiser_shape, initialiser_core, initialiser_row, tail_row, tail_shape, tail_step, tails_row, variable_of, variable_rest_shape, variable_rest_core, variable_shape, variable_core}
+use Rattle.ir_syntax.specs.Aliases.{alias_type_of, alias_type_shape, alias_type_core, target_core, alias_of, alias_shape, alias_core, global_behind_shape, global_behind_core, global_row}
 use Rattle.ir_syntax.specs.Functions.{parameter_shape, parameter_core, parameter_row, dots_row, ParametersTree, parameter_step, more_parameters_shape, more_parameters_row, some_parameters_row, parameter_list_row, parameters_shape, parameters_core, parameters_row, head_shape, head_core, head_row, metadata_row, declared_shape, declared_core, declaration_row, body_shape, body_core, defined_core, definition_row}
 use Rattle.ir_syntax.specs.Items.{source_row, target_row, attributes_row, metadata_name_row, node_row, metadata_item_row, item_shape, item_core, item_row, items_row}
 
@@ -65,12 +67,13 @@ reads_struct limits =
 reads_constant_word : Reads class constant_word_row constant_word_row.shape
 reads_constant_word = reads_alt class (reads_mapped class _ (reads_word terminal.Global)) (reads_mapped class _ (reads_word terminal.Constant)) refl refl
 
-reads_variable_head : (limits : Limits) → Reads class (variable_head_row limits) (variable_head_row limits).shape
-reads_variable_head limits =
-    reads_pair class (reads_before class reads_global_name (reads_word terminal.Equals) refl)
-    (reads_pair class reads_optional_linkage
-    (reads_second class reads_global_words
-    (reads_pair class reads_constant_word (reads_type limits) refl) refl) refl) refl
+reads_global_head_core : Reads class global_head_core global_head_shape
+unfolding global_head_core
+reads_global_head_core =
+    reads_wider class global_head_shape
+    (reads_pair class (reads_before class reads_global_name (reads_word terminal.Equals) refl)
+    (reads_before class reads_optional_linkage reads_global_words refl) refl)
+    refl refl (λ e. e)
 
 reads_initialiser_core : (limits : Limits) (written : Option Linkage) → Reads class (initialiser_core limits written) initialiser_shape
 unfolding initialiser_core
@@ -103,11 +106,39 @@ unfolding variable_rest_core
 reads_variable_rest_core limits written =
     reads_wider class variable_rest_shape (reads_pair class (reads_initialiser limits written) reads_tails refl) refl refl (λ e. e)
 
-reads_variable_rest : (limits : Limits) (h : VariableHead) → Reads class (mapped (variable_of h) (variable_rest_row limits h.1.0)) variable_rest_shape
-reads_variable_rest limits h = reads_mapped class (variable_of h) (reads_labelled (reads_variable_rest_core limits h.1.0))
+reads_variable_core : (limits : Limits) (h : GlobalHead) → Reads class (variable_core limits h) variable_shape
+unfolding variable_core
+reads_variable_core limits h =
+    reads_wider class variable_shape
+    (reads_mapped class (variable_of h)
+    (reads_pair class reads_constant_word
+    (reads_pair class (reads_type limits) (reads_labelled (reads_variable_rest_core limits h.1)) refl) refl))
+    refl refl (λ e. e)
 
-pub reads_variable : (limits : Limits) → Reads class (variable_row limits) (variable_row limits).shape
-reads_variable limits = reads_chain class (reads_variable_head limits) (reads_variable_rest limits) refl
+reads_alias_type_core : (limits : Limits) → Reads class (alias_type_core limits) alias_type_shape
+unfolding alias_type_core
+reads_alias_type_core limits = reads_both class alias_type_of (reads_type limits) (reads_signature limits) refl
+
+reads_target_core : Reads class target_core comma_shape
+unfolding target_core
+reads_target_core = reads_second class (reads_word terminal.Comma) (reads_second class (reads_word terminal.Ptr) reads_global_name refl) refl
+
+reads_alias_core : (limits : Limits) (h : GlobalHead) → Reads class (alias_core limits h) alias_shape
+unfolding alias_core
+reads_alias_core limits h =
+    reads_mapped class (alias_of h)
+    (reads_second class (reads_word terminal.«Alias»)
+    (reads_pair class (reads_labelled (reads_alias_type_core limits)) (reads_labelled reads_target_core) refl) refl)
+
+reads_global_behind_core : (limits : Limits) (h : GlobalHead) → Reads class (global_behind_core limits h) global_behind_shape
+unfolding global_behind_core
+reads_global_behind_core limits h =
+    reads_wider class global_behind_shape
+    (reads_alt class (reads_labelled (reads_alias_core limits h)) (reads_labelled (reads_variable_core limits h)) refl refl)
+    refl refl (λ e. e)
+
+pub reads_global : (limits : Limits) → Reads class (global_row limits) (global_row limits).shape
+reads_global limits = reads_chain class (reads_labelled reads_global_head_core) (λ h. reads_labelled (reads_global_behind_core limits h)) refl
 
 reads_parameter_core : (limits : Limits) → Reads class (parameter_core limits) parameter_shape
 unfolding parameter_core
@@ -236,7 +267,7 @@ reads_item_core limits =
     (reads_alt class reads_source
     (reads_alt class reads_target
     (reads_alt class (reads_struct limits)
-    (reads_alt class (reads_variable limits)
+    (reads_alt class (reads_global limits)
     (reads_alt class (reads_declaration limits)
     (reads_alt class (reads_definition limits)
     (reads_alt class reads_attributes reads_metadata_item refl refl) refl refl) refl refl) refl refl) refl refl) refl refl) refl refl)

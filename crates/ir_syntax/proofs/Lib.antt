@@ -4,3 +4,4 @@ pub mod Results
 pub mod Refusals
 pub mod SmallLines
 pub mod Sizes
+pub mod Formed

@@ -22,9 +22,12 @@ use Rattle.ir_instructions.specs.Blocks.{block_shape, block_core, block_list_row
 use Rattle.ir_syntax.specs.Tree.{ItemTree, ParameterTree}
 use Rattle.ir_syntax.specs.Counts.{block_count, item_count, counted}
 use Rattle.ir_syntax.specs.Functions.{ParametersTree, parameter_row, dots_row, parameter_step, more_parameters_row, more_parameters_shape, some_parameters_row, parameter_list_row, parameter_types, parameters_shape, parameters_core, parameters_row, head_row, metadata_row, declared_shape, declared_core, declaration_row, body_shape, body_core, defined_core, definition_row}
+use Rattle.ir_syntax.specs.Heads.{GlobalHead}
+use Rattle.ir_syntax.specs.Variables.{variable_core}
+use Rattle.ir_syntax.specs.Aliases.{alias_core, global_behind_core, global_behind_row}
 use Rattle.ir_syntax.specs.Items.{item_shape, item_core, items_row, language}
 use Rattle.ir_syntax.specs.Answers.{HasItems}
-use Rattle.ir_syntax.proofs.Grammar.{step_shape, reads_parameter, reads_source, reads_target, reads_struct, reads_variable, reads_attributes, reads_metadata_item}
+use Rattle.ir_syntax.proofs.Grammar.{step_shape, reads_parameter, reads_source, reads_target, reads_struct, reads_global, reads_attributes, reads_metadata_item}
 
 -- a phrase that is not empty has a token
 one_at_least : {T A : Type 0} {class : T → ℕ} {r : Row T A} {s : Shape} → Reads class r s → s.empty ≡ false → IsSized r (λ a. 1)
@@ -139,13 +142,18 @@ sized_definition limits =
     (λ a b. omega arith))
     (λ v. omega arith)
 
+-- a variable or an alias
+one_global : (limits : Limits) (h : GlobalHead) (us : List Located) (a : ItemTree) → (global_behind_row limits h).whole us a → item_count a ≡ 1
+unfolding global_behind_core alias_core variable_core
+one_global limits h us a w = elim w [ inl x ↦ ap item_count x.2 | inr x ↦ ap item_count x.2 ]
+
 sized_item_core : (limits : Limits) → IsSized (item_core limits) item_count
 unfolding item_core
 sized_item_core limits =
     sized_alt class (sized_one_item reads_source refl (λ us a w. ap item_count w.2))
     (sized_alt class (sized_one_item reads_target refl (λ us a w. elim w.5 [ inl x ↦ ap item_count x.2 | inr x ↦ ap item_count x.2 ]))
     (sized_alt class (sized_one_item (reads_struct limits) refl (λ us a w. ap item_count w.2))
-    (sized_alt class (sized_one_item (reads_variable limits) refl (λ us a w. ap item_count w.5.2))
+    (sized_alt class (sized_one_item (reads_global limits) refl (λ us a w. one_global limits w.2 w.1 a w.5))
     (sized_alt class (sized_declaration limits)
     (sized_alt class (sized_definition limits)
     (sized_alt class (sized_one_item reads_attributes refl (λ us a w. ap item_count w.2)) (sized_one_item reads_metadata_item refl (λ us a w. ap item_count w.2))))))))

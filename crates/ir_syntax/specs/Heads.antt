@@ -1,12 +1,13 @@
--- What stands before the type of a variable or a function.
-use Rattle.std.specs.Prelude.{false, [], ◌∷◌, Option}
-use Rattle.phrase_rows.specs.Row.{Row, Shape, alt, optional, loop}
+-- What stands before the type of a variable, an alias or a function.
+use Rattle.std.specs.Prelude.{false, [], ◌∷◌, ◌++◌, Option}
+use Rattle.phrase_rows.specs.Row.{Row, Shape, before, pair, alt, optional, loop, labelled}
 use Rattle.ir_lexer.specs.Ahead.{Located}
 use Rattle.ir_tables.specs.declared.linkage.Linkage.{Linkage}
 use Rattle.ir_terminals.specs.declared.terminal.Terminal.TheVariants as terminal
+use Rattle.ir_terminals.specs.declared.values.PlacedName.{PlacedName}
 use Rattle.ir_terminals.specs.Role.{class}
-use Rattle.ir_terminals.specs.Terminal.{code}
-use Rattle.ir_terminals.specs.Tokens.{word, linkage_row}
+use Rattle.ir_terminals.specs.Terminal.{code, linkage_class}
+use Rattle.ir_terminals.specs.Tokens.{word, global_name_row, linkage_row}
 use Rattle.ir_instructions.specs.Dropped.{dropped}
 
 -- LINKAGE?
@@ -23,3 +24,17 @@ global_word_row = alt class (dropped (word terminal.GlobalDropped)) (dropped (wo
 -- GDROP*
 abbrev pub global_words_row : Row Located (Unit {0})
 global_words_row = loop class global_word_shape (λ u. global_word_row) tt
+
+-- what a variable or an alias is called, and its linkage where that is written
+abbrev pub GlobalHead : Type 0
+GlobalHead = PlacedName × Option Linkage
+
+abbrev pub global_head_shape : Shape
+global_head_shape = record { first = code terminal.GlobalName ∷ []; more = linkage_class ∷ global_word_shape.first; empty = false }
+
+unfoldable pub global_head_core : Row Located GlobalHead
+global_head_core = pair (before global_name_row (word terminal.Equals)) (before optional_linkage_row global_words_row)
+
+-- GLOBAL = LINKAGE? GDROP*
+abbrev pub global_head_row : Row Located GlobalHead
+global_head_row = labelled global_head_shape global_head_core

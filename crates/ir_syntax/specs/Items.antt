@@ -13,7 +13,8 @@ use Rattle.ir_terminals.specs.Tokens.{word, quoted_row}
 use Rattle.ir_terminals.specs.Brackets.{matched_row, braced_row}
 use Rattle.ir_instructions.specs.Dropped.{function_attribute_shape, comma_shape}
 use Rattle.ir_syntax.specs.Tree.{ItemTree, SourceFilename, DataLayout, TargetTriple, Attributes, Metadata}
-use Rattle.ir_syntax.specs.Variables.{struct_row, variable_row}
+use Rattle.ir_syntax.specs.Variables.{struct_row}
+use Rattle.ir_syntax.specs.Aliases.{global_row}
 use Rattle.ir_syntax.specs.Functions.{declaration_row, definition_row}
 
 -- source_filename = STRING
@@ -53,7 +54,7 @@ item_shape = record {
 -- an item
 unfoldable pub item_core : Limits → Row Located ItemTree
 item_core limits =
-    alt class source_row (alt class (second (word terminal.Target) target_row) (alt class (struct_row limits) (alt class (variable_row limits)
+    alt class source_row (alt class (second (word terminal.Target) target_row) (alt class (struct_row limits) (alt class (global_row limits)
     (alt class (declaration_row limits) (alt class (definition_row limits) (alt class attributes_row metadata_item_row))))))
 
 abbrev pub item_row : Limits → Row Located ItemTree

@@ -2,9 +2,11 @@ pub mod Tree
 pub mod View
 pub mod Heads
 pub mod Variables
+pub mod Aliases
 pub mod Functions
 pub mod Items
 pub mod Answers
 pub mod Refusal
 pub mod Counts
 pub mod Small
+pub mod Forms

@@ -23,6 +23,17 @@ pub record VariableTree : Type 0 where
   pub initialiser : Option ConstantTree
   pub alignment : Option Integer
 
+-- what an alias stands for: a variable, or a function by its return type, its parameters and whether `...` ends them
+pub data AliasTypeTree : Type 0 where
+  PlainAlias : TypeTree → AliasTypeTree
+  FunctionAlias : (returns : TypeTree) → (parameters : List TypeTree) → (variadic : Bool) → AliasTypeTree
+
+pub record AliasTree : Type 0 where
+  pub name : PlacedName
+  pub linkage : Option Linkage
+  pub ty : AliasTypeTree
+  pub target : PlacedName
+
 -- a parameter of a function, and what it is called where that is written
 abbrev pub ParameterTree : Type 0
 ParameterTree = TypeTree × Option Local
@@ -40,6 +51,7 @@ pub data ItemTree : Type 0 where
   TargetTriple : Place → PlacedText → ItemTree
   Struct : PlacedName → BodyTree → ItemTree
   Variable : VariableTree → ItemTree
+  Alias : AliasTree → ItemTree
   Declaration : Place → HeadTree → (parameters : List TypeTree) → (variadic : Bool) → ItemTree
   Definition : Place → HeadTree → (parameters : List ParameterTree) → (blocks : List BlockTree) → ItemTree
   Attributes : Place → ItemTree

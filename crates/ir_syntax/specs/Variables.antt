@@ -1,22 +1,21 @@
 -- Variables, and the structs that have names.
 use Rattle.std.specs.Prelude.{Bool, true, false, [], ◌∷◌, ◌++◌, Option, Some, None}
-use Rattle.phrase_rows.specs.Row.{Row, Shape, chain, mapped, second, before, pair, alt, nothing, loop, labelled}
+use Rattle.phrase_rows.specs.Row.{Row, Shape, mapped, second, before, pair, alt, nothing, loop, labelled}
 use Rattle.ir_lexer.specs.Ahead.{Located}
 use Rattle.ir_tables.specs.declared.linkage.Linkage.{Linkage}
 use Rattle.ir_tables.specs.declared.linkage.Linkage.TheVariants as linkage
 use Rattle.ir_terminals.specs.declared.limits.Limits.{Limits}
 use Rattle.ir_terminals.specs.declared.terminal.Terminal.TheVariants as terminal
 use Rattle.ir_terminals.specs.declared.values.Integer.{Integer}
-use Rattle.ir_terminals.specs.declared.values.PlacedName.{PlacedName}
 use Rattle.ir_terminals.specs.Role.{class}
 use Rattle.ir_terminals.specs.Terminal.{code}
-use Rattle.ir_terminals.specs.Tokens.{word, integer_row, global_name_row, named_local_row}
+use Rattle.ir_terminals.specs.Tokens.{word, integer_row, named_local_row}
 use Rattle.ir_constants.specs.Tree.{TypeTree, ConstantTree}
 use Rattle.ir_constants.specs.Types.{type_row, fields_row}
 use Rattle.ir_constants.specs.Constants.{constant_shape, constant_row}
 use Rattle.ir_instructions.specs.Dropped.{comma_shape, attachment_row, section_row}
 use Rattle.ir_syntax.specs.Tree.{BodyTree, OpaqueBody, PlainBody, PackedBody, ItemTree, Struct, Variable}
-use Rattle.ir_syntax.specs.Heads.{optional_linkage_row, global_words_row}
+use Rattle.ir_syntax.specs.Heads.{GlobalHead}
 
 -- opaque
 abbrev pub opaque_row : Row Located BodyTree
@@ -41,14 +40,6 @@ struct_row limits = mapped (λ v. Struct v.0 v.1) (pair (before (named_local_row
 -- global or constant
 abbrev pub constant_word_row : Row Located Bool
 constant_word_row = alt class (mapped (λ p. false) (word terminal.Global)) (mapped (λ p. true) (word terminal.Constant))
-
--- what stands before an initialiser: name, linkage, whether it is constant, type
-abbrev pub VariableHead : Type 0
-VariableHead = PlacedName × (Option Linkage × (Bool × TypeTree))
-
--- GLOBAL = LINKAGE? GDROP* (global|constant) TYPE
-abbrev pub variable_head_row : Limits → Row Located VariableHead
-variable_head_row limits = pair (before global_name_row (word terminal.Equals)) (pair optional_linkage_row (second global_words_row (pair constant_word_row (type_row limits))))
 
 abbrev pub initialiser_shape : Shape
 initialiser_shape = record { first = constant_shape.first; more = []; empty = true }
@@ -78,9 +69,6 @@ tail_step alignment = second (word terminal.Comma) (labelled tail_shape (tail_ro
 abbrev pub tails_row : Row Located (Option Integer)
 tails_row = loop class comma_shape tail_step None
 
-abbrev pub variable_of : VariableHead → Option ConstantTree × Option Integer → ItemTree
-variable_of h v = Variable (record { name = h.0; linkage = h.1.0; constant = h.1.1.0; ty = h.1.1.1; initialiser = v.0; alignment = v.1 })
-
 abbrev pub variable_rest_shape : Shape
 variable_rest_shape = record { first = constant_shape.first ++ comma_shape.first; more = comma_shape.first; empty = true }
 
@@ -91,6 +79,15 @@ variable_rest_core limits written = pair (initialiser_row limits written) tails_
 abbrev pub variable_rest_row : Limits → Option Linkage → Row Located (Option ConstantTree × Option Integer)
 variable_rest_row limits written = labelled variable_rest_shape (variable_rest_core limits written)
 
--- GLOBAL = LINKAGE? GDROP* (global|constant) TYPE CONST? TAIL*
-abbrev pub variable_row : Limits → Row Located ItemTree
-variable_row limits = chain (variable_head_row limits) variable_rest_shape (λ h. mapped (variable_of h) (variable_rest_row limits h.1.0))
+abbrev pub variable_of : GlobalHead → Bool × (TypeTree × (Option ConstantTree × Option Integer)) → ItemTree
+variable_of h v = Variable (record { name = h.0; linkage = h.1; constant = v.0; ty = v.1.0; initialiser = v.1.1.0; alignment = v.1.1.1 })
+
+abbrev pub variable_shape : Shape
+variable_shape = record { first = code terminal.Global ∷ code terminal.Constant ∷ []; more = comma_shape.first; empty = false }
+
+unfoldable pub variable_core : Limits → GlobalHead → Row Located ItemTree
+variable_core limits h = mapped (variable_of h) (pair constant_word_row (pair (type_row limits) (variable_rest_row limits h.1)))
+
+-- (global|constant) TYPE CONST? TAIL*, behind GLOBAL = LINKAGE? GDROP*
+abbrev pub variable_row : Limits → GlobalHead → Row Located ItemTree
+variable_row limits h = labelled variable_shape (variable_core limits h)

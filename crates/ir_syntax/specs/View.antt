@@ -10,13 +10,18 @@ use Rattle.ir_syntax.specs.declared.item.StructBody.TheVariants as bodies
 use Rattle.ir_syntax.specs.declared.item.Variable as the_variable
 use Rattle.ir_syntax.specs.declared.item.Head.{Head}
 use Rattle.ir_syntax.specs.declared.item.Parameter.{Parameter}
-use Rattle.ir_syntax.specs.declared.functions.FormalParameters.{FormalParameters}
-use Rattle.ir_syntax.specs.declared.functions.Declared.{Declared}
+use Rattle.ir_syntax.specs.declared.item.AliasType.{AliasType}
+use Rattle.ir_syntax.specs.declared.item.AliasType.TheVariants as alias_type
+use Rattle.ir_syntax.specs.declared.item.Alias as the_alias
+use Rattle.ir_syntax.specs.declared.heads.GlobalHead as the_head
+use Rattle.ir_syntax.specs.declared.item.FormalParameters.{FormalParameters}
 use Rattle.ir_syntax.specs.declared.functions.Defined.{Defined}
 use Rattle.ir_syntax.specs.declared.variables.VariableRest.{VariableRest}
 use Rattle.ir_syntax.specs.declared.item.Item.{Item}
 use Rattle.ir_syntax.specs.declared.item.Item.TheVariants as items
-use Rattle.ir_syntax.specs.Tree.{BodyTree, OpaqueBody, PlainBody, PackedBody, VariableTree, ParameterTree, HeadTree, ItemTree, SourceFilename, DataLayout, TargetTriple, Struct, Variable, Declaration, Definition, Attributes, Metadata}
+use Rattle.ir_syntax.specs.Heads.{GlobalHead}
+use Rattle.ir_syntax.specs.Functions.{parameter_types}
+use Rattle.ir_syntax.specs.Tree.{BodyTree, OpaqueBody, PlainBody, PackedBody, VariableTree, AliasTypeTree, PlainAlias, FunctionAlias, AliasTree, ParameterTree, HeadTree, ItemTree, SourceFilename, DataLayout, TargetTriple, Struct, Variable, Alias, Declaration, Definition, Attributes, Metadata}
 
 abbrev pub body_view : StructBody → BodyTree
 body_view bodies.Opaque = OpaqueBody
@@ -33,14 +38,25 @@ variable_view v = record {
   alignment = v.alignment;
 }
 
+abbrev pub alias_type_view : AliasType → AliasTypeTree
+alias_type_view (alias_type.Plain ty) = PlainAlias (type_view ty)
+alias_type_view (alias_type.Function returns signature) = FunctionAlias (type_view returns) (map type_view signature.parameters.items) signature.variadic
+
+abbrev pub alias_view : the_alias.Alias → AliasTree
+alias_view a = record { name = a.name; linkage = a.linkage; ty = alias_type_view a.ty; target = a.target }
+
+abbrev pub global_view : the_head.GlobalHead → GlobalHead
+global_view h = (h.name, h.linkage)
+
 abbrev pub parameter_view : Parameter → ParameterTree
 parameter_view p = (type_view p.ty, p.name)
 
 abbrev pub parameters_view : FormalParameters → List ParameterTree × Bool
 parameters_view p = (map parameter_view p.parameters.items, p.variadic)
 
-abbrev pub declared_view : Declared → List TypeTree × Bool
-declared_view d = (map type_view d.types.items, d.variadic)
+-- the types of the parameters, and whether `...` ends them
+abbrev pub declared_view : FormalParameters → List TypeTree × Bool
+declared_view p = (parameter_types (map parameter_view p.parameters.items), p.variadic)
 
 abbrev pub defined_view : Defined → (List ParameterTree × Bool) × List BlockTree
 defined_view d = (parameters_view d.parameters, map block_view d.blocks.items)
@@ -56,9 +72,10 @@ item_view (items.SourceFilename place text) = SourceFilename place text
 item_view (items.DataLayout place text) = DataLayout place text
 item_view (items.TargetTriple place text) = TargetTriple place text
 item_view (items.Struct name body) = Struct name (body_view body)
-item_view (items.Variable variable) = Variable (variable_view variable)
-item_view (items.Declaration place head parameters variadic) = Declaration place (head_view head) (map type_view parameters.items) variadic
-item_view (items.Definition place head parameters blocks) = Definition place (head_view head) (map parameter_view parameters.items) (map block_view blocks.items)
+item_view (items.Variable variable) = Variable (variable_view variable.value)
+item_view (items.Alias alias) = Alias (alias_view alias.value)
+item_view (items.Declaration place declaration) = Declaration place (head_view declaration.value.head) (parameter_types (map parameter_view declaration.value.formal.parameters.items)) declaration.value.formal.variadic
+item_view (items.Definition place definition) = Definition place (head_view definition.value.head) (map parameter_view definition.value.parameters.items) (map block_view definition.value.blocks.items)
 item_view (items.Attributes place) = Attributes place
 item_view (items.Metadata place) = Metadata place
 

@@ -1,28 +1,26 @@
 //! Reads declarations and definitions.
-ghost use Rattle.std.specs.Prelude.{◌≡◌, map, IfOk};
+ghost use Rattle.std.specs.Prelude.{map};
 ghost use Rattle.phrase_rows.specs.Row.{optional};
-ghost use Rattle.ir_constants.specs.View.{type_view};
 ghost use Rattle.ir_instructions.specs.View.{block_view};
-ghost use Rattle.ir_syntax.specs.Functions.{parameter_row, dots_row, parameter_step, some_parameters_row, parameter_list_row, parameters_row, head_row, metadata_row, parameter_types, declared_row, declaration_row, body_row, defined_row, definition_row};
+ghost use Rattle.ir_syntax.specs.Functions.{parameter_row, dots_row, parameter_step, some_parameters_row, parameter_list_row, parameters_row, head_row, metadata_row, declared_row, declaration_row, body_row, defined_row, definition_row};
 ghost use Rattle.ir_syntax.specs.View.{parameter_view, parameters_view, declared_view, defined_view, head_view, item_view};
 ghost use Rattle.ir_terminals.specs.Role.{class};
 ghost use Rattle.ir_terminals.specs.Tokens.{local_row};
 ghost use Rattle.ir_terminals.specs.Follows.{Follows};
 
 use crate::heads::{global_words, optional_linkage};
-use crate::item::{Head, Item, Parameter};
-use ir_constants::{Type, begins_type, type_of};
+use crate::item::{Declaration, Definition, FormalParameters, Head, Item, Parameter};
+use ir_constants::{begins_type, type_of};
 use ir_instructions::{
     Block, attachment, blocks_of, convention, function_attributes, parameter_attributes,
 };
 use ir_terminals::{Cursor, Fault, Local, Terminal};
-use std::alloc::{AllocError, Global};
 
 /// `LOCAL?`
 fn optional_local(cursor: &mut Cursor) -> Result<Option<Local>, Fault>
     ensures { Follows (λ _. optional class local_row) (λ x. x) cursor.old result cursor.new }
 {
-    if !cursor.is_next(Terminal::Local) {
+    if !cursor.is_class_next(Terminal::Local) {
         return Ok(None);
     }
     let local = cursor.local()?;
@@ -47,15 +45,8 @@ fn dots(cursor: &mut Cursor, may_stand: bool) -> Result<bool, Fault>
     if !may_stand {
         return Err(Fault::Refused);
     }
-    cursor.take(Terminal::Dots)?;
+    cursor.take_class(Terminal::Dots)?;
     Ok(true)
-}
-
-/// Parameters, and whether `...` ends them.
-#[derive(Drop)]
-struct FormalParameters {
-    parameters: Vec<Parameter>,
-    variadic: bool,
 }
 
 /// `, PARAM` or `, ...`, behind these parameters, which `...` does not end.
@@ -73,8 +64,8 @@ fn one_more(
     if variadic {
         return Err(Fault::Refused);
     }
-    cursor.take(Terminal::Comma)?;
-    if cursor.is_next(Terminal::Dots) {
+    cursor.take_class(Terminal::Comma)?;
+    if cursor.is_class_next(Terminal::Dots) {
         let variadic = dots(cursor, may_end_in_dots)?;
         return Ok(FormalParameters {
             parameters,
@@ -98,9 +89,10 @@ fn some_parameters(cursor: &mut Cursor, may_end_in_dots: bool) -> Result<FormalP
         parameters,
         variadic: false,
     };
-    'parameters: while cursor.is_next(Terminal::Comma) {
+    'parameters: while cursor.is_class_next(Terminal::Comma) {
         all = one_more(cursor, may_end_in_dots, all)?;
     }
+    all.parameters.shrink_to_fit();
     Ok(all)
 }
 
@@ -108,7 +100,7 @@ fn some_parameters(cursor: &mut Cursor, may_end_in_dots: bool) -> Result<FormalP
 fn parameter_list(cursor: &mut Cursor, may_end_in_dots: bool) -> Result<FormalParameters, Fault>
     ensures { Follows (parameter_list_row may_end_in_dots) parameters_view cursor.old result cursor.new }
 {
-    if cursor.is_next(Terminal::Dots) {
+    if cursor.is_class_next(Terminal::Dots) {
         let variadic = dots(cursor, may_end_in_dots)?;
         return Ok(FormalParameters {
             parameters: Vec::new(cursor.alloc()),
@@ -129,9 +121,9 @@ fn parameter_list(cursor: &mut Cursor, may_end_in_dots: bool) -> Result<FormalPa
 fn parameters(cursor: &mut Cursor, may_end_in_dots: bool) -> Result<FormalParameters, Fault>
     ensures { Follows (parameters_row may_end_in_dots) parameters_view cursor.old result cursor.new }
 {
-    cursor.take(Terminal::OpenParenthesis)?;
+    cursor.take_class(Terminal::OpenParenthesis)?;
     let parameters = parameter_list(cursor, may_end_in_dots)?;
-    cursor.take(Terminal::CloseParenthesis)?;
+    cursor.take_class(Terminal::CloseParenthesis)?;
     Ok(parameters)
 }
 
@@ -157,53 +149,32 @@ fn head(cursor: &mut Cursor) -> Result<Head, Fault>
 fn metadata(cursor: &mut Cursor) -> Result<(), Fault>
     ensures { Follows (λ _. metadata_row) (λ x. x) cursor.old result cursor.new }
 {
-    'metadata: while cursor.is_next(Terminal::MetaName) {
+    'metadata: while cursor.is_class_next(Terminal::MetaName) {
         attachment(cursor)?;
     }
     Ok(())
 }
 
-/// The types of the parameters.
-fn types_of(alloc: Global, parameters: Vec<Parameter>) -> Result<Vec<Type>, AllocError>
-    ensures { IfOk result (λ types. map type_view types.items ≡ parameter_types (map parameter_view parameters.items)) }
-{
-    let mut types = Vec::new(alloc);
-    'parameters: for parameter in parameters {
-        types.push(parameter.ty)?;
-    }
-    Ok(types)
-}
-
-/// What stands behind the name of a declaration: the types of the parameters, and whether `...` ends them.
-#[derive(Drop)]
-struct Declared {
-    types: Vec<Type>,
-    variadic: bool,
-}
-
 /// `( PARAM,* ) FDROP*`
 #[tactic(auto, unfolding(crate::specs::Functions::declared_core))]
-fn declared_behind(cursor: &mut Cursor) -> Result<Declared, Fault>
+fn declared_behind(cursor: &mut Cursor) -> Result<FormalParameters, Fault>
     ensures { Follows declared_row declared_view cursor.old result cursor.new }
 {
-    let FormalParameters {
-        parameters,
-        variadic,
-    } = parameters(cursor, true)?;
+    let formal = parameters(cursor, true)?;
     function_attributes(cursor)?;
-    let types = types_of(cursor.alloc(), parameters)?;
-    Ok(Declared { types, variadic })
+    Ok(formal)
 }
 
 /// `declare MD* LINKAGE? GDROP* CC? PDROP* TYPE GLOBAL ( PARAM,* ) FDROP*`
 pub fn declaration(cursor: &mut Cursor) -> Result<Item, Fault>
     ensures { Follows declaration_row item_view cursor.old result cursor.new }
 {
-    let place = cursor.take(Terminal::Declare)?;
+    let place = cursor.take_class(Terminal::Declare)?;
     metadata(cursor)?;
     let head = head(cursor)?;
-    let Declared { types, variadic } = declared_behind(cursor)?;
-    Ok(Item::Declaration(place, head, types, variadic))
+    let formal = declared_behind(cursor)?;
+    let declaration = Box::new(cursor.alloc(), Declaration { head, formal })?;
+    Ok(Item::Declaration(place, declaration))
 }
 
 /// `FDROP* MD* { BLOCK+ }`
@@ -237,9 +208,14 @@ fn defined_behind(cursor: &mut Cursor) -> Result<Defined, Fault>
 pub fn definition(cursor: &mut Cursor) -> Result<Item, Fault>
     ensures { Follows definition_row item_view cursor.old result cursor.new }
 {
-    let place = cursor.take(Terminal::Define)?;
+    let place = cursor.take_class(Terminal::Define)?;
     let head = head(cursor)?;
     let Defined { parameters, blocks } = defined_behind(cursor)?;
     let FormalParameters { parameters, .. } = parameters;
-    Ok(Item::Definition(place, head, parameters, blocks))
+    let definition = Definition {
+        head,
+        parameters,
+        blocks,
+    };
+    Ok(Item::Definition(place, Box::new(cursor.alloc(), definition)?))
 }

@@ -2,12 +2,12 @@
 
 use ir_base::{ItemList, Place};
 use ir_constants::{Constant, Type};
-use ir_instructions::Block;
+use ir_instructions::{Block, Signature};
 use ir_tables::Linkage;
 use ir_terminals::{Integer, Local, PlacedName, PlacedText};
 
 /// What a struct is.
-#[derive(Debug, Drop)]
+#[derive(Drop)]
 pub enum StructBody {
     Opaque,
     /// The fields of `{ .. }`.
@@ -17,7 +17,7 @@ pub enum StructBody {
 }
 
 /// A variable (LangRef, "Global Variables").
-#[derive(Debug, Drop)]
+#[derive(Drop)]
 pub struct Variable {
     pub name: PlacedName,
     /// The linkage, where it is written.
@@ -30,15 +30,35 @@ pub struct Variable {
     pub alignment: Option<Integer>,
 }
 
-/// A parameter of a definition, and what it is called where that is written.
-#[derive(Debug, Drop)]
+/// What an alias stands for.
+#[derive(Drop)]
+pub enum AliasType {
+    /// A variable of this type.
+    Plain(Type),
+    /// A function: its return type and its parameters.
+    Function(Type, Signature),
+}
+
+/// An alias (LangRef, "Aliases").
+#[derive(Drop)]
+pub struct Alias {
+    pub name: PlacedName,
+    /// The linkage, where it is written.
+    pub linkage: Option<Linkage>,
+    pub ty: AliasType,
+    /// The variable or function that it stands for.
+    pub target: PlacedName,
+}
+
+/// A parameter of a function, and what it is called where that is written.
+#[derive(Drop)]
 pub struct Parameter {
     pub ty: Type,
     pub name: Option<Local>,
 }
 
 /// What a function is called and gives (LangRef, "Functions").
-#[derive(Debug, Drop)]
+#[derive(Drop)]
 pub struct Head {
     /// The linkage, where it is written.
     pub linkage: Option<Linkage>,
@@ -46,8 +66,30 @@ pub struct Head {
     pub name: PlacedName,
 }
 
+/// Parameters, and whether `...` ends them.
+#[derive(Drop)]
+pub struct FormalParameters {
+    pub parameters: Vec<Parameter>,
+    pub variadic: bool,
+}
+
+/// A function without its body. What its parameters are called says nothing.
+#[derive(Drop)]
+pub struct Declaration {
+    pub head: Head,
+    pub formal: FormalParameters,
+}
+
+/// A function with its body, which is at least one block.
+#[derive(Drop)]
+pub struct Definition {
+    pub head: Head,
+    pub parameters: Vec<Parameter>,
+    pub blocks: Vec<Block>,
+}
+
 /// An item, with the place of its first token where no name has it.
-#[derive(Debug, Drop)]
+#[derive(Drop)]
 pub enum Item {
     /// `source_filename`
     SourceFilename(Place, PlacedText),
@@ -57,11 +99,12 @@ pub enum Item {
     TargetTriple(Place, PlacedText),
     /// A struct that has a name.
     Struct(PlacedName, StructBody),
-    Variable(Variable),
-    /// `declare`: the types of the parameters, and whether `...` ends them.
-    Declaration(Place, Head, Vec<Type>, bool),
-    /// `define`: the parameters, and at least one block.
-    Definition(Place, Head, Vec<Parameter>, Vec<Block>),
+    Variable(Box<Variable>),
+    Alias(Box<Alias>),
+    /// `declare`
+    Declaration(Place, Box<Declaration>),
+    /// `define`
+    Definition(Place, Box<Definition>),
     /// An attribute group, which is dropped.
     Attributes(Place),
     /// Metadata, which is dropped.

@@ -10,9 +10,10 @@ ghost use Rattle.ir_terminals.specs.Role.{class};
 ghost use Rattle.ir_terminals.specs.Tokens.{word};
 ghost use Rattle.ir_terminals.specs.declared.terminal.Terminal.TheVariants as terminal;
 
+use crate::aliases::global;
 use crate::functions::{declaration, definition};
 use crate::item::Item;
-use crate::variables::{structure, variable};
+use crate::variables::structure;
 use ir_base::Place;
 use ir_terminals::{Cursor, Fault, Terminal};
 
@@ -20,8 +21,8 @@ use ir_terminals::{Cursor, Fault, Terminal};
 fn source(cursor: &mut Cursor) -> Result<Item, Fault>
     ensures { Follows (λ _. source_row) item_view cursor.old result cursor.new }
 {
-    let place = cursor.take(Terminal::SourceFilename)?;
-    cursor.take(Terminal::Equals)?;
+    let place = cursor.take_class(Terminal::SourceFilename)?;
+    cursor.take_class(Terminal::Equals)?;
     let text = cursor.quoted()?;
     Ok(Item::SourceFilename(place, text))
 }
@@ -30,14 +31,14 @@ fn source(cursor: &mut Cursor) -> Result<Item, Fault>
 fn target_behind(cursor: &mut Cursor) -> Result<Item, Fault>
     ensures { Follows (λ _. target_row) item_view cursor.old result cursor.new }
 {
-    if cursor.is_next(Terminal::DataLayout) {
-        let place = cursor.take(Terminal::DataLayout)?;
-        cursor.take(Terminal::Equals)?;
+    if cursor.is_class_next(Terminal::DataLayout) {
+        let place = cursor.take_class(Terminal::DataLayout)?;
+        cursor.take_class(Terminal::Equals)?;
         let text = cursor.quoted()?;
         return Ok(Item::DataLayout(place, text));
     }
-    let place = cursor.take(Terminal::Triple)?;
-    cursor.take(Terminal::Equals)?;
+    let place = cursor.take_class(Terminal::Triple)?;
+    cursor.take_class(Terminal::Equals)?;
     let text = cursor.quoted()?;
     Ok(Item::TargetTriple(place, text))
 }
@@ -46,7 +47,7 @@ fn target_behind(cursor: &mut Cursor) -> Result<Item, Fault>
 fn target(cursor: &mut Cursor) -> Result<Item, Fault>
     ensures { Follows (λ _. second (word terminal.Target) target_row) item_view cursor.old result cursor.new }
 {
-    cursor.take(Terminal::Target)?;
+    cursor.take_class(Terminal::Target)?;
     target_behind(cursor)
 }
 
@@ -54,9 +55,9 @@ fn target(cursor: &mut Cursor) -> Result<Item, Fault>
 fn attributes(cursor: &mut Cursor) -> Result<Item, Fault>
     ensures { Follows (λ _. attributes_row) item_view cursor.old result cursor.new }
 {
-    let place = cursor.take(Terminal::Attributes)?;
-    cursor.take(Terminal::Group)?;
-    cursor.take(Terminal::Equals)?;
+    let place = cursor.take_class(Terminal::Attributes)?;
+    cursor.take_class(Terminal::Group)?;
+    cursor.take_class(Terminal::Equals)?;
     cursor.skip_braced()?;
     Ok(Item::Attributes(place))
 }
@@ -65,10 +66,10 @@ fn attributes(cursor: &mut Cursor) -> Result<Item, Fault>
 fn metadata_name(cursor: &mut Cursor) -> Result<Place, Fault>
     ensures { Follows (λ _. metadata_name_row) (λ x. x) cursor.old result cursor.new }
 {
-    if cursor.is_next(Terminal::MetaName) {
-        cursor.take(Terminal::MetaName)
+    if cursor.is_class_next(Terminal::MetaName) {
+        cursor.take_class(Terminal::MetaName)
     } else {
-        cursor.take(Terminal::MetaNumber)
+        cursor.take_class(Terminal::MetaNumber)
     }
 }
 
@@ -76,11 +77,11 @@ fn metadata_name(cursor: &mut Cursor) -> Result<Place, Fault>
 fn node(cursor: &mut Cursor) -> Result<(), Fault>
     ensures { Follows (λ _. node_row) (λ x. x) cursor.old result cursor.new }
 {
-    if cursor.is_next(Terminal::MetaMark) {
-        cursor.take(Terminal::MetaMark)?;
+    if cursor.is_class_next(Terminal::MetaMark) {
+        cursor.take_class(Terminal::MetaMark)?;
         return cursor.skip_brackets(Terminal::OpenBrace);
     }
-    cursor.take(Terminal::MetaName)?;
+    cursor.take_class(Terminal::MetaName)?;
     cursor.skip_brackets(Terminal::OpenParenthesis)
 }
 
@@ -89,9 +90,9 @@ fn metadata_item(cursor: &mut Cursor) -> Result<Item, Fault>
     ensures { Follows (λ _. metadata_item_row) item_view cursor.old result cursor.new }
 {
     let place = metadata_name(cursor)?;
-    cursor.take(Terminal::Equals)?;
-    if cursor.is_next(Terminal::Distinct) {
-        cursor.take(Terminal::Distinct)?;
+    cursor.take_class(Terminal::Equals)?;
+    if cursor.is_class_next(Terminal::Distinct) {
+        cursor.take_class(Terminal::Distinct)?;
     }
     node(cursor)?;
     Ok(Item::Metadata(place))
@@ -102,19 +103,19 @@ fn metadata_item(cursor: &mut Cursor) -> Result<Item, Fault>
 fn item(cursor: &mut Cursor) -> Result<Item, Fault>
     ensures { Follows item_row item_view cursor.old result cursor.new }
 {
-    if cursor.is_next(Terminal::SourceFilename) {
+    if cursor.is_class_next(Terminal::SourceFilename) {
         source(cursor)
-    } else if cursor.is_next(Terminal::Target) {
+    } else if cursor.is_class_next(Terminal::Target) {
         target(cursor)
-    } else if cursor.is_next(Terminal::Local) {
+    } else if cursor.is_class_next(Terminal::Local) {
         structure(cursor)
-    } else if cursor.is_next(Terminal::GlobalName) {
-        variable(cursor)
-    } else if cursor.is_next(Terminal::Declare) {
+    } else if cursor.is_class_next(Terminal::GlobalName) {
+        global(cursor)
+    } else if cursor.is_class_next(Terminal::Declare) {
         declaration(cursor)
-    } else if cursor.is_next(Terminal::Define) {
+    } else if cursor.is_class_next(Terminal::Define) {
         definition(cursor)
-    } else if cursor.is_next(Terminal::Attributes) {
+    } else if cursor.is_class_next(Terminal::Attributes) {
         attributes(cursor)
     } else {
         metadata_item(cursor)
@@ -149,6 +150,7 @@ fn items(cursor: &mut Cursor) -> Result<Vec<Item>, Fault>
     'items: while is_item_next(cursor) {
         items.push(item(cursor)?)?;
     }
+    items.shrink_to_fit();
     Ok(items)
 }
 

@@ -5,6 +5,8 @@
 //! `specs/Items` and the files of rows beside it, `specs/Answers`, `specs/Refusal`.
 #![tactic(auto)]
 
+mod aliases;
+mod footprint;
 mod functions;
 mod heads;
 mod item;
@@ -12,11 +14,12 @@ mod items;
 mod read;
 mod small;
 mod straight;
-#[cfg(test)]
-mod tests;
 mod variables;
 
-pub use item::{Head, Item, Items, Parameter, StructBody, Variable};
+pub use item::{
+    Alias, AliasType, Declaration, Definition, FormalParameters, Head, Item, Items, Parameter,
+    StructBody, Variable,
+};
 pub use read::{SyntaxFault, read_items};
 pub use small::straight_of;
 pub use straight::{Line, LineList, Operand, Straight};

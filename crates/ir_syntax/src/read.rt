@@ -3,6 +3,7 @@ ghost use Rattle.std.specs.Prelude.{◌≡◌, ◌⊎◌, ◌<◌, ◌≤◌, �
 ghost use Rattle.std.specs.Bool.{MatchBool};
 ghost use Rattle.ir_syntax.specs.Answers.{HasItems, FirstBad, passed};
 ghost use Rattle.ir_syntax.specs.Counts.{counted};
+ghost use Rattle.ir_syntax.specs.Forms.{AreItemsFormed};
 ghost use Rattle.ir_syntax.specs.Items.{IsViable};
 ghost use Rattle.ir_syntax.specs.Refusal.{IsRefused, IsLeftOut, through};
 ghost use Rattle.ir_syntax.specs.Tree.{ItemTree};
@@ -161,6 +162,8 @@ pub fn read_items(alloc: Global, text: &[u8]) -> Result<Items, SyntaxFault>
     ensures one { IfOk result (λ items. (others : List ItemTree) → HasItems text.now others → others ≡ items_view items) }
     // There are no more of them than the text has bytes.
     ensures count { IfOk result (λ items. counted (items_view items) ≤ 2 ^ 24) }
+    // Each has the opcodes, the flags and the parts of its phrase.
+    ensures shape { IfOk result (λ items. AreItemsFormed (items_view items)) }
     // What is told is the first bad place, by its kind.
     ensures refused { IfErr result (λ fault. IsRefused text.now fault ⊎ (fault ≡ SyntaxFault.Memory)) }
     // A text that has items is not refused, but for want of memory.

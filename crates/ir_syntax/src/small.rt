@@ -79,10 +79,10 @@ fn sum_in(before: usize, operation: &Operation) -> Option<Line>
     ensures { result ≡ sum_in before (operation_view operation.now) }
 {
     match operation {
-        Operation::Binary(Opcode::Add, flags, left, right)
-            if flags.code() == 0 && is_word(&left.ty) => {
-            let a = operand_in(before, &left.value)?;
-            let b = operand_in(before, right)?;
+        Operation::Binary(Opcode::Add, flags, operands)
+            if flags.code() == 0 && is_word(&operands.left.ty) => {
+            let a = operand_in(before, &operands.left.value)?;
+            let b = operand_in(before, &operands.right)?;
             Some(Line { a, b })
         }
         _ => None,
@@ -157,9 +157,7 @@ fn program_in(alloc: Global, block: &Block) -> Result<Option<Straight>, AllocErr
 fn is_main(head: &Head) -> bool
     ensures { result ≡ is_main (head_view head.now) }
 {
-    head.linkage.is_none()
-        && is_word(&head.returns)
-        && head.name.name.text().bytes() == b"main".as_slice()
+    head.linkage.is_none() && is_word(&head.returns) && head.name.name.bytes() == b"main".as_slice()
 }
 
 /// `define i32 @main() { LINE* ret i32 A }`
@@ -167,8 +165,9 @@ fn straight_item(alloc: Global, item: &Item) -> Result<Option<Straight>, AllocEr
     ensures { IfOk result (λ program. program ≡ straight_item (item_view item.now)) }
 {
     match item {
-        Item::Definition(_, head, parameters, blocks) if parameters.is_empty() && is_main(head) => {
-            match blocks.as_slice() {
+        Item::Definition(_, definition)
+            if definition.parameters.is_empty() && is_main(&definition.head) => {
+            match definition.blocks.as_slice() {
                 [block] => program_in(alloc, block),
                 _ => Ok(None),
             }

@@ -1,26 +1,26 @@
 //! Reads variables, and structs that have names.
 ghost use Rattle.std.specs.Prelude.{option_map};
 ghost use Rattle.phrase_rows.specs.Row.{labelled};
-ghost use Rattle.ir_constants.specs.View.{type_view, constant_view};
+ghost use Rattle.ir_constants.specs.View.{constant_view};
 ghost use Rattle.ir_instructions.specs.Dropped.{section_row};
-ghost use Rattle.ir_syntax.specs.Variables.{plain_body_row, packed_body_row, body_row, struct_row, constant_word_row, variable_head_row, initialiser_row, tail_row, tail_shape, tails_row, variable_rest_row, variable_row};
-ghost use Rattle.ir_syntax.specs.View.{body_view, variable_rest_view, item_view};
+ghost use Rattle.ir_syntax.specs.Variables.{plain_body_row, packed_body_row, body_row, struct_row, constant_word_row, initialiser_row, tail_row, tail_shape, tails_row, variable_rest_row, variable_row};
+ghost use Rattle.ir_syntax.specs.View.{body_view, global_view, variable_rest_view, item_view};
 ghost use Rattle.ir_terminals.specs.Follows.{Follows};
 
-use crate::heads::{global_words, optional_linkage};
+use crate::heads::GlobalHead;
 use crate::item::{Item, StructBody, Variable};
-use ir_constants::{Constant, Type, constant_of, fields_of, type_of};
+use ir_constants::{Constant, constant_of, fields_of, type_of};
 use ir_instructions::attachment;
 use ir_tables::Linkage;
-use ir_terminals::{Cursor, Fault, Integer, PlacedName, Terminal};
+use ir_terminals::{Cursor, Fault, Integer, Terminal};
 
 /// `{ TYPE,* }`
 fn plain_body(cursor: &mut Cursor) -> Result<StructBody, Fault>
     ensures { Follows plain_body_row body_view cursor.old result cursor.new }
 {
-    cursor.take(Terminal::OpenBrace)?;
+    cursor.take_class(Terminal::OpenBrace)?;
     let fields = fields_of(cursor)?;
-    cursor.take(Terminal::CloseBrace)?;
+    cursor.take_class(Terminal::CloseBrace)?;
     Ok(StructBody::Plain(fields))
 }
 
@@ -28,11 +28,11 @@ fn plain_body(cursor: &mut Cursor) -> Result<StructBody, Fault>
 fn packed_body(cursor: &mut Cursor) -> Result<StructBody, Fault>
     ensures { Follows packed_body_row body_view cursor.old result cursor.new }
 {
-    cursor.take(Terminal::Less)?;
-    cursor.take(Terminal::OpenBrace)?;
+    cursor.take_class(Terminal::Less)?;
+    cursor.take_class(Terminal::OpenBrace)?;
     let fields = fields_of(cursor)?;
-    cursor.take(Terminal::CloseBrace)?;
-    cursor.take(Terminal::Greater)?;
+    cursor.take_class(Terminal::CloseBrace)?;
+    cursor.take_class(Terminal::Greater)?;
     Ok(StructBody::Packed(fields))
 }
 
@@ -40,10 +40,10 @@ fn packed_body(cursor: &mut Cursor) -> Result<StructBody, Fault>
 fn body(cursor: &mut Cursor) -> Result<StructBody, Fault>
     ensures { Follows body_row body_view cursor.old result cursor.new }
 {
-    if cursor.is_next(Terminal::Opaque) {
-        cursor.take(Terminal::Opaque)?;
+    if cursor.is_class_next(Terminal::Opaque) {
+        cursor.take_class(Terminal::Opaque)?;
         Ok(StructBody::Opaque)
-    } else if cursor.is_next(Terminal::OpenBrace) {
+    } else if cursor.is_class_next(Terminal::OpenBrace) {
         plain_body(cursor)
     } else {
         packed_body(cursor)
@@ -55,8 +55,8 @@ pub fn structure(cursor: &mut Cursor) -> Result<Item, Fault>
     ensures { Follows struct_row item_view cursor.old result cursor.new }
 {
     let name = cursor.named_local()?;
-    cursor.take(Terminal::Equals)?;
-    cursor.take(Terminal::Type)?;
+    cursor.take_class(Terminal::Equals)?;
+    cursor.take_class(Terminal::Type)?;
     let body = body(cursor)?;
     Ok(Item::Struct(name, body))
 }
@@ -65,39 +65,12 @@ pub fn structure(cursor: &mut Cursor) -> Result<Item, Fault>
 fn constant_word(cursor: &mut Cursor) -> Result<bool, Fault>
     ensures { Follows (λ _. constant_word_row) (λ x. x) cursor.old result cursor.new }
 {
-    if cursor.is_next(Terminal::Global) {
-        cursor.take(Terminal::Global)?;
+    if cursor.is_class_next(Terminal::Global) {
+        cursor.take_class(Terminal::Global)?;
         return Ok(false);
     }
-    cursor.take(Terminal::Constant)?;
+    cursor.take_class(Terminal::Constant)?;
     Ok(true)
-}
-
-/// What stands before an initialiser.
-#[derive(Drop)]
-struct VariableHead {
-    name: PlacedName,
-    linkage: Option<Linkage>,
-    constant: bool,
-    ty: Type,
-}
-
-/// `GLOBAL = LINKAGE? GDROP* (global|constant) TYPE`
-fn variable_head(cursor: &mut Cursor) -> Result<VariableHead, Fault>
-    ensures { Follows variable_head_row (λ h. (h.name, (h.linkage, (h.constant, type_view h.ty)))) cursor.old result cursor.new }
-{
-    let name = cursor.global_name()?;
-    cursor.take(Terminal::Equals)?;
-    let linkage = optional_linkage(cursor)?;
-    global_words(cursor)?;
-    let constant = constant_word(cursor)?;
-    let ty = type_of(cursor)?;
-    Ok(VariableHead {
-        name,
-        linkage,
-        constant,
-        ty,
-    })
 }
 
 /// `CONST`, exactly where the linkage is not `external` or `extern_weak`.
@@ -118,8 +91,8 @@ fn initialiser(cursor: &mut Cursor, linkage: Option<Linkage>) -> Result<Option<C
 fn section(cursor: &mut Cursor) -> Result<(), Fault>
     ensures { Follows (λ _. section_row) (λ x. x) cursor.old result cursor.new }
 {
-    cursor.take(Terminal::Section)?;
-    cursor.take(Terminal::Quoted)?;
+    cursor.take_class(Terminal::Section)?;
+    cursor.take_class(Terminal::Quoted)?;
     Ok(())
 }
 
@@ -127,12 +100,12 @@ fn section(cursor: &mut Cursor) -> Result<(), Fault>
 fn tail(cursor: &mut Cursor, alignment: Option<Integer>) -> Result<Option<Integer>, Fault>
     ensures { Follows (λ _. labelled tail_shape (tail_row alignment)) (λ x. x) cursor.old result cursor.new }
 {
-    if alignment.is_none() && cursor.is_next(Terminal::Align) {
-        cursor.take(Terminal::Align)?;
+    if alignment.is_none() && cursor.is_class_next(Terminal::Align) {
+        cursor.take_class(Terminal::Align)?;
         let written = cursor.integer()?;
         return Ok(Some(written));
     }
-    if cursor.is_next(Terminal::Section) {
+    if cursor.is_class_next(Terminal::Section) {
         section(cursor)?;
     } else {
         attachment(cursor)?;
@@ -145,8 +118,8 @@ fn tails(cursor: &mut Cursor) -> Result<Option<Integer>, Fault>
     ensures { Follows (λ _. tails_row) (λ x. x) cursor.old result cursor.new }
 {
     let mut alignment = None;
-    'tails: while cursor.is_next(Terminal::Comma) {
-        cursor.take(Terminal::Comma)?;
+    'tails: while cursor.is_class_next(Terminal::Comma) {
+        cursor.take_class(Terminal::Comma)?;
         alignment = tail(cursor, alignment)?;
     }
     Ok(alignment)
@@ -172,27 +145,25 @@ fn rest_behind(cursor: &mut Cursor, linkage: Option<Linkage>) -> Result<Variable
     })
 }
 
-/// `GLOBAL = LINKAGE? GDROP* (global|constant) TYPE CONST? TAIL*`
-pub fn variable(cursor: &mut Cursor) -> Result<Item, Fault>
-    ensures { Follows variable_row item_view cursor.old result cursor.new }
+/// `(global|constant) TYPE CONST? TAIL*`, behind a name and a linkage.
+#[tactic(auto, unfolding(crate::specs::Variables::variable_core))]
+pub fn variable_behind(cursor: &mut Cursor, head: GlobalHead) -> Result<Item, Fault>
+    ensures { Follows (λ limits. variable_row limits (global_view head)) item_view cursor.old result cursor.new }
 {
-    let head = variable_head(cursor)?;
+    let GlobalHead { name, linkage } = head;
+    let constant = constant_word(cursor)?;
+    let ty = type_of(cursor)?;
     let VariableRest {
         initialiser,
         alignment,
-    } = rest_behind(cursor, head.linkage)?;
-    let VariableHead {
-        name,
-        linkage,
-        constant,
-        ty,
-    } = head;
-    Ok(Item::Variable(Variable {
+    } = rest_behind(cursor, linkage)?;
+    let variable = Variable {
         name,
         linkage,
         constant,
         ty,
         initialiser,
         alignment,
-    }))
+    };
+    Ok(Item::Variable(Box::new(cursor.alloc(), variable)?))
 }

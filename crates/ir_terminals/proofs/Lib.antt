@@ -1,4 +1,6 @@
 pub mod Decimals
+pub mod Written
+pub mod NumberTokens
 pub mod Fronts
 pub mod NumberNames
 pub mod WordLists

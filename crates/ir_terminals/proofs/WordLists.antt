@@ -1,70 +1,108 @@
--- Words are looked up among those with their first byte.
-use Rattle.std.proofs.Common.{◌≡◌, ℕ, ◌+◌, ◌<◌, ◌≤◌, ◌==◌, ◌^◌, Bool, true, false, cond, List, [], ◌∷◌, length, get_or, drop, Option, Some, None, option_map, refl, sym, ap, ◌∙◌, arith, inl, inr, bytes_eq, codes}
-use Rattle.std.proofs.lemmas.Bool.{ne_eqb}
+-- A word has one row at most, which its number leads to.
+use Rattle.std.proofs.Common.{◌≡◌, ℕ, zero, suc, ◌+◌, ◌<◌, ◌≤◌, ◌==◌, ◌&&◌, ◌^◌, Bool, true, false, cond, List, [], ◌∷◌, length, map, get_or, Option, Some, None, option_map, nat_lt, refl, sym, ap, ◌∙◌, arith, inl, inr, bytes_eq}
+use Rattle.std.proofs.Math.ListN.{get_or-map, length-map}
+use Rattle.std.proofs.lemmas.Bool.{ltb-true}
 use Rattle.std.proofs.lemmas.Bool.Decides.{nat_tests}
-use Rattle.std.proofs.lemmas.List.{at_drop_more}
+use Rattle.std.proofs.lemmas.List.{get_or_default}
+use Rattle.std.proofs.lemmas.List.Folds.{list_all_at}
 use Rattle.std.proofs.lemmas.Map.Views.{exact_unsigned_eq}
+use Rattle.std.proofs.lemmas.Slice.Eq.{bytes_eq-Decides}
 use Rattle.std.specs.List.{list_all}
-use Rattle.ir_lexer.specs.Class.{one_of}
 use Rattle.ir_lexer.proofs.Runs.{bool_cases}
 use Rattle.ir_terminals.specs.Digits.{below}
-use Rattle.ir_terminals.specs.WordRows.{meanings_of, starts, words_from}
+use Rattle.ir_terminals.specs.WordRows.{meaning_of, meanings_of, row_number, slot}
 use Rattle.ir_terminals.specs.Words.{Meaning, meaning_in, of_width, width_or, is_width, word_terminal, words_by_role}
+use Rattle.ir_terminals.specs.declared.words.TheConstants.{ROWS}
+use Rattle.ir_terminals.specs.declared.words.Word.{Word}
 use Rattle.ir_terminals.specs.declared.terminal.Terminal.{Terminal}
 use Rattle.ir_terminals.specs.declared.terminal.Terminal.TheVariants as terminals
-use Rattle.ir_terminals.specs.declared.words.Word.{Word}
 use Rattle.ir_terminals.proofs.Decimals.{side}
 
--- another first byte, another word
-other_word : (word : List ℕ) (b : ℕ) (bs : List ℕ) → starts b word ≡ false → bytes_eq word (b ∷ bs) ≡ false
-other_word [] b bs e = refl
-other_word (x ∷ xs) b bs e = rw e refl
+both_true : (a b : Bool) → (a && b) ≡ true → (a ≡ true) × (b ≡ true)
+both_true true true h = (refl, refl)
+both_true true false h = absurd cc
+both_true false b h = absurd cc
 
-by_letter : (rows : List Meaning) (b : ℕ) (bs : List ℕ) → meaning_in (words_from b rows) (b ∷ bs) ≡ meaning_in rows (b ∷ bs)
-by_letter [] b bs = refl
-by_letter (row ∷ rows) b bs = elim (bool_cases (starts b row.word)) [
-  | inl e ↦ rw e (ap (λ (x : Terminal). cond (bytes_eq row.word (b ∷ bs)) row.terminal x) (by_letter rows b bs))
-  | inr e ↦ rw (e, other_word row.word b bs e) (by_letter rows b bs)
+-- the word of each row leads to the row, from this index on
+abbrev leads : (List ℕ → ℕ) → ℕ → List Meaning → Bool
+leads number n [] = true
+leads number n (row ∷ rows) = (number row.word == n) && leads number (n + 1) rows
+
+-- what the row is, if it has the word
+abbrev of_row : Meaning → List ℕ → Terminal
+of_row row word = cond (bytes_eq row.word word) row.terminal terminals.Other
+
+module _ (number : List ℕ → ℕ) where
+  its_number : (n : ℕ) (row : Meaning) (rows : List Meaning) (word : List ℕ) → leads number n (row ∷ rows) ≡ true → bytes_eq row.word word ≡ true → number word ≡ n
+  its_number n row rows word h e =
+      let same : row.word ≡ word = (bytes_eq-Decides row.word word).0 e in
+      let is : number row.word ≡ n = exact_unsigned_eq (number row.word) n (both_true _ _ h).0 in
+      rw (← same) is
+
+  none_has : (n : ℕ) (rows : List Meaning) (word : List ℕ) → leads number n rows ≡ true → number word < n → meaning_in rows word ≡ terminals.Other
+  none_has n [] word h less = refl
+  none_has n (row ∷ rows) word h less = elim (bool_cases (bytes_eq row.word word)) [
+    | inl e ↦ absurd (let is = its_number n row rows word h e in omega (arith, is))
+    | inr e ↦ rw e (none_has (n + 1) rows word (both_true _ _ h).1 (omega arith))
+  ]
+
+  one_has : (n : ℕ) (rows : List Meaning) (word : List ℕ) (i : ℕ) (d : Meaning) → leads number n rows ≡ true → number word ≡ n + i → i < length rows → meaning_in rows word ≡ of_row (get_or rows i d) word
+  one_has n [] word i d h is less = absurd (omega arith)
+  one_has n (row ∷ rows) word zero d h is less =
+      ap (λ (x : Terminal). cond (bytes_eq row.word word) row.terminal x) (none_has (n + 1) rows word (both_true _ _ h).1 (omega (arith, is)))
+  one_has n (row ∷ rows) word (suc i) d h is less = elim (bool_cases (bytes_eq row.word word)) [
+    | inl e ↦ absurd (let k = its_number n row rows word h e in omega (arith, k, is))
+    | inr e ↦ rw e (one_has (n + 1) rows word i d (both_true _ _ h).1 (omega (arith, is)) (omega arith))
+  ]
+
+all_lead : leads row_number 0 words_by_role ≡ true
+unfolding words_by_role row_number slot
+all_lead = refl
+
+all_rows : list_all (λ i. nat_lt i 157) ROWS ≡ true
+all_rows = refl
+
+row_small : (i d : ℕ) → i < length ROWS → get_or ROWS i d < 157
+row_small i d h = elim (bool_cases (nat_lt (get_or ROWS i d) 157)) [
+  | inl e ↦ ltb-true (get_or ROWS i d) 157 e
+  | inr e ↦ absurd (let k = list_all_at (λ n. nat_lt n 157) ROWS i d h e in let j = all_rows in cc)
 ]
 
--- words are told apart by their first bytes first
-pub with_first_byte : (rows : List Meaning) (s : List ℕ) → 0 < length s → meaning_in (words_from (get_or s 0 0) rows) s ≡ meaning_in rows s
-with_first_byte rows [] h = absurd (omega arith)
-with_first_byte rows (b ∷ bs) h = by_letter rows b bs
+pub slot_small : (word : List ℕ) → slot word < 256
+unfolding slot
+slot_small word = omega arith
 
--- the first bytes of the words
-abbrev first_bytes : List ℕ
-first_bytes = codes "abcdefghilmnoprstuvwxz"
+pub row_in : (word : List ℕ) (d : ℕ) → get_or ROWS (slot word) d < 157
+row_in word d = row_small (slot word) d (slot_small word)
 
-abbrev begins_among : List ℕ → List ℕ → Bool
-begins_among letters [] = true
-begins_among letters (x ∷ xs) = one_of letters x
+number_small : (word : List ℕ) → row_number word < 157
+unfolding row_number
+number_small word = row_in word 0
 
-each_begins : list_all (λ row. begins_among first_bytes row.word) words_by_role ≡ true
+how_many : length words_by_role ≡ 157
 unfolding words_by_role
-each_begins = refl
+how_many = refl
 
-not_first : (letters : List ℕ) (b : ℕ) (word : List ℕ) → begins_among letters word ≡ true → one_of letters b ≡ false → starts b word ≡ false
-not_first letters b [] h n = refl
-not_first letters b (x ∷ xs) h n = elim (bool_cases (x == b)) [
-  | inl e ↦ absurd (let k : one_of letters b ≡ true = rw (exact_unsigned_eq x b e) at h in let j = sym n ∙ k in cc)
-  | inr e ↦ e
-]
+pub rows_long : (rows : List Word) → meanings_of rows ≡ words_by_role → length rows ≡ 157
+rows_long rows e = let n : length (map meaning_of rows) ≡ length rows = length-map rows meaning_of in omega (arith, n, ap length e, how_many)
 
-none_begin : (letters : List ℕ) (rows : List Meaning) (b : ℕ) → list_all (λ row. begins_among letters row.word) rows ≡ true → one_of letters b ≡ false → words_from b rows ≡ []
-none_begin letters [] b h n = refl
-none_begin letters (row ∷ rows) b h n = elim (bool_cases (begins_among letters row.word)) [
-  | inl e ↦ rw (not_first letters b row.word e n) (none_begin letters rows b (rw e at h) n)
-  | inr e ↦ absurd (let k : false ≡ true = rw e at h in cc)
-]
+row_is : (rows : List Word) (i : ℕ) (d : Word) → meanings_of rows ≡ words_by_role → get_or words_by_role i (meaning_of d) ≡ meaning_of (get_or rows i d)
+row_is rows i d e = ap (λ (all : List Meaning). get_or all i (meaning_of d)) (sym e) ∙ get_or-map meaning_of rows i d
 
--- no word begins with another byte
-pub no_word_begins : (b : ℕ) → one_of (codes "abcdefghilmnoprstuvwxz") b ≡ false → words_from b words_by_role ≡ []
-no_word_begins b n = none_begin first_bytes words_by_role b each_begins n
+by_number : (rows : List Word) (word : List ℕ) (d : Word) → meanings_of rows ≡ words_by_role → meaning_in words_by_role word ≡ of_row (meaning_of (get_or rows (row_number word) d)) word
+by_number rows word d e =
+    let within : row_number word < length words_by_role = omega (arith, number_small word, how_many) in
+    one_has row_number 0 words_by_role word (row_number word) (meaning_of d) all_lead (omega arith) within ∙ ap (λ (row : Meaning). of_row row word) (row_is rows (row_number word) d e)
 
--- one word more was looked at
-pub looked : (words : List Word) (i : ℕ) (d : Word) (s : List ℕ) → i < length words → meaning_in (meanings_of (drop i words)) s ≡ cond (bytes_eq (get_or words i d).spelling.now s) (get_or words i d).terminal (meaning_in (meanings_of (drop (i + 1) words)) s)
-looked words i d s h = at_drop_more (λ (rest : List Word). meaning_in (meanings_of rest) s) words i d h
+same_row : (word : List ℕ) (d : ℕ) → row_number word ≡ get_or ROWS (slot word) d
+unfolding row_number
+same_row word d = get_or_default ROWS (slot word) 0 d (slot_small word)
+
+-- what a word is: what its row says, if the row has the word
+pub row_tells : (rows : List Word) (word spelling : List ℕ) (n : ℕ) (d : Word) (t : Bool) → meanings_of rows ≡ words_by_role → n ≡ get_or ROWS (slot word) 0 → spelling ≡ (get_or rows n d).spelling.now → t ≡ bytes_eq spelling word → meaning_in words_by_role word ≡ cond t (get_or rows n d).terminal terminals.Other
+row_tells rows word spelling n d t e is spelled test =
+    let here : row_number word ≡ n = same_row word 0 ∙ sym is in
+    rw (test, spelled, ← here) (by_number rows word d e)
 
 too_wide : (n : ℕ) → 2 ^ 64 ≤ n → is_width n ≡ false
 too_wide n h = grind (arith, nat_tests)
@@ -91,7 +129,3 @@ empty_word = refl
 pub no_bytes : (s : List ℕ) → length s ≡ 0 → s ≡ []
 no_bytes [] h = refl
 no_bytes (b ∷ s) h = absurd (omega (arith, h))
-
--- a byte that is none of these
-pub unlike : (b : ℕ) → (b ≡ 97 → ⊥) → (b ≡ 98 → ⊥) → (b ≡ 99 → ⊥) → (b ≡ 100 → ⊥) → (b ≡ 101 → ⊥) → (b ≡ 102 → ⊥) → (b ≡ 103 → ⊥) → (b ≡ 104 → ⊥) → (b ≡ 105 → ⊥) → (b ≡ 108 → ⊥) → (b ≡ 109 → ⊥) → (b ≡ 110 → ⊥) → (b ≡ 111 → ⊥) → (b ≡ 112 → ⊥) → (b ≡ 114 → ⊥) → (b ≡ 115 → ⊥) → (b ≡ 116 → ⊥) → (b ≡ 117 → ⊥) → (b ≡ 118 → ⊥) → (b ≡ 119 → ⊥) → (b ≡ 120 → ⊥) → (b ≡ 122 → ⊥) → one_of (codes "abcdefghilmnoprstuvwxz") b ≡ false
-unlike b ha hb hc hd he hf hg hh hi hl hm hn ho hp hr hs ht hu hv hw hx hz = rw (ne_eqb b 97 ha, ne_eqb b 98 hb, ne_eqb b 99 hc, ne_eqb b 100 hd, ne_eqb b 101 he, ne_eqb b 102 hf, ne_eqb b 103 hg, ne_eqb b 104 hh, ne_eqb b 105 hi, ne_eqb b 108 hl, ne_eqb b 109 hm, ne_eqb b 110 hn, ne_eqb b 111 ho, ne_eqb b 112 hp, ne_eqb b 114 hr, ne_eqb b 115 hs, ne_eqb b 116 ht, ne_eqb b 117 hu, ne_eqb b 118 hv, ne_eqb b 119 hw, ne_eqb b 120 hx, ne_eqb b 122 hz) refl

@@ -1,5 +1,5 @@
 -- Numbers in decimal.
-use Rattle.std.specs.Prelude.{ℕ, ◌+◌, ◌-◌, ◌*◌, ◌==◌, ◌&&◌, nat_lt, nat_le, Bool, not, List, [], ◌∷◌, length, Option, Some, None, if◌then◌else◌}
+use Rattle.std.specs.Prelude.{◌≡◌, ℕ, ◌+◌, ◌-◌, ◌*◌, ◌==◌, ◌&&◌, nat_lt, nat_le, Bool, true, false, not, List, [], ◌∷◌, length, Option, Some, None, if◌then◌else◌}
 use Rattle.std.specs.List.{list_all}
 
 -- at least one byte, and each is a digit
@@ -18,3 +18,15 @@ decimal digits = decimal_after 0 digits
 -- a number where it is below the limit
 abbrev pub below : ℕ → ℕ → Option ℕ
 below limit number = if nat_lt number limit then Some number else None
+
+-- no zero stands before other digits
+abbrev pub is_short : List ℕ → Bool
+is_short [] = false
+is_short (digit ∷ []) = true
+is_short (digit ∷ _ ∷ _) = not (digit == 48)
+
+-- the digits that write the number, with no zero before them: `0` for zero
+pub record IsWritten (number : ℕ) (digits : List ℕ) : Type 0 where
+  pub digits_are : are_digits digits ≡ true
+  pub value : decimal digits ≡ number
+  pub short : is_short digits ≡ true

@@ -10,7 +10,7 @@ use Rattle.ir_terminals.specs.Words.{width_in, is_width}
 -- the words for which the language has no phrase
 unfoldable pub left_out_words : List (List ℕ)
 left_out_words =
-    codes "half" ∷ codes "bfloat" ∷ codes "float" ∷ codes "double" ∷ codes "fp128" ∷ codes "x86_fp80" ∷ codes "ppc_fp128" ∷ codes "x86_amx" ∷ codes "metadata" ∷ codes "token" ∷ codes "addrspace" ∷ codes "comdat" ∷ codes "thread_local" ∷ codes "externally_initialized" ∷ codes "alias" ∷ codes "ifunc" ∷ codes "module" ∷ codes "asm" ∷ codes "uselistorder" ∷ codes "uselistorder_bb" ∷ codes "blockaddress" ∷ codes "bitcast" ∷ codes "addrspacecast" ∷ codes "fneg" ∷ codes "fadd" ∷ codes "fsub" ∷ codes "fmul" ∷ codes "fdiv" ∷ codes "frem" ∷ codes "fcmp" ∷ codes "fptrunc" ∷ codes "fpext" ∷ codes "fptoui" ∷ codes "fptosi" ∷ codes "uitofp" ∷ codes "sitofp" ∷ codes "extractelement" ∷ codes "insertelement" ∷ codes "shufflevector" ∷ codes "atomic" ∷ codes "fence" ∷ codes "cmpxchg" ∷ codes "atomicrmw" ∷ codes "invoke" ∷ codes "landingpad" ∷ codes "resume" ∷ codes "cleanupret" ∷ codes "catchret" ∷ codes "catchswitch" ∷ codes "catchpad" ∷ codes "cleanuppad" ∷ codes "indirectbr" ∷ codes "callbr" ∷ codes "va_arg" ∷ codes "byval" ∷ codes "byref" ∷ codes "inalloca" ∷ codes "preallocated" ∷ codes "elementtype" ∷ codes "swiftself" ∷ codes "swifterror" ∷ codes "swiftasync" ∷ codes "personality" ∷ codes "gc" ∷ codes "prefix" ∷ codes "prologue" ∷ codes "cc" ∷ codes "strictfp" ∷ codes "naked" ∷ codes "inrange" ∷ []
+    codes "half" ∷ codes "bfloat" ∷ codes "float" ∷ codes "double" ∷ codes "fp128" ∷ codes "x86_fp80" ∷ codes "ppc_fp128" ∷ codes "x86_amx" ∷ codes "metadata" ∷ codes "token" ∷ codes "addrspace" ∷ codes "comdat" ∷ codes "thread_local" ∷ codes "externally_initialized" ∷ codes "ifunc" ∷ codes "module" ∷ codes "asm" ∷ codes "uselistorder" ∷ codes "uselistorder_bb" ∷ codes "blockaddress" ∷ codes "bitcast" ∷ codes "addrspacecast" ∷ codes "fneg" ∷ codes "fadd" ∷ codes "fsub" ∷ codes "fmul" ∷ codes "fdiv" ∷ codes "frem" ∷ codes "fcmp" ∷ codes "fptrunc" ∷ codes "fpext" ∷ codes "fptoui" ∷ codes "fptosi" ∷ codes "uitofp" ∷ codes "sitofp" ∷ codes "extractelement" ∷ codes "insertelement" ∷ codes "shufflevector" ∷ codes "atomic" ∷ codes "fence" ∷ codes "cmpxchg" ∷ codes "atomicrmw" ∷ codes "invoke" ∷ codes "landingpad" ∷ codes "resume" ∷ codes "cleanupret" ∷ codes "catchret" ∷ codes "catchswitch" ∷ codes "catchpad" ∷ codes "cleanuppad" ∷ codes "indirectbr" ∷ codes "callbr" ∷ codes "va_arg" ∷ codes "byval" ∷ codes "byref" ∷ codes "inalloca" ∷ codes "preallocated" ∷ codes "elementtype" ∷ codes "swiftself" ∷ codes "swifterror" ∷ codes "swiftasync" ∷ codes "personality" ∷ codes "gc" ∷ codes "prefix" ∷ codes "prologue" ∷ codes "cc" ∷ codes "strictfp" ∷ codes "naked" ∷ codes "inrange" ∷ []
 
 abbrev pub is_listed : List ℕ → Bool
 is_listed word = list_any (λ other. bytes_eq other word) left_out_words

@@ -1,4 +1,5 @@
 pub mod Digits
+pub mod Compact
 pub mod Magnitude
 pub mod Terminal
 pub mod Words

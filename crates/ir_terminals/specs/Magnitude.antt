@@ -1,14 +1,14 @@
 -- What a number keeps.
-use Rattle.std.specs.Prelude.{ℕ, ◌^◌, ◌≤◌, ◌<◌}
-use Rattle.ir_terminals.specs.Digits.{decimal}
+use Rattle.std.specs.Prelude.{◌≡◌, ℕ, ◌^◌, ◌≤◌, ◌<◌, true}
+use Rattle.ir_terminals.specs.Digits.{are_digits, decimal}
 use Rattle.ir_terminals.specs.declared.number.Magnitude.{Magnitude}
 use Rattle.ir_terminals.specs.declared.number.Magnitude.TheVariants.{Small, Large}
 
 abbrev pub value_of : Magnitude → ℕ
 value_of (Small value) = value
-value_of (Large digits) = decimal digits
+value_of (Large digits) = decimal digits.value
 
--- digits are kept only of a number that has no 128 bits
+-- digits are kept only of a number that has no 64 bits
 abbrev pub IsLarge : Magnitude → Type 0
-IsLarge (Small value) = value < 2 ^ 128
-IsLarge (Large digits) = 2 ^ 128 ≤ decimal digits
+IsLarge (Small value) = value < 2 ^ 64
+IsLarge (Large digits) = (are_digits digits.value ≡ true) × (2 ^ 64 ≤ decimal digits.value)

@@ -80,6 +80,7 @@ code terminals.Poison = 57
 code terminals.ZeroInitializer = 58
 code (terminals.Flag _) = flag_class
 code (terminals.Predicate _) = predicate_class
+code terminals.Alias = 61
 code (terminals.Opcode opcode) = 100 + opcode_code opcode
 
 -- the classes of the opcodes

@@ -23,6 +23,10 @@ use Rattle.ir_terminals.specs.declared.values.PlacedText.{PlacedText}
 abbrev pub place_of_token : Located → Option Place
 place_of_token t = Some t.place
 
+abbrev pub is_negative : List ℕ → Bool
+is_negative [] = false
+is_negative (first ∷ digits) = first == 45
+
 -- digits behind a minus or alone
 abbrev pub integer_at : Place → List ℕ → Integer
 integer_at place [] = record { negative = false; magnitude = decimal []; place = place }

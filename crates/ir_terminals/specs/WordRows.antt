@@ -1,6 +1,7 @@
--- The rows of the code's word lists.
-use Rattle.std.specs.Prelude.{ℕ, ◌==◌, Bool, false, List, [], ◌∷◌, map, filter}
+-- How the code finds the row of a word: its number, and the row with that number.
+use Rattle.std.specs.Prelude.{ℕ, ◌+◌, ◌-◌, ◌*◌, ◌/◌, ◌%◌, List, length, map, get_or}
 use Rattle.ir_terminals.specs.Words.{Meaning}
+use Rattle.ir_terminals.specs.declared.words.TheConstants.{FIRST, ROWS}
 use Rattle.ir_terminals.specs.declared.words.Word.{Word}
 
 abbrev pub meaning_of : Word → Meaning
@@ -9,10 +10,12 @@ meaning_of word = record { word = word.spelling.now; terminal = word.terminal }
 abbrev pub meanings_of : List Word → List Meaning
 meanings_of words = map meaning_of words
 
-abbrev pub starts : ℕ → List ℕ → Bool
-starts first [] = false
-starts first (byte ∷ bytes) = byte == first
+-- the number of a word, by its first byte, three others and how many they are
+unfoldable pub slot : List ℕ → ℕ
+slot word =
+    let count = length word in
+    (get_or FIRST (get_or word 0 0 % 32) 0 + 3 * get_or word (count / 3) 0 + 8 * get_or word (count / 2) 0 + get_or word (count - 1) 0 + 3 * (count % 256)) % 256
 
--- those whose words begin with this byte
-abbrev pub words_from : ℕ → List Meaning → List Meaning
-words_from first rows = filter (λ row. starts first row.word) rows
+-- the index of the row with the word's number
+unfoldable pub row_number : List ℕ → ℕ
+row_number word = get_or ROWS (slot word) 0

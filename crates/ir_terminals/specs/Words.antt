@@ -67,6 +67,7 @@ single_words =
     means (codes "opaque") terminals.Opaque ∷
     means (codes "global") terminals.Global ∷
     means (codes "constant") terminals.Constant ∷
+    means (codes "alias") terminals.Alias ∷
     means (codes "declare") terminals.Declare ∷
     means (codes "define") terminals.Define ∷
     means (codes "attributes") terminals.Attributes ∷

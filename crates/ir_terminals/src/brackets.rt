@@ -10,7 +10,7 @@ use crate::fault::Fault;
 use crate::terminal::Terminal;
 
 /// A kind of brackets.
-#[derive(Clone, Copy, Debug, PartialEq, Eq)]
+#[derive(Clone, Copy, PartialEq, Eq)]
 enum Bracket {
     Parenthesis,
     Square,
@@ -19,7 +19,7 @@ enum Bracket {
 }
 
 /// What a token does to the brackets that are open.
-#[derive(Clone, Copy, Debug)]
+#[derive(Clone, Copy)]
 enum Role {
     Opens(Bracket),
     Closes(Bracket),
@@ -27,7 +27,7 @@ enum Role {
 }
 
 /// Whether all brackets are closed behind a token, or some are open, or it closes none that is open.
-#[derive(Clone, Copy, Debug)]
+#[derive(Clone, Copy)]
 enum Turn {
     On,
     Ends,
@@ -107,7 +107,7 @@ impl<'t> Cursor<'t> {
     pub fn skip_brackets(&mut self, opening: Terminal) -> Result<(), Fault>
         ensures { Follows (λ _. matched_row opening) (λ _. tt) self.old result self.new }
     {
-        if !self.is_next(opening) {
+        if !self.is_class_next(opening) {
             return Err(Fault::Refused);
         }
         self.skip_any_brackets()

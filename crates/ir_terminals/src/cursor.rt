@@ -17,7 +17,7 @@ use std::alloc::Global;
 use std::marker::Model;
 
 /// What stands next: a token with its terminal, the end of the text, or a byte at which no token begins.
-#[derive(Clone, Copy, Debug)]
+#[derive(Clone, Copy)]
 enum Front {
     Token(Token, Terminal),
     End,
@@ -78,6 +78,20 @@ impl<'t> Cursor<'t> {
             front,
             taken: 0,
             behind_less: false,
+        }
+    }
+
+    /// A second cursor at the same token, within other limits.
+    pub fn with_limits(&self, limits: Limits) -> Cursor<'t>
+        ensures { result ≡ record { limits = limits; text = self.now.text; taken = self.now.taken } }
+    {
+        Cursor {
+            alloc: self.alloc,
+            limits,
+            lexer: self.lexer.another(),
+            front: self.front,
+            taken: self.taken,
+            behind_less: self.behind_less,
         }
     }
 
@@ -166,8 +180,8 @@ impl<'t> Cursor<'t> {
         self.behind_less
     }
 
-    /// Whether a token of the wanted class is next.
-    pub fn is_next(&self, wanted: Terminal) -> bool
+    /// Whether a token of the class of the wanted terminal is next, whatever it holds.
+    pub fn is_class_next(&self, wanted: Terminal) -> bool
         ensures { result ≡ begins class (code wanted ∷ []) (left self.now) }
     {
         match self.terminal() {

@@ -1,7 +1,7 @@
 //! Numbers that digits write, while they fit.
-ghost use Rattle.std.specs.Prelude.{◌≡◌, ◌+◌, ◌-◌, ◌*◌, ◌^◌, ◌&&◌, nat_le};
+ghost use Rattle.std.specs.Prelude.{◌≡◌, ◌<◌, ◌+◌, ◌-◌, ◌*◌, ◌^◌, ◌&&◌, true, nat_le};
 ghost use Rattle.std.specs.List.{list_all};
-ghost use Rattle.ir_terminals.specs.Digits.{are_digits, below, decimal};
+ghost use Rattle.ir_terminals.specs.Digits.{are_digits, below, decimal, IsWritten};
 
 /// The number that a digit makes of the number that those before it write, where it is below 2^64.
 fn with_digit(number: u64, digit: u8) -> Option<u64>
@@ -39,6 +39,19 @@ pub(crate) fn decimal_128(digits: &[u8]) -> Option<u128>
         number = with_wide_digit(number, *digit)?;
     }
     Some(number)
+}
+
+/// The same digits, of which some other than zero, without the zeros before them.
+pub(crate) fn without_zeros(digits: &[u8]) -> &[u8]
+    requires digits { are_digits digits.now ≡ true }
+    requires some { 0 < decimal digits.now }
+    ensures { IsWritten (decimal digits.now) result.now }
+{
+    let mut i = 0;
+    'zeros: while digits[i] == b'0' {
+        i += 1;
+    }
+    &digits[i..]
 }
 
 fn each_is_digit(bytes: &[u8]) -> bool

@@ -5,7 +5,7 @@ ghost use Rattle.ir_terminals.specs.declared.fault.Fault.TheVariants.{Memory};
 use std::alloc::{AllocError, AllocFailed};
 
 /// Memory ran out, or the cursor stands at the first token with which no such phrase begins or goes on.
-#[derive(Clone, Copy, Debug, PartialEq, Eq)]
+#[derive(Clone, Copy, Debug)]
 pub enum Fault {
     Memory,
     Refused,

@@ -8,7 +8,7 @@ use crate::cursor::Cursor;
 use crate::digits::{are_digits, decimal_64};
 use ir_lexer::TokenKind;
 
-static LEFT_OUT: [&'static str; 70] = [
+static LEFT_OUT: [&'static str; 69] = [
     "half",
     "bfloat",
     "float",
@@ -23,7 +23,6 @@ static LEFT_OUT: [&'static str; 70] = [
     "comdat",
     "thread_local",
     "externally_initialized",
-    "alias",
     "ifunc",
     "module",
     "asm",

@@ -6,6 +6,7 @@
 #![tactic(auto)]
 
 mod brackets;
+mod compact;
 mod cursor;
 mod digits;
 mod fault;
@@ -15,11 +16,10 @@ mod number;
 mod reading;
 mod role;
 mod terminal;
-#[cfg(test)]
-mod tests;
 mod values;
 mod words;
 
+pub use compact::{CompactName, CompactText};
 pub use cursor::Cursor;
 pub use fault::Fault;
 pub use limits::Limits;

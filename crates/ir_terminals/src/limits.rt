@@ -2,7 +2,7 @@
 
 /// How deep types and constants may nest, each in a nest of its own, and whether the phrases are those of the wider
 /// language, in which an unnamed local may name a type and a struct.
-#[derive(Clone, Copy, Debug, PartialEq, Eq)]
+#[derive(Clone, Copy)]
 pub struct Limits {
     pub nesting: u8,
     pub wide: bool,

@@ -1,21 +1,22 @@
 //! Numbers of any size.
-ghost use Rattle.std.specs.Prelude.{◌≡◌, ◌^◌, IfOk};
-ghost use Rattle.ir_terminals.specs.Digits.{below, decimal};
+ghost use Rattle.std.specs.Prelude.{◌≡◌, ◌^◌, true, IfOk};
+ghost use Rattle.ir_terminals.specs.Digits.{are_digits, below, decimal, IsWritten};
 
-use crate::digits::{decimal_64, decimal_128};
+use crate::digits::{decimal_64, decimal_128, without_zeros};
 use ir_base::Text;
 use std::alloc::{AllocError, Global};
 use std::marker::Model;
 
-/// A number, or its digits where it is 2^128 or more.
-#[derive(Debug, Drop)]
+/// A number, or its digits where it is 2^64 or more.
+#[derive(Drop)]
 enum Magnitude {
-    Small(u128),
-    Large(Text),
+    Small(u64),
+    Large(Box<Text>),
 }
 
-/// A natural number that digits write, of any size.
-#[derive(Debug, Drop)]
+/// A natural number that digits write, of any size, in 16 bytes: one that fits a word stands in it, a larger one behind
+/// a box.
+#[derive(Drop)]
 pub struct Number {
     magnitude: Magnitude,
 }
@@ -35,21 +36,17 @@ impl Model for Number {
 impl Number {
     /// The number that these digits write.
     pub fn of_digits(alloc: Global, digits: &[u8]) -> Result<Number, AllocError>
+        requires { are_digits digits.now ≡ true }
         ensures { IfOk result (λ number. number ≡ decimal digits.now) }
     {
         if let Some(value) = decimal_64(digits) {
-            return Ok(Number {
-                magnitude: Magnitude::Small(u128::from(value)),
-            });
-        }
-        if let Some(value) = decimal_128(digits) {
             return Ok(Number {
                 magnitude: Magnitude::Small(value),
             });
         }
         let digits = Text::from_slice(alloc, digits)?;
         Ok(Number {
-            magnitude: Magnitude::Large(digits),
+            magnitude: Magnitude::Large(Box::new(alloc, digits)?),
         })
     }
 
@@ -58,7 +55,7 @@ impl Number {
         ensures { result ≡ below (2 ^ 64) self.now }
     {
         match &self.magnitude {
-            Magnitude::Small(value) => u64::try_from(*value).ok(),
+            Magnitude::Small(value) => Some(*value),
             Magnitude::Large(_) => None,
         }
     }
@@ -68,8 +65,26 @@ impl Number {
         ensures { result ≡ below (2 ^ 128) self.now }
     {
         match &self.magnitude {
-            Magnitude::Small(value) => Some(*value),
-            Magnitude::Large(_) => None,
+            Magnitude::Small(value) => Some(u128::from(*value)),
+            Magnitude::Large(digits) => decimal_128(digits.bytes()),
         }
     }
+
+    /// The digits that write the number, with no zero before them: `0` for zero.
+    pub fn digits(&self, alloc: Global) -> Result<Text, AllocError>
+        ensures { IfOk result (λ text. IsWritten self.now text) }
+    {
+        match &self.magnitude {
+            Magnitude::Small(value) => digits_of(alloc, *value),
+            Magnitude::Large(digits) => Text::from_slice(alloc, without_zeros(digits.bytes())),
+        }
+    }
+}
+
+/// The digits that write the number.
+fn digits_of(alloc: Global, number: u64) -> Result<Text, AllocError>
+    ensures { IfOk result (λ text. IsWritten number text) }
+{
+    let text = number.to_string(alloc)?;
+    Text::from_slice(alloc, text.as_bytes())
 }

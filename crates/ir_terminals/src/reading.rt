@@ -1,6 +1,6 @@
 //! The calls that read one token.
 ghost use Rattle.std.specs.Prelude.{◌≡◌, ◌<◌, drop, length, true, IfOk, Some};
-ghost use Rattle.ir_lexer.specs.Names.{has_name, name_in};
+ghost use Rattle.ir_lexer.specs.Names.{has_name, name_in, unquoted, IsQuoted};
 ghost use Rattle.ir_lexer.specs.Table.{IsToken};
 ghost use Rattle.ir_lexer.specs.declared.token.TokenKind.TheVariants.{Label, UnnamedLocal};
 ghost use Rattle.ir_terminals.specs.Follows.{Follows};
@@ -10,49 +10,74 @@ ghost use Rattle.ir_terminals.specs.Position.{left, first_kind, first_spelling};
 ghost use Rattle.ir_terminals.specs.Role.{class};
 ghost use Rattle.ir_terminals.specs.Terminal.{code, opcode_classes};
 ghost use Rattle.phrase_rows.specs.Row.{among, begins};
-ghost use Rattle.ir_terminals.specs.Values.{integer_at, label_at};
+ghost use Rattle.ir_terminals.specs.Values.{integer_at, is_negative, label_at};
 
+use crate::compact::{CompactName, CompactText};
 use crate::cursor::Cursor;
 use crate::fault::Fault;
 use crate::number::Number;
 use crate::terminal::Terminal;
 use crate::values::{Integer, Local, PlacedName, PlacedText};
-use ir_base::{Name, Place, Text};
+use ir_base::Place;
 use ir_lexer::{TokenKind, is_number, name_of, unquote};
 use ir_tables::{Flag, Linkage, Opcode, Predicate};
 use std::alloc::{AllocError, Global};
 
 /// The integer that is spelled so.
 fn integer_at(alloc: Global, place: Place, spelling: &[u8]) -> Result<Integer, AllocError>
+    requires { IsToken TokenKind.Integer spelling.now }
     ensures { IfOk result (λ integer. integer ≡ integer_at place spelling.now) }
 {
-    if let [b'-', digits @ ..] = spelling {
-        Ok(Integer {
-            negative: true,
-            magnitude: Number::of_digits(alloc, digits)?,
-            place,
-        })
+    let negative = is_negative(spelling);
+    let magnitude = if negative {
+        Number::of_digits(alloc, &spelling[1..])?
     } else {
-        Ok(Integer {
-            negative: false,
-            magnitude: Number::of_digits(alloc, spelling)?,
-            place,
-        })
-    }
+        Number::of_digits(alloc, spelling)?
+    };
+    Ok(Integer {
+        negative,
+        magnitude,
+        place,
+    })
+}
+
+/// Whether the integer has a minus.
+fn is_negative(spelling: &[u8]) -> bool
+    ensures { result ≡ is_negative spelling.now }
+{
+    matches!(spelling, [b'-', ..])
 }
 
 /// The name that the digits of an unnamed local are.
-fn digits_name(alloc: Global, spelling: &[u8]) -> Result<Name, AllocError>
+fn digits_name(alloc: Global, spelling: &[u8]) -> Result<CompactName, AllocError>
     requires { IsToken UnnamedLocal spelling.now }
     ensures { IfOk result (λ name. name ≡ drop 1 spelling.now) }
 {
-    let text = Text::from_slice(alloc, &spelling[1..])?;
-    Ok(Name::from_text(text).unwrap())
+    CompactName::from_slice(alloc, &spelling[1..])
+}
+
+/// The name that a token of this kind spells so.
+fn name_at(alloc: Global, kind: TokenKind, spelling: &[u8]) -> Result<CompactName, AllocError>
+    requires named { has_name kind ≡ true }
+    requires token { IsToken kind spelling.now }
+    ensures { IfOk result (λ name. Some name ≡ name_in (record { kind = kind; spelling = spelling.now })) }
+{
+    let name = name_of(alloc, kind, spelling)?;
+    CompactName::from_slice(alloc, name.text().bytes())
+}
+
+/// The bytes that the string with this spelling stands for.
+fn text_at(alloc: Global, spelling: &[u8]) -> Result<CompactText, AllocError>
+    requires { IsQuoted spelling.now }
+    ensures { IfOk result (λ text. Some text ≡ unquoted spelling.now) }
+{
+    let text = unquote(alloc, spelling)?;
+    CompactText::from_slice(alloc, text.bytes())
 }
 
 /// The number of an unnamed local.
 fn number_behind_mark(alloc: Global, spelling: &[u8]) -> Result<Number, AllocError>
-    requires { 0 < length spelling.now }
+    requires { IsToken UnnamedLocal spelling.now }
     ensures { IfOk result (λ number. number ≡ decimal (drop 1 spelling.now)) }
 {
     Number::of_digits(alloc, &spelling[1..])
@@ -67,7 +92,7 @@ fn label_at(alloc: Global, place: Place, spelling: &[u8]) -> Result<Local, Alloc
         let number = Number::of_digits(alloc, &spelling[..spelling.len() - 1])?;
         return Ok(Local::Numbered(number, place));
     }
-    let name = name_of(alloc, TokenKind::Label, spelling)?;
+    let name = name_at(alloc, TokenKind::Label, spelling)?;
     Ok(Local::Named(PlacedName { name, place }))
 }
 
@@ -79,11 +104,11 @@ fn is_opcode(terminal: Terminal) -> bool
 }
 
 impl<'t> Cursor<'t> {
-    /// Takes a token of the wanted class, and gives its place.
-    pub fn take(&mut self, wanted: Terminal) -> Result<Place, Fault>
+    /// Takes a token of the class of the wanted terminal, whatever it holds, and gives its place.
+    pub fn take_class(&mut self, wanted: Terminal) -> Result<Place, Fault>
         ensures { Follows (λ _. word wanted) (λ place. place) self.old result self.new }
     {
-        if !self.is_next(wanted) {
+        if !self.is_class_next(wanted) {
             return Err(Fault::Refused);
         }
         let place = self.place();
@@ -104,12 +129,12 @@ impl<'t> Cursor<'t> {
     }
 
     /// The name that the next token spells, which is of this kind.
-    fn name_here(&self, kind: TokenKind) -> Result<Name, AllocError>
+    fn name_here(&self, kind: TokenKind) -> Result<CompactName, AllocError>
         requires named { has_name kind ≡ true }
         requires next { Some kind ≡ first_kind (left self.now) }
         ensures { IfOk result (λ name. Some name ≡ name_in (record { kind = kind; spelling = first_spelling (left self.now) })) }
     {
-        name_of(self.alloc(), kind, self.spelling())
+        name_at(self.alloc(), kind, self.spelling())
     }
 
     /// Takes the name of a global.
@@ -185,7 +210,7 @@ impl<'t> Cursor<'t> {
             return Err(Fault::Refused);
         };
         let place = self.place();
-        let text = unquote(self.alloc(), self.spelling())?;
+        let text = text_at(self.alloc(), self.spelling())?;
         self.advance();
         Ok(PlacedText { text, place })
     }
@@ -198,7 +223,7 @@ impl<'t> Cursor<'t> {
             return Err(Fault::Refused);
         };
         let place = self.place();
-        let text = unquote(self.alloc(), self.spelling())?;
+        let text = text_at(self.alloc(), self.spelling())?;
         self.advance();
         Ok(PlacedText { text, place })
     }

@@ -3,24 +3,11 @@ ghost use Rattle.std.specs.Prelude.{◌≡◌, option_map};
 ghost use Rattle.ir_terminals.specs.Role.{marks, terminal};
 ghost use Rattle.ir_terminals.specs.Words.{meaning_in, of_width, width_in, width_or, word_terminal};
 ghost use Rattle.ir_terminals.specs.declared.terminal.Terminal.TheVariants.{Other};
-ghost use Rattle.ir_terminals.specs.WordRows.{meanings_of};
 
 use crate::digits::{are_digits, decimal_64};
 use crate::terminal::Terminal;
-use crate::words::{Word, words_with};
+use crate::words::listed_terminal;
 use ir_lexer::TokenKind;
-
-/// What the word is, if it is among these.
-fn meaning_in(words: &[Word], spelling: &[u8]) -> Terminal
-    ensures { result ≡ meaning_in (meanings_of words.now) spelling.now }
-{
-    for word in words {
-        if word.spelling.as_bytes() == spelling {
-            return word.terminal;
-        }
-    }
-    Terminal::Other
-}
 
 /// What an integer type of this width is.
 fn width_terminal(width: Option<u64>) -> Terminal
@@ -42,7 +29,7 @@ fn integer_type(word: &[u8]) -> Option<Terminal>
     }
 }
 
-/// What a word is. Only the words with its first byte are compared with it.
+/// What a word is.
 fn word_terminal(word: &[u8]) -> Terminal
     ensures { result ≡ word_terminal word.now }
 {
@@ -52,7 +39,7 @@ fn word_terminal(word: &[u8]) -> Terminal
     if word.is_empty() {
         return Terminal::Other;
     }
-    meaning_in(words_with(word[0]), word)
+    listed_terminal(word)
 }
 
 /// What a mark is.

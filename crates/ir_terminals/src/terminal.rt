@@ -5,7 +5,7 @@ ghost use Rattle.ir_terminals.specs.Terminal.{code};
 use ir_tables::{Flag, Linkage, Opcode, Predicate};
 
 /// The role of a token in the phrases of the language, by its kind and, for a word or a mark, by its spelling.
-#[derive(Clone, Copy, Debug, PartialEq, Eq)]
+#[derive(Clone, Copy)]
 pub enum Terminal {
     /// No role in any phrase: an unnamed global, a record mark, `*`, `|`, `:`, a word of no list.
     Other,
@@ -67,6 +67,8 @@ pub enum Terminal {
     Global,
     /// `constant`.
     Constant,
+    /// `alias`.
+    Alias,
     /// `declare`.
     Declare,
     /// `define`.
@@ -201,6 +203,7 @@ impl Terminal {
             Terminal::ZeroInitializer => 58,
             Terminal::Flag(_) => 59,
             Terminal::Predicate(_) => 60,
+            Terminal::Alias => 61,
             Terminal::Opcode(opcode) => 100 + opcode.code() as u8,
         }
     }

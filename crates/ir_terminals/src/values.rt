@@ -1,9 +1,10 @@
 //! What tokens stand for.
+use crate::compact::{CompactName, CompactText};
 use crate::number::Number;
-use ir_base::{Name, Place, Text};
+use ir_base::Place;
 
 /// An integer as it is written: its sign, its magnitude, and the place of its first byte.
-#[derive(Debug, Drop)]
+#[derive(Drop)]
 pub struct Integer {
     pub negative: bool,
     pub magnitude: Number,
@@ -11,21 +12,21 @@ pub struct Integer {
 }
 
 /// A name, and the place of the token that spells it.
-#[derive(Debug, Drop)]
+#[derive(Drop)]
 pub struct PlacedName {
-    pub name: Name,
+    pub name: CompactName,
     pub place: Place,
 }
 
 /// The bytes that a string stands for, and the place of the string.
-#[derive(Debug, Drop)]
+#[derive(Drop)]
 pub struct PlacedText {
-    pub text: Text,
+    pub text: CompactText,
     pub place: Place,
 }
 
 /// What a local value or a label is called: by a name, or by a number, with the place of the token.
-#[derive(Debug, Drop)]
+#[derive(Drop)]
 pub enum Local {
     Named(PlacedName),
     Numbered(Number, Place),

@@ -1,15 +1,15 @@
 //! What each word of the language is.
-ghost use Rattle.std.specs.Prelude.{◌≡◌};
-ghost use Rattle.ir_terminals.specs.WordRows.{meanings_of, words_from};
-ghost use Rattle.ir_terminals.specs.Words.{words_by_role};
+ghost use Rattle.std.specs.Prelude.{◌≡◌, ◌<◌, length};
+ghost use Rattle.ir_terminals.specs.WordRows.{meanings_of, slot};
+ghost use Rattle.ir_terminals.specs.Words.{meaning_in, words_by_role};
 
 use crate::terminal::Terminal;
 use ir_tables::{Flag, Linkage, Opcode, Predicate};
 
 /// A word and what it is.
-pub(crate) struct Word {
-    pub(crate) spelling: &'static str,
-    pub(crate) terminal: Terminal,
+struct Word {
+    spelling: &'static str,
+    terminal: Terminal,
 }
 
 macro_rules! words {
@@ -18,115 +18,72 @@ macro_rules! words {
     };
 }
 
-static WORDS_A: [Word; 14] = words![
-    "attributes" Terminal::Attributes,
-    "align" Terminal::Align,
-    "allocptr" Terminal::ParameterDropped,
-    "allocalign" Terminal::ParameterDropped,
-    "alwaysinline" Terminal::FunctionDropped,
-    "alignstack" Terminal::FunctionDroppedList,
-    "allockind" Terminal::FunctionDroppedList,
-    "allocsize" Terminal::FunctionDroppedList,
-    "available_externally" Terminal::Linkage(Linkage::AvailableExternally),
-    "appending" Terminal::Linkage(Linkage::Appending),
-    "add" Terminal::Opcode(Opcode::Add),
-    "ashr" Terminal::Opcode(Opcode::AShr),
-    "and" Terminal::Opcode(Opcode::And),
-    "alloca" Terminal::Opcode(Opcode::Alloca),
-];
-
-static WORDS_B: [Word; 2] = words![
-    "builtin" Terminal::FunctionDropped,
-    "br" Terminal::Opcode(Opcode::Br),
-];
-
-static WORDS_C: [Word; 8] = words![
-    "constant" Terminal::Constant,
-    "ccc" Terminal::CallingConvention,
-    "coldcc" Terminal::CallingConvention,
-    "cold" Terminal::FunctionDropped,
-    "convergent" Terminal::FunctionDropped,
-    "captures" Terminal::ParameterDroppedList,
-    "common" Terminal::Linkage(Linkage::Common),
-    "call" Terminal::Opcode(Opcode::Call),
-];
-
-static WORDS_D: [Word; 11] = words![
+/// The words but the integer types, in the order of the lists of roles.
+static WORDS: [Word; 157] = words![
+    "source_filename" Terminal::SourceFilename,
+    "target" Terminal::Target,
     "datalayout" Terminal::DataLayout,
+    "triple" Terminal::Triple,
+    "type" Terminal::Type,
+    "opaque" Terminal::Opaque,
+    "global" Terminal::Global,
+    "constant" Terminal::Constant,
+    "alias" Terminal::Alias,
     "declare" Terminal::Declare,
     "define" Terminal::Define,
+    "attributes" Terminal::Attributes,
     "distinct" Terminal::Distinct,
+    "section" Terminal::Section,
+    "align" Terminal::Align,
+    "x" Terminal::X,
+    "to" Terminal::To,
+    "label" Terminal::LabelWord,
+    "void" Terminal::Void,
+    "ptr" Terminal::Ptr,
+    "true" Terminal::True,
+    "false" Terminal::False,
+    "null" Terminal::Null,
+    "undef" Terminal::Undef,
+    "poison" Terminal::Poison,
+    "zeroinitializer" Terminal::ZeroInitializer,
+    "uwtable" Terminal::UnwindTable,
     "dso_local" Terminal::GlobalDropped,
     "dso_preemptable" Terminal::GlobalDropped,
     "default" Terminal::GlobalDropped,
-    "dead_on_unwind" Terminal::ParameterDropped,
-    "dereferenceable" Terminal::ParameterDroppedList,
-    "dereferenceable_or_null" Terminal::ParameterDroppedList,
-    "disjoint" Terminal::Flag(Flag::Disjoint),
-];
-
-static WORDS_E: [Word; 5] = words![
-    "external" Terminal::Linkage(Linkage::External),
-    "extern_weak" Terminal::Linkage(Linkage::ExternWeak),
-    "exact" Terminal::Flag(Flag::Exact),
-    "eq" Terminal::Predicate(Predicate::Eq),
-    "extractvalue" Terminal::Opcode(Opcode::ExtractValue),
-];
-
-static WORDS_F: [Word; 3] = words![
-    "false" Terminal::False,
-    "fastcc" Terminal::CallingConvention,
-    "freeze" Terminal::Opcode(Opcode::Freeze),
-];
-
-static WORDS_G: [Word; 2] = words![
-    "global" Terminal::Global,
-    "getelementptr" Terminal::Opcode(Opcode::GetElementPtr),
-];
-
-static WORDS_H: [Word; 2] = words![
     "hidden" Terminal::GlobalDropped,
-    "hot" Terminal::FunctionDropped,
-];
-
-static WORDS_I: [Word; 9] = words![
-    "inreg" Terminal::ParameterDropped,
-    "immarg" Terminal::ParameterDropped,
-    "inlinehint" Terminal::FunctionDropped,
-    "initializes" Terminal::ParameterDroppedList,
-    "internal" Terminal::Linkage(Linkage::Internal),
-    "inbounds" Terminal::Flag(Flag::Inbounds),
-    "icmp" Terminal::Opcode(Opcode::ICmp),
-    "inttoptr" Terminal::Opcode(Opcode::IntToPtr),
-    "insertvalue" Terminal::Opcode(Opcode::InsertValue),
-];
-
-static WORDS_L: [Word; 6] = words![
-    "label" Terminal::LabelWord,
+    "protected" Terminal::GlobalDropped,
+    "unnamed_addr" Terminal::UnnamedAddress,
     "local_unnamed_addr" Terminal::UnnamedAddress,
-    "linkonce" Terminal::Linkage(Linkage::Linkonce),
-    "linkonce_odr" Terminal::Linkage(Linkage::LinkonceOdr),
-    "lshr" Terminal::Opcode(Opcode::LShr),
-    "load" Terminal::Opcode(Opcode::Load),
-];
-
-static WORDS_M: [Word; 5] = words![
-    "minsize" Terminal::FunctionDropped,
-    "mustprogress" Terminal::FunctionDropped,
-    "memory" Terminal::FunctionDroppedList,
-    "musttail" Terminal::TailMark,
-    "mul" Terminal::Opcode(Opcode::Mul),
-];
-
-static WORDS_N: [Word; 24] = words![
-    "null" Terminal::Null,
+    "ccc" Terminal::CallingConvention,
+    "fastcc" Terminal::CallingConvention,
+    "coldcc" Terminal::CallingConvention,
+    "zeroext" Terminal::ParameterDropped,
+    "signext" Terminal::ParameterDropped,
     "noext" Terminal::ParameterDropped,
+    "inreg" Terminal::ParameterDropped,
     "noalias" Terminal::ParameterDropped,
     "nocapture" Terminal::ParameterDropped,
     "nonnull" Terminal::ParameterDropped,
     "noundef" Terminal::ParameterDropped,
+    "writable" Terminal::ParameterDropped,
+    "returned" Terminal::ParameterDropped,
+    "immarg" Terminal::ParameterDropped,
     "nest" Terminal::ParameterDropped,
+    "allocptr" Terminal::ParameterDropped,
+    "allocalign" Terminal::ParameterDropped,
+    "dead_on_unwind" Terminal::ParameterDropped,
     "nofree" Terminal::AttributeDropped,
+    "readnone" Terminal::AttributeDropped,
+    "readonly" Terminal::AttributeDropped,
+    "writeonly" Terminal::AttributeDropped,
+    "alwaysinline" Terminal::FunctionDropped,
+    "builtin" Terminal::FunctionDropped,
+    "cold" Terminal::FunctionDropped,
+    "convergent" Terminal::FunctionDropped,
+    "hot" Terminal::FunctionDropped,
+    "inlinehint" Terminal::FunctionDropped,
+    "minsize" Terminal::FunctionDropped,
+    "mustprogress" Terminal::FunctionDropped,
     "nobuiltin" Terminal::FunctionDropped,
     "nocallback" Terminal::FunctionDropped,
     "noduplicate" Terminal::FunctionDropped,
@@ -136,139 +93,144 @@ static WORDS_N: [Word; 24] = words![
     "noreturn" Terminal::FunctionDropped,
     "nosync" Terminal::FunctionDropped,
     "nounwind" Terminal::FunctionDropped,
-    "nofpclass" Terminal::ParameterDroppedList,
-    "notail" Terminal::TailMark,
-    "nuw" Terminal::Flag(Flag::Nuw),
-    "nsw" Terminal::Flag(Flag::Nsw),
-    "nneg" Terminal::Flag(Flag::Nneg),
-    "nusw" Terminal::Flag(Flag::Nusw),
-    "ne" Terminal::Predicate(Predicate::Ne),
-];
-
-static WORDS_O: [Word; 4] = words![
-    "opaque" Terminal::Opaque,
     "optnone" Terminal::FunctionDropped,
     "optsize" Terminal::FunctionDropped,
-    "or" Terminal::Opcode(Opcode::Or),
-];
-
-static WORDS_P: [Word; 6] = words![
-    "ptr" Terminal::Ptr,
-    "poison" Terminal::Poison,
-    "protected" Terminal::GlobalDropped,
-    "private" Terminal::Linkage(Linkage::Private),
-    "ptrtoint" Terminal::Opcode(Opcode::PtrToInt),
-    "phi" Terminal::Opcode(Opcode::Phi),
-];
-
-static WORDS_R: [Word; 5] = words![
-    "returned" Terminal::ParameterDropped,
-    "readnone" Terminal::AttributeDropped,
-    "readonly" Terminal::AttributeDropped,
-    "range" Terminal::ParameterDroppedList,
-    "ret" Terminal::Opcode(Opcode::Ret),
-];
-
-static WORDS_S: [Word; 21] = words![
-    "source_filename" Terminal::SourceFilename,
-    "section" Terminal::Section,
-    "signext" Terminal::ParameterDropped,
     "speculatable" Terminal::FunctionDropped,
     "ssp" Terminal::FunctionDropped,
     "sspreq" Terminal::FunctionDropped,
     "sspstrong" Terminal::FunctionDropped,
+    "willreturn" Terminal::FunctionDropped,
+    "dereferenceable" Terminal::ParameterDroppedList,
+    "dereferenceable_or_null" Terminal::ParameterDroppedList,
     "sret" Terminal::ParameterDroppedList,
-    "samesign" Terminal::Flag(Flag::Samesign),
-    "sgt" Terminal::Predicate(Predicate::Sgt),
-    "sge" Terminal::Predicate(Predicate::Sge),
-    "slt" Terminal::Predicate(Predicate::Slt),
-    "sle" Terminal::Predicate(Predicate::Sle),
-    "sub" Terminal::Opcode(Opcode::Sub),
-    "sdiv" Terminal::Opcode(Opcode::SDiv),
-    "srem" Terminal::Opcode(Opcode::SRem),
-    "shl" Terminal::Opcode(Opcode::Shl),
-    "sext" Terminal::Opcode(Opcode::SExt),
-    "select" Terminal::Opcode(Opcode::Select),
-    "store" Terminal::Opcode(Opcode::Store),
-    "switch" Terminal::Opcode(Opcode::Switch),
-];
-
-static WORDS_T: [Word; 7] = words![
-    "target" Terminal::Target,
-    "triple" Terminal::Triple,
-    "type" Terminal::Type,
-    "to" Terminal::To,
-    "true" Terminal::True,
+    "captures" Terminal::ParameterDroppedList,
+    "range" Terminal::ParameterDroppedList,
+    "initializes" Terminal::ParameterDroppedList,
+    "nofpclass" Terminal::ParameterDroppedList,
+    "memory" Terminal::FunctionDroppedList,
+    "alignstack" Terminal::FunctionDroppedList,
+    "allockind" Terminal::FunctionDroppedList,
+    "allocsize" Terminal::FunctionDroppedList,
     "tail" Terminal::TailMark,
-    "trunc" Terminal::Opcode(Opcode::Trunc),
-];
-
-static WORDS_U: [Word; 10] = words![
-    "undef" Terminal::Undef,
-    "uwtable" Terminal::UnwindTable,
-    "unnamed_addr" Terminal::UnnamedAddress,
+    "musttail" Terminal::TailMark,
+    "notail" Terminal::TailMark,
+    "external" Terminal::Linkage(Linkage::External),
+    "private" Terminal::Linkage(Linkage::Private),
+    "internal" Terminal::Linkage(Linkage::Internal),
+    "available_externally" Terminal::Linkage(Linkage::AvailableExternally),
+    "linkonce" Terminal::Linkage(Linkage::Linkonce),
+    "linkonce_odr" Terminal::Linkage(Linkage::LinkonceOdr),
+    "weak" Terminal::Linkage(Linkage::Weak),
+    "weak_odr" Terminal::Linkage(Linkage::WeakOdr),
+    "common" Terminal::Linkage(Linkage::Common),
+    "appending" Terminal::Linkage(Linkage::Appending),
+    "extern_weak" Terminal::Linkage(Linkage::ExternWeak),
+    "nuw" Terminal::Flag(Flag::Nuw),
+    "nsw" Terminal::Flag(Flag::Nsw),
+    "exact" Terminal::Flag(Flag::Exact),
+    "disjoint" Terminal::Flag(Flag::Disjoint),
+    "nneg" Terminal::Flag(Flag::Nneg),
+    "samesign" Terminal::Flag(Flag::Samesign),
+    "inbounds" Terminal::Flag(Flag::Inbounds),
+    "nusw" Terminal::Flag(Flag::Nusw),
+    "volatile" Terminal::Flag(Flag::Volatile),
+    "eq" Terminal::Predicate(Predicate::Eq),
+    "ne" Terminal::Predicate(Predicate::Ne),
     "ugt" Terminal::Predicate(Predicate::Ugt),
     "uge" Terminal::Predicate(Predicate::Uge),
     "ult" Terminal::Predicate(Predicate::Ult),
     "ule" Terminal::Predicate(Predicate::Ule),
+    "sgt" Terminal::Predicate(Predicate::Sgt),
+    "sge" Terminal::Predicate(Predicate::Sge),
+    "slt" Terminal::Predicate(Predicate::Slt),
+    "sle" Terminal::Predicate(Predicate::Sle),
+    "add" Terminal::Opcode(Opcode::Add),
+    "sub" Terminal::Opcode(Opcode::Sub),
+    "mul" Terminal::Opcode(Opcode::Mul),
     "udiv" Terminal::Opcode(Opcode::UDiv),
+    "sdiv" Terminal::Opcode(Opcode::SDiv),
     "urem" Terminal::Opcode(Opcode::URem),
+    "srem" Terminal::Opcode(Opcode::SRem),
+    "shl" Terminal::Opcode(Opcode::Shl),
+    "lshr" Terminal::Opcode(Opcode::LShr),
+    "ashr" Terminal::Opcode(Opcode::AShr),
+    "and" Terminal::Opcode(Opcode::And),
+    "or" Terminal::Opcode(Opcode::Or),
+    "xor" Terminal::Opcode(Opcode::Xor),
+    "icmp" Terminal::Opcode(Opcode::ICmp),
+    "trunc" Terminal::Opcode(Opcode::Trunc),
+    "zext" Terminal::Opcode(Opcode::ZExt),
+    "sext" Terminal::Opcode(Opcode::SExt),
+    "ptrtoint" Terminal::Opcode(Opcode::PtrToInt),
+    "inttoptr" Terminal::Opcode(Opcode::IntToPtr),
+    "select" Terminal::Opcode(Opcode::Select),
+    "freeze" Terminal::Opcode(Opcode::Freeze),
+    "phi" Terminal::Opcode(Opcode::Phi),
+    "load" Terminal::Opcode(Opcode::Load),
+    "store" Terminal::Opcode(Opcode::Store),
+    "alloca" Terminal::Opcode(Opcode::Alloca),
+    "getelementptr" Terminal::Opcode(Opcode::GetElementPtr),
+    "call" Terminal::Opcode(Opcode::Call),
+    "extractvalue" Terminal::Opcode(Opcode::ExtractValue),
+    "insertvalue" Terminal::Opcode(Opcode::InsertValue),
+    "ret" Terminal::Opcode(Opcode::Ret),
+    "br" Terminal::Opcode(Opcode::Br),
+    "switch" Terminal::Opcode(Opcode::Switch),
     "unreachable" Terminal::Opcode(Opcode::Unreachable),
 ];
 
-static WORDS_V: [Word; 2] = words![
-    "void" Terminal::Void,
-    "volatile" Terminal::Flag(Flag::Volatile),
+/// For each number that a word may have, the index of the row with that number's word, or of some row where none has it.
+static ROWS: [u8; 256] = [
+    21, 82, 79, 0, 0, 18, 0, 153, 97, 9, 27, 41, 65, 91, 14, 47, 145, 0, 33, 8, 0, 123, 28, 0, 67,
+    0, 132, 107, 133, 58, 57, 0, 0, 0, 55, 42, 122, 0, 103, 0, 0, 31, 0, 0, 134, 0, 154, 102, 64,
+    38, 0, 12, 148, 0, 0, 22, 0, 52, 84, 43, 61, 0, 1, 85, 156, 56, 98, 53, 136, 66, 149, 48, 60,
+    0, 44, 147, 0, 0, 117, 13, 0, 26, 23, 104, 137, 0, 114, 5, 155, 0, 87, 88, 3, 116, 0, 54, 37,
+    113, 0, 108, 0, 0, 77, 0, 110, 127, 129, 0, 62, 76, 0, 63, 32, 106, 140, 16, 151, 125, 7, 35,
+    139, 24, 112, 73, 70, 0, 78, 0, 141, 0, 0, 83, 59, 119, 4, 105, 0, 0, 135, 95, 126, 92, 0, 0,
+    0, 0, 25, 72, 118, 0, 71, 40, 94, 20, 138, 46, 152, 19, 0, 0, 111, 0, 0, 74, 0, 142, 0, 15, 0,
+    51, 0, 0, 0, 34, 0, 101, 0, 17, 0, 0, 0, 0, 0, 96, 100, 0, 0, 0, 0, 0, 124, 0, 0, 0, 0, 2, 0,
+    0, 0, 68, 146, 29, 45, 0, 0, 0, 0, 69, 0, 0, 30, 0, 0, 0, 0, 144, 0, 36, 0, 0, 6, 115, 121, 0,
+    0, 0, 93, 0, 0, 109, 50, 0, 0, 89, 90, 49, 0, 120, 81, 80, 131, 0, 0, 75, 0, 143, 86, 10, 39,
+    128, 130, 150, 11, 0, 99, 0,
 ];
 
-static WORDS_W: [Word; 5] = words![
-    "writable" Terminal::ParameterDropped,
-    "writeonly" Terminal::AttributeDropped,
-    "willreturn" Terminal::FunctionDropped,
-    "weak" Terminal::Linkage(Linkage::Weak),
-    "weak_odr" Terminal::Linkage(Linkage::WeakOdr),
+/// What a first byte adds to the number of a word, by its last five bits.
+static FIRST: [u8; 32] = [
+    0, 5, 0, 0, 6, 40, 9, 1, 6, 71, 0, 0, 3, 16, 0, 53, 38, 0, 51, 3, 42, 115, 0, 10, 4, 0, 9, 0,
+    0, 0, 0, 0,
 ];
 
-static WORDS_X: [Word; 2] = words![
-    "x" Terminal::X,
-    "xor" Terminal::Opcode(Opcode::Xor),
-];
-
-static WORDS_Z: [Word; 3] = words![
-    "zeroinitializer" Terminal::ZeroInitializer,
-    "zeroext" Terminal::ParameterDropped,
-    "zext" Terminal::Opcode(Opcode::ZExt),
-];
-
-static NO_WORDS: [Word; 0] = [];
-
-/// The words that begin with this byte, in the order of the lists of roles.
-pub(crate) fn words_with(first: u8) -> &'static [Word]
-    ensures { meanings_of result.now ≡ words_from first words_by_role }
+/// The number of a word: no two words of the rows have the same.
+fn slot_of(word: &[u8]) -> usize
+    requires { 0 < length word.now }
+    ensures slot { result ≡ slot word.now }
+    ensures small { result < 256 }
 {
-    match first {
-        b'a' => &WORDS_A,
-        b'b' => &WORDS_B,
-        b'c' => &WORDS_C,
-        b'd' => &WORDS_D,
-        b'e' => &WORDS_E,
-        b'f' => &WORDS_F,
-        b'g' => &WORDS_G,
-        b'h' => &WORDS_H,
-        b'i' => &WORDS_I,
-        b'l' => &WORDS_L,
-        b'm' => &WORDS_M,
-        b'n' => &WORDS_N,
-        b'o' => &WORDS_O,
-        b'p' => &WORDS_P,
-        b'r' => &WORDS_R,
-        b's' => &WORDS_S,
-        b't' => &WORDS_T,
-        b'u' => &WORDS_U,
-        b'v' => &WORDS_V,
-        b'w' => &WORDS_W,
-        b'x' => &WORDS_X,
-        b'z' => &WORDS_Z,
-        _ => &NO_WORDS,
+    let count = word.len();
+    let first = usize::from(FIRST[usize::from(word[0]) % 32]);
+    let third = usize::from(word[count / 3]);
+    let half = usize::from(word[count / 2]);
+    let last = usize::from(word[count - 1]);
+    (first + 3 * third + 8 * half + last + 3 * (count % 256)) % 256
+}
+
+/// The rows of the words.
+fn rows() -> &'static [Word]
+    ensures { meanings_of result.now ≡ words_by_role }
+{
+    &WORDS
+}
+
+/// What the word is by the rows. One row alone is compared with it.
+pub(crate) fn listed_terminal(word: &[u8]) -> Terminal
+    requires { 0 < length word.now }
+    ensures { result ≡ meaning_in words_by_role word.now }
+{
+    let rows = rows();
+    let row = &rows[usize::from(ROWS[slot_of(word)])];
+    if row.spelling.as_bytes() == word {
+        row.terminal
+    } else {
+        Terminal::Other
     }
 }

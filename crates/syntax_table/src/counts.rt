@@ -2,17 +2,19 @@
 
 use ir_instructions::Block;
 use ir_syntax::Item;
+use std::io;
 
 /// How many items of each kind, and how many blocks and instructions, ends among them.
-#[derive(Clone, Copy, Debug)]
-pub struct Counts {
-    pub structs: u64,
-    pub variables: u64,
-    pub declarations: u64,
-    pub definitions: u64,
-    pub blocks: u64,
-    pub instructions: u64,
-    pub others: u64,
+#[derive(Clone, Copy)]
+struct Counts {
+    structs: u64,
+    variables: u64,
+    aliases: u64,
+    declarations: u64,
+    definitions: u64,
+    blocks: u64,
+    instructions: u64,
+    others: u64,
 }
 
 impl Counts {
@@ -31,20 +33,20 @@ impl Counts {
         match item {
             Item::Struct(_, _) => self.structs = self.structs.saturating_add(1),
             Item::Variable(_) => self.variables = self.variables.saturating_add(1),
-            Item::Declaration(_, _, _, _) => {
-                self.declarations = self.declarations.saturating_add(1);
-            }
-            Item::Definition(_, _, _, blocks) => self.add_blocks(blocks.as_slice()),
+            Item::Alias(_) => self.aliases = self.aliases.saturating_add(1),
+            Item::Declaration(_, _) => self.declarations = self.declarations.saturating_add(1),
+            Item::Definition(_, definition) => self.add_blocks(definition.blocks.as_slice()),
             _ => self.others = self.others.saturating_add(1),
         }
     }
 }
 
 /// The counts of these items.
-pub fn counts_of(items: &[Item]) -> Counts {
+fn counts_of(items: &[Item]) -> Counts {
     let mut counts = Counts {
         structs: 0,
         variables: 0,
+        aliases: 0,
         declarations: 0,
         definitions: 0,
         blocks: 0,
@@ -55,4 +57,25 @@ pub fn counts_of(items: &[Item]) -> Counts {
         counts.add(item);
     }
     counts
+}
+
+/// Prints the counts of these items in a line, that of aliases where there is one.
+pub fn print_counts(rt: &HostRuntime, items: &[Item]) -> io::Result<()> {
+    let Counts {
+        structs,
+        variables,
+        aliases,
+        declarations,
+        definitions,
+        blocks,
+        instructions,
+        others,
+    } = counts_of(items);
+    print!(rt; "{structs} structs, {variables} variables, ")?;
+    print!(rt; "{declarations} declared, {definitions} defined, ")?;
+    print!(rt; "{blocks} blocks, {instructions} instructions, {others} others")?;
+    if aliases > 0 {
+        print!(rt; ", {aliases} aliases")?;
+    }
+    println!(rt; "")
 }

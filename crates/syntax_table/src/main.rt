@@ -1,57 +1,75 @@
 //! Reads texts, one behind another with a line `====` between two, and prints for each how many items of each kind it
-//! has, with its blocks and instructions, or why it is refused.
+//! has, with its blocks and instructions, or why it is refused. A text that begins with the line `==== parts` is told
+//! by the parts of its items, and one that begins with `==== program` by what its `@main` returns.
 //!
 //! It stands on `ir_syntax`, and serves to show it: its stored input has each phrase whole and cut, each word that is
 //! dropped or left out, and modules as clang prints them.
 #![tactic(auto)]
 
 mod counts;
+mod parts;
 
-use counts::{Counts, counts_of};
-use ir_syntax::{SyntaxFault, read_items};
+use counts::print_counts;
+use ir_syntax::{Items, Operand, SyntaxFault, read_items, straight_of};
+use parts::print_parts;
 use std::io;
 use std::io::Read;
 
 /// The most bytes of a text: 16 MiB.
 const LARGEST: usize = 16_777_216;
 
-/// Prints what a text comes to.
-fn tell(rt: &HostRuntime, text: &[u8]) -> io::Result<()> {
-    if text.len() > LARGEST {
-        return println!(rt; "too large");
+/// What is told of a text.
+#[derive(Clone, Copy)]
+enum Asked {
+    Counts,
+    Parts,
+    Program,
+}
+
+/// Prints what the program of additions returns that the items are, if they are one.
+fn print_program(rt: &HostRuntime, items: &Items) -> io::Result<()> {
+    let Ok(told) = straight_of(rt.alloc(), items) else {
+        return println!(rt; "out of memory");
+    };
+    let Some(program) = told else {
+        return println!(rt; "no program");
+    };
+    print!(rt; "{} lines, ", program.lines.len())?;
+    match program.result {
+        Operand::Number(number) => println!(rt; "number {number}"),
+        Operand::Line(line) => println!(rt; "line {line}"),
     }
-    match read_items(rt.alloc(), text) {
-        Ok(items) => {
-            let Counts {
-                structs,
-                variables,
-                declarations,
-                definitions,
-                blocks,
-                instructions,
-                others,
-            } = counts_of(items.as_slice());
-            println!(rt;
-                "{structs} structs, {variables} variables, {declarations} declared, {definitions} defined, {blocks} blocks, {instructions} instructions, {others} others"
-            )
-        }
-        Err(SyntaxFault::BadByte(place)) => println!(rt;
-            "{}:{}: bad byte",
-            place.line, place.column
-        ),
-        Err(SyntaxFault::NoItemHere(place)) => {
+}
+
+/// Prints why a text is refused.
+fn print_fault(rt: &HostRuntime, fault: SyntaxFault) -> io::Result<()> {
+    match fault {
+        SyntaxFault::BadByte(place) => println!(rt; "{}:{}: bad byte", place.line, place.column),
+        SyntaxFault::NoItemHere(place) => {
             println!(rt; "{}:{}: no item here", place.line, place.column)
         }
-        Err(SyntaxFault::LeftOutWord(place, word)) => {
+        SyntaxFault::LeftOutWord(place, word) => {
             print!(rt; "{}:{}: left out: ", place.line, place.column)?;
             rt.stdout().write_all(word.bytes())?;
             println!(rt; "")
         }
-        Err(SyntaxFault::TooDeep(place)) => println!(rt;
-            "{}:{}: too deep",
-            place.line, place.column
-        ),
-        Err(SyntaxFault::Memory) => println!(rt; "out of memory"),
+        SyntaxFault::TooDeep(place) => println!(rt; "{}:{}: too deep", place.line, place.column),
+        SyntaxFault::Memory => println!(rt; "out of memory"),
+    }
+}
+
+/// Prints what a text comes to.
+fn tell(rt: &HostRuntime, asked: Asked, text: &[u8]) -> io::Result<()> {
+    if text.len() > LARGEST {
+        return println!(rt; "too large");
+    }
+    match read_items(rt.alloc(), text) {
+        Ok(items) => match asked {
+            Asked::Counts => print_counts(rt, items.as_slice()),
+            Asked::Parts => print_parts(rt, items.as_slice()),
+            Asked::Program => print_program(rt, &items),
+        },
+        Err(fault) => print_fault(rt, fault),
     }
 }
 
@@ -59,15 +77,21 @@ fn main(rt: HostRuntime) -> io::Result<()> {
     let mut input = Vec::new(rt.alloc());
     rt.reader().read_to_end(&mut input)?;
     let mut text = Vec::new(rt.alloc());
+    let mut asked = Asked::Counts;
     for line in input.as_slice().split_inclusive(|byte| *byte == b'\n') {
         if line == b"====\n".as_slice() {
             // The line feed before the separator is the separator's own.
             text.pop();
-            tell(&rt, text.as_slice())?;
+            tell(&rt, asked, text.as_slice())?;
             text.clear();
+            asked = Asked::Counts;
+        } else if line == b"==== parts\n".as_slice() {
+            asked = Asked::Parts;
+        } else if line == b"==== program\n".as_slice() {
+            asked = Asked::Program;
         } else {
             text.extend_from_slice(line)?;
         }
     }
-    tell(&rt, text.as_slice())
+    tell(&rt, asked, text.as_slice())
 }

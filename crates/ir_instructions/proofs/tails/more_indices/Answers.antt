@@ -10,29 +10,29 @@ use Rattle.ir_instructions.proofs.Lists.{listed_metadata, metadata_less, listed_
 use Rattle.ir_instructions.proofs.tails.more_indices.Goals as goal
 use Rattle.ir_instructions.proofs.tails.more_indices.Goals.{then-closed, else-closed}
 
-pub indices-smaller-then-is_next : goal.indices-smaller-then-is_next
-indices-smaller-then-is_next c =
-    let d : (c.indices.closed ≡ true) ⊎ (begins class (code terminal.MetaName ∷ []) (left c.take.new.self) ≡ true) = elim c.if-closed.branch [ then-closed w ↦ inl w.if-closed.true | else-closed w ↦ inr (sym w.is_next-else-closed.ensures ∙ (sym w.value-is ∙ c.if-is_next.true)) ] in
-    metadata_less (code terminal.Integer ∷ []) (λ l. integer_row) (λ l. reads_integer) refl c.indices.cursor.limits c.indices.indices.items c.indices.closed c.in_ok-take.field-0 (left c.indices.cursor) (left c.take.new.self) (left c.attachment.new.cursor) c.in_ok-take.ensures.0 d c.in_ok-attachment.ensures.0
+pub indices-smaller-then-is_class_next : goal.indices-smaller-then-is_class_next
+indices-smaller-then-is_class_next c =
+    let d : (c.indices.closed ≡ true) ⊎ (begins class (code terminal.MetaName ∷ []) (left c.take_class.new.self) ≡ true) = elim c.if-closed.branch [ then-closed w ↦ inl w.if-closed.true | else-closed w ↦ inr (sym w.is_class_next-else-closed.ensures ∙ (sym w.value-is ∙ c.if-is_class_next.true)) ] in
+    metadata_less (code terminal.Integer ∷ []) (λ l. integer_row) (λ l. reads_integer) refl c.indices.cursor.limits c.indices.indices.items c.indices.closed c.in_ok-take_class.field-0 (left c.indices.cursor) (left c.take_class.new.self) (left c.attachment.new.cursor) c.in_ok-take_class.ensures.0 d c.in_ok-attachment.ensures.0
 
-pub indices-preserved-then-is_next : goal.indices-preserved-then-is_next
-indices-preserved-then-is_next c =
-    let d : (c.indices.closed ≡ true) ⊎ (begins class (code terminal.MetaName ∷ []) (left c.take.new.self) ≡ true) = elim c.if-closed.branch [ then-closed w ↦ inl w.if-closed.true | else-closed w ↦ inr (sym w.is_next-else-closed.ensures ∙ (sym w.value-is ∙ c.if-is_next.true)) ] in
+pub indices-preserved-then-is_class_next : goal.indices-preserved-then-is_class_next
+indices-preserved-then-is_class_next c =
+    let d : (c.indices.closed ≡ true) ⊎ (begins class (code terminal.MetaName ∷ []) (left c.take_class.new.self) ≡ true) = elim c.if-closed.branch [ then-closed w ↦ inl w.if-closed.true | else-closed w ↦ inr (sym w.is_class_next-else-closed.ensures ∙ (sym w.value-is ∙ c.if-is_class_next.true)) ] in
     record {
       so_far =
-          sym (listed_metadata (code terminal.Integer ∷ []) (λ l. integer_row) (λ l. reads_integer) refl c.indices.cursor.limits c.indices.cursor.limits c.indices.indices.items c.indices.closed c.in_ok-take.field-0 (left c.indices.cursor) (left c.take.new.self) (left c.attachment.new.cursor) refl (sym c.is_next.ensures ∙ c.indices-test.true) c.in_ok-take.ensures.0 d c.in_ok-attachment.ensures.0)
+          sym (listed_metadata (code terminal.Integer ∷ []) (λ l. integer_row) (λ l. reads_integer) refl c.indices.cursor.limits c.indices.cursor.limits c.indices.indices.items c.indices.closed c.in_ok-take_class.field-0 (left c.indices.cursor) (left c.take_class.new.self) (left c.attachment.new.cursor) refl (sym c.is_class_next.ensures ∙ c.indices-test.true) c.in_ok-take_class.ensures.0 d c.in_ok-attachment.ensures.0)
           ∙ c.indices.invariant.so_far;
-      limits = c.in_ok-attachment.ensures.1 ∙ (c.in_ok-take.ensures.1 ∙ c.indices.invariant.limits);
-      text = c.in_ok-attachment.ensures.2 ∙ (c.in_ok-take.ensures.2 ∙ c.indices.invariant.text);
+      limits = c.in_ok-attachment.ensures.1 ∙ (c.in_ok-take_class.ensures.1 ∙ c.indices.invariant.limits);
+      text = c.in_ok-attachment.ensures.2 ∙ (c.in_ok-take_class.ensures.2 ∙ c.indices.invariant.text);
     }
 
 pub indices-preserved : goal.indices-preserved
 indices-preserved c =
-    let d : (c.indices.closed ≡ false) × (begins class (code terminal.MetaName ∷ []) (left c.take.new.self) ≡ false) = elim c.if-closed.branch [ then-closed w ↦ absurd (let k = w.value-is in let n = c.if-is_next.false in cc) | else-closed w ↦ (w.if-closed.false, sym w.is_next-else-closed.ensures ∙ (sym w.value-is ∙ c.if-is_next.false)) ] in
+    let d : (c.indices.closed ≡ false) × (begins class (code terminal.MetaName ∷ []) (left c.take_class.new.self) ≡ false) = elim c.if-closed.branch [ then-closed w ↦ absurd (let k = w.value-is in let n = c.if-is_class_next.false in cc) | else-closed w ↦ (w.if-closed.false, sym w.is_class_next-else-closed.ensures ∙ (sym w.value-is ∙ c.if-is_class_next.false)) ] in
     record {
       so_far =
-          sym (listed_part (code terminal.Integer ∷ []) (λ l. integer_row) (λ l. reads_integer) refl c.indices.cursor.limits c.indices.cursor.limits c.indices.cursor.limits c.indices.indices.items c.push-else-is_next.new.self.items c.indices.closed c.in_ok-integer.field-0 c.in_ok-take.field-0 (left c.indices.cursor) (left c.take.new.self) (left c.integer.new.self) refl refl c.in_ok-push-2.ensures.items (sym c.is_next.ensures ∙ c.indices-test.true) c.in_ok-take.ensures.0 d c.in_ok-integer.ensures.0)
+          sym (listed_part (code terminal.Integer ∷ []) (λ l. integer_row) (λ l. reads_integer) refl c.indices.cursor.limits c.indices.cursor.limits c.indices.cursor.limits c.indices.indices.items c.push-else-is_class_next.new.self.items c.indices.closed c.in_ok-integer.field-0 c.in_ok-take_class.field-0 (left c.indices.cursor) (left c.take_class.new.self) (left c.integer.new.self) refl refl c.in_ok-push-2.ensures.items (sym c.is_class_next.ensures ∙ c.indices-test.true) c.in_ok-take_class.ensures.0 d c.in_ok-integer.ensures.0)
           ∙ c.indices.invariant.so_far;
-      limits = c.in_ok-integer.ensures.1 ∙ (c.in_ok-take.ensures.1 ∙ c.indices.invariant.limits);
-      text = c.in_ok-integer.ensures.2 ∙ (c.in_ok-take.ensures.2 ∙ c.indices.invariant.text);
+      limits = c.in_ok-integer.ensures.1 ∙ (c.in_ok-take_class.ensures.1 ∙ c.indices.invariant.limits);
+      text = c.in_ok-integer.ensures.2 ∙ (c.in_ok-take_class.ensures.2 ∙ c.indices.invariant.text);
     }

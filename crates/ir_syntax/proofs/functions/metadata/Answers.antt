@@ -8,7 +8,7 @@ metadata-smaller c = metadata_less (left c.metadata.cursor) (left c.attachment.n
 
 pub metadata-preserved : goal.metadata-preserved
 metadata-preserved c = record {
-  so_far = sym (metadata_next (left c.metadata.cursor) (left c.attachment.new.cursor) (sym c.is_next.ensures ∙ c.metadata-test.true) c.in_ok-attachment.ensures.0) ∙ c.metadata.invariant.so_far;
+  so_far = sym (metadata_next (left c.metadata.cursor) (left c.attachment.new.cursor) (sym c.is_class_next.ensures ∙ c.metadata-test.true) c.in_ok-attachment.ensures.0) ∙ c.metadata.invariant.so_far;
   limits = c.in_ok-attachment.ensures.1 ∙ c.metadata.invariant.limits;
   text = c.in_ok-attachment.ensures.2 ∙ c.metadata.invariant.text;
 }

@@ -13,7 +13,7 @@ parameters-smaller c =
 pub parameters-preserved : goal.parameters-preserved
 parameters-preserved c = record {
   so_far =
-      (let n = parameters_next c.args.may_end_in_dots c.parameters.cursor.limits (parameters_view c.parameters.all) (parameters_view c.in_ok-all.all) (left c.parameters.cursor) (left c.one_more.new.cursor) (sym c.is_next.ensures ∙ c.parameters-test.true) c.in_ok-all.ensures.0 in
+      (let n = parameters_next c.args.may_end_in_dots c.parameters.cursor.limits (parameters_view c.parameters.all) (parameters_view c.in_ok-all.all) (left c.parameters.cursor) (left c.one_more.new.cursor) (sym c.is_class_next.ensures ∙ c.parameters-test.true) c.in_ok-all.ensures.0 in
       subst
       (λ (limits : Limits). (more_parameters_row c.args.may_end_in_dots limits (parameters_view c.in_ok-all.all)).run (left c.one_more.new.cursor) ≡ (some_parameters_row c.args.may_end_in_dots c.args.cursor.now.limits).run (left c.args.cursor.now))
       (sym c.in_ok-all.ensures.1) (sym n ∙ c.parameters.invariant.so_far));

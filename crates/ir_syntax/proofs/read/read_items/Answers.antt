@@ -3,6 +3,7 @@ use Rattle.ir_syntax.specs.View.{items_view}
 use Rattle.ir_syntax.proofs.Refusals.{one_refusal, refused_bad}
 use Rattle.ir_syntax.proofs.Results.{answer_items, answer_bad, one_items, items_not_bad}
 use Rattle.ir_syntax.proofs.Sizes.{items_few}
+use Rattle.ir_syntax.proofs.Formed.{items_formed}
 use Rattle.ir_syntax.proofs.read.read_items.Goals as goal
 
 pub returns-in-Ok-clause-items : goal.returns-in-Ok-clause-items
@@ -16,6 +17,10 @@ returns-in-Ok-clause-one c =
 pub returns-in-Ok-clause-count : goal.returns-in-Ok-clause-count
 returns-in-Ok-clause-count c =
     rw c.from_vec.ensures (items_few c.args.text.now (items_view c.in-Ok.items.items) c.new-cursor.ensures.few c.requires (answer_items c.args.text.now (items_view c.in-Ok.items.items) (rw c.new-cursor.ensures.start at c.in-Ok.ensures).0))
+
+pub returns-in-Ok-clause-shape : goal.returns-in-Ok-clause-shape
+returns-in-Ok-clause-shape c =
+    rw c.from_vec.ensures (items_formed c.args.text.now (items_view c.in-Ok.items.items) (answer_items c.args.text.now (items_view c.in-Ok.items.items) (rw c.new-cursor.ensures.start at c.in-Ok.ensures).0))
 
 pub returns-in-Ok-clause-only_refused : goal.returns-in-Ok-clause-only_refused
 returns-in-Ok-clause-only_refused c =

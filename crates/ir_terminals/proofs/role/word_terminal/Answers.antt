@@ -1,7 +1,7 @@
-use Rattle.std.proofs.Common.{◌≡◌, ◌<◌, length, sym, ◌∙◌, arith}
+use Rattle.std.proofs.Common.{◌≡◌, length, sym, ◌∙◌, arith}
 use Rattle.std.proofs.lemmas.Bool.Decides.{nat_tests}
-use Rattle.ir_terminals.specs.Words.{word_terminal, words_by_role}
-use Rattle.ir_terminals.proofs.WordLists.{by_width, by_list, empty_word, no_bytes, with_first_byte}
+use Rattle.ir_terminals.specs.Words.{word_terminal}
+use Rattle.ir_terminals.proofs.WordLists.{by_width, by_list, empty_word, no_bytes}
 use Rattle.ir_terminals.proofs.role.word_terminal.Goals as goal
 
 pub returns-in-Some : goal.returns-in-Some
@@ -15,6 +15,4 @@ returns-then-is_empty c =
 
 pub returns : goal.returns
 unfolding word_terminal
-returns c =
-    let some : 0 < length c.args.word.now = grind (arith, nat_tests) in
-    c.meaning_in.ensures ∙ rw c.words_with.ensures (with_first_byte words_by_role c.args.word.now some) ∙ sym (by_list _ _ c.in_default.ensures)
+returns c = c.listed_terminal.ensures ∙ sym (by_list _ _ c.in_default.ensures)

@@ -4,8 +4,8 @@ use Rattle.ir_terminals.specs.Values.{if_bytes}
 use Rattle.ir_terminals.proofs.Taking.{took_kind, byte_string}
 use Rattle.ir_terminals.proofs.cursor.Cursor.byte_string.Goals as goal
 
-pub unquote-requires : goal.unquote-requires
-unquote-requires c =
+pub text_at-requires : goal.text_at-requires
+text_at-requires c =
     byte_string _ _ (rw c.in-Some-ByteString.field-0-is at c.in-Some-ByteString.ensures) c.spelling.ensures.token c.spelling.ensures.bytes
 
 pub returns : goal.returns

@@ -4,8 +4,8 @@ use Rattle.ir_terminals.specs.Values.{if_quoted}
 use Rattle.ir_terminals.proofs.Taking.{took_kind, quoted_string}
 use Rattle.ir_terminals.proofs.cursor.Cursor.quoted.Goals as goal
 
-pub unquote-requires : goal.unquote-requires
-unquote-requires c =
+pub text_at-requires : goal.text_at-requires
+text_at-requires c =
     quoted_string _ _ (rw c.in-Some-Quoted.field-0-is at c.in-Some-Quoted.ensures) c.spelling.ensures.token c.spelling.ensures.bytes
 
 pub returns : goal.returns

@@ -8,5 +8,5 @@ use Rattle.ir_terminals.proofs.cursor.Cursor.skip_brackets.Goals as goal
 
 pub returns : goal.returns
 returns c =
-    let next : begins class (code c.args.opening ∷ []) (left c.args.self.now) ≡ true = sym c.is_next.ensures ∙ c.if-not-is_next.false in
+    let next : begins class (code c.args.opening ∷ []) (left c.args.self.now) ≡ true = sym c.is_class_next.ensures ∙ c.if-not-is_class_next.false in
     rw (opened_so c.args.opening (left c.args.self.now) next) c.skip_any_brackets.ensures

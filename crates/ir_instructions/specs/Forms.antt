@@ -1,0 +1,72 @@
+-- What `read_items` promises of the instructions of a text: opcodes, flags and parts as their phrases have them.
+use Rattle.std.specs.Prelude.{◌≡◌, Bool, true, false, Option, Some, None}
+use Rattle.ir_tables.specs.declared.opcode.Opcode.{Opcode}
+use Rattle.ir_tables.specs.declared.opcode.Opcode.TheVariants as op
+use Rattle.ir_constants.specs.Tree.{TypedValueTree}
+use Rattle.ir_constants.specs.Forms.{AllAre, IsNotEmpty, AreFlagsOf, IsTypedFormed, IsValueFormed, IsOperandFormed}
+use Rattle.ir_instructions.specs.Tree.{IncomingTree, OperationTree, Binary, Compare, Cast, Select, Freeze, Phi, Load, Store, Alloca, GetElementPtr, Call, ExtractValue, InsertValue, InstructionTree, CaseTree, EndingTree, ReturnVoid, Return, Jump, Branch, Switch, Unreachable, BlockTree}
+
+-- the operations on two operands of one type
+abbrev pub is_binary : Opcode → Bool
+is_binary op.Add = true
+is_binary op.Sub = true
+is_binary op.Mul = true
+is_binary op.UDiv = true
+is_binary op.SDiv = true
+is_binary op.URem = true
+is_binary op.SRem = true
+is_binary op.Shl = true
+is_binary op.LShr = true
+is_binary op.AShr = true
+is_binary op.And = true
+is_binary op.Or = true
+is_binary op.Xor = true
+is_binary _ = false
+
+abbrev pub is_cast : Opcode → Bool
+is_cast op.Trunc = true
+is_cast op.ZExt = true
+is_cast op.SExt = true
+is_cast op.PtrToInt = true
+is_cast op.IntToPtr = true
+is_cast _ = false
+
+abbrev pub IsCountFormed : Option TypedValueTree → Type 0
+IsCountFormed (Some count) = IsOperandFormed count
+IsCountFormed None = Unit {0}
+
+abbrev pub IsIncomingFormed : IncomingTree → Type 0
+IsIncomingFormed incoming = IsValueFormed incoming.0
+
+-- the operation, and each constant in it, is as its phrase has it
+abbrev pub IsOperationFormed : OperationTree → Type 0
+IsOperationFormed (Binary opcode flags left right) = (is_binary opcode ≡ true) × AreFlagsOf opcode flags × IsOperandFormed left × IsValueFormed right
+IsOperationFormed (Compare flags predicate left right) = AreFlagsOf op.ICmp flags × IsOperandFormed left × IsValueFormed right
+IsOperationFormed (Cast opcode flags value to) = (is_cast opcode ≡ true) × AreFlagsOf opcode flags × IsOperandFormed value
+IsOperationFormed (Select condition first second) = IsOperandFormed condition × IsOperandFormed first × IsOperandFormed second
+IsOperationFormed (Freeze value) = IsOperandFormed value
+IsOperationFormed (Phi ty incoming) = IsNotEmpty incoming × AllAre IsIncomingFormed incoming
+IsOperationFormed (Load flags ty address alignment) = AreFlagsOf op.Load flags × IsOperandFormed address
+IsOperationFormed (Store flags value address alignment) = AreFlagsOf op.Store flags × IsOperandFormed value × IsOperandFormed address
+IsOperationFormed (Alloca ty count alignment) = IsCountFormed count
+IsOperationFormed (GetElementPtr flags source operands) = AreFlagsOf op.GetElementPtr flags × IsNotEmpty operands × AllAre IsOperandFormed operands
+IsOperationFormed (Call call) = IsValueFormed call.callee × AllAre IsOperandFormed call.arguments
+IsOperationFormed (ExtractValue value indices) = IsOperandFormed value × IsNotEmpty indices
+IsOperationFormed (InsertValue value part indices) = IsOperandFormed value × IsOperandFormed part × IsNotEmpty indices
+
+abbrev pub IsInstructionFormed : InstructionTree → Type 0
+IsInstructionFormed instruction = IsOperationFormed instruction.operation
+
+abbrev pub IsCaseFormed : CaseTree → Type 0
+IsCaseFormed case = IsTypedFormed case.0
+
+abbrev pub IsEndingFormed : EndingTree → Type 0
+IsEndingFormed ReturnVoid = Unit {0}
+IsEndingFormed (Return value) = IsOperandFormed value
+IsEndingFormed (Jump target) = Unit {0}
+IsEndingFormed (Branch condition then_to else_to) = IsOperandFormed condition
+IsEndingFormed (Switch value otherwise cases) = IsOperandFormed value × AllAre IsCaseFormed cases
+IsEndingFormed Unreachable = Unit {0}
+
+abbrev pub IsBlockFormed : BlockTree → Type 0
+IsBlockFormed block = AllAre IsInstructionFormed block.instructions × IsEndingFormed block.ending
