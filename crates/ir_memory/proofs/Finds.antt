@@ -6,21 +6,20 @@ use Rattle.std.proofs.lemmas.Grind.{common_steps}
 use Rattle.std.proofs.lemmas.Bool.Decides.{nat_tests}
 use Rattle.std.proofs.Math.Dec.{eqb-suc-zero}
 use Rattle.ir_memory.specs.declared.kind.BlockKind.{BlockKind}
-use Rattle.ir_memory.specs.declared.kind.BlockKind.TheVariants.{Heap}
 use Rattle.ir_tables.specs.declared.undefined_kind.UndefinedKind.{UndefinedKind}
 use Rattle.ir_tables.specs.declared.undefined_kind.UndefinedKind.TheVariants.{OutsideBlock, EndedBlock, WriteToConstant, Misaligned}
 use Rattle.ir_memory.specs.declared.access.Place.{Place}
 use Rattle.ir_eval.specs.declared.value.Pointer.{Pointer}
 use Rattle.ir_eval.specs.declared.value.Scalar.TheVariants.{Ptr}
-use Rattle.ir_memory.specs.Block.{Block, starts, new_block, holds, is_constant}
+use Rattle.ir_memory.specs.Block.{Block, starts, gone, holds, is_constant}
 use Rattle.ir_memory.specs.Memory.{Blocks, found, named, started, bounds_at, bounds_of, home, has_ended, is_over, has_constant, is_fixed, place_at, place_in, access}
 use Rattle.ir_memory.specs.Kept.{IsPlaced}
 use Rattle.ir_memory.specs.Find.{HasOnly, IsOnly}
 use Rattle.ir_memory.proofs.Placed.{IsPlaced-at}
 
--- a block that passes the test has the address in it or at its end
+-- a block that passes the test lives, and has the address in it or at its end
 abbrev pub Touches : (Block → Bool) → ℕ → Type 0
-Touches test address = (b : Block) → test b ≡ true → (b.start ≤ address) × (address ≤ b.start + b.size)
+Touches test address = (b : Block) → test b ≡ true → (b.live ≡ true) × (b.start ≤ address) × (address ≤ b.start + b.size)
 
 false_or_true : (b : Bool) → (P : Type 0) → (b ≡ true → P) → (b ≡ false → P) → P
 false_or_true true P f g = f refl
@@ -51,7 +50,7 @@ slice_get-at (x ∷ xs) (suc i) d h = slice_get-at xs i d (omega arith)
 module _ (blocks : List Block) (test : Block → Bool) (address : ℕ) (touches : Touches test address) (d : Block) where
   fails : (place : Option ℕ) → HasOnly blocks address place → (k : ℕ) → k < length blocks → (place ≡ Some k → ⊥) → test (get_or blocks k d) ≡ false
   fails place only k h ne =
-      false_or_true (test (get_or blocks k d)) _ (λ e. let t = touches _ e in absurd (ne (only k d h t.0 t.1))) (λ e. e)
+      false_or_true (test (get_or blocks k d)) _ (λ e. let t = touches _ e in absurd (ne (only k d h t.0 t.1 t.2))) (λ e. e)
 
   pub found-at : (want : Option ℕ) (i : ℕ) → IsOnly blocks want address (Some i) → i < length blocks → found blocks test want ≡ cond (test (get_or blocks i d)) (Some i) None
   found-at (Some j) i only h =
@@ -61,7 +60,7 @@ module _ (blocks : List Block) (test : Block → Bool) (address : ℕ) (touches 
       false_or_true (test (get_or blocks i d)) _
       (λ e. rw e (position-at test blocks d i h e (λ k lt. fails (Some i) only k (omega arith) (λ s. let t : i ≡ k = some_is s in absurd (omega arith)))))
       (λ e. rw e (position-none test blocks d (λ k lt.
-      false_or_true (test (get_or blocks k d)) _ (λ f. let t = touches _ f in let s : i ≡ k = some_is (only k d lt t.0 t.1) in subst (λ n. test (get_or blocks n d) ≡ false) s e) (λ f. f))))
+      false_or_true (test (get_or blocks k d)) _ (λ f. let t = touches _ f in let s : i ≡ k = some_is (only k d lt t.0 t.1 t.2) in subst (λ n. test (get_or blocks n d) ≡ false) s e) (λ f. f))))
 
   pub found-none : (want : Option ℕ) → IsOnly blocks want address None → found blocks test want ≡ None
   found-none (Some j) only = cc
@@ -76,21 +75,21 @@ started-at blocks p kind i b t only h e f =
     ∙ ap (λ x. cond x (Some i) None) (ap (λ x. starts x p.address kind) (sym e) ∙ sym f)
 
 pub started-none : (blocks : List Block) (p : Pointer) (kind : BlockKind) → IsOnly blocks p.block p.address None → started blocks (Ptr p) kind ≡ None
-started-none blocks p kind only = found-none blocks (λ b. starts b p.address kind) p.address (starts_touches p.address kind) (new_block 0 0 0 kind) p.block only
+started-none blocks p kind only = found-none blocks (λ b. starts b p.address kind) p.address (starts_touches p.address kind) gone p.block only
 
 pub bounds-at : (blocks : List Block) (i : ℕ) (b : Block) (t : Bool) → i < length blocks → b ≡ get_or blocks i b → t ≡ b.live → bounds_at blocks (Some i) ≡ cond t (Some (b.start, b.start + b.size)) None
 bounds-at blocks i b t h e f = rw (slice_get-at blocks i b h) (subst (λ x. bounds_of (Some x) ≡ cond t (Some (b.start, b.start + b.size)) None) e (ap (λ x. cond x (Some (b.start, b.start + b.size)) None) (sym f)))
 
 -- a block that is read is placed
-pub read-placed : (blocks : List Block) (from next i : ℕ) (b : Block) → IsPlaced from blocks next → i < length blocks → b ≡ get_or blocks i b → b.start + b.size + 16 ≤ next
-read-placed blocks from next i b p h e = subst (λ x. x.start + x.size + 16 ≤ next) (sym e) (IsPlaced-at blocks from next b i p h).1
+pub read-placed : (blocks : List Block) (from next i : ℕ) (b : Block) → IsPlaced from blocks next → i < length blocks → b ≡ get_or blocks i b → b.live ≡ true → (from ≤ b.start) × (b.start + b.size + 16 ≤ next)
+read-placed blocks from next i b p h e live = subst (λ x. (from ≤ x.start) × (x.start + x.size + 16 ≤ next)) (sym e) (IsPlaced-at blocks from next b i p h (subst (λ x. x.live ≡ true) e live))
 
 holds_touches : (address count : ℕ) → Touches (λ b. b.live && holds b address count) address
 holds_touches address count b e = grind (arith, nat_tests)
 
 pub home-none : (blocks : List Block) (p : Pointer) (count : ℕ) → IsOnly blocks p.block p.address None → home blocks p count ≡ None
 home-none blocks p count only =
-    found-none blocks (λ b. b.live && holds b p.address count) p.address (holds_touches p.address count) (new_block 0 0 0 Heap) p.block only
+    found-none blocks (λ b. b.live && holds b p.address count) p.address (holds_touches p.address count) gone p.block only
 
 -- the pointer can speak of no block
 pub access-none : (m : Blocks) (count align : ℕ) (writes : Bool) (p : Pointer) → 1 ≤ count → IsOnly m.list p.block p.address None → access m count align writes (Ptr p) ≡ Err OutsideBlock

@@ -13,38 +13,39 @@ use Rattle.ir_memory.specs.declared.kind.BlockKind.{BlockKind}
 use Rattle.ir_memory.specs.declared.cell.Cell.{Cell}
 use Rattle.ir_memory.specs.declared.cell.Cell.TheVariants as cell
 use Rattle.ir_memory.specs.declared.access.Place.{Place}
-use Rattle.ir_memory.specs.Block.{Block, new_block, ended_block, written}
+use Rattle.ir_memory.specs.Block.{Block, new_block, gone, written}
 use Rattle.ir_memory.specs.Cell.{size, spelled, byte_at, read, pointer_of, pointer, are_pieces, integer, number_of}
 use Rattle.ir_memory.specs.Memory.{changed, cells_at, cells_of}
 use Rattle.ir_memory.specs.Kept.{IsKnownCell, AreKnown, IsKept}
 use Rattle.ir_memory.proofs.Placed.{IsPlaced-written, live_bytes-written}
 use Rattle.ir_memory.specs.Given.{IsBlock, HasKnown}
 
-IsBlock-more : (count more : ℕ) (b : Option ℕ) → count ≤ more → IsBlock count b → IsBlock more b
+-- what is known stays known
+pub IsBlock-more : (count more : ℕ) (b : Option ℕ) → count ≤ more → IsBlock count b → IsBlock more b
 IsBlock-more count more None h k = tt
 IsBlock-more count more (Some i) h k = omega (arith, h, k)
 
-IsKnownCell-more : (count more : ℕ) → count ≤ more → (c : Cell) → IsKnownCell count c → IsKnownCell more c
+pub IsKnownCell-more : (count more : ℕ) → count ≤ more → (c : Cell) → IsKnownCell count c → IsKnownCell more c
 IsKnownCell-more count more h (cell.Piece p k) known = IsBlock-more count more p.block h known
 IsKnownCell-more count more h (cell.Byte b) known = tt
 IsKnownCell-more count more h cell.Poison known = tt
 
-AreKnown-more : (count more : ℕ) (bs : List Block) → count ≤ more → AreKnown count bs → AreKnown more bs
+pub AreKnown-more : (count more : ℕ) (bs : List Block) → count ≤ more → AreKnown count bs → AreKnown more bs
 AreKnown-more count more bs h known =
     All-weaker (λ b. All (IsKnownCell count) b.cells) (λ b. All (IsKnownCell more) b.cells)
     (λ b cells. All-weaker (IsKnownCell count) (IsKnownCell more) (IsKnownCell-more count more h) b.cells cells) bs known
 
 -- a block of zeros is added
-pub AreKnown-added : (bs : List Block) (start size align : ℕ) (kind : BlockKind) (count more : ℕ) → count ≤ more → AreKnown count bs → AreKnown more (bs ++ new_block start size align kind ∷ [])
-AreKnown-added bs start size align kind count more h known =
-    All-push (λ b. All (IsKnownCell more) b.cells) bs (new_block start size align kind) (AreKnown-more count more bs h known)
+pub AreKnown-added : (bs : List Block) (start size : ℕ) (kind : BlockKind) (count more : ℕ) → count ≤ more → AreKnown count bs → AreKnown more (bs ++ new_block start size kind ∷ [])
+AreKnown-added bs start size kind count more h known =
+    All-push (λ b. All (IsKnownCell more) b.cells) bs (new_block start size kind) (AreKnown-more count more bs h known)
     (All-replicate (IsKnownCell more) size (cell.Byte 0) tt)
 
 -- a block ends
-pub AreKnown-ended : (bs : List Block) (i : ℕ) (b : Block) → AreKnown (length bs) bs → AreKnown (length (set bs i (ended_block b))) (set bs i (ended_block b))
-AreKnown-ended bs i b known =
-    subst (λ n. AreKnown n (set bs i (ended_block b))) (sym (length-set bs i (ended_block b)))
-    (All-set (λ b. All (IsKnownCell (length bs)) b.cells) bs i (ended_block b) (All-nil (IsKnownCell (length bs))) known)
+pub AreKnown-ended : (bs : List Block) (i : ℕ) → AreKnown (length bs) bs → AreKnown (length (set bs i gone)) (set bs i gone)
+AreKnown-ended bs i known =
+    subst (λ n. AreKnown n (set bs i gone)) (sym (length-set bs i gone))
+    (All-set (λ b. All (IsKnownCell (length bs)) b.cells) bs i gone (All-nil (IsKnownCell (length bs))) known)
 
 -- cells are written
 pub AreKnown-written : (count i at : ℕ) (new : List Cell) (bs : List Block) → All (IsKnownCell count) new → AreKnown count bs → AreKnown count (changed i (written at new) bs)
@@ -102,7 +103,8 @@ known-read bs (leaf.Int width) cells known = known-integer (number_of cells)
     known-integer (Some n) = tt
 known-read bs leaf.Ptr cells known = known-pointer_of bs cells (number_of cells) known
 
-known-cells_of : (count n at : ℕ) (bs : List Block) (i : ℕ) → AreKnown count bs → All (IsKnownCell count) (cells_of at n (slice_get bs i))
+-- what is copied
+pub known-cells_of : (count n at : ℕ) (bs : List Block) (i : ℕ) → AreKnown count bs → All (IsKnownCell count) (cells_of at n (slice_get bs i))
 known-cells_of count n at [] i known = All-nil (IsKnownCell count)
 known-cells_of count n at (b ∷ bs) zero known =
     All-take (IsKnownCell count) _ _ (All-drop (IsKnownCell count) at b.cells (All-head (λ b. All (IsKnownCell count) b.cells) b bs known))

@@ -1,33 +1,32 @@
--- One block of memory.
-use Rattle.std.specs.Prelude.{ℕ, ◌+◌, Bool, true, false, ◌&&◌, nat_eq, nat_le, List, [], ◌++◌, take, drop, length, replicate, if◌then◌else◌}
+-- One block of memory, of which all calls of `Memory` promise.
+use Rattle.std.specs.Prelude.{ℕ, ◌+◌, Bool, true, false, ◌&&◌, nat_eq, nat_le, List, [], ◌++◌, take, drop, length, replicate}
 use Rattle.ir_memory.specs.declared.kind.BlockKind.{BlockKind}
 use Rattle.ir_memory.specs.declared.kind.BlockKind.TheVariants.{Variable, Stack, Heap}
 use Rattle.ir_memory.specs.declared.cell.Cell.{Cell}
 use Rattle.ir_memory.specs.declared.cell.Cell.TheVariants.{Byte}
 
+-- one block: where it starts, how many bytes it has, what it is for, whether it lives, and its cells
+
 pub record Block : Type 0 where
   pub start : ℕ
   pub size : ℕ
-  pub align : ℕ
   pub kind : BlockKind
   pub live : Bool
   pub cells : List Cell
 
--- how many cells a block has: none once it has ended
-abbrev pub cell_count : Bool → ℕ → ℕ
-cell_count live size = if live then size else 0
-
 -- fresh memory is zero
-abbrev pub new_block : ℕ → ℕ → ℕ → BlockKind → Block
-new_block start size align kind = record { start = start; size = size; align = align; kind = kind; live = true; cells = replicate size (Byte 0) }
+abbrev pub new_block : ℕ → ℕ → BlockKind → Block
+new_block start size kind = record { start = start; size = size; kind = kind; live = true; cells = replicate size (Byte 0) }
 
-abbrev pub ended_block : Block → Block
-ended_block b = record b { live = false; cells = [] }
+-- what is left of a block that has ended: nothing of it is ever asked again
+abbrev pub gone : Block
+gone = record { start = 0; size = 0; kind = Stack; live = false; cells = [] }
 
--- so many bytes from an address on are bytes of the block, live or not
+-- so many bytes from an address on are bytes of the block
 abbrev pub holds : Block → ℕ → ℕ → Bool
 holds b address count = nat_le b.start address && nat_le (address + count) (b.start + b.size)
 
+-- two kinds are the same
 abbrev pub same_kind : BlockKind → BlockKind → Bool
 same_kind (Variable true) (Variable true) = true
 same_kind (Variable false) (Variable false) = true
@@ -43,6 +42,7 @@ starts b address kind = b.live && nat_eq b.start address && same_kind b.kind kin
 abbrev pub written : ℕ → List Cell → Block → Block
 written at new b = record b { cells = take at b.cells ++ new ++ drop (at + length new) b.cells }
 
+-- the block is a constant variable
 abbrev pub is_constant : BlockKind → Bool
 is_constant (Variable constant) = constant
 is_constant Stack = false

@@ -1,5 +1,5 @@
 -- What holds of memory at every moment.
-use Rattle.std.specs.Prelude.{◌≡◌, ℕ, ◌+◌, ◌<◌, ◌≤◌, ◌^◌, List, [], ◌∷◌, length, ⊤}
+use Rattle.std.specs.Prelude.{◌≡◌, ℕ, ◌+◌, ◌<◌, ◌≤◌, ◌^◌, List, [], ◌∷◌, length, ⊤, true, if◌then◌else◌}
 use Rattle.std.specs.List.{All}
 use Rattle.ir_memory.specs.declared.cell.Cell.{Cell}
 use Rattle.ir_memory.specs.declared.cell.Cell.TheVariants as cell
@@ -7,10 +7,14 @@ use Rattle.ir_memory.specs.Block.{Block}
 use Rattle.ir_memory.specs.Memory.{live_bytes, byte_limit}
 use Rattle.ir_memory.specs.Given.{IsBlock}
 
--- addresses only grow, and 16 are free between two blocks
+-- where the next live block may start: 16 addresses behind a live one
+abbrev pub behind : ℕ → Block → ℕ
+behind from b = if b.live then b.start + b.size + 16 else from
+
+-- live blocks stand in the order of their addresses, and 16 are free between two of them
 abbrev pub IsPlaced : ℕ → List Block → ℕ → Type 0
 IsPlaced from [] next = from ≤ next
-IsPlaced from (b ∷ bs) next = (from ≤ b.start) × IsPlaced (b.start + b.size + 16) bs next
+IsPlaced from (b ∷ bs) next = (b.live ≡ true → from ≤ b.start) × IsPlaced (behind from b) bs next
 
 -- a piece is of a pointer whose block is one of the first so many
 abbrev pub IsKnownCell : ℕ → Cell → Type 0

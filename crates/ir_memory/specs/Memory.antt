@@ -11,9 +11,9 @@ use Rattle.ir_memory.specs.declared.cell.Cell.{Cell}
 use Rattle.ir_memory.specs.declared.cell.Cell.TheVariants.{Byte}
 use Rattle.ir_memory.specs.declared.access.Place.{Place}
 use Rattle.ir_memory.specs.Cell.{size, read, spelled}
-use Rattle.ir_memory.specs.Block.{is_constant, Block, new_block, ended_block, holds, starts, written}
+use Rattle.ir_memory.specs.Block.{is_constant, Block, new_block, gone, holds, starts, written}
 
--- all blocks, live or ended; where the next one may start; whether constants are sealed
+-- all blocks, and what is left of those that have ended; where the next one may start; whether constants are sealed
 pub record Blocks : Type 0 where
   pub list : List Block
   pub next : ℕ
@@ -24,7 +24,7 @@ no_blocks = record { list = []; next = 65536; sealed = false }
 
 -- how many bytes live blocks may have together
 abbrev pub byte_limit : ℕ
-byte_limit = 16777216
+byte_limit = 268435456
 
 abbrev pub live_bytes : List Block → ℕ
 live_bytes [] = 0
@@ -38,7 +38,7 @@ round_up n align = (n + (align - 1)) / align * align
 abbrev pub added : ℕ → ℕ → BlockKind → Blocks → Blocks
 added size align kind m =
     let start = round_up m.next align in
-    record m { list = m.list ++ new_block start size align kind ∷ []; next = start + size + 16 }
+    record m { list = m.list ++ new_block start size kind ∷ []; next = start + size + 16 }
 
 -- the n-th block is changed
 abbrev pub changed : ℕ → (Block → Block) → List Block → List Block
@@ -64,7 +64,7 @@ started blocks (Ptr p) kind = found blocks (λ b. starts b p.address kind) p.blo
 
 abbrev pub ended_at : Blocks → Option ℕ → Result Blocks UndefinedKind
 ended_at m None = Err BadFree
-ended_at m (Some i) = Ok (record m { list = changed i ended_block m.list })
+ended_at m (Some i) = Ok (record m { list = changed i (λ b. gone) m.list })
 
 -- that block ends, or there is none and the free is bad
 abbrev pub ended : Scalar → BlockKind → Blocks → Result Blocks UndefinedKind

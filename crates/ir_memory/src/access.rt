@@ -5,12 +5,16 @@ ghost use Rattle.ir_memory.specs.Kept.{IsPlaced};
 ghost use Rattle.ir_memory.specs.Given.{IsKnown, IsAddress, IsAlignment};
 ghost use Rattle.ir_memory.specs.Block as block;
 ghost use Rattle.ir_memory.specs.Block.{is_constant};
-ghost use Rattle.ir_memory.specs.Find.{HasOnly, IsOnly, placed};
+ghost use Rattle.ir_memory.specs.Find.{AreStarts, HasOnly, IsOnly, placed};
+ghost use Rattle.std.specs.Ordering.{nat_cmp};
+ghost use Rattle.std.specs.BTreeMap as tree;
 
 use crate::BlockKind;
 use crate::block::Block;
+use crate::starts::last_started;
 use ir_eval::{Pointer, Scalar};
 use ir_tables::UndefinedKind;
+use std::collections::BTreeMap;
 
 /// Where the first byte of an access is: the number of its block, and how far it lies behind the start.
 #[derive(Clone, Copy)]
@@ -28,7 +32,13 @@ pub struct Request {
 }
 
 /// The live block of that kind that a pointer starts.
-pub fn started(blocks: &[Block], pointer: Scalar, kind: BlockKind) -> Option<usize>
+pub fn started(
+    blocks: &[Block],
+    starts: &BTreeMap<u64, u64>,
+    pointer: Scalar,
+    kind: BlockKind,
+) -> Option<usize>
+    requires starts { AreStarts (tree.get nat_cmp starts.now) blocks.now }
     requires known { IsAddress blocks.now pointer }
     requires placed { (next : ℕ) × IsPlaced 65536 blocks.now next }
     ensures value { result ≡ of.started blocks.now pointer kind }
@@ -38,7 +48,7 @@ pub fn started(blocks: &[Block], pointer: Scalar, kind: BlockKind) -> Option<usi
     let Scalar::Ptr(pointer) = pointer else {
         return None;
     };
-    let index = candidate(blocks, pointer)?;
+    let index = candidate(blocks, starts, pointer)?;
     if blocks[index].starts(pointer.address, kind) {
         Some(index)
     } else {
@@ -46,28 +56,18 @@ pub fn started(blocks: &[Block], pointer: Scalar, kind: BlockKind) -> Option<usi
     }
 }
 
-/// The one block that a pointer can speak of: its own, or the one that has its address.
-fn candidate(blocks: &[Block], pointer: Pointer) -> Option<usize>
-    requires known { IsKnown blocks.now pointer }
-    requires placed { (next : ℕ) × IsPlaced 65536 blocks.now next }
-    ensures within { IfSome result (λ i. i < length blocks.now) }
-    ensures only { IsOnly blocks.now pointer.block pointer.address result }
+/// The one block that a pointer can speak of: its own, or the one that has its address. The blocks serve the clauses.
+fn candidate(_blocks: &[Block], starts: &BTreeMap<u64, u64>, pointer: Pointer) -> Option<usize>
+    requires starts { AreStarts (tree.get nat_cmp starts.now) _blocks.now }
+    requires known { IsKnown _blocks.now pointer }
+    requires placed { (next : ℕ) × IsPlaced 65536 _blocks.now next }
+    ensures within { IfSome result (λ i. i < length _blocks.now) }
+    ensures only { IsOnly _blocks.now pointer.block pointer.address result }
 {
     match pointer.block {
         Some(index) => Some(index as usize),
-        None => last_started(blocks, pointer.address),
+        None => Some(last_started(starts, pointer.address)? as usize),
     }
-}
-
-/// The last block that starts at or below an address.
-fn last_started(blocks: &[Block], address: u64) -> Option<usize>
-    requires { (next : ℕ) × IsPlaced 65536 blocks.now next }
-    ensures within { IfSome result (λ i. i < length blocks.now) }
-    ensures only { HasOnly blocks.now address result }
-{
-    blocks
-        .partition_point(|block| block.start() <= address)
-        .checked_sub(1)
 }
 
 /// Whether the pointer's own block has ended.
@@ -94,10 +94,12 @@ fn is_aligned(address: u64, align: u32) -> bool
 /// The place of an access of at least one byte, or the first check that fails.
 pub fn access(
     blocks: &[Block],
+    starts: &BTreeMap<u64, u64>,
     sealed: bool,
     asked: Request,
     address: Scalar,
 ) -> Result<Place, UndefinedKind>
+    requires starts { AreStarts (tree.get nat_cmp starts.now) blocks.now }
     requires known { IsAddress blocks.now address }
     requires placed { (next : ℕ) × IsPlaced 65536 blocks.now next }
     requires some { 1 ≤ asked.count }
@@ -110,7 +112,7 @@ pub fn access(
     let Scalar::Ptr(pointer) = address else {
         return Err(UndefinedKind::PoisonAddress);
     };
-    let Some(index) = candidate(blocks, pointer) else {
+    let Some(index) = candidate(blocks, starts, pointer) else {
         return Err(UndefinedKind::OutsideBlock);
     };
     let block = &blocks[index];

@@ -11,12 +11,11 @@ use ir_eval::Scalar;
 use std::alloc::{AllocError, Global};
 use std::marker::Model;
 
-/// A run of addresses with a cell each. A block that has ended has no cells.
+/// A run of addresses with a cell each. A block that has ended has none.
 #[derive(Drop)]
 pub struct Block {
     start: u64,
     size: u64,
-    align: u32,
     kind: BlockKind,
     live: bool,
     cells: Vec<Cell>,
@@ -24,31 +23,24 @@ pub struct Block {
 
 impl Model for Block {
     ghost use Rattle.std.specs.Prelude.{◌≡◌, length};
-    ghost use Rattle.ir_memory.specs.Block.{Block, cell_count};
+    ghost use Rattle.ir_memory.specs.Block.{Block};
 
     ghost Value = { Block };
 
-    ghost view = { λ b. record { start = b.start; size = b.size; align = b.align; kind = b.kind; live = b.live; cells = b.cells.items } };
+    ghost view = { λ b. record { start = b.start; size = b.size; kind = b.kind; live = b.live; cells = b.cells.items } };
 
-    ghost invariant = { λ b. length b.cells.items ≡ cell_count b.live b.size };
+    ghost invariant = { λ b. length b.cells.items ≡ b.size };
 }
 
 impl Block {
     /// A live block of zeros.
-    pub fn new(
-        alloc: Global,
-        start: u64,
-        size: u64,
-        align: u32,
-        kind: BlockKind,
-    ) -> Result<Block, AllocError>
-        ensures { IfOk result (λ b. b ≡ block.new_block start size align kind) }
+    pub fn new(alloc: Global, start: u64, size: u64, kind: BlockKind) -> Result<Block, AllocError>
+        ensures { IfOk result (λ b. b ≡ block.new_block start size kind) }
     {
         let cells = vec![in alloc; Cell::Byte(0); size as usize]?;
         Ok(Block {
             start,
             size,
-            align,
             kind,
             live: true,
             cells,
@@ -103,7 +95,6 @@ impl Block {
 
     /// So many cells from a place on.
     pub fn cells(&self, at: usize, count: usize) -> &[Cell]
-        requires live { self.now.live ≡ true }
         requires within { at + count ≤ self.now.size }
         ensures value { result.now ≡ slice_range self.now.cells at (at + count) }
         ensures count { length result.now ≡ count }
@@ -113,7 +104,6 @@ impl Block {
 
     /// Puts cells in place of as many.
     pub fn write(&mut self, at: usize, new: &[Cell])
-        requires live { self.old.live ≡ true }
         requires within { at + length new.now ≤ self.old.size }
         ensures { self.new ≡ written at new.now self.old }
     {
@@ -124,7 +114,6 @@ impl Block {
 
     /// Puts the cells of a leaf. A load of them gives the value back.
     pub fn put(&mut self, at: usize, leaf: Leaf, value: Scalar)
-        requires live { self.old.live ≡ true }
         requires leaf { IsLeaf leaf }
         requires value { Fits leaf value }
         requires within { at + of.size leaf ≤ self.old.size }
@@ -135,7 +124,6 @@ impl Block {
     }
 
     fn spell_at(&mut self, at: usize, leaf: Leaf, value: Scalar)
-        requires live { self.old.live ≡ true }
         requires leaf { IsLeaf leaf }
         requires value { Fits leaf value }
         requires within { at + of.size leaf ≤ self.old.size }
@@ -148,7 +136,6 @@ impl Block {
 
     /// Copies cells within the block, as if through a buffer.
     pub fn copy_within(&mut self, at: usize, from: usize, count: usize)
-        requires live { self.old.live ≡ true }
         requires target { at + count ≤ self.old.size }
         requires source { from + count ≤ self.old.size }
         ensures { self.new ≡ written at (slice_range self.old.cells from (from + count)) self.old }
@@ -160,18 +147,22 @@ impl Block {
 
     /// Puts one cell in so many places.
     pub fn fill(&mut self, at: usize, count: usize, cell: Cell)
-        requires live { self.old.live ≡ true }
         requires within { at + count ≤ self.old.size }
         ensures { self.new ≡ written at (replicate count cell) self.old }
     {
         self.cells.slice_mut(at..at + count).fill(cell);
     }
 
-    /// Ends the block and gives its cells up.
+    /// Ends the block: its cells are given up, and the rest is as in every block that has ended.
     pub fn end(&mut self, alloc: Global)
-        ensures { self.new ≡ block.ended_block self.old }
+        ensures { self.new ≡ block.gone }
     {
-        self.live = false;
-        self.cells = Vec::new(alloc);
+        *self = Block {
+            start: 0,
+            size: 0,
+            kind: BlockKind::Stack,
+            live: false,
+            cells: Vec::new(alloc),
+        };
     }
 }

@@ -1,5 +1,5 @@
 //! Cells from one place to another.
-ghost use Rattle.std.specs.Prelude.{◌≡◌, ◌+◌, ◌<◌, ◌≤◌, length, true, Some, slice_index_or, vec_len};
+ghost use Rattle.std.specs.Prelude.{◌≡◌, ◌+◌, ◌<◌, ◌≤◌, length, Some, slice_index_or, vec_len};
 ghost use Rattle.ir_memory.specs.Memory as of;
 ghost use Rattle.ir_memory.specs.Block as block;
 
@@ -21,10 +21,8 @@ pub fn overlap(one: Place, other: Place, count: usize) -> bool
 /// Copies cells, as if through a buffer.
 pub fn copy_cells(blocks: &mut Vec<Block>, target: Place, source: Place, count: usize)
     requires target { target.index < vec_len blocks.old }
-    requires target_live { (d : block.Block) → (slice_index_or blocks.old.items target.index d).live ≡ true }
     requires target_within { (d : block.Block) → target.offset + count ≤ (slice_index_or blocks.old.items target.index d).size }
     requires source { source.index < vec_len blocks.old }
-    requires source_live { (d : block.Block) → (slice_index_or blocks.old.items source.index d).live ≡ true }
     requires source_within { (d : block.Block) → source.offset + count ≤ (slice_index_or blocks.old.items source.index d).size }
     ensures { blocks.new.items ≡ of.changed target.index (block.written target.offset (of.cells_at blocks.old.items count (Some source))) blocks.old.items }
 {
@@ -41,8 +39,6 @@ pub fn copy_cells(blocks: &mut Vec<Block>, target: Place, source: Place, count: 
 fn copy_up(blocks: &mut [Block], target: Place, source: Place, count: usize)
     requires target { target.index < length blocks.old }
     requires apart { source.index < target.index }
-    requires live { (d : block.Block) → (slice_index_or blocks.old target.index d).live ≡ true }
-    requires source_live { (d : block.Block) → (slice_index_or blocks.old source.index d).live ≡ true }
     requires within { (d : block.Block) → target.offset + count ≤ (slice_index_or blocks.old target.index d).size }
     requires source_within { (d : block.Block) → source.offset + count ≤ (slice_index_or blocks.old source.index d).size }
     ensures { blocks.new ≡ of.changed target.index (block.written target.offset (of.cells_at blocks.old count (Some source))) blocks.old }
@@ -57,8 +53,6 @@ fn copy_up(blocks: &mut [Block], target: Place, source: Place, count: usize)
 fn copy_down(blocks: &mut [Block], target: Place, source: Place, count: usize)
     requires source { source.index < length blocks.old }
     requires apart { target.index < source.index }
-    requires live { (d : block.Block) → (slice_index_or blocks.old target.index d).live ≡ true }
-    requires source_live { (d : block.Block) → (slice_index_or blocks.old source.index d).live ≡ true }
     requires within { (d : block.Block) → target.offset + count ≤ (slice_index_or blocks.old target.index d).size }
     requires source_within { (d : block.Block) → source.offset + count ≤ (slice_index_or blocks.old source.index d).size }
     ensures { blocks.new ≡ of.changed target.index (block.written target.offset (of.cells_at blocks.old count (Some source))) blocks.old }

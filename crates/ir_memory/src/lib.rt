@@ -14,11 +14,9 @@ mod fault;
 mod kind;
 mod leaf;
 mod memory;
+mod starts;
 
 pub use fault::MemoryFault;
 pub use kind::BlockKind;
 pub use leaf::Leaf;
 pub use memory::Memory;
-
-#[cfg(test)]
-mod tests;

@@ -1,8 +1,8 @@
 //! All blocks of a run.
-ghost use Rattle.std.specs.Prelude.{◌≡◌, ◌≢◌, ◌+◌, ◌<◌, ◌≤◌, ◌^◌, ◌↔◌, IfOk, OnOk, OnErr, length, true, slice_index_or, Some, Ok, Err, vec_len, replicate};
+ghost use Rattle.std.specs.Prelude.{◌≡◌, ◌≢◌, ◌+◌, ◌<◌, ◌≤◌, ◌^◌, ◌↔◌, IfOk, IfSome, OnOk, OnErr, length, true, slice_index_or, Some, Ok, Err, vec_len, replicate};
 ghost use Rattle.ir_memory.specs.Memory as of;
 ghost use Rattle.ir_memory.specs.Memory.{live_bytes, round_up};
-ghost use Rattle.ir_memory.specs.Kept.{IsPlaced};
+ghost use Rattle.ir_memory.specs.Kept.{IsPlaced, AreKnown};
 ghost use Rattle.ir_memory.specs.Block as block;
 ghost use Rattle.ir_memory.specs.Given.{IsKnown, IsAddress, IsAlignment, IsLeaf, Fits, HasKnown, CanEnd};
 ghost use Rattle.ir_memory.specs.Answer.{Answers, NeedsNone, IsInteger, Keeps};
@@ -13,14 +13,16 @@ use crate::access::{Place, Request, access, started};
 use crate::block::Block;
 use crate::cell::{Cell, read};
 use crate::copy::{copy_cells, overlap};
+use crate::starts::{forget, note};
 use crate::{BlockKind, Leaf, MemoryFault};
 use ir_eval::{Pointer, Scalar};
 use ir_tables::UndefinedKind;
 use std::alloc::Global;
+use std::collections::BTreeMap;
 use std::marker::Model;
 
 /// How many bytes live blocks may have together.
-const BYTE_LIMIT: u64 = 16_777_216;
+const BYTE_LIMIT: u64 = 268_435_456;
 
 /// The first address that a block may have.
 const FIRST_ADDRESS: u64 = 65_536;
@@ -34,6 +36,7 @@ const GAP: u64 = 16;
 pub struct Memory {
     alloc: Global,
     blocks: Vec<Block>,
+    starts: BTreeMap<u64, u64>,
     next: u64,
     sealed: bool,
     live: u64,
@@ -42,12 +45,15 @@ pub struct Memory {
 impl Model for Memory {
     ghost use Rattle.ir_memory.specs.Memory.{Blocks};
     ghost use Rattle.ir_memory.specs.Kept.{IsKept};
+    ghost use Rattle.ir_memory.specs.Find.{AreStarts};
+    ghost use Rattle.std.specs.Ordering.{nat_cmp};
+    ghost use Rattle.std.specs.BTreeMap as tree;
 
     ghost Value = { Blocks };
 
     ghost view = { λ m. record { list = m.blocks.items; next = m.next; sealed = m.sealed } };
 
-    ghost invariant = { λ m. IsKept m.blocks.items m.next m.live };
+    ghost invariant = { λ m. IsKept m.blocks.items m.next m.live × AreStarts (tree.get nat_cmp m.starts) m.blocks.items };
 }
 
 impl Memory {
@@ -58,17 +64,20 @@ impl Memory {
         Memory {
             alloc,
             blocks: Vec::new(alloc),
+            starts: BTreeMap::new(alloc),
             next: FIRST_ADDRESS,
             sealed: false,
             live: 0,
         }
     }
 
-    /// How many bytes the live blocks have together: at most 2^24.
+    /// How many bytes the live blocks have together: at most 2^28.
     pub fn live_bytes(&self) -> u64
         ensures value { result ≡ live_bytes self.now.list }
         ensures limit { result ≤ of.byte_limit }
         ensures placed { IsPlaced 65536 self.now.list self.now.next }
+        ensures known { AreKnown (length self.now.list) self.now.list }
+        ensures next { self.now.next < 2 ^ 62 }
     {
         self.live
     }
@@ -81,7 +90,7 @@ impl Memory {
     }
 
     /// A new live block of so many zeros, at the next address that is a multiple of the alignment. It is
-    /// refused exactly where live bytes would pass 2^24.
+    /// refused exactly where live bytes would pass 2^28.
     pub fn add_block(
         &mut self,
         size: u64,
@@ -95,15 +104,20 @@ impl Memory {
         ensures limit { (result ≡ Err MemoryFault.MemoryLimit) ↔ (of.byte_limit < live_bytes self.old.list + size) }
         ensures defined { (kind : UndefinedKind) → result ≢ Err (MemoryFault.Undefined kind) }
         ensures err { OnErr result (self.new ≡ self.old) }
-        ensures growth { self.new.next ≤ self.old.next + 2 ^ 25 }
+        ensures grows { self.old.next ≤ self.new.next }
+        ensures growth { self.new.next ≤ self.old.next + (2 ^ 28 + 2 ^ 17) }
     {
         if size > BYTE_LIMIT - self.live {
             return Err(MemoryFault::MemoryLimit);
         }
         let start = round_up(self.next, align);
         let index = self.blocks.len() as u64;
-        let block = Block::new(self.alloc, start, size, align, kind)?;
-        self.blocks.push(block)?;
+        let block = Block::new(self.alloc, start, size, kind)?;
+        note(&mut self.starts, start, index)?;
+        if let Err(fault) = self.blocks.push(block) {
+            forget(&mut self.starts, start);
+            return Err(fault.into());
+        }
         self.next = start + size + GAP;
         self.live += size;
         Ok(Pointer {
@@ -121,20 +135,22 @@ impl Memory {
         ensures kept { Keeps self.old self.new }
         ensures memory { NeedsNone result }
     {
-        let Some(index) = started(self.blocks.as_slice(), pointer, kind) else {
+        let Some(index) = started(self.blocks.as_slice(), &self.starts, pointer, kind) else {
             return Err(MemoryFault::Undefined(UndefinedKind::BadFree));
         };
         let block = &mut self.blocks[index];
         self.live -= block.size();
+        forget(&mut self.starts, block.start());
         block.end(self.alloc);
         Ok(())
     }
 
     /// The start and the end of the pointer's live block, and None exactly where the pointer has no block or
-    /// its block has ended.
+    /// its block has ended. The first address of all is 65,536.
     pub fn bounds(&self, pointer: Pointer) -> Option<(u64, u64)>
         requires { IsKnown self.now.list pointer }
-        ensures { result ≡ of.bounds_at self.now.list pointer.block }
+        ensures value { result ≡ of.bounds_at self.now.list pointer.block }
+        ensures order { IfSome result (λ p. (65536 ≤ p.0) × (p.0 ≤ p.1) × (p.1 ≤ self.now.next)) }
     {
         let index = pointer.block?;
         let block = &self.blocks[index as usize];
@@ -160,7 +176,13 @@ impl Memory {
             align,
             writes: false,
         };
-        let place = access(self.blocks.as_slice(), self.sealed, asked, address)?;
+        let place = access(
+            self.blocks.as_slice(),
+            &self.starts,
+            self.sealed,
+            asked,
+            address,
+        )?;
         let block = &self.blocks[place.index];
         Ok(read(leaf, block.cells(place.offset, count)))
     }
@@ -189,7 +211,13 @@ impl Memory {
             align,
             writes: true,
         };
-        let place = access(self.blocks.as_slice(), self.sealed, asked, address)?;
+        let place = access(
+            self.blocks.as_slice(),
+            &self.starts,
+            self.sealed,
+            asked,
+            address,
+        )?;
         put_leaf(&mut self.blocks, place, leaf, value);
         Ok(())
     }
@@ -213,7 +241,7 @@ impl Memory {
             align: 1,
             writes: true,
         };
-        let place = access(self.blocks.as_slice(), self.sealed, asked, to)?;
+        let place = access(self.blocks.as_slice(), &self.starts, self.sealed, asked, to)?;
         put_many(&mut self.blocks, place, count as usize, Cell::Byte(byte));
         Ok(())
     }
@@ -241,12 +269,24 @@ impl Memory {
             align: 1,
             writes: false,
         };
-        let source = access(self.blocks.as_slice(), self.sealed, reading, from)?;
+        let source = access(
+            self.blocks.as_slice(),
+            &self.starts,
+            self.sealed,
+            reading,
+            from,
+        )?;
         let writing = Request {
             writes: true,
             ..reading
         };
-        let target = access(self.blocks.as_slice(), self.sealed, writing, to)?;
+        let target = access(
+            self.blocks.as_slice(),
+            &self.starts,
+            self.sealed,
+            writing,
+            to,
+        )?;
         if !may_overlap && overlap(source, target, count as usize) {
             return Err(MemoryFault::Undefined(UndefinedKind::Overlap));
         }
@@ -261,7 +301,6 @@ fn put_leaf(blocks: &mut Vec<Block>, place: Place, leaf: Leaf, value: Scalar)
     requires index { place.index < vec_len blocks.old }
     requires leaf { IsLeaf leaf }
     requires value { Fits leaf value }
-    requires live { (d : block.Block) → (slice_index_or blocks.old.items place.index d).live ≡ true }
     requires within { (d : block.Block) → place.offset + size leaf ≤ (slice_index_or blocks.old.items place.index d).size }
     ensures value { blocks.new.items ≡ of.changed place.index (block.written place.offset (spelled leaf value)) blocks.old.items }
     ensures back { cell.read leaf (of.cells_at blocks.new.items (size leaf) (Some place)) ≡ value }
@@ -274,7 +313,6 @@ fn put_leaf(blocks: &mut Vec<Block>, place: Place, leaf: Leaf, value: Scalar)
 #[tactic(auto, using(crate::proofs::Placed::written_steps))]
 fn put_many(blocks: &mut Vec<Block>, place: Place, count: usize, cell: Cell)
     requires index { place.index < vec_len blocks.old }
-    requires live { (d : block.Block) → (slice_index_or blocks.old.items place.index d).live ≡ true }
     requires within { (d : block.Block) → place.offset + count ≤ (slice_index_or blocks.old.items place.index d).size }
     ensures { blocks.new.items ≡ of.changed place.index (block.written place.offset (replicate count cell)) blocks.old.items }
 {

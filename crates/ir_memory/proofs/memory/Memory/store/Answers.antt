@@ -4,12 +4,16 @@ use Rattle.ir_memory.specs.Memory.{access, read_at}
 use Rattle.ir_memory.proofs.ReadBack.{access-read}
 use Rattle.ir_memory.specs.Given.{HasKnown}
 use Rattle.ir_memory.proofs.Known.{IsKept-stored}
+use Rattle.ir_memory.proofs.Search.{AreStarts-stored}
 use Rattle.ir_memory.proofs.memory.Memory.store.Goals as goal
 
 pub invariant_of-self : goal.invariant_of-self
 invariant_of-self c =
     let known : HasKnown (c.self.inside.blocks.items) c.args.value = rw (← c.self.view_is) at c.requires.known in
-    rw c.put_leaf.ensures.value (IsKept-stored c.self.inside.blocks.items c.self.inside.next c.self.inside.live _ c.args.leaf c.args.value known c.self.invariant)
+    rw c.put_leaf.ensures.value (
+      IsKept-stored c.self.inside.blocks.items c.self.inside.next c.self.inside.live _ c.args.leaf c.args.value known c.self.invariant.0,
+      AreStarts-stored _ _ c.args.leaf c.args.value c.self.inside.blocks.items c.self.invariant.1,
+    )
 
 pub returns-clause-back : goal.returns-clause-back
 returns-clause-back c =

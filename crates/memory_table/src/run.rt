@@ -1,102 +1,50 @@
-//! A call on memory as a value, and its answer.
+//! Memory that answers calls one after another.
 ghost use Rattle.std.specs.Prelude.{◌≡◌, ◌+◌, ◌*◌, ◌≤◌, ◌^◌, length, IfSome, IsTrue};
 ghost use Rattle.ir_memory.specs.Given.{IsAlignment, IsAddress, HasKnown, IsKnown, IsLeaf, Fits, CanEnd};
 
-use crate::{BlockKind, Leaf, Memory, MemoryFault};
+use crate::answer::Answer;
+use crate::call::Call;
 use ir_eval::{Pointer, Scalar};
+use ir_memory::{BlockKind, Leaf, Memory, MemoryFault};
 use std::alloc::Global;
-use std::process::Abort;
 
-/// A call. A leaf is written as its width, 0 for a pointer, and a pointer as its block and address.
-#[derive(Clone, Copy, Debug)]
-pub enum Call {
-    Add(u64, u32, BlockKind),
-    End(Scalar, BlockKind),
-    Bounds(Option<u64>, u64),
-    Seal,
-    Load(Scalar, u8, u32),
-    Store(Scalar, u8, u32, Scalar),
-    Copy(Scalar, Scalar, u64, bool),
-    Fill(Scalar, u8, u64),
-    Live,
-}
-
-/// What a call answers: a new block's number and address, nothing, a value, a refusal, a block's start and end, or
-/// the live bytes. Barred: the call's own conditions do not hold.
-#[derive(Clone, Copy, Debug, PartialEq, Eq)]
-pub enum Answer {
-    Made(u64, u64),
-    Done,
-    Value(Scalar),
-    Refused(MemoryFault),
-    Span(Option<(u64, u64)>),
-    Bytes(u64),
-    Barred,
-}
-
-/// A pointer without a block.
-pub fn at(address: u64) -> Scalar {
-    Scalar::Ptr(Pointer {
-        block: None,
-        address,
-    })
-}
-
-/// A pointer with a block.
-pub fn within(block: u64, address: u64) -> Scalar {
-    Scalar::Ptr(Pointer {
-        block: Some(block),
-        address,
-    })
-}
+/// How many blocks a run may make.
+const BLOCK_LIMIT: u64 = 1_000_000;
 
 /// Memory, and how many blocks it has made.
 #[derive(Drop)]
-struct Run {
+pub struct Run {
     memory: Memory,
     made: u64,
     ghost known: { made ≤ length memory.list },
-    ghost low: { memory.next ≤ 65536 + made * 2 ^ 25 },
-}
-
-/// Makes each call in turn on new memory, and compares its answer.
-pub fn compare(rt: &impl Abort, alloc: Global, rows: &[(Call, Answer)]) {
-    let mut run = Run {
-        memory: Memory::new(alloc),
-        made: 0,
-    };
-    for (row, (call, want)) in rows.iter().enumerate() {
-        let got = run.answer(*call);
-        assert_eq!(rt; got, *want, "row {row}");
-    }
+    ghost low: { memory.next ≤ 65536 + made * (2 ^ 28 + 2 ^ 17) },
 }
 
 impl Run {
-    fn answer(&mut self, call: Call) -> Answer {
+    /// New memory.
+    pub fn new(alloc: Global) -> Run {
+        Run {
+            memory: Memory::new(alloc),
+            made: 0,
+        }
+    }
+
+    /// The answer of a call, which is made where its conditions hold.
+    pub fn answer(&mut self, call: Call) -> Answer {
         match call {
             Call::Add(size, align, kind) => self.add(size, align, kind),
             Call::End(pointer, kind) => self.end(pointer, kind),
-            Call::Bounds(block, address) => self.bounds(Pointer { block, address }),
+            Call::Bounds(pointer) => self.bounds(pointer),
             Call::Seal => {
                 self.memory.seal_constants();
                 Answer::Done
             }
-            Call::Load(address, width, align) => self.load(address, leaf(width), align),
-            Call::Store(address, width, align, value) => {
-                self.store(address, leaf(width), align, value)
-            }
+            Call::Load(address, leaf, align) => self.load(address, leaf, align),
+            Call::Store(address, leaf, align, value) => self.store(address, leaf, align, value),
             Call::Copy(to, from, count, may_overlap) => self.copy(to, from, count, may_overlap),
             Call::Fill(to, byte, count) => self.fill(to, byte, count),
             Call::Live => Answer::Bytes(self.memory.live_bytes()),
         }
-    }
-}
-
-/// The leaf of a width, and a pointer for 0.
-fn leaf(width: u8) -> Leaf {
-    match width {
-        0 => Leaf::Ptr,
-        _ => Leaf::Int(width),
     }
 }
 
@@ -172,13 +120,13 @@ impl Run {
         let Some(align) = alignment(align) else {
             return Answer::Barred;
         };
-        if self.made >= 1_000_000 {
+        if self.made >= BLOCK_LIMIT {
             return Answer::Barred;
         }
         match self.memory.add_block(size, align, kind) {
-            Ok(Pointer { block, address }) => {
+            Ok(pointer) => {
                 self.made += 1;
-                Answer::Made(block.unwrap_or(u64::MAX), address)
+                Answer::Made(pointer)
             }
             Err(fault) => Answer::Refused(fault),
         }

@@ -1,0 +1,34 @@
+//! Makes calls on memory that stand in its input, one a line, and prints the answer of each.
+//!
+//! It stands on `ir_memory`. A line is `add 8 16 heap`, `end 0:65536 heap`, `bounds 0:65536`, `seal`,
+//! `live`, `load 0:65536 i32 4`, `store -:65536 ptr 8 0:65537`, `copy -:65536 -:65544 8 may` or `fill
+//! -:65536 7 16`; a pointer is its block, or `-` for none, and its address. A line that begins with `#`
+//! begins new memory. Nothing is promised of the printed text.
+#![tactic(auto)]
+
+mod answer;
+mod call;
+mod run;
+
+use call::Call;
+use run::Run;
+use std::io;
+
+fn main(rt: HostRuntime) -> io::Result<()> {
+    let mut run = Run::new(rt.alloc());
+    for line in rt.lines(rt.alloc()) {
+        let line = line?;
+        if line.as_str().starts_with("#") {
+            run = Run::new(rt.alloc());
+            println!(rt; "{line}")?;
+            continue;
+        }
+        let Some(call) = Call::read(line.as_str()) else {
+            println!(rt; "{line}: no such call")?;
+            continue;
+        };
+        let answer = run.answer(call);
+        println!(rt; "{line}: {answer}")?;
+    }
+    Ok(())
+}
