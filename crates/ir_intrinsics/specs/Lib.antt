@@ -1,0 +1,4 @@
+pub mod Operands
+pub mod Results
+pub mod Kinds
+pub mod Exact

@@ -1,0 +1,14 @@
+//! The text of `printf`: the pieces of a pattern, and what each conversion writes.
+//!
+//! It stands on `ir_base`. Its promise: a pattern is read as its literals and conversions, whose places join to the
+//! pattern, and a number or a string is written as its conversion says, for every combination of flags, width, precision
+//! and length. Where arguments come from is not its concern. Definitions: `specs/Pattern`, `specs/Printed`.
+#![tactic(auto)]
+
+mod conversion;
+mod pattern;
+mod text;
+
+pub use conversion::{Conversion, ConversionKind, Length};
+pub use pattern::{BadFormat, Piece, a_pattern_is_its_pieces, next_piece};
+pub use text::{bytes_text, number_text};
