@@ -1,10 +1,41 @@
--- An abbreviation that the format admits.
-use Rattle.std.specs.Prelude.{List}
+-- An abbreviation that the format admits, and the operands that define it.
+use Rattle.std.specs.Prelude.{Bool, true, false, List, [], ◌∷◌, ◌++◌, Option, Some, None, map}
+use Rattle.bit_stream.specs.declared.abbreviation.AbbrevOp.{AbbrevOp}
+use Rattle.bit_stream.specs.declared.abbreviation.AbbrevOp.TheVariants.{Literal, Fixed, Vbr, Array, Char6, Blob}
 use Rattle.bit_stream.specs.declared.abbreviation.Scalar.{Scalar}
+use Rattle.bit_stream.specs.declared.abbreviation.Scalar.TheVariants.{Known, Field, Chunks, Letter}
 use Rattle.bit_stream.specs.declared.abbreviation.Tail.{Tail}
+use Rattle.bit_stream.specs.declared.abbreviation.Tail.TheVariants.{NoTail, Elements, Bytes}
 
 -- how the code of a record is spelled, how each operand, and what follows them
 pub record Template : Type 0 where
   pub code : Scalar
   pub operands : List Scalar
   pub tail : Tail
+
+-- the operand that defines a value; a width of 0 has become the literal 0
+abbrev pub op_of : Scalar → AbbrevOp
+op_of (Known number) = Literal number
+op_of (Field width) = Fixed width
+op_of (Chunks width) = Vbr width
+op_of Letter = Char6
+
+-- the operands that define what follows the values
+abbrev pub tail_ops : Tail → List AbbrevOp
+tail_ops NoTail = []
+tail_ops (Elements s) = Array ∷ op_of s ∷ []
+tail_ops Bytes = Blob ∷ []
+
+-- the operands that define an abbreviation, that of the code first
+abbrev pub ops_of : Template → List AbbrevOp
+ops_of t = op_of t.code ∷ (map op_of t.operands ++ tail_ops t.tail)
+
+-- whether a record by an abbreviation ends in a blob
+abbrev pub is_blob : Tail → Bool
+is_blob NoTail = false
+is_blob (Elements s) = false
+is_blob Bytes = true
+
+abbrev pub ends_in_blob : Option Template → Bool
+ends_in_blob None = false
+ends_in_blob (Some t) = is_blob t.tail

@@ -6,7 +6,8 @@ use Rattle.bits.specs.declared.fault.BitFault.{BitFault}
 use Rattle.bits.specs.declared.fault.BitFaultKind.TheVariants.{BadAbbreviation, BadBlockLength, NestedTooDeep}
 use Rattle.bit_stream.specs.declared.entry.Entry.{Entry}
 use Rattle.bit_stream.specs.declared.entry.Entry.TheVariants.{Block, EndBlock, Record, End}
-use Rattle.bit_stream.specs.Abbreviation.{Template}
+use Rattle.bit_stream.specs.declared.abbreviation.AbbrevOp.{AbbrevOp}
+use Rattle.bit_stream.specs.Abbreviation.{Template, ops_of, ends_in_blob}
 use Rattle.bit_stream.specs.Answers.{refuse}
 use Rattle.bit_stream.specs.Definition.{template}
 use Rattle.bit_stream.specs.Record.{Read, unabbreviated, abbreviated}
@@ -152,3 +153,44 @@ pub data Next : Scope → Cursor → Found Item → Type 0 where
   here : {s : Scope} {c d : Cursor} {i : Item} {e : Entry} → item s c ≡ Ok (i, d) → i.entry ≡ Some e → Next s c (Ok (i, d))
   refused : {s : Scope} {c : Cursor} {x : BitFault} → item s c ≡ Err x → Next s c (Err x)
   behind : {s : Scope} {c d : Cursor} {i : Item} {r : Found Item} → item s c ≡ Ok (i, d) → i.entry ≡ None → Next i.scope d r → Next s c r
+
+-- the number that was found, or 0
+abbrev pub number_of : Found ℕ → ℕ
+number_of (Ok x) = x.0
+number_of (Err fault) = 0
+
+-- the abbreviation id at a place in a block
+unfoldable pub id_at : Scope → Cursor → ℕ
+id_at s c = number_of (fixed s.block.width c)
+
+-- whether a record behind such an abbreviation id ends in a blob: the ids below 4 are of no abbreviation
+abbrev pub has_blob_by : Scope → ℕ → Bool
+has_blob_by s id = nat_le 4 id && ends_in_blob (template_of s id)
+
+-- the abbreviation that is defined behind an abbreviation id
+unfoldable pub defined_at : Scope → Cursor → Found Template
+defined_at s c = fixed s.block.width c >>= λ _ d. template d
+
+-- the operands of a definition that was found, behind those of others
+abbrev pub with_definition : List (List AbbrevOp) → Found Template → List (List AbbrevOp)
+with_definition front (Ok x) = front ++ ops_of x.0 ∷ []
+with_definition front (Err fault) = front
+
+-- the definitions behind what stands at a place, where that may be one
+abbrev pub with_item : List (List AbbrevOp) → Option Entry → Found Template → List (List AbbrevOp)
+with_item front None found = with_definition front found
+with_item front (Some entry) found = front
+
+-- of a record, this is its abbreviation id, and whether it ends in a blob
+abbrev pub IsRecordBy : Option Entry → ℕ → Bool → Scope → ℕ → Type 0
+IsRecordBy None id blob s found = Unit {0}
+IsRecordBy (Some (Block block)) id blob s found = Unit {0}
+IsRecordBy (Some EndBlock) id blob s found = Unit {0}
+IsRecordBy (Some (Record code)) id blob s found = (id ≡ found) × (blob ≡ has_blob_by s found)
+IsRecordBy (Some End) id blob s found = Unit {0}
+
+-- from one place to another stand only definitions, with these operands
+pub data Passed : Scope → Cursor → List (List AbbrevOp) → Scope → Cursor → Type 0 where
+  start : {s : Scope} {c : Cursor} → Passed s c [] s c
+  more : {s t : Scope} {c d e : Cursor} {i : Item} {front : List (List AbbrevOp)}
+      → Passed s c front t d → item t d ≡ Ok (i, e) → i.entry ≡ None → Passed s c (with_definition front (defined_at t d)) i.scope e

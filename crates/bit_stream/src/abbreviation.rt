@@ -1,11 +1,13 @@
 //! Abbreviations: how the values of a record are spelled (LLVM Bitcode File Format, "Abbreviations").
-ghost use Rattle.std.specs.Prelude.{◌≡◌, ℕ, ◌≤◌};
+ghost use Rattle.std.specs.Prelude.{◌≡◌, ℕ, ◌≤◌, ◌++◌, map, IfOk, OnOk};
+ghost use Rattle.bit_stream.specs.Abbreviation.{op_of, tail_ops, ops_of, is_blob};
 
 use ir_base::ItemList;
+use std::alloc::{AllocError, Global};
 use std::marker::Model;
 
 /// An operand of an abbreviation, as it is defined. Widths are in bits.
-#[derive(Clone, Copy, Debug, PartialEq, Eq)]
+#[derive(Clone, Copy)]
 pub enum AbbrevOp {
     /// The value itself; a record spells nothing.
     Literal(u64),
@@ -23,6 +25,9 @@ pub enum AbbrevOp {
 
 /// The operands of an abbreviation, in order.
 pub type Abbreviation = ItemList<AbbrevOp>;
+
+/// Some abbreviations, in order.
+pub type AbbreviationList = ItemList<Abbreviation>;
 
 /// The width of a field, in bits: at most 64.
 #[derive(Clone, Copy)]
@@ -107,6 +112,20 @@ pub enum Scalar {
     Letter,
 }
 
+impl Scalar {
+    /// The operand that defines it.
+    fn op(self) -> AbbrevOp
+        ensures { result ≡ op_of self }
+    {
+        match self {
+            Scalar::Known(number) => AbbrevOp::Literal(number),
+            Scalar::Field(width) => AbbrevOp::Fixed(width.bits()),
+            Scalar::Chunks(width) => AbbrevOp::Vbr(width.bits()),
+            Scalar::Letter => AbbrevOp::Char6,
+        }
+    }
+}
+
 /// What follows the values of a record that are spelled one by one.
 #[derive(Clone, Copy)]
 pub enum Tail {
@@ -116,6 +135,18 @@ pub enum Tail {
     Elements(Scalar),
     /// A count, and so many bytes.
     Bytes,
+}
+
+impl Tail {
+    /// Whether it is a blob.
+    pub fn is_blob(self) -> bool
+        ensures { result ≡ is_blob self }
+    {
+        match self {
+            Tail::Bytes => true,
+            Tail::NoTail | Tail::Elements(_) => false,
+        }
+    }
 }
 
 /// An abbreviation that the format admits: the spelling of the code, of each operand, and of what follows.
@@ -132,4 +163,41 @@ impl Model for Template {
     ghost Value = { Template };
 
     ghost view = { λ t. record { code = t.code; operands = t.operands.items; tail = t.tail } };
+}
+
+impl Template {
+    /// The operands that define it.
+    pub fn abbreviation(&self, alloc: Global) -> Result<Abbreviation, AllocError>
+        ensures { IfOk result (λ list. list ≡ ops_of self.now) }
+    {
+        let mut ops = Abbreviation::new(alloc);
+        ops.push(self.code.op())?;
+        add_ops(&mut ops, &self.operands)?;
+        add_tail_ops(&mut ops, self.tail)?;
+        Ok(ops)
+    }
+}
+
+/// The operands that define some values.
+fn add_ops(ops: &mut Abbreviation, scalars: &[Scalar]) -> Result<(), AllocError>
+    ensures { OnOk result (ops.new ≡ ops.old ++ map op_of scalars.now) }
+{
+    for scalar in scalars {
+        ops.push(scalar.op())?;
+    }
+    Ok(())
+}
+
+/// The operands that define what follows the values.
+fn add_tail_ops(ops: &mut Abbreviation, tail: Tail) -> Result<(), AllocError>
+    ensures { OnOk result (ops.new ≡ ops.old ++ tail_ops tail) }
+{
+    match tail {
+        Tail::NoTail => Ok(()),
+        Tail::Elements(scalar) => {
+            ops.push(AbbrevOp::Array)?;
+            ops.push(scalar.op())
+        }
+        Tail::Bytes => ops.push(AbbrevOp::Blob),
+    }
 }

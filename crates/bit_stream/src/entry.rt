@@ -1,7 +1,7 @@
 //! Entries of a stream.
 
 /// What a stream holds at a place.
-#[derive(Clone, Copy, Debug, PartialEq, Eq)]
+#[derive(Clone, Copy)]
 pub enum Entry {
     /// A block with this id begins.
     Block(u32),

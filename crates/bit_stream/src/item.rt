@@ -1,13 +1,15 @@
 //! What stands at a place of a stream: an entry or a definition.
-ghost use Rattle.std.specs.Prelude.{◌≡◌, ℕ, ◌<◌, ◌≤◌, [], length, Some, None};
+ghost use Rattle.std.specs.Prelude.{◌≡◌, ℕ, ◌<◌, ◌≤◌, ◌^◌, ◌++◌, ◌∷◌, [], length, Some, None, Ok, IfOk};
 ghost use Rattle.bit_stream.specs.Answers.{Ran};
 ghost use Rattle.bit_stream.specs.Scope.{template_of};
 ghost use Rattle.bit_stream.specs.Record.{Read};
-ghost use Rattle.bit_stream.specs.Entry.{is_blockinfo, Item, plain, enter_block, end_block, define_for, define, recorded, settled, by_template, record_by, inside, item};
-ghost use Rattle.bit_stream.specs.declared.entry.Entry.TheVariants.{Record};
+ghost use Rattle.bit_stream.specs.Entry.{is_blockinfo, Item, plain, enter_block, end_block, define_for, define, recorded, settled, by_template, record_by, inside, item, id_at, has_blob_by, defined_at, with_definition, with_item, IsRecordBy};
+ghost use Rattle.bit_stream.specs.Abbreviation.{ends_in_blob, ops_of};
+ghost use Rattle.bit_stream.specs.Definition.{template};
+ghost use Rattle.bit_stream.specs.declared.entry.Entry.TheVariants.{Block, EndBlock, Record};
 
 use crate::StreamFault;
-use crate::abbreviation::NarrowWidth;
+use crate::abbreviation::{AbbreviationList, NarrowWidth, Template};
 use crate::definition::template;
 use crate::entry::Entry;
 use crate::fault::{bad_abbreviation, bad_block_length, nested_too_deep};
@@ -19,30 +21,35 @@ use std::alloc::Global;
 /// How many blocks may be open at once.
 const MAX_OPEN: usize = 16;
 
-/// What stands at a place: an entry, or none where it is a definition, and a record's blob.
+/// What stands at a place: an entry, or none where it is a definition; and of a record its abbreviation id, its blob, and
+/// whether it ended in one.
 #[derive(Drop)]
 pub struct Item<'b> {
     pub entry: Option<Entry>,
+    pub id: u32,
     pub blob: &'b [u8],
+    pub has_blob: bool,
 }
 
 impl<'b> Item<'b> {
-    /// An entry that is no record.
-    fn plain(entry: Entry) -> Self
-        ensures entry { result.entry ≡ Some entry }
+    /// What is no record.
+    fn plain(entry: Option<Entry>) -> Self
+        ensures entry { result.entry ≡ entry }
         ensures blob { result.blob.now ≡ [] }
     {
         Item {
-            entry: Some(entry),
+            entry,
+            id: 0,
             blob: &[],
+            has_blob: false,
         }
     }
 }
 
-/// ENTER_SUBBLOCK behind its id.
+/// ENTER_SUBBLOCK behind its id. It answers the id of the block.
 #[tactic(auto, unfolding(crate::specs::Entry::enter_block))]
-fn enter_block(cursor: &mut BitCursor, scope: &mut Scope) -> Result<Entry, StreamFault>
-    ensures { Ran (λ entry. plain (Some entry) scope.new) cursor.new result (enter_block scope.old cursor.old) }
+fn enter_block(cursor: &mut BitCursor, scope: &mut Scope) -> Result<u32, StreamFault>
+    ensures { Ran (λ block. plain (Some (Block block)) scope.new) cursor.new result (enter_block scope.old cursor.old) }
 {
     let id_bit = cursor.at();
     let id = cursor.vbr(8)?;
@@ -60,22 +67,41 @@ fn enter_block(cursor: &mut BitCursor, scope: &mut Scope) -> Result<Entry, Strea
     cursor.align()?;
     let count_bit = cursor.at();
     let words = cursor.fixed(32)?;
-    scope.enter(id as u32, NarrowWidth::new(width as u32), count_bit, words)?;
-    Ok(Entry::Block(id as u32))
+    scope.enter(
+        id as u32,
+        NarrowWidth::new(width as u32),
+        count_bit,
+        words as u32,
+    )?;
+    Ok(id as u32)
 }
 
 /// END_BLOCK behind its id.
 #[tactic(auto, unfolding(crate::specs::Entry::end_block))]
-fn end_block(cursor: &mut BitCursor, scope: &mut Scope) -> Result<Entry, StreamFault>
-    ensures { Ran (λ entry. plain (Some entry) scope.new) cursor.new result (end_block scope.old cursor.old) }
+fn end_block(cursor: &mut BitCursor, scope: &mut Scope) -> Result<(), StreamFault>
+    ensures { Ran (λ _. plain (Some EndBlock) scope.new) cursor.new result (end_block scope.old cursor.old) }
 {
     cursor.align()?;
     let count_bit = scope.count_bit();
-    if (cursor.at() / 32).saturating_sub(count_bit / 32 + 1) != scope.words() {
+    if (cursor.at() / 32).saturating_sub(count_bit / 32 + 1) != u64::from(scope.words()) {
         return Err(bad_block_length(count_bit).into());
     }
     scope.leave();
-    Ok(Entry::EndBlock)
+    Ok(())
+}
+
+/// The definition in front, which is added to those that are there.
+fn next_template(
+    cursor: &mut BitCursor,
+    definitions: &mut AbbreviationList,
+    alloc: Global,
+) -> Result<Template, StreamFault>
+    ensures read { Ran (λ template. template) cursor.new result (template cursor.old) }
+    ensures told { IfOk result (λ template. definitions.new ≡ definitions.old ++ ops_of template ∷ []) }
+{
+    let template = template(cursor, alloc)?;
+    definitions.push(template.abbreviation(alloc)?)?;
+    Ok(template)
 }
 
 /// DEFINE_ABBREV behind its id, which stands at this bit.
@@ -83,18 +109,20 @@ fn end_block(cursor: &mut BitCursor, scope: &mut Scope) -> Result<Entry, StreamF
 fn define(
     cursor: &mut BitCursor,
     scope: &mut Scope,
+    definitions: &mut AbbreviationList,
     alloc: Global,
     bit: u64,
 ) -> Result<(), StreamFault>
-    ensures { Ran (λ _. plain None scope.new) cursor.new result (define bit scope.old cursor.old) }
+    ensures read { Ran (λ _. plain None scope.new) cursor.new result (define bit scope.old cursor.old) }
+    ensures told { IfOk result (λ _. definitions.new ≡ with_definition definitions.old (template cursor.old)) }
 {
     if scope.is_blockinfo() {
         let Some(id) = scope.target() else {
             return Err(bad_abbreviation(bit).into());
         };
-        scope.give(id, template(cursor, alloc)?)?;
+        scope.give(id, next_template(cursor, definitions, alloc)?)?;
     } else {
-        scope.define(template(cursor, alloc)?)?;
+        scope.define(next_template(cursor, definitions, alloc)?)?;
     }
     Ok(())
 }
@@ -124,7 +152,8 @@ fn by_template<'b>(
 ) -> Result<Head<'b>, StreamFault>
     requires id_in { 4 ≤ id }
     requires none { operands.old.items ≡ [] }
-    ensures { Ran (λ head. record { code = head.code; operands = operands.new.items; blob = head.blob.now }) cursor.new result (by_template (template_of scope.now id) bit (is_blockinfo scope.now) cursor.old) }
+    ensures read { Ran (λ head. record { code = head.code; operands = operands.new.items; blob = head.blob.now }) cursor.new result (by_template (template_of scope.now id) bit (is_blockinfo scope.now) cursor.old) }
+    ensures has_blob { IfOk result (λ head. head.has_blob ≡ ends_in_blob (template_of scope.now id)) }
 {
     match scope.template(id) {
         Some(template) => abbreviated(cursor, operands, template, scope.is_blockinfo()),
@@ -140,10 +169,11 @@ fn record<'b>(
     operands: &mut Vec<u64>,
     id: u64,
     bit: u64,
-) -> Result<Item<'b>, StreamFault>
+) -> Result<Head<'b>, StreamFault>
     requires id_in { 3 ≤ id }
     requires none { operands.old.items ≡ [] }
-    ensures { Ran (λ item. record { entry = item.entry; scope = scope.new; operands = operands.new.items; blob = item.blob.now }) cursor.new result (record_by id bit scope.old cursor.old) }
+    ensures read { Ran (λ head. record { entry = Some (Record head.code); scope = scope.new; operands = operands.new.items; blob = head.blob.now }) cursor.new result (record_by id bit scope.old cursor.old) }
+    ensures has_blob { IfOk result (λ head. head.has_blob ≡ has_blob_by scope.old id) }
 {
     let head = if id == 3 {
         unabbreviated(cursor, operands, scope.is_blockinfo())?
@@ -151,10 +181,7 @@ fn record<'b>(
         by_template(cursor, scope, operands, id, bit)?
     };
     recorded(scope, head.code, operands, bit)?;
-    Ok(Item {
-        entry: Some(Entry::Record(head.code)),
-        blob: head.blob,
-    })
+    Ok(head)
 }
 
 /// What stands behind an abbreviation id in a block. The id stands at this bit.
@@ -163,49 +190,64 @@ fn inside<'b>(
     cursor: &mut BitCursor<'b>,
     scope: &mut Scope,
     operands: &mut Vec<u64>,
+    definitions: &mut AbbreviationList,
     alloc: Global,
     id: u64,
     bit: u64,
 ) -> Result<Item<'b>, StreamFault>
-    requires { operands.old.items ≡ [] }
-    ensures { Ran (λ item. record { entry = item.entry; scope = scope.new; operands = operands.new.items; blob = item.blob.now }) cursor.new result (inside id bit scope.old cursor.old) }
+    requires small { id < 2 ^ 32 }
+    requires none { operands.old.items ≡ [] }
+    ensures read { Ran (λ item. record { entry = item.entry; scope = scope.new; operands = operands.new.items; blob = item.blob.now }) cursor.new result (inside id bit scope.old cursor.old) }
+    ensures told { IfOk result (λ item. IsRecordBy item.entry item.id item.has_blob scope.old id) }
+    ensures definitions { IfOk result (λ item. definitions.new ≡ with_item definitions.old item.entry (template cursor.old)) }
 {
     match id {
-        0 => Ok(Item::plain(end_block(cursor, scope)?)),
+        0 => {
+            end_block(cursor, scope)?;
+            Ok(Item::plain(Some(Entry::EndBlock)))
+        }
         1 if scope.is_blockinfo() => Err(bad_abbreviation(bit).into()),
-        1 => Ok(Item::plain(enter_block(cursor, scope)?)),
+        1 => Ok(Item::plain(Some(Entry::Block(enter_block(cursor, scope)?)))),
         2 => {
-            define(cursor, scope, alloc, bit)?;
+            define(cursor, scope, definitions, alloc, bit)?;
+            Ok(Item::plain(None))
+        }
+        _ => {
+            let head = record(cursor, scope, operands, id, bit)?;
             Ok(Item {
-                entry: None,
-                blob: &[],
+                entry: Some(Entry::Record(head.code)),
+                id: id as u32,
+                blob: head.blob,
+                has_blob: head.has_blob,
             })
         }
-        _ => record(cursor, scope, operands, id, bit),
     }
 }
 
-/// What stands in front. Operands are added to a list that is empty.
-#[tactic(auto, unfolding(crate::specs::Entry::item))]
+/// What stands in front. Operands are added to a list that is empty, a definition to those that are there.
+#[tactic(auto, unfolding(crate::specs::Entry::item, crate::specs::Entry::id_at, crate::specs::Entry::defined_at))]
 pub fn next_item<'b>(
     cursor: &mut BitCursor<'b>,
     scope: &mut Scope,
     operands: &mut Vec<u64>,
+    definitions: &mut AbbreviationList,
     alloc: Global,
 ) -> Result<Item<'b>, StreamFault>
     requires { operands.old.items ≡ [] }
-    ensures { Ran (λ item. record { entry = item.entry; scope = scope.new; operands = operands.new.items; blob = item.blob.now }) cursor.new result (item scope.old cursor.old) }
+    ensures read { Ran (λ item. record { entry = item.entry; scope = scope.new; operands = operands.new.items; blob = item.blob.now }) cursor.new result (item scope.old cursor.old) }
+    ensures told { IfOk result (λ item. IsRecordBy item.entry item.id item.has_blob scope.old (id_at scope.old cursor.old)) }
+    ensures definitions { IfOk result (λ item. definitions.new ≡ with_item definitions.old item.entry (defined_at scope.old cursor.old)) }
 {
     let bit = cursor.at();
     if scope.depth() > 0 {
         let id = cursor.fixed(scope.width().bits())?;
-        return inside(cursor, scope, operands, alloc, id, bit);
+        return inside(cursor, scope, operands, definitions, alloc, id, bit);
     }
     if cursor.is_at_end() {
-        return Ok(Item::plain(Entry::End));
+        return Ok(Item::plain(Some(Entry::End)));
     }
     if cursor.fixed(scope.width().bits())? != 1 {
         return Err(bad_abbreviation(bit).into());
     }
-    Ok(Item::plain(enter_block(cursor, scope)?))
+    Ok(Item::plain(Some(Entry::Block(enter_block(cursor, scope)?))))
 }

@@ -15,15 +15,14 @@ mod reader;
 mod record;
 mod scope;
 mod spelling;
+mod templates;
+mod told;
 mod writer;
 
-pub use abbreviation::{AbbrevOp, Abbreviation};
+pub use abbreviation::{AbbrevOp, Abbreviation, AbbreviationList};
 pub use bits::{BitFault, BitFaultKind};
 pub use entry::Entry;
 pub use fault::StreamFault;
 pub use law::{abbreviated_is_read_back, record_is_read_back};
 pub use reader::BitReader;
 pub use writer::BitWriter;
-
-#[cfg(test)]
-mod tests;

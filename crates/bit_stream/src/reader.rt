@@ -1,13 +1,16 @@
 //! The reader of a stream.
-ghost use Rattle.std.specs.Prelude.{◌≡◌, ℕ, ◌≤◌, ◌^◌, length, Some, None, ◌≢◌};
+ghost use Rattle.std.specs.Prelude.{◌≡◌, ℕ, ◌+◌, ◌<◌, ◌≤◌, ◌^◌, length, Some, None, ◌≢◌, OnErr};
 ghost use Rattle.bits.specs.Reading.{fixed, vbr};
 ghost use Rattle.bit_stream.specs.Reader.{Reader, opened, Numbered, Entered, Reached, Stopped};
+ghost use Rattle.bit_stream.specs.Writer.{in_force};
 ghost use Rattle.bit_stream.specs.declared.fault.StreamFault.TheVariants.{Memory};
 
 use crate::StreamFault;
+use crate::abbreviation::AbbreviationList;
 use crate::entry::Entry;
 use crate::item::next_item;
 use crate::scope::Scope;
+use crate::told::Told;
 use bits::{BitCursor, BitFault, BitFaultKind};
 use std::alloc::Global;
 use std::marker::Model;
@@ -25,6 +28,8 @@ pub struct BitReader<'b> {
     stopped: Option<StreamFault>,
     operands: Vec<u64>,
     blob: &'b [u8],
+    told: Told,
+    definitions: AbbreviationList,
     alloc: Global,
 }
 
@@ -33,7 +38,7 @@ impl<'b> Model for BitReader<'b> {
 
     ghost Value = { Reader };
 
-    ghost view = { λ r. record { cursor = r.cursor; scope = r.scope; stopped = r.stopped; operands = r.operands.items; blob = r.blob.now } };
+    ghost view = { λ r. record { cursor = r.cursor; scope = r.scope; stopped = r.stopped; operands = r.operands.items; blob = r.blob.now; told = r.told; definitions = r.definitions } };
 }
 
 impl<'b> BitReader<'b> {
@@ -59,6 +64,8 @@ impl<'b> BitReader<'b> {
             stopped: None,
             operands: Vec::new(alloc),
             blob: &[],
+            told: Told::nothing(),
+            definitions: AbbreviationList::new(alloc),
             alloc,
         })
     }
@@ -155,30 +162,80 @@ impl<'b> BitReader<'b> {
         self.blob
     }
 
-    /// From now on this fault is answered, and no record is held.
+    /// The width of the abbreviation ids of the block that was entered last, in bits; 0 before the first block.
+    pub fn entry_width(&self) -> u32
+        ensures { result ≡ self.now.told.width }
+    {
+        self.told.width
+    }
+
+    /// The count of words of the block that was entered last; 0 before the first block.
+    pub fn entry_words(&self) -> u32
+        ensures { result ≡ self.now.told.words }
+    {
+        self.told.words
+    }
+
+    /// The abbreviation id by which the last record was read; 0 before the first record.
+    pub fn entry_abbreviation(&self) -> u32
+        ensures { result ≡ self.now.told.abbreviation }
+    {
+        self.told.abbreviation
+    }
+
+    /// Whether the last record ended in a blob, an empty one included; false before the first record.
+    pub fn has_blob(&self) -> bool
+        ensures { result ≡ self.now.told.has_blob }
+    {
+        self.told.has_blob
+    }
+
+    /// The definitions between the entry that was read last and the one before it, in order; none after a fault.
+    pub fn definitions(&self) -> &AbbreviationList
+        ensures { result.now ≡ self.now.definitions }
+    {
+        &self.definitions
+    }
+
+    /// The abbreviation id of a definition in front, if one stands there: that behind those in force. In BLOCKINFO these
+    /// are the ones of the block that was named.
+    pub fn next_abbreviation(&self) -> u64
+        ensures value { result ≡ in_force self.now.scope + 4 }
+        ensures few { result < 2 ^ 34 }
+    {
+        self.scope.in_force() as u64 + 4
+    }
+
+    /// From now on this fault is answered, and no record and no definitions are held.
     fn stop(&mut self, fault: StreamFault)
-        ensures { Stopped fault self.new }
+        ensures stopped { Stopped fault self.new }
+        ensures told { self.new.told ≡ self.old.told }
     {
         self.stopped = Some(fault);
         self.operands.clear();
         self.blob = &[];
+        self.definitions = AbbreviationList::new(self.alloc);
     }
 
     /// The next entry of a reader that has not stopped.
     fn read_entry(&mut self) -> Result<Entry, StreamFault>
         requires { self.old.stopped ≡ None }
-        ensures { Reached self.old result self.new }
+        ensures reached { Reached self.old result self.new }
+        ensures told { OnErr result (self.new.told ≡ self.old.told) }
     {
+        self.definitions = AbbreviationList::new(self.alloc);
         loop {
             self.operands.clear();
             let item = next_item(
                 &mut self.cursor,
                 &mut self.scope,
                 &mut self.operands,
+                &mut self.definitions,
                 self.alloc,
             )?;
             self.blob = item.blob;
             if let Some(entry) = item.entry {
+                self.told = self.told.behind(entry, &item, &self.scope);
                 return Ok(entry);
             }
         }

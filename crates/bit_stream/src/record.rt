@@ -1,6 +1,7 @@
 //! The values of a record (LLVM Bitcode File Format, "Data Records").
-ghost use Rattle.std.specs.Prelude.{◌≡◌, ℕ, ◌<◌, ◌^◌, [], ◌&&◌, ◌==◌, slice_index};
+ghost use Rattle.std.specs.Prelude.{◌≡◌, ℕ, ◌<◌, ◌^◌, [], ◌&&◌, ◌==◌, slice_index, false, IfOk};
 ghost use Rattle.bits.specs.Cursor.{found};
+ghost use Rattle.bit_stream.specs.Abbreviation.{is_blob};
 ghost use Rattle.bit_stream.specs.Answers.{Ran};
 ghost use Rattle.bit_stream.specs.Record.{letters, value_by, code_by, operand, elements, each, counted, tail_by, Read, names_block, unabbreviated, abbreviated};
 ghost use Rattle.bit_stream.specs.declared.abbreviation.Scalar.TheVariants.{Chunks};
@@ -18,6 +19,8 @@ const LETTERS: [u8; 64] = *b"abcdefghijklmnopqrstuvwxyzABCDEFGHIJKLMNOPQRSTUVWXY
 pub struct Head<'b> {
     pub code: u32,
     pub blob: &'b [u8],
+    /// Whether it ended in a blob, which may be empty.
+    pub has_blob: bool,
 }
 
 /// The character of one of 64 numbers.
@@ -146,12 +149,17 @@ pub fn unabbreviated<'b>(
     in_blockinfo: bool,
 ) -> Result<Head<'b>, StreamFault>
     requires { operands.old.items ≡ [] }
-    ensures { Ran (λ head. record { code = head.code; operands = operands.new.items; blob = head.blob.now }) cursor.new result (unabbreviated in_blockinfo cursor.old) }
+    ensures read { Ran (λ head. record { code = head.code; operands = operands.new.items; blob = head.blob.now }) cursor.new result (unabbreviated in_blockinfo cursor.old) }
+    ensures no_blob { IfOk result (λ head. head.has_blob ≡ false) }
 {
     let spelling = Scalar::Chunks(NarrowWidth::new(6));
     let code = code_by(cursor, spelling)?;
     add_counted(cursor, operands, spelling, in_blockinfo && code == 1)?;
-    Ok(Head { code, blob: &[] })
+    Ok(Head {
+        code,
+        blob: &[],
+        has_blob: false,
+    })
 }
 
 /// A record by an abbreviation. Its operands are added to a list that is empty.
@@ -163,11 +171,16 @@ pub fn abbreviated<'b>(
     in_blockinfo: bool,
 ) -> Result<Head<'b>, StreamFault>
     requires { operands.old.items ≡ [] }
-    ensures { Ran (λ head. record { code = head.code; operands = operands.new.items; blob = head.blob.now }) cursor.new result (abbreviated in_blockinfo template.now cursor.old) }
+    ensures read { Ran (λ head. record { code = head.code; operands = operands.new.items; blob = head.blob.now }) cursor.new result (abbreviated in_blockinfo template.now cursor.old) }
+    ensures has_blob { IfOk result (λ head. head.has_blob ≡ is_blob template.now.tail) }
 {
     let code = code_by(cursor, template.code)?;
     let names_block = in_blockinfo && code == 1;
     add_each(cursor, operands, &template.operands, names_block)?;
     let blob = add_tail(cursor, operands, template.tail, names_block)?;
-    Ok(Head { code, blob })
+    Ok(Head {
+        code,
+        blob,
+        has_blob: template.tail.is_blob(),
+    })
 }

@@ -5,7 +5,7 @@ ghost use Rattle.bit_stream.specs.Writer.{in_force};
 ghost use Rattle.bit_stream.specs.Entry.{is_top, is_blockinfo, entered, left, defined, given_for, targeting};
 
 use crate::abbreviation::{NarrowWidth, Template};
-use ir_base::ItemList;
+use crate::templates::TemplateList;
 use std::alloc::{AllocError, Global};
 use std::collections::BTreeMap;
 use std::marker::Model;
@@ -19,10 +19,10 @@ struct Frame {
     width: NarrowWidth,
     /// The first bit of the count of words.
     count_bit: u64,
-    words: u64,
+    words: u32,
     /// How many of the abbreviations that were given to its id are in force.
-    given: usize,
-    own: Vec<Template>,
+    given: u32,
+    own: TemplateList,
     /// In a BLOCKINFO, the block that definitions are for.
     target: Option<u64>,
 }
@@ -32,7 +32,7 @@ impl Model for Frame {
 
     ghost Value = { Frame };
 
-    ghost view = { λ f. record { id = f.id; width = f.width; count_bit = f.count_bit; words = f.words; given = f.given; own = f.own.items; target = f.target } };
+    ghost view = { λ f. record { id = f.id; width = f.width; count_bit = f.count_bit; words = f.words; given = f.given; own = f.own; target = f.target } };
 }
 
 /// The blocks that are open, and the abbreviations that BLOCKINFO gave to each block id.
@@ -40,7 +40,7 @@ impl Model for Frame {
 pub struct Scope {
     block: Frame,
     around: Vec<Frame>,
-    given: BTreeMap<u64, ItemList<Template>>,
+    given: BTreeMap<u64, TemplateList>,
     alloc: Global,
 }
 
@@ -64,7 +64,7 @@ impl Scope {
                 count_bit: 0,
                 words: 0,
                 given: 0,
-                own: Vec::new(alloc),
+                own: TemplateList::new(alloc),
                 target: None,
             },
             around: Vec::new(alloc),
@@ -116,7 +116,7 @@ impl Scope {
     }
 
     /// The block's count of words.
-    pub fn words(&self) -> u64
+    pub fn words(&self) -> u32
         ensures { result ≡ self.now.block.words }
     {
         let block = &self.block;
@@ -129,12 +129,12 @@ impl Scope {
         id: u32,
         width: NarrowWidth,
         count_bit: u64,
-        words: u64,
+        words: u32,
     ) -> Result<(), AllocError>
         ensures { OnOk result (self.new ≡ entered self.old id width count_bit words) }
     {
         let given = match self.given.get(&u64::from(id)) {
-            Some(list) => list.len(),
+            Some(list) => list.len() as u32,
             None => 0,
         };
         let block = Frame {
@@ -143,7 +143,7 @@ impl Scope {
             count_bit,
             words,
             given,
-            own: Vec::new(self.alloc),
+            own: TemplateList::new(self.alloc),
             target: None,
         };
         let outer = mem::replace(&mut self.block, block);
@@ -165,8 +165,7 @@ impl Scope {
         ensures { OnOk result (self.new ≡ defined self.old template) }
     {
         let block = &mut self.block;
-        block.own.push(template)?;
-        Ok(())
+        block.own.push(template)
     }
 
     /// Adds a definition for a block id.
@@ -175,7 +174,7 @@ impl Scope {
     {
         let mut list = match self.given.remove(&id) {
             Some(list) => list,
-            None => ItemList::new(self.alloc),
+            None => TemplateList::new(self.alloc),
         };
         list.push(template)?;
         self.given.insert(id, list)?;
@@ -184,12 +183,12 @@ impl Scope {
 
     /// How many abbreviations are in force where the next one is defined.
     pub fn in_force(&self) -> usize
-        requires { in_force self.now < 2 ^ 32 }
-        ensures { result ≡ in_force self.now }
+        ensures value { result ≡ in_force self.now }
+        ensures few { result < 2 ^ 33 }
     {
         if !self.is_blockinfo() {
             let block = &self.block;
-            return block.given + block.own.len();
+            return block.given as usize + block.own.len();
         }
         let Some(id) = self.target() else {
             return 0;
@@ -215,11 +214,12 @@ impl Scope {
     {
         let index = (id - 4) as usize;
         let block = &self.block;
-        if index < block.given {
+        let given = block.given as usize;
+        if index < given {
             let list = self.given.get(&u64::from(block.id?))?;
-            list.as_slice().get(index)
+            list.get(index)
         } else {
-            block.own.as_slice().get(index - block.given)
+            block.own.get(index - given)
         }
     }
 }

@@ -8,7 +8,7 @@ use Rattle.bit_stream.specs.Abbreviation.{Template}
 use Rattle.bit_stream.specs.Scope.{Scope, template_of}
 use Rattle.bit_stream.specs.Record.{names_block}
 use Rattle.bit_stream.specs.Entry.{is_top, is_blockinfo, entered, left, named, recorded}
-use Rattle.bit_stream.specs.Writer.{with_template, naming, after_record}
+use Rattle.bit_stream.specs.Writer.{with_template, given_count, in_force, naming, after_record}
 use Rattle.bit_stream.specs.declared.abbreviation.Tail.{Tail}
 use Rattle.bit_stream.specs.declared.abbreviation.Tail.TheVariants.{NoTail, Elements, Bytes}
 use Rattle.bit_tree.specs.Written.{NamesFirst, front_of}
@@ -46,6 +46,13 @@ alike_blockinfo s v h = rw h.id refl
 
 pub alike_template : (s v : Scope) (id : ℕ) → Alike s v → template_of s id ≡ template_of v id
 alike_template s v id h = rw (h.given, h.own, h.table, h.id) refl
+
+alike_count : (s v : Scope) (o : Option ℕ) → s.given ≡ v.given → given_count s o ≡ given_count v o
+alike_count s v None h = refl
+alike_count s v (Some id) h = rw h refl
+
+pub alike_in_force : (s v : Scope) → Alike s v → in_force s ≡ in_force v
+alike_in_force s v h = rw (alike_blockinfo s v h, h.target, alike_count s v v.block.target h.table, h.given, h.own) refl
 
 -- definitions
 

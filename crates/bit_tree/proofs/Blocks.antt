@@ -13,7 +13,7 @@ use Rattle.bit_stream.specs.declared.entry.Entry.TheVariants.{Block, EndBlock}
 use Rattle.bit_stream.specs.Scope.{Scope, template_of}
 use Rattle.bit_stream.specs.Entry.{Item, item, plain, is_top, is_blockinfo, entered, left, inside, enter_block, words_since, end_block as read_end}
 use Rattle.bit_stream.specs.Spelling.{chunks, aligned, template_for}
-use Rattle.bit_stream.specs.Writer.{Writer, id_bits, enter, ended, end_block, define, put_record, abbreviated}
+use Rattle.bit_stream.specs.Writer.{Writer, id_bits, enter, ended, end_block, define, in_force, put_record, abbreviated}
 use Rattle.bit_tree.specs.Stream.{Tree, block, values, Stands, Holds, none, of_block}
 use Rattle.bit_stream.proofs.ReadBack.{fixed_reads, vbr_reads}
 use Rattle.bit_tree.specs.Written.{Written, no_more, a_block, a_definition, a_record, a_short_record, written, tree_of, with_definition, with_values, MayEnter, MayEnd, Allowed}
@@ -138,7 +138,7 @@ block_reads : (s v : Scope) (x : Writer) (n at id width : ℕ) (m rest : List Bo
     → ((t : Scope) → Alike t (entered v id width 0 0) → (at : ℕ) (rest : List Bool) → at % 32 ≡ 0 → Arrives t x.scope (record { at = at; rest = m ++ rest }) (record { at = at + length m; rest = rest }) tree)
     → (let a = bits_of v.block.width 1 in
     let bits = (a ++ enter_bits (n + length a) id width (length (ended x) / 32)) ++ ended x in
-    After s (left x.scope) (record { at = at; rest = bits ++ rest }) (record { at = at + length bits; rest = rest }) (λ y. block id tree y))
+    After s (left x.scope) (record { at = at; rest = bits ++ rest }) (record { at = at + length bits; rest = rest }) (λ y. block id width (length (ended x) / 32) tree y))
 block_reads s v x n at id width m rest tree alike ready ready_x same small shallow ordinary low high few bits_are scopes inner =
     let a = bits_of v.block.width 1 in
     let words = length (ended x) / 32 in
@@ -174,7 +174,7 @@ block_reads s v x n at id width m rest tree alike ready ready_x same small shall
     }
 
 pub block_step : (w : Writer) (id width : ℕ) (inside : Written) → Ready w.scope → MayEnter w id width → Comes (enter w id width) inside → MayEnd (written (enter w id width) inside)
-    → Stepped w (end_block (written (enter w id width) inside)) (λ y. block id (tree_of (enter w id width) inside) y)
+    → Stepped w (end_block (written (enter w id width) inside)) (λ y. block id width (length (ended (written (enter w id width) inside)) / 32) (tree_of (enter w id width) inside) y)
 block_step w id width inside ready may inner few =
     let x = written (enter w id width) inside in
     let a = id_bits w 1 in
@@ -241,13 +241,13 @@ comes no_more w ready all = none_comes w ready
 comes (a_block id width inside behind) w ready all =
     let inner = comes inside (enter w id width) (ready_entered w id width ready all.0.low) all.1 in
     let step = block_step w id width inside ready all.0 inner all.2 in
-    joined w (end_block (written (enter w id width) inside)) behind (a_block id width inside behind) (λ y. block id (tree_of (enter w id width) inside) y) refl refl step (comes behind (end_block (written (enter w id width) inside)) step.ready all.3)
+    joined w (end_block (written (enter w id width) inside)) behind (a_block id width inside behind) (λ y. block id width (length (ended (written (enter w id width) inside)) / 32) (tree_of (enter w id width) inside) y) refl refl step (comes behind (end_block (written (enter w id width) inside)) step.ready all.3)
 comes (a_definition ops behind) w ready all =
     let step = define_step w ops ready all.0 in
-    joined w (define w ops) behind (a_definition ops behind) (λ y. with_definition (template_for ops) y) refl refl step (comes behind (define w ops) step.ready all.1)
+    joined w (define w ops) behind (a_definition ops behind) (λ y. with_definition (in_force w.scope + 4) (template_for ops) y) refl refl step (comes behind (define w ops) step.ready all.1)
 comes (a_record code ns behind) w ready all =
     let step = put_step w code ns ready all.0 in
-    joined w (put_record w code ns) behind (a_record code ns behind) (λ y. values code ns [] y) refl refl step (comes behind (put_record w code ns) step.ready all.1)
+    joined w (put_record w code ns) behind (a_record code ns behind) (λ y. values 3 code ns false [] y) refl refl step (comes behind (put_record w code ns) step.ready all.1)
 comes (a_short_record id code ns behind) w ready all =
     let step = abbreviated_step w id code ns ready all.0 in
-    joined w (abbreviated w id code ns) behind (a_short_record id code ns behind) (λ y. with_values (template_of w.scope id) code ns y) refl refl step (comes behind (abbreviated w id code ns) step.ready all.1)
+    joined w (abbreviated w id code ns) behind (a_short_record id code ns behind) (λ y. with_values id (template_of w.scope id) code ns y) refl refl step (comes behind (abbreviated w id code ns) step.ready all.1)

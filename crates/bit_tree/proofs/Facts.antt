@@ -15,8 +15,9 @@ use Rattle.bit_stream.specs.Abbreviation.{Template}
 use Rattle.bit_stream.specs.Definition.{template}
 use Rattle.bit_stream.specs.Record.{Read, unabbreviated}
 use Rattle.bit_stream.specs.Scope.{Scope, Frame, top_level, template_of}
-use Rattle.bit_stream.specs.Entry.{Item, plain, is_top, is_blockinfo, came, entered, left, defined, given_for, enter_sized, enter_wide, enter_named, enter_block, words_since, end_block, define_for, define, named, recorded, by_template, record_by, inside, item}
-use Rattle.bit_tree.specs.Stream.{defined_at}
+use Rattle.bit_stream.specs.Entry.{Item, plain, is_top, is_blockinfo, came, entered, left, defined, given_for, enter_sized, enter_wide, enter_named, enter_block, words_since, end_block, define_for, define, named, recorded, by_template, record_by, inside, item, defined_at}
+use Rattle.bit_stream.specs.Writer.{in_force}
+use Rattle.bit_tree.proofs.Numbered.{in_force_given, in_force_defined}
 use Rattle.bit_stream.proofs.Forward.{Forward, forward_none, fixed_forward_any, fixed_forward, vbr_forward, template_forward}
 use Rattle.bit_tree.proofs.Ahead.{align_forward, unabbreviated_forward, abbreviated_forward}
 
@@ -64,6 +65,7 @@ pub record Leaves (s : Scope) (c : Cursor) (defined : Found Template) (i : Item)
   pub wide : IsWide i.scope
   pub ahead : length d.rest ≤ length c.rest
   pub template : i.entry ≡ None → (t : Template) × (defined ≡ Ok (t, d))
+  pub next : i.entry ≡ None → in_force i.scope ≡ in_force s + 1
   pub bare : is_record i.entry ≡ false → (i.operands ≡ []) × (i.blob ≡ [])
 
 record Leads (s : Scope) (c : Cursor) (t : Found Template) (f : Found Item) : Type 0 where
@@ -77,7 +79,7 @@ on_test s c t true x y h k = h refl
 on_test s c t false x y h k = k refl
 
 nearer : (s : Scope) (c d : Cursor) (t : Found Template) (f : Found Item) → length d.rest ≤ length c.rest → Leads s d t f → Leads s c t f
-nearer s c d t (Ok x) le h = let all : Leaves s d t x.0 x.1 = h.is in record { is = record { depth = all.depth; wide = all.wide; ahead = omega (arith, all.ahead); template = all.template; bare = all.bare } }
+nearer s c d t (Ok x) le h = let all : Leaves s d t x.0 x.1 = h.is in record { is = record { depth = all.depth; wide = all.wide; ahead = omega (arith, all.ahead); template = all.template; next = all.next; bare = all.bare } }
 nearer s c d t (Err e) le h = refused s c t e
 
 behind : {A : Type 0} (s : Scope) (c : Cursor) (t : Found Template) (f : Found A) (g : A → Cursor → Found Item) → Forward 0 c f → ((x : A) (d : Cursor) → Leads s d t (g x d)) → Leads s c t (f >>= g)
@@ -90,6 +92,7 @@ entered_leaves s c t id width bit words wide low = record {
   wide = record { own = low; around = all_with (λ (f : Frame). 1 ≤ f.width) s.around s.block wide.around wide.own };
   ahead = omega arith;
   template = λ no. absurd (cc);
+  next = λ no. absurd (cc);
   bare = λ _. (refl, refl);
 }
 
@@ -126,6 +129,7 @@ left_leaves s c t wide unclosed =
       wide = record { own = all_at (λ (f : Frame). 1 ≤ f.width) s.around (length s.around - 1) s.block wide.around wide.own; around = all_take (λ (f : Frame). 1 ≤ f.width) (length s.around - 1) s.around wide.around };
       ahead = omega arith;
       template = λ no. absurd (cc);
+      next = λ no. absurd (cc);
       bare = λ _. (refl, refl);
     }
 
@@ -137,19 +141,19 @@ end_block_leaves s t c wide unclosed =
     on_test s d t (words_since s.block.count_bit d.at == s.block.words) (Ok (plain (Some EndBlock) (left s), d)) (Err (record { kind = BadBlockLength; bit = s.block.count_bit })) (λ _. record { is = left_leaves s d t wide unclosed }) (λ _. refused s d t bad))
 
 -- a definition
-definition_leaves : (s : Scope) (c : Cursor) (to : Template → Scope) → ((x : Template) → (length (to x).around ≡ length s.around) × IsWide (to x)) → (f : Found Template) → Forward 1 c f → Leads s c f (f >>= λ x d. Ok (plain None (to x), d))
-definition_leaves s c to kept (Ok x) h = let ahead : length x.1.rest + 1 ≤ length c.rest = h.is in record { is = record { depth = (kept x.0).0; wide = (kept x.0).1; ahead = omega arith; template = λ _. (x.0, refl); bare = λ _. (refl, refl) } }
+definition_leaves : (s : Scope) (c : Cursor) (to : Template → Scope) → ((x : Template) → (length (to x).around ≡ length s.around) × IsWide (to x) × (in_force (to x) ≡ in_force s + 1)) → (f : Found Template) → Forward 1 c f → Leads s c f (f >>= λ x d. Ok (plain None (to x), d))
+definition_leaves s c to kept (Ok x) h = let ahead : length x.1.rest + 1 ≤ length c.rest = h.is in record { is = record { depth = (kept x.0).0; wide = (kept x.0).1; ahead = omega arith; template = λ _. (x.0, refl); next = λ _. (kept x.0).2; bare = λ _. (refl, refl) } }
 definition_leaves s c to kept (Err e) h = refused s c (Err e) e
 
-define_for_leaves : (id : Option ℕ) (bit : ℕ) (s : Scope) (c : Cursor) → IsWide s → Leads s c (template c) (define_for id bit s c)
+define_for_leaves : (id : Option ℕ) (bit : ℕ) (s : Scope) (c : Cursor) → IsWide s → is_blockinfo s ≡ true → s.block.target ≡ id → Leads s c (template c) (define_for id bit s c)
 unfolding define_for
-define_for_leaves None bit s c wide = refused s c (template c) _
-define_for_leaves (Some id) bit s c wide = definition_leaves s c (λ t. given_for s id t) (λ t. (refl, record { own = wide.own; around = wide.around })) (template c) (template_forward c)
+define_for_leaves None bit s c wide info target = refused s c (template c) _
+define_for_leaves (Some id) bit s c wide info target = definition_leaves s c (λ t. given_for s id t) (λ t. (refl, record { own = wide.own; around = wide.around }, in_force_given s id t info target)) (template c) (template_forward c)
 
 define_leaves : (bit : ℕ) (s : Scope) (c : Cursor) → IsWide s → Leads s c (template c) (define bit s c)
 unfolding define
-define_leaves bit s c wide = on_test s c (template c) (is_blockinfo s) _ _ (λ _. define_for_leaves s.block.target bit s c wide)
-    (λ _. definition_leaves s c (λ t. defined s t) (λ t. (refl, record { own = wide.own; around = wide.around })) (template c) (template_forward c))
+define_leaves bit s c wide = on_test s c (template c) (is_blockinfo s) _ _ (λ info. define_for_leaves s.block.target bit s c wide info refl)
+    (λ other. definition_leaves s c (λ t. defined s t) (λ t. (refl, record { own = wide.own; around = wide.around }, in_force_defined s t other)) (template c) (template_forward c))
 
 -- a record
 abbrev Kept : Scope → Result Scope BitFault → Type 0
@@ -168,7 +172,7 @@ unfolding recorded
 recorded_keeps bit s code operands wide = kept_if s _ (named bit s operands) (Ok s) (named_keeps bit s operands wide) (refl, wide)
 
 came_leaves : (s : Scope) (r : Read) (c : Cursor) (t : Found Template) (u : Result Scope BitFault) → Kept s u → Leads s c t (came r c u)
-came_leaves s r c t (Ok u) kept = record { is = record { depth = kept.0; wide = kept.1; ahead = omega arith; template = λ no. absurd (cc); bare = λ no. absurd (cc) } }
+came_leaves s r c t (Ok u) kept = record { is = record { depth = kept.0; wide = kept.1; ahead = omega arith; template = λ no. absurd (cc); next = λ no. absurd (cc); bare = λ no. absurd (cc) } }
 came_leaves s r c t (Err e) kept = refused s c t e
 
 by_template_forward : (u : Option Template) (bit : ℕ) (b : Bool) (c : Cursor) → Forward 0 c (by_template u bit b c)
@@ -201,6 +205,7 @@ pub record Goes (s : Scope) (c : Cursor) (i : Item) (d : Cursor) : Type 0 where
   pub wide : IsWide i.scope
   pub fewer : length d.rest < length c.rest
   pub template : i.entry ≡ None → (t : Template) × (defined_at s c ≡ Ok (t, d))
+  pub next : i.entry ≡ None → in_force i.scope ≡ in_force s + 1
   pub bare : is_record i.entry ≡ false → (i.operands ≡ []) × (i.blob ≡ [])
 
 record Facts (s : Scope) (c : Cursor) (f : Found Item) : Type 0 where
@@ -208,7 +213,7 @@ record Facts (s : Scope) (c : Cursor) (f : Found Item) : Type 0 where
 
 goes_from : (s : Scope) (c d : Cursor) (f : Found Item) → defined_at s c ≡ template d → length d.rest < length c.rest → Leads s d (template d) f → Facts s c f
 goes_from s c d (Ok x) same less h = let all : Leaves s d (template d) x.0 x.1 = h.is in
-    record { is = inr (record { depth = all.depth; wide = all.wide; fewer = omega (arith, all.ahead); template = λ no. let t = all.template no in (t.0, rw same t.1); bare = all.bare }) }
+    record { is = inr (record { depth = all.depth; wide = all.wide; fewer = omega (arith, all.ahead); template = λ no. let t = all.template no in (t.0, rw same t.1); next = all.next; bare = all.bare }) }
 goes_from s c d (Err e) same less h = record { is = tt }
 
 behind_id : (s : Scope) (c : Cursor) (f : Found ℕ) (g : ℕ → Cursor → Found Item) → fixed s.block.width c ≡ f → IsWide s → Forward s.block.width c f → ((id : ℕ) (d : Cursor) → Leads s d (template d) (g id d)) → Facts s c (f >>= g)

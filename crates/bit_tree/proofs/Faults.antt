@@ -10,11 +10,12 @@ use Rattle.bits.proofs.BitsLaws.{length-stream_bits}
 use Rattle.bit_stream.specs.declared.entry.Entry.{Entry}
 use Rattle.bit_stream.specs.declared.entry.Entry.TheVariants.{Block, EndBlock, Record, End}
 use Rattle.bit_stream.specs.Scope.{Scope, top_level}
-use Rattle.bit_stream.specs.Entry.{Item, item, is_top, plain}
+use Rattle.bit_stream.specs.Entry.{Item, item, is_top, plain, id_at, has_blob_by}
 use Rattle.bit_stream.specs.Reader.{begins}
-use Rattle.bit_tree.specs.Stream.{Tree, opening, Stream, is_end, fault_from, stream_fault, entries}
+use Rattle.bit_tree.specs.Stream.{Tree, next_id, opening, Stream, is_end, fault_from, stream_fault, entries}
 use Rattle.bit_tree.proofs.Facts.{IsWide, IsEnd, Goes, what_stands, top_wide}
-use Rattle.bit_tree.proofs.Path.{Piece, begun, ended, defines, holds, Step, Path, stop, step, flat, all_shown, flat_shown, from_tree, to_tree, stands, no_end, way_size}
+use Rattle.bit_tree.specs.Pieces.{Piece, begun, ended, defines, holds, flat}
+use Rattle.bit_tree.proofs.Path.{Step, Path, stop, step, all_shown, flat_shown, from_tree, to_tree, stands, no_end, way_size}
 
 -- a fault behind a way is the first from its start on
 pub fault_on : {s t : Scope} {c e : Cursor} {ps : List Piece} (m n : ℕ) → Path s c ps t e → m ≡ length ps + n → fault_from m s c ≡ fault_from n t e
@@ -57,10 +58,10 @@ ends_behind s c d i p first on = record { pieces = p ∷ on.pieces; scope = on.s
 
 -- the piece that stands here
 pub piece_by : (s : Scope) (c d : Cursor) (i : Item) (e : Option Entry) → item s c ≡ Ok (i, d) → i.entry ≡ e → Goes s c i d → (p : Piece) × Step s c p i d
-piece_by s c d i None h is on = let def = on.template is in (defines def.0, (record { reads = h; is = is }, def.1))
-piece_by s c d i (Some (Block id)) h is on = (begun id, record { reads = h; is = is })
+piece_by s c d i None h is on = let def = on.template is in (defines (next_id s) def.0, (record { reads = h; is = is }, def.1, refl))
+piece_by s c d i (Some (Block id)) h is on = (begun id i.scope.block.width i.scope.block.words, (record { reads = h; is = is }, refl, refl))
 piece_by s c d i (Some EndBlock) h is on = (ended, record { reads = h; is = is })
-piece_by s c d i (Some (Record code)) h is on = (holds code i.operands i.blob, (record { reads = h; is = is }, refl, refl))
+piece_by s c d i (Some (Record code)) h is on = (holds (id_at s c) code i.operands (has_blob_by s (id_at s c)) i.blob, (record { reads = h; is = is }, record { id = refl; operands = refl; has_blob = refl; blob = refl }))
 piece_by s c d i (Some End) h is on = let no = rw is at on.depth in absurd no
 
 pub either_way : (n : ℕ) (s : Scope) (c : Cursor) → IsWide s → length c.rest < n → Ends s c ⊎ ((x : BitFault) × (fault_from n s c ≡ Some x))
@@ -96,10 +97,16 @@ depth_none : (s : Scope) → is_top s ≡ true → length s.around ≡ 0
 depth_none s h = eqb-true (length s.around) 0 h
 
 -- a way from the opening to the end is the stream of its tree
+pub to_stream_of : (bytes : List ℕ) (ps : List Piece) (t : Scope) (e : Cursor) → begins bytes ≡ true → Path top_level (opening bytes) ps t e → is_top t ≡ true → e.rest ≡ [] → (tree : Tree) × Stream bytes tree × (flat tree ≡ ps)
+to_stream_of bytes ps t e magic way top none =
+    let tree = to_tree way top_wide refl (depth_none t top) in
+    (tree.0, record { opens = magic; scope = t; cursor = e; all = tree.1; closed = top; whole = none }, tree.2)
+
+-- and its entries are those that the way shows
 pub to_stream : (bytes : List ℕ) (ps : List Piece) (t : Scope) (e : Cursor) → begins bytes ≡ true → Path top_level (opening bytes) ps t e → is_top t ≡ true → e.rest ≡ [] → (tree : Tree) × Stream bytes tree × (entries tree ≡ all_shown ps)
 to_stream bytes ps t e magic way top none =
-    let tree = to_tree way top_wide refl (depth_none t top) in
-    (tree.0, record { opens = magic; scope = t; cursor = e; all = tree.1; closed = top; whole = none }, sym (flat_shown tree.0) ∙ ap all_shown tree.2)
+    let tree = to_stream_of bytes ps t e magic way top none in
+    (tree.0, tree.1, sym (flat_shown tree.0) ∙ ap all_shown tree.2)
 
 fault_of : (bytes : List ℕ) → begins bytes ≡ true → stream_fault bytes ≡ fault_from (length (stream_bits bytes)) top_level (opening bytes)
 fault_of bytes h = rw h refl

@@ -5,10 +5,13 @@ pub mod Blocks
 pub mod Defined
 pub mod Facts
 pub mod From
+pub mod Fronts
 pub mod Faults
+pub mod Numbered
 pub mod One
 pub mod Path
 pub mod Reading
 pub mod Sound
 pub mod Step
 pub mod Values
+pub mod Walking

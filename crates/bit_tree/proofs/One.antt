@@ -5,8 +5,8 @@ use Rattle.bit_stream.specs.declared.entry.Entry.{Entry}
 use Rattle.bit_stream.specs.declared.entry.Entry.TheVariants.{Block, EndBlock, Record, End}
 use Rattle.bit_stream.specs.Abbreviation.{Template}
 use Rattle.bit_stream.specs.Scope.{Scope}
-use Rattle.bit_stream.specs.Entry.{Item}
-use Rattle.bit_tree.specs.Stream.{Tree, Stands, defined_at, Holds, none, of_block, of_definition, of_record, Stream}
+use Rattle.bit_stream.specs.Entry.{Item, defined_at}
+use Rattle.bit_tree.specs.Stream.{Tree, Stands, Holds, none, of_block, of_definition, of_record, Stream}
 use Rattle.bit_tree.proofs.Faults.{end_stands}
 
 -- one thing stands at a place

@@ -1,5 +1,5 @@
 -- A reader on its way through a stream.
-use Rattle.std.proofs.Common.{◌≡◌, ℕ, ◌+◌, ◌-◌, ◌<◌, Bool, true, false, List, [], ◌∷◌, ◌++◌, length, Some, None, Ok, Err, refl, ap, ◌∙◌, arith, inl, inr}
+use Rattle.std.proofs.Common.{◌≡◌, ℕ, ◌+◌, ◌-◌, ◌<◌, Bool, true, false, List, [], ◌∷◌, ◌++◌, length, Option, Some, None, Ok, Err, refl, ap, subst, ◌∙◌, arith, inl, inr}
 use Rattle.std.specs.Prelude.{◌⊎◌}
 use Rattle.std.proofs.lemmas.List.{append-nil}
 use Rattle.bits.specs.Bits.{stream_bits}
@@ -9,33 +9,34 @@ use Rattle.bit_stream.specs.declared.entry.Entry.{Entry}
 use Rattle.bit_stream.specs.declared.entry.Entry.TheVariants.{Block, EndBlock, Record, End}
 use Rattle.bit_stream.specs.Scope.{Scope, top_level}
 use Rattle.bit_stream.specs.Entry.{Item, item, is_top, Next, here, refused, behind}
-use Rattle.bit_stream.specs.Reader.{Reader, begins, opened, Entered}
+use Rattle.bit_stream.specs.Reader.{Reader, begins, untold, opened, Arrived, Entered}
 use Rattle.bit_stream.specs.declared.fault.StreamFault.{StreamFault}
 use Rattle.bit_stream.specs.declared.fault.StreamFault.TheVariants.{Bit, Memory}
 use Rattle.bit_tree.specs.Read.{AllRead}
-use Rattle.bit_tree.specs.Stream.{Tree, Stream, Shown, Stands, is_end, opening, stream_fault, entries}
+use Rattle.bit_tree.specs.Stream.{Tree, next_id, Stream, Shown, Stands, is_end, opening, stream_fault, entries}
 use Rattle.bit_tree.proofs.Facts.{IsWide, IsEnd, Goes, is_record, what_stands, top_wide}
-use Rattle.bit_tree.proofs.Path.{Piece, begun, ended, defines, holds, Step, Path, stop, step, join, then, shown, all_shown, shown_join, way_wide, way_size, goes}
+use Rattle.bit_tree.specs.Pieces.{Piece, begun, ended, defines, holds}
+use Rattle.bit_tree.proofs.Path.{Step, Path, stop, step, join, then, shown, all_shown, shown_join, way_wide, way_size, goes}
 use Rattle.bit_tree.proofs.Faults.{fault_on, fault_here, to_stream, opening_size, piece_by}
 
 -- the definitions in front of what stands there, and that
-record Ahead (s : Scope) (c : Cursor) (r : Found Item) : Type 0 where
-  pieces : List Piece
-  scope : Scope
-  cursor : Cursor
-  way : Path s c pieces scope cursor
-  silent : all_shown pieces ≡ []
-  stands : item scope cursor ≡ r
+pub record Ahead (s : Scope) (c : Cursor) (r : Found Item) : Type 0 where
+  pub pieces : List Piece
+  pub scope : Scope
+  pub cursor : Cursor
+  pub way : Path s c pieces scope cursor
+  pub silent : all_shown pieces ≡ []
+  pub stands : item scope cursor ≡ r
 
-reached : {s : Scope} {c : Cursor} {r : Found Item} → Next s c r → IsWide s → Ahead s c r
+pub reached : {s : Scope} {c : Cursor} {r : Found Item} → Next s c r → IsWide s → Ahead s c r
 unfolding all_shown
 reached (here h is) wide = record { pieces = []; scope = _; cursor = _; way = stop; silent = refl; stands = h }
 reached (refused h) wide = record { pieces = []; scope = _; cursor = _; way = stop; silent = refl; stands = h }
-reached (behind {i = i} h is more) wide =
+reached {s = s} (behind {i = i} h is more) wide =
     let on = goes None i (record { reads = h; is = is }) refl wide in
     let def = on.template is in
     let later = reached more on.wide in
-    record { pieces = defines def.0 ∷ later.pieces; scope = later.scope; cursor = later.cursor; way = step i (record { reads = h; is = is }, def.1) later.way; silent = later.silent; stands = later.stands }
+    record { pieces = defines (next_id s) def.0 ∷ later.pieces; scope = later.scope; cursor = later.cursor; way = step i (record { reads = h; is = is }, def.1, refl) later.way; silent = later.silent; stands = later.stands }
 
 -- a reader that came from the opening, and the entries that it gave
 pub record CameBy (bytes : List ℕ) (r : Reader) (all : List Shown) : Type 0 where
@@ -53,7 +54,7 @@ unfolding all_shown
 starts bytes r h = by_test (begins bytes) refl h where
   by_test : (b : Bool) → begins bytes ≡ b → Ok r ≡ opened bytes → CameBy bytes r []
   by_test true magic h =
-      let is : r ≡ record { cursor = opening bytes; scope = top_level; stopped = None; operands = []; blob = [] } = cc (rw magic at h) in
+      let is : r ≡ record { cursor = opening bytes; scope = top_level; stopped = None; operands = []; blob = []; told = untold; definitions = [] } = cc (rw magic at h) in
       rw is (record { magic = magic; running = refl; pieces = []; way = stop; shows = refl })
   by_test false other h = let never = rw other at h in absurd (cc)
 
@@ -68,35 +69,38 @@ at_fault bytes r all x h next =
     let some : 0 < left = omega (arith, size, before) in
     rw h.magic (fault_on _ left way whole ∙ fault_here left on.scope on.cursor x some on.stands)
 
+no_bits : (bits : List Bool) → length bits ≡ 0 → bits ≡ []
+no_bits [] h = refl
+no_bits (b ∷ bits) h = absurd (omega arith)
+
+-- where the end stands no block is open and no bit is left
+pub ends_at : (s : Scope) (c d : Cursor) (i : Item) → IsEnd s c i d ⊎ Goes s c i d → i.entry ≡ Some End → (is_top s ≡ true) × (c.rest ≡ [])
+ends_at s c d i (inl end) is = (end.top, no_bits c.rest end.none)
+ends_at s c d i (inr on) is = let never = rw is at on.depth in absurd never
+
 pub at_end : (bytes : List ℕ) (r : Reader) (all : List Shown) (i : Item) (d : Cursor) → CameBy bytes r all → Next r.scope r.cursor (Ok (i, d)) → i.entry ≡ Some End → (tree : Tree) × Stream bytes tree × (entries tree ≡ all)
 at_end bytes r all i d h next is =
     let on = reached next (came_wide bytes r all h) in
     let way = join h.way on.way in
-    let end = ending on.scope on.cursor d i (what_stands on.scope on.cursor d i (way_wide way top_wide) on.stands) is in
+    let end = ends_at on.scope on.cursor d i (what_stands on.scope on.cursor d i (way_wide way top_wide) on.stands) is in
     let tree = to_stream bytes _ on.scope on.cursor h.magic way end.0 end.1 in
-    (tree.0, tree.1, tree.2 ∙ (shown_join h.pieces on.pieces ∙ rw (on.silent, h.shows) (append-nil all))) where
-      no_bits : (bits : List Bool) → length bits ≡ 0 → bits ≡ []
-      no_bits [] h = refl
-      no_bits (b ∷ bits) h = absurd (omega arith)
-
-      ending : (s : Scope) (c d : Cursor) (i : Item) → IsEnd s c i d ⊎ Goes s c i d → i.entry ≡ Some End → (is_top s ≡ true) × (c.rest ≡ [])
-      ending s c d i (inl end) is = (end.top, no_bits c.rest end.none)
-      ending s c d i (inr on) is = let never = rw is at on.depth in absurd never
+    (tree.0, tree.1, tree.2 ∙ (shown_join h.pieces on.pieces ∙ rw (on.silent, h.shows) (append-nil all)))
 
 shown_is : (s : Scope) (c d : Cursor) (p : Piece) (i : Item) (entry : Entry) → Step s c p i d → i.entry ≡ Some entry → (is_record i.entry ≡ false → (i.operands ≡ []) × (i.blob ≡ []))
     → shown p ≡ record { entry = entry; operands = i.operands; blob = i.blob } ∷ []
-shown_is s c d (begun id) i entry h is bare =
-    let e : entry ≡ Block id = cc (h.is, is) in
-    let none = bare (rw h.is refl) in
+shown_is s c d (begun id width words) i entry h is bare =
+    let e : entry ≡ Block id = cc (h.0.is, is) in
+    let none = bare (rw h.0.is refl) in
     rw (e, none.0, none.1) refl
 shown_is s c d ended i entry h is bare =
     let e : entry ≡ EndBlock = cc (h.is, is) in
     let none = bare (rw h.is refl) in
     rw (e, none.0, none.1) refl
-shown_is s c d (defines t) i entry h is bare = absurd (cc (h.0.is, is))
-shown_is s c d (holds code operands blob) i entry h is bare =
+shown_is s c d (defines id t) i entry h is bare = absurd (cc (h.0.is, is))
+shown_is s c d (holds id code operands has_blob blob) i entry h is bare =
     let e : entry ≡ Record code = cc (h.0.is, is) in
-    rw (e, h.1, h.2) refl
+    let all = h.1 in
+    rw (e, all.operands, all.blob) refl
 
 -- the item of an entry that a reader gave
 abbrev pub given : Entry → Reader → Item
@@ -126,11 +130,11 @@ fewer bytes r new all entry h next more =
 
 -- what the reader's call says of a reader on its way
 
-pub entered_ok : (bytes : List ℕ) (r new : Reader) (all : List Shown) (entry : Entry) → CameBy bytes r all → Entered r.stopped r (Ok entry) new → (new.stopped ≡ None) × Next r.scope r.cursor (Ok (given entry new, new.cursor))
-entered_ok bytes r new all entry h e = rw h.running at e
+pub entered_ok : (bytes : List ℕ) (r new : Reader) (all : List Shown) (entry : Entry) → CameBy bytes r all → Entered r.stopped r (Ok entry) new → (new.stopped ≡ None) × Next r.scope r.cursor (Ok (given entry new, new.cursor)) × Arrived r entry new
+entered_ok bytes r new all entry h e = subst (λ (x : Option StreamFault). Entered x r (Ok entry) new) h.running e
 
 pub stops : (bytes : List ℕ) (r new : Reader) (all : List Shown) (x : StreamFault) → CameBy bytes r all → Entered r.stopped r (Err x) new → AllRead bytes (Err x)
-stops bytes r new all (Bit x) h e = let all_of = rw h.running at e in at_fault bytes r all x h all_of.0
+stops bytes r new all (Bit x) h e = let all_of = subst (λ (y : Option StreamFault). Entered y r (Err (Bit x)) new) h.running e in at_fault bytes r all x h all_of.0
 stops bytes r new all Memory h e = tt
 
 is_last : (entry : Entry) → is_end (Some entry) ≡ true → entry ≡ End

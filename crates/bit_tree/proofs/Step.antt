@@ -1,7 +1,7 @@
 -- One call of a writer, read back.
 use Rattle.std.proofs.Common.{◌≡◌, ℕ, ◌+◌, ◌<◌, ◌≤◌, ◌^◌, ◌%◌, ◌==◌, ◌&&◌, Bool, true, false, List, [], ◌∷◌, ◌++◌, length, Option, Some, None, Ok, if◌then◌else◌, refl, sym, subst, ◌∙◌, arith, append_assoc, length-append}
 use Rattle.std.specs.Prelude.{IsSome}
-use Rattle.std.proofs.lemmas.Bool.{ne_eqb}
+use Rattle.std.proofs.lemmas.Bool.{ne_eqb, le-leb}
 use Rattle.std.proofs.Math.Pow.{pow_mono}
 use Rattle.bits.specs.Bits.{bits_of}
 use Rattle.bits.specs.Cursor.{Cursor}
@@ -9,20 +9,20 @@ use Rattle.bits.specs.Reading.{fixed}
 use Rattle.bit_stream.specs.declared.entry.Entry.TheVariants.{Record}
 use Rattle.bit_stream.specs.declared.abbreviation.AbbrevOp.{AbbrevOp}
 use Rattle.bit_stream.specs.declared.abbreviation.Tail.TheVariants.{NoTail}
-use Rattle.bit_stream.specs.Abbreviation.{Template}
+use Rattle.bit_stream.specs.Abbreviation.{Template, is_blob}
 use Rattle.bit_stream.specs.Definition.{template}
 use Rattle.bit_stream.specs.Record.{Read, names_block, unabbreviated, abbreviated as read_abbreviated}
 use Rattle.bit_stream.specs.Scope.{Scope, template_of}
-use Rattle.bit_stream.specs.Entry.{item, plain, is_top, is_blockinfo, inside, define as read_definition, define_for, record_by, by_template, recorded}
+use Rattle.bit_stream.specs.Entry.{Item, item, plain, is_top, is_blockinfo, inside, define as read_definition, define_for, record_by, by_template, recorded, id_at, has_blob_by, defined_at}
 use Rattle.bit_stream.specs.Spelling.{definition_bits, template_for, record_bits, record_fits}
-use Rattle.bit_stream.specs.Writer.{Writer, id_bits, with_template, define, naming, after_record, put_record, abbreviated}
-use Rattle.bit_tree.specs.Stream.{Tree, values, defined_at, Holds, of_definition, of_record}
+use Rattle.bit_stream.specs.Writer.{Writer, id_bits, with_template, define, in_force, naming, after_record, put_record, abbreviated}
+use Rattle.bit_tree.specs.Stream.{Tree, definition, values, next_id, Stands, Holds, of_definition, of_record}
 use Rattle.bit_stream.proofs.ReadBack.{fixed_reads}
 use Rattle.bit_tree.specs.Written.{operands_by, blob_by, with_definition, with_values, MayDefine, MayPut, MayAbbreviate, NamesFirst}
 use Rattle.bit_tree.proofs.Values.{Sound, values_bits, written_is, unabbreviated_reads, abbreviated_reads}
 use Rattle.bit_tree.proofs.Defined.{admitted}
 use Rattle.bit_tree.proofs.Sound.{IsSound, template_sound, defined_sound, given_sound}
-use Rattle.bit_tree.proofs.Alike.{Alike, SameBlocks, alike_top, alike_blockinfo, alike_template, alike_defined, same_defined, alike_recorded, same_recorded, recorded_is, fine_names}
+use Rattle.bit_tree.proofs.Alike.{Alike, SameBlocks, alike_top, alike_blockinfo, alike_in_force, alike_template, alike_defined, same_defined, alike_recorded, same_recorded, recorded_is, fine_names}
 
 -- what holds of a writer between its calls
 pub record Ready (v : Scope) : Type 0 where
@@ -49,6 +49,16 @@ pub record Stepped (w new : Writer) (node : Tree → Tree) : Type 0 where
 pub item_inside : (s : Scope) (c d : Cursor) (id : ℕ) → is_top s ≡ false → fixed s.block.width c ≡ Ok (id, d) → item s c ≡ inside id c.at s d
 unfolding item
 item_inside s c d id top h = rw (top, h) refl
+
+definition_way : {s u : Scope} {c d g : Cursor} {i : Item} {t : Template} (n : ℕ) (behind : Tree) → Stands s c None i d → defined_at s c ≡ Ok (t, d) → next_id s ≡ n → Holds i.scope d behind u g → Holds s c (definition n t behind) u g
+definition_way n behind first def is h = rw (← is) (of_definition first def h)
+
+record_way : {s u : Scope} {c d g : Cursor} {i : Item} {code : ℕ} (n : ℕ) (b : Bool) (behind : Tree) → Stands s c (Some (Record code)) i d → id_at s c ≡ n → has_blob_by s n ≡ b → Holds i.scope d behind u g → Holds s c (values n code i.operands b i.blob behind) u g
+record_way n b behind first is ends h = rw (← ends, ← is) (of_record first h)
+
+id_is : (s : Scope) (c d : Cursor) (n : ℕ) → fixed s.block.width c ≡ Ok (n, d) → id_at s c ≡ n
+unfolding id_at
+id_is s c d n h = rw h refl
 
 pub id_small : (w id : ℕ) → 2 ≤ w → id < 4 → id < 2 ^ w
 id_small w id h small = let least : 2 ^ 2 ≤ 2 ^ w = pow_mono h in omega arith
@@ -84,10 +94,10 @@ ready_defined v t ready sound = by_block (is_blockinfo v) refl where
 scopes_defined : (v : Scope) (t : Template) → (with_template v (Some t)).around ≡ v.around
 scopes_defined v t = (same_defined v t).around
 
-pub define_step : (w : Writer) (ops : List AbbrevOp) → Ready w.scope → MayDefine w ops → Stepped w (define w ops) (λ x. with_definition (template_for ops) x)
+pub define_step : (w : Writer) (ops : List AbbrevOp) → Ready w.scope → MayDefine w ops → Stepped w (define w ops) (λ x. with_definition (in_force w.scope + 4) (template_for ops) x)
 unfolding inside defined_at
 define_step w ops ready may = by_template (some_is (template_for ops) may.admitted) where
-  by_template : (t : Template) × (template_for ops ≡ Some t) → Stepped w (define w ops) (λ x. with_definition (template_for ops) x)
+  by_template : (t : Template) × (template_for ops ≡ Some t) → Stepped w (define w ops) (λ x. with_definition (in_force w.scope + 4) (template_for ops) x)
   by_template t =
       let ok = admitted ops t.0 may.numbers t.1 in
       let more = id_bits w 2 ++ definition_bits ops in
@@ -111,7 +121,7 @@ define_step w ops ready may = by_template (some_is (template_for ops) may.admitt
               scope = with_template s (Some t.0);
               alike = alike_defined s w.scope t.0 alike;
               same = same_defined s t.0;
-              way = λ behind u g h. of_definition (record { reads = read; is = refl }) def h;
+              way = λ behind u g h. (let next : next_id s ≡ in_force w.scope + 4 = rw (alike_in_force s w.scope alike) refl in definition_way _ behind (record { reads = read; is = refl }) def next h);
             });
       })
 
@@ -129,7 +139,7 @@ unabbreviated_item : (bit : ℕ) (s : Scope) (c d : Cursor) (r : Read) (t : Scop
 unfolding inside record_by
 unabbreviated_item bit s c d r t h k = rw (h, k) refl
 
-pub put_step : (w : Writer) (code : ℕ) (ns : List ℕ) → Ready w.scope → MayPut w code ns ns → Stepped w (put_record w code ns) (λ x. values code ns [] x)
+pub put_step : (w : Writer) (code : ℕ) (ns : List ℕ) → Ready w.scope → MayPut w code ns ns → Stepped w (put_record w code ns) (λ x. values 3 code ns false [] x)
 put_step w code ns ready may =
     let more = id_bits w 3 ++ record_bits code ns in
     record {
@@ -152,7 +162,7 @@ put_step w code ns ready may =
             scope = after_record s code ns;
             alike = alike_recorded s w.scope code ns alike;
             same = same_recorded s code ns;
-            way = λ behind u g h. of_record (record { reads = read; is = refl }) h;
+            way = λ behind u g h. record_way 3 false behind (record { reads = read; is = refl }) (id_is s c _ 3 id) refl h;
           });
     }
 
@@ -172,7 +182,7 @@ no_fit code ns h = cc
 
 -- a record by this abbreviation
 short_step : (w : Writer) (id code : ℕ) (ns : List ℕ) (t : Template) → template_of w.scope id ≡ Some t → Ready w.scope → MayPut w code ns (operands_by t ns) → 4 ≤ id → id < 2 ^ w.scope.block.width → record_fits (Some t) code ns ≡ true
-    → Stepped w (abbreviated w id code ns) (λ x. values code (operands_by t ns) (blob_by t ns) x)
+    → Stepped w (abbreviated w id code ns) (λ x. values id code (operands_by t ns) (is_blob t.tail) (blob_by t ns) x)
 short_step w id code ns t there ready may low narrow fits =
     let n = length (w.bits ++ id_bits w id) in
     let body_bits = values_bits n t code ns in
@@ -194,20 +204,22 @@ short_step w id code ns t there ready may low narrow fits =
           let id_there = id_read s w.scope id at body_bits rest alike narrow in
           let body = rw place at (abbreviated_reads n (is_blockinfo s) t code ns sound fits may.code_small may.numbers (fine_names (names_block (is_blockinfo s) code) (operands_by t ns) names) (at + length (id_bits w id)) rest word) in
           let top : is_top s ≡ false = alike_top s w.scope alike ∙ may.inside in
+          let in_force_here : template_of s id ≡ Some t = alike_template s w.scope id alike ∙ there in
+          let ends : has_blob_by s id ≡ is_blob t.tail = rw (le-leb 4 id low, in_force_here) refl in
           let read = item_inside s c _ id top id_there ∙ abbreviated_item id at s _ d t _ (after_record s code ns) low (alike_template s w.scope id alike ∙ there) body (recorded_is at s code t.tail (length t.operands) ns names) in
           record {
             scope = after_record s code ns;
             alike = alike_recorded s w.scope code ns alike;
             same = same_recorded s code ns;
-            way = λ behind u g h. of_record (record { reads = read; is = refl }) h;
+            way = λ behind u g h. record_way id (is_blob t.tail) behind (record { reads = read; is = refl }) (id_is s c _ id id_there) ends h;
           });
     }
 
-pub abbreviated_step : (w : Writer) (id code : ℕ) (ns : List ℕ) → Ready w.scope → MayAbbreviate w id code ns → Stepped w (abbreviated w id code ns) (λ x. with_values (template_of w.scope id) code ns x)
+pub abbreviated_step : (w : Writer) (id code : ℕ) (ns : List ℕ) → Ready w.scope → MayAbbreviate w id code ns → Stepped w (abbreviated w id code ns) (λ x. with_values id (template_of w.scope id) code ns x)
 abbreviated_step w id code ns ready may = by_template (template_of w.scope id) refl where
-  by_template : (o : Option Template) → template_of w.scope id ≡ o → Stepped w (abbreviated w id code ns) (λ x. with_values (template_of w.scope id) code ns x)
+  by_template : (o : Option Template) → template_of w.scope id ≡ o → Stepped w (abbreviated w id code ns) (λ x. with_values id (template_of w.scope id) code ns x)
   by_template None absent = absurd (no_fit code ns (rw absent at may.fits))
   by_template (Some t) there =
       let put = rw there at may.put in
       let fits = rw there at may.fits in
-      subst (λ (o : Option Template). Stepped w (abbreviated w id code ns) (λ x. with_values o code ns x)) (sym there) (short_step w id code ns t there ready put may.low may.narrow fits)
+      subst (λ (o : Option Template). Stepped w (abbreviated w id code ns) (λ x. with_values id o code ns x)) (sym there) (short_step w id code ns t there ready put may.low may.narrow fits)

@@ -9,3 +9,14 @@ abbrev pub AllRead : List ℕ → Result (List Shown) StreamFault → Type 0
 AllRead bytes (Ok all) = (tree : Tree) × Stream bytes tree × (entries tree ≡ all)
 AllRead bytes (Err (Bit fault)) = stream_fault bytes ≡ Some fault
 AllRead bytes (Err Memory) = Unit {0}
+
+-- the bytes are the stream of a tree
+pub record IsStream (bytes : List ℕ) : Type 0 where
+  pub tree : Tree
+  pub stream : Stream bytes tree
+
+-- the bytes are the stream of a tree, or its first fault, or memory ran out
+abbrev pub Judged : List ℕ → Result (Unit {0}) StreamFault → Type 0
+Judged bytes (Ok done) = IsStream bytes
+Judged bytes (Err (Bit fault)) = stream_fault bytes ≡ Some fault
+Judged bytes (Err Memory) = Unit {0}

@@ -1,44 +1,44 @@
 -- A whole stream: its blocks, definitions and records as a tree, or the first field that is refused.
-use Rattle.std.specs.Prelude.{◌≡◌, ℕ, zero, suc, Bool, true, false, List, [], ◌∷◌, ◌++◌, length, drop, Option, Some, None, Ok, Err, if◌then◌else◌}
+use Rattle.std.specs.Prelude.{◌≡◌, ℕ, zero, suc, ◌+◌, Bool, true, false, List, [], ◌∷◌, ◌++◌, length, drop, Option, Some, None, Ok, Err, if◌then◌else◌}
 use Rattle.bits.specs.Bits.{stream_bits}
-use Rattle.bits.specs.Cursor.{Cursor, Found, ◌>>=◌}
-use Rattle.bits.specs.Reading.{fixed}
+use Rattle.bits.specs.Cursor.{Cursor, Found}
 use Rattle.bits.specs.declared.fault.BitFault.{BitFault}
 use Rattle.bits.specs.declared.fault.BitFaultKind.TheVariants.{BadMagic}
 use Rattle.bit_stream.specs.declared.entry.Entry.{Entry}
 use Rattle.bit_stream.specs.declared.entry.Entry.TheVariants.{Block, EndBlock, Record, End}
 use Rattle.bit_stream.specs.Abbreviation.{Template}
-use Rattle.bit_stream.specs.Definition.{template}
 use Rattle.bit_stream.specs.Scope.{Scope, top_level}
-use Rattle.bit_stream.specs.Entry.{Item, item, is_top}
+use Rattle.bit_stream.specs.Entry.{Item, item, is_top, id_at, has_blob_by, defined_at}
 use Rattle.bit_stream.specs.Reader.{begins}
+use Rattle.bit_stream.specs.Writer.{in_force}
 
--- What stands one behind another: a block with its id and what is inside it, a definition, or a record with its code,
--- its operands and its blob; and then what stands behind that.
+-- What stands one behind another: a block with its id, the width of its abbreviation ids, its count of words and what is
+-- inside it; a definition with the abbreviation id that it is for; or a record with the abbreviation id that it is by, its
+-- code, its operands, whether it ends in a blob, and the blob; and then what stands behind that.
 pub data Tree : Type 0 where
   nothing : Tree
-  block : ℕ → Tree → Tree → Tree
-  definition : Template → Tree → Tree
-  values : ℕ → List ℕ → List ℕ → Tree → Tree
+  block : (id width words : ℕ) → (inside behind : Tree) → Tree
+  definition : (id : ℕ) → Template → (behind : Tree) → Tree
+  values : (id code : ℕ) → (operands : List ℕ) → (has_blob : Bool) → (blob : List ℕ) → (behind : Tree) → Tree
 
 -- at a place stands such an entry, or a definition where it is none
 pub record Stands (s : Scope) (c : Cursor) (entry : Option Entry) (i : Item) (d : Cursor) : Type 0 where
   pub reads : item s c ≡ Ok (i, d)
   pub is : i.entry ≡ entry
 
--- the abbreviation that is defined behind an abbreviation id
-unfoldable pub defined_at : Scope → Cursor → Found Template
-defined_at s c = fixed s.block.width c >>= λ _ d. template d
+-- the abbreviation id of what is defined next: behind those that are in force, which begin at 4
+abbrev pub next_id : Scope → ℕ
+next_id s = in_force s + 4
 
 -- from one place to another, with the blocks and abbreviations in force at each, stands a tree
 pub data Holds : Scope → Cursor → Tree → Scope → Cursor → Type 0 where
   none : {s : Scope} {c : Cursor} → Holds s c nothing s c
   of_block : {s t u : Scope} {c d e f g : Cursor} {i j : Item} {id : ℕ} {inside behind : Tree}
-      → Stands s c (Some (Block id)) i d → Holds i.scope d inside t e → Stands t e (Some EndBlock) j f → Holds j.scope f behind u g → Holds s c (block id inside behind) u g
+      → Stands s c (Some (Block id)) i d → Holds i.scope d inside t e → Stands t e (Some EndBlock) j f → Holds j.scope f behind u g → Holds s c (block id i.scope.block.width i.scope.block.words inside behind) u g
   of_definition : {s u : Scope} {c d g : Cursor} {i : Item} {t : Template} {behind : Tree}
-      → Stands s c None i d → defined_at s c ≡ Ok (t, d) → Holds i.scope d behind u g → Holds s c (definition t behind) u g
+      → Stands s c None i d → defined_at s c ≡ Ok (t, d) → Holds i.scope d behind u g → Holds s c (definition (next_id s) t behind) u g
   of_record : {s u : Scope} {c d g : Cursor} {i : Item} {code : ℕ} {behind : Tree}
-      → Stands s c (Some (Record code)) i d → Holds i.scope d behind u g → Holds s c (values code i.operands i.blob behind) u g
+      → Stands s c (Some (Record code)) i d → Holds i.scope d behind u g → Holds s c (values (id_at s c) code i.operands (has_blob_by s (id_at s c)) i.blob behind) u g
 
 -- the place behind the bytes that a stream begins with
 abbrev pub opening : List ℕ → Cursor
@@ -89,6 +89,6 @@ bare entry = record { entry = entry; operands = []; blob = [] }
 -- the entries of a tree, in order; a definition is none
 unfoldable pub entries : Tree → List Shown
 entries nothing = []
-entries (block id inside behind) = bare (Block id) ∷ (entries inside ++ bare EndBlock ∷ entries behind)
-entries (definition t behind) = entries behind
-entries (values code operands blob behind) = record { entry = Record code; operands = operands; blob = blob } ∷ entries behind
+entries (block id width words inside behind) = bare (Block id) ∷ (entries inside ++ bare EndBlock ∷ entries behind)
+entries (definition id t behind) = entries behind
+entries (values id code operands has_blob blob behind) = record { entry = Record code; operands = operands; blob = blob } ∷ entries behind

@@ -1,5 +1,5 @@
 -- What a writer is told to write, when its calls may be made, and the tree that was written.
-use Rattle.std.specs.Prelude.{◌≡◌, ℕ, ◌<◌, ◌≤◌, ◌/◌, ◌^◌, ◌++◌, Bool, true, false, List, [], ◌∷◌, length, take, drop, Option, Some, None, IsSome, nat_lt}
+use Rattle.std.specs.Prelude.{◌≡◌, ℕ, ◌+◌, ◌<◌, ◌≤◌, ◌/◌, ◌^◌, ◌++◌, Bool, true, false, List, [], ◌∷◌, length, take, drop, Option, Some, None, IsSome, nat_lt}
 use Rattle.std.specs.List.{list_all}
 use Rattle.bits.specs.Bits.{stream_bits}
 use Rattle.bits.specs.Writing.{byte_pad}
@@ -7,12 +7,12 @@ use Rattle.bit_stream.specs.declared.abbreviation.AbbrevOp.{AbbrevOp}
 use Rattle.bit_stream.specs.declared.abbreviation.AbbrevOp.TheVariants.{Literal, Fixed, Vbr, Array, Char6, Blob}
 use Rattle.bit_stream.specs.declared.abbreviation.Tail.{Tail}
 use Rattle.bit_stream.specs.declared.abbreviation.Tail.TheVariants.{NoTail, Elements, Bytes}
-use Rattle.bit_stream.specs.Abbreviation.{Template}
+use Rattle.bit_stream.specs.Abbreviation.{Template, is_blob}
 use Rattle.bit_stream.specs.Scope.{template_of}
 use Rattle.bit_stream.specs.Record.{names_block}
 use Rattle.bit_stream.specs.Entry.{is_top, is_blockinfo}
 use Rattle.bit_stream.specs.Spelling.{template_for, record_fits}
-use Rattle.bit_stream.specs.Writer.{Writer, begun, enter, ended, end_block, define, put_record, abbreviated}
+use Rattle.bit_stream.specs.Writer.{Writer, begun, enter, ended, end_block, define, in_force, put_record, abbreviated}
 use Rattle.bit_stream.specs.Law.{AreOperands}
 use Rattle.bit_tree.specs.Stream.{Tree, nothing, block, definition, values, Stream}
 
@@ -51,21 +51,22 @@ operands_by t ns = front_of t.tail (length t.operands) ns
 abbrev pub blob_by : Template → List ℕ → List ℕ
 blob_by t ns = back_of t.tail (length t.operands) ns
 
-abbrev pub with_definition : Option Template → Tree → Tree
-with_definition None behind = behind
-with_definition (Some t) behind = definition t behind
+abbrev pub with_definition : ℕ → Option Template → Tree → Tree
+with_definition id None behind = behind
+with_definition id (Some t) behind = definition id t behind
 
-abbrev pub with_values : Option Template → ℕ → List ℕ → Tree → Tree
-with_values None code ns behind = values code ns [] behind
-with_values (Some t) code ns behind = values code (operands_by t ns) (blob_by t ns) behind
+abbrev pub with_values : ℕ → Option Template → ℕ → List ℕ → Tree → Tree
+with_values id None code ns behind = values id code ns false [] behind
+with_values id (Some t) code ns behind = values id code (operands_by t ns) (is_blob t.tail) (blob_by t ns) behind
 
 -- the tree that is written
 unfoldable pub tree_of : Writer → Written → Tree
 tree_of w no_more = nothing
-tree_of w (a_block id width inside behind) = block id (tree_of (enter w id width) inside) (tree_of (end_block (written (enter w id width) inside)) behind)
-tree_of w (a_definition ops behind) = with_definition (template_for ops) (tree_of (define w ops) behind)
-tree_of w (a_record code ns behind) = values code ns [] (tree_of (put_record w code ns) behind)
-tree_of w (a_short_record id code ns behind) = with_values (template_of w.scope id) code ns (tree_of (abbreviated w id code ns) behind)
+tree_of w (a_block id width inside behind) =
+    block id width (length (ended (written (enter w id width) inside)) / 32) (tree_of (enter w id width) inside) (tree_of (end_block (written (enter w id width) inside)) behind)
+tree_of w (a_definition ops behind) = with_definition (in_force w.scope + 4) (template_for ops) (tree_of (define w ops) behind)
+tree_of w (a_record code ns behind) = values 3 code ns false [] (tree_of (put_record w code ns) behind)
+tree_of w (a_short_record id code ns behind) = with_values id (template_of w.scope id) code ns (tree_of (abbreviated w id code ns) behind)
 
 -- a block: at most 16 are open at once, and none is inside BLOCKINFO
 pub record MayEnter (w : Writer) (id width : ℕ) : Type 0 where

@@ -8,7 +8,7 @@ use std::alloc::{AllocError, Global};
 use std::marker::Model;
 
 /// An entry of a stream; of a record, its operands and its blob, which are empty at any other entry.
-#[derive(Debug, Drop)]
+#[derive(Drop)]
 pub struct HeldEntry {
     pub entry: Entry,
     pub operands: Vec<u64>,

@@ -1,20 +1,19 @@
 //! Whole streams of the bitcode container: each is one tree of blocks, definitions and records, or has a first
 //! field that is refused.
 //!
-//! It stands on `bit_stream`. Its promise: what is read of a stream is its tree, and what a writer wrote is read
-//! as what was written. Definitions: `specs/Stream`, `specs/Written`.
+//! It stands on `bit_stream`. Its promise: what is read of a stream is its tree, judged without holding it too, and
+//! what a writer wrote is read as what was written. Definitions: `specs/Stream`, `specs/Content`, `specs/Written`.
 #![tactic(auto)]
 
 mod held;
 mod law;
 mod read;
+mod verdict;
 
 pub use held::{EntryList, HeldEntry};
 pub use law::{
     a_stream_has_one_tree, a_stream_is_a_tree_or_refused, a_tree_is_not_refused,
     what_was_written_is_read,
 };
-pub use read::read_stream;
-
-#[cfg(test)]
-mod tests;
+pub use read::{is_end, read_stream};
+pub use verdict::judge;

@@ -8,7 +8,7 @@ use bit_stream::{BitReader, Entry, StreamFault};
 use std::alloc::Global;
 
 /// Whether it is the end of the stream.
-fn is_end(entry: Entry) -> bool
+pub fn is_end(entry: Entry) -> bool
     ensures { result ≡ is_end (Some entry) }
 {
     match entry {

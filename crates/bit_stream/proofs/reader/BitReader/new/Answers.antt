@@ -17,4 +17,4 @@ pub returns : goal.returns
 returns c =
     let read = rw c.new-cursor.ensures at (sym c.in-Ok.ensures.read) in
     let magic = c.if-number-ne-MAGIC.false in
-    rw (begins_is c.args.bytes.now _ _ read, magic, (word_there c.args.bytes.now _ _ read).1, c.new.ensures, c.new-2.ensures.items) refl
+    rw (begins_is c.args.bytes.now _ _ read, magic, (word_there c.args.bytes.now _ _ read).1, c.new.ensures, c.new-2.ensures.items, c.nothing.ensures, c.new-3.ensures) refl

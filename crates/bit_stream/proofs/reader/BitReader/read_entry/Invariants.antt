@@ -1,10 +1,15 @@
 use Rattle.std.proofs.Common.{◌≡◌, None, length}
 use Rattle.bits.specs.Cursor.{Found}
-use Rattle.bit_stream.specs.Entry.{Item, Next}
+use Rattle.bit_stream.specs.Entry.{Item, Next, Passed}
 use Rattle.bit_stream.proofs.reader.BitReader.read_entry.Given as goal
 
 abbrev pub invariant-loop-item : goal.invariant-loop-item
-invariant-loop-item l = (l.self-inside.stopped ≡ None) × ((r : Found Item) → Next l.self-inside.scope l.self-inside.cursor r → Next l.initial.self-inside.scope l.initial.self-inside.cursor r)
+invariant-loop-item l = record {
+  running : l.self-inside.stopped ≡ None;
+  next : (r : Found Item) → Next l.self-inside.scope l.self-inside.cursor r → Next l.initial.self-inside.scope l.initial.self-inside.cursor r;
+  passed : Passed l.initial.self-inside.scope l.initial.self-inside.cursor l.self-inside.definitions l.self-inside.scope l.self-inside.cursor;
+  told : l.self-inside.told ≡ l.initial.self-inside.told;
+}
 
 abbrev pub decreases-loop-item : goal.decreases-loop-item
 decreases-loop-item l = length l.self-inside.cursor.rest

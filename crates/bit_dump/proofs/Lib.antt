@@ -1,0 +1,3 @@
+pub mod Sinks
+pub mod Telling
+pub mod Told

@@ -1,0 +1,9 @@
+-- Says how the code reads: a fault of the stream, or want of memory, as `dump` answers it.
+use Rattle.bit_stream.specs.declared.fault.StreamFault.{StreamFault}
+use Rattle.bit_stream.specs.declared.fault.StreamFault.TheVariants as stream
+use Rattle.bit_dump.specs.declared.fault.DumpFault.{DumpFault}
+use Rattle.bit_dump.specs.declared.fault.DumpFault.TheVariants.{Bit, Memory}
+
+abbrev pub of_stream : StreamFault → DumpFault
+of_stream (stream.Bit fault) = Bit fault
+of_stream stream.Memory = Memory

@@ -1,0 +1,5 @@
+pub mod Dumped
+pub mod Fault
+pub mod Outline
+pub mod Tally
+pub mod Text

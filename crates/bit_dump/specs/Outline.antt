@@ -1,0 +1,93 @@
+-- Says how the code reads: what is told so far of a stream, and what one more piece of it adds.
+use Rattle.std.specs.Prelude.{ℕ, ◌+◌, ◌-◌, Bool, List, [], ◌∷◌, ◌++◌, length, take, Option, Some, if◌then◌else◌, slice_get, slice_index_or}
+use Rattle.bit_stream.specs.declared.abbreviation.AbbrevOp.{AbbrevOp}
+use Rattle.bit_stream.specs.declared.entry.Entry.{Entry}
+use Rattle.bit_stream.specs.declared.entry.Entry.TheVariants.{Block, EndBlock, Record, End}
+use Rattle.bit_stream.specs.Abbreviation.{ops_of}
+use Rattle.bit_stream.specs.Reader.{Reader}
+use Rattle.bit_tree.specs.Pieces.{Piece, begun, ended, defines, holds}
+use Rattle.bit_dump.specs.declared.counts.Kind.TheVariants.{Blocks, Records, Abbreviations}
+use Rattle.bit_dump.specs.Tally.{Tally, no_tally, counted}
+use Rattle.bit_dump.specs.Text.{block_line, end_line, definition_line, record_line, summary}
+
+-- whether each entry is told; the ids of the open blocks, the outermost first; the counts; and the text that is not written
+pub record Outline : Type 0 where
+  pub whole : Bool
+  pub unclosed : List ℕ
+  pub tally : Tally
+  pub text : List ℕ
+
+abbrev pub nothing_told : Bool → Outline
+nothing_told whole = record { whole = whole; unclosed = []; tally = no_tally; text = [] }
+
+-- the innermost open block
+abbrev pub here : List ℕ → Option ℕ
+here unclosed = slice_get unclosed (length unclosed - 1)
+
+-- a line, where the whole is told
+abbrev pub shown : Bool → List ℕ → List ℕ
+shown whole line = if whole then line else []
+
+abbrev pub after_block : Outline → ℕ → ℕ → ℕ → Outline
+after_block o id width words = record {
+  whole = o.whole;
+  unclosed = o.unclosed ++ id ∷ [];
+  tally = counted Blocks o.tally (Some id);
+  text = o.text ++ shown o.whole (block_line (length o.unclosed) id width words);
+}
+
+abbrev pub after_end : Outline → Outline
+after_end o = record {
+  whole = o.whole;
+  unclosed = take (length o.unclosed - 1) o.unclosed;
+  tally = o.tally;
+  text = o.text ++ shown o.whole (end_line (length o.unclosed - 1) (slice_index_or o.unclosed (length o.unclosed - 1) 0));
+}
+
+abbrev pub after_definition : Outline → ℕ → List AbbrevOp → Outline
+after_definition o id ops = record {
+  whole = o.whole;
+  unclosed = o.unclosed;
+  tally = counted Abbreviations o.tally (here o.unclosed);
+  text = o.text ++ shown o.whole (definition_line (length o.unclosed) id ops);
+}
+
+abbrev pub after_record : Outline → (id code : ℕ) → List ℕ → Bool → ℕ → Outline
+after_record o id code operands has_blob size = record {
+  whole = o.whole;
+  unclosed = o.unclosed;
+  tally = counted Records o.tally (here o.unclosed);
+  text = o.text ++ shown o.whole (record_line (length o.unclosed) id code operands has_blob size);
+}
+
+-- one more piece
+abbrev pub after : Outline → Piece → Outline
+after o (begun id width words) = after_block o id width words
+after o ended = after_end o
+after o (defines id t) = after_definition o id (ops_of t)
+after o (holds id code operands has_blob blob) = after_record o id code operands has_blob (length blob)
+
+-- some definitions, the first for this abbreviation id
+unfoldable pub after_definitions : Outline → ℕ → List (List AbbrevOp) → Outline
+after_definitions o id [] = o
+after_definitions o id (ops ∷ more) = after_definitions (after_definition o id ops) (id + 1) more
+
+-- some pieces
+unfoldable pub told : Outline → List Piece → Outline
+told o [] = o
+told o (p ∷ ps) = told (after o p) ps
+
+-- an entry that a reader gave, by what the reader tells of it
+abbrev pub after_entry : Outline → Entry → Reader → Outline
+after_entry o (Block id) r = after_block o id r.told.width r.told.words
+after_entry o EndBlock r = after_end o
+after_entry o (Record code) r = after_record o r.told.abbreviation code r.operands r.told.has_blob (length r.blob)
+after_entry o End r = o
+
+-- the text is written
+abbrev pub emptied : Outline → Outline
+emptied o = record { whole = o.whole; unclosed = o.unclosed; tally = o.tally; text = [] }
+
+-- the summary is told
+abbrev pub summed : Outline → Outline
+summed o = record { whole = o.whole; unclosed = o.unclosed; tally = o.tally; text = o.text ++ summary o.tally }

@@ -1,0 +1,64 @@
+//! Telling a whole stream.
+ghost use Rattle.std.specs.Prelude.{◌≤◌, ◌^◌, length};
+ghost use Rattle.bit_tree.specs.Read.{IsStream};
+ghost use Rattle.bit_dump.specs.Dumped.{Dumped, Counted, Finished};
+ghost use Rattle.bit_dump.specs.Outline.{summed};
+
+use crate::DumpFault;
+use crate::outline::Outline;
+use bit_stream::BitReader;
+use bit_tree::{is_end, judge};
+use ir_base::Sink;
+use std::alloc::Global;
+
+/// Writes the text of a stream's tree: with `whole` its entries and definitions, and always how many blocks, records and
+/// definitions each block id has. Nothing is written before the whole stream was judged.
+pub fn dump<S: Sink>(
+    alloc: Global,
+    bytes: &[u8],
+    whole: bool,
+    sink: &mut S,
+) -> Result<(), DumpFault>
+    requires { length bytes.now ≤ 2 ^ 24 }
+    ensures told { Dumped bytes.now whole (S.taken sink.old) (S.taken sink.new) result }
+    ensures counted { Counted (S.faults sink.old) (S.faults sink.new) result }
+{
+    judge(alloc, bytes)?;
+    tell_judged(alloc, bytes, whole, sink)
+}
+
+/// The same of a stream that is a tree.
+fn tell_judged<S: Sink>(
+    alloc: Global,
+    bytes: &[u8],
+    whole: bool,
+    sink: &mut S,
+) -> Result<(), DumpFault>
+    requires short { length bytes.now ≤ 2 ^ 24 }
+    requires judged { IsStream bytes.now }
+    ensures told { Dumped bytes.now whole (S.taken sink.old) (S.taken sink.new) result }
+    ensures counted { Counted (S.faults sink.old) (S.faults sink.new) result }
+{
+    let mut reader = BitReader::new(alloc, bytes)?;
+    let mut outline = Outline::new(alloc, whole);
+    'telling: loop {
+        let first = reader.next_abbreviation();
+        let entry = reader.next_entry()?;
+        outline.tell(first, &reader, entry)?;
+        if is_end(entry) {
+            return finish(&mut outline, sink);
+        }
+        if outline.is_full() {
+            outline.flush(sink)?;
+        }
+    }
+}
+
+/// Writes the summary behind what is not written yet.
+fn finish<S: Sink>(outline: &mut Outline, sink: &mut S) -> Result<(), DumpFault>
+    ensures told { Finished (S.taken sink.old) (S.taken sink.new) (S.faults sink.old) (S.faults sink.new) (summed outline.old).text result }
+    ensures counted { Counted (S.faults sink.old) (S.faults sink.new) result }
+{
+    outline.sum_up()?;
+    Ok(outline.flush(sink)?)
+}

@@ -1,0 +1,63 @@
+//! Abbreviations that are in force.
+ghost use Rattle.std.specs.Prelude.{◌≡◌, ◌≤◌, ◌^◌, [], ◌++◌, ◌∷◌, length, OnOk, option_copied, slice_get};
+
+use crate::abbreviation::Template;
+use std::alloc::{AllocError, Global};
+use std::marker::Model;
+
+/// How many abbreviations a list holds at most: more than a stream of 2^30 bytes defines.
+const MOST: usize = 1 << 30;
+
+/// Some abbreviations, in order.
+#[derive(Drop)]
+pub struct TemplateList {
+    items: Vec<Template>,
+}
+
+impl Model for TemplateList {
+    ghost use Rattle.std.specs.Prelude.{List, ◌≤◌, ◌^◌, length};
+    ghost use Rattle.bit_stream.specs.Abbreviation.{Template};
+
+    ghost Value = { List Template };
+
+    ghost view = { λ list. list.items.items };
+
+    ghost invariant = { λ list. length list.items.items ≤ 2 ^ 30 };
+}
+
+impl TemplateList {
+    /// No abbreviations.
+    pub fn new(alloc: Global) -> Self
+        ensures { result ≡ [] }
+    {
+        TemplateList {
+            items: Vec::new(alloc),
+        }
+    }
+
+    /// How many there are.
+    pub fn len(&self) -> usize
+        ensures value { result ≡ length self.now }
+        ensures few { result ≤ 2 ^ 30 }
+    {
+        self.items.len()
+    }
+
+    /// The one with this index.
+    pub fn get(&self, index: usize) -> Option<&Template>
+        ensures { option_copied result ≡ slice_get self.now index }
+    {
+        self.items.as_slice().get(index)
+    }
+
+    /// Adds one at the end. Where the list is full there is no memory for it.
+    pub fn push(&mut self, template: Template) -> Result<(), AllocError>
+        ensures { OnOk result (self.new ≡ self.old ++ template ∷ []) }
+    {
+        if self.items.len() >= MOST {
+            return Err(AllocError);
+        }
+        self.items.push(template)?;
+        Ok(())
+    }
+}

@@ -1,0 +1,18 @@
+-- Says for `Stream` what a tree is one piece after another, as a stream gives it.
+use Rattle.std.specs.Prelude.{ℕ, Bool, List, [], ◌∷◌, ◌++◌}
+use Rattle.bit_stream.specs.Abbreviation.{Template}
+use Rattle.bit_tree.specs.Stream.{Tree, nothing, block, definition, values}
+
+-- a block begins or ends, or a definition or a record stands there
+pub data Piece : Type 0 where
+  begun : (id width words : ℕ) → Piece
+  ended : Piece
+  defines : (id : ℕ) → Template → Piece
+  holds : (id code : ℕ) → (operands : List ℕ) → (has_blob : Bool) → (blob : List ℕ) → Piece
+
+-- what a tree is, piece by piece
+unfoldable pub flat : Tree → List Piece
+flat nothing = []
+flat (block id width words inside behind) = begun id width words ∷ (flat inside ++ ended ∷ flat behind)
+flat (definition id t behind) = defines id t ∷ flat behind
+flat (values id code operands has_blob blob behind) = holds id code operands has_blob blob ∷ flat behind
