@@ -79,6 +79,7 @@ turn_flag : (tool : Tool) (before : List Role) (word : List ℕ) (behind : List 
 turn_flag tool before word behind flags.Text e = one_more tool before word behind (Lone flags.Text) _ e refl refl refl
 turn_flag tool before word behind flags.Delete e = one_more tool before word behind (Lone flags.Delete) _ e refl refl refl
 turn_flag tool before word behind flags.Recursive e = one_more tool before word behind (Lone flags.Recursive) _ e refl refl refl
+turn_flag tool before word behind flags.Dump e = one_more tool before word behind (Lone flags.Dump) _ e refl refl refl
 
 -- An option with its value behind `=`.
 

@@ -9,7 +9,7 @@ use Rattle.command_line.specs.declared.command.UsageKind.{UsageKind}
 use Rattle.command_line.specs.declared.command.WordsFault.{WordsFault}
 use Rattle.command_line.specs.declared.command.WordsFault.TheVariants as faults
 use Rattle.command_line.specs.declared.tool.Tool.{Tool}
-use Rattle.command_line.specs.declared.tool.Tool.TheVariants.{LlvmAs, LlvmDis, LlvmLink, LlvmExtract, Lli}
+use Rattle.command_line.specs.declared.tool.Tool.TheVariants.{LlvmAs, LlvmDis, LlvmLink, LlvmExtract, Lli, LlvmBcanalyzer}
 use Rattle.command_line.specs.declared.options.Flag.TheVariants as flags
 use Rattle.command_line.specs.declared.options.Setting.TheVariants as settings
 use Rattle.command_line.specs.Tools.{tool_of}
@@ -58,6 +58,7 @@ command_of LlvmDis all = commands.Disassemble (input_from (others all)) (output_
 command_of LlvmLink all = commands.Link (others all) (output_from Standard (given_output all)) (has_flag flags.Text all)
 command_of LlvmExtract all = commands.Extract (input_from (others all)) (output_from Standard (given_output all)) (has_flag flags.Text all) (given_selection all)
 command_of Lli all = commands.Lli (input_from (others all)) (steps_from (given_steps all)) (arguments_from (others all))
+command_of LlvmBcanalyzer all = commands.Analyze (input_from (others all)) (has_flag flags.Dump all)
 
 abbrev pub command_behind : Option Tool → List (List ℕ) → Option Command
 command_behind None words = None

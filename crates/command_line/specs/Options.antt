@@ -11,7 +11,7 @@ use Rattle.command_line.specs.declared.options.Spelling.TheVariants as spellings
 use Rattle.command_line.specs.Tools.{row_of, has, takes}
 
 abbrev pub flag_named : List ℕ → Option Flag
-flag_named = row_of ((codes "S", flags.Text) ∷ (codes "delete", flags.Delete) ∷ (codes "recursive", flags.Recursive) ∷ [])
+flag_named = row_of ((codes "S", flags.Text) ∷ (codes "delete", flags.Delete) ∷ (codes "recursive", flags.Recursive) ∷ (codes "dump", flags.Dump) ∷ [])
 
 abbrev pub setting_named : List ℕ → Option Setting
 setting_named = row_of ((codes "o", settings.Output) ∷ (codes "func", settings.Function) ∷ (codes "glob", settings.Variable) ∷ (codes "max-steps", settings.MaxSteps) ∷ [])

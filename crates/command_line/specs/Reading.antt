@@ -10,7 +10,7 @@ use Rattle.command_line.specs.declared.command.WordsFault.{WordsFault}
 use Rattle.command_line.specs.declared.command.WordsFault.TheVariants as faults
 use Rattle.command_line.specs.declared.given.Given.{Given}
 use Rattle.command_line.specs.declared.tool.Tool.{Tool}
-use Rattle.command_line.specs.declared.tool.Tool.TheVariants.{LlvmAs, LlvmDis, LlvmLink, LlvmExtract, Lli}
+use Rattle.command_line.specs.declared.tool.Tool.TheVariants.{LlvmAs, LlvmDis, LlvmLink, LlvmExtract, Lli, LlvmBcanalyzer}
 use Rattle.command_line.specs.declared.options.Flag.{Flag}
 use Rattle.command_line.specs.declared.options.Flag.TheVariants as flags
 use Rattle.command_line.specs.declared.options.Setting.{Setting}
@@ -58,6 +58,7 @@ nothing_given tool = record {
   max_steps = None;
   text = false;
   selection = record { functions = []; variables = []; delete = false; recursive = false };
+  dump = false;
   marked = false;
   dash = false;
 }
@@ -70,6 +71,7 @@ given_by tool all = record {
   max_steps = given_steps all;
   text = has_flag flags.Text all;
   selection = given_selection all;
+  dump = has_flag flags.Dump all;
   marked = is_marked all;
   dash = has_dash all;
 }
@@ -80,6 +82,7 @@ command_by LlvmDis given = commands.Disassemble (input_from given.others) (outpu
 command_by LlvmLink given = commands.Link given.others (output_from Standard given.output) given.text
 command_by LlvmExtract given = commands.Extract (input_from given.others) (output_from Standard given.output) given.text given.selection
 command_by Lli given = commands.Lli (input_from given.others) (steps_from given.max_steps) (arguments_from given.others)
+command_by LlvmBcanalyzer given = commands.Analyze (input_from given.others) given.dump
 
 abbrev pub command_from : Given → Command
 command_from given = command_by given.tool given
@@ -90,6 +93,7 @@ abbrev pub with_flag : Given → Flag → Given
 with_flag given flags.Text = record given { text = true }
 with_flag given flags.Delete = record given { selection = record given.selection { delete = true } }
 with_flag given flags.Recursive = record given { selection = record given.selection { recursive = true } }
+with_flag given flags.Dump = record given { dump = true }
 
 abbrev pub is_some : {A : Type 0} → Option A → Bool
 is_some None = false

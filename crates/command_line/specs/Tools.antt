@@ -2,7 +2,7 @@
 use Rattle.std.specs.Prelude.{◌∷◌, [], ℕ, Bool, true, false, List, codes, bytes_eq, Option, Some, None, if◌then◌else◌}
 use Rattle.std.specs.List.{list_any}
 use Rattle.command_line.specs.declared.tool.Tool.{Tool}
-use Rattle.command_line.specs.declared.tool.Tool.TheVariants.{LlvmAs, LlvmDis, LlvmLink, LlvmExtract, Lli}
+use Rattle.command_line.specs.declared.tool.Tool.TheVariants.{LlvmAs, LlvmDis, LlvmLink, LlvmExtract, Lli, LlvmBcanalyzer}
 use Rattle.command_line.specs.declared.options.Flag.{Flag}
 use Rattle.command_line.specs.declared.options.Flag.TheVariants as flags
 use Rattle.command_line.specs.declared.options.Setting.{Setting}
@@ -14,7 +14,7 @@ row_of [] name = None
 row_of (row ∷ rows) name = if bytes_eq row.0 name then Some row.1 else row_of rows name
 
 abbrev pub tool_named : List ℕ → Option Tool
-tool_named = row_of ((codes "llvm-as", LlvmAs) ∷ (codes "llvm-dis", LlvmDis) ∷ (codes "llvm-link", LlvmLink) ∷ (codes "llvm-extract", LlvmExtract) ∷ (codes "lli", Lli) ∷ [])
+tool_named = row_of ((codes "llvm-as", LlvmAs) ∷ (codes "llvm-dis", LlvmDis) ∷ (codes "llvm-link", LlvmLink) ∷ (codes "llvm-extract", LlvmExtract) ∷ (codes "lli", Lli) ∷ (codes "llvm-bcanalyzer", LlvmBcanalyzer) ∷ [])
 
 abbrev pub tool_name : Tool → List ℕ
 tool_name LlvmAs = codes "llvm-as"
@@ -22,6 +22,7 @@ tool_name LlvmDis = codes "llvm-dis"
 tool_name LlvmLink = codes "llvm-link"
 tool_name LlvmExtract = codes "llvm-extract"
 tool_name Lli = codes "lli"
+tool_name LlvmBcanalyzer = codes "llvm-bcanalyzer"
 
 -- the tool that the first word of a command line names
 abbrev pub tool_of : List (List ℕ) → Option Tool
@@ -43,6 +44,7 @@ flags_of LlvmDis = []
 flags_of LlvmLink = flags.Text ∷ []
 flags_of LlvmExtract = flags.Text ∷ flags.Delete ∷ flags.Recursive ∷ []
 flags_of Lli = []
+flags_of LlvmBcanalyzer = flags.Dump ∷ []
 
 abbrev pub settings_of : Tool → List Setting
 settings_of LlvmAs = settings.Output ∷ []
@@ -50,11 +52,13 @@ settings_of LlvmDis = settings.Output ∷ []
 settings_of LlvmLink = settings.Output ∷ []
 settings_of LlvmExtract = settings.Output ∷ settings.Function ∷ settings.Variable ∷ []
 settings_of Lli = settings.MaxSteps ∷ []
+settings_of LlvmBcanalyzer = []
 
 abbrev pub same_flag : Flag → Flag → Bool
 same_flag flags.Text flags.Text = true
 same_flag flags.Delete flags.Delete = true
 same_flag flags.Recursive flags.Recursive = true
+same_flag flags.Dump flags.Dump = true
 same_flag flag other = false
 
 abbrev pub same_setting : Setting → Setting → Bool

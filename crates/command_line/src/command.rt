@@ -7,7 +7,7 @@ use std::alloc::{AllocError, AllocFailed};
 use thiserror::Error;
 
 /// What is wrong with a word. Of one word the kind that stands first is told.
-#[derive(Clone, Copy, Debug, PartialEq, Eq)]
+#[derive(Clone, Copy, Debug)]
 pub enum UsageKind {
     NoTool,
     UnknownOption,
@@ -36,7 +36,7 @@ impl UsageKind {
 }
 
 /// The first fault of the words with the number of its word, counted from 0, or want of memory.
-#[derive(Clone, Copy, Debug, PartialEq, Eq, Error)]
+#[derive(Clone, Copy, Debug, Error)]
 pub enum WordsFault {
     #[error("usage: {kind} at word {word}", kind = .0.words(), word = .1)]
     Usage(UsageKind, u64),
@@ -65,7 +65,7 @@ impl<T: Drop> From<AllocFailed<T>> for WordsFault {
 }
 
 /// Where the result goes.
-#[derive(Debug, Drop)]
+#[derive(Drop)]
 pub enum OutputName {
     Standard,
     File(Text),
@@ -73,7 +73,7 @@ pub enum OutputName {
 
 /// Which definitions `llvm-extract` keeps: those of these names, with `recursive` also the functions
 /// that chosen functions call, and with `delete` all others in their place.
-#[derive(Debug, Drop)]
+#[derive(Drop)]
 pub struct Selection {
     pub functions: NameList,
     pub variables: NameList,
@@ -82,8 +82,9 @@ pub struct Selection {
 }
 
 /// What the program is to do. Standard input as an input is the text `-`. `text` says that canonical
-/// text is written in place of bitcode. `arguments` begin with the module's name as written.
-#[derive(Debug, Drop)]
+/// text is written in place of bitcode. `arguments` begin with the module's name as written. `dump` says
+/// that the whole tree is told, and not its counts alone.
+#[derive(Drop)]
 pub enum Command {
     Assemble {
         input: Text,
@@ -108,5 +109,9 @@ pub enum Command {
         input: Text,
         max_steps: u64,
         arguments: TextList,
+    },
+    Analyze {
+        input: Text,
+        dump: bool,
     },
 }

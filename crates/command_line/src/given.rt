@@ -25,6 +25,7 @@ pub(crate) struct Given {
     max_steps: Option<u64>,
     text: bool,
     selection: Selection,
+    dump: bool,
     // The two dashes were there.
     marked: bool,
     // Standard input is among the inputs.
@@ -57,6 +58,7 @@ impl Given {
                 delete: false,
                 recursive: false,
             },
+            dump: false,
             marked: false,
             dash: false,
         }
@@ -69,6 +71,7 @@ impl Given {
             Flag::Text => self.text = true,
             Flag::Delete => self.selection.delete = true,
             Flag::Recursive => self.selection.recursive = true,
+            Flag::Dump => self.dump = true,
         }
     }
 
@@ -147,7 +150,7 @@ impl Given {
     fn is_program(&self) -> bool
         ensures { result ≡ is_program self.now.tool (is_empty self.now.others) }
     {
-        self.tool == Tool::Lli && !self.others.is_empty()
+        matches!(self.tool, Tool::Lli) && !self.others.is_empty()
     }
 
     /// There is no file, and the tool needs one.
@@ -261,6 +264,10 @@ impl Given {
                 input: self.input(alloc)?,
                 max_steps: self.max_steps.unwrap_or(DEFAULT_STEPS),
                 arguments: arguments(alloc, self.others)?,
+            }),
+            Tool::LlvmBcanalyzer => Ok(Command::Analyze {
+                input: self.input(alloc)?,
+                dump: self.dump,
             }),
         }
     }

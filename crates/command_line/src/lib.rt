@@ -17,6 +17,3 @@ mod words;
 pub use command::{Command, OutputName, Selection, UsageKind, WordsFault};
 pub use tool::{Tool, line_name, tool_of};
 pub use words::read_words;
-
-#[cfg(test)]
-mod tests;

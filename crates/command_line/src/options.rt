@@ -11,6 +11,7 @@ pub(crate) enum Flag {
     Text,
     Delete,
     Recursive,
+    Dump,
 }
 
 /// An option with a value.
@@ -58,6 +59,7 @@ fn flag_named(name: &[u8]) -> Option<Flag>
         b"S" => Some(Flag::Text),
         b"delete" => Some(Flag::Delete),
         b"recursive" => Some(Flag::Recursive),
+        b"dump" => Some(Flag::Dump),
         _ => None,
     }
 }

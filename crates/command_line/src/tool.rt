@@ -6,13 +6,14 @@ use crate::options::{Flag, Setting};
 use ir_base::Text;
 
 /// A tool, as the first word of the command line names it.
-#[derive(Clone, Copy, Debug, PartialEq, Eq)]
+#[derive(Clone, Copy)]
 pub enum Tool {
     LlvmAs,
     LlvmDis,
     LlvmLink,
     LlvmExtract,
     Lli,
+    LlvmBcanalyzer,
 }
 
 impl Tool {
@@ -26,6 +27,7 @@ impl Tool {
             b"llvm-link" => Some(Tool::LlvmLink),
             b"llvm-extract" => Some(Tool::LlvmExtract),
             b"lli" => Some(Tool::Lli),
+            b"llvm-bcanalyzer" => Some(Tool::LlvmBcanalyzer),
             _ => None,
         }
     }
@@ -41,6 +43,7 @@ impl Tool {
             Tool::LlvmLink => "llvm-link",
             Tool::LlvmExtract => "llvm-extract",
             Tool::Lli => "lli",
+            Tool::LlvmBcanalyzer => "llvm-bcanalyzer",
         }
     }
 
@@ -51,6 +54,7 @@ impl Tool {
         match flag {
             Flag::Text => matches!(self, Tool::LlvmLink | Tool::LlvmExtract),
             Flag::Delete | Flag::Recursive => matches!(self, Tool::LlvmExtract),
+            Flag::Dump => matches!(self, Tool::LlvmBcanalyzer),
         }
     }
 
@@ -59,7 +63,7 @@ impl Tool {
         ensures { result ≡ takes self setting }
     {
         match setting {
-            Setting::Output => !matches!(self, Tool::Lli),
+            Setting::Output => !matches!(self, Tool::Lli | Tool::LlvmBcanalyzer),
             Setting::Function | Setting::Variable => matches!(self, Tool::LlvmExtract),
             Setting::MaxSteps => matches!(self, Tool::Lli),
         }

@@ -1,6 +1,6 @@
 -- One input, where its content is told.
-use Rattle.std.proofs.Common.{◌≡◌, ◌⊎◌, inl, inr, ℕ, ◌+◌, ◌<◌, ◌≤◌, Bool, true, false, cond, List, [], ◌∷◌, ◌++◌, length, Option, Some, None, Result, Ok, Err, refl, sym, ap, ◌∙◌, arith}
-use Rattle.std.specs.Prelude.{IfSome, IsSomeAnd, nat_lt}
+use Rattle.std.proofs.Common.{◌≡◌, ◌⊎◌, inl, inr, ℕ, ◌+◌, ◌<◌, ◌≤◌, Bool, true, false, cond, List, [], ◌++◌, length, Option, Some, None, Ok, Err, refl, sym, ap, ◌∙◌, arith}
+use Rattle.std.specs.Prelude.{IfSome, IsSomeAnd}
 use Rattle.std.specs.Bool.{MatchBool}
 use Rattle.std.proofs.lemmas.List.{append-nil}
 use Rattle.std.proofs.lemmas.Bool.Decides.{nat_tests}
@@ -8,20 +8,21 @@ use Rattle.ir_base.specs.Outside.{Lost}
 use Rattle.ir_base.specs.Files.{Named, ReadsFrom, IsMissing, IsOver}
 use Rattle.command_line.specs.Options.{is_dash}
 use Rattle.tool_cli.specs.declared.ended.Ended.{Ended}
-use Rattle.tool_cli.specs.declared.ended.Ended.TheVariants.{Exit, StepsUsed, Usage, CannotRead, InputTooLarge, BadByte, NoItemHere, LeftOutWord, TooDeep, NotBuilt, Memory}
+use Rattle.tool_cli.specs.declared.ended.Ended.TheVariants.{CannotRead, InputTooLarge, Memory}
 use Rattle.tool_cli.specs.Inputs.{content, stdin_after, Tells, alone, together, input_read}
-use Rattle.tool_cli.specs.Causes.{IsEmptied, HasRead, GaveUp, IsUnread, IsLarge, Refuses}
+use Rattle.tool_cli.specs.Causes.{IsEmptied, HasRead, GaveUp, Refuses}
+use Rattle.tool_cli.specs.declared.inputs.TheConstants.{LARGEST, LARGEST_TOGETHER}
 
-alone_ok : (name text : List ℕ) → length text ≤ 16777216 → alone name (Some text) ≡ Ok text
+alone_ok : (name text : List ℕ) → length text ≤ LARGEST → alone name (Some text) ≡ Ok text
 alone_ok name text few = grind (arith, nat_tests)
 
-alone_over : (name text : List ℕ) → 16777216 < length text → alone name (Some text) ≡ Err (InputTooLarge name 16777216)
+alone_over : (name text : List ℕ) → LARGEST < length text → alone name (Some text) ≡ Err (InputTooLarge name LARGEST)
 alone_over name text many = grind (arith, nat_tests)
 
-together_ok : (name text : List ℕ) (before : ℕ) → before + length text ≤ 33554432 → together name before (Ok text) ≡ Ok text
+together_ok : (name text : List ℕ) (before : ℕ) → before + length text ≤ LARGEST_TOGETHER → together name before (Ok text) ≡ Ok text
 together_ok name text before few = grind (arith, nat_tests)
 
-together_over : (name text : List ℕ) (before : ℕ) → 33554432 < before + length text → together name before (Ok text) ≡ Err (InputTooLarge name 33554432)
+together_over : (name text : List ℕ) (before : ℕ) → LARGEST_TOGETHER < before + length text → together name before (Ok text) ≡ Err (InputTooLarge name LARGEST_TOGETHER)
 together_over name text before many = grind (arith, nat_tests)
 
 -- all of standard input was read
@@ -44,15 +45,15 @@ content_by false contents left_before left_now held stdin name text told read = 
 pub content_read : (contents : Option Named) (left_before left_now : Option (List ℕ)) (held : Named) (stdin name text : List ℕ) → Tells contents left_before held stdin name → HasRead contents left_before left_now name text → content held stdin name ≡ Some text
 content_read contents left_before left_now held stdin name text told read = content_by (is_dash name) contents left_before left_now held stdin name text told read.content
 
-alone_read : (held : Named) (stdin name text : List ℕ) → content held stdin name ≡ Some text → length text ≤ 16777216 → alone name (content held stdin name) ≡ Ok text
+alone_read : (held : Named) (stdin name text : List ℕ) → content held stdin name ≡ Some text → length text ≤ LARGEST → alone name (content held stdin name) ≡ Ok text
 alone_read held stdin name text e few = ap (alone name) e ∙ alone_ok name text few
 
 -- the text is what the input gives, where all are not too many
-pub input_ok : (held : Named) (stdin name text : List ℕ) (before : ℕ) → content held stdin name ≡ Some text → length text ≤ 16777216 → before + length text ≤ 33554432 → input_read held stdin before name ≡ Ok text
+pub input_ok : (held : Named) (stdin name text : List ℕ) (before : ℕ) → content held stdin name ≡ Some text → length text ≤ LARGEST → before + length text ≤ LARGEST_TOGETHER → input_read held stdin before name ≡ Ok text
 unfolding input_read
 input_ok held stdin name text before e few all = ap (together name before) (alone_read held stdin name text e few) ∙ together_ok name text before all
 
-pub input_over : (held : Named) (stdin name text : List ℕ) (before : ℕ) → content held stdin name ≡ Some text → length text ≤ 16777216 → 33554432 < before + length text → input_read held stdin before name ≡ Err (InputTooLarge name 33554432)
+pub input_over : (held : Named) (stdin name text : List ℕ) (before : ℕ) → content held stdin name ≡ Some text → length text ≤ LARGEST → LARGEST_TOGETHER < before + length text → input_read held stdin before name ≡ Err (InputTooLarge name LARGEST_TOGETHER)
 unfolding input_read
 input_over held stdin name text before e few all = ap (together name before) (alone_read held stdin name text e few) ∙ together_over name text before all
 
@@ -70,7 +71,7 @@ missing_gives : (held : Named) (stdin name : List ℕ) (before : ℕ) → conten
 unfolding input_read
 missing_gives held stdin name before e = ap (λ o. together name before (alone name o)) e
 
-large_gives : (held : Named) (stdin name text : List ℕ) (before : ℕ) → content held stdin name ≡ Some text → 16777216 < length text → input_read held stdin before name ≡ Err (InputTooLarge name 16777216)
+large_gives : (held : Named) (stdin name text : List ℕ) (before : ℕ) → content held stdin name ≡ Some text → LARGEST < length text → input_read held stdin before name ≡ Err (InputTooLarge name LARGEST)
 unfolding input_read
 large_gives held stdin name text before e many = ap (λ o. together name before (alone name o)) e ∙ ap (together name before) (alone_over name text many)
 
@@ -82,11 +83,11 @@ unread_by true contents left held stdin name i f told why = inr why
 unread_by false contents left held stdin name i f told (inl rose) = inr rose
 unread_by false contents left held stdin name i f told (inr missing) = inl (is_missing contents held name told missing)
 
-over_some : (o : Option (List ℕ)) → IsSomeAnd o (λ bytes. 16777216 < length bytes) → (text : List ℕ) × ((o ≡ Some text) × (16777216 < length text))
+over_some : (o : Option (List ℕ)) → IsSomeAnd o (λ bytes. LARGEST < length bytes) → (text : List ℕ) × ((o ≡ Some text) × (LARGEST < length text))
 over_some None h = absurd h
 over_some (Some text) h = (text, (refl, h))
 
-large_by : (dash : Bool) (contents : Option Named) (left : Option (List ℕ)) (held : Named) (stdin name : List ℕ) → MatchBool dash (left ≡ Some stdin) (contents ≡ Some held) → MatchBool dash (IfSome left (λ bytes. 16777216 < length bytes)) (IfSome contents (λ files. IsOver 16777216 files name)) → (text : List ℕ) × ((cond dash (Some stdin) (held name) ≡ Some text) × (16777216 < length text))
+large_by : (dash : Bool) (contents : Option Named) (left : Option (List ℕ)) (held : Named) (stdin name : List ℕ) → MatchBool dash (left ≡ Some stdin) (contents ≡ Some held) → MatchBool dash (IfSome left (λ bytes. LARGEST < length bytes)) (IfSome contents (λ files. IsOver LARGEST files name)) → (text : List ℕ) × ((cond dash (Some stdin) (held name) ≡ Some text) × (LARGEST < length text))
 large_by true contents left held stdin name told large = (stdin, (refl, rw told at large))
 large_by false contents left held stdin name told large = over_some (held name) (rw told at large)
 
@@ -98,13 +99,6 @@ refusal_told contents left held stdin name before i f (CannotRead other) told wh
     ]
 refusal_told contents left held stdin name before i f (InputTooLarge other limit) told why =
     let large = large_by (is_dash name) contents left held stdin name told why.2 in
-    inl (large_gives held stdin name large.0 before large.1.0 large.1.1 ∙ ap (λ n. Err (InputTooLarge n 16777216)) (sym why.0) ∙ ap (λ l. Err (InputTooLarge other l)) (sym why.1))
+    inl (large_gives held stdin name large.0 before large.1.0 large.1.1 ∙ ap (λ n. Err (InputTooLarge n LARGEST)) (sym why.0) ∙ ap (λ l. Err (InputTooLarge other l)) (sym why.1))
 refusal_told contents left held stdin name before i f Memory told why = inr tt
-refusal_told contents left held stdin name before i f (Exit status) told why = absurd why
-refusal_told contents left held stdin name before i f StepsUsed told why = absurd why
-refusal_told contents left held stdin name before i f (Usage kind k) told why = absurd why
-refusal_told contents left held stdin name before i f (BadByte other place) told why = absurd why
-refusal_told contents left held stdin name before i f (NoItemHere other place) told why = absurd why
-refusal_told contents left held stdin name before i f (LeftOutWord other place word) told why = absurd why
-refusal_told contents left held stdin name before i f (TooDeep other place) told why = absurd why
-refusal_told contents left held stdin name before i f NotBuilt told why = absurd why
+refusal_told contents left held stdin name before i f ended told why = absurd why

@@ -1,13 +1,14 @@
 -- Texts judged one behind the other.
-use Rattle.std.proofs.Common.{◌≡◌, ◌⊎◌, inl, inr, ℕ, zero, suc, ◌+◌, ◌≤◌, ◌<◌, List, [], ◌∷◌, ◌++◌, length, drop, get_or, Option, Some, None, refl, sym, ap, arith, add-one, drop-cons}
+use Rattle.std.proofs.Common.{◌≡◌, ◌⊎◌, inl, inr, ℕ, zero, suc, ◌+◌, ◌≤◌, ◌<◌, List, [], ◌∷◌, ◌++◌, length, drop, get_or, Option, Some, None, sym, ap, arith, add-one, drop-cons}
 use Rattle.std.proofs.lemmas.List.{drop_all}
 use Rattle.std.specs.Prelude.{slice_get}
 use Rattle.tool_cli.specs.declared.ended.Ended.{Ended}
 use Rattle.tool_cli.specs.declared.ended.Ended.TheVariants.{Memory}
 use Rattle.tool_cli.specs.Judged.{AreShort, AreAccepted, IsPartAccepted, IsPartRefused, IsFirstRefusal}
+use Rattle.tool_cli.specs.declared.inputs.TheConstants.{LARGEST}
 
 -- one text more
-pub short_more : (texts : List (List ℕ)) (text : List ℕ) → AreShort texts → length text ≤ 16777216 → AreShort (texts ++ (text ∷ []))
+pub short_more : (texts : List (List ℕ)) (text : List ℕ) → AreShort texts → length text ≤ LARGEST → AreShort (texts ++ (text ∷ []))
 short_more [] text all few = (few, tt)
 short_more (t ∷ texts) text all few = (all.0, short_more texts text all.1 few)
 
@@ -31,7 +32,7 @@ short_from zero texts all = all
 short_from (suc i) [] all = tt
 short_from (suc i) (t ∷ texts) all = short_from i texts all.1
 
-pub short_at : (texts : List (List ℕ)) (i : ℕ) (text : List ℕ) → AreShort texts → i < length texts → text ≡ get_or texts i text → length text ≤ 16777216
+pub short_at : (texts : List (List ℕ)) (i : ℕ) (text : List ℕ) → AreShort texts → i < length texts → text ≡ get_or texts i text → length text ≤ LARGEST
 short_at texts i text all h e = (let s : AreShort (text ∷ drop (i + 1) texts) = rw (next_part texts i text h e) at (short_from i texts all) in s.0)
 
 pub judged_on : (names texts : List (List ℕ)) (i : ℕ) (name text : List ℕ) (found : Option Ended) → i < length texts → length names ≡ length texts → name ≡ get_or names i name → text ≡ get_or texts i text → IsPartAccepted text → ((found : Option Ended) → IsJudged (drop i names) (drop i texts) found → IsJudged names texts found) → IsJudged (drop (i + 1) names) (drop (i + 1) texts) found → IsJudged names texts found
@@ -46,6 +47,6 @@ refused_at names texts i name text ended h same n t before (inr none) = inr none
 pub judged_at_end : (names texts : List (List ℕ)) (i : ℕ) → length texts ≤ i → ((found : Option Ended) → IsJudged (drop i names) (drop i texts) found → IsJudged names texts found) → AreAccepted texts
 judged_at_end names texts i h before = before None (rw (drop_all i texts h) tt)
 
-pub short_first : (texts : List (List ℕ)) (text : List ℕ) → AreShort texts → slice_get texts 0 ≡ Some text → length text ≤ 16777216
+pub short_first : (texts : List (List ℕ)) (text : List ℕ) → AreShort texts → slice_get texts 0 ≡ Some text → length text ≤ LARGEST
 short_first [] text all first = absurd cc
 short_first (t ∷ texts) text all first = (let same : text ≡ t = cc in rw same all.0)

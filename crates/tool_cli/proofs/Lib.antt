@@ -4,3 +4,4 @@ pub mod Turns
 pub mod Works
 pub mod Outcomes
 pub mod Judging
+pub mod Order

@@ -1,18 +1,19 @@
 -- The inputs one behind the other: what was read so far, and what is to come.
-use Rattle.std.proofs.Common.{◌≡◌, ◌≢◌, ◌⊎◌, inl, inr, ℕ, suc, zero, ◌+◌, ◌<◌, ◌≤◌, ◌^◌, Bool, true, false, ◌||◌, cond, List, [], ◌∷◌, ◌++◌, length, drop, get_or, Option, Some, None, Result, Ok, Err, refl, sym, ap, ◌∙◌, arith, append_assoc, add-one, drop-cons}
+use Rattle.std.proofs.Common.{◌≡◌, ◌⊎◌, inl, inr, ℕ, suc, zero, ◌+◌, ◌<◌, ◌≤◌, Bool, true, false, ◌||◌, List, [], ◌∷◌, ◌++◌, length, drop, get_or, Option, Some, None, Result, Ok, Err, refl, sym, ap, ◌∙◌, arith, append_assoc, add-one, drop-cons}
 use Rattle.std.proofs.lemmas.List.{append-nil}
 use Rattle.std.proofs.lemmas.Grind.{common_steps}
-use Rattle.std.specs.Prelude.{IfSome, option_map}
+use Rattle.std.specs.Prelude.{IfSome}
 use Rattle.std.specs.Bool.{MatchBool}
-use Rattle.std.specs.List.{IsAmong, list_any}
+use Rattle.std.specs.List.{IsAmong}
 use Rattle.ir_base.specs.Outside.{Lost, LostUpTo}
 use Rattle.ir_base.specs.Files.{Named, IsMissing, IsOver, ReadsFrom}
 use Rattle.command_line.specs.Options.{is_dash}
 use Rattle.tool_cli.specs.declared.ended.Ended.{Ended}
-use Rattle.tool_cli.specs.declared.ended.Ended.TheVariants.{Exit, StepsUsed, Usage, CannotRead, InputTooLarge, BadByte, NoItemHere, LeftOutWord, TooDeep, NotBuilt, Memory}
+use Rattle.tool_cli.specs.declared.ended.Ended.TheVariants.{CannotRead, InputTooLarge, Memory}
 use Rattle.tool_cli.specs.Inputs.{content, has_stdin, stdin_after, Tells, TellsAll, input_read, with_text, read_on, texts_read}
-use Rattle.tool_cli.specs.Causes.{IsEmptied, HasRead, GaveUp, IsUnread, IsLarge, Refuses, RefusesOne}
+use Rattle.tool_cli.specs.Causes.{IsEmptied, HasRead, GaveUp, Refuses, RefusesOne}
 use Rattle.tool_cli.proofs.Contents.{content_read, input_ok, input_over, left_told, refusal_told}
+use Rattle.tool_cli.specs.declared.inputs.TheConstants.{LARGEST, LARGEST_TOGETHER}
 
 -- these texts before others
 abbrev pub onto : List (List ℕ) → Result (List (List ℕ)) Ended → Result (List (List ℕ)) Ended
@@ -44,7 +45,7 @@ turn_err held now name total texts ended names others e read =
 -- was an input.
 pub data Stdin {A : Type 0} (names others : List (List ℕ)) (before now : A) (left_before left_now : Option (List ℕ)) : Type 0 where
   Unread : now ≡ before → left_now ≡ left_before → has_stdin others ≡ has_stdin names → Stdin names others before now left_before left_now
-  Emptied : has_stdin names ≡ true → IsEmptied left_now → LostUpTo (2 ^ 24 + 1) left_before left_now → Stdin names others before now left_before left_now
+  Emptied : has_stdin names ≡ true → IsEmptied left_now → LostUpTo (LARGEST + 1) left_before left_now → Stdin names others before now left_before left_now
 
 -- the outside still tells what the next input holds
 tells_by : (dash : Bool) (contents contents_now : Option Named) (left left_now : Option (List ℕ)) (held : Named) (stdin now : List ℕ) → contents_now ≡ contents → (left ≡ Some stdin → left_now ≡ Some now) → MatchBool dash (left ≡ Some stdin) (contents ≡ Some held) → MatchBool dash (left_now ≡ Some now) (contents_now ≡ Some held)
@@ -88,16 +89,16 @@ lost_from limit before (Some mid) (Some now) none first second = record {
     same_empty : (mid now front : List ℕ) → mid ≡ [] → mid ≡ front ++ now → mid ≡ now
     same_empty mid now front none e = none ∙ none_behind front now (sym none ∙ e)
 
-pub lost_by : {A : Type 0} (names others : List (List ℕ)) (before mid : A) (left_before left_mid left_now : Option (List ℕ)) → Stdin names others before mid left_before left_mid → LostUpTo (2 ^ 24 + 1) left_mid left_now → LostUpTo (2 ^ 24 + 1) left_before left_now
+pub lost_by : {A : Type 0} (names others : List (List ℕ)) (before mid : A) (left_before left_mid left_now : Option (List ℕ)) → Stdin names others before mid left_before left_mid → LostUpTo (LARGEST + 1) left_mid left_now → LostUpTo (LARGEST + 1) left_before left_now
 lost_by names others before mid left_before left_mid left_now (Unread same left same_names) lost = rw left at lost
-lost_by names others before mid left_before left_mid left_now (Emptied has none first) lost = lost_from (2 ^ 24 + 1) left_before left_mid left_now none first lost
+lost_by names others before mid left_before left_mid left_now (Emptied has none first) lost = lost_from (LARGEST + 1) left_before left_mid left_now none first lost
 
 nothing_lost : (limit : ℕ) (left : Option (List ℕ)) → LostUpTo limit left left
 nothing_lost limit None = record { front = []; few = omega arith; lost = refl }
 nothing_lost limit (Some left) = record { front = []; few = omega arith; lost = refl }
 
-pub lost_so_far : {A : Type 0} (names others : List (List ℕ)) (before now : A) (left_before left_now : Option (List ℕ)) → Stdin names others before now left_before left_now → LostUpTo (2 ^ 24 + 1) left_before left_now
-lost_so_far names others before now left_before left_now (Unread same left same_names) = rw left (nothing_lost (2 ^ 24 + 1) left_before)
+pub lost_so_far : {A : Type 0} (names others : List (List ℕ)) (before now : A) (left_before left_now : Option (List ℕ)) → Stdin names others before now left_before left_now → LostUpTo (LARGEST + 1) left_before left_now
+lost_so_far names others before now left_before left_now (Unread same left same_names) = rw left (nothing_lost (LARGEST + 1) left_before)
 lost_so_far names others before now left_before left_now (Emptied has none lost) = lost
 
 pub unread_so_far : {A : Type 0} (names others : List (List ℕ)) (before now : A) (left_before left_now : Option (List ℕ)) → Stdin names others before now left_before left_now → has_stdin names ≡ false → now ≡ before
@@ -109,30 +110,30 @@ emptied_at_end names before now left_before left_now (Unread same left same_name
 emptied_at_end names before now left_before left_now (Emptied has none lost) h = none
 
 -- one more input
-step_by : {A : Type 0} (dash : Bool) (names others more : List (List ℕ)) (name : List ℕ) (before mid now : A) (left_before left_mid left_now : Option (List ℕ)) → is_dash name ≡ dash → others ≡ name ∷ more → (dash ≡ true → has_stdin names ≡ true) → (dash ≡ true → IsEmptied left_now) → (dash ≡ false → now ≡ mid) → (dash ≡ false → left_now ≡ left_mid) → LostUpTo (2 ^ 24 + 1) left_mid left_now → Stdin names others before mid left_before left_mid → Stdin names more before now left_before left_now
+step_by : {A : Type 0} (dash : Bool) (names others more : List (List ℕ)) (name : List ℕ) (before mid now : A) (left_before left_mid left_now : Option (List ℕ)) → is_dash name ≡ dash → others ≡ name ∷ more → (dash ≡ true → has_stdin names ≡ true) → (dash ≡ true → IsEmptied left_now) → (dash ≡ false → now ≡ mid) → (dash ≡ false → left_now ≡ left_mid) → LostUpTo (LARGEST + 1) left_mid left_now → Stdin names others before mid left_before left_mid → Stdin names more before now left_before left_now
 step_by true names others more name before mid now left_before left_mid left_now is e has none same left lost stdin = Emptied (has refl) (none refl) (lost_by names others before mid left_before left_mid left_now stdin lost)
 step_by false names others more name before mid now left_before left_mid left_now is e has none same left lost (Unread was was_left was_names) =
     Unread (same refl ∙ was) (left refl ∙ was_left) (ap (λ b. b || has_stdin more) (sym is) ∙ ap has_stdin (sym e) ∙ was_names)
 step_by false names others more name before mid now left_before left_mid left_now is e has none same left lost (Emptied was_has was_none was_lost) =
     Emptied was_has (rw (left refl) was_none) (lost_by names others before mid left_before left_mid left_now (Emptied was_has was_none was_lost) lost)
 
-pub stdin_step : {A : Type 0} (names others more : List (List ℕ)) (name : List ℕ) (before mid now : A) (left_before left_mid left_now : Option (List ℕ)) → IsAmong names name → others ≡ name ∷ more → (is_dash name ≡ true → IsEmptied left_now) → (is_dash name ≡ false → now ≡ mid) → (is_dash name ≡ false → left_now ≡ left_mid) → LostUpTo (2 ^ 24 + 1) left_mid left_now → Stdin names others before mid left_before left_mid → Stdin names more before now left_before left_now
+pub stdin_step : {A : Type 0} (names others more : List (List ℕ)) (name : List ℕ) (before mid now : A) (left_before left_mid left_now : Option (List ℕ)) → IsAmong names name → others ≡ name ∷ more → (is_dash name ≡ true → IsEmptied left_now) → (is_dash name ≡ false → now ≡ mid) → (is_dash name ≡ false → left_now ≡ left_mid) → LostUpTo (LARGEST + 1) left_mid left_now → Stdin names others before mid left_before left_mid → Stdin names more before now left_before left_now
 stdin_step names others more name before mid now left_before left_mid left_now among e none same left lost stdin =
     step_by (is_dash name) names others more name before mid now left_before left_mid left_now refl e (stdin_among names name among) none same left lost stdin
 
 -- Why an input was refused, seen from the start.
-large_by : (dash : Bool) (contents contents_now : Option Named) (left left_now : Option (List ℕ)) (name : List ℕ) → contents_now ≡ contents → (IfSome left_now (λ bytes. 16777216 < length bytes) → IfSome left (λ bytes. 16777216 < length bytes)) → MatchBool dash (IfSome left_now (λ bytes. 16777216 < length bytes)) (IfSome contents_now (λ files. IsOver 16777216 files name)) → MatchBool dash (IfSome left (λ bytes. 16777216 < length bytes)) (IfSome contents (λ files. IsOver 16777216 files name))
+large_by : (dash : Bool) (contents contents_now : Option Named) (left left_now : Option (List ℕ)) (name : List ℕ) → contents_now ≡ contents → (IfSome left_now (λ bytes. LARGEST < length bytes) → IfSome left (λ bytes. LARGEST < length bytes)) → MatchBool dash (IfSome left_now (λ bytes. LARGEST < length bytes)) (IfSome contents_now (λ files. IsOver LARGEST files name)) → MatchBool dash (IfSome left (λ bytes. LARGEST < length bytes)) (IfSome contents (λ files. IsOver LARGEST files name))
 large_by true contents contents_now left left_now name e go large = go large
 large_by false contents contents_now left left_now name e go large = rw e at large
 
-over_before : (limit : ℕ) (left left_now : Option (List ℕ)) → IsEmptied left_now → LostUpTo limit left left_now → IfSome left_now (λ bytes. 16777216 < length bytes) → IfSome left (λ bytes. 16777216 < length bytes)
+over_before : (limit : ℕ) (left left_now : Option (List ℕ)) → IsEmptied left_now → LostUpTo limit left left_now → IfSome left_now (λ bytes. LARGEST < length bytes) → IfSome left (λ bytes. LARGEST < length bytes)
 over_before limit None left_now none lost large = tt
 over_before limit (Some left) None none lost large = absurd (let h = lost.lost in cc)
 over_before limit (Some left) (Some now) none lost large = absurd (omega (arith, ap length none))
 
-over_at_first : {A : Type 0} (names others : List (List ℕ)) (before now : A) (left left_now : Option (List ℕ)) → Stdin names others before now left left_now → IfSome left_now (λ bytes. 16777216 < length bytes) → IfSome left (λ bytes. 16777216 < length bytes)
+over_at_first : {A : Type 0} (names others : List (List ℕ)) (before now : A) (left left_now : Option (List ℕ)) → Stdin names others before now left left_now → IfSome left_now (λ bytes. LARGEST < length bytes) → IfSome left (λ bytes. LARGEST < length bytes)
 over_at_first names others before now left left_now (Unread same e same_names) large = rw e at large
-over_at_first names others before now left left_now (Emptied has none lost) large = over_before (2 ^ 24 + 1) left left_now none lost large
+over_at_first names others before now left left_now (Emptied has none lost) large = over_before (LARGEST + 1) left left_now none lost large
 
 unread_by : (dash : Bool) (contents contents_now : Option Named) (i f : Type 0) (name : List ℕ) → contents_now ≡ contents → MatchBool dash i (f ⊎ IsMissing contents_now name) → MatchBool dash i (f ⊎ IsMissing contents name)
 unread_by dash contents contents_now i f name e why = rw e at why
@@ -143,14 +144,7 @@ refused_one names others name before now contents contents_now left left_now i f
 refused_one names others name before now contents contents_now left left_now i f (InputTooLarge other limit) among e stdin why =
     rw (why.0, why.1) (among, inl (refl, large_by (is_dash name) contents contents_now left left_now name e (over_at_first names others before now left left_now stdin) why.2))
 refused_one names others name before now contents contents_now left left_now i f Memory among e stdin why = tt
-refused_one names others name before now contents contents_now left left_now i f (Exit status) among e stdin why = absurd why
-refused_one names others name before now contents contents_now left left_now i f StepsUsed among e stdin why = absurd why
-refused_one names others name before now contents contents_now left left_now i f (Usage kind k) among e stdin why = absurd why
-refused_one names others name before now contents contents_now left left_now i f (BadByte other place) among e stdin why = absurd why
-refused_one names others name before now contents contents_now left left_now i f (NoItemHere other place) among e stdin why = absurd why
-refused_one names others name before now contents contents_now left left_now i f (LeftOutWord other place word) among e stdin why = absurd why
-refused_one names others name before now contents contents_now left left_now i f (TooDeep other place) among e stdin why = absurd why
-refused_one names others name before now contents contents_now left left_now i f NotBuilt among e stdin why = absurd why
+refused_one names others name before now contents contents_now left left_now i f ended among e stdin why = absurd why
 
 -- The turn at the name with this index.
 
@@ -175,16 +169,16 @@ content_now : (names : List (List ℕ)) (i : ℕ) (name : List ℕ) (contents co
 content_now names i name contents contents_now left left_now left_next held stdin now text h e same go tells read =
     content_read contents_now left_now left_next held now name text (tells_now names name contents contents_now left left_now held stdin now (i, (h, e)) same go tells) read
 
-pub told_over : (names : List (List ℕ)) (i : ℕ) (name : List ℕ) (contents contents_now : Option Named) (left left_now left_next : Option (List ℕ)) (held : Named) (stdin : List ℕ) (total : ℕ) (texts : List (List ℕ)) (text : List ℕ) (ended : Ended) (p q : Type 0) → i < length names → name ≡ get_or names i name → contents_now ≡ contents → GoesOn names i left left_now held stdin total texts → TellsAll names contents left held stdin → HasRead contents_now left_now left_next name text → 33554432 < total + length text → (ended ≡ InputTooLarge name 33554432) ⊎ (ended ≡ Memory) → (Err ended ≡ texts_read held stdin 0 names) ⊎ GaveUp p q ended
+pub told_over : (names : List (List ℕ)) (i : ℕ) (name : List ℕ) (contents contents_now : Option Named) (left left_now left_next : Option (List ℕ)) (held : Named) (stdin : List ℕ) (total : ℕ) (texts : List (List ℕ)) (text : List ℕ) (ended : Ended) (p q : Type 0) → i < length names → name ≡ get_or names i name → contents_now ≡ contents → GoesOn names i left left_now held stdin total texts → TellsAll names contents left held stdin → HasRead contents_now left_now left_next name text → LARGEST_TOGETHER < total + length text → (ended ≡ InputTooLarge name LARGEST_TOGETHER) ⊎ (ended ≡ Memory) → (Err ended ≡ texts_read held stdin 0 names) ⊎ GaveUp p q ended
 told_over names i name contents contents_now left left_now left_next held stdin total texts text ended p q h e same on tells read over (inl is) =
     told_by names texts i held stdin on.0 name total ended p q (next_name names i name h e) on.1.1
     (inl (input_over held on.0 name text total (content_now names i name contents contents_now left left_now left_next held stdin on.0 text h e same on.1.0 tells read) read.few over ∙ ap (λ x. Err x) (sym is)))
 told_over names i name contents contents_now left left_now left_next held stdin total texts text ended p q h e same on tells read over (inr none) = inr (rw none tt)
 
-pub told_on : (names : List (List ℕ)) (i : ℕ) (name : List ℕ) (contents contents_now : Option Named) (left left_now left_next : Option (List ℕ)) (held : Named) (stdin : List ℕ) (total : ℕ) (texts texts_next : List (List ℕ)) (text bytes : List ℕ) → i < length names → name ≡ get_or names i name → contents_now ≡ contents → GoesOn names i left left_now held stdin total texts → TellsAll names contents left held stdin → HasRead contents_now left_now left_next name text → (is_dash name ≡ false → left_next ≡ left_now) → bytes ≡ text → total + length bytes ≤ 33554432 → texts_next ≡ texts ++ text ∷ [] → GoesOn names (i + 1) left left_next held stdin (total + length bytes) texts_next
+pub told_on : (names : List (List ℕ)) (i : ℕ) (name : List ℕ) (contents contents_now : Option Named) (left left_now left_next : Option (List ℕ)) (held : Named) (stdin : List ℕ) (total : ℕ) (texts texts_next : List (List ℕ)) (text bytes : List ℕ) → i < length names → name ≡ get_or names i name → contents_now ≡ contents → GoesOn names i left left_now held stdin total texts → TellsAll names contents left held stdin → HasRead contents_now left_now left_next name text → (is_dash name ≡ false → left_next ≡ left_now) → bytes ≡ text → total + length bytes ≤ LARGEST_TOGETHER → texts_next ≡ texts ++ text ∷ [] → GoesOn names (i + 1) left left_next held stdin (total + length bytes) texts_next
 told_on names i name contents contents_now left left_now left_next held stdin total texts texts_next text bytes h e same on tells read kept is few more =
     let held_now = content_now names i name contents contents_now left left_now left_next held stdin on.0 text h e same on.1.0 tells read in
-    let few_now : total + length text ≤ 33554432 = rw is at few in
+    let few_now : total + length text ≤ LARGEST_TOGETHER = rw is at few in
     rw (is, more) (
       stdin_after on.0 name,
       (
@@ -207,7 +201,7 @@ emptied_by : (dash : Bool) (contents : Option Named) (left_before left_now : Opt
 emptied_by true contents left_before left_now name text read e = read.1
 emptied_by false contents left_before left_now name text read e = absurd (let h = e in cc)
 
-pub stdin_on : {A : Type 0} (names : List (List ℕ)) (i : ℕ) (name text : List ℕ) (contents : Option Named) (before mid now : A) (left_before left_mid left_now : Option (List ℕ)) → i < length names → name ≡ get_or names i name → HasRead contents left_mid left_now name text → (is_dash name ≡ false → now ≡ mid) → (is_dash name ≡ false → left_now ≡ left_mid) → LostUpTo (2 ^ 24 + 1) left_mid left_now → Stdin names (drop i names) before mid left_before left_mid → Stdin names (drop (i + 1) names) before now left_before left_now
+pub stdin_on : {A : Type 0} (names : List (List ℕ)) (i : ℕ) (name text : List ℕ) (contents : Option Named) (before mid now : A) (left_before left_mid left_now : Option (List ℕ)) → i < length names → name ≡ get_or names i name → HasRead contents left_mid left_now name text → (is_dash name ≡ false → now ≡ mid) → (is_dash name ≡ false → left_now ≡ left_mid) → LostUpTo (LARGEST + 1) left_mid left_now → Stdin names (drop i names) before mid left_before left_mid → Stdin names (drop (i + 1) names) before now left_before left_now
 stdin_on names i name text contents before mid now left_before left_mid left_now h e read same left lost stdin =
     stdin_step names (drop i names) (drop (i + 1) names) name before mid now left_before left_mid left_now (i, (h, e)) (next_name names i name h e)
     (emptied_by (is_dash name) contents left_mid left_now name text read.content) same left lost stdin
@@ -221,6 +215,6 @@ unread_on names i name before mid now left_before left_mid h e same stdin none =
     same (not_dash (is_dash name) (λ dash. let has = sym (stdin_among names name (i, (h, e)) dash) ∙ none in absurd (let x = has in cc)))
     ∙ unread_so_far names (drop i names) before mid left_before left_mid stdin none
 
-pub over_one : (names : List (List ℕ)) (name : List ℕ) (contents : Option Named) (left : Option (List ℕ)) (p q : Type 0) (ended : Ended) → IsAmong names name → (ended ≡ InputTooLarge name 33554432) ⊎ (ended ≡ Memory) → RefusesOne contents left p q names ended
+pub over_one : (names : List (List ℕ)) (name : List ℕ) (contents : Option Named) (left : Option (List ℕ)) (p q : Type 0) (ended : Ended) → IsAmong names name → (ended ≡ InputTooLarge name LARGEST_TOGETHER) ⊎ (ended ≡ Memory) → RefusesOne contents left p q names ended
 over_one names name contents left p q ended among (inl is) = rw is (among, inr refl)
 over_one names name contents left p q ended among (inr none) = rw none tt

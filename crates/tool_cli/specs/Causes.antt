@@ -1,12 +1,13 @@
 -- What reading an input took, and why inputs were not read.
-use Rattle.std.specs.Prelude.{◌≡◌, ◌⊎◌, ℕ, ◌<◌, ◌≤◌, List, [], ◌∷◌, length, codes, Option, IfSome}
+use Rattle.std.specs.Prelude.{◌≡◌, ◌⊎◌, ℕ, ◌<◌, ◌≤◌, List, [], length, codes, Option, IfSome}
 use Rattle.std.specs.Bool.{MatchBool}
 use Rattle.std.specs.List.{IsAmong}
 use Rattle.ir_base.specs.Outside.{Lost}
 use Rattle.ir_base.specs.Files.{Named, IsMissing, IsOver, ReadsFrom}
 use Rattle.command_line.specs.Options.{is_dash}
 use Rattle.tool_cli.specs.declared.ended.Ended.{Ended}
-use Rattle.tool_cli.specs.declared.ended.Ended.TheVariants.{CannotRead, InputTooLarge, Memory}
+use Rattle.tool_cli.specs.declared.ended.Ended.TheVariants.{CannotRead, CannotWrite, InputTooLarge, Memory}
+use Rattle.tool_cli.specs.declared.inputs.TheConstants.{LARGEST, LARGEST_TOGETHER}
 
 -- no bytes are left, where that is told
 abbrev pub IsEmptied : Option (List ℕ) → Type 0
@@ -15,7 +16,7 @@ IsEmptied left = IfSome left (λ bytes. bytes ≡ [])
 -- the input of this name is this text: all that was left of standard input, or a file
 pub record HasRead (contents : Option Named) (left_before left_now : Option (List ℕ)) (name text : List ℕ) : Type 0 where
   pub content : MatchBool (is_dash name) (Lost left_before left_now text × IsEmptied left_now) (ReadsFrom contents name text)
-  pub few : length text ≤ 16777216
+  pub few : length text ≤ LARGEST
 
 -- `input_rose` and `files_rose` say that the count of faults of standard input, or of reads of files, rose.
 
@@ -31,30 +32,30 @@ IsUnread contents input_rose files_rose name = MatchBool (is_dash name) input_ro
 
 -- where its content is told, an input of this name is over 16 MiB
 abbrev pub IsLarge : Option Named → Option (List ℕ) → List ℕ → Type 0
-IsLarge contents left name = MatchBool (is_dash name) (IfSome left (λ bytes. 16777216 < length bytes)) (IfSome contents (λ files. IsOver 16777216 files name))
+IsLarge contents left name = MatchBool (is_dash name) (IfSome left (λ bytes. LARGEST < length bytes)) (IfSome contents (λ files. IsOver LARGEST files name))
 
 -- the limit that an input of this name passed: that of one input, or that of all up to it
 abbrev pub IsPassed : Option Named → Option (List ℕ) → List ℕ → ℕ → Type 0
-IsPassed contents left name limit = ((limit ≡ 16777216) × IsLarge contents left name) ⊎ (limit ≡ 33554432)
+IsPassed contents left name limit = ((limit ≡ LARGEST) × IsLarge contents left name) ⊎ (limit ≡ LARGEST_TOGETHER)
 
 -- this end refuses standard input
 abbrev pub RefusesStdin : Option (List ℕ) → Type 0 → Ended → Type 0
 RefusesStdin left rose (CannotRead name) = (name ≡ codes "-") × rose
-RefusesStdin left rose (InputTooLarge name limit) = (name ≡ codes "-") × (limit ≡ 16777216) × IfSome left (λ bytes. 16777216 < length bytes)
+RefusesStdin left rose (InputTooLarge name limit) = (name ≡ codes "-") × (limit ≡ LARGEST) × IfSome left (λ bytes. LARGEST < length bytes)
 RefusesStdin left rose Memory = Unit {0}
 RefusesStdin left rose ended = ⊥
 
 -- this end refuses the file of this name
 abbrev pub RefusesFile : Option Named → Type 0 → List ℕ → Ended → Type 0
 RefusesFile contents rose name (CannotRead other) = (other ≡ name) × (rose ⊎ IsMissing contents name)
-RefusesFile contents rose name (InputTooLarge other limit) = (other ≡ name) × (limit ≡ 16777216) × IfSome contents (λ files. IsOver 16777216 files name)
+RefusesFile contents rose name (InputTooLarge other limit) = (other ≡ name) × (limit ≡ LARGEST) × IfSome contents (λ files. IsOver LARGEST files name)
 RefusesFile contents rose name Memory = Unit {0}
 RefusesFile contents rose name ended = ⊥
 
 -- this end refuses the input of this name, by itself
 abbrev pub Refuses : Option Named → Option (List ℕ) → Type 0 → Type 0 → List ℕ → Ended → Type 0
 Refuses contents left input_rose files_rose name (CannotRead other) = (other ≡ name) × IsUnread contents input_rose files_rose name
-Refuses contents left input_rose files_rose name (InputTooLarge other limit) = (other ≡ name) × (limit ≡ 16777216) × IsLarge contents left name
+Refuses contents left input_rose files_rose name (InputTooLarge other limit) = (other ≡ name) × (limit ≡ LARGEST) × IsLarge contents left name
 Refuses contents left input_rose files_rose name Memory = Unit {0}
 Refuses contents left input_rose files_rose name ended = ⊥
 
@@ -76,3 +77,19 @@ abbrev pub IsUnreadOrMemory : Ended → Type 0
 IsUnreadOrMemory (CannotRead name) = Unit {0}
 IsUnreadOrMemory Memory = Unit {0}
 IsUnreadOrMemory ended = ⊥
+
+-- a write of standard output failed, so that its count of faults rose, or memory ran out
+abbrev pub IsUnwritten : Type 0 → Ended → Type 0
+IsUnwritten rose (CannotWrite name) = (name ≡ codes "-") × rose
+IsUnwritten rose Memory = Unit {0}
+IsUnwritten rose ended = ⊥
+
+-- the run stopped for what is outside of it: a read or a write failed, or memory ran out
+abbrev pub Stopped : Type 0 → Type 0 → Type 0 → Ended → Type 0
+Stopped input_rose files_rose output_rose ended = GaveUp input_rose files_rose ended ⊎ IsUnwritten output_rose ended
+
+-- standard output was not written, or memory ran out
+abbrev pub IsUnwrittenOrMemory : Ended → Type 0
+IsUnwrittenOrMemory (CannotWrite name) = name ≡ codes "-"
+IsUnwrittenOrMemory Memory = Unit {0}
+IsUnwrittenOrMemory ended = ⊥

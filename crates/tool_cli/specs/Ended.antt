@@ -2,22 +2,29 @@
 use Rattle.std.specs.Prelude.{ℕ, List, [], ◌∷◌, ◌++◌, codes}
 use Rattle.std.specs.Fmt.{decimal}
 use Rattle.ir_base.specs.declared.place.Place.{Place}
+use Rattle.bits.specs.declared.fault.BitFaultKind.{BitFaultKind}
+use Rattle.bits.specs.declared.fault.BitFaultKind.TheVariants.{BadMagic, Truncated, BadAbbreviation, VbrTooLong, BadBlockLength, NestedTooDeep}
 use Rattle.command_line.specs.Kinds.{kind_words}
 use Rattle.command_line.specs.Tools.{line_name}
 use Rattle.tool_cli.specs.declared.ended.Ended.{Ended}
-use Rattle.tool_cli.specs.declared.ended.Ended.TheVariants.{Exit, StepsUsed, Usage, CannotRead, InputTooLarge, BadByte, NoItemHere, LeftOutWord, TooDeep, NotBuilt, Memory}
+use Rattle.tool_cli.specs.declared.ended.Ended.TheVariants.{Exit, StepsUsed, Usage, CannotRead, CannotWrite, InputTooLarge, BadByte, NoItemHere, LeftOutWord, TooDeep, BitFault, NotBuilt, Memory}
+use Rattle.tool_cli.specs.declared.ended.Ended.TheVariants as ends
 
--- a program's own status; 1 where a tool refuses; 120 where memory ran out, and 124 where the steps did
+-- 0 where a tool did its work; a program's own status; 1 where a tool refuses; 120 where memory ran out, and 124 where
+-- the steps did
 abbrev pub status_of : Ended → ℕ
+status_of ends.Ok = 0
 status_of (Exit status) = status
 status_of StepsUsed = 124
 status_of (Usage kind k) = 1
 status_of (CannotRead name) = 1
+status_of (CannotWrite name) = 1
 status_of (InputTooLarge name limit) = 1
 status_of (BadByte name place) = 1
 status_of (NoItemHere name place) = 1
 status_of (LeftOutWord name place word) = 1
 status_of (TooDeep name place) = 1
+status_of (BitFault name fault) = 1
 status_of NotBuilt = 1
 status_of Memory = 120
 
@@ -33,16 +40,28 @@ located_by name line column text = name ++ (codes ":" ++ (line ++ (codes ":" ++ 
 abbrev pub located : List ℕ → Place → List ℕ → List ℕ
 located name place text = located_by name (decimal place.line) (decimal place.column) text
 
--- what standard error is told: one line, or nothing of a program that ended
+-- the kind of a refused field, in words
+abbrev pub fault_words : BitFaultKind → List ℕ
+fault_words BadMagic = codes "bad magic"
+fault_words Truncated = codes "truncated"
+fault_words BadAbbreviation = codes "bad abbreviation"
+fault_words VbrTooLong = codes "vbr too long"
+fault_words BadBlockLength = codes "bad block length"
+fault_words NestedTooDeep = codes "nested too deep"
+
+-- what standard error is told: one line, or nothing of a tool that did its work and of a program that ended
 abbrev pub line_of : List (List ℕ) → Ended → List ℕ
+line_of words ends.Ok = []
 line_of words (Exit status) = []
 line_of words StepsUsed = error_line words (codes "steps used up")
 line_of words (Usage kind k) = error_line words (codes "usage: " ++ (kind_words kind ++ (codes " at word " ++ decimal k)))
 line_of words (CannotRead name) = error_line words (codes "cannot read " ++ name)
+line_of words (CannotWrite name) = error_line words (codes "cannot write " ++ name)
 line_of words (InputTooLarge name limit) = error_line words (name ++ (codes ": over " ++ (decimal limit ++ codes " bytes")))
 line_of words (BadByte name place) = error_line words (located name place (codes "bad byte"))
 line_of words (NoItemHere name place) = error_line words (located name place (codes "no item here"))
 line_of words (LeftOutWord name place word) = error_line words (located name place (codes "left out: " ++ word))
 line_of words (TooDeep name place) = error_line words (located name place (codes "too deep"))
+line_of words (BitFault name fault) = error_line words (name ++ (codes ": bit " ++ (decimal fault.bit ++ (codes ": " ++ fault_words fault.kind))))
 line_of words NotBuilt = error_line words (codes "not built")
 line_of words Memory = error_line words (codes "out of memory")

@@ -4,12 +4,13 @@ use Rattle.std.specs.Bool.{MatchBool}
 use Rattle.std.specs.List.{IsAmong, list_any}
 use Rattle.ir_base.specs.Files.{Named}
 use Rattle.command_line.specs.declared.command.Command.{Command}
-use Rattle.command_line.specs.declared.command.Command.TheVariants.{Assemble, Disassemble, Link, Extract, Lli}
+use Rattle.command_line.specs.declared.command.Command.TheVariants.{Assemble, Disassemble, Link, Extract, Lli, Analyze}
 use Rattle.command_line.specs.Tools.{tool_of}
 use Rattle.command_line.specs.Options.{is_dash}
 use Rattle.command_line.specs.Commands.{command_behind}
 use Rattle.tool_cli.specs.declared.ended.Ended.{Ended}
 use Rattle.tool_cli.specs.declared.ended.Ended.TheVariants.{CannotRead, InputTooLarge}
+use Rattle.tool_cli.specs.declared.inputs.TheConstants.{LARGEST, LARGEST_TOGETHER}
 
 -- the names of a command's inputs, in the order of the words; standard input is `-`
 abbrev pub inputs_of : Command → List (List ℕ)
@@ -18,6 +19,7 @@ inputs_of (Disassemble input output) = input ∷ []
 inputs_of (Link inputs output text) = inputs
 inputs_of (Extract input output text selection) = input ∷ []
 inputs_of (Lli input max_steps arguments) = input ∷ []
+inputs_of (Analyze input dump) = input ∷ []
 
 abbrev pub inputs_behind : Option Command → List (List ℕ)
 inputs_behind None = []
@@ -49,12 +51,12 @@ TellsAll names contents left files stdin = (name : List ℕ) → IsAmong names n
 -- An input is a text of at most 16 MiB,
 abbrev pub alone : List ℕ → Option (List ℕ) → Result (List ℕ) Ended
 alone name None = Err (CannotRead name)
-alone name (Some text) = if nat_lt 16777216 (length text) then Err (InputTooLarge name 16777216) else Ok text
+alone name (Some text) = if nat_lt LARGEST (length text) then Err (InputTooLarge name LARGEST) else Ok text
 
 -- and together with those before it, which have so many bytes, of at most 32 MiB.
 abbrev pub together : List ℕ → ℕ → Result (List ℕ) Ended → Result (List ℕ) Ended
 together name before (Err ended) = Err ended
-together name before (Ok text) = if nat_lt 33554432 (before + length text) then Err (InputTooLarge name 33554432) else Ok text
+together name before (Ok text) = if nat_lt LARGEST_TOGETHER (before + length text) then Err (InputTooLarge name LARGEST_TOGETHER) else Ok text
 
 -- what one input gives
 unfoldable pub input_read : Named → List ℕ → ℕ → List ℕ → Result (List ℕ) Ended

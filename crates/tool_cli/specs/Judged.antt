@@ -9,6 +9,7 @@ use Rattle.ir_syntax.specs.declared.read.SyntaxFault.{SyntaxFault}
 use Rattle.ir_syntax.specs.declared.read.SyntaxFault.TheVariants as faults
 use Rattle.tool_cli.specs.declared.ended.Ended.{Ended}
 use Rattle.tool_cli.specs.declared.ended.Ended.TheVariants.{BadByte, NoItemHere, LeftOutWord, TooDeep, Memory}
+use Rattle.tool_cli.specs.declared.inputs.TheConstants.{LARGEST}
 
 -- The bytes that bitcode begins with (LLVM Bitcode File Format, "LLVM IR Magic Number").
 abbrev pub bitcode_magic : List ℕ
@@ -48,7 +49,10 @@ abbrev pub IsFirstRefusal : List (List ℕ) → List (List ℕ) → Ended → Ty
 IsFirstRefusal (name ∷ names) (text ∷ texts) ended = IsPartRefused name text ended ⊎ (IsPartAccepted text × IsFirstRefusal names texts ended)
 IsFirstRefusal _ _ ended = ⊥
 
--- each of these texts has at most 16 MiB
+-- a text is no larger than an input may be
+abbrev pub IsShort : List ℕ → Type 0
+IsShort text = length text ≤ LARGEST
+
 abbrev pub AreShort : List (List ℕ) → Type 0
 AreShort [] = Unit {0}
-AreShort (text ∷ texts) = (length text ≤ 16777216) × AreShort texts
+AreShort (text ∷ texts) = IsShort text × AreShort texts

@@ -8,13 +8,14 @@ use Rattle.ir_syntax.specs.Tree.{ItemTree}
 use Rattle.ir_syntax.specs.declared.straight.Straight.{Straight}
 use Rattle.ir_run.specs.Straight.{value}
 use Rattle.command_line.specs.declared.command.Command.{Command}
-use Rattle.command_line.specs.declared.command.Command.TheVariants.{Lli, Disassemble}
+use Rattle.command_line.specs.declared.command.Command.TheVariants.{Lli, Disassemble, Analyze}
 use Rattle.command_line.specs.declared.command.UsageKind.{UsageKind}
 use Rattle.command_line.specs.Faults.{IsFirstFault}
 use Rattle.command_line.specs.Commands.{IsReadAs}
 use Rattle.tool_cli.specs.declared.ended.Ended.{Ended}
-use Rattle.tool_cli.specs.declared.ended.Ended.TheVariants.{Exit, StepsUsed, Usage, CannotRead, InputTooLarge, NotBuilt, Memory}
+use Rattle.tool_cli.specs.declared.ended.Ended.TheVariants.{Exit, StepsUsed, Usage, CannotRead, CannotWrite, InputTooLarge, NotBuilt, Memory}
 use Rattle.tool_cli.specs.Inputs.{inputs_of, texts_read}
+use Rattle.tool_cli.specs.Analyzed.{IsAnalysis}
 use Rattle.tool_cli.specs.Judged.{is_bitcode, IsTextRefused, IsFirstRefusal, AreAccepted}
 
 -- the end of a program, each line of which is a step, and so is its return
@@ -44,6 +45,8 @@ abbrev pub IsWork : Command → List (List ℕ) → Ended → Type 0
 IsWork (Lli input max_steps arguments) (text ∷ []) ended = IsRun input max_steps text ended
 IsWork (Lli input max_steps arguments) texts ended = ⊥
 IsWork (Disassemble input output) texts ended = ended ≡ NotBuilt
+IsWork (Analyze input dump) (bytes ∷ []) ended = IsAnalysis input bytes ended
+IsWork (Analyze input dump) texts ended = ⊥
 IsWork command texts ended = IsJudgement (inputs_of command) texts ended
 
 -- the end of a command whose inputs give this
@@ -57,14 +60,19 @@ IsTold words files stdin ended =
     ((kind : UsageKind) × ((k : ℕ) × IsFirstFault words kind k × (ended ≡ Usage kind k)))
     ⊎ ((command : Command) × IsReadAs words command × IsOutcome command (texts_read files stdin 0 (inputs_of command)) ended)
 
--- an end that the work on texts may have
+-- an end that the work of a tool may have
+abbrev pub IsOfWork : Ended → Type 0
+IsOfWork (Usage kind k) = ⊥
+IsOfWork (CannotRead name) = ⊥
+IsOfWork (InputTooLarge name limit) = ⊥
+IsOfWork ended = Unit {0}
+
+-- an end that the work on texts may have, which writes nothing
 abbrev pub IsOfTexts : Ended → Type 0
-IsOfTexts (Usage kind k) = ⊥
-IsOfTexts (CannotRead name) = ⊥
-IsOfTexts (InputTooLarge name limit) = ⊥
-IsOfTexts ended = Unit {0}
+IsOfTexts (CannotWrite name) = ⊥
+IsOfTexts ended = IsOfWork ended
 
 -- an end after all inputs were read
 abbrev pub IsAfterReading : Ended → Type 0
 IsAfterReading Memory = ⊥
-IsAfterReading ended = IsOfTexts ended
+IsAfterReading ended = IsOfWork ended

@@ -2,13 +2,16 @@
 ghost use Rattle.std.specs.Prelude.{◌≡◌};
 ghost use Rattle.tool_cli.specs.Ended.{status_of};
 
+use bits::BitFault;
 use command_line::UsageKind;
 use ir_base::{Place, Text};
 use std::alloc::AllocError;
 
-/// What a run of a tool ended with. Each but `Exit` has one line on standard error.
-#[derive(Debug, Drop, PartialEq, Eq)]
+/// What a run of a tool ended with. Each but `Ok` and `Exit` has one line on standard error.
+#[derive(Drop)]
 pub enum Ended {
+    /// The tool did its work.
+    Ok,
     /// The program ended with this status.
     Exit(u8),
     /// The program has more steps than it was given.
@@ -17,6 +20,8 @@ pub enum Ended {
     Usage(UsageKind, u64),
     /// The input of this name could not be read.
     CannotRead(Text),
+    /// The output of this name could not be written.
+    CannotWrite(Text),
     /// The input of this name, or all up to it together, passes this many bytes.
     InputTooLarge(Text, u64),
     /// In the input of this name no token begins at this place.
@@ -27,6 +32,8 @@ pub enum Ended {
     LeftOutWord(Text, Place, Text),
     /// In the input of this name the token at this place opens a type or a constant 65 deep.
     TooDeep(Text, Place),
+    /// The bits of the input of this name are no stream: this field is refused.
+    BitFault(Text, BitFault),
     /// The tool is not built, or not for such an input.
     NotBuilt,
     /// Memory ran out.
@@ -44,7 +51,7 @@ impl From<AllocError> for Ended {
 }
 
 /// The process's exit status, and what it stands for.
-#[derive(Debug, Drop, PartialEq, Eq)]
+#[derive(Drop)]
 pub struct Report {
     pub status: u8,
     pub ended: Ended,
@@ -55,15 +62,18 @@ pub fn status_of(ended: &Ended) -> u8
     ensures { result ≡ status_of ended.now }
 {
     match ended {
+        Ended::Ok => 0,
         Ended::Exit(status) => *status,
         Ended::StepsUsed => 124,
         Ended::Usage(_, _)
         | Ended::CannotRead(_)
+        | Ended::CannotWrite(_)
         | Ended::InputTooLarge(_, _)
         | Ended::BadByte(_, _)
         | Ended::NoItemHere(_, _)
         | Ended::LeftOutWord(_, _, _)
         | Ended::TooDeep(_, _)
+        | Ended::BitFault(_, _)
         | Ended::NotBuilt => 1,
         Ended::Memory => 120,
     }

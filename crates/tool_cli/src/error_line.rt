@@ -2,10 +2,11 @@
 ghost use Rattle.std.specs.Prelude.{◌≡◌, ◌++◌, codes};
 ghost use Rattle.ir_base.specs.Outside.{Wrote};
 ghost use Rattle.command_line.specs.Tools.{line_name};
-ghost use Rattle.tool_cli.specs.Ended.{error_line, located, located_by, line_of};
+ghost use Rattle.tool_cli.specs.Ended.{error_line, located, located_by, fault_words, line_of};
 
 use crate::digits::Digits;
 use crate::ended::Ended;
+use bits::BitFaultKind;
 use command_line::line_name;
 use ir_base::{Failed, Place, Sink, Text, write_pieces};
 
@@ -52,6 +53,46 @@ fn tell_limit<'t, E: Sink>(
     write_pieces(
         errors,
         &[name_of(words), b": ", name, b": over ", limit, b" bytes\n"],
+    )
+}
+
+// The kind of a refused field, in words.
+fn fault_words(kind: BitFaultKind) -> &'static str
+    ensures { result.now ≡ fault_words kind }
+{
+    match kind {
+        BitFaultKind::BadMagic => "bad magic",
+        BitFaultKind::Truncated => "truncated",
+        BitFaultKind::BadAbbreviation => "bad abbreviation",
+        BitFaultKind::VbrTooLong => "vbr too long",
+        BitFaultKind::BadBlockLength => "bad block length",
+        BitFaultKind::NestedTooDeep => "nested too deep",
+    }
+}
+
+// The line of a refused field of an input, by its first bit.
+fn tell_bit<'t, E: Sink>(
+    errors: &mut E,
+    words: &[Text],
+    name: &'t [u8],
+    bit: &'t [u8],
+    kind: &'t [u8],
+) -> Result<(), Failed>
+    ensures { Wrote (E.taken errors.old) (E.taken errors.new) (E.faults errors.old) (E.faults errors.new)
+        (error_line words.now (name.now ++ (codes ": bit " ++ (bit.now ++ (codes ": " ++ kind.now))))) }
+{
+    write_pieces(
+        errors,
+        &[
+            name_of(words),
+            b": ",
+            name,
+            b": bit ",
+            bit,
+            b": ",
+            kind,
+            b"\n",
+        ],
     )
 }
 
@@ -129,13 +170,14 @@ pub fn tell<E: Sink>(errors: &mut E, words: &[Text], ended: &Ended)
     ensures { Wrote (E.taken errors.old) (E.taken errors.new) (E.faults errors.old) (E.faults errors.new) (line_of words.now ended.now) }
 {
     let _ = match ended {
-        Ended::Exit(_) => Ok(()),
+        Ended::Ok | Ended::Exit(_) => Ok(()),
         Ended::StepsUsed => tell_text(errors, words, b"steps used up", b""),
         Ended::Usage(kind, word) => {
             let digits = Digits::of(*word);
             tell_usage(errors, words, kind.words().as_bytes(), digits.bytes())
         }
         Ended::CannotRead(name) => tell_text(errors, words, b"cannot read ", name.bytes()),
+        Ended::CannotWrite(name) => tell_text(errors, words, b"cannot write ", name.bytes()),
         Ended::InputTooLarge(name, limit) => {
             let digits = Digits::of(*limit);
             tell_limit(errors, words, name.bytes(), digits.bytes())
@@ -148,6 +190,11 @@ pub fn tell<E: Sink>(errors: &mut E, words: &[Text], ended: &Ended)
             tell_place(errors, words, name, *place, b"left out: ", word.bytes())
         }
         Ended::TooDeep(name, place) => tell_place(errors, words, name, *place, b"too deep", b""),
+        Ended::BitFault(name, fault) => {
+            let digits = Digits::of(fault.bit);
+            let kind = fault_words(fault.kind).as_bytes();
+            tell_bit(errors, words, name.bytes(), digits.bytes(), kind)
+        }
         Ended::NotBuilt => tell_text(errors, words, b"not built", b""),
         Ended::Memory => tell_text(errors, words, b"out of memory", b""),
     };

@@ -1,10 +1,12 @@
 //! The inputs of a command, read whole in the order of the words.
-ghost use Rattle.std.specs.Prelude.{◌≡◌, ◌⊎◌, ◌<◌, ◌≤◌, ◌+◌, ◌^◌, ℕ, List, length, false, true, codes, IfOk, IfErr, OnOk, IsErrAnd};
-ghost use Rattle.ir_base.specs.Outside.{Rose, Lost, LostUpTo};
+ghost use Rattle.std.specs.Prelude.{◌≡◌, ◌⊎◌, ◌<◌, ℕ, List, length, false, true, IfOk, IfErr, OnOk, IsErrAnd};
+ghost use Rattle.ir_base.specs.Outside.{Rose, Lost};
 ghost use Rattle.ir_base.specs.Files.{Named, ReadsFrom};
 ghost use Rattle.command_line.specs.Options.{is_dash};
 ghost use Rattle.tool_cli.specs.Inputs.{inputs_of, has_stdin, TellsAll, texts_read};
-ghost use Rattle.tool_cli.specs.Judged.{AreShort};
+ghost use Rattle.tool_cli.specs.Judged.{IsShort, AreShort};
+ghost use Rattle.tool_cli.specs.Reads.{LeavesInput, LeavesFiles};
+ghost use Rattle.tool_cli.specs.Order.{has_file, KeepsOrder};
 ghost use Rattle.tool_cli.specs.Causes.{IsEmptied, HasRead, GaveUp, RefusesStdin, RefusesFile, Refuses, RefusesOne, IsStdinOrMemory, IsUnreadOrMemory};
 
 use crate::ended::Ended;
@@ -27,7 +29,8 @@ pub fn inputs_of(command: &Command) -> &[Text]
         Command::Assemble { input, .. }
         | Command::Disassemble { input, .. }
         | Command::Extract { input, .. }
-        | Command::Lli { input, .. } => slice::from_ref(input),
+        | Command::Lli { input, .. }
+        | Command::Analyze { input, .. } => slice::from_ref(input),
         Command::Link { inputs, .. } => inputs.as_slice(),
     }
 }
@@ -61,12 +64,11 @@ fn too_large(alloc: Global, name: &[u8], limit: u64) -> Ended
 fn read_stdin<I: Source>(alloc: Global, input: &mut I) -> Result<Text, Ended>
     ensures read { IfOk result (λ text. Lost (I.left input.old) (I.left input.new) text) }
     ensures emptied { OnOk result (IsEmptied (I.left input.new)) }
-    ensures few { IfOk result (λ text. length text ≤ 16777216) }
+    ensures few { IfOk result (λ text. IsShort text) }
     ensures refused { IfErr result (RefusesStdin (I.left input.old) (Rose (I.faults input.old) (I.faults input.new))) }
-    ensures lost { LostUpTo (2 ^ 24 + 1) (I.left input.old) (I.left input.new) }
     ensures fine { OnOk result (I.faults input.new ≡ I.faults input.old) }
     ensures passed_on { I.faults input.old < I.faults input.new → IsErrAnd result IsStdinOrMemory }
-    ensures later { I.faults input.old ≤ I.faults input.new }
+    ensures leaves_input { LeavesInput (I.left input.old) (I.left input.new) (I.faults input.old) (I.faults input.new) }
 {
     match read_all(alloc, input, LARGEST + 1) {
         Ok(text) if text.bytes().len() > LARGEST => Err(too_large(alloc, b"-", LARGEST as u64)),
@@ -79,13 +81,11 @@ fn read_stdin<I: Source>(alloc: Global, input: &mut I) -> Result<Text, Ended>
 // A file.
 fn read_named<F: Files>(alloc: Global, files: &mut F, name: &Text) -> Result<Text, Ended>
     ensures read { IfOk result (λ text. ReadsFrom (F.contents files.old) name.now text) }
-    ensures few { IfOk result (λ text. length text ≤ 16777216) }
+    ensures few { IfOk result (λ text. IsShort text) }
     ensures refused { IfErr result (RefusesFile (F.contents files.old) (Rose (F.read_faults files.old) (F.read_faults files.new)) name.now) }
     ensures fine { OnOk result (F.read_faults files.new ≡ F.read_faults files.old) }
     ensures passed_on { F.read_faults files.old < F.read_faults files.new → IsErrAnd result IsUnreadOrMemory }
-    ensures later { F.read_faults files.old ≤ F.read_faults files.new }
-    ensures contents { F.contents files.new ≡ F.contents files.old }
-    ensures writes { F.write_faults files.new ≡ F.write_faults files.old }
+    ensures leaves_files { LeavesFiles (F.contents files.old) (F.contents files.new) (F.read_faults files.old) (F.read_faults files.new) (F.write_faults files.old) (F.write_faults files.new) }
 {
     match files.read_file(alloc, name, LARGEST as u64) {
         Ok(text) => Ok(text),
@@ -105,15 +105,13 @@ fn read_input<F: Files, I: Source>(
     ensures read { IfOk result (λ text. HasRead (F.contents files.old) (I.left input.old) (I.left input.new) name.now text) }
     ensures refused { IfErr result (Refuses (F.contents files.old) (I.left input.old) (Rose (I.faults input.old) (I.faults input.new)) (Rose (F.read_faults files.old) (F.read_faults files.new)) name.now) }
     ensures unread { is_dash name.now ≡ false → input.new ≡ input.old }
-    ensures lost { LostUpTo (2 ^ 24 + 1) (I.left input.old) (I.left input.new) }
+    ensures files_unread { is_dash name.now ≡ true → files.new ≡ files.old }
     ensures input_fine { OnOk result (I.faults input.new ≡ I.faults input.old) }
     ensures file_fine { OnOk result (F.read_faults files.new ≡ F.read_faults files.old) }
     ensures input_fault { I.faults input.old < I.faults input.new → IsErrAnd result IsStdinOrMemory }
     ensures file_fault { F.read_faults files.old < F.read_faults files.new → IsErrAnd result IsUnreadOrMemory }
-    ensures input_later { I.faults input.old ≤ I.faults input.new }
-    ensures file_later { F.read_faults files.old ≤ F.read_faults files.new }
-    ensures contents { F.contents files.new ≡ F.contents files.old }
-    ensures writes { F.write_faults files.new ≡ F.write_faults files.old }
+    ensures leaves_input { LeavesInput (I.left input.old) (I.left input.new) (I.faults input.old) (I.faults input.new) }
+    ensures leaves_files { LeavesFiles (F.contents files.old) (F.contents files.new) (F.read_faults files.old) (F.read_faults files.new) (F.write_faults files.old) (F.write_faults files.new) }
 {
     if is_dash(name.bytes()) {
         read_stdin(alloc, input)
@@ -135,17 +133,16 @@ pub fn read_inputs<F: Files, I: Source>(
     ensures count { IfOk result (λ texts. length texts ≡ length names.now) }
     ensures short { IfOk result AreShort }
     ensures refused { IfErr result (RefusesOne (F.contents files.old) (I.left input.old) (Rose (I.faults input.old) (I.faults input.new)) (Rose (F.read_faults files.old) (F.read_faults files.new)) names.now) }
+    ensures order { IfErr result (KeepsOrder names.now input.old input.new) }
     ensures unread { has_stdin names.now ≡ false → input.new ≡ input.old }
+    ensures files_unread { has_file names.now ≡ false → files.new ≡ files.old }
     ensures emptied { OnOk result (has_stdin names.now ≡ true → IsEmptied (I.left input.new)) }
-    ensures lost { LostUpTo (2 ^ 24 + 1) (I.left input.old) (I.left input.new) }
     ensures input_fine { OnOk result (I.faults input.new ≡ I.faults input.old) }
     ensures file_fine { OnOk result (F.read_faults files.new ≡ F.read_faults files.old) }
     ensures input_fault { I.faults input.old < I.faults input.new → IsErrAnd result IsStdinOrMemory }
     ensures file_fault { F.read_faults files.old < F.read_faults files.new → IsErrAnd result IsUnreadOrMemory }
-    ensures input_later { I.faults input.old ≤ I.faults input.new }
-    ensures file_later { F.read_faults files.old ≤ F.read_faults files.new }
-    ensures contents { F.contents files.new ≡ F.contents files.old }
-    ensures writes { F.write_faults files.new ≡ F.write_faults files.old }
+    ensures leaves_input { LeavesInput (I.left input.old) (I.left input.new) (I.faults input.old) (I.faults input.new) }
+    ensures leaves_files { LeavesFiles (F.contents files.old) (F.contents files.new) (F.read_faults files.old) (F.read_faults files.new) (F.write_faults files.old) (F.write_faults files.new) }
 {
     let mut texts = TextList::new(alloc);
     let mut total = 0;

@@ -1,15 +1,19 @@
 //! What the tools do with the texts of their inputs.
-ghost use Rattle.std.specs.Prelude.{◌≡◌, ◌⊎◌, ◌≤◌, length, IfErr, OnOk};
+ghost use Rattle.std.specs.Prelude.{◌≡◌, ◌⊎◌, ◌<◌, ℕ, List, length, codes, false, IfErr, OnOk};
+ghost use Rattle.ir_base.specs.Outside.{Rose};
 ghost use Rattle.tool_cli.specs.Inputs.{inputs_of};
-ghost use Rattle.tool_cli.specs.Judged.{is_bitcode, refusal_told, AreShort, AreAccepted, IsPartAccepted, IsPartRefused, IsFirstRefusal};
-ghost use Rattle.tool_cli.specs.Told.{items_end, IsTextRun, IsRun, IsWork, IsOfTexts};
+ghost use Rattle.tool_cli.specs.Judged.{is_bitcode, refusal_told, IsShort, AreShort, AreAccepted, IsPartAccepted, IsPartRefused, IsFirstRefusal};
+ghost use Rattle.tool_cli.specs.Causes.{IsUnwritten, IsUnwrittenOrMemory};
+ghost use Rattle.tool_cli.specs.Analyzed.{is_analysis, IsWritten};
+ghost use Rattle.tool_cli.specs.Told.{items_end, IsTextRun, IsRun, IsWork, IsOfTexts, IsOfWork};
 ghost use Rattle.ir_syntax.specs.Small.{straight};
 ghost use Rattle.ir_syntax.specs.View.{items_view};
 
+use crate::analysis::analyze;
 use crate::ended::Ended;
 use crate::inputs::inputs_of;
 use command_line::Command;
-use ir_base::{Text, TextList};
+use ir_base::{Sink, Text, TextList};
 use ir_run::run_straight;
 use ir_syntax::{Items, SyntaxFault, read_items, straight_of};
 use std::alloc::Global;
@@ -59,7 +63,7 @@ fn run_items(alloc: Global, items: &Items, max_steps: u64) -> Ended
 
 // Runs the text of the input of this name for so many steps.
 fn run_text(alloc: Global, name: &Text, text: &[u8], max_steps: u64) -> Ended
-    requires { length text.now ≤ 16777216 }
+    requires { IsShort text.now }
     ensures run { IsTextRun name.now max_steps text.now result ⊎ (result ≡ Ended.Memory) }
     ensures of_texts { IsOfTexts result }
 {
@@ -71,7 +75,7 @@ fn run_text(alloc: Global, name: &Text, text: &[u8], max_steps: u64) -> Ended
 
 // Runs a text or bitcode for so many steps.
 fn run(alloc: Global, name: &Text, bytes: &[u8], max_steps: u64) -> Ended
-    requires { length bytes.now ≤ 16777216 }
+    requires { IsShort bytes.now }
     ensures run { IsRun name.now max_steps bytes.now result ⊎ (result ≡ Ended.Memory) }
     ensures of_texts { IsOfTexts result }
 {
@@ -84,7 +88,7 @@ fn run(alloc: Global, name: &Text, bytes: &[u8], max_steps: u64) -> Ended
 
 // Judges the input of this name: a text is read, and bitcode is passed over.
 fn judge(alloc: Global, name: &Text, bytes: &[u8]) -> Result<(), Ended>
-    requires { length bytes.now ≤ 16777216 }
+    requires { IsShort bytes.now }
     ensures accepted { OnOk result (IsPartAccepted bytes.now) }
     ensures refused { IfErr result (λ ended. IsPartRefused name.now bytes.now ended ⊎ (ended ≡ Ended.Memory)) }
     ensures of_texts { IfErr result IsOfTexts }
@@ -112,8 +116,9 @@ fn judge_all(alloc: Global, names: &[Text], texts: &[Text]) -> Result<(), Ended>
     Ok(())
 }
 
-/// Does what the command says with the texts of its inputs, each of at most 16 MiB.
-pub fn work(alloc: Global, command: &Command, texts: &TextList) -> Ended
+// Does what a command says that tells no stream. Nothing is written.
+fn silent_work(alloc: Global, command: &Command, texts: &TextList) -> Ended
+    requires silent { is_analysis command.now ≡ false }
     requires count { length texts.now ≡ length (inputs_of command.now) }
     requires short { AreShort texts.now }
     ensures work { IsWork command.now texts.now result ⊎ (result ≡ Ended.Memory) }
@@ -132,5 +137,25 @@ pub fn work(alloc: Global, command: &Command, texts: &TextList) -> Ended
                 Err(ended) => ended,
             }
         }
+        Command::Analyze { .. } => unreachable!(),
+    }
+}
+
+/// Does what the command says with the texts of its inputs, each of at most 16 MiB.
+pub fn work<O: Sink>(alloc: Global, command: &Command, texts: &TextList, output: &mut O) -> Ended
+    requires count { length texts.now ≡ length (inputs_of command.now) }
+    requires short { AreShort texts.now }
+    ensures work { IsWork command.now texts.now result ⊎ IsUnwritten (Rose (O.faults output.old) (O.faults output.new)) result }
+    ensures of_work { IsOfWork result }
+    ensures written { IsWritten command.now texts.now (O.taken output.old) (O.taken output.new) result }
+    ensures unwritten { is_analysis command.now ≡ false → output.new ≡ output.old }
+    ensures output_fault { O.faults output.old < O.faults output.new → IsUnwrittenOrMemory result }
+    ensures cannot_write { (name : List ℕ) → result ≡ Ended.CannotWrite name → (name ≡ codes "-") × Rose (O.faults output.old) (O.faults output.new) }
+{
+    match command {
+        Command::Analyze { input, dump } => {
+            analyze(alloc, input, texts.at(0).bytes(), *dump, output)
+        }
+        _ => silent_work(alloc, command, texts),
     }
 }

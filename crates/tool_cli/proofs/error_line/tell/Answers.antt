@@ -1,4 +1,3 @@
-use Rattle.std.proofs.Common.{◌≡◌}
 use Rattle.tool_cli.proofs.error_line.tell.Goals as goal
 
 pub returns-in-CannotRead : goal.returns-in-CannotRead
@@ -6,3 +5,12 @@ returns-in-CannotRead g c = rw c.in-CannotRead.is (rw c.bytes-in-CannotRead.ensu
 
 pub returns-in-Memory : goal.returns-in-Memory
 returns-in-Memory g c = rw c.in-Memory.is c.tell_text-in-Memory.ensures
+
+pub returns-in-CannotWrite : goal.returns-in-CannotWrite
+returns-in-CannotWrite g c = rw c.in-CannotWrite.is (rw c.bytes-in-CannotWrite.ensures at c.tell_text-in-CannotWrite.ensures)
+
+pub returns-in-NoItemHere : goal.returns-in-NoItemHere
+returns-in-NoItemHere g c = rw c.in-NoItemHere.is c.tell_place-in-NoItemHere.ensures
+
+pub returns-in-LeftOutWord : goal.returns-in-LeftOutWord
+returns-in-LeftOutWord g c = rw c.in-LeftOutWord.is (rw c.bytes-in-LeftOutWord.ensures at c.tell_place-in-LeftOutWord.ensures)

@@ -1,8 +1,10 @@
-use Rattle.std.proofs.Common.{◌≡◌, ◌⊎◌, inl, inr, ℕ, ◌+◌, ◌<◌, ◌≤◌, List, [], ◌∷◌, ◌++◌, length, drop, refl, sym, ap, ◌∙◌, arith, length-append, Ok, Err}
+use Rattle.std.proofs.Common.{inl, inr, [], ◌∷◌, length, drop, refl, ap, ◌∙◌, arith, length-append}
 use Rattle.std.proofs.lemmas.Result.{err_from_is_err_and}
 use Rattle.ir_base.specs.Outside.{Rose}
 use Rattle.tool_cli.proofs.Turns.{Unread, onto_none, refused_one, over_one, told_refused, told_over, told_on, told_at_end, stdin_on, stdin_at_end, unread_on, unread_so_far, lost_by, lost_so_far}
+use Rattle.tool_cli.specs.declared.inputs.TheConstants.{LARGEST_TOGETHER}
 use Rattle.tool_cli.proofs.Judging.{short_more}
+use Rattle.tool_cli.proofs.Order.{untouched_on, order_kept, refuses_only, over_only, memory_keeps, files_on}
 use Rattle.tool_cli.proofs.inputs.read_inputs.Goals as goal
 
 pub loop-name-init : goal.loop-name-init
@@ -15,6 +17,8 @@ loop-name-init g c = record {
   same_writes = refl;
   same_faults = refl;
   input = Unread refl refl refl;
+  untouched = inl refl;
+  no_file = λ none. refl;
   told = λ held stdin tells. (stdin, (λ e. e, rw c.new-texts.ensures (onto_none _)));
 }
 
@@ -64,30 +68,6 @@ returns-in_err-text-clause-unread g c =
     let reads = g.F.Files.read_faults in
     unread_on c.args.names.now c.loop-name.name-index c.name-item.result c.args.input.now c.loop-name.input c.read_input.new.input (left c.args.input.now) (left c.loop-name.input) c.loop-name-test.true c.name-item.is c.read_input.ensures.unread c.loop-name.invariant.input
 
-pub returns-in_err-text-clause-lost : goal.returns-in_err-text-clause-lost
-returns-in_err-text-clause-lost g c =
-    let left = g.I.Source.left in
-    let faults = g.I.Source.faults in
-    let contents = g.F.Files.contents in
-    let reads = g.F.Files.read_faults in
-    lost_by c.args.names.now (drop c.loop-name.name-index c.args.names.now) c.args.input.now c.loop-name.input (left c.args.input.now) (left c.loop-name.input) (left c.read_input.new.input) c.loop-name.invariant.input c.read_input.ensures.lost
-
-pub returns-in_err-text-clause-input_later : goal.returns-in_err-text-clause-input_later
-returns-in_err-text-clause-input_later g c =
-    omega (arith, c.loop-name.invariant.same_faults, c.read_input.ensures.input_later)
-
-pub returns-in_err-text-clause-file_later : goal.returns-in_err-text-clause-file_later
-returns-in_err-text-clause-file_later g c =
-    omega (arith, c.loop-name.invariant.same_reads, c.read_input.ensures.file_later)
-
-pub returns-in_err-text-clause-contents : goal.returns-in_err-text-clause-contents
-returns-in_err-text-clause-contents g c =
-    c.read_input.ensures.contents ∙ c.loop-name.invariant.same_contents
-
-pub returns-in_err-text-clause-writes : goal.returns-in_err-text-clause-writes
-returns-in_err-text-clause-writes g c =
-    c.read_input.ensures.writes ∙ c.loop-name.invariant.same_writes
-
 pub returns-then-total-gt-LARGEST_TOGETHER-clause-unread : goal.returns-then-total-gt-LARGEST_TOGETHER-clause-unread
 returns-then-total-gt-LARGEST_TOGETHER-clause-unread g c =
     let left = g.I.Source.left in
@@ -96,30 +76,6 @@ returns-then-total-gt-LARGEST_TOGETHER-clause-unread g c =
     let reads = g.F.Files.read_faults in
     unread_on c.args.names.now c.loop-name.name-index c.name-item.result c.args.input.now c.loop-name.input c.read_input.new.input (left c.args.input.now) (left c.loop-name.input) c.loop-name-test.true c.name-item.is c.read_input.ensures.unread c.loop-name.invariant.input
 
-pub returns-then-total-gt-LARGEST_TOGETHER-clause-lost : goal.returns-then-total-gt-LARGEST_TOGETHER-clause-lost
-returns-then-total-gt-LARGEST_TOGETHER-clause-lost g c =
-    let left = g.I.Source.left in
-    let faults = g.I.Source.faults in
-    let contents = g.F.Files.contents in
-    let reads = g.F.Files.read_faults in
-    lost_by c.args.names.now (drop c.loop-name.name-index c.args.names.now) c.args.input.now c.loop-name.input (left c.args.input.now) (left c.loop-name.input) (left c.read_input.new.input) c.loop-name.invariant.input c.read_input.ensures.lost
-
-pub returns-then-total-gt-LARGEST_TOGETHER-clause-input_later : goal.returns-then-total-gt-LARGEST_TOGETHER-clause-input_later
-returns-then-total-gt-LARGEST_TOGETHER-clause-input_later g c =
-    omega (arith, c.loop-name.invariant.same_faults, c.read_input.ensures.input_later)
-
-pub returns-then-total-gt-LARGEST_TOGETHER-clause-file_later : goal.returns-then-total-gt-LARGEST_TOGETHER-clause-file_later
-returns-then-total-gt-LARGEST_TOGETHER-clause-file_later g c =
-    omega (arith, c.loop-name.invariant.same_reads, c.read_input.ensures.file_later)
-
-pub returns-then-total-gt-LARGEST_TOGETHER-clause-contents : goal.returns-then-total-gt-LARGEST_TOGETHER-clause-contents
-returns-then-total-gt-LARGEST_TOGETHER-clause-contents g c =
-    c.read_input.ensures.contents ∙ c.loop-name.invariant.same_contents
-
-pub returns-then-total-gt-LARGEST_TOGETHER-clause-writes : goal.returns-then-total-gt-LARGEST_TOGETHER-clause-writes
-returns-then-total-gt-LARGEST_TOGETHER-clause-writes g c =
-    c.read_input.ensures.writes ∙ c.loop-name.invariant.same_writes
-
 pub returns-in_err-push-clause-unread : goal.returns-in_err-push-clause-unread
 returns-in_err-push-clause-unread g c =
     let left = g.I.Source.left in
@@ -127,30 +83,6 @@ returns-in_err-push-clause-unread g c =
     let contents = g.F.Files.contents in
     let reads = g.F.Files.read_faults in
     unread_on c.args.names.now c.loop-name.name-index c.name-item.result c.args.input.now c.loop-name.input c.read_input.new.input (left c.args.input.now) (left c.loop-name.input) c.loop-name-test.true c.name-item.is c.read_input.ensures.unread c.loop-name.invariant.input
-
-pub returns-in_err-push-clause-lost : goal.returns-in_err-push-clause-lost
-returns-in_err-push-clause-lost g c =
-    let left = g.I.Source.left in
-    let faults = g.I.Source.faults in
-    let contents = g.F.Files.contents in
-    let reads = g.F.Files.read_faults in
-    lost_by c.args.names.now (drop c.loop-name.name-index c.args.names.now) c.args.input.now c.loop-name.input (left c.args.input.now) (left c.loop-name.input) (left c.read_input.new.input) c.loop-name.invariant.input c.read_input.ensures.lost
-
-pub returns-in_err-push-clause-input_later : goal.returns-in_err-push-clause-input_later
-returns-in_err-push-clause-input_later g c =
-    omega (arith, c.loop-name.invariant.same_faults, c.read_input.ensures.input_later)
-
-pub returns-in_err-push-clause-file_later : goal.returns-in_err-push-clause-file_later
-returns-in_err-push-clause-file_later g c =
-    omega (arith, c.loop-name.invariant.same_reads, c.read_input.ensures.file_later)
-
-pub returns-in_err-push-clause-contents : goal.returns-in_err-push-clause-contents
-returns-in_err-push-clause-contents g c =
-    c.read_input.ensures.contents ∙ c.loop-name.invariant.same_contents
-
-pub returns-in_err-push-clause-writes : goal.returns-in_err-push-clause-writes
-returns-in_err-push-clause-writes g c =
-    c.read_input.ensures.writes ∙ c.loop-name.invariant.same_writes
 
 pub returns-then-total-gt-LARGEST_TOGETHER-clause-told : goal.returns-then-total-gt-LARGEST_TOGETHER-clause-told
 returns-then-total-gt-LARGEST_TOGETHER-clause-told g c =
@@ -210,12 +142,14 @@ loop-name-preserved g c =
       count = omega (arith, ap length c.in_ok-push.ensures.ok, length-append c.loop-name.texts (c.in_ok-text.text ∷ []), c.loop-name.invariant.count);
       few = c.if-total-gt-LARGEST_TOGETHER.false;
       short = rw c.in_ok-push.ensures.ok (short_more c.loop-name.texts c.in_ok-text.text c.loop-name.invariant.short c.in_ok-text.ensures.read.few);
-      same_contents = c.read_input.ensures.contents ∙ c.loop-name.invariant.same_contents;
+      same_contents = c.read_input.ensures.leaves_files.contents ∙ c.loop-name.invariant.same_contents;
       same_reads = c.in_ok-text.ensures.file_fine ∙ c.loop-name.invariant.same_reads;
-      same_writes = c.read_input.ensures.writes ∙ c.loop-name.invariant.same_writes;
+      same_writes = c.read_input.ensures.leaves_files.writes ∙ c.loop-name.invariant.same_writes;
       same_faults = c.in_ok-text.ensures.input_fine ∙ c.loop-name.invariant.same_faults;
       input = stdin_on c.args.names.now c.loop-name.name-index c.name-item.result c.in_ok-text.text (contents c.loop-name.files) c.args.input.now c.loop-name.input c.read_input.new.input (left c.args.input.now) (left c.loop-name.input) (left c.read_input.new.input)
-          c.loop-name-test.true c.name-item.is c.in_ok-text.ensures.read c.read_input.ensures.unread (λ h. ap left (c.read_input.ensures.unread h)) c.read_input.ensures.lost c.loop-name.invariant.input;
+          c.loop-name-test.true c.name-item.is c.in_ok-text.ensures.read c.read_input.ensures.unread (λ h. ap left (c.read_input.ensures.unread h)) c.read_input.ensures.leaves_input.lost c.loop-name.invariant.input;
+      untouched = untouched_on c.args.names.now c.loop-name.name-index c.name-item.result c.args.input.now c.loop-name.input c.read_input.new.input c.name-item.is c.read_input.ensures.unread c.loop-name.invariant.untouched;
+      no_file = files_on c.args.names.now c.loop-name.name-index c.name-item.result c.args.files.now c.loop-name.files c.read_input.new.files c.loop-name-test.true c.name-item.is c.read_input.ensures.files_unread c.loop-name.invariant.no_file;
       told = λ held stdin tells.
           told_on c.args.names.now c.loop-name.name-index c.name-item.result (contents c.args.files.now) (contents c.loop-name.files) (left c.args.input.now) (left c.loop-name.input) (left c.read_input.new.input) held stdin c.loop-name.total c.loop-name.texts c.push.new.self c.in_ok-text.text c.bytes.result.now
           c.loop-name-test.true c.name-item.is c.loop-name.invariant.same_contents (c.loop-name.invariant.told held stdin tells) tells c.in_ok-text.ensures.read (λ h. ap left (c.read_input.ensures.unread h)) c.bytes.ensures c.if-total-gt-LARGEST_TOGETHER.false c.in_ok-push.ensures.ok;
@@ -249,14 +183,6 @@ returns-clause-emptied g c =
     let reads = g.F.Files.read_faults in
     stdin_at_end c.args.names.now c.loop-name.name-index c.args.input.now c.loop-name.input (left c.args.input.now) (left c.loop-name.input) c.loop-name-test.false c.loop-name.invariant.input
 
-pub returns-clause-lost : goal.returns-clause-lost
-returns-clause-lost g c =
-    let left = g.I.Source.left in
-    let faults = g.I.Source.faults in
-    let contents = g.F.Files.contents in
-    let reads = g.F.Files.read_faults in
-    lost_so_far c.args.names.now (drop c.loop-name.name-index c.args.names.now) c.args.input.now c.loop-name.input (left c.args.input.now) (left c.loop-name.input) c.loop-name.invariant.input
-
 pub returns-clause-input_fine : goal.returns-clause-input_fine
 returns-clause-input_fine g c =
     c.loop-name.invariant.same_faults
@@ -273,22 +199,99 @@ pub returns-clause-file_fault : goal.returns-clause-file_fault
 returns-clause-file_fault g c =
     λ h. absurd (omega (arith, h, c.loop-name.invariant.same_reads))
 
-pub returns-clause-input_later : goal.returns-clause-input_later
-returns-clause-input_later g c =
-    omega (arith, c.loop-name.invariant.same_faults)
-
-pub returns-clause-file_later : goal.returns-clause-file_later
-returns-clause-file_later g c =
-    omega (arith, c.loop-name.invariant.same_reads)
-
-pub returns-clause-contents : goal.returns-clause-contents
-returns-clause-contents g c =
-    c.loop-name.invariant.same_contents
-
-pub returns-clause-writes : goal.returns-clause-writes
-returns-clause-writes g c =
-    c.loop-name.invariant.same_writes
-
 pub returns-clause-short : goal.returns-clause-short
 returns-clause-short g c =
     c.loop-name.invariant.short
+
+pub returns-in_err-text-clause-leaves_input : goal.returns-in_err-text-clause-leaves_input
+returns-in_err-text-clause-leaves_input g c =
+    let left = g.I.Source.left in
+    record {
+      lost = lost_by c.args.names.now (drop c.loop-name.name-index c.args.names.now) c.args.input.now c.loop-name.input (left c.args.input.now) (left c.loop-name.input) (left c.read_input.new.input) c.loop-name.invariant.input c.read_input.ensures.leaves_input.lost;
+      later = omega (arith, c.loop-name.invariant.same_faults, c.read_input.ensures.leaves_input.later);
+    }
+
+pub returns-in_err-text-clause-leaves_files : goal.returns-in_err-text-clause-leaves_files
+returns-in_err-text-clause-leaves_files g c = record {
+  contents = c.read_input.ensures.leaves_files.contents ∙ c.loop-name.invariant.same_contents;
+  later = omega (arith, c.loop-name.invariant.same_reads, c.read_input.ensures.leaves_files.later);
+  writes = c.read_input.ensures.leaves_files.writes ∙ c.loop-name.invariant.same_writes;
+}
+
+pub returns-in_err-text-clause-files_unread : goal.returns-in_err-text-clause-files_unread
+returns-in_err-text-clause-files_unread g c =
+    files_on c.args.names.now c.loop-name.name-index c.name-item.result c.args.files.now c.loop-name.files c.read_input.new.files c.loop-name-test.true c.name-item.is c.read_input.ensures.files_unread c.loop-name.invariant.no_file
+
+pub returns-then-total-gt-LARGEST_TOGETHER-clause-leaves_input : goal.returns-then-total-gt-LARGEST_TOGETHER-clause-leaves_input
+returns-then-total-gt-LARGEST_TOGETHER-clause-leaves_input g c =
+    let left = g.I.Source.left in
+    record {
+      lost = lost_by c.args.names.now (drop c.loop-name.name-index c.args.names.now) c.args.input.now c.loop-name.input (left c.args.input.now) (left c.loop-name.input) (left c.read_input.new.input) c.loop-name.invariant.input c.read_input.ensures.leaves_input.lost;
+      later = omega (arith, c.loop-name.invariant.same_faults, c.read_input.ensures.leaves_input.later);
+    }
+
+pub returns-then-total-gt-LARGEST_TOGETHER-clause-leaves_files : goal.returns-then-total-gt-LARGEST_TOGETHER-clause-leaves_files
+returns-then-total-gt-LARGEST_TOGETHER-clause-leaves_files g c = record {
+  contents = c.read_input.ensures.leaves_files.contents ∙ c.loop-name.invariant.same_contents;
+  later = omega (arith, c.loop-name.invariant.same_reads, c.read_input.ensures.leaves_files.later);
+  writes = c.read_input.ensures.leaves_files.writes ∙ c.loop-name.invariant.same_writes;
+}
+
+pub returns-then-total-gt-LARGEST_TOGETHER-clause-files_unread : goal.returns-then-total-gt-LARGEST_TOGETHER-clause-files_unread
+returns-then-total-gt-LARGEST_TOGETHER-clause-files_unread g c =
+    files_on c.args.names.now c.loop-name.name-index c.name-item.result c.args.files.now c.loop-name.files c.read_input.new.files c.loop-name-test.true c.name-item.is c.read_input.ensures.files_unread c.loop-name.invariant.no_file
+
+pub returns-in_err-push-clause-leaves_input : goal.returns-in_err-push-clause-leaves_input
+returns-in_err-push-clause-leaves_input g c =
+    let left = g.I.Source.left in
+    record {
+      lost = lost_by c.args.names.now (drop c.loop-name.name-index c.args.names.now) c.args.input.now c.loop-name.input (left c.args.input.now) (left c.loop-name.input) (left c.read_input.new.input) c.loop-name.invariant.input c.read_input.ensures.leaves_input.lost;
+      later = omega (arith, c.loop-name.invariant.same_faults, c.read_input.ensures.leaves_input.later);
+    }
+
+pub returns-in_err-push-clause-leaves_files : goal.returns-in_err-push-clause-leaves_files
+returns-in_err-push-clause-leaves_files g c = record {
+  contents = c.read_input.ensures.leaves_files.contents ∙ c.loop-name.invariant.same_contents;
+  later = omega (arith, c.loop-name.invariant.same_reads, c.read_input.ensures.leaves_files.later);
+  writes = c.read_input.ensures.leaves_files.writes ∙ c.loop-name.invariant.same_writes;
+}
+
+pub returns-in_err-push-clause-files_unread : goal.returns-in_err-push-clause-files_unread
+returns-in_err-push-clause-files_unread g c =
+    files_on c.args.names.now c.loop-name.name-index c.name-item.result c.args.files.now c.loop-name.files c.read_input.new.files c.loop-name-test.true c.name-item.is c.read_input.ensures.files_unread c.loop-name.invariant.no_file
+
+pub returns-in_err-text-clause-order : goal.returns-in_err-text-clause-order
+returns-in_err-text-clause-order g c =
+    let left = g.I.Source.left in
+    let faults = g.I.Source.faults in
+    let contents = g.F.Files.contents in
+    let reads = g.F.Files.read_faults in
+    let p = err_from_is_err_and c.from_residual.result c.from_residual.ensures.1 in
+    rw (p.1, p.2) (order_kept c.args.names.now c.loop-name.name-index c.name-item.result c.args.input.now c.loop-name.input c.read_input.new.input c.in_err-text.field-0.0 c.loop-name-test.true c.name-item.is c.read_input.ensures.unread (refuses_only (contents c.loop-name.files) (left c.loop-name.input) (Rose (faults c.loop-name.input) (faults c.read_input.new.input)) (Rose (reads c.loop-name.files) (reads c.read_input.new.files)) c.name-item.result c.in_err-text.field-0.0 c.in_err-text.ensures.refused) c.loop-name.invariant.untouched)
+
+pub returns-then-total-gt-LARGEST_TOGETHER-clause-order : goal.returns-then-total-gt-LARGEST_TOGETHER-clause-order
+returns-then-total-gt-LARGEST_TOGETHER-clause-order g c =
+    order_kept c.args.names.now c.loop-name.name-index c.name-item.result c.args.input.now c.loop-name.input c.read_input.new.input c.too_large.result c.loop-name-test.true c.name-item.is c.read_input.ensures.unread (over_only c.name-item.result LARGEST_TOGETHER c.too_large.result (rw c.bytes-then-total-gt-LARGEST_TOGETHER.ensures at c.too_large.ensures)) c.loop-name.invariant.untouched
+
+pub returns-in_err-push-clause-order : goal.returns-in_err-push-clause-order
+returns-in_err-push-clause-order g c =
+    let p = err_from_is_err_and c.from_residual-in_err-push.result c.from_residual-in_err-push.ensures.1 in
+    rw (p.1, p.2) (memory_keeps c.args.names.now c.args.input.now c.read_input.new.input)
+
+pub returns-clause-leaves_input : goal.returns-clause-leaves_input
+returns-clause-leaves_input g c =
+    let left = g.I.Source.left in
+    record {
+      lost = lost_so_far c.args.names.now (drop c.loop-name.name-index c.args.names.now) c.args.input.now c.loop-name.input (left c.args.input.now) (left c.loop-name.input) c.loop-name.invariant.input;
+      later = omega (arith, c.loop-name.invariant.same_faults);
+    }
+
+pub returns-clause-leaves_files : goal.returns-clause-leaves_files
+returns-clause-leaves_files g c = record {
+  contents = c.loop-name.invariant.same_contents;
+  later = omega (arith, c.loop-name.invariant.same_reads);
+  writes = c.loop-name.invariant.same_writes;
+}
+
+pub returns-clause-files_unread : goal.returns-clause-files_unread
+returns-clause-files_unread g c = c.loop-name.invariant.no_file

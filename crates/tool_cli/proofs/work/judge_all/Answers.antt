@@ -1,4 +1,3 @@
-use Rattle.std.proofs.Common.{◌≡◌, sym}
 use Rattle.std.proofs.lemmas.Result.{err_from_is_err_and}
 use Rattle.tool_cli.proofs.Judging.{short_at, judged_on, refused_at, judged_at_end}
 use Rattle.tool_cli.proofs.work.judge_all.Goals as goal

@@ -1,4 +1,4 @@
-use Rattle.std.proofs.Common.{◌≡◌, ◌≤◌, Option, length, drop}
+use Rattle.std.proofs.Common.{Option, drop}
 use Rattle.tool_cli.specs.declared.ended.Ended.{Ended}
 use Rattle.tool_cli.proofs.Judging.{IsJudged}
 use Rattle.tool_cli.proofs.work.judge_all.Given as goal

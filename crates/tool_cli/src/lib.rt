@@ -1,0 +1,17 @@
+//! The whole program, over whatever it reads and writes.
+//!
+//! It stands on every layer below. Its promise is the contract of `run_tool`, the call that `main` makes over the
+//! process's own streams: what is answered, what is read and what is written, for any source and sink.
+//! Definitions: `specs/Told` for the meaning of an answer, `specs/Ended` for its line and status.
+#![tactic(auto)]
+
+mod analysis;
+mod digits;
+mod ended;
+mod error_line;
+mod inputs;
+mod tool_run;
+mod work;
+
+pub use ended::{Ended, Report};
+pub use tool_run::{end_without_words, run_tool};

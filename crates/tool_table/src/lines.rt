@@ -1,0 +1,116 @@
+//! The parts of a line of the script.
+
+use ir_base::Text;
+use std::alloc::{AllocError, Global};
+
+/// What stands before the first space, and what stands behind it.
+pub fn parts(line: &[u8]) -> (&[u8], &[u8]) {
+    match line.iter().position(|byte| *byte == b' ') {
+        Some(at) => (&line[..at], &line[at + 1..]),
+        None => (line, b""),
+    }
+}
+
+/// The number that decimal digits spell, or 0.
+pub fn number_of(digits: &[u8]) -> u64 {
+    match str::from_utf8(digits) {
+        Ok(digits) => digits.parse::<u64>().unwrap_or(0),
+        Err(_) => 0,
+    }
+}
+
+/// The numbers that stand one space apart.
+pub fn numbers_of(alloc: Global, text: &[u8]) -> Result<Vec<u64>, AllocError> {
+    let mut numbers = Vec::new(alloc);
+    for digits in text.split(|byte| *byte == b' ') {
+        numbers.push(number_of(digits))?;
+    }
+    Ok(numbers)
+}
+
+// The number of a hexadecimal digit, or 0.
+fn digit_of(byte: u8) -> u8 {
+    match byte {
+        b'0'..=b'9' => byte - b'0',
+        b'a'..=b'f' => byte - b'a' + 10,
+        _ => 0,
+    }
+}
+
+// The byte of two hexadecimal digits.
+fn byte_of(high: u8, low: u8) -> u8 {
+    digit_of(high).wrapping_mul(16).wrapping_add(digit_of(low))
+}
+
+/// The bytes of hexadecimal digits, two for each. What is no digit stands between bytes and says nothing.
+pub fn hex_of(alloc: Global, digits: &[u8]) -> Result<Vec<u8>, AllocError> {
+    let mut bytes = Vec::new(alloc);
+    let mut high = None;
+    for digit in digits {
+        if digit.is_ascii_hexdigit() {
+            match high {
+                None => high = Some(*digit),
+                Some(first) => {
+                    bytes.push(byte_of(first, *digit))?;
+                    high = None;
+                }
+            }
+        }
+    }
+    Ok(bytes)
+}
+
+// How far an escape has been read.
+#[derive(Clone, Copy)]
+enum Escape {
+    Outside,
+    Begun,
+    Digits,
+    LastDigit(u8),
+}
+
+/// The bytes that a text with escapes stands for.
+pub fn unescaped(alloc: Global, text: &[u8]) -> Result<Vec<u8>, AllocError> {
+    let mut bytes = Vec::new(alloc);
+    let mut escape = Escape::Outside;
+    for byte in text {
+        escape = match escape {
+            Escape::Outside if *byte == b'\\' => Escape::Begun,
+            Escape::Begun if *byte == b'x' => Escape::Digits,
+            Escape::Digits => Escape::LastDigit(*byte),
+            Escape::Outside => {
+                bytes.push(*byte)?;
+                Escape::Outside
+            }
+            Escape::Begun => {
+                bytes.push(if *byte == b'n' { b'\n' } else { *byte })?;
+                Escape::Outside
+            }
+            Escape::LastDigit(high) => {
+                bytes.push(byte_of(high, *byte))?;
+                Escape::Outside
+            }
+        };
+    }
+    Ok(bytes)
+}
+
+/// The bytes of a word.
+pub fn word_of(alloc: Global, word: &[u8]) -> Result<Text, AllocError> {
+    if word == b"\"\"".as_slice() {
+        return Ok(Text::new(alloc));
+    }
+    Ok(Text::from_vec(unescaped(alloc, word)?))
+}
+
+/// The words of a command line that stand one space apart.
+pub fn words_of(alloc: Global, line: &[u8]) -> Result<Vec<Text>, AllocError> {
+    let mut words = Vec::new(alloc);
+    if line.is_empty() {
+        return Ok(words);
+    }
+    for word in line.split(|byte| *byte == b' ') {
+        words.push(word_of(alloc, word)?)?;
+    }
+    Ok(words)
+}
