@@ -1,0 +1,5 @@
+pub mod Placed
+pub mod Gathered
+pub mod Named
+pub mod Fields
+pub mod Settled

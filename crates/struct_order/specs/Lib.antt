@@ -1,0 +1,4 @@
+pub mod Order
+pub mod Dependency
+pub mod Mentions
+pub mod Measuring

@@ -1,0 +1,4 @@
+pub mod Parts
+pub mod NamesGathered
+pub mod Shapes
+pub mod ConstantShapes

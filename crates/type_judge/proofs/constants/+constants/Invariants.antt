@@ -1,0 +1,11 @@
+use Rattle.std.proofs.Common.{drop, map}
+use Rattle.std.specs.Prelude.{flat_map}
+use Rattle.ir_constants.specs.Tree.{constants}
+use Rattle.ir_constants.specs.View.{typed_constant_view}
+use Rattle.name_rules.specs.TypeDemands.{constants_demands}
+use Rattle.type_judge.specs.Judging.{Leads, typed_demands}
+use Rattle.type_judge.specs.Gathered.{known_of}
+use Rattle.type_judge.proofs.constants.+constants.Given as goal
+
+abbrev pub invariant-check_constants-elements : goal.invariant-check_constants-elements
+invariant-check_constants-elements l = Leads (flat_map (typed_demands (known_of l.known)) (map typed_constant_view (drop l.element-index l.elements))) (constants_demands (known_of l.known) (constants (map typed_constant_view l.elements)))

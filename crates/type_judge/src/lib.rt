@@ -1,0 +1,21 @@
+//! Judges the types, the constants and the names of a text: tells the first demand, in the order of the text, that does not
+//! hold.
+//!
+//! It stands on the rules of `name_rules`, on the measures of structs of `struct_order` and the tables of `name_table`. It
+//! promises that an answer is Ok exactly where each demand holds, and else the refusal of the first that does not.
+//! Definitions: `specs/Judging`; the demands are those of `name_rules`, `specs/TypeDemands`.
+#![tactic(auto)]
+
+mod asking;
+mod constants;
+mod globals;
+mod integers;
+mod known;
+mod types;
+
+pub use asking::ask;
+pub use constants::{check_constant, check_typed_constant};
+pub use globals::check_global;
+pub use integers::{check_alignment, check_index, check_indices, check_integer, check_length};
+pub use known::{Known, global_name};
+pub use types::{check_nesting, check_size, check_type, check_types, is_large};
