@@ -1,0 +1,17 @@
+use Rattle.std.proofs.Common.{None, sym, subst}
+use Rattle.module_arena.specs.declared.entry.Alias as the_alias
+use Rattle.module_arena.specs.Changes.{with_alias}
+use Rattle.module_arena.specs.Known.{counts}
+use Rattle.entry_build.specs.Declared.{IsFree}
+use Rattle.entry_build.proofs.Declaring.{memory_alone, free_still, few_aliases_still}
+use Rattle.entry_build.proofs.aliases.declare_alias.Goals as goal
+
+pub out_of_memory-requires : goal.out_of_memory-requires
+out_of_memory-requires c =
+    let a = c.args.builder.now.arena in
+    let b = c.add_alias_type.new.builder.arena in
+    let grows = c.in_ok-ty.ensures.grows in
+    let x : the_alias.Alias = record { name = c.in_ok-name.name; linkage = c.linkage_of.result; ty = c.in_ok-ty.ty; target = None } in
+    memory_alone b c.in_ok-name.name (counts (with_alias b x)) c.in-Err.fault c.in-Err.ensures.fault
+    (subst (IsFree b) (sym c.in_ok-name.ensures) (free_still a b grows c.args.written.now.name.name c.requires.free))
+    (few_aliases_still a b grows x c.requires.few)

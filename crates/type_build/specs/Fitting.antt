@@ -1,0 +1,19 @@
+-- Which types an arena can take: each is within the limits, and so is each that is written in it.
+use Rattle.std.specs.Prelude.{◌≤◌, Contains, map}
+use Rattle.type_table.specs.Limits.{IsWithinLimits}
+use Rattle.type_table.specs.Shape.{shape}
+use Rattle.type_table.specs.Tree.{Tree, int, ptr, void, array, struct, named, Trees, no_trees, more_trees, Structs}
+
+abbrev mutual
+  -- an integer has 1 to 128 bits, a struct is there, and no type in it is past a limit
+  pub CanBe : Structs → Tree → Type 0
+  CanBe structs (int width) = (1 ≤ width) × (width ≤ 128)
+  CanBe structs ptr = Unit {0}
+  CanBe structs void = Unit {0}
+  CanBe structs (array n t) = IsWithinLimits (shape structs (array n t)) × CanBe structs t
+  CanBe structs (struct packed ts) = IsWithinLimits (shape structs (struct packed ts)) × AllCanBe structs ts
+  CanBe structs (named name) = IsWithinLimits (shape structs (named name)) × Contains (map (λ s. s.0) structs) name
+
+  pub AllCanBe : Structs → Trees → Type 0
+  AllCanBe structs no_trees = Unit {0}
+  AllCanBe structs (more_trees t ts) = CanBe structs t × AllCanBe structs ts

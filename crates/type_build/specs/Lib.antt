@@ -1,0 +1,4 @@
+pub mod Stands
+pub mod Typed
+pub mod Fitting
+pub mod Holding

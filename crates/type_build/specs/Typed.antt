@@ -1,0 +1,38 @@
+-- Constants with the types that are written before them, as lists.
+use Rattle.std.specs.Prelude.{◌≡◌, ℕ, List, [], ◌∷◌}
+use Rattle.ir_tables.specs.declared.opcode.Opcode.{Opcode}
+use Rattle.module_arena.specs.declared.constant.Const.{Const}
+use Rattle.module_arena.specs.declared.constant.Const.TheVariants as const
+use Rattle.ir_constants.specs.Tree.{TypedConstantTree}
+use Rattle.type_table.specs.Tree.{Tree, Trees, no_trees, more_trees}
+use Rattle.module_arena.specs.Module.{Constant, Constants}
+use Rattle.module_arena.specs.Module.Constants.{no_constants, more_constants}
+use Rattle.name_rules.specs.Written.{type_in, constant_in}
+
+-- a constant that is written, and its type
+abbrev pub typed_in : TypedConstantTree → Tree × Constant
+typed_in written = (type_in written.0, constant_in (type_in written.0) written.1)
+
+-- these types, one behind the other
+abbrev pub trees_listed : List Tree → Trees
+trees_listed [] = no_trees
+trees_listed (t ∷ ts) = more_trees t (trees_listed ts)
+
+-- these constants with their types, one behind the other
+abbrev pub constants_listed : List (Tree × Constant) → Constants
+constants_listed [] = no_constants
+constants_listed (c ∷ cs) = more_constants c.0 c.1 (constants_listed cs)
+
+-- a constant of two others
+abbrev pub pair_of : Opcode → ℕ → Tree × Constant → Tree × Constant → Constant
+pair_of opcode flags left right = Constant.Binary opcode flags left.0 left.1 right.0 right.1
+
+-- a constant that has no other in it
+abbrev pub IsSimple : Const → Constant → Type 0
+IsSimple (const.Integer number) c = c ≡ Constant.Integer number
+IsSimple (const.Truth truth) c = c ≡ Constant.Truth truth
+IsSimple const.Null c = c ≡ Constant.Null
+IsSimple const.Undef c = c ≡ Constant.Undef
+IsSimple const.Poison c = c ≡ Constant.Poison
+IsSimple const.ZeroInitializer c = c ≡ Constant.ZeroInitializer
+IsSimple _ c = ⊥

@@ -1,0 +1,111 @@
+//! An arena in the making, and what is known of the types and constants in it.
+ghost use Rattle.std.specs.Prelude.{◌≡◌, length, slice_get, Some, IfOk, IfSome, OnOk};
+ghost use Rattle.type_table.specs.Limits.{IsWithinLimits};
+ghost use Rattle.type_table.specs.Shape.{shape};
+ghost use Rattle.type_table.specs.Types.{IsKnown, names, trees, structs, tree_of};
+ghost use Rattle.type_table.specs.declared.fault.TypeFault.{TypeFault};
+ghost use Rattle.module_arena.specs.Lists.{no_lists};
+ghost use Rattle.module_arena.specs.Known.{counts, KnowsConst};
+ghost use Rattle.module_arena.specs.Changes.{constant_in};
+ghost use Rattle.type_build.specs.Stands.{IsType, IsConstant, Grows};
+
+use crate::copies::copied_const;
+use indexmap::IndexMap;
+use module_arena::{Arena, Const, ConstId};
+use std::alloc::{AllocError, Global};
+use type_table::{IrType, TypeFault, TypeId};
+
+/// An arena in the making. Equal types and equal constants are kept once: the maps say where they may be, and each
+/// answer of theirs is looked up in the arena.
+#[derive(Drop)]
+pub struct Builder {
+    /// What is built so far.
+    pub arena: Arena,
+    types: IndexMap<IrType, TypeId>,
+    constants: IndexMap<Const, ConstId>,
+}
+
+/// The fault of a table that takes the type.
+fn out_of_memory(_fault: TypeFault) -> AllocError
+    requires { _fault ≡ TypeFault.Memory }
+{
+    AllocError
+}
+
+impl Builder {
+    /// Nothing is built yet.
+    pub fn new(alloc: Global) -> Builder
+        ensures { result.arena ≡ no_lists }
+    {
+        Builder {
+            arena: Arena::new(alloc),
+            types: IndexMap::new(alloc),
+            constants: IndexMap::new(alloc),
+        }
+    }
+
+    /// Where an equal type is.
+    fn find_type(&self, ty: &IrType) -> Option<TypeId>
+        ensures { IfSome result (λ id. slice_get self.now.arena.table.types id ≡ Some ty.now) }
+    {
+        let id = *self.types.get(ty)?;
+        let table = self.arena.types();
+        if id.number() < table.type_count() && *table.get(id) == *ty {
+            Some(id)
+        } else {
+            None
+        }
+    }
+
+    /// The id of the type, which is added where no equal one is there.
+    pub fn keep_type(&mut self, alloc: Global, ty: IrType) -> Result<TypeId, AllocError>
+        requires known { IsKnown self.old.arena.table ty }
+        requires fits { IsWithinLimits (shape (structs self.old.arena.table) (tree_of (names self.old.arena.table) (trees self.old.arena.table) ty)) }
+        ensures grows { OnOk result (Grows self.old.arena self.new.arena) }
+        ensures is { IfOk result (λ id.
+            IsType self.new.arena id (tree_of (names self.old.arena.table) (trees self.old.arena.table) ty)) }
+    {
+        let _good = self.arena.variable_count();
+        let _good_types = self.arena.types().type_count();
+        if let Some(id) = self.find_type(&ty) {
+            return Ok(id);
+        }
+        let key = ty.copy(alloc)?;
+        let id = match self.arena.add_type(ty) {
+            Ok(id) => id,
+            Err(fault) => return Err(out_of_memory(fault)),
+        };
+        self.types.insert(key, id)?;
+        Ok(id)
+    }
+
+    /// Where an equal constant is.
+    fn find_constant(&self, constant: &Const) -> Option<ConstId>
+        ensures { IfSome result (λ id. slice_get self.now.arena.constants id ≡ Some constant.now) }
+    {
+        let id = *self.constants.get(constant)?;
+        if id.number() < self.arena.const_count() && *self.arena.constant(id) == *constant {
+            Some(id)
+        } else {
+            None
+        }
+    }
+
+    /// The id of the constant, which is added where no equal one is there.
+    pub fn keep_constant(&mut self, alloc: Global, constant: Const) -> Result<ConstId, AllocError>
+        requires { KnowsConst (length self.old.arena.table.types) (counts self.old.arena) (length self.old.arena.constants) constant }
+        ensures grows { OnOk result (Grows self.old.arena self.new.arena) }
+        ensures is { IfOk result (λ id. IsConstant self.new.arena id (constant_in self.old.arena constant)) }
+    {
+        let _good = self.arena.variable_count();
+        if let Some(id) = self.find_constant(&constant) {
+            return Ok(id);
+        }
+        let key = copied_const(alloc, &constant)?;
+        let Ok(id) = self.arena.add_const(constant) else {
+            return Err(AllocError);
+        };
+        self.constants.insert(key, id)?;
+        Ok(id)
+    }
+}

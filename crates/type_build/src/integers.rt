@@ -1,0 +1,47 @@
+//! Integers, as a text writes them, at their places.
+ghost use Rattle.std.specs.Prelude.{◌≡◌, ◌<◌, ◌≤◌, ◌^◌};
+ghost use Rattle.name_rules.specs.Written.{natural, modulo};
+
+use ir_terminals::Integer;
+
+/// What an integer that is not negative stands for, in 64 bits.
+pub(crate) fn length_of(written: &Integer) -> u64
+    requires { natural written.now < 2 ^ 64 }
+    ensures { result ≡ natural written.now }
+{
+    if written.negative {
+        return 0;
+    }
+    written.magnitude.to_u64().unwrap()
+}
+
+/// What an index or an alignment stands for, which has at most 32 bits.
+pub fn index_of(written: &Integer) -> u32
+    requires { natural written.now < 2 ^ 32 }
+    ensures { result ≡ natural written.now }
+{
+    length_of(written) as u32
+}
+
+/// The integer modulo 2^bits.
+pub(crate) fn reduced(bits: u8, written: &Integer) -> u128
+    requires bits { bits ≤ 128 }
+    requires magnitude { written.now.magnitude < 2 ^ 128 }
+    ensures { result ≡ modulo bits written.now }
+{
+    let magnitude = written.magnitude.to_u128().unwrap();
+    if bits == 128 {
+        return if written.negative && magnitude > 0 {
+            u128::MAX - magnitude + 1
+        } else {
+            magnitude
+        };
+    }
+    let modulus = 1u128 << bits;
+    let rest = magnitude % modulus;
+    if written.negative && rest > 0 {
+        modulus - rest
+    } else {
+        rest
+    }
+}
