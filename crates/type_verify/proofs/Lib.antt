@@ -1,0 +1,5 @@
+pub mod ClassesTold
+pub mod Flags
+pub mod Judging
+pub mod OpenedTold
+pub mod TypesTold

@@ -1,0 +1,5 @@
+pub mod Classes
+pub mod Judged
+pub mod Opened
+pub mod TypeFlags
+pub mod Widths

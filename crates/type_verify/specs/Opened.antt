@@ -1,0 +1,54 @@
+-- For `TypeJudge::opened`: what a type is by the ids of its parts, where a struct's name stands for its body.
+use Rattle.std.specs.Prelude.{◌≡◌, ℕ, ◌<◌, Bool, true, false, List, All, length, slice_index_or, Option, Some, None}
+use Rattle.type_table.specs.declared.ir_type.IrType.{IrType}
+use Rattle.type_table.specs.declared.ir_type.IrType.TheVariants as type
+use Rattle.type_table.specs.declared.ir_type.StructBody.{StructBody}
+use Rattle.type_table.specs.declared.ir_type.StructBody.TheVariants.{Opaque, Plain, Packed}
+use Rattle.type_table.specs.Tree.{Tree, array, struct}
+use Rattle.type_table.specs.Types.{Types, bodies, trees, trees_at, tree}
+use Rattle.type_verify.specs.declared.types.Opened as the_opened
+use Rattle.type_verify.specs.declared.types.Opened.TheVariants as the
+
+-- an array or a struct by the ids of its parts, or neither
+pub data OpenedIds : Type 0 where
+  array_of : (length part : ℕ) → OpenedIds
+  struct_of : (packed : Bool) → (parts : List ℕ) → OpenedIds
+  neither : OpenedIds
+
+-- the ids that the code has
+abbrev pub opened_ids : the_opened.Opened → OpenedIds
+opened_ids (the.Array length part) = array_of length part
+opened_ids (the.Struct packed parts) = struct_of packed parts.now
+opened_ids the.Other = neither
+
+-- what a struct with that body is
+abbrev pub opened_body : Option StructBody → OpenedIds
+opened_body None = neither
+opened_body (Some Opaque) = neither
+opened_body (Some (Plain parts)) = struct_of false parts
+opened_body (Some (Packed parts)) = struct_of true parts
+
+-- what a type is, from the bodies of the structs
+abbrev pub opened_by : List (Option StructBody) → IrType → OpenedIds
+opened_by bs (type.Int width) = neither
+opened_by bs type.Ptr = neither
+opened_by bs type.Void = neither
+opened_by bs (type.Array length part) = array_of length part
+opened_by bs (type.Struct packed parts) = struct_of packed parts
+opened_by bs (type.Named id) = opened_body (slice_index_or bs id None)
+
+-- what a type of the table is
+abbrev pub opened_type : Types → ℕ → OpenedIds
+opened_type t ty = opened_by (bodies t) (slice_index_or t.types ty type.Void)
+
+-- neither an array nor a struct
+abbrev pub has_no_parts : Tree → Bool
+has_no_parts (array n t) = false
+has_no_parts (struct packed ts) = false
+has_no_parts _ = true
+
+-- the tree is the one with these parts, which are types of the table
+abbrev pub IsOpened : Types → OpenedIds → Tree → Type 0
+IsOpened t (array_of n part) u = (u ≡ array n (tree t part)) × (part < length t.types)
+IsOpened t (struct_of packed parts) u = (u ≡ struct packed (trees_at (trees t) parts)) × All (λ part. part < length t.types) parts
+IsOpened t neither u = has_no_parts u ≡ true
