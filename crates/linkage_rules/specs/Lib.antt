@@ -1,0 +1,16 @@
+pub mod Lists
+pub mod SameShape
+pub mod Linkages
+pub mod Globals
+pub mod Entries
+pub mod SymbolLaws
+pub mod Winner
+pub mod Symbols
+pub mod Conflicts
+pub mod Bind
+pub mod Place
+pub mod Ids
+pub mod Heads
+pub mod Elements
+pub mod Grouped
+pub mod Resolved

@@ -1,0 +1,22 @@
+//! Linkage: which symbols several parts have together, where each is defined, and which entries are in conflict.
+//!
+//! It stands on `ir_base`, `ir_tables`, `type_table`, `module_arena` and `indexmap`. It promises that parts are refused
+//! exactly with their first conflict, and else have exactly the symbols, entries and homes that are defined. Definitions:
+//! `specs/Entries`, `Linkages`, `Winner`, `Symbols`, `Conflicts`, and of the answer `Resolved`; for runs `Bind` and `Place`.
+#![tactic(auto)]
+
+mod bindings;
+mod clash;
+mod conflict;
+mod entry;
+mod gather;
+mod groups;
+mod homes;
+mod linkage;
+mod order;
+mod symbol;
+
+pub use bindings::{Bindings, resolve_symbols};
+pub use conflict::{ConflictKind, SymbolFault};
+pub use entry::{EntryId, EntryList};
+pub use symbol::{Symbol, SymbolKind, SymbolList};
