@@ -13,9 +13,7 @@ use Rattle.ir_eval.specs.declared.value.Pointer.{Pointer}
 use Rattle.ir_eval.specs.declared.value.Scalar.TheVariants.{Ptr}
 use Rattle.ir_memory.specs.Block.{Block, starts, gone, holds, is_constant}
 use Rattle.ir_memory.specs.Memory.{Blocks, found, named, started, bounds_at, bounds_of, home, has_ended, is_over, has_constant, is_fixed, place_at, place_in, access}
-use Rattle.ir_memory.specs.Kept.{IsPlaced}
 use Rattle.ir_memory.specs.Find.{HasOnly, IsOnly}
-use Rattle.ir_memory.proofs.Placed.{IsPlaced-at}
 
 -- a block that passes the test lives, and has the address in it or at its end
 abbrev pub Touches : (Block → Bool) → ℕ → Type 0
@@ -79,10 +77,6 @@ started-none blocks p kind only = found-none blocks (λ b. starts b p.address ki
 
 pub bounds-at : (blocks : List Block) (i : ℕ) (b : Block) (t : Bool) → i < length blocks → b ≡ get_or blocks i b → t ≡ b.live → bounds_at blocks (Some i) ≡ cond t (Some (b.start, b.start + b.size)) None
 bounds-at blocks i b t h e f = rw (slice_get-at blocks i b h) (subst (λ x. bounds_of (Some x) ≡ cond t (Some (b.start, b.start + b.size)) None) e (ap (λ x. cond x (Some (b.start, b.start + b.size)) None) (sym f)))
-
--- a block that is read is placed
-pub read-placed : (blocks : List Block) (from next i : ℕ) (b : Block) → IsPlaced from blocks next → i < length blocks → b ≡ get_or blocks i b → b.live ≡ true → (from ≤ b.start) × (b.start + b.size + 16 ≤ next)
-read-placed blocks from next i b p h e live = subst (λ x. (from ≤ x.start) × (x.start + x.size + 16 ≤ next)) (sym e) (IsPlaced-at blocks from next b i p h (subst (λ x. x.live ≡ true) e live))
 
 holds_touches : (address count : ℕ) → Touches (λ b. b.live && holds b address count) address
 holds_touches address count b e = grind (arith, nat_tests)

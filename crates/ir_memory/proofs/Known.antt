@@ -1,10 +1,10 @@
 -- Each piece in memory is of a pointer whose block was made.
-use Rattle.std.proofs.Common.{◌≡◌, ℕ, zero, suc, ◌+◌, ◌<◌, ◌≤◌, List, [], ◌∷◌, ◌++◌, length, set, take, drop, get_or, subst, refl, sym, ap, ◌∙◌, arith, Option, Some, None, Bool, true, false}
-use Rattle.std.specs.Prelude.{slice_get, slice_range, replicate, if◌then◌else◌}
+use Rattle.std.proofs.Common.{◌≡◌, ℕ, zero, suc, ◌+◌, ◌≤◌, List, [], ◌∷◌, ◌++◌, length, set, take, drop, subst, refl, sym, ap, ◌∙◌, arith, Option, Some, None, Bool, true, false}
+use Rattle.std.specs.Prelude.{slice_get, replicate, if◌then◌else◌}
 use Rattle.std.specs.List.{range_with_len}
 use Rattle.std.specs.List.{All}
 use Rattle.std.proofs.lemmas.List.{length-set}
-use Rattle.std.proofs.lemmas.List.Elements.{All-nil, All-cons, All-head, All-tail, All-replicate, All-append, All-push, All-set, All-weaker, All-take, All-drop, All-map, All-get_or}
+use Rattle.std.proofs.lemmas.List.Elements.{All-nil, All-cons, All-head, All-tail, All-replicate, All-append, All-push, All-set, All-weaker, All-take, All-drop, All-map}
 use Rattle.ir_eval.specs.declared.value.Scalar.{Scalar}
 use Rattle.ir_eval.specs.declared.value.Scalar.TheVariants as scalar
 use Rattle.ir_memory.specs.declared.leaf.Leaf.{Leaf}
@@ -76,11 +76,6 @@ known-spelled bs leaf (scalar.Ptr p) known =
     All-map (IsKnownCell (length bs)) (λ k. cell.Piece p k) (range_with_len 0 8) (λ k d lt. known)
 
 -- what is read
-pub known-cells : (count n : ℕ) (bs : List Block) (b : Block) (i at : ℕ) → i < length bs → b ≡ get_or bs i b → AreKnown count bs → All (IsKnownCell count) (slice_range b.cells at (at + n))
-known-cells count n bs b i at within is known =
-    let cells = subst (λ b. All (IsKnownCell count) b.cells) (sym is) (All-get_or (λ b. All (IsKnownCell count) b.cells) bs i b within known) in
-    All-take (IsKnownCell count) _ _ (All-drop (IsKnownCell count) at b.cells cells)
-
 known-pointer_of : (bs : List Block) (cells : List Cell) (number : Option ℕ) → All (IsKnownCell (length bs)) cells → HasKnown bs (pointer (pointer_of cells) number)
 known-pointer_of bs [] None known = tt
 known-pointer_of bs [] (Some n) known = tt

@@ -105,8 +105,3 @@ pub live_bytes-written : (i at : ℕ) (new : List Cell) (bs : List Block) → li
 live_bytes-written i at new [] = refl
 live_bytes-written zero at new (b ∷ bs) = refl
 live_bytes-written (suc i) at new (b ∷ bs) = ap (λ n. cond b.live b.size 0 + n) (live_bytes-written i at new bs)
-
-pub changed-written : (bs : List Block) (i at : ℕ) (new : List Cell) (b : Block) → i < length bs → b ≡ get_or bs i b → set bs i (written at new b) ≡ changed i (written at new) bs
-changed-written bs i at new b within is = changed-set (written at new) bs b (written at new b) i within (ap (written at new) is)
-
-pub ruleset written_steps = (IsPlaced-written, live_bytes-written, changed-written)

@@ -1,5 +1,5 @@
 -- The last live block that starts at or below an address is the only one that can have it, and how starts are kept.
-use Rattle.std.proofs.Common.{◌≡◌, ℕ, zero, suc, ◌+◌, ◌<◌, ◌≤◌, List, [], ◌∷◌, ◌++◌, length, get_or, set, arith, true, false, Bool, Option, Some, None, subst, inl, inr, ap, sym, refl, ◌∙◌, cond, length-append, ◌-◌}
+use Rattle.std.proofs.Common.{◌≡◌, ℕ, zero, suc, ◌<◌, ◌≤◌, List, [], ◌∷◌, ◌++◌, length, get_or, set, arith, true, false, Option, Some, None, subst, inl, inr, ap, sym, refl, ◌∙◌, length-append, ◌-◌}
 use Rattle.std.specs.Prelude.{IsSome, ◌==◌, ◌≢◌, if◌then◌else◌, replicate}
 use Rattle.std.proofs.lemmas.Bool.{cases_lt, cases_eq}
 use Rattle.std.proofs.lemmas.Bool.Decides.{nat_tests}

@@ -22,6 +22,7 @@ NeedsNone (Err (Undefined kind)) = ⊤
 NeedsNone (Err Memory) = ⊥
 NeedsNone (Err MemoryLimit) = ⊤
 
+-- the leaf is an integer
 abbrev pub IsInteger : Leaf → Type 0
 IsInteger (leaf.Int width) = ⊤
 IsInteger leaf.Ptr = ⊥

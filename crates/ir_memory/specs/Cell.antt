@@ -38,6 +38,7 @@ byte_of (cell.Byte b) = Some b
 byte_of cell.Poison = None
 byte_of (cell.Piece p k) = Some (byte_at p.address k)
 
+-- a byte before a number, where neither is poison
 abbrev pub joined : Option ℕ → Option ℕ → Option ℕ
 joined None rest = None
 joined (Some b) None = None
@@ -48,6 +49,7 @@ abbrev pub number_of : List Cell → Option ℕ
 number_of [] = Some 0
 number_of (c ∷ cs) = joined (byte_of c) (number_of cs)
 
+-- two pointers speak of the same block, or of none
 abbrev pub same_block : Option ℕ → Option ℕ → Bool
 same_block None None = true
 same_block (Some i) (Some j) = nat_eq i j
@@ -64,6 +66,7 @@ abbrev pub are_pieces : Pointer → ℕ → List Cell → Bool
 are_pieces p k [] = true
 are_pieces p k (c ∷ cs) = is_piece p k c && are_pieces p (k + 1) cs
 
+-- the pointer of which the cells are the pieces, where the first is one
 abbrev pub pointer_from : Cell → List Cell → Option Pointer
 pointer_from (cell.Piece p k) cs = if are_pieces p 0 cs then Some p else None
 pointer_from (cell.Byte b) cs = None

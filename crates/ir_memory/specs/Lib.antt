@@ -5,3 +5,5 @@ pub mod Given
 pub mod Kept
 pub mod Answer
 pub mod Find
+pub mod Seen
+pub mod Lending

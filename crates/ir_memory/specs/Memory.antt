@@ -19,6 +19,7 @@ pub record Blocks : Type 0 where
   pub next : ℕ
   pub sealed : Bool
 
+-- memory before any block is made
 abbrev pub no_blocks : Blocks
 no_blocks = record { list = []; next = 65536; sealed = false }
 
@@ -26,6 +27,7 @@ no_blocks = record { list = []; next = 65536; sealed = false }
 abbrev pub byte_limit : ℕ
 byte_limit = 268435456
 
+-- how many bytes the live blocks have together
 abbrev pub live_bytes : List Block → ℕ
 live_bytes [] = 0
 live_bytes (b ∷ bs) = (if b.live then b.size else 0) + live_bytes bs
@@ -62,6 +64,7 @@ started blocks (Int n) kind = None
 started blocks Poison kind = None
 started blocks (Ptr p) kind = found blocks (λ b. starts b p.address kind) p.block
 
+-- the block of that number ends, if there is one
 abbrev pub ended_at : Blocks → Option ℕ → Result Blocks UndefinedKind
 ended_at m None = Err BadFree
 ended_at m (Some i) = Ok (record m { list = changed i (λ b. gone) m.list })
@@ -70,6 +73,7 @@ ended_at m (Some i) = Ok (record m { list = changed i (λ b. gone) m.list })
 abbrev pub ended : Scalar → BlockKind → Blocks → Result Blocks UndefinedKind
 ended pointer kind m = ended_at m (started m.list pointer kind)
 
+-- where a live block starts and ends
 abbrev pub bounds_of : Option Block → Option (ℕ × ℕ)
 bounds_of None = None
 bounds_of (Some b) = if b.live then Some (b.start, b.start + b.size) else None
@@ -83,6 +87,7 @@ bounds_at blocks (Some i) = bounds_of (slice_get blocks i)
 abbrev pub home : List Block → Pointer → ℕ → Option ℕ
 home blocks p count = found blocks (λ b. b.live && holds b p.address count) p.block
 
+-- a block has ended
 abbrev pub is_over : Option Block → Bool
 is_over None = false
 is_over (Some b) = not b.live
@@ -92,14 +97,17 @@ abbrev pub has_ended : List Block → Option ℕ → Bool
 has_ended blocks None = false
 has_ended blocks (Some i) = is_over (slice_get blocks i)
 
+-- a block is a constant variable
 abbrev pub is_fixed : Option Block → Bool
 is_fixed None = false
 is_fixed (Some b) = is_constant b.kind
 
+-- the block of that number is a constant variable
 abbrev pub has_constant : List Block → Option ℕ → Bool
 has_constant blocks None = false
 has_constant blocks (Some i) = is_fixed (slice_get blocks i)
 
+-- how far an address lies behind its block's start
 abbrev pub place_in : ℕ → ℕ → Option Block → Option Place
 place_in i address None = None
 place_in i address (Some b) = Some (record { index = i; offset = address - b.start })
@@ -121,6 +129,7 @@ access m count align writes (Ptr p) =
     else (if not (nat_eq (p.address % align) 0) then Err Misaligned
     else Ok (place_at m.list p.address (home m.list p count))))))
 
+-- so many cells of a block
 abbrev pub cells_of : ℕ → ℕ → Option Block → List Cell
 cells_of offset count None = []
 cells_of offset count (Some b) = slice_range b.cells offset (offset + count)
@@ -135,6 +144,7 @@ abbrev pub put : Blocks → List Cell → Option Place → Blocks
 put m cells None = m
 put m cells (Some place) = record m { list = changed place.index (written place.offset cells) m.list }
 
+-- the leaf at the place that an access gives
 abbrev pub read_at : Blocks → Leaf → Result (Option Place) UndefinedKind → Result Scalar UndefinedKind
 read_at m leaf (Err kind) = Err kind
 read_at m leaf (Ok place) = Ok (read leaf (cells_at m.list (size leaf) place))
@@ -143,6 +153,7 @@ read_at m leaf (Ok place) = Ok (read leaf (cells_at m.list (size leaf) place))
 abbrev pub loaded : Blocks → Scalar → Leaf → ℕ → Result Scalar UndefinedKind
 loaded m address leaf align = read_at m leaf (access m (size leaf) align false address)
 
+-- cells are put at the place that an access gives
 abbrev pub put_at : Blocks → List Cell → Result (Option Place) UndefinedKind → Result Blocks UndefinedKind
 put_at m cells (Err kind) = Err kind
 put_at m cells (Ok place) = Ok (put m cells place)

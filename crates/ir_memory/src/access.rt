@@ -3,17 +3,20 @@ ghost use Rattle.std.specs.Prelude.{◌≡◌, ℕ, ◌+◌, ◌%◌, ◌<◌, �
 ghost use Rattle.ir_memory.specs.Memory as of;
 ghost use Rattle.ir_memory.specs.Kept.{IsPlaced};
 ghost use Rattle.ir_memory.specs.Given.{IsKnown, IsAddress, IsAlignment};
-ghost use Rattle.ir_memory.specs.Block as block;
+ghost use Rattle.ir_memory.specs.Seen.{at, all_seen};
+ghost use Rattle.ir_memory.specs.declared.kept.KeptBlock.{KeptBlock as Kept};
 ghost use Rattle.ir_memory.specs.Block.{is_constant};
 ghost use Rattle.ir_memory.specs.Find.{AreStarts, HasOnly, IsOnly, placed};
 ghost use Rattle.std.specs.Ordering.{nat_cmp};
 ghost use Rattle.std.specs.BTreeMap as tree;
 
 use crate::BlockKind;
-use crate::block::Block;
+use crate::kept::KeptBlock;
 use crate::starts::last_started;
+use crate::table::Table;
 use ir_eval::{Pointer, Scalar};
 use ir_tables::UndefinedKind;
+use pointer_pieces::Pieces;
 use std::collections::BTreeMap;
 
 /// Where the first byte of an access is: the number of its block, and how far it lies behind the start.
@@ -33,36 +36,42 @@ pub struct Request {
 
 /// The live block of that kind that a pointer starts.
 pub fn started(
-    blocks: &[Block],
+    kept: &Table,
+    _pieces: &Pieces,
     starts: &BTreeMap<u64, u64>,
     pointer: Scalar,
     kind: BlockKind,
 ) -> Option<usize>
-    requires starts { AreStarts (tree.get nat_cmp starts.now) blocks.now }
-    requires known { IsAddress blocks.now pointer }
-    requires placed { (next : ℕ) × IsPlaced 65536 blocks.now next }
-    ensures value { result ≡ of.started blocks.now pointer kind }
-    ensures live { IfSome result (λ i. (d : block.Block) → (slice_index_or blocks.now i d).live ≡ true) }
-    ensures within { IfSome result (λ i. i < length blocks.now) }
+    requires starts { AreStarts (tree.get nat_cmp starts.now) (all_seen (at _pieces.now) kept.now) }
+    requires known { IsAddress (all_seen (at _pieces.now) kept.now) pointer }
+    requires placed { (next : ℕ) × IsPlaced 65536 (all_seen (at _pieces.now) kept.now) next }
+    ensures value { result ≡ of.started (all_seen (at _pieces.now) kept.now) pointer kind }
+    ensures live { IfSome result (λ i. (d : Kept) → (slice_index_or kept.now i d).live ≡ true) }
+    ensures within { IfSome result (λ i. i < length kept.now) }
 {
     let Scalar::Ptr(pointer) = pointer else {
         return None;
     };
-    let index = candidate(blocks, starts, pointer)?;
-    if blocks[index].starts(pointer.address, kind) {
+    let index = candidate(kept, _pieces, starts, pointer)?;
+    if kept.get(index).starts(pointer.address, kind) {
         Some(index)
     } else {
         None
     }
 }
 
-/// The one block that a pointer can speak of: its own, or the one that has its address. The blocks serve the clauses.
-fn candidate(_blocks: &[Block], starts: &BTreeMap<u64, u64>, pointer: Pointer) -> Option<usize>
-    requires starts { AreStarts (tree.get nat_cmp starts.now) _blocks.now }
-    requires known { IsKnown _blocks.now pointer }
-    requires placed { (next : ℕ) × IsPlaced 65536 _blocks.now next }
-    ensures within { IfSome result (λ i. i < length _blocks.now) }
-    ensures only { IsOnly _blocks.now pointer.block pointer.address result }
+/// The one block that a pointer can speak of: its own, or the one that has its address. Blocks and pieces serve the clauses.
+fn candidate(
+    _kept: &Table,
+    _pieces: &Pieces,
+    starts: &BTreeMap<u64, u64>,
+    pointer: Pointer,
+) -> Option<usize>
+    requires starts { AreStarts (tree.get nat_cmp starts.now) (all_seen (at _pieces.now) _kept.now) }
+    requires known { IsKnown (all_seen (at _pieces.now) _kept.now) pointer }
+    requires placed { (next : ℕ) × IsPlaced 65536 (all_seen (at _pieces.now) _kept.now) next }
+    ensures within { IfSome result (λ i. i < length _kept.now) }
+    ensures only { IsOnly (all_seen (at _pieces.now) _kept.now) pointer.block pointer.address result }
 {
     match pointer.block {
         Some(index) => Some(index as usize),
@@ -71,14 +80,14 @@ fn candidate(_blocks: &[Block], starts: &BTreeMap<u64, u64>, pointer: Pointer) -
 }
 
 /// Whether the pointer's own block has ended.
-fn has_ended(block: &Block, pointer: Pointer) -> bool
+fn has_ended(block: &KeptBlock, pointer: Pointer) -> bool
     ensures { result ≡ (not block.now.live && is_some pointer.block) }
 {
-    !block.is_live() && pointer.block.is_some()
+    !block.live && pointer.block.is_some()
 }
 
 /// Whether the access writes to a sealed constant.
-fn is_fixed(block: &Block, sealed: bool, writes: bool) -> bool
+fn is_fixed(block: &KeptBlock, sealed: bool, writes: bool) -> bool
     ensures { result ≡ (writes && sealed && is_constant block.now.kind) }
 {
     writes && sealed && block.is_constant()
@@ -93,29 +102,30 @@ fn is_aligned(address: u64, align: u32) -> bool
 
 /// The place of an access of at least one byte, or the first check that fails.
 pub fn access(
-    blocks: &[Block],
+    kept: &Table,
+    _pieces: &Pieces,
     starts: &BTreeMap<u64, u64>,
     sealed: bool,
     asked: Request,
     address: Scalar,
 ) -> Result<Place, UndefinedKind>
-    requires starts { AreStarts (tree.get nat_cmp starts.now) blocks.now }
-    requires known { IsAddress blocks.now address }
-    requires placed { (next : ℕ) × IsPlaced 65536 blocks.now next }
+    requires starts { AreStarts (tree.get nat_cmp starts.now) (all_seen (at _pieces.now) kept.now) }
+    requires known { IsAddress (all_seen (at _pieces.now) kept.now) address }
+    requires placed { (next : ℕ) × IsPlaced 65536 (all_seen (at _pieces.now) kept.now) next }
     requires some { 1 ≤ asked.count }
     requires align { IsAlignment asked.align }
-    ensures value { (next : ℕ) → of.access (record { list = blocks.now; next = next; sealed = sealed }) asked.count asked.align asked.writes address ≡ placed result }
-    ensures within { IfOk result (λ p. p.index < length blocks.now) }
-    ensures holds { IfOk result (λ p. (d : block.Block) → p.offset + asked.count ≤ (slice_index_or blocks.now p.index d).size) }
-    ensures live { IfOk result (λ p. (d : block.Block) → (slice_index_or blocks.now p.index d).live ≡ true) }
+    ensures value { (next : ℕ) → of.access (record { list = all_seen (at _pieces.now) kept.now; next = next; sealed = sealed }) asked.count asked.align asked.writes address ≡ placed result }
+    ensures within { IfOk result (λ p. p.index < length kept.now) }
+    ensures holds { IfOk result (λ p. (d : Kept) → p.offset + asked.count ≤ (slice_index_or kept.now p.index d).size) }
+    ensures live { IfOk result (λ p. (d : Kept) → (slice_index_or kept.now p.index d).live ≡ true) }
 {
     let Scalar::Ptr(pointer) = address else {
         return Err(UndefinedKind::PoisonAddress);
     };
-    let Some(index) = candidate(blocks, starts, pointer) else {
+    let Some(index) = candidate(kept, _pieces, starts, pointer) else {
         return Err(UndefinedKind::OutsideBlock);
     };
-    let block = &blocks[index];
+    let block = kept.get(index);
     if has_ended(block, pointer) {
         return Err(UndefinedKind::EndedBlock);
     }
@@ -130,6 +140,6 @@ pub fn access(
     }
     Ok(Place {
         index,
-        offset: (pointer.address - block.start()) as usize,
+        offset: (pointer.address - block.start) as usize,
     })
 }

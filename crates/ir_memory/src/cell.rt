@@ -1,7 +1,8 @@
 //! One byte of memory, and leaves as cells.
 ghost use Rattle.std.specs.Prelude.{◌≡◌, ◌<◌, ◌≤◌, ◌^◌, ◌%◌, length, IfSome};
 ghost use Rattle.ir_memory.specs.Cell as of;
-ghost use Rattle.ir_memory.specs.Given.{IsLeaf, Fits};
+ghost use Rattle.ir_memory.specs.Given.{IsLeaf};
+ghost use Rattle.ir_memory.specs.Seen.{of_number};
 
 use crate::Leaf;
 use ir_eval::{Pointer, Scalar};
@@ -125,34 +126,20 @@ pub fn read(leaf: Leaf, cells: &[Cell]) -> Scalar
     }
 }
 
-/// Writes the cells that a store of this value gives.
-pub fn spell(leaf: Leaf, value: Scalar, cells: &mut [Cell])
+/// The value of a leaf from the number that its bytes spell, where no piece stands among them.
+pub fn value_of(leaf: Leaf, number: Option<u128>) -> Scalar
     requires leaf { IsLeaf leaf }
-    requires value { Fits leaf value }
-    requires count { length cells.old ≡ of.size leaf }
-    ensures { cells.new ≡ of.spelled leaf value }
+    requires fits { IfSome number (λ n. n < 256 ^ of.size leaf) }
+    ensures { result ≡ of_number leaf number }
 {
-    match value {
-        Scalar::Poison => cells.fill(Cell::Poison),
-        Scalar::Int(number) => spell_number(number, cells),
-        Scalar::Ptr(pointer) => spell_pointer(pointer, cells),
-    }
-}
-
-fn spell_number(number: u128, cells: &mut [Cell])
-    requires { length cells.old ≤ 16 }
-    ensures { cells.new ≡ of.bytes (length cells.old) number }
-{
-    for i in 0..cells.len() {
-        cells[i] = Cell::Byte(byte_at(number, i as u8));
-    }
-}
-
-fn spell_pointer(pointer: Pointer, cells: &mut [Cell])
-    requires { length cells.old ≡ 8 }
-    ensures { cells.new ≡ of.pieces pointer }
-{
-    for i in 0..cells.len() {
-        cells[i] = Cell::Piece(pointer, i as u8);
+    let Some(number) = number else {
+        return Scalar::Poison;
+    };
+    match leaf {
+        Leaf::Int(width) => Scalar::Int(low_bits(number, width)),
+        Leaf::Ptr => Scalar::Ptr(Pointer {
+            block: None,
+            address: number as u64,
+        }),
     }
 }

@@ -1,20 +1,23 @@
 //! The memory of a run: blocks of bytes with addresses that are never used again.
 //!
-//! It stands on the values of `ir_eval` and the kinds of undefined behaviour of `ir_tables`. Its promise:
-//! each call changes memory and answers as the definition over plain lists of blocks and cells says, and a
-//! call that refuses leaves memory as it was. Definitions: `specs/Cell`, `specs/Block`, `specs/Memory`;
-//! what may be handed in: `specs/Given`; what an answer says: `specs/Answer`.
+//! It stands on the values of `ir_eval`, the kinds of undefined behaviour of `ir_tables`, `masked_bytes` and
+//! `pointer_pieces`. Its promise: each call changes memory and answers as the definition over plain lists of
+//! blocks and cells says, and a call that refuses leaves memory as it was. Definitions: `specs/Cell`,
+//! `specs/Block`, `specs/Memory`; what may be handed in: `specs/Given`; what an answer says: `specs/Answer`.
 #![tactic(auto)]
 
 mod access;
-mod block;
 mod cell;
 mod copy;
 mod fault;
+mod kept;
 mod kind;
 mod leaf;
 mod memory;
+mod read;
 mod starts;
+mod table;
+mod write;
 
 pub use fault::MemoryFault;
 pub use kind::BlockKind;

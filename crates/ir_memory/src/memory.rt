@@ -1,23 +1,27 @@
 //! All blocks of a run.
-ghost use Rattle.std.specs.Prelude.{◌≡◌, ◌≢◌, ◌+◌, ◌<◌, ◌≤◌, ◌^◌, ◌↔◌, IfOk, IfSome, OnOk, OnErr, length, true, slice_index_or, Some, Ok, Err, vec_len, replicate};
+ghost use Rattle.std.specs.Prelude.{◌≡◌, ◌≢◌, ℕ, ◌+◌, ◌<◌, ◌≤◌, ◌^◌, ◌↔◌, IfOk, IfSome, OnOk, OnErr, length, true, IsOk, slice_index_or, slice_set, Some, Ok, Err};
 ghost use Rattle.ir_memory.specs.Memory as of;
 ghost use Rattle.ir_memory.specs.Memory.{live_bytes, round_up};
 ghost use Rattle.ir_memory.specs.Kept.{IsPlaced, AreKnown};
 ghost use Rattle.ir_memory.specs.Block as block;
 ghost use Rattle.ir_memory.specs.Given.{IsKnown, IsAddress, IsAlignment, IsLeaf, Fits, HasKnown, CanEnd};
 ghost use Rattle.ir_memory.specs.Answer.{Answers, NeedsNone, IsInteger, Keeps};
-ghost use Rattle.ir_memory.specs.Cell as cell;
+ghost use Rattle.ir_memory.specs.Seen.{at, all_seen, IsRoom, IsSound};
+ghost use Rattle.ir_memory.specs.declared.kept.KeptBlock.{KeptBlock as Kept};
 ghost use Rattle.ir_memory.specs.Cell.{size, spelled};
 
 use crate::access::{Place, Request, access, started};
-use crate::block::Block;
-use crate::cell::{Cell, read};
-use crate::copy::{copy_cells, overlap};
+use crate::copy::{copy_cells, meets};
+use crate::kept::KeptBlock;
+use crate::read::read_at;
 use crate::starts::{forget, note};
+use crate::table::Table;
+use crate::write::{clear, write_many, write_number, write_pointer, write_poison};
 use crate::{BlockKind, Leaf, MemoryFault};
 use ir_eval::{Pointer, Scalar};
 use ir_tables::UndefinedKind;
-use std::alloc::Global;
+use pointer_pieces::Pieces;
+use std::alloc::{AllocError, Global};
 use std::collections::BTreeMap;
 use std::marker::Model;
 
@@ -30,12 +34,13 @@ const FIRST_ADDRESS: u64 = 65_536;
 /// How many addresses are left free behind a block.
 const GAP: u64 = 16;
 
-/// The blocks of a run, live or ended, in the order of their addresses. Pointers name a block by its number,
-/// counted from 0.
+/// The blocks of a run, live or ended, in the order of their addresses, and the pieces of pointers in them.
+/// Pointers name a block by its number, counted from 0.
 #[derive(Drop)]
 pub struct Memory {
     alloc: Global,
-    blocks: Vec<Block>,
+    kept: Table,
+    pieces: Pieces,
     starts: BTreeMap<u64, u64>,
     next: u64,
     sealed: bool,
@@ -46,14 +51,15 @@ impl Model for Memory {
     ghost use Rattle.ir_memory.specs.Memory.{Blocks};
     ghost use Rattle.ir_memory.specs.Kept.{IsKept};
     ghost use Rattle.ir_memory.specs.Find.{AreStarts};
+    ghost use Rattle.ir_memory.specs.Seen.{at, all_seen, IsSound};
     ghost use Rattle.std.specs.Ordering.{nat_cmp};
     ghost use Rattle.std.specs.BTreeMap as tree;
 
     ghost Value = { Blocks };
 
-    ghost view = { λ m. record { list = m.blocks.items; next = m.next; sealed = m.sealed } };
+    ghost view = { λ m. record { list = all_seen (at m.pieces) m.kept; next = m.next; sealed = m.sealed } };
 
-    ghost invariant = { λ m. IsKept m.blocks.items m.next m.live × AreStarts (tree.get nat_cmp m.starts) m.blocks.items };
+    ghost invariant = { λ m. IsKept (all_seen (at m.pieces) m.kept) m.next m.live × AreStarts (tree.get nat_cmp m.starts) (all_seen (at m.pieces) m.kept) × IsSound (at m.pieces) m.kept m.next };
 }
 
 impl Memory {
@@ -63,7 +69,8 @@ impl Memory {
     {
         Memory {
             alloc,
-            blocks: Vec::new(alloc),
+            kept: Table::new(alloc),
+            pieces: Pieces::new(alloc),
             starts: BTreeMap::new(alloc),
             next: FIRST_ADDRESS,
             sealed: false,
@@ -111,10 +118,10 @@ impl Memory {
             return Err(MemoryFault::MemoryLimit);
         }
         let start = round_up(self.next, align);
-        let index = self.blocks.len() as u64;
-        let block = Block::new(self.alloc, start, size, kind)?;
+        let index = self.kept.len() as u64;
+        let block = KeptBlock::new(self.alloc, start, size, kind)?;
         note(&mut self.starts, start, index)?;
-        if let Err(fault) = self.blocks.push(block) {
+        if let Err(fault) = self.kept.push(block) {
             forget(&mut self.starts, start);
             return Err(fault.into());
         }
@@ -135,13 +142,13 @@ impl Memory {
         ensures kept { Keeps self.old self.new }
         ensures memory { NeedsNone result }
     {
-        let Some(index) = started(self.blocks.as_slice(), &self.starts, pointer, kind) else {
+        let Some(index) = started(&self.kept, &self.pieces, &self.starts, pointer, kind) else {
             return Err(MemoryFault::Undefined(UndefinedKind::BadFree));
         };
-        let block = &mut self.blocks[index];
-        self.live -= block.size();
-        forget(&mut self.starts, block.start());
-        block.end(self.alloc);
+        let block = self.kept.get(index);
+        self.live -= block.size;
+        forget(&mut self.starts, block.start);
+        end(self.alloc, &mut self.kept, &mut self.pieces, index);
         Ok(())
     }
 
@@ -153,9 +160,9 @@ impl Memory {
         ensures order { IfSome result (λ p. (65536 ≤ p.0) × (p.0 ≤ p.1) × (p.1 ≤ self.now.next)) }
     {
         let index = pointer.block?;
-        let block = &self.blocks[index as usize];
-        if block.is_live() {
-            Some((block.start(), block.start() + block.size()))
+        let block = self.kept.get(index as usize);
+        if block.live {
+            Some((block.start, block.start + block.size))
         } else {
             None
         }
@@ -170,21 +177,20 @@ impl Memory {
         ensures fits { IfOk result (Fits leaf) }
         ensures known { IfOk result (HasKnown self.now.list) }
     {
-        let count = leaf.size();
         let asked = Request {
-            count: count as u64,
+            count: leaf.size() as u64,
             align,
             writes: false,
         };
         let place = access(
-            self.blocks.as_slice(),
+            &self.kept,
+            &self.pieces,
             &self.starts,
             self.sealed,
             asked,
             address,
         )?;
-        let block = &self.blocks[place.index];
-        Ok(read(leaf, block.cells(place.offset, count)))
+        Ok(read_at(&self.kept, &self.pieces, place, leaf))
     }
 
     /// Writes a leaf at an address (LangRef, "store"). It is refused exactly where the access is undefined.
@@ -212,13 +218,14 @@ impl Memory {
             writes: true,
         };
         let place = access(
-            self.blocks.as_slice(),
+            &self.kept,
+            &self.pieces,
             &self.starts,
             self.sealed,
             asked,
             address,
         )?;
-        put_leaf(&mut self.blocks, place, leaf, value);
+        write_leaf(&mut self.kept, &mut self.pieces, place, leaf, value)?;
         Ok(())
     }
 
@@ -241,8 +248,21 @@ impl Memory {
             align: 1,
             writes: true,
         };
-        let place = access(self.blocks.as_slice(), &self.starts, self.sealed, asked, to)?;
-        put_many(&mut self.blocks, place, count as usize, Cell::Byte(byte));
+        let place = access(
+            &self.kept,
+            &self.pieces,
+            &self.starts,
+            self.sealed,
+            asked,
+            to,
+        )?;
+        write_many(
+            &mut self.kept,
+            &mut self.pieces,
+            place,
+            count as usize,
+            byte,
+        );
         Ok(())
     }
 
@@ -270,7 +290,8 @@ impl Memory {
             writes: false,
         };
         let source = access(
-            self.blocks.as_slice(),
+            &self.kept,
+            &self.pieces,
             &self.starts,
             self.sealed,
             reading,
@@ -281,43 +302,67 @@ impl Memory {
             ..reading
         };
         let target = access(
-            self.blocks.as_slice(),
+            &self.kept,
+            &self.pieces,
             &self.starts,
             self.sealed,
             writing,
             to,
         )?;
-        if !may_overlap && overlap(source, target, count as usize) {
+        if meets(may_overlap, source, target, count as usize) {
             return Err(MemoryFault::Undefined(UndefinedKind::Overlap));
         }
-        copy_cells(&mut self.blocks, target, source, count as usize);
+        copy_cells(
+            self.alloc,
+            &mut self.kept,
+            &mut self.pieces,
+            target,
+            source,
+            count as usize,
+        )?;
         Ok(())
     }
 }
 
-/// Puts the cells of a leaf at a place.
-#[tactic(auto, using(crate::proofs::Placed::written_steps))]
-fn put_leaf(blocks: &mut Vec<Block>, place: Place, leaf: Leaf, value: Scalar)
-    requires index { place.index < vec_len blocks.old }
+/// Writes a leaf at a place. Where memory is refused, nothing changes; it is asked for only by pointers.
+fn write_leaf(
+    kept: &mut Table,
+    pieces: &mut Pieces,
+    place: Place,
+    leaf: Leaf,
+    value: Scalar,
+) -> Result<(), AllocError>
     requires leaf { IsLeaf leaf }
     requires value { Fits leaf value }
-    requires within { (d : block.Block) → place.offset + size leaf ≤ (slice_index_or blocks.old.items place.index d).size }
-    ensures value { blocks.new.items ≡ of.changed place.index (block.written place.offset (spelled leaf value)) blocks.old.items }
-    ensures back { cell.read leaf (of.cells_at blocks.new.items (size leaf) (Some place)) ≡ value }
+    requires room { IsRoom kept.old place (size leaf) }
+    requires sound { (next : ℕ) × IsSound (at pieces.old) kept.old next }
+    ensures value { OnOk result (all_seen (at pieces.new) kept.new ≡ of.changed place.index (block.written place.offset (spelled leaf value)) (all_seen (at pieces.old) kept.old)) }
+    ensures err { OnErr result (all_seen (at pieces.new) kept.new ≡ all_seen (at pieces.old) kept.old) }
+    ensures sound { (next : ℕ) → IsSound (at pieces.old) kept.old next → IsSound (at pieces.new) kept.new next }
+    ensures memory { IsInteger leaf → IsOk result }
 {
-    let block = &mut blocks[place.index];
-    block.put(place.offset, leaf, value);
+    let count = leaf.size();
+    match value {
+        Scalar::Poison => write_poison(kept, pieces, place, count),
+        Scalar::Int(number) => write_number(kept, pieces, place, count, number),
+        Scalar::Ptr(pointer) => return write_pointer(kept, pieces, place, pointer),
+    }
+    Ok(())
 }
 
-/// Puts one cell in so many places.
-#[tactic(auto, using(crate::proofs::Placed::written_steps))]
-fn put_many(blocks: &mut Vec<Block>, place: Place, count: usize, cell: Cell)
-    requires index { place.index < vec_len blocks.old }
-    requires within { (d : block.Block) → place.offset + count ≤ (slice_index_or blocks.old.items place.index d).size }
-    ensures { blocks.new.items ≡ of.changed place.index (block.written place.offset (replicate count cell)) blocks.old.items }
+/// Ends a live block: its bytes and the pieces in it are given up.
+fn end(alloc: Global, kept: &mut Table, pieces: &mut Pieces, index: usize)
+    requires index { index < length kept.old }
+    requires live { (d : Kept) → (slice_index_or kept.old index d).live ≡ true }
+    requires sound { (next : ℕ) × IsSound (at pieces.old) kept.old next }
+    ensures value { all_seen (at pieces.new) kept.new ≡ slice_set (all_seen (at pieces.old) kept.old) index block.gone }
+    ensures sound { (next : ℕ) → IsSound (at pieces.old) kept.old next → IsSound (at pieces.new) kept.new next }
 {
-    let block = &mut blocks[place.index];
-    block.fill(place.offset, count, cell);
+    let block = kept.get(index);
+    let from = block.start;
+    let to = from + block.size;
+    clear(pieces, block.mixed, from, to);
+    kept.end(alloc, index);
 }
 
 /// The least multiple of an alignment that is not below a number.

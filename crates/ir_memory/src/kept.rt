@@ -1,0 +1,84 @@
+//! One block as memory keeps it.
+ghost use Rattle.std.specs.Prelude.{◌≡◌, ◌+◌, ◌&&◌, nat_le, IfOk, ℕ, Option};
+ghost use Rattle.ir_memory.specs.Block as block;
+ghost use Rattle.ir_memory.specs.Seen.{fresh, ended_block, seen};
+ghost use Rattle.pointer_pieces.specs.declared.piece.Piece.{Piece};
+
+use crate::BlockKind;
+use masked_bytes::MaskedBytes;
+use std::alloc::{AllocError, Global};
+
+/// A run of addresses: its bytes, of which some may be poison, and whether pieces of pointers may stand there.
+/// A block that has ended has no bytes.
+#[derive(Drop)]
+pub struct KeptBlock {
+    pub start: u64,
+    pub size: u64,
+    pub kind: BlockKind,
+    pub live: bool,
+    pub bytes: MaskedBytes,
+    pub mixed: bool,
+}
+
+impl KeptBlock {
+    /// A live block of zeros.
+    pub fn new(
+        alloc: Global,
+        start: u64,
+        size: u64,
+        kind: BlockKind,
+    ) -> Result<KeptBlock, AllocError>
+        ensures { IfOk result (λ b. b ≡ fresh start size kind) }
+    {
+        Ok(KeptBlock {
+            start,
+            size,
+            kind,
+            live: true,
+            bytes: MaskedBytes::new(alloc, size as usize)?,
+            mixed: false,
+        })
+    }
+
+    /// What is left of a block that has ended.
+    pub fn ended(alloc: Global) -> KeptBlock
+        ensures { result ≡ ended_block }
+    {
+        KeptBlock {
+            start: 0,
+            size: 0,
+            kind: BlockKind::Stack,
+            live: false,
+            bytes: MaskedBytes::none(alloc),
+            mixed: false,
+        }
+    }
+
+    /// Whether it is live and holds so many bytes from an address on.
+    pub fn is_home(&self, address: u64, count: u64) -> bool
+        ensures { result ≡ (self.now.live && (nat_le self.now.start address && nat_le (address + count) (self.now.start + self.now.size))) }
+    {
+        self.live
+            && self.start <= address
+            && address - self.start <= self.size
+            && count <= self.size - (address - self.start)
+    }
+
+    /// Whether it is a live block of that kind that starts there.
+    pub fn starts(&self, address: u64, kind: BlockKind) -> bool
+        ensures { (pieces : ℕ → Option Piece) → result ≡ block.starts (seen pieces self.now) address kind }
+    {
+        self.live && self.start == address && self.kind == kind
+    }
+
+    /// Whether the block is a constant variable.
+    pub fn is_constant(&self) -> bool
+        ensures { result ≡ block.is_constant self.now.kind }
+    {
+        match self.kind {
+            BlockKind::Variable(constant) => constant,
+            BlockKind::Stack => false,
+            BlockKind::Heap => false,
+        }
+    }
+}

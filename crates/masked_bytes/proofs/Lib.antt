@@ -1,0 +1,5 @@
+mod Marks
+pub mod Placed
+mod Numbers
+mod Puts
+mod Steps

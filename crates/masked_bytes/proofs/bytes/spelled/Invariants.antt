@@ -1,0 +1,13 @@
+use Rattle.std.proofs.Common.{◌≡◌, ◌<◌, ◌≤◌, ◌-◌, ◌^◌, drop, length}
+use Rattle.masked_bytes.specs.Masked.{spelled}
+use Rattle.masked_bytes.proofs.bytes.spelled.Given as goal
+
+abbrev pub invariant-loop-left : goal.invariant-loop-left
+invariant-loop-left l = record {
+  within : l.left ≤ length l.bytes;
+  number : spelled (drop l.left l.bytes) ≡ l.number;
+  fits : l.number < 256 ^ (length l.bytes - l.left);
+}
+
+abbrev pub decreases-loop-left : goal.decreases-loop-left
+decreases-loop-left l = l.left

@@ -1,0 +1,16 @@
+use Rattle.std.proofs.Common.{◌≡◌, ℕ, ◌≤◌, ◌<◌, ◌-◌, None}
+use Rattle.std.specs.Ordering.{nat_cmp}
+use Rattle.std.specs.BTreeMap as tree
+use Rattle.pointer_pieces.specs.Pieces.{where_lacking}
+use Rattle.pointer_pieces.proofs.added.lacking.Given as goal
+
+abbrev pub invariant-loop-key : goal.invariant-loop-key
+invariant-loop-key l = record {
+  low : l.from ≤ l.next;
+  high : l.next ≤ l.to;
+  done : (q : ℕ) → q < l.next → tree.get nat_cmp l.fresh q ≡ where_lacking (tree.get nat_cmp l.pieces) (tree.get nat_cmp l.found) q;
+  ahead : (q : ℕ) → l.next ≤ q → tree.get nat_cmp l.fresh q ≡ None;
+}
+
+abbrev pub decreases-loop-key : goal.decreases-loop-key
+decreases-loop-key l = l.to - l.next

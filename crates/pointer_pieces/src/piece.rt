@@ -1,0 +1,9 @@
+//! One byte of a pointer.
+use ir_eval::Pointer;
+
+/// One byte of a pointer, counted from the lowest.
+#[derive(Clone, Copy, Debug, PartialEq, Eq)]
+pub struct Piece {
+    pub pointer: Pointer,
+    pub place: u8,
+}
