@@ -1,5 +1,5 @@
 -- What a sink has taken, call by call.
-use Rattle.std.proofs.Common.{◌≡◌, ℕ, zero, suc, ◌+◌, ◌≤◌, List, [], ◌∷◌, ◌++◌, length, take, Option, Some, None, refl, sym, ap, ◌∙◌, arith, append_assoc}
+use Rattle.std.proofs.Common.{◌≡◌, ℕ, suc, ◌+◌, ◌≤◌, List, [], ◌∷◌, ◌++◌, length, take, Option, Some, None, refl, ap, arith, append_assoc}
 use Rattle.std.proofs.lemmas.List.{append-nil, take-append-le}
 use Rattle.ir_base.specs.Outside.{Added}
 

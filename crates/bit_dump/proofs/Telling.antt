@@ -1,147 +1,172 @@
 -- A stream that is told, and how far.
-use Rattle.std.proofs.Common.{◌≡◌, ℕ, ◌+◌, ◌≤◌, Bool, true, false, List, [], ◌∷◌, ◌++◌, length, take, Option, Some, Result, Ok, Err, refl, sym, ap, ◌∙◌, inr, arith, append_assoc, map}
-use Rattle.std.proofs.lemmas.List.{append-nil}
-use Rattle.ir_base.specs.Outside.{Added, Rose, Wrote}
-use Rattle.bit_stream.specs.declared.abbreviation.AbbrevOp.{AbbrevOp}
-use Rattle.bit_stream.specs.declared.entry.Entry.{Entry}
-use Rattle.bit_stream.specs.declared.fault.StreamFault.{StreamFault}
-use Rattle.bit_stream.specs.declared.fault.StreamFault.TheVariants as stream
-use Rattle.bit_stream.specs.Abbreviation.{ops_of}
-use Rattle.bit_stream.specs.Reader.{Reader, opened, Entered}
-use Rattle.bit_tree.specs.Stream.{Tree, Stream, next_id, is_end}
+use Rattle.std.proofs.Common.{◌≡◌, ℕ, ◌+◌, ◌≤◌, Bool, List, [], ◌∷◌, ◌++◌, length, take, Option, Result, Ok, Err, OnOk, sym, ap, ◌∙◌, inr, arith, append_assoc, length-append}
+use Rattle.std.proofs.lemmas.List.{append-nil, take-append-le}
+use Rattle.ir_base.specs.Outside.{Added, Wrote}
+use Rattle.bit_tree.specs.Stream.{Tree, Stream}
 use Rattle.bit_tree.specs.Pieces.{Piece, flat}
-use Rattle.bit_tree.specs.Read.{IsStream}
-use Rattle.bit_tree.proofs.Walking.{defining, entry_piece, Came, On, Whole, sets_out, goes_over, ended_by, stopped_by}
-use Rattle.bit_tree.proofs.Faults.{tree_no_fault}
-use Rattle.bit_tree.proofs.Fronts.{is_front}
-use Rattle.bit_tree.proofs.One.{one_tree}
 use Rattle.bit_dump.specs.Text.{dump_text, summary}
-use Rattle.bit_dump.specs.Outline.{Outline, nothing_told, after_definitions, after_entry, told, emptied, summed}
+use Rattle.bit_dump.specs.Outline.{Outline, nothing_told, after, told, with_more, after_head, after_operand, after_operands, after_record, emptied, summed, front}
+use Rattle.bit_dump.specs.Telling.{Tells, TookFront, Tried}
 use Rattle.bit_dump.specs.declared.fault.DumpFault.{DumpFault}
 use Rattle.bit_dump.specs.declared.fault.DumpFault.TheVariants.{Bit, WriteFault, Memory}
-use Rattle.bit_dump.specs.Dumped.{WroteFront, Finished, Dumped, Counted}
-use Rattle.bit_dump.specs.Fault.{of_stream}
-use Rattle.bit_dump.proofs.Told.{front, told_front, told_join, told_defining, told_entry, grows, summed_is}
+use Rattle.bit_dump.specs.Dumped.{WroteFront, Finished, Dumped}
+use Rattle.bit_dump.proofs.Told.{after_front, grown, grows, more_front, head_front, operands_grow, record_told, summed_is}
 use Rattle.bit_dump.proofs.Sinks.{added_none, added_both, front_is}
 
--- a reader came so far, an outline tells the pieces that it passed, and of that text so much was written
-pub record Telling (bytes : List ℕ) (whole : Bool) (before now : Option (List ℕ)) (r : Reader) (o : Outline) : Type 0 where
-  pub pieces : List Piece
-  pub came : Came bytes r pieces
-  pub written : List ℕ
-  pub added : Added before now written
-  pub is : front written o ≡ told (nothing_told whole) pieces
+-- one step more, which a text in front does not change
+pub told_more : (before now : Option (List ℕ)) (all o later : Outline) (step : Outline → Outline) → ((w : List ℕ) → step (front w o) ≡ front w (step o)) → later ≡ step o → Tells before now all o → Tells before now (step all) later
+told_more before now all o later step commutes is h = record {
+  written = h.written;
+  added = h.added;
+  is = ap (λ (x : Outline). front h.written x) is ∙ (sym (commutes h.written) ∙ ap step h.is);
+}
 
-pub begins : (bytes : List ℕ) (whole : Bool) (before : Option (List ℕ)) (r : Reader) → Ok r ≡ opened bytes → Telling bytes whole before before r (nothing_told whole)
-unfolding told
-begins bytes whole before r h = record { pieces = []; came = sets_out bytes r h; written = []; added = added_none before; is = refl }
+pub piece_more : (before now : Option (List ℕ)) (all o later : Outline) (p : Piece) → later ≡ after o p → Tells before now all o → Tells before now (after all p) later
+piece_more before now all o later p is h = told_more before now all o later (λ x. after x p) (λ w. after_front w o p) is h
 
-told_more : (whole : Bool) (w : List ℕ) (o : Outline) (ps qs : List Piece) → front w o ≡ told (nothing_told whole) ps → front w (told o qs) ≡ told (nothing_told whole) (ps ++ qs)
-told_more whole w o ps qs is = sym (told_join (nothing_told whole) ps qs ∙ (ap (λ (x : Outline). told x qs) (sym is) ∙ told_front w o qs))
+pub head_more : (before now : Option (List ℕ)) (all o later : Outline) (id code : ℕ) → later ≡ after_head o id code → Tells before now all o → Tells before now (after_head all id code) later
+head_more before now all o later id code is h = told_more before now all o later (λ x. after_head x id code) (λ w. head_front w o id code) is h
 
--- one more entry, with the definitions in front
-pub tells : (bytes : List ℕ) (whole : Bool) (before now : Option (List ℕ)) (r new : Reader) (o later : Outline) (entry : Entry) (first : ℕ) → Telling bytes whole before now r o → Entered r.stopped r (Ok entry) new → is_end (Some entry) ≡ false
-    → first ≡ next_id r.scope → later ≡ after_entry (after_definitions o first new.definitions) entry new → Telling bytes whole before now new later
-tells bytes whole before now r new o later entry first h e more id is =
-    let on = goes_over bytes r new entry h.pieces h.came e more in
-    let defs = defining (next_id r.scope) on.templates in
-    let all = told_join o defs (entry_piece entry new) ∙ (ap (λ (x : Outline). told x (entry_piece entry new)) (told_defining o (next_id r.scope) on.templates) ∙ told_entry (after_definitions o (next_id r.scope) (map ops_of on.templates)) entry new) in
-    let defs_is : after_definitions o first new.definitions ≡ after_definitions o (next_id r.scope) (map ops_of on.templates) = ap (λ (x : ℕ). after_definitions o x new.definitions) id ∙ ap (λ (l : List (List AbbrevOp)). after_definitions o (next_id r.scope) l) on.are in
-    let same : later ≡ told o (defs ++ entry_piece entry new) = is ∙ (ap (λ (x : Outline). after_entry x entry new) defs_is ∙ sym all) in
-    record {
-      pieces = h.pieces ++ (defs ++ entry_piece entry new);
-      came = on.came;
-      written = h.written;
-      added = h.added;
-      is = ap (λ (x : Outline). front h.written x) same ∙ told_more whole h.written o h.pieces (defs ++ entry_piece entry new) h.is;
-    }
+pub text_more : (before now : Option (List ℕ)) (all o later : Outline) (more : List ℕ) → later ≡ with_more o more → Tells before now all o → Tells before now (with_more all more) later
+text_more before now all o later more is h = told_more before now all o later (λ x. with_more x more) (λ w. more_front w o more) is h
+
+pub whole_is : {before now : Option (List ℕ)} {all o : Outline} → Tells before now all o → all.whole ≡ o.whole
+whole_is h = ap (λ (x : Outline). x.whole) (sym h.is)
 
 -- the text was written
-pub flushes : (bytes : List ℕ) (whole : Bool) (before now later : Option (List ℕ)) (r : Reader) (o : Outline) → Telling bytes whole before now r o → Added now later o.text → Telling bytes whole before later r (emptied o)
-flushes bytes whole before now later r o h added = record {
-  pieces = h.pieces;
-  came = h.came;
+pub flushes : (before now later : Option (List ℕ)) (all o : Outline) → Tells before now all o → Added now later o.text → Tells before later all (emptied o)
+flushes before now later all o h added = record {
   written = h.written ++ o.text;
   added = added_both before now later h.written o.text h.added added;
   is = rw append-nil h.is;
 }
 
--- the text so far is a front of the whole
-so_far : (bytes : List ℕ) (whole : Bool) (before now : Option (List ℕ)) (r : Reader) (o : Outline) (tree : Tree) → (all : Telling bytes whole before now r o) → Stream bytes tree → (rest : List ℕ) × (dump_text tree whole ≡ (all.written ++ o.text) ++ rest)
-so_far bytes whole before now r o tree h stream =
-    let ahead = is_front h.came stream in
-    let more = grows (told (nothing_told whole) h.pieces) ahead.0 in
-    let start : (told (nothing_told whole) h.pieces).text ≡ h.written ++ o.text = ap (λ (x : Outline). x.text) (sym h.is) in
-    let lines : (told (nothing_told whole) (flat tree)).text ≡ (h.written ++ o.text) ++ more.0 = rw (ahead.1, told_join (nothing_told whole) h.pieces ahead.0) (more.1 ∙ ap (λ (l : List ℕ). l ++ more.0) start) in
-    let last = summary (told (nothing_told whole) (flat tree)).tally in
-    (more.0 ++ last, sym (summed_is whole tree) ∙ (ap (λ (l : List ℕ). l ++ last) lines ∙ append_assoc (h.written ++ o.text) more.0 last))
+-- a front of a text is a front of a longer one
+pub longer : (before now : Option (List ℕ)) (text more whole : List ℕ) → whole ≡ text ++ more → TookFront before now text → TookFront before now whole
+longer before now text more whole is h =
+    let same : take h.count (text ++ more) ≡ take h.count text = take-append-le h.count text more h.within in
+    record { count = h.count; within = rw is (omega (arith, h.within, length-append text more)); added = rw (is, same) h.added }
 
--- a write failed, behind a front of the text
-pub fails : (bytes : List ℕ) (whole : Bool) (before now later : Option (List ℕ)) (r : Reader) (o : Outline) (faults_before faults_now : ℕ) → IsStream bytes → Telling bytes whole before now r o → Wrote now later faults_before faults_now o.text → WroteFront bytes whole before later
-fails bytes whole before now later r o faults_before faults_now judged h wrote =
-    let rest = so_far bytes whole before now r o judged.tree h judged.stream in
-    let front = front_is h.written o.text rest.0 wrote.count wrote.within in
-    let both = added_both before now later h.written (take wrote.count o.text) h.added wrote.added in
-    record { tree = judged.tree; stream = judged.stream; count = length h.written + wrote.count; added = rw (rest.1, ← front) both }
-
--- memory ran out behind what was written
-pub wants : (bytes : List ℕ) (whole : Bool) (before now : Option (List ℕ)) (r : Reader) (o : Outline) → IsStream bytes → Telling bytes whole before now r o → WroteFront bytes whole before now
-wants bytes whole before now r o judged h =
-    let rest = so_far bytes whole before now r o judged.tree h judged.stream in
-    let front = front_is h.written o.text rest.0 0 (omega arith) in
+-- what was written is a front of what is told
+so_far : (before now : Option (List ℕ)) (all o : Outline) → Tells before now all o → TookFront before now all.text
+so_far before now all o h =
+    let text : all.text ≡ h.written ++ o.text = ap (λ (x : Outline). x.text) (sym h.is) in
+    let front = front_is h.written o.text [] 0 (omega arith) in
     let none : h.written ++ take 0 o.text ≡ h.written = append-nil h.written in
-    record { tree = judged.tree; stream = judged.stream; count = length h.written + 0; added = rw (rest.1, ← front, none) h.added }
+    record { count = length h.written + 0; within = rw text (omega (arith, length-append h.written o.text)); added = rw (text, ← append-nil (h.written ++ o.text), ← front, none) h.added }
 
--- the whole stream was passed, and of its text this line is still to be written
-pub record Final (bytes : List ℕ) (whole : Bool) (before now : Option (List ℕ)) (line : List ℕ) : Type 0 where
+-- memory ran out before a step
+pub wants : (before now : Option (List ℕ)) (all o : Outline) (more : List ℕ) (whole : List ℕ) → whole ≡ all.text ++ more → Tells before now all o → TookFront before now whole
+wants before now all o more whole is h = longer before now all.text more whole is (so_far before now all o h)
+
+pub wants_piece : (before now : Option (List ℕ)) (all o : Outline) (p : Piece) → Tells before now all o → TookFront before now (after all p).text
+wants_piece before now all o p h = let one = grown all p in wants before now all o one.0 (after all p).text one.1 h
+
+-- a write failed behind a front of the text
+pub fails : (before now later : Option (List ℕ)) (all o : Outline) (faults_before faults_now : ℕ) → Tells before now all o → Wrote now later faults_before faults_now o.text → TookFront before later all.text
+fails before now later all o faults_before faults_now h wrote =
+    let text : all.text ≡ h.written ++ o.text = ap (λ (x : Outline). x.text) (sym h.is) in
+    let front = front_is h.written o.text [] wrote.count wrote.within in
+    let both = added_both before now later h.written (take wrote.count o.text) h.added wrote.added in
+    record { count = length h.written + wrote.count; within = rw text (omega (arith, wrote.within, length-append h.written o.text)); added = rw (text, ← append-nil (h.written ++ o.text), ← front) both }
+
+-- what was tried for a step is tried for a longer one where it failed
+pub tried_longer : (before later : Option (List ℕ)) (all whole o new : Outline) (fault : DumpFault) (more : List ℕ) → whole.text ≡ all.text ++ more → Tried before later all o (Err fault) → Tried before later whole new (Err fault)
+tried_longer before later all whole o new (Bit fault) more is h = h
+tried_longer before later all whole o new WriteFault more is h = longer before later all.text more whole.text is h
+tried_longer before later all whole o new Memory more is h = longer before later all.text more whole.text is h
+
+-- a record, operand by operand
+
+pub operands_step : (y z : Outline) (n : ℕ) (operands others : List ℕ) → operands ≡ n ∷ others → after_operands y operands ≡ z → after_operands (after_operand y n) others ≡ z
+unfolding after_operands
+operands_step y z n operands others is h = sym (ap (λ (l : List ℕ). after_operands y l) is) ∙ h
+
+pub operands_text : (y z : Outline) (operands : List ℕ) → after_operands y operands ≡ z → (more : List ℕ) × (z.text ≡ y.text ++ more)
+operands_text y z operands h = let more = operands_grow y operands in (more.0, ap (λ (x : Outline). x.text) (sym h) ∙ more.1)
+
+pub operands_over : (before now : Option (List ℕ)) (y z o : Outline) (operands : List ℕ) → operands ≡ [] → after_operands y operands ≡ z → Tells before now y o → Tells before now z o
+unfolding after_operands
+operands_over before now y z o operands none h tells =
+    let same : y ≡ z = sym (ap (λ (l : List ℕ). after_operands y l) none) ∙ h in
+    rw same at tells
+
+pub record_rest : (all : Outline) (id code : ℕ) (operands : List ℕ) (has_blob : Bool) (size : ℕ) → (more : List ℕ) × ((after_record all id code operands has_blob size).text ≡ (after_operands (after_head all id code) operands).text ++ more)
+record_rest all id code operands has_blob size = (_, ap (λ (x : Outline). x.text) (sym (record_told all id code operands has_blob size)))
+
+-- what holds where a call went well
+pub where_ok : {A B E X : Type 0} (r : Result X E) → (A → B) → OnOk r A → OnOk r B
+where_ok (Ok x) f h = f h
+where_ok (Err e) f h = tt
+
+-- the text of the whole tree
+
+-- a stream that is told so far, of which these pieces are left
+pub record IsTold (bytes : List ℕ) (whole : Bool) (before now : Option (List ℕ)) (left : List Piece) (o : Outline) : Type 0 where
+  pub all : Outline
+  pub tells : Tells before now all o
   pub tree : Tree
   pub stream : Stream bytes tree
-  pub written : List ℕ
-  pub added : Added before now written
-  pub all : dump_text tree whole ≡ written ++ line
+  pub are : told all left ≡ told (nothing_told whole) (flat tree)
 
-pub ends : (bytes : List ℕ) (whole : Bool) (before now : Option (List ℕ)) (r new : Reader) (o later : Outline) (entry : Entry) (first : ℕ) → Telling bytes whole before now r o → Entered r.stopped r (Ok entry) new → is_end (Some entry) ≡ true
-    → first ≡ next_id r.scope → later ≡ after_entry (after_definitions o first new.definitions) entry new → Final bytes whole before now (summed later).text
-ends bytes whole before now r new o later entry first h e last id is =
-    let end = ended_by bytes r new entry h.pieces h.came e last in
-    let defs = defining (next_id r.scope) end.templates in
-    let over = told_defining o (next_id r.scope) end.templates in
-    let defs_is : after_definitions o first new.definitions ≡ after_definitions o (next_id r.scope) (map ops_of end.templates) = ap (λ (x : ℕ). after_definitions o x new.definitions) id ∙ ap (λ (l : List (List AbbrevOp)). after_definitions o (next_id r.scope) l) end.are in
-    let none : after_entry (after_definitions o first new.definitions) entry new ≡ after_definitions o first new.definitions = ap (λ (x : Entry). after_entry (after_definitions o first new.definitions) x new) end.last in
-    let same : later ≡ told o defs = is ∙ (none ∙ (defs_is ∙ sym over)) in
-    let passed : front h.written later ≡ told (nothing_told whole) (h.pieces ++ defs) = ap (λ (x : Outline). front h.written x) same ∙ told_more whole h.written o h.pieces defs h.is in
-    let all : front h.written later ≡ told (nothing_told whole) (flat end.tree) = passed ∙ sym (ap (λ (ps : List Piece). told (nothing_told whole) ps) end.pieces) in
-    let text : h.written ++ (summed later).text ≡ (summed (front h.written later)).text = sym (append_assoc h.written later.text (summary later.tally)) in
-    record {
-      tree = end.tree;
-      stream = end.stream;
-      written = h.written;
-      added = h.added;
-      all = sym (text ∙ (ap (λ (x : Outline). (summed x).text) all ∙ summed_is whole end.tree));
-    }
+pub begins : (bytes : List ℕ) (whole : Bool) (before : Option (List ℕ)) (left : List Piece) (o : Outline) (tree : Tree) → Stream bytes tree → left ≡ flat tree → o ≡ nothing_told whole → IsTold bytes whole before before left o
+begins bytes whole before left o tree stream are is = record {
+  all = nothing_told whole;
+  tells = record { written = []; added = added_none before; is = is };
+  tree = tree;
+  stream = stream;
+  are = ap (λ (ps : List Piece). told (nothing_told whole) ps) are;
+}
 
-pub closes : (bytes : List ℕ) (whole : Bool) (before now later : Option (List ℕ)) (faults_before faults_now : ℕ) (line : List ℕ) (result : Result (Unit {0}) DumpFault) → Final bytes whole before now line → Finished now later faults_before faults_now line result → Dumped bytes whole before later result
-closes bytes whole before now later faults_before faults_now line (Ok done) h k = (h.tree, h.stream, rw h.all (added_both before now later h.written line h.added k))
-closes bytes whole before now later faults_before faults_now line (Err (Bit fault)) h k = absurd k
-closes bytes whole before now later faults_before faults_now line (Err WriteFault) h k =
-    let front = front_is h.written line [] k.count k.within in
-    let both = added_both before now later h.written (take k.count line) h.added k.added in
-    let all : dump_text h.tree whole ≡ (h.written ++ line) ++ [] = h.all ∙ sym (append-nil (h.written ++ line)) in
-    record { tree = h.tree; stream = h.stream; count = length h.written + k.count; added = rw (all, ← front) both }
-closes bytes whole before now later faults_before faults_now line (Err Memory) h k =
-    let front = front_is h.written line [] 0 (omega arith) in
-    let none : h.written ++ take 0 line ≡ h.written = append-nil h.written in
-    let all : dump_text h.tree whole ≡ (h.written ++ line) ++ [] = h.all ∙ sym (append-nil (h.written ++ line)) in
-    inr (record { tree = h.tree; stream = h.stream; count = length h.written + 0; added = rw (all, ← front, none, k) h.added })
+-- one more piece
+pub goes_on : (bytes : List ℕ) (whole : Bool) (before now later : Option (List ℕ)) (left others : List Piece) (p : Piece) (o new : Outline) → (h : IsTold bytes whole before now left o) → left ≡ p ∷ others → Tells before later (after h.all p) new → IsTold bytes whole before later others new
+unfolding told
+goes_on bytes whole before now later left others p o new h is tells = record { all = after h.all p; tells = tells; tree = h.tree; stream = h.stream; are = rw is at h.are }
 
--- a judged stream is not refused: where the reader stops, memory ran out
-pub halts : (bytes : List ℕ) (whole : Bool) (before now : Option (List ℕ)) (r new : Reader) (o : Outline) (x : StreamFault) → IsStream bytes → Telling bytes whole before now r o → Entered r.stopped r (Err x) new → Dumped bytes whole before now (Err (of_stream x))
-halts bytes whole before now r new o (stream.Bit fault) judged h e =
-    let refused = stopped_by bytes r new h.pieces (stream.Bit fault) h.came e in
-    let fine = tree_no_fault bytes judged.tree judged.stream in
-    absurd (cc)
-halts bytes whole before now r new o stream.Memory judged h e = inr (wants bytes whole before now r o judged h)
+-- the text of so much is a front of the whole text
+whole_text : (bytes : List ℕ) (whole : Bool) (all : Outline) (left : List Piece) (tree : Tree) → told all left ≡ told (nothing_told whole) (flat tree) → (more : List ℕ) × (dump_text tree whole ≡ all.text ++ more)
+whole_text bytes whole all left tree are =
+    let more = grows all left in
+    let last = summary (told (nothing_told whole) (flat tree)).tally in
+    let lines : (told (nothing_told whole) (flat tree)).text ≡ all.text ++ more.0 = ap (λ (x : Outline). x.text) (sym are) ∙ more.1 in
+    (more.0 ++ last, sym (summed_is whole tree) ∙ (ap (λ (l : List ℕ). l ++ last) lines ∙ append_assoc all.text more.0 last))
 
-pub halts_counted : (before now : ℕ) (x : StreamFault) → now ≡ before → Counted before now (Err (of_stream x))
-halts_counted before now (stream.Bit fault) h = h
-halts_counted before now stream.Memory h = h
+pub wrote_front : (bytes : List ℕ) (whole : Bool) (before now : Option (List ℕ)) (all : Outline) (left : List Piece) (tree : Tree) → Stream bytes tree → told all left ≡ told (nothing_told whole) (flat tree) → TookFront before now all.text → WroteFront bytes whole before now
+wrote_front bytes whole before now all left tree stream are h =
+    let text = whole_text bytes whole all left tree are in
+    let took = longer before now all.text text.0 (dump_text tree whole) text.1 h in
+    record { tree = tree; stream = stream; count = took.count; added = took.added }
+
+-- memory ran out behind what was written
+pub wants_more : (bytes : List ℕ) (whole : Bool) (before now : Option (List ℕ)) (left : List Piece) (o : Outline) → IsTold bytes whole before now left o → WroteFront bytes whole before now
+wants_more bytes whole before now left o h = wrote_front bytes whole before now h.all left h.tree h.stream h.are (so_far before now h.all o h.tells)
+
+-- a piece was not told to its end
+pub halts : (bytes : List ℕ) (whole : Bool) (before now later : Option (List ℕ)) (left others : List Piece) (p : Piece) (o new : Outline) (fault : DumpFault) → (h : IsTold bytes whole before now left o) → left ≡ p ∷ others → Tried before later (after h.all p) new (Err fault) → Dumped bytes whole before later (Err fault)
+unfolding told
+halts bytes whole before now later left others p o new (Bit fault) h is tried = absurd tried
+halts bytes whole before now later left others p o new WriteFault h is tried = wrote_front bytes whole before later (after h.all p) others h.tree h.stream (rw is at h.are) tried
+halts bytes whole before now later left others p o new Memory h is tried = inr (wrote_front bytes whole before later (after h.all p) others h.tree h.stream (rw is at h.are) tried)
+
+-- the whole stream was passed, and of its text this line is still to be written
+pub closes : (bytes : List ℕ) (whole : Bool) (before now later : Option (List ℕ)) (faults_before faults_now : ℕ) (o : Outline) (left : List Piece) (result : Result (Unit {0}) DumpFault) → IsTold bytes whole before now left o → left ≡ [] → Finished now later faults_before faults_now (summed o).text result → Dumped bytes whole before later result
+unfolding told
+closes bytes whole before now later faults_before faults_now o left result h none k = by_result result k where
+  last : h.all ≡ told (nothing_told whole) (flat h.tree)
+  last = rw none at h.are
+
+  text : dump_text h.tree whole ≡ h.tells.written ++ (summed o).text
+  text = sym (summed_is whole h.tree) ∙ (ap (λ (x : Outline). (summed x).text) (sym (h.tells.is ∙ last)) ∙ append_assoc h.tells.written o.text (summary o.tally))
+
+  took : (count : ℕ) → count ≤ length (summed o).text → Added now later (take count (summed o).text) → WroteFront bytes whole before later
+  took count within added =
+      let front = front_is h.tells.written (summed o).text [] count within in
+      let both = added_both before now later h.tells.written (take count (summed o).text) h.tells.added added in
+      let all : dump_text h.tree whole ≡ (h.tells.written ++ (summed o).text) ++ [] = text ∙ sym (append-nil (h.tells.written ++ (summed o).text)) in
+      record { tree = h.tree; stream = h.stream; count = length h.tells.written + count; added = rw (all, ← front) both }
+
+  by_result : (result : Result (Unit {0}) DumpFault) → Finished now later faults_before faults_now (summed o).text result → Dumped bytes whole before later result
+  by_result (Ok done) k = (h.tree, h.stream, rw text (added_both before now later h.tells.written (summed o).text h.tells.added k))
+  by_result (Err (Bit fault)) k = absurd k
+  by_result (Err WriteFault) k = took k.count k.within k.added
+  by_result (Err Memory) k = inr (wants_more bytes whole before later left o (rw k h))

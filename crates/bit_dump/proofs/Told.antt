@@ -1,27 +1,19 @@
 -- What is told piece by piece is the text of the tree.
-use Rattle.std.proofs.Common.{◌≡◌, ℕ, suc, ◌+◌, ◌-◌, ◌<◌, ◌≤◌, Bool, true, false, List, [], ◌∷◌, ◌++◌, length, take, drop, get_or, Some, None, if◌then◌else◌, refl, sym, ap, ◌∙◌, arith, append_assoc, length-append, map}
+use Rattle.std.proofs.Common.{◌≡◌, ℕ, suc, ◌-◌, Bool, true, false, List, [], ◌∷◌, ◌++◌, length, take, Some, refl, sym, ap, ◌∙◌, arith, append_assoc, length-append}
 use Rattle.std.specs.Prelude.{slice_get, slice_index_or}
-use Rattle.std.proofs.lemmas.List.{append-nil, take_at, get_or_at, drop_more, drop_all}
-use Rattle.bit_stream.specs.declared.abbreviation.AbbrevOp.{AbbrevOp}
-use Rattle.bit_stream.specs.declared.entry.Entry.{Entry}
-use Rattle.bit_stream.specs.declared.entry.Entry.TheVariants.{Block, EndBlock, Record, End}
-use Rattle.bit_stream.specs.Abbreviation.{Template, ops_of}
-use Rattle.bit_stream.specs.Reader.{Reader}
+use Rattle.std.specs.List.{flat_map}
+use Rattle.std.proofs.lemmas.List.{append-nil, take_at, get_or_at}
+use Rattle.bit_stream.specs.Abbreviation.{ops_of}
 use Rattle.bit_tree.specs.Stream.{Tree, nothing, block, definition, values}
 use Rattle.bit_tree.specs.Pieces.{Piece, begun, ended, defines, holds, flat}
-use Rattle.bit_tree.proofs.Walking.{defining, entry_piece}
 use Rattle.bit_dump.specs.Tally.{tally}
-use Rattle.bit_dump.specs.Text.{block_line, end_line, definition_line, record_line, lines, dump_text, summary}
-use Rattle.bit_dump.specs.Outline.{Outline, nothing_told, here, shown, after, after_block, after_end, after_definition, after_record, after_definitions, after_entry, told, emptied, summed}
-
--- with a text in front
-abbrev pub front : List ℕ → Outline → Outline
-front w o = record { whole = o.whole; unclosed = o.unclosed; tally = o.tally; text = w ++ o.text }
+use Rattle.bit_dump.specs.Text.{operand_text, block_line, end_line, definition_line, record_line, lines, dump_text}
+use Rattle.bit_dump.specs.Outline.{Outline, nothing_told, here, shown, front, after, after_block, after_end, after_definition, after_record, with_more, record_head, record_end, after_head, after_operand, after_operands, after_close, told, summed}
 
 abbrev with_text : Outline → List ℕ → Outline
 with_text o text = record { whole = o.whole; unclosed = o.unclosed; tally = o.tally; text = text }
 
-after_front : (w : List ℕ) (o : Outline) (p : Piece) → after (front w o) p ≡ front w (after o p)
+pub after_front : (w : List ℕ) (o : Outline) (p : Piece) → after (front w o) p ≡ front w (after o p)
 after_front w o (begun id width words) = ap (λ (l : List ℕ). with_text (after_block o id width words) l) (append_assoc w o.text _)
 after_front w o ended = ap (λ (l : List ℕ). with_text (after_end o) l) (append_assoc w o.text _)
 after_front w o (defines id t) = ap (λ (l : List ℕ). with_text (after_definition o id (ops_of t)) l) (append_assoc w o.text _)
@@ -37,33 +29,8 @@ unfolding told
 told_join o [] qs = refl
 told_join o (p ∷ ps) qs = told_join (after o p) ps qs
 
-pub told_defining : (o : Outline) (id : ℕ) (ts : List Template) → told o (defining id ts) ≡ after_definitions o id (map ops_of ts)
-unfolding told defining after_definitions
-told_defining o id [] = refl
-told_defining o id (t ∷ ts) = told_defining (after_definition o id (ops_of t)) (id + 1) ts
-
-pub told_entry : (o : Outline) (entry : Entry) (r : Reader) → told o (entry_piece entry r) ≡ after_entry o entry r
-unfolding told
-told_entry o (Block id) r = refl
-told_entry o EndBlock r = refl
-told_entry o (Record code) r = refl
-told_entry o End r = refl
-
--- one more definition of some
-pub turn : (ds : List (List AbbrevOp)) (o later : Outline) (first i : ℕ) (x : List AbbrevOp) → i < length ds → later ≡ after_definition o (first + i) x → x ≡ get_or ds i x → after_definitions later (first + (i + 1)) (drop (i + 1) ds) ≡ after_definitions o (first + i) (drop i ds)
-unfolding after_definitions
-turn ds o later first i x few is there =
-    let split : drop i ds ≡ x ∷ drop (i + 1) ds = drop_more ds i x few ∙ ap (λ (y : List AbbrevOp). y ∷ drop (i + 1) ds) (sym there) in
-    let same : first + (i + 1) ≡ first + i + 1 = omega arith in
-    ap (λ (y : Outline). after_definitions y (first + (i + 1)) (drop (i + 1) ds)) is ∙ (ap (λ (n : ℕ). after_definitions (after_definition o (first + i) x) n (drop (i + 1) ds)) same
-    ∙ ap (λ (l : List (List AbbrevOp)). after_definitions o (first + i) l) (sym split))
-
-pub turned : (o want : Outline) (n i : ℕ) (ds : List (List AbbrevOp)) → length ds ≤ i → after_definitions o n (drop i ds) ≡ want → o ≡ want
-unfolding after_definitions
-turned o want n i ds all is = sym (ap (λ (l : List (List AbbrevOp)). after_definitions o n l) (drop_all i ds all)) ∙ is
-
 -- the text only grows
-grown : (o : Outline) (p : Piece) → (more : List ℕ) × ((after o p).text ≡ o.text ++ more)
+pub grown : (o : Outline) (p : Piece) → (more : List ℕ) × ((after o p).text ≡ o.text ++ more)
 grown o (begun id width words) = (_, refl)
 grown o ended = (_, refl)
 grown o (defines id t) = (_, refl)
@@ -77,11 +44,55 @@ grows o (p ∷ ps) =
     let later = grows (after o p) ps in
     (one.0 ++ later.0, later.1 ∙ (ap (λ (l : List ℕ). l ++ later.0) one.1 ∙ append_assoc o.text one.0 later.0))
 
--- trees
+-- a record, told operand by operand
+
+pub more_front : (w : List ℕ) (o : Outline) (more : List ℕ) → with_more (front w o) more ≡ front w (with_more o more)
+more_front w o more = ap (λ (l : List ℕ). with_text o l) (append_assoc w o.text (shown o.whole more))
+
+pub head_front : (w : List ℕ) (o : Outline) (id code : ℕ) → after_head (front w o) id code ≡ front w (after_head o id code)
+head_front w o id code = ap (λ (l : List ℕ). with_text (after_head o id code) l) (append_assoc w o.text _)
+
+pub operands_grow : (o : Outline) (ns : List ℕ) → (more : List ℕ) × ((after_operands o ns).text ≡ o.text ++ more)
+unfolding after_operands
+operands_grow o [] = ([], sym (append-nil o.text))
+operands_grow o (n ∷ ns) =
+    let later = operands_grow (after_operand o n) ns in
+    (shown o.whole (operand_text n) ++ later.0, later.1 ∙ append_assoc o.text (shown o.whole (operand_text n)) later.0)
+
+shown_both : (whole : Bool) (a b : List ℕ) → shown whole a ++ shown whole b ≡ shown whole (a ++ b)
+shown_both true a b = refl
+shown_both false a b = refl
 
 shown_nothing : (whole : Bool) → shown whole [] ≡ []
 shown_nothing true = refl
 shown_nothing false = refl
+
+operands_are : (o : Outline) (ns : List ℕ) → after_operands o ns ≡ with_more o (flat_map operand_text ns)
+unfolding after_operands
+operands_are o [] = ap (λ (l : List ℕ). with_text o l) (sym (ap (λ (l : List ℕ). o.text ++ l) (shown_nothing o.whole) ∙ append-nil o.text))
+operands_are o (n ∷ ns) = operands_are (after_operand o n) ns ∙ ap (λ (l : List ℕ). with_text o l) (append_assoc o.text (shown o.whole (operand_text n)) (shown o.whole (flat_map operand_text ns))
+    ∙ ap (λ (l : List ℕ). o.text ++ l) (shown_both o.whole (operand_text n) (flat_map operand_text ns)))
+
+record_spread : (whole : Bool) (t a b c : List ℕ) → ((t ++ shown whole a) ++ shown whole b) ++ shown whole c ≡ t ++ shown whole (a ++ b ++ c)
+record_spread true t a b c = simp append_assoc
+record_spread false t a b c = simp append-nil
+
+line_is : (depth id code : ℕ) (ns : List ℕ) (has_blob : Bool) (size : ℕ) → record_head depth id code ++ flat_map operand_text ns ++ record_end has_blob size ≡ record_line depth id code ns has_blob size
+unfolding record_head record_end record_line
+line_is depth id code ns has_blob size = simp append_assoc
+
+pub record_told : (o : Outline) (id code : ℕ) (ns : List ℕ) (has_blob : Bool) (size : ℕ) → after_close (after_operands (after_head o id code) ns) has_blob size ≡ after_record o id code ns has_blob size
+record_told o id code ns has_blob size =
+    let head = after_head o id code in
+    let n = length o.unclosed in
+    ap (λ (x : Outline). after_close x has_blob size) (operands_are head ns) ∙ ap (λ (l : List ℕ). with_text head l) (record_spread o.whole o.text (record_head n id code) (flat_map operand_text ns) (record_end has_blob size)
+    ∙ ap (λ (l : List ℕ). o.text ++ shown o.whole l) (line_is n id code ns has_blob size))
+
+-- where no entry is told, an operand adds nothing
+pub operands_untold : (o : Outline) (ns : List ℕ) → o.whole ≡ false → after_operands o ns ≡ o
+operands_untold o ns untold = operands_are o ns ∙ ap (λ (l : List ℕ). with_text o l) (rw untold (append-nil o.text))
+
+-- trees
 
 abbrev over : Outline → Tree → Outline
 over o tree = record { whole = o.whole; unclosed = o.unclosed; tally = tally (here o.unclosed) tree o.tally; text = o.text ++ shown o.whole (lines (length o.unclosed) tree) }

@@ -2,4 +2,5 @@ pub mod Dumped
 pub mod Fault
 pub mod Outline
 pub mod Tally
+pub mod Telling
 pub mod Text

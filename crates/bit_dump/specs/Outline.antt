@@ -1,14 +1,12 @@
 -- Says how the code reads: what is told so far of a stream, and what one more piece of it adds.
-use Rattle.std.specs.Prelude.{ℕ, ◌+◌, ◌-◌, Bool, List, [], ◌∷◌, ◌++◌, length, take, Option, Some, if◌then◌else◌, slice_get, slice_index_or}
+use Rattle.std.specs.Prelude.{ℕ, ◌-◌, Bool, List, [], ◌∷◌, ◌++◌, codes, length, take, Option, Some, if◌then◌else◌, slice_get, slice_index_or}
+use Rattle.std.specs.Fmt.{decimal}
 use Rattle.bit_stream.specs.declared.abbreviation.AbbrevOp.{AbbrevOp}
-use Rattle.bit_stream.specs.declared.entry.Entry.{Entry}
-use Rattle.bit_stream.specs.declared.entry.Entry.TheVariants.{Block, EndBlock, Record, End}
 use Rattle.bit_stream.specs.Abbreviation.{ops_of}
-use Rattle.bit_stream.specs.Reader.{Reader}
 use Rattle.bit_tree.specs.Pieces.{Piece, begun, ended, defines, holds}
 use Rattle.bit_dump.specs.declared.counts.Kind.TheVariants.{Blocks, Records, Abbreviations}
 use Rattle.bit_dump.specs.Tally.{Tally, no_tally, counted}
-use Rattle.bit_dump.specs.Text.{block_line, end_line, definition_line, record_line, summary}
+use Rattle.bit_dump.specs.Text.{indent, operand_text, blob_text, block_line, end_line, definition_line, record_line, summary}
 
 -- whether each entry is told; the ids of the open blocks, the outermost first; the counts; and the text that is not written
 pub record Outline : Type 0 where
@@ -67,22 +65,42 @@ after o ended = after_end o
 after o (defines id t) = after_definition o id (ops_of t)
 after o (holds id code operands has_blob blob) = after_record o id code operands has_blob (length blob)
 
--- some definitions, the first for this abbreviation id
-unfoldable pub after_definitions : Outline → ℕ → List (List AbbrevOp) → Outline
-after_definitions o id [] = o
-after_definitions o id (ops ∷ more) = after_definitions (after_definition o id ops) (id + 1) more
-
 -- some pieces
 unfoldable pub told : Outline → List Piece → Outline
 told o [] = o
 told o (p ∷ ps) = told (after o p) ps
 
--- an entry that a reader gave, by what the reader tells of it
-abbrev pub after_entry : Outline → Entry → Reader → Outline
-after_entry o (Block id) r = after_block o id r.told.width r.told.words
-after_entry o EndBlock r = after_end o
-after_entry o (Record code) r = after_record o r.told.abbreviation code r.operands r.told.has_blob (length r.blob)
-after_entry o End r = o
+-- a record up to its operands, and behind them
+unfoldable pub record_head : (depth id code : ℕ) → List ℕ
+record_head depth id code = indent depth ++ codes "record " ++ decimal code ++ codes " by " ++ decimal id ++ codes ":"
+
+unfoldable pub record_end : Bool → ℕ → List ℕ
+record_end has_blob size = blob_text has_blob size ++ codes "\n"
+
+-- more text
+abbrev pub with_more : Outline → List ℕ → Outline
+with_more o more = record { whole = o.whole; unclosed = o.unclosed; tally = o.tally; text = o.text ++ shown o.whole more }
+
+-- a record begins
+abbrev pub after_head : Outline → (id code : ℕ) → Outline
+after_head o id code = record {
+  whole = o.whole;
+  unclosed = o.unclosed;
+  tally = counted Records o.tally (here o.unclosed);
+  text = o.text ++ shown o.whole (record_head (length o.unclosed) id code);
+}
+
+-- one more operand, and some
+abbrev pub after_operand : Outline → ℕ → Outline
+after_operand o operand = with_more o (operand_text operand)
+
+unfoldable pub after_operands : Outline → List ℕ → Outline
+after_operands o [] = o
+after_operands o (n ∷ ns) = after_operands (after_operand o n) ns
+
+-- a record ends
+abbrev pub after_close : Outline → Bool → ℕ → Outline
+after_close o has_blob size = with_more o (record_end has_blob size)
 
 -- the text is written
 abbrev pub emptied : Outline → Outline
@@ -91,3 +109,7 @@ emptied o = record { whole = o.whole; unclosed = o.unclosed; tally = o.tally; te
 -- the summary is told
 abbrev pub summed : Outline → Outline
 summed o = record { whole = o.whole; unclosed = o.unclosed; tally = o.tally; text = o.text ++ summary o.tally }
+
+-- with a text in front
+abbrev pub front : List ℕ → Outline → Outline
+front w o = record { whole = o.whole; unclosed = o.unclosed; tally = o.tally; text = w ++ o.text }

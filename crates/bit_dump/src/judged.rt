@@ -6,13 +6,14 @@ ghost use Rattle.bit_dump.specs.Outline.{summed};
 
 use crate::DumpFault;
 use crate::outline::Outline;
-use bit_stream::BitReader;
-use bit_tree::{is_end, judge};
+use crate::pieces::tell;
+use bit_walk::{Walker, judge};
 use ir_base::Sink;
 use std::alloc::Global;
 
 /// Writes the text of a stream's tree: with `whole` its entries and definitions, and always how many blocks, records and
-/// definitions each block id has. Nothing is written before the whole stream was judged.
+/// definitions each block id has. Nothing is written before the whole stream was judged. Neither pass holds a list of
+/// operands or of definitions.
 pub fn dump<S: Sink>(
     alloc: Global,
     bytes: &[u8],
@@ -39,17 +40,13 @@ fn tell_judged<S: Sink>(
     ensures told { Dumped bytes.now whole (S.taken sink.old) (S.taken sink.new) result }
     ensures counted { Counted (S.faults sink.old) (S.faults sink.new) result }
 {
-    let mut reader = BitReader::new(alloc, bytes)?;
+    let mut walker = Walker::new(alloc, bytes);
     let mut outline = Outline::new(alloc, whole);
     'telling: loop {
-        let first = reader.next_abbreviation();
-        let entry = reader.next_entry()?;
-        outline.tell(first, &reader, entry)?;
-        if is_end(entry) {
-            return finish(&mut outline, sink);
-        }
-        if outline.is_full() {
-            outline.flush(sink)?;
+        let next = walker.next()?;
+        match next {
+            Some(event) => tell(alloc, event, &mut walker, &mut outline, sink)?,
+            None => return finish(&mut outline, sink),
         }
     }
 }

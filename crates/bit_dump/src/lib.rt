@@ -1,6 +1,6 @@
 //! Telling a stream of the bitcode container: its blocks, definitions and records as text, and how many there are.
 //!
-//! It stands on `bit_tree` and gives no meaning to a record. Its promise: what is written is the text of the stream's
+//! It stands on `bit_walk` and gives no meaning to a record. Its promise: what is written is the text of the stream's
 //! tree, or nothing where a field of the stream is refused, or a front of that text where a write fails or memory runs
 //! out. Definitions: `specs/Text` and `specs/Tally`.
 #![tactic(auto)]
@@ -9,6 +9,7 @@ mod counts;
 mod fault;
 mod judged;
 mod outline;
+mod pieces;
 mod text;
 
 pub use fault::DumpFault;

@@ -1,13 +1,14 @@
-//! What is told so far of a stream, and what its next entry adds.
-ghost use Rattle.std.specs.Prelude.{◌≡◌, ◌<◌, ◌^◌, ◌++◌, [], OnOk, OnErr, string_bytes};
+//! What is told so far of a stream, and what one more piece of it adds.
+ghost use Rattle.std.specs.Prelude.{◌≡◌, ◌++◌, [], OnOk, OnErr, string_bytes};
 ghost use Rattle.ir_base.specs.Outside.{Added, Wrote, Rose};
-ghost use Rattle.bit_dump.specs.Tally.{no_tally};
-ghost use Rattle.bit_dump.specs.Text.{summary};
-ghost use Rattle.bit_dump.specs.Outline.{nothing_told, after_block, after_end, after_definition, after_record, after_definitions, after_entry, emptied, summed, here};
+ghost use Rattle.bit_dump.specs.Outline.{nothing_told, after_block, after_end, after_definition, after_head, after_operand, after_close, emptied, summed, here};
 
 use crate::counts::{Kind, Tally};
-use crate::text::{Spelled, put_block, put_definition, put_end, put_record};
-use bit_stream::{Abbreviation, AbbreviationList, BitReader, Entry};
+use crate::text::{
+    put_block, put_definition, put_end, put_operand, put_record_end, put_record_head,
+};
+use bit_stream::Abbreviation;
+use bit_walk::{BlockHead, RecordHead};
 use ir_base::{Failed, Sink, write_all};
 use std::alloc::{AllocError, Global};
 use std::marker::Model;
@@ -44,26 +45,11 @@ impl Outline {
         }
     }
 
-    /// An entry that the reader gave, behind the definitions in front of it, the first of which is for this id.
-    pub fn tell(&mut self, first: u64, reader: &BitReader, entry: Entry) -> Result<(), AllocError>
-        requires { first < 2 ^ 34 }
-        ensures { OnOk result (self.new ≡ after_entry (after_definitions self.old first reader.now.definitions) entry reader.now) }
+    /// Whether each entry is told.
+    pub fn is_whole(&self) -> bool
+        ensures { result ≡ self.now.whole }
     {
-        self.define_all(first, reader.definitions().as_slice())?;
-        match entry {
-            Entry::Block(id) => self.begin(id, reader.entry_width(), reader.entry_words()),
-            Entry::EndBlock => self.end(),
-            Entry::Record(code) => {
-                let spelled = Spelled {
-                    id: reader.entry_abbreviation(),
-                    code,
-                    has_blob: reader.has_blob(),
-                    size: reader.blob().len(),
-                };
-                self.record(spelled, reader.operands())
-            }
-            Entry::End => Ok(()),
-        }
+        self.whole
     }
 
     /// The summary, behind all entries.
@@ -92,19 +78,25 @@ impl Outline {
     }
 
     /// A block begins.
-    fn begin(&mut self, id: u32, width: u32, words: u32) -> Result<(), AllocError>
-        ensures { OnOk result (self.new ≡ after_block self.old id width words) }
+    pub fn begin(&mut self, head: BlockHead) -> Result<(), AllocError>
+        ensures { OnOk result (self.new ≡ after_block self.old head.id head.width head.words) }
     {
         if self.whole {
-            put_block(&mut self.text, self.unclosed.len(), id, width, words)?;
+            put_block(
+                &mut self.text,
+                self.unclosed.len(),
+                head.id,
+                head.width,
+                head.words,
+            )?;
         }
-        self.tally.add(Kind::Blocks, Some(id))?;
-        self.unclosed.push(id)?;
+        self.tally.add(Kind::Blocks, Some(head.id))?;
+        self.unclosed.push(head.id)?;
         Ok(())
     }
 
     /// The innermost open block ends.
-    fn end(&mut self) -> Result<(), AllocError>
+    pub fn end(&mut self) -> Result<(), AllocError>
         ensures { OnOk result (self.new ≡ after_end self.old) }
     {
         let id = self.unclosed.pop().unwrap_or(0);
@@ -115,7 +107,7 @@ impl Outline {
     }
 
     /// An abbreviation is defined for this id.
-    fn define(&mut self, id: u64, operands: &Abbreviation) -> Result<(), AllocError>
+    pub fn define(&mut self, id: u64, operands: &Abbreviation) -> Result<(), AllocError>
         ensures { OnOk result (self.new ≡ after_definition self.old id operands.now) }
     {
         if self.whole {
@@ -125,26 +117,35 @@ impl Outline {
         self.tally.add(Kind::Abbreviations, here)
     }
 
-    /// Abbreviations are defined, the first for this id.
-    fn define_all(&mut self, first: u64, definitions: &[Abbreviation]) -> Result<(), AllocError>
-        requires { first < 2 ^ 34 }
-        ensures { OnOk result (self.new ≡ after_definitions self.old first definitions.now) }
+    /// A record begins.
+    pub fn head(&mut self, head: RecordHead) -> Result<(), AllocError>
+        ensures { OnOk result (self.new ≡ after_head self.old head.id head.code) }
     {
-        for (index, operands) in definitions.iter().enumerate() {
-            self.define(first + index as u64, operands)?;
+        if self.whole {
+            put_record_head(&mut self.text, self.unclosed.len(), head.id, head.code)?;
+        }
+        let here = self.here();
+        self.tally.add(Kind::Records, here)
+    }
+
+    /// One more operand of a record.
+    pub fn operand(&mut self, operand: u64) -> Result<(), AllocError>
+        ensures { OnOk result (self.new ≡ after_operand self.old operand) }
+    {
+        if self.whole {
+            put_operand(&mut self.text, operand)?;
         }
         Ok(())
     }
 
-    /// A record stands there.
-    fn record(&mut self, spelled: Spelled, operands: &[u64]) -> Result<(), AllocError>
-        ensures { OnOk result (self.new ≡ after_record self.old spelled.id spelled.code operands.now spelled.has_blob spelled.size) }
+    /// A record ends, in a blob of so many bytes or in none.
+    pub fn close(&mut self, has_blob: bool, size: usize) -> Result<(), AllocError>
+        ensures { OnOk result (self.new ≡ after_close self.old has_blob size) }
     {
         if self.whole {
-            put_record(&mut self.text, self.unclosed.len(), spelled, operands)?;
+            put_record_end(&mut self.text, has_blob, size)?;
         }
-        let here = self.here();
-        self.tally.add(Kind::Records, here)
+        Ok(())
     }
 
     /// The innermost open block.

@@ -1,7 +1,8 @@
 //! The lines that tell a stream.
 ghost use Rattle.std.specs.Prelude.{◌≡◌, ◌++◌, OnOk, string_bytes, codes};
 ghost use Rattle.std.specs.List.{flat_map};
-ghost use Rattle.bit_dump.specs.Text.{indent, op_text, later_op, ops_text, operand_text, blob_text, block_line, end_line, definition_head, definition_line, record_line, counts_line, row_line};
+ghost use Rattle.bit_dump.specs.Text.{indent, op_text, later_op, ops_text, operand_text, block_line, end_line, definition_head, definition_line, counts_line, row_line};
+ghost use Rattle.bit_dump.specs.Outline.{record_head, record_end};
 
 use crate::counts::Counts;
 use bit_stream::AbbrevOp;
@@ -106,51 +107,31 @@ pub fn put_definition(
     out.push_str("\n")
 }
 
-/// The operands of a record.
-fn put_operands(out: &mut String, operands: &[u64]) -> Result<(), AllocError>
-    ensures { OnOk result (string_bytes out.new ≡ string_bytes out.old ++ flat_map operand_text operands.now) }
-{
-    for operand in operands {
-        write!(out, " {operand}")?;
-    }
-    Ok(())
-}
-
-/// A record, but for its operands.
-#[derive(Clone, Copy)]
-pub struct Spelled {
-    pub id: u32,
-    pub code: u32,
-    pub has_blob: bool,
-    pub size: usize,
-}
-
-/// `record CODE by ID:`, the operands and the blob, behind the indentation.
-#[tactic(auto, unfolding(crate::specs::Text::record_line))]
-pub fn put_record(
-    out: &mut String,
-    depth: usize,
-    spelled: Spelled,
-    operands: &[u64],
-) -> Result<(), AllocError>
-    ensures { OnOk result (string_bytes out.new ≡ string_bytes out.old ++ record_line depth spelled.id spelled.code operands.now spelled.has_blob spelled.size) }
+/// `record CODE by ID:`, behind the indentation.
+#[tactic(auto, unfolding(crate::specs::Outline::record_head))]
+pub fn put_record_head(out: &mut String, depth: usize, id: u32, code: u32) -> Result<(), AllocError>
+    ensures { OnOk result (string_bytes out.new ≡ string_bytes out.old ++ record_head depth id code) }
 {
     put_indent(out, depth)?;
-    write!(out, "record {} by {}:", spelled.code, spelled.id)?;
-    put_operands(out, operands)?;
-    put_blob(out, spelled.has_blob, spelled.size)?;
-    out.push_str("\n")
+    write!(out, "record {code} by {id}:")
 }
 
-/// The count of a blob's bytes, where there is one.
-fn put_blob(out: &mut String, has_blob: bool, size: usize) -> Result<(), AllocError>
-    ensures { OnOk result (string_bytes out.new ≡ string_bytes out.old ++ blob_text has_blob size) }
+/// An operand of a record.
+pub fn put_operand(out: &mut String, operand: u64) -> Result<(), AllocError>
+    ensures { OnOk result (string_bytes out.new ≡ string_bytes out.old ++ operand_text operand) }
+{
+    write!(out, " {operand}")
+}
+
+/// The end of a record: the count of the blob's bytes, where there is one.
+#[tactic(auto, unfolding(crate::specs::Outline::record_end))]
+pub fn put_record_end(out: &mut String, has_blob: bool, size: usize) -> Result<(), AllocError>
+    ensures { OnOk result (string_bytes out.new ≡ string_bytes out.old ++ record_end has_blob size) }
 {
     if has_blob {
-        write!(out, " blob {size}")
-    } else {
-        Ok(())
+        write!(out, " blob {size}")?;
     }
+    out.push_str("\n")
 }
 
 /// `B blocks, R records, A abbreviations`.

@@ -19,10 +19,14 @@ mod templates;
 mod told;
 mod writer;
 
-pub use abbreviation::{AbbrevOp, Abbreviation, AbbreviationList};
+pub use abbreviation::{
+    AbbrevOp, Abbreviation, AbbreviationList, NarrowWidth, Scalar, Tail, Template,
+};
 pub use bits::{BitFault, BitFaultKind};
+pub use definition::template;
 pub use entry::Entry;
-pub use fault::StreamFault;
+pub use fault::{StreamFault, bad_abbreviation, bad_block_length, nested_too_deep};
 pub use law::{abbreviated_is_read_back, record_is_read_back};
 pub use reader::BitReader;
+pub use record::{code_by, value_by};
 pub use writer::BitWriter;

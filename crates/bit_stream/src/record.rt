@@ -33,7 +33,7 @@ fn letter(number: u64) -> u64
 
 /// One value.
 #[tactic(auto, unfolding(crate::specs::Record::value_by))]
-fn value_by(cursor: &mut BitCursor, scalar: Scalar) -> Result<u64, BitFault>
+pub fn value_by(cursor: &mut BitCursor, scalar: Scalar) -> Result<u64, BitFault>
     ensures { found (λ number. number) result cursor.new ≡ value_by scalar cursor.old }
 {
     match scalar {
@@ -46,7 +46,7 @@ fn value_by(cursor: &mut BitCursor, scalar: Scalar) -> Result<u64, BitFault>
 
 /// The code of a record.
 #[tactic(auto, unfolding(crate::specs::Record::code_by))]
-fn code_by(cursor: &mut BitCursor, scalar: Scalar) -> Result<u32, BitFault>
+pub fn code_by(cursor: &mut BitCursor, scalar: Scalar) -> Result<u32, BitFault>
     ensures { found (λ code. code) result cursor.new ≡ code_by scalar cursor.old }
 {
     let bit = cursor.at();

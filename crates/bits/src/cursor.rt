@@ -36,6 +36,25 @@ impl<'b> BitCursor<'b> {
         BitCursor { bytes, at: 0 }
     }
 
+    /// A bit of some bytes, counted from 0; their end is one, too.
+    pub fn at_bit(bytes: &'b [u8], bit: u64) -> Self
+        requires small { length bytes.now < 2 ^ 60 }
+        requires within { bit ≤ 8 * length bytes.now }
+        ensures { result ≡ record { at = bit; rest = drop bit (stream_bits bytes.now) } }
+    {
+        BitCursor { bytes, at: bit }
+    }
+
+    /// The same place once more.
+    pub fn copy(&self) -> Self
+        ensures { result ≡ self.now }
+    {
+        BitCursor {
+            bytes: self.bytes,
+            at: self.at,
+        }
+    }
+
     /// The number of the first bit that is left, counted from 0.
     pub fn at(&self) -> u64
         ensures value { result ≡ self.now.at }

@@ -1,67 +1,56 @@
-use Rattle.std.proofs.Common.{ℕ, inr, refl, subst, ◌∙◌}
+use Rattle.std.proofs.Common.{◌≡◌, ℕ, suc, length, inr, refl, ap, subst, ◌∙◌, arith}
+use Rattle.bit_walk.specs.Walker.{piece_of}
 use Rattle.std.proofs.lemmas.Result.{err_from_is_err_and}
-use Rattle.ir_base.specs.Outside.{Rose}
-use Rattle.bit_tree.proofs.Walking.{comes_nearer}
 use Rattle.bit_dump.specs.Dumped.{Counted}
-use Rattle.bit_dump.specs.Outline.{summed}
-use Rattle.bit_dump.proofs.Telling.{begins, tells, flushes, fails, wants, ends, closes, halts, halts_counted}
+use Rattle.bit_dump.proofs.Telling.{begins, goes_on, wants_more, halts, closes}
 use Rattle.bit_dump.proofs.judged.tell_judged.Goals as goal
 
 pub telling-init : goal.telling-init
-telling-init g c = record {
-  telling = rw c.new-outline.ensures (begins c.args.bytes.now c.args.whole (g.S.Sink.taken c.args.sink.now) c.in_ok-reader.reader c.in_ok-reader.ensures);
-  faults = refl;
-}
-
-pub returns-in_err-entry : goal.returns-in_err-entry
-returns-in_err-entry g c =
-    let p = err_from_is_err_and c.from_residual-in_err-entry.result c.from_residual-in_err-entry.ensures.1 in
+telling-init g c =
+    let tree = c.requires.judged.tree in
+    let stream = c.requires.judged.stream in
     record {
-      told = rw (p.1, p.2) (halts c.args.bytes.now c.args.whole (g.S.Sink.taken c.args.sink.now) (g.S.Sink.taken c.telling.sink) c.telling.reader c.next_entry.new.self c.telling.outline c.in_err-entry.field-0.0 c.requires.judged c.telling.invariant.telling c.in_err-entry.ensures);
-      counted = rw (p.1, p.2) (halts_counted (g.S.Sink.faults c.args.sink.now) (g.S.Sink.faults c.telling.sink) c.in_err-entry.field-0.0 c.telling.invariant.faults);
+      told = begins c.args.bytes.now c.args.whole (g.S.Sink.taken c.args.sink.now) c.new-walker.result.left c.new-outline.result tree stream (c.new-walker.ensures.whole tree stream) c.new-outline.ensures;
+      faults = refl;
+      unspent = c.new-walker.ensures.unspent;
     }
 
-pub returns-in_err-tell : goal.returns-in_err-tell
-returns-in_err-tell g c =
-    let p = err_from_is_err_and c.from_residual-in_err-tell.result c.from_residual-in_err-tell.ensures.1 in
+pub returns-in_err-next : goal.returns-in_err-next
+returns-in_err-next g c =
+    let p = err_from_is_err_and c.from_residual.result c.from_residual.ensures.1 in
     record {
-      told = rw (p.1, p.2) (inr (wants c.args.bytes.now c.args.whole (g.S.Sink.taken c.args.sink.now) (g.S.Sink.taken c.telling.sink) c.telling.reader c.telling.outline c.requires.judged c.telling.invariant.telling));
+      told = rw (p.1, p.2) (inr (wants_more c.args.bytes.now c.args.whole (g.S.Sink.taken c.args.sink.now) (g.S.Sink.taken c.telling.sink) c.telling.walker.left c.telling.outline c.telling.invariant.told));
       counted = rw (p.1, p.2) c.telling.invariant.faults;
     }
 
-pub returns-in_err-flush : goal.returns-in_err-flush
-returns-in_err-flush g c =
-    let p = err_from_is_err_and c.from_residual-in_err-flush.result c.from_residual-in_err-flush.ensures.1 in
-    let later = tells c.args.bytes.now c.args.whole (g.S.Sink.taken c.args.sink.now) (g.S.Sink.taken c.telling.sink) c.telling.reader c.next_entry.new.self c.telling.outline c.tell.new.self c.in_ok-entry.entry c.next_abbreviation-first.result c.telling.invariant.telling c.in_ok-entry.ensures (rw c.is_end.ensures at c.if-is_end.false) c.next_abbreviation-first.ensures.value c.in_ok-tell.ensures in
+pub returns-in-None : goal.returns-in-None
+returns-in-None g c =
+    let gave = rw (c.telling.invariant.unspent, c.in-None.is) at c.in_ok-next.ensures in
     record {
-      told = rw (p.1, p.2) (fails c.args.bytes.now c.args.whole (g.S.Sink.taken c.args.sink.now) (g.S.Sink.taken c.telling.sink) (g.S.Sink.taken c.flush.new.sink) c.next_entry.new.self c.tell.new.self (g.S.Sink.faults c.telling.sink) (g.S.Sink.faults c.flush.new.sink) c.requires.judged later c.in_err-flush.ensures.wrote);
-      counted = rw (p.1, p.2) (subst (λ (n : ℕ). Rose n (g.S.Sink.faults c.flush.new.sink)) c.telling.invariant.faults c.in_err-flush.ensures.rose);
-    }
-
-pub returns-then-is_end : goal.returns-then-is_end
-returns-then-is_end g c =
-    let last = ends c.args.bytes.now c.args.whole (g.S.Sink.taken c.args.sink.now) (g.S.Sink.taken c.telling.sink) c.telling.reader c.next_entry.new.self c.telling.outline c.tell.new.self c.in_ok-entry.entry c.next_abbreviation-first.result c.telling.invariant.telling c.in_ok-entry.ensures (rw c.is_end.ensures at c.if-is_end.true) c.next_abbreviation-first.ensures.value c.in_ok-tell.ensures in
-    record {
-      told = closes c.args.bytes.now c.args.whole (g.S.Sink.taken c.args.sink.now) (g.S.Sink.taken c.telling.sink) (g.S.Sink.taken c.finish.new.sink) (g.S.Sink.faults c.telling.sink) (g.S.Sink.faults c.finish.new.sink) (summed c.tell.new.self).text c.finish.result last c.finish.ensures.told;
+      told = closes c.args.bytes.now c.args.whole (g.S.Sink.taken c.args.sink.now) (g.S.Sink.taken c.telling.sink) (g.S.Sink.taken c.finish.new.sink) (g.S.Sink.faults c.telling.sink) (g.S.Sink.faults c.finish.new.sink) c.telling.outline c.telling.walker.left c.finish.result c.telling.invariant.told gave.1 c.finish.ensures.told;
       counted = subst (λ (n : ℕ). Counted n (g.S.Sink.faults c.finish.new.sink) c.finish.result) c.telling.invariant.faults c.finish.ensures.counted;
     }
 
-pub telling-smaller : goal.telling-smaller
-telling-smaller g c = comes_nearer c.args.bytes.now c.telling.reader c.next_entry.new.self c.in_ok-entry.entry c.telling.invariant.telling.pieces c.telling.invariant.telling.came c.in_ok-entry.ensures (rw c.is_end.ensures at c.if-is_end.false)
+pub returns-in_err-tell-in-Some-clause-told : goal.returns-in_err-tell-in-Some-clause-told
+returns-in_err-tell-in-Some-clause-told g c =
+    let p = err_from_is_err_and c.from_residual-in_err-tell-in-Some.result c.from_residual-in_err-tell-in-Some.ensures.1 in
+    let gave = rw (c.telling.invariant.unspent, c.in-Some.is) at c.in_ok-next.ensures in
+    let so_far = c.telling.invariant.told in
+    rw (p.1, p.2) (halts c.args.bytes.now c.args.whole (g.S.Sink.taken c.args.sink.now) (g.S.Sink.taken c.telling.sink) (g.S.Sink.taken c.tell.new.sink) c.telling.walker.left c.next.new.self.left (piece_of c.in-Some.event c.next.new.self) c.telling.outline c.tell.new.outline c.in_err-tell-in-Some.field-0.0 so_far gave.1 (c.in_err-tell-in-Some.ensures.told (g.S.Sink.taken c.args.sink.now) so_far.all so_far.tells))
 
 pub telling-preserved : goal.telling-preserved
-telling-preserved g c = record {
-  telling = tells c.args.bytes.now c.args.whole (g.S.Sink.taken c.args.sink.now) (g.S.Sink.taken c.telling.sink) c.telling.reader c.next_entry.new.self c.telling.outline c.tell.new.self c.in_ok-entry.entry c.next_abbreviation-first.result c.telling.invariant.telling c.in_ok-entry.ensures (rw c.is_end.ensures at c.if-is_end.false) c.next_abbreviation-first.ensures.value c.in_ok-tell.ensures;
-  faults = c.telling.invariant.faults;
-}
-
-pub telling-smaller-in-Continue-branch-4 : goal.telling-smaller-in-Continue-branch-4
-telling-smaller-in-Continue-branch-4 g c = comes_nearer c.args.bytes.now c.telling.reader c.next_entry.new.self c.in_ok-entry.entry c.telling.invariant.telling.pieces c.telling.invariant.telling.came c.in_ok-entry.ensures (rw c.is_end.ensures at c.if-is_end.false)
-
-pub telling-preserved-in-Continue-branch-4 : goal.telling-preserved-in-Continue-branch-4
-telling-preserved-in-Continue-branch-4 g c =
-    let later = tells c.args.bytes.now c.args.whole (g.S.Sink.taken c.args.sink.now) (g.S.Sink.taken c.telling.sink) c.telling.reader c.next_entry.new.self c.telling.outline c.tell.new.self c.in_ok-entry.entry c.next_abbreviation-first.result c.telling.invariant.telling c.in_ok-entry.ensures (rw c.is_end.ensures at c.if-is_end.false) c.next_abbreviation-first.ensures.value c.in_ok-tell.ensures in
+telling-preserved g c =
+    let gave = rw (c.telling.invariant.unspent, c.in-Some.is) at c.in_ok-next.ensures in
+    let so_far = c.telling.invariant.told in
     record {
-      telling = rw c.in_ok-flush.ensures.none (flushes c.args.bytes.now c.args.whole (g.S.Sink.taken c.args.sink.now) (g.S.Sink.taken c.telling.sink) (g.S.Sink.taken c.flush.new.sink) c.next_entry.new.self c.tell.new.self later c.in_ok-flush.ensures.ok);
-      faults = c.in_ok-flush.ensures.fine ∙ c.telling.invariant.faults;
+      told = rw c.in_ok-tell-in-Some.ensures.left (goes_on c.args.bytes.now c.args.whole (g.S.Sink.taken c.args.sink.now) (g.S.Sink.taken c.telling.sink) (g.S.Sink.taken c.tell.new.sink) c.telling.walker.left c.next.new.self.left (piece_of c.in-Some.event c.next.new.self) c.telling.outline c.tell.new.outline so_far gave.1 (c.in_ok-tell-in-Some.ensures.told (g.S.Sink.taken c.args.sink.now) so_far.all so_far.tells));
+      faults = c.in_ok-tell-in-Some.ensures.counted ∙ c.telling.invariant.faults;
+      unspent = c.in_ok-tell-in-Some.ensures.spent ∙ gave.0;
     }
+
+pub telling-smaller : goal.telling-smaller
+telling-smaller g c =
+    let gave = rw (c.telling.invariant.unspent, c.in-Some.is) at c.in_ok-next.ensures in
+    let before : length c.telling.walker.left ≡ suc (length c.next.new.self.left) = ap length gave.1 in
+    let now : length c.tell.new.walker.left ≡ length c.next.new.self.left = ap length c.in_ok-tell-in-Some.ensures.left in
+    omega arith

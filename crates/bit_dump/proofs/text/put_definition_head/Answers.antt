@@ -1,4 +1,4 @@
-use Rattle.std.proofs.Common.{◌∙◌, append_assoc, refl}
+use Rattle.std.proofs.Common.{◌∙◌, append_assoc}
 use Rattle.bit_dump.specs.Text.{definition_head}
 use Rattle.bit_dump.proofs.text.put_definition_head.Goals as goal
 

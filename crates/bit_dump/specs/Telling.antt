@@ -1,0 +1,29 @@
+-- Says how the code reads: how far a text is told, of which a front was written.
+use Rattle.std.specs.Prelude.{◌≡◌, ℕ, ◌≤◌, List, length, take, Option, Result, Ok, Err}
+use Rattle.ir_base.specs.Outside.{Added}
+use Rattle.bit_dump.specs.declared.fault.DumpFault.{DumpFault}
+use Rattle.bit_dump.specs.declared.fault.DumpFault.TheVariants.{Bit, WriteFault, Memory}
+use Rattle.bit_dump.specs.Outline.{Outline, front}
+
+-- so much is told: a front of its text was added, and the rest is gathered
+pub record Tells (before now : Option (List ℕ)) (all o : Outline) : Type 0 where
+  pub written : List ℕ
+  pub added : Added before now written
+  pub is : front written o ≡ all
+
+-- a front of a text was added
+pub record TookFront (before now : Option (List ℕ)) (text : List ℕ) : Type 0 where
+  pub count : ℕ
+  pub within : count ≤ length text
+  pub added : Added before now (take count text)
+
+-- so much is told, or a write failed or memory ran out behind a front of it
+abbrev pub Tried : Option (List ℕ) → Option (List ℕ) → Outline → Outline → Result (Unit {0}) DumpFault → Type 0
+Tried before now all o (Ok done) = Tells before now all o
+Tried before now all o (Err (Bit fault)) = ⊥
+Tried before now all o (Err WriteFault) = TookFront before now all.text
+Tried before now all o (Err Memory) = TookFront before now all.text
+
+-- a call tells this step more, whatever was told before it
+abbrev pub Adds : (Outline → Outline) → Option (List ℕ) → Outline → Option (List ℕ) → Outline → Result (Unit {0}) DumpFault → Type 0
+Adds more taken old later new result = (before : Option (List ℕ)) (all : Outline) → Tells before taken all old → Tried before later (more all) new result

@@ -1,0 +1,11 @@
+mod Advancing
+mod Definitions
+mod Judging
+mod On
+mod Operands
+mod PassedOver
+mod PassingLoops
+mod Records
+mod Scopes
+mod Walked
+mod Ways

@@ -1,0 +1,5 @@
+pub mod Left
+pub mod Passing
+pub mod Starts
+pub mod Values
+pub mod Walker

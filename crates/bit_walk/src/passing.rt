@@ -1,0 +1,169 @@
+//! The values of a record, passed over: of its operands the first alone is kept.
+ghost use Rattle.std.specs.Prelude.{◌≡◌, ℕ, ◌-◌, ◌^◌, ◌&&◌, ◌==◌, None};
+ghost use Rattle.bits.specs.Cursor.{found};
+ghost use Rattle.bit_stream.specs.Record.{value_by, code_by, names_block};
+ghost use Rattle.bit_walk.specs.Passing.{with_first, is_none, pass_operand, pass_elements, pass_each, pass_counted, pass_tail, pass_unabbreviated, pass_abbreviated};
+ghost use Rattle.bit_stream.specs.declared.abbreviation.Scalar.TheVariants.{Chunks};
+
+use bit_stream::{NarrowWidth, Scalar, Tail, Template, bad_abbreviation, code_by, value_by};
+use bits::{BitCursor, BitFault};
+
+/// A record, but for its operands behind the first.
+#[derive(Drop)]
+pub struct Passed<'b> {
+    pub code: u32,
+    pub first: Option<u64>,
+    pub blob: &'b [u8],
+}
+
+/// Behind the values that an abbreviation spells one by one.
+#[derive(Drop)]
+struct Rest<'b> {
+    first: Option<u64>,
+    blob: &'b [u8],
+}
+
+/// The first operand, behind one more.
+fn with_first(first: Option<u64>, number: u64) -> Option<u64>
+    ensures { result ≡ with_first first number }
+{
+    match first {
+        Some(first) => Some(first),
+        None => Some(number),
+    }
+}
+
+/// Whether no operand was passed.
+fn is_none(first: Option<u64>) -> bool
+    ensures { result ≡ is_none first }
+{
+    match first {
+        Some(_) => false,
+        None => true,
+    }
+}
+
+/// One more operand. Where the record names a block, the first operand is its id.
+#[tactic(auto, unfolding(crate::specs::Passing::pass_operand))]
+fn pass_operand(
+    cursor: &mut BitCursor,
+    scalar: Scalar,
+    names_block: bool,
+    first: Option<u64>,
+) -> Result<Option<u64>, BitFault>
+    ensures { found (λ first. first) result cursor.new ≡ pass_operand names_block first scalar cursor.old }
+{
+    let bit = cursor.at();
+    let number = value_by(cursor, scalar)?;
+    if names_block && is_none(first) && number >= 1 << 32 {
+        return Err(bad_abbreviation(bit));
+    }
+    Ok(with_first(first, number))
+}
+
+/// So many operands of one spelling.
+fn pass_elements(
+    cursor: &mut BitCursor,
+    scalar: &Scalar,
+    count: u64,
+    names_block: bool,
+    before: Option<u64>,
+) -> Result<Option<u64>, BitFault>
+    ensures { found (λ first. first) result cursor.new ≡ pass_elements names_block scalar.now count before cursor.old }
+{
+    let mut first = before;
+    for _ in 0..count {
+        first = pass_operand(cursor, *scalar, names_block, first)?;
+    }
+    Ok(first)
+}
+
+/// Operands of these spellings.
+fn pass_each(
+    cursor: &mut BitCursor,
+    scalars: &[Scalar],
+    names_block: bool,
+) -> Result<Option<u64>, BitFault>
+    ensures { found (λ first. first) result cursor.new ≡ pass_each names_block scalars.now None cursor.old }
+{
+    let mut first = None;
+    for scalar in scalars {
+        first = pass_operand(cursor, *scalar, names_block, first)?;
+    }
+    Ok(first)
+}
+
+/// A count of operands and so many of them.
+#[tactic(auto, unfolding(crate::specs::Passing::pass_counted))]
+fn pass_counted(
+    cursor: &mut BitCursor,
+    scalar: Scalar,
+    names_block: bool,
+    first: Option<u64>,
+) -> Result<Option<u64>, BitFault>
+    ensures { found (λ first. first) result cursor.new ≡ pass_counted names_block scalar first cursor.old }
+{
+    let count = cursor.vbr(6)?;
+    pass_elements(cursor, &scalar, count, names_block, first)
+}
+
+/// The operands that the end of an abbreviation gives, and the blob.
+#[tactic(auto, unfolding(crate::specs::Passing::pass_tail))]
+fn pass_tail<'b>(
+    cursor: &mut BitCursor<'b>,
+    tail: Tail,
+    names_block: bool,
+    first: Option<u64>,
+) -> Result<Rest<'b>, BitFault>
+    ensures { found (λ rest. (rest.first, rest.blob.now)) result cursor.new ≡ pass_tail names_block tail first cursor.old }
+{
+    match tail {
+        Tail::NoTail => Ok(Rest { first, blob: &[] }),
+        Tail::Elements(scalar) => {
+            let first = pass_counted(cursor, scalar, names_block, first)?;
+            Ok(Rest { first, blob: &[] })
+        }
+        Tail::Bytes => {
+            let blob = cursor.blob()?;
+            Ok(Rest { first, blob })
+        }
+    }
+}
+
+/// A record without an abbreviation.
+#[tactic(auto, unfolding(crate::specs::Passing::pass_unabbreviated))]
+pub fn pass_unabbreviated<'b>(
+    cursor: &mut BitCursor<'b>,
+    in_blockinfo: bool,
+) -> Result<Passed<'b>, BitFault>
+    ensures { found (λ passed. record { code = passed.code; first = passed.first; blob = passed.blob.now }) result cursor.new ≡ pass_unabbreviated in_blockinfo cursor.old }
+{
+    let spelling = Scalar::Chunks(NarrowWidth::new(6));
+    let code = code_by(cursor, spelling)?;
+    let first = pass_counted(cursor, spelling, in_blockinfo && code == 1, None)?;
+    Ok(Passed {
+        code,
+        first,
+        blob: &[],
+    })
+}
+
+/// A record by an abbreviation.
+#[tactic(auto, unfolding(crate::specs::Passing::pass_abbreviated))]
+pub fn pass_abbreviated<'b>(
+    cursor: &mut BitCursor<'b>,
+    template: &Template,
+    in_blockinfo: bool,
+) -> Result<Passed<'b>, BitFault>
+    ensures { found (λ passed. record { code = passed.code; first = passed.first; blob = passed.blob.now }) result cursor.new ≡ pass_abbreviated in_blockinfo template.now cursor.old }
+{
+    let code = code_by(cursor, template.code)?;
+    let names_block = in_blockinfo && code == 1;
+    let front = pass_each(cursor, &template.operands, names_block)?;
+    let rest = pass_tail(cursor, template.tail, names_block, front)?;
+    Ok(Passed {
+        code,
+        first: rest.first,
+        blob: rest.blob,
+    })
+}

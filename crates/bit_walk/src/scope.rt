@@ -1,0 +1,271 @@
+//! The blocks that are open, and where the abbreviations that are in force in them are defined.
+ghost use Rattle.std.specs.Prelude.{◌≡◌, ℕ, ◌<◌, ◌≤◌, ◌^◌, [], length, OnOk, option_map, slice_get, unwrap_or};
+ghost use Rattle.std.specs.Ordering.{nat_cmp};
+ghost use Rattle.std.specs.Map.{lookup, remove_entry};
+ghost use Rattle.std.specs.BTreeMap.{is_at};
+ghost use Rattle.bits.specs.Bits.{stream_bits};
+ghost use Rattle.bit_stream.specs.Scope.{top_level, given_to, given_here, template_of};
+ghost use Rattle.bit_stream.specs.Writer.{in_force};
+ghost use Rattle.bit_stream.specs.Entry.{is_blockinfo, entered, left, defined, given_for, targeting};
+ghost use Rattle.bit_walk.specs.Starts.{Opened, with_scope, template_at};
+
+use crate::starts::StartList;
+use bit_stream::NarrowWidth;
+use std::alloc::{AllocError, Global};
+use std::collections::BTreeMap;
+use std::marker::Model;
+use std::mem;
+
+/// An open block, or the top level.
+#[derive(Drop)]
+struct Frame {
+    /// None at the top level.
+    id: Option<u32>,
+    width: NarrowWidth,
+    /// The first bit of the count of words.
+    count_bit: u64,
+    words: u32,
+    /// How many of the abbreviations that were given to its id are in force.
+    given: u32,
+    own: StartList,
+    /// In a BLOCKINFO, the block that definitions are for.
+    target: Option<u64>,
+}
+
+impl Model for Frame {
+    ghost use Rattle.bit_walk.specs.Starts.{StartFrame};
+
+    ghost Value = { StartFrame };
+
+    ghost view = { λ f. record { id = f.id; width = f.width; count_bit = f.count_bit; words = f.words; given = f.given; own = f.own; target = f.target } };
+}
+
+/// The bytes of a stream, the blocks that are open, and the abbreviations that BLOCKINFO gave to each block id.
+#[derive(Drop)]
+pub struct Scope<'b> {
+    bytes: &'b [u8],
+    block: Frame,
+    around: Vec<Frame>,
+    given: BTreeMap<u64, StartList>,
+    alloc: Global,
+}
+
+impl<'b> Model for Scope<'b> {
+    ghost use Rattle.std.specs.Prelude.{◌≤◌, ◌^◌, length};
+    ghost use Rattle.bits.specs.Bits.{stream_bits};
+    ghost use Rattle.bit_walk.specs.Starts.{Opened, opened_at};
+
+    ghost Value = { Opened };
+
+    ghost view = { λ s. opened_at (stream_bits s.bytes.now) s.block s.around.items s.given.entries };
+
+    ghost invariant = { λ s. length s.bytes.now ≤ 2 ^ 24 };
+}
+
+impl<'b> Scope<'b> {
+    /// The top level.
+    pub fn new(alloc: Global, bytes: &'b [u8]) -> Self
+        requires { length bytes.now ≤ 2 ^ 24 }
+        ensures { result ≡ record { bits = stream_bits bytes.now; scope = top_level } }
+    {
+        Scope {
+            bytes,
+            block: Frame {
+                id: None,
+                width: NarrowWidth::new(2),
+                count_bit: 0,
+                words: 0,
+                given: 0,
+                own: StartList::new(alloc),
+                target: None,
+            },
+            around: Vec::new(alloc),
+            given: BTreeMap::new(alloc),
+            alloc,
+        }
+    }
+
+    /// The bytes of the stream.
+    pub fn bytes(&self) -> &'b [u8]
+        ensures bits { stream_bits result.now ≡ self.now.bits }
+        ensures short { length result.now ≤ 2 ^ 24 }
+    {
+        self.bytes
+    }
+
+    /// How many bits an abbreviation id has.
+    pub fn width(&self) -> NarrowWidth
+        ensures { result ≡ self.now.scope.block.width }
+    {
+        let block = &self.block;
+        block.width
+    }
+
+    /// How many blocks are open.
+    pub fn depth(&self) -> usize
+        ensures { result ≡ length self.now.scope.around }
+    {
+        self.around.len()
+    }
+
+    /// Whether the block is BLOCKINFO.
+    pub fn is_blockinfo(&self) -> bool
+        ensures { result ≡ is_blockinfo self.now.scope }
+    {
+        let block = &self.block;
+        match block.id {
+            Some(id) => id == 0,
+            None => false,
+        }
+    }
+
+    /// The block that a BLOCKINFO's definitions are for.
+    pub fn target(&self) -> Option<u64>
+        ensures { result ≡ self.now.scope.block.target }
+    {
+        let block = &self.block;
+        block.target
+    }
+
+    /// The first bit of the block's count of words.
+    pub fn count_bit(&self) -> u64
+        ensures { result ≡ self.now.scope.block.count_bit }
+    {
+        let block = &self.block;
+        block.count_bit
+    }
+
+    /// The block's count of words.
+    pub fn words(&self) -> u32
+        ensures { result ≡ self.now.scope.block.words }
+    {
+        let block = &self.block;
+        block.words
+    }
+
+    /// How many abbreviations were given to a block id.
+    fn given_to(&self, id: u64) -> usize
+        ensures value { result ≡ length (given_to self.now.scope.given id) }
+        ensures few { result ≤ 2 ^ 30 }
+    {
+        match self.given.get(&id) {
+            Some(list) => list.len(),
+            None => 0,
+        }
+    }
+
+    /// Enters a block.
+    pub fn enter(
+        &mut self,
+        id: u32,
+        width: NarrowWidth,
+        count_bit: u64,
+        words: u32,
+    ) -> Result<(), AllocError>
+        ensures { OnOk result (self.new ≡ with_scope self.old (entered self.old.scope id width count_bit words)) }
+    {
+        let given = self.given_to(u64::from(id)) as u32;
+        let block = Frame {
+            id: Some(id),
+            width,
+            count_bit,
+            words,
+            given,
+            own: StartList::new(self.alloc),
+            target: None,
+        };
+        let outer = mem::replace(&mut self.block, block);
+        self.around.push(outer)?;
+        Ok(())
+    }
+
+    /// Leaves the block for the one around it.
+    pub fn leave(&mut self)
+        ensures { self.new ≡ with_scope self.old (left self.old.scope) }
+    {
+        if let Some(outer) = self.around.pop() {
+            self.block = outer;
+        }
+    }
+
+    /// Adds a definition of the block's own, which starts at this bit.
+    pub fn define(&mut self, start: u32) -> Result<(), AllocError>
+        ensures { OnOk result (self.new ≡ with_scope self.old (defined self.old.scope (template_at self.old.bits start))) }
+    {
+        let block = &mut self.block;
+        block.own.push(start)
+    }
+
+    /// Adds a definition for a block id, which starts at this bit.
+    pub fn give(&mut self, id: u64, start: u32) -> Result<(), AllocError>
+        ensures { OnOk result (self.new ≡ with_scope self.old (given_for self.old.scope id (template_at self.old.bits start))) }
+    {
+        let mut list = taken(&mut self.given, self.alloc, id);
+        list.push(start)?;
+        self.given.insert(id, list)?;
+        Ok(())
+    }
+
+    /// How many abbreviations are in force where the next one is defined.
+    pub fn in_force(&self) -> usize
+        ensures value { result ≡ in_force self.now.scope }
+        ensures few { result < 2 ^ 33 }
+    {
+        if !self.is_blockinfo() {
+            let block = &self.block;
+            return block.given as usize + block.own.len();
+        }
+        match self.target() {
+            Some(id) => self.given_to(id),
+            None => 0,
+        }
+    }
+
+    /// From now on the definitions of this BLOCKINFO are for this block.
+    pub fn set_target(&mut self, id: u64)
+        ensures { self.new ≡ with_scope self.old (targeting self.old.scope id) }
+    {
+        let block = &mut self.block;
+        block.target = Some(id);
+    }
+
+    /// Where the abbreviation with this index is defined, among those that were given to the block's id.
+    fn given_start(&self, index: usize) -> Option<u32>
+        ensures { option_map (template_at self.now.bits) result ≡ slice_get (given_here self.now.scope) index }
+    {
+        let block = &self.block;
+        match block.id {
+            Some(id) => match self.given.get(&u64::from(id)) {
+                Some(list) => list.get(index),
+                None => None,
+            },
+            None => None,
+        }
+    }
+
+    /// Where the abbreviation of an id from 4 on is defined.
+    pub fn start_of(&self, id: u64) -> Option<u32>
+        requires { 4 ≤ id }
+        ensures { option_map (template_at self.now.bits) result ≡ template_of self.now.scope id }
+    {
+        let index = (id - 4) as usize;
+        let block = &self.block;
+        let given = block.given as usize;
+        if index < given {
+            self.given_start(index)
+        } else {
+            block.own.get(index - given)
+        }
+    }
+}
+
+/// Takes the starts of the definitions that were given to a block id out of a table.
+fn taken(given: &mut BTreeMap<u64, StartList>, alloc: Global, id: u64) -> StartList
+    ensures list { result ≡ unwrap_or (lookup (is_at (nat_cmp id)) given.old.entries) [] }
+    ensures others { given.new.entries ≡ remove_entry (is_at (nat_cmp id)) given.old.entries }
+{
+    match given.remove(&id) {
+        Some(list) => list,
+        None => StartList::new(alloc),
+    }
+}

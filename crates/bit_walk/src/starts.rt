@@ -1,0 +1,140 @@
+//! Abbreviations by the bits where their definitions start, a few bytes each.
+ghost use Rattle.std.specs.Prelude.{◌≡◌, ◌≤◌, ◌^◌, ◌<◌, ◌*◌, [], ◌++◌, ◌∷◌, Bool, List, Some, length, OnOk, IfOk, slice_get};
+ghost use Rattle.bits.specs.Bits.{stream_bits};
+ghost use Rattle.bit_walk.specs.Starts.{no_template, template_at, IsKept};
+
+use bit_stream::{Scalar, StreamFault, Tail, Template, template};
+use bits::BitCursor;
+use std::alloc::{AllocError, Global};
+use std::marker::Model;
+
+/// How many definitions a list holds at most: more than a stream of 2^30 bytes has.
+const MOST: usize = 1 << 30;
+
+/// The bits where some definitions start, in order.
+#[derive(Drop)]
+pub struct StartList {
+    bits: Vec<u32>,
+}
+
+impl Model for StartList {
+    ghost use Rattle.std.specs.Prelude.{List, ℕ, ◌≤◌, ◌^◌, length};
+
+    ghost Value = { List ℕ };
+
+    ghost view = { λ list. list.bits.items };
+
+    ghost invariant = { λ list. length list.bits.items ≤ 2 ^ 30 };
+}
+
+impl StartList {
+    /// No definitions.
+    pub fn new(alloc: Global) -> Self
+        ensures { result ≡ [] }
+    {
+        StartList {
+            bits: Vec::new(alloc),
+        }
+    }
+
+    /// How many there are.
+    pub fn len(&self) -> usize
+        ensures value { result ≡ length self.now }
+        ensures few { result ≤ 2 ^ 30 }
+    {
+        self.bits.len()
+    }
+
+    /// The one with this index.
+    pub fn get(&self, index: usize) -> Option<u32>
+        ensures { result ≡ slice_get self.now index }
+    {
+        self.bits.as_slice().get(index).copied()
+    }
+
+    /// Adds one at the end. Where the list is full there is no memory for it.
+    pub fn push(&mut self, bit: u32) -> Result<(), AllocError>
+        ensures { OnOk result (self.new ≡ self.old ++ bit ∷ []) }
+    {
+        if self.bits.len() >= MOST {
+            return Err(AllocError);
+        }
+        self.bits.push(bit)?;
+        Ok(())
+    }
+}
+
+/// The abbreviation whose definition starts at a bit, or that of no operands where none does.
+#[tactic(auto, using(crate::proofs::Definitions::beyond))]
+fn template_at(alloc: Global, bytes: &[u8], bit: u32) -> Result<Template, AllocError>
+    requires { length bytes.now ≤ 2 ^ 24 }
+    ensures { IfOk result (λ template. template ≡ template_at (stream_bits bytes.now) bit) }
+{
+    let bit = u64::from(bit);
+    if bit > 8 * bytes.len() as u64 {
+        return Ok(no_template(alloc));
+    }
+    let mut cursor = BitCursor::at_bit(bytes, bit);
+    match template(&mut cursor, alloc) {
+        Ok(template) => Ok(template),
+        Err(StreamFault::Bit(_)) => Ok(no_template(alloc)),
+        Err(StreamFault::Memory) => Err(AllocError),
+    }
+}
+
+/// The abbreviation of no operands.
+fn no_template(alloc: Global) -> Template
+    ensures { result ≡ no_template }
+{
+    Template {
+        code: Scalar::Known(0),
+        operands: Vec::new(alloc),
+        tail: Tail::NoTail,
+    }
+}
+
+/// The abbreviation that was read last, and the bit where its definition starts, if it was read by that.
+#[derive(Drop)]
+pub struct Kept {
+    pub start: Option<u32>,
+    pub template: Template,
+}
+
+impl Kept {
+    /// None was read.
+    pub fn nothing(alloc: Global) -> Self
+        ensures { (bits : List Bool) → IsKept bits result.start result.template }
+    {
+        Kept {
+            start: None,
+            template: no_template(alloc),
+        }
+    }
+
+    /// Keeps the abbreviation whose definition starts at a bit.
+    pub fn fetch(&mut self, alloc: Global, bytes: &[u8], bit: u32) -> Result<(), AllocError>
+        requires short { length bytes.now ≤ 2 ^ 24 }
+        requires kept { IsKept (stream_bits bytes.now) self.old.start self.old.template }
+        ensures kept { OnOk result (IsKept (stream_bits bytes.now) self.new.start self.new.template) }
+        ensures fetched { OnOk result (self.new.template ≡ template_at (stream_bits bytes.now) bit) }
+    {
+        if let Some(start) = self.start {
+            if start == bit {
+                return Ok(());
+            }
+        }
+        let template = template_at(alloc, bytes, bit)?;
+        self.keep(bit, template);
+        Ok(())
+    }
+
+    /// Keeps an abbreviation whose definition starts at this bit.
+    pub fn keep(&mut self, bit: u32, template: Template)
+        ensures { self.new ≡ record { start = Some bit; template = template } }
+    {
+        *self = Kept {
+            start: Some(bit),
+            template,
+        };
+    }
+}

@@ -1,0 +1,125 @@
+//! A walker over a judged stream.
+ghost use Rattle.std.specs.Prelude.{◌≡◌, ◌≤◌, ◌^◌, false, length};
+ghost use Rattle.bit_tree.specs.Stream.{Tree, Stream};
+ghost use Rattle.bit_tree.specs.Pieces.{flat};
+ghost use Rattle.bit_tree.specs.Read.{IsStream};
+ghost use Rattle.bit_walk.specs.Walker.{Walks, Took};
+
+use crate::advance::advance;
+use crate::event::Event;
+use crate::scope::Scope;
+use crate::starts::Kept;
+use crate::values::{Stage, next_value};
+use bit_stream::Template;
+use bits::BitCursor;
+use std::alloc::{AllocError, Global};
+use std::marker::Model;
+
+/// A walker over the entries and definitions of a stream that is a tree, in order. After want of memory it is spent: every
+/// later call of `next` answers that.
+///
+/// It holds no list of operands: those of a record are read as they are taken.
+#[derive(Drop)]
+pub struct Walker<'b> {
+    cursor: BitCursor<'b>,
+    scope: Scope<'b>,
+    kept: Kept,
+    /// Where the next operand of the record stands that was given last.
+    inner: BitCursor<'b>,
+    stage: Stage,
+    has_blob: bool,
+    blob: &'b [u8],
+    spent: bool,
+    alloc: Global,
+}
+
+impl<'b> Model for Walker<'b> {
+    ghost use Rattle.bit_walk.specs.Left.{pieces_left, operands_left, IsWalking};
+    ghost use Rattle.bit_walk.specs.Values.{left_by};
+    ghost use Rattle.bit_walk.specs.Walker.{Walker};
+
+    ghost Value = { Walker };
+
+    ghost view = { λ w. record { spent = w.spent; left = pieces_left w.spent w.scope.scope w.cursor; operands = operands_left w.spent (left_by w.stage w.kept.template w.inner); has_blob = w.has_blob; blob = w.blob.now; template = w.kept.template } };
+
+    ghost invariant = { λ w. IsWalking w.spent w.scope w.cursor w.kept.start w.kept.template (left_by w.stage w.kept.template w.inner) };
+}
+
+impl<'b> Walker<'b> {
+    /// A walker in front of the whole tree of a stream.
+    pub fn new(alloc: Global, bytes: &'b [u8]) -> Walker<'b>
+        requires short { length bytes.now ≤ 2 ^ 24 }
+        requires judged { IsStream bytes.now }
+        ensures unspent { result.spent ≡ false }
+        ensures whole { (tree : Tree) → Stream bytes.now tree → result.left ≡ flat tree }
+    {
+        let cursor = BitCursor::at_bit(bytes, 32);
+        let scope = Scope::new(alloc, bytes);
+        let kept = Kept::nothing(alloc);
+        Walker {
+            cursor,
+            scope,
+            kept,
+            inner: BitCursor::new(bytes),
+            stage: Stage::Over,
+            has_blob: false,
+            blob: &[],
+            spent: false,
+            alloc,
+        }
+    }
+
+    /// The next entry or definition, or none at the end of the stream. Operands of the record before that were not taken
+    /// are passed over.
+    pub fn next(&mut self) -> Result<Option<Event>, AllocError>
+        ensures { Walks self.old.spent self.old result self.new }
+    {
+        if self.spent {
+            return Err(AllocError);
+        }
+        self.spent = true;
+        let arrival = advance(
+            &mut self.cursor,
+            &mut self.scope,
+            &mut self.kept,
+            self.alloc,
+        )?;
+        self.inner = arrival.inner;
+        self.stage = arrival.stage;
+        self.has_blob = arrival.has_blob;
+        self.blob = arrival.blob;
+        self.spent = false;
+        Ok(arrival.event)
+    }
+
+    /// The next operand of the record that was given last, or none behind the last one and where no record was given.
+    pub fn next_operand(&mut self) -> Option<u64>
+        ensures { Took self.old result self.new }
+    {
+        if self.spent {
+            return None;
+        }
+        next_value(&mut self.inner, &mut self.stage, &self.kept.template)
+    }
+
+    /// Whether the record that was given last ends in a blob, an empty one included.
+    pub fn has_blob(&self) -> bool
+        ensures { result ≡ self.now.has_blob }
+    {
+        self.has_blob
+    }
+
+    /// The blob of the record that was given last; no bytes where it has none.
+    pub fn blob(&self) -> &'b [u8]
+        ensures { result.now ≡ self.now.blob }
+    {
+        self.blob
+    }
+
+    /// The abbreviation of the definition that was given last.
+    pub fn template(&self) -> &Template
+        ensures { result.now ≡ self.now.template }
+    {
+        &self.kept.template
+    }
+}
