@@ -1,0 +1,8 @@
+pub mod ConstantsTold
+pub mod FactsTold
+pub mod FunctionNames
+pub mod LeadsTold
+pub mod ListsTold
+pub mod OwnTold
+pub mod PartsTold
+pub mod WholeTold

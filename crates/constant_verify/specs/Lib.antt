@@ -1,0 +1,3 @@
+pub mod ConstantFacts
+pub mod FunctionIds
+pub mod IsJudge

@@ -1,0 +1,14 @@
+//! What is asked of the constants of a module.
+//!
+//! It stands on `ir_base`, `ir_tables`, `type_table`, `module_arena` and `type_verify`. It promises that what is told of a constant is
+//! what the definitions say of it on the module that the arena stands for, though each constant is looked at once.
+//! Definitions: `specs/ConstantFacts`; the tests stand in `module_arena`, `specs/Constants` and `EntryRules`.
+#![tactic(auto)]
+
+mod constants;
+mod fits;
+mod judge;
+
+pub use constants::{is_llvm_name, is_only_called};
+pub use fits::{is_cast_between, written_number};
+pub use judge::Judge;
