@@ -51,8 +51,8 @@ abbrev pub behind_from : List Module → Symbol → Option Entry → Symbol
 behind_from parts s (Some e) = target_of parts s e.part e.global
 behind_from parts s None = s
 
--- The symbol that a symbol stands for. An alias's target is no alias and its part's own definition, local or external, so
--- it is what the target means in every part
+-- The symbol that a symbol stands for. An alias's target is no alias and its part's own definition, local or external; where no
+-- two entries are in conflict that definition is the target's home, and so what it means in every part
 abbrev pub behind : List Module → Symbol → Symbol
 behind parts s = behind_from parts s (home parts s)
 

@@ -57,11 +57,11 @@ pub record FoundConflict : Type 0 where
 abbrev pub found_conflict : ConflictKind → Bytes → Entry × Entry → FoundConflict
 found_conflict kind name pair = record { kind = kind; name = name; one = pair.0.part; other = pair.1.part }
 
--- by the least pair of parts
+-- the conflicts of a kind under a name, the least pair of parts first
 abbrev pub conflicts_of_kind : List Module → Bytes → ConflictKind → List FoundConflict
 conflicts_of_kind parts name kind = map (found_conflict kind name) (filter (λ pair. clash parts kind pair.0 pair.1) (pairs (mentions parts name)))
 
--- by the least kind
+-- the conflicts of a symbol, the least kind first; a local symbol has none
 abbrev pub conflicts_of : List Module → Symbol → List FoundConflict
 conflicts_of parts (Shared name) = flat_map (conflicts_of_kind parts name) conflict_kinds
 conflicts_of parts (Local i name) = []

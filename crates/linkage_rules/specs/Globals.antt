@@ -4,6 +4,7 @@ use Rattle.ir_tables.specs.declared.linkage.Linkage.{Linkage}
 use Rattle.type_table.specs.Tree.{Tree, int, ptr, void, array, struct, named}
 use Rattle.module_arena.specs.Module.{Bytes, Constant, Variable, AliasType, PlainType, FunctionType, Alias, Function, Module}
 
+-- a variable, a function or an alias of a module
 pub data Global : Type 0 where
   OfVariable : (variable : Variable) → Global
   OfFunction : (function : Function) → Global
@@ -21,7 +22,7 @@ linkage_of (OfVariable v) = v.linkage
 linkage_of (OfFunction f) = f.linkage
 linkage_of (OfAlias a) = a.linkage
 
--- the name of what an alias is of
+-- the name of what an alias is of; nothing else names a target
 abbrev pub target_name : Global → Bytes
 target_name (OfVariable v) = []
 target_name (OfFunction f) = []
@@ -73,12 +74,13 @@ stated (OfFunction f) = None
 stated (OfAlias a) = None
 
 -- what a variable holds at first, where that is written
+-- the initialiser of a variable that has one
 abbrev pub initialiser_of : Global → Option Constant
 initialiser_of (OfVariable v) = v.initialiser
 initialiser_of (OfFunction f) = None
 initialiser_of (OfAlias a) = None
 
--- the type of an array's elements
+-- the type of an array's elements; of any other type the type itself
 abbrev pub element_of : Tree → Tree
 element_of (array n t) = t
 element_of (int w) = int w
