@@ -17,7 +17,7 @@ use Rattle.struct_order.specs.Dependency.{HasName, Names, name_at, names_at, Fol
 use Rattle.struct_order.specs.Mentions.{number_from, AreNumbers, numbers_of, is_number, mentions_of, lists_from}
 use Rattle.struct_order.proofs.Gathered.{length-lists}
 
-abbrev nothing : Bytes × TreeBody
+abbrev pub nothing : Bytes × TreeBody
 nothing = ([], opaque_body)
 
 -- a number that is found is that of the first struct with the name
@@ -55,7 +55,7 @@ has_at (first ∷ names) zero h = inl refl
 has_at (first ∷ names) (suc i) h = inr (has_at names i (omega (arith, h)))
 
 -- what is mentioned has a name that is written
-written : (table : List (Bytes × ℕ)) (names : List Bytes) (n : ℕ) → HasNumber n (numbers_of table names) → (other : Bytes) × HasName other names × (value_of table other ≡ Some n)
+pub written : (table : List (Bytes × ℕ)) (names : List Bytes) (n : ℕ) → HasNumber n (numbers_of table names) → (other : Bytes) × HasName other names × (value_of table other ≡ Some n)
 written table [] n h = absurd h
 written table (first ∷ names) n h = by (value_of table first) refl h (λ k. written table names n k)
   where
@@ -68,7 +68,7 @@ written table (first ∷ names) n h = by (value_of table first) refl h (λ k. wr
     by (Some b) e (inl q) again = (first, inl refl, e ∙ ap Some (sym q))
     by (Some b) e (inr k) again = later (again k)
 
-is_mentioned : (table : List (Bytes × ℕ)) (names : List Bytes) (other : Bytes) (n : ℕ) → HasName other names → value_of table other ≡ Some n → HasNumber n (numbers_of table names)
+pub is_mentioned : (table : List (Bytes × ℕ)) (names : List Bytes) (other : Bytes) (n : ℕ) → HasName other names → value_of table other ≡ Some n → HasNumber n (numbers_of table names)
 is_mentioned table [] other n h e = absurd h
 is_mentioned table (first ∷ names) other n h e = by (value_of table first) refl h (λ k. is_mentioned table names other n k e)
   where
@@ -130,13 +130,13 @@ is_that None n e = absurd cc
 
 module _ (structs : Structs) (table : List (Bytes × ℕ)) (are : AreNumbers table structs) where
   -- the struct with a number is the first with its name
-  abbrev IsFirst : ℕ → Type 0
+  abbrev pub IsFirst : ℕ → Type 0
   IsFirst number = value_of table (get_or structs number nothing).0 ≡ Some number
 
-  name_there : (number : ℕ) → name_at structs number ≡ (get_or structs number nothing).0
+  pub name_there : (number : ℕ) → name_at structs number ≡ (get_or structs number nothing).0
   name_there number = get_or-map (λ (s : Bytes × TreeBody). s.0) structs number nothing
 
-  found_number : (name : Bytes) (n : ℕ) → value_of table name ≡ Some n → (n < length structs) × (index_of (names_of structs) name ≡ n) × (name_at structs n ≡ name)
+  pub found_number : (name : Bytes) (n : ℕ) → value_of table name ≡ Some n → (n < length structs) × (index_of (names_of structs) name ≡ n) × (name_at structs n ≡ name)
   found_number name n e =
       let r = found_at 0 structs name n (sym (are.each name) ∙ e) in
       let same : r.0 ≡ n = omega (arith, r.1) in
@@ -146,12 +146,12 @@ module _ (structs : Structs) (table : List (Bytes × ℕ)) (are : AreNumbers tab
   first_number number is = ap (index_of (names_of structs)) (name_there number) ∙ (found_number (get_or structs number nothing).0 number is).1
 
   -- its body is the one that counts
-  own_body : (number : ℕ) → IsFirst number → body_of structs (name_at structs number) ≡ (get_or structs number nothing).1
+  pub own_body : (number : ℕ) → IsFirst number → body_of structs (name_at structs number) ≡ (get_or structs number nothing).1
   own_body number is =
       ap (λ i. get_or (map (λ (s : Bytes × TreeBody). s.1) structs) i opaque_body) (first_number number is)
       ∙ get_or-map (λ (s : Bytes × TreeBody). s.1) structs number nothing
 
-  own_mentions : (number : ℕ) → number < length structs → IsFirst number → mentioned (lists_from table 0 structs) number ≡ numbers_of table (body_names (get_or structs number nothing).1)
+  pub own_mentions : (number : ℕ) → number < length structs → IsFirst number → mentioned (lists_from table 0 structs) number ≡ numbers_of table (body_names (get_or structs number nothing).1)
   own_mentions number within is =
       let s = get_or structs number nothing in
       mentioned_by table 0 structs number within

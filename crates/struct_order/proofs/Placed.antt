@@ -31,14 +31,14 @@ or_first true b e = refl
 or_first false b e = absurd cc
 
 -- what stands at the end
-stands_more : (order : List ℕ) (number other : ℕ) → stands_in (order ++ number ∷ []) other ≡ (stands_in order other || nat_eq other number)
+pub stands_more : (order : List ℕ) (number other : ℕ) → stands_in (order ++ number ∷ []) other ≡ (stands_in order other || nat_eq other number)
 stands_more order number other = list_any-append (nat_eq other) order (number ∷ []) ∙ ap (λ b. stands_in order other || b) (or_false (nat_eq other number))
   where
     or_false : (b : Bool) → (b || false) ≡ b
     or_false true = refl
     or_false false = refl
 
-or_split : (a b : Bool) → (a || b) ≡ true → (a ≡ true) ⊎ (b ≡ true)
+pub or_split : (a b : Bool) → (a || b) ≡ true → (a ≡ true) ⊎ (b ≡ true)
 or_split true b e = inl refl
 or_split false b e = inr e
 
@@ -64,7 +64,7 @@ snoc_behind lists before (first ∷ order) number behind each = (behind.0, snoc_
         by (inl q) = inl (or_first (nat_eq other first) (stands_in before other) q)
         by (inr q) = inr q
 
-marks_more : (settled : List Bool) (order : List ℕ) (number other : ℕ) → number < length settled → get_or settled other false ≡ stands_in order other → get_or (set settled number true) other false ≡ stands_in (order ++ number ∷ []) other
+pub marks_more : (settled : List Bool) (order : List ℕ) (number other : ℕ) → number < length settled → get_or settled other false ≡ stands_in order other → get_or (set settled number true) other false ≡ stands_in (order ++ number ∷ []) other
 marks_more settled order number other within same = by (nat_eq other number) refl
   where
     or_true : (b : Bool) → (b || true) ≡ true

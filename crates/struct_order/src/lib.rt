@@ -17,7 +17,7 @@ mod order;
 
 use ir_syntax::Items;
 pub use measures::StructMeasures;
-use mentions::{all_mentions, struct_numbers};
+pub use mentions::{all_mentions, struct_numbers};
 use order::order_of;
 use std::alloc::{AllocError, Global};
 

@@ -18,10 +18,7 @@ use name_table::NameTable;
 use std::alloc::{AllocError, Global};
 
 /// The number of each struct, counted from 0 in the order of the text; of structs of one name, that of the first.
-pub(crate) fn struct_numbers<'a>(
-    alloc: Global,
-    items: &'a Items,
-) -> Result<NameTable<'a, u32>, AllocError>
+pub fn struct_numbers<'a>(alloc: Global, items: &'a Items) -> Result<NameTable<'a, u32>, AllocError>
     requires { length (structs_in (items_view items.now)) < 2 ^ 32 }
     ensures { IfOk result (λ numbers. AreNumbers numbers (structs_in (items_view items.now))) }
 {
@@ -136,7 +133,7 @@ fn struct_mentions(
 }
 
 /// What each struct mentions, in the order of the text.
-pub(crate) fn all_mentions(
+pub fn all_mentions(
     alloc: Global,
     numbers: &NameTable<u32>,
     items: &Items,

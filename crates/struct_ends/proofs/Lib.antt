@@ -1,0 +1,3 @@
+mod Searching
+mod Holding
+mod Bridge

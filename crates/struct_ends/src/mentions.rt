@@ -1,0 +1,49 @@
+//! What the structs of a text hold by value.
+ghost use Rattle.std.specs.Prelude.{◌≡◌, ◌<◌, ◌^◌, length, IfOk};
+ghost use Rattle.ir_syntax.specs.View.{items_view};
+ghost use Rattle.name_rules.specs.Measured.{contains_itself};
+ghost use Rattle.name_rules.specs.ModuleOf.{structs_in};
+ghost use Rattle.struct_ends.specs.Mentioning.{AreMentions, structs_of};
+
+use crate::search::search_from;
+use ir_syntax::Items;
+use name_table::NameTable;
+use std::alloc::{AllocError, Global};
+use struct_order::{all_mentions, struct_numbers};
+
+/// The structs of a text, and which structs each of them holds by value.
+#[derive(Drop)]
+pub struct StructMentions<'a> {
+    items: &'a Items,
+    numbers: NameTable<'a, u32>,
+    lists: Vec<Vec<u32>>,
+}
+
+impl<'a> StructMentions<'a> {
+    /// What the structs of these items hold.
+    pub fn of_items(alloc: Global, items: &'a Items) -> Result<Self, AllocError>
+        requires { length (structs_in (items_view items.now)) < 2 ^ 32 }
+        ensures mentions { IfOk result AreMentions }
+        ensures structs { IfOk result (λ all. structs_of all ≡ structs_in (items_view items.now)) }
+    {
+        let numbers = struct_numbers(alloc, items)?;
+        let lists = all_mentions(alloc, &numbers, items)?;
+        Ok(StructMentions {
+            items,
+            numbers,
+            lists,
+        })
+    }
+
+    /// Whether a field of the struct is it, or holds it by value. A name of no struct is in none. Errors: want of memory.
+    pub fn contains_itself(&self, alloc: Global, name: &[u8]) -> Result<bool, AllocError>
+        requires { AreMentions self.now }
+        ensures { IfOk result (λ found. found ≡ contains_itself (structs_of self.now) name.now) }
+    {
+        let Some(number) = self.numbers.get(name) else {
+            return Ok(false);
+        };
+        let marks = search_from(alloc, &self.lists, number)?;
+        Ok(marks[number as usize])
+    }
+}
