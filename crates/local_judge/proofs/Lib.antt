@@ -1,0 +1,5 @@
+pub mod Steps
+pub mod Loops
+pub mod Named
+pub mod Calls
+pub mod Sized

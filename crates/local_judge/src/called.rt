@@ -1,0 +1,96 @@
+//! What a function has called so far: the next number, and the names with the places of the first of each.
+#![tactic(auto, using(crate::proofs::Steps::goes_memory))]
+
+ghost use Rattle.std.specs.Prelude.{◌≡◌, ◌==◌, [], ◌∷◌, Some, None, false};
+ghost use Rattle.ir_terminals.specs.declared.values.Local.TheVariants as locals;
+ghost use Rattle.name_rules.specs.declared.fault.ResolveFault.TheVariants as faults;
+ghost use Rattle.name_rules.specs.Demand.{ask as asked, is_new};
+ghost use Rattle.name_rules.specs.FunctionDemands.{call_demands, called_with};
+ghost use Rattle.name_rules.specs.Spelled.{decimal};
+ghost use Rattle.type_judge.specs.Judging.{IsJudged};
+ghost use Rattle.local_judge.specs.Calling.{Goes};
+
+use ir_base::Place;
+use ir_terminals::{Local, Number, PlacedName};
+use name_rules::{ResolveFault, spell_number};
+use name_table::NameTable;
+use std::alloc::{AllocError, Global};
+
+/// What was called so far.
+#[derive(Drop)]
+pub(crate) struct CalledNames<'a> {
+    next: u64,
+    names: NameTable<'a, Place>,
+}
+
+impl<'a> CalledNames<'a> {
+    /// Before the first.
+    pub(crate) fn new(alloc: Global) -> Self
+        ensures next { result.next ≡ 0 }
+        ensures names { result.names ≡ [] }
+    {
+        CalledNames {
+            next: 0,
+            names: NameTable::new(alloc),
+        }
+    }
+
+    /// Calls what has no name by the next number. More than 64 bits count are more than memory holds.
+    fn call_next(&mut self) -> Result<(), ResolveFault>
+        ensures { Goes self.old self.new (λ before. []) (λ before. called_with before (false, None)) result }
+    {
+        self.next = self.next.checked_add(1).ok_or(AllocError)?;
+        Ok(())
+    }
+
+    /// A written name is new.
+    fn call_name(&mut self, name: &'a PlacedName) -> Result<(), ResolveFault>
+        ensures { Goes self.old self.new (λ before. is_new before.names name.now) (λ before. called_with before (false, Some (locals.Named name.now))) result }
+    {
+        if let Some(earlier) = self.names.get(name.name.bytes()) {
+            return Err(ResolveFault::Duplicate(name.place, earlier));
+        }
+        self.names.put(name.name.bytes(), name.place)?;
+        Ok(())
+    }
+
+    /// Whether the number is the next one.
+    fn is_next(&self, number: &Number) -> bool
+        ensures { result ≡ (number.now == self.now.next) }
+    {
+        let next = self.next;
+        match number.to_u64() {
+            Some(number) => number == next,
+            None => false,
+        }
+    }
+
+    /// A written number is the next one.
+    fn check_number(&self, alloc: Global, number: &Number, place: Place) -> Result<(), ResolveFault>
+        ensures { IsJudged (asked (number.now == self.now.next) (faults.WrongNumber place self.now.next (decimal number.now)) ∷ []) result }
+    {
+        if self.is_next(number) {
+            return Ok(());
+        }
+        let digits = spell_number(alloc, number)?;
+        Err(ResolveFault::WrongNumber(place, self.next, digits))
+    }
+
+    /// Calls a parameter, a block or a result so, or by the next number where no name is written.
+    pub(crate) fn call(
+        &mut self,
+        alloc: Global,
+        written: &'a Option<Local>,
+    ) -> Result<(), ResolveFault>
+        ensures { Goes self.old self.new (λ before. call_demands before written.now) (λ before. called_with before (false, written.now)) result }
+    {
+        match written {
+            None => self.call_next(),
+            Some(Local::Named(name)) => self.call_name(name),
+            Some(Local::Numbered(number, place)) => {
+                self.check_number(alloc, number, *place)?;
+                self.call_next()
+            }
+        }
+    }
+}

@@ -1,0 +1,103 @@
+//! Judges how blocks end (LangRef, "Terminator Instructions").
+#![tactic(auto, using(crate::proofs::Steps::judged_front, crate::proofs::Steps::judged_rest, crate::proofs::Steps::judged_stop, crate::proofs::Steps::judged_next))]
+
+ghost use Rattle.std.specs.Prelude.{◌≡◌, [], ◌∷◌, ◌++◌, map, flat_map, true};
+ghost use Rattle.ir_constants.specs.View.{typed_value_view};
+ghost use Rattle.ir_instructions.specs.View.{case_view, ending_view};
+ghost use Rattle.name_rules.specs.Demand.{is_local};
+ghost use Rattle.name_rules.specs.FunctionDemands.{operand_demands, case_demands, ending_demands};
+ghost use Rattle.type_judge.specs.Gathered.{IsKnown, known_of};
+ghost use Rattle.type_judge.specs.Judging.{IsJudged};
+ghost use Rattle.local_judge.specs.Names.{AreGathered, locals_of};
+
+use crate::gathered::FunctionLocals;
+use crate::operands::{check_local, check_operand};
+use ir_instructions::{Branch, Case, Ending, Switch};
+use name_rules::ResolveFault;
+use std::alloc::Global;
+use type_judge::{Known, check_constant, check_type};
+
+/// A case of a switch: its constant, and the block that it goes to.
+fn check_case(
+    alloc: Global,
+    known: &Known,
+    locals: &FunctionLocals,
+    case: &Case,
+) -> Result<(), ResolveFault>
+    requires known { IsKnown known.now }
+    requires locals { AreGathered locals.now }
+    ensures { IsJudged (case_demands (known_of known.now) (locals_of locals.now) (case_view case.now)) result }
+{
+    check_type(alloc, known, &case.value.ty)?;
+    check_constant(alloc, known, &case.value.value, &case.value.ty)?;
+    check_local(alloc, locals, true, &case.target)
+}
+
+/// The cases of a switch, each of them.
+fn check_cases(
+    alloc: Global,
+    known: &Known,
+    locals: &FunctionLocals,
+    cases: &[Case],
+) -> Result<(), ResolveFault>
+    requires known { IsKnown known.now }
+    requires locals { AreGathered locals.now }
+    ensures { IsJudged (flat_map (case_demands (known_of known.now) (locals_of locals.now)) (map case_view cases.now)) result }
+{
+    'cases: for case in cases {
+        check_case(alloc, known, locals, case)?;
+    }
+    Ok(())
+}
+
+/// A branch on a condition.
+fn check_branch(
+    alloc: Global,
+    known: &Known,
+    locals: &FunctionLocals,
+    branch: &Branch,
+) -> Result<(), ResolveFault>
+    requires known { IsKnown known.now }
+    requires locals { AreGathered locals.now }
+    ensures { IsJudged (operand_demands (known_of known.now) (locals_of locals.now) (typed_value_view branch.now.condition) ++ is_local (locals_of locals.now) true branch.now.then_to ∷ is_local (locals_of locals.now) true branch.now.else_to ∷ []) result }
+{
+    check_operand(alloc, known, locals, &branch.condition)?;
+    check_local(alloc, locals, true, &branch.then_to)?;
+    check_local(alloc, locals, true, &branch.else_to)
+}
+
+/// A switch.
+fn check_switch(
+    alloc: Global,
+    known: &Known,
+    locals: &FunctionLocals,
+    switch: &Switch,
+) -> Result<(), ResolveFault>
+    requires known { IsKnown known.now }
+    requires locals { AreGathered locals.now }
+    ensures { IsJudged (operand_demands (known_of known.now) (locals_of locals.now) (typed_value_view switch.now.value) ++ is_local (locals_of locals.now) true switch.now.otherwise ∷ flat_map (case_demands (known_of known.now) (locals_of locals.now)) (map case_view switch.now.cases.items)) result }
+{
+    check_operand(alloc, known, locals, &switch.value)?;
+    check_local(alloc, locals, true, &switch.otherwise)?;
+    check_cases(alloc, known, locals, &switch.cases)
+}
+
+/// The end of a block.
+pub(crate) fn check_ending(
+    alloc: Global,
+    known: &Known,
+    locals: &FunctionLocals,
+    ending: &Ending,
+) -> Result<(), ResolveFault>
+    requires known { IsKnown known.now }
+    requires locals { AreGathered locals.now }
+    ensures { IsJudged (ending_demands (known_of known.now) (locals_of locals.now) (ending_view ending.now)) result }
+{
+    match ending {
+        Ending::ReturnVoid | Ending::Unreachable => Ok(()),
+        Ending::Return(value) => check_operand(alloc, known, locals, value),
+        Ending::Jump(target) => check_local(alloc, locals, true, target),
+        Ending::Branch(branch) => check_branch(alloc, known, locals, branch),
+        Ending::Switch(switch) => check_switch(alloc, known, locals, switch),
+    }
+}

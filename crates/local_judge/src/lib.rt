@@ -1,0 +1,17 @@
+//! Judges the functions that a text defines: tells the first demand, in the order of the text, that does not hold.
+//!
+//! It stands on the judges of types and constants of `type_judge` and on the rules of `name_rules`. It promises that an
+//! answer is Ok exactly where each demand holds, and else the refusal of the first that does not. Definitions:
+//! `specs/Names`, `specs/Calling`; the demands are those of `name_rules`, `specs/FunctionDemands`.
+#![tactic(auto)]
+
+mod called;
+mod endings;
+mod functions;
+mod gathered;
+mod local_names;
+mod operands;
+mod operations;
+mod results;
+
+pub use functions::check_definition;

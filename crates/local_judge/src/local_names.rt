@@ -1,0 +1,118 @@
+//! What the values, or the blocks, of a function are called.
+#![tactic(auto)]
+
+ghost use Rattle.std.specs.Prelude.{◌≡◌, Bool, [], ◌∷◌, map, IfOk, OnOk};
+ghost use Rattle.module_arena.specs.Module.{Named, Numbered};
+ghost use Rattle.name_rules.specs.Locals.{Locals, local_in, is_alike, is_there, known_as};
+ghost use Rattle.local_judge.specs.Names.{Brings, HoldsNames};
+
+use indexmap::IndexSet;
+use ir_base::{Place, Text};
+use ir_terminals::{Local, Number, PlacedName};
+use name_table::NameTable;
+use std::alloc::{AllocError, Global};
+
+/// Names and numbers: those of the values of a function, or those of its blocks.
+#[derive(Drop)]
+pub(crate) struct LocalNames<'a> {
+    /// Whether these are those of the blocks.
+    block: bool,
+    named: NameTable<'a, Place>,
+    /// The numbers below 2^64.
+    small: IndexSet<u64>,
+    /// The digits of the others.
+    large: IndexSet<Text>,
+}
+
+impl<'a> LocalNames<'a> {
+    /// None yet, of the blocks or of the values.
+    pub(crate) fn new(alloc: Global, block: bool) -> Self
+        ensures { HoldsNames result block [] }
+    {
+        LocalNames {
+            block,
+            named: NameTable::new(alloc),
+            small: IndexSet::new(alloc),
+            large: IndexSet::new(alloc),
+        }
+    }
+
+    /// Whether what is a block, or is none, belongs to these.
+    fn is_alike(&self, block: bool) -> bool
+        ensures { result ≡ is_alike block self.now.block }
+    {
+        if block { self.block } else { !self.block }
+    }
+
+    /// Adds a name.
+    fn put_name(&mut self, block: bool, name: &'a PlacedName) -> Result<(), AllocError>
+        ensures { OnOk result (Brings self.old self.new ((Named name.now.name, block) ∷ [])) }
+    {
+        if !self.is_alike(block) {
+            return Ok(());
+        }
+        self.named.put(name.name.bytes(), name.place)
+    }
+
+    /// Adds a number below 2^64.
+    fn put_small(&mut self, block: bool, number: u64) -> Result<(), AllocError>
+        ensures { OnOk result (Brings self.old self.new ((Numbered number, block) ∷ [])) }
+    {
+        if !self.is_alike(block) {
+            return Ok(());
+        }
+        self.small.insert(number)?;
+        Ok(())
+    }
+
+    /// Adds a number of any size.
+    fn put_number(&mut self, alloc: Global, block: bool, number: &Number) -> Result<(), AllocError>
+        ensures { OnOk result (Brings self.old self.new ((Numbered number.now, block) ∷ [])) }
+    {
+        if let Some(small) = number.to_u64() {
+            return self.put_small(block, small);
+        }
+        if !self.is_alike(block) {
+            return Ok(());
+        }
+        let digits = number.digits(alloc)?;
+        self.large.insert(digits)?;
+        Ok(())
+    }
+
+    /// Adds what is called so, or by the next number where no name is written.
+    pub(crate) fn put(
+        &mut self,
+        alloc: Global,
+        next: u64,
+        block: bool,
+        written: &'a Option<Local>,
+    ) -> Result<(), AllocError>
+        ensures { OnOk result (Brings self.old self.new (map (λ name. (name, block)) (known_as next written.now))) }
+    {
+        match written {
+            None => self.put_small(block, next),
+            Some(Local::Named(name)) => self.put_name(block, name),
+            Some(Local::Numbered(number, _)) => {
+                self.put_small(block, next)?;
+                self.put_number(alloc, block, number)
+            }
+        }
+    }
+
+    /// Whether the name or the number is among these.
+    pub(crate) fn has(&self, alloc: Global, written: &Local) -> Result<bool, AllocError>
+        ensures { IfOk result (λ has. (block : Bool) → (all : Locals) → HoldsNames self.now block all → has ≡ is_there all block (local_in written.now)) }
+    {
+        match written {
+            Local::Named(name) => Ok(self.named.get(name.name.bytes()).is_some()),
+            Local::Numbered(number, _) => {
+                if let Some(small) = number.to_u64() {
+                    return Ok(self.small.contains(&small));
+                }
+                let digits = number.digits(alloc)?;
+                Ok(self.large.contains(&digits))
+            }
+        }
+    }
+}
