@@ -1,0 +1,54 @@
+-- The place of the first name that is spelled so, with one name more.
+use Rattle.std.specs.Prelude.{◌≡◌, refl, Bool, true, false, cond, List, [], ◌∷◌, ◌++◌, bytes_eq, Option, Some, None}
+use Rattle.std.proofs.Common.{ap, sym, ◌∙◌}
+use Rattle.std.proofs.lemmas.Slice.Eq.{bytes_eq-Decides}
+use Rattle.ir_base.specs.declared.place.Place.{Place}
+use Rattle.ir_terminals.specs.declared.values.PlacedName.{PlacedName}
+use Rattle.module_arena.specs.Module.{Bytes}
+use Rattle.name_table.specs.Entries.{value_of}
+use Rattle.name_rules.specs.Demand.{place_of_name}
+use Rattle.name_judge.specs.Seen.{AreFirst}
+
+-- the first, or the second where there is none
+abbrev first_place : Option Place → Option Place → Option Place
+first_place (Some place) other = Some place
+first_place None other = other
+
+place-append : (before : List PlacedName) (name : PlacedName) (other : Bytes) → place_of_name (before ++ name ∷ []) other ≡ first_place (place_of_name before other) (cond (bytes_eq name.name other) (Some name.place) None)
+place-append [] name other = refl
+place-append (b ∷ before) name other = by (bytes_eq b.name other) (place-append before name other)
+  where
+    by : (x : Bool) → place_of_name (before ++ name ∷ []) other ≡ first_place (place_of_name before other) (cond (bytes_eq name.name other) (Some name.place) None)
+        → cond x (Some b.place) (place_of_name (before ++ name ∷ []) other) ≡ first_place (cond x (Some b.place) (place_of_name before other)) (cond (bytes_eq name.name other) (Some name.place) None)
+    by true e = refl
+    by false e = e
+
+same_both : (a b : Bytes) → bytes_eq a b ≡ bytes_eq b a
+same_both a b = by (bytes_eq a b) refl (bytes_eq b a) refl
+  where
+    by : (x : Bool) → bytes_eq a b ≡ x → (y : Bool) → bytes_eq b a ≡ y → x ≡ y
+    by true e true q = refl
+    by false e false q = refl
+    by true e false q = let r = (bytes_eq-Decides b a).1 (sym ((bytes_eq-Decides a b).0 e)) in absurd cc
+    by false e true q = let r = (bytes_eq-Decides a b).1 (sym ((bytes_eq-Decides b a).0 q)) in absurd cc
+
+-- a new name with its place
+pub first_more : (old new : List (Bytes × Place)) (before : List PlacedName) (name : PlacedName) → value_of old name.name ≡ None
+    → ((other : Bytes) → value_of new other ≡ cond (bytes_eq other name.name) (Some name.place) (value_of old other)) → AreFirst old before → AreFirst new (before ++ name ∷ [])
+first_more old new before name none put are = record {
+  each = λ other.
+      put other ∙ by other (bytes_eq other name.name) refl
+      ∙ ap (λ b. first_place (place_of_name before other) (cond b (Some name.place) None)) (same_both other name.name)
+      ∙ sym (place-append before name other);
+}
+  where
+    after : (o : Option Place) → o ≡ first_place o None
+    after None = refl
+    after (Some place) = refl
+
+    by : (other : Bytes) (x : Bool) → bytes_eq other name.name ≡ x → cond x (Some name.place) (value_of old other) ≡ first_place (place_of_name before other) (cond x (Some name.place) None)
+    by other true e =
+        let same = (bytes_eq-Decides other name.name).0 e in
+        let no : place_of_name before other ≡ None = sym (are.each other) ∙ ap (value_of old) same ∙ none in
+        ap (λ o. first_place o (Some name.place)) (sym no)
+    by other false e = are.each other ∙ after (place_of_name before other)

@@ -1,0 +1,6 @@
+mod Firsts
+mod Counted
+mod InOrder
+mod SeenMore
+mod Parameters
+mod Bodies

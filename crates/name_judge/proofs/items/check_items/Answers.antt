@@ -1,0 +1,35 @@
+use Rattle.std.proofs.Common.{arith, sym, subst, take, List}
+use Rattle.std.proofs.lemmas.Result.{err_from_is_err_and}
+use Rattle.ir_syntax.specs.Tree.{ItemTree}
+use Rattle.ir_syntax.specs.View.{items_view}
+use Rattle.struct_order.proofs.Gathered.{items_more}
+use Rattle.type_judge.specs.Gathered.{known_of}
+use Rattle.name_judge.specs.Seen.{IsSeen}
+use Rattle.name_judge.proofs.InOrder.{item_next, item_fails, items_end, whole_judged}
+use Rattle.name_judge.proofs.items.check_items.Goals as goal
+
+pub items-preserved : goal.items-preserved
+items-preserved c =
+    let known = known_of c.in_ok-known.known in
+    let items = c.as_slice-item-items.result.now in
+    let front = items_view (take c.items.item-index items) in
+    let more = items_more items c.items.item-index c.item-item.result (omega arith) c.item-item.is in
+    record {
+      seen = subst (λ (before : List ItemTree). IsSeen c.check_item.new.seen before) (sym more) (c.in_ok-check_item.ensures.seen front c.items.invariant.seen);
+      leads = item_next known items c.items.item-index c.item-item.result _ (omega arith) c.item-item.is (c.in_ok-check_item.ensures.judged front c.items.invariant.seen) c.items.invariant.leads;
+    }
+
+pub returns-in_err-check_item : goal.returns-in_err-check_item
+returns-in_err-check_item c =
+    let known = known_of c.in_ok-known.known in
+    let items = c.as_slice-item-items.result.now in
+    let front = items_view (take c.items.item-index items) in
+    let p = err_from_is_err_and c.from_residual-in_err-check_item.result c.from_residual-in_err-check_item.ensures.1 in
+    whole_judged known items c.args.items.now _ c.in_ok-known.ensures.items c.as_slice-item-items.ensures
+    (rw (p.1, p.2) (item_fails known items c.items.item-index c.item-item.result _ _ (omega arith) c.item-item.is (c.in_err-check_item.ensures.judged front c.items.invariant.seen) c.items.invariant.leads))
+
+pub returns : goal.returns
+returns c =
+    let known = known_of c.in_ok-known.known in
+    let items = c.as_slice-item-items.result.now in
+    whole_judged known items c.args.items.now _ c.in_ok-known.ensures.items c.as_slice-item-items.ensures (items_end known items c.items.item-index _ (omega arith) c.items.invariant.leads)

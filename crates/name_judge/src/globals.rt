@@ -1,0 +1,100 @@
+//! Judges the variables and the aliases of a text.
+#![tactic(auto, using(type_judge::proofs::Parts::judged_front, type_judge::proofs::Parts::judged_rest, type_judge::proofs::Parts::judged_stop, type_judge::proofs::Parts::judged_next))]
+
+ghost use Rattle.std.specs.Prelude.{OnOk, List, [], ◌∷◌, ◌++◌, option_map};
+ghost use Rattle.ir_constants.specs.View.{type_view, constant_view};
+ghost use Rattle.ir_syntax.specs.View.{variable_view, alias_type_view, alias_view};
+ghost use Rattle.ir_terminals.specs.declared.values.PlacedName.{PlacedName};
+ghost use Rattle.name_rules.specs.Breaks.{initialiser_demands, content_demands, variable_demands, alias_type_demands, alias_demands};
+ghost use Rattle.name_rules.specs.TypeDemands.{is_global};
+ghost use Rattle.type_judge.specs.Gathered.{IsKnown, known_of};
+ghost use Rattle.type_judge.specs.Judging.{IsJudged};
+ghost use Rattle.name_judge.specs.Seen.{AreFirst};
+
+use crate::seen::check_new;
+use ir_base::Place;
+use ir_constants::{Constant, Type};
+use ir_syntax::{Alias, AliasType, Variable};
+use name_rules::ResolveFault;
+use name_table::NameTable;
+use std::alloc::Global;
+use type_judge::{Known, check_alignment, check_constant, check_global, check_type, check_types};
+
+/// The initialiser of a variable of that type, where one is written.
+fn check_initialiser(
+    alloc: Global,
+    known: &Known,
+    ty: &Type,
+    initialiser: &Option<Constant>,
+) -> Result<(), ResolveFault>
+    requires known { IsKnown known.now }
+    ensures { IsJudged (initialiser_demands (known_of known.now) (type_view ty.now) (option_map constant_view initialiser.now)) result }
+{
+    match initialiser {
+        None => Ok(()),
+        Some(constant) => check_constant(alloc, known, constant, ty),
+    }
+}
+
+/// What stands behind the name of a variable.
+fn check_content(alloc: Global, known: &Known, variable: &Variable) -> Result<(), ResolveFault>
+    requires known { IsKnown known.now }
+    ensures { IsJudged (content_demands (known_of known.now) (variable_view variable.now)) result }
+{
+    check_type(alloc, known, &variable.ty)?;
+    check_initialiser(alloc, known, &variable.ty, &variable.initialiser)?;
+    check_alignment(&variable.alignment)
+}
+
+/// A variable, behind globals of these names.
+pub(crate) fn check_variable<'a>(
+    alloc: Global,
+    known: &Known,
+    globals: &mut NameTable<'a, Place>,
+    variable: &'a Variable,
+) -> Result<(), ResolveFault>
+    requires known { IsKnown known.now }
+    ensures judged { (before : List PlacedName) → AreFirst globals.old before → IsJudged (variable_demands (known_of known.now) before (variable_view variable.now)) result }
+    ensures seen { (before : List PlacedName) → AreFirst globals.old before → OnOk result (AreFirst globals.new (before ++ variable.now.name ∷ [])) }
+{
+    check_new(globals, &variable.name)?;
+    check_content(alloc, known, variable)
+}
+
+/// What the type of an alias asks for.
+fn check_alias_type(alloc: Global, known: &Known, ty: &AliasType) -> Result<(), ResolveFault>
+    requires known { IsKnown known.now }
+    ensures { IsJudged (alias_type_demands (known_of known.now) (alias_type_view ty.now)) result }
+{
+    match ty {
+        AliasType::Plain(ty) => check_type(alloc, known, ty),
+        AliasType::Function(returns, signature) => {
+            check_type(alloc, known, returns)?;
+            check_types(alloc, known, &signature.parameters)
+        }
+    }
+}
+
+/// What stands behind the name of an alias.
+fn check_meaning(alloc: Global, known: &Known, alias: &Alias) -> Result<(), ResolveFault>
+    requires known { IsKnown known.now }
+    ensures { IsJudged (alias_type_demands (known_of known.now) (alias_type_view alias.now.ty) ++ is_global (known_of known.now) alias.now.target ∷ []) result }
+{
+    check_alias_type(alloc, known, &alias.ty)?;
+    check_global(alloc, known, &alias.target)
+}
+
+/// An alias, behind globals of these names.
+pub(crate) fn check_alias<'a>(
+    alloc: Global,
+    known: &Known,
+    globals: &mut NameTable<'a, Place>,
+    alias: &'a Alias,
+) -> Result<(), ResolveFault>
+    requires known { IsKnown known.now }
+    ensures judged { (before : List PlacedName) → AreFirst globals.old before → IsJudged (alias_demands (known_of known.now) before (alias_view alias.now)) result }
+    ensures seen { (before : List PlacedName) → AreFirst globals.old before → OnOk result (AreFirst globals.new (before ++ alias.now.name ∷ [])) }
+{
+    check_new(globals, &alias.name)?;
+    check_meaning(alloc, known, alias)
+}

@@ -1,0 +1,68 @@
+//! Judges the items of a text, in the order of the text.
+ghost use Rattle.std.specs.Prelude.{◌≡◌, ◌<◌, ◌^◌, OnOk, List, [], ◌∷◌, ◌++◌, length};
+ghost use Rattle.ir_syntax.specs.Tree.{ItemTree};
+ghost use Rattle.ir_syntax.specs.View.{item_view, items_view};
+ghost use Rattle.name_rules.specs.Breaks.{item_demands, demands};
+ghost use Rattle.name_rules.specs.ModuleOf.{structs_in};
+ghost use Rattle.type_judge.specs.Gathered.{IsKnown, known_of};
+ghost use Rattle.type_judge.specs.Judging.{IsJudged};
+ghost use Rattle.struct_ends.specs.Mentioning.{AreMentions, structs_of};
+ghost use Rattle.name_judge.specs.Seen.{IsSeen};
+
+use crate::functions::{check_declaration, check_function};
+use crate::globals::{check_alias, check_variable};
+use crate::seen::{Seen, check_first, nothing_seen};
+use crate::structs::check_struct;
+use ir_syntax::{Item, Items};
+use name_rules::ResolveFault;
+use std::alloc::Global;
+use struct_ends::StructMentions;
+use type_judge::Known;
+
+/// An item, behind what has stood in the text so far.
+fn check_item<'a>(
+    alloc: Global,
+    known: &Known,
+    mentions: &StructMentions,
+    seen: &mut Seen<'a>,
+    item: &'a Item,
+) -> Result<(), ResolveFault>
+    requires known { IsKnown known.now }
+    requires mentions { AreMentions mentions.now }
+    requires structs { structs_of mentions.now ≡ (known_of known.now).structs }
+    ensures judged { (before : List ItemTree) → IsSeen seen.old before → IsJudged (item_demands (known_of known.now) before (item_view item.now)) result }
+    ensures seen { (before : List ItemTree) → IsSeen seen.old before → OnOk result (IsSeen seen.new (before ++ item_view item.now ∷ [])) }
+{
+    match item {
+        Item::SourceFilename(place, _) => check_first(&mut seen.source, *place),
+        Item::DataLayout(place, _) => check_first(&mut seen.layout, *place),
+        Item::TargetTriple(place, _) => check_first(&mut seen.triple, *place),
+        Item::Struct(name, body) => {
+            check_struct(alloc, known, mentions, &mut seen.structs, name, body)
+        }
+        Item::Variable(variable) => check_variable(alloc, known, &mut seen.globals, variable),
+        Item::Alias(alias) => check_alias(alloc, known, &mut seen.globals, alias),
+        Item::Declaration(_, declaration) => {
+            check_declaration(alloc, known, &mut seen.globals, declaration)
+        }
+        Item::Definition(_, definition) => {
+            check_function(alloc, known, &mut seen.globals, definition)
+        }
+        Item::Attributes(_) => Ok(()),
+        Item::Metadata(_) => Ok(()),
+    }
+}
+
+/// The items of a text, each behind those before it.
+pub(crate) fn check_items(alloc: Global, items: &Items) -> Result<(), ResolveFault>
+    requires few { length (structs_in (items_view items.now)) < 2 ^ 32 }
+    ensures { IsJudged (demands (items_view items.now)) result }
+{
+    let known = Known::of_items(alloc, items)?;
+    let mentions = StructMentions::of_items(alloc, items)?;
+    let mut seen = nothing_seen(alloc);
+    'items: for item in items.as_slice() {
+        check_item(alloc, &known, &mentions, &mut seen, item)?;
+    }
+    Ok(())
+}

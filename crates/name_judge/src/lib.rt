@@ -1,0 +1,35 @@
+//! Judges the items of a text by the rules of names and numbers.
+//!
+//! It stands on the judges of types, constants and names of `type_judge`, on `local_judge` for the bodies of functions, and
+//! on `struct_ends` for structs that contain themselves. It promises that items are let through exactly where they break no
+//! rule, and that else the first break is told: too many of a kind, else the first demand in the order of the text.
+//! Definitions: `specs/Seen`; the breaks are those of `name_rules`, `specs/Breaks`.
+#![tactic(auto)]
+
+ghost use Rattle.std.specs.Prelude.{◌≤◌, ◌^◌};
+ghost use Rattle.ir_syntax.specs.Counts.{counted};
+ghost use Rattle.ir_syntax.specs.View.{items_view};
+ghost use Rattle.name_rules.specs.Breaks.{first_break};
+ghost use Rattle.name_rules.specs.Demand.{Tells};
+
+mod counts;
+mod functions;
+mod globals;
+mod items;
+mod seen;
+mod structs;
+
+use counts::check_counts;
+use ir_syntax::Items;
+use items::check_items;
+use name_rules::ResolveFault;
+use std::alloc::Global;
+
+/// Judges the items of a text by the rules of names and numbers: tells the first break.
+pub fn judge(alloc: Global, items: &Items) -> Result<(), ResolveFault>
+    requires few { counted (items_view items.now) ≤ 2 ^ 24 }
+    ensures { Tells (first_break (items_view items.now)) result }
+{
+    check_counts(items)?;
+    check_items(alloc, items)
+}
