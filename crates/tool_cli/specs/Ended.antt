@@ -1,13 +1,15 @@
 -- The status of an end, and the line that tells it.
-use Rattle.std.specs.Prelude.{ℕ, List, [], ◌∷◌, ◌++◌, codes}
+use Rattle.std.specs.Prelude.{ℕ, List, [], ◌∷◌, ◌++◌, codes, Option, Some, None}
 use Rattle.std.specs.Fmt.{decimal}
 use Rattle.ir_base.specs.declared.place.Place.{Place}
+use Rattle.module_arena.specs.declared.fault.CountKind.{CountKind}
+use Rattle.module_arena.specs.declared.fault.CountKind.TheVariants.{Structs, Variables, Functions, Aliases, AppendedBytes}
 use Rattle.bits.specs.declared.fault.BitFaultKind.{BitFaultKind}
 use Rattle.bits.specs.declared.fault.BitFaultKind.TheVariants.{BadMagic, Truncated, BadAbbreviation, VbrTooLong, BadBlockLength, NestedTooDeep}
 use Rattle.command_line.specs.Kinds.{kind_words}
 use Rattle.command_line.specs.Tools.{line_name}
 use Rattle.tool_cli.specs.declared.ended.Ended.{Ended}
-use Rattle.tool_cli.specs.declared.ended.Ended.TheVariants.{Exit, StepsUsed, Usage, CannotRead, CannotWrite, InputTooLarge, BadByte, NoItemHere, LeftOutWord, TooDeep, BitFault, NotBuilt, Memory}
+use Rattle.tool_cli.specs.declared.ended.Ended.TheVariants.{Exit, StepsUsed, Usage, CannotRead, CannotWrite, InputTooLarge, BadByte, NoItemHere, LeftOutWord, UnknownName, Duplicate, WrongNumber, ConstantRange, TooDeep, TooLarge, SelfContaining, TooMany, BitFault, NotBuilt, Memory}
 use Rattle.tool_cli.specs.declared.ended.Ended.TheVariants as ends
 
 -- 0 where a tool did its work; a program's own status; 1 where a tool refuses; 120 where memory ran out, and 124 where
@@ -23,7 +25,14 @@ status_of (InputTooLarge name limit) = 1
 status_of (BadByte name place) = 1
 status_of (NoItemHere name place) = 1
 status_of (LeftOutWord name place word) = 1
+status_of (UnknownName name place spelled) = 1
+status_of (Duplicate name place first) = 1
+status_of (WrongNumber name place next found) = 1
+status_of (ConstantRange name place) = 1
 status_of (TooDeep name place) = 1
+status_of (TooLarge name place) = 1
+status_of (SelfContaining name place) = 1
+status_of (TooMany name kind count) = 1
 status_of (BitFault name fault) = 1
 status_of NotBuilt = 1
 status_of Memory = 120
@@ -49,6 +58,32 @@ fault_words VbrTooLong = codes "vbr too long"
 fault_words BadBlockLength = codes "bad block length"
 fault_words NestedTooDeep = codes "nested too deep"
 
+-- what there are too many of, in words
+abbrev pub count_words : CountKind → List ℕ
+count_words Structs = codes "structs"
+count_words Variables = codes "variables"
+count_words Functions = codes "functions"
+count_words Aliases = codes "aliases"
+count_words AppendedBytes = codes "appended bytes"
+
+-- line and column
+abbrev pub place_words : Place → List ℕ
+place_words place = decimal place.line ++ (codes ":" ++ decimal place.column)
+
+-- what standard error is told of an end at a place of an input; of another end nothing
+abbrev pub placed_line : List (List ℕ) → Ended → List ℕ
+placed_line words (BadByte name place) = error_line words (located name place (codes "bad byte"))
+placed_line words (NoItemHere name place) = error_line words (located name place (codes "no item here"))
+placed_line words (LeftOutWord name place word) = error_line words (located name place (codes "left out: " ++ word))
+placed_line words (UnknownName name place spelled) = error_line words (located name place (codes "unknown name " ++ spelled))
+placed_line words (Duplicate name place first) = error_line words (located name place (codes "duplicate, first at " ++ place_words first))
+placed_line words (WrongNumber name place next found) = error_line words (located name place (codes "number " ++ (decimal next ++ (codes " expected, " ++ (found ++ codes " found")))))
+placed_line words (ConstantRange name place) = error_line words (located name place (codes "constant out of range"))
+placed_line words (TooDeep name place) = error_line words (located name place (codes "too deep"))
+placed_line words (TooLarge name place) = error_line words (located name place (codes "too large"))
+placed_line words (SelfContaining name place) = error_line words (located name place (codes "contains itself"))
+placed_line words ended = []
+
 -- what standard error is told: one line, or nothing of a tool that did its work and of a program that ended
 abbrev pub line_of : List (List ℕ) → Ended → List ℕ
 line_of words ends.Ok = []
@@ -58,10 +93,9 @@ line_of words (Usage kind k) = error_line words (codes "usage: " ++ (kind_words 
 line_of words (CannotRead name) = error_line words (codes "cannot read " ++ name)
 line_of words (CannotWrite name) = error_line words (codes "cannot write " ++ name)
 line_of words (InputTooLarge name limit) = error_line words (name ++ (codes ": over " ++ (decimal limit ++ codes " bytes")))
-line_of words (BadByte name place) = error_line words (located name place (codes "bad byte"))
-line_of words (NoItemHere name place) = error_line words (located name place (codes "no item here"))
-line_of words (LeftOutWord name place word) = error_line words (located name place (codes "left out: " ++ word))
-line_of words (TooDeep name place) = error_line words (located name place (codes "too deep"))
+line_of words (TooMany None kind count) = error_line words (codes "too many " ++ (count_words kind ++ (codes ": " ++ decimal count)))
+line_of words (TooMany (Some name) kind count) = error_line words (name ++ (codes ": too many " ++ (count_words kind ++ (codes ": " ++ decimal count))))
 line_of words (BitFault name fault) = error_line words (name ++ (codes ": bit " ++ (decimal fault.bit ++ (codes ": " ++ fault_words fault.kind))))
 line_of words NotBuilt = error_line words (codes "not built")
 line_of words Memory = error_line words (codes "out of memory")
+line_of words ended = placed_line words ended

@@ -1,5 +1,5 @@
--- Whether inputs are texts of the language, judged in the order of the words.
-use Rattle.std.specs.Prelude.{◌≡◌, ◌⊎◌, ◌==◌, ◌≤◌, ℕ, Bool, List, [], ◌∷◌, length}
+-- Whether inputs are texts of modules, judged in the order of the words.
+use Rattle.std.specs.Prelude.{◌≡◌, ◌⊎◌, ◌==◌, ◌≤◌, ℕ, Bool, List, [], ◌∷◌, length, Some, None}
 use Rattle.std.specs.Bool.{MatchBool}
 use Rattle.std.specs.List.{starts_with}
 use Rattle.ir_syntax.specs.Answers.{HasItems}
@@ -7,8 +7,11 @@ use Rattle.ir_syntax.specs.Refusal.{IsRefused}
 use Rattle.ir_syntax.specs.Tree.{ItemTree}
 use Rattle.ir_syntax.specs.declared.read.SyntaxFault.{SyntaxFault}
 use Rattle.ir_syntax.specs.declared.read.SyntaxFault.TheVariants as faults
+use Rattle.name_rules.specs.Breaks.{first_break}
+use Rattle.name_rules.specs.declared.fault.ResolveFault.{ResolveFault}
+use Rattle.name_rules.specs.declared.fault.ResolveFault.TheVariants as breaks
 use Rattle.tool_cli.specs.declared.ended.Ended.{Ended}
-use Rattle.tool_cli.specs.declared.ended.Ended.TheVariants.{BadByte, NoItemHere, LeftOutWord, TooDeep, Memory}
+use Rattle.tool_cli.specs.declared.ended.Ended.TheVariants.{BadByte, NoItemHere, LeftOutWord, TooMany, Duplicate, UnknownName, WrongNumber, ConstantRange, TooDeep, SelfContaining, TooLarge, Memory}
 use Rattle.tool_cli.specs.declared.inputs.TheConstants.{LARGEST}
 
 -- The bytes that bitcode begins with (LLVM Bitcode File Format, "LLVM IR Magic Number").
@@ -26,19 +29,47 @@ refusal_told name (faults.LeftOutWord place word) = LeftOutWord name place word
 refusal_told name (faults.TooDeep place) = TooDeep name place
 refusal_told name faults.Memory = Memory
 
--- the text of the input of this name is refused, and this is told
-pub record IsTextRefused (name text : List ℕ) (ended : Ended) : Type 0 where
+-- the text of the input of this name has no items, and this is told
+pub record HasNoItems (name text : List ℕ) (ended : Ended) : Type 0 where
   pub fault : SyntaxFault
   pub refused : IsRefused text fault
   pub told : ended ≡ refusal_told name fault
+
+-- the break of the items of a text, told with the name of its input
+abbrev pub break_told : List ℕ → ResolveFault → Ended
+break_told name (breaks.TooMany kind count) = TooMany (Some name) kind count
+break_told name (breaks.Duplicate place first) = Duplicate name place first
+break_told name (breaks.UnknownName place spelled) = UnknownName name place spelled
+break_told name (breaks.WrongNumber place next found) = WrongNumber name place next found
+break_told name (breaks.ConstantRange place) = ConstantRange name place
+break_told name (breaks.TooDeep place) = TooDeep name place
+break_told name (breaks.SelfContaining place) = SelfContaining name place
+break_told name (breaks.TooLarge place) = TooLarge name place
+break_told name breaks.Memory = Memory
+
+-- the items of the text of the input of this name are no module, and this is told
+pub record HasNoModule (name text : List ℕ) (ended : Ended) : Type 0 where
+  pub items : List ItemTree
+  pub has_items : HasItems text items
+  pub fault : ResolveFault
+  pub breaks : first_break items ≡ Some fault
+  pub told : ended ≡ break_told name fault
+
+-- the text of the input of this name is refused, and this is told
+abbrev pub IsTextRefused : List ℕ → List ℕ → Ended → Type 0
+IsTextRefused name text ended = HasNoItems name text ended ⊎ HasNoModule name text ended
+
+-- these are the items of the text, and those of a module
+abbrev pub HasModule : List ℕ → List ItemTree → Type 0
+HasModule text items = HasItems text items × (first_break items ≡ None)
 
 -- an input of this name is a text that is refused; bitcode is not judged
 abbrev pub IsPartRefused : List ℕ → List ℕ → Ended → Type 0
 IsPartRefused name text ended = MatchBool (is_bitcode text) ⊥ (IsTextRefused name text ended)
 
--- an input is a text that has items, or bitcode
+-- an input is a text of a module, or bitcode
 abbrev pub IsPartAccepted : List ℕ → Type 0
-IsPartAccepted text = MatchBool (is_bitcode text) (Unit {0}) ((items : List ItemTree) × HasItems text items)
+IsPartAccepted text = MatchBool (is_bitcode text) (Unit {0}) ((items : List ItemTree) × HasModule text items)
 
 abbrev pub AreAccepted : List (List ℕ) → Type 0
 AreAccepted [] = Unit {0}

@@ -2,7 +2,6 @@
 use Rattle.std.specs.Prelude.{◌≡◌, ◌⊎◌, nat_lt, ℕ, ◌+◌, ◌%◌, List, [], ◌∷◌, length, Option, Some, None, Result, Ok, Err, if◌then◌else◌}
 use Rattle.std.specs.Bool.{MatchBool}
 use Rattle.ir_base.specs.Files.{Named}
-use Rattle.ir_syntax.specs.Answers.{HasItems}
 use Rattle.ir_syntax.specs.Small.{straight}
 use Rattle.ir_syntax.specs.Tree.{ItemTree}
 use Rattle.ir_syntax.specs.declared.straight.Straight.{Straight}
@@ -16,7 +15,7 @@ use Rattle.tool_cli.specs.declared.ended.Ended.{Ended}
 use Rattle.tool_cli.specs.declared.ended.Ended.TheVariants.{Exit, StepsUsed, Usage, CannotRead, CannotWrite, InputTooLarge, NotBuilt, Memory}
 use Rattle.tool_cli.specs.Inputs.{inputs_of, texts_read}
 use Rattle.tool_cli.specs.Analyzed.{IsAnalysis}
-use Rattle.tool_cli.specs.Judged.{is_bitcode, IsTextRefused, IsFirstRefusal, AreAccepted}
+use Rattle.tool_cli.specs.Judged.{is_bitcode, IsTextRefused, HasModule, IsFirstRefusal, AreAccepted}
 
 -- the end of a program, each line of which is a step, and so is its return
 abbrev pub end_within : ℕ → Straight → Ended
@@ -30,7 +29,7 @@ items_end bound (Some program) = end_within bound program
 -- the end of `lli` over the text of the input of this name, within so many steps
 abbrev pub IsTextRun : List ℕ → ℕ → List ℕ → Ended → Type 0
 IsTextRun name bound text ended =
-    IsTextRefused name text ended ⊎ ((items : List ItemTree) × HasItems text items × (ended ≡ items_end bound (straight items)))
+    IsTextRefused name text ended ⊎ ((items : List ItemTree) × HasModule text items × (ended ≡ items_end bound (straight items)))
 
 -- the same over any bytes: bitcode is not built
 abbrev pub IsRun : List ℕ → ℕ → List ℕ → Ended → Type 0

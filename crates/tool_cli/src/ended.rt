@@ -5,6 +5,7 @@ ghost use Rattle.tool_cli.specs.Ended.{status_of};
 use bits::BitFault;
 use command_line::UsageKind;
 use ir_base::{Place, Text};
+use module_arena::CountKind;
 use std::alloc::AllocError;
 
 /// What a run of a tool ended with. Each but `Ok` and `Exit` has one line on standard error.
@@ -30,8 +31,23 @@ pub enum Ended {
     NoItemHere(Text, Place),
     /// In the input of this name the token at this place, spelled so, begins or is what the language leaves out.
     LeftOutWord(Text, Place, Text),
-    /// In the input of this name the token at this place opens a type or a constant 65 deep.
+    /// In the input of this name the token at this place, spelled so in canonical text, names nothing, a value where a
+    /// block is asked, or a block where a value is.
+    UnknownName(Text, Place, Text),
+    /// In the input of this name what the token at the first place names is named already, first at the second.
+    Duplicate(Text, Place, Place),
+    /// In the input of this name the token at this place is not the next number, which this is; its digits are these.
+    WrongNumber(Text, Place, u64, Text),
+    /// In the input of this name the integer at this place is out of the range of its place.
+    ConstantRange(Text, Place),
+    /// In the input of this name the token at this place opens a type or a constant 65 deep, or names such a type.
     TooDeep(Text, Place),
+    /// In the input of this name the type at this place is too large.
+    TooLarge(Text, Place),
+    /// In the input of this name the struct at this place holds itself by value.
+    SelfContaining(Text, Place),
+    /// There are so many of these, which is past the limit; in the input of this name, where it is about one.
+    TooMany(Option<Text>, CountKind, u64),
     /// The bits of the input of this name are no stream: this field is refused.
     BitFault(Text, BitFault),
     /// The tool is not built, or not for such an input.
@@ -72,7 +88,14 @@ pub fn status_of(ended: &Ended) -> u8
         | Ended::BadByte(_, _)
         | Ended::NoItemHere(_, _)
         | Ended::LeftOutWord(_, _, _)
+        | Ended::UnknownName(_, _, _)
+        | Ended::Duplicate(_, _, _)
+        | Ended::WrongNumber(_, _, _, _)
+        | Ended::ConstantRange(_, _)
         | Ended::TooDeep(_, _)
+        | Ended::TooLarge(_, _)
+        | Ended::SelfContaining(_, _)
+        | Ended::TooMany(_, _, _)
         | Ended::BitFault(_, _)
         | Ended::NotBuilt => 1,
         Ended::Memory => 120,

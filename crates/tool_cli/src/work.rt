@@ -1,8 +1,8 @@
 //! What the tools do with the texts of their inputs.
-ghost use Rattle.std.specs.Prelude.{◌≡◌, ◌⊎◌, ◌<◌, ℕ, List, length, codes, false, IfErr, OnOk};
+ghost use Rattle.std.specs.Prelude.{◌≡◌, ◌⊎◌, ◌<◌, ℕ, List, length, codes, false, IfOk, IfErr, OnOk};
 ghost use Rattle.ir_base.specs.Outside.{Rose};
 ghost use Rattle.tool_cli.specs.Inputs.{inputs_of};
-ghost use Rattle.tool_cli.specs.Judged.{is_bitcode, refusal_told, IsShort, AreShort, AreAccepted, IsPartAccepted, IsPartRefused, IsFirstRefusal};
+ghost use Rattle.tool_cli.specs.Judged.{is_bitcode, refusal_told, break_told, IsShort, AreShort, IsTextRefused, HasModule, AreAccepted, IsPartAccepted, IsPartRefused, IsFirstRefusal};
 ghost use Rattle.tool_cli.specs.Causes.{IsUnwritten, IsUnwrittenOrMemory};
 ghost use Rattle.tool_cli.specs.Analyzed.{is_analysis, IsWritten};
 ghost use Rattle.tool_cli.specs.Told.{items_end, IsTextRun, IsRun, IsWork, IsOfTexts, IsOfWork};
@@ -16,6 +16,7 @@ use command_line::Command;
 use ir_base::{Sink, Text, TextList};
 use ir_run::run_straight;
 use ir_syntax::{Items, SyntaxFault, read_items, straight_of};
+use name_rules::ResolveFault;
 use std::alloc::Global;
 
 /// The bytes that bitcode begins with (LLVM Bitcode File Format, "LLVM IR Magic Number").
@@ -44,6 +45,46 @@ fn refusal_told(alloc: Global, name: &Text, fault: SyntaxFault) -> Ended
     }
 }
 
+// The break of the items of a text, told with the name of its input.
+fn break_told(alloc: Global, name: &Text, fault: ResolveFault) -> Ended
+    ensures told { (result ≡ break_told name.now fault) ⊎ (result ≡ Ended.Memory) }
+    ensures of_texts { IsOfTexts result }
+{
+    let Ok(name) = Text::from_slice(alloc, name.bytes()) else {
+        return Ended::Memory;
+    };
+    match fault {
+        ResolveFault::TooMany(kind, count) => Ended::TooMany(Some(name), kind, count),
+        ResolveFault::Duplicate(place, first) => Ended::Duplicate(name, place, first),
+        ResolveFault::UnknownName(place, spelled) => Ended::UnknownName(name, place, spelled),
+        ResolveFault::WrongNumber(place, next, found) => {
+            Ended::WrongNumber(name, place, next, found)
+        }
+        ResolveFault::ConstantRange(place) => Ended::ConstantRange(name, place),
+        ResolveFault::TooDeep(place) => Ended::TooDeep(name, place),
+        ResolveFault::SelfContaining(place) => Ended::SelfContaining(name, place),
+        ResolveFault::TooLarge(place) => Ended::TooLarge(name, place),
+        ResolveFault::Memory => Ended::Memory,
+    }
+}
+
+// The items of the text of the input of this name, where they are those of a module.
+fn module_items(alloc: Global, name: &Text, text: &[u8]) -> Result<Items, Ended>
+    requires { IsShort text.now }
+    ensures module { IfOk result (λ items. HasModule text.now (items_view items)) }
+    ensures refused { IfErr result (λ ended. IsTextRefused name.now text.now ended ⊎ (ended ≡ Ended.Memory)) }
+    ensures of_texts { IfErr result IsOfTexts }
+{
+    let items = match read_items(alloc, text) {
+        Ok(items) => items,
+        Err(fault) => return Err(refusal_told(alloc, name, fault)),
+    };
+    match name_judge::judge(alloc, &items) {
+        Ok(()) => Ok(items),
+        Err(fault) => Err(break_told(alloc, name, fault)),
+    }
+}
+
 // Runs items for so many steps.
 fn run_items(alloc: Global, items: &Items, max_steps: u64) -> Ended
     ensures run { (result ≡ items_end max_steps (straight (items_view items.now))) ⊎ (result ≡ Ended.Memory) }
@@ -67,9 +108,9 @@ fn run_text(alloc: Global, name: &Text, text: &[u8], max_steps: u64) -> Ended
     ensures run { IsTextRun name.now max_steps text.now result ⊎ (result ≡ Ended.Memory) }
     ensures of_texts { IsOfTexts result }
 {
-    match read_items(alloc, text) {
+    match module_items(alloc, name, text) {
         Ok(items) => run_items(alloc, &items, max_steps),
-        Err(fault) => refusal_told(alloc, name, fault),
+        Err(ended) => ended,
     }
 }
 
@@ -86,7 +127,7 @@ fn run(alloc: Global, name: &Text, bytes: &[u8], max_steps: u64) -> Ended
     }
 }
 
-// Judges the input of this name: a text is read, and bitcode is passed over.
+// Judges the input of this name: a text is one of a module, and bitcode is passed over.
 fn judge(alloc: Global, name: &Text, bytes: &[u8]) -> Result<(), Ended>
     requires { IsShort bytes.now }
     ensures accepted { OnOk result (IsPartAccepted bytes.now) }
@@ -96,10 +137,7 @@ fn judge(alloc: Global, name: &Text, bytes: &[u8]) -> Result<(), Ended>
     if is_bitcode(bytes) {
         return Ok(());
     }
-    match read_items(alloc, bytes) {
-        Ok(_) => Ok(()),
-        Err(fault) => Err(refusal_told(alloc, name, fault)),
-    }
+    module_items(alloc, name, bytes).map(|_| ())
 }
 
 // Judges the inputs of these names, in their order.

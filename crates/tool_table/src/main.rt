@@ -10,6 +10,7 @@
 //! | `+ TEXT`, `\| TEXT` | this text, and the text with a line feed |
 //! | `= HEX` | these bytes, two digits each |
 //! | `* N TEXT` | the text so many times |
+//! | `each N M TEXT` | for each number from N up to M the text, which has it in place of each `#` |
 //! | `sums N M` | for each k from N to M the line `%k = add i32 %(k-2), %(k-1)` |
 //! | `fails input N ..` | these calls of standard input fail, counted from 1; so also `files`, `output`, `errors` |
 //! | `room output N` | standard output takes so many bytes; so also `errors`. Else each takes 65536 |

@@ -108,6 +108,27 @@ impl Stage {
         Ok(())
     }
 
+    // The text for each number from the first up to the last, which it has in place of each `#`.
+    fn add_each(
+        &mut self,
+        alloc: Global,
+        first: u64,
+        last: u64,
+        text: &[u8],
+    ) -> Result<(), AllocError> {
+        for number in first..last {
+            let digits = format!(in alloc; "{number}")?;
+            for byte in text {
+                if *byte == b'#' {
+                    self.content.extend_from_slice(digits.as_bytes())?;
+                } else {
+                    self.content.push(*byte)?;
+                }
+            }
+        }
+        Ok(())
+    }
+
     // The text so many times.
     fn add_times(&mut self, count: u64, text: &[u8]) -> Result<(), AllocError> {
         for _ in 0..count {
@@ -150,6 +171,12 @@ impl Stage {
                 let (count, text) = parts(rest);
                 let text = unescaped(alloc, text)?;
                 self.add_times(number_of(count), text.as_slice())
+            }
+            b"each" => {
+                let (first, rest) = parts(rest);
+                let (last, text) = parts(rest);
+                let text = unescaped(alloc, text)?;
+                self.add_each(alloc, number_of(first), number_of(last), text.as_slice())
             }
             b"sums" => {
                 let (first, last) = parts(rest);

@@ -8,9 +8,3 @@ returns-in-Memory g c = rw c.in-Memory.is c.tell_text-in-Memory.ensures
 
 pub returns-in-CannotWrite : goal.returns-in-CannotWrite
 returns-in-CannotWrite g c = rw c.in-CannotWrite.is (rw c.bytes-in-CannotWrite.ensures at c.tell_text-in-CannotWrite.ensures)
-
-pub returns-in-NoItemHere : goal.returns-in-NoItemHere
-returns-in-NoItemHere g c = rw c.in-NoItemHere.is c.tell_place-in-NoItemHere.ensures
-
-pub returns-in-LeftOutWord : goal.returns-in-LeftOutWord
-returns-in-LeftOutWord g c = rw c.in-LeftOutWord.is (rw c.bytes-in-LeftOutWord.ensures at c.tell_place-in-LeftOutWord.ensures)
