@@ -1,5 +1,5 @@
 -- A name that is free and a count that is small are taken: only memory may be wanting.
-use Rattle.std.proofs.Common.{◌≡◌, ℕ, ◌+◌, List, [], ◌∷◌, length, map, All, arith, refl, sym, ap, ◌∙◌, subst}
+use Rattle.std.proofs.Common.{◌≡◌, ℕ, ◌+◌, List, [], ◌∷◌, length, map, All, Result, Ok, Err, OnOk, arith, refl, sym, ap, ◌∙◌, subst}
 use Rattle.std.proofs.lemmas.List.{length_push}
 use Rattle.std.proofs.lemmas.List.Elements.{All-cons, All-head, All-tail}
 use Rattle.module_arena.specs.declared.entry.Variable as the_variable
@@ -49,3 +49,8 @@ all_mapped f P (x ∷ xs) all = All-cons (λ y. P (f y)) x xs (All-head P (f x) 
 pub map_twice : {X Y Z : Type 0} (f : X → Y) (g : Y → Z) (xs : List X) → map g (map f xs) ≡ map (λ x. g (f x)) xs
 map_twice f g [] = refl
 map_twice f g (x ∷ xs) = ap (λ ys. g (f x) ∷ ys) (map_twice f g xs)
+
+-- what stays the same twice
+pub then_same : {A E X : Type 0} (r : Result A E) (x y z : X) → y ≡ x → OnOk r (z ≡ y) → OnOk r (z ≡ x)
+then_same (Ok a) x y z first then = then ∙ first
+then_same (Err e) x y z first then = tt

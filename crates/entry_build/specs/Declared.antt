@@ -1,8 +1,9 @@
 -- What is asked for where an entry is declared, and what is declared of it.
-use Rattle.std.specs.Prelude.{◌≡◌, ℕ, ◌^◌, ◌<◌, ◌+◌, List, [], length, All, Option, Some, None}
+use Rattle.std.specs.Prelude.{◌≡◌, ℕ, ◌^◌, ◌<◌, ◌≤◌, ◌+◌, List, [], length, slice_get, All, Option, Some, None}
 use Rattle.ir_terminals.specs.declared.values.Integer.{Integer}
 use Rattle.ir_syntax.specs.Tree.{AliasTypeTree, PlainAlias, FunctionAlias}
 use Rattle.type_table.specs.Tree.{Structs}
+use Rattle.module_arena.specs.declared.entry.Alias as the_alias
 use Rattle.module_arena.specs.declared.entry.GlobalId.{GlobalId}
 use Rattle.module_arena.specs.Lists.{Lists, global_name}
 use Rattle.module_arena.specs.Known.{Counts, counts, first_excess}
@@ -45,3 +46,7 @@ without_target x = record x { target = [] }
 abbrev pub CanAlias : Structs → AliasTypeTree → Type 0
 CanAlias structs (PlainAlias ty) = CanBe structs (type_in ty)
 CanAlias structs (FunctionAlias returns parameters variadic) = CanBe structs (type_in returns) × All (λ t. CanBe structs (type_in t)) parameters
+
+-- no alias from that number on has a target yet
+abbrev pub AreUntargeted : ℕ → Lists → Type 0
+AreUntargeted first a = (id : ℕ) (x : the_alias.Alias) → first ≤ id → slice_get a.aliases id ≡ Some x → x.target ≡ None

@@ -1,5 +1,5 @@
 //! Aliases.
-ghost use Rattle.std.specs.Prelude.{◌≡◌, ◌<◌, map, length, slice_get, Some, None, All, IfOk, OnOk};
+ghost use Rattle.std.specs.Prelude.{◌≡◌, ◌<◌, ◌+◌, map, length, slice_get, Some, None, All, IfOk, OnOk};
 ghost use Rattle.ir_constants.specs.View.{type_view};
 ghost use Rattle.ir_syntax.specs.View.{alias_view, alias_type_view};
 ghost use Rattle.type_table.specs.Types.{structs, trees};
@@ -11,7 +11,7 @@ ghost use Rattle.module_arena.specs.declared.entry.Alias as the_alias;
 ghost use Rattle.name_rules.specs.ModuleOf.{alias_of, alias_type_in};
 ghost use Rattle.type_build.specs.Holding.{entries, HasEntry};
 ghost use Rattle.type_build.specs.Stands.{Grows};
-ghost use Rattle.entry_build.specs.Declared.{IsFree, AreFew, one_alias_more, CanAlias, without_target};
+ghost use Rattle.entry_build.specs.Declared.{IsFree, AreFew, one_alias_more, CanAlias, without_target, AreUntargeted};
 
 use crate::heads::{linkage_of, out_of_memory};
 use ir_syntax::{Alias, AliasType};
@@ -52,6 +52,7 @@ pub fn declare_alias(
     ensures id { IfOk result (λ id. id ≡ length builder.old.arena.aliases) }
     ensures module { OnOk result (module_of builder.new.arena
         ≡ more_aliases (module_of builder.old.arena) (without_target (alias_of (alias_view written.now)))) }
+    ensures untargeted { AreUntargeted 0 builder.old.arena → OnOk result (AreUntargeted 0 builder.new.arena) }
 {
     let ty = add_alias_type(builder, alloc, &written.ty)?;
     let name = written.name.name.to_name(alloc)?;
@@ -77,7 +78,8 @@ pub fn set_target(
     requires known { id < length builder.old.arena.aliases }
     requires untargeted { (x : the_alias.Alias) → slice_get builder.old.arena.aliases id ≡ Some x → x.target ≡ None }
     requires target { HasEntry (entries builder.old.arena) written.now.target.name }
-    ensures { OnOk result (module_of builder.new.arena ≡ targeted (module_of builder.old.arena) id written.now.target.name) }
+    ensures module { OnOk result (module_of builder.new.arena ≡ targeted (module_of builder.old.arena) id written.now.target.name) }
+    ensures untargeted { AreUntargeted id builder.old.arena → OnOk result (AreUntargeted (id + 1) builder.new.arena) }
 {
     let name = written.target.name.to_name(alloc)?;
     let Some(target) = builder.arena.lookup(&name) else {

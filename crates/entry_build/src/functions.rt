@@ -88,6 +88,7 @@ fn declare_head(
     ensures id { IfOk result (λ id. id ≡ length builder.old.arena.functions) }
     ensures module { OnOk result (module_of builder.new.arena
         ≡ more_functions (module_of builder.old.arena) (function_head (head_view head.now) (map (view.parameter_view (trees builder.old.arena.table)) parameters) variadic)) }
+    ensures aliases { OnOk result (builder.new.arena.aliases ≡ builder.old.arena.aliases) }
 {
     let result = builder.add_type(alloc, &head.returns)?;
     let name = head.name.name.to_name(alloc)?;
@@ -119,6 +120,7 @@ pub fn declare_function(
     ensures id { IfOk result (λ id. id ≡ length builder.old.arena.functions) }
     ensures module { OnOk result (module_of builder.new.arena
         ≡ more_functions (module_of builder.old.arena) (declared (head_view written.now.head) (parameter_types (map parameter_view written.now.formal.parameters.items)) written.now.formal.variadic)) }
+    ensures aliases { OnOk result (builder.new.arena.aliases ≡ builder.old.arena.aliases) }
 {
     let parameters = add_parameters(builder, alloc, false, &written.formal.parameters)?;
     declare_head(
@@ -144,6 +146,7 @@ pub fn declare_definition(
     ensures id { IfOk result (λ id. id ≡ length builder.old.arena.functions) }
     ensures module { OnOk result (module_of builder.new.arena
         ≡ more_functions (module_of builder.old.arena) (without_body (defined (head_view written.now.head) (map parameter_view written.now.parameters.items) (map block_view written.now.blocks.items)))) }
+    ensures aliases { OnOk result (builder.new.arena.aliases ≡ builder.old.arena.aliases) }
 {
     let parameters = add_parameters(builder, alloc, true, &written.parameters)?;
     declare_head(builder, alloc, &written.head, parameters, false)

@@ -32,6 +32,7 @@ pub fn declare_variable(
     ensures id { IfOk result (λ id. id ≡ length builder.old.arena.variables) }
     ensures module { OnOk result (module_of builder.new.arena
         ≡ more_variables (module_of builder.old.arena) (without_initialiser (variable_of (variable_view written.now)))) }
+    ensures aliases { OnOk result (builder.new.arena.aliases ≡ builder.old.arena.aliases) }
 {
     let ty = builder.add_type(alloc, &written.ty)?;
     let name = written.name.name.to_name(alloc)?;

@@ -7,8 +7,11 @@ use Rattle.type_table.specs.declared.fault.TypeFault.TheVariants.{Duplicate, Sel
 use Rattle.type_table.specs.declared.ir_type.IrType.{IrType}
 use Rattle.type_table.specs.Limits.{HasFault, IsTooDeep, IsTooLarge, IsWithin, IsWithinLimits, all_shapes}
 use Rattle.type_table.specs.Shape.{Shape, shape}
-use Rattle.type_table.specs.Tree.{named}
 use Rattle.type_table.specs.Types.{Types, IsGood, names, trees, tree_of, structs, with_type}
+use Rattle.type_table.specs.Tree.{Tree, Structs, named}
+use Rattle.module_arena.specs.Changes.{with_table}
+use Rattle.module_arena.specs.Lists.{Lists}
+use Rattle.type_build.specs.Fitting.{AreWithin}
 use Rattle.type_table.proofs.Added.{structs-with, trees-with}
 use Rattle.type_table.proofs.Judged.{All-left, All-right}
 
@@ -47,3 +50,9 @@ module _ (t : Types) (ty : IrType) (good : IsGood t) (within : IsWithin t) (fits
   memory_alone TooDeep has never = absurd (none_of IsWithinLimits IsTooDeep not_deep (all_shapes (with_type t ty)) all_fit has.1)
   memory_alone TooLarge has never = absurd (none_of IsWithinLimits IsTooLarge not_large (all_shapes (with_type t ty)) all_fit has.2)
   memory_alone Memory has never = refl
+
+-- one type more is within the limits
+pub within_more : (a : Lists) (ty : IrType) (whole : Structs) → IsWithinLimits (shape whole (tree_of (names a.table) (trees a.table) ty)) → AreWithin whole a → AreWithin whole (with_table a (with_type a.table ty))
+within_more a ty whole fits old =
+    let P : Tree → Type 0 = λ t. IsWithinLimits (shape whole t) in
+    subst (All P) (sym (trees-with a.table ty)) (All-push P (trees a.table) (tree_of (names a.table) (trees a.table) ty) old fits)

@@ -1,8 +1,10 @@
 -- Which types an arena can take: each is within the limits, and so is each that is written in it.
-use Rattle.std.specs.Prelude.{◌≤◌, Contains, map}
+use Rattle.std.specs.Prelude.{◌≤◌, All, Contains, map}
 use Rattle.type_table.specs.Limits.{IsWithinLimits}
 use Rattle.type_table.specs.Shape.{shape}
+use Rattle.type_table.specs.Types.{trees}
 use Rattle.type_table.specs.Tree.{Tree, int, ptr, void, array, struct, named, Trees, no_trees, more_trees, Structs}
+use Rattle.module_arena.specs.Lists.{Lists}
 
 abbrev mutual
   -- an integer has 1 to 128 bits, a struct is there, and no type in it is past a limit
@@ -17,3 +19,7 @@ abbrev mutual
   pub AllCanBe : Structs → Trees → Type 0
   AllCanBe structs no_trees = Unit {0}
   AllCanBe structs (more_trees t ts) = CanBe structs t × AllCanBe structs ts
+
+-- the types of the arena are within the limits, where these are the structs
+abbrev pub AreWithin : Structs → Lists → Type 0
+AreWithin structs a = All (λ t. IsWithinLimits (shape structs t)) (trees a.table)

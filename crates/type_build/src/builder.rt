@@ -2,11 +2,13 @@
 ghost use Rattle.std.specs.Prelude.{◌≡◌, length, slice_get, Some, IfOk, IfSome, OnOk};
 ghost use Rattle.type_table.specs.Limits.{IsWithinLimits};
 ghost use Rattle.type_table.specs.Shape.{shape};
+ghost use Rattle.type_table.specs.Tree.{Structs};
 ghost use Rattle.type_table.specs.Types.{IsKnown, names, trees, structs, tree_of};
 ghost use Rattle.type_table.specs.declared.fault.TypeFault.{TypeFault};
 ghost use Rattle.module_arena.specs.Lists.{no_lists};
 ghost use Rattle.module_arena.specs.Known.{counts, KnowsConst};
 ghost use Rattle.module_arena.specs.Changes.{constant_in};
+ghost use Rattle.type_build.specs.Fitting.{AreWithin};
 ghost use Rattle.type_build.specs.Stands.{IsType, IsConstant, Grows};
 
 use crate::copies::copied_const;
@@ -64,6 +66,8 @@ impl Builder {
         ensures grows { OnOk result (Grows self.old.arena self.new.arena) }
         ensures is { IfOk result (λ id.
             IsType self.new.arena id (tree_of (names self.old.arena.table) (trees self.old.arena.table) ty)) }
+        ensures within { (whole : Structs) → IsWithinLimits (shape whole (tree_of (names self.old.arena.table) (trees self.old.arena.table) ty)) → AreWithin whole self.old.arena
+            → OnOk result (AreWithin whole self.new.arena) }
     {
         let _good = self.arena.variable_count();
         let _good_types = self.arena.types().type_count();

@@ -1,10 +1,10 @@
 //! Types.
 ghost use Rattle.std.specs.Prelude.{◌≡◌, map, All, IfOk, OnOk};
 ghost use Rattle.ir_constants.specs.View.{type_view};
-ghost use Rattle.type_table.specs.Tree.{int, named};
+ghost use Rattle.type_table.specs.Tree.{Structs, int, named};
 ghost use Rattle.type_table.specs.Types.{structs};
 ghost use Rattle.name_rules.specs.Written.{type_in};
-ghost use Rattle.type_build.specs.Fitting.{CanBe};
+ghost use Rattle.type_build.specs.Fitting.{CanBe, AreWithin};
 ghost use Rattle.type_build.specs.Stands.{IsType, AreTypes, Grows};
 
 use crate::builder::Builder;
@@ -22,6 +22,7 @@ impl Builder {
         requires { CanBe (structs self.old.arena.table) (type_in (type_view ty.now)) }
         ensures grows { OnOk result (Grows self.old.arena self.new.arena) }
         ensures is { IfOk result (λ id. IsType self.new.arena id (type_in (type_view ty.now))) }
+        ensures within { (whole : Structs) → CanBe whole (type_in (type_view ty.now)) → AreWithin whole self.old.arena → OnOk result (AreWithin whole self.new.arena) }
     {
         match ty {
             Type::Integer(_, width) => self.add_integer(alloc, *width),
@@ -44,6 +45,7 @@ impl Builder {
         requires { CanBe (structs self.old.arena.table) (int width) }
         ensures grows { OnOk result (Grows self.old.arena self.new.arena) }
         ensures is { IfOk result (λ id. IsType self.new.arena id (int width)) }
+        ensures within { (whole : Structs) → CanBe whole (int width) → AreWithin whole self.old.arena → OnOk result (AreWithin whole self.new.arena) }
     {
         self.keep_type(alloc, IrType::Int(width))
     }
@@ -52,6 +54,7 @@ impl Builder {
         requires { CanBe (structs self.old.arena.table) (named name.now.name) }
         ensures grows { OnOk result (Grows self.old.arena self.new.arena) }
         ensures is { IfOk result (λ id. IsType self.new.arena id (named name.now.name)) }
+        ensures within { (whole : Structs) → CanBe whole (named name.now.name) → AreWithin whole self.old.arena → OnOk result (AreWithin whole self.new.arena) }
     {
         let name = name.name.to_name(alloc)?;
         let Some(id) = self.arena.types().struct_of(&name) else {
@@ -66,6 +69,7 @@ impl Builder {
         requires { All (λ t. CanBe (structs self.old.arena.table) (type_in (type_view t))) types.now }
         ensures grows { OnOk result (Grows self.old.arena self.new.arena) }
         ensures are { IfOk result (λ ids. AreTypes self.new.arena ids (map (λ t. type_in (type_view t)) types.now)) }
+        ensures within { (whole : Structs) → All (λ t. CanBe whole (type_in (type_view t))) types.now → AreWithin whole self.old.arena → OnOk result (AreWithin whole self.new.arena) }
     {
         let mut ids = Vec::with_capacity(alloc, types.len())?;
         for ty in types {

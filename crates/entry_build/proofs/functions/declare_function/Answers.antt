@@ -9,7 +9,7 @@ use Rattle.name_rules.specs.ModuleOf.{parameters_in}
 use Rattle.name_rules.specs.Written.{type_in}
 use Rattle.type_build.proofs.Staying.{can_still_be}
 use Rattle.entry_build.specs.Parameters.{kept, function_head}
-use Rattle.entry_build.proofs.Declaring.{free_still, map_twice}
+use Rattle.entry_build.proofs.Declaring.{free_still, map_twice, then_same}
 use Rattle.entry_build.proofs.Parameters.{numbered_alone}
 use Rattle.entry_build.proofs.functions.declare_function.Goals as goal
 
@@ -29,3 +29,6 @@ returns-clause-module c =
     subst (λ (w : Module). OnOk c.declare_head.result (module_of c.declare_head.new.builder.arena ≡ w))
     (λ j. more_functions (grows.same j) (function_head (head_view c.args.written.now.head) (ps j) c.args.written.now.formal.variadic))
     c.declare_head.ensures.module
+
+pub returns-clause-aliases : goal.returns-clause-aliases
+returns-clause-aliases c = then_same c.declare_head.result _ _ _ c.in_ok-parameters.ensures.grows.aliases c.declare_head.ensures.aliases

@@ -1,9 +1,10 @@
-use Rattle.std.proofs.Common.{None, map, refl, sym, subst, ◌∙◌, arith}
+use Rattle.std.proofs.Common.{None, map, refl, sym, subst, ap, ◌∙◌, arith}
 use Rattle.module_arena.specs.declared.entry.Function as the_function
 use Rattle.type_table.specs.Types.{trees}
 use Rattle.module_arena.specs.Changes.{with_function, more_functions}
 use Rattle.module_arena.specs.View.{parameter_view}
 use Rattle.module_arena.specs.Known.{counts}
+use Rattle.module_arena.specs.Lists.{Lists}
 use Rattle.entry_build.specs.Declared.{IsFree}
 use Rattle.entry_build.proofs.Declaring.{memory_alone, free_still, few_functions_still}
 use Rattle.entry_build.proofs.Parameters.{parameters_stay}
@@ -36,3 +37,6 @@ returns-in-Ok-clause-module c =
     let stay = parameters_stay a b grows ps (map (parameter_view (trees a.table)) ps) (record { known = c.requires.known; parameters = refl }) in
     c.in-Ok.ensures.module
     ∙ (λ j. more_functions (grows.same j) (record { name = c.in_ok-name.ensures j; linkage = c.linkage_of.ensures j; returns = c.in_ok-result.ensures.is.tree j; parameters = stay.parameters j; variadic = c.args.variadic; body = None }))
+
+pub returns-in-Ok-clause-aliases : goal.returns-in-Ok-clause-aliases
+returns-in-Ok-clause-aliases c = ap (λ (a : Lists). a.aliases) c.in-Ok.ensures.ok ∙ c.in_ok-result.ensures.grows.aliases

@@ -1,7 +1,8 @@
-use Rattle.std.proofs.Common.{None, sym, subst}
+use Rattle.std.proofs.Common.{None, sym, subst, ap, ◌∙◌}
 use Rattle.module_arena.specs.declared.entry.Variable as the_variable
 use Rattle.module_arena.specs.Changes.{with_variable}
 use Rattle.module_arena.specs.Known.{counts}
+use Rattle.module_arena.specs.Lists.{Lists}
 use Rattle.entry_build.specs.Declared.{IsFree}
 use Rattle.entry_build.proofs.Declaring.{memory_alone, free_still, few_still}
 use Rattle.entry_build.proofs.variables.declare_variable.Goals as goal
@@ -15,3 +16,6 @@ out_of_memory-requires c =
     memory_alone b c.in_ok-name.name (counts (with_variable b v)) c.in-Err.fault c.in-Err.ensures.fault
     (subst (IsFree b) (sym c.in_ok-name.ensures) (free_still a b grows c.args.written.now.name.name c.requires.free))
     (few_still a b grows v c.requires.few)
+
+pub returns-in-Ok-clause-aliases : goal.returns-in-Ok-clause-aliases
+returns-in-Ok-clause-aliases c = ap (λ (a : Lists). a.aliases) c.in-Ok.ensures.ok ∙ c.in_ok-ty.ensures.grows.aliases

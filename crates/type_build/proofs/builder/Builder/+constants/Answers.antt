@@ -1,7 +1,12 @@
-use Rattle.std.proofs.Common.{◌≡◌, [], map, All, sym, subst, ap, ◌∙◌, IfOk, arith, rules}
+use Rattle.std.proofs.Common.{◌≡◌, ℕ, [], map, Box, All, sym, subst, ap, ◌∙◌, IfOk, arith, rules}
 use Rattle.std.proofs.lemmas.List.{take_all}
 use Rattle.std.proofs.lemmas.List.Elements.{All-weaker}
+use Rattle.std.specs.Global.{Global, Vec}
+use Rattle.ir_base.specs.declared.place.Place.{Place}
+use Rattle.ir_constants.specs.declared.constant.Constant as the_constant
 use Rattle.ir_constants.specs.declared.constant.Constant.TheFolds.{the_lemmas}
+use Rattle.ir_constants.specs.declared.constant.Constant.TheVariants as the_variants
+use Rattle.ir_constants.specs.declared.ty.Type as the_type
 use Rattle.ir_constants.specs.declared.constant.TypedConstant.{TypedConstant}
 use Rattle.ir_constants.specs.Tree.{constants, ListConstant, ElementAddress, Conversion, Arithmetic}
 use Rattle.ir_constants.specs.View.{type_view, constant_view, typed_constant_view}
@@ -127,11 +132,16 @@ add_constant-add_typed_list-requires t c =
     let each = subst (All (λ (x : TypedConstant). CanHoldTyped (structs a.table) (entries a) (typed_constant_view x))) (sym c.deref.ensures.value) all in
     (search (rules, the_lemmas), each)
 
+-- what the address of an element is, as it is written
+element_address : (written : the_constant.Constant) (place : Place) (flags : ℕ) (source : Box the_type.Type Global) (operands : Vec TypedConstant) → written ≡ the_variants.GetElementPtr place flags source operands
+    → constant_view written ≡ ElementAddress place flags (type_view source.value) (constants (map typed_constant_view operands.items))
+element_address written place flags source operands is = search (rules, the_lemmas)
+
 pub add_constant-add_typed_list-requires-in-GetElementPtr : goal.add_constant-add_typed_list-requires-in-GetElementPtr
 add_constant-add_typed_list-requires-in-GetElementPtr t c =
     let a = c.args.self.now.arena in
     let b = c.add_type.new.self.arena in
-    let whole : constant_view c.args.constant.now ≡ ElementAddress c.in-GetElementPtr.field-0 c.in-GetElementPtr.flags (type_view c.in-GetElementPtr.source.value) (constants (map typed_constant_view c.in-GetElementPtr.operands.items)) = search (rules, the_lemmas) in
+    let whole = element_address c.args.constant.now c.in-GetElementPtr.field-0 c.in-GetElementPtr.flags c.in-GetElementPtr.source c.in-GetElementPtr.operands c.in-GetElementPtr.is in
     let can = subst (CanHold (structs a.table) (entries a)) whole c.requires.constant in
     let all = elements_can_be_held typed_constant_view (structs a.table) (entries a) c.in-GetElementPtr.operands.items can.1 in
     let still = All-weaker (λ (x : TypedConstant). CanHoldTyped (structs a.table) (entries a) (typed_constant_view x)) (λ (x : TypedConstant). CanHoldTyped (structs b.table) (entries b) (typed_constant_view x)) (λ x h. can_still_hold_typed a b c.in_ok-source-in-GetElementPtr.ensures.grows (typed_constant_view x) h) c.in-GetElementPtr.operands.items all in

@@ -7,13 +7,13 @@ use Rattle.ir_constants.specs.View.{type_view}
 use Rattle.ir_constants.specs.declared.ty.ArrayType.{ArrayType}
 use Rattle.type_table.specs.Limits.{IsWithinLimits}
 use Rattle.type_table.specs.Shape.{shape}
-use Rattle.type_table.specs.Tree.{array, struct}
+use Rattle.type_table.specs.Tree.{int, array, struct}
 use Rattle.type_table.specs.Types.{structs}
 use Rattle.name_rules.specs.Written.{natural, type_in, types_in}
 use Rattle.type_build.specs.Fitting.{CanBe}
 use Rattle.type_build.specs.Stands.{IsType, AreTypes}
 use Rattle.type_build.proofs.Growing.{grows_not, grows_on, then_grows}
-use Rattle.type_build.proofs.Leaves.{array_is_short}
+use Rattle.type_build.proofs.Leaves.{array_is_short, ptr_fits, void_fits}
 use Rattle.type_build.proofs.Lists.{no_types, types_step}
 use Rattle.type_build.proofs.Made.{fields_made}
 use Rattle.type_build.proofs.Staying.{structs_stay, can_still_be, fields_can_be, at_item}
@@ -38,12 +38,17 @@ pub add_types-loop-ty-init : goal.add_types-loop-ty-init
 add_types-loop-ty-init t c = record {
   grows = grows_not c.args.self.now.arena;
   so_far = subst (λ ids. AreTypes c.args.self.now.arena ids []) (sym c.in_ok-ids.ensures.items) (no_types c.args.self.now.arena);
+  within = λ whole can old. old;
 }
 
 pub add_types-loop-ty-preserved : goal.add_types-loop-ty-preserved
 add_types-loop-ty-preserved t c = record {
   grows = grows_on _ _ _ c.loop-ty.invariant.grows c.in_ok-id.ensures.grows;
   so_far = types_step (λ (x : the_type.Type). type_in (type_view x)) c.args.types.now c.loop-ty.ty-index c.ty-item.result c.loop-ty-test.true c.ty-item.is c.loop-ty.self.arena c.add_type.new.self.arena c.in_ok-id.ensures.grows c.loop-ty.ids.items _ c.in_ok-id.id c.loop-ty.invariant.so_far c.in_ok-id.ensures.is c.in_ok-push.ensures.items;
+  within = λ whole can old.
+      c.in_ok-id.ensures.within whole
+      (at_item (λ (x : the_type.Type). CanBe whole (type_in (type_view x))) c.args.types.now c.loop-ty.ty-index c.ty-item.result c.loop-ty-test.true c.ty-item.is can)
+      (c.loop-ty.invariant.within whole can old);
 }
 
 pub add_types-returns-clause-grows : goal.add_types-returns-clause-grows
@@ -98,3 +103,40 @@ add_types-add_type-requires t c =
     let here = at_item (λ (x : the_type.Type). CanBe (structs c.args.self.now.arena.table) (f x)) c.args.types.now c.loop-ty.ty-index c.ty-item.result c.loop-ty-test.true c.ty-item.is c.requires in
     let can = can_still_be _ _ c.loop-ty.invariant.grows (f c.ty-item.result) here in
     (search (rules, the_lemmas), can)
+
+-- ---- what is added is within the limits
+
+pub add_type-returns-in-Integer-clause-within : goal.add_type-returns-in-Integer-clause-within
+add_type-returns-in-Integer-clause-within t c whole can old =
+    let is : type_in (type_view c.args.ty.now) ≡ int c.in-Integer.width = search (rules, the_lemmas) in
+    c.add_integer.ensures.within whole (subst (CanBe whole) is can) old
+
+pub add_type-returns-in-Ptr-clause-within : goal.add_type-returns-in-Ptr-clause-within
+add_type-returns-in-Ptr-clause-within t c whole can old = c.keep_type.ensures.within whole (ptr_fits whole) old
+
+pub add_type-returns-in-Void-clause-within : goal.add_type-returns-in-Void-clause-within
+add_type-returns-in-Void-clause-within t c whole can old = c.keep_type-in-Void.ensures.within whole (void_fits whole) old
+
+pub add_type-returns-in_ok-element-in-Array-clause-within : goal.add_type-returns-in_ok-element-in-Array-clause-within
+add_type-returns-in_ok-element-in-Array-clause-within t c whole can old =
+    let is : type_in (type_view c.args.ty.now) ≡ array (natural c.in-Array.array.value.count) (type_in (type_view c.in-Array.array.value.element)) = search (rules, the_lemmas) in
+    let can_array = subst (CanBe whole) is can in
+    let many = c.length_of-length.ensures ∙ ap (λ (a : ArrayType). natural a.count) c.deref.ensures in
+    let part = c.in_ok-element-in-Array.ensures.is.tree ∙ ap (λ (a : ArrayType). type_in (type_view a.element)) c.deref-in-Array.ensures in
+    let element = subst (λ (a : ArrayType). CanBe whole (type_in (type_view a.element))) (sym c.deref-in-Array.ensures) can_array.1 in
+    c.keep_type-in-Array.ensures.within whole
+    (subst IsWithinLimits (sym (λ j. shape whole (array (many j) (part j)))) can_array.0)
+    (c.in_ok-element-in-Array.ensures.within whole element old)
+
+pub add_type-returns-in_ok-fields-in-Struct-clause-within : goal.add_type-returns-in_ok-fields-in-Struct-clause-within
+add_type-returns-in_ok-fields-in-Struct-clause-within t c whole can old =
+    let a = c.add_types.new.self.arena in
+    let is : type_in (type_view c.args.ty.now) ≡ struct c.in-Struct.packed (types_in (types (map type_view c.in-Struct.fields.items))) = search (rules, the_lemmas) in
+    let can_struct = subst (CanBe whole) is can in
+    let all = fields_can_be type_view whole c.in-Struct.fields.items can_struct.1 in
+    let each = subst (All (λ (x : the_type.Type). CanBe whole (type_in (type_view x)))) (sym c.deref-in-Struct.ensures.value) all in
+    let are = subst (λ (ts : _). AreTypes a c.in_ok-fields-in-Struct.fields (map (λ (x : the_type.Type). type_in (type_view x)) ts)) c.deref-in-Struct.ensures.value c.in_ok-fields-in-Struct.ensures.are in
+    let made = fields_made type_view a c.in_ok-fields-in-Struct.fields c.in-Struct.fields.items are in
+    c.keep_type-in-Struct.ensures.within whole
+    (subst IsWithinLimits (sym (λ j. shape whole (struct c.in-Struct.packed (made j)))) can_struct.0)
+    (c.in_ok-fields-in-Struct.ensures.within whole each old)

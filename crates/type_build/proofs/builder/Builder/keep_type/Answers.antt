@@ -3,9 +3,10 @@ use Rattle.type_table.specs.Limits.{IsWithin}
 use Rattle.type_table.specs.Types.{names, trees, tree_of, with_type, IsGood}
 use Rattle.module_arena.specs.Changes.{with_table}
 use Rattle.module_arena.specs.View.{module_of}
+use Rattle.type_build.specs.Fitting.{AreWithin}
 use Rattle.type_build.specs.Stands.{IsType, Grows}
 use Rattle.type_build.proofs.Growing.{grows_by_type, type_here, type_found}
-use Rattle.type_build.proofs.Fitting.{memory_alone}
+use Rattle.type_build.proofs.Fitting.{memory_alone, within_more}
 use Rattle.type_build.proofs.builder.Builder.keep_type.Goals as goal
 
 pub returns-in-Some-clause-is : goal.returns-in-Some-clause-is
@@ -28,3 +29,6 @@ returns-clause-is c =
 pub out_of_memory-requires : goal.out_of_memory-requires
 out_of_memory-requires c =
     memory_alone c.args.self.now.arena.table c.args.ty (subst IsGood c.types.ensures c.type_count-good_types.ensures.good) (subst IsWithin c.types.ensures c.type_count-good_types.ensures.within) c.requires.fits c.in-Err.fault c.in-Err.ensures.fault (λ e. c.in-Err.ensures.never (ap Err e))
+
+pub returns-clause-within : goal.returns-clause-within
+returns-clause-within c whole fits old = subst (AreWithin whole) (sym c.in-Ok.ensures.ok) (within_more c.args.self.now.arena c.args.ty whole fits old)
