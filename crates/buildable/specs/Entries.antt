@@ -1,0 +1,40 @@
+-- What the entries of a module are built from.
+use Rattle.std.specs.Prelude.{ℕ, ◌^◌, ◌<◌, ◌-◌, List, length, All, Option, Some, None}
+use Rattle.ir_constants.specs.Tree.{TypeTree, ConstantTree}
+use Rattle.ir_syntax.specs.Tree.{BodyTree, OpaqueBody, PlainBody, PackedBody, ParameterTree, HeadTree, ItemTree, Struct, Variable, Alias, Declaration, Definition}
+use Rattle.type_table.specs.Tree.{Structs}
+use Rattle.module_arena.specs.Lists.{Lists}
+use Rattle.name_rules.specs.Written.{type_in}
+use Rattle.type_build.specs.Fitting.{CanBe}
+use Rattle.type_build.specs.Holding.{CanHold, HasEntry}
+use Rattle.entry_build.specs.Declared.{CanAlias}
+use Rattle.buildable.specs.Bodies.{CanType, IsShortAlignment, CanBody}
+
+module _ (structs : Structs) where
+  -- the fields of a struct are within the limits
+  abbrev pub CanStruct : BodyTree → Type 0
+  CanStruct OpaqueBody = Unit {0}
+  CanStruct (PlainBody parts) = All (λ t. CanBe structs (type_in t)) parts
+  CanStruct (PackedBody parts) = All (λ t. CanBe structs (type_in t)) parts
+
+  -- the types with which an item is declared are
+  abbrev pub CanDeclare : ItemTree → Type 0
+  CanDeclare (Struct name body) = CanStruct body
+  CanDeclare (Variable variable) = CanBe structs (type_in variable.ty) × IsShortAlignment variable.alignment
+  CanDeclare (Alias alias) = CanAlias structs alias.ty
+  CanDeclare (Declaration place head parameters variadic) = CanBe structs (type_in head.returns) × All (λ t. CanBe structs (type_in t)) parameters
+  CanDeclare (Definition place head parameters blocks) = CanBe structs (type_in head.returns) × All (λ (p : ParameterTree). CanBe structs (type_in p.0)) parameters
+  CanDeclare _ = Unit {0}
+
+  module _ (entries : Lists) where
+    -- an initialiser can be held
+    abbrev pub CanInitialise : Option ConstantTree → Type 0
+    CanInitialise None = Unit {0}
+    CanInitialise (Some constant) = CanHold structs entries constant
+
+    -- what completes an item can be built, and what it names is there
+    abbrev pub CanComplete : ItemTree → Type 0
+    CanComplete (Variable variable) = CanInitialise variable.initialiser
+    CanComplete (Alias alias) = HasEntry entries alias.target.name
+    CanComplete (Definition place head parameters blocks) = CanBody structs entries parameters blocks
+    CanComplete _ = Unit {0}

@@ -1,0 +1,29 @@
+-- What items have where an arena can be built from them, entry by entry.
+use Rattle.std.specs.Prelude.{◌≡◌, ◌≤◌, true, List, map, filter_map, length, All, Contains, bytes_eq}
+use Rattle.ir_tables.specs.Table.{is_distinct}
+use Rattle.ir_terminals.specs.declared.values.PlacedName.{PlacedName}
+use Rattle.ir_syntax.specs.Tree.{ItemTree}
+use Rattle.module_arena.specs.Lists.{Lists}
+use Rattle.module_arena.specs.Module.{Bytes}
+use Rattle.name_rules.specs.Breaks.{global_name}
+use Rattle.name_rules.specs.ModuleOf.{structs_in, variable_in, function_in}
+use Rattle.type_build.specs.Holding.{HasEntry}
+use Rattle.buildable.specs.Entries.{CanDeclare, CanComplete}
+
+-- the names of the variables, aliases and functions of a text
+abbrev pub global_names : List ItemTree → List Bytes
+global_names items = map (λ (n : PlacedName). n.name) (filter_map global_name items)
+
+-- an entry has each of these names
+abbrev pub HasEntries : Lists → List Bytes → Type 0
+HasEntries entries names = (name : Bytes) → Contains names name → HasEntry entries name
+
+-- Items from which an arena can be built.
+pub record AreBuildable (items : List ItemTree) : Type 0 where
+  pub structs : is_distinct bytes_eq (map (λ (s : Bytes × _). s.0) (structs_in items)) ≡ true
+  pub globals : is_distinct bytes_eq (global_names items) ≡ true
+  pub few_structs : length (structs_in items) ≤ 262144
+  pub few_variables : length (filter_map variable_in items) ≤ 262144
+  pub few_functions : length (filter_map function_in items) ≤ 262144
+  pub declared : All (CanDeclare (structs_in items)) items
+  pub completed : (entries : Lists) → HasEntries entries (global_names items) → All (CanComplete (structs_in items) entries) items

@@ -1,0 +1,4 @@
+pub mod Narrow
+pub mod Bodies
+pub mod Entries
+pub mod Laws

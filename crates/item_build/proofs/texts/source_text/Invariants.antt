@@ -1,0 +1,7 @@
+use Rattle.std.proofs.Common.{◌≡◌, drop}
+use Rattle.ir_syntax.specs.View.{items_view}
+use Rattle.name_rules.specs.ModuleOf.{source_in, text_in}
+use Rattle.item_build.proofs.texts.source_text.Given as goal
+
+abbrev pub invariant-items : goal.invariant-items
+invariant-items l = text_in source_in (items_view l.items) ≡ text_in source_in (items_view (drop l.item-index l.items))

@@ -1,0 +1,67 @@
+//! Declares what the items of a text declare.
+ghost use Rattle.std.specs.Prelude.{◌≡◌, ◌<◌, ◌≤◌, ◌^◌, ◌-◌, OnOk};
+ghost use Rattle.ir_syntax.specs.Counts.{counted, item_count};
+ghost use Rattle.ir_syntax.specs.View.{item_view, items_view};
+ghost use Rattle.type_table.specs.Types.{structs};
+ghost use Rattle.module_arena.specs.Lists.{no_lists};
+ghost use Rattle.module_arena.specs.View.{module_of};
+ghost use Rattle.name_rules.specs.Breaks.{global_name};
+ghost use Rattle.name_rules.specs.ModuleOf.{structs_in};
+ghost use Rattle.type_build.specs.Holding.{entries};
+ghost use Rattle.entry_build.specs.Declared.{AreFew, AreUntargeted};
+ghost use Rattle.buildable.specs.Entries.{CanDeclare};
+ghost use Rattle.buildable.specs.Laws.{AreBuildable};
+ghost use Rattle.item_build.specs.Declaring.{declared_in, with_declared, IsNewName, HasRoom, counts_in};
+
+use entry_build::{declare_alias, declare_definition, declare_function, declare_variable};
+use ir_syntax::Item;
+use std::alloc::{AllocError, Global};
+use type_build::Builder;
+
+/// Declares the variable, alias or function that the item is; another item declares nothing.
+fn declare_item(builder: &mut Builder, alloc: Global, item: &Item) -> Result<(), AllocError>
+    requires can { CanDeclare (structs builder.old.arena.table) (item_view item.now) }
+    requires few_parameters { item_count (item_view item.now) < 2 ^ 32 - 1 }
+    requires free { IsNewName builder.old.arena (global_name (item_view item.now)) }
+    requires room { HasRoom builder.old.arena (item_view item.now) }
+    ensures module { OnOk result (module_of builder.new.arena ≡ declared_in (module_of builder.old.arena) (item_view item.now)) }
+    ensures untargeted { AreUntargeted 0 builder.old.arena → OnOk result (AreUntargeted 0 builder.new.arena) }
+{
+    match item {
+        Item::Variable(variable) => {
+            declare_variable(builder, alloc, variable)?;
+        }
+        Item::Alias(alias) => {
+            declare_alias(builder, alloc, alias)?;
+        }
+        Item::Declaration(_, declaration) => {
+            declare_function(builder, alloc, declaration)?;
+        }
+        Item::Definition(_, definition) => {
+            declare_definition(builder, alloc, definition)?;
+        }
+        Item::SourceFilename(_, _)
+        | Item::DataLayout(_, _)
+        | Item::TargetTriple(_, _)
+        | Item::Struct(_, _)
+        | Item::Attributes(_)
+        | Item::Metadata(_) => {}
+    }
+    Ok(())
+}
+
+/// Declares the variables, aliases and functions of a text, in order, where the arena has its structs and no entries.
+pub fn declare_items(builder: &mut Builder, alloc: Global, items: &[Item]) -> Result<(), AllocError>
+    requires buildable { AreBuildable (items_view items.now) }
+    requires few { AreFew (counts_in (items_view items.now)) }
+    requires few_parts { counted (items_view items.now) ≤ 2 ^ 24 }
+    requires structs { structs builder.old.arena.table ≡ structs_in (items_view items.now) }
+    requires empty { entries builder.old.arena ≡ no_lists }
+    ensures module { OnOk result (module_of builder.new.arena ≡ with_declared (module_of builder.old.arena) (items_view items.now)) }
+    ensures untargeted { OnOk result (AreUntargeted 0 builder.new.arena) }
+{
+    'items: for item in items {
+        declare_item(builder, alloc, item)?;
+    }
+    Ok(())
+}
