@@ -1,0 +1,4 @@
+pub mod Lessened
+pub mod Ended
+pub mod Partly
+pub mod Named
