@@ -1,0 +1,5 @@
+pub mod Printing
+pub mod Identifiers
+pub mod Numerals
+pub mod Quoting
+pub mod TypeParts

@@ -1,0 +1,19 @@
+use Rattle.std.proofs.Common.{◌+◌, ◌*◌, drop}
+use Rattle.gathered.specs.Told.{State, state}
+use Rattle.canonical.specs.Phrase.{listed}
+use Rattle.phrase_printer.specs.Printing.{separator_of, Prints}
+use Rattle.phrase_printer.proofs.TypeParts.{top, phrases}
+use Rattle.phrase_printer.proofs.types.+types.Given as goal
+
+abbrev pub decreases-put_type : goal.decreases-put_type
+decreases-put_type g l = 2 * l.ty + 1
+
+abbrev pub decreases-put_types : goal.decreases-put_types
+decreases-put_types g l = 2 * top l.parts.now
+
+-- who puts the rest of the types from here on has put them all
+abbrev pub invariant-put_types-parts : goal.invariant-put_types-parts
+invariant-put_types-parts g l =
+    let at_first = state l.fn.out (g.S.Sink.taken l.fn.sink) (g.S.Sink.faults l.fn.sink) in
+    let here = state l.out (g.S.Sink.taken l.sink) (g.S.Sink.faults l.sink) in
+    (now : State) → Prints here now (listed (phrases l.types (drop l.place l.parts)) (separator_of l.behind)) → Prints at_first now (listed (phrases l.types l.parts) (separator_of l.behind))
