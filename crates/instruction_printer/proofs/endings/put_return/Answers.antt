@@ -1,0 +1,14 @@
+use Rattle.ir_lexer.specs.declared.token.TokenKind.TheVariants as kind
+use Rattle.ir_tables.specs.declared.opcode.Opcode.TheVariants as op
+use Rattle.canonical.specs.Constants.{opcode, operand}
+use Rattle.phrase_printer.specs.Printing.{separator_of}
+use Rattle.operand_printer.specs.Named.{operand_of}
+use Rattle.operation_printer.proofs.Chained.{spaced}
+use Rattle.instruction_printer.proofs.endings.put_return.Goals as goal
+
+pub returns : goal.returns
+returns g c =
+    let a = c.args.arena.now in
+    let f = c.args.function.now in
+    let behind = separator_of c.args.behind in
+    spaced (opcode op.Ret) (operand (operand_of a f c.args.part)) behind (c.put_token.ensures kind.Word) c.put_operand.ensures
