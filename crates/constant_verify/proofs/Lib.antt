@@ -1,4 +1,3 @@
-pub mod ConstantsTold
 pub mod FactsTold
 pub mod FunctionNames
 pub mod LeadsTold

@@ -6,6 +6,7 @@
 //! in memory and the adapters have a file of `specs/` each.
 #![tactic(auto)]
 
+mod compared;
 mod failed;
 mod failing_calls;
 mod files;

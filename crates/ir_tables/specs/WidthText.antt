@@ -1,12 +1,15 @@
 -- How the code reads a width.
 use Rattle.std.specs.Prelude.{ℕ, ◌+◌, ◌-◌, ◌*◌, List, [], ◌∷◌, Option, Some, None, Bool, ◌&&◌, ◌==◌, nat_le, nat_lt, length, slice_index, if◌then◌else◌}
 
+-- one of the bytes `0` to `9`
 abbrev pub is_digit : ℕ → Bool
 is_digit byte = nat_le 48 byte && nat_le byte 57
 
+-- the number that three digits write
 abbrev pub number_of : ℕ → ℕ → ℕ → ℕ
 number_of hundreds tens ones = (hundreds - 48) * 100 + (tens - 48) * 10 + (ones - 48)
 
+-- a width is from 1 to 128
 abbrev pub within : ℕ → Option ℕ
 within width = if nat_le 1 width && nat_le width 128 then Some width else None
 
@@ -25,5 +28,6 @@ width_of_all (tens ∷ ones ∷ []) = width_of_digits 48 tens ones
 width_of_all (hundreds ∷ tens ∷ ones ∷ []) = width_of_digits hundreds tens ones
 width_of_all _ = None
 
+-- the width that digits write, without leading zeros
 unfoldable pub width_of : List ℕ → Option ℕ
 width_of digits = if is_padded digits then None else width_of_all digits

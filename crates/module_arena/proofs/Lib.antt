@@ -3,6 +3,7 @@ pub mod SameValues
 pub mod HostNames
 pub mod HostTypesAgree
 pub mod IntegerNames
+pub mod Powers
 pub mod WithinLimits
 pub mod WellFormedTest
 pub mod Search
@@ -35,3 +36,4 @@ pub mod ModuleSet
 pub mod ModuleTypes
 pub mod ArenaRows
 pub mod ValueNames
+pub mod ConstantsTold

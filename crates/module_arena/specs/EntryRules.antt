@@ -1,5 +1,5 @@
 -- For `Checked::seal`: what is asked of variables, aliases and functions.
-use Rattle.std.specs.Prelude.{ℕ, Bool, true, false, not, ◌&&◌, ◌||◌, ◌==◌, nat_eq, bytes_eq, List, [], ◌∷◌, flat_map, Option, Some, None, is_some, is_none, codes}
+use Rattle.std.specs.Prelude.{◌≡◌, ◌↔◌, ◌^◌, ◌≤◌, ℕ, Bool, true, false, not, ◌&&◌, ◌||◌, ◌==◌, nat_eq, bytes_eq, List, [], ◌∷◌, flat_map, Option, Some, None, is_some, is_none, codes}
 use Rattle.std.specs.List.{list_all, list_any, starts_with}
 use Rattle.std.specs.Option.{option_map_or}
 use Rattle.ir_tables.specs.declared.linkage.Linkage.{Linkage}
@@ -220,3 +220,7 @@ is_alignment n = list_any (nat_eq n) alignments
 abbrev pub alignment_suits : Option ℕ → Bool
 alignment_suits None = true
 alignment_suits (Some n) = is_alignment n
+
+-- alignments are the powers of two up to 2^16
+abbrev pub AlignmentsArePowers : Type 0
+AlignmentsArePowers = (n : ℕ) → (is_alignment n ≡ true) ↔ ((k : ℕ) × (k ≤ 16) × (n ≡ 2 ^ k))

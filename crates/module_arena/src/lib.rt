@@ -16,7 +16,9 @@ mod fault;
 mod host;
 mod ids;
 mod instruction;
+mod laws;
 mod names;
+mod result;
 mod same;
 
 pub use arena::Arena;
@@ -35,3 +37,4 @@ pub use instruction::{
     Call, Case, CaseList, Choice, Ending, Incoming, IncomingList, IndexList, Insertion, Inst,
     Operand, OperandList, Signature, Value,
 };
+pub use laws::alignments_are_powers_of_two;

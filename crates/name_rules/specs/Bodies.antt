@@ -22,11 +22,11 @@ abbrev pub signature_in : TypeTree → List TypedValueTree → Option SignatureT
 signature_in returns arguments (Some written) = record { returns = type_in returns; parameters = map type_in written.0; variadic = written.1 }
 signature_in returns arguments None = record { returns = type_in returns; parameters = types_of arguments; variadic = false }
 
--- what is called is an address
+-- a call: what is called stands at the type of addresses
 abbrev pub call_in : CallTree → Operation
 call_in call = m.Call (signature_in call.returns call.arguments call.signature) (value_in ptr call.callee) (map operand_in call.arguments)
 
--- getelementptr: the first operand is the base
+-- getelementptr: the first operand is the base, the others are indices; each such phrase has a first
 abbrev pub element_address_in : ℕ → TypeTree → List TypedValueTree → Operation
 element_address_in flags source [] = m.GetElementPtr flags (type_in source) (record { ty = ptr; value = m.Known m.Poison }) []
 element_address_in flags source (base ∷ indices) = m.GetElementPtr flags (type_in source) (operand_in base) (map operand_in indices)

@@ -53,6 +53,7 @@ known_in items = record {
 }
 
 module _ (known : Known) where
+  -- what an initialiser asks for, at the type of its variable
   abbrev pub initialiser_demands : TypeTree → Option ConstantTree → List Demand
   initialiser_demands ty None = []
   initialiser_demands ty (Some constant) = constant_demands known (type_in ty) constant
@@ -74,7 +75,7 @@ module _ (known : Known) where
   abbrev pub alias_demands : List PlacedName → AliasTree → List Demand
   alias_demands before alias = is_new before alias.name ++ (alias_type_demands alias.ty ++ is_global known alias.target ∷ [])
 
-  -- the type that a function returns stands before its name
+  -- what the head of a function asks for, behind globals of these names: its return type, then a name of its own
   abbrev pub head_demands : List PlacedName → HeadTree → List Demand
   head_demands before head = type_demands known head.returns ++ is_new before head.name
 

@@ -14,7 +14,8 @@ use Rattle.name_rules.specs.Written.{natural, type_in, bits_at}
 use Rattle.name_rules.specs.Measured.{tree_measured, look_in, contains_itself, names_of}
 use Rattle.name_rules.specs.Demand.{Demand, ask, is_new, integer_fits, is_length, is_large, nests, is_small}
 
--- what a text defines, at whichever place: its structs with their measures, and the names of its variables and functions
+-- what a text defines, at whichever place: its structs with their measures, and the names of its variables, aliases and
+-- functions
 pub record Known : Type 0 where
   pub structs : Structs
   pub measures : List (Option Measure)
@@ -61,7 +62,7 @@ module _ (known : Known) where
   abbrev pub is_struct : PlacedName → Demand
   is_struct name = ask (has_name (names_of known.structs) name.name) (faults.UnknownName name.place (spelled_struct name.name))
 
-  -- the variable or function is there
+  -- the variable, alias or function is there
   abbrev pub is_global : PlacedName → Demand
   is_global name = ask (has_name known.globals name.name) (faults.UnknownName name.place (spelled_global name.name))
 
@@ -86,6 +87,7 @@ module _ (known : Known) where
         ∷ is_small name.place (is_large (struct_measured name.name)) false
         ∷ []
 
+    -- what types ask for, one behind the other
     pub types_demands : TypeTrees → List Demand
     types_demands no_types = []
     types_demands (more_types t ts) = type_demands t ++ types_demands ts
@@ -125,6 +127,7 @@ module _ (known : Known) where
     constant_demands t (Arithmetic place opcode flags left_type left right_type right) =
         type_demands left_type ++ (constant_demands (type_in left_type) left ++ (type_demands right_type ++ constant_demands (type_in right_type) right))
 
+    -- what constants ask for, each behind its type
     pub constants_demands : ConstantTrees → List Demand
     constants_demands no_constants = []
     constants_demands (more_constants ty c cs) = type_demands ty ++ (constant_demands (type_in ty) c ++ constants_demands cs)

@@ -1,4 +1,4 @@
--- The types and constants that a text writes, as those of a m.
+-- The types, constants and values that a text writes, as those of a module.
 use Rattle.std.specs.Prelude.{ℕ, ◌-◌, ◌%◌, ◌^◌, ◌==◌, Bool, true, false, List, Option, option_map, if◌then◌else◌}
 use Rattle.ir_terminals.specs.declared.values.Integer.{Integer}
 use Rattle.ir_constants.specs.declared.constant.Simple.{Simple}
@@ -18,6 +18,7 @@ abbrev pub natural : Integer → ℕ
 natural written = if written.negative then 0 else written.magnitude
 
 abbrev mutual
+  -- the type that is meant
   pub type_in : TypeTree → Tree
   type_in (IntegerType place width) = int width
   type_in (PointerType place) = ptr
@@ -26,6 +27,7 @@ abbrev mutual
   type_in (StructType place packed parts) = struct packed (types_in parts)
   type_in (NamedType name) = named name.name
 
+  -- types, in order
   pub types_in : TypeTrees → Trees
   types_in no_types = no_trees
   types_in (more_types t ts) = more_trees (type_in t) (types_in ts)

@@ -22,7 +22,7 @@ use phrase_printer::{Separator, put_local, put_signed, put_token, put_type};
 use type_table::{TypeId, TypeTable};
 
 /// Puts types with a comma behind each, and three dots.
-fn put_dotted<S: Sink>(out: &mut Gathered, sink: &mut S, types: &TypeTable, parts: &[TypeId])
+pub fn put_dotted<S: Sink>(out: &mut Gathered, sink: &mut S, types: &TypeTable, parts: &[TypeId])
     requires { All (λ part. part < length types.now.types) parts.now }
     ensures { Prints (state out.old (S.taken sink.old) (S.faults sink.old)) (state out.new (S.taken sink.new) (S.faults sink.new)) (dotted_types types.now parts.now) }
 {

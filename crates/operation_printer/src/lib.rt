@@ -11,7 +11,7 @@ mod parts;
 mod phis;
 
 pub use arithmetic::{put_binary, put_compare, put_convert, put_freeze, put_select};
-pub use calls::put_call;
+pub use calls::{put_call, put_dotted};
 pub use memory::{put_alloca, put_element_address, put_load, put_store};
 pub use parts::{put_extract, put_insert};
 pub use phis::put_phi;

@@ -12,7 +12,7 @@ use Rattle.canonical.specs.Types.{type_phrase}
 use Rattle.canonical.specs.Constants.{integer_phrase}
 use Rattle.phrase_printer.specs.Printing.{separator_of}
 use Rattle.phrase_printer.proofs.Printing.{prints_same}
-use Rattle.constant_verify.proofs.ConstantsTold.{const_known, constant_here}
+use Rattle.module_arena.proofs.ConstantsTold.{const_known, constant_here}
 use Rattle.constant_printer.specs.Parts.{bracket_opening, element_address, binary}
 use Rattle.constant_printer.proofs.Parts.{top, below_top, top_within, phrases, many_phrases, part_put, parts_put, brackets_put, typed_put, element_put, cast_put, binary_put, all_parts, one_part, is_named}
 use Rattle.constant_printer.proofs.constants.+constants.Goals as goal

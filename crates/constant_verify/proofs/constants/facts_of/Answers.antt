@@ -7,7 +7,7 @@ use Rattle.module_arena.specs.View.{constants_of, module_of}
 use Rattle.module_arena.proofs.ModuleOf.{length-constants_of}
 use Rattle.constant_verify.specs.ConstantFacts.{const_fact}
 use Rattle.constant_verify.specs.declared.constants.ConstFact.{ConstFact}
-use Rattle.constant_verify.proofs.ConstantsTold.{const_known, constant_got}
+use Rattle.module_arena.proofs.ConstantsTold.{const_known, constant_got}
 use Rattle.constant_verify.proofs.WholeTold.{mapped_next, so_many}
 use Rattle.constant_verify.proofs.constants.facts_of.Goals as goal
 

@@ -3,7 +3,7 @@ use Rattle.type_table.specs.Types.{trees}
 use Rattle.module_arena.specs.Constants.{written_number}
 use Rattle.module_arena.specs.Lists.{name_at}
 use Rattle.module_arena.specs.View.{constants_of}
-use Rattle.constant_verify.proofs.ConstantsTold.{constant_here}
+use Rattle.module_arena.proofs.ConstantsTold.{constant_here}
 use Rattle.constant_verify.proofs.PartsTold.{number_written}
 use Rattle.constant_verify.proofs.fits.number_at.Goals as goal
 

@@ -4,4 +4,4 @@ use Rattle.instruction_printer.proofs.instruction.put_instruction.Goals as goal
 
 pub returns : goal.returns
 returns g c =
-    instruction_put c.args.arena.now c.args.function.now (separator_of c.args.behind) c.args.inst.now c.result_of.result c.result_of.ensures (c.put_result.ensures c.args.arena.now) c.put_operation.ensures
+    instruction_put c.args.arena.now c.args.function.now (separator_of c.args.behind) c.args.inst.now c.result.result c.result.ensures (c.put_result.ensures c.args.arena.now) c.put_operation.ensures

@@ -1,5 +1,5 @@
 use Rattle.std.proofs.Common.{Some, ap, ◌∙◌}
-use Rattle.constant_verify.proofs.ConstantsTold.{constant_here}
+use Rattle.module_arena.proofs.ConstantsTold.{constant_here}
 use Rattle.operation_printer.proofs.calls.put_address.Goals as goal
 
 pub returns-in-Integer : goal.returns-in-Integer

@@ -2,7 +2,7 @@ use Rattle.std.proofs.Common.{◌≡◌, subst}
 use Rattle.module_arena.specs.Changes.{constant_in}
 use Rattle.module_arena.specs.Lists.{Lists}
 use Rattle.module_arena.specs.View.{constant_at, constants_of}
-use Rattle.constant_verify.proofs.ConstantsTold.{constant_here}
+use Rattle.module_arena.proofs.ConstantsTold.{constant_here}
 use Rattle.constant_verify.proofs.judge.Judge.constant.Goals as goal
 
 pub returns : goal.returns
