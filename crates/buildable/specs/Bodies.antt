@@ -1,15 +1,17 @@
 -- What the body of a function is built from: types within the limits, entries that are there, and locals that are called so.
-use Rattle.std.specs.Prelude.{◌≡◌, ℕ, ◌^◌, ◌<◌, ◌-◌, true, false, List, ◌++◌, map, flat_map, filter_map, length, All, Contains, Option, Some, None}
+use Rattle.std.specs.Prelude.{◌≡◌, ℕ, ◌^◌, ◌<◌, ◌-◌, ◌+◌, true, false, List, ◌++◌, map, flat_map, filter_map, length, All, Contains, Option, Some, None}
+use Rattle.std.specs.List.{sum_by}
 use Rattle.ir_terminals.specs.declared.values.Integer.{Integer}
 use Rattle.ir_terminals.specs.declared.values.Local.{Local}
 use Rattle.ir_constants.specs.Tree.{TypeTree, ValueTree, LocalValue, ConstantValue, TypedValueTree}
 use Rattle.ir_instructions.specs.Tree.{SignatureTree, IncomingTree, OperationTree, Binary, Compare, Cast, Select, Freeze, Phi, Load, Store, Alloca, GetElementPtr, Call, ExtractValue, InsertValue, InstructionTree, CaseTree, EndingTree, ReturnVoid, Return, Jump, Branch, Switch, Unreachable, BlockTree}
+use Rattle.ir_syntax.specs.Counts.{block_count}
 use Rattle.ir_syntax.specs.Tree.{ParameterTree}
 use Rattle.type_table.specs.Tree.{Structs}
 use Rattle.module_arena.specs.Lists.{Lists}
 use Rattle.module_arena.specs.Module as m
 use Rattle.module_arena.specs.Module.{LocalName}
-use Rattle.name_rules.specs.Locals.{local_in, next_after, announced, announced_parameter}
+use Rattle.name_rules.specs.Locals.{local_in, next_after, announced_parameter}
 use Rattle.name_rules.specs.ModuleOf.{parameters_in}
 use Rattle.name_rules.specs.Bodies.{blocks_in}
 use Rattle.name_rules.specs.Written.{natural, type_in}
@@ -116,10 +118,8 @@ module _ (structs : Structs) (entries : Lists) where
     abbrev pub CanBlock : BlockTree → Type 0
     CanBlock written = All CanInstruction written.instructions × CanEnding written.ending
 
-  -- The body of a function: each block can be built over the names of all, and values, blocks and the numbers by which they are
-  -- called have 32 bits.
+  -- The body of a function: each block can be built over the names of all, and there are so few parameters, blocks and instructions
+  -- that values, blocks and the numbers by which they are called have 32 bits.
   pub record CanBody (parameters : List ParameterTree) (blocks : List BlockTree) : Type 0 where
     pub each : All (CanBlock (values_of parameters blocks) (labels_of parameters blocks)) blocks
-    pub few_values : length (values_of parameters blocks) < 2 ^ 32 - 1
-    pub few_blocks : length blocks < 2 ^ 32 - 1
-    pub few_numbers : next_after 0 (announced parameters blocks) < 2 ^ 32 - 1
+    pub few : length parameters + sum_by block_count blocks < 2 ^ 32 - 2

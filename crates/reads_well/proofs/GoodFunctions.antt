@@ -104,12 +104,12 @@ defined_called head ps bs =
     (λ j. parameters_called 0 ps j ++ blocks_called (next_after 0 (map announced_parameter ps)) bs j)
     ∙ sym (called-append 0 (map announced_parameter ps) (flat_map announced_block bs))
 
-defined_values : (head : HeadTree) (ps : List ParameterTree) (bs : List BlockTree) → value_names (defined head ps bs) ≡ of_kind false 0 (announced ps bs)
+pub defined_values : (head : HeadTree) (ps : List ParameterTree) (bs : List BlockTree) → value_names (defined head ps bs) ≡ of_kind false 0 (announced ps bs)
 defined_values head ps bs =
     (λ j. parameters_values 0 ps j ++ blocks_values (next_after 0 (map announced_parameter ps)) bs j)
     ∙ sym (of_kind-append false 0 (map announced_parameter ps) (flat_map announced_block bs))
 
-defined_blocks : (head : HeadTree) (ps : List ParameterTree) (bs : List BlockTree) → map (λ (b : Block). b.name) (blocks (defined head ps bs)) ≡ of_kind true 0 (announced ps bs)
+pub defined_blocks : (head : HeadTree) (ps : List ParameterTree) (bs : List BlockTree) → map (λ (b : Block). b.name) (blocks (defined head ps bs)) ≡ of_kind true 0 (announced ps bs)
 defined_blocks head ps bs =
     (λ j. no_blocks 0 ps j ++ blocks_blocks (next_after 0 (map announced_parameter ps)) bs j)
     ∙ sym (of_kind-append true 0 (map announced_parameter ps) (flat_map announced_block bs))
@@ -121,7 +121,7 @@ one_called true before written e = (e, tt)
 one_called false before written e = tt
 
 module _ (items : List ItemTree) (all : Locals) where
-  parameters_ask : (before : Called) (ps : List ParameterTree) → first_refusal (parameters_demands (known_in items) all before ps) ≡ None → AreCalled before (map announced_parameter ps)
+  pub parameters_ask : (before : Called) (ps : List ParameterTree) → first_refusal (parameters_demands (known_in items) all before ps) ≡ None → AreCalled before (map announced_parameter ps)
   parameters_ask before [] e = tt
   parameters_ask before (p ∷ ps) e =
       let first = both_hold (type_demands (known_in items) p.0) (call_demands before p.1 ++ parameters_demands (known_in items) all (called_with before (false, p.1)) ps) e in
@@ -136,7 +136,7 @@ module _ (items : List ItemTree) (all : Locals) where
       both_called before (announced_result i) (flat_map announced_result is) (one_called (has_result i) before i.result halves.0)
       (instructions_ask (called_after before (announced_result i)) is parts.1)
 
-  blocks_ask : (before : Called) (bs : List BlockTree) → first_refusal (blocks_demands (known_in items) all before bs) ≡ None → AreCalled before (flat_map announced_block bs)
+  pub blocks_ask : (before : Called) (bs : List BlockTree) → first_refusal (blocks_demands (known_in items) all before bs) ≡ None → AreCalled before (flat_map announced_block bs)
   blocks_ask before [] e = tt
   blocks_ask before (b ∷ bs) e =
       let inside = called_with before (true, b.label) in

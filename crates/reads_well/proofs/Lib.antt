@@ -1,5 +1,5 @@
 mod Given
-mod Spellings
+pub mod Spellings
 mod Types
 mod Constants
 mod Instructions
@@ -9,7 +9,7 @@ mod GoodTypes
 mod GoodConstants
 mod GoodOperations
 mod GoodBlocks
-mod Called
-mod GoodFunctions
-mod Entries
+pub mod Called
+pub mod GoodFunctions
+pub mod Entries
 pub mod WellFormed

@@ -1,0 +1,13 @@
+mod Orders
+mod Draws
+mod Lists
+mod Tokens
+mod Types
+mod Constants
+mod Calls
+mod Operations
+mod Blocks
+mod Parameters
+mod Items
+mod Ascending
+mod Least

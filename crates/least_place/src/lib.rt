@@ -1,0 +1,10 @@
+//! The first break of the items of a text is told at the least place.
+//!
+//! It stands on the demands of `name_rules`, and on the phrases of `ir_syntax` that give the trees. It promises the laws that
+//! its calls name: no demand that fails stands before the one that is told. Definitions: `specs/Places` for what stands where,
+//! `specs/Laws` for the laws, `first_break` of `name_rules`.
+#![tactic(auto)]
+
+mod laws;
+
+pub use laws::{demands_stand_at_tokens_in_order, the_first_break_stands_at_the_least_place};

@@ -1,0 +1,9 @@
+-- The law.
+use Rattle.std.specs.Prelude.{ℕ, List}
+use Rattle.ir_syntax.specs.Answers.{HasItems}
+use Rattle.ir_syntax.specs.Tree.{ItemTree}
+use Rattle.buildable.specs.Narrow.{AreItemsNarrow}
+
+-- the items of a text have integer types of 1 to 128 bits, and no result of a store
+abbrev pub ReadsNarrow : Type 0
+ReadsNarrow = (text : List ℕ) (items : List ItemTree) → HasItems text items → AreItemsNarrow items

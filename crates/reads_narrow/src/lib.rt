@@ -1,0 +1,9 @@
+//! What the tokens of a text give beyond its tree: integer types of 1 to 128 bits, and no result of a store.
+//!
+//! It stands on the phrases of `ir_syntax`, and on the widths that words stand for, of `reads_well`. It promises the one law
+//! that its call names, over the items of any text. Definitions: `HasItems` of `ir_syntax`, `AreItemsNarrow` of `buildable`.
+#![tactic(auto)]
+
+mod laws;
+
+pub use laws::what_is_read_is_narrow;
