@@ -1,0 +1,6 @@
+mod Partial
+mod Numbers
+mod Meaning
+mod Staying
+mod Order
+mod Whole

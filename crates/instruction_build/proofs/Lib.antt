@@ -1,0 +1,3 @@
+pub mod Assembled
+pub mod Ended
+pub mod Written

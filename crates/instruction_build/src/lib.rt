@@ -1,0 +1,72 @@
+//! Instructions and the ends of blocks, as an arena has them.
+//!
+//! It stands on `operand_build`. It promises that an instruction and an end of the arena are the ones that are written.
+//! Definitions: `Meant` and `Named` of `operand_build`, and `specs/Made`.
+#![tactic(auto)]
+
+ghost use Rattle.std.specs.Prelude.{◌≡◌, ◌<◌, ◌^◌, length, OnOk, IfOk, true};
+ghost use Rattle.ir_instructions.specs.View.{instruction_view, ending_view};
+ghost use Rattle.type_table.specs.Types.{structs};
+ghost use Rattle.module_arena.specs.Mentions as mentions;
+ghost use Rattle.name_rules.specs.Bodies.{ending_in};
+ghost use Rattle.name_rules.specs.Locals.{has_result};
+ghost use Rattle.type_build.specs.Holding.{entries};
+ghost use Rattle.type_build.specs.Stands.{Grows};
+ghost use Rattle.buildable.specs.Bodies.{CanInstruction, CanEnding};
+ghost use Rattle.operand_build.specs.Meant.{IsInst, IsEnding};
+ghost use Rattle.operand_build.specs.Named.{called_of, result_of, built};
+
+mod endings;
+mod operations;
+mod phrases;
+mod places;
+
+use crate::endings::{build_branch, build_return, build_switch};
+use crate::operations::build_operation;
+use local_ids::gives_result;
+use module_arena::{Ending, Inst, ValueId};
+use operand_build::{Locals, find_block};
+use std::alloc::{AllocError, Global};
+use type_build::Builder;
+
+/// The instruction that is written; its result, where it has one, is the next value. It is refused for want of memory alone.
+pub fn build_instruction(
+    builder: &mut Builder,
+    alloc: Global,
+    locals: &Locals,
+    next: ValueId,
+    written: &ir_instructions::Instruction,
+) -> Result<Inst, AllocError>
+    requires can { CanInstruction (structs builder.old.arena.table) (entries builder.old.arena) (called_of locals.now.values.names.items) (called_of locals.now.blocks.names.items) (instruction_view written.now) }
+    requires few_values { length locals.now.values.names.items < 2 ^ 32 }
+    requires few_blocks { length locals.now.blocks.names.items < 2 ^ 32 }
+    ensures grows { OnOk result (Grows builder.old.arena builder.new.arena) }
+    ensures is { IfOk result (λ i. IsInst (called_of locals.now.values.names.items) (called_of locals.now.blocks.names.items) builder.new.arena i (built (called_of locals.now.values.names.items) next (instruction_view written.now))) }
+    ensures gives { IfOk result (λ i. mentions.result_of i ≡ result_of next (instruction_view written.now)) }
+{
+    let has_result = gives_result(written);
+    build_operation(builder, alloc, locals, next, has_result, &written.operation)
+}
+
+/// The end of a block that is written. It is refused for want of memory alone.
+pub fn build_ending(
+    builder: &mut Builder,
+    alloc: Global,
+    locals: &Locals,
+    written: &ir_instructions::Ending,
+) -> Result<Ending, AllocError>
+    requires can { CanEnding (structs builder.old.arena.table) (entries builder.old.arena) (called_of locals.now.values.names.items) (called_of locals.now.blocks.names.items) (ending_view written.now) }
+    requires few_values { length locals.now.values.names.items < 2 ^ 32 }
+    requires few_blocks { length locals.now.blocks.names.items < 2 ^ 32 }
+    ensures grows { OnOk result (Grows builder.old.arena builder.new.arena) }
+    ensures is { IfOk result (λ e. IsEnding (called_of locals.now.values.names.items) (called_of locals.now.blocks.names.items) builder.new.arena e (ending_in (ending_view written.now))) }
+{
+    match written {
+        ir_instructions::Ending::ReturnVoid => Ok(Ending::ReturnVoid),
+        ir_instructions::Ending::Return(value) => build_return(builder, alloc, locals, value),
+        ir_instructions::Ending::Jump(target) => Ok(Ending::Jump(find_block(locals, target))),
+        ir_instructions::Ending::Branch(branch) => build_branch(builder, alloc, locals, branch),
+        ir_instructions::Ending::Switch(switch) => build_switch(builder, alloc, locals, switch),
+        ir_instructions::Ending::Unreachable => Ok(Ending::Unreachable),
+    }
+}

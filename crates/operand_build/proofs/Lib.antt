@@ -1,0 +1,3 @@
+pub mod Standing
+pub mod Lists
+pub mod Taking

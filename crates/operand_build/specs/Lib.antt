@@ -1,0 +1,3 @@
+pub mod Meant
+pub mod Named
+pub mod Parts
