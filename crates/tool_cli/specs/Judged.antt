@@ -1,5 +1,5 @@
 -- Whether inputs are texts of modules, judged in the order of the words.
-use Rattle.std.specs.Prelude.{◌≡◌, ◌⊎◌, ◌==◌, ◌≤◌, ℕ, Bool, List, [], ◌∷◌, length, Some, None}
+use Rattle.std.specs.Prelude.{◌≡◌, ◌⊎◌, ◌==◌, ◌≤◌, ℕ, Bool, List, [], ◌∷◌, length, Some}
 use Rattle.std.specs.Bool.{MatchBool}
 use Rattle.std.specs.List.{starts_with}
 use Rattle.ir_syntax.specs.Answers.{HasItems}
@@ -7,7 +7,9 @@ use Rattle.ir_syntax.specs.Refusal.{IsRefused}
 use Rattle.ir_syntax.specs.Tree.{ItemTree}
 use Rattle.ir_syntax.specs.declared.read.SyntaxFault.{SyntaxFault}
 use Rattle.ir_syntax.specs.declared.read.SyntaxFault.TheVariants as faults
+use Rattle.module_arena.specs.Module.{Module}
 use Rattle.name_rules.specs.Breaks.{first_break}
+use Rattle.name_rules.specs.Reads.{Resolves}
 use Rattle.name_rules.specs.declared.fault.ResolveFault.{ResolveFault}
 use Rattle.name_rules.specs.declared.fault.ResolveFault.TheVariants as breaks
 use Rattle.tool_cli.specs.declared.ended.Ended.{Ended}
@@ -18,6 +20,7 @@ use Rattle.tool_cli.specs.declared.inputs.TheConstants.{LARGEST}
 abbrev pub bitcode_magic : List ℕ
 bitcode_magic = 0x42 ∷ 0x43 ∷ 0xC0 ∷ 0xDE ∷ []
 
+-- whether the bytes begin as bitcode does
 abbrev pub is_bitcode : List ℕ → Bool
 is_bitcode text = starts_with (λ a b. a == b) text bitcode_magic
 
@@ -59,9 +62,9 @@ pub record HasNoModule (name text : List ℕ) (ended : Ended) : Type 0 where
 abbrev pub IsTextRefused : List ℕ → List ℕ → Ended → Type 0
 IsTextRefused name text ended = HasNoItems name text ended ⊎ HasNoModule name text ended
 
--- these are the items of the text, and those of a module
+-- these are the items of the text, and they resolve to a module
 abbrev pub HasModule : List ℕ → List ItemTree → Type 0
-HasModule text items = HasItems text items × (first_break items ≡ None)
+HasModule text items = HasItems text items × ((m : Module) × Resolves items m)
 
 -- an input of this name is a text that is refused; bitcode is not judged
 abbrev pub IsPartRefused : List ℕ → List ℕ → Ended → Type 0
@@ -71,6 +74,7 @@ IsPartRefused name text ended = MatchBool (is_bitcode text) ⊥ (IsTextRefused n
 abbrev pub IsPartAccepted : List ℕ → Type 0
 IsPartAccepted text = MatchBool (is_bitcode text) (Unit {0}) ((items : List ItemTree) × HasModule text items)
 
+-- each input is
 abbrev pub AreAccepted : List (List ℕ) → Type 0
 AreAccepted [] = Unit {0}
 AreAccepted (text ∷ texts) = IsPartAccepted text × AreAccepted texts
@@ -84,6 +88,7 @@ IsFirstRefusal _ _ ended = ⊥
 abbrev pub IsShort : List ℕ → Type 0
 IsShort text = length text ≤ LARGEST
 
+-- each of these is
 abbrev pub AreShort : List (List ℕ) → Type 0
 AreShort [] = Unit {0}
 AreShort (text ∷ texts) = IsShort text × AreShort texts

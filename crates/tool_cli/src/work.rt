@@ -14,6 +14,7 @@ use crate::ended::Ended;
 use crate::inputs::inputs_of;
 use command_line::Command;
 use ir_base::{Sink, Text, TextList};
+use ir_resolve::resolve;
 use ir_run::run_straight;
 use ir_syntax::{Items, SyntaxFault, read_items, straight_of};
 use name_rules::ResolveFault;
@@ -68,7 +69,7 @@ fn break_told(alloc: Global, name: &Text, fault: ResolveFault) -> Ended
     }
 }
 
-// The items of the text of the input of this name, where they are those of a module.
+// The items of the text of the input of this name, where they resolve to a module.
 fn module_items(alloc: Global, name: &Text, text: &[u8]) -> Result<Items, Ended>
     requires { IsShort text.now }
     ensures module { IfOk result (λ items. HasModule text.now (items_view items)) }
@@ -79,8 +80,8 @@ fn module_items(alloc: Global, name: &Text, text: &[u8]) -> Result<Items, Ended>
         Ok(items) => items,
         Err(fault) => return Err(refusal_told(alloc, name, fault)),
     };
-    match name_judge::judge(alloc, &items) {
-        Ok(()) => Ok(items),
+    match resolve(alloc, &items) {
+        Ok(_module) => Ok(items),
         Err(fault) => Err(break_told(alloc, name, fault)),
     }
 }
