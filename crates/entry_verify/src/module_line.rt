@@ -20,6 +20,7 @@ fn layout_suits(arena: &Arena) -> bool
 }
 
 /// What the module itself is asked: a fault of rule 1 at the module where its data layout is foreign.
+/// It takes no memory.
 pub fn judge_module_line(arena: &Arena) -> Result<(), VerifyFault>
     ensures { Judged (module_demands (module_of arena.now)) result }
 {

@@ -1,0 +1,12 @@
+pub mod Asked
+pub mod CalleesTold
+pub mod CasesTold
+pub mod DistinctTold
+pub mod ElementsTold
+pub mod FactsTold
+pub mod NothingAsked
+pub mod OwnTypes
+pub mod PartsTold
+pub mod Split
+pub mod SwitchTold
+pub mod Within

@@ -1,0 +1,29 @@
+use Rattle.std.proofs.Common.{Some, [], sym, ap, ◌∙◌, All, subst}
+use Rattle.std.proofs.lemmas.List.Elements.{All-head}
+use Rattle.module_arena.specs.InstructionRules.{callee_takes_no_intrinsic}
+use Rattle.module_arena.specs.Mentions.{bare_values_of}
+use Rattle.module_arena.specs.Operations.{callee}
+use Rattle.module_arena.specs.View.{module_of}
+use Rattle.module_arena.specs.declared.instruction.Call.{Call}
+use Rattle.instruction_verify.specs.OperandFacts.{HasConstant, instruction_in, value_in}
+use Rattle.instruction_verify.proofs.CalleesTold.{no_callee}
+use Rattle.instruction_verify.proofs.callees.callee_takes_no_intrinsic.Goals as goal
+
+pub called_takes_no_intrinsic-requires : goal.called_takes_no_intrinsic-requires
+called_takes_no_intrinsic-requires c =
+    let a = c.args.judge.now in
+    subst (λ (k : Call). HasConstant a k.callee) (sym c.get.ensures) (All-head (HasConstant a) c.in-Call.call.callee [] (subst (λ i. All (HasConstant a) (bare_values_of i)) c.in-Call.is c.requires))
+
+pub returns-in-Call : goal.returns-in-Call
+returns-in-Call c values blocks =
+    let a = c.args.judge.now in
+    let m = module_of a in
+    c.called_takes_no_intrinsic.ensures values blocks
+    ∙ ap (λ (k : Call). callee_takes_no_intrinsic m (Some (value_in a values blocks k.callee))) c.get.ensures
+    ∙ ap (λ i. callee_takes_no_intrinsic m (callee (instruction_in a values blocks i).operation)) (sym c.in-Call.is)
+
+pub returns-in_default : goal.returns-in_default
+returns-in_default c values blocks =
+    let a = c.args.judge.now in
+    let m = module_of a in
+    ap (callee_takes_no_intrinsic m) (no_callee a values blocks c.args.instruction.now c.in_default.not-Call)

@@ -1,0 +1,2 @@
+pub mod OperandFacts
+pub mod Parts

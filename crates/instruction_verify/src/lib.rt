@@ -1,0 +1,19 @@
+//! Rules of validity for instructions (V5 to V7, V12 to V16) and for the ends of blocks (V5, V6, V17, V18).
+//!
+//! It stands on `ir_base`, `ir_tables`, `type_table`, `module_arena`, `type_verify`, `constant_verify`, `entry_rules` and `indexmap`.
+//! It promises that an answer on an instruction or an end names the first of what it is asked that does not hold: before the rules on
+//! phis and paths, and of the types that it works on. What is asked stands in `module_arena`, `specs/Valid`; its parts, in `specs/Parts`.
+#![tactic(auto)]
+
+mod callees;
+mod elements;
+mod endings;
+mod first;
+mod operands;
+mod rules;
+mod types;
+mod written_types;
+
+pub use endings::judge_ending_types;
+pub use first::{judge_ending_first, judge_instruction_first};
+pub use types::judge_instruction_types;
