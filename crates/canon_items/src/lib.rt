@@ -1,0 +1,6 @@
+//! The items of the canonical text of a module.
+//!
+//! It stands on the items of `ir_syntax` and on the module of `module_arena`. It has definitions alone: `specs/Parts` has
+//! types, constants, instructions and blocks, `specs/Items` the items of a module, and `specs/Unplaced` what is left of
+//! items where the places of their tokens are taken away.
+#![tactic(auto)]

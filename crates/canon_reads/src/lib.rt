@@ -1,0 +1,13 @@
+//! The canonical text of a module that is well formed and valid reads back to this module alone.
+//!
+//! It stands on the laws of `canon_law` and `canon_module`, on what items ask for in `name_rules`, and on `IsWellFormed` and
+//! `IsValid` of `module_arena`. It promises the laws that its calls name. Definitions: `specs/Laws`. `proofs/Rows` has a worked
+//! example.
+#![tactic(auto)]
+
+mod laws;
+
+pub use laws::{
+    canon_has_items, canon_has_tokens, canon_is_of_one_module, canon_is_read_back,
+    canon_items_are_its_module, canon_items_are_unbroken,
+};
