@@ -106,6 +106,7 @@ impl Gathered {
         ensures ok { OnOk result ((start : Option (List ℕ)) (text : List ℕ) → Says start (state self (S.taken sink.old) (S.faults sink.old)) text → Added start (S.taken sink.new) text) }
         ensures front { (start : Option (List ℕ)) (text : List ℕ) → Says start (state self (S.taken sink.old) (S.faults sink.old)) text → AddedFront start (S.taken sink.new) text }
         ensures cause { OnErr result ((self.failed ≡ true) ⊎ Rose (S.faults sink.old) (S.faults sink.new)) }
+        ensures later { S.faults sink.old ≤ S.faults sink.new }
         ensures fine { OnOk result ((self.failed ≡ false) × (S.faults sink.new ≡ S.faults sink.old)) }
     {
         if self.failed {

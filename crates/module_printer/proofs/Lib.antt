@@ -1,2 +1,4 @@
 pub mod Lined
 pub mod Lines
+pub mod Followed
+pub mod Bodies
