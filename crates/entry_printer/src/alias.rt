@@ -99,7 +99,7 @@ fn put_target_name<S: Sink>(
     }
 }
 
-/// Puts an alias.
+/// Puts an alias, with that separator behind it.
 pub fn put_alias<S: Sink>(
     out: &mut Gathered,
     sink: &mut S,

@@ -17,7 +17,7 @@ use module_arena::{Function, Parameter};
 use phrase_printer::{Separator, put_comma, put_global, put_local, put_token, put_type};
 use type_table::TypeTable;
 
-/// Puts the linkage, the return type and the name of a function.
+/// Puts the linkage, the return type and the name of a function, with that separator behind it.
 pub fn put_head<S: Sink>(
     out: &mut Gathered,
     sink: &mut S,
@@ -70,7 +70,7 @@ fn put_parameter<S: Sink>(
     put_local(out, sink, &parameter.name, behind);
 }
 
-/// Puts the parameters of a definition.
+/// Puts the parameters of a definition, with that separator behind it.
 pub fn put_parameters<S: Sink>(
     out: &mut Gathered,
     sink: &mut S,

@@ -1,7 +1,7 @@
 //! The entries of a module in canonical text on their way to a sink: texts, structs, variables, aliases, and the heads of functions.
 //!
-//! It stands on `constant_printer`, `operand_printer` and `operation_printer`. It promises that what is put is the phrase of the entry, and
-//! nothing else. Nothing takes memory. Definitions: `canonical/specs/Canonical`, and `specs/Entries`.
+//! It stands on `constant_printer`, `operand_printer` and `operation_printer`. It promises that what is put is the phrase of
+//! the entry, and nothing else. Nothing takes memory. Definitions: `canonical/specs/Canonical`, and `specs/Entries`.
 #![tactic(auto)]
 
 mod alias;

@@ -28,7 +28,7 @@ fn put_body<S: Sink>(
     }
 }
 
-/// Puts the struct with that id.
+/// Puts the struct with that id, with that separator behind it.
 pub fn put_struct<S: Sink>(
     out: &mut Gathered,
     sink: &mut S,

@@ -9,7 +9,7 @@ use gathered::Gathered;
 use ir_base::Sink;
 use phrase_printer::{Separator, put_text, put_token};
 
-/// Puts `source_filename`.
+/// Puts `source_filename`, with that separator behind it.
 pub fn put_source<S: Sink>(out: &mut Gathered, sink: &mut S, text: &[u8], behind: Separator)
     ensures { Prints (state out.old (S.taken sink.old) (S.faults sink.old)) (state out.new (S.taken sink.new) (S.faults sink.new)) (text_line (word (codes "source_filename")) text.now (separator_of behind)) }
 {
@@ -18,7 +18,7 @@ pub fn put_source<S: Sink>(out: &mut Gathered, sink: &mut S, text: &[u8], behind
     put_text(out, sink, text, behind);
 }
 
-/// Puts `target` with this word: `datalayout` or `triple`.
+/// Puts `target` with this word: `datalayout` or `triple`, with that separator behind it.
 pub fn put_target<S: Sink>(
     out: &mut Gathered,
     sink: &mut S,

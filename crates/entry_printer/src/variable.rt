@@ -67,7 +67,7 @@ fn put_initialised<S: Sink>(
     }
 }
 
-/// Puts a variable.
+/// Puts a variable, with that separator behind it.
 pub fn put_variable<S: Sink>(
     out: &mut Gathered,
     sink: &mut S,

@@ -141,7 +141,8 @@ pub fn common_suits(judge: &Judge<'_>, variable: &Variable) -> bool
     !is_common(variable.linkage) | (!variable.constant & zero)
 }
 
-/// Whether an appending entry is such a list.
+/// Whether an appending entry has an array type whose elements name no struct, and is a list in square brackets, or
+/// `zeroinitializer` for no element.
 pub fn appending_suits(judge: &Judge<'_>, variable: &Variable) -> bool
     requires { KnowsVariable (length judge.now.table.types) (length judge.now.constants) variable.now }
     ensures { result ≡ rules.appending_variable_suits (variable_in judge.now variable.now) }

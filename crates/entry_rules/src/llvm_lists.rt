@@ -224,7 +224,9 @@ fn is_used_list(judge: &Judge<'_>, variable: &Variable) -> bool
     names_used(variable.name.text().bytes()) & (appending & elements)
 }
 
-/// Whether a variable whose name begins `llvm.` is one of these lists.
+/// Whether a variable whose name begins `llvm.` is an appending list of constructors (`llvm.global_ctors`,
+/// `llvm.global_dtors`) or of what is used (`llvm.used`, `llvm.compiler.used`), by its type and, for constructors, its
+/// initialiser.
 pub fn variable_name_suits(judge: &Judge<'_>, variable: &Variable) -> bool
     requires { KnowsVariable (length judge.now.table.types) (length judge.now.constants) variable.now }
     ensures { result ≡ rules.variable_name_suits (module_of judge.now) (variable_in judge.now variable.now) }

@@ -136,7 +136,8 @@ fn target_suits(arena: &Arena, ty: &AliasType, target: Option<GlobalId>) -> bool
     }
 }
 
-/// Whether an alias and what it is of are such definitions.
+/// Whether an alias is external, private or internal, and so is what it is of: a variable with an initialiser or a function
+/// with a body, as its type says.
 pub fn alias_suits(arena: &Arena, alias: &Alias) -> bool
     requires { KnowsAlias (length arena.now.table.types) (counts arena.now) alias.now }
     ensures { result ≡ rules.alias_suits (module_of arena.now) (alias_in arena.now alias.now) }

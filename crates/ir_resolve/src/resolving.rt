@@ -19,8 +19,9 @@ use name_judge::judge;
 use name_rules::ResolveFault;
 use std::alloc::Global;
 
-/// The module of the items, with names and numbers joined. They are refused exactly where something breaks: at the first
-/// demand in the order of the text that fails, but where there are too many of a kind.
+/// The module of the items, with names and numbers joined. They are refused exactly where something breaks a rule, and the
+/// first break is told: too many of a kind, which has no place; else the first demand, in the order of the tokens, that
+/// fails, at its place. `Memory` where memory ran out.
 pub fn resolve(alloc: Global, items: &Items) -> Result<Arena, ResolveFault>
     requires few { counted (items_view items.now) ≤ 2 ^ 24 }
     requires formed { AreItemsFormed (items_view items.now) }

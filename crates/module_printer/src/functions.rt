@@ -63,7 +63,7 @@ fn put_definition<S: Sink>(
     put_token(out, sink, b"}", behind);
 }
 
-/// Puts a function: a definition where it has a body.
+/// Puts a function: a definition where it has a body, with that separator behind it.
 pub fn put_function<S: Sink>(
     out: &mut Gathered,
     sink: &mut S,
