@@ -18,4 +18,4 @@ pub use initialisers::{
 pub use linkages::{alignment_suits, is_appending, is_common, is_lasting, linkage_suits};
 pub use llvm_lists::variable_name_suits;
 pub use targets::{alias_names_suit, alias_suits, function_name_suits};
-pub use types::{alias_types_suit, function_types_suit};
+pub use types::{alias_types_suit, are_passable, function_types_suit, return_suits};

@@ -12,8 +12,8 @@ use module_arena::{Alias, AliasType, Function, Parameter};
 use type_table::TypeId;
 use type_verify::TypeJudge;
 
-/// `void`, or a type of values that are handed on: what may stand as a return type.
-fn return_suits(types: &TypeJudge<'_>, ty: TypeId) -> bool
+/// Whether a type may stand as a return type: `void`, or a type of values that are handed on.
+pub fn return_suits(types: &TypeJudge<'_>, ty: TypeId) -> bool
     requires { ty < length types.now.types }
     ensures { result ≡ rules.return_suits (structs types.now) (tree types.now ty) }
 {
@@ -34,11 +34,11 @@ fn parameters_suit(types: &TypeJudge<'_>, parameters: &[Parameter]) -> bool
 }
 
 /// Whether values of these types are handed on.
-fn are_passable(types: &TypeJudge<'_>, tys: &[TypeId]) -> bool
-    requires { All (λ ty. ty < length types.now.types) tys.now }
-    ensures { result ≡ list_all (λ ty. is_passable (structs types.now) (tree types.now ty)) tys.now }
+pub fn are_passable(types: &TypeJudge<'_>, parts: &[TypeId]) -> bool
+    requires { All (λ ty. ty < length types.now.types) parts.now }
+    ensures { result ≡ list_all (λ ty. is_passable (structs types.now) (tree types.now ty)) parts.now }
 {
-    for ty in tys {
+    for ty in parts {
         if !types.is_passable(*ty) {
             return false;
         }

@@ -17,3 +17,4 @@ mod written_types;
 pub use endings::judge_ending_types;
 pub use first::{judge_ending_first, judge_instruction_first};
 pub use types::judge_instruction_types;
+pub use written_types::part_at;

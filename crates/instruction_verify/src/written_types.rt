@@ -13,6 +13,7 @@ ghost use Rattle.instruction_verify.specs.OperandFacts.{instruction_in};
 ghost use Rattle.instruction_verify.specs.Parts.{own_types_suit};
 
 use constant_verify::Judge;
+use entry_rules::{are_passable, return_suits};
 use module_arena::{Inst, Signature};
 use type_table::TypeId;
 use type_verify::{Opened, TypeJudge};
@@ -44,7 +45,7 @@ fn part_of(types: &TypeJudge<'_>, ty: TypeId, index: u32) -> Option<TypeId>
 }
 
 /// The type of the part that the indices lead to, one after the other.
-pub(crate) fn part_at(types: &TypeJudge<'_>, whole: TypeId, indices: &[u32]) -> Option<TypeId>
+pub fn part_at(types: &TypeJudge<'_>, whole: TypeId, indices: &[u32]) -> Option<TypeId>
     requires { whole < length types.now.types }
     ensures part { option_map (tree types.now) result ≡ part_at (structs types.now) (tree types.now whole) indices.now }
     ensures known { IfSome result (λ part. part < length types.now.types) }
@@ -59,25 +60,12 @@ pub(crate) fn part_at(types: &TypeJudge<'_>, whole: TypeId, indices: &[u32]) -> 
     Some(ty)
 }
 
-/// Whether values of these types are handed on.
-fn are_passable(types: &TypeJudge<'_>, tys: &[TypeId]) -> bool
-    requires { All (λ ty. ty < length types.now.types) tys.now }
-    ensures { result ≡ list_all (λ ty. is_passable (structs types.now) (tree types.now ty)) tys.now }
-{
-    for ty in tys {
-        if !types.is_passable(*ty) {
-            return false;
-        }
-    }
-    true
-}
-
 /// Whether the types of a function type suit.
 fn signature_suits(types: &TypeJudge<'_>, signature: &Signature) -> bool
     requires { All (λ ty. ty < length types.now.types) (signature.now.returns ∷ signature.now.parameters) }
     ensures { result ≡ (rules.return_suits (structs types.now) (tree types.now signature.now.returns) && list_all (λ ty. is_passable (structs types.now) (tree types.now ty)) signature.now.parameters) }
 {
-    let returned = types.is_void(signature.returns) | types.is_passable(signature.returns);
+    let returned = return_suits(types, signature.returns);
     returned & are_passable(types, signature.parameters.as_slice())
 }
 

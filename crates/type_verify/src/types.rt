@@ -6,6 +6,7 @@ ghost use Rattle.type_table.specs.Types.{trees, tree, names, tree_of, structs, I
 ghost use Rattle.module_arena.specs.TypeTests.{is_integer, is_integer_of, is_pointer, is_void, is_free_of_void, is_free_of_names, lies_in_memory, is_passable, opened};
 ghost use Rattle.module_arena.specs.Constants.{indexed};
 ghost use Rattle.module_arena.specs.Same.{same_type};
+ghost use Rattle.type_verify.specs.Classes.{AreClasses};
 ghost use Rattle.type_verify.specs.Widths.{width_of};
 ghost use Rattle.type_verify.specs.Opened.{IsOpened, opened_ids, opened_body};
 ghost use Rattle.type_verify.specs.TypeFlags.{is_free, flag_of};
@@ -204,6 +205,13 @@ impl<'a> TypeJudge<'a> {
         ensures { result ≡ same_type (tree self.now ty) (tree self.now other) }
     {
         class_at(&self.classes, ty).number() == class_at(&self.classes, other).number()
+    }
+
+    /// A number for each type, by its id: two have one number exactly where they are written alike.
+    pub fn classes(&self) -> &[TypeId]
+        ensures { AreClasses self.now result.now }
+    {
+        &self.classes
     }
 
     /// The type by its parts, where a struct's name stands for its body.

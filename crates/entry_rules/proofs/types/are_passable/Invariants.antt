@@ -5,4 +5,4 @@ use Rattle.module_arena.specs.TypeTests.{is_passable}
 use Rattle.entry_rules.proofs.types.are_passable.Given as goal
 
 abbrev pub invariant-loop-ty : goal.invariant-loop-ty
-invariant-loop-ty l = list_all (λ p. is_passable (structs l.types) (tree l.types p)) (take l.ty-index l.tys) ≡ true
+invariant-loop-ty l = list_all (λ p. is_passable (structs l.types) (tree l.types p)) (take l.ty-index l.parts) ≡ true
