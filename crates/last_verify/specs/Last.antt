@@ -1,0 +1,21 @@
+-- For `judge_last` and `judge_ending_last`: what is asked before and behind the rules 12 to 16.
+use Rattle.std.specs.Prelude.{ℕ, Bool, ◌&&◌, List, [], ◌∷◌}
+use Rattle.module_arena.specs.Module.{Function, Instruction, Module, Operand}
+use Rattle.module_arena.specs.Operations.{callee, operands}
+use Rattle.module_arena.specs.Valid.{Demand, Entity, InstructionOf, Test}
+use Rattle.module_arena.specs.ValueRules.{call_suits, callee_fits, have_types_written, operands_fit}
+
+-- a test that an entity is asked to pass
+abbrev ask : Entity → ℕ → Bool → Demand
+ask entity rule passes = record { entity = entity; rule = rule; fact = Test passes }
+
+-- of local values among operands: rule 11
+abbrev pub written_demands : Module → Function → (number : ℕ) → List Operand → List Demand
+written_demands m f number os = ask (InstructionOf number f.name) 11 (have_types_written m.structs f os) ∷ []
+
+-- of calls, and of constants among the operands and as callee: rules 17 and 18
+abbrev pub call_demands : Module → Function → (number : ℕ) → Instruction → List Demand
+call_demands m f number i =
+    ask (InstructionOf number f.name) 17 (call_suits m.structs f i.result i.operation)
+    ∷ ask (InstructionOf number f.name) 18 (operands_fit m.structs (operands i.operation) && callee_fits m.structs (callee i.operation))
+    ∷ []

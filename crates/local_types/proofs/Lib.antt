@@ -1,0 +1,4 @@
+pub mod Behind
+pub mod GivenTold
+pub mod NamesTold
+pub mod Typed

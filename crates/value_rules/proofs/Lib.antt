@@ -1,0 +1,2 @@
+pub mod CalleesTold
+pub mod OperandsTold
