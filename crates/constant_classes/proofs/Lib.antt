@@ -1,0 +1,2 @@
+pub mod ClassesTold
+pub mod KeysTold

@@ -1,0 +1,6 @@
+mod Told
+mod Counted
+mod Edged
+mod Agreed
+mod Scratched
+mod PhisTold

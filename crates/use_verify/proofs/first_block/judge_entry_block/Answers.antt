@@ -1,0 +1,20 @@
+use Rattle.std.proofs.Common.{◌≡◌, not, List, [], ◌∷◌, slice_get, Some, ap, ◌∙◌, subst}
+use Rattle.module_arena.specs.Lists.{function_blocks}
+use Rattle.module_arena.specs.Valid.{BlockOf, Demand}
+use Rattle.module_arena.specs.View.{local_view}
+use Rattle.type_verify.specs.Judged.{Judged}
+use Rattle.use_verify.specs.Uses.{ask}
+use Rattle.use_verify.proofs.Entered.{first_asked, named_at, unled}
+use Rattle.use_verify.proofs.Named.{names_apart}
+use Rattle.use_verify.proofs.first_block.judge_entry_block.Goals as goal
+
+pub returns : goal.returns
+returns c a r =
+    let f = c.args.function.now in
+    let first = c.block-first.result.now in
+    let at : slice_get (function_blocks f) 0 ≡ Some first = subst (λ n. slice_get (function_blocks f) n ≡ Some first) c.new.ensures c.block-first.ensures in
+    subst (λ (ds : List Demand). Judged ds c.judge_block.result)
+    (ap (λ b. ask (BlockOf (local_view first.name) f.name) 8 b ∷ [])
+    (ap not c.is_first_entered-entered.ensures ∙ unled a f 0 (local_view first.name) (names_apart a f _ r) (named_at a f 0 first at) c.requires)
+    ∙ first_asked a f first at)
+    c.judge_block.ensures
