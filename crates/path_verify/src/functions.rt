@@ -1,0 +1,60 @@
+//! All functions.
+ghost use Rattle.std.specs.Prelude.{◌≡◌, ◌<◌, ◌≤◌, ◌+◌, length, slice_get, Some, flat_map};
+ghost use Rattle.module_arena.specs.declared.entry.Function as the_function;
+ghost use Rattle.module_arena.specs.Changes.{function_in};
+ghost use Rattle.module_arena.specs.Valid.{function_demands};
+ghost use Rattle.module_arena.specs.View.{constants_of, module_of};
+ghost use Rattle.module_arena.specs.WellFormed.{IsWellFormed};
+ghost use Rattle.constant_classes.specs.Classes.{AreClasses};
+ghost use Rattle.type_verify.specs.Judged.{Judged};
+ghost use Rattle.body_verify.specs.Bodies.{turns_of};
+ghost use Rattle.path_verify.specs.Verified.{all_turns};
+
+use body_verify::judge_body;
+use constant_verify::Judge;
+use entry_verify::judge_function;
+use module_arena::FunctionId;
+use path_rows::Steps;
+use std::alloc::Global;
+use std::sync::ledger::Ledger;
+use type_verify::VerifyFault;
+
+/// What the rules say of a function and all in it. `classes` has a number for each constant of the module, one for two exactly where
+/// they are the same.
+fn judge_one<L: Ledger>(
+    alloc: Global,
+    judge: &Judge<'_>,
+    classes: &[u64],
+    id: FunctionId,
+    turns: &mut Steps<L>,
+) -> Result<(), VerifyFault>
+    requires known { id < length judge.now.functions }
+    requires well_formed { IsWellFormed (module_of judge.now) }
+    requires many { length classes.now ≡ length judge.now.constants }
+    requires classes { AreClasses (constants_of judge.now) classes.now }
+    ensures judged { (f : the_function.Function) → slice_get judge.now.functions id ≡ Some f → Judged (function_demands (module_of judge.now) (function_in judge.now f)) result }
+    ensures turns { (f : the_function.Function) → slice_get judge.now.functions id ≡ Some f → turns.new ≤ turns.old + turns_of (function_in judge.now f) }
+{
+    judge_function(alloc, judge, id)?;
+    judge_body(alloc, judge, classes, id, turns)
+}
+
+/// What the rules say of all functions, in their order; `classes` are those of the constants.
+pub(crate) fn judge_functions<L: Ledger>(
+    alloc: Global,
+    judge: &Judge<'_>,
+    classes: &[u64],
+    turns: &mut Steps<L>,
+) -> Result<(), VerifyFault>
+    requires well_formed { IsWellFormed (module_of judge.now) }
+    requires many { length classes.now ≡ length judge.now.constants }
+    requires classes { AreClasses (constants_of judge.now) classes.now }
+    ensures judged { Judged (flat_map (function_demands (module_of judge.now)) (module_of judge.now).functions) result }
+    ensures turns { turns.new ≤ turns.old + all_turns (module_of judge.now) }
+{
+    let count = judge.arena().function_count();
+    'functions: for number in 0..count {
+        judge_one(alloc, judge, classes, FunctionId::new(number), turns)?;
+    }
+    Ok(())
+}
