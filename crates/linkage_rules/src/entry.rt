@@ -68,16 +68,21 @@ pub type EntryList = ItemList<EntryId>;
 
 /// What is told of an entry without its names and types.
 #[derive(Clone, Copy)]
-pub(crate) struct Head {
-    pub(crate) linkage: Linkage,
-    pub(crate) written: bool,
-    pub(crate) variable: bool,
-    pub(crate) alias: bool,
-    pub(crate) constant: bool,
+pub struct Head {
+    /// Its linkage.
+    pub linkage: Linkage,
+    /// Whether it has an initialiser or a body, or is an alias.
+    pub written: bool,
+    /// Whether it is a variable, or an alias of one.
+    pub variable: bool,
+    /// Whether it is an alias.
+    pub alias: bool,
+    /// Whether it is a variable that is never written.
+    pub constant: bool,
 }
 
-/// The arena of a part.
-pub(crate) fn arena_of(parts: &[Checked], part: u64) -> &Arena
+/// The arena of the part with that number, counted from 0.
+pub fn arena_of(parts: &[Checked], part: u64) -> &Arena
     requires { part < length parts.now }
     ensures arena { slice_get parts.now part ≡ Some result.now }
     ensures well_formed { IsWellFormed (module_of result.now) }
@@ -122,8 +127,8 @@ fn alias_head(alias: &Alias) -> Head
     }
 }
 
-/// What is told of an entry.
-pub(crate) fn head_of(parts: &[Checked], id: EntryId) -> Head
+/// What is told of an entry without its names and types.
+pub fn head_of(parts: &[Checked], id: EntryId) -> Head
     requires { IsEntryId parts.now id }
     ensures { result ≡ head_of (seen (modules parts.now) id).global }
 {
@@ -136,7 +141,7 @@ pub(crate) fn head_of(parts: &[Checked], id: EntryId) -> Head
 }
 
 /// The name of an entry.
-pub(crate) fn name(parts: &[Checked], id: EntryId) -> &Name
+pub fn name(parts: &[Checked], id: EntryId) -> &Name
     requires { IsEntryId parts.now id }
     ensures { result.now ≡ name_of (seen (modules parts.now) id).global }
 {

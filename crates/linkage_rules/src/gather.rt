@@ -23,8 +23,9 @@ fn push_kind(
     Ok(())
 }
 
-/// Adds the ids of a part: variables, functions, aliases.
-pub(crate) fn push_part(ids: &mut Vec<EntryId>, part: u64, arena: &Arena) -> Result<(), AllocError>
+/// Adds the ids of a part's entries: variables, functions, aliases, each in the order of their making. The part is told by
+/// its number, counted from 0.
+pub fn push_part(ids: &mut Vec<EntryId>, part: u64, arena: &Arena) -> Result<(), AllocError>
     ensures { OnOk result (ids.new.items ≡ ids.old.items ++ ids_of part arena.now) }
 {
     push_kind(ids, part, SymbolKind::Variable, arena.variable_count())?;

@@ -18,5 +18,6 @@ mod symbol;
 
 pub use bindings::{Bindings, resolve_symbols};
 pub use conflict::{ConflictKind, SymbolFault};
-pub use entry::{EntryId, EntryList};
+pub use entry::{EntryId, EntryList, Head, arena_of, head_of, name};
+pub use gather::push_part;
 pub use symbol::{Symbol, SymbolKind, SymbolList};

@@ -1,0 +1,4 @@
+pub mod SymbolNamed
+pub mod Targets
+pub mod AtHome
+pub mod PartNames
