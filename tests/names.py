@@ -37,6 +37,11 @@ def module(text):
     CASES.append((text, "module"))
 
 
+def invalid(text, told):
+    """A module, which is not valid."""
+    CASES.append((text, f" invalid {told}"))
+
+
 def again(text):
     refused(text, f"duplicate, first at {place_before(FIRST, text)}")
 
@@ -119,9 +124,9 @@ def aliases():
     """Aliases share the name space of variables and functions."""
     module("@x = global i32 5 @y = alias i32, ptr @x define i32 @main() { store i32 6, ptr @y %1 = load i32, ptr @y ret i32 %1 }")
     module("@g = alias i32 (), ptr @f define i32 @f() { ret i32 1 }")
-    module("@g = internal alias i32 (ptr, ...), ptr @f declare i32 @f(ptr, ...)")
+    invalid("@g = internal alias i32 (ptr, ...), ptr @f declare i32 @f(ptr, ...)", "V19 at @g")
     module("@p = global ptr @y @y = alias i32, ptr @p")
-    module("@y = alias i32, ptr @z @z = alias i32, ptr @y")
+    invalid("@y = alias i32, ptr @z @z = alias i32, ptr @y", "V19 at @y")
     again("@x = global i1 0 ›@f = alias i1, ptr @x define void ‹@f() { ret void }")
     again("define void ›@f() { ret void } ‹@f = alias void (), ptr @f")
     again("›@x = global i1 0 ‹@x = alias i1, ptr @x")
@@ -209,10 +214,10 @@ def ranges():
     outside("@x = global i1 ‹-2")
     module("@x = global i128 340282366920938463463374607431768211455")
     outside("@x = global i128 ‹340282366920938463463374607431768211456")
-    module("@x = global ptr 340282366920938463463374607431768211455")
+    invalid("@x = global ptr 340282366920938463463374607431768211455", "V18 at @x")
     outside("@x = global ptr ‹340282366920938463463374607431768211456")
     outside("@x = global ptr ‹-170141183460469231731687303715884105729")
-    module("%T = type { i8 } @x = global %T 256")
+    invalid("%T = type { i8 } @x = global %T 256", "V18 at @x")
     outside("@x = global { i8, i8 } { i8 255, i8 ‹256 }")
     outside("@x = global [2 x { i8 }] [{ i8 } { i8 0 }, { i8 } { i8 ‹-129 }]")
     outside("@x = global ptr getelementptr (i8, ptr @x, i32 ‹4294967296)")
@@ -225,13 +230,13 @@ def ranges():
     outside("define void @f() { switch i8 0, label %0 [ i8 1, label %0 i8 ‹256, label %0 ] }")
     outside("define void @f() { %1 = getelementptr i8, ptr null, i32 ‹-2147483649 ret void }")
     outside("define void @f() { call void ‹340282366920938463463374607431768211456() ret void }")
-    module("@x = global i8 0, align 4294967295")
+    invalid("@x = global i8 0, align 4294967295", "V7 at @x")
     outside("@x = global i8 0, align ‹4294967296")
     outside("@x = global i8 0, align ‹-1")
     outside("define void @f() { %1 = alloca i8, align ‹-1 ret void }")
     outside("define void @f() { %1 = load i8, ptr null, align ‹4294967296 ret void }")
     outside("define void @f() { store i8 0, ptr null, align ‹-4 ret void }")
-    module("@x = global [-0 x i8] [], align -0")
+    invalid("@x = global [-0 x i8] [], align -0", "V7 at @x")
     outside("@x = global [‹-1 x i8] zeroinitializer")
     outside("define void @f() { %1 = extractvalue { i8 } undef, ‹-1 ret void }")
     outside("define void @f() { %1 = extractvalue [1 x { i8 }] undef, 0, ‹4294967296 ret void }")
@@ -267,7 +272,7 @@ def sizes():
     large("@x = global ‹[1099511627777 x %T] zeroinitializer %T = type { %T }")
     large("define void @f() { %1 = alloca ‹[1099511627777 x i8] ret void }")
     large("define void @f() { %1 = getelementptr ‹[1099511627777 x i8], ptr null, i64 0 ret void }")
-    module("%T = type opaque @x = global [1099511627776 x { i64, %T }] zeroinitializer")
+    invalid("%T = type opaque @x = global [1099511627776 x { i64, %T }] zeroinitializer", "V6 at @x")
 
 
 def orders():
@@ -357,11 +362,11 @@ def modules():
     module("define i32 @main() { %1 = add nsw i32 2147483647, 1 %2 = icmp eq i32 %1, 0 br i1 %2, label %3, label %4 3: ret i32 1 4: ret i32 2 }")
     module("define i32 @main() { %1 = mul i128 170141183460469231731687303715884105728, 2 %2 = sdiv i128 -170141183460469231731687303715884105728, -1 %3 = icmp eq i128 %1, 0 %4 = select i1 %3, i32 3, i32 4 ret i32 %4 }")
     module("define i32 @main() { br label %l l: %a = phi i32 [ 11, %0 ], [ %b, %l ] %b = phi i32 [ 22, %0 ], [ %a, %l ] %i = phi i32 [ 0, %0 ], [ %j, %l ] %j = add i32 %i, 1 %c = icmp eq i32 %j, 3 br i1 %c, label %e, label %l e: ret i32 %a }")
-    module("define i32 @f(i1 %c) { br i1 %c, label %a, label %b a: %v = add i32 1, 2 br label %b b: ret i32 %v }")
+    invalid("define i32 @f(i1 %c) { br i1 %c, label %a, label %b a: %v = add i32 1, 2 br label %b b: ret i32 %v }", "V10 at instruction 3 of @f")
     module("declare ptr @malloc(i64) declare ptr @memset(ptr, i32, i64) declare void @free(ptr) define i32 @main() { %1 = call ptr @malloc(i64 4) %2 = call ptr @memset(ptr %1, i32 1, i64 4) call void @free(ptr %1) ret i32 0 }")
-    # Not valid, but a module.
-    module("target datalayout = \"E\" define void @f() { br label %0 }")
-    module("@a = alias i32, ptr @b @b = external global i32")
+    # Modules that are not valid.
+    invalid("target datalayout = \"E\" define void @f() { br label %0 }", "V1 at module")
+    invalid("@a = alias i32, ptr @b @b = external global i32", "V19 at @a")
 
 
 TABLES = [worked, duplicates, aliases, unknowns, numbers, ranges, loops, sizes, orders, towers, counts, modules]

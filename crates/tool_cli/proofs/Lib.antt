@@ -6,3 +6,4 @@ pub mod Works
 pub mod Outcomes
 pub mod Judging
 pub mod Order
+pub mod Verdicts

@@ -10,7 +10,8 @@ use Rattle.tool_cli.specs.declared.ended.Ended.TheVariants as ends
 use Rattle.tool_cli.specs.Inputs.{inputs_of}
 use Rattle.tool_cli.specs.Causes.{IsUnwritten, RefusesOne}
 use Rattle.tool_cli.specs.Analyzed.{is_analysis, IsAnalysis, IsDumped, IsWritten, IsWrittenOf, IsBeforeWork}
-use Rattle.tool_cli.specs.Told.{IsRun, IsWork, IsOfTexts, IsOfWork}
+use Rattle.tool_cli.specs.Judged.{IsTextRefused}
+use Rattle.tool_cli.specs.Told.{IsRun, IsTextRun, IsWork, IsOfTexts, IsOfWork}
 
 some_same : {a b : List ℕ} → Some a ≡ Some b → a ≡ b
 some_same e = cc
@@ -46,6 +47,10 @@ analysis_written command input dump texts bytes before now ended is count first 
 
 pub no_analysis : (command : Command) (input : List ℕ) (dump : Bool) → command ≡ Analyze input dump → is_analysis command ≡ false → ⊥
 no_analysis command input dump is none = (let h : true ≡ false = sym (ap is_analysis is) ∙ none in cc)
+
+pub text_refused : (name : List ℕ) (bound : ℕ) (text : List ℕ) (ended : Ended) → IsTextRefused name text ended ⊎ (ended ≡ Memory) → IsTextRun name bound text ended ⊎ (ended ≡ Memory)
+text_refused name bound text ended (inl refused) = inl (inl refused)
+text_refused name bound text ended (inr none) = inr none
 
 -- The work that writes nothing.
 

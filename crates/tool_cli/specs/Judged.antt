@@ -1,19 +1,28 @@
 -- Whether inputs are texts of modules, judged in the order of the words.
-use Rattle.std.specs.Prelude.{◌≡◌, ◌⊎◌, ◌==◌, ◌≤◌, ℕ, Bool, List, [], ◌∷◌, length, Some}
+use Rattle.std.specs.Prelude.{◌≡◌, ◌⊎◌, ◌==◌, ◌≤◌, ℕ, Bool, List, [], ◌∷◌, ◌++◌, codes, length, Some, None, Err}
 use Rattle.std.specs.Bool.{MatchBool}
+use Rattle.std.specs.Fmt.{decimal}
 use Rattle.std.specs.List.{starts_with}
 use Rattle.ir_syntax.specs.Answers.{HasItems}
 use Rattle.ir_syntax.specs.Refusal.{IsRefused}
 use Rattle.ir_syntax.specs.Tree.{ItemTree}
 use Rattle.ir_syntax.specs.declared.read.SyntaxFault.{SyntaxFault}
 use Rattle.ir_syntax.specs.declared.read.SyntaxFault.TheVariants as faults
-use Rattle.module_arena.specs.Module.{Module}
+use Rattle.module_arena.specs.EntityView.{entity_view}
+use Rattle.module_arena.specs.Functions.{first_too_large}
+use Rattle.module_arena.specs.Module.{LocalName, Module}
+use Rattle.module_arena.specs.Module.LocalName.{Named, Numbered}
+use Rattle.module_arena.specs.Valid.{Entity, IsValid}
 use Rattle.name_rules.specs.Breaks.{first_break}
 use Rattle.name_rules.specs.Reads.{Resolves}
+use Rattle.name_rules.specs.Spelled.{spelled, spelled_global}
 use Rattle.name_rules.specs.declared.fault.ResolveFault.{ResolveFault}
 use Rattle.name_rules.specs.declared.fault.ResolveFault.TheVariants as breaks
+use Rattle.type_verify.specs.declared.fault.VerifyFault.{VerifyFault}
+use Rattle.type_verify.specs.declared.fault.VerifyFault.TheVariants as verdicts
+use Rattle.path_verify.specs.Verified.{Verifies}
 use Rattle.tool_cli.specs.declared.ended.Ended.{Ended}
-use Rattle.tool_cli.specs.declared.ended.Ended.TheVariants.{BadByte, NoItemHere, LeftOutWord, TooMany, Duplicate, UnknownName, WrongNumber, ConstantRange, TooDeep, SelfContaining, TooLarge, Memory}
+use Rattle.tool_cli.specs.declared.ended.Ended.TheVariants.{BadByte, NoItemHere, LeftOutWord, TooMany, Duplicate, UnknownName, WrongNumber, ConstantRange, TooDeep, SelfContaining, TooLarge, FunctionTooLarge, Invalid, Memory}
 use Rattle.tool_cli.specs.declared.inputs.TheConstants.{LARGEST}
 
 -- The bytes that bitcode begins with (LLVM Bitcode File Format, "LLVM IR Magic Number").
@@ -58,13 +67,52 @@ pub record HasNoModule (name text : List ℕ) (ended : Ended) : Type 0 where
   pub breaks : first_break items ≡ Some fault
   pub told : ended ≡ break_told name fault
 
+-- a block, in words: its name as canonical text spells it, or its number
+abbrev pub block_words : LocalName → List ℕ
+block_words (Named name) = 37 ∷ spelled name
+block_words (Numbered number) = 37 ∷ decimal number
+
+-- what is at fault, in words; names are spelled as in canonical text
+abbrev pub entity_words : Entity → List ℕ
+entity_words Entity.TheModule = codes "module"
+entity_words (Entity.Global name) = spelled_global name
+entity_words (Entity.BlockOf block function) = block_words block ++ (codes " of " ++ spelled_global function)
+entity_words (Entity.InstructionOf number function) = codes "instruction " ++ (decimal number ++ (codes " of " ++ spelled_global function))
+
+-- the refusal of a module, told with the name of its input
+abbrev pub verdict_told : List ℕ → VerifyFault → Ended
+verdict_told name (verdicts.FunctionTooLarge function size) = FunctionTooLarge name (spelled_global function) size
+verdict_told name (verdicts.Invalid rule entity) = Invalid name rule (entity_words (entity_view entity))
+verdict_told name verdicts.Memory = Memory
+
+-- a module is refused so, as it is for no want of memory
+abbrev pub IsVerdict : Module → VerifyFault → Type 0
+IsVerdict m verdicts.Memory = ⊥
+IsVerdict m fault = Verifies {T = Unit {0}} m (Err fault)
+
+-- the module of the text of the input of this name is refused, and this is told
+pub record HasInvalidModule (name text : List ℕ) (ended : Ended) : Type 0 where
+  pub items : List ItemTree
+  pub has_items : HasItems text items
+  pub meant : Module
+  pub resolves : Resolves items meant
+  pub fault : VerifyFault
+  pub refused : IsVerdict meant fault
+  pub told : ended ≡ verdict_told name fault
+
 -- the text of the input of this name is refused, and this is told
 abbrev pub IsTextRefused : List ℕ → List ℕ → Ended → Type 0
-IsTextRefused name text ended = HasNoItems name text ended ⊎ HasNoModule name text ended
+IsTextRefused name text ended = HasNoItems name text ended ⊎ (HasNoModule name text ended ⊎ HasInvalidModule name text ended)
 
--- these are the items of the text, and they resolve to a module
+-- a module is accepted: no function is too large, and it is valid
+pub record IsAcceptedModule (items : List ItemTree) (m : Module) : Type 0 where
+  pub resolves : Resolves items m
+  pub sized : first_too_large m ≡ None
+  pub valid : IsValid m
+
+-- these are the items of the text, and they resolve to a module that is accepted
 abbrev pub HasModule : List ℕ → List ItemTree → Type 0
-HasModule text items = HasItems text items × ((m : Module) × Resolves items m)
+HasModule text items = HasItems text items × ((m : Module) × IsAcceptedModule items m)
 
 -- an input of this name is a text that is refused; bitcode is not judged
 abbrev pub IsPartRefused : List ℕ → List ℕ → Ended → Type 0

@@ -48,6 +48,11 @@ pub enum Ended {
     SelfContaining(Text, Place),
     /// There are so many of these, which is past the limit; in the input of this name, where it is about one.
     TooMany(Option<Text>, CountKind, u64),
+    /// In the module of the input of this name the function spelled so is too large: its blocks times its values are these.
+    FunctionTooLarge(Text, Text, u64),
+    /// In the module of the input of this name the rule of validity of this number does not hold first, at what these words
+    /// tell.
+    Invalid(Text, u8, Text),
     /// The bits of the input of this name are no stream: this field is refused.
     BitFault(Text, BitFault),
     /// The tool is not built, or not for such an input.
@@ -96,6 +101,8 @@ pub fn status_of(ended: &Ended) -> u8
         | Ended::TooLarge(_, _)
         | Ended::SelfContaining(_, _)
         | Ended::TooMany(_, _, _)
+        | Ended::FunctionTooLarge(_, _, _)
+        | Ended::Invalid(_, _, _)
         | Ended::BitFault(_, _)
         | Ended::NotBuilt => 1,
         Ended::Memory => 120,

@@ -171,6 +171,58 @@ fn tell_bit<'t, E: Sink>(
     )
 }
 
+// The line of a function that is too large, in the module of the input of this name.
+fn tell_function<'t, E: Sink>(
+    errors: &mut E,
+    words: &[Text],
+    name: &'t [u8],
+    function: &'t [u8],
+    size: &'t [u8],
+) -> Result<(), Failed>
+    ensures { Wrote (E.taken errors.old) (E.taken errors.new) (E.faults errors.old) (E.faults errors.new)
+        (error_line words.now (name.now ++ (codes ": function too large: " ++ (function.now ++ (codes ", " ++ size.now))))) }
+{
+    write_pieces(
+        errors,
+        &[
+            name_of(words),
+            b": ",
+            name,
+            b": function too large: ",
+            function,
+            b", ",
+            size,
+            b"\n",
+        ],
+    )
+}
+
+// The line of a rule of validity that does not hold first, in the module of the input of this name.
+fn tell_rule<'t, E: Sink>(
+    errors: &mut E,
+    words: &[Text],
+    name: &'t [u8],
+    rule: &'t [u8],
+    entity: &'t [u8],
+) -> Result<(), Failed>
+    ensures { Wrote (E.taken errors.old) (E.taken errors.new) (E.faults errors.old) (E.faults errors.new)
+        (error_line words.now (name.now ++ (codes ": invalid V" ++ (rule.now ++ (codes " at " ++ entity.now))))) }
+{
+    write_pieces(
+        errors,
+        &[
+            name_of(words),
+            b": ",
+            name,
+            b": invalid V",
+            rule,
+            b" at ",
+            entity,
+            b"\n",
+        ],
+    )
+}
+
 // A line with a text behind the tool's name, and a name behind that.
 fn tell_text<'t, E: Sink>(
     errors: &mut E,
@@ -410,6 +462,20 @@ pub fn tell<E: Sink>(errors: &mut E, words: &[Text], ended: &Ended)
             tell_limit(errors, words, name.bytes(), digits.bytes())
         }
         Ended::TooMany(name, kind, count) => { tell_too_many(errors, words, name, *kind, *count) }
+        Ended::FunctionTooLarge(name, function, size) => {
+            let digits = Digits::of(*size);
+            tell_function(
+                errors,
+                words,
+                name.bytes(),
+                function.bytes(),
+                digits.bytes(),
+            )
+        }
+        Ended::Invalid(name, rule, entity) => {
+            let digits = Digits::of(u64::from(*rule));
+            tell_rule(errors, words, name.bytes(), digits.bytes(), entity.bytes())
+        }
         Ended::BitFault(name, fault) => {
             let digits = Digits::of(fault.bit);
             let kind = fault_words(fault.kind).as_bytes();

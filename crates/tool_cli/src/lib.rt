@@ -8,6 +8,7 @@
 mod analysis;
 mod digits;
 mod ended;
+mod entity;
 mod error_line;
 mod inputs;
 mod tool_run;

@@ -1,8 +1,10 @@
 //! What the tools do with the texts of their inputs.
 ghost use Rattle.std.specs.Prelude.{◌≡◌, ◌⊎◌, ◌<◌, ℕ, List, length, codes, false, IfOk, IfErr, OnOk};
 ghost use Rattle.ir_base.specs.Outside.{Rose};
+ghost use Rattle.module_arena.specs.EntityView.{entity_view};
+ghost use Rattle.name_rules.specs.Spelled.{spelled_global};
 ghost use Rattle.tool_cli.specs.Inputs.{inputs_of};
-ghost use Rattle.tool_cli.specs.Judged.{is_bitcode, refusal_told, break_told, IsShort, AreShort, IsTextRefused, HasModule, AreAccepted, IsPartAccepted, IsPartRefused, IsFirstRefusal};
+ghost use Rattle.tool_cli.specs.Judged.{entity_words, is_bitcode, refusal_told, break_told, verdict_told, IsShort, AreShort, IsTextRefused, HasModule, AreAccepted, IsPartAccepted, IsPartRefused, IsFirstRefusal};
 ghost use Rattle.tool_cli.specs.Causes.{IsUnwritten, IsUnwrittenOrMemory};
 ghost use Rattle.tool_cli.specs.Analyzed.{is_analysis, IsWritten};
 ghost use Rattle.tool_cli.specs.Told.{items_end, IsTextRun, IsRun, IsWork, IsOfTexts, IsOfWork};
@@ -11,14 +13,18 @@ ghost use Rattle.ir_syntax.specs.View.{items_view};
 
 use crate::analysis::analyze;
 use crate::ended::Ended;
+use crate::entity::entity_words;
 use crate::inputs::inputs_of;
 use command_line::Command;
-use ir_base::{Sink, Text, TextList};
+use ir_base::{Name, Sink, Text, TextList};
 use ir_resolve::resolve;
 use ir_run::run_straight;
 use ir_syntax::{Items, SyntaxFault, read_items, straight_of};
-use name_rules::ResolveFault;
-use std::alloc::Global;
+use module_arena::Entity;
+use name_rules::{ResolveFault, spell_global};
+use path_verify::verify;
+use std::alloc::{AllocError, Global};
+use type_verify::VerifyFault;
 
 /// The bytes that bitcode begins with (LLVM Bitcode File Format, "LLVM IR Magic Number").
 const BITCODE_MAGIC: [u8; 4] = [0x42, 0x43, 0xC0, 0xDE];
@@ -69,7 +75,42 @@ fn break_told(alloc: Global, name: &Text, fault: ResolveFault) -> Ended
     }
 }
 
-// The items of the text of the input of this name, where they resolve to a module.
+// The function that is too large, told with the name of its input.
+fn size_told(alloc: Global, name: Text, function: &Name, size: u64) -> Result<Ended, AllocError>
+    ensures { IfOk result (λ ended. ended ≡ Ended.FunctionTooLarge name (spelled_global function.now) size) }
+{
+    let function = spell_global(alloc, function.text().bytes())?;
+    Ok(Ended::FunctionTooLarge(name, function, size))
+}
+
+// The rule that does not hold, told with the name of its input.
+fn rule_told(alloc: Global, name: Text, rule: u8, entity: &Entity) -> Result<Ended, AllocError>
+    ensures { IfOk result (λ ended. ended ≡ Ended.Invalid name rule (entity_words (entity_view entity.now))) }
+{
+    let words = entity_words(alloc, entity)?;
+    Ok(Ended::Invalid(name, rule, words))
+}
+
+// The refusal of a module, told with the name of its input.
+fn verdict_told(alloc: Global, name: &Text, fault: VerifyFault) -> Ended
+    ensures told { (result ≡ verdict_told name.now fault) ⊎ (result ≡ Ended.Memory) }
+    ensures of_texts { IsOfTexts result }
+{
+    let Ok(name) = Text::from_slice(alloc, name.bytes()) else {
+        return Ended::Memory;
+    };
+    let told = match &fault {
+        VerifyFault::FunctionTooLarge(function, size) => size_told(alloc, name, function, *size),
+        VerifyFault::Invalid(rule, entity) => rule_told(alloc, name, *rule, entity),
+        VerifyFault::Memory => return Ended::Memory,
+    };
+    match told {
+        Ok(ended) => ended,
+        Err(_) => Ended::Memory,
+    }
+}
+
+// The items of the text of the input of this name, where they resolve to a module that is valid.
 fn module_items(alloc: Global, name: &Text, text: &[u8]) -> Result<Items, Ended>
     requires { IsShort text.now }
     ensures module { IfOk result (λ items. HasModule text.now (items_view items)) }
@@ -80,9 +121,13 @@ fn module_items(alloc: Global, name: &Text, text: &[u8]) -> Result<Items, Ended>
         Ok(items) => items,
         Err(fault) => return Err(refusal_told(alloc, name, fault)),
     };
-    match resolve(alloc, &items) {
-        Ok(_module) => Ok(items),
-        Err(fault) => Err(break_told(alloc, name, fault)),
+    let arena = match resolve(alloc, &items) {
+        Ok(arena) => arena,
+        Err(fault) => return Err(break_told(alloc, name, fault)),
+    };
+    match verify(alloc, arena) {
+        Ok(_checked) => Ok(items),
+        Err(fault) => Err(verdict_told(alloc, name, fault)),
     }
 }
 

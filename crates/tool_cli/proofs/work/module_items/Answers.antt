@@ -1,8 +1,13 @@
+use Rattle.std.proofs.Common.{arith}
 use Rattle.reads_narrow.proofs.Items.{are_narrow}
+use Rattle.tool_cli.proofs.Verdicts.{bytes_below, refused_so}
 use Rattle.tool_cli.proofs.work.module_items.Goals as goal
 
 pub resolve-requires-clause-narrow : goal.resolve-requires-clause-narrow
 resolve-requires-clause-narrow c = are_narrow c.args.text.now _ c.in-Ok.ensures.items
 
-pub returns-in-Ok-resolve-clause-module : goal.returns-in-Ok-resolve-clause-module
-returns-in-Ok-resolve-clause-module c = (c.in-Ok.ensures.items, (_, c.in-Ok-resolve.ensures.joined))
+pub verify-requires : goal.verify-requires
+verify-requires c = c.in-Ok-resolve.ensures.well_formed c.args.text.now (bytes_below c.args.text.now (λ i. omega (arith, c.type_inv.text i))) c.in-Ok.ensures.items
+
+pub returns-in-Err-verify-clause-refused : goal.returns-in-Err-verify-clause-refused
+returns-in-Err-verify-clause-refused c = refused_so c.args.name.now c.args.text.now _ _ c.in-Err-verify.fault c.verdict_told.result c.in-Ok.ensures.items c.in-Ok-resolve.ensures.joined c.in-Err-verify.ensures.verdict c.verdict_told.ensures.told
