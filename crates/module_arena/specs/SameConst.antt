@@ -77,6 +77,6 @@ const_writes const.ZeroInitializer = fed.u8 5
 const_writes (const.Address g) = fed.u8 6 ++ fed.u32 (global_number g)
 const_writes (const.ByteString bytes) = fed.u8 7 ++ fed.slice fed.u8 bytes
 const_writes (const.Aggregate round elements) = fed.u8 8 ++ fed.slice typed_writes elements
-const_writes (const.ElementAddress flags address) = fed.u8 9 ++ fed.slice typed_writes address.operands
+const_writes (const.ElementAddress flags address) = fed.u8 9 ++ fed.u64 address.source ++ fed.slice typed_writes address.operands
 const_writes (const.Cast opcode operand to) = fed.u8 10 ++ typed_writes operand ++ fed.u64 to
 const_writes (const.Binary opcode flags pair) = fed.u8 11 ++ typed_writes pair.left ++ typed_writes pair.right

@@ -170,6 +170,7 @@ impl Hash for Const {
             }
             Const::ElementAddress(_, address) => {
                 state.write_u8(9);
+                address.get().source.number().hash(state);
                 address.get().operands.as_slice().hash(state);
             }
             Const::Cast(_, operand, to) => {
