@@ -7,7 +7,7 @@ use Rattle.module_arena.specs.Lists.{Lists}
 use Rattle.name_rules.specs.Written.{type_in}
 use Rattle.type_build.specs.Fitting.{CanBe}
 use Rattle.type_build.specs.Holding.{CanHold, HasEntry}
-use Rattle.entry_build.specs.Declared.{CanAlias}
+use Rattle.type_build.specs.Declarations.{CanAlias}
 use Rattle.buildable.specs.Bodies.{CanType, IsShortAlignment, CanBody}
 
 module _ (structs : Structs) where

@@ -8,7 +8,7 @@ use Rattle.module_arena.specs.Known.{counted_aliases}
 use Rattle.name_rules.specs.ModuleOf.{variable_in, alias_in, function_in}
 use Rattle.name_rules.specs.Breaks.{first_break}
 use Rattle.name_rules.proofs.Fine.{unbroken}
-use Rattle.entry_build.specs.Declared.{AreFew}
+use Rattle.type_build.specs.Declarations.{AreFew}
 use Rattle.builds_well.proofs.Buildable.{counts_fit}
 
 pub few_counted : (items : List ItemTree) → first_break items ≡ None

@@ -22,7 +22,7 @@ use Rattle.name_rules.specs.FunctionDemands.{Called, none_called, called_with, c
 use Rattle.name_rules.specs.Breaks.{struct_name, global_name, known_in, initialiser_demands, content_demands, alias_type_demands, head_demands, item_demands, demands_behind, demands}
 use Rattle.name_rules.proofs.Judging.{held, both_hold}
 use Rattle.type_build.specs.Fitting.{CanBe}
-use Rattle.entry_build.specs.Declared.{CanAlias}
+use Rattle.type_build.specs.Declarations.{CanAlias}
 use Rattle.buildable.specs.Narrow.{IsNarrow, IsNarrowBlock, IsNarrowInitialiser, IsNarrowAlias, IsNarrowParameter, IsNarrowItem}
 use Rattle.buildable.specs.Bodies.{CanBody, values_of, labels_of}
 use Rattle.buildable.specs.Entries.{CanDeclare, CanInitialise, CanComplete}

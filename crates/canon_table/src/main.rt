@@ -1,6 +1,6 @@
 //! Reads texts, one behind another with a line `====` between two, and prints the canonical text of each, or that it is no module.
 //!
-//! It stands on `ir_resolve` and `module_printer`, and serves to show them: its stored input has each phrase, and its stored output is
+//! It stands on `ir_resolve` and `ir_printer`, and serves to show them: its stored input has each phrase, and its stored output is
 //! written by hand (`tests/canonical.py`).
 #![tactic(auto)]
 
@@ -8,7 +8,7 @@ mod reading;
 
 use gathered::Gathered;
 use ir_base::{MemorySink, NumberList};
-use module_printer::put_module;
+use ir_printer::put_module;
 use reading::read_module;
 use std::io;
 use std::io::Read;

@@ -18,10 +18,10 @@ use Rattle.module_arena.specs.Lists.{Lists}
 use Rattle.module_arena.specs.Module as m
 use Rattle.module_arena.specs.View.{constants_of, value_name, operand_view, incoming_view}
 use Rattle.type_build.specs.Stands.{IsType}
-use Rattle.operand_build.specs.Meant.{IsValue, IsOperand}
-use Rattle.operand_build.specs.Parts.{Each, IsIncoming, IsSignature}
-use Rattle.operand_build.proofs.Lists.{each_known, each_seen}
-use Rattle.operand_build.proofs.Standing.{operand_known, operand_seen}
+use Rattle.instruction_build.specs.Meant.{IsValue, IsOperand}
+use Rattle.instruction_build.specs.Parts.{Each, IsIncoming, IsSignature}
+use Rattle.instruction_build.proofs.Lists.{each_known, each_seen}
+use Rattle.instruction_build.proofs.Standing.{operand_known, operand_seen}
 use Rattle.instruction_build.specs.Made.{Makes}
 
 none : {X : Type 0} (P : X → Type 0) → All P []

@@ -10,10 +10,10 @@ use Rattle.module_arena.specs.Known.{HasOperand}
 use Rattle.module_arena.specs.Lists.{Lists}
 use Rattle.module_arena.specs.Module as m
 use Rattle.module_arena.specs.View.{constants_of, case_view}
-use Rattle.operand_build.specs.Meant.{IsOperand, IsEnding}
-use Rattle.operand_build.specs.Parts.{Each, IsTarget, IsCase}
-use Rattle.operand_build.proofs.Lists.{each_known, each_seen}
-use Rattle.operand_build.proofs.Standing.{operand_known, operand_seen}
+use Rattle.instruction_build.specs.Meant.{IsOperand, IsEnding}
+use Rattle.instruction_build.specs.Parts.{Each, IsTarget, IsCase}
+use Rattle.instruction_build.proofs.Lists.{each_known, each_seen}
+use Rattle.instruction_build.proofs.Standing.{operand_known, operand_seen}
 
 none : {X : Type 0} (P : X → Type 0) → All P []
 none P k d lt = absurd (omega arith)

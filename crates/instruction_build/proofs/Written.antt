@@ -9,7 +9,7 @@ use Rattle.module_arena.specs.Module.{LocalName, Operation}
 use Rattle.module_arena.specs.View.{value_name}
 use Rattle.name_rules.specs.Locals.{has_result}
 use Rattle.buildable.specs.Narrow.{StoresNothing}
-use Rattle.operand_build.specs.Meant.{IsInst}
+use Rattle.instruction_build.specs.Meant.{IsInst}
 use Rattle.instruction_build.specs.Made.{Makes, defined_by}
 
 certain : (next : ℕ) (written : Option Local) → Some next ≡ cond (is_some written || true) (Some next) None

@@ -1,1 +1,4 @@
 pub mod Made
+pub mod Meant
+pub mod Named
+pub mod Parts

@@ -14,9 +14,9 @@ use Rattle.module_arena.specs.Module.{LocalName, Operation}
 use Rattle.module_arena.specs.View.{value_name}
 use Rattle.type_build.specs.Holding.{entries}
 use Rattle.buildable.specs.Bodies.{CanOperation, CanEnding}
-use Rattle.operand_build.specs.declared.locals.Locals.{Locals}
-use Rattle.operand_build.specs.Meant.{IsInst}
-use Rattle.operand_build.specs.Parts.{value_names, block_names}
+use Rattle.instruction_build.specs.declared.locals.Locals.{Locals}
+use Rattle.instruction_build.specs.Meant.{IsInst}
+use Rattle.instruction_build.specs.Parts.{value_names, block_names}
 
 -- the arena can take the operation that is written
 abbrev pub TakesOperation : Lists → Locals → OperationTree → Type 0

@@ -5,14 +5,16 @@ ghost use Rattle.ir_instructions.specs.Tree as tree;
 ghost use Rattle.ir_instructions.specs.View.{case_view};
 ghost use Rattle.name_rules.specs.Bodies.{ending_in};
 ghost use Rattle.type_build.specs.Stands.{Grows};
-ghost use Rattle.operand_build.specs.Meant.{IsEnding};
-ghost use Rattle.operand_build.specs.Parts.{value_names, block_names};
+ghost use Rattle.instruction_build.specs.Meant.{IsEnding};
+ghost use Rattle.instruction_build.specs.Parts.{value_names, block_names};
 ghost use Rattle.instruction_build.specs.Made.{TakesEnding};
 
+use crate::locals::Locals;
+use crate::targets::{build_cases, find_block};
+use crate::values::build_operand;
 use ir_constants::TypedValue;
 use ir_instructions::{Branch, Switch};
 use module_arena::Ending;
-use operand_build::{Locals, build_cases, build_operand, find_block};
 use std::alloc::{AllocError, Global};
 use type_build::Builder;
 

@@ -1,7 +1,7 @@
 //! Instructions and the ends of blocks, as an arena has them.
 //!
-//! It stands on `operand_build`. It promises that an instruction and an end of the arena are the ones that are written.
-//! Definitions: `Meant` and `Named` of `operand_build`, and `specs/Made`.
+//! It stands on `type_build`, and on the names of a function that it gathers. It promises that an instruction and an end of the
+//! arena are the ones that are written. Definitions: `specs/Meant`, `specs/Named`, `specs/Made`, and `Locals` of `name_rules`.
 #![tactic(auto)]
 
 ghost use Rattle.std.specs.Prelude.{◌≡◌, ◌<◌, ◌^◌, length, OnOk, IfOk, true};
@@ -13,19 +13,31 @@ ghost use Rattle.name_rules.specs.Locals.{has_result};
 ghost use Rattle.type_build.specs.Holding.{entries};
 ghost use Rattle.type_build.specs.Stands.{Grows};
 ghost use Rattle.buildable.specs.Bodies.{CanInstruction, CanEnding};
-ghost use Rattle.operand_build.specs.Meant.{IsInst, IsEnding};
-ghost use Rattle.operand_build.specs.Named.{called_of, result_of, built};
+ghost use Rattle.instruction_build.specs.Meant.{IsInst, IsEnding};
+ghost use Rattle.instruction_build.specs.Named.{called_of, result_of, built};
 
+mod blocks;
+mod called;
 mod endings;
+mod gathering;
+mod local_ids;
+mod locals;
+mod numbers;
 mod operations;
 mod phrases;
 mod places;
+mod signatures;
+mod targets;
+mod values;
 
 use crate::endings::{build_branch, build_return, build_switch};
 use crate::operations::build_operation;
-use local_ids::gives_result;
+use crate::targets::find_block;
+pub use blocks::add_block;
+pub use called::gives_result;
+pub use local_ids::LocalIds;
+pub use locals::Locals;
 use module_arena::{Ending, Inst, ValueId};
-use operand_build::{Locals, find_block};
 use std::alloc::{AllocError, Global};
 use type_build::Builder;
 

@@ -3,9 +3,10 @@ ghost use Rattle.std.specs.Prelude.{◌≡◌, ◌<◌, ◌^◌, cond, length, S
 ghost use Rattle.ir_instructions.specs.View.{operation_view};
 ghost use Rattle.name_rules.specs.Bodies.{operation_in};
 ghost use Rattle.type_build.specs.Stands.{Grows};
-ghost use Rattle.operand_build.specs.Parts.{value_names, block_names};
+ghost use Rattle.instruction_build.specs.Parts.{value_names, block_names};
 ghost use Rattle.instruction_build.specs.Made.{Makes, TakesOperation, defined_by};
 
+use crate::locals::Locals;
 use crate::phrases::{
     build_binary, build_cast, build_compare, build_extraction, build_freeze, build_insertion,
     build_select,
@@ -15,7 +16,6 @@ use crate::places::{
 };
 use ir_instructions::Operation;
 use module_arena::{Inst, ValueId};
-use operand_build::Locals;
 use std::alloc::{AllocError, Global};
 use type_build::Builder;
 

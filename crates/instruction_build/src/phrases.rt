@@ -5,15 +5,17 @@ ghost use Rattle.ir_instructions.specs.Tree as tree;
 ghost use Rattle.name_rules.specs.Bodies.{operation_in};
 ghost use Rattle.name_rules.specs.Written.{type_in, value_in, operand_in};
 ghost use Rattle.type_build.specs.Stands.{Grows};
-ghost use Rattle.operand_build.specs.Meant.{IsValue, IsOperand};
-ghost use Rattle.operand_build.specs.Parts.{value_names, block_names, TakesValue, TakesOperand};
+ghost use Rattle.instruction_build.specs.Meant.{IsValue, IsOperand};
+ghost use Rattle.instruction_build.specs.Parts.{value_names, block_names, TakesValue, TakesOperand};
 ghost use Rattle.instruction_build.specs.Made.{Makes, TakesOperation};
 
+use crate::locals::Locals;
+use crate::numbers::indices_of;
+use crate::values::{build_operand, build_value};
 use ir_constants::TypedValue;
 use ir_instructions::{Conversion, Extraction, Insertion, Operands};
 use ir_tables::{Flags, Opcode, Predicate};
 use module_arena::{Boxed, Choice, Inst, Operand, Value, ValueId};
-use operand_build::{Locals, build_operand, build_value, indices_of};
 use std::alloc::{AllocError, Global};
 use type_build::Builder;
 

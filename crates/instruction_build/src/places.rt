@@ -5,16 +5,17 @@ ghost use Rattle.ir_instructions.specs.Tree as tree;
 ghost use Rattle.ir_instructions.specs.View.{incoming_view, call_view};
 ghost use Rattle.name_rules.specs.Bodies.{operation_in};
 ghost use Rattle.type_build.specs.Stands.{Grows};
-ghost use Rattle.operand_build.specs.Parts.{value_names, block_names};
+ghost use Rattle.instruction_build.specs.Parts.{value_names, block_names};
 ghost use Rattle.instruction_build.specs.Made.{Makes, TakesOperation, count_in};
 
+use crate::locals::Locals;
+use crate::numbers::alignment_of;
+use crate::signatures::build_signature;
+use crate::targets::build_incoming_list;
+use crate::values::{build_callee, build_operand, build_operands};
 use ir_instructions::{Address, Alloca, Call, Load, Phi, Store};
 use ir_tables::Flags;
 use module_arena::{Boxed, Inst, ValueId};
-use operand_build::{
-    Locals, alignment_of, build_callee, build_incoming_list, build_operand, build_operands,
-    build_signature,
-};
 use std::alloc::{AllocError, Global};
 use type_build::Builder;
 

@@ -12,7 +12,7 @@ use Rattle.canonical.specs.Instructions.{case_phrase}
 use Rattle.canonical.specs.Phrase.{each}
 use Rattle.phrase_printer.specs.Printing.{Prints}
 use Rattle.phrase_printer.proofs.Printing.{prints_then, prints_same, prints_none}
-use Rattle.operation_printer.specs.Parts.{HasThis}
+use Rattle.instruction_printer.specs.Parts.{HasThis}
 use Rattle.instruction_printer.specs.Lines.{HasCase, case_of}
 
 module _ (a : Lists) (f : Function) where

@@ -6,7 +6,7 @@ use Rattle.module_arena.specs.declared.instruction.Incoming.{Incoming}
 use Rattle.module_arena.specs.declared.instruction.Inst.{Inst}
 use Rattle.module_arena.specs.Known.{KnowsInst}
 use Rattle.module_arena.specs.Lists.{Lists, value_names, function_blocks}
-use Rattle.operation_printer.specs.Parts.{HasThisValue, HasIncoming}
+use Rattle.instruction_printer.specs.Parts.{HasThisValue, HasIncoming}
 
 -- the ids of an instruction are those of the arena and the function
 abbrev pub Is : Lists → Function → Inst → Type 0

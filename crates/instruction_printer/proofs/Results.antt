@@ -16,7 +16,7 @@ use Rattle.canonical.specs.Operations.{operation_phrase}
 use Rattle.canonical.specs.Phrase.{Phrase, mark}
 use Rattle.phrase_printer.specs.Printing.{Prints}
 use Rattle.phrase_printer.proofs.Printing.{prints_then, prints_same}
-use Rattle.operation_printer.specs.Parts.{operation_of}
+use Rattle.instruction_printer.specs.Parts.{operation_of}
 use Rattle.instruction_printer.specs.Lines.{instruction_of, called_at, result_pieces}
 
 only : (r s : Option ℕ) → option_to_list r ≡ option_to_list s → r ≡ s

@@ -11,7 +11,7 @@ use Rattle.module_arena.specs.Module.{LocalName, Instruction, Case, Ending}
 use Rattle.module_arena.specs.View.{constants_of, inst_view, case_view, ending_view, value_name}
 use Rattle.canonical.specs.Names.{local}
 use Rattle.canonical.specs.Phrase.{mark}
-use Rattle.operand_printer.specs.Named.{values_in, labels_in}
+use Rattle.instruction_printer.specs.Named.{values_in, labels_in}
 
 module _ (a : Lists) (f : Function) where
   -- an instruction, with its result

@@ -8,16 +8,16 @@ ghost use Rattle.module_arena.specs.Lists.{Lists, function_blocks};
 ghost use Rattle.module_arena.specs.Mentions.{end_operands_of, targets_of};
 ghost use Rattle.module_arena.specs.Module as m;
 ghost use Rattle.phrase_printer.specs.Printing.{separator_of, Prints};
-ghost use Rattle.operand_printer.specs.Named.{operand_of, label_of};
-ghost use Rattle.operation_printer.specs.Parts.{HasThis};
+ghost use Rattle.instruction_printer.specs.Named.{operand_of, label_of};
+ghost use Rattle.instruction_printer.specs.Parts.{HasThis};
 ghost use Rattle.instruction_printer.specs.Lines.{HasCase, case_of, ending_of};
 
-use constant_printer::put_typed;
+use crate::operands::put_operand;
+use crate::targets::put_target;
 use gathered::Gathered;
 use ir_base::Sink;
 use module_arena::{Arena, BlockId, Case, Ending, Function, Operand, TypedConst};
-use operand_printer::{put_operand, put_target};
-use phrase_printer::{Separator, put_token};
+use phrase_printer::{Separator, put_token, put_typed};
 
 /// Puts `ret void`.
 fn put_return_void<S: Sink>(out: &mut Gathered, sink: &mut S, behind: Separator)

@@ -1,12 +1,24 @@
 //! Instructions and ends of blocks of canonical text on their way to a sink.
 //!
-//! It stands on the operations of `operation_printer`. It promises that what is put is the phrase of the instruction or end, and nothing else.
-//! Nothing takes memory. Definitions: `canonical/specs/Instructions`, and `specs/Lines`.
+//! It stands on the phrases of `phrase_printer`. It promises that what is put is the phrase of the instruction or end, and nothing else.
+//! Nothing takes memory. Definitions: `canonical/specs/Instructions`; `specs/Named` (operands), `specs/Parts` (what instructions do)
+//! and `specs/Lines`.
 #![tactic(auto)]
 
+mod alignment;
+mod arithmetic;
+mod calls;
 mod endings;
+mod indices;
 mod instruction;
+mod memory;
+mod operands;
 mod operation;
+mod parts;
+mod phis;
+mod targets;
 
+pub use alignment::{before_alignment, put_alignment};
+pub use calls::put_dotted;
 pub use endings::put_ending;
 pub use instruction::put_instruction;

@@ -5,15 +5,16 @@ ghost use Rattle.canonical.specs.Operations.{operation_phrase};
 ghost use Rattle.module_arena.specs.Known.{KnowsInst};
 ghost use Rattle.module_arena.specs.Lists.{value_names, function_blocks};
 ghost use Rattle.phrase_printer.specs.Printing.{separator_of, Prints};
-ghost use Rattle.operation_printer.specs.Parts.{operation_of};
+ghost use Rattle.instruction_printer.specs.Parts.{operation_of};
 
+use crate::arithmetic::{put_binary, put_compare, put_convert, put_freeze, put_select};
+use crate::calls::put_call;
+use crate::memory::{put_alloca, put_element_address, put_load, put_store};
+use crate::parts::{put_extract, put_insert};
+use crate::phis::put_phi;
 use gathered::Gathered;
 use ir_base::Sink;
 use module_arena::{Arena, Function, Inst};
-use operation_printer::{
-    put_alloca, put_binary, put_call, put_compare, put_convert, put_element_address, put_extract,
-    put_freeze, put_insert, put_load, put_phi, put_select, put_store,
-};
 use phrase_printer::Separator;
 
 /// Puts what an instruction does, without its result.

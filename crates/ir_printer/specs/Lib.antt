@@ -1,0 +1,4 @@
+pub mod Blocks
+pub mod Functions
+pub mod Entries
+pub mod Listed

@@ -6,10 +6,10 @@ ghost use Rattle.module_arena.specs.View.{module_of};
 ghost use Rattle.canonical.specs.Canonical.{canon};
 
 use crate::growing::GrowingText;
+use crate::module::put_module;
 use gathered::Gathered;
 use ir_base::{Failed, Sink, Text};
 use module_arena::Checked;
-use module_printer::put_module;
 use std::alloc::{AllocError, Global};
 
 /// Writes the canonical text of a module, in pieces of some thousands of bytes. It takes no memory.

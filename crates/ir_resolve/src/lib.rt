@@ -1,10 +1,17 @@
 //! From the items of a text to its module, or to why they are none.
 //!
-//! It stands on the rules of `name_rules`, which `name_judge` judges and by which `module_build` builds. It promises that what
+//! It stands on the rules of `name_rules`, which `name_judge` judges and by which `build` builds. It promises that what
 //! is resolved is the one module of the items and well formed, and that a refusal is the first demand in the order of the
 //! text that fails. Definitions: `Reads` and `Breaks` of `name_rules`.
 #![tactic(auto)]
 
+mod blocks;
+mod bodies;
+mod body;
+mod building;
+mod gathered;
+mod instructions;
+mod names;
 mod resolving;
 
 pub use name_rules::ResolveFault;

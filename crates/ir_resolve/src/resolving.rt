@@ -12,9 +12,9 @@ ghost use Rattle.name_rules.specs.Demand.{Tells};
 ghost use Rattle.name_rules.specs.Reads.{Resolves};
 ghost use Rattle.buildable.specs.Narrow.{AreItemsNarrow};
 
+use crate::building::build;
 use ir_syntax::Items;
 use module_arena::Arena;
-use module_build::build;
 use name_judge::judge;
 use name_rules::ResolveFault;
 use std::alloc::Global;

@@ -17,7 +17,7 @@ use Rattle.module_arena.specs.WellFormed as formed
 use Rattle.module_arena.proofs.Found.{some-equal}
 use Rattle.name_rules.specs.ModuleOf.{variable_of, variable_in, alias_of, alias_in}
 use Rattle.name_rules.specs.Written.{type_in, constant_in}
-use Rattle.entry_build.specs.Declared.{without_initialiser, without_target}
+use Rattle.type_build.specs.Declarations.{without_initialiser, without_target}
 use Rattle.item_build.specs.Declaring.{declared_variables, declared_aliases}
 use Rattle.item_build.specs.Completing.{targeted_in, initialised_in, with_targets, with_initialisers}
 use Rattle.item_build.proofs.Walked.{gives_one, gives_none, map_slice, get_between, changed_between}

@@ -15,9 +15,9 @@ use Rattle.module_arena.specs.View.{module_of, variable_view, alias_view, functi
 use Rattle.module_arena.specs.WellFormed as formed
 use Rattle.name_rules.specs.ModuleOf.{variable_of, variable_in, alias_of, alias_in, declared, defined, function_in}
 use Rattle.type_build.specs.Holding.{entries}
-use Rattle.entry_build.specs.Declared.{without_initialiser, without_target, AreUntargeted, IsShort}
-use Rattle.entry_build.specs.Parameters.{without_body}
-use Rattle.entry_build.proofs.Declaring.{map_twice}
+use Rattle.type_build.specs.Declarations.{without_initialiser, without_target, AreUntargeted, IsShort}
+use Rattle.type_build.specs.Parameters.{without_body}
+use Rattle.type_build.proofs.Declaring.{map_twice}
 use Rattle.buildable.specs.Bodies.{IsShortAlignment}
 use Rattle.item_build.specs.Declaring.{declared_in, with_entries, with_declared, AreNamed}
 use Rattle.item_build.proofs.Walked.{gives_one, gives_none, get_between}

@@ -1,5 +1,9 @@
-pub mod Walked
+pub mod Lessened
+pub mod Ended
+pub mod Partly
 pub mod Named
+pub mod Walked
+pub mod NamedItems
 pub mod Room
 pub mod Declared
 pub mod Completed

@@ -1,201 +1,139 @@
--- What the entries of an arena are called, where its module has those of items.
-use Rattle.std.proofs.Common.{◌≡◌, ◌⊎◌, inl, inr, ℕ, zero, suc, ◌<◌, ◌||◌, not, Bool, true, false, List, [], ◌∷◌, ◌++◌, map, length, get_or, slice_get, Option, Some, None, refl, sym, ap, ◌∙◌, bytes_eq, arith}
-use Rattle.std.specs.Prelude.{filter_map}
-use Rattle.std.specs.List.{list_any, cons_option}
+-- Structs that are named one after the other, and that have their bodies one after the other.
+use Rattle.std.proofs.Common.{◌≡◌, inl, ℕ, zero, suc, ◌<◌, ◌≤◌, true, List, [], ◌∷◌, ◌++◌, map, length, get_or, slice_get, bytes_eq, All, Option, Some, None, refl, sym, ap, ◌∙◌, subst, arith}
+use Rattle.std.specs.Prelude.{Contains}
 use Rattle.std.specs.Option.{option_map}
-use Rattle.std.proofs.lemmas.Bool.{and_parts, or_parts, not-true}
 use Rattle.std.proofs.lemmas.List.{map-append}
-use Rattle.std.proofs.lemmas.List.Folds.{list_any-append}
-use Rattle.std.proofs.lemmas.Slice.Eq.{bytes_eq-Decides}
-use Rattle.ir_terminals.specs.declared.values.PlacedName.{PlacedName}
+use Rattle.std.proofs.lemmas.List.Elements.{All-nil, All-cons}
+use Rattle.std.proofs.lemmas.Option.{get_or_from_slice_get}
 use Rattle.ir_tables.specs.Table.{is_distinct}
 use Rattle.ir_syntax.specs.Tree.{ItemTree, SourceFilename, DataLayout, TargetTriple, Struct, Variable, Alias, Declaration, Definition, Attributes, Metadata}
-use Rattle.type_table.specs.Types.{trees}
-use Rattle.module_arena.specs.declared.entry.GlobalId.{GlobalId}
-use Rattle.module_arena.specs.declared.entry.GlobalId.TheVariants as global
-use Rattle.module_arena.specs.declared.entry.Variable as the_variable
-use Rattle.module_arena.specs.declared.entry.Alias as the_alias
-use Rattle.module_arena.specs.declared.entry.Function as the_function
-use Rattle.module_arena.specs.Lists as lists
-use Rattle.module_arena.specs.Lists.{Lists, name_at}
-use Rattle.module_arena.specs.Module.{Bytes, Module}
-use Rattle.module_arena.specs.Module as m
-use Rattle.module_arena.specs.View.{module_of, variable_view, alias_view, function_view, constants_of}
-use Rattle.module_arena.specs.WellFormed as formed
-use Rattle.name_rules.specs.Breaks as breaks
-use Rattle.name_rules.specs.ModuleOf.{variable_in, alias_in, function_in}
-use Rattle.type_build.specs.Holding.{entries, HasEntry}
-use Rattle.entry_build.proofs.Declaring.{map_twice}
-use Rattle.buildable.specs.Laws.{global_names, HasEntries}
-use Rattle.item_build.specs.Declaring.{IsNewName, AreNamed}
-use Rattle.item_build.proofs.Walked.{parted}
+use Rattle.type_table.specs.declared.ir_type.StructBody.{StructBody}
+use Rattle.type_table.specs.Limits.{IsWithinLimits}
+use Rattle.type_table.specs.Shape.{shape}
+use Rattle.type_table.specs.Tree.{TreeBody, opaque_body, named, Structs}
+use Rattle.type_table.specs.Types.{Types, structs, names, bodies, trees}
+use Rattle.module_arena.specs.Lists.{Lists}
+use Rattle.module_arena.proofs.Found.{some-equal}
+use Rattle.name_rules.specs.ModuleOf.{struct_in, structs_in}
+use Rattle.name_rules.specs.Written.{body_in}
+use Rattle.name_rules.proofs.Fine.{EachStruct, StructWithin}
+use Rattle.type_build.proofs.Staying.{names_same}
+use Rattle.type_build.proofs.Declaring.{map_twice}
+use Rattle.buildable.specs.Entries.{CanDeclare}
+use Rattle.item_build.proofs.NamedItems.{distinct_front, contained}
+use Rattle.item_build.proofs.Walked.{gives_one, gives_none, parted, length_parted, map_slice, get_between}
+use Rattle.item_build.specs.Named.{named_table, named_in, IsNewStruct, CanDefineItem, AreDone}
+use Rattle.item_build.specs.Partly.{names_of, body_at, IsPartly, AllFit}
 
-bytes_turn : (a b : Bytes) → bytes_eq a b ≡ bytes_eq b a
-bytes_turn a b = by (bytes_eq a b) (bytes_eq b a) refl refl
+abbrev unnamed : List ℕ × TreeBody → List ℕ × Option StructBody
+unnamed s = (s.0, None)
+
+abbrev table_with : List (List ℕ × Option StructBody) → Types
+table_with all = record { types = []; structs = all }
+
+pass : (first : List ItemTree) (x : ItemTree) → struct_in x ≡ None → named_table (structs_in first) ≡ named_table (structs_in (first ++ x ∷ []))
+pass first x is = ap named_table (sym (gives_none struct_in first x is))
+
+pub named_more : (first : List ItemTree) (x : ItemTree) → named_in (named_table (structs_in first)) x ≡ named_table (structs_in (first ++ x ∷ []))
+named_more first (Struct name body) =
+    let s : List ℕ × TreeBody = (name.name, body_in body) in
+    ap table_with (sym (map-append unnamed (structs_in first) (s ∷ [])) ∙ ap (map unnamed) (sym (gives_one struct_in first (Struct name body) s refl)))
+named_more first (Variable variable) = pass first (Variable variable) refl
+named_more first (Alias alias) = pass first (Alias alias) refl
+named_more first (Declaration place head parameters variadic) = pass first (Declaration place head parameters variadic) refl
+named_more first (Definition place head parameters blocks) = pass first (Definition place head parameters blocks) refl
+named_more first (SourceFilename place text) = pass first (SourceFilename place text) refl
+named_more first (DataLayout place text) = pass first (DataLayout place text) refl
+named_more first (TargetTriple place text) = pass first (TargetTriple place text) refl
+named_more first (Attributes place) = pass first (Attributes place) refl
+named_more first (Metadata place) = pass first (Metadata place) refl
+
+-- a name that no struct before has
+pub struct_is_new : (t : Types) (first : List ItemTree) (x : ItemTree) (rest : List ItemTree) → t ≡ named_table (structs_in first) → is_distinct bytes_eq (names_of (structs_in (first ++ x ∷ rest))) ≡ true → IsNewStruct t x
+struct_is_new t first (Struct name body) rest same distinct = λ has.
+    let s : List ℕ × TreeBody = (name.name, body_in body) in
+    let split = ap names_of (parted struct_in first (Struct name body) rest) ∙ map-append (λ (z : List ℕ × TreeBody). z.0) (structs_in first) (s ∷ structs_in rest) in
+    let none = distinct_front name.name (names_of (structs_in first)) (names_of (structs_in rest)) (ap (is_distinct bytes_eq) (sym split) ∙ distinct) in
+    let here = ap names same ∙ map_twice unnamed (λ (z : List ℕ × Option StructBody). z.0) (structs_in first) in
+    let within = subst (λ (ns : List (List ℕ)). Contains ns name.name) here has in
+    let there = contained name.name (names_of (structs_in first)) within.0 within.1 within.2 in
+    absurd cc
+struct_is_new t first (Variable variable) rest same distinct = tt
+struct_is_new t first (Alias alias) rest same distinct = tt
+struct_is_new t first (Declaration place head parameters variadic) rest same distinct = tt
+struct_is_new t first (Definition place head parameters blocks) rest same distinct = tt
+struct_is_new t first (SourceFilename place text) rest same distinct = tt
+struct_is_new t first (DataLayout place text) rest same distinct = tt
+struct_is_new t first (TargetTriple place text) rest same distinct = tt
+struct_is_new t first (Attributes place) rest same distinct = tt
+struct_is_new t first (Metadata place) rest same distinct = tt
+
+pub structs_before : (first : List ItemTree) (x : ItemTree) (rest items : List ItemTree) → items ≡ first ++ x ∷ rest → length (structs_in first) ≤ length (structs_in items)
+structs_before first x rest items split =
+    let many = ap (λ (xs : List ItemTree). length (structs_in xs)) split ∙ length_parted struct_in first x rest in
+    omega (arith, many)
+
+-- ---- structs that are named
+
+-- none has its body
+no_bodies : (all : Structs) (k : ℕ) (body : Option StructBody) → slice_get (map (λ (z : List ℕ × Option StructBody). z.1) (map unnamed all)) k ≡ Some body → body ≡ None
+no_bodies [] k body is = absurd cc
+no_bodies (s ∷ all) zero body is = sym (some-equal is)
+no_bodies (s ∷ all) (suc k) body is = no_bodies all k body is
+
+pub partly_named : (whole : Structs) (a : Lists) → a.table ≡ named_table whole → IsPartly whole a
+partly_named whole a same = record {
+  names = names_same a.table ∙ ap names same ∙ map_twice unnamed (λ (z : List ℕ × Option StructBody). z.0) whole;
+  bodies = λ k body is. inl (no_bodies whole k body (ap (λ (t : Types). slice_get (bodies t) k) (sym same) ∙ is));
+  within = subst (λ ts. All (λ t. IsWithinLimits (shape whole t)) ts) (sym (ap trees same)) (All-nil (λ t. IsWithinLimits (shape whole t)));
+}
+
+-- structs of which nothing is asked in vain are within the limits
+pub all_fit : (whole all : Structs) → EachStruct (StructWithin whole) all → All (λ name. IsWithinLimits (shape whole (named name))) (names_of all)
+all_fit whole [] each = All-nil (λ name. IsWithinLimits (shape whole (named name)))
+all_fit whole (s ∷ all) each = All-cons (λ name. IsWithinLimits (shape whole (named name))) s.0 (names_of all) each.0.0 (all_fit whole all each.1)
+
+-- ---- structs that are defined
+
+module _ (a : Lists) (first rest items : List ItemTree) (number : ℕ) (at : number ≡ length (structs_in first)) (partly : IsPartly (structs_in items) a) (fit : AllFit (structs_in items)) where
+  pub can_item : (x : ItemTree) → items ≡ first ++ x ∷ rest → CanDeclare (structs_in items) x → CanDefineItem (structs_in items) a number x
+  can_item (Struct name body) split can =
+      let s : List ℕ × TreeBody = (name.name, body_in body) in
+      let whole = ap structs_in split ∙ parted struct_in first (Struct name body) rest in
+      let many = ap (λ (xs : List ItemTree). length (structs_in xs)) split ∙ length_parted struct_in first (Struct name body) rest in
+      let there = (λ j. slice_get (whole j) (at j)) ∙ get_between (structs_in first) s (structs_in rest) in
+      record {
+        partly = partly;
+        fit = fit;
+        known = omega (arith, many, at);
+        here = sym (get_or_from_slice_get (map (λ (z : List ℕ × TreeBody). z.1) (structs_in items)) number (body_in body) opaque_body
+            (map_slice (λ (z : List ℕ × TreeBody). z.1) (structs_in items) number ∙ ap (option_map (λ (z : List ℕ × TreeBody). z.1)) there));
+        fields = can;
+      }
+  can_item (Variable variable) split can = tt
+  can_item (Alias alias) split can = tt
+  can_item (Declaration place head parameters variadic) split can = tt
+  can_item (Definition place head parameters blocks) split can = tt
+  can_item (SourceFilename place text) split can = tt
+  can_item (DataLayout place text) split can = tt
+  can_item (TargetTriple place text) split can = tt
+  can_item (Attributes place) split can = tt
+  can_item (Metadata place) split can = tt
+
+-- structs with the same names and bodies
+same_all : (xs ys : Structs) → names_of xs ≡ names_of ys → ((k : ℕ) → k < length ys → body_at xs k ≡ body_at ys k) → xs ≡ ys
+same_all [] [] names each = refl
+same_all [] (y ∷ ys) names each = absurd cc
+same_all (x ∷ xs) [] names each = absurd cc
+same_all (x ∷ xs) (y ∷ ys) names each =
+    let first : x.0 ≡ y.0 = ap (λ ns. get_or ns 0 []) names in
+    let body : x.1 ≡ y.1 = each 0 (omega arith) in
+    let rest = same_all xs ys (ap tail names) (λ k lt. each (suc k) (omega (arith, lt))) in
+    λ j. (first j, body j) ∷ rest j
   where
-    by : (p q : Bool) → bytes_eq a b ≡ p → bytes_eq b a ≡ q → p ≡ q
-    by true true e f = refl
-    by false false e f = refl
-    by true false e f = let g = (bytes_eq-Decides b a).1 (sym ((bytes_eq-Decides a b).0 e)) in absurd cc
-    by false true e f = let g = (bytes_eq-Decides a b).1 (sym ((bytes_eq-Decides b a).0 f)) in absurd cc
+    tail : List (List ℕ) → List (List ℕ)
+    tail [] = []
+    tail (n ∷ ns) = ns
 
-or_swap : (a b c : Bool) → (a || (b || c)) ≡ (b || (a || c))
-or_swap true true c = refl
-or_swap true false c = refl
-or_swap false true c = refl
-or_swap false false c = refl
-
-or_second : (a b : Bool) → b ≡ true → (a || b) ≡ true
-or_second true b e = refl
-or_second false b e = e
-
-or_first : (a b : Bool) → a ≡ true → (a || b) ≡ true
-or_first true b e = refl
-or_first false b e = absurd cc
-
-either : (a b : Bool) → (a || b) ≡ true → (a ≡ true) ⊎ (b ≡ true)
-either true b e = inl refl
-either false b e = inr e
-
--- one more somewhere behind these
-any_further : {A : Type 0} (p : A → Bool) (c : Bool) (front xs ys : List A) → list_any p ys ≡ (c || list_any p xs) → list_any p (front ++ ys) ≡ (c || list_any p (front ++ xs))
-any_further p c [] xs ys e = e
-any_further p c (f ∷ front) xs ys e = ap (λ b. p f || b) (any_further p c front xs ys e) ∙ or_swap (p f) c (list_any p (front ++ xs))
-
-abbrev variables : List ItemTree → List Bytes
-variables items = map (λ (v : m.Variable). v.name) (filter_map variable_in items)
-
-abbrev aliases : List ItemTree → List Bytes
-aliases items = map (λ (a : m.Alias). a.name) (filter_map alias_in items)
-
-abbrev functions : List ItemTree → List Bytes
-functions items = map (λ (f : m.Function). f.name) (filter_map function_in items)
-
--- the names by kind are those in the order of the text
-pub any_kinds : (p : Bytes → Bool) (items : List ItemTree) → list_any p (variables items ++ (aliases items ++ functions items)) ≡ list_any p (global_names items)
-any_kinds p [] = refl
-any_kinds p (Variable v ∷ more) = ap (λ b. p v.name.name || b) (any_kinds p more)
-any_kinds p (Alias a ∷ more) =
-    any_further p (p a.name.name) (variables more) (aliases more ++ functions more) (a.name.name ∷ (aliases more ++ functions more)) refl
-    ∙ ap (λ b. p a.name.name || b) (any_kinds p more)
-any_kinds p (Declaration place head parameters variadic ∷ more) =
-    any_further p (p head.name.name) (variables more) (aliases more ++ functions more) (aliases more ++ head.name.name ∷ functions more)
-    (any_further p (p head.name.name) (aliases more) (functions more) (head.name.name ∷ functions more) refl)
-    ∙ ap (λ b. p head.name.name || b) (any_kinds p more)
-any_kinds p (Definition place head parameters blocks ∷ more) =
-    any_further p (p head.name.name) (variables more) (aliases more ++ functions more) (aliases more ++ head.name.name ∷ functions more)
-    (any_further p (p head.name.name) (aliases more) (functions more) (head.name.name ∷ functions more) refl)
-    ∙ ap (λ b. p head.name.name || b) (any_kinds p more)
-any_kinds p (SourceFilename place text ∷ more) = any_kinds p more
-any_kinds p (DataLayout place text ∷ more) = any_kinds p more
-any_kinds p (TargetTriple place text ∷ more) = any_kinds p more
-any_kinds p (Struct name body ∷ more) = any_kinds p more
-any_kinds p (Attributes place ∷ more) = any_kinds p more
-any_kinds p (Metadata place ∷ more) = any_kinds p more
-
--- ---- the entries of an arena
-
-abbrev names_of : Lists → List Bytes
-names_of a = map (λ (v : the_variable.Variable). v.name) a.variables ++ (map (λ (x : the_alias.Alias). x.name) a.aliases ++ map (λ (f : the_function.Function). f.name) a.functions)
-
-names_same : (a : Lists) → formed.global_names (module_of a) ≡ names_of a
-unfolding module_of
-names_same a = λ j.
-    map_twice (variable_view (trees a.table) (constants_of a)) (λ (v : m.Variable). v.name) a.variables j
-    ++ (map_twice (alias_view (trees a.table) (name_at a)) (λ (x : m.Alias). x.name) a.aliases j
-    ++ map_twice (function_view (trees a.table) (constants_of a)) (λ (f : m.Function). f.name) a.functions j)
-
-like_itself : (n : Bytes) → bytes_eq n n ≡ true
-like_itself n = (bytes_eq-Decides n n).1 refl
-
-any_at : {A : Type 0} (f : A → Bytes) (n : Bytes) (xs : List A) (k : ℕ) → option_map f (slice_get xs k) ≡ Some n → list_any (bytes_eq n) (map f xs) ≡ true
-any_at f n [] k is = absurd cc
-any_at f n (x ∷ xs) zero is = or_first (bytes_eq n (f x)) (list_any (bytes_eq n) (map f xs)) ((bytes_eq-Decides n (f x)).1 (sym (some_equal is)))
-  where
-    some_equal : {x y : Bytes} → Some x ≡ Some y → x ≡ y
-    some_equal e = cc
-any_at f n (x ∷ xs) (suc k) is = or_second (bytes_eq n (f x)) (list_any (bytes_eq n) (map f xs)) (any_at f n xs k is)
-
-at_any : {A : Type 0} (f : A → Bytes) (n : Bytes) (xs : List A) → list_any (bytes_eq n) (map f xs) ≡ true → (k : ℕ) × (option_map f (slice_get xs k) ≡ Some n)
-at_any f n [] e = absurd cc
-at_any f n (x ∷ xs) e = by (λ h. at_any f n xs h) (either (bytes_eq n (f x)) (list_any (bytes_eq n) (map f xs)) e)
-  where
-    by : (list_any (bytes_eq n) (map f xs) ≡ true → (k : ℕ) × (option_map f (slice_get xs k) ≡ Some n)) → (bytes_eq n (f x) ≡ true) ⊎ (list_any (bytes_eq n) (map f xs) ≡ true) → (k : ℕ) × (option_map f (slice_get (x ∷ xs) k) ≡ Some n)
-    by more (inl here) = (0, ap Some (sym ((bytes_eq-Decides n (f x)).0 here)))
-    by more (inr later) = let found = more later in (suc found.0, found.1)
-
--- an entry's name is among those of the module
-named_in : (a : Lists) (g : GlobalId) (n : Bytes) → lists.global_name a g ≡ Some n → list_any (bytes_eq n) (names_of a) ≡ true
-named_in a (global.Variable id) n is =
-    let vs = map (λ (v : the_variable.Variable). v.name) a.variables in
-    let rest = map (λ (x : the_alias.Alias). x.name) a.aliases ++ map (λ (f : the_function.Function). f.name) a.functions in
-    list_any-append (bytes_eq n) vs rest ∙ or_first (list_any (bytes_eq n) vs) (list_any (bytes_eq n) rest) (any_at (λ (v : the_variable.Variable). v.name) n a.variables id is)
-named_in a (global.Alias id) n is =
-    let vs = map (λ (v : the_variable.Variable). v.name) a.variables in
-    let xs = map (λ (x : the_alias.Alias). x.name) a.aliases in
-    let fs = map (λ (f : the_function.Function). f.name) a.functions in
-    list_any-append (bytes_eq n) vs (xs ++ fs)
-    ∙ or_second (list_any (bytes_eq n) vs) (list_any (bytes_eq n) (xs ++ fs))
-    (list_any-append (bytes_eq n) xs fs ∙ or_first (list_any (bytes_eq n) xs) (list_any (bytes_eq n) fs) (any_at (λ (x : the_alias.Alias). x.name) n a.aliases id is))
-named_in a (global.Function id) n is =
-    let vs = map (λ (v : the_variable.Variable). v.name) a.variables in
-    let xs = map (λ (x : the_alias.Alias). x.name) a.aliases in
-    let fs = map (λ (f : the_function.Function). f.name) a.functions in
-    list_any-append (bytes_eq n) vs (xs ++ fs)
-    ∙ or_second (list_any (bytes_eq n) vs) (list_any (bytes_eq n) (xs ++ fs))
-    (list_any-append (bytes_eq n) xs fs ∙ or_second (list_any (bytes_eq n) xs) (list_any (bytes_eq n) fs) (any_at (λ (f : the_function.Function). f.name) n a.functions id is))
-
--- a name of the module is that of an entry
-entry_of : (a : Lists) (n : Bytes) → list_any (bytes_eq n) (names_of a) ≡ true → HasEntry (entries a) n
-entry_of a n e = by (either (list_any (bytes_eq n) vs) (list_any (bytes_eq n) (xs ++ fs)) (sym (list_any-append (bytes_eq n) vs (xs ++ fs)) ∙ e))
-  where
-    vs : List Bytes
-    vs = map (λ (v : the_variable.Variable). v.name) a.variables
-
-    xs : List Bytes
-    xs = map (λ (x : the_alias.Alias). x.name) a.aliases
-
-    fs : List Bytes
-    fs = map (λ (f : the_function.Function). f.name) a.functions
-
-    rest : (list_any (bytes_eq n) xs ≡ true) ⊎ (list_any (bytes_eq n) fs ≡ true) → HasEntry (entries a) n
-    rest (inl h) = let at = at_any (λ (x : the_alias.Alias). x.name) n a.aliases h in (global.Alias at.0, at.1)
-    rest (inr h) = let at = at_any (λ (f : the_function.Function). f.name) n a.functions h in (global.Function at.0, at.1)
-
-    by : (list_any (bytes_eq n) vs ≡ true) ⊎ (list_any (bytes_eq n) (xs ++ fs) ≡ true) → HasEntry (entries a) n
-    by (inl h) = let at = at_any (λ (v : the_variable.Variable). v.name) n a.variables h in (global.Variable at.0, at.1)
-    by (inr h) = rest (either (list_any (bytes_eq n) xs) (list_any (bytes_eq n) fs) (sym (list_any-append (bytes_eq n) xs fs) ∙ h))
-
-pub contained : (n : Bytes) (xs : List Bytes) (k : ℕ) → k < length xs → get_or xs k n ≡ n → list_any (bytes_eq n) xs ≡ true
-contained n [] k lt is = absurd (omega arith)
-contained n (x ∷ xs) zero lt is = or_first (bytes_eq n x) (list_any (bytes_eq n) xs) ((bytes_eq-Decides n x).1 (sym is))
-contained n (x ∷ xs) (suc k) lt is = or_second (bytes_eq n x) (list_any (bytes_eq n) xs) (contained n xs k (omega (arith, lt)) is)
-
--- each name of the items is that of an entry
-pub entries_there : (a : Lists) (items : List ItemTree) → AreNamed (module_of a) items → HasEntries (entries a) (global_names items)
-entries_there a items named = λ n within.
-    entry_of a n (ap (list_any (bytes_eq n)) (sym (names_same a) ∙ named) ∙ (any_kinds (bytes_eq n) items ∙ contained n (global_names items) within.0 within.1 within.2))
-
--- ---- a name that no item before has is free
-
-pub distinct_front : (n : Bytes) (xs ys : List Bytes) → is_distinct bytes_eq (xs ++ n ∷ ys) ≡ true → list_any (bytes_eq n) xs ≡ false
-distinct_front n [] ys d = refl
-distinct_front n (x ∷ xs) ys d =
-    let parts = and_parts (not (list_any (bytes_eq x) (xs ++ n ∷ ys))) (is_distinct bytes_eq (xs ++ n ∷ ys)) d in
-    let none = sym (list_any-append (bytes_eq x) xs (n ∷ ys)) ∙ not-true (list_any (bytes_eq x) (xs ++ n ∷ ys)) parts.0 in
-    let behind = or_parts (list_any (bytes_eq x) xs) (bytes_eq x n || list_any (bytes_eq x) ys) none in
-    let other = or_parts (bytes_eq x n) (list_any (bytes_eq x) ys) behind.1 in
-    (λ j. (bytes_turn n x ∙ other.0) j || distinct_front n xs ys parts.1 j)
-
-names_parted : (first : List ItemTree) (x : ItemTree) (rest : List ItemTree) → global_names (first ++ x ∷ rest) ≡ global_names first ++ map (λ (n : PlacedName). n.name) (cons_option (breaks.global_name x) (filter_map breaks.global_name rest))
-names_parted first x rest = ap (map (λ (n : PlacedName). n.name)) (parted breaks.global_name first x rest) ∙ map-append (λ (n : PlacedName). n.name) (filter_map breaks.global_name first) (cons_option (breaks.global_name x) (filter_map breaks.global_name rest))
-
-pub name_is_new : (a : Lists) (first : List ItemTree) (x : ItemTree) (rest : List ItemTree) → AreNamed (module_of a) first → is_distinct bytes_eq (global_names (first ++ x ∷ rest)) ≡ true → IsNewName a (breaks.global_name x)
-name_is_new a first x rest named distinct = by (breaks.global_name x) (sym (names_parted first x rest))
-  where
-    by : (o : Option PlacedName) → global_names first ++ map (λ (n : PlacedName). n.name) (cons_option o (filter_map breaks.global_name rest)) ≡ global_names (first ++ x ∷ rest) → IsNewName a o
-    by None same = tt
-    by (Some p) same = λ g is.
-        let there = sym (any_kinds (bytes_eq p.name) first) ∙ (ap (list_any (bytes_eq p.name)) (sym named ∙ names_same a) ∙ named_in a g p.name is) in
-        let none = distinct_front p.name (global_names first) (global_names rest) (ap (is_distinct bytes_eq) same ∙ distinct) in
-        absurd cc
+pub all_done : (whole : Structs) (a : Lists) (count : ℕ) → IsPartly whole a → AreDone whole a count → count ≡ length whole → structs a.table ≡ whole
+all_done whole a count partly done is = same_all (structs a.table) whole partly.names (λ k lt. done k (omega (arith, lt, is)))

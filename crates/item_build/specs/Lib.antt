@@ -1,3 +1,5 @@
+pub mod Partly
+pub mod Named
 pub mod Declaring
 pub mod Completing
 pub mod Texts

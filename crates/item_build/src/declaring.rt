@@ -8,15 +8,14 @@ ghost use Rattle.module_arena.specs.View.{module_of};
 ghost use Rattle.name_rules.specs.Breaks.{global_name};
 ghost use Rattle.name_rules.specs.ModuleOf.{structs_in};
 ghost use Rattle.type_build.specs.Holding.{entries};
-ghost use Rattle.entry_build.specs.Declared.{AreFew, AreUntargeted};
+ghost use Rattle.type_build.specs.Declarations.{AreFew, AreUntargeted};
 ghost use Rattle.buildable.specs.Entries.{CanDeclare};
 ghost use Rattle.buildable.specs.Laws.{AreBuildable};
 ghost use Rattle.item_build.specs.Declaring.{declared_in, with_declared, IsNewName, HasRoom, counts_in};
 
-use entry_build::{declare_alias, declare_definition, declare_function, declare_variable};
 use ir_syntax::Item;
 use std::alloc::{AllocError, Global};
-use type_build::Builder;
+use type_build::{Builder, declare_alias, declare_definition, declare_function, declare_variable};
 
 /// Declares the variable, alias or function that the item is; another item declares nothing.
 fn declare_item(builder: &mut Builder, alloc: Global, item: &Item) -> Result<(), AllocError>

@@ -9,17 +9,16 @@ ghost use Rattle.name_rules.specs.ModuleOf.{structs_in};
 ghost use Rattle.name_rules.specs.Written.{type_in};
 ghost use Rattle.type_build.specs.Fitting.{CanBe};
 ghost use Rattle.type_build.specs.Holding.{entries};
-ghost use Rattle.entry_build.specs.Declared.{AreFew};
+ghost use Rattle.type_build.specs.Declarations.{AreFew};
 ghost use Rattle.buildable.specs.Entries.{CanDeclare, CanInitialise, CanComplete};
 ghost use Rattle.buildable.specs.Laws.{AreBuildable};
 ghost use Rattle.item_build.specs.Declaring.{declared_variables, AreNamed, counts_in};
 ghost use Rattle.item_build.specs.Completing.{initialised_by, initialised_in, variable_behind, with_initialisers};
 
-use entry_build::initialise;
 use ir_syntax::{Item, Variable};
 use module_arena::VariableId;
 use std::alloc::{AllocError, Global};
-use type_build::Builder;
+use type_build::{Builder, initialise};
 
 /// Gives the variable with that number its initialiser, where one is written.
 fn initialise_variable(

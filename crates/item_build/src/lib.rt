@@ -1,15 +1,20 @@
-//! The items of a text, declared in an arena, the targets and initialisers of what they declare, and the module's texts.
+//! The items of a text, made in an arena: its structs, named and defined, its texts, and its entries one after the other.
 //!
-//! It stands on `entry_build`, which builds one entry, and on what `buildable` asks for. It promises that the entries are
-//! those of the items, in order, and that only memory may be wanting. Definitions: `specs/Declaring`, `specs/Completing`,
-//! `specs/Texts`, and `ModuleOf` of `name_rules`.
+//! It stands on `type_build`, and on what `buildable` asks for. It promises that a struct which is defined has the fields
+//! that the text writes, that each entry is the one that its item writes, that nothing else of the module changes, and that only
+//! memory may be wanting: structs of which some have no body yet are never deeper or larger than the whole. Definitions:
+//! `specs/Partly`, `specs/Named`, `specs/Declaring`, `specs/Completing`, `specs/Texts`.
 #![tactic(auto)]
 
+mod building;
 mod declaring;
+mod defining;
 mod initialisers;
+mod naming;
 mod targets;
 mod texts;
 
+pub use building::build_structs;
 pub use declaring::declare_items;
 pub use initialisers::initialise_items;
 pub use targets::set_targets;

@@ -1,2 +1,9 @@
 pub mod Listed
-pub mod Written
+pub mod TypesWritten
+pub mod CalleesTold
+pub mod OperandsTold
+pub mod CallsTold
+pub mod Behind
+pub mod GivenTold
+pub mod NamesTold
+pub mod Typed

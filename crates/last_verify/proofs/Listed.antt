@@ -13,10 +13,10 @@ use Rattle.module_arena.specs.declared.instruction.Inst.TheVariants as inst
 use Rattle.module_arena.specs.declared.instruction.Operand.{Operand}
 use Rattle.module_arena.specs.declared.instruction.Value as the_value
 use Rattle.module_arena.specs.declared.instruction.Value.TheVariants as value
-use Rattle.operand_list.specs.Operands.{callee_of, end_operands_of, incoming_operand, operands_of}
+use Rattle.path_rows.specs.Operands.{callee_of, end_operands_of, incoming_operand, operands_of}
 use Rattle.instruction_verify.specs.OperandFacts as within
-use Rattle.value_rules.specs.ValuesById.{HasConstant, IsTyped}
-use Rattle.call_rules.specs.CallsById.{HasUses}
+use Rattle.last_verify.specs.ValuesById.{HasConstant, IsTyped}
+use Rattle.last_verify.specs.CallsById.{HasUses}
 
 module _ (a : Lists) (values : ℕ) where
   abbrev Known : Operand → Type 0

@@ -1,1 +1,4 @@
 pub mod Last
+pub mod ValuesById
+pub mod CallsById
+pub mod Given

@@ -5,21 +5,24 @@ ghost use Rattle.module_arena.specs.Changes.{function_in};
 ghost use Rattle.module_arena.specs.Known.{HasOperand};
 ghost use Rattle.module_arena.specs.Module.{LocalName};
 ghost use Rattle.module_arena.specs.View.{constants_of, ending_view, inst_view, module_of, operand_view};
-ghost use Rattle.operand_list.specs.Operands as gathered;
+ghost use Rattle.path_rows.specs.Operands as gathered;
 ghost use Rattle.type_verify.specs.Judged.{Judged};
 ghost use Rattle.instruction_verify.specs.Parts.{ending_last_demands, last_demands};
-ghost use Rattle.value_rules.specs.ValuesById.{AreLocalTypes, AreTypes};
-ghost use Rattle.call_rules.specs.CallsById.{HasUses};
+ghost use Rattle.last_verify.specs.ValuesById.{AreLocalTypes, AreTypes};
+ghost use Rattle.last_verify.specs.CallsById.{HasUses};
 ghost use Rattle.last_verify.specs.Last.{call_demands, written_demands};
 
-use call_rules::call_suits;
+use crate::callees::callee_fits;
+use crate::calls::call_suits;
+use crate::local_type::LocalType;
+use crate::values::operands_fit;
+use crate::written::have_types_written;
 use constant_verify::Judge;
 use instruction_verify::{judge_ending_types, judge_instruction_types};
 use module_arena::{Ending, Function, Inst, Operand};
-use operand_list::callee_of;
+use path_rows::callee_of;
 use std::alloc::Global;
 use type_verify::{VerifyFault, asked, judge_instruction};
-use value_rules::{LocalType, callee_fits, have_types_written, operands_fit};
 
 /// Rule 11: whether local values have the types that are written before them.
 fn judge_written(

@@ -1,11 +1,20 @@
 //! What instructions and the ends of blocks are asked behind the rules on phis and paths.
 //!
-//! It stands on `ir_base`, `ir_tables`, `type_table`, `module_arena`, `operand_list`, `type_verify`, `constant_verify`, `entry_rules`,
-//! `instruction_verify`, `value_rules`, `call_rules` and `indexmap`. It promises that an answer names the first of the rules 11 to 18
+//! It stands on `ir_base`, `ir_tables`, `type_table`, `module_arena`, `path_rows`, `type_verify`, `constant_verify`, `entry_rules`,
+//! `instruction_verify` and `indexmap`. It promises that an answer names the first of the rules 11 to 18
 //! that does not hold. What is asked stands in `module_arena`, `specs/Valid`; its parts, in `specs/Last` and in `instruction_verify`,
 //! `specs/Parts`.
 #![tactic(auto)]
 
+mod callees;
+mod calls;
 mod last;
+mod list;
+mod local_type;
+mod results;
+mod values;
+mod written;
 
 pub use last::{judge_ending_last, judge_last};
+pub use list::local_types;
+pub use local_type::LocalType;

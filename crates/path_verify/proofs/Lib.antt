@@ -1,1 +1,11 @@
 pub mod Counted
+pub mod InModule
+pub mod Joined
+pub mod Listed
+pub mod Ordered
+pub mod Ready
+pub mod Sized
+pub mod ValuesApart
+pub mod WholeBody
+pub mod Asked
+pub mod PiecesTold

@@ -1,1 +1,5 @@
 pub mod Verified
+pub mod Bodies
+pub mod Ready
+pub mod Heads
+pub mod Pieces

@@ -8,7 +8,7 @@ use Rattle.module_arena.specs.Module.{Bytes, Function, Module}
 use Rattle.module_arena.specs.Valid.{IsValid, IsFirstFailure}
 use Rattle.type_verify.specs.declared.fault.VerifyFault.{VerifyFault}
 use Rattle.type_verify.specs.declared.fault.VerifyFault.TheVariants as fault
-use Rattle.body_verify.specs.Bodies.{turns_of}
+use Rattle.path_verify.specs.Bodies.{turns_of}
 
 -- what is told of a function that is too large
 abbrev pub told_of : Function → Bytes × ℕ

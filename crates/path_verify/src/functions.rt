@@ -5,14 +5,14 @@ ghost use Rattle.module_arena.specs.Changes.{function_in};
 ghost use Rattle.module_arena.specs.Valid.{function_demands};
 ghost use Rattle.module_arena.specs.View.{constants_of, module_of};
 ghost use Rattle.module_arena.specs.WellFormed.{IsWellFormed};
-ghost use Rattle.constant_classes.specs.Classes.{AreClasses};
+ghost use Rattle.use_verify.specs.Classes.{AreClasses};
 ghost use Rattle.type_verify.specs.Judged.{Judged};
-ghost use Rattle.body_verify.specs.Bodies.{turns_of};
+ghost use Rattle.path_verify.specs.Bodies.{turns_of};
 ghost use Rattle.path_verify.specs.Verified.{all_turns};
 
-use body_verify::judge_body;
+use crate::bodies::judge_body;
+use crate::entries::judge_function;
 use constant_verify::Judge;
-use entry_verify::judge_function;
 use module_arena::FunctionId;
 use path_rows::Steps;
 use std::alloc::Global;

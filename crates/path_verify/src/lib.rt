@@ -1,13 +1,20 @@
 //! Whether a module is valid.
 //!
-//! It stands on `entry_verify`, `constant_classes` and `body_verify`. It promises that a module is accepted exactly where no function
+//! It stands on `entry_rules`, `instruction_verify`, `last_verify` and `use_verify`. It promises that a module is accepted exactly where no function
 //! is too large and all that it is asked for holds, and that else the first function that is too large, or the first demand that does
 //! not hold, is told; and how often blocks are spread at most. Definitions: `specs/Verified`, and `Valid` of `module_arena`.
 #![tactic(auto)]
 
+mod all_entries;
+mod blocks;
+mod bodies;
+mod entries;
+mod facts;
 mod functions;
+mod instructions;
+mod layout_text;
+mod module_line;
 mod sizes;
 mod verifying;
 
-pub use sizes::judge_sizes;
 pub use verifying::{verify, verify_counted};

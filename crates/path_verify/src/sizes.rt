@@ -25,7 +25,7 @@ fn product_of(arena: &Arena, function: &Function) -> u64
 }
 
 /// What the limit says of the functions: `FunctionTooLarge` for the first of which blocks times values pass 2^31.
-pub fn judge_sizes(alloc: Global, arena: &Arena) -> Result<(), VerifyFault>
+pub(crate) fn judge_sizes(alloc: Global, arena: &Arena) -> Result<(), VerifyFault>
     ensures { Sized (module_of arena.now) result }
 {
     // What holds of the functions of each arena.

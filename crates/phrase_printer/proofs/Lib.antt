@@ -3,3 +3,5 @@ pub mod Identifiers
 pub mod Numerals
 pub mod Quoting
 pub mod TypeParts
+pub mod Set
+pub mod Parts

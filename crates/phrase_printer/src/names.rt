@@ -9,8 +9,8 @@ ghost use Rattle.module_arena.specs.View.{local_view};
 ghost use Rattle.name_rules.specs.Spelled.{hexadecimal, is_plain, quoted_byte, is_identifier, spelled};
 ghost use Rattle.phrase_printer.specs.Printing.{separator_of, Prints};
 
-use crate::Separator;
 use crate::numbers::put_digits;
+use crate::separator::Separator;
 use gathered::Gathered;
 use ir_base::{Name, Sink};
 use module_arena::LocalName;
@@ -178,7 +178,12 @@ pub fn put_text<S: Sink>(out: &mut Gathered, sink: &mut S, bytes: &[u8], behind:
 }
 
 /// Puts a byte string, as an initialiser writes it: `c"..."`.
-pub fn put_byte_string<S: Sink>(out: &mut Gathered, sink: &mut S, bytes: &[u8], behind: Separator)
+pub(crate) fn put_byte_string<S: Sink>(
+    out: &mut Gathered,
+    sink: &mut S,
+    bytes: &[u8],
+    behind: Separator,
+)
     ensures { Prints (state out.old (S.taken sink.old) (S.faults sink.old)) (state out.new (S.taken sink.new) (S.faults sink.new)) (byte_string bytes.now (separator_of behind)) }
 {
     out.put(sink, b"c");

@@ -6,7 +6,7 @@ ghost use Rattle.canonical.specs.Names.{natural, signed_spelling};
 ghost use Rattle.canonical.specs.Phrase.{number};
 ghost use Rattle.phrase_printer.specs.Printing.{separator_of, Prints};
 
-use crate::Separator;
+use crate::separator::Separator;
 use gathered::Gathered;
 use ir_base::Sink;
 use itoa::Buffer;

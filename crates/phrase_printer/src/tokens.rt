@@ -4,7 +4,7 @@ ghost use Rattle.canonical.specs.Phrase.{token};
 ghost use Rattle.ir_lexer.specs.declared.token.TokenKind.{TokenKind};
 ghost use Rattle.phrase_printer.specs.Printing.{separator_of, comma_before, Prints};
 
-use crate::Separator;
+use crate::separator::Separator;
 use gathered::Gathered;
 use ir_base::Sink;
 

@@ -8,8 +8,10 @@ ghost use Rattle.type_table.specs.Tree.{int};
 ghost use Rattle.type_table.specs.Types.{trees, tree, trees_at, tree_body, IsKnownBody};
 ghost use Rattle.phrase_printer.specs.Printing.{separator_of, brace, opening, closing, Prints};
 
+use crate::names::put_struct_name;
 use crate::numbers::{put_digits, put_natural};
-use crate::{Separator, put_comma, put_struct_name, put_token};
+use crate::separator::Separator;
+use crate::tokens::{put_comma, put_token};
 use gathered::Gathered;
 use ir_base::Sink;
 use type_table::{IrType, StructBody, TypeId, TypeTable};
@@ -24,7 +26,7 @@ fn put_integer_type<S: Sink>(out: &mut Gathered, sink: &mut S, width: u8, behind
 }
 
 /// Puts what stands before so many fields of a struct.
-pub fn put_opening<S: Sink>(out: &mut Gathered, sink: &mut S, packed: bool, count: usize)
+pub(crate) fn put_opening<S: Sink>(out: &mut Gathered, sink: &mut S, packed: bool, count: usize)
     ensures { Prints (state out.old (S.taken sink.old) (S.faults sink.old)) (state out.new (S.taken sink.new) (S.faults sink.new)) (opening packed count) }
 {
     if packed {
@@ -47,7 +49,12 @@ fn put_brace<S: Sink>(out: &mut Gathered, sink: &mut S, count: usize)
 }
 
 /// Puts what stands behind the fields of a struct.
-pub fn put_closing<S: Sink>(out: &mut Gathered, sink: &mut S, packed: bool, behind: Separator)
+pub(crate) fn put_closing<S: Sink>(
+    out: &mut Gathered,
+    sink: &mut S,
+    packed: bool,
+    behind: Separator,
+)
     ensures { Prints (state out.old (S.taken sink.old) (S.faults sink.old)) (state out.new (S.taken sink.new) (S.faults sink.new)) (closing packed (separator_of behind)) }
 {
     if packed {

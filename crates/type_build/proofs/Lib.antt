@@ -5,3 +5,6 @@ pub mod Fitting
 pub mod Known
 pub mod Leaves
 pub mod Staying
+pub mod Declaring
+pub mod Parameters
+pub mod Untargeted

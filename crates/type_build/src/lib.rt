@@ -1,15 +1,22 @@
-//! The types and constants of a text, as those of an arena.
+//! The types, constants and entries of a text, as those of an arena.
 //!
-//! It stands on `ir_syntax`, `name_rules` and the arena of `module_arena`. It promises that its ids are those of the
-//! types and constants that the text writes, that nothing else of the module changes, and that only memory may be
-//! wanting. Definitions: `specs/Stands`, `specs/Fitting`, `specs/Holding`, and `Written` of `name_rules`.
+//! It stands on `ir_syntax`, `name_rules` and the arena of `module_arena`. It promises that its ids are those of the types,
+//! constants and entries that the text writes, that nothing else of the module changes, and that only memory may be
+//! wanting. Definitions: `specs/Stands`, `specs/Fitting`, `specs/Holding`, `specs/Declarations`, and `Written` of `name_rules`.
 #![tactic(auto)]
 
+mod aliases;
 mod builder;
 mod constants;
 mod copies;
+mod functions;
+mod heads;
 mod integers;
 mod types;
+mod variables;
 
+pub use aliases::{declare_alias, set_target};
 pub use builder::Builder;
+pub use functions::{declare_definition, declare_function};
 pub use integers::index_of;
+pub use variables::{declare_variable, initialise};

@@ -1,1 +1,5 @@
 pub mod Uses
+pub mod Agreeing
+pub mod Edges
+pub mod Classes
+pub mod Keys

@@ -1,14 +1,24 @@
-//! The rules of validity on paths: each use of a value has a definition before it, on every path, and no block leads to the first.
+//! The rules of validity on paths: each use of a value has a definition before it, on every path, phis agree with the edges to
+//! them, and no block leads to the first.
 //!
-//! It stands on `ir_base`, `ir_tables`, `type_table`, `module_arena`, `operand_list`, `path_rows` and `type_verify`. It promises that an
-//! answer on an instruction, an end or a first block names the rule on it that does not hold. What is asked stands in `module_arena`,
-//! `specs/Valid`; what it is by ids, in `specs/Uses`.
+//! It stands on `ir_base`, `ir_tables`, `type_table`, `module_arena`, `path_rows`, `type_verify`, `constant_verify` and `indexmap`.
+//! It promises that an answer on an instruction, an end or a first block names the rule on it that does not hold. What is asked
+//! stands in `module_arena`, `specs/Valid`; what it is by ids, in `specs/Uses`, `specs/Edges` and `specs/Agreeing`; which constants
+//! are the same, in `specs/Classes`.
 #![tactic(auto)]
 
+mod agreeing;
+mod classes;
+mod counts;
 mod first_block;
+mod keys;
+mod phis;
 mod site;
+mod sources;
 mod uses;
 
+pub use classes::constant_classes;
 pub use first_block::judge_entry_block;
+pub use phis::{PhiJudge, is_phi};
 pub use site::Site;
 pub use uses::{judge_ending_uses, judge_uses};

@@ -2,7 +2,7 @@ use Rattle.std.proofs.Common.{ap, ◌∙◌}
 use Rattle.ir_instructions.specs.View.{instruction_view}
 use Rattle.name_rules.specs.Bodies.{operation_in}
 use Rattle.name_rules.specs.Locals.{has_result}
-use Rattle.operand_build.specs.Parts.{value_names, block_names}
+use Rattle.instruction_build.specs.Parts.{value_names, block_names}
 use Rattle.instruction_build.specs.Made.{defined_by}
 use Rattle.instruction_build.proofs.Written.{as_written, made_is, made_gives}
 use Rattle.instruction_build.proofs.build_instruction.Goals as goal

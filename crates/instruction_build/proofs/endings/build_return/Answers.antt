@@ -1,4 +1,4 @@
-use Rattle.operand_build.specs.Parts.{value_names, block_names}
+use Rattle.instruction_build.specs.Parts.{value_names, block_names}
 use Rattle.instruction_build.proofs.Ended.{ends_return}
 use Rattle.instruction_build.proofs.endings.build_return.Goals as goal
 

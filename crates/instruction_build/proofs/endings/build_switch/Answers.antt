@@ -3,9 +3,9 @@ use Rattle.ir_instructions.specs.declared.block.Case.{Case}
 use Rattle.ir_instructions.specs.View.{case_view}
 use Rattle.name_rules.specs.Bodies.{case_in}
 use Rattle.type_build.proofs.Growing.{grows_on}
-use Rattle.operand_build.specs.Parts.{value_names, block_names, TakesCase, Each, IsCase}
-use Rattle.operand_build.proofs.Standing.{operand_stays}
-use Rattle.operand_build.proofs.Taking.{takes_cases}
+use Rattle.instruction_build.specs.Parts.{value_names, block_names, TakesCase, Each, IsCase}
+use Rattle.instruction_build.proofs.Standing.{operand_stays}
+use Rattle.instruction_build.proofs.Taking.{takes_cases}
 use Rattle.instruction_build.proofs.Ended.{ends_switch}
 use Rattle.instruction_build.proofs.endings.build_switch.Goals as goal
 

@@ -2,8 +2,8 @@ use Rattle.ir_constants.specs.View.{type_view}
 use Rattle.name_rules.specs.Written.{type_in}
 use Rattle.type_build.proofs.Growing.{grows_on}
 use Rattle.type_build.proofs.Staying.{can_still_be}
-use Rattle.operand_build.specs.Parts.{value_names, block_names}
-use Rattle.operand_build.proofs.Standing.{operand_stays}
+use Rattle.instruction_build.specs.Parts.{value_names, block_names}
+use Rattle.instruction_build.proofs.Standing.{operand_stays}
 use Rattle.instruction_build.proofs.Assembled.{makes_convert}
 use Rattle.instruction_build.proofs.phrases.build_cast.Goals as goal
 

@@ -1,4 +1,4 @@
-use Rattle.operand_build.specs.Parts.{value_names, block_names}
+use Rattle.instruction_build.specs.Parts.{value_names, block_names}
 use Rattle.instruction_build.proofs.Assembled.{makes_compare}
 use Rattle.instruction_build.proofs.phrases.build_compare.Goals as goal
 

@@ -3,7 +3,7 @@ use Rattle.module_arena.specs.declared.instruction.Inst.TheVariants as inst
 use Rattle.module_arena.specs.Module as m
 use Rattle.ir_constants.specs.View.{typed_value_view}
 use Rattle.name_rules.specs.Written.{natural, operand_in}
-use Rattle.operand_build.specs.Parts.{value_names, block_names}
+use Rattle.instruction_build.specs.Parts.{value_names, block_names}
 use Rattle.instruction_build.specs.Made.{Makes}
 use Rattle.instruction_build.proofs.Assembled.{makes_extraction}
 use Rattle.instruction_build.proofs.phrases.build_extraction.Goals as goal

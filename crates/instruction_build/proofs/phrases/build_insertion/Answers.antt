@@ -5,9 +5,9 @@ use Rattle.module_arena.specs.declared.instruction.Inst.TheVariants as inst
 use Rattle.module_arena.specs.Module as m
 use Rattle.name_rules.specs.Written.{natural, operand_in}
 use Rattle.type_build.proofs.Growing.{grows_on}
-use Rattle.operand_build.specs.Parts.{value_names, block_names}
-use Rattle.operand_build.proofs.Standing.{operand_stays}
-use Rattle.operand_build.proofs.Taking.{takes_operand}
+use Rattle.instruction_build.specs.Parts.{value_names, block_names}
+use Rattle.instruction_build.proofs.Standing.{operand_stays}
+use Rattle.instruction_build.proofs.Taking.{takes_operand}
 use Rattle.instruction_build.specs.Made.{Makes}
 use Rattle.instruction_build.proofs.Assembled.{makes_insertion}
 use Rattle.instruction_build.proofs.phrases.build_insertion.Goals as goal

@@ -2,9 +2,9 @@ use Rattle.ir_constants.specs.View.{type_view, value_view}
 use Rattle.name_rules.specs.Written.{type_in}
 use Rattle.type_build.proofs.Growing.{grows_on}
 use Rattle.type_build.proofs.Staying.{can_still_be}
-use Rattle.operand_build.specs.Parts.{value_names, block_names}
-use Rattle.operand_build.proofs.Standing.{operand_stays}
-use Rattle.operand_build.proofs.Taking.{takes_value}
+use Rattle.instruction_build.specs.Parts.{value_names, block_names}
+use Rattle.instruction_build.proofs.Standing.{operand_stays}
+use Rattle.instruction_build.proofs.Taking.{takes_value}
 use Rattle.instruction_build.proofs.phrases.build_sides.Goals as goal
 
 pub build_value-requires-clause-ty : goal.build_value-requires-clause-ty

@@ -11,8 +11,8 @@ use Rattle.name_rules.specs.Written.{type_in, operand_in}
 use Rattle.type_build.specs.Holding.{entries}
 use Rattle.type_build.proofs.Growing.{grows_on}
 use Rattle.buildable.specs.Bodies.{CanCount}
-use Rattle.operand_build.specs.Parts.{value_names, block_names, TakesOperand}
-use Rattle.operand_build.proofs.Taking.{takes_operand}
+use Rattle.instruction_build.specs.Parts.{value_names, block_names, TakesOperand}
+use Rattle.instruction_build.proofs.Taking.{takes_operand}
 use Rattle.instruction_build.specs.Made.{Makes, count_in}
 use Rattle.instruction_build.proofs.Assembled.{makes_alloca, makes_counted_alloca}
 use Rattle.instruction_build.proofs.places.build_alloca.Goals as goal

@@ -8,10 +8,10 @@ use Rattle.module_arena.specs.declared.instruction.Inst.TheVariants as inst
 use Rattle.name_rules.specs.Bodies.{operation_in}
 use Rattle.name_rules.specs.Written.{operand_in}
 use Rattle.type_build.proofs.Growing.{grows_on}
-use Rattle.operand_build.specs.Meant.{IsOperand}
-use Rattle.operand_build.specs.Parts.{value_names, block_names, TakesOperand, Each}
-use Rattle.operand_build.proofs.Standing.{value_stays, signature_stays}
-use Rattle.operand_build.proofs.Taking.{takes_value, takes_operands, types_taken}
+use Rattle.instruction_build.specs.Meant.{IsOperand}
+use Rattle.instruction_build.specs.Parts.{value_names, block_names, TakesOperand, Each}
+use Rattle.instruction_build.proofs.Standing.{value_stays, signature_stays}
+use Rattle.instruction_build.proofs.Taking.{takes_value, takes_operands, types_taken}
 use Rattle.instruction_build.specs.Made.{Makes}
 use Rattle.instruction_build.proofs.Assembled.{makes_call}
 use Rattle.instruction_build.proofs.places.build_call.Goals as goal

@@ -6,9 +6,9 @@ use Rattle.module_arena.specs.declared.instruction.Inst.TheVariants as inst
 use Rattle.name_rules.specs.Bodies.{element_address_in}
 use Rattle.name_rules.specs.Written.{type_in}
 use Rattle.type_build.proofs.Growing.{grows_on}
-use Rattle.operand_build.specs.Parts.{value_names, block_names, TakesOperand}
-use Rattle.operand_build.proofs.Standing.{operand_stays}
-use Rattle.operand_build.proofs.Taking.{takes_operand, takes_operands}
+use Rattle.instruction_build.specs.Parts.{value_names, block_names, TakesOperand}
+use Rattle.instruction_build.proofs.Standing.{operand_stays}
+use Rattle.instruction_build.proofs.Taking.{takes_operand, takes_operands}
 use Rattle.instruction_build.specs.Made.{Makes}
 use Rattle.instruction_build.proofs.Assembled.{makes_element_address}
 use Rattle.instruction_build.proofs.places.build_element_address.Goals as goal

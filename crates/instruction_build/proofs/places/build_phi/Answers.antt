@@ -6,8 +6,8 @@ use Rattle.name_rules.specs.Bodies.{incoming_in}
 use Rattle.name_rules.specs.Written.{type_in}
 use Rattle.type_build.proofs.Growing.{grows_on}
 use Rattle.type_build.proofs.Staying.{can_still_be}
-use Rattle.operand_build.specs.Parts.{value_names, block_names, TakesIncoming, Each, IsIncoming}
-use Rattle.operand_build.proofs.Taking.{takes_incoming_list}
+use Rattle.instruction_build.specs.Parts.{value_names, block_names, TakesIncoming, Each, IsIncoming}
+use Rattle.instruction_build.proofs.Taking.{takes_incoming_list}
 use Rattle.instruction_build.proofs.Assembled.{makes_phi}
 use Rattle.instruction_build.proofs.places.build_phi.Goals as goal
 

@@ -4,8 +4,8 @@ use Rattle.canonical.specs.Phrase.{Phrase, comma, ◌␣◌, ◌⌢◌}
 use Rattle.canonical.specs.Constants.{opcode, operand}
 use Rattle.canonical.specs.Instructions.{target}
 use Rattle.phrase_printer.specs.Printing.{separator_of}
-use Rattle.operand_printer.specs.Named.{operand_of, label_of}
-use Rattle.operation_printer.proofs.Chained.{spaced, touching}
+use Rattle.instruction_printer.specs.Named.{operand_of, label_of}
+use Rattle.instruction_printer.proofs.Chained.{spaced, touching}
 use Rattle.instruction_printer.proofs.endings.put_branch.Goals as goal
 
 pub returns : goal.returns

@@ -5,8 +5,8 @@ use Rattle.module_arena.specs.View.{constants_of, constant_at}
 use Rattle.canonical.specs.Phrase.{Phrase, comma, ◌␣◌}
 use Rattle.canonical.specs.Constants.{typed_constant}
 use Rattle.canonical.specs.Instructions.{target}
-use Rattle.operand_printer.specs.Named.{label_of}
-use Rattle.operation_printer.proofs.Chained.{spaced, touching}
+use Rattle.instruction_printer.specs.Named.{label_of}
+use Rattle.instruction_printer.proofs.Chained.{spaced, touching}
 use Rattle.instruction_printer.proofs.endings.put_case.Goals as goal
 
 pub returns : goal.returns

@@ -8,8 +8,8 @@ use Rattle.module_arena.specs.Module as m
 use Rattle.canonical.specs.Instructions.{ending_phrase}
 use Rattle.phrase_printer.specs.Printing.{separator_of}
 use Rattle.phrase_printer.proofs.Printing.{prints_same}
-use Rattle.operand_printer.specs.Named.{operand_of, label_of}
-use Rattle.operation_printer.specs.Parts.{HasThis}
+use Rattle.instruction_printer.specs.Named.{operand_of, label_of}
+use Rattle.instruction_printer.specs.Parts.{HasThis}
 use Rattle.instruction_printer.specs.Lines.{case_of}
 use Rattle.instruction_printer.proofs.Cases.{as_operand, cases_known}
 use Rattle.instruction_printer.proofs.Known.{behind_first}

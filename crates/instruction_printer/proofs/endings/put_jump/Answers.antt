@@ -3,8 +3,8 @@ use Rattle.ir_tables.specs.declared.opcode.Opcode.TheVariants as op
 use Rattle.canonical.specs.Constants.{opcode}
 use Rattle.canonical.specs.Instructions.{target}
 use Rattle.phrase_printer.specs.Printing.{separator_of}
-use Rattle.operand_printer.specs.Named.{label_of}
-use Rattle.operation_printer.proofs.Chained.{spaced}
+use Rattle.instruction_printer.specs.Named.{label_of}
+use Rattle.instruction_printer.proofs.Chained.{spaced}
 use Rattle.instruction_printer.proofs.endings.put_jump.Goals as goal
 
 pub returns : goal.returns

@@ -2,8 +2,8 @@ use Rattle.ir_lexer.specs.declared.token.TokenKind.TheVariants as kind
 use Rattle.ir_tables.specs.declared.opcode.Opcode.TheVariants as op
 use Rattle.canonical.specs.Constants.{opcode, operand}
 use Rattle.phrase_printer.specs.Printing.{separator_of}
-use Rattle.operand_printer.specs.Named.{operand_of}
-use Rattle.operation_printer.proofs.Chained.{spaced}
+use Rattle.instruction_printer.specs.Named.{operand_of}
+use Rattle.instruction_printer.proofs.Chained.{spaced}
 use Rattle.instruction_printer.proofs.endings.put_return.Goals as goal
 
 pub returns : goal.returns

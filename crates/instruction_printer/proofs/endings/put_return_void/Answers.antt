@@ -4,7 +4,7 @@ use Rattle.ir_tables.specs.declared.opcode.Opcode.TheVariants as op
 use Rattle.canonical.specs.Phrase.{word}
 use Rattle.canonical.specs.Constants.{opcode}
 use Rattle.phrase_printer.specs.Printing.{separator_of}
-use Rattle.operation_printer.proofs.Chained.{spaced}
+use Rattle.instruction_printer.proofs.Chained.{spaced}
 use Rattle.instruction_printer.proofs.endings.put_return_void.Goals as goal
 
 pub returns : goal.returns

@@ -7,8 +7,8 @@ use Rattle.canonical.specs.Phrase.{Phrase, mark, comma, ◌␣◌, ◌⌢◌, ea
 use Rattle.canonical.specs.Constants.{opcode, operand}
 use Rattle.canonical.specs.Instructions.{target, case_phrase}
 use Rattle.phrase_printer.specs.Printing.{separator_of}
-use Rattle.operand_printer.specs.Named.{operand_of, label_of}
-use Rattle.operation_printer.proofs.Chained.{spaced, touching}
+use Rattle.instruction_printer.specs.Named.{operand_of, label_of}
+use Rattle.instruction_printer.proofs.Chained.{spaced, touching}
 use Rattle.instruction_printer.specs.Lines.{case_of}
 use Rattle.instruction_printer.proofs.endings.put_switch.Goals as goal
 

@@ -8,7 +8,7 @@ use Rattle.module_arena.specs.View.{local_view}
 use Rattle.canonical.specs.Names.{local}
 use Rattle.canonical.specs.Phrase.{mark}
 use Rattle.phrase_printer.proofs.Printing.{prints_same, prints_then}
-use Rattle.operand_printer.proofs.Locals.{mapped_at}
+use Rattle.instruction_printer.proofs.Locals.{mapped_at}
 use Rattle.instruction_printer.specs.Lines.{called_at}
 use Rattle.instruction_printer.proofs.instruction.put_result.Goals as goal
 

@@ -8,8 +8,8 @@ use Rattle.module_arena.specs.Module as m
 use Rattle.canonical.specs.Operations.{operation_phrase}
 use Rattle.phrase_printer.specs.Printing.{separator_of}
 use Rattle.phrase_printer.proofs.Printing.{prints_same}
-use Rattle.operand_printer.specs.Named.{value_of, operand_of}
-use Rattle.operation_printer.specs.Parts.{HasThis, incoming_of, signature_of}
+use Rattle.instruction_printer.specs.Named.{value_of, operand_of}
+use Rattle.instruction_printer.specs.Parts.{HasThis, incoming_of, signature_of}
 use Rattle.instruction_printer.proofs.Known.{Is, incoming_known, behind_first}
 use Rattle.instruction_printer.proofs.operation.put_operation.Goals as goal
 

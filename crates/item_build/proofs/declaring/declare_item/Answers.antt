@@ -9,7 +9,7 @@ use Rattle.ir_syntax.specs.View.{parameter_view, item_view}
 use Rattle.type_table.specs.Types.{structs}
 use Rattle.name_rules.specs.Written.{type_in}
 use Rattle.type_build.specs.Fitting.{CanBe}
-use Rattle.entry_build.proofs.Declaring.{all_mapped}
+use Rattle.type_build.proofs.Declaring.{all_mapped}
 use Rattle.buildable.specs.Entries.{CanDeclare}
 use Rattle.item_build.proofs.declaring.declare_item.Goals as goal
 

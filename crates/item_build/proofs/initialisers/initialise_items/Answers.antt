@@ -10,12 +10,12 @@ use Rattle.module_arena.specs.WellFormed as formed
 use Rattle.name_rules.specs.ModuleOf.{structs_in, variable_in}
 use Rattle.type_build.specs.Holding.{entries}
 use Rattle.buildable.specs.Entries.{CanDeclare, CanComplete}
-use Rattle.entry_build.specs.Declared.{without_initialiser}
+use Rattle.type_build.specs.Declarations.{without_initialiser}
 use Rattle.item_build.specs.Declaring.{declared_variables, counts_in}
 use Rattle.item_build.specs.Completing.{initialised_in, variable_behind, with_initialisers}
 use Rattle.item_build.proofs.Completed.{initialisers_more, initialisers_named, no_initialisers, next_is_unset}
 use Rattle.item_build.proofs.Declared.{structs_kept}
-use Rattle.item_build.proofs.Named.{entries_there}
+use Rattle.item_build.proofs.NamedItems.{entries_there}
 use Rattle.item_build.proofs.Room.{are_small, variables_counted}
 use Rattle.item_build.proofs.Walked.{view_more, view_rest, view_split, all_between, length_mixed, length_parted, taken}
 use Rattle.item_build.proofs.initialisers.initialise_items.Goals as goal

@@ -10,12 +10,12 @@ use Rattle.module_arena.specs.WellFormed as formed
 use Rattle.name_rules.specs.ModuleOf.{structs_in, alias_in}
 use Rattle.type_build.specs.Holding.{entries}
 use Rattle.buildable.specs.Entries.{CanComplete}
-use Rattle.entry_build.specs.Declared.{without_target}
+use Rattle.type_build.specs.Declarations.{without_target}
 use Rattle.item_build.specs.Declaring.{declared_aliases, counts_in}
 use Rattle.item_build.specs.Completing.{targeted_in, alias_behind, with_targets}
 use Rattle.item_build.proofs.Completed.{targets_more, targets_named, no_targets}
 use Rattle.item_build.proofs.Declared.{structs_kept}
-use Rattle.item_build.proofs.Named.{entries_there}
+use Rattle.item_build.proofs.NamedItems.{entries_there}
 use Rattle.item_build.proofs.Room.{are_small, aliases_small, aliases_counted}
 use Rattle.item_build.proofs.Walked.{view_more, view_rest, view_split, all_between, length_mixed, length_parted, taken}
 use Rattle.item_build.proofs.targets.set_targets.Goals as goal

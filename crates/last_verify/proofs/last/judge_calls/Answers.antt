@@ -9,10 +9,10 @@ use Rattle.module_arena.specs.View.{constants_of, inst_view, operand_view, value
 use Rattle.module_arena.specs.declared.instruction.Operand.{Operand}
 use Rattle.module_arena.specs.declared.instruction.Value as the_value
 use Rattle.constant_verify.proofs.FactsTold.{own_structs}
-use Rattle.operand_list.proofs.Viewed.{callee_viewed, operands_viewed}
+use Rattle.path_rows.proofs.Viewed.{callee_viewed, operands_viewed}
 use Rattle.type_verify.specs.Judged.{Judged, asks}
 use Rattle.instruction_verify.proofs.Asked.{demand}
-use Rattle.value_rules.specs.ValuesById.{HasConstant, IsTyped}
+use Rattle.last_verify.specs.ValuesById.{HasConstant, IsTyped}
 use Rattle.last_verify.proofs.Listed.{are_typed, callee_known, operands_known}
 use Rattle.last_verify.proofs.last.judge_calls.Goals as goal
 

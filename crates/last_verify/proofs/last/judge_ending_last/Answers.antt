@@ -6,13 +6,13 @@ use Rattle.module_arena.specs.Known.{HasOperand}
 use Rattle.module_arena.specs.Operations.{ending_operands}
 use Rattle.module_arena.specs.View.{constants_of, ending_view, module_of, operand_view}
 use Rattle.module_arena.specs.declared.instruction.Operand.{Operand}
-use Rattle.operand_list.proofs.Viewed.{end_operands_viewed}
+use Rattle.path_rows.proofs.Viewed.{end_operands_viewed}
 use Rattle.std.proofs.Common.{All, length}
 use Rattle.type_verify.proofs.Judging.{leads_past}
 use Rattle.instruction_verify.specs.Parts.{ending_type_demands}
 use Rattle.last_verify.specs.Last.{written_demands}
 use Rattle.last_verify.proofs.Listed.{end_within}
-use Rattle.last_verify.proofs.Written.{written_fails, written_holds}
+use Rattle.last_verify.proofs.TypesWritten.{written_fails, written_holds}
 use Rattle.last_verify.proofs.last.judge_ending_last.Goals as goal
 
 pub judge_ending_types-requires-clause-known : goal.judge_ending_types-requires-clause-known

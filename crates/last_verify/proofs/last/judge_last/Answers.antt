@@ -6,12 +6,12 @@ use Rattle.module_arena.specs.Known.{HasOperand}
 use Rattle.module_arena.specs.Operations.{operands}
 use Rattle.module_arena.specs.View.{constants_of, inst_view, module_of, operand_view}
 use Rattle.module_arena.specs.declared.instruction.Operand.{Operand}
-use Rattle.operand_list.proofs.Viewed.{operands_viewed}
+use Rattle.path_rows.proofs.Viewed.{operands_viewed}
 use Rattle.type_verify.proofs.Judging.{fails_first, leads_past}
 use Rattle.instruction_verify.specs.Parts.{type_demands}
 use Rattle.last_verify.specs.Last.{call_demands, written_demands}
 use Rattle.last_verify.proofs.Listed.{inst_within, operands_known}
-use Rattle.last_verify.proofs.Written.{written_fails, written_holds}
+use Rattle.last_verify.proofs.TypesWritten.{written_fails, written_holds}
 use Rattle.last_verify.proofs.last.judge_last.Goals as goal
 
 pub judge_written-requires-clause-known : goal.judge_written-requires-clause-known

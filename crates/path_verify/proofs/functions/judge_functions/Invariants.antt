@@ -4,7 +4,7 @@ use Rattle.std.specs.List.{sum_by}
 use Rattle.module_arena.specs.Valid.{function_demands}
 use Rattle.module_arena.specs.View.{module_of}
 use Rattle.type_verify.specs.Judged.{Leads}
-use Rattle.body_verify.specs.Bodies.{turns_of}
+use Rattle.path_verify.specs.Bodies.{turns_of}
 use Rattle.path_verify.proofs.functions.judge_functions.Given as goal
 
 -- who judges the rest has judged all, and the turns so far are those of the functions so far

@@ -1,5 +1,5 @@
 use Rattle.std.proofs.Common.{◌*◌, ◌^◌, ◌<◌, sym, ◌∙◌, arith}
-use Rattle.body_verify.proofs.Sized.{product_is, few_values, few_blocks}
+use Rattle.path_verify.proofs.Sized.{product_is, few_values, few_blocks}
 use Rattle.path_verify.proofs.Counted.{small_product}
 use Rattle.path_verify.proofs.sizes.product_of.Goals as goal
 

@@ -4,7 +4,7 @@ use Rattle.std.proofs.lemmas.Result.{err_from_is_err_and}
 use Rattle.module_arena.specs.Lists.{Lists}
 use Rattle.module_arena.specs.Valid.{module_demands, variable_demands, alias_demands, function_demands}
 use Rattle.module_arena.specs.View.{constants_of, module_of}
-use Rattle.constant_classes.specs.Classes.{AreClasses}
+use Rattle.use_verify.specs.Classes.{AreClasses}
 use Rattle.type_verify.specs.Judged.{Judged}
 use Rattle.type_verify.proofs.Judging.{leads_past, fails_first}
 use Rattle.path_verify.proofs.verifying.judge_rules.Goals as goal

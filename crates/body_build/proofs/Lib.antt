@@ -1,6 +1,0 @@
-mod Partial
-mod Numbers
-mod Meaning
-mod Staying
-mod Order
-mod Whole

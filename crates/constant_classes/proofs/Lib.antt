@@ -1,2 +1,0 @@
-pub mod ClassesTold
-pub mod KeysTold

@@ -1,3 +1,0 @@
-pub mod Declaring
-pub mod Parameters
-pub mod Untargeted

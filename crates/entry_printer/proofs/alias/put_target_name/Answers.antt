@@ -1,5 +1,0 @@
-use Rattle.ir_lexer.specs.declared.token.TokenKind.TheVariants as kind
-use Rattle.entry_printer.proofs.alias.put_target_name.Goals as goal
-
-pub returns-in-None : goal.returns-in-None
-returns-in-None g c = rw c.in-None.is (c.put_token.ensures kind.GlobalName)

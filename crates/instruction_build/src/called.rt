@@ -1,0 +1,77 @@
+//! What is called how.
+ghost use Rattle.std.specs.Prelude.{◌≡◌, ◌<◌, ◌-◌, ◌^◌, IfOk, IsTrue, ◌↔◌};
+ghost use Rattle.ir_instructions.specs.View.{instruction_view};
+ghost use Rattle.module_arena.specs.View.{local_view};
+ghost use Rattle.name_rules.specs.Locals.{local_in, called, next_behind, has_result};
+
+use ir_constants::Type;
+use ir_instructions::{Instruction, Operation};
+use ir_terminals::Local;
+use module_arena::LocalName;
+use std::alloc::{AllocError, Global};
+
+/// Whether the name is the one that is written.
+pub(crate) fn is_written(name: &LocalName, written: &Local) -> bool
+    ensures { IsTrue result ↔ (local_view name.now ≡ local_in written.now) }
+{
+    match (name, written) {
+        (LocalName::Named(known), Local::Named(placed)) => {
+            placed.name.bytes() == known.text().bytes()
+        }
+        (LocalName::Numbered(known), Local::Numbered(number, _)) => {
+            number.to_u64() == Some(*known as u64)
+        }
+        (LocalName::Named(_), Local::Numbered(_, _)) | (LocalName::Numbered(_), Local::Named(_)) =>
+            false,
+    }
+}
+
+/// What a parameter, block or result is called where the next number is this one: by the name that is written, else by
+/// that number.
+pub(crate) fn called_so(
+    alloc: Global,
+    next: u32,
+    written: &Option<Local>,
+) -> Result<LocalName, AllocError>
+    ensures { IfOk result (λ name. local_view name ≡ called next written.now) }
+{
+    match written {
+        Some(Local::Named(placed)) => Ok(LocalName::Named(placed.name.to_name(alloc)?)),
+        Some(Local::Numbered(_, _)) | None => Ok(LocalName::Numbered(next)),
+    }
+}
+
+/// The next number behind it: a written name takes none.
+pub(crate) fn number_behind(next: u32, written: &Option<Local>) -> u32
+    requires { next < 2 ^ 32 - 1 }
+    ensures { result ≡ next_behind next written.now }
+{
+    match written {
+        Some(Local::Named(_)) => next,
+        Some(Local::Numbered(_, _)) | None => next + 1,
+    }
+}
+
+/// Whether the instruction has a result: it gives one, or one is written.
+pub fn gives_result(instruction: &Instruction) -> bool
+    ensures { result ≡ has_result (instruction_view instruction.now) }
+{
+    if instruction.result.is_some() {
+        return true;
+    }
+    match &instruction.operation {
+        Operation::Store(_, _) => false,
+        Operation::Call(call) => !matches!(&call.returns, Type::Void(_)),
+        Operation::Binary(_, _, _)
+        | Operation::Compare(_, _, _)
+        | Operation::Cast(_, _, _)
+        | Operation::Select(_)
+        | Operation::Freeze(_)
+        | Operation::Phi(_)
+        | Operation::Load(_, _)
+        | Operation::Alloca(_)
+        | Operation::GetElementPtr(_, _)
+        | Operation::ExtractValue(_)
+        | Operation::InsertValue(_) => true,
+    }
+}

@@ -1,0 +1,51 @@
+-- The parts of operations, by the ids of an arena and of a function in it.
+use Rattle.std.specs.Prelude.{ℕ, ◌<◌, true, List, map, length}
+use Rattle.ir_lexer.specs.Pieces.{Piece, Nothing}
+use Rattle.type_table.specs.Types.{Types, trees, tree}
+use Rattle.module_arena.specs.declared.entry.Function.{Function}
+use Rattle.module_arena.specs.declared.instruction.Inst.{Inst}
+use Rattle.module_arena.specs.declared.instruction.Value as the_value
+use Rattle.module_arena.specs.declared.instruction.Operand as the_operand
+use Rattle.module_arena.specs.declared.instruction.Incoming as the_incoming
+use Rattle.module_arena.specs.Known.{HasValue, HasOperand}
+use Rattle.module_arena.specs.Lists.{Lists, value_names, function_blocks}
+use Rattle.module_arena.specs.Module.{Incoming, Signature, Operation}
+use Rattle.module_arena.specs.declared.instruction.Signature as the_signature
+use Rattle.module_arena.specs.View.{type_at, constants_of, incoming_view, signature_view, inst_view}
+use Rattle.canonical.specs.Phrase.{Phrase, comma, ◌␣◌, ◌⌢◌, listed}
+use Rattle.canonical.specs.Types.{type_phrase}
+use Rattle.canonical.specs.Constants.{value_phrase, operand}
+use Rattle.canonical.specs.Operations.{dotted}
+use Rattle.instruction_printer.specs.Named.{values_in, labels_in, value_of, operand_of}
+
+module _ (a : Lists) (f : Function) where
+  -- the value, the operand and its type are there
+  abbrev pub HasThisValue : the_value.Value → Type 0
+  HasThisValue value = HasValue (length a.constants) (length (value_names f)) value
+
+  abbrev pub HasThis : the_operand.Operand → Type 0
+  HasThis part = HasOperand (length a.table.types) (length a.constants) (length (value_names f)) part
+
+  -- a value of a phi and its block are there
+  abbrev pub HasIncoming : the_incoming.Incoming → Type 0
+  HasIncoming i = HasThisValue i.value × (i.block < length (function_blocks f))
+
+  -- a value of a phi, and its block
+  abbrev pub incoming_of : the_incoming.Incoming → Incoming
+  incoming_of i = incoming_view (trees a.table) (constants_of a) (values_in f) (labels_in f) i
+
+  -- what an instruction does
+  abbrev pub operation_of : Inst → Operation
+  operation_of i = (inst_view (trees a.table) (constants_of a) (values_in f) (labels_in f) i).operation
+
+  -- an operand, and a value of its type
+  abbrev pub pair : the_operand.Operand → the_value.Value → Phrase
+  pair left right = operand (operand_of a f left) ⌢ comma ␣ value_phrase (tree a.table left.ty) (value_of a f right)
+
+-- types with a comma behind each, and three dots
+abbrev pub dotted_types : Types → List ℕ → List Piece
+dotted_types t parts = listed (dotted (map type_phrase (map (type_at (trees t)) parts)) true) Nothing
+
+-- a function type
+abbrev pub signature_of : Lists → the_signature.Signature → Signature
+signature_of a s = signature_view (trees a.table) s

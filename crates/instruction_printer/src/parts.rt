@@ -1,0 +1,78 @@
+//! Parts of arrays and structs (LangRef, "Aggregate Operations").
+ghost use Rattle.gathered.specs.Told.{state};
+ghost use Rattle.canonical.specs.Operations.{operation_phrase};
+ghost use Rattle.module_arena.specs.Module as m;
+ghost use Rattle.phrase_printer.specs.Printing.{separator_of, Prints};
+ghost use Rattle.instruction_printer.specs.Named.{operand_of};
+ghost use Rattle.instruction_printer.specs.Parts.{HasThis};
+
+use crate::arithmetic::put_opcode;
+use crate::indices::put_indices;
+use crate::operands::put_operand;
+use gathered::Gathered;
+use ir_base::Sink;
+use ir_tables::Opcode;
+use module_arena::{Arena, Function, Insertion, Operand};
+use phrase_printer::{Separator, put_comma, put_token};
+
+/// Puts `extractvalue`.
+pub(crate) fn put_extract<S: Sink>(
+    out: &mut Gathered,
+    sink: &mut S,
+    arena: &Arena,
+    function: &Function,
+    aggregate: Operand,
+    indices: &[u32],
+    behind: Separator,
+)
+    requires { HasThis arena.now function.now aggregate }
+    ensures { Prints (state out.old (S.taken sink.old) (S.faults sink.old)) (state out.new (S.taken sink.new) (S.faults sink.new)) (operation_phrase (m.ExtractValue (operand_of arena.now function.now aggregate) indices.now) (separator_of behind)) }
+{
+    put_opcode(out, sink, Opcode::ExtractValue);
+    put_operand(
+        out,
+        sink,
+        arena,
+        function,
+        aggregate,
+        behind.before(indices.len()),
+    );
+    put_comma(out, sink, indices.len());
+    put_indices(out, sink, indices, behind);
+}
+
+/// Puts `insertvalue`.
+pub(crate) fn put_insert<S: Sink>(
+    out: &mut Gathered,
+    sink: &mut S,
+    arena: &Arena,
+    function: &Function,
+    insertion: &Insertion,
+    behind: Separator,
+)
+    requires aggregate { HasThis arena.now function.now insertion.now.aggregate }
+    requires part { HasThis arena.now function.now insertion.now.part }
+    ensures { Prints (state out.old (S.taken sink.old) (S.faults sink.old)) (state out.new (S.taken sink.new) (S.faults sink.new)) (operation_phrase (m.InsertValue (operand_of arena.now function.now insertion.now.aggregate) (operand_of arena.now function.now insertion.now.part) insertion.now.indices) (separator_of behind)) }
+{
+    let indices = insertion.indices.as_slice();
+    put_opcode(out, sink, Opcode::InsertValue);
+    put_operand(
+        out,
+        sink,
+        arena,
+        function,
+        insertion.aggregate,
+        Separator::Nothing,
+    );
+    put_token(out, sink, b",", Separator::Space);
+    put_operand(
+        out,
+        sink,
+        arena,
+        function,
+        insertion.part,
+        behind.before(indices.len()),
+    );
+    put_comma(out, sink, indices.len());
+    put_indices(out, sink, indices, behind);
+}

@@ -1,0 +1,14 @@
+use Rattle.std.proofs.Common.{drop}
+use Rattle.gathered.specs.Told.{State, state}
+use Rattle.ir_lexer.specs.Pieces.{Separator, Indented}
+use Rattle.canonical.specs.Phrase.{each}
+use Rattle.ir_printer.proofs.Lines.{lines}
+use Rattle.phrase_printer.specs.Printing.{Prints}
+use Rattle.ir_printer.proofs.blocks.put_lines.Given as goal
+
+-- who puts the rest from here on has put them all
+abbrev pub invariant-parts : goal.invariant-parts
+invariant-parts g l =
+    let at_first = state l.fn.out (g.S.Sink.taken l.fn.sink) (g.S.Sink.faults l.fn.sink) in
+    let here = state l.out (g.S.Sink.taken l.sink) (g.S.Sink.faults l.sink) in
+    (s : Separator) (now : State) → Prints here now (each Indented (lines l.arena l.function (drop l.place l.instructions)) s) → Prints at_first now (each Indented (lines l.arena l.function l.instructions) s)

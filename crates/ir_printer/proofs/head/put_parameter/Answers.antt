@@ -1,0 +1,12 @@
+use Rattle.type_table.specs.Types.{tree}
+use Rattle.module_arena.specs.View.{local_view}
+use Rattle.canonical.specs.Names.{local}
+use Rattle.canonical.specs.Types.{type_phrase}
+use Rattle.phrase_printer.specs.Printing.{separator_of}
+use Rattle.instruction_printer.proofs.Chained.{spaced}
+use Rattle.ir_printer.proofs.head.put_parameter.Goals as goal
+
+pub returns : goal.returns
+returns g c =
+    let p = c.args.parameter.now in
+    spaced (type_phrase (tree c.args.types.now p.ty)) (local (local_view p.name)) (separator_of c.args.behind) c.put_type.ensures c.put_local.ensures

@@ -1,0 +1,14 @@
+use Rattle.std.proofs.Common.{drop}
+use Rattle.gathered.specs.Told.{State, state}
+use Rattle.canonical.specs.Phrase.{listed}
+use Rattle.phrase_printer.specs.Printing.{separator_of, Prints}
+use Rattle.ir_printer.specs.Listed.{parameter_list}
+use Rattle.ir_printer.proofs.head.put_parameters.Given as goal
+
+-- who puts the rest from here on has put them all
+abbrev pub invariant-parts : goal.invariant-parts
+invariant-parts g l =
+    let at_first = state l.fn.out (g.S.Sink.taken l.fn.sink) (g.S.Sink.faults l.fn.sink) in
+    let here = state l.out (g.S.Sink.taken l.sink) (g.S.Sink.faults l.sink) in
+    let all = parameter_list l.types in
+    (now : State) → Prints here now (listed (all (drop l.place l.parameters)) (separator_of l.behind)) → Prints at_first now (listed (all l.parameters) (separator_of l.behind))

@@ -1,0 +1,9 @@
+pub mod Defined
+pub mod Few
+pub mod Whole
+mod Partial
+mod Numbers
+mod Meaning
+mod Staying
+mod Order
+mod WholeBody

@@ -1,0 +1,19 @@
+use Rattle.std.proofs.Common.{◌≡◌, ◌≤◌, ◌+◌, map, flat_map, length, take}
+use Rattle.std.specs.List.{sum_by}
+use Rattle.ir_instructions.specs.View.{block_view}
+use Rattle.ir_syntax.specs.Counts.{block_count}
+use Rattle.ir_syntax.specs.View.{parameter_view}
+use Rattle.module_arena.specs.View.{local_view}
+use Rattle.name_rules.specs.Locals.{next_after, announced_parameter, announced_block}
+use Rattle.buildable.specs.Bodies.{values_of, labels_of}
+use Rattle.ir_resolve.proofs.gathered.gather.Given as goal
+
+abbrev pub invariant-loop-block : goal.invariant-loop-block
+invariant-loop-block l = record {
+  next : l.next ≡ next_after (next_after 0 (map announced_parameter (map parameter_view l.parameters))) (flat_map announced_block (map block_view (take l.block-index l.blocks)));
+  values : map local_view l.values.names.items ≡ values_of (map parameter_view l.parameters) (map block_view (take l.block-index l.blocks));
+  labels : map local_view l.labels.names.items ≡ labels_of (map parameter_view l.parameters) (map block_view (take l.block-index l.blocks));
+  numbers : l.next ≤ length l.parameters + sum_by block_count (map block_view (take l.block-index l.blocks));
+  few_values : length l.values.names.items ≤ length l.parameters + sum_by block_count (map block_view (take l.block-index l.blocks));
+  few_labels : length l.labels.names.items ≤ sum_by block_count (map block_view (take l.block-index l.blocks));
+}

@@ -1,0 +1,39 @@
+//! The whole body.
+ghost use Rattle.std.specs.Prelude.{◌≡◌, map, length, IfOk, OnOk};
+ghost use Rattle.ir_instructions.specs.View.{block_view};
+ghost use Rattle.ir_syntax.specs.View.{parameter_view};
+ghost use Rattle.type_table.specs.Types.{structs, trees};
+ghost use Rattle.module_arena.specs.Known.{KnowsBody};
+ghost use Rattle.module_arena.specs.View.{constants_of, body_view};
+ghost use Rattle.type_build.specs.Holding.{entries};
+ghost use Rattle.type_build.specs.Stands.{Grows};
+ghost use Rattle.buildable.specs.Bodies.{CanBody, parameter_names, body_of};
+
+use crate::blocks::build_blocks;
+use crate::gathered::gather;
+use crate::names::names_from;
+use ir_instructions::Block;
+use ir_syntax::Parameter;
+use module_arena::ValueId;
+use std::alloc::{AllocError, Global};
+use type_build::Builder;
+
+/// The body of a function with these parameters: its blocks, and the names of the results behind those of the parameters.
+/// It is refused for want of memory alone.
+pub(crate) fn build_body(
+    builder: &mut Builder,
+    alloc: Global,
+    parameters: &[Parameter],
+    blocks: &[Block],
+) -> Result<module_arena::Body, AllocError>
+    requires { CanBody (structs builder.old.arena.table) (entries builder.old.arena) (map parameter_view parameters.now) (map block_view blocks.now) }
+    ensures grows { OnOk result (Grows builder.old.arena builder.new.arena) }
+    ensures known { IfOk result (λ body. KnowsBody (length builder.new.arena.table.types) (length builder.new.arena.constants) (length parameters.now) body) }
+    ensures blocks { IfOk result (λ body. body_view (trees builder.new.arena.table) (constants_of builder.new.arena) (parameter_names (map parameter_view parameters.now)) body ≡ body_of (map parameter_view parameters.now) (map block_view blocks.now)) }
+{
+    let locals = gather(alloc, parameters, blocks)?;
+    let first = ValueId::new(parameters.len() as u32);
+    let blocks = build_blocks(builder, alloc, &locals, first, blocks)?;
+    let results = names_from(alloc, &locals.values.names, parameters.len())?;
+    Ok(module_arena::Body { blocks, results })
+}

@@ -1,0 +1,77 @@
+//! Builds the arena of items, step by step.
+ghost use Rattle.std.specs.Prelude.{◌≡◌, ◌≤◌, ◌^◌, None, IfOk, OnOk};
+ghost use Rattle.ir_syntax.specs.Counts.{counted};
+ghost use Rattle.ir_syntax.specs.Forms.{AreItemsFormed};
+ghost use Rattle.ir_syntax.specs.View.{items_view};
+ghost use Rattle.type_table.specs.Types.{structs};
+ghost use Rattle.module_arena.specs.Lists.{no_lists};
+ghost use Rattle.module_arena.specs.View.{module_of};
+ghost use Rattle.name_rules.specs.Breaks.{first_break};
+ghost use Rattle.name_rules.specs.ModuleOf.{structs_in, module_of_items};
+ghost use Rattle.type_build.specs.Holding.{entries};
+ghost use Rattle.type_build.specs.Declarations.{AreFew};
+ghost use Rattle.buildable.specs.Laws.{AreBuildable};
+ghost use Rattle.buildable.specs.Narrow.{AreItemsNarrow};
+ghost use Rattle.item_build.specs.Declaring.{counts_in};
+ghost use Rattle.ir_resolve.specs.Whole.{without_entries, with_items};
+
+use crate::bodies::define_items;
+use ir_syntax::{Item, Items};
+use item_build::{build_structs, declare_items, initialise_items, set_targets, set_texts};
+use module_arena::Arena;
+use std::alloc::{AllocError, Global};
+use type_build::Builder;
+
+/// The texts and the structs of the items, and no entries.
+fn begin(alloc: Global, items: &[Item]) -> Result<Builder, AllocError>
+    requires buildable { AreBuildable (items_view items.now) }
+    requires unbroken { first_break (items_view items.now) ≡ None }
+    ensures module { IfOk result (λ builder. module_of builder.arena ≡ without_entries (items_view items.now)) }
+    ensures empty { IfOk result (λ builder. entries builder.arena ≡ no_lists) }
+{
+    let mut builder = Builder::new(alloc);
+    set_texts(&mut builder, alloc, items)?;
+    build_structs(&mut builder, alloc, items)?;
+    Ok(builder)
+}
+
+/// Declares the entries of the items, and then completes them, where the arena has their structs and no entries.
+fn build_entries(builder: &mut Builder, alloc: Global, items: &[Item]) -> Result<(), AllocError>
+    requires buildable { AreBuildable (items_view items.now) }
+    requires few { AreFew (counts_in (items_view items.now)) }
+    requires few_parts { counted (items_view items.now) ≤ 2 ^ 24 }
+    requires structs { structs builder.old.arena.table ≡ structs_in (items_view items.now) }
+    requires empty { entries builder.old.arena ≡ no_lists }
+    ensures { OnOk result (module_of builder.new.arena ≡ with_items (module_of builder.old.arena) (items_view items.now)) }
+{
+    declare_items(builder, alloc, items)?;
+    set_targets(builder, alloc, items)?;
+    initialise_items(builder, alloc, items)?;
+    define_items(builder, alloc, items)?;
+    Ok(())
+}
+
+/// The arena of these items: texts, structs, variables, aliases and functions in the order of the text. It is refused for
+/// want of memory alone.
+pub(crate) fn build_items(alloc: Global, items: &[Item]) -> Result<Arena, AllocError>
+    requires buildable { AreBuildable (items_view items.now) }
+    requires few { counted (items_view items.now) ≤ 2 ^ 24 }
+    requires unbroken { first_break (items_view items.now) ≡ None }
+    ensures { IfOk result (λ arena. module_of arena ≡ module_of_items (items_view items.now)) }
+{
+    let mut builder = begin(alloc, items)?;
+    build_entries(&mut builder, alloc, items)?;
+    let Builder { arena, .. } = builder;
+    Ok(arena)
+}
+
+/// The arena of the items of a text, which break no rule of names and numbers. It is refused for want of memory alone.
+pub(crate) fn build(alloc: Global, items: &Items) -> Result<Arena, AllocError>
+    requires formed { AreItemsFormed (items_view items.now) }
+    requires narrow { AreItemsNarrow (items_view items.now) }
+    requires few { counted (items_view items.now) ≤ 2 ^ 24 }
+    requires unbroken { first_break (items_view items.now) ≡ None }
+    ensures { IfOk result (λ arena. module_of arena ≡ module_of_items (items_view items.now)) }
+{
+    build_items(alloc, items.as_slice())
+}

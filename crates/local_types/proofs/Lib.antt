@@ -1,4 +1,0 @@
-pub mod Behind
-pub mod GivenTold
-pub mod NamesTold
-pub mod Typed

@@ -1,4 +1,0 @@
-pub mod Lined
-pub mod Lines
-pub mod Followed
-pub mod Bodies

@@ -1,0 +1,97 @@
+//! One instruction, or the end of a block: all that it is asked, in order.
+ghost use Rattle.std.specs.Prelude.{◌≡◌, ◌<◌, length, take};
+ghost use Rattle.std.specs.List.{list_all};
+ghost use Rattle.module_arena.specs.Changes.{function_in};
+ghost use Rattle.module_arena.specs.InstructionRules.{is_phi};
+ghost use Rattle.module_arena.specs.Lists.{function_blocks};
+ghost use Rattle.module_arena.specs.Module as modules;
+ghost use Rattle.module_arena.specs.Valid.{ending_demands, instruction_demands};
+ghost use Rattle.module_arena.specs.View.{module_of};
+ghost use Rattle.use_verify.specs.Edges.{IsSourced};
+ghost use Rattle.type_verify.specs.Judged.{Judged};
+ghost use Rattle.use_verify.specs.Uses.{block_named, ending_in, instruction_in};
+ghost use Rattle.path_verify.specs.Ready.{IsReady, KnowsEnding, KnowsInstruction};
+
+use crate::facts::FunctionFacts;
+use instruction_verify::{judge_ending_first, judge_instruction_first};
+use last_verify::{judge_ending_last, judge_last};
+use module_arena::{Ending, Inst, Operand};
+use path_rows::{gather, gather_ending};
+use std::alloc::Global;
+use type_verify::VerifyFault;
+use use_verify::{PhiJudge, Site, judge_ending_uses, judge_uses};
+
+/// What an instruction is asked: a fault of the first rule that does not hold, at the instruction. `behind_phis` tells whether the
+/// instructions before it in its block are phis; what `operands` has does not matter.
+pub(crate) fn judge_instruction(
+    alloc: Global,
+    facts: &FunctionFacts<'_>,
+    phis: &mut PhiJudge,
+    operands: &mut Vec<Operand>,
+    site: &Site,
+    behind_phis: bool,
+    instruction: &Inst,
+) -> Result<(), VerifyFault>
+    requires ready { IsReady facts.now.judge.now facts.now.function.now facts.now.classes.now facts.now.value_types.items facts.now.rows }
+    requires sourced { IsSourced facts.now.function.now phis.old }
+    requires block { site.now.block < length (function_blocks facts.now.function.now) }
+    requires known { KnowsInstruction facts.now.judge.now facts.now.function.now instruction.now }
+    ensures same { phis.new ≡ phis.old }
+    ensures judged { (block : modules.Block) → block.name ≡ block_named facts.now.function.now site.now.block → behind_phis ≡ list_all is_phi (take site.now.before block.instructions)
+        → Judged (instruction_demands (module_of facts.now.judge.now) (function_in facts.now.judge.now facts.now.function.now) block site.now.before site.now.number (instruction_in facts.now.judge.now facts.now.function.now instruction.now)) result }
+{
+    let function = facts.function;
+    let number = site.number;
+    judge_instruction_first(alloc, facts.judge, &function.name, number, instruction)?;
+    phis.judge_phi(
+        alloc,
+        facts.classes,
+        function,
+        *site,
+        behind_phis,
+        instruction,
+    )?;
+    operands.clear();
+    gather(operands, instruction)?;
+    judge_uses(alloc, &facts.rows, function, *site, instruction, operands)?;
+    judge_last(
+        alloc,
+        facts.judge,
+        &facts.value_types,
+        function,
+        number,
+        instruction,
+        operands,
+    )
+}
+
+/// What the end of a block is asked: a fault of the first rule that does not hold, at the end. What `operands` has does not matter.
+pub(crate) fn judge_ending(
+    alloc: Global,
+    facts: &FunctionFacts<'_>,
+    operands: &mut Vec<Operand>,
+    site: &Site,
+    ending: &Ending,
+) -> Result<(), VerifyFault>
+    requires ready { IsReady facts.now.judge.now facts.now.function.now facts.now.classes.now facts.now.value_types.items facts.now.rows }
+    requires block { site.now.block < length (function_blocks facts.now.function.now) }
+    requires known { KnowsEnding facts.now.judge.now facts.now.function.now ending.now }
+    ensures { (block : modules.Block) → block.name ≡ block_named facts.now.function.now site.now.block → block.ending ≡ ending_in facts.now.judge.now facts.now.function.now ending.now → site.now.before ≡ length block.instructions
+        → Judged (ending_demands (module_of facts.now.judge.now) (function_in facts.now.judge.now facts.now.function.now) block site.now.number) result }
+{
+    let function = facts.function;
+    let number = site.number;
+    judge_ending_first(alloc, facts.judge, &function.name, number, ending)?;
+    operands.clear();
+    gather_ending(operands, ending)?;
+    judge_ending_uses(alloc, &facts.rows, function, *site, operands)?;
+    judge_ending_last(
+        alloc,
+        facts.judge,
+        &facts.value_types,
+        function,
+        number,
+        ending,
+        operands,
+    )
+}

@@ -1,6 +1,0 @@
-mod Told
-mod Counted
-mod Edged
-mod Agreed
-mod Scratched
-mod PhisTold

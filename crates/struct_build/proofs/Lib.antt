@@ -1,4 +1,0 @@
-pub mod Lessened
-pub mod Ended
-pub mod Partly
-pub mod Named

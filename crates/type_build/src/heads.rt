@@ -1,0 +1,37 @@
+//! What entries have in common.
+ghost use Rattle.std.specs.Prelude.{◌≡◌};
+ghost use Rattle.module_arena.specs.declared.fault.ArenaFault.{ArenaFault};
+ghost use Rattle.name_rules.specs.ModuleOf.{linkage_in};
+ghost use Rattle.name_rules.specs.Written.{alignment_in};
+ghost use Rattle.type_build.specs.Declarations.{IsShort};
+
+use crate::integers::index_of;
+use ir_tables::Linkage;
+use ir_terminals::Integer;
+use module_arena::ArenaFault;
+use std::alloc::AllocError;
+
+/// External where none is written.
+pub(crate) fn linkage_of(written: Option<Linkage>) -> Linkage
+    ensures { result ≡ linkage_in written }
+{
+    written.unwrap_or(Linkage::External)
+}
+
+/// The alignment, where one is written.
+pub(crate) fn alignment_of(written: &Option<Integer>) -> Option<u32>
+    requires { IsShort written.now }
+    ensures { result ≡ alignment_in written.now }
+{
+    match written {
+        Some(integer) => Some(index_of(integer)),
+        None => None,
+    }
+}
+
+/// The fault of an arena that takes the entry.
+pub(crate) fn out_of_memory(_fault: ArenaFault) -> AllocError
+    requires { _fault ≡ ArenaFault.Memory }
+{
+    AllocError
+}

@@ -1,2 +1,0 @@
-pub mod CalleesTold
-pub mod OperandsTold
