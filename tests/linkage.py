@@ -35,9 +35,6 @@ that conflict.
 import pathlib
 import sys
 
-# Whether `bind` and `places` are asked too, which the program does not answer yet.
-WITH_BIND = False
-
 CRATE = pathlib.Path(__file__).resolve().parent.parent / "crates" / "linkage_table"
 
 # Parts, each with what is asked of them: a question and the lines of its answer.
@@ -851,18 +848,11 @@ def content(text):
     return "".join(f"| {escaped(line)}\n" for line in lines[:-1]) + (f"+ {escaped(lines[-1])}\n" if lines[-1] else "")
 
 
-def is_asked(question):
-    """Whether the program answers the question."""
-    return WITH_BIND or question.split(" ")[0] not in ("bind", "places")
-
-
 def main():
     for rows in TABLES:
         rows()
-    asked_rows = [(parts, [(question, lines) for question, lines in asked if is_asked(question)]) for parts, asked in ROWS]
-    rows = [(parts, asked) for parts, asked in asked_rows if asked]
-    stdin = "".join("clear\n" + "".join("part\n" + content(part) for part in parts) + "".join(question + "\n" for question, _ in asked) for parts, asked in rows).encode()
-    stdout = "".join(f"> {question}\n" + "".join(line + "\n" for line in lines) for _, asked in rows for question, lines in asked).encode()
+    stdin = "".join("clear\n" + "".join("part\n" + content(part) for part in parts) + "".join(question + "\n" for question, _ in asked) for parts, asked in ROWS).encode()
+    stdout = "".join(f"> {question}\n" + "".join(line + "\n" for line in lines) for _, asked in ROWS for question, lines in asked).encode()
     if "--check" in sys.argv[1:]:
         sys.exit(0 if (CRATE / "stdin").read_bytes() == stdin and (CRATE / "stdout").read_bytes() == stdout else 1)
     (CRATE / "stdin").write_bytes(stdin)

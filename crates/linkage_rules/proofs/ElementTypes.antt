@@ -12,7 +12,7 @@ module _ (t : Types) (good : IsGood t) (ty : ℕ) (lt : ty < length t.types) whe
   at : (x : IrType) → slice_get t.types ty ≡ Some x → get_or t.types ty Void ≡ x
   at x h = same_Some (get_or t.types ty Void) x (sym (slice_get-get_or t.types ty Void lt) ∙ h)
 
-  tree_at : (x : IrType) → slice_get t.types ty ≡ Some x → tree t ty ≡ tree_of (names t) (trees t) x
+  pub tree_at : (x : IrType) → slice_get t.types ty ≡ Some x → tree t ty ≡ tree_of (names t) (trees t) x
   tree_at x h = tree-is t good ty lt ∙ ap (tree_of (names t) (trees t)) (at x h)
 
   pub element_known : (x : IrType) → slice_get t.types ty ≡ Some x → element_id ty x < length t.types

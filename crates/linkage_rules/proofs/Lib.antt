@@ -16,3 +16,4 @@ pub mod RowParts
 pub mod Rows
 pub mod AliasParts
 pub mod AliasRows
+pub mod KindsAmong

@@ -82,12 +82,12 @@ module _ (parts : List Module) where
       ∙ ap (map symbol_of) (filter_twice (λ d. same_kind wanted (kind_of parts (symbol_of d))) (λ d. not (is_alias_symbol parts (symbol_of d))) r (first_entries parts)
       (all_follow _ _ (first_entries parts) (λ d h. e d (begins d h)) (firsts_begin (entries parts))))
 
-  variables : filter (λ s. same_kind kind.Variable (kind_of parts s)) (firsts same_symbol (map symbol_of (entries parts))) ≡ variable_symbols parts
+  pub variables : filter (λ s. same_kind kind.Variable (kind_of parts s)) (firsts same_symbol (map symbol_of (entries parts))) ≡ variable_symbols parts
   variables =
       by_first kind.Variable (λ d. is_variable d.global)
       (λ d h. of_variable (is_alias_symbol parts (symbol_of d)) (begins_as_variable parts (symbol_of d)) ∙ ap (λ b. not (is_alias_symbol parts (symbol_of d)) && b) h)
 
-  functions : filter (λ s. same_kind kind.Function (kind_of parts s)) (firsts same_symbol (map symbol_of (entries parts))) ≡ function_symbols parts
+  pub functions : filter (λ s. same_kind kind.Function (kind_of parts s)) (firsts same_symbol (map symbol_of (entries parts))) ≡ function_symbols parts
   functions =
       by_first kind.Function (λ d. not (is_variable d.global))
       (λ d h. of_function (is_alias_symbol parts (symbol_of d)) (begins_as_variable parts (symbol_of d)) ∙ ap (λ b. not (is_alias_symbol parts (symbol_of d)) && not b) h)

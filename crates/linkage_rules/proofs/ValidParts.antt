@@ -108,7 +108,7 @@ module _ (a : Lists) where
   never_appends_alias valid n x h = same_appending x.linkage ∙ flipped (rules.is_appending x.linkage) (valid_alias (module_of a) n (alias_view (trees a.table) (name_at a) x) valid (module_alias n x h)).1.1.0
 
 module _ (parts : List Lists) (id : EntryId) (a : Lists) (there : slice_get parts id.part ≡ Some a) where
-  structs_are : structs_at (modules parts) id.part ≡ structs a.table
+  pub structs_are : structs_at (modules parts) id.part ≡ structs a.table
   structs_are =
       ap (λ (m : Module). m.structs) (index_is (modules parts) id.part (module_of a) empty_module (slice_get-map module_of parts id.part ∙ ap (option_map module_of) there))
       ∙ module_structs a

@@ -1,7 +1,7 @@
 //! The symbols of some parts, with their entries and where they are defined.
 ghost use Rattle.std.specs.Prelude.{◌≡◌, map, None, IfOk, IfErr};
 ghost use Rattle.linkage_rules.specs.Conflicts.{first_conflict};
-ghost use Rattle.linkage_rules.specs.Grouped.{AreGroups, AreHomes, group_in, home_in};
+ghost use Rattle.linkage_rules.specs.Grouped.{AreGroups, AreHomes, group_in, home_in, kind_of};
 ghost use Rattle.linkage_rules.specs.Ids.{modules};
 ghost use Rattle.linkage_rules.specs.Resolved.{IsFault};
 ghost use Rattle.linkage_rules.specs.Symbols.{symbols};
@@ -10,8 +10,8 @@ use crate::clash::refuse_conflict;
 use crate::gather::gathered;
 use crate::groups::{Groups, aliases_among, filed, group};
 use crate::homes::{home_of, homes};
-use crate::order::ordered;
-use crate::{EntryId, Symbol, SymbolFault, SymbolList};
+use crate::order::{kind_of, ordered};
+use crate::{EntryId, Symbol, SymbolFault, SymbolKind, SymbolList};
 use module_arena::Checked;
 use std::alloc::Global;
 use std::marker::Model;
@@ -57,6 +57,15 @@ impl Bindings {
         ensures { result ≡ home_in self.now.groups self.now.homes symbol.now }
     {
         home_of(&self.groups, &self.homes, symbol)
+    }
+
+    /// What a symbol is: an alias where it is defined by one, else what its first entry is.
+    pub fn kind(&self, parts: &[Checked], symbol: &Symbol) -> SymbolKind
+        requires groups { AreGroups parts.now self.now.groups }
+        requires homes { AreHomes parts.now (map (λ r. r.0) self.now.groups) self.now.homes }
+        ensures { result ≡ kind_of (modules parts.now) symbol.now }
+    {
+        kind_of(parts, &self.groups, &self.homes, symbol)
     }
 }
 

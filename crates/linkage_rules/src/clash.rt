@@ -54,8 +54,9 @@ fn element_id(own: TypeId, ty: &IrType) -> TypeId
     }
 }
 
-/// The type of the elements of a variable that is an array, and of any other its own type.
-fn element_of(arena: &Arena, number: u32) -> TypeId
+/// The type of the elements of a variable that is an array, and of any other its own type. The variable is told by its
+/// number, counted from 0.
+pub fn element_of(arena: &Arena, number: u32) -> TypeId
     requires { number < length arena.now.variables }
     ensures { IsElement arena.now number result }
 {

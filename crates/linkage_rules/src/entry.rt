@@ -149,7 +149,7 @@ pub fn name(parts: &[Checked], id: EntryId) -> &Name
 }
 
 /// Whether an entry is an alias, or has an initialiser or a body that counts.
-pub(crate) fn is_definition(parts: &[Checked], id: EntryId) -> bool
+pub fn is_definition(parts: &[Checked], id: EntryId) -> bool
     requires { IsEntryId parts.now id }
     ensures { result ≡ winner.is_definition (seen (modules parts.now) id) }
 {

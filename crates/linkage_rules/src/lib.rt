@@ -17,7 +17,8 @@ mod order;
 mod symbol;
 
 pub use bindings::{Bindings, resolve_symbols};
+pub use clash::element_of;
 pub use conflict::{ConflictKind, SymbolFault};
-pub use entry::{EntryId, EntryList, Head, arena_of, head_of, name};
+pub use entry::{EntryId, EntryList, Head, arena_of, head_of, is_definition, name};
 pub use gather::push_part;
 pub use symbol::{Symbol, SymbolKind, SymbolList};

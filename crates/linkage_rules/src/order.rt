@@ -52,7 +52,7 @@ fn kind_from(is_alias: bool, is_variable: bool) -> SymbolKind
 }
 
 /// What a symbol is: an alias where its home is one, else what its first entry is.
-fn kind_of(
+pub(crate) fn kind_of(
     parts: &[Checked],
     groups: &Groups,
     homes: &[Option<EntryId>],

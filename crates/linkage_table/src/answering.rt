@@ -1,22 +1,19 @@
 //! What is asked of parts, answered.
 
+ghost use Rattle.std.specs.Prelude.{◌≡◌, map};
+ghost use Rattle.linkage_rules.specs.Grouped.{AreGroups, AreHomes};
+ghost use Rattle.linkage_rules.specs.Ids.{modules};
+ghost use Rattle.linkage_rules.specs.Symbols.{symbols};
+
 use crate::lines::{number_of, parts, unescaped};
-use crate::telling::{add, add_escaped, add_number};
+use crate::meaning::add_meaning;
+use crate::placing::add_places;
+use crate::symbols::{add_name, add_part, add_symbol, kind_word};
+use crate::telling::{add, add_number};
 use ir_base::{Name, Text};
-use linkage_rules::{
-    Bindings, ConflictKind, EntryId, Symbol, SymbolFault, SymbolKind, resolve_symbols,
-};
+use linkage_rules::{Bindings, ConflictKind, EntryId, Symbol, SymbolFault, resolve_symbols};
 use module_arena::Checked;
 use std::alloc::{AllocError, Global};
-
-/// The word for a kind.
-fn kind_word(kind: SymbolKind) -> &'static str {
-    match kind {
-        SymbolKind::Variable => "variable",
-        SymbolKind::Function => "function",
-        SymbolKind::Alias => "alias",
-    }
-}
 
 /// The words for a kind of conflict.
 fn conflict_words(kind: ConflictKind) -> &'static str {
@@ -29,39 +26,10 @@ fn conflict_words(kind: ConflictKind) -> &'static str {
     }
 }
 
-/// Adds a name behind a mark.
-fn add_name(told: &mut Vec<u8>, name: &Name) -> Result<(), AllocError> {
-    add(told, " @")?;
-    add_escaped(told, name.text().bytes())
-}
-
-/// Adds which part something is of.
-fn add_part(told: &mut Vec<u8>, alloc: Global, part: u64) -> Result<(), AllocError> {
-    add(told, " of part ")?;
-    add_number(told, alloc, part)
-}
-
-/// The word for what a symbol is: an alias where its home is one, else what its first entry is.
-fn symbol_word(bindings: &Bindings, symbol: &Symbol) -> &'static str {
-    if let Some(home) = bindings.home(symbol) {
-        if matches!(home.kind, SymbolKind::Alias) {
-            return "alias";
-        }
-    }
-    match bindings.entries(symbol).first() {
-        Some(entry) => kind_word(entry.kind),
-        None => "nothing",
-    }
-}
-
 /// Adds a line for each symbol.
 fn add_symbols(told: &mut Vec<u8>, alloc: Global, bindings: &Bindings) -> Result<(), AllocError> {
     for symbol in bindings.symbols().as_slice() {
-        add(told, symbol_word(bindings, symbol))?;
-        add_name(told, symbol.name())?;
-        if let Symbol::Local(part, _) = symbol {
-            add_part(told, alloc, *part)?;
-        }
+        add_symbol(told, alloc, bindings, symbol)?;
         add(told, "\n")?;
     }
     Ok(())
@@ -92,31 +60,50 @@ fn name_of(alloc: Global, spelled: &[u8]) -> Result<Option<Name>, AllocError> {
     Ok(Name::from_text(text).ok())
 }
 
+/// Adds what is told of a name of a part.
+fn add_name_told(
+    told: &mut Vec<u8>,
+    alloc: Global,
+    linked: &[Checked],
+    bindings: &Bindings,
+    question: &[u8],
+) -> Result<(), AllocError>
+    requires groups { AreGroups linked.now bindings.now.groups }
+    requires homes { AreHomes linked.now (map (λ r. r.0) bindings.now.groups) bindings.now.homes }
+{
+    let (key, rest) = parts(question);
+    let (part, spelled) = parts(rest);
+    let part = number_of(part);
+    match (key, name_of(alloc, spelled)?) {
+        (b"bind", Some(name)) => add_meaning(told, alloc, linked, bindings, part, &name),
+        (b"bind", None) => add(told, "no entry\n"),
+        (_, Some(name)) => add_home(told, alloc, bindings, &Symbol::Local(part, name)),
+        (_, None) => add(told, "no symbol\n"),
+    }
+}
+
 /// Adds the answer to a question where the parts are in no conflict.
 fn add_told(
     told: &mut Vec<u8>,
     alloc: Global,
+    linked: &[Checked],
     bindings: &Bindings,
     question: &[u8],
-) -> Result<(), AllocError> {
+) -> Result<(), AllocError>
+    requires groups { AreGroups linked.now bindings.now.groups }
+    requires homes { AreHomes linked.now (map (λ r. r.0) bindings.now.groups) bindings.now.homes }
+    requires symbols { bindings.now.symbols ≡ symbols (modules linked.now) }
+{
     let (key, rest) = parts(question);
     match key {
         b"conflict" => add(told, "none\n"),
         b"symbols" => add_symbols(told, alloc, bindings),
+        b"places" => add_places(told, alloc, linked, bindings),
         b"home" => match name_of(alloc, rest)? {
             Some(name) => add_home(told, alloc, bindings, &Symbol::Shared(name)),
             None => add(told, "no symbol\n"),
         },
-        _ => {
-            let (part, spelled) = parts(rest);
-            match name_of(alloc, spelled)? {
-                Some(name) => {
-                    let symbol = Symbol::Local(number_of(part), name);
-                    add_home(told, alloc, bindings, &symbol)
-                }
-                None => add(told, "no symbol\n"),
-            }
-        }
+        _ => add_name_told(told, alloc, linked, bindings, question),
     }
 }
 
@@ -147,7 +134,7 @@ pub(crate) fn add_answer(
     question: &[u8],
 ) -> Result<(), AllocError> {
     match resolve_symbols(alloc, parts) {
-        Ok(bindings) => add_told(told, alloc, &bindings, question),
+        Ok(bindings) => add_told(told, alloc, parts, &bindings, question),
         Err(SymbolFault::Conflict(kind, name, one, other)) => {
             add_conflict(told, alloc, kind, &name, (one, other))
         }

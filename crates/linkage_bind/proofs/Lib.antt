@@ -1,4 +1,0 @@
-pub mod SymbolNamed
-pub mod Targets
-pub mod AtHome
-pub mod PartNames

@@ -1,0 +1,9 @@
+pub mod SymbolNamed
+pub mod Targets
+pub mod AtHome
+pub mod PartNames
+pub mod VariableExtents
+pub mod Joined
+pub mod RoomAtHome
+pub mod Placing
+pub mod Told

@@ -1,0 +1,21 @@
+//! What names mean, and where symbols stand, when several parts are linked, or run together.
+//!
+//! It stands on `ir_base`, `ir_tables`, `type_table`, `module_arena`, `linkage_rules` and `indexmap`. It promises that each
+//! name of each part is told exactly what it means, through aliases, and no other name anything; and of each symbol that is
+//! defined its size, alignment and address, of commons and appended arrays those of all parts together. Definitions:
+//! `specs/Meanings` and `specs/Places`, and `Bind` and `Place` of `linkage_rules`.
+#![tactic(auto)]
+
+mod absent;
+mod bound;
+mod extent;
+mod meaning;
+mod names;
+mod room;
+mod standing;
+
+pub use bound::Bound;
+pub use meaning::symbol_behind;
+pub use names::{Meanings, bind_names};
+pub use room::{Room, room_of};
+pub use standing::{Placed, PlacedList, Places, function_address, place_symbols};

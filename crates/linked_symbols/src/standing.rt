@@ -1,0 +1,173 @@
+//! Where variables and functions stand.
+ghost use Rattle.std.specs.Prelude.{◌≡◌, ◌+◌, filter, map, IfOk};
+ghost use Rattle.std.specs.Int.{next_multiple_of};
+ghost use Rattle.std.specs.Option.{option_map};
+ghost use Rattle.linkage_rules.specs.Grouped.{AreGroups, AreHomes, kind_of, same_kind};
+ghost use Rattle.linkage_rules.specs.Ids.{modules};
+ghost use Rattle.linkage_rules.specs.Place as place;
+ghost use Rattle.linkage_rules.specs.Symbols.{symbols};
+ghost use Rattle.linked_symbols.specs.Places.{ArePlaced, ArePlaces, clamped, room_told, rows_among, variable_room};
+
+use crate::Room;
+use crate::room::room_of;
+use ir_base::ItemList;
+use linkage_rules::{Bindings, Symbol, SymbolKind, SymbolList};
+use module_arena::Checked;
+use std::alloc::{AllocError, Global};
+use std::marker::Model;
+
+/// A variable that lies in memory.
+#[derive(Drop)]
+pub struct Placed {
+    /// What it is.
+    pub symbol: Symbol,
+    /// What it needs.
+    pub room: Room,
+    /// Its first byte; 2^64 - 1 where it lies further on.
+    pub address: u64,
+}
+
+/// The variables that lie in memory, in the order of symbols.
+pub type PlacedList = ItemList<Placed>;
+
+/// The variables that lie in memory, and the functions, each in the order of symbols.
+#[derive(Drop)]
+pub struct Places {
+    variables: PlacedList,
+    functions: SymbolList,
+}
+
+impl Model for Places {
+    ghost use Rattle.linked_symbols.specs.Places.{PlacesTold};
+
+    ghost Value = { PlacesTold };
+
+    ghost view = { λ p. record { variables = p.variables; functions = p.functions } };
+}
+
+impl Places {
+    /// The variables that are defined, with their rooms and addresses, in the order of symbols.
+    pub fn variables(&self) -> &PlacedList
+        ensures { result.now ≡ self.now.variables }
+    {
+        &self.variables
+    }
+
+    /// The function symbols in their order. The number of each, counted from 0, gives its address by `function_address`.
+    pub fn functions(&self) -> &SymbolList
+        ensures { result.now ≡ self.now.functions }
+    {
+        &self.functions
+    }
+}
+
+/// The address of the function symbol with that number, counted from 0: 16 bytes behind the one before, the first at 2^62;
+/// 2^64 - 1 where it is more.
+pub fn function_address(number: u64) -> u64
+    ensures { result ≡ clamped (place.function_address number) }
+{
+    number.saturating_mul(16).saturating_add(1 << 62)
+}
+
+/// A number rounded up to a multiple of an alignment; 2^64 - 1 where it is more.
+fn rounded(number: u64, alignment: u32) -> u64
+    ensures { result ≡ clamped (next_multiple_of number alignment) }
+{
+    // Each number is a multiple of no alignment.
+    if alignment == 0 {
+        return number;
+    }
+    match number.checked_next_multiple_of(alignment as u64) {
+        Some(multiple) => multiple,
+        None => u64::MAX,
+    }
+}
+
+/// Where the next variable can lie: 16 bytes behind one of that many bytes; 2^64 - 1 where it is more.
+fn next_behind(address: u64, size: u64) -> u64
+    ensures { result ≡ clamped (address + size + 16) }
+{
+    address.saturating_add(size).saturating_add(16)
+}
+
+/// What a variable needs in memory; None where the symbol is no variable, or no part defines it.
+fn variable_room(parts: &[Checked], bindings: &Bindings, symbol: &Symbol) -> Option<Room>
+    requires groups { AreGroups parts.now bindings.now.groups }
+    requires homes { AreHomes parts.now (map (λ r. r.0) bindings.now.groups) bindings.now.homes }
+    ensures { result ≡ option_map room_told (variable_room (modules parts.now) symbol.now) }
+{
+    match bindings.kind(parts, symbol) {
+        SymbolKind::Variable => room_of(parts, bindings, symbol),
+        SymbolKind::Function | SymbolKind::Alias => None,
+    }
+}
+
+/// Those of some symbols that are variables and defined, from address 65,536 on.
+fn placed_variables(
+    alloc: Global,
+    parts: &[Checked],
+    bindings: &Bindings,
+    symbols: &[Symbol],
+) -> Result<PlacedList, AllocError>
+    requires groups { AreGroups parts.now bindings.now.groups }
+    requires homes { AreHomes parts.now (map (λ r. r.0) bindings.now.groups) bindings.now.homes }
+    ensures { IfOk result (ArePlaced (rows_among (modules parts.now) symbols.now)) }
+{
+    let mut variables = ItemList::new(alloc);
+    let mut next = 65_536;
+    for symbol in symbols {
+        if let Some(room) = variable_room(parts, bindings, symbol) {
+            let address = rounded(next, room.alignment);
+            next = next_behind(address, room.size);
+            let symbol = symbol.copy(alloc)?;
+            variables.push(Placed {
+                symbol,
+                room,
+                address,
+            })?;
+        }
+    }
+    Ok(variables)
+}
+
+/// Those of some symbols that are functions.
+fn functions_among(
+    alloc: Global,
+    parts: &[Checked],
+    bindings: &Bindings,
+    symbols: &[Symbol],
+) -> Result<SymbolList, AllocError>
+    requires groups { AreGroups parts.now bindings.now.groups }
+    requires homes { AreHomes parts.now (map (λ r. r.0) bindings.now.groups) bindings.now.homes }
+    ensures { IfOk result (λ functions. functions ≡ filter (λ s. same_kind SymbolKind.Function (kind_of (modules parts.now) s)) symbols.now) }
+{
+    let mut functions = ItemList::new(alloc);
+    for symbol in symbols {
+        if matches!(bindings.kind(parts, symbol), SymbolKind::Function) {
+            functions.push(symbol.copy(alloc)?)?;
+        }
+    }
+    Ok(functions)
+}
+
+/// Where the variables and functions of parts stand whose symbols are resolved: variables that are defined from address
+/// 65,536 on, each at the next multiple of its alignment and 16 bytes behind the one before, and functions by number. It is
+/// refused for want of memory alone (LangRef, "Linkage Types").
+pub fn place_symbols(
+    alloc: Global,
+    parts: &[Checked],
+    bindings: &Bindings,
+) -> Result<Places, AllocError>
+    requires groups { AreGroups parts.now bindings.now.groups }
+    requires homes { AreHomes parts.now (map (λ r. r.0) bindings.now.groups) bindings.now.homes }
+    requires symbols { bindings.now.symbols ≡ symbols (modules parts.now) }
+    ensures { IfOk result (ArePlaces (modules parts.now)) }
+{
+    let symbols = bindings.symbols().as_slice();
+    let variables = placed_variables(alloc, parts, bindings, symbols)?;
+    let functions = functions_among(alloc, parts, bindings, symbols)?;
+    Ok(Places {
+        variables,
+        functions,
+    })
+}
