@@ -2,6 +2,8 @@ pub mod Lines
 pub mod Numerals
 pub mod Contents
 pub mod Turns
+pub mod Delivered
+pub mod Linked
 pub mod Works
 pub mod Outcomes
 pub mod Judging

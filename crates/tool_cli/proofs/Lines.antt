@@ -1,5 +1,5 @@
 -- Lines whose text stands before a line feed.
-use Rattle.std.proofs.Common.{◌≡◌, ℕ, List, [], ◌∷◌, ◌++◌, Option, refl, sym, ap, ◌∙◌, append_assoc}
+use Rattle.std.proofs.Common.{◌≡◌, ℕ, List, [], ◌∷◌, ◌++◌, Option, sym, ap, ◌∙◌, append_assoc}
 use Rattle.ir_base.specs.Outside.{Wrote}
 
 -- what stands behind a piece stands behind all

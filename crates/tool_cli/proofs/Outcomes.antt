@@ -1,16 +1,18 @@
 -- The end of a run, by its words and by what its inputs give.
-use Rattle.std.proofs.Common.{◌≡◌, ◌⊎◌, inl, inr, ℕ, List, Result, Ok, Err, refl, ap, ◌∙◌, subst}
-use Rattle.std.proofs.Common.{Option}
+use Rattle.std.proofs.Common.{◌≡◌, ◌⊎◌, inl, inr, ℕ, List, Option, Result, Ok, Err, refl, sym, ap, ◌∙◌, subst}
 use Rattle.std.specs.Prelude.{IsErrAnd}
 use Rattle.std.specs.List.{IsAmong}
 use Rattle.ir_base.specs.Files.{Named}
 use Rattle.command_line.specs.declared.command.Command.{Command}
+use Rattle.command_line.specs.declared.command.OutputName.{OutputName}
 use Rattle.command_line.specs.Commands.{IsReadAs}
+use Rattle.tool_output.specs.Outputs.{Outputs}
 use Rattle.tool_cli.specs.declared.ended.Ended.{Ended}
 use Rattle.tool_cli.specs.declared.ended.Ended.TheVariants.{CannotRead, InputTooLarge}
 use Rattle.tool_cli.specs.Inputs.{inputs_of, inputs_behind, inputs_named, texts_read}
-use Rattle.tool_cli.specs.Causes.{GaveUp, IsUnwritten, Stopped, IsUnread, IsPassed, RefusesOne}
-use Rattle.tool_cli.specs.Analyzed.{is_analysis, is_analysis_behind, analyzes, IsWritten, IsWrittenOf, IsShown}
+use Rattle.tool_cli.specs.Causes.{GaveUp, Stopped, IsUnread, IsPassed, RefusesOne}
+use Rattle.tool_cli.specs.Analyzed.{is_analysis, is_analysis_behind, analyzes}
+use Rattle.tool_cli.specs.Output.{output_of, output_behind, output_named, FailsToWrite, IsWritten, IsWrittenOf, IsShown}
 use Rattle.tool_cli.specs.Told.{IsWork, IsOutcome, IsTold}
 
 pub inputs_are : (words : List (List ℕ)) (command : Command) → IsReadAs words command → inputs_named words ≡ inputs_of command
@@ -22,14 +24,20 @@ outcome command names held stdin given ended are e is =
     let P : Result (List (List ℕ)) Ended → Type 0 = λ r. IsOutcome command r ended in
     subst P (e ∙ ap (λ ns. texts_read held stdin 0 ns) are) is
 
-pub told_ok : (words : List (List ℕ)) (command : Command) (names texts : List (List ℕ)) (held : Named) (stdin : List ℕ) (ended : Ended) (i f o : Type 0) → IsReadAs words command → names ≡ inputs_of command → (Ok texts ≡ texts_read held stdin 0 names) ⊎ IsErrAnd {T = List (List ℕ)} (Ok texts) (GaveUp i f) → IsWork command texts ended ⊎ IsUnwritten o ended → IsTold words held stdin ended ⊎ Stopped i f o ended
-told_ok words command names texts held stdin ended i f o read are (inl e) (inl work) = inl (inr (command, read, outcome command names held stdin (Ok texts) ended are e work))
-told_ok words command names texts held stdin ended i f o read are (inr never) work = absurd never
-told_ok words command names texts held stdin ended i f o read are (inl e) (inr stopped) = inr (inr stopped)
+pub output_is : (words : List (List ℕ)) (command : Command) → IsReadAs words command → output_named words ≡ output_of command
+unfolding output_named
+output_is words command read = ap output_behind read.is
 
-pub told_err : (words : List (List ℕ)) (command : Command) (names : List (List ℕ)) (held : Named) (stdin : List ℕ) (ended : Ended) (i f o : Type 0) → IsReadAs words command → names ≡ inputs_of command → (Err ended ≡ texts_read held stdin 0 names) ⊎ GaveUp i f ended → IsTold words held stdin ended ⊎ Stopped i f o ended
-told_err words command names held stdin ended i f o read are (inl e) = inl (inr (command, read, outcome command names held stdin (Err ended) ended are e refl))
-told_err words command names held stdin ended i f o read are (inr gave_up) = inr (inl gave_up)
+-- `i` and `f` say what rose before the texts were there, `f'` and `w` what rose in all
+pub told_ok : (words : List (List ℕ)) (command : Command) (names texts : List (List ℕ)) (held : Named) (stdin : List ℕ) (ended : Ended) (i f f' o w : Type 0) → IsReadAs words command → names ≡ inputs_of command → (Ok texts ≡ texts_read held stdin 0 names) ⊎ IsErrAnd {T = List (List ℕ)} (Ok texts) (GaveUp i f) → IsWork command texts ended ⊎ FailsToWrite (output_of command) o w ended → IsTold words held stdin ended ⊎ Stopped (output_named words) i f' o w ended
+told_ok words command names texts held stdin ended i f f' o w read are (inl e) (inl work) = inl (inr (command, read, outcome command names held stdin (Ok texts) ended are e work))
+told_ok words command names texts held stdin ended i f f' o w read are (inr never) work = absurd never
+told_ok words command names texts held stdin ended i f f' o w read are (inl e) (inr stopped) =
+    inr (inr (subst (λ (output : Option OutputName). FailsToWrite output o w ended) (sym (output_is words command read)) stopped))
+
+pub told_err : (words : List (List ℕ)) (command : Command) (names : List (List ℕ)) (held : Named) (stdin : List ℕ) (ended : Ended) (i f o w : Type 0) → IsReadAs words command → names ≡ inputs_of command → (Err ended ≡ texts_read held stdin 0 names) ⊎ GaveUp i f ended → IsTold words held stdin ended ⊎ Stopped (output_named words) i f o w ended
+told_err words command names held stdin ended i f o w read are (inl e) = inl (inr (command, read, outcome command names held stdin (Err ended) ended are e refl))
+told_err words command names held stdin ended i f o w read are (inr gave_up) = inr (inl gave_up)
 
 pub cause_of_unread : (named names : List (List ℕ)) (contents : Option Named) (left : Option (List ℕ)) (i f : Type 0) (ended : Ended) → named ≡ names → RefusesOne contents left i f names ended → (name : List ℕ) → ended ≡ CannotRead name → IsAmong named name × IsUnread contents i f name
 cause_of_unread named names contents left i f ended same why name e = rw same (rw e at why)
@@ -49,7 +57,7 @@ given_ok : (given : Result (List (List ℕ)) Ended) (i f : Type 0) (texts : List
 given_ok given i f texts (inl e) = e
 given_ok given i f texts (inr never) = absurd never
 
-pub shown_ok : (words : List (List ℕ)) (command : Command) (names texts : List (List ℕ)) (held : Named) (stdin : List ℕ) (before now : Option (List ℕ)) (ended : Ended) (i f : Type 0) → IsReadAs words command → names ≡ inputs_of command → (Ok texts ≡ texts_read held stdin 0 names) ⊎ IsErrAnd {T = List (List ℕ)} (Ok texts) (GaveUp i f) → IsWritten command texts before now ended → IsShown words held stdin before now ended
+pub shown_ok : (words : List (List ℕ)) (command : Command) (names texts : List (List ℕ)) (held : Named) (stdin : List ℕ) (before now : Outputs) (ended : Ended) (i f : Type 0) → IsReadAs words command → names ≡ inputs_of command → (Ok texts ≡ texts_read held stdin 0 names) ⊎ IsErrAnd {T = List (List ℕ)} (Ok texts) (GaveUp i f) → IsWritten command texts before now ended → IsShown words held stdin before now ended
 shown_ok words command names texts held stdin before now ended i f read are given written = λ other read_other.
     let P : Result (List (List ℕ)) Ended → Type 0 = λ r. IsWrittenOf command r before now ended in
     let Q : Command → Type 0 = λ c. IsWrittenOf c (texts_read held stdin 0 (inputs_of c)) before now ended in

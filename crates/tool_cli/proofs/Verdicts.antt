@@ -1,11 +1,12 @@
 -- The module of a text, judged.
-use Rattle.std.proofs.Common.{◌≡◌, ◌⊎◌, inl, inr, ℕ, suc, ◌<◌, nat_lt, Bool, true, false, List, [], ◌∷◌, get_or, Err, refl, arith}
+use Rattle.std.proofs.Common.{◌≡◌, ◌⊎◌, inl, inr, ℕ, suc, ◌<◌, nat_lt, Bool, true, false, List, [], ◌∷◌, get_or, Err, refl, sym, ap, ◌∙◌, arith}
 use Rattle.std.proofs.lemmas.Bool.{ltb-false}
 use Rattle.ir_syntax.specs.Answers.{HasItems}
 use Rattle.ir_syntax.specs.Tree.{ItemTree}
 use Rattle.module_arena.specs.Module.{Module}
 use Rattle.module_arena.specs.Names.{are_bytes}
-use Rattle.name_rules.specs.Reads.{Resolves}
+use Rattle.name_rules.specs.ModuleOf.{module_of_items}
+use Rattle.name_rules.specs.Reads.{Reads, Resolves}
 use Rattle.type_verify.specs.declared.fault.VerifyFault.{VerifyFault}
 use Rattle.type_verify.specs.declared.fault.VerifyFault.TheVariants as verdicts
 use Rattle.path_verify.specs.Verified.{Verifies}
@@ -33,3 +34,7 @@ refused_so name text items m (verdicts.FunctionTooLarge function size) ended has
     inl (inr (inr (record { items = items; has_items = has; meant = m; resolves = resolves; fault = verdicts.FunctionTooLarge function size; refused = refused; told = told })))
 refused_so name text items m (verdicts.Invalid rule entity) ended has resolves refused (inl told) =
     inl (inr (inr (record { items = items; has_items = has; meant = m; resolves = resolves; fault = verdicts.Invalid rule entity; refused = refused; told = told })))
+
+-- a text that has no other items has no other module
+pub only_module : (text : List ℕ) (items : List ItemTree) (meant : Module) → ((others : List ItemTree) → HasItems text others → others ≡ items) → Resolves items meant → (m : Module) → Reads text m → m ≡ meant
+only_module text items meant only resolves m reads = reads.resolves.joined ∙ ap module_of_items (only reads.items reads.has_items) ∙ sym resolves.joined

@@ -1,17 +1,28 @@
 -- The work on one text.
-use Rattle.std.proofs.Common.{◌≡◌, ◌⊎◌, inl, inr, ℕ, Bool, true, false, List, [], ◌∷◌, length, Option, Some, Result, Ok, Err, sym, ap, ◌∙◌, arith}
+use Rattle.std.proofs.Common.{◌≡◌, ◌⊎◌, inl, inr, ℕ, Bool, true, false, List, [], ◌∷◌, length, codes, Option, Some, None, Result, Ok, Err, refl, ap, subst, arith}
 use Rattle.std.specs.Prelude.{slice_get}
 use Rattle.ir_base.specs.Files.{Named}
 use Rattle.command_line.specs.declared.command.Command.{Command}
-use Rattle.command_line.specs.declared.command.Command.TheVariants.{Lli, Analyze}
+use Rattle.command_line.specs.declared.command.Command.TheVariants.{Assemble, Link, Extract, Lli, Analyze}
+use Rattle.command_line.specs.declared.command.OutputName.{OutputName}
+use Rattle.command_line.specs.declared.command.OutputName.TheVariants.{Standard}
+use Rattle.command_line.specs.declared.command.Selection.{Selection}
+use Rattle.bit_dump.specs.Text.{dump_text}
+use Rattle.ir_syntax.specs.Small.{straight}
+use Rattle.ir_syntax.specs.Tree.{ItemTree}
+use Rattle.module_arena.specs.Module.{Module}
+use Rattle.tool_output.specs.Outputs.{Outputs, outputs}
 use Rattle.tool_cli.specs.declared.ended.Ended.{Ended}
-use Rattle.tool_cli.specs.declared.ended.Ended.TheVariants.{Usage, CannotRead, CannotWrite, InputTooLarge, Memory}
+use Rattle.tool_cli.specs.declared.ended.Ended.TheVariants.{Usage, CannotRead, CannotWrite, InputTooLarge, NotBuilt, Memory}
 use Rattle.tool_cli.specs.declared.ended.Ended.TheVariants as ends
 use Rattle.tool_cli.specs.Inputs.{inputs_of}
-use Rattle.tool_cli.specs.Causes.{IsUnwritten, RefusesOne}
-use Rattle.tool_cli.specs.Analyzed.{is_analysis, IsAnalysis, IsDumped, IsWritten, IsWrittenOf, IsBeforeWork}
-use Rattle.tool_cli.specs.Judged.{IsTextRefused}
-use Rattle.tool_cli.specs.Told.{IsRun, IsTextRun, IsWork, IsOfTexts, IsOfWork}
+use Rattle.tool_cli.specs.Causes.{RefusesOne}
+use Rattle.tool_cli.specs.Analyzed.{IsAnalysis, IsDumped, IsBeforeWork}
+use Rattle.tool_cli.specs.Made.{IsResult}
+use Rattle.tool_cli.specs.Output.{output_of, IsUnwritten, FailsToWrite, IsWritten, IsWrittenOf}
+use Rattle.tool_cli.specs.Judged.{IsTextRefused, IsTextOf, IsFirstRefusal}
+use Rattle.tool_cli.specs.Told.{items_end, IsRun, IsTextRun, IsWithoutResult, IsJudgement, IsWork, IsOfTexts, IsOfWork}
+use Rattle.tool_cli.proofs.Delivered.{fails_wider}
 
 some_same : {a b : List ℕ} → Some a ≡ Some b → a ≡ b
 some_same e = cc
@@ -31,42 +42,89 @@ one_stream input dump [] bytes ended one first told = absurd (omega (arith, one)
 one_stream input dump (t ∷ []) bytes ended one first told = rw (some_same first) told
 one_stream input dump (t ∷ u ∷ texts) bytes ended one first told = absurd (omega (arith, one))
 
-pub analysis_work : (command : Command) (input : List ℕ) (dump : Bool) (texts : List (List ℕ)) (bytes : List ℕ) (rose : Type 0) (ended : Ended) → command ≡ Analyze input dump → length texts ≡ length (inputs_of command) → slice_get texts 0 ≡ Some bytes → IsAnalysis input bytes ended ⊎ IsUnwritten rose ended → IsWork command texts ended ⊎ IsUnwritten rose ended
-analysis_work command input dump texts bytes rose ended is count first (inl told) =
+pub analysis_work : (command : Command) (input : List ℕ) (dump : Bool) (texts : List (List ℕ)) (bytes : List ℕ) (o w : Type 0) (ended : Ended) → command ≡ Analyze input dump → length texts ≡ length (inputs_of command) → slice_get texts 0 ≡ Some bytes → IsAnalysis input bytes ended ⊎ FailsToWrite (Some Standard) o ⊥ ended → IsWork command texts ended ⊎ FailsToWrite (output_of command) o w ended
+analysis_work command input dump texts bytes o w ended is count first (inl told) =
     inl (rw is (one_stream input dump texts bytes ended (rw is at count) first told))
-analysis_work command input dump texts bytes rose ended is count first (inr stopped) = inr stopped
+analysis_work command input dump texts bytes o w ended is count first (inr stopped) =
+    inr (rw is (fails_wider (Some Standard) o o ⊥ w ended (λ x. x) (λ x. absurd x) stopped))
 
-one_dumped : (input : List ℕ) (dump : Bool) (texts : List (List ℕ)) (bytes : List ℕ) (before now : Option (List ℕ)) (ended : Ended) → length texts ≡ 1 → slice_get texts 0 ≡ Some bytes → IsDumped bytes dump before now ended → IsWritten (Analyze input dump) texts before now ended
-one_dumped input dump [] bytes before now ended one first shown = absurd (omega (arith, one))
-one_dumped input dump (t ∷ []) bytes before now ended one first shown = rw (some_same first) shown
-one_dumped input dump (t ∷ u ∷ texts) bytes before now ended one first shown = absurd (omega (arith, one))
+-- what was told of a stream, and nothing else
+dumped_written : (input bytes : List ℕ) (dump : Bool) (taken taken_now : Option (List ℕ)) (contents : Option Named) (ended : Ended) → IsDumped bytes dump taken taken_now ended → IsWritten (Analyze input dump) (bytes ∷ []) (outputs taken contents) (outputs taken_now contents) ended
+dumped_written input bytes dump taken taken_now contents ends.Ok told = (dump_text told.0 dump, (told.0, told.1, refl), (told.2, refl))
+dumped_written input bytes dump taken taken_now contents (CannotWrite name) front = (dump_text front.tree dump, (front.tree, front.stream, refl), ((front.count, front.added), refl))
+dumped_written input bytes dump taken taken_now contents Memory (inl same) = inl (ap (λ (t : Option (List ℕ)). outputs t contents) same)
+dumped_written input bytes dump taken taken_now contents Memory (inr front) = inr (refl, (dump_text front.tree dump, (front.tree, front.stream, refl), ((front.count, front.added), refl)))
+dumped_written input bytes dump taken taken_now contents ended same = ap (λ (t : Option (List ℕ)). outputs t contents) same
 
-pub analysis_written : (command : Command) (input : List ℕ) (dump : Bool) (texts : List (List ℕ)) (bytes : List ℕ) (before now : Option (List ℕ)) (ended : Ended) → command ≡ Analyze input dump → length texts ≡ length (inputs_of command) → slice_get texts 0 ≡ Some bytes → IsDumped bytes dump before now ended → IsWritten command texts before now ended
-analysis_written command input dump texts bytes before now ended is count first shown =
-    rw is (one_dumped input dump texts bytes before now ended (rw is at count) first shown)
+one_dumped : (input : List ℕ) (dump : Bool) (texts : List (List ℕ)) (bytes : List ℕ) (taken taken_now : Option (List ℕ)) (contents : Option Named) (ended : Ended) → length texts ≡ 1 → slice_get texts 0 ≡ Some bytes → IsDumped bytes dump taken taken_now ended → IsWritten (Analyze input dump) texts (outputs taken contents) (outputs taken_now contents) ended
+one_dumped input dump [] bytes taken taken_now contents ended one first shown = absurd (omega (arith, one))
+one_dumped input dump (t ∷ []) bytes taken taken_now contents ended one first shown = rw (some_same first) (dumped_written input bytes dump taken taken_now contents ended shown)
+one_dumped input dump (t ∷ u ∷ texts) bytes taken taken_now contents ended one first shown = absurd (omega (arith, one))
 
-pub no_analysis : (command : Command) (input : List ℕ) (dump : Bool) → command ≡ Analyze input dump → is_analysis command ≡ false → ⊥
-no_analysis command input dump is none = (let h : true ≡ false = sym (ap is_analysis is) ∙ none in cc)
+pub analysis_written : (command : Command) (input : List ℕ) (dump : Bool) (texts : List (List ℕ)) (bytes : List ℕ) (taken taken_now : Option (List ℕ)) (contents : Option Named) (ended : Ended) → command ≡ Analyze input dump → length texts ≡ length (inputs_of command) → slice_get texts 0 ≡ Some bytes → IsDumped bytes dump taken taken_now ended → IsWritten command texts (outputs taken contents) (outputs taken_now contents) ended
+analysis_written command input dump texts bytes taken taken_now contents ended is count first shown =
+    rw is (one_dumped input dump texts bytes taken taken_now contents ended (rw is at count) first shown)
+
+-- standard output could not be written, or memory ran out, and nothing else
+pub analysis_cause : (command : Command) (input : List ℕ) (dump : Bool) (o w : Type 0) (name : List ℕ) → command ≡ Analyze input dump → (name ≡ codes "-") × o → IsUnwritten (output_of command) o w name
+analysis_cause command input dump o w name is cause = rw is cause
 
 pub text_refused : (name : List ℕ) (bound : ℕ) (text : List ℕ) (ended : Ended) → IsTextRefused name text ended ⊎ (ended ≡ Memory) → IsTextRun name bound text ended ⊎ (ended ≡ Memory)
 text_refused name bound text ended (inl refused) = inl (inl refused)
 text_refused name bound text ended (inr none) = inr none
 
+-- what `lli` makes of a text that is accepted
+pub text_run : (name : List ℕ) (bound : ℕ) (text : List ℕ) (items : List ItemTree) (m : Module) (ended : Ended) → IsTextOf text items m → (ended ≡ items_end bound (straight items)) ⊎ (ended ≡ Memory) → IsTextRun name bound text ended ⊎ (ended ≡ Memory)
+text_run name bound text items m ended is (inl run) = inl (inr (items, (is.has_items, (m, is.accepted)), run))
+text_run name bound text items m ended is (inr none) = inr none
+
 -- The work that writes nothing.
 
-pub silent_stops : (command : Command) (texts : List (List ℕ)) (rose : Type 0) (ended : Ended) → IsWork command texts ended ⊎ (ended ≡ Memory) → IsWork command texts ended ⊎ IsUnwritten rose ended
-silent_stops command texts rose ended (inl work) = inl work
-silent_stops command texts rose ended (inr none) = inr (rw none tt)
+-- a command that nothing is to be written for
+pub no_output : (command : Command) → ((input : List ℕ) (dump : Bool) → command ≡ Analyze input dump → ⊥) → ((inputs : List (List ℕ)) (output : OutputName) (text : Bool) → command ≡ Link inputs output text → ⊥) → output_of command ≡ None
+no_output (Analyze input dump) analysis link = absurd (analysis input dump refl)
+no_output (Link inputs output text) analysis link = absurd (link inputs output text refl)
+no_output command analysis link = refl
 
-pub silent_written : (command : Command) (texts : List (List ℕ)) (before now : Option (List ℕ)) (ended : Ended) → is_analysis command ≡ false → now ≡ before → IsWritten command texts before now ended
-silent_written (Analyze input dump) texts before now ended none same = absurd (let h = none in cc)
-silent_written command texts before now ended none same = same
+pub bitcode_output : (command : Command) (inputs : List (List ℕ)) (output : OutputName) (text : Bool) → command ≡ Link inputs output text → text ≡ false → output_of command ≡ None
+bitcode_output command inputs output text is bitcode = rw (is, bitcode) refl
+
+-- has no result
+no_result : (command : Command) (texts : List (List ℕ)) → output_of command ≡ None → (bytes : List ℕ) → IsResult command texts bytes → ⊥
+no_result (Link inputs output true) texts none bytes r = absurd cc
+no_result (Link inputs output false) texts none bytes r = r
+no_result (Analyze input dump) texts none bytes r = absurd cc
+no_result command texts none bytes r = r
+
+pub unbuilt : (command : Command) (texts : List (List ℕ)) → output_of command ≡ None → IsWithoutResult command texts NotBuilt
+unbuilt command texts none = (no_result command texts none, refl)
+
+-- a command that judges its inputs
+abbrev pub Judges : Command → Type 0
+Judges command =
+    ((input : List ℕ) × (output : OutputName) × (command ≡ Assemble input output))
+    ⊎ (((inputs : List (List ℕ)) × (output : OutputName) × (text : Bool) × (command ≡ Link inputs output text))
+    ⊎ ((input : List ℕ) × (output : OutputName) × (text : Bool) × (selection : Selection) × (command ≡ Extract input output text selection)))
+
+pub judged_work : (command : Command) (texts : List (List ℕ)) (ended : Ended) → Judges command → IsJudgement command texts ended → IsWork command texts ended
+judged_work command texts ended (inl (input, output, is)) judged = rw is (rw is at judged)
+judged_work command texts ended (inr (inl (inputs, output, text, is))) judged = rw is (rw is at judged)
+judged_work command texts ended (inr (inr (input, output, text, selection, is))) judged = rw is (rw is at judged)
+
+pub refused_work : (command : Command) (names texts : List (List ℕ)) (ended : Ended) → Judges command → names ≡ inputs_of command → IsFirstRefusal names texts ended ⊎ (ended ≡ Memory) → IsWork command texts ended ⊎ (ended ≡ Memory)
+refused_work command names texts ended judges are (inl refused) = inl (judged_work command texts ended judges (inl (subst (λ (ns : List (List ℕ)). IsFirstRefusal ns texts ended) are refused)))
+refused_work command names texts ended judges are (inr none) = inr none
+
+pub silent_stops : (command : Command) (texts : List (List ℕ)) (o w : Type 0) (ended : Ended) → IsWork command texts ended ⊎ (ended ≡ Memory) → IsWork command texts ended ⊎ FailsToWrite (output_of command) o w ended
+silent_stops command texts o w ended (inl work) = inl work
+silent_stops command texts o w ended (inr none) = inr (rw none tt)
 
 pub texts_written : (ended : Ended) → IsOfTexts ended → (name : List ℕ) → ended ≡ CannotWrite name → ⊥
 texts_written (CannotWrite other) of name e = of
 texts_written ended of name e = (let h = e in cc)
 
 pub texts_of_work : (ended : Ended) → IsOfTexts ended → IsOfWork ended
+texts_of_work ends.Ok of = absurd of
 texts_of_work (CannotWrite name) of = absurd of
 texts_of_work ended of = of
 
@@ -77,19 +135,13 @@ IsEarly ends.Ok = ⊥
 IsEarly (CannotWrite name) = ⊥
 IsEarly ended = Unit {0}
 
-nothing_dumped : (bytes : List ℕ) (whole : Bool) (before now : Option (List ℕ)) (ended : Ended) → IsEarly ended → now ≡ before → IsDumped bytes whole before now ended
-nothing_dumped bytes whole before now ends.Ok early same = absurd early
-nothing_dumped bytes whole before now (CannotWrite name) early same = absurd early
-nothing_dumped bytes whole before now Memory early same = inl same
-nothing_dumped bytes whole before now ended early same = same
-
-nothing_written : (command : Command) (texts : List (List ℕ)) (before now : Option (List ℕ)) (ended : Ended) → IsEarly ended → now ≡ before → IsWritten command texts before now ended
-nothing_written (Analyze input dump) [] before now ended early same = same
-nothing_written (Analyze input dump) (bytes ∷ []) before now ended early same = nothing_dumped bytes dump before now ended early same
-nothing_written (Analyze input dump) (bytes ∷ other ∷ texts) before now ended early same = same
+nothing_written : (command : Command) (texts : List (List ℕ)) (before now : Outputs) (ended : Ended) → IsEarly ended → now ≡ before → IsWritten command texts before now ended
+nothing_written command texts before now ends.Ok early same = absurd early
+nothing_written command texts before now (CannotWrite name) early same = absurd early
+nothing_written command texts before now Memory early same = inl same
 nothing_written command texts before now ended early same = same
 
-pub nothing_shown : (command : Command) (given : Result (List (List ℕ)) Ended) (before now : Option (List ℕ)) (ended : Ended) → IsEarly ended → now ≡ before → IsWrittenOf command given before now ended
+pub nothing_shown : (command : Command) (given : Result (List (List ℕ)) Ended) (before now : Outputs) (ended : Ended) → IsEarly ended → now ≡ before → IsWrittenOf command given before now ended
 nothing_shown command (Ok texts) before now ended early same = nothing_written command texts before now ended early same
 nothing_shown command (Err refusal) before now ended early same = same
 

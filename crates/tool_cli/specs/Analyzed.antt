@@ -1,7 +1,6 @@
 -- What telling the stream of an input comes to: the end, and what standard output took.
-use Rattle.std.specs.Prelude.{◌≡◌, ◌⊎◌, ℕ, Bool, true, false, List, [], ◌∷◌, drop, Option, Some, None, Result, Ok, Err}
+use Rattle.std.specs.Prelude.{◌≡◌, ◌⊎◌, ℕ, Bool, true, false, List, drop, Option, Some, None}
 use Rattle.ir_base.specs.Outside.{Added}
-use Rattle.ir_base.specs.Files.{Named}
 use Rattle.bits.specs.declared.fault.BitFault.{BitFault as TheFault}
 use Rattle.bit_tree.specs.Stream.{Tree, Stream, stream_fault}
 use Rattle.bit_dump.specs.Dumped.{WroteFront}
@@ -9,11 +8,10 @@ use Rattle.bit_dump.specs.Text.{dump_text}
 use Rattle.command_line.specs.declared.command.Command.{Command}
 use Rattle.command_line.specs.declared.command.Command.TheVariants.{Analyze}
 use Rattle.command_line.specs.Tools.{tool_of}
-use Rattle.command_line.specs.Commands.{IsReadAs, command_behind}
+use Rattle.command_line.specs.Commands.{command_behind}
 use Rattle.tool_cli.specs.declared.ended.Ended.{Ended}
 use Rattle.tool_cli.specs.declared.ended.Ended.TheVariants.{Usage, CannotRead, CannotWrite, InputTooLarge, BitFault, Memory}
 use Rattle.tool_cli.specs.declared.ended.Ended.TheVariants as ends
-use Rattle.tool_cli.specs.Inputs.{inputs_of, texts_read}
 
 -- the command tells a stream
 abbrev pub is_analysis : Command → Bool
@@ -34,21 +32,6 @@ IsDumped bytes whole before now ends.Ok = (tree : Tree) × Stream bytes tree × 
 IsDumped bytes whole before now (CannotWrite name) = WroteFront bytes whole before now
 IsDumped bytes whole before now Memory = (now ≡ before) ⊎ WroteFront bytes whole before now
 IsDumped bytes whole before now ended = now ≡ before
-
--- what standard output took of a command whose inputs are these texts
-abbrev pub IsWritten : Command → List (List ℕ) → Option (List ℕ) → Option (List ℕ) → Ended → Type 0
-IsWritten (Analyze input dump) (bytes ∷ []) before now ended = IsDumped bytes dump before now ended
-IsWritten command texts before now ended = now ≡ before
-
--- of a command whose inputs give this
-abbrev pub IsWrittenOf : Command → Result (List (List ℕ)) Ended → Option (List ℕ) → Option (List ℕ) → Ended → Type 0
-IsWrittenOf command (Ok texts) before now ended = IsWritten command texts before now ended
-IsWrittenOf command (Err refusal) before now ended = now ≡ before
-
--- where words are a command, standard output took this
-abbrev pub IsShown : List (List ℕ) → Named → List ℕ → Option (List ℕ) → Option (List ℕ) → Ended → Type 0
-IsShown words files stdin before now ended =
-    (command : Command) → IsReadAs words command → IsWrittenOf command (texts_read files stdin 0 (inputs_of command)) before now ended
 
 abbrev pub is_analysis_behind : Option Command → Bool
 is_analysis_behind None = false

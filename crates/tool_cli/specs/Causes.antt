@@ -1,13 +1,15 @@
--- What reading an input took, and why inputs were not read.
+-- What reading an input took, why inputs were not read, and why a run stopped.
 use Rattle.std.specs.Prelude.{◌≡◌, ◌⊎◌, ℕ, ◌<◌, ◌≤◌, List, [], length, codes, Option, IfSome}
 use Rattle.std.specs.Bool.{MatchBool}
 use Rattle.std.specs.List.{IsAmong}
 use Rattle.ir_base.specs.Outside.{Lost}
 use Rattle.ir_base.specs.Files.{Named, IsMissing, IsOver, ReadsFrom}
+use Rattle.command_line.specs.declared.command.OutputName.{OutputName}
 use Rattle.command_line.specs.Options.{is_dash}
 use Rattle.tool_cli.specs.declared.ended.Ended.{Ended}
-use Rattle.tool_cli.specs.declared.ended.Ended.TheVariants.{CannotRead, CannotWrite, InputTooLarge, Memory}
+use Rattle.tool_cli.specs.declared.ended.Ended.TheVariants.{CannotRead, InputTooLarge, Memory}
 use Rattle.tool_cli.specs.declared.inputs.TheConstants.{LARGEST, LARGEST_TOGETHER}
+use Rattle.tool_cli.specs.Output.{FailsToWrite}
 
 -- no bytes are left, where that is told
 abbrev pub IsEmptied : Option (List ℕ) → Type 0
@@ -78,18 +80,6 @@ IsUnreadOrMemory (CannotRead name) = Unit {0}
 IsUnreadOrMemory Memory = Unit {0}
 IsUnreadOrMemory ended = ⊥
 
--- a write of standard output failed, so that its count of faults rose, or memory ran out
-abbrev pub IsUnwritten : Type 0 → Ended → Type 0
-IsUnwritten rose (CannotWrite name) = (name ≡ codes "-") × rose
-IsUnwritten rose Memory = Unit {0}
-IsUnwritten rose ended = ⊥
-
 -- the run stopped for what is outside of it: a read or a write failed, or memory ran out
-abbrev pub Stopped : Type 0 → Type 0 → Type 0 → Ended → Type 0
-Stopped input_rose files_rose output_rose ended = GaveUp input_rose files_rose ended ⊎ IsUnwritten output_rose ended
-
--- standard output was not written, or memory ran out
-abbrev pub IsUnwrittenOrMemory : Ended → Type 0
-IsUnwrittenOrMemory (CannotWrite name) = name ≡ codes "-"
-IsUnwrittenOrMemory Memory = Unit {0}
-IsUnwrittenOrMemory ended = ⊥
+abbrev pub Stopped : Option OutputName → Type 0 → Type 0 → Type 0 → Type 0 → Ended → Type 0
+Stopped output input_rose files_rose output_rose writes_rose ended = GaveUp input_rose files_rose ended ⊎ FailsToWrite output output_rose writes_rose ended

@@ -1,5 +1,5 @@
 -- The status of an end, and the line that tells it.
-use Rattle.std.specs.Prelude.{ℕ, List, [], ◌∷◌, ◌++◌, codes, Option, Some, None}
+use Rattle.std.specs.Prelude.{ℕ, List, [], ◌∷◌, ◌++◌, codes, Some, None}
 use Rattle.std.specs.Fmt.{decimal}
 use Rattle.ir_base.specs.declared.place.Place.{Place}
 use Rattle.module_arena.specs.declared.fault.CountKind.{CountKind}

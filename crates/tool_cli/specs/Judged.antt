@@ -110,6 +110,11 @@ pub record IsAcceptedModule (items : List ItemTree) (m : Module) : Type 0 where
   pub sized : first_too_large m ≡ None
   pub valid : IsValid m
 
+-- these are the items of the text, and they resolve to this module, which is accepted
+pub record IsTextOf (text : List ℕ) (items : List ItemTree) (m : Module) : Type 0 where
+  pub has_items : HasItems text items
+  pub accepted : IsAcceptedModule items m
+
 -- these are the items of the text, and they resolve to a module that is accepted
 abbrev pub HasModule : List ℕ → List ItemTree → Type 0
 HasModule text items = HasItems text items × ((m : Module) × IsAcceptedModule items m)

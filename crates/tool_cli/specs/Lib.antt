@@ -2,6 +2,8 @@ pub mod Ended
 pub mod Inputs
 pub mod Causes
 pub mod Judged
+pub mod Made
+pub mod Output
 pub mod Told
 pub mod Reads
 pub mod Order

@@ -13,9 +13,11 @@ use Rattle.command_line.specs.Faults.{IsFirstFault}
 use Rattle.command_line.specs.Commands.{IsReadAs}
 use Rattle.tool_cli.specs.declared.ended.Ended.{Ended}
 use Rattle.tool_cli.specs.declared.ended.Ended.TheVariants.{Exit, StepsUsed, Usage, CannotRead, CannotWrite, InputTooLarge, NotBuilt, Memory}
+use Rattle.tool_cli.specs.declared.ended.Ended.TheVariants as ends
 use Rattle.tool_cli.specs.Inputs.{inputs_of, texts_read}
 use Rattle.tool_cli.specs.Analyzed.{IsAnalysis}
 use Rattle.tool_cli.specs.Judged.{is_bitcode, IsTextRefused, HasModule, IsFirstRefusal, AreAccepted}
+use Rattle.tool_cli.specs.Made.{IsResult}
 
 -- the end of a program, each line of which is a step, and so is its return
 abbrev pub end_within : ℕ → Straight → Ended
@@ -35,9 +37,18 @@ IsTextRun name bound text ended =
 abbrev pub IsRun : List ℕ → ℕ → List ℕ → Ended → Type 0
 IsRun name bound bytes ended = MatchBool (is_bitcode bytes) (ended ≡ NotBuilt) (IsTextRun name bound bytes ended)
 
--- the end of a tool that judges its inputs, and whose work is not built
-abbrev pub IsJudgement : List (List ℕ) → List (List ℕ) → Ended → Type 0
-IsJudgement names texts ended = IsFirstRefusal names texts ended ⊎ (AreAccepted texts × (ended ≡ NotBuilt))
+-- a command that has no result over inputs that are accepted ends so: it is not built
+abbrev pub IsWithoutResult : Command → List (List ℕ) → Ended → Type 0
+IsWithoutResult command texts ended = ((bytes : List ℕ) → ¬ IsResult command texts bytes) × (ended ≡ NotBuilt)
+
+-- the end of a command over inputs that are accepted: `Ok` where it has a result
+abbrev pub IsWorked : Command → List (List ℕ) → Ended → Type 0
+IsWorked command texts ended =
+    ((bytes : List ℕ) × IsResult command texts bytes × (ended ≡ ends.Ok)) ⊎ IsWithoutResult command texts ended
+
+-- the end of a command that judges its inputs, and then makes its result of them
+abbrev pub IsJudgement : Command → List (List ℕ) → Ended → Type 0
+IsJudgement command texts ended = IsFirstRefusal (inputs_of command) texts ended ⊎ (AreAccepted texts × IsWorked command texts ended)
 
 -- the end of a command whose inputs are these texts
 abbrev pub IsWork : Command → List (List ℕ) → Ended → Type 0
@@ -46,7 +57,7 @@ IsWork (Lli input max_steps arguments) texts ended = ⊥
 IsWork (Disassemble input output) texts ended = ended ≡ NotBuilt
 IsWork (Analyze input dump) (bytes ∷ []) ended = IsAnalysis input bytes ended
 IsWork (Analyze input dump) texts ended = ⊥
-IsWork command texts ended = IsJudgement (inputs_of command) texts ended
+IsWork command texts ended = IsJudgement command texts ended
 
 -- the end of a command whose inputs give this
 abbrev pub IsOutcome : Command → Result (List (List ℕ)) Ended → Ended → Type 0
@@ -66,8 +77,9 @@ IsOfWork (CannotRead name) = ⊥
 IsOfWork (InputTooLarge name limit) = ⊥
 IsOfWork ended = Unit {0}
 
--- an end that the work on texts may have, which writes nothing
+-- an end that work may have which writes nothing
 abbrev pub IsOfTexts : Ended → Type 0
+IsOfTexts ends.Ok = ⊥
 IsOfTexts (CannotWrite name) = ⊥
 IsOfTexts ended = IsOfWork ended
 

@@ -1,8 +1,9 @@
 //! The stream of an input, told.
-ghost use Rattle.std.specs.Prelude.{◌≡◌, ◌⊎◌, ◌<◌, List, ℕ, codes};
+ghost use Rattle.std.specs.Prelude.{◌≡◌, ◌⊎◌, ◌<◌, List, ℕ, Some, codes};
 ghost use Rattle.ir_base.specs.Outside.{Rose};
 ghost use Rattle.tool_cli.specs.Judged.{IsShort};
-ghost use Rattle.tool_cli.specs.Causes.{IsUnwritten, IsUnwrittenOrMemory};
+ghost use Rattle.command_line.specs.declared.command.OutputName.TheVariants.{Standard};
+ghost use Rattle.tool_cli.specs.Output.{FailsToWrite, IsUnwrittenOrMemory};
 ghost use Rattle.tool_cli.specs.Analyzed.{IsAnalysis, IsDumped};
 ghost use Rattle.tool_cli.specs.Told.{IsOfWork};
 
@@ -42,7 +43,7 @@ pub fn analyze<O: Sink>(
     output: &mut O,
 ) -> Ended
     requires { IsShort bytes.now }
-    ensures analysis { IsAnalysis name.now bytes.now result ⊎ IsUnwritten (Rose (O.faults output.old) (O.faults output.new)) result }
+    ensures analysis { IsAnalysis name.now bytes.now result ⊎ FailsToWrite (Some Standard) (Rose (O.faults output.old) (O.faults output.new)) ⊥ result }
     ensures shown { IsDumped bytes.now whole (O.taken output.old) (O.taken output.new) result }
     ensures output_fault { O.faults output.old < O.faults output.new → IsUnwrittenOrMemory result }
     ensures cannot_write { (name : List ℕ) → result ≡ Ended.CannotWrite name → (name ≡ codes "-") × Rose (O.faults output.old) (O.faults output.new) }

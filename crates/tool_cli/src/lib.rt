@@ -2,7 +2,8 @@
 //!
 //! It stands on every layer below. Its promise is the contract of `run_tool`, the call that `main` makes over the
 //! process's own streams: what is answered, what is read and what is written, for any source and sink.
-//! Definitions: `specs/Told` for the meaning of an answer, `specs/Ended` for its line and status.
+//! Definitions: `specs/Told` for the meaning of an answer, `specs/Made` and `specs/Output` for what is written, `specs/Ended` for the line
+//! and the status.
 #![tactic(auto)]
 
 mod analysis;
@@ -11,6 +12,8 @@ mod ended;
 mod entity;
 mod error_line;
 mod inputs;
+mod linking;
+mod parts;
 mod tool_run;
 mod work;
 

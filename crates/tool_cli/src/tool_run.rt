@@ -1,16 +1,18 @@
 //! The whole program, over whatever it reads and writes.
-ghost use Rattle.std.specs.Prelude.{◌≡◌, ◌⊎◌, ◌<◌, ℕ, List, [], codes, true, false};
+ghost use Rattle.std.specs.Prelude.{◌≡◌, ◌⊎◌, ◌<◌, ℕ, List, [], true, false};
 ghost use Rattle.std.specs.List.{IsAmong};
 ghost use Rattle.ir_base.specs.Outside.{Rose, Wrote};
 ghost use Rattle.ir_base.specs.Files.{Named};
 ghost use Rattle.command_line.specs.declared.command.UsageKind.{UsageKind};
 ghost use Rattle.command_line.specs.Faults.{IsFirstFault};
+ghost use Rattle.tool_output.specs.Outputs.{outputs};
 ghost use Rattle.tool_cli.specs.Ended.{line_of, status_of};
 ghost use Rattle.tool_cli.specs.Inputs.{inputs_named, has_stdin, TellsAll};
-ghost use Rattle.tool_cli.specs.Causes.{IsEmptied, Stopped, IsUnread, IsPassed, IsStdinOrMemory, IsUnreadOrMemory, IsUnwrittenOrMemory};
-ghost use Rattle.tool_cli.specs.Reads.{LeavesInput, LeavesFiles};
+ghost use Rattle.tool_cli.specs.Causes.{IsEmptied, Stopped, IsUnread, IsPassed, IsStdinOrMemory, IsUnreadOrMemory};
+ghost use Rattle.tool_cli.specs.Reads.{LeavesInput};
 ghost use Rattle.tool_cli.specs.Order.{has_file, KeepsOrder};
-ghost use Rattle.tool_cli.specs.Analyzed.{analyzes, IsShown, IsBeforeWork};
+ghost use Rattle.tool_cli.specs.Analyzed.{analyzes, IsBeforeWork};
+ghost use Rattle.tool_cli.specs.Output.{output_named, IsUnwritten, IsUnwrittenOrMemory, IsFileUnwritten, IsShown, LeavesFilesBut, LeavesStandard, LeavesNamed};
 ghost use Rattle.tool_cli.specs.Told.{IsTold, IsAfterReading};
 
 use crate::ended::{Ended, Report, status_of};
@@ -36,28 +38,30 @@ fn ended_of<F: Files, I: Source, O: Sink>(
     ensures told { (held : Named) (stdin : List ℕ)
         → TellsAll (inputs_named words.now) (F.contents files.old) (I.left input.old) held stdin
         → IsTold words.now held stdin result
-        ⊎ Stopped (Rose (I.faults input.old) (I.faults input.new)) (Rose (F.read_faults files.old) (F.read_faults files.new)) (Rose (O.faults output.old) (O.faults output.new)) result }
+        ⊎ Stopped (output_named words.now) (Rose (I.faults input.old) (I.faults input.new)) (Rose (F.read_faults files.old) (F.read_faults files.new)) (Rose (O.faults output.old) (O.faults output.new)) (Rose (F.write_faults files.old) (F.write_faults files.new)) result }
     ensures cannot_read { (name : List ℕ) → result ≡ Ended.CannotRead name → IsAmong (inputs_named words.now) name
         × IsUnread (F.contents files.old) (Rose (I.faults input.old) (I.faults input.new)) (Rose (F.read_faults files.old) (F.read_faults files.new)) name }
     ensures too_large { (name : List ℕ) (limit : ℕ) → result ≡ Ended.InputTooLarge name limit
         → IsAmong (inputs_named words.now) name × IsPassed (F.contents files.old) (I.left input.old) name limit }
     ensures input_fault { I.faults input.old < I.faults input.new → IsStdinOrMemory result }
     ensures file_fault { F.read_faults files.old < F.read_faults files.new → IsUnreadOrMemory result }
-    ensures cannot_write { (name : List ℕ) → result ≡ Ended.CannotWrite name → (name ≡ codes "-") × Rose (O.faults output.old) (O.faults output.new) }
+    ensures cannot_write { (name : List ℕ) → result ≡ Ended.CannotWrite name
+        → IsUnwritten (output_named words.now) (Rose (O.faults output.old) (O.faults output.new)) (Rose (F.write_faults files.old) (F.write_faults files.new)) name }
     ensures output_fault { O.faults output.old < O.faults output.new → IsUnwrittenOrMemory result }
+    ensures write_fault { F.write_faults files.old < F.write_faults files.new → IsFileUnwritten (output_named words.now) result }
 
     // What is read and written.
     ensures before_reading { (kind : UsageKind) (k : ℕ) → result ≡ Ended.Usage kind k → (input.new ≡ input.old) × (files.new ≡ files.old) }
     ensures order { KeepsOrder (inputs_named words.now) input.old input.new result }
     ensures unread { has_stdin (inputs_named words.now) ≡ false → input.new ≡ input.old }
-    ensures files_unread { has_file (inputs_named words.now) ≡ false → files.new ≡ files.old }
+    ensures files_unread { has_file (inputs_named words.now) ≡ false → LeavesNamed (output_named words.now) result → files.new ≡ files.old }
     ensures whole { IsAfterReading result → has_stdin (inputs_named words.now) ≡ true → IsEmptied (I.left input.new) }
     ensures leaves_input { LeavesInput (I.left input.old) (I.left input.new) (I.faults input.old) (I.faults input.new) }
-    ensures leaves_files { LeavesFiles (F.contents files.old) (F.contents files.new) (F.read_faults files.old) (F.read_faults files.new) (F.write_faults files.old) (F.write_faults files.new) }
+    ensures leaves_files { LeavesFilesBut (output_named words.now) result (F.contents files.old) (F.contents files.new) (F.read_faults files.old) (F.read_faults files.new) (F.write_faults files.old) (F.write_faults files.new) }
     ensures shown { (held : Named) (stdin : List ℕ)
         → TellsAll (inputs_named words.now) (F.contents files.old) (I.left input.old) held stdin
-        → IsShown words.now held stdin (O.taken output.old) (O.taken output.new) result }
-    ensures unwritten { analyzes words.now ≡ false → output.new ≡ output.old }
+        → IsShown words.now held stdin (outputs (O.taken output.old) (F.contents files.old)) (outputs (O.taken output.new) (F.contents files.new)) result }
+    ensures unwritten { analyzes words.now ≡ false → LeavesStandard (output_named words.now) result → output.new ≡ output.old }
     ensures before_work { IsBeforeWork result → output.new ≡ output.old }
 {
     let command = match read_words(alloc, words) {
@@ -66,7 +70,7 @@ fn ended_of<F: Files, I: Source, O: Sink>(
         Err(WordsFault::Memory) => return Ended::Memory,
     };
     match read_inputs(alloc, files, input, inputs_of(&command)) {
-        Ok(texts) => work(alloc, &command, &texts, output),
+        Ok(texts) => work(alloc, &command, &texts, files, output),
         Err(ended) => ended,
     }
 }
@@ -90,29 +94,31 @@ pub fn run_tool<F: Files, I: Source, O: Sink, E: Sink>(
     ensures told { (held : Named) (stdin : List ℕ)
         → TellsAll (inputs_named words.now) (F.contents files.old) (I.left input.old) held stdin
         → IsTold words.now held stdin result.ended
-        ⊎ Stopped (Rose (I.faults input.old) (I.faults input.new)) (Rose (F.read_faults files.old) (F.read_faults files.new)) (Rose (O.faults output.old) (O.faults output.new)) result.ended }
+        ⊎ Stopped (output_named words.now) (Rose (I.faults input.old) (I.faults input.new)) (Rose (F.read_faults files.old) (F.read_faults files.new)) (Rose (O.faults output.old) (O.faults output.new)) (Rose (F.write_faults files.old) (F.write_faults files.new)) result.ended }
     ensures cannot_read { (name : List ℕ) → result.ended ≡ Ended.CannotRead name → IsAmong (inputs_named words.now) name
         × IsUnread (F.contents files.old) (Rose (I.faults input.old) (I.faults input.new)) (Rose (F.read_faults files.old) (F.read_faults files.new)) name }
     ensures too_large { (name : List ℕ) (limit : ℕ) → result.ended ≡ Ended.InputTooLarge name limit
         → IsAmong (inputs_named words.now) name × IsPassed (F.contents files.old) (I.left input.old) name limit }
     ensures input_fault { I.faults input.old < I.faults input.new → IsStdinOrMemory result.ended }
     ensures file_fault { F.read_faults files.old < F.read_faults files.new → IsUnreadOrMemory result.ended }
-    ensures cannot_write { (name : List ℕ) → result.ended ≡ Ended.CannotWrite name → (name ≡ codes "-") × Rose (O.faults output.old) (O.faults output.new) }
+    ensures cannot_write { (name : List ℕ) → result.ended ≡ Ended.CannotWrite name
+        → IsUnwritten (output_named words.now) (Rose (O.faults output.old) (O.faults output.new)) (Rose (F.write_faults files.old) (F.write_faults files.new)) name }
     ensures output_fault { O.faults output.old < O.faults output.new → IsUnwrittenOrMemory result.ended }
+    ensures write_fault { F.write_faults files.old < F.write_faults files.new → IsFileUnwritten (output_named words.now) result.ended }
     ensures status { result.status ≡ status_of result.ended }
 
     // What is read and written.
     ensures before_reading { (kind : UsageKind) (k : ℕ) → result.ended ≡ Ended.Usage kind k → (input.new ≡ input.old) × (files.new ≡ files.old) }
     ensures order { KeepsOrder (inputs_named words.now) input.old input.new result.ended }
     ensures unread { has_stdin (inputs_named words.now) ≡ false → input.new ≡ input.old }
-    ensures files_unread { has_file (inputs_named words.now) ≡ false → files.new ≡ files.old }
+    ensures files_unread { has_file (inputs_named words.now) ≡ false → LeavesNamed (output_named words.now) result.ended → files.new ≡ files.old }
     ensures whole { IsAfterReading result.ended → has_stdin (inputs_named words.now) ≡ true → IsEmptied (I.left input.new) }
     ensures leaves_input { LeavesInput (I.left input.old) (I.left input.new) (I.faults input.old) (I.faults input.new) }
-    ensures leaves_files { LeavesFiles (F.contents files.old) (F.contents files.new) (F.read_faults files.old) (F.read_faults files.new) (F.write_faults files.old) (F.write_faults files.new) }
+    ensures leaves_files { LeavesFilesBut (output_named words.now) result.ended (F.contents files.old) (F.contents files.new) (F.read_faults files.old) (F.read_faults files.new) (F.write_faults files.old) (F.write_faults files.new) }
     ensures shown { (held : Named) (stdin : List ℕ)
         → TellsAll (inputs_named words.now) (F.contents files.old) (I.left input.old) held stdin
-        → IsShown words.now held stdin (O.taken output.old) (O.taken output.new) result.ended }
-    ensures unwritten { analyzes words.now ≡ false → output.new ≡ output.old }
+        → IsShown words.now held stdin (outputs (O.taken output.old) (F.contents files.old)) (outputs (O.taken output.new) (F.contents files.new)) result.ended }
+    ensures unwritten { analyzes words.now ≡ false → LeavesStandard (output_named words.now) result.ended → output.new ≡ output.old }
     ensures before_work { IsBeforeWork result.ended → output.new ≡ output.old }
     ensures errors { Wrote (E.taken errors.old) (E.taken errors.new) (E.faults errors.old) (E.faults errors.new) (line_of words.now result.ended) }
 {

@@ -1,135 +1,25 @@
 //! What the tools do with the texts of their inputs.
-ghost use Rattle.std.specs.Prelude.{◌≡◌, ◌⊎◌, ◌<◌, ℕ, List, length, codes, false, IfOk, IfErr, OnOk};
+ghost use Rattle.std.specs.Prelude.{◌≡◌, ◌⊎◌, ◌<◌, ℕ, List, length, false, None};
 ghost use Rattle.ir_base.specs.Outside.{Rose};
-ghost use Rattle.module_arena.specs.EntityView.{entity_view};
-ghost use Rattle.name_rules.specs.Spelled.{spelled_global};
-ghost use Rattle.tool_cli.specs.Inputs.{inputs_of};
-ghost use Rattle.tool_cli.specs.Judged.{entity_words, is_bitcode, refusal_told, break_told, verdict_told, IsShort, AreShort, IsTextRefused, HasModule, AreAccepted, IsPartAccepted, IsPartRefused, IsFirstRefusal};
-ghost use Rattle.tool_cli.specs.Causes.{IsUnwritten, IsUnwrittenOrMemory};
-ghost use Rattle.tool_cli.specs.Analyzed.{is_analysis, IsWritten};
-ghost use Rattle.tool_cli.specs.Told.{items_end, IsTextRun, IsRun, IsWork, IsOfTexts, IsOfWork};
 ghost use Rattle.ir_syntax.specs.Small.{straight};
 ghost use Rattle.ir_syntax.specs.View.{items_view};
+ghost use Rattle.tool_output.specs.Outputs.{outputs};
+ghost use Rattle.tool_cli.specs.Analyzed.{is_analysis};
+ghost use Rattle.tool_cli.specs.Inputs.{inputs_of};
+ghost use Rattle.tool_cli.specs.Judged.{IsShort, AreShort};
+ghost use Rattle.tool_cli.specs.Output.{output_of, IsUnwritten, FailsToWrite, IsUnwrittenOrMemory, IsFileUnwritten, IsWritten, LeavesFilesBut, LeavesStandard, LeavesNamed};
+ghost use Rattle.tool_cli.specs.Told.{items_end, IsTextRun, IsRun, IsWork, IsOfTexts, IsOfWork};
 
 use crate::analysis::analyze;
 use crate::ended::Ended;
-use crate::entity::entity_words;
 use crate::inputs::inputs_of;
+use crate::linking::link;
+use crate::parts::{accepted_text, is_bitcode, judge_all};
 use command_line::Command;
-use ir_base::{Name, Sink, Text, TextList};
-use ir_resolve::resolve;
+use ir_base::{Files, Sink, Text, TextList};
 use ir_run::run_straight;
-use ir_syntax::{Items, SyntaxFault, read_items, straight_of};
-use module_arena::Entity;
-use name_rules::{ResolveFault, spell_global};
-use path_verify::verify;
-use std::alloc::{AllocError, Global};
-use type_verify::VerifyFault;
-
-/// The bytes that bitcode begins with (LLVM Bitcode File Format, "LLVM IR Magic Number").
-const BITCODE_MAGIC: [u8; 4] = [0x42, 0x43, 0xC0, 0xDE];
-
-fn is_bitcode(bytes: &[u8]) -> bool
-    ensures { result ≡ is_bitcode bytes.now }
-{
-    bytes.starts_with(&BITCODE_MAGIC)
-}
-
-// The refusal of a text, told with the name of its input.
-fn refusal_told(alloc: Global, name: &Text, fault: SyntaxFault) -> Ended
-    ensures told { (result ≡ refusal_told name.now fault) ⊎ (result ≡ Ended.Memory) }
-    ensures of_texts { IsOfTexts result }
-{
-    let Ok(name) = Text::from_slice(alloc, name.bytes()) else {
-        return Ended::Memory;
-    };
-    match fault {
-        SyntaxFault::BadByte(place) => Ended::BadByte(name, place),
-        SyntaxFault::NoItemHere(place) => Ended::NoItemHere(name, place),
-        SyntaxFault::LeftOutWord(place, word) => Ended::LeftOutWord(name, place, word),
-        SyntaxFault::TooDeep(place) => Ended::TooDeep(name, place),
-        SyntaxFault::Memory => Ended::Memory,
-    }
-}
-
-// The break of the items of a text, told with the name of its input.
-fn break_told(alloc: Global, name: &Text, fault: ResolveFault) -> Ended
-    ensures told { (result ≡ break_told name.now fault) ⊎ (result ≡ Ended.Memory) }
-    ensures of_texts { IsOfTexts result }
-{
-    let Ok(name) = Text::from_slice(alloc, name.bytes()) else {
-        return Ended::Memory;
-    };
-    match fault {
-        ResolveFault::TooMany(kind, count) => Ended::TooMany(Some(name), kind, count),
-        ResolveFault::Duplicate(place, first) => Ended::Duplicate(name, place, first),
-        ResolveFault::UnknownName(place, spelled) => Ended::UnknownName(name, place, spelled),
-        ResolveFault::WrongNumber(place, next, found) => {
-            Ended::WrongNumber(name, place, next, found)
-        }
-        ResolveFault::ConstantRange(place) => Ended::ConstantRange(name, place),
-        ResolveFault::TooDeep(place) => Ended::TooDeep(name, place),
-        ResolveFault::SelfContaining(place) => Ended::SelfContaining(name, place),
-        ResolveFault::TooLarge(place) => Ended::TooLarge(name, place),
-        ResolveFault::Memory => Ended::Memory,
-    }
-}
-
-// The function that is too large, told with the name of its input.
-fn size_told(alloc: Global, name: Text, function: &Name, size: u64) -> Result<Ended, AllocError>
-    ensures { IfOk result (λ ended. ended ≡ Ended.FunctionTooLarge name (spelled_global function.now) size) }
-{
-    let function = spell_global(alloc, function.text().bytes())?;
-    Ok(Ended::FunctionTooLarge(name, function, size))
-}
-
-// The rule that does not hold, told with the name of its input.
-fn rule_told(alloc: Global, name: Text, rule: u8, entity: &Entity) -> Result<Ended, AllocError>
-    ensures { IfOk result (λ ended. ended ≡ Ended.Invalid name rule (entity_words (entity_view entity.now))) }
-{
-    let words = entity_words(alloc, entity)?;
-    Ok(Ended::Invalid(name, rule, words))
-}
-
-// The refusal of a module, told with the name of its input.
-fn verdict_told(alloc: Global, name: &Text, fault: VerifyFault) -> Ended
-    ensures told { (result ≡ verdict_told name.now fault) ⊎ (result ≡ Ended.Memory) }
-    ensures of_texts { IsOfTexts result }
-{
-    let Ok(name) = Text::from_slice(alloc, name.bytes()) else {
-        return Ended::Memory;
-    };
-    let told = match &fault {
-        VerifyFault::FunctionTooLarge(function, size) => size_told(alloc, name, function, *size),
-        VerifyFault::Invalid(rule, entity) => rule_told(alloc, name, *rule, entity),
-        VerifyFault::Memory => return Ended::Memory,
-    };
-    match told {
-        Ok(ended) => ended,
-        Err(_) => Ended::Memory,
-    }
-}
-
-// The items of the text of the input of this name, where they resolve to a module that is valid.
-fn module_items(alloc: Global, name: &Text, text: &[u8]) -> Result<Items, Ended>
-    requires { IsShort text.now }
-    ensures module { IfOk result (λ items. HasModule text.now (items_view items)) }
-    ensures refused { IfErr result (λ ended. IsTextRefused name.now text.now ended ⊎ (ended ≡ Ended.Memory)) }
-    ensures of_texts { IfErr result IsOfTexts }
-{
-    let items = match read_items(alloc, text) {
-        Ok(items) => items,
-        Err(fault) => return Err(refusal_told(alloc, name, fault)),
-    };
-    let arena = match resolve(alloc, &items) {
-        Ok(arena) => arena,
-        Err(fault) => return Err(break_told(alloc, name, fault)),
-    };
-    match verify(alloc, arena) {
-        Ok(_checked) => Ok(items),
-        Err(fault) => Err(verdict_told(alloc, name, fault)),
-    }
-}
+use ir_syntax::{Items, straight_of};
+use std::alloc::Global;
 
 // Runs items for so many steps.
 fn run_items(alloc: Global, items: &Items, max_steps: u64) -> Ended
@@ -154,8 +44,8 @@ fn run_text(alloc: Global, name: &Text, text: &[u8], max_steps: u64) -> Ended
     ensures run { IsTextRun name.now max_steps text.now result ⊎ (result ≡ Ended.Memory) }
     ensures of_texts { IsOfTexts result }
 {
-    match module_items(alloc, name, text) {
-        Ok(items) => run_items(alloc, &items, max_steps),
+    match accepted_text(alloc, name, text) {
+        Ok(accepted) => run_items(alloc, &accepted.items, max_steps),
         Err(ended) => ended,
     }
 }
@@ -173,36 +63,9 @@ fn run(alloc: Global, name: &Text, bytes: &[u8], max_steps: u64) -> Ended
     }
 }
 
-// Judges the input of this name: a text is one of a module, and bitcode is passed over.
-fn judge(alloc: Global, name: &Text, bytes: &[u8]) -> Result<(), Ended>
-    requires { IsShort bytes.now }
-    ensures accepted { OnOk result (IsPartAccepted bytes.now) }
-    ensures refused { IfErr result (λ ended. IsPartRefused name.now bytes.now ended ⊎ (ended ≡ Ended.Memory)) }
-    ensures of_texts { IfErr result IsOfTexts }
-{
-    if is_bitcode(bytes) {
-        return Ok(());
-    }
-    module_items(alloc, name, bytes).map(|_| ())
-}
-
-// Judges the inputs of these names, in their order.
-fn judge_all(alloc: Global, names: &[Text], texts: &[Text]) -> Result<(), Ended>
-    requires same { length names.now ≡ length texts.now }
-    requires short { AreShort texts.now }
-    ensures accepted { OnOk result (AreAccepted texts.now) }
-    ensures refused { IfErr result (λ ended. IsFirstRefusal names.now texts.now ended ⊎ (ended ≡ Ended.Memory)) }
-    ensures of_texts { IfErr result IsOfTexts }
-{
-    'parts: for index in 0..texts.len() {
-        judge(alloc, &names[index], texts[index].bytes())?;
-    }
-    Ok(())
-}
-
-// Does what a command says that tells no stream. Nothing is written.
+// Does what a command says whose result is not built. Nothing is written.
 fn silent_work(alloc: Global, command: &Command, texts: &TextList) -> Ended
-    requires silent { is_analysis command.now ≡ false }
+    requires silent { output_of command.now ≡ None }
     requires count { length texts.now ≡ length (inputs_of command.now) }
     requires short { AreShort texts.now }
     ensures work { IsWork command.now texts.now result ⊎ (result ≡ Ended.Memory) }
@@ -226,19 +89,52 @@ fn silent_work(alloc: Global, command: &Command, texts: &TextList) -> Ended
 }
 
 /// Does what the command says with the texts of its inputs, each of at most 16 MiB.
-pub fn work<O: Sink>(alloc: Global, command: &Command, texts: &TextList, output: &mut O) -> Ended
+pub fn work<F: Files, O: Sink>(
+    alloc: Global,
+    command: &Command,
+    texts: &TextList,
+    files: &mut F,
+    output: &mut O,
+) -> Ended
     requires count { length texts.now ≡ length (inputs_of command.now) }
     requires short { AreShort texts.now }
-    ensures work { IsWork command.now texts.now result ⊎ IsUnwritten (Rose (O.faults output.old) (O.faults output.new)) result }
+    // What is answered.
+    ensures work { IsWork command.now texts.now result
+        ⊎ FailsToWrite (output_of command.now) (Rose (O.faults output.old) (O.faults output.new)) (Rose (F.write_faults files.old) (F.write_faults files.new)) result }
     ensures of_work { IsOfWork result }
-    ensures written { IsWritten command.now texts.now (O.taken output.old) (O.taken output.new) result }
-    ensures unwritten { is_analysis command.now ≡ false → output.new ≡ output.old }
+    ensures cannot_write { (name : List ℕ) → result ≡ Ended.CannotWrite name
+        → IsUnwritten (output_of command.now) (Rose (O.faults output.old) (O.faults output.new)) (Rose (F.write_faults files.old) (F.write_faults files.new)) name }
     ensures output_fault { O.faults output.old < O.faults output.new → IsUnwrittenOrMemory result }
-    ensures cannot_write { (name : List ℕ) → result ≡ Ended.CannotWrite name → (name ≡ codes "-") × Rose (O.faults output.old) (O.faults output.new) }
+    ensures write_fault { F.write_faults files.old < F.write_faults files.new → IsFileUnwritten (output_of command.now) result }
+
+    // What is written.
+    ensures written { IsWritten command.now texts.now (outputs (O.taken output.old) (F.contents files.old)) (outputs (O.taken output.new) (F.contents files.new)) result }
+    ensures leaves_files { LeavesFilesBut (output_of command.now) result (F.contents files.old) (F.contents files.new) (F.read_faults files.old) (F.read_faults files.new) (F.write_faults files.old) (F.write_faults files.new) }
+    ensures reads { F.read_faults files.new ≡ F.read_faults files.old }
+    ensures unwritten { is_analysis command.now ≡ false → LeavesStandard (output_of command.now) result → output.new ≡ output.old }
+    ensures files_unwritten { LeavesNamed (output_of command.now) result → files.new ≡ files.old }
 {
     match command {
         Command::Analyze { input, dump } => {
             analyze(alloc, input, texts.at(0).bytes(), *dump, output)
+        }
+        Command::Link {
+            inputs,
+            output: place,
+            text,
+        } => {
+            if *text {
+                link(
+                    alloc,
+                    inputs.as_slice(),
+                    texts.as_slice(),
+                    place,
+                    files,
+                    output,
+                )
+            } else {
+                silent_work(alloc, command, texts)
+            }
         }
         _ => silent_work(alloc, command, texts),
     }

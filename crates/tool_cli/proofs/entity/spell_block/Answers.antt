@@ -1,4 +1,4 @@
-use Rattle.std.proofs.Common.{◌≡◌, ℕ, List, [], ◌∷◌, ◌++◌, sym, ap, ◌∙◌}
+use Rattle.std.proofs.Common.{ℕ, List, ◌∷◌, ◌++◌, ap, ◌∙◌}
 use Rattle.std.specs.Fmt.{decimal}
 use Rattle.tool_cli.proofs.entity.spell_block.Goals as goal
 

@@ -1,7 +1,7 @@
 use Rattle.std.proofs.Common.{Option, drop}
 use Rattle.tool_cli.specs.declared.ended.Ended.{Ended}
 use Rattle.tool_cli.proofs.Judging.{IsJudged}
-use Rattle.tool_cli.proofs.work.judge_all.Given as goal
+use Rattle.tool_cli.proofs.parts.judge_all.Given as goal
 
 -- the parts so far are accepted, so what is judged of the others is judged of all
 abbrev pub invariant-parts : goal.invariant-parts

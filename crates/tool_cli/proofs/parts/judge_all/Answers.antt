@@ -1,6 +1,6 @@
 use Rattle.std.proofs.lemmas.Result.{err_from_is_err_and}
 use Rattle.tool_cli.proofs.Judging.{short_at, judged_on, refused_at, judged_at_end}
-use Rattle.tool_cli.proofs.work.judge_all.Goals as goal
+use Rattle.tool_cli.proofs.parts.judge_all.Goals as goal
 
 pub judge-requires : goal.judge-requires
 judge-requires c = rw c.bytes.ensures (short_at c.args.texts.now c.parts.index c.index-texts-index.result c.requires.short c.parts-test.true c.index-texts-index.is)

@@ -1,0 +1,53 @@
+-- For `run_tool`: the result of a command over its inputs, which is what it writes.
+use Rattle.std.specs.Prelude.{◌≡◌, ℕ, true, List, [], ◌∷◌, Option, Some, None}
+use Rattle.std.specs.Bool.{MatchBool}
+use Rattle.bit_tree.specs.Stream.{Tree, Stream}
+use Rattle.bit_dump.specs.Text.{dump_text}
+use Rattle.canonical.specs.Canonical.{canon}
+use Rattle.command_line.specs.declared.command.Command.{Command}
+use Rattle.command_line.specs.declared.command.Command.TheVariants.{Link, Analyze}
+use Rattle.tool_output.specs.Alone.{links_alone}
+use Rattle.module_arena.specs.Functions.{first_too_large}
+use Rattle.module_arena.specs.Module.{Module}
+use Rattle.module_arena.specs.Valid.{IsValid}
+use Rattle.name_rules.specs.Reads.{Reads}
+use Rattle.tool_cli.specs.Judged.{is_bitcode}
+
+-- The module that an input stands for: that of its text. What bitcode stands for is not built.
+abbrev pub StandsFor : List ℕ → Module → Type 0
+StandsFor bytes m = MatchBool (is_bitcode bytes) ⊥ (Reads bytes m)
+
+-- an input stands for this module, of which no function is too large and which is valid
+pub record IsPart (bytes : List ℕ) (m : Module) : Type 0 where
+  pub stands : StandsFor bytes m
+  pub sized : first_too_large m ≡ None
+  pub valid : IsValid m
+
+-- each input stands for its module
+abbrev pub AreParts : List (List ℕ) → List Module → Type 0
+AreParts [] [] = Unit {0}
+AreParts (bytes ∷ texts) (m ∷ ms) = IsPart bytes m × AreParts texts ms
+AreParts texts ms = ⊥
+
+-- The module that parts are linked to: one part that linking does not change is linked to itself. All else is not built.
+abbrev pub IsLinked : List Module → Module → Type 0
+IsLinked (part ∷ []) m = (links_alone part ≡ true) × (m ≡ part)
+IsLinked parts m = ⊥
+
+-- the inputs stand for parts that are linked to this module
+pub record LinksTo (texts : List (List ℕ)) (m : Module) : Type 0 where
+  pub parts : List Module
+  pub are_parts : AreParts texts parts
+  pub linked : IsLinked parts m
+
+-- what linking inputs comes to: this module, or none
+abbrev pub IsLinking : List (List ℕ) → Option Module → Type 0
+IsLinking texts (Some m) = LinksTo texts m
+IsLinking texts None = (m : Module) → ¬ LinksTo texts m
+
+-- The result of a command whose inputs are these: of `llvm-link -S` the canonical text of the module that they are linked to; of
+-- `llvm-bcanalyzer` the text of the tree that its input is the stream of. Every other work is not built, and what a program prints is no result.
+abbrev pub IsResult : Command → List (List ℕ) → List ℕ → Type 0
+IsResult (Link inputs output true) texts bytes = (m : Module) × LinksTo texts m × (bytes ≡ canon m)
+IsResult (Analyze input dump) (stream ∷ []) bytes = (tree : Tree) × Stream stream tree × (bytes ≡ dump_text tree dump)
+IsResult command texts bytes = ⊥

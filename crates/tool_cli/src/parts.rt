@@ -1,0 +1,164 @@
+//! The inputs of tools that work on modules: which are accepted, and how the others are refused.
+ghost use Rattle.std.specs.Prelude.{◌≡◌, ◌⊎◌, length, IfOk, IfErr, OnOk};
+ghost use Rattle.module_arena.specs.EntityView.{entity_view};
+ghost use Rattle.module_arena.specs.Module.{Module};
+ghost use Rattle.module_arena.specs.View.{module_of};
+ghost use Rattle.ir_syntax.specs.View.{items_view};
+ghost use Rattle.name_rules.specs.Reads.{Reads};
+ghost use Rattle.name_rules.specs.Spelled.{spelled_global};
+ghost use Rattle.tool_cli.specs.Judged.{entity_words, is_bitcode, refusal_told, break_told, verdict_told, IsShort, AreShort, IsTextRefused, IsTextOf, AreAccepted, IsPartAccepted, IsPartRefused, IsFirstRefusal};
+ghost use Rattle.tool_cli.specs.Told.{IsOfTexts};
+
+use crate::ended::Ended;
+use crate::entity::entity_words;
+use ir_base::{Name, Text};
+use ir_resolve::resolve;
+use ir_syntax::{Items, SyntaxFault, read_items};
+use module_arena::{Checked, Entity};
+use name_rules::{ResolveFault, spell_global};
+use path_verify::verify;
+use std::alloc::{AllocError, Global};
+use type_verify::VerifyFault;
+
+/// The bytes that bitcode begins with (LLVM Bitcode File Format, "LLVM IR Magic Number").
+const BITCODE_MAGIC: [u8; 4] = [0x42, 0x43, 0xC0, 0xDE];
+
+/// Whether the bytes begin as bitcode does.
+pub(crate) fn is_bitcode(bytes: &[u8]) -> bool
+    ensures { result ≡ is_bitcode bytes.now }
+{
+    bytes.starts_with(&BITCODE_MAGIC)
+}
+
+// The refusal of a text, told with the name of its input.
+fn refusal_told(alloc: Global, name: &Text, fault: SyntaxFault) -> Ended
+    ensures told { (result ≡ refusal_told name.now fault) ⊎ (result ≡ Ended.Memory) }
+    ensures of_texts { IsOfTexts result }
+{
+    let Ok(name) = Text::from_slice(alloc, name.bytes()) else {
+        return Ended::Memory;
+    };
+    match fault {
+        SyntaxFault::BadByte(place) => Ended::BadByte(name, place),
+        SyntaxFault::NoItemHere(place) => Ended::NoItemHere(name, place),
+        SyntaxFault::LeftOutWord(place, word) => Ended::LeftOutWord(name, place, word),
+        SyntaxFault::TooDeep(place) => Ended::TooDeep(name, place),
+        SyntaxFault::Memory => Ended::Memory,
+    }
+}
+
+// The break of the items of a text, told with the name of its input.
+fn break_told(alloc: Global, name: &Text, fault: ResolveFault) -> Ended
+    ensures told { (result ≡ break_told name.now fault) ⊎ (result ≡ Ended.Memory) }
+    ensures of_texts { IsOfTexts result }
+{
+    let Ok(name) = Text::from_slice(alloc, name.bytes()) else {
+        return Ended::Memory;
+    };
+    match fault {
+        ResolveFault::TooMany(kind, count) => Ended::TooMany(Some(name), kind, count),
+        ResolveFault::Duplicate(place, first) => Ended::Duplicate(name, place, first),
+        ResolveFault::UnknownName(place, spelled) => Ended::UnknownName(name, place, spelled),
+        ResolveFault::WrongNumber(place, next, found) => {
+            Ended::WrongNumber(name, place, next, found)
+        }
+        ResolveFault::ConstantRange(place) => Ended::ConstantRange(name, place),
+        ResolveFault::TooDeep(place) => Ended::TooDeep(name, place),
+        ResolveFault::SelfContaining(place) => Ended::SelfContaining(name, place),
+        ResolveFault::TooLarge(place) => Ended::TooLarge(name, place),
+        ResolveFault::Memory => Ended::Memory,
+    }
+}
+
+// The function that is too large, told with the name of its input.
+fn size_told(alloc: Global, name: Text, function: &Name, size: u64) -> Result<Ended, AllocError>
+    ensures { IfOk result (λ ended. ended ≡ Ended.FunctionTooLarge name (spelled_global function.now) size) }
+{
+    let function = spell_global(alloc, function.text().bytes())?;
+    Ok(Ended::FunctionTooLarge(name, function, size))
+}
+
+// The rule that does not hold, told with the name of its input.
+fn rule_told(alloc: Global, name: Text, rule: u8, entity: &Entity) -> Result<Ended, AllocError>
+    ensures { IfOk result (λ ended. ended ≡ Ended.Invalid name rule (entity_words (entity_view entity.now))) }
+{
+    let words = entity_words(alloc, entity)?;
+    Ok(Ended::Invalid(name, rule, words))
+}
+
+// The refusal of a module, told with the name of its input.
+fn verdict_told(alloc: Global, name: &Text, fault: VerifyFault) -> Ended
+    ensures told { (result ≡ verdict_told name.now fault) ⊎ (result ≡ Ended.Memory) }
+    ensures of_texts { IsOfTexts result }
+{
+    let Ok(name) = Text::from_slice(alloc, name.bytes()) else {
+        return Ended::Memory;
+    };
+    let told = match &fault {
+        VerifyFault::FunctionTooLarge(function, size) => size_told(alloc, name, function, *size),
+        VerifyFault::Invalid(rule, entity) => rule_told(alloc, name, *rule, entity),
+        VerifyFault::Memory => return Ended::Memory,
+    };
+    match told {
+        Ok(ended) => ended,
+        Err(_) => Ended::Memory,
+    }
+}
+
+/// A text that is accepted: its items, and their module.
+#[derive(Drop)]
+pub(crate) struct Accepted {
+    pub(crate) items: Items,
+    pub(crate) checked: Checked,
+}
+
+/// The items and the module of the text of the input of this name, where it has a module that is valid.
+pub(crate) fn accepted_text(alloc: Global, name: &Text, text: &[u8]) -> Result<Accepted, Ended>
+    requires { IsShort text.now }
+    ensures module { IfOk result (λ accepted. IsTextOf text.now (items_view accepted.items) (module_of accepted.checked)) }
+    // A text has no other module.
+    ensures one { IfOk result (λ accepted. (m : Module) → Reads text.now m → m ≡ module_of accepted.checked) }
+    ensures refused { IfErr result (λ ended. IsTextRefused name.now text.now ended ⊎ (ended ≡ Ended.Memory)) }
+    ensures of_texts { IfErr result IsOfTexts }
+{
+    let items = match read_items(alloc, text) {
+        Ok(items) => items,
+        Err(fault) => return Err(refusal_told(alloc, name, fault)),
+    };
+    let arena = match resolve(alloc, &items) {
+        Ok(arena) => arena,
+        Err(fault) => return Err(break_told(alloc, name, fault)),
+    };
+    match verify(alloc, arena) {
+        Ok(checked) => Ok(Accepted { items, checked }),
+        Err(fault) => Err(verdict_told(alloc, name, fault)),
+    }
+}
+
+// Judges the input of this name: a text is one of a module, and bitcode is passed over.
+fn judge(alloc: Global, name: &Text, bytes: &[u8]) -> Result<(), Ended>
+    requires { IsShort bytes.now }
+    ensures accepted { OnOk result (IsPartAccepted bytes.now) }
+    ensures refused { IfErr result (λ ended. IsPartRefused name.now bytes.now ended ⊎ (ended ≡ Ended.Memory)) }
+    ensures of_texts { IfErr result IsOfTexts }
+{
+    if is_bitcode(bytes) {
+        return Ok(());
+    }
+    accepted_text(alloc, name, bytes)?;
+    Ok(())
+}
+
+/// Judges the inputs of these names, in their order.
+pub(crate) fn judge_all(alloc: Global, names: &[Text], texts: &[Text]) -> Result<(), Ended>
+    requires same { length names.now ≡ length texts.now }
+    requires short { AreShort texts.now }
+    ensures accepted { OnOk result (AreAccepted texts.now) }
+    ensures refused { IfErr result (λ ended. IsFirstRefusal names.now texts.now ended ⊎ (ended ≡ Ended.Memory)) }
+    ensures of_texts { IfErr result IsOfTexts }
+{
+    'parts: for index in 0..texts.len() {
+        judge(alloc, &names[index], texts[index].bytes())?;
+    }
+    Ok(())
+}
