@@ -612,8 +612,14 @@ def products():
                   ["define void @h() {\n", (46341, "%v#=add i1 0,0 br label %b# b#:\n"), "ret void }\n"], too_large("@f", 2147516416)))
 
 
+def programs():
+    """What clang 19 prints for ten C programs, at -O0 and at -O2 (tests/programs)."""
+    for text in sorted((pathlib.Path(__file__).resolve().parent / "programs").glob("*.ll")):
+        valid(text.read_text().rstrip("\n"))
+
+
 TABLES = [worked, layouts, linkages, commons, appending, intrinsics, types, alignments, entries, phis, definedness, written, arithmetic, casts,
-          addresses, indices, aggregates, calls, constants, aliases, places, orders, products]
+          addresses, indices, aggregates, calls, constants, aliases, places, orders, products, programs]
 
 
 def script(text):
