@@ -1,0 +1,37 @@
+-- Operands that are appended one behind the other.
+use Rattle.std.proofs.Common.{◌≡◌, ℕ, ◌+◌, ◌<◌, ◌≤◌, List, [], ◌∷◌, ◌++◌, length, drop, get_or, append_assoc, refl, sym, ap, ◌∙◌}
+use Rattle.std.proofs.lemmas.List.{at_drop_more, at_drop_all, append-nil}
+
+-- two, three and more lists behind one
+pub two : (o x y m n : List ℕ) → m ≡ o ++ x → n ≡ m ++ y → n ≡ o ++ (x ++ y)
+two o x y m n e f = f ∙ ap (λ (l : List ℕ). l ++ y) e ∙ append_assoc o x y
+
+pub three : (o x y z m n p : List ℕ) → m ≡ o ++ x → n ≡ m ++ y → p ≡ n ++ z → p ≡ o ++ (x ++ (y ++ z))
+three o x y z m n p e f g = two o x (y ++ z) m p e (two m y z n p f g)
+
+pub four : (o x y z w m n p q : List ℕ) → m ≡ o ++ x → n ≡ m ++ y → p ≡ n ++ z → q ≡ p ++ w → q ≡ o ++ (x ++ (y ++ (z ++ w)))
+four o x y z w m n p q e f g h = two o x (y ++ (z ++ w)) m q e (three m y z w n p q f g h)
+
+pub five : (o x y z w v m n p q r : List ℕ) → m ≡ o ++ x → n ≡ m ++ y → p ≡ n ++ z → q ≡ p ++ w → r ≡ q ++ v → r ≡ o ++ (x ++ (y ++ (z ++ (w ++ v))))
+five o x y z w v m n p q r e f g h i = two o x (y ++ (z ++ (w ++ v))) m r e (four m y z w v n p q r f g h i)
+
+pub six : (o x y z w v u m n p q r s : List ℕ) → m ≡ o ++ x → n ≡ m ++ y → p ≡ n ++ z → q ≡ p ++ w → r ≡ q ++ v → s ≡ r ++ u → s ≡ o ++ (x ++ (y ++ (z ++ (w ++ (v ++ u)))))
+six o x y z w v u m n p q r s e f g h i j = two o x (y ++ (z ++ (w ++ (v ++ u)))) m s e (five m y z w v u n p q r s f g h i j)
+
+-- behind an empty list
+pub from_empty : (o x n : List ℕ) → o ≡ [] → n ≡ o ++ x → n ≡ x
+from_empty o x n empty e = e ∙ ap (λ (l : List ℕ). l ++ x) empty
+
+-- a list that is appended part by part, each by `one`
+module _ {A : Type 0} (all : List A → List ℕ) (one : A → List ℕ) (more : (x : A) (xs : List A) → all (x ∷ xs) ≡ one x ++ all xs) where
+  -- one part more
+  pub part_more : (xs : List A) (k : ℕ) (x : A) (now next whole : List ℕ) → k < length xs → x ≡ get_or xs k x → now ++ all (drop k xs) ≡ whole → next ≡ now ++ one x → next ++ all (drop (k + 1) xs) ≡ whole
+  part_more xs k x now next whole lt is before step =
+      ap (λ (l : List ℕ). l ++ all (drop (k + 1) xs)) step
+      ∙ append_assoc now (one x) (all (drop (k + 1) xs))
+      ∙ ap (λ (l : List ℕ). now ++ l) (sym (more x (drop (k + 1) xs)) ∙ ap (λ (y : A). all (y ∷ drop (k + 1) xs)) is ∙ sym (at_drop_more all xs k x lt))
+      ∙ before
+
+  -- none is left
+  pub part_end : all [] ≡ [] → (xs : List A) (k : ℕ) (now whole : List ℕ) → length xs ≤ k → now ++ all (drop k xs) ≡ whole → now ≡ whole
+  part_end none xs k now whole le before = sym (append-nil now) ∙ ap (λ (l : List ℕ). now ++ l) (sym (at_drop_all all xs k le ∙ none)) ∙ before

@@ -1,0 +1,32 @@
+use Rattle.std.proofs.Common.{List, [], ap, map, refl, ◌++◌, ◌+◌, ◌∙◌, ◌∷◌}
+use Rattle.bitcode_write.proofs.Chain.{from_empty}
+use Rattle.bitcode_write.proofs.Lined.{lines_as, lines_same, lines_then}
+use Rattle.ir_tables.specs.Opcode.{opcode_code}
+use Rattle.ir_tables.specs.declared.opcode.Opcode.{Opcode}
+use Rattle.module_arena.specs.View.{local_view}
+use Rattle.line_write.specs.Lines.{ending_of, instruction_of}
+use Rattle.operand_write.specs.Numbered.{inside, texts}
+use Rattle.record_table.specs.Fields.{label}
+use Rattle.record_table.specs.Spelling.{Line, ending_line, instruction_line}
+use Rattle.module_arena.specs.declared.instruction.Inst.{Inst}
+use Rattle.bitcode_write.proofs.bodies.put_block.Goals as goal
+
+pub returns-clause-put : goal.returns-clause-put
+returns-clause-put c =
+    let a = c.args.numbering.now in
+    let f = c.args.function.now in
+    let b = c.args.block.now in
+    let k = inside a f in
+    let named : Line = (2, (label (texts a) 0).spell (local_view b.name)) in
+    let lines = map (instruction_line (texts a) k) (map (instruction_of a f) b.instructions) in
+    let ended = ending_line k (ending_of a f b.end) in
+    lines_then (named ∷ []) (lines ++ ended ∷ []) (lines_as _ 2 _ _ c.in_ok-put.ensures.put refl (from_empty _ _ _ c.requires.empty c.in_ok-put_label.ensures))
+    (lines_then lines (ended ∷ []) (lines_same (ap (λ (is : List Inst). map (instruction_line (texts a) k) (map (instruction_of a f) is)) c.as_slice.ensures) c.in_ok-put_lines.ensures.put)
+    (lines_as _ _ _ _ c.in_ok-put-2.ensures.put (c.line_code.ensures ∙ ap (λ (o : Opcode). 10 + opcode_code o) (c.ending_opcode-opcode.ensures a f))
+    (from_empty _ _ _ c.in_ok-put_lines.ensures.none (c.in_ok-put_ending.ensures f c.requires.known.ending))))
+
+pub put_lines-requires-clause-known : goal.put_lines-requires-clause-known
+put_lines-requires-clause-known c = rw c.as_slice.ensures c.requires.known.known
+
+pub put_lines-requires-clause-lines : goal.put_lines-requires-clause-lines
+put_lines-requires-clause-lines c = rw c.as_slice.ensures c.requires.known.lines

@@ -1,0 +1,11 @@
+use Rattle.std.proofs.Common.{drop, flat_map, map, ◌++◌, ◌≡◌}
+use Rattle.operand_write.specs.Numbered.{indices}
+use Rattle.record_table.specs.Fields.{ty}
+use Rattle.type_table.specs.Types.{tree}
+use Rattle.bitcode_write.proofs.types.put_indices.Given as goal
+
+-- what is left completes the list
+abbrev pub invariant-parts : goal.invariant-parts
+invariant-parts l =
+    let a = l.numbering in
+    l.operands.items ++ flat_map (ty (indices a)).spell (map (tree a.table) (drop l.place l.ids)) ≡ l.initial.operands.items ++ flat_map (ty (indices a)).spell (map (tree a.table) l.ids)

@@ -1,0 +1,15 @@
+//! The bitcode of a checked module.
+//!
+//! It stands on the operands of `operand_write` and `line_write` and on the writer of `bit_stream`. It promises the one spelling of the module,
+//! and nothing else; only want of memory refuses it. Definitions: `Spelling` of `record_table`; of its parts `specs/Put` and `specs/Entries`.
+#![tactic(auto)]
+
+mod bodies;
+mod byte_blocks;
+mod entries;
+mod globals;
+mod records;
+mod types;
+mod writing;
+
+pub use writing::write;

@@ -1,0 +1,3 @@
+pub mod Ids
+pub mod Lines
+pub mod Parts

@@ -1,0 +1,14 @@
+//! Instructions and the ends of blocks as the operands of records, appended to a list of numbers.
+//!
+//! It stands on the operands of `operand_write`. It promises that what is appended is what the layout of the line's opcode spells; only want of memory
+//! refuses it. Definitions: `Lines` and `Standing` of `record_table`, and `specs/Ids`, `specs/Lines`, `specs/Parts`.
+#![tactic(auto)]
+
+mod call;
+mod ending;
+mod instruction;
+mod opcode;
+
+pub use ending::put_ending;
+pub use instruction::put_instruction;
+pub use opcode::{ending_opcode, instruction_opcode};

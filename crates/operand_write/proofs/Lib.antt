@@ -1,0 +1,6 @@
+pub mod Chain
+pub mod Places
+pub mod Globals
+pub mod Numbers
+pub mod Inside
+pub mod Parts

@@ -1,0 +1,74 @@
+-- For `Numbering`: what the ids of an arena stand for as operands.
+use Rattle.std.specs.Prelude.{◌≡◌, ℕ, List, map}
+use Rattle.type_table.specs.Types.{trees}
+use Rattle.module_arena.specs.declared.constant.TypedConst.{TypedConst}
+use Rattle.module_arena.specs.declared.entry.Function.{Function}
+use Rattle.module_arena.specs.declared.instruction.Value as the_value
+use Rattle.module_arena.specs.declared.instruction.Operand as the_operand
+use Rattle.module_arena.specs.declared.instruction.Case as the_case
+use Rattle.module_arena.specs.declared.instruction.Incoming as the_incoming
+use Rattle.module_arena.specs.Lists.{Lists, value_names, function_blocks}
+use Rattle.module_arena.specs.Module as m
+use Rattle.module_arena.specs.View.{module_of, constants_of, constant_at, constants_at, local_view, value_view, operand_view, incoming_view, case_view, block_name}
+use Rattle.record_table.specs.Fields.{Texts, Numbering}
+use Rattle.record_table.specs.StringTable.{once_each}
+use Rattle.record_table.specs.Mentions.{mentioned}
+use Rattle.record_table.specs.Spelling.{numbering, texts_in, texts_of}
+use Rattle.record_order.specs.Table.{Table, Holds}
+use Rattle.record_order.specs.Order.{Order, listed_trees}
+
+-- the types and texts are those of the module that the lists stand for
+pub record IsNumbering (a : Lists) (o : Order) (t : Table) : Type 0 where
+  pub types : o.types ≡ a.table
+  pub listed : listed_trees o ≡ mentioned (module_of a)
+  pub texts : Holds t (once_each (texts_of (module_of a)))
+
+module _ (a : Lists) where
+  -- what indices stand for outside bodies, and how texts stand
+  abbrev pub indices : Numbering
+  indices = numbering (module_of a)
+
+  -- how texts and names stand in its records
+  abbrev pub texts : Texts
+  texts = texts_in (module_of a)
+
+  -- the parts that are meant
+  abbrev pub constant_of : ℕ → m.Constant
+  constant_of id = constant_at (constants_of a) id
+
+  -- constants with their types
+  abbrev pub constants_in : List TypedConst → m.Constants
+  constants_in parts = constants_at (trees a.table) (constants_of a) parts
+
+  -- what indices stand for in the body of a function
+  module _ (f : Function) where
+    abbrev pub values_in : List m.LocalName
+    values_in = map local_view (value_names f)
+
+    -- what its blocks are called
+    abbrev pub labels_in : List m.LocalName
+    labels_in = map (λ b. local_view b.name) (function_blocks f)
+
+    -- the same numbering, with both
+    abbrev pub inside : Numbering
+    inside = record (indices) { values = values_in; blocks = labels_in }
+
+    -- a value that is meant
+    abbrev pub value_of : the_value.Value → m.Value
+    value_of v = value_view (trees a.table) (constants_of a) values_in labels_in v
+
+    -- an operand
+    abbrev pub operand_of : the_operand.Operand → m.Operand
+    operand_of o = operand_view (trees a.table) (constants_of a) values_in labels_in o
+
+    -- the name of a block
+    abbrev pub label_of : ℕ → m.LocalName
+    label_of id = block_name (trees a.table) (constants_of a) values_in labels_in id
+
+    -- an entry of a phi
+    abbrev pub incoming_of : the_incoming.Incoming → m.Incoming
+    incoming_of i = incoming_view (trees a.table) (constants_of a) values_in labels_in i
+
+    -- a case of a switch
+    abbrev pub case_in : the_case.Case → m.Case
+    case_in c = case_view (trees a.table) (constants_of a) values_in labels_in c

@@ -1,0 +1,13 @@
+pub mod Texts
+pub mod Gaining
+pub mod TextsOf
+pub mod BodyKnown
+pub mod Gathering
+pub mod Listing
+pub mod OrderKept
+pub mod Noting
+pub mod Going
+pub mod KnownParts
+pub mod ConstantParts
+pub mod WrittenIn
+pub mod Ordering

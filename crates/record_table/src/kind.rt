@@ -1,0 +1,47 @@
+//! The kinds of types.
+ghost use Rattle.std.specs.Prelude.{◌≡◌};
+ghost use Rattle.std.specs.Option.{option_map};
+ghost use Rattle.record_table.specs.TypeRecords.{kind_code, kind_of_code, kinds};
+ghost use Rattle.record_table.specs.Codes.{kind_view};
+
+/// How a type stands in the block of types.
+#[derive(Clone, Copy, Debug, PartialEq, Eq)]
+pub enum Kind {
+    Int,
+    Ptr,
+    Void,
+    Array,
+    Struct,
+    Named,
+}
+
+impl Kind {
+    /// The code of the record of such a type, counted from 1.
+    pub fn code(self) -> u32
+        ensures { result ≡ kind_code (kind_view self) }
+    {
+        match self {
+            Kind::Int => 1,
+            Kind::Ptr => 2,
+            Kind::Void => 3,
+            Kind::Array => 4,
+            Kind::Struct => 5,
+            Kind::Named => 6,
+        }
+    }
+
+    /// The kind with this code, and None exactly where there is none.
+    pub fn of_code(code: u32) -> Option<Kind>
+        ensures { option_map kind_view result ≡ kind_of_code code kinds }
+    {
+        match code {
+            1 => Some(Kind::Int),
+            2 => Some(Kind::Ptr),
+            3 => Some(Kind::Void),
+            4 => Some(Kind::Array),
+            5 => Some(Kind::Struct),
+            6 => Some(Kind::Named),
+            _ => None,
+        }
+    }
+}
