@@ -7,7 +7,7 @@ are full, and over files. What is told is written here by hand from docs/command
     tests/link_text.py            writes the rows
     tests/link_text.py --check    tells whether they are what it would write
 
-The rows stand before those of tests/names.py, which takes all that is behind its own mark.
+The rows stand before those of tests/assemble.py.
 """
 import pathlib
 import sys
@@ -17,9 +17,9 @@ import canonical
 
 CRATE = pathlib.Path(__file__).resolve().parent.parent / "crates" / "tool_table"
 MARK = b"# One text, linked and printed: written by tests/link_text.py.\n"
-MARK_BEHIND = b"# Names and numbers: written by tests/names.py.\n"
+MARK_BEHIND = b"# Texts assembled: written by tests/assemble.py.\n"
 RUN = b"> llvm-link -S -o - canonical.ll\n"
-RUN_BEHIND = b"> llvm-as names.ll\n"
+RUN_BEHIND = b"> llvm-as -o - assembled.ll\n"
 
 # What the script says of each run, and what is told of it.
 RUNS = []
@@ -126,9 +126,10 @@ def refusals():
 
 def unbuilt():
     """What is not built, once all is judged that is."""
-    run(file_of("@x = global i8 255"), "llvm-link canonical.ll", f"status 1\nfiles canonical.ll\n{UNBUILT}")
+    run(file_of("@x = global i8 255"), "llvm-link canonical.ll canonical.ll", f"status 1\nfiles canonical.ll canonical.ll\n{UNBUILT}")
     run("", "llvm-link -S canonical.ll canonical.ll -o out.ll", f"status 1\nfiles canonical.ll canonical.ll\n{UNBUILT}")
     run(file_of("@x = available_externally global i8 255"), "llvm-link -S canonical.ll", f"status 1\nfiles canonical.ll\n{UNBUILT}")
+    run("", "llvm-link canonical.ll", f"status 1\nfiles canonical.ll\n{UNBUILT}")
     run(file_of("define available_externally void @f() { ret void }"), "llvm-link -S canonical.ll", f"status 1\nfiles canonical.ll\n{UNBUILT}")
     run(file_of("@x = appending global [0 x i8] zeroinitializer"), "llvm-link -S canonical.ll", f"status 1\nfiles canonical.ll\n{UNBUILT}")
     run("clear\nfile canonical.ll\n= 4243c0de\n", "llvm-link -S canonical.ll", f"status 1\nfiles canonical.ll\n{UNBUILT}")

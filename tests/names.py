@@ -1,6 +1,6 @@
 #!/usr/bin/env python3
 """Writes the rows of names and numbers at the end of crates/tool_table's stored input and output: texts, and how
-`llvm-as` tells what is wrong with them.
+`llvm-as` tells what is wrong with them. A text with which nothing is wrong is judged by `llvm-extract`.
 
 What a text comes to is written here by hand from the rules of docs/language.md; nothing is taken from the program. `‹` stands
 before the place that is told, `›` before the first place of a duplicate; a place is line:column, in bytes, from 1.
@@ -397,23 +397,28 @@ def script(text):
     return lines
 
 
+def words(answer):
+    """A module is taken by a tool that judges it and then ends, since its work is not built."""
+    return "llvm-extract names.ll" if answer == "module" else "llvm-as names.ll"
+
+
 def told(text, answer):
     """What the program prints of the run."""
     if answer == "module":
-        line = "llvm-as: not built"
+        line = "llvm-extract: not built"
     elif answer.startswith("too many"):
         line = f"llvm-as: names.ll: {answer}"
     else:
         line = f"llvm-as: names.ll:{answer}"
     # The test program writes a backslash twice.
     line = line.replace("\\", "\\\\")
-    return f"{RUN.decode()}status 1\nfiles names.ll\nerrors\n| {line}\n"
+    return f"> {words(answer)}\nstatus 1\nfiles names.ll\nerrors\n| {line}\n"
 
 
 def main():
     for table in TABLES:
         table()
-    given = b"".join(("clear\nfile names.ll\n" + "".join(script(text)) + "run llvm-as names.ll\n").encode() for text, _ in CASES)
+    given = b"".join(("clear\nfile names.ll\n" + "".join(script(text)) + f"run {words(answer)}\n").encode() for text, answer in CASES)
     wanted = "".join(told(text, answer) for text, answer in CASES).encode()
     stdin, stdout = (CRATE / "stdin").read_bytes(), (CRATE / "stdout").read_bytes()
     stdin = stdin.split(MARK)[0] + MARK + given

@@ -1,23 +1,25 @@
 -- What writing a result leaves, and how its end is told.
-use Rattle.std.proofs.Common.{◌≡◌, ◌⊎◌, inl, inr, ℕ, ◌≤◌, ◌<◌, List, take, codes, Bool, true, false, Option, Some, None, Ok, Err, refl, sym, ap, ◌∙◌, subst, arith}
+use Rattle.std.proofs.Common.{◌≡◌, ◌⊎◌, inl, inr, ℕ, ◌≤◌, ◌<◌, List, [], ◌∷◌, take, codes, Bool, true, false, Option, Some, None, Ok, Err, refl, sym, ap, ◌∙◌, subst, arith}
 use Rattle.ir_base.specs.Outside.{Rose}
 use Rattle.ir_base.specs.Files.{Named, HoldsFront}
-use Rattle.canonical.specs.Canonical.{canon}
 use Rattle.command_line.specs.declared.command.Command.{Command}
-use Rattle.command_line.specs.declared.command.Command.TheVariants.{Link}
+use Rattle.command_line.specs.declared.command.Command.TheVariants.{Assemble, Link}
 use Rattle.command_line.specs.declared.command.OutputName.{OutputName}
 use Rattle.command_line.specs.declared.command.OutputName.TheVariants.{Standard, File}
+use Rattle.ir_syntax.specs.Tree.{ItemTree}
 use Rattle.module_arena.specs.Module.{Module}
 use Rattle.tool_output.specs.Outputs.{Outputs, is_standard, told_name, IsPut, IsPartlyPut}
 use Rattle.tool_output.specs.Writing.{Puts, Counts}
+use Rattle.tool_output.specs.Written.{written}
+use Rattle.tool_output.specs.declared.format.OutputFormat.TheVariants.{Bitcode}
 use Rattle.tool_output.specs.declared.fault.OutputFault.{OutputFault}
 use Rattle.tool_output.specs.declared.fault.OutputFault.TheVariants as fault
-use Rattle.tool_cli.specs.declared.ended.Ended.{Ended}
-use Rattle.tool_cli.specs.declared.ended.Ended.TheVariants.{CannotWrite, NotBuilt, Memory}
-use Rattle.tool_cli.specs.declared.ended.Ended.TheVariants as ends
-use Rattle.tool_cli.specs.Judged.{AreAccepted, IsFirstRefusal}
-use Rattle.tool_cli.specs.Made.{LinksTo}
-use Rattle.tool_cli.specs.Output.{IsUnwritten, FailsToWrite, IsFileUnwritten, IsBeforeWriting, LeavesStandard, LeavesNamed, KeepsOthers, KeepsFiles, LeavesFilesBut, Delivers, IsWritten}
+use Rattle.tool_ends.specs.declared.ended.Ended.{Ended}
+use Rattle.tool_ends.specs.declared.ended.Ended.TheVariants.{CannotWrite, NotBuilt, Memory}
+use Rattle.tool_ends.specs.declared.ended.Ended.TheVariants as ends
+use Rattle.tool_cli.specs.Judged.{IsTextRefused, IsTextOf, AreAccepted, IsFirstRefusal}
+use Rattle.tool_cli.specs.Made.{LinksTo, AssemblesTo, IsResult, format_of}
+use Rattle.tool_cli.specs.Output.{output_of, IsUnwritten, FailsToWrite, IsFileUnwritten, IsBeforeWriting, LeavesStandard, LeavesNamed, KeepsOthers, KeepsFiles, LeavesFilesBut, Delivers, IsWritten}
 use Rattle.tool_cli.specs.Reads.{LeavesFiles}
 use Rattle.tool_cli.specs.Told.{IsWork, IsOfTexts, IsOfWork}
 
@@ -156,19 +158,21 @@ fails_wider (Some (File file)) o o' w w' (CannotWrite name) f g fails = (fails.0
 fails_wider output o o' w w' Memory f g fails = tt
 fails_wider output o o' w w' ended f g fails = absurd fails
 
--- Ends of linking.
+-- Ends of commands with a result.
 
-pub link_work : (names texts : List (List ℕ)) (place : OutputName) (m : Module) (before now : Outputs) (o w : Type 0) (ended : Ended) → AreAccepted texts → LinksTo texts m → Delivers place (canon m) before now ended → ((name : List ℕ) → ended ≡ CannotWrite name → IsUnwritten (Some place) o w name) → IsWork (Link names place true) texts ended ⊎ FailsToWrite (Some place) o w ended
-link_work names texts place m before now o w ends.Ok accepted links delivered cause = inl (inr (accepted, inl (canon m, (m, links, refl), refl)))
-link_work names texts place m before now o w (CannotWrite name) accepted links delivered cause = inr (cause name refl)
-link_work names texts place m before now o w Memory accepted links delivered cause = inr tt
-link_work names texts place m before now o w ended accepted links delivered cause = absurd delivered
+-- a result was delivered
+pub result_written : (command : Command) (texts : List (List ℕ)) (place : OutputName) (bytes : List ℕ) (before now : Outputs) (ended : Ended) → output_of command ≡ Some place → IsResult command texts bytes → Delivers place bytes before now ended → IsWritten command texts before now ended
+result_written command texts place bytes before now ends.Ok goes result delivered = (bytes, result, rw goes delivered)
+result_written command texts place bytes before now (CannotWrite name) goes result delivered = (bytes, result, rw goes delivered.1)
+result_written command texts place bytes before now Memory goes result delivered = inl delivered
+result_written command texts place bytes before now ended goes result delivered = absurd delivered
 
-pub link_written : (names texts : List (List ℕ)) (place : OutputName) (m : Module) (before now : Outputs) (ended : Ended) → LinksTo texts m → Delivers place (canon m) before now ended → IsWritten (Link names place true) texts before now ended
-link_written names texts place m before now ends.Ok links delivered = (canon m, (m, links, refl), delivered)
-link_written names texts place m before now (CannotWrite name) links delivered = (canon m, (m, links, refl), delivered.1)
-link_written names texts place m before now Memory links delivered = inl delivered
-link_written names texts place m before now ended links delivered = absurd delivered
+-- it was delivered, or that failed
+pub delivered_work : (command : Command) (texts : List (List ℕ)) (place : OutputName) (bytes : List ℕ) (before now : Outputs) (o w : Type 0) (ended : Ended) → IsWork command texts ends.Ok → Delivers place bytes before now ended → ((name : List ℕ) → ended ≡ CannotWrite name → IsUnwritten (Some place) o w name) → IsWork command texts ended ⊎ FailsToWrite (Some place) o w ended
+delivered_work command texts place bytes before now o w ends.Ok work delivered cause = inl work
+delivered_work command texts place bytes before now o w (CannotWrite name) work delivered cause = inr (cause name refl)
+delivered_work command texts place bytes before now o w Memory work delivered cause = inr tt
+delivered_work command texts place bytes before now o w ended work delivered cause = absurd delivered
 
 pub delivered_of_work : (place : OutputName) (bytes : List ℕ) (before now : Outputs) (ended : Ended) → Delivers place bytes before now ended → IsOfWork ended
 delivered_of_work place bytes before now ends.Ok delivered = tt
@@ -176,13 +180,39 @@ delivered_of_work place bytes before now (CannotWrite name) delivered = tt
 delivered_of_work place bytes before now Memory delivered = tt
 delivered_of_work place bytes before now ended delivered = absurd delivered
 
--- what is linked to nothing yet is not built
-pub link_unbuilt : (names texts : List (List ℕ)) (place : OutputName) → AreAccepted texts → ((m : Module) → LinksTo texts m → ⊥) → IsWork (Link names place true) texts NotBuilt
-link_unbuilt names texts place accepted none = inr (accepted, inr ((λ bytes r. none r.0 r.1), refl))
+-- Ends of linking.
 
-pub link_refused : (names texts : List (List ℕ)) (place : OutputName) (o w : Type 0) (ended : Ended) → IsFirstRefusal names texts ended ⊎ (ended ≡ Memory) → IsWork (Link names place true) texts ended ⊎ FailsToWrite (Some place) o w ended
-link_refused names texts place o w ended (inl refused) = inl (inl refused)
-link_refused names texts place o w ended (inr none) = inr (rw none tt)
+-- inputs that are linked to a module
+pub link_work : (names texts : List (List ℕ)) (place : OutputName) (text : Bool) (m : Module) → AreAccepted texts → LinksTo texts m → IsWork (Link names place text) texts ends.Ok
+link_work names texts place text m accepted links = inr (accepted, inl (written (format_of text) m, (m, links, refl), refl))
+
+-- what is linked to nothing yet is not built
+pub link_unbuilt : (names texts : List (List ℕ)) (place : OutputName) (text : Bool) → AreAccepted texts → ((m : Module) → LinksTo texts m → ⊥) → IsWork (Link names place text) texts NotBuilt
+link_unbuilt names texts place text accepted none = inr (accepted, inr ((λ bytes r. none r.0 r.1), refl))
+
+pub link_refused : (names texts : List (List ℕ)) (place : OutputName) (text : Bool) (o w : Type 0) (ended : Ended) → IsFirstRefusal names texts ended ⊎ (ended ≡ Memory) → IsWork (Link names place text) texts ended ⊎ FailsToWrite (Some place) o w ended
+link_refused names texts place text o w ended (inl refused) = inl (inl refused)
+link_refused names texts place text o w ended (inr none) = inr (rw none tt)
+
+-- Ends of assembling.
+
+-- an accepted text is assembled to its module
+pub text_assembled : (text : List ℕ) (items : List ItemTree) (m : Module) → IsTextOf text items m → AssemblesTo text m
+text_assembled text items m is = record {
+  reads = record { items = items; has_items = is.has_items; resolves = is.accepted.resolves };
+  sized = is.accepted.sized;
+  valid = is.accepted.valid;
+}
+
+pub assemble_work : (name text : List ℕ) (place : OutputName) (m : Module) → AssemblesTo text m → IsWork (Assemble name place) (text ∷ []) ends.Ok
+assemble_work name text place m assembled = inr (m, assembled, refl)
+
+pub assemble_result : (name text : List ℕ) (place : OutputName) (m : Module) → AssemblesTo text m → IsResult (Assemble name place) (text ∷ []) (written Bitcode m)
+assemble_result name text place m assembled = (m, assembled, refl)
+
+pub assemble_refused : (name text : List ℕ) (place : OutputName) (o w : Type 0) (ended : Ended) → IsTextRefused name text ended ⊎ (ended ≡ Memory) → IsWork (Assemble name place) (text ∷ []) ended ⊎ FailsToWrite (Some place) o w ended
+assemble_refused name text place o w ended (inl refused) = inl (inl refused)
+assemble_refused name text place o w ended (inr none) = inr (rw none tt)
 
 -- an end of work that writes nothing
 pub silent_written : (command : Command) (texts : List (List ℕ)) (before now : Outputs) (ended : Ended) → IsOfTexts ended → now ≡ before → IsWritten command texts before now ended
@@ -192,7 +222,12 @@ silent_written command texts before now Memory of same = inl same
 silent_written command texts before now ended of same = same
 
 -- what is said of the command that was linked, and of its texts, is said of the command that it is
-pub link_is : (P : Command → List (List ℕ) → Type 0) (command : Command) (names inputs given texts : List (List ℕ)) (place : OutputName) (text : Bool) → command ≡ Link inputs place text → text ≡ true → names ≡ inputs → given ≡ texts → P (Link names place true) given → P command texts
-link_is P command names inputs given texts place text is asked same passed said =
-    let linked = ap (λ (ns : List (List ℕ)). Link ns place true) same ∙ ap (λ (t : Bool). Link inputs place t) (sym asked) ∙ sym is in
+pub link_is : (P : Command → List (List ℕ) → Type 0) (command : Command) (names inputs given texts : List (List ℕ)) (place : OutputName) (text : Bool) → command ≡ Link inputs place text → names ≡ inputs → given ≡ texts → P (Link names place text) given → P command texts
+link_is P command names inputs given texts place text is same passed said =
+    let linked = ap (λ (ns : List (List ℕ)). Link ns place text) same ∙ sym is in
     subst (λ (ts : List (List ℕ)). P command ts) passed (subst (λ (c : Command). P c given) linked said)
+
+-- the same of the command that was assembled, which has one text
+pub assemble_is : (P : Command → List (List ℕ) → Type 0) (command : Command) (input : List ℕ) (place : OutputName) (texts : List (List ℕ)) (text : List ℕ) → command ≡ Assemble input place → texts ≡ text ∷ [] → P (Assemble input place) (text ∷ []) → P command texts
+assemble_is P command input place texts text is one said =
+    subst (λ (ts : List (List ℕ)). P command ts) (sym one) (subst (λ (c : Command). P c (text ∷ [])) (sym is) said)

@@ -1,5 +1,3 @@
-pub mod Lines
-pub mod Numerals
 pub mod Contents
 pub mod Turns
 pub mod Delivered

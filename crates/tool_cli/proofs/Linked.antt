@@ -7,8 +7,8 @@ use Rattle.ir_syntax.specs.Tree.{ItemTree}
 use Rattle.module_arena.specs.Module.{Module}
 use Rattle.name_rules.specs.Reads.{Reads}
 use Rattle.tool_output.specs.Alone.{links_alone}
-use Rattle.tool_cli.specs.declared.ended.Ended.{Ended}
-use Rattle.tool_cli.specs.declared.ended.Ended.TheVariants.{Memory}
+use Rattle.tool_ends.specs.declared.ended.Ended.{Ended}
+use Rattle.tool_ends.specs.declared.ended.Ended.TheVariants.{Memory}
 use Rattle.tool_cli.specs.Judged.{is_bitcode, IsTextOf, IsPartAccepted, AreAccepted, IsPartRefused, IsFirstRefusal}
 use Rattle.tool_cli.specs.Made.{IsPart, AreParts, IsLinked, LinksTo}
 

@@ -10,8 +10,8 @@ use Rattle.name_rules.specs.Reads.{Reads, Resolves}
 use Rattle.type_verify.specs.declared.fault.VerifyFault.{VerifyFault}
 use Rattle.type_verify.specs.declared.fault.VerifyFault.TheVariants as verdicts
 use Rattle.path_verify.specs.Verified.{Verifies}
-use Rattle.tool_cli.specs.declared.ended.Ended.{Ended}
-use Rattle.tool_cli.specs.declared.ended.Ended.TheVariants.{Memory}
+use Rattle.tool_ends.specs.declared.ended.Ended.{Ended}
+use Rattle.tool_ends.specs.declared.ended.Ended.TheVariants.{Memory}
 use Rattle.tool_cli.specs.Judged.{IsTextRefused, verdict_told}
 
 below : (b : ℕ) → b < 256 → nat_lt b 256 ≡ true

@@ -9,9 +9,9 @@ use Rattle.command_line.specs.declared.command.Command.{Command}
 use Rattle.command_line.specs.declared.command.Command.TheVariants.{Analyze}
 use Rattle.command_line.specs.Tools.{tool_of}
 use Rattle.command_line.specs.Commands.{command_behind}
-use Rattle.tool_cli.specs.declared.ended.Ended.{Ended}
-use Rattle.tool_cli.specs.declared.ended.Ended.TheVariants.{Usage, CannotRead, CannotWrite, InputTooLarge, BitFault, Memory}
-use Rattle.tool_cli.specs.declared.ended.Ended.TheVariants as ends
+use Rattle.tool_ends.specs.declared.ended.Ended.{Ended}
+use Rattle.tool_ends.specs.declared.ended.Ended.TheVariants.{Usage, CannotRead, CannotWrite, InputTooLarge, BitFault, Memory}
+use Rattle.tool_ends.specs.declared.ended.Ended.TheVariants as ends
 
 -- the command tells a stream
 abbrev pub is_analysis : Command → Bool

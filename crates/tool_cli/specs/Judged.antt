@@ -21,8 +21,8 @@ use Rattle.name_rules.specs.declared.fault.ResolveFault.TheVariants as breaks
 use Rattle.type_verify.specs.declared.fault.VerifyFault.{VerifyFault}
 use Rattle.type_verify.specs.declared.fault.VerifyFault.TheVariants as verdicts
 use Rattle.path_verify.specs.Verified.{Verifies}
-use Rattle.tool_cli.specs.declared.ended.Ended.{Ended}
-use Rattle.tool_cli.specs.declared.ended.Ended.TheVariants.{BadByte, NoItemHere, LeftOutWord, TooMany, Duplicate, UnknownName, WrongNumber, ConstantRange, TooDeep, SelfContaining, TooLarge, FunctionTooLarge, Invalid, Memory}
+use Rattle.tool_ends.specs.declared.ended.Ended.{Ended}
+use Rattle.tool_ends.specs.declared.ended.Ended.TheVariants.{BadByte, NoItemHere, LeftOutWord, TooMany, Duplicate, UnknownName, WrongNumber, ConstantRange, TooDeep, SelfContaining, TooLarge, FunctionTooLarge, Invalid, Memory}
 use Rattle.tool_cli.specs.declared.inputs.TheConstants.{LARGEST}
 
 -- The bytes that bitcode begins with (LLVM Bitcode File Format, "LLVM IR Magic Number").

@@ -1,4 +1,3 @@
-pub mod Ended
 pub mod Inputs
 pub mod Causes
 pub mod Judged

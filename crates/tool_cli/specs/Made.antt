@@ -1,12 +1,14 @@
 -- For `run_tool`: the result of a command over its inputs, which is what it writes.
-use Rattle.std.specs.Prelude.{◌≡◌, ℕ, true, List, [], ◌∷◌, Option, Some, None}
+use Rattle.std.specs.Prelude.{◌≡◌, ℕ, Bool, true, false, List, [], ◌∷◌, Option, Some, None}
 use Rattle.std.specs.Bool.{MatchBool}
 use Rattle.bit_tree.specs.Stream.{Tree, Stream}
 use Rattle.bit_dump.specs.Text.{dump_text}
-use Rattle.canonical.specs.Canonical.{canon}
 use Rattle.command_line.specs.declared.command.Command.{Command}
-use Rattle.command_line.specs.declared.command.Command.TheVariants.{Link, Analyze}
+use Rattle.command_line.specs.declared.command.Command.TheVariants.{Assemble, Link, Analyze}
 use Rattle.tool_output.specs.Alone.{links_alone}
+use Rattle.tool_output.specs.Written.{written}
+use Rattle.tool_output.specs.declared.format.OutputFormat.{OutputFormat}
+use Rattle.tool_output.specs.declared.format.OutputFormat.TheVariants.{CanonicalText, Bitcode}
 use Rattle.module_arena.specs.Functions.{first_too_large}
 use Rattle.module_arena.specs.Module.{Module}
 use Rattle.module_arena.specs.Valid.{IsValid}
@@ -45,9 +47,22 @@ abbrev pub IsLinking : List (List ℕ) → Option Module → Type 0
 IsLinking texts (Some m) = LinksTo texts m
 IsLinking texts None = (m : Module) → ¬ LinksTo texts m
 
--- The result of a command whose inputs are these: of `llvm-link -S` the canonical text of the module that they are linked to; of
--- `llvm-bcanalyzer` the text of the tree that its input is the stream of. Every other work is not built, and what a program prints is no result.
+-- a text reads to this module, of which no function is too large and which is valid
+pub record AssemblesTo (text : List ℕ) (m : Module) : Type 0 where
+  pub reads : Reads text m
+  pub sized : first_too_large m ≡ None
+  pub valid : IsValid m
+
+-- what a linked module is written as: with `-S` its canonical text, else bitcode
+abbrev pub format_of : Bool → OutputFormat
+format_of true = CanonicalText
+format_of false = Bitcode
+
+-- The result of a command whose inputs are these: of `llvm-as` the bitcode of the module that its text reads to; of `llvm-link` the bitcode, with
+-- `-S` the canonical text, of the module that they are linked to; of `llvm-bcanalyzer` the text of the tree that its input is the stream of. Every
+-- other work is not built, and what a program prints is no result.
 abbrev pub IsResult : Command → List (List ℕ) → List ℕ → Type 0
-IsResult (Link inputs output true) texts bytes = (m : Module) × LinksTo texts m × (bytes ≡ canon m)
+IsResult (Assemble input output) (text ∷ []) bytes = (m : Module) × AssemblesTo text m × (bytes ≡ written Bitcode m)
+IsResult (Link inputs output text) texts bytes = (m : Module) × LinksTo texts m × (bytes ≡ written (format_of text) m)
 IsResult (Analyze input dump) (stream ∷ []) bytes = (tree : Tree) × Stream stream tree × (bytes ≡ dump_text tree dump)
 IsResult command texts bytes = ⊥

@@ -2,8 +2,8 @@
 use Rattle.std.specs.Prelude.{◌≡◌, ℕ, Bool, false, not, List, [], ◌∷◌, Option, Some, None, if◌then◌else◌}
 use Rattle.std.specs.List.{IsAmong, list_any}
 use Rattle.command_line.specs.Options.{is_dash}
-use Rattle.tool_cli.specs.declared.ended.Ended.{Ended}
-use Rattle.tool_cli.specs.declared.ended.Ended.TheVariants.{CannotRead, InputTooLarge}
+use Rattle.tool_ends.specs.declared.ended.Ended.{Ended}
+use Rattle.tool_ends.specs.declared.ended.Ended.TheVariants.{CannotRead, InputTooLarge}
 
 -- one of the inputs is a file
 abbrev pub has_file : List (List ℕ) → Bool

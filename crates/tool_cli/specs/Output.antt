@@ -2,22 +2,23 @@
 use Rattle.std.specs.Prelude.{◌≡◌, ◌⊎◌, ℕ, ◌≤◌, true, List, drop, codes, Option, Some, None, Result, Ok, Err, IsSomeAnd}
 use Rattle.ir_base.specs.Files.{Named, Holds}
 use Rattle.command_line.specs.declared.command.Command.{Command}
-use Rattle.command_line.specs.declared.command.Command.TheVariants.{Link, Analyze}
+use Rattle.command_line.specs.declared.command.Command.TheVariants.{Assemble, Link, Analyze}
 use Rattle.command_line.specs.declared.command.OutputName.{OutputName}
 use Rattle.command_line.specs.declared.command.OutputName.TheVariants.{Standard, File}
 use Rattle.command_line.specs.Tools.{tool_of}
 use Rattle.command_line.specs.Commands.{IsReadAs, command_behind}
 use Rattle.tool_output.specs.Outputs.{Outputs, told_name, IsPut, IsPartlyPut}
-use Rattle.tool_cli.specs.declared.ended.Ended.{Ended}
-use Rattle.tool_cli.specs.declared.ended.Ended.TheVariants.{CannotWrite, Memory}
-use Rattle.tool_cli.specs.declared.ended.Ended.TheVariants as ends
+use Rattle.tool_ends.specs.declared.ended.Ended.{Ended}
+use Rattle.tool_ends.specs.declared.ended.Ended.TheVariants.{CannotWrite, Memory}
+use Rattle.tool_ends.specs.declared.ended.Ended.TheVariants as ends
 use Rattle.tool_cli.specs.Analyzed.{is_analysis}
 use Rattle.tool_cli.specs.Inputs.{inputs_of, texts_read}
 use Rattle.tool_cli.specs.Made.{IsResult}
 
 -- Where the result of a command goes. Of a command whose work is not built, and of a program that is run, there is none.
 abbrev pub output_of : Command → Option OutputName
-output_of (Link inputs output true) = Some output
+output_of (Assemble input output) = Some output
+output_of (Link inputs output text) = Some output
 output_of (Analyze input dump) = Some Standard
 output_of command = None
 

@@ -6,18 +6,19 @@ use Rattle.ir_syntax.specs.Small.{straight}
 use Rattle.ir_syntax.specs.Tree.{ItemTree}
 use Rattle.ir_syntax.specs.declared.straight.Straight.{Straight}
 use Rattle.ir_run.specs.Straight.{value}
+use Rattle.module_arena.specs.Module.{Module}
 use Rattle.command_line.specs.declared.command.Command.{Command}
-use Rattle.command_line.specs.declared.command.Command.TheVariants.{Lli, Disassemble, Analyze}
+use Rattle.command_line.specs.declared.command.Command.TheVariants.{Assemble, Disassemble, Lli, Analyze}
 use Rattle.command_line.specs.declared.command.UsageKind.{UsageKind}
 use Rattle.command_line.specs.Faults.{IsFirstFault}
 use Rattle.command_line.specs.Commands.{IsReadAs}
-use Rattle.tool_cli.specs.declared.ended.Ended.{Ended}
-use Rattle.tool_cli.specs.declared.ended.Ended.TheVariants.{Exit, StepsUsed, Usage, CannotRead, CannotWrite, InputTooLarge, NotBuilt, Memory}
-use Rattle.tool_cli.specs.declared.ended.Ended.TheVariants as ends
+use Rattle.tool_ends.specs.declared.ended.Ended.{Ended}
+use Rattle.tool_ends.specs.declared.ended.Ended.TheVariants.{Exit, StepsUsed, Usage, CannotRead, CannotWrite, InputTooLarge, NotBuilt, Memory}
+use Rattle.tool_ends.specs.declared.ended.Ended.TheVariants as ends
 use Rattle.tool_cli.specs.Inputs.{inputs_of, texts_read}
 use Rattle.tool_cli.specs.Analyzed.{IsAnalysis}
 use Rattle.tool_cli.specs.Judged.{is_bitcode, IsTextRefused, HasModule, IsFirstRefusal, AreAccepted}
-use Rattle.tool_cli.specs.Made.{IsResult}
+use Rattle.tool_cli.specs.Made.{IsResult, AssemblesTo}
 
 -- the end of a program, each line of which is a step, and so is its return
 abbrev pub end_within : ℕ → Straight → Ended
@@ -50,11 +51,18 @@ IsWorked command texts ended =
 abbrev pub IsJudgement : Command → List (List ℕ) → Ended → Type 0
 IsJudgement command texts ended = IsFirstRefusal (inputs_of command) texts ended ⊎ (AreAccepted texts × IsWorked command texts ended)
 
+-- The end of `llvm-as` over the text of the input of this name: it is refused, or the text of a module. Bytes that begin as bitcode does are a
+-- text like any other.
+abbrev pub IsAssembling : List ℕ → List ℕ → Ended → Type 0
+IsAssembling name text ended = IsTextRefused name text ended ⊎ ((m : Module) × AssemblesTo text m × (ended ≡ ends.Ok))
+
 -- the end of a command whose inputs are these texts
 abbrev pub IsWork : Command → List (List ℕ) → Ended → Type 0
 IsWork (Lli input max_steps arguments) (text ∷ []) ended = IsRun input max_steps text ended
 IsWork (Lli input max_steps arguments) texts ended = ⊥
 IsWork (Disassemble input output) texts ended = ended ≡ NotBuilt
+IsWork (Assemble input output) (text ∷ []) ended = IsAssembling input text ended
+IsWork (Assemble input output) texts ended = ⊥
 IsWork (Analyze input dump) (bytes ∷ []) ended = IsAnalysis input bytes ended
 IsWork (Analyze input dump) texts ended = ⊥
 IsWork command texts ended = IsJudgement command texts ended

@@ -6,11 +6,11 @@ ghost use Rattle.module_arena.specs.View.{local_view};
 ghost use Rattle.name_rules.specs.Spelled.{spelled_global};
 ghost use Rattle.tool_cli.specs.Judged.{block_words, entity_words};
 
-use crate::digits::Digits;
 use ir_base::{Name, Text};
 use module_arena::{Entity, LocalName};
 use name_rules::{spell_global, spell_struct};
 use std::alloc::{AllocError, Global};
+use tool_ends::Digits;
 
 // Adds the digits of a number.
 fn put_number(text: &mut Text, number: u64) -> Result<(), AllocError>

@@ -9,11 +9,11 @@ ghost use Rattle.tool_cli.specs.Reads.{LeavesInput, LeavesFiles};
 ghost use Rattle.tool_cli.specs.Order.{has_file, KeepsOrder};
 ghost use Rattle.tool_cli.specs.Causes.{IsEmptied, HasRead, GaveUp, RefusesStdin, RefusesFile, Refuses, RefusesOne, IsStdinOrMemory, IsUnreadOrMemory};
 
-use crate::ended::Ended;
 use command_line::Command;
 use ir_base::{FileFault, Files, ReadFault, Source, Text, TextList, read_all};
 use std::alloc::Global;
 use std::slice;
+use tool_ends::Ended;
 
 /// The most bytes of one input: 16 MiB.
 const LARGEST: usize = 16_777_216;

@@ -1,23 +1,23 @@
 //! Inputs linked, and what they make written.
-ghost use Rattle.std.specs.Prelude.{◌≡◌, ◌⊎◌, ◌<◌, ℕ, List, [], ◌∷◌, length, true, Some, IfOk, IfErr, OnOk};
+ghost use Rattle.std.specs.Prelude.{◌≡◌, ◌⊎◌, ◌<◌, ℕ, List, [], ◌∷◌, length, Some, IfOk, IfErr, OnOk};
 ghost use Rattle.std.specs.Option.{option_map};
 ghost use Rattle.ir_base.specs.Outside.{Rose};
-ghost use Rattle.canonical.specs.Canonical.{canon};
 ghost use Rattle.command_line.specs.declared.command.Command.TheVariants as commands;
 ghost use Rattle.module_arena.specs.View.{module_of};
 ghost use Rattle.tool_output.specs.Outputs.{outputs};
 ghost use Rattle.tool_cli.specs.Judged.{IsShort, AreShort, AreAccepted, IsPartAccepted, IsPartRefused, IsFirstRefusal};
-ghost use Rattle.tool_cli.specs.Made.{IsLinking};
-ghost use Rattle.tool_cli.specs.Output.{Delivers, IsUnwritten, FailsToWrite, IsUnwrittenOrMemory, IsFileUnwritten, IsWritten, LeavesFilesBut, LeavesStandard, LeavesNamed};
+ghost use Rattle.tool_cli.specs.Made.{IsLinking, format_of};
+ghost use Rattle.tool_cli.specs.Output.{IsUnwritten, FailsToWrite, IsUnwrittenOrMemory, IsFileUnwritten, IsWritten, LeavesFilesBut, LeavesStandard, LeavesNamed};
 ghost use Rattle.tool_cli.specs.Told.{IsWork, IsOfTexts, IsOfWork};
 
-use crate::ended::Ended;
+use crate::delivery::deliver;
 use crate::parts::{accepted_text, is_bitcode, judge_all};
 use command_line::OutputName;
 use ir_base::{Files, Sink, Text};
 use module_arena::Checked;
 use std::alloc::Global;
-use tool_output::{OutputFault, links_alone, write_text};
+use tool_ends::Ended;
+use tool_output::{OutputFormat, links_alone};
 
 // The module that the input of this name is linked to alone: its own, where linking does not change that. None where that is not built.
 fn linked_one(alloc: Global, name: &Text, bytes: &[u8]) -> Result<Option<Checked>, Ended>
@@ -54,51 +54,38 @@ fn linked(alloc: Global, names: &[Text], texts: &[Text]) -> Result<Option<Checke
     Ok(None)
 }
 
-// Writes the canonical text of a module to where it goes.
-fn deliver<F: Files, O: Sink>(
-    alloc: Global,
-    place: &OutputName,
-    checked: &Checked,
-    files: &mut F,
-    output: &mut O,
-) -> Ended
-    ensures delivered { Delivers place.now (canon (module_of checked.now)) (outputs (O.taken output.old) (F.contents files.old)) (outputs (O.taken output.new) (F.contents files.new)) result }
-    ensures cannot_write { (name : List ℕ) → result ≡ Ended.CannotWrite name
-        → IsUnwritten (Some place.now) (Rose (O.faults output.old) (O.faults output.new)) (Rose (F.write_faults files.old) (F.write_faults files.new)) name }
-    ensures output_fault { O.faults output.old < O.faults output.new → IsUnwrittenOrMemory result }
-    ensures write_fault { F.write_faults files.old < F.write_faults files.new → IsFileUnwritten (Some place.now) result }
-    ensures leaves_files { LeavesFilesBut (Some place.now) result (F.contents files.old) (F.contents files.new) (F.read_faults files.old) (F.read_faults files.new) (F.write_faults files.old) (F.write_faults files.new) }
-    ensures reads { F.read_faults files.new ≡ F.read_faults files.old }
-    ensures unwritten { LeavesStandard (Some place.now) result → output.new ≡ output.old }
-    ensures files_unwritten { LeavesNamed (Some place.now) result → files.new ≡ files.old }
+// What a linked module is written as: with `-S` its canonical text, else bitcode.
+fn format_of(text: bool) -> OutputFormat
+    ensures { result ≡ format_of text }
 {
-    match write_text(alloc, place, checked, files, output) {
-        Ok(()) => Ended::Ok,
-        Err(OutputFault::CannotWrite(name)) => Ended::CannotWrite(name),
-        Err(OutputFault::Memory) => Ended::Memory,
+    if text {
+        OutputFormat::CanonicalText
+    } else {
+        OutputFormat::Bitcode
     }
 }
 
-/// Links the inputs of these names, and writes the canonical text of what they make to this place. All but one text that linking does not
-/// change is not built.
+/// Links the inputs of these names, and writes the bitcode of what they make to this place, or with `text` its canonical text. All but one text
+/// that linking does not change is not built.
 pub(crate) fn link<F: Files, O: Sink>(
     alloc: Global,
     names: &[Text],
     texts: &[Text],
     place: &OutputName,
+    text: bool,
     files: &mut F,
     output: &mut O,
 ) -> Ended
     requires same { length names.now ≡ length texts.now }
     requires short { AreShort texts.now }
-    ensures work { IsWork (commands.Link names.now place.now true) texts.now result
+    ensures work { IsWork (commands.Link names.now place.now text) texts.now result
         ⊎ FailsToWrite (Some place.now) (Rose (O.faults output.old) (O.faults output.new)) (Rose (F.write_faults files.old) (F.write_faults files.new)) result }
     ensures of_work { IsOfWork result }
     ensures cannot_write { (name : List ℕ) → result ≡ Ended.CannotWrite name
         → IsUnwritten (Some place.now) (Rose (O.faults output.old) (O.faults output.new)) (Rose (F.write_faults files.old) (F.write_faults files.new)) name }
     ensures output_fault { O.faults output.old < O.faults output.new → IsUnwrittenOrMemory result }
     ensures write_fault { F.write_faults files.old < F.write_faults files.new → IsFileUnwritten (Some place.now) result }
-    ensures written { IsWritten (commands.Link names.now place.now true) texts.now (outputs (O.taken output.old) (F.contents files.old)) (outputs (O.taken output.new) (F.contents files.new)) result }
+    ensures written { IsWritten (commands.Link names.now place.now text) texts.now (outputs (O.taken output.old) (F.contents files.old)) (outputs (O.taken output.new) (F.contents files.new)) result }
     ensures leaves_files { LeavesFilesBut (Some place.now) result (F.contents files.old) (F.contents files.new) (F.read_faults files.old) (F.read_faults files.new) (F.write_faults files.old) (F.write_faults files.new) }
     ensures reads { F.read_faults files.new ≡ F.read_faults files.old }
     ensures unwritten { LeavesStandard (Some place.now) result → output.new ≡ output.old }
@@ -109,5 +96,5 @@ pub(crate) fn link<F: Files, O: Sink>(
         Ok(None) => return Ended::NotBuilt,
         Err(ended) => return ended,
     };
-    deliver(alloc, place, &checked, files, output)
+    deliver(alloc, format_of(text), place, &checked, files, output)
 }

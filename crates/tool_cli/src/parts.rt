@@ -9,7 +9,6 @@ ghost use Rattle.name_rules.specs.Spelled.{spelled_global};
 ghost use Rattle.tool_cli.specs.Judged.{entity_words, is_bitcode, refusal_told, break_told, verdict_told, IsShort, AreShort, IsTextRefused, IsTextOf, AreAccepted, IsPartAccepted, IsPartRefused, IsFirstRefusal};
 ghost use Rattle.tool_cli.specs.Told.{IsOfTexts};
 
-use crate::ended::Ended;
 use crate::entity::entity_words;
 use ir_base::{Name, Text};
 use ir_resolve::resolve;
@@ -18,6 +17,7 @@ use module_arena::{Checked, Entity};
 use name_rules::{ResolveFault, spell_global};
 use path_verify::verify;
 use std::alloc::{AllocError, Global};
+use tool_ends::Ended;
 use type_verify::VerifyFault;
 
 /// The bytes that bitcode begins with (LLVM Bitcode File Format, "LLVM IR Magic Number").

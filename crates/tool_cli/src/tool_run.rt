@@ -6,7 +6,7 @@ ghost use Rattle.ir_base.specs.Files.{Named};
 ghost use Rattle.command_line.specs.declared.command.UsageKind.{UsageKind};
 ghost use Rattle.command_line.specs.Faults.{IsFirstFault};
 ghost use Rattle.tool_output.specs.Outputs.{outputs};
-ghost use Rattle.tool_cli.specs.Ended.{line_of, status_of};
+ghost use Rattle.tool_ends.specs.Ended.{line_of, status_of};
 ghost use Rattle.tool_cli.specs.Inputs.{inputs_named, has_stdin, TellsAll};
 ghost use Rattle.tool_cli.specs.Causes.{IsEmptied, Stopped, IsUnread, IsPassed, IsStdinOrMemory, IsUnreadOrMemory};
 ghost use Rattle.tool_cli.specs.Reads.{LeavesInput};
@@ -15,13 +15,12 @@ ghost use Rattle.tool_cli.specs.Analyzed.{analyzes, IsBeforeWork};
 ghost use Rattle.tool_cli.specs.Output.{output_named, IsUnwritten, IsUnwrittenOrMemory, IsFileUnwritten, IsShown, LeavesFilesBut, LeavesStandard, LeavesNamed};
 ghost use Rattle.tool_cli.specs.Told.{IsTold, IsAfterReading};
 
-use crate::ended::{Ended, Report, status_of};
-use crate::error_line::tell;
 use crate::inputs::{inputs_of, read_inputs};
 use crate::work::work;
 use command_line::{WordsFault, read_words};
 use ir_base::{Files, Sink, Source, Text};
 use std::alloc::Global;
+use tool_ends::{Ended, Report, status_of, tell};
 
 // Reads the words, then all inputs, and then does the work.
 fn ended_of<F: Files, I: Source, O: Sink>(

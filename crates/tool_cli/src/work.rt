@@ -11,7 +11,7 @@ ghost use Rattle.tool_cli.specs.Output.{output_of, IsUnwritten, FailsToWrite, Is
 ghost use Rattle.tool_cli.specs.Told.{items_end, IsTextRun, IsRun, IsWork, IsOfTexts, IsOfWork};
 
 use crate::analysis::analyze;
-use crate::ended::Ended;
+use crate::assembling::assemble;
 use crate::inputs::inputs_of;
 use crate::linking::link;
 use crate::parts::{accepted_text, is_bitcode, judge_all};
@@ -20,6 +20,7 @@ use ir_base::{Files, Sink, Text, TextList};
 use ir_run::run_straight;
 use ir_syntax::{Items, straight_of};
 use std::alloc::Global;
+use tool_ends::Ended;
 
 // Runs items for so many steps.
 fn run_items(alloc: Global, items: &Items, max_steps: u64) -> Ended
@@ -78,13 +79,13 @@ fn silent_work(alloc: Global, command: &Command, texts: &TextList) -> Ended
             ..
         } => run(alloc, input, texts.at(0).bytes(), *max_steps),
         Command::Disassemble { .. } => Ended::NotBuilt,
-        Command::Assemble { .. } | Command::Link { .. } | Command::Extract { .. } => {
+        Command::Extract { .. } => {
             match judge_all(alloc, inputs_of(command), texts.as_slice()) {
                 Ok(()) => Ended::NotBuilt,
                 Err(ended) => ended,
             }
         }
-        Command::Analyze { .. } => unreachable!(),
+        Command::Assemble { .. } | Command::Link { .. } | Command::Analyze { .. } => unreachable!(),
     }
 }
 
@@ -118,24 +119,23 @@ pub fn work<F: Files, O: Sink>(
         Command::Analyze { input, dump } => {
             analyze(alloc, input, texts.at(0).bytes(), *dump, output)
         }
+        Command::Assemble {
+            input,
+            output: place,
+        } => assemble(alloc, input, texts.at(0).bytes(), place, files, output),
         Command::Link {
             inputs,
             output: place,
             text,
-        } => {
-            if *text {
-                link(
-                    alloc,
-                    inputs.as_slice(),
-                    texts.as_slice(),
-                    place,
-                    files,
-                    output,
-                )
-            } else {
-                silent_work(alloc, command, texts)
-            }
-        }
+        } => link(
+            alloc,
+            inputs.as_slice(),
+            texts.as_slice(),
+            place,
+            *text,
+            files,
+            output,
+        ),
         _ => silent_work(alloc, command, texts),
     }
 }

@@ -1,3 +1,4 @@
 pub mod Alone
 pub mod Outputs
+pub mod Written
 pub mod Writing

@@ -1,4 +1,4 @@
--- For `write_text`: what outputs have, where that is told, and what writing a result to one of them does to them.
+-- For `write_module`: what outputs have, where that is told, and what writing a result to one of them does to them.
 use Rattle.std.specs.Prelude.{◌≡◌, ℕ, Bool, true, false, List, take, codes, Option}
 use Rattle.ir_base.specs.Outside.{Added}
 use Rattle.ir_base.specs.Files.{Named, Holds, HoldsFront}

@@ -1,4 +1,4 @@
--- For `write_text`: what is answered, by what outputs then have, and which counts of faults rise.
+-- For `write_module`: what is answered, by what outputs then have, and which counts of faults rise.
 use Rattle.std.specs.Prelude.{◌≡◌, ℕ, ◌≤◌, List, Result, Ok, Err}
 use Rattle.ir_base.specs.Outside.{Rose}
 use Rattle.command_line.specs.declared.command.OutputName.{OutputName}

@@ -1,26 +1,39 @@
-//! A text, to standard output or to a file.
-ghost use Rattle.std.specs.Prelude.{◌≡◌, ℕ, List, true, false, Option, IsErrOf};
+//! A module, to standard output or to a file.
+ghost use Rattle.std.specs.Prelude.{◌≡◌, ℕ, List, true, false, Option, IfOk, IsErrOf};
 ghost use Rattle.ir_base.specs.Files.{Named};
 ghost use Rattle.module_arena.specs.View.{module_of};
-ghost use Rattle.canonical.specs.Canonical.{canon};
+ghost use Rattle.tool_output.specs.declared.format.OutputFormat.TheVariants.{CanonicalText, Bitcode};
 ghost use Rattle.tool_output.specs.Outputs.{outputs, is_standard};
+ghost use Rattle.tool_output.specs.Written.{written};
 ghost use Rattle.tool_output.specs.Writing.{Puts, CountsSink, CountsFiles, Counts};
 
-use crate::OutputFault;
+use crate::{OutputFault, OutputFormat};
+use bitcode_write::write;
 use command_line::OutputName;
-use ir_base::{Failed, FileFault, Files, Sink, Text};
+use ir_base::{Failed, FileFault, Files, Sink, Text, write_all};
 use ir_printer::{print, print_text};
 use module_arena::Checked;
-use std::alloc::Global;
+use std::alloc::{AllocError, Global};
 
-// Writes the text of a module to standard output. The name of the output is made first, so that after a failed write no memory is wanting.
-fn write_standard<O: Sink>(
+// The bytes that stand for a module. They are refused for want of memory alone.
+fn written(alloc: Global, format: OutputFormat, checked: &Checked) -> Result<Text, AllocError>
+    ensures { IfOk result (λ bytes. bytes ≡ written format (module_of checked.now)) }
+{
+    match format {
+        OutputFormat::CanonicalText => print_text(alloc, checked),
+        OutputFormat::Bitcode => write(alloc, checked),
+    }
+}
+
+// Writes the text of a module to standard output, piece by piece. The name of the output is made first, so that after a failed write no memory is
+// wanting.
+fn print_standard<O: Sink>(
     alloc: Global,
     checked: &Checked,
     sink: &mut O,
 ) -> Result<(), OutputFault>
     ensures put { (contents : Option Named)
-        → Puts OutputName.Standard (canon (module_of checked.now)) (outputs (O.taken sink.old) contents) (outputs (O.taken sink.new) contents) result }
+        → Puts OutputName.Standard (written CanonicalText (module_of checked.now)) (outputs (O.taken sink.old) contents) (outputs (O.taken sink.new) contents) result }
     ensures counts { CountsSink (O.faults sink.old) (O.faults sink.new) result }
     ensures memory { IsErrOf result OutputFault.Memory → sink.new ≡ sink.old }
 {
@@ -28,6 +41,41 @@ fn write_standard<O: Sink>(
     match print(checked, sink) {
         Ok(()) => Ok(()),
         Err(Failed) => Err(OutputFault::CannotWrite(name)),
+    }
+}
+
+// Writes bytes to standard output. The name of the output is made first, as above.
+fn put_standard<O: Sink>(alloc: Global, bytes: &Text, sink: &mut O) -> Result<(), OutputFault>
+    ensures put { (contents : Option Named)
+        → Puts OutputName.Standard bytes.now (outputs (O.taken sink.old) contents) (outputs (O.taken sink.new) contents) result }
+    ensures counts { CountsSink (O.faults sink.old) (O.faults sink.new) result }
+    ensures memory { IsErrOf result OutputFault.Memory → sink.new ≡ sink.old }
+{
+    let told = Text::from_slice(alloc, b"-")?;
+    match write_all(sink, bytes.bytes()) {
+        Ok(()) => Ok(()),
+        Err(Failed) => Err(OutputFault::CannotWrite(told)),
+    }
+}
+
+// Writes a module to standard output: text piece by piece, which takes no memory but for the output's name, and bitcode once it is made.
+fn write_standard<O: Sink>(
+    alloc: Global,
+    format: OutputFormat,
+    checked: &Checked,
+    sink: &mut O,
+) -> Result<(), OutputFault>
+    ensures put { (contents : Option Named)
+        → Puts OutputName.Standard (written format (module_of checked.now)) (outputs (O.taken sink.old) contents) (outputs (O.taken sink.new) contents) result }
+    ensures counts { CountsSink (O.faults sink.old) (O.faults sink.new) result }
+    ensures memory { IsErrOf result OutputFault.Memory → sink.new ≡ sink.old }
+{
+    match format {
+        OutputFormat::CanonicalText => print_standard(alloc, checked, sink),
+        OutputFormat::Bitcode => {
+            let bytes = written(alloc, format, checked)?;
+            put_standard(alloc, &bytes, sink)
+        }
     }
 }
 
@@ -53,20 +101,21 @@ fn write_named<F: Files>(
     }
 }
 
-/// Writes the canonical text of a module to where it goes: to standard output piece by piece, which takes no memory but for the output's
-/// name; to a file whole, once the text is made.
+/// Writes a module to where it goes: its canonical text, or its bitcode. Text goes to standard output piece by piece, which takes no memory but
+/// for the output's name; all else is made first, and then written.
 ///
-/// `CannotWrite` where a write failed, with `-` or the file's name: standard output has a front of the text, or the file has one, or what it
+/// `CannotWrite` where a write failed, with `-` or the file's name: standard output has a front of the result, or the file has one, or what it
 /// held before. `Memory` where memory ran out: nothing was written.
-pub fn write_text<F: Files, O: Sink>(
+pub fn write_module<F: Files, O: Sink>(
     alloc: Global,
+    format: OutputFormat,
     output: &OutputName,
     checked: &Checked,
     files: &mut F,
     sink: &mut O,
 ) -> Result<(), OutputFault>
-    // The text is where it goes, or a front of it, and nothing else changed.
-    ensures put { Puts output.now (canon (module_of checked.now)) (outputs (O.taken sink.old) (F.contents files.old)) (outputs (O.taken sink.new) (F.contents files.new)) result }
+    // The result is where it goes, or a front of it, and nothing else changed.
+    ensures put { Puts output.now (written format (module_of checked.now)) (outputs (O.taken sink.old) (F.contents files.old)) (outputs (O.taken sink.new) (F.contents files.new)) result }
     // A write failed exactly where it is told, and the count of its object alone rose.
     ensures counts { Counts output.now (O.faults sink.old) (O.faults sink.new) (F.write_faults files.old) (F.write_faults files.new) result }
     ensures reads { F.read_faults files.new ≡ F.read_faults files.old }
@@ -76,10 +125,10 @@ pub fn write_text<F: Files, O: Sink>(
     ensures memory { IsErrOf result OutputFault.Memory → sink.new ≡ sink.old }
 {
     match output {
-        OutputName::Standard => write_standard(alloc, checked, sink),
+        OutputName::Standard => write_standard(alloc, format, checked, sink),
         OutputName::File(name) => {
-            let text = print_text(alloc, checked)?;
-            write_named(alloc, name, &text, files)
+            let bytes = written(alloc, format, checked)?;
+            write_named(alloc, name, &bytes, files)
         }
     }
 }

@@ -1,5 +1,5 @@
 use Rattle.std.proofs.Common.{Option, drop}
-use Rattle.tool_cli.specs.declared.ended.Ended.{Ended}
+use Rattle.tool_ends.specs.declared.ended.Ended.{Ended}
 use Rattle.tool_cli.proofs.Judging.{IsJudged}
 use Rattle.tool_cli.proofs.parts.judge_all.Given as goal
 

@@ -5,8 +5,8 @@ use Rattle.tool_output.specs.Outputs.{outputs}
 use Rattle.tool_cli.specs.Output.{output_of, FailsToWrite, IsWritten}
 use Rattle.tool_cli.specs.Told.{IsWork}
 use Rattle.tool_cli.proofs.Judging.{short_first}
-use Rattle.tool_cli.proofs.Works.{analysis_work, analysis_written, analysis_cause, silent_stops, texts_of_work, texts_written, bitcode_output, no_output}
-use Rattle.tool_cli.proofs.Delivered.{leaves_none, silent_written, link_is}
+use Rattle.tool_cli.proofs.Works.{analysis_work, analysis_written, analysis_cause, silent_stops, texts_of_work, texts_written, only_text, no_output}
+use Rattle.tool_cli.proofs.Delivered.{leaves_none, silent_written, link_is, assemble_is}
 use Rattle.tool_cli.proofs.work.work.Goals as goal
 
 pub analyze-requires : goal.analyze-requires
@@ -24,76 +24,84 @@ returns-in-Analyze-clause-written g c = analysis_written _ _ _ _ _ _ _ _ _ c.in-
 pub returns-in-Analyze-clause-leaves_files : goal.returns-in-Analyze-clause-leaves_files
 returns-in-Analyze-clause-leaves_files g c = leaves_none _ _ _ _ _
 
-pub returns-then-text-clause-work : goal.returns-then-text-clause-work
-returns-then-text-clause-work g c =
+pub assemble-requires : goal.assemble-requires
+assemble-requires g c = rw c.bytes-in-Assemble.ensures (short_first _ _ c.requires.short c.at-in-Assemble.ensures)
+
+pub returns-in-Assemble-clause-work : goal.returns-in-Assemble-clause-work
+returns-in-Assemble-clause-work g c =
+    let P : Command → List (List ℕ) → Type 0 = λ command texts.
+    IsWork command texts c.assemble.result
+    ⊎ FailsToWrite (output_of command) (Rose (g.O.Sink.faults c.args.output.now) (g.O.Sink.faults c.assemble.new.output)) (Rose (g.F.Files.write_faults c.args.files.now) (g.F.Files.write_faults c.assemble.new.files)) c.assemble.result in
+    assemble_is P _ _ _ _ _ c.in-Assemble.is (only_text _ _ _ _ _ c.in-Assemble.is c.requires.count c.at-in-Assemble.ensures) (rw c.bytes-in-Assemble.ensures at c.assemble.ensures.work)
+
+pub returns-in-Assemble-clause-written : goal.returns-in-Assemble-clause-written
+returns-in-Assemble-clause-written g c =
+    let P : Command → List (List ℕ) → Type 0 = λ command texts.
+    IsWritten command texts (outputs (g.O.Sink.taken c.args.output.now) (g.F.Files.contents c.args.files.now)) (outputs (g.O.Sink.taken c.assemble.new.output) (g.F.Files.contents c.assemble.new.files)) c.assemble.result in
+    assemble_is P _ _ _ _ _ c.in-Assemble.is (only_text _ _ _ _ _ c.in-Assemble.is c.requires.count c.at-in-Assemble.ensures) (rw c.bytes-in-Assemble.ensures at c.assemble.ensures.written)
+
+pub returns-in-Assemble-clause-cannot_write : goal.returns-in-Assemble-clause-cannot_write
+returns-in-Assemble-clause-cannot_write g c = rw c.in-Assemble.is c.assemble.ensures.cannot_write
+
+pub returns-in-Assemble-clause-write_fault : goal.returns-in-Assemble-clause-write_fault
+returns-in-Assemble-clause-write_fault g c = rw c.in-Assemble.is c.assemble.ensures.write_fault
+
+pub returns-in-Assemble-clause-leaves_files : goal.returns-in-Assemble-clause-leaves_files
+returns-in-Assemble-clause-leaves_files g c = rw c.in-Assemble.is c.assemble.ensures.leaves_files
+
+pub returns-in-Assemble-clause-unwritten : goal.returns-in-Assemble-clause-unwritten
+returns-in-Assemble-clause-unwritten g c = rw c.in-Assemble.is (λ analysis early. c.assemble.ensures.unwritten early)
+
+pub returns-in-Assemble-clause-files_unwritten : goal.returns-in-Assemble-clause-files_unwritten
+returns-in-Assemble-clause-files_unwritten g c = rw c.in-Assemble.is c.assemble.ensures.files_unwritten
+
+pub returns-in-Link-clause-work : goal.returns-in-Link-clause-work
+returns-in-Link-clause-work g c =
     let P : Command → List (List ℕ) → Type 0 = λ command texts.
     IsWork command texts c.link.result
     ⊎ FailsToWrite (output_of command) (Rose (g.O.Sink.faults c.args.output.now) (g.O.Sink.faults c.link.new.output)) (Rose (g.F.Files.write_faults c.args.files.now) (g.F.Files.write_faults c.link.new.files)) c.link.result in
-    link_is P _ _ _ _ _ _ _ c.in-Link.is c.if-text.true c.as_slice.ensures c.as_slice-then-text.ensures c.link.ensures.work
+    link_is P _ _ _ _ _ _ _ c.in-Link.is c.as_slice.ensures c.as_slice-in-Link.ensures c.link.ensures.work
 
-pub returns-then-text-clause-written : goal.returns-then-text-clause-written
-returns-then-text-clause-written g c =
+pub returns-in-Link-clause-written : goal.returns-in-Link-clause-written
+returns-in-Link-clause-written g c =
     let P : Command → List (List ℕ) → Type 0 = λ command texts.
     IsWritten command texts (outputs (g.O.Sink.taken c.args.output.now) (g.F.Files.contents c.args.files.now)) (outputs (g.O.Sink.taken c.link.new.output) (g.F.Files.contents c.link.new.files)) c.link.result in
-    link_is P _ _ _ _ _ _ _ c.in-Link.is c.if-text.true c.as_slice.ensures c.as_slice-then-text.ensures c.link.ensures.written
+    link_is P _ _ _ _ _ _ _ c.in-Link.is c.as_slice.ensures c.as_slice-in-Link.ensures c.link.ensures.written
 
-pub returns-then-text-clause-cannot_write : goal.returns-then-text-clause-cannot_write
-returns-then-text-clause-cannot_write g c = rw (c.in-Link.is, c.if-text.true) c.link.ensures.cannot_write
+pub returns-in-Link-clause-cannot_write : goal.returns-in-Link-clause-cannot_write
+returns-in-Link-clause-cannot_write g c = rw c.in-Link.is c.link.ensures.cannot_write
 
-pub returns-then-text-clause-write_fault : goal.returns-then-text-clause-write_fault
-returns-then-text-clause-write_fault g c = rw (c.in-Link.is, c.if-text.true) c.link.ensures.write_fault
+pub returns-in-Link-clause-write_fault : goal.returns-in-Link-clause-write_fault
+returns-in-Link-clause-write_fault g c = rw c.in-Link.is c.link.ensures.write_fault
 
-pub returns-then-text-clause-leaves_files : goal.returns-then-text-clause-leaves_files
-returns-then-text-clause-leaves_files g c = rw (c.in-Link.is, c.if-text.true) c.link.ensures.leaves_files
+pub returns-in-Link-clause-leaves_files : goal.returns-in-Link-clause-leaves_files
+returns-in-Link-clause-leaves_files g c = rw c.in-Link.is c.link.ensures.leaves_files
 
-pub returns-then-text-clause-unwritten : goal.returns-then-text-clause-unwritten
-returns-then-text-clause-unwritten g c = rw (c.in-Link.is, c.if-text.true) (λ analysis early. c.link.ensures.unwritten early)
+pub returns-in-Link-clause-unwritten : goal.returns-in-Link-clause-unwritten
+returns-in-Link-clause-unwritten g c = rw c.in-Link.is (λ analysis early. c.link.ensures.unwritten early)
 
-pub returns-then-text-clause-files_unwritten : goal.returns-then-text-clause-files_unwritten
-returns-then-text-clause-files_unwritten g c = rw (c.in-Link.is, c.if-text.true) c.link.ensures.files_unwritten
+pub returns-in-Link-clause-files_unwritten : goal.returns-in-Link-clause-files_unwritten
+returns-in-Link-clause-files_unwritten g c = rw c.in-Link.is c.link.ensures.files_unwritten
 
 pub silent_work-requires-clause-silent : goal.silent_work-requires-clause-silent
-silent_work-requires-clause-silent g c = bitcode_output _ _ _ _ c.in-Link.is c.if-text.false
-
-pub returns-else-text-clause-work : goal.returns-else-text-clause-work
-returns-else-text-clause-work g c =
-    let sinks = g.O.Sink.faults c.args.output.now in
-    let writes = g.F.Files.write_faults c.args.files.now in
-    silent_stops c.args.command.now c.args.texts.now (Rose sinks sinks) (Rose writes writes) c.silent_work.result c.silent_work.ensures.work
-
-pub returns-else-text-clause-of_work : goal.returns-else-text-clause-of_work
-returns-else-text-clause-of_work g c = texts_of_work c.silent_work.result c.silent_work.ensures.of_texts
-
-pub returns-else-text-clause-cannot_write : goal.returns-else-text-clause-cannot_write
-returns-else-text-clause-cannot_write g c = λ name told. absurd (texts_written c.silent_work.result c.silent_work.ensures.of_texts name told)
-
-pub returns-else-text-clause-written : goal.returns-else-text-clause-written
-returns-else-text-clause-written g c =
-    let held = outputs (g.O.Sink.taken c.args.output.now) (g.F.Files.contents c.args.files.now) in
-    silent_written c.args.command.now c.args.texts.now held held c.silent_work.result c.silent_work.ensures.of_texts refl
-
-pub returns-else-text-clause-leaves_files : goal.returns-else-text-clause-leaves_files
-returns-else-text-clause-leaves_files g c = leaves_none _ _ _ _ _
-
-pub silent_work-requires-in_default-clause-silent : goal.silent_work-requires-in_default-clause-silent
-silent_work-requires-in_default-clause-silent g c = no_output c.args.command.now c.in_default.not-Analyze c.in_default.not-Link
+silent_work-requires-clause-silent g c = no_output c.args.command.now c.in_default.not-Analyze c.in_default.not-Assemble c.in_default.not-Link
 
 pub returns-in_default-clause-work : goal.returns-in_default-clause-work
 returns-in_default-clause-work g c =
     let sinks = g.O.Sink.faults c.args.output.now in
     let writes = g.F.Files.write_faults c.args.files.now in
-    silent_stops c.args.command.now c.args.texts.now (Rose sinks sinks) (Rose writes writes) c.silent_work-in_default.result c.silent_work-in_default.ensures.work
+    silent_stops c.args.command.now c.args.texts.now (Rose sinks sinks) (Rose writes writes) c.silent_work.result c.silent_work.ensures.work
 
 pub returns-in_default-clause-of_work : goal.returns-in_default-clause-of_work
-returns-in_default-clause-of_work g c = texts_of_work c.silent_work-in_default.result c.silent_work-in_default.ensures.of_texts
+returns-in_default-clause-of_work g c = texts_of_work c.silent_work.result c.silent_work.ensures.of_texts
 
 pub returns-in_default-clause-cannot_write : goal.returns-in_default-clause-cannot_write
-returns-in_default-clause-cannot_write g c = λ name told. absurd (texts_written c.silent_work-in_default.result c.silent_work-in_default.ensures.of_texts name told)
+returns-in_default-clause-cannot_write g c = λ name told. absurd (texts_written c.silent_work.result c.silent_work.ensures.of_texts name told)
 
 pub returns-in_default-clause-written : goal.returns-in_default-clause-written
 returns-in_default-clause-written g c =
     let held = outputs (g.O.Sink.taken c.args.output.now) (g.F.Files.contents c.args.files.now) in
-    silent_written c.args.command.now c.args.texts.now held held c.silent_work-in_default.result c.silent_work-in_default.ensures.of_texts refl
+    silent_written c.args.command.now c.args.texts.now held held c.silent_work.result c.silent_work.ensures.of_texts refl
 
 pub returns-in_default-clause-leaves_files : goal.returns-in_default-clause-leaves_files
 returns-in_default-clause-leaves_files g c = leaves_none _ _ _ _ _

@@ -1,0 +1,10 @@
+use Rattle.tool_ends.proofs.error_line.tell.Goals as goal
+
+pub returns-in-CannotRead : goal.returns-in-CannotRead
+returns-in-CannotRead g c = rw c.in-CannotRead.is (rw c.bytes-in-CannotRead.ensures at c.tell_text-in-CannotRead.ensures)
+
+pub returns-in-Memory : goal.returns-in-Memory
+returns-in-Memory g c = rw c.in-Memory.is c.tell_text-in-Memory.ensures
+
+pub returns-in-CannotWrite : goal.returns-in-CannotWrite
+returns-in-CannotWrite g c = rw c.in-CannotWrite.is (rw c.bytes-in-CannotWrite.ensures at c.tell_text-in-CannotWrite.ensures)

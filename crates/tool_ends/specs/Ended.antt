@@ -1,0 +1,105 @@
+-- For `status_of` and `tell`: the status of an end, and the line that tells it.
+use Rattle.std.specs.Prelude.{ℕ, List, [], ◌∷◌, ◌++◌, codes, Some, None}
+use Rattle.std.specs.Fmt.{decimal}
+use Rattle.ir_base.specs.declared.place.Place.{Place}
+use Rattle.module_arena.specs.declared.fault.CountKind.{CountKind}
+use Rattle.module_arena.specs.declared.fault.CountKind.TheVariants.{Structs, Variables, Functions, Aliases, AppendedBytes}
+use Rattle.bits.specs.declared.fault.BitFaultKind.{BitFaultKind}
+use Rattle.bits.specs.declared.fault.BitFaultKind.TheVariants.{BadMagic, Truncated, BadAbbreviation, VbrTooLong, BadBlockLength, NestedTooDeep}
+use Rattle.command_line.specs.Kinds.{kind_words}
+use Rattle.command_line.specs.Tools.{line_name}
+use Rattle.tool_ends.specs.declared.ended.Ended.{Ended}
+use Rattle.tool_ends.specs.declared.ended.Ended.TheVariants.{Exit, StepsUsed, Usage, CannotRead, CannotWrite, InputTooLarge, BadByte, NoItemHere, LeftOutWord, UnknownName, Duplicate, WrongNumber, ConstantRange, TooDeep, TooLarge, SelfContaining, TooMany, FunctionTooLarge, Invalid, BitFault, NotBuilt, Memory}
+use Rattle.tool_ends.specs.declared.ended.Ended.TheVariants as ends
+
+-- 0 where a tool did its work; a program's own status; 1 where a tool refuses; 120 where memory ran out, and 124 where
+-- the steps did
+abbrev pub status_of : Ended → ℕ
+status_of ends.Ok = 0
+status_of (Exit status) = status
+status_of StepsUsed = 124
+status_of (Usage kind k) = 1
+status_of (CannotRead name) = 1
+status_of (CannotWrite name) = 1
+status_of (InputTooLarge name limit) = 1
+status_of (BadByte name place) = 1
+status_of (NoItemHere name place) = 1
+status_of (LeftOutWord name place word) = 1
+status_of (UnknownName name place spelled) = 1
+status_of (Duplicate name place first) = 1
+status_of (WrongNumber name place next found) = 1
+status_of (ConstantRange name place) = 1
+status_of (TooDeep name place) = 1
+status_of (TooLarge name place) = 1
+status_of (SelfContaining name place) = 1
+status_of (TooMany name kind count) = 1
+status_of (FunctionTooLarge name function size) = 1
+status_of (Invalid name rule entity) = 1
+status_of (BitFault name fault) = 1
+status_of NotBuilt = 1
+status_of Memory = 120
+
+-- the tool's name, or `ir-tools` where the words name none, a colon and a space, the text, and a line feed
+abbrev pub error_line : List (List ℕ) → List ℕ → List ℕ
+error_line words text = line_name words ++ (codes ": " ++ (text ++ 10 ∷ []))
+
+-- a text about this line and column of the input of this name, which stand before it
+abbrev pub located_by : List ℕ → List ℕ → List ℕ → List ℕ → List ℕ
+located_by name line column text = name ++ (codes ":" ++ (line ++ (codes ":" ++ (column ++ (codes ": " ++ text)))))
+
+-- a text about a place in the input of this name
+abbrev pub located : List ℕ → Place → List ℕ → List ℕ
+located name place text = located_by name (decimal place.line) (decimal place.column) text
+
+-- the kind of a refused field, in words
+abbrev pub fault_words : BitFaultKind → List ℕ
+fault_words BadMagic = codes "bad magic"
+fault_words Truncated = codes "truncated"
+fault_words BadAbbreviation = codes "bad abbreviation"
+fault_words VbrTooLong = codes "vbr too long"
+fault_words BadBlockLength = codes "bad block length"
+fault_words NestedTooDeep = codes "nested too deep"
+
+-- what there are too many of, in words
+abbrev pub count_words : CountKind → List ℕ
+count_words Structs = codes "structs"
+count_words Variables = codes "variables"
+count_words Functions = codes "functions"
+count_words Aliases = codes "aliases"
+count_words AppendedBytes = codes "appended bytes"
+
+-- line and column
+abbrev pub place_words : Place → List ℕ
+place_words place = decimal place.line ++ (codes ":" ++ decimal place.column)
+
+-- what standard error is told of an end at a place of an input; of another end nothing
+abbrev pub placed_line : List (List ℕ) → Ended → List ℕ
+placed_line words (BadByte name place) = error_line words (located name place (codes "bad byte"))
+placed_line words (NoItemHere name place) = error_line words (located name place (codes "no item here"))
+placed_line words (LeftOutWord name place word) = error_line words (located name place (codes "left out: " ++ word))
+placed_line words (UnknownName name place spelled) = error_line words (located name place (codes "unknown name " ++ spelled))
+placed_line words (Duplicate name place first) = error_line words (located name place (codes "duplicate, first at " ++ place_words first))
+placed_line words (WrongNumber name place next found) = error_line words (located name place (codes "number " ++ (decimal next ++ (codes " expected, " ++ (found ++ codes " found")))))
+placed_line words (ConstantRange name place) = error_line words (located name place (codes "constant out of range"))
+placed_line words (TooDeep name place) = error_line words (located name place (codes "too deep"))
+placed_line words (TooLarge name place) = error_line words (located name place (codes "too large"))
+placed_line words (SelfContaining name place) = error_line words (located name place (codes "contains itself"))
+placed_line words ended = []
+
+-- what standard error is told: one line, or nothing of a tool that did its work and of a program that ended
+abbrev pub line_of : List (List ℕ) → Ended → List ℕ
+line_of words ends.Ok = []
+line_of words (Exit status) = []
+line_of words StepsUsed = error_line words (codes "steps used up")
+line_of words (Usage kind k) = error_line words (codes "usage: " ++ (kind_words kind ++ (codes " at word " ++ decimal k)))
+line_of words (CannotRead name) = error_line words (codes "cannot read " ++ name)
+line_of words (CannotWrite name) = error_line words (codes "cannot write " ++ name)
+line_of words (InputTooLarge name limit) = error_line words (name ++ (codes ": over " ++ (decimal limit ++ codes " bytes")))
+line_of words (TooMany None kind count) = error_line words (codes "too many " ++ (count_words kind ++ (codes ": " ++ decimal count)))
+line_of words (TooMany (Some name) kind count) = error_line words (name ++ (codes ": too many " ++ (count_words kind ++ (codes ": " ++ decimal count))))
+line_of words (FunctionTooLarge name function size) = error_line words (name ++ (codes ": function too large: " ++ (function ++ (codes ", " ++ decimal size))))
+line_of words (Invalid name rule entity) = error_line words (name ++ (codes ": invalid V" ++ (decimal rule ++ (codes " at " ++ entity))))
+line_of words (BitFault name fault) = error_line words (name ++ (codes ": bit " ++ (decimal fault.bit ++ (codes ": " ++ fault_words fault.kind))))
+line_of words NotBuilt = error_line words (codes "not built")
+line_of words Memory = error_line words (codes "out of memory")
+line_of words ended = placed_line words ended
