@@ -1,0 +1,10 @@
+//! The run of whatever makes steps: one after another, to an end or a fault, or until no step is left.
+//!
+//! It stands on the clauses of `run_rules` and on the laws of `run_laws`. It promises that steps, each as the clause of `step` says,
+//! and a halt behind the last make a run as the clause of `run` says: its end, its output, and output before input.
+//! Definitions: `specs/Halts`, and `Clauses` and `RunClauses` of `run_rules`.
+#![tactic(auto)]
+
+mod stepping;
+
+pub use stepping::{Stepping, run};

@@ -1,0 +1,53 @@
+//! Steps one after another.
+ghost use Rattle.std.specs.Prelude.{◌≡◌, ◌^◌, ◌<◌, ◌≤◌};
+ghost use Rattle.run_rules.specs.Machine.{Machine};
+ghost use Rattle.run_rules.specs.Clauses.{outside, StepAnswers};
+ghost use Rattle.run_rules.specs.RunClauses.{RunAnswers};
+ghost use Rattle.run_loop.specs.Halts.{Finishes};
+
+use ir_base::{Sink, Source};
+use run_rules::{End, RunFault};
+
+/// What makes steps, and has not answered an end or a fault yet.
+pub trait Stepping {
+    /// The machine that it is, as its callers see it.
+    ghost machine: { Self → Machine };
+
+    /// How many steps were made so far.
+    fn steps(&self) -> u64
+        ensures { result ≡ (machine self.now).steps };
+
+    /// One step: None where the run goes on, or its end. It is refused where a read or a write failed, or memory was wanted.
+    fn step<I: Source, O: Sink>(
+        &mut self,
+        input: &mut I,
+        output: &mut O,
+    ) -> Result<Option<End>, RunFault>
+        requires { (machine self.old).steps < 2 ^ 32 }
+        ensures { StepAnswers result (machine self.old) (machine self.new) (outside (I.left input.old) (I.faults input.old) (O.taken output.old) (O.faults output.old)) (outside (I.left input.new) (I.faults input.new) (O.taken output.new) (O.faults output.new)) };
+
+    /// No step is left: what is due is entered, and the end is that, or that steps are used up. Nothing is read.
+    fn halt<I: Source, O: Sink>(&mut self, input: &I, output: &mut O) -> Result<End, RunFault>
+        ensures { Finishes result (machine self.old) (machine self.new) (outside (I.left input.now) (I.faults input.now) (O.taken output.old) (O.faults output.old)) (outside (I.left input.now) (I.faults input.now) (O.taken output.new) (O.faults output.new)) };
+}
+
+/// Makes steps to an end or a fault, or until their count is the bound, which is at most 2^32; then the end is the one that `halt`
+/// gives.
+pub fn run<M: Stepping, I: Source, O: Sink>(
+    machine: &mut M,
+    bound: u64,
+    input: &mut I,
+    output: &mut O,
+) -> Result<End, RunFault>
+    requires { bound ≤ 2 ^ 32 }
+    ensures { RunAnswers bound result (M.machine machine.old) (M.machine machine.new) (outside (I.left input.old) (I.faults input.old) (O.taken output.old) (O.faults output.old)) (outside (I.left input.new) (I.faults input.new) (O.taken output.new) (O.faults output.new)) }
+{
+    'running: while machine.steps() < bound {
+        match machine.step(input, output) {
+            Ok(None) => {}
+            Ok(Some(end)) => return Ok(end),
+            Err(fault) => return Err(fault),
+        }
+    }
+    machine.halt(input, output)
+}

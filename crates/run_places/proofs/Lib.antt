@@ -1,0 +1,11 @@
+pub mod Options
+pub mod Together
+pub mod Search
+pub mod Bodies
+pub mod Laid
+pub mod Parts
+pub mod Placed
+pub mod Begins
+pub mod Mains
+pub mod Valid
+pub mod Alone

@@ -1,0 +1,10 @@
+//! Where a run of a valid module can come to: to places at which an instruction stands.
+//!
+//! It stands on the runs of `run_rules`, and on the validity of `module_arena`. It promises that a well-formed, valid module never
+//! gets stuck.
+//! Definitions: `specs/Places`, `specs/Bodies`; what is promised is `NeverStuck` of `run_rules`.
+#![tactic(auto)]
+
+mod law;
+
+pub use law::a_valid_module_never_gets_stuck;

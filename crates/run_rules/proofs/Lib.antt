@@ -1,0 +1,4 @@
+mod SameSide
+mod Programs
+mod Rows
+mod HostRows

@@ -1,0 +1,22 @@
+//! How a run ends.
+use ir_base::Name;
+use ir_tables::UndefinedKind;
+
+/// How a run ends.
+#[derive(Drop)]
+pub enum End {
+    /// With a status: what main gives or `exit` is called with, modulo 256, or 134 of `abort`.
+    Exit(u8),
+    /// In undefined behaviour (LangRef, "Undefined Values" and each instruction's "Semantics").
+    Undefined(UndefinedKind),
+    /// A further instruction is due, and no step is left.
+    StepsUsed,
+    /// One frame more would weigh too much.
+    StackLimit,
+    /// One block more would make too many bytes live.
+    MemoryLimit,
+    /// A name is used that no part defines.
+    Unresolved(Name),
+    /// No part defines `main` with a type that a run can enter.
+    NoMain,
+}

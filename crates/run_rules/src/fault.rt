@@ -1,0 +1,36 @@
+//! Why a call did not come to an end of the run.
+use std::alloc::{AllocError, AllocFailed};
+use thiserror::Error;
+
+/// Why a call did not come to an end of the run: a read or a write failed, or the interpreter has no memory left.
+#[derive(Clone, Copy, PartialEq, Eq, Debug, Error)]
+pub enum RunFault {
+    #[error("cannot read the input")]
+    ReadFault,
+    #[error("cannot write the output")]
+    WriteFault,
+    #[error("out of memory")]
+    Memory,
+}
+
+impl From<AllocError> for RunFault {
+    ghost use Rattle.std.specs.Prelude.{◌≡◌};
+    ghost use Rattle.run_rules.specs.declared.fault.RunFault.{RunFault};
+
+    ghost from_gives = { λ e t. t ≡ RunFault.Memory };
+
+    fn from(_fault: AllocError) -> RunFault {
+        RunFault::Memory
+    }
+}
+
+impl<T: Drop> From<AllocFailed<T>> for RunFault {
+    ghost use Rattle.std.specs.Prelude.{◌≡◌};
+    ghost use Rattle.run_rules.specs.declared.fault.RunFault.{RunFault};
+
+    ghost from_gives = { λ e t. t ≡ RunFault.Memory };
+
+    fn from(_fault: AllocFailed<T>) -> RunFault {
+        RunFault::Memory
+    }
+}

@@ -1,0 +1,10 @@
+pub mod Widths
+pub mod Locals
+pub mod Operands
+pub mod Opened
+pub mod Lists
+pub mod Constants
+pub mod Had
+pub mod Rows
+pub mod Callees
+pub mod Alone

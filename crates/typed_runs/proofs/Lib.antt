@@ -1,0 +1,13 @@
+pub mod Leaves
+pub mod Values
+pub mod Memory
+pub mod Access
+pub mod Printings
+pub mod Integers
+pub mod Hosts
+pub mod Frames
+pub mod Calls
+pub mod Acts
+pub mod Steps
+pub mod Lives
+pub mod Opening

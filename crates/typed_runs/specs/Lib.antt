@@ -1,0 +1,5 @@
+pub mod Kinds
+pub mod Actions
+pub mod States
+pub mod Plans
+pub mod Laws
