@@ -1,0 +1,9 @@
+pub mod Among
+pub mod Closure
+pub mod Entries
+pub mod Adding
+pub mod Reaching
+pub mod Called
+pub mod Keeping
+pub mod Rows
+pub mod AliasRows

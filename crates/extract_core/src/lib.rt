@@ -1,0 +1,20 @@
+//! Parts of a module as a module (the tool `llvm-extract`): which definitions are chosen and kept.
+//!
+//! It stands on `ir_base`, `ir_tables`, `type_table`, `module_arena` and `indexmap`. It promises that the first selected
+//! name that is not there is told, and else exactly which entries are kept. Definitions: `specs/Selected`, what is chosen
+//! and kept, `specs/Extracted`, the extracted module, and `specs/Flags`, what is told of each entry.
+#![tactic(auto)]
+
+mod chosen;
+mod flags;
+mod kept;
+mod laws;
+mod missing;
+mod names;
+mod selection;
+
+pub use flags::{EntryFlags, FlagList};
+pub use kept::choose;
+pub use laws::choosing_ends;
+pub use missing::no_such_symbol;
+pub use selection::{ExtractFault, Selection};

@@ -1,0 +1,29 @@
+-- Lists of which all elements are known to be something.
+use Rattle.std.proofs.Common.{◌≡◌, Bool, true, List, [], ◌∷◌, ◌++◌, map, refl, ap}
+use Rattle.std.specs.Prelude.{⊤}
+use Rattle.std.specs.List.{list_all, AllByRecursion}
+use Rattle.std.proofs.lemmas.Bool.{and_from, and_parts}
+
+pub map_append : {A B : Type 0} (f : A → B) (xs ys : List A) → map f (xs ++ ys) ≡ map f xs ++ map f ys
+map_append f [] ys = refl
+map_append f (x ∷ xs) ys = ap (λ l. f x ∷ l) (map_append f xs ys)
+
+pub all_units : {A : Type 0} (xs : List A) → AllByRecursion (λ x. ⊤) xs
+all_units [] = tt
+all_units (x ∷ xs) = (tt, all_units xs)
+
+pub all_follow : {A : Type 0} (P Q : A → Type 0) (xs : List A) → ((x : A) → P x → Q x) → AllByRecursion P xs → AllByRecursion Q xs
+all_follow P Q [] f a = tt
+all_follow P Q (x ∷ xs) f a = (f x a.0, all_follow P Q xs f a.1)
+
+pub all_of_append : {A : Type 0} (P : A → Type 0) (xs ys : List A) → AllByRecursion P xs → AllByRecursion P ys → AllByRecursion P (xs ++ ys)
+all_of_append P [] ys a b = b
+all_of_append P (x ∷ xs) ys a b = (a.0, all_of_append P xs ys a.1 b)
+
+pub all_tests : {A : Type 0} (p : A → Bool) (xs : List A) → list_all p xs ≡ true → AllByRecursion (λ x. p x ≡ true) xs
+all_tests p [] h = tt
+all_tests p (x ∷ xs) h = let both = and_parts (p x) (list_all p xs) h in (both.0, all_tests p xs both.1)
+
+pub all_tested : {A : Type 0} (p : A → Bool) (xs : List A) → AllByRecursion (λ x. p x ≡ true) xs → list_all p xs ≡ true
+all_tested p [] a = refl
+all_tested p (x ∷ xs) a = and_from (p x) (list_all p xs) a.0 (all_tested p xs a.1)

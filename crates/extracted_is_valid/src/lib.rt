@@ -1,0 +1,15 @@
+//! What is extracted of a module that is well formed and valid is well formed and valid again.
+//!
+//! It stands on `module_arena` and on the definitions of `extract_core`. It promises that laws of extraction hold for every
+//! module and every selection: well-formedness, validity and the sizes of functions are kept. Definitions: `specs/Laws`.
+#![tactic(auto)]
+
+ghost use Rattle.extracted_is_valid.specs.Laws.{ExtractedIsWellFormed, ExtractedIsValid, ExtractedIsSmall};
+
+/// What is extracted of a module is well formed and valid where the module is, and its functions are no larger (LangRef,
+/// "Well-Formedness").
+pub fn extraction_keeps_modules()
+    ensures well_formed { ExtractedIsWellFormed }
+    ensures valid { ExtractedIsValid }
+    ensures small { ExtractedIsSmall }
+{}

@@ -1,0 +1,12 @@
+//! The names in kept definitions: which entries are declared where others are extracted.
+//!
+//! It stands on `ir_base`, `type_table`, `module_arena`, `extract_core` and `indexmap`. It promises that exactly the entries are
+//! told whose names stand in what is kept, in time linear in the arena. Definitions: `specs/Marks`, and `specs/Flags` and
+//! `specs/Extracted` of `extract_core`.
+#![tactic(auto)]
+
+mod marks;
+mod named;
+mod names;
+
+pub use named::named_by_kept;
