@@ -1,0 +1,5 @@
+mod Moving
+mod Keeping
+pub mod TypesCopied
+pub mod ConstantsCopied
+pub mod Starting

@@ -1,0 +1,2 @@
+mod StructsNamed
+mod StructsDefined

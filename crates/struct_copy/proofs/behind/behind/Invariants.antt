@@ -1,0 +1,8 @@
+use Rattle.std.proofs.Common.{◌<◌, ◌≤◌, All, take}
+use Rattle.struct_copy.proofs.behind.behind.Given as goal
+
+abbrev pub invariant-loop-field : goal.invariant-loop-field
+invariant-loop-field l = record {
+  upto : l.behind ≤ l.count;
+  past : All (λ id. id < l.behind) (take l.field-index l.fields);
+}

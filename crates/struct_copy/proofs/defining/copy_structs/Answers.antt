@@ -1,0 +1,18 @@
+use Rattle.std.proofs.Common.{[], sym, subst, ap, ◌∙◌}
+use Rattle.type_table.specs.Types.{structs, names}
+use Rattle.module_arena.proofs.Renamed.{own}
+use Rattle.item_build.proofs.Named.{partly_named}
+use Rattle.entry_copy.specs.Copies.{CopiesTypes}
+use Rattle.entry_copy.proofs.Starting.{no_types_copied, structs_keep_names}
+use Rattle.struct_copy.proofs.StructsNamed.{names_named}
+use Rattle.struct_copy.proofs.defining.copy_structs.Goals as goal
+
+pub define_structs-requires-clause-partly : goal.define_structs-requires-clause-partly
+define_structs-requires-clause-partly c = partly_named (structs c.args.from.now.table) c.name_structs.new.into.arena c.in_ok-name_structs.ensures.table
+
+pub define_structs-requires-clause-copies : goal.define_structs-requires-clause-copies
+define_structs-requires-clause-copies c =
+    let a = c.args.from.now in
+    let b = c.name_structs.new.into.arena in
+    subst (CopiesTypes own a b) (sym c.requires.new)
+    (no_types_copied own a b [] (structs_keep_names a b (ap names c.in_ok-name_structs.ensures.table ∙ names_named a.table)))
