@@ -1,18 +1,19 @@
 #!/usr/bin/env python3
-"""Writes the stored input and output of crates/canon_table: texts, and how each is printed.
+"""The cases of crates/module_table that ask for canonical texts: texts, and how each is printed.
 
 What is printed is written here by hand from the rules of docs/language.md ("Canonical text"); nothing is taken from the program.
 Each text is valid, has no available_externally definition and no appending `zeroinitializer`, so that linking it alone gives
 its own module. Texts are in Latin-1: each character is the byte of its number.
 
-    tests/canonical.py            writes the rows
+    tests/canonical.py            writes the rows of module_table, those of tests/validity.py and tests/linkage.py among them
     tests/canonical.py --check    tells whether they are what it would write
 """
-import pathlib
 import sys
 
-CRATE = pathlib.Path(__file__).resolve().parent.parent / "crates" / "canon_table"
-SEPARATOR = "====\n"
+sys.dont_write_bytecode = True
+
+HEAD = "==== canonical\n"
+END = "====\n"
 
 # Texts, each with its canonical text.
 ROWS = []
@@ -719,16 +720,15 @@ TABLES = [worked, texts, structs, variables, types, integers, constants, names, 
           ends, dropped, spacing, long]
 
 
-def main():
+def written():
+    """The cases, and what is printed of them."""
     for table in TABLES:
         table()
-    stdin = bytes_of(SEPARATOR.join(text + "\n" for text, _ in ROWS))
-    stdout = bytes_of(SEPARATOR.join(printed for _, printed in ROWS))
-    if "--check" in sys.argv[1:]:
-        sys.exit(0 if (CRATE / "stdin").read_bytes() == stdin and (CRATE / "stdout").read_bytes() == stdout else 1)
-    (CRATE / "stdin").write_bytes(stdin)
-    (CRATE / "stdout").write_bytes(stdout)
+    stdin = bytes_of("".join(HEAD + text + "\n" for text, _ in ROWS))
+    stdout = bytes_of("".join(printed + END for _, printed in ROWS))
+    return stdin, stdout
 
 
 if __name__ == "__main__":
-    main()
+    import module_table
+    module_table.main()

@@ -1,12 +1,12 @@
 #!/usr/bin/env python3
-"""Writes the stored input and output of crates/linkage_table: parts as texts, what is asked of them together, and the answers.
+"""The script of crates/module_table that asks about linked parts: parts as texts, what is asked of them together, and the answers.
 
 Every answer is written here by hand from the rules of docs/linking.md; nothing is taken from the program.
 
-    tests/linkage.py            writes the rows
+    tests/linkage.py            writes the rows of module_table, those of tests/canonical.py and tests/validity.py among them
     tests/linkage.py --check    tells whether they are what it would write
 
-A line of the input begins with one of these; others say nothing.
+A line of the script begins with one of these; others say nothing.
 
 | line | what it says |
 |---|---|
@@ -32,10 +32,11 @@ that conflict.
 | what a name means | the definition as of a home, `appended @NAME`, `host @NAME`, `null`, `unresolved`, or `no entry` where the part has none of the name |
 | places | behind each symbol and a colon: `address A, size S, alignment N` of a variable that is defined, `number N` of a function, `nowhere` of a variable that is not; of an alias the address or the number of what it means |
 """
-import pathlib
 import sys
 
-CRATE = pathlib.Path(__file__).resolve().parent.parent / "crates" / "linkage_table"
+sys.dont_write_bytecode = True
+
+HEAD = "==== linked\n"
 
 # Parts, each with what is asked of them: a question and the lines of its answer.
 ROWS = []
@@ -848,16 +849,15 @@ def content(text):
     return "".join(f"| {escaped(line)}\n" for line in lines[:-1]) + (f"+ {escaped(lines[-1])}\n" if lines[-1] else "")
 
 
-def main():
+def written():
+    """The script, and what is told."""
     for rows in TABLES:
         rows()
-    stdin = "".join("clear\n" + "".join("part\n" + content(part) for part in parts) + "".join(question + "\n" for question, _ in asked) for parts, asked in ROWS).encode()
+    stdin = (HEAD + "".join("clear\n" + "".join("part\n" + content(part) for part in parts) + "".join(question + "\n" for question, _ in asked) for parts, asked in ROWS)).encode()
     stdout = "".join(f"> {question}\n" + "".join(line + "\n" for line in lines) for _, asked in ROWS for question, lines in asked).encode()
-    if "--check" in sys.argv[1:]:
-        sys.exit(0 if (CRATE / "stdin").read_bytes() == stdin and (CRATE / "stdout").read_bytes() == stdout else 1)
-    (CRATE / "stdin").write_bytes(stdin)
-    (CRATE / "stdout").write_bytes(stdout)
+    return stdin, stdout
 
 
 if __name__ == "__main__":
-    main()
+    import module_table
+    module_table.main()

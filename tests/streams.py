@@ -1,12 +1,12 @@
 #!/usr/bin/env python3
-"""Writes the stored input and output of crates/stream_table and crates/dump_table.
+"""Writes the stored input and output of crates/stream_table.
 
 The streams are laid out here bit by bit, or are files that llvm-as-19 made. What each comes to is told by a reader of
 the container that stands in this file and shares nothing with the program, and was written from the format's
 description (LLVM Bitcode File Format). What llvm-bcanalyzer-19 says of the files of LLVM was taken down by hand, and
 stands beside them in ANALYZER.
 
-    tests/streams.py            writes the stored input and output of both crates
+    tests/streams.py            writes the stored input and output
     tests/streams.py --check    tells whether they are what it would write
 """
 import pathlib
@@ -640,10 +640,8 @@ def dump_rows():
 
 
 FILES = {
-    CRATES / "stream_table" / "stdin": lambda: "".join(line + "\n" for line, _ in stream_rows()),
-    CRATES / "stream_table" / "stdout": lambda: "".join(answer + "\n" for _, answer in stream_rows()),
-    CRATES / "dump_table" / "stdin": lambda: "".join(line + "\n" for line, _ in dump_rows()),
-    CRATES / "dump_table" / "stdout": lambda: "".join(answer for _, answer in dump_rows()),
+    CRATES / "stream_table" / "stdin": lambda: "".join(line + "\n" for line, _ in stream_rows() + dump_rows()),
+    CRATES / "stream_table" / "stdout": lambda: "".join([answer + "\n" for _, answer in stream_rows()] + [answer for _, answer in dump_rows()]),
 }
 
 

@@ -1,5 +1,5 @@
 #!/usr/bin/env python3
-"""Writes the stored input and output of crates/validity_table: texts, and what is told of each.
+"""The cases of crates/module_table that ask whether a text is valid: texts, and what is told of each.
 
 What a text comes to is written here by hand from the rules of docs/language.md ("Valid"); nothing is taken from the program. Each
 text is a list of items whose names and numbers are in order. One line tells it:
@@ -12,7 +12,7 @@ An ENTITY is `module`, `@x` for a variable, an alias or a function, `%b of @f` f
 instruction or the end of a block, counted from 0 through the whole function, ends included. Names are spelled as in canonical
 text.
 
-    tests/validity.py                   writes the rows
+    tests/validity.py                   writes the rows of module_table, those of tests/canonical.py and tests/linkage.py among them
     tests/validity.py --check           tells whether they are what it would write
     tests/validity.py --large FOLDER    writes the texts that are too large for rows as files N.ll, and what is told of each as N.told
                                         (`bench/validity` times them)
@@ -20,8 +20,9 @@ text.
 import pathlib
 import sys
 
-CRATE = pathlib.Path(__file__).resolve().parent.parent / "crates" / "validity_table"
-SEPARATOR = "====\n"
+sys.dont_write_bytecode = True
+
+HEAD = "==== valid\n"
 
 # What is told of a valid text.
 ACCEPTED = "ok"
@@ -641,18 +642,22 @@ def write_large(folder):
         (folder / f"{number}.told").write_text(f"{told}\n")
 
 
-def main():
+def written():
+    """The cases, and what is told of them."""
     for table in TABLES:
         table()
+    stdin = "".join(HEAD + script(text) for text, _ in CASES).encode()
+    stdout = "".join(f"{told}\n" for _, told in CASES).encode()
+    return stdin, stdout
+
+
+def main():
     if sys.argv[1:2] == ["--large"]:
+        written()
         write_large(pathlib.Path(sys.argv[2]))
         return
-    stdin = SEPARATOR.join(script(text) for text, _ in CASES).encode()
-    stdout = "".join(f"{told}\n" for _, told in CASES).encode()
-    if "--check" in sys.argv[1:]:
-        sys.exit(0 if (CRATE / "stdin").read_bytes() == stdin and (CRATE / "stdout").read_bytes() == stdout else 1)
-    (CRATE / "stdin").write_bytes(stdin)
-    (CRATE / "stdout").write_bytes(stdout)
+    import module_table
+    module_table.main()
 
 
 if __name__ == "__main__":

@@ -1,5 +1,5 @@
 -- The bodies that the code writes have known ids.
-use Rattle.std.proofs.Common.{◌≡◌, ℕ, ◌+◌, ◌^◌, ◌<◌, List, [], ◌∷◌, length, All, refl, sym, ap, ◌∙◌, subst, arith}
+use Rattle.std.proofs.Common.{◌≡◌, ℕ, ◌+◌, ◌^◌, ◌<◌, List, [], ◌∷◌, length, All, refl, sym, ap, ◌∙◌, subst, arith, lit<}
 use Rattle.std.specs.Prelude.{⊤, flat_map}
 use Rattle.module_arena.specs.declared.entry.Body.{Body}
 use Rattle.module_arena.specs.declared.entry.Block.{Block}
@@ -7,13 +7,11 @@ use Rattle.module_arena.specs.declared.instruction.Value.{Value}
 use Rattle.module_arena.specs.declared.instruction.Value.TheVariants.{Local, Known}
 use Rattle.std.proofs.lemmas.List.Elements.{All-nil, All-cons}
 use Rattle.module_arena.specs.declared.instruction.Inst.{Inst}
-use Rattle.module_arena.specs.declared.instruction.Inst.TheVariants as inst
 use Rattle.module_arena.specs.declared.instruction.Ending.TheVariants as ending
-use Rattle.ir_tables.specs.declared.predicate.Predicate.TheVariants as predicate
 use Rattle.module_arena.specs.Known.{upto, HasOperand, HasValue, KnowsInst, KnowsBlock, KnowsBody}
 use Rattle.module_arena.specs.Mentions.{operands_of, bare_values_of, types_of, blocks_of, end_operands_of, targets_of, block_results}
 use Rattle.arena_table.specs.declared.body.Parts.{Parts}
-use Rattle.arena_table.specs.Bodies.{KnowsParts, at, block, slots, stores, loads, adds, small_blocks, entry_block, test_block, turn_block, step_block, last_block, sum_blocks}
+use Rattle.arena_table.specs.Bodies.{KnowsParts, at, block, slots, stores, loads, adds, compares, small_blocks, entry_block, test_block, turn_block, step_block, last_block, sum_blocks}
 
 -- the fact of each item, one by one
 abbrev ByRecursion : {X : Type 0} → (X → Type 0) → List X → Type 0
@@ -55,23 +53,26 @@ module _ (t c v b : ℕ) where
     add_known : (n left : ℕ) (right : Value) → left < v → HasValue c v right → KnowsInst t c v b (adds p n left right)
     add_known n left right lt h = inst_known (adds p n left right) ((k.ty_known, lt), tt) (h, tt) tt tt
 
+    less_known : (n left : ℕ) (right : Value) → left < v → HasValue c v right → KnowsInst t c v b (compares p n left right)
+    less_known n left right lt h = inst_known (compares p n left right) ((k.ty_known, lt), tt) (h, tt) tt tt
+
 module _ (t c : ℕ) (p : Parts) (k : KnowsParts t c p) where
   small_block_known : All (KnowsBlock t c 3 1) (small_blocks p)
   small_block_known = from_recursion (KnowsBlock t c 3 1) (small_blocks p) (
     block_known t c 3 1 (block 0 (slots p 0 ∷ stores p (Known p.start) 0 ∷ loads p 1 0 ∷ adds p 2 1 (Known p.step) ∷ stores p (Local 2) 0 ∷ []) (ending.Return (at p.ty 2))) (
       slot_known t c 3 1 p k 0,
       (
-        store_known t c 3 1 p k (Known p.start) 0 k.start_known (omega arith),
+        store_known t c 3 1 p k (Known p.start) 0 k.start_known (lit< tt),
         (
-          load_known t c 3 1 p k 1 0 (omega arith),
+          load_known t c 3 1 p k 1 0 (lit< tt),
           (
-            add_known t c 3 1 p k 2 1 (Known p.step) (omega arith) k.step_known,
-            (store_known t c 3 1 p k (Local 2) 0 (omega arith) (omega arith), tt),
+            add_known t c 3 1 p k 2 1 (Known p.step) (lit< tt) k.step_known,
+            (store_known t c 3 1 p k (Local 2) 0 (lit< tt) (lit< tt), tt),
           ),
         ),
       ),
     )
-        ((k.ty_known, omega arith), tt) tt,
+        ((k.ty_known, lit< tt), tt) tt,
     tt,
   )
 
@@ -83,55 +84,55 @@ module _ (t c : ℕ) (p : Parts) (k : KnowsParts t c p) where
       (
         slot_known t c 11 5 p k 2,
         (
-          store_known t c 11 5 p k (Known p.start) 0 k.start_known (omega arith),
+          store_known t c 11 5 p k (Known p.start) 0 k.start_known (lit< tt),
           (
-            store_known t c 11 5 p k (Known p.start) 1 k.start_known (omega arith),
-            (store_known t c 11 5 p k (Known p.start) 2 k.start_known (omega arith), tt),
+            store_known t c 11 5 p k (Known p.start) 1 k.start_known (lit< tt),
+            (store_known t c 11 5 p k (Known p.start) 2 k.start_known (lit< tt), tt),
           ),
         ),
       ),
     ),
   )
-      tt (omega arith, tt)
+      tt (lit< tt, tt)
 
   test_known : KnowsBlock t c 11 5 (test_block p)
   test_known = block_known t c 11 5 (test_block p) (
-    load_known t c 11 5 p k 3 2 (omega arith),
-    (inst_known t c 11 5 (inst.Compare 0 predicate.Slt 4 (at p.ty 3) (Known p.limit)) ((k.ty_known, omega arith), tt) (k.limit_known, tt) tt tt, tt),
+    load_known t c 11 5 p k 3 2 (lit< tt),
+    (less_known t c 11 5 p k 4 3 (Known p.limit) (lit< tt) k.limit_known, tt),
   )
-      ((k.bit_known, omega arith), tt) (omega arith, (omega arith, tt))
+      ((k.bit_known, lit< tt), tt) (lit< tt, (lit< tt, tt))
 
   turn_known : KnowsBlock t c 11 5 (turn_block p)
   turn_known = block_known t c 11 5 (turn_block p) (
-    load_known t c 11 5 p k 5 2 (omega arith),
+    load_known t c 11 5 p k 5 2 (lit< tt),
     (
-      load_known t c 11 5 p k 6 1 (omega arith),
+      load_known t c 11 5 p k 6 1 (lit< tt),
       (
-        add_known t c 11 5 p k 7 6 (Local 5) (omega arith) (omega arith),
-        (store_known t c 11 5 p k (Local 7) 1 (omega arith) (omega arith), tt),
+        add_known t c 11 5 p k 7 6 (Local 5) (lit< tt) (lit< tt),
+        (store_known t c 11 5 p k (Local 7) 1 (lit< tt) (lit< tt), tt),
       ),
     ),
   )
-      tt (omega arith, tt)
+      tt (lit< tt, tt)
 
   step_known : KnowsBlock t c 11 5 (step_block p)
   step_known = block_known t c 11 5 (step_block p) (
-    load_known t c 11 5 p k 8 2 (omega arith),
+    load_known t c 11 5 p k 8 2 (lit< tt),
     (
-      add_known t c 11 5 p k 9 8 (Known p.step) (omega arith) k.step_known,
-      (store_known t c 11 5 p k (Local 9) 2 (omega arith) (omega arith), tt),
+      add_known t c 11 5 p k 9 8 (Known p.step) (lit< tt) k.step_known,
+      (store_known t c 11 5 p k (Local 9) 2 (lit< tt) (lit< tt), tt),
     ),
   )
-      tt (omega arith, tt)
+      tt (lit< tt, tt)
 
   last_known : KnowsBlock t c 11 5 (last_block p)
-  last_known = block_known t c 11 5 (last_block p) (load_known t c 11 5 p k 10 1 (omega arith), tt) ((k.ty_known, omega arith), tt) tt
+  last_known = block_known t c 11 5 (last_block p) (load_known t c 11 5 p k 10 1 (lit< tt), tt) ((k.ty_known, lit< tt), tt) tt
 
 pub small_known : (t c : ℕ) (p : Parts) (body : Body) → KnowsParts t c p → body.blocks ≡ small_blocks p → length body.results ≡ 3 → KnowsBody t c 0 body
 unfolding upto
 small_known t c p body k blocks results = record {
   few_values = omega (arith, results);
-  few_blocks = subst (λ (bs : List Block). length bs < 2 ^ 32) (sym blocks) (omega arith);
+  few_blocks = subst (λ (bs : List Block). length bs < 2 ^ 32) (sym blocks) (lit< tt);
   in_order = ap (flat_map block_results) blocks ∙ ap (upto 0) (sym results);
   blocks_known =
       subst (λ (bs : List Block). All (KnowsBlock t c (0 + length body.results) (length bs)) bs) (sym blocks)
@@ -142,7 +143,7 @@ pub sum_known : (t c : ℕ) (p : Parts) (body : Body) → KnowsParts t c p → b
 unfolding upto
 sum_known t c p body k blocks results = record {
   few_values = omega (arith, results);
-  few_blocks = subst (λ (bs : List Block). length bs < 2 ^ 32) (sym blocks) (omega arith);
+  few_blocks = subst (λ (bs : List Block). length bs < 2 ^ 32) (sym blocks) (lit< tt);
   in_order = ap (flat_map block_results) blocks ∙ ap (upto 0) (sym results);
   blocks_known =
       subst (λ (bs : List Block). All (KnowsBlock t c (0 + length body.results) (length bs)) bs) (sym blocks)

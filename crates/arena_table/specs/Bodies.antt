@@ -44,6 +44,10 @@ loads p number address = inst.Load 0 number p.ty (at p.pointer address) (Some 4)
 abbrev pub adds : Parts → ℕ → ℕ → Value → Inst
 adds p number left right = inst.Binary opcode.Add (flags_with 0 flag.Nsw) number (at p.ty left) right
 
+-- a comparison
+abbrev pub compares : Parts → ℕ → ℕ → Value → Inst
+compares p number left right = inst.Compare 0 predicate.Slt number (at p.ty left) right
+
 -- a block without a name of its own
 abbrev pub block : ℕ → List Inst → Ending → Block
 block number instructions end = record { name = Numbered number; instructions = instructions; end = end }
@@ -60,7 +64,7 @@ entry_block p =
     block 0 (slots p 0 ∷ slots p 1 ∷ slots p 2 ∷ stores p (Known p.start) 0 ∷ stores p (Known p.start) 1 ∷ stores p (Known p.start) 2 ∷ []) (ending.Jump 1)
 
 abbrev pub test_block : Parts → Block
-test_block p = block 4 (loads p 3 2 ∷ inst.Compare 0 predicate.Slt 4 (at p.ty 3) (Known p.limit) ∷ []) (ending.Branch (at p.bit 4) 2 4)
+test_block p = block 4 (loads p 3 2 ∷ compares p 4 3 (Known p.limit) ∷ []) (ending.Branch (at p.bit 4) 2 4)
 
 abbrev pub turn_block : Parts → Block
 turn_block p = block 7 (loads p 5 2 ∷ loads p 6 1 ∷ adds p 7 6 (Local 5) ∷ stores p (Local 7) 1 ∷ []) (ending.Jump 3)

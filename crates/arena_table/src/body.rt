@@ -1,7 +1,7 @@
 //! Bodies of functions without parameters.
 ghost use Rattle.std.specs.Prelude.{◌≡◌, ◌∷◌, [], None, Some, length, IfOk};
 ghost use Rattle.module_arena.specs.declared.instruction.Inst.TheVariants as inst;
-ghost use Rattle.arena_table.specs.Bodies.{KnowsParts, at, block, stores, loads, adds, small_blocks, entry_block, test_block, turn_block, step_block, last_block, sum_blocks};
+ghost use Rattle.arena_table.specs.Bodies.{KnowsParts, at, block, stores, loads, adds, compares, small_blocks, entry_block, test_block, turn_block, step_block, last_block, sum_blocks};
 
 use crate::answer::Refusal;
 use crate::known::{const_id, type_id};
@@ -90,6 +90,18 @@ fn add(parts: &Parts, number: u32, left: u32, right: Value) -> Inst
     )
 }
 
+fn less(parts: &Parts, number: u32, left: u32, right: Value) -> Inst
+    ensures { result ≡ compares parts.now number left right }
+{
+    Inst::Compare(
+        Flags::empty(),
+        Predicate::Slt,
+        ValueId::new(number),
+        at(parts.ty, left),
+        right,
+    )
+}
+
 fn block(number: u32, instructions: Vec<Inst>, end: Ending) -> Block
     ensures { result ≡ block number instructions.items end }
 {
@@ -136,11 +148,12 @@ fn entry_block(alloc: Global, parts: &Parts) -> Result<Block, AllocError>
 fn test_block(alloc: Global, parts: &Parts) -> Result<Block, AllocError>
     ensures { IfOk result (λ block. block ≡ test_block parts.now) }
 {
-    let limit = Value::Known(parts.limit);
-    let (flags, result, left) = (Flags::empty(), ValueId::new(4), at(parts.ty, 3));
-    let less = Inst::Compare(flags, Predicate::Slt, result, left, limit);
+    let instructions = vec![in alloc;
+        load(parts, 3, 2),
+        less(parts, 4, 3, Value::Known(parts.limit)),
+    ]?;
     let end = Ending::Branch(at(parts.bit, 4), BlockId::new(2), BlockId::new(4));
-    Ok(block(4, vec![in alloc; load(parts, 3, 2), less]?, end))
+    Ok(block(4, instructions, end))
 }
 
 fn turn_block(alloc: Global, parts: &Parts) -> Result<Block, AllocError>

@@ -20,22 +20,26 @@ use module_arena::Arena;
 use script::answer_to;
 use std::io;
 
+/// Prints what a line gives. A line `new` begins anew, and gives nothing.
+fn tell(rt: &HostRuntime, arena: &mut Arena, line: &str) -> io::Result<()> {
+    if line.starts_with("--") {
+        return println!(rt; "{line}");
+    }
+    if line == "new" {
+        *arena = Arena::new(rt.alloc());
+        return Ok(());
+    }
+    match answer_to(rt.alloc(), arena, line) {
+        Ok(answer) => println!(rt; "{line}: {answer}"),
+        Err(refusal) => println!(rt; "{line}: {refusal}"),
+    }
+}
+
 fn main(rt: HostRuntime) -> io::Result<()> {
     let mut arena = Arena::new(rt.alloc());
     for line in rt.lines(rt.alloc()) {
         let line = line?;
-        if line.starts_with("--") {
-            println!(rt; "{line}")?;
-            continue;
-        }
-        if line.as_str() == "new" {
-            arena = Arena::new(rt.alloc());
-            continue;
-        }
-        match answer_to(rt.alloc(), &mut arena, line.as_str()) {
-            Ok(answer) => println!(rt; "{line}: {answer}")?,
-            Err(refusal) => println!(rt; "{line}: {refusal}")?,
-        }
+        tell(&rt, &mut arena, line.as_str())?;
     }
     Ok(())
 }

@@ -1,11 +1,13 @@
 //! Reads and writes streams of the container that its lines name, and prints what each comes to.
 //!
-//! It stands on `bit_stream` and `bit_tree`, and serves to show them. A line is a word and the bytes of a stream,
+//! It stands on `bit_stream`, `bit_tree` and `bit_dump`, and serves to show them. A line is a word and the bytes of a stream,
 //! hexadecimal: `read` tells the entries with all that a reader tells of them, `sums` the entries outside BLOCKINFO
 //! shortly, `tree` those that are read at once, `judge` the verdict, and `fields` two numbers; `write` names what is
-//! written. Nothing is promised of the printed text.
+//! written. `whole` tells the stream as `dump` writes it into a sink in memory, `counts` its summary, and `short` tells it all
+//! to a sink with room for 100 bytes, whose second call fails. Nothing is promised of the printed text.
 #![tactic(auto)]
 
+mod dumped;
 mod hex;
 mod tell;
 mod whole;
@@ -38,8 +40,14 @@ fn main(rt: HostRuntime) -> io::Result<()> {
     for line in rt.lines(rt.alloc()) {
         let line = line?;
         let (word, rest) = line.as_str().split_once(' ').unwrap_or((line.as_str(), ""));
-        let answer = answer(rt.alloc(), word, rest)?;
-        println!(rt; "{word} {answer}")?;
+        if matches!(word, "whole" | "counts" | "short") {
+            let bytes = bytes_of(rt.alloc(), rest)?;
+            let answer = dumped::answer(rt.alloc(), word, &bytes)?;
+            print!(rt; "{word}{answer}")?;
+        } else {
+            let answer = answer(rt.alloc(), word, rest)?;
+            println!(rt; "{word} {answer}")?;
+        }
     }
     Ok(())
 }

@@ -7,17 +7,21 @@ use std::alloc::{AllocError, Global};
 /// The most entries that are told of one stream.
 const MOST: u32 = 10_000;
 
-/// The word of a fault, and its bit.
-pub fn put_fault(out: &mut String, fault: BitFault) -> Result<(), AllocError> {
-    let word = match fault.kind {
+/// The word of a kind of fault.
+pub fn kind_word(kind: BitFaultKind) -> &'static str {
+    match kind {
         BitFaultKind::BadMagic => "BadMagic",
         BitFaultKind::Truncated => "Truncated",
         BitFaultKind::BadAbbreviation => "BadAbbreviation",
         BitFaultKind::VbrTooLong => "VbrTooLong",
         BitFaultKind::BadBlockLength => "BadBlockLength",
         BitFaultKind::NestedTooDeep => "NestedTooDeep",
-    };
-    let bit = fault.bit;
+    }
+}
+
+/// The word of a fault, and its bit.
+pub fn put_fault(out: &mut String, fault: BitFault) -> Result<(), AllocError> {
+    let (word, bit) = (kind_word(fault.kind), fault.bit);
     write!(out, "{word} {bit}")
 }
 
@@ -85,6 +89,26 @@ fn put_block(out: &mut String, id: u32, reader: &BitReader) -> Result<(), AllocE
     write!(out, "block {id} width {width} words {words}; ")
 }
 
+/// The next entry and the definitions in front of it, or the fault. Tells whether more may follow.
+fn put_next(out: &mut String, reader: &mut BitReader) -> Result<bool, AllocError> {
+    let first = reader.next_abbreviation();
+    let entry = match reader.next_entry() {
+        Ok(entry) => entry,
+        Err(fault) => {
+            put_stop(out, fault)?;
+            return Ok(false);
+        }
+    };
+    put_definitions(out, first, reader)?;
+    match entry {
+        Entry::Block(id) => put_block(out, id, reader)?,
+        Entry::EndBlock => out.push_str("end; ")?,
+        Entry::Record(code) => put_record(out, code, reader)?,
+        Entry::End => out.push_str("whole")?,
+    }
+    Ok(!matches!(entry, Entry::End))
+}
+
 /// All entries and definitions, up to the end of the stream or its first fault.
 pub fn all(alloc: Global, bytes: &[u8]) -> Result<String, AllocError>
     requires { length bytes.now ≤ 2 ^ 24 }
@@ -98,23 +122,8 @@ pub fn all(alloc: Global, bytes: &[u8]) -> Result<String, AllocError>
         }
     };
     for _ in 0..MOST {
-        let first = reader.next_abbreviation();
-        let entry = match reader.next_entry() {
-            Ok(entry) => entry,
-            Err(fault) => {
-                put_stop(&mut out, fault)?;
-                return Ok(out);
-            }
-        };
-        put_definitions(&mut out, first, &reader)?;
-        match entry {
-            Entry::Block(id) => put_block(&mut out, id, &reader)?,
-            Entry::EndBlock => out.push_str("end; ")?,
-            Entry::Record(code) => put_record(&mut out, code, &reader)?,
-            Entry::End => {
-                out.push_str("whole")?;
-                return Ok(out);
-            }
+        if !put_next(&mut out, &mut reader)? {
+            break;
         }
     }
     Ok(out)
@@ -137,6 +146,28 @@ fn put_sums(out: &mut String, code: u32, reader: &BitReader) -> Result<(), Alloc
     write!(out, "{code} {count} {sum} {size}; ")
 }
 
+/// The next entry, shortly where it is not in BLOCKINFO, or the fault. Tells whether more may follow.
+fn put_shortly(
+    out: &mut String,
+    reader: &mut BitReader,
+    hidden: &mut bool,
+) -> Result<bool, AllocError> {
+    match reader.next_entry() {
+        Ok(Entry::Block(0)) => *hidden = true,
+        Ok(Entry::EndBlock) if *hidden => *hidden = false,
+        Ok(_) if *hidden => {}
+        Ok(Entry::Block(id)) => write!(out, "block {id}; ")?,
+        Ok(Entry::EndBlock) => out.push_str("end; ")?,
+        Ok(Entry::Record(code)) => put_sums(out, code, reader)?,
+        Ok(Entry::End) => return Ok(false),
+        Err(fault) => {
+            put_stop(out, fault)?;
+            return Ok(false);
+        }
+    }
+    Ok(true)
+}
+
 /// The entries that are not in BLOCKINFO, shortly.
 pub fn sums(alloc: Global, bytes: &[u8]) -> Result<String, AllocError>
     requires { length bytes.now ≤ 2 ^ 24 }
@@ -147,18 +178,8 @@ pub fn sums(alloc: Global, bytes: &[u8]) -> Result<String, AllocError>
     };
     let mut hidden = false;
     for _ in 0..MOST {
-        match reader.next_entry() {
-            Ok(Entry::Block(0)) => hidden = true,
-            Ok(Entry::EndBlock) if hidden => hidden = false,
-            Ok(_) if hidden => {}
-            Ok(Entry::Block(id)) => write!(&mut out, "block {id}; ")?,
-            Ok(Entry::EndBlock) => out.push_str("end; ")?,
-            Ok(Entry::Record(code)) => put_sums(&mut out, code, &reader)?,
-            Ok(Entry::End) => return Ok(out),
-            Err(fault) => {
-                put_stop(&mut out, fault)?;
-                return Ok(out);
-            }
+        if !put_shortly(&mut out, &mut reader, &mut hidden)? {
+            break;
         }
     }
     Ok(out)
