@@ -614,7 +614,7 @@ def products():
 
 
 def programs():
-    """What clang 19 prints for ten C programs, at -O0 and at -O2 (tests/programs)."""
+    """What clang 19 prints for forty C programs, at -O0 and at -O2 (tests/programs)."""
     for text in sorted((pathlib.Path(__file__).resolve().parent / "programs").glob("*.ll")):
         valid(text.read_text().rstrip("\n"))
 

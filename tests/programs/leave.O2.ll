@@ -1,0 +1,66 @@
+; ModuleID = 'leave.c'
+source_filename = "leave.c"
+target datalayout = "e-m:e-p270:32:32-p271:32:32-p272:64:64-i64:64-i128:128-f80:128-n8:16:32:64-S128"
+target triple = "x86_64-pc-linux-gnu"
+
+@depth = internal unnamed_addr global i32 0, align 4
+@.str = private unnamed_addr constant [9 x i8] c"not here\00", align 1
+@.str.1 = private unnamed_addr constant [14 x i8] c"leaves at %d\0A\00", align 1
+
+; Function Attrs: nounwind uwtable
+define dso_local noundef i32 @main() local_unnamed_addr #0 {
+  %1 = tail call i32 @putchar(i32 noundef 62) #3
+  tail call fastcc void @deeper(i32 noundef 20) #3
+  ret i32 1
+}
+
+; Function Attrs: nofree nounwind
+declare dso_local noundef i32 @putchar(i32 noundef) local_unnamed_addr #1
+
+; Function Attrs: nounwind uwtable
+define internal fastcc void @deeper(i32 noundef %0) unnamed_addr #0 {
+  %2 = load i32, ptr @depth, align 4, !tbaa !3
+  %3 = add nsw i32 %2, 1
+  store i32 %3, ptr @depth, align 4, !tbaa !3
+  %4 = icmp eq i32 %0, 0
+  br i1 %4, label %5, label %9
+
+5:                                                ; preds = %1
+  %6 = tail call i32 (ptr, ...) @printf(ptr noundef nonnull dereferenceable(1) @.str.1, i32 noundef %3) #3
+  %7 = mul nsw i32 %3, 1000
+  %8 = or disjoint i32 %7, 7
+  tail call void @exit(i32 noundef %8) #4
+  unreachable
+
+9:                                                ; preds = %1
+  %10 = add nsw i32 %0, -1
+  tail call fastcc void @deeper(i32 noundef %10) #3
+  %11 = tail call i32 @puts(ptr noundef nonnull dereferenceable(1) @.str) #3
+  ret void
+}
+
+; Function Attrs: nofree nounwind
+declare dso_local noundef i32 @puts(ptr nocapture noundef readonly) local_unnamed_addr #1
+
+; Function Attrs: nofree nounwind
+declare dso_local noundef i32 @printf(ptr nocapture noundef readonly, ...) local_unnamed_addr #1
+
+; Function Attrs: noreturn nounwind
+declare dso_local void @exit(i32 noundef) local_unnamed_addr #2
+
+attributes #0 = { nounwind uwtable "min-legal-vector-width"="0" "no-builtin-calloc" "no-trapping-math"="true" "stack-protector-buffer-size"="8" "target-cpu"="x86-64" "target-features"="+cmov,+cx8,+fxsr,+mmx,+sse,+sse2,+x87" "tune-cpu"="generic" }
+attributes #1 = { nofree nounwind "no-builtin-calloc" "no-trapping-math"="true" "stack-protector-buffer-size"="8" "target-cpu"="x86-64" "target-features"="+cmov,+cx8,+fxsr,+mmx,+sse,+sse2,+x87" "tune-cpu"="generic" }
+attributes #2 = { noreturn nounwind "no-builtin-calloc" "no-trapping-math"="true" "stack-protector-buffer-size"="8" "target-cpu"="x86-64" "target-features"="+cmov,+cx8,+fxsr,+mmx,+sse,+sse2,+x87" "tune-cpu"="generic" }
+attributes #3 = { "no-builtin-calloc" }
+attributes #4 = { noreturn nounwind "no-builtin-calloc" }
+
+!llvm.module.flags = !{!0, !1}
+!llvm.ident = !{!2}
+
+!0 = !{i32 1, !"wchar_size", i32 4}
+!1 = !{i32 7, !"uwtable", i32 2}
+!2 = !{!"Debian clang version 19.1.7 (3~deb12u1)"}
+!3 = !{!4, !4, i64 0}
+!4 = !{!"int", !5, i64 0}
+!5 = !{!"omnipotent char", !6, i64 0}
+!6 = !{!"Simple C/C++ TBAA"}
