@@ -1,0 +1,2 @@
+pub mod FittingBodies
+pub mod Laws

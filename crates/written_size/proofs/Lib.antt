@@ -1,0 +1,5 @@
+pub mod Grows
+pub mod Kept
+pub mod Plainly
+mod Bytewise
+pub mod Wholes
