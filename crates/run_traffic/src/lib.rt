@@ -1,0 +1,12 @@
+//! The bytes of a run on their way out and in: what was put out and is not written, what was read and is not used.
+//!
+//! It stands on the sinks and sources of `ir_base`, and takes memory only where it is made. It promises that all that is put is
+//! written in order, and none before 65,536 bytes are there unless it is asked for; and that each byte of the input is given once, in
+//! order, and none is read once a read has given none. Definitions: `specs/Output`, `specs/Input`.
+#![tactic(auto)]
+
+mod input;
+mod output;
+
+pub use input::Input;
+pub use output::Output;

@@ -1,0 +1,103 @@
+//! Output that was put out and is not written yet.
+ghost use Rattle.std.specs.Prelude.{◌≡◌, ◌+◌, ◌<◌, ◌≤◌, ◌++◌, [], length, IfOk, OnOk, OnErr};
+ghost use Rattle.ir_base.specs.Outside.{Added, Rose};
+ghost use Rattle.run_traffic.specs.Output.{Puts, WritesFront};
+
+use ir_base::{Failed, Sink, write_all};
+use std::alloc::{AllocError, Global};
+use std::marker::Model;
+
+// So many bytes are written at once.
+const FULL: usize = 65_536;
+
+/// Bytes that a run has put out and that are not written yet, fewer than 65,536. A clause sees the list of them.
+#[derive(Drop)]
+pub struct Output {
+    bytes: Vec<u8>,
+}
+
+impl Model for Output {
+    ghost use Rattle.std.specs.Prelude.{List, ℕ, ◌<◌, ◌≤◌, vec_len, vec_capacity};
+
+    ghost Value = { List ℕ };
+
+    ghost view = { λ o. o.bytes.items };
+
+    ghost invariant = { λ o. (vec_len o.bytes < 65536) × (65536 ≤ vec_capacity o.bytes) };
+}
+
+impl Output {
+    /// Nothing is put out yet. The room that it takes is all that it ever needs.
+    pub fn new(alloc: Global) -> Result<Output, AllocError>
+        ensures { IfOk result (λ output. output ≡ []) }
+    {
+        Ok(Output {
+            bytes: Vec::with_capacity(alloc, FULL)?,
+        })
+    }
+
+    /// Puts bytes behind the others. Where there are 65,536 or more then, all of them are written; else none is.
+    ///
+    /// Failed where a write failed: a front of them all is written, and the same bytes as before are held.
+    #[tactic(auto, using(crate::proofs::Written::puts_held, crate::proofs::Written::puts_through))]
+    pub fn put<O: Sink>(&mut self, bytes: &[u8], sink: &mut O) -> Result<(), Failed>
+        ensures ok { OnOk result (Puts (O.taken sink.old) (O.taken sink.new) self.old bytes.now self.new) }
+        ensures front { OnErr result (WritesFront (O.taken sink.old) (O.taken sink.new) (self.old ++ bytes.now)) }
+        ensures kept { OnErr result (self.new ≡ self.old) }
+        ensures fine { OnOk result (O.faults sink.new ≡ O.faults sink.old) }
+        ensures rose { OnErr result (Rose (O.faults sink.old) (O.faults sink.new)) }
+        ensures later { O.faults sink.old ≤ O.faults sink.new }
+        ensures short { length self.new < 65536 }
+    {
+        if bytes.len() < FULL - self.bytes.len() {
+            self.hold(bytes);
+            return Ok(());
+        }
+        self.write_with(bytes, sink)
+    }
+
+    // Holds bytes that have room behind the others.
+    fn hold(&mut self, bytes: &[u8])
+        requires { length self.old + length bytes.now < 65536 }
+        ensures { self.new ≡ self.old ++ bytes.now }
+    {
+        match self.bytes.extend_from_slice(bytes) {
+            Ok(()) => {}
+            Err(_) => unreachable!(),
+        }
+    }
+
+    // Writes what is held, and these bytes behind it.
+    fn write_with<O: Sink>(&mut self, bytes: &[u8], sink: &mut O) -> Result<(), Failed>
+        ensures ok { OnOk result (Added (O.taken sink.old) (O.taken sink.new) (self.old ++ bytes.now)) }
+        ensures none { OnOk result (self.new ≡ []) }
+        ensures front { OnErr result (WritesFront (O.taken sink.old) (O.taken sink.new) (self.old ++ bytes.now)) }
+        ensures kept { OnErr result (self.new ≡ self.old) }
+        ensures fine { OnOk result (O.faults sink.new ≡ O.faults sink.old) }
+        ensures rose { OnErr result (Rose (O.faults sink.old) (O.faults sink.new)) }
+        ensures later { O.faults sink.old ≤ O.faults sink.new }
+        ensures short { length self.new < 65536 }
+    {
+        write_all(sink, &self.bytes)?;
+        write_all(sink, bytes)?;
+        self.bytes.clear();
+        Ok(())
+    }
+
+    /// Writes all that is held.
+    ///
+    /// Failed where a write failed: a front of it is written, and the same bytes as before are held.
+    #[tactic(auto, using(crate::proofs::Written::front_alone, crate::proofs::Written::added_alone))]
+    pub fn flush<O: Sink>(&mut self, sink: &mut O) -> Result<(), Failed>
+        ensures ok { OnOk result (Added (O.taken sink.old) (O.taken sink.new) self.old) }
+        ensures none { OnOk result (self.new ≡ []) }
+        ensures front { OnErr result (WritesFront (O.taken sink.old) (O.taken sink.new) self.old) }
+        ensures kept { OnErr result (self.new ≡ self.old) }
+        ensures fine { OnOk result (O.faults sink.new ≡ O.faults sink.old) }
+        ensures rose { OnErr result (Rose (O.faults sink.old) (O.faults sink.new)) }
+        ensures later { O.faults sink.old ≤ O.faults sink.new }
+        ensures short { length self.new < 65536 }
+    {
+        self.write_with(&[], sink)
+    }
+}
