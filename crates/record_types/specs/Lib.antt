@@ -1,0 +1,2 @@
+pub mod ReadTypes
+pub mod Laws

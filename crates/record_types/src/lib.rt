@@ -1,0 +1,9 @@
+//! The block of types that is written of a module is read back.
+//!
+//! It stands on the records of `record_table` and on `record_bodies`. It promises that of a well-formed module the types and structs that its
+//! records list are read as those that it has. Definitions: `specs/ReadTypes` says what is read, `specs/Laws` what the law is.
+#![tactic(auto)]
+
+mod laws;
+
+pub use laws::types_are_read_back;
