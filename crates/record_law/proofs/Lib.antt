@@ -1,0 +1,16 @@
+mod RecordsPut
+mod OpeningBack
+mod Rereads
+mod TypesStep
+mod FunctionsBack
+mod GlobalsBack
+mod AliasesBack
+mod GlobalsRead
+mod AllBodies
+mod TailBack
+mod HeadBack
+pub mod OneModule
+mod Gathered
+mod RereadBodies
+mod RereadModules
+pub mod Joined

@@ -1,0 +1,3 @@
+pub mod FittingEntries
+pub mod FittingModules
+pub mod Laws

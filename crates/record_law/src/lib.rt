@@ -1,0 +1,13 @@
+//! Laws of bitcode as records: what is written of a module is read back.
+//!
+//! It stands on the records of `record_table` and on the laws of `record_bodies` and `record_types`. It promises the laws that
+//! its calls name. Definitions: `specs/FittingEntries` says what variables, functions and aliases must be, `specs/FittingModules` what
+//! a module must be, `specs/Laws` what the laws are.
+#![tactic(auto)]
+
+mod laws;
+
+pub use laws::{
+    modules_are_read_back, openings_are_read_back, records_are_those_put,
+    trees_are_read_or_refused, trees_stand_for_one,
+};
