@@ -82,12 +82,15 @@ module _ (w : Writer) (id width : ℕ) (may : MayBlock id width) (none_given : w
   narrow : 4 < 2 ^ shaped.scope.block.width
   narrow = subst (λ (n : ℕ). 4 < 2 ^ n) (sym wide_is) (let most = pow_mono wide in omega (arith, most))
 
-  few : (ns : List ℕ) → size (abbreviated shaped 4 1 ns) < 2 ^ 37 → length ns < 2 ^ 64
-  few ns small =
+  -- there are fewer than bits
+  pub bytes_few : (ns : List ℕ) → size (abbreviated shaped 4 1 ns) < 2 ^ 37 → length ns < 2 ^ 37
+  bytes_few ns small =
       let a = ap (λ (t : Option Template). length (with_record t 1 ns (shaped.bits ++ id_bits shaped 4))) found in
       let b = record_count ns (shaped.bits ++ id_bits shaped 4) in
-      let c : length ns < 2 ^ 37 = omega (arith, a, b, small) in
-      omega (arith, c)
+      omega (arith, a, b, small)
+
+  few : (ns : List ℕ) → size (abbreviated shaped 4 1 ns) < 2 ^ 37 → length ns < 2 ^ 64
+  few ns small = let less = bytes_few ns small in omega (arith, less)
 
   pub bytes_allowed : (ns : List ℕ) → AllByRecursion (λ (n : ℕ). n < 256) ns → size (abbreviated shaped 4 1 ns) < 2 ^ 37 → Allowed (enter w id width) (a_definition of_bytes (a_short_record 4 1 ns no_more))
   unfolding Allowed

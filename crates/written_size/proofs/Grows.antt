@@ -70,7 +70,7 @@ outer_longer w id width =
     let d = aligned_longer (w.bits ++ id_bits w 1 ++ chunks 8 id ++ chunks 4 width) in
     omega (arith, a, b, c, d)
 
-enter_grows : (w : Writer) (id width : ℕ) → size w ≤ size (enter w id width)
+pub enter_grows : (w : Writer) (id width : ℕ) → size w ≤ size (enter w id width)
 enter_grows w id width = let a = outer_longer w id width in let b = enter_size w id width in omega (arith, a, b)
 
 -- behind a block stand the bits in front of it, 32 bits, and its own
@@ -131,7 +131,7 @@ put_grows w code ns =
     let a = record_counts code ns in
     omega (arith, a, length-append (w.bits ++ id_bits w 3) (record_bits code ns), length-append w.bits (id_bits w 3))
 
-define_grows : (w : Writer) (ops : List AbbrevOp) → size w ≤ size (define w ops)
+pub define_grows : (w : Writer) (ops : List AbbrevOp) → size w ≤ size (define w ops)
 define_grows w ops = omega (arith, length-append (w.bits ++ id_bits w 2) (definition_bits ops), length-append w.bits (id_bits w 2))
 
 tail_longer : (t : Tail) (ns : List ℕ) (bits : List Bool) → length bits ≤ length (with_tail t ns bits)
@@ -156,7 +156,7 @@ record_longer (Some t) code ns bits =
     let c = longer (bits ++ value_bits t.code code) (each_bits t.operands (take (length t.operands) ns)) in
     omega (arith, a, b, c)
 
-abbreviated_grows : (w : Writer) (id code : ℕ) (ns : List ℕ) → size w ≤ size (abbreviated w id code ns)
+pub abbreviated_grows : (w : Writer) (id code : ℕ) (ns : List ℕ) → size w ≤ size (abbreviated w id code ns)
 abbreviated_grows w id code ns =
     let a = record_longer (template_of w.scope id) code ns (w.bits ++ id_bits w id) in
     let b = longer w.bits (id_bits w id) in

@@ -1,4 +1,5 @@
 pub mod Grows
+mod Weights
 pub mod Kept
 pub mod Plainly
 mod Bytewise

@@ -4,11 +4,12 @@ use Rattle.bit_stream.specs.Entry.{is_blockinfo}
 use Rattle.bit_stream.specs.Scope.{Scope, top_level}
 use Rattle.bit_stream.specs.Writer.{Writer, begun, enter, end_block, define, abbreviated}
 use Rattle.bit_tree.specs.Written.{Written, no_more, a_block, a_definition, a_record, a_short_record, written, Allowed}
-use Rattle.written_size.specs.Plain.{MayBlock, IsPlain, IsOfBytes, IsWhole, of_bytes}
+use Rattle.written_size.specs.Plain.{MayBlock, IsPlain, IsOfBytes, IsWhole, of_bytes, AreShort, weight}
 use Rattle.written_size.proofs.Grows.{total, size, around_kept}
+use Rattle.written_size.proofs.Weights.{heavier}
 use Rattle.written_size.proofs.Kept.{left_is, scope_kept}
 use Rattle.written_size.proofs.Plainly.{may_enter, entered_in, few_words, smaller, plain_allowed}
-use Rattle.written_size.proofs.Bytewise.{bytes_allowed, bytes_kept}
+use Rattle.written_size.proofs.Bytewise.{bytes_allowed, bytes_few, bytes_kept}
 
 module _ (w : Writer) (top : w.scope ≡ top_level) (id width : ℕ) (may : MayBlock id width) where
   none_given : w.scope.given ≡ []
@@ -46,11 +47,40 @@ whole_allowed (a_definition ops behind) w p top small = elim p [ ]
 whole_allowed (a_record code ns behind) w p top small = elim p [ ]
 whole_allowed (a_short_record id code ns behind) w p top small = elim p [ ]
 
+inside_is : (w : Writer) (id width : ℕ) {inside : Written} (bytes : IsOfBytes width inside) → size (written (enter w id width) inside) < 2 ^ 37 → size (abbreviated (define (enter w id width) of_bytes) 4 1 bytes.bytes) < 2 ^ 37
+unfolding written
+inside_is w id width bytes small = subst (λ (i : Written). size (written (enter w id width) i) < 2 ^ 37) bytes.is small
+
+-- a block of bytes has few of them
+pub whole_short : (all : Written) (w : Writer) → IsWhole all → w.scope ≡ top_level → size (written w all) < 2 ^ 37 → AreShort all
+unfolding written IsWhole AreShort
+whole_short no_more w p top small = tt
+whole_short (a_block id width inside behind) w p top small =
+    let x = written (enter w id width) inside in
+    let same = around_kept inside (enter w id width) in
+    let inner = smaller w id width x behind same small in (
+      λ bytes. bytes_few w id width p.0 (none_given w top id width p.0) bytes.wide bytes.bytes (inside_is w id width bytes inner),
+      whole_short behind (end_block x) p.2 (inside_kept w top id width p.0 inside p.1 ∙ top) small,
+    )
+whole_short (a_definition ops behind) w p top small = elim p [ ]
+whole_short (a_record code ns behind) w p top small = elim p [ ]
+whole_short (a_short_record id code ns behind) w p top small = elim p [ ]
+
 nothing : total [] ≡ 0
 unfolding total
 nothing = refl
 
+whole_size : (all : Written) → length (written begun all).bits < 2 ^ 37 → size (written begun all) < 2 ^ 37
+whole_size all small = let none : total (written begun all).around ≡ 0 = ap total (around_kept all begun) ∙ nothing in omega (arith, none, small)
+
 pub wholes_allowed : (all : Written) → IsWhole all → length (written begun all).bits < 2 ^ 37 → Allowed begun all
-wholes_allowed all p small =
+wholes_allowed all p small = whole_allowed all begun p refl (whole_size all small)
+
+pub wholes_short : (all : Written) → IsWhole all → length (written begun all).bits < 2 ^ 37 → AreShort all
+wholes_short all p small = whole_short all begun p refl (whole_size all small)
+
+pub records_few : (all : Written) → weight all ≤ length (written begun all).bits
+records_few all =
     let none : total (written begun all).around ≡ 0 = ap total (around_kept all begun) ∙ nothing in
-    whole_allowed all begun p refl (omega (arith, none, small))
+    let more = heavier all begun in
+    omega (arith, none, more)

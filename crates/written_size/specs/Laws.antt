@@ -1,9 +1,17 @@
 -- For a writer of bitcode: the law of small wholes.
-use Rattle.std.specs.Prelude.{◌<◌, ◌^◌, length}
+use Rattle.std.specs.Prelude.{◌<◌, ◌≤◌, ◌^◌, length}
 use Rattle.bit_stream.specs.Writer.{begun}
 use Rattle.bit_tree.specs.Written.{Written, written, Allowed}
-use Rattle.written_size.specs.Plain.{IsWhole}
+use Rattle.written_size.specs.Plain.{IsWhole, AreShort, weight}
 
 -- such blocks may be written, where all together have fewer than 2 ^ 32 words
 abbrev pub WholesMayBeWritten : Type 0
 WholesMayBeWritten = (all : Written) → IsWhole all → length (written begun all).bits < 2 ^ 37 → Allowed begun all
+
+-- blocks of bytes have few bytes there
+abbrev pub WholesAreShort : Type 0
+WholesAreShort = (all : Written) → IsWhole all → length (written begun all).bits < 2 ^ 37 → AreShort all
+
+-- each record takes a bit, and each of its operands one
+abbrev pub RecordsTakeBits : Type 0
+RecordsTakeBits = (all : Written) → weight all ≤ length (written begun all).bits

@@ -1,6 +1,6 @@
 -- For a writer of bitcode: what is asked of blocks that are written where the whole is small. Nothing is asked of their lengths, nor
 -- of how many operands a record has.
-use Rattle.std.specs.Prelude.{◌≡◌, ℕ, zero, suc, ◌<◌, ◌≤◌, ◌^◌, ◌==◌, ◌⊎◌, false, List, [], ◌∷◌, length, ⊤}
+use Rattle.std.specs.Prelude.{◌≡◌, ℕ, zero, suc, ◌+◌, ◌<◌, ◌≤◌, ◌^◌, ◌==◌, ◌⊎◌, false, List, [], ◌∷◌, length, ⊤}
 use Rattle.std.specs.List.{AllByRecursion}
 use Rattle.bit_stream.specs.declared.abbreviation.AbbrevOp.{AbbrevOp}
 use Rattle.bit_stream.specs.declared.abbreviation.AbbrevOp.TheVariants.{Fixed, Vbr, Array}
@@ -49,3 +49,19 @@ IsWhole (a_block id width inside behind) = MayBlock id width × (IsOfBytes width
 IsWhole (a_definition ops behind) = ⊥
 IsWhole (a_record code ns behind) = ⊥
 IsWhole (a_short_record id code ns behind) = ⊥
+
+-- each block of bytes has fewer than 2 ^ 37
+unfoldable pub AreShort : Written → Type 0
+AreShort no_more = ⊤
+AreShort (a_block id width inside behind) = ((block : IsOfBytes width inside) → length block.bytes < 2 ^ 37) × AreShort behind
+AreShort (a_definition ops behind) = ⊤
+AreShort (a_record code ns behind) = ⊤
+AreShort (a_short_record id code ns behind) = ⊤
+
+-- how many records are written without an abbreviation, and how many operands they have
+unfoldable pub weight : Written → ℕ
+weight no_more = 0
+weight (a_block id width inside behind) = weight inside + weight behind
+weight (a_definition ops behind) = weight behind
+weight (a_record code ns behind) = suc (length ns) + weight behind
+weight (a_short_record id code ns behind) = weight behind

@@ -6,4 +6,4 @@
 
 mod laws;
 
-pub use laws::wholes_may_be_written;
+pub use laws::{records_take_bits, wholes_are_short, wholes_may_be_written};
