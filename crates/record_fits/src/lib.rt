@@ -1,0 +1,9 @@
+//! A well-formed and valid module is one whose records are read back.
+//!
+//! It stands on the laws of `record_types` and `record_law`. It promises that such a module fits, and so is what the tree that is written of it
+//! stands for. Definitions: `ModuleFits` of `record_law`, and `specs/Laws` what the laws are.
+#![tactic(auto)]
+
+mod laws;
+
+pub use laws::{modules_fit, written_trees_stand};
