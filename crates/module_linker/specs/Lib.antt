@@ -1,0 +1,9 @@
+pub mod Rename
+pub mod Structs
+pub mod Linked
+pub mod Counts
+pub mod Carried
+pub mod Known
+pub mod Merges
+pub mod Alone
+pub mod Laws

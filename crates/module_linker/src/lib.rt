@@ -1,0 +1,11 @@
+//! Linking: the one module that is made of several, as it is defined, and what its definition promises of names and symbols.
+//!
+//! It stands on the symbols, entries and homes of `linkage_rules`, on the first contents of `linked_contents`, and on the modules of
+//! `module_arena`. It promises that fresh names are free, that no two symbols get one name, that each symbol of well-formed, valid
+//! parts without a conflict is carried over with its definition and its meaning, and that one module alone stays as it is.
+//! Definitions: `specs/Rename`, `Structs`, `Linked`, `Counts`; of what is promised `Carried`, `Known`, `Merges`, `Alone`, `Laws`.
+#![tactic(auto)]
+
+mod law;
+
+pub use law::{fresh_names_are_free, linking_carries_symbols, names_stay_apart, one_module_stays};
