@@ -1,0 +1,10 @@
+mod Numbers
+mod ConstantsLow
+mod LinesLow
+mod BodiesLow
+mod EntriesLow
+mod TypesLow
+mod Counted
+mod WholeModule
+mod Bytes
+mod Alone

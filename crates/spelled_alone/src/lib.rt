@@ -1,0 +1,9 @@
+//! The law of records: what is written of a module spells it and no other.
+//!
+//! It stands on the laws of `record_fits`, of `written_size` and of `bit_tree`. It promises that of each well-formed and valid module whose
+//! spelling has fewer than 2^32 words. Definitions: `Spells` and `spelling` of `record_table`, and `specs/Laws` what the law is.
+#![tactic(auto)]
+
+mod laws;
+
+pub use laws::modules_are_spelled_alone;
