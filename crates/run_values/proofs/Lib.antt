@@ -1,0 +1,6 @@
+pub mod Leaves
+pub mod Stored
+pub mod Bytes
+pub mod Ends
+pub mod Fitting
+pub mod Refusals
