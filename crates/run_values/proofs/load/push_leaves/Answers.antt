@@ -1,4 +1,4 @@
-use Rattle.std.proofs.Common.{◌≡◌, ◌+◌, ◌++◌, List, length, Some, Ok, Err, ap, ap₂, sym, ◌∙◌, subst, arith}
+use Rattle.std.proofs.Common.{◌≡◌, ◌+◌, ◌++◌, List, Some, Ok, ap, ap₂, sym, ◌∙◌, subst, arith}
 use Rattle.std.specs.Prelude.{slice_get}
 use Rattle.std.proofs.lemmas.Option.{slice_get-get_or}
 use Rattle.ir_eval.specs.declared.value.Scalar.{Scalar}
@@ -25,7 +25,7 @@ slots-preserved c =
     let s = c.slot-item.result in
     let at : slice_get ss k ≡ Some s = slice_get-get_or ss k s c.slots-test.true ∙ ap Some (sym c.slot-item.is) in
     let there : loaded m (Ptr (behind p s.offset)) s.leaf c.slots.asked ≡ Ok c.in_ok-leaf.leaf =
-        sym (ap₂ (λ q kind. loaded m (Ptr q) kind c.slots.asked) (c.behind.ensures ∙ ap (behind p) c.offset.ensures) c.leaf.ensures) ∙ sym c.in_ok-leaf.ensures.value in
+    sym (ap₂ (λ q kind. loaded m (Ptr q) kind c.slots.asked) (c.behind.ensures ∙ ap (behind p) c.offset.ensures) c.leaf.ensures) ∙ sym c.in_ok-leaf.ensures.value in
     record {
       part =
           subst (λ new. IsPartLoaded m p c.args.align ss (k + 1) 1 c.args.into.now.items new) (sym c.in_ok-push.ensures.items)

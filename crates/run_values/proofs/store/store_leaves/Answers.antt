@@ -1,4 +1,4 @@
-use Rattle.std.proofs.Common.{◌≡◌, ◌∙◌, length, refl, arith}
+use Rattle.std.proofs.Common.{◌∙◌, length, refl, arith}
 use Rattle.std.specs.Prelude.{zip}
 use Rattle.run_rules.specs.Access.{stored_slots}
 use Rattle.run_values.proofs.Leaves.{one_is}
@@ -35,9 +35,9 @@ returns-in_err-store-clause-value c =
     stores_refused (stored_slots c.args.pointer c.args.align (zip c.args.slots.now c.args.leaves.now) c.args.memory.now) _ _ _ c.store.new.self c.from_residual.result _ c.from_residual.ensures.0
     c.from_residual.ensures.1 c.in_err-store.ensures.answer
     (none_further c.args.pointer c.args.align (zip c.args.slots.now c.args.leaves.now) c.args.memory.now c.slots.index c.slots.asked c.slots.memory c.index-slots-index.result _ c.offset.result
-        c.behind.result c.leaf.result c.slots.invariant.part
-        (pair_at c.args.slots.now c.args.leaves.now c.requires.count c.slots.index c.index-slots-index.result c.slots-test.true c.index-slots-index.is _) c.offset.ensures c.behind.ensures
-        c.leaf.ensures)
+    c.behind.result c.leaf.result c.slots.invariant.part
+    (pair_at c.args.slots.now c.args.leaves.now c.requires.count c.slots.index c.index-slots-index.result c.slots-test.true c.index-slots-index.is _) c.offset.ensures c.behind.ensures
+    c.leaf.ensures)
 
 pub returns-clause-value : goal.returns-clause-value
 returns-clause-value c =

@@ -1,4 +1,4 @@
-use Rattle.std.proofs.Common.{◌≡◌, ◌+◌, Err, Ok, None, Some, [], sym, ap, ◌∙◌, subst}
+use Rattle.std.proofs.Common.{◌+◌, Err, Ok, [], sym, ap, ◌∙◌, subst}
 use Rattle.ir_tables.specs.declared.undefined_kind.UndefinedKind.TheVariants.{OutsideBlock}
 use Rattle.ir_memory.specs.Memory.{live_bytes}
 use Rattle.run_rules.specs.Printing.{string_for}
@@ -21,8 +21,8 @@ returns-in_err-push_bytes-in-None-clause-why c =
     let m = c.args.memory.now in
     let p = c.args.pointer in
     let same =
-        ap (λ n. string_then (Err OutsideBlock) m (n + 1) p) c.live_bytes.ensures.value ∙ sym (within_is m (live_bytes m.list + 1) p)
-        ∙ ap (λ o. string_for m o p) (sym c.in-None.is) in
+    ap (λ n. string_then (Err OutsideBlock) m (n + 1) p) c.live_bytes.ensures.value ∙ sym (within_is m (live_bytes m.list + 1) p)
+    ∙ ap (λ o. string_for m o p) (sym c.in-None.is) in
     if_fault c.from_residual-in_err-push_bytes-in-None.result _ (IsRefusal (string_for m c.args.most p)) c.from_residual-in_err-push_bytes-in-None.ensures.0
     c.from_residual-in_err-push_bytes-in-None.ensures.1
     (subst (λ s. IsRefusal s c.in_err-push_bytes-in-None.field-0.0) same (c.in_err-push_bytes-in-None.ensures.why (Err OutsideBlock)))
@@ -40,8 +40,8 @@ returns-then-branch-clause-ok c =
     let m = c.args.memory.now in
     let p = c.args.pointer in
     let same =
-        ap (λ n. string_then (Err OutsideBlock) m (n + 1) p) c.live_bytes.ensures.value ∙ sym (within_is m (live_bytes m.list + 1) p)
-        ∙ ap (λ o. string_for m o p) (sym c.in-None.is) in
+    ap (λ n. string_then (Err OutsideBlock) m (n + 1) p) c.live_bytes.ensures.value ∙ sym (within_is m (live_bytes m.list + 1) p)
+    ∙ ap (λ o. string_for m o p) (sym c.in-None.is) in
     let read = c.in_ok-push_bytes-in-None.ensures.ok in
     (read.0, sym same ∙ read.1 (Err OutsideBlock) ∙ ap (λ b. string_ended read.0 b (Err OutsideBlock)) c.if-branch.true, read.2)
 
@@ -50,7 +50,7 @@ returns-else-branch-clause-why c =
     let m = c.args.memory.now in
     let p = c.args.pointer in
     let same =
-        ap (λ n. string_then (Err OutsideBlock) m (n + 1) p) c.live_bytes.ensures.value ∙ sym (within_is m (live_bytes m.list + 1) p)
-        ∙ ap (λ o. string_for m o p) (sym c.in-None.is) in
+    ap (λ n. string_then (Err OutsideBlock) m (n + 1) p) c.live_bytes.ensures.value ∙ sym (within_is m (live_bytes m.list + 1) p)
+    ∙ ap (λ o. string_for m o p) (sym c.in-None.is) in
     let read = c.in_ok-push_bytes-in-None.ensures.ok in
     sym same ∙ read.1 (Err OutsideBlock) ∙ ap (λ b. string_ended read.0 b (Err OutsideBlock)) c.if-branch.false
