@@ -1,0 +1,16 @@
+pub mod Known
+pub mod Rooms
+pub mod Places
+pub mod SameNames
+pub mod SameCode
+pub mod NamesKept
+pub mod Contents
+pub mod Missing
+pub mod SamePlan
+pub mod KnownBodies
+pub mod NamesUsed
+pub mod Asked
+pub mod Alike
+pub mod Fits
+pub mod Headline
+pub mod Example
