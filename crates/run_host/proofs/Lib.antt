@@ -1,0 +1,4 @@
+pub mod Heaps
+pub mod Texts
+pub mod Refusals
+pub mod Operands

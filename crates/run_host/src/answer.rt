@@ -1,0 +1,45 @@
+//! What a host function answers.
+ghost use Rattle.std.specs.Prelude.{◌≡◌, [], ◌∷◌};
+ghost use Rattle.run_host.specs.Answers.{Refuses, leaves_of};
+
+use ir_eval::Scalar;
+use ir_intrinsics::Outcome;
+use ir_memory::MemoryFault;
+use ir_tables::UndefinedKind;
+use std::alloc::AllocError;
+
+/// What a host function answers. The bytes that it writes are handed on apart.
+#[derive(Clone, Copy)]
+pub enum Answer {
+    /// It returns: the leaves of its result, if it has one.
+    Gives(Option<Outcome>),
+    /// Its result is the next byte of the input, or -1 at the end.
+    Reads,
+    /// The program ends with this status.
+    Exits(u8),
+    /// The call is undefined.
+    Fails(UndefinedKind),
+    /// One block more would make too many bytes live.
+    MemoryLimit,
+}
+
+/// A result of one leaf.
+pub(crate) fn one(first: Scalar) -> Option<Outcome>
+    ensures { leaves_of result ≡ first ∷ [] }
+{
+    Some(Outcome {
+        first,
+        second: None,
+    })
+}
+
+/// What is answered where memory refused.
+pub(crate) fn refused(fault: MemoryFault) -> Result<Answer, AllocError>
+    ensures { Refuses fault result }
+{
+    match fault {
+        MemoryFault::Undefined(kind) => Ok(Answer::Fails(kind)),
+        MemoryFault::MemoryLimit => Ok(Answer::MemoryLimit),
+        MemoryFault::Memory => Err(AllocError),
+    }
+}

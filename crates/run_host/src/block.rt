@@ -1,0 +1,61 @@
+//! The heap (C, "Memory management functions").
+ghost use Rattle.std.specs.Prelude.{◌≡◌, ◌≤◌, ◌^◌, [], true, IfOk, OnErr};
+ghost use Rattle.ir_memory.specs.Answer.{Keeps};
+ghost use Rattle.ir_memory.specs.Given.{IsKnown};
+ghost use Rattle.run_rules.specs.Access as access;
+ghost use Rattle.run_rules.specs.Host.{allocates, frees};
+ghost use Rattle.run_host.specs.Answers.{answer_of};
+
+use crate::Answer;
+use crate::answer::{one, refused};
+use ir_eval::{Pointer, Scalar};
+use ir_memory::{BlockKind, Memory};
+use run_values::has_room;
+use std::alloc::AllocError;
+
+/// The alignment of heap blocks, in bytes.
+const HEAP_ALIGN: u32 = 16;
+
+/// A new heap block of so many bytes, for which there is room.
+fn add_heap_block(memory: &mut Memory, size: u64) -> Result<Answer, AllocError>
+    requires next { memory.old.next ≤ 2 ^ 61 }
+    requires room { access.has_room size memory.old ≡ true }
+    ensures answer { IfOk result (λ answer. allocates size memory.old ≡ answer_of answer memory.new []) }
+    ensures err { OnErr result (memory.new ≡ memory.old) }
+{
+    match memory.add_block(size, HEAP_ALIGN, BlockKind::Heap) {
+        Ok(pointer) => Ok(Answer::Gives(one(Scalar::Ptr(pointer)))),
+        // There is room, so it was memory that was wanted.
+        Err(_) => Err(AllocError),
+    }
+}
+
+/// A new heap block of so many bytes, as `malloc` gives it; the limit on live bytes is told exactly where they would pass it.
+#[tactic(auto, using(crate::proofs::Heaps::small, crate::proofs::Heaps::no_room))]
+pub fn allocate(memory: &mut Memory, size: u128) -> Result<Answer, AllocError>
+    requires { memory.old.next ≤ 2 ^ 61 }
+    ensures answer { IfOk result (λ answer. allocates size memory.old ≡ answer_of answer memory.new []) }
+    ensures err { OnErr result (memory.new ≡ memory.old) }
+{
+    if has_room(memory, size) {
+        add_heap_block(memory, size as u64)
+    } else {
+        Ok(Answer::MemoryLimit)
+    }
+}
+
+/// Ends the heap block that a pointer starts, as `free` does; null ends none.
+pub fn free(memory: &mut Memory, pointer: Pointer) -> Result<Answer, AllocError>
+    requires { IsKnown memory.old.list pointer }
+    ensures answer { IfOk result (λ answer. frees pointer memory.old ≡ answer_of answer memory.new []) }
+    ensures err { OnErr result (memory.new ≡ memory.old) }
+    ensures kept { Keeps memory.old memory.new }
+{
+    if pointer.address == 0 {
+        return Ok(Answer::Gives(None));
+    }
+    match memory.end_block(Scalar::Ptr(pointer), BlockKind::Heap) {
+        Ok(()) => Ok(Answer::Gives(None)),
+        Err(fault) => refused(fault),
+    }
+}
