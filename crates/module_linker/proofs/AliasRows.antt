@@ -37,6 +37,7 @@ intrinsic = refl
 abbrev struct_a : Module
 struct_a = module_of (struct_with "T" (i32 ∷ []) ∷ []) [] []
 
+-- an alias of a variable of another struct of that name
 abbrev struct_b : Module
 struct_b = record (module_of (struct_with "T" (int 64 ∷ []) ∷ []) (variable External "v" (named (codes "T")) (Some ZeroInitializer) ∷ []) []) {
   aliases = alias External "a" (PlainType (named (codes "T"))) "v" ∷ [];
@@ -48,6 +49,7 @@ structs = refl
 
 -- COUNTS: of aliases, with the greater of the counts of variables and functions
 
+-- at most two of each, and three for aliases
 abbrev small : CountKind → ℕ
 small Structs = 2
 small Variables = 2

@@ -41,12 +41,14 @@ null_defined = refl
 pub local_main : link_result (only_function Internal "main" 1 ∷ only_function External "main" 6 ∷ []) ≡ module_of [] [] (function Internal i32 "main.1" [] (just 1) ∷ function External i32 "main" [] (just 6) ∷ [])
 local_main = refl
 
+-- `main` as it is linked: it passes a %T of which the field is 9 to `g`
 abbrev linked_main : Function
 linked_main = function External i32 "main" [] (Some (block 0
     (gives 1 (InsertValue (typed (named (codes "T")) (Known Undef)) (typed i32 (number 9)) (0 ∷ []))
     ∷ gives 2 (calls i32 "g" (typed (named (codes "T")) (result 1) ∷ [])) ∷ [])
     (Return (typed i32 (result 2))) ∷ []))
 
+-- `g` as it is linked: the field of the %U that it is passed
 abbrev linked_g : Function
 linked_g = function External i32 "g" (named (codes "U") ∷ []) (Some (block 1
     (gives 2 (ExtractValue (typed (named (codes "U")) (result 0)) (0 ∷ [])) ∷ []) (Return (typed i32 (result 2))) ∷ []))
@@ -65,6 +67,7 @@ intrinsic = refl
 abbrev outer_a : Module
 outer_a = module_of (struct_with "S" (named (codes "A") ∷ []) ∷ struct_with "A" (i32 ∷ []) ∷ []) [] []
 
+-- the same names, but for that of the inner struct
 abbrev outer_b : Module
 outer_b = module_of (struct_with "S" (named (codes "B") ∷ []) ∷ struct_with "B" (i32 ∷ []) ∷ struct_with "A" (i32 ∷ []) ∷ []) [] []
 
@@ -102,6 +105,7 @@ texts = refl
 abbrev opaque_s : Module
 opaque_s = module_of ((codes "S", opaque_body) ∷ []) [] []
 
+-- the same name with an empty body
 abbrev empty_s : Module
 empty_s = module_of (struct_with "S" [] ∷ []) [] []
 
@@ -111,6 +115,7 @@ opaque_alone = refl
 
 -- COUNTS, with smaller limits for the numbers of entries
 
+-- at most three of each
 abbrev small : CountKind → ℕ
 small Structs = 3
 small Variables = 3
@@ -118,15 +123,18 @@ small Functions = 3
 small Aliases = 3
 small AppendedBytes = 2 ^ 40
 
+-- two variables
 abbrev two_variables : Module
 two_variables = module_of [] (variable External "a0" (int 1) (Some (Integer 0)) ∷ variable External "a1" (int 1) (Some (Integer 0)) ∷ []) []
 
+-- two others
 abbrev two_more : Module
 two_more = module_of [] (variable External "b0" (int 1) (Some (Integer 0)) ∷ variable External "b1" (int 1) (Some (Integer 0)) ∷ []) []
 
 pub too_many_variables : first_past small (counts (two_variables ∷ two_more ∷ [])) ≡ Some (record { kind = Variables; number = 4 })
 too_many_variables = refl
 
+-- an appended array whose one element has 2^40 bytes
 abbrev large : Module
 large = module_of [] (numbers (array (2 ^ 40) (int 8)) ((array (2 ^ 40) (int 8), ZeroInitializer) ∷ []) 1 ∷ []) []
 

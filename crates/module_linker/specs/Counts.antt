@@ -1,4 +1,5 @@
--- For what is to link: when the module that is made of some parts would be too large.
+-- For `linking_keeps_modules`, a law of the crate above, and for whoever links: when the module that is made of some parts would be
+-- too large.
 use Rattle.std.specs.Prelude.{ℕ, zero, suc, ◌+◌, ◌*◌, ◌-◌, ◌^◌, min, max, List, [], ◌∷◌, length, filter, flat_map, Option, Some, None, nat_lt, if◌then◌else◌}
 use Rattle.std.specs.Option.{option_map}
 use Rattle.module_arena.specs.Module.{Module}

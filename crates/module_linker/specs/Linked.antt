@@ -18,11 +18,11 @@ use Rattle.linked_contents.specs.Contents.{Piece, elements_in}
 use Rattle.module_linker.specs.Rename.{renaming, new_global}
 use Rattle.module_linker.specs.Structs.{struct_map, new_struct, linked_type, linked_struct}
 
--- a constant and a block of part i, as they are written in the result
+-- a constant of part i, as it is written in the result
 abbrev pub linked_constant : List Module → ℕ → Constant → Constant
 linked_constant parts i c = renamed_constant (new_struct parts i) (new_global parts i) c
 
--- the same of a block
+-- a block of part i, as it is written there
 abbrev pub linked_block : List Module → ℕ → Block → Block
 linked_block parts i b = renamed_block (new_struct parts i) (new_global parts i) b
 

@@ -1,5 +1,6 @@
 -- For `names_stay_apart` and `linking_carries_symbols`: what the named structs of some parts are called in the module that is made of
--- them. A struct is known by its part and its name; those of one name and equal shape, names of inner structs included, are one struct of the result.
+-- them. A struct is known by its part and its name; those of one name and equal shape, names of inner structs included, are one struct
+-- of the result.
 use Rattle.std.specs.Prelude.{ℕ, suc, Bool, ◌&&◌, List, [], ◌∷◌, ◌++◌, map, Option, bytes_eq}
 use Rattle.std.specs.Map.{lookup}
 use Rattle.type_table.specs.Tree.{Tree, named, TreeBody, body_of}
