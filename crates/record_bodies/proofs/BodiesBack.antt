@@ -1,22 +1,20 @@
 -- A body that is put is read back, line by line.
-use Rattle.std.proofs.Common.{◌≡◌, ℕ, suc, ◌+◌, Bool, true, false, List, [], ◌∷◌, ◌++◌, Option, Some, None, Ok, refl, sym, ap, ◌∙◌, append-nil}
+use Rattle.std.proofs.Common.{◌≡◌, ℕ, suc, ◌+◌, true, false, List, [], ◌∷◌, ◌++◌, Some, None, Ok, refl, sym, ap, ◌∙◌, append-nil}
 use Rattle.std.specs.Prelude.{if◌then◌else◌}
 use Rattle.ir_tables.specs.declared.opcode.Opcode.{Opcode}
 use Rattle.ir_tables.specs.declared.opcode.Opcode.TheVariants as op
 use Rattle.ir_tables.specs.Opcode.{opcode_code, opcode_of_code}
-use Rattle.module_arena.specs.Module.{LocalName, Instruction, Operation, BinaryOperation, Compare, Convert, Select, Freeze, Phi, Load, Store, Alloca, GetElementPtr, Call, ExtractValue, InsertValue, Ending, ReturnVoid, Return, Jump, Branch, Switch, Unreachable}
+use Rattle.module_arena.specs.Module.{Instruction, Operation, BinaryOperation, Compare, Convert, Select, Freeze, Phi, Load, Store, Alloca, GetElementPtr, Call, ExtractValue, InsertValue, Ending, ReturnVoid, Return, Jump, Branch, Switch, Unreachable}
 use Rattle.record_table.specs.Walk.{going, told}
 use Rattle.record_table.specs.Layout.{Layout, judged}
 use Rattle.record_table.specs.Fields.{Texts, Numbering, label}
 use Rattle.record_table.specs.Lines.{instruction, ending, operation_opcode, ending_opcode, is_end}
-use Rattle.module_arena.specs.TypeTests.{is_void}
 use Rattle.record_table.specs.Bodies.{Line, NextBlock, after_all, with_names, Begun, with_record, with_opcode, with_instruction, with_end, results, are_new}
 use Rattle.record_table.specs.Listed.{IsLabel}
-use Rattle.record_table.specs.FittingLines.{IsCallResult, OperationFits, IsResult, InstructionFits, EndingFits}
+use Rattle.record_table.specs.FittingLines.{OperationFits, InstructionFits, EndingFits}
 use Rattle.std.proofs.lemmas.Bool.{false≢true}
 use Rattle.module_arena.specs.Forms.{is_binary, is_cast}
 use Rattle.record_table.specs.Lays.{Lays}
-use Rattle.record_table.proofs.InstructionsBack as lines
 use Rattle.record_table.proofs.EndingsBack as ends
 use Rattle.record_table.proofs.EveryLine.{line_back}
 

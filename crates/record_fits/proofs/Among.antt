@@ -1,11 +1,11 @@
 -- Names among others, and names that are none of others.
-use Rattle.std.proofs.Common.{◌≡◌, ◌⊎◌, Bool, true, false, ◌&&◌, ◌||◌, not, List, [], ◌∷◌, ◌++◌, map, flat_map, refl, sym, ap, ◌∙◌, inl, inr}
+use Rattle.std.proofs.Common.{◌≡◌, ◌⊎◌, Bool, true, false, ◌||◌, not, List, [], ◌∷◌, ◌++◌, map, flat_map, refl, ap, inl, inr}
 use Rattle.std.specs.Prelude.{bytes_eq}
-use Rattle.std.specs.List.{list_all, list_any, AllByRecursion}
+use Rattle.std.specs.List.{list_any, AllByRecursion}
 use Rattle.std.proofs.lemmas.Bool.{and_parts, or_parts, or_cases, or_left, or_right, or_from, false≢true}
 use Rattle.ir_tables.specs.Table.{is_distinct}
 use Rattle.module_arena.specs.Module.{Bytes}
-use Rattle.record_types.proofs.Tests.{not_is, new_behind, front_of, rest_of}
+use Rattle.record_types.proofs.Tests.{not_is, front_of, rest_of}
 
 module _ {A : Type 0} (p : A → Bool) where
   pub any_front : (xs ys : List A) → list_any p xs ≡ true → list_any p (xs ++ ys) ≡ true

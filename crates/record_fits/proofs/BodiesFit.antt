@@ -1,7 +1,7 @@
 -- The bodies of a well-formed and valid module are read back.
 use Rattle.std.proofs.Common.{◌≡◌, ℕ, ◌+◌, Bool, true, false, ◌&&◌, ◌||◌, not, List, [], ◌∷◌, ◌++◌, length, map, flat_map, filter_map, Option, Some, None, is_some, refl, sym, ap, ◌∙◌, subst, append_assoc, append-nil}
-use Rattle.std.specs.Prelude.{is_none, ⊤}
-use Rattle.std.specs.List.{list_all, list_any, AllByRecursion}
+use Rattle.std.specs.Prelude.{is_none}
+use Rattle.std.specs.List.{list_all, AllByRecursion}
 use Rattle.std.specs.Option.{option_map_or, option_to_list}
 use Rattle.std.proofs.lemmas.Bool.{and_parts, false≢true}
 use Rattle.ir_tables.specs.Table.{is_distinct}
@@ -21,7 +21,7 @@ use Rattle.module_arena.specs.WellFormed.{is_good_type, is_good_constant, is_goo
 use Rattle.module_arena.proofs.Parts.{front_holds, rest_holds, valid_blocks, valid_ending}
 use Rattle.record_table.specs.Fields.{Texts, after, name_in}
 use Rattle.record_table.specs.Listed.{IsLabel}
-use Rattle.record_table.specs.FittingLines.{IsSome, IsAbsent, IsCallResult, IsResult, InstructionFits, OperationFits, EndingFits}
+use Rattle.record_table.specs.FittingLines.{IsSome, IsAbsent, IsCallResult, IsResult, OperationFits, EndingFits}
 use Rattle.record_table.specs.Bodies.{after_all, with_names, results}
 use Rattle.record_table.specs.Mentions.{in_operation, in_ending, in_block, in_function, in_some, mentioned}
 use Rattle.record_table.specs.Spelling.{names_of_body, texts_of_body, numbering}
@@ -29,9 +29,9 @@ use Rattle.record_bodies.specs.FittingBodies.{own_behind, taken_behind, own_behi
 use Rattle.record_law.specs.FittingModules.{declared, PartsFit, FunctionFits}
 use Rattle.record_types.proofs.Tests.{all_front, all_rest, front_of, rest_of}
 use Rattle.record_types.proofs.TypesInOrder.{has}
-use Rattle.record_fits.proofs.ConstantsFit.{here, IsSoundValue}
+use Rattle.record_fits.proofs.ConstantsFit.{here}
 use Rattle.record_fits.proofs.LinesFit.{CalleeSound, sound_operands, operation_in, ending_in}
-use Rattle.record_fits.proofs.LabelsFit.{IsHeld, held_names, AreAhead, all_ahead, front_ahead, rest_ahead, result_front, result_rest, numbered_again}
+use Rattle.record_fits.proofs.LabelsFit.{held_names, AreAhead, all_ahead, front_ahead, rest_ahead, result_front, result_rest, numbered_again}
 
 module _ (texts : Texts) where
   call_result : (own : ℕ) (empty : Bool) (result : Option LocalName) → (not empty || is_none result) ≡ true → (is_some result || empty) ≡ true → AreLabels texts own (option_to_list result) → IsCallResult texts own empty result

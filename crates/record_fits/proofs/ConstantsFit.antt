@@ -1,18 +1,16 @@
 -- The constants and values of a well-formed and valid module are read of what they spell.
-use Rattle.std.proofs.Common.{◌≡◌, ◌⊎◌, ℕ, zero, suc, ◌+◌, ◌-◌, ◌^◌, ◌<◌, ◌≤◌, Bool, true, false, ◌&&◌, not, max, List, [], ◌∷◌, ◌++◌, length, map, refl, sym, ap, ◌∙◌, subst, arith, inl, inr}
+use Rattle.std.proofs.Common.{◌≡◌, ◌⊎◌, ℕ, zero, suc, ◌-◌, ◌<◌, ◌≤◌, Bool, true, false, ◌&&◌, not, List, [], ◌∷◌, ◌++◌, map, refl, sym, ap, subst, arith, inl, inr}
 use Rattle.std.specs.Prelude.{bytes_eq, nat_eq, nat_lt, nat_le}
 use Rattle.std.specs.List.{list_all, list_any, AllByRecursion}
-use Rattle.std.proofs.lemmas.Bool.{and_parts, or_cases, or_left, or_right, both_ways, not_from_true, cases_Bool, false≢true, eq-eqb, eqb-true, ltb-true, leb-true}
+use Rattle.std.proofs.lemmas.Bool.{and_parts, or_cases, or_left, or_right, both_ways, not_from_true, false≢true, eq-eqb, eqb-true, ltb-true, leb-true}
 use Rattle.std.proofs.lemmas.Slice.Eq.{bytes_eq-Decides}
-use Rattle.ir_tables.specs.declared.opcode.Opcode.{Opcode}
 use Rattle.ir_tables.specs.declared.opcode.Opcode.TheVariants as op
 use Rattle.type_table.specs.Tree.{Tree, int, ptr, void, array, struct, named, Trees, no_trees, more_trees, TreeBody, opaque_body, fields, Structs, body_of}
 use Rattle.module_arena.specs.Module.{Bytes, LocalName, Numbered, Brackets, Square, Braces, Packed, Constant, Integer, Truth, Null, Undef, Poison, ZeroInitializer, Address, ByteString, Aggregate, ElementAddress, Cast, Binary, Constants, no_constants, more_constants, Value, Local, Known, Module}
 use Rattle.module_arena.specs.Same.{same_type, same_local, has_local}
 use Rattle.module_arena.specs.TypeTests.{is_integer, is_integer_of, is_pointer, opened, struct_of_body}
 use Rattle.module_arena.specs.Constants.{Typed, Expected, each, these, as_written, nothing, expected, fits, parts_fit, element_operands_fit, is_cast_between, constants_in, constants_of, indices_fit, index_constants}
-use Rattle.module_arena.specs.Forms.{are_flags_of, is_constant_cast, is_constant_binary, is_constant_of_phrase, has_constants}
-use Rattle.module_arena.specs.Functions.{variable_names, alias_names, function_names}
+use Rattle.module_arena.specs.Forms.{are_flags_of, is_constant_binary, is_constant_of_phrase, has_constants}
 use Rattle.module_arena.specs.Names.{are_bytes}
 use Rattle.module_arena.specs.Operations.{local_in}
 use Rattle.module_arena.specs.WellFormed.{is_good_type, type_in_constant, is_in_range, names_an_entry, has_entry, is_good_part, depth, greatest_depth, is_good_constant, known_in}
@@ -21,14 +19,14 @@ use Rattle.module_arena.proofs.SameNames.{same_is, same_self}
 use Rattle.module_arena.proofs.SameValues.{type_is, type_self}
 use Rattle.record_table.specs.Fields.{Numbering}
 use Rattle.record_table.specs.Listed.{IsListed, IsType}
-use Rattle.record_table.specs.Constants.{Parts, alike, no_parts, parts_of, body_parts, has_parts, brackets_of, first_part, later_parts, count_constants, how_many}
+use Rattle.record_table.specs.Constants.{Parts, alike, parts_of, body_parts, has_parts, brackets_of, count_constants, how_many}
 use Rattle.record_table.specs.Constants as records
 use Rattle.record_table.specs.FittingConstants.{Fits, AreParts, AreOperands, AreTyped, ValueFits}
 use Rattle.record_table.specs.Mentions.{in_constant, in_constants, in_value, mentioned}
 use Rattle.record_table.specs.Spelling.{numbering}
 use Rattle.record_types.proofs.Places.{is_listed}
 use Rattle.record_types.proofs.Tests.{all_front, all_rest, each_passes, front_of, rest_of}
-use Rattle.record_types.proofs.TypesInOrder.{has, AreThere}
+use Rattle.record_types.proofs.TypesInOrder.{has}
 use Rattle.record_fits.proofs.Among.{any_front, any_rest, any_either}
 
 -- ---- what a list is made of, as validity and as records say it

@@ -1,21 +1,20 @@
 -- The variables, functions and aliases of a well-formed and valid module are read back, each behind those before it.
-use Rattle.std.proofs.Common.{◌≡◌, ℕ, suc, ◌+◌, ◌≤◌, ◌<◌, Bool, true, false, ◌&&◌, ◌||◌, not, max, List, [], ◌∷◌, ◌++◌, length, map, flat_map, Option, Some, None, is_some, refl, sym, ap, ◌∙◌, subst, append_assoc, append-nil, arith, inl, inr}
-use Rattle.std.specs.Prelude.{bytes_eq, nat_lt, nat_le}
+use Rattle.std.proofs.Common.{◌≡◌, ℕ, suc, ◌+◌, ◌≤◌, ◌<◌, Bool, true, false, ◌&&◌, max, List, [], ◌∷◌, ◌++◌, length, map, flat_map, Option, Some, None, is_some, refl, sym, ap, ◌∙◌, subst, append_assoc, append-nil, arith, inl, inr}
+use Rattle.std.specs.Prelude.{bytes_eq}
 use Rattle.std.specs.List.{list_all, list_any, AllByRecursion, fold}
 use Rattle.std.specs.Option.{option_map_or, option_to_list}
-use Rattle.std.proofs.lemmas.Bool.{and_parts, or_cases, or_left, or_right, lt-ltb, le-leb, leb-true, false≢true}
+use Rattle.std.proofs.lemmas.Bool.{and_parts, or_cases, or_left, or_right, lt-ltb, le-leb, false≢true}
 use Rattle.std.proofs.lemmas.List.{length-append, length-map}
 use Rattle.std.proofs.lemmas.Slice.Eq.{bytes_eq-Decides}
 use Rattle.ir_tables.specs.Table.{is_distinct}
-use Rattle.type_table.specs.Tree.{Tree, void}
+use Rattle.type_table.specs.Tree.{Tree}
 use Rattle.module_arena.specs.Module.{Bytes, Constant, Variable, AliasType, PlainType, FunctionType, Alias, Function, Module}
 use Rattle.module_arena.specs.Constants.{fits}
 use Rattle.module_arena.specs.EntryRules.{is_lasting, target_suits}
-use Rattle.module_arena.specs.Same.{same_type}
 use Rattle.module_arena.specs.Valid.{AllHold, variable_demands, alias_demands}
 use Rattle.module_arena.specs.WellFormed.{global_names, is_good_constant, known_of_variable, count_for_aliases}
 use Rattle.module_arena.proofs.Parts.{front_holds, rest_holds}
-use Rattle.record_table.specs.Listed.{IsListed, IsName, IsType}
+use Rattle.record_table.specs.Listed.{IsName, IsType}
 use Rattle.record_table.specs.FittingConstants.{Fits}
 use Rattle.record_table.specs.FittingLines.{IfSome}
 use Rattle.record_table.specs.Records.{Sofar, may_follow, is_new, types_of}

@@ -1,15 +1,14 @@
 -- The names of a function: they are held or numbered in their order, and each is new.
-use Rattle.std.proofs.Common.{◌≡◌, ℕ, suc, ◌+◌, Bool, true, false, ◌&&◌, ◌||◌, not, List, [], ◌∷◌, ◌++◌, length, map, flat_map, filter_map, Option, Some, None, refl, sym, ap, ◌∙◌, subst, arith}
+use Rattle.std.proofs.Common.{◌≡◌, ℕ, suc, ◌+◌, true, false, not, List, [], ◌∷◌, ◌++◌, length, map, filter_map, Option, Some, None, refl, sym, ap, ◌∙◌, subst, arith}
 use Rattle.std.specs.Prelude.{bytes_eq, zip, ◌==◌, ⊤}
 use Rattle.std.specs.List.{list_all, list_any, AllByRecursion}
 use Rattle.std.specs.Option.{option_to_list}
 use Rattle.std.proofs.lemmas.Bool.{and_parts, and_from, or_parts, or_from, not_from_false, eqb-true, false≢true}
 use Rattle.ir_tables.specs.Table.{is_distinct}
-use Rattle.module_arena.specs.Module.{Bytes, LocalName, Named, Numbered, Parameter, Function}
+use Rattle.module_arena.specs.Module.{Bytes, LocalName, Named, Numbered, Parameter}
 use Rattle.module_arena.specs.Names.{is_name, is_local_name, is_numbered_from, is_number}
 use Rattle.module_arena.specs.Same.{same_local}
 use Rattle.record_table.specs.Fields.{Texts, after, name_in}
-use Rattle.record_table.specs.Listed.{IsLabel}
 use Rattle.record_table.specs.Bodies.{after_all, with_names, are_new, results, numbers_from}
 use Rattle.record_table.specs.Records.{parameters_of}
 use Rattle.record_bodies.specs.FittingBodies.{AreLabels}

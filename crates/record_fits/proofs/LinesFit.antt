@@ -1,14 +1,13 @@
 -- The instructions and ends of blocks of a well-formed and valid module are read of what they spell, but for the names of results.
-use Rattle.std.proofs.Common.{◌≡◌, ℕ, ◌^◌, Bool, true, false, ◌&&◌, ◌||◌, not, List, [], ◌∷◌, ◌++◌, map, flat_map, Option, Some, None, refl, sym, ap, ◌∙◌, subst, inl, inr}
+use Rattle.std.proofs.Common.{◌≡◌, ℕ, ◌^◌, Bool, true, ◌&&◌, ◌||◌, not, List, [], ◌∷◌, ◌++◌, map, flat_map, Option, Some, None, refl, sym, ap, subst, inl, inr}
 use Rattle.std.specs.Prelude.{is_none, nat_lt, nat_eq, ⊤}
 use Rattle.std.specs.List.{list_all, list_any, AllByRecursion}
-use Rattle.std.specs.Option.{option_map_or}
 use Rattle.std.proofs.lemmas.Bool.{and_parts, or_left, or_right, or_cases, eqb-true, eq-eqb, false≢true}
 use Rattle.ir_tables.specs.declared.opcode.Opcode.TheVariants as op
 use Rattle.type_table.specs.Tree.{Tree, int, ptr, void, array, struct, named}
 use Rattle.module_arena.specs.Module.{LocalName, Value, Operand, Incoming, Operation, BinaryOperation, Compare, Convert, Select, Freeze, Phi, Load, Store, Alloca, GetElementPtr, Call, ExtractValue, InsertValue, Case, Ending, ReturnVoid, Return, Jump, Branch, Switch, Unreachable, Function, Module}
 use Rattle.module_arena.specs.Same.{same_type, has_local}
-use Rattle.module_arena.specs.EntryRules.{alignments, is_alignment, alignment_suits}
+use Rattle.module_arena.specs.EntryRules.{alignments, alignment_suits}
 use Rattle.module_arena.specs.Forms.{is_binary, is_cast, are_flags_of, are_indices, is_not_empty, is_small_alignment, is_operation_of_phrase}
 use Rattle.module_arena.specs.InstructionRules.{operation_alignment_suits}
 use Rattle.module_arena.specs.Names.{blocks_of_operation}
@@ -20,8 +19,8 @@ use Rattle.module_arena.proofs.SameValues.{type_is}
 use Rattle.record_table.specs.Fields.{same_option, coded_alignments}
 use Rattle.record_table.specs.Listed.{IsListed, AreSome, IsBlock, IsAlignment}
 use Rattle.record_table.specs.FittingConstants.{Fits, ValueFits, OperandFits}
-use Rattle.record_table.specs.FittingLines.{IfSome, AreIndices, FitsPlace, IncomingFits, AreArguments, OperationFits, CaseFits, EndingFits}
-use Rattle.record_table.specs.Mentions.{in_value, in_operand, in_incoming, in_operation, in_case, in_ending, in_constant, mentioned}
+use Rattle.record_table.specs.FittingLines.{AreIndices, FitsPlace, IncomingFits, AreArguments, OperationFits, CaseFits, EndingFits}
+use Rattle.record_table.specs.Mentions.{in_value, in_operand, in_incoming, in_operation, in_case, in_ending, mentioned}
 use Rattle.record_types.proofs.Places.{is_listed}
 use Rattle.record_types.proofs.Tests.{all_front, all_rest, each_passes, front_of, rest_of}
 use Rattle.record_types.proofs.TypesInOrder.{has}

@@ -1,15 +1,15 @@
 -- A well-formed and valid module fits.
-use Rattle.std.proofs.Common.{◌≡◌, ℕ, ◌≤◌, Bool, true, ◌&&◌, List, [], ◌∷◌, ◌++◌, length, map, flat_map, filter_map, Option, Some, None, refl, subst}
-use Rattle.std.specs.Prelude.{bytes_eq, nat_lt, nat_le}
+use Rattle.std.proofs.Common.{◌≡◌, ℕ, true, ◌&&◌, List, [], ◌∷◌, ◌++◌, length, map, flat_map, filter_map, Option, Some, None, refl}
+use Rattle.std.specs.Prelude.{nat_lt, nat_le}
 use Rattle.std.specs.List.{list_all, AllByRecursion}
-use Rattle.std.specs.Option.{option_map_or, option_to_list}
+use Rattle.std.specs.Option.{option_to_list}
 use Rattle.std.proofs.lemmas.Bool.{and_parts, leb-true}
 use Rattle.bit_stream.specs.Writer.{begun}
 use Rattle.bit_tree.specs.Written.{tree_of}
 use Rattle.type_table.specs.Tree.{Tree}
 use Rattle.module_arena.specs.Module.{Bytes, LocalName, Named, Numbered, Block, Alias, Function, Module}
 use Rattle.module_arena.specs.Functions.{blocks, body, variable_names, alias_names, function_names}
-use Rattle.module_arena.specs.Names.{are_bytes, is_name, is_local_name, local_names, parameter_names, block_results, has_good_names}
+use Rattle.module_arena.specs.Names.{is_name, is_local_name, local_names, parameter_names, block_results, has_good_names}
 use Rattle.module_arena.specs.Valid.{IsValid, module_demands, variable_demands, alias_demands, function_demands}
 use Rattle.module_arena.specs.WellFormed.{IsWellFormed, is_good_text, is_good_function, is_good_type, is_good_constant, known_of_variable, known_of_block, struct_names, global_names, alias_count}
 use Rattle.module_arena.proofs.Parts.{front_holds, rest_holds}

@@ -1,4 +1,4 @@
-//! The law of modules that fit.
+//! The laws of modules that fit.
 ghost use Rattle.record_fits.specs.Laws.{ModulesFit, WrittenTreesStand};
 
 /// A well-formed and valid module fits (`ModuleFits`).

@@ -4,14 +4,13 @@ use Rattle.std.specs.Prelude.{map, filter_map, is_some, nat_eq, nat_lt, if◌the
 use Rattle.std.specs.List.{AllByRecursion}
 use Rattle.module_arena.specs.Module.{Block, Function}
 use Rattle.bit_tree.specs.Written.{no_more}
-use Rattle.record_table.specs.Fields.{Texts, Numbering, label}
+use Rattle.record_table.specs.Fields.{label}
 use Rattle.record_table.specs.Faults.{Answer, ◌>>=◌, Records, a_block, misplaced}
 use Rattle.record_table.specs.Bodies.{Begun, body}
 use Rattle.record_table.specs.Records.{Sofar, may_follow, first_due, give_body, body_block, block_in, ended, module_from}
 use Rattle.record_table.specs.Spelling.{put, put_bodies, records_put, body_lines, body_of}
 use Rattle.module_arena.specs.Names.{parameter_names}
 use Rattle.record_table.specs.Listed.{IsLabel}
-use Rattle.record_bodies.specs.FittingBodies.{BodyFits}
 use Rattle.record_table.specs.Lays.{Lays}
 use Rattle.record_bodies.specs.Laws.{HasRead}
 use Rattle.record_bodies.proofs.WholeBody.{body_back}

@@ -1,10 +1,10 @@
 -- A function is what its record says and its body.
-use Rattle.std.proofs.Common.{◌≡◌, ℕ, suc, Bool, false, List, [], ◌∷◌, ◌++◌, length, Option, Some, None, refl, sym, ap, ◌∙◌}
+use Rattle.std.proofs.Common.{◌≡◌, ℕ, suc, Bool, List, [], ◌∷◌, ◌++◌, length, Option, Some, refl, sym, ap, ◌∙◌}
 use Rattle.std.proofs.lemmas.List.{length-map}
-use Rattle.std.specs.Prelude.{map, zip, is_some}
+use Rattle.std.specs.Prelude.{map, zip}
 use Rattle.type_table.specs.Tree.{Tree}
 use Rattle.module_arena.specs.Module.{Parameter, Block, Function}
-use Rattle.record_law.specs.FittingModules.{declared, settled, due}
+use Rattle.record_law.specs.FittingModules.{declared, settled}
 use Rattle.record_table.specs.Bodies.{Begun, numbers_from}
 use Rattle.record_table.specs.Records.{parameters_of, types_of, first_due, with_body, give_body}
 use Rattle.module_arena.specs.Names.{parameter_names}

@@ -1,9 +1,9 @@
 -- The names of variables, functions and aliases are gathered from the records of a module in their order.
-use Rattle.std.proofs.Common.{◌≡◌, ℕ, Bool, true, false, List, [], ◌∷◌, ◌++◌, Option, Some, None, refl, sym, ap, ◌∙◌, append-nil}
+use Rattle.std.proofs.Common.{◌≡◌, ℕ, false, List, [], ◌∷◌, ◌++◌, Option, Some, None, refl, ap, ◌∙◌, append-nil}
 use Rattle.std.proofs.lemmas.Bool.{eq-eqb}
 use Rattle.std.specs.Prelude.{map, filter_map, is_some, nat_eq}
 use Rattle.std.specs.List.{AllByRecursion}
-use Rattle.module_arena.specs.Module.{Bytes, Variable, Function, Alias, Module}
+use Rattle.module_arena.specs.Module.{Bytes, Module}
 use Rattle.bit_tree.specs.Written.{Written, no_more}
 use Rattle.record_table.specs.Walk.{Walk}
 use Rattle.record_table.specs.Layout.{judged}

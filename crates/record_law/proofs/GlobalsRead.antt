@@ -1,20 +1,19 @@
 -- Variables, functions and aliases that are put are read back, one behind the other.
-use Rattle.std.proofs.Common.{◌≡◌, ℕ, suc, ◌+◌, Bool, true, List, [], ◌∷◌, ◌++◌, length, None, Ok, refl, sym, ap, ◌∙◌, append-nil}
-use Rattle.std.specs.Prelude.{map, max, is_some, nat_lt, nat_le, zip, ⊤}
+use Rattle.std.proofs.Common.{◌≡◌, ℕ, List, [], ◌∷◌, length, None, Ok, refl, sym, ap, ◌∙◌}
+use Rattle.std.specs.Prelude.{map, is_some, zip}
 use Rattle.std.specs.List.{AllByRecursion, fold}
 use Rattle.module_arena.specs.Module.{Variable, Function, Alias}
 use Rattle.bit_tree.specs.Written.{Written}
-use Rattle.record_table.specs.Layout.{Layout, judged, counted, ◌&◌}
+use Rattle.record_table.specs.Layout.{judged, counted, ◌&◌}
 use Rattle.record_table.specs.Fields.{label, name, linkage, truth, ty}
 use Rattle.record_table.specs.Faults.{Answer, ◌>>=◌}
 use Rattle.record_table.specs.Bodies.{numbers_from}
-use Rattle.record_table.specs.Records.{Sofar, may_follow, variable, function, alias, variable_record, function_record, alias_record, record_in, is_new, module_from, types_of, parameters_of}
+use Rattle.record_table.specs.Records.{Sofar, variable, function, alias, variable_record, function_record, alias_record, record_in, module_from, types_of, parameters_of}
 use Rattle.record_table.specs.Spelling.{put, records_put}
 use Rattle.record_table.specs.Listed.{IsName, IsLabel, IsType}
-use Rattle.record_law.specs.FittingEntries.{VariableFits, DeclarationFits}
+use Rattle.record_law.specs.FittingEntries.{DeclarationFits}
 use Rattle.record_table.specs.Lays.{Lays}
 use Rattle.record_law.proofs.GlobalsBack.{lays_variable, lays_function}
-use Rattle.record_law.specs.FittingEntries.{AliasFits}
 use Rattle.record_law.proofs.AliasesBack.{lays_alias}
 use Rattle.record_law.specs.FittingModules.{declared, due, Globals, with_globals, EachFits, after_variable, after_function, after_alias, VariableFollows, FunctionFollows, AliasFollows}
 use Rattle.record_law.proofs.FunctionsBack.{declared_types}

@@ -9,12 +9,12 @@ use Rattle.module_arena.specs.Module.{Bytes, Module}
 use Rattle.record_table.specs.Fields.{Texts, Numbering}
 use Rattle.record_table.specs.StringTable.{once_each, offset_in, read_only}
 use Rattle.record_table.proofs.TextsBack as back
-use Rattle.record_table.specs.Faults.{Answer, ◌>>=◌, Records, records, module_id, types_id, no_more as nothing_more}
+use Rattle.record_table.specs.Faults.{Answer, ◌>>=◌, Records, module_id, types_id, no_more as nothing_more}
 use Rattle.record_table.specs.TypeRecords.{Listed}
 use Rattle.record_table.specs.Mentions.{mentioned}
-use Rattle.record_table.specs.Records.{Sofar, at_first, known_at_first, may_follow, module_from, module_block, module_of, nothing_behind, read, StandFor, names_of}
+use Rattle.record_table.specs.Records.{Sofar, at_first, known_at_first, may_follow, module_from, module_block, nothing_behind, read, StandFor, names_of}
 use Rattle.record_table.specs.Spelling.{put, put_block, put_bodies, put_module, written_module, records_put, type_lines, global_lines, body_of, string_table, texts_of, texts_in, numbering}
-use Rattle.record_law.specs.FittingModules.{IsRead, behind_types, at_text, at_types, ModuleFits}
+use Rattle.record_law.specs.FittingModules.{IsRead, behind_types, at_types, ModuleFits}
 use Rattle.record_law.proofs.Gathered.{variables_gathered, functions_gathered, aliases_gathered}
 use Rattle.record_law.proofs.HeadBack.{last_text, head_back}
 use Rattle.record_law.proofs.TypesStep.{after_types, types_step}

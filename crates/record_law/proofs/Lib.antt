@@ -1,5 +1,5 @@
 mod RecordsPut
-mod OpeningBack
+pub mod OpeningBack
 mod Rereads
 mod TypesStep
 mod FunctionsBack

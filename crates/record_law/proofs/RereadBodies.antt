@@ -1,5 +1,5 @@
 -- What is read of a body in a table does not depend on where texts are written.
-use Rattle.std.proofs.Common.{◌≡◌, ℕ, zero, suc, ◌-◌, Bool, List, [], ◌∷◌, Option, Some, None, Ok, Err, refl, ap, ◌∙◌}
+use Rattle.std.proofs.Common.{◌≡◌, ℕ, zero, suc, ◌-◌, List, [], ◌∷◌, Option, Some, None, Ok, Err, refl, ap, ◌∙◌}
 use Rattle.std.specs.Prelude.{nat_eq, if◌then◌else◌}
 use Rattle.ir_tables.specs.declared.opcode.Opcode.{Opcode}
 use Rattle.ir_tables.specs.declared.opcode.Opcode.TheVariants as op
@@ -9,7 +9,7 @@ use Rattle.record_table.specs.Walk.{Walk, going, stopped, told}
 use Rattle.record_table.specs.Layout.{judged}
 use Rattle.record_table.specs.Fields.{Texts, Numbering, label, after}
 use Rattle.record_table.specs.StringTable.{version_2, read_only}
-use Rattle.record_table.specs.Lines.{instruction, ending, is_end}
+use Rattle.record_table.specs.Lines.{ending, is_end}
 use Rattle.record_table.specs.Faults.{Answer, ◌>>=◌, Records, no_more, a_block, a_record}
 use Rattle.record_table.specs.Bodies.{labels_by, parameters, known_or, numbers_from, first_parameters, Labels, with_block, with_line, label_in, labels_from, labels, after_all, Begun, at_first, with_parameters, with_label, with_instruction, with_end, with_opcode, with_record, body_from, body}
 use Rattle.record_law.proofs.Rereads.{instruction_read}

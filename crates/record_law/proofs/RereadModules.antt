@@ -7,10 +7,10 @@ use Rattle.type_table.specs.declared.ir_type.IrType.{IrType}
 use Rattle.type_table.specs.declared.ir_type.StructBody.{StructBody}
 use Rattle.record_table.specs.Layout.{judged}
 use Rattle.record_table.specs.Fields.{Texts, Numbering, name}
-use Rattle.record_table.specs.Faults.{RecordFault, BadRecord, UnknownRecord, Answer, ◌>>=◌, Records, no_more, a_block, a_record, types_id, module_id, body_id, is_block_id, misplaced, unless_broken}
+use Rattle.record_table.specs.Faults.{BadRecord, UnknownRecord, Answer, ◌>>=◌, Records, no_more, a_block, a_record, types_id, module_id, body_id, is_block_id, misplaced, unless_broken}
 use Rattle.record_table.specs.TypeRecords.{Kind, kinds, kind_of_code, definition, names_in, called, Listed, at_first as none_listed, type_record, struct_record, ir_type, listed_by, listed_from, listed}
 use Rattle.record_table.specs.Bodies.{Begun, body}
-use Rattle.record_table.specs.Records.{Sofar, placed, variable, function, alias, version_record, variable_record, function_record, alias_record, text_record, first_due, body_block, types_block, block_in, record_in, ended, module_from, may_follow, give_body, names_of, known_at_first, at_first, module_of}
+use Rattle.record_table.specs.Records.{Sofar, placed, variable, function, alias, version_record, variable_record, function_record, alias_record, first_due, body_block, types_block, block_in, record_in, ended, module_from, may_follow, give_body, names_of, known_at_first, module_of}
 use Rattle.record_law.specs.FittingModules.{IsRead}
 use Rattle.record_law.proofs.RereadBodies.{written, reading, body_read}
 

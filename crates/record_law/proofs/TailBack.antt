@@ -1,17 +1,16 @@
 -- What stands behind the types of a module is read back: variables, functions, aliases and bodies.
-use Rattle.std.proofs.Common.{◌≡◌, ℕ, Bool, List, [], ◌∷◌, ◌++◌, Ok, refl, sym, ap, ◌∙◌, append-nil, append_assoc}
+use Rattle.std.proofs.Common.{◌≡◌, ℕ, Bool, List, [], ◌∷◌, ◌++◌, refl, sym, ap, ◌∙◌, append-nil, append_assoc}
 use Rattle.std.specs.Prelude.{map, filter_map, is_some}
-use Rattle.std.specs.List.{AllByRecursion, fold}
+use Rattle.std.specs.List.{fold}
 use Rattle.module_arena.specs.Module.{Variable, Function, Alias, Module}
 use Rattle.bit_tree.specs.Written.{Written, no_more}
 use Rattle.record_table.specs.Fields.{label, name}
-use Rattle.record_table.specs.Faults.{Answer}
-use Rattle.record_table.specs.Records.{Sofar, variable, function, alias, module_from, module_of}
+use Rattle.record_table.specs.Records.{Sofar, variable, function, alias, module_from}
 use Rattle.record_table.specs.Spelling.{Line, put, put_bodies, records_put, body_of}
 use Rattle.record_table.specs.Listed.{IsName, IsLabel}
 use Rattle.record_table.specs.Lays.{Lays}
 use Rattle.record_bodies.proofs.BodyBack.{put_append}
-use Rattle.record_law.specs.FittingModules.{settled, due, FunctionFits, Globals, with_globals, after_variable, after_function, after_alias, none_yet, behind_variables, behind_functions, behind_aliases, TailFits, IsRead}
+use Rattle.record_law.specs.FittingModules.{settled, due, Globals, with_globals, after_variable, after_function, after_alias, none_yet, behind_variables, behind_functions, behind_aliases, TailFits, IsRead}
 use Rattle.record_law.proofs.AllBodies.{IsPast, AllRead, bodies_back, bodies_of}
 use Rattle.record_law.proofs.GlobalsRead.{variables_back, functions_back, aliases_back}
 

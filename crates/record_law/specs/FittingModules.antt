@@ -1,5 +1,5 @@
 -- For `write` of bitcode: what a module must be so that its records are read back.
-use Rattle.std.specs.Prelude.{◌≡◌, ℕ, suc, ◌+◌, max, nat_lt, nat_le, Bool, true, false, List, [], ◌∷◌, ◌++◌, length, map, zip, is_some, Option, Some, None, Ok, ⊤}
+use Rattle.std.specs.Prelude.{◌≡◌, ℕ, suc, ◌+◌, max, nat_lt, nat_le, Bool, true, false, List, [], ◌∷◌, ◌++◌, length, zip, is_some, Option, Some, None, Ok, ⊤}
 use Rattle.std.specs.List.{AllByRecursion, fold}
 use Rattle.module_arena.specs.Module.{Bytes, Block, Variable, Function, Alias, Module}
 use Rattle.record_table.specs.Fields.{Texts, Numbering}

@@ -1,8 +1,8 @@
 -- Each type that a well-formed module mentions is a good one: within the limits, of a width that there is, and a struct of the module.
-use Rattle.std.proofs.Common.{◌≡◌, ℕ, suc, ◌+◌, ◌/◌, ◌^◌, ◌<◌, ◌≤◌, Bool, true, false, ◌&&◌, ◌||◌, cond, List, [], ◌∷◌, ◌++◌, length, map, Option, refl, subst, arith, inl, inr}
+use Rattle.std.proofs.Common.{◌≡◌, ℕ, suc, ◌+◌, ◌/◌, ◌^◌, ◌<◌, ◌≤◌, Bool, true, false, ◌||◌, cond, List, [], ◌∷◌, length, map, refl, subst, arith, inl, inr}
 use Rattle.std.specs.Prelude.{nat_le, nat_lt, bytes_eq, slice_index_or}
 use Rattle.std.specs.Int.{next_multiple_of}
-use Rattle.std.specs.List.{list_all, list_any, fold, AllByRecursion}
+use Rattle.std.specs.List.{list_all, list_any, fold}
 use Rattle.std.proofs.lemmas.Bool.{and_parts, and_from, cases_Bool, false≢true, lt-ltb, ltb-true, leb-true}
 use Rattle.std.proofs.lemmas.Slice.Eq.{bytes_eq-Decides}
 use Rattle.type_table.specs.Layout.{int_align, int_size}

@@ -1,5 +1,5 @@
 -- A record whose operands are those of a layout is read as the value that was spelled.
-use Rattle.std.proofs.Common.{◌≡◌, List, [], None, sym, ap, ◌∙◌, append-nil}
+use Rattle.std.proofs.Common.{◌≡◌, [], None, sym, ap, ◌∙◌, append-nil}
 use Rattle.record_table.specs.Walk.{going, told}
 use Rattle.record_table.specs.Layout.{Layout, judged}
 use Rattle.record_table.specs.Lays.{Lays}

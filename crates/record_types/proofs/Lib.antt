@@ -11,5 +11,5 @@ mod StructsListed
 pub mod Judged
 mod TypesRead
 pub mod GoodWritten
-mod GoodMentioned
+pub mod GoodMentioned
 pub mod TypesFit

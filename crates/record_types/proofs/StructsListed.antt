@@ -1,6 +1,6 @@
 -- Structs that are defined one behind the other: what their types and bodies stand for, and that they are within the limits.
-use Rattle.std.proofs.Common.{◌≡◌, ◌⊎◌, ℕ, true, List, [], ◌∷◌, ◌++◌, Option, Some, refl, sym, ap, ◌∙◌, append-nil, inl, inr}
-use Rattle.std.specs.Prelude.{map, slice_index_or}
+use Rattle.std.proofs.Common.{◌≡◌, ◌⊎◌, true, List, [], ◌∷◌, ◌++◌, Option, Some, refl, sym, ap, ◌∙◌, append-nil}
+use Rattle.std.specs.Prelude.{map}
 use Rattle.std.specs.List.{AllByRecursion, list_all, fold}
 use Rattle.type_table.specs.Tree.{Tree, TreeBody, opaque_body, named, Structs, body_of, index_of}
 use Rattle.type_table.specs.Types.{Types, trees, structs, grow}

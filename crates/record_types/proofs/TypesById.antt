@@ -1,15 +1,13 @@
 -- A type that stands behind its parts is read of its record, as the type that it is.
-use Rattle.std.proofs.Common.{◌≡◌, ℕ, zero, suc, Bool, true, false, ◌&&◌, List, [], ◌∷◌, ◌++◌, length, Option, None, refl, sym, ap, ◌∙◌, inl, inr}
+use Rattle.std.proofs.Common.{◌≡◌, suc, true, false, ◌&&◌, List, [], ◌∷◌, ◌++◌, length, None, refl, ap, inl, inr}
 use Rattle.std.specs.Prelude.{nat_lt, nat_le, flat_map, slice_index_or, ⊤}
-use Rattle.std.specs.List.{AllByRecursion}
 use Rattle.std.proofs.lemmas.Bool.{cases_Bool, false≢true}
 use Rattle.type_table.specs.Tree.{Tree, int, ptr, void, array, struct, named, Trees, no_trees, more_trees, index_of}
 use Rattle.type_table.specs.Types.{tree_of, trees_at}
-use Rattle.type_table.specs.declared.ir_type.IrType.{IrType}
 use Rattle.module_arena.specs.Module.{Bytes}
 use Rattle.module_arena.specs.Same.{same_type}
 use Rattle.module_arena.proofs.SameValues.{type_is, type_self}
-use Rattle.record_table.specs.Walk.{Walk, going, next, told}
+use Rattle.record_table.specs.Walk.{going, next}
 use Rattle.record_table.specs.Layout.{place, many, judged}
 use Rattle.record_table.specs.TypeRecords.{earlier, ir_type, kind_of}
 use Rattle.record_table.specs.Mentions.{tree_list}

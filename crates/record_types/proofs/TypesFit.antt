@@ -1,5 +1,5 @@
 -- The types and structs of a well-formed module are read of the block that lists them.
-use Rattle.std.proofs.Common.{◌≡◌, ℕ, suc, ◌+◌, ◌≤◌, ◌<◌, Bool, true, false, not, ◌&&◌, ◌||◌, List, [], ◌∷◌, ◌++◌, length, map, flat_map, refl, sym, ap, ◌∙◌, subst, arith}
+use Rattle.std.proofs.Common.{◌≡◌, ℕ, ◌+◌, ◌≤◌, ◌<◌, true, not, ◌&&◌, List, [], ◌∷◌, ◌++◌, length, map, flat_map, refl, sym, ap, subst, arith}
 use Rattle.std.specs.Prelude.{bytes_eq, nat_lt, nat_le, ◌==◌}
 use Rattle.std.specs.List.{list_all, list_any, AllByRecursion}
 use Rattle.std.proofs.lemmas.Bool.{and_parts, and_from, or_left, or_right, lt-ltb, ltb-true, leb-true, ne_eqb}
@@ -10,15 +10,15 @@ use Rattle.type_table.specs.Shape.{shape}
 use Rattle.type_table.specs.Tree.{Tree, named, TreeBody, opaque_body, fields, Structs}
 use Rattle.module_arena.specs.Module.{Bytes, Module}
 use Rattle.module_arena.specs.Names.{is_name}
-use Rattle.module_arena.specs.WellFormed.{IsWellFormed, is_within_limits, is_good_type, is_good_body, struct_names, has_few_entries}
+use Rattle.module_arena.specs.WellFormed.{IsWellFormed, is_within_limits, is_good_type, is_good_body, struct_names}
 use Rattle.record_table.specs.Fields as table_fields
-use Rattle.record_table.specs.Mentions.{in_struct, in_variable, in_function, in_alias_type, tree_list, written_types, mentioned}
+use Rattle.record_table.specs.Mentions.{in_struct, in_variable, in_function, in_alias_type, mentioned}
 use Rattle.record_table.specs.StringTable.{has_text, once_each, offset_in}
 use Rattle.record_table.specs.TypeRecords.{are_distinct}
 use Rattle.record_table.specs.Spelling.{string_table, texts_of, texts_in}
 use Rattle.record_table.proofs.TextsBack.{lays_sized}
 use Rattle.record_types.specs.ReadTypes.{TypesAreRead}
-use Rattle.record_types.proofs.Tests.{each_passes, front_of, rest_of, new_behind}
+use Rattle.record_types.proofs.Tests.{front_of, rest_of, new_behind}
 use Rattle.record_types.proofs.TextsHeld.{struct_held}
 use Rattle.record_types.proofs.TypesInOrder.{AreThere, has, written_there}
 use Rattle.record_types.proofs.TypesPut.{IsGood}
@@ -26,7 +26,7 @@ use Rattle.record_types.proofs.StructsPut.{BodyIsThere}
 use Rattle.record_types.proofs.StructsListed.{names_of}
 use Rattle.record_types.proofs.TypesRead.{names_split, StructFits, AreNew, TypesFit, types_read}
 use Rattle.record_types.proofs.GoodWritten.{AreGood}
-use Rattle.record_types.proofs.GoodMentioned.{IsGoodTree, good_tree, mentioned_good}
+use Rattle.record_types.proofs.GoodMentioned.{good_tree, mentioned_good}
 
 -- ---- names
 

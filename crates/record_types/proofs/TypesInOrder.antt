@@ -1,5 +1,5 @@
 -- The types that a module mentions: each that it writes is there, behind its parts.
-use Rattle.std.proofs.Common.{◌≡◌, Bool, true, false, List, [], ◌∷◌, ◌++◌, refl, ap, inl, inr}
+use Rattle.std.proofs.Common.{◌≡◌, Bool, true, false, List, [], ◌∷◌, ◌++◌, refl, inl, inr}
 use Rattle.std.specs.List.{AllByRecursion, list_any, fold}
 use Rattle.std.proofs.lemmas.Bool.{cases_Bool, or_cases, or_left, false≢true}
 use Rattle.type_table.specs.Tree.{Tree, int, ptr, void, array, struct, named, Trees, no_trees, more_trees}

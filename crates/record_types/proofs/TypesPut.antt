@@ -1,16 +1,15 @@
 -- The types of a module are read of their records, one behind the other.
-use Rattle.std.proofs.Common.{◌≡◌, ℕ, suc, ◌+◌, Bool, true, List, [], ◌∷◌, ◌++◌, length, Option, Some, None, Ok, refl, sym, ap, ◌∙◌, append-nil, append_assoc, arith}
+use Rattle.std.proofs.Common.{◌≡◌, ℕ, suc, ◌+◌, true, List, [], ◌∷◌, ◌++◌, length, Option, Some, None, Ok, refl, sym, ap, ◌∙◌, append-nil, append_assoc, arith}
 use Rattle.std.proofs.lemmas.List.{length-map}
 use Rattle.std.specs.Prelude.{map}
 use Rattle.std.specs.List.{AllByRecursion, list_all, fold}
 use Rattle.bit_tree.specs.Written.{Written}
-use Rattle.type_table.specs.Tree.{Tree, TreeBody, opaque_body, named, Structs}
+use Rattle.type_table.specs.Tree.{Tree, opaque_body, named, Structs}
 use Rattle.type_table.specs.Types.{Types, trees, structs, grow, with_type}
 use Rattle.type_table.specs.Types as table
 use Rattle.type_table.specs.Shape.{shape}
-use Rattle.type_table.specs.declared.ir_type.IrType.{IrType}
 use Rattle.type_table.specs.declared.ir_type.StructBody.{StructBody}
-use Rattle.module_arena.specs.Module.{Bytes, Module}
+use Rattle.module_arena.specs.Module.{Bytes}
 use Rattle.module_arena.specs.WellFormed.{is_within_limits}
 use Rattle.record_table.specs.Layout.{judged}
 use Rattle.record_table.specs.Fields.{Texts}

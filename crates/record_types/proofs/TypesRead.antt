@@ -3,12 +3,11 @@ use Rattle.std.proofs.Common.{◌≡◌, ℕ, suc, ◌+◌, true, false, ◌&&�
 use Rattle.std.proofs.lemmas.Bool.{cases_Bool, and_parts}
 use Rattle.std.proofs.lemmas.Slice.Eq.{bytes_eq-Decides}
 use Rattle.std.proofs.lemmas.List.{length-map}
-use Rattle.std.specs.Prelude.{map, flat_map, set, slice_index_or, nat_lt, nat_eq, bytes_eq, if◌then◌else◌, ⊤}
+use Rattle.std.specs.Prelude.{map, flat_map, set, slice_index_or, nat_lt, nat_eq, bytes_eq, ⊤}
 use Rattle.std.specs.List.{AllByRecursion, list_any, list_all}
 use Rattle.bit_tree.specs.Written.{Written, no_more}
 use Rattle.type_table.specs.Tree.{Tree, TreeBody, opaque_body, fields, named, Structs}
-use Rattle.type_table.specs.Types.{Types, trees, structs, with_body}
-use Rattle.type_table.specs.Types as table
+use Rattle.type_table.specs.Types.{Types, structs, with_body}
 use Rattle.type_table.specs.Shape.{shape}
 use Rattle.type_table.specs.declared.ir_type.StructBody.{StructBody}
 use Rattle.module_arena.specs.Module.{Bytes, Module}
@@ -20,7 +19,7 @@ use Rattle.record_table.proofs.TextsBack.{lays_sized}
 use Rattle.record_table.specs.Fields.{Texts, is_name}
 use Rattle.record_table.specs.Lays.{Lays}
 use Rattle.record_table.specs.Faults.{Answer, ◌>>=◌}
-use Rattle.record_table.specs.TypeRecords.{Kind, OfInt, OfPtr, OfVoid, OfArray, OfStruct, OfName, kind_code, kind_of, all_fit, earlier, definition, names_in, are_distinct, called, Listed, struct_record, listed_from, listed}
+use Rattle.record_table.specs.TypeRecords.{Kind, OfInt, OfPtr, OfVoid, OfArray, OfStruct, OfName, kind_code, kind_of, all_fit, earlier, definition, names_in, are_distinct, called, Listed, struct_record, listed_from}
 use Rattle.record_table.specs.Mentions.{mentioned}
 use Rattle.record_table.specs.Spelling.{Line, put, records_put, places, by_ids, body_by_ids, type_line, string_table, texts_of, texts_in}
 use Rattle.record_bodies.proofs.BodyBack.{put_append}

@@ -1,7 +1,7 @@
 -- What is written of a well-formed and valid module spells it and no other.
 use Rattle.std.proofs.Common.{◌≡◌, ℕ, ◌<◌, ◌/◌, ◌^◌, List, length, sym, subst}
 use Rattle.bit_stream.specs.Writer.{begun}
-use Rattle.bit_tree.specs.Written.{written, tree_of}
+use Rattle.bit_tree.specs.Written.{tree_of}
 use Rattle.bit_tree.proofs.One.{one_tree}
 use Rattle.bit_tree.proofs.Back.{written_is_read}
 use Rattle.module_arena.specs.Module.{Module}

@@ -1,11 +1,9 @@
 -- The records of a body that fits have operands of 64 bits.
-use Rattle.std.proofs.Common.{◌≡◌, ℕ, suc, ◌+◌, ◌^◌, ◌<◌, ◌≤◌, Bool, true, List, [], ◌∷◌, ◌++◌, length, map, flat_map, Option, Some, None, refl, arith}
+use Rattle.std.proofs.Common.{◌≡◌, ℕ, ◌+◌, ◌^◌, ◌<◌, true, List, [], ◌∷◌, map, flat_map, refl, arith}
 use Rattle.std.specs.List.{list_all, AllByRecursion}
-use Rattle.std.specs.Option.{option_map_or}
 use Rattle.ir_tables.specs.declared.opcode.Opcode.{Opcode}
 use Rattle.ir_tables.specs.declared.opcode.Opcode.TheVariants as op
 use Rattle.ir_tables.specs.Opcode.{opcode_code}
-use Rattle.type_table.specs.Tree.{ptr}
 use Rattle.module_arena.specs.Module.{Bytes, LocalName, Instruction, Block, Function, Module}
 use Rattle.module_arena.specs.Names.{parameter_names}
 use Rattle.module_arena.specs.Operations.{ending_operands}
@@ -18,7 +16,7 @@ use Rattle.record_table.specs.Bodies.{after_all, with_names, results}
 use Rattle.record_table.specs.Spelling.{Line, instruction_line, ending_line, block_lines, body_lines, within}
 use Rattle.record_bodies.specs.FittingBodies.{own_behind_block, taken_behind_block, AreLabels, InstructionsFit, BlockFits, BlocksFit, BodyFits}
 use Rattle.record_types.proofs.Tests.{all_front, all_rest, both_of}
-use Rattle.spelled_alone.proofs.Numbers.{IsSmall, join, flat, AreFew}
+use Rattle.spelled_alone.proofs.Numbers.{IsSmall, flat, AreFew}
 use Rattle.spelled_alone.proofs.LinesLow.{LowLabels, operation_low, ending_low}
 
 -- a record whose code and operands are small

@@ -1,10 +1,10 @@
 -- The bytes of a spelling are those of the writer that was told to write the module.
-use Rattle.std.proofs.Common.{◌≡◌, ℕ, zero, suc, ◌+◌, ◌-◌, ◌*◌, ◌/◌, ◌%◌, ◌^◌, ◌<◌, ◌≤◌, Bool, false, List, [], ◌∷◌, ◌++◌, length, take, drop, replicate, refl, sym, ap, ◌∙◌, arith}
+use Rattle.std.proofs.Common.{◌≡◌, ℕ, zero, suc, ◌+◌, ◌-◌, ◌*◌, ◌/◌, ◌%◌, ◌^◌, ◌<◌, Bool, false, List, [], ◌∷◌, ◌++◌, length, take, drop, replicate, refl, sym, ap, ◌∙◌, arith}
 use Rattle.std.specs.List.{slice_index_or}
 use Rattle.std.proofs.lemmas.List.{length-append, length-replicate, length-take, length-drop, append-nil, get_or_at, take-append-drop}
 use Rattle.bits.specs.Bits.{value, bits_of, stream_bits}
 use Rattle.bits.specs.Reading.{bytes_of}
-use Rattle.bits.specs.Writing.{pad_bits, byte_pad}
+use Rattle.bits.specs.Writing.{pad_bits}
 use Rattle.bits.proofs.BitsLaws.{length-bits_of, bits_of-value}
 use Rattle.bit_stream.specs.Spelling.{chunks, aligned}
 use Rattle.bit_stream.specs.Writer.{Writer, begun, enter, end_block, ended, id_bits}

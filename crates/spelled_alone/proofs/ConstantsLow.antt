@@ -1,9 +1,9 @@
 -- The operands of a constant or value that fits have 64 bits.
-use Rattle.std.proofs.Common.{◌≡◌, ℕ, zero, suc, ◌+◌, ◌*◌, ◌/◌, ◌%◌, ◌^◌, ◌<◌, ◌≤◌, Bool, true, false, ◌&&◌, List, [], ◌∷◌, ◌++◌, length, refl, sym, ap, subst, arith}
+use Rattle.std.proofs.Common.{◌≡◌, ℕ, zero, suc, ◌/◌, ◌%◌, ◌^◌, ◌<◌, ◌≤◌, Bool, true, false, List, [], ◌∷◌, ◌++◌, length, refl, sym, subst, arith}
 use Rattle.std.specs.Prelude.{bytes_eq, nat_lt, nat_le, if◌then◌else◌}
 use Rattle.std.specs.List.{list_all, AllByRecursion}
 use Rattle.std.proofs.Math.Pow.{pow_mono}
-use Rattle.std.proofs.lemmas.Bool.{and_parts, leb-true, ltb-true, false≢true}
+use Rattle.std.proofs.lemmas.Bool.{and_parts, leb-true, ltb-true}
 use Rattle.std.proofs.lemmas.List.{length-append}
 use Rattle.ir_tables.specs.declared.opcode.Opcode.{Opcode}
 use Rattle.ir_tables.specs.declared.opcode.Opcode.TheVariants as op
@@ -11,13 +11,12 @@ use Rattle.ir_tables.specs.Opcode.{opcode_code}
 use Rattle.type_table.specs.Tree.{Tree, int, ptr, void, array, struct, named}
 use Rattle.module_arena.specs.Module.{LocalName, Numbered, Constant, Integer, Truth, Null, Undef, Poison, ZeroInitializer, Address, ByteString, Aggregate, ElementAddress, Cast, Binary, Constants, no_constants, more_constants, Value, Local, Known, Module}
 use Rattle.module_arena.specs.Constants.{Typed, constants_in, constants_of}
-use Rattle.module_arena.specs.Forms.{are_flags_of}
 use Rattle.module_arena.specs.Same.{same_type, same_local}
 use Rattle.module_arena.specs.WellFormed.{is_good_type, is_good_part, depth, is_good_constant, known_in}
 use Rattle.record_table.specs.Fields.{Numbering, byte}
 use Rattle.record_table.specs.Layout.{place}
 use Rattle.record_table.specs.Listed.{AreBytes, AreFlagsOf, IsType, IsLocal}
-use Rattle.record_table.specs.Constants.{Parts, first_part, later_parts, parts_of, count_constants, integer_spell, spell_constant, spell_parts, spell_operands, spell_typed, value_spell}
+use Rattle.record_table.specs.Constants.{Parts, later_parts, parts_of, count_constants, integer_spell, spell_constant, spell_parts, spell_operands, spell_typed, value_spell}
 use Rattle.record_table.specs.FittingConstants.{IsIntegerOf, Fits, AreParts, AreOperands, AreTyped, ValueFits}
 use Rattle.record_types.proofs.Tests.{all_front, all_rest}
 use Rattle.record_types.proofs.GoodWritten.{constant_good}

@@ -1,12 +1,10 @@
 -- What a module lists is no more than its records and their operands.
 use Rattle.std.proofs.Common.{◌≡◌, ℕ, suc, ◌+◌, ◌<◌, ◌≤◌, List, [], ◌∷◌, ◌++◌, length, map, flat_map, filter_map, Option, Some, None, refl, arith}
-use Rattle.std.specs.Prelude.{⊤}
-use Rattle.std.specs.List.{AllByRecursion}
-use Rattle.std.specs.Option.{option_map, option_map_or, option_to_list}
+use Rattle.std.specs.Option.{option_to_list}
 use Rattle.std.proofs.lemmas.List.{length-append, length-map}
 use Rattle.bit_tree.specs.Written.{Written, no_more}
 use Rattle.type_table.specs.Tree.{Tree, TreeBody}
-use Rattle.module_arena.specs.Module.{LocalName, Named, Numbered, Instruction, Block, Function, Module}
+use Rattle.module_arena.specs.Module.{LocalName, Instruction, Block, Function, Module}
 use Rattle.module_arena.specs.Names.{parameter_names}
 use Rattle.record_table.specs.Fields.{Texts, Numbering, label, name_in}
 use Rattle.record_table.specs.Mentions.{mentioned}

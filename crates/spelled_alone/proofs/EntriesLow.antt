@@ -1,31 +1,30 @@
 -- The records of texts, variables, functions and aliases that fit have operands of 64 bits.
-use Rattle.std.proofs.Common.{◌≡◌, ℕ, suc, ◌+◌, ◌^◌, ◌<◌, ◌≤◌, Bool, true, ◌&&◌, List, [], ◌∷◌, ◌++◌, length, map, flat_map, Option, Some, None, is_some, refl, arith}
-use Rattle.std.specs.Prelude.{bytes_eq, nat_le, if◌then◌else◌}
+use Rattle.std.proofs.Common.{◌≡◌, ℕ, suc, ◌+◌, ◌^◌, ◌<◌, ◌≤◌, true, List, [], ◌∷◌, ◌++◌, length, map, flat_map, Option, Some, None, is_some, refl, arith}
+use Rattle.std.specs.Prelude.{bytes_eq}
 use Rattle.std.specs.List.{list_all, AllByRecursion}
 use Rattle.std.specs.Option.{option_to_list}
 use Rattle.std.proofs.lemmas.Bool.{and_parts, leb-true}
-use Rattle.std.proofs.lemmas.List.{length-append}
 use Rattle.ir_tables.specs.declared.linkage.Linkage.{Linkage}
 use Rattle.ir_tables.specs.declared.linkage.Linkage.TheVariants.{External}
 use Rattle.ir_tables.specs.Linkage.{linkage_code}
 use Rattle.type_table.specs.Tree.{Tree}
-use Rattle.module_arena.specs.Module.{Bytes, LocalName, Named, Numbered, Constant, Variable, AliasType, PlainType, FunctionType, Alias, Function, Module}
+use Rattle.module_arena.specs.Module.{Bytes, Named, Numbered, Constant, Variable, AliasType, PlainType, FunctionType, Alias, Function, Module}
 use Rattle.module_arena.specs.Same.{same_type}
 use Rattle.module_arena.specs.WellFormed.{is_good_constant, known_of_variable}
-use Rattle.record_table.specs.Fields.{Texts, Numbering, bool_code, label, ty, same_option, coded_alignments}
+use Rattle.record_table.specs.Fields.{Numbering, bool_code, ty, same_option, coded_alignments}
 use Rattle.record_table.specs.Layout.{place, option_spell}
-use Rattle.record_table.specs.Listed.{IsName, IsLabel, IsType}
+use Rattle.record_table.specs.Listed.{IsName}
 use Rattle.record_table.specs.Constants.{constant}
 use Rattle.record_table.specs.FittingConstants.{Fits}
 use Rattle.record_table.specs.FittingLines.{IfSome}
 use Rattle.record_table.specs.Records.{variable, function, alias, types_of}
 use Rattle.record_table.specs.StringTable.{once_each, offset_in, is_within}
-use Rattle.record_table.specs.Spelling.{Line, string_table, texts_of, texts_in, text_line, head_lines, global_lines, numbering}
-use Rattle.record_law.specs.FittingEntries.{VariableFits, AliasTypeFits, AliasFits}
-use Rattle.record_law.specs.FittingModules.{Globals, EachFits, VariableFollows, FunctionFollows, AliasFollows}
+use Rattle.record_table.specs.Spelling.{string_table, texts_of, texts_in, text_line, head_lines, global_lines, numbering}
+use Rattle.record_law.specs.FittingEntries.{VariableFits, AliasFits}
+use Rattle.record_law.specs.FittingModules.{Globals, EachFits}
 use Rattle.record_types.proofs.Tests.{all_front, all_rest, both_of}
 use Rattle.record_fits.proofs.EntriesFit.{RecordFits}
-use Rattle.spelled_alone.proofs.Numbers.{IsSmall, none, next, one, join, counted, indexed, AreFew}
+use Rattle.spelled_alone.proofs.Numbers.{IsSmall, next, one, join, counted, indexed, AreFew}
 use Rattle.spelled_alone.proofs.ConstantsLow.{type_low, known_low}
 use Rattle.spelled_alone.proofs.LinesLow.{LowLabels, bool_low, alignment_low, types_low, type_some}
 use Rattle.spelled_alone.proofs.BodiesLow.{IsLowLine}

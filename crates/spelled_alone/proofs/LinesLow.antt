@@ -1,32 +1,31 @@
 -- The operands of an instruction or an end that fits have 64 bits.
-use Rattle.std.proofs.Common.{◌≡◌, ℕ, suc, ◌+◌, ◌^◌, ◌<◌, ◌≤◌, Bool, true, false, ◌&&◌, List, [], ◌∷◌, ◌++◌, length, map, flat_map, Option, Some, None, refl, sym, ap, subst, arith}
+use Rattle.std.proofs.Common.{◌≡◌, ℕ, ◌^◌, ◌<◌, ◌≤◌, Bool, true, false, List, [], ◌∷◌, ◌++◌, length, map, flat_map, Option, Some, None, refl, sym, subst, arith}
 use Rattle.std.specs.Prelude.{nat_lt, unwrap_or}
 use Rattle.std.specs.List.{list_all, AllByRecursion}
-use Rattle.std.specs.Option.{option_map_or}
 use Rattle.std.proofs.lemmas.Bool.{ltb-true}
 use Rattle.std.proofs.lemmas.List.{length-append}
 use Rattle.ir_tables.specs.declared.opcode.Opcode.TheVariants as op
 use Rattle.ir_tables.specs.declared.predicate.Predicate.{Predicate}
 use Rattle.ir_tables.specs.declared.predicate.Predicate.TheVariants.{Eq}
 use Rattle.ir_tables.specs.Predicate.{predicate_code}
-use Rattle.type_table.specs.Tree.{Tree, int, ptr, void}
-use Rattle.module_arena.specs.Module.{LocalName, Named, Numbered, Value, Known, Operand, Incoming, Operation, BinaryOperation, Compare, Convert, Select, Freeze, Phi, Load, Store, Alloca, GetElementPtr, Call, ExtractValue, InsertValue, Instruction, Case, Ending, ReturnVoid, Return, Jump, Branch, Switch, Unreachable, Module}
-use Rattle.module_arena.specs.Operations.{operands, ending_operands, callee, incoming_operand, case_operand}
+use Rattle.type_table.specs.Tree.{Tree, int, ptr}
+use Rattle.module_arena.specs.Module.{LocalName, Numbered, Value, Known, Operand, Incoming, Operation, BinaryOperation, Compare, Convert, Select, Freeze, Phi, Load, Store, Alloca, GetElementPtr, Call, ExtractValue, InsertValue, Instruction, Case, Ending, ReturnVoid, Return, Jump, Branch, Switch, Unreachable, Module}
+use Rattle.module_arena.specs.Operations.{operands, ending_operands, incoming_operand, case_operand}
 use Rattle.module_arena.specs.Same.{same_type, same_local}
 use Rattle.module_arena.specs.TypeTests.{is_void}
 use Rattle.module_arena.specs.WellFormed.{is_good_constant, known_in, known_of_operands, known_of_operation}
 use Rattle.record_table.specs.Fields.{Texts, Numbering, bool_code, label, same_option, coded_alignments, index, ty}
-use Rattle.record_table.specs.Layout.{Layout, place, option_spell}
-use Rattle.record_table.specs.Listed.{IsListed, AreSome, IsType, IsBlock, IsLabel, IsAlignment}
-use Rattle.record_table.specs.Constants.{constant, value_spell, spell_constant}
+use Rattle.record_table.specs.Layout.{Layout, place}
+use Rattle.record_table.specs.Listed.{AreSome, IsType, IsBlock, IsLabel, IsAlignment}
+use Rattle.record_table.specs.Constants.{value_spell, spell_constant}
 use Rattle.record_table.specs.FittingConstants.{ValueFits, OperandFits}
-use Rattle.record_table.specs.FittingLines.{IsSome, IfSome, IsAbsent, AreIndices, IsCallResult, FitsPlace, IncomingFits, AreArguments, OperationFits, CaseFits, EndingFits, IsResult, InstructionFits}
+use Rattle.record_table.specs.FittingLines.{IsSome, AreIndices, IsCallResult, FitsPlace, IncomingFits, AreArguments, OperationFits, CaseFits, EndingFits, IsResult}
 use Rattle.record_table.specs.Lays.{Lays}
 use Rattle.record_table.specs.Lines.{operation_opcode, ending_opcode, instruction, ending, typed_value, incoming, case_of, spell_arguments, result_by}
 use Rattle.record_table.proofs.InstructionsBack.{as_computation, as_conversion}
 use Rattle.record_types.proofs.Tests.{all_front, all_rest}
-use Rattle.spelled_alone.proofs.Numbers.{IsSmall, none, next, one, join, flat, counted, indexed, AreFew}
-use Rattle.spelled_alone.proofs.ConstantsLow.{opcode_low, flags_low, constant_some, value_some, type_low, known_low, value_low}
+use Rattle.spelled_alone.proofs.Numbers.{IsSmall, none, next, one, join, counted, indexed, AreFew}
+use Rattle.spelled_alone.proofs.ConstantsLow.{flags_low, value_some, type_low, value_low}
 
 pub bool_low : (b : Bool) → bool_code b < 2 ^ 64
 bool_low true = omega arith

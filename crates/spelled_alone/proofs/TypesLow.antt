@@ -1,24 +1,24 @@
 -- The records of the types and structs of a well-formed module have operands of 64 bits.
-use Rattle.std.proofs.Common.{◌≡◌, ℕ, zero, suc, ◌+◌, ◌^◌, ◌<◌, ◌≤◌, Bool, true, false, ◌&&◌, List, [], ◌∷◌, ◌++◌, length, map, flat_map, Option, Some, None, refl, arith, inl, inr}
+use Rattle.std.proofs.Common.{◌≡◌, ℕ, ◌^◌, ◌<◌, ◌≤◌, true, false, List, [], ◌∷◌, length, map, flat_map, Option, Some, None, refl, arith, inl, inr}
 use Rattle.std.specs.Prelude.{nat_le, bytes_eq}
-use Rattle.std.specs.List.{list_all, list_any, fold, AllByRecursion}
+use Rattle.std.specs.List.{list_all, AllByRecursion}
 use Rattle.std.specs.Option.{option_map}
-use Rattle.std.proofs.lemmas.Bool.{and_parts, and_from, cases_Bool, leb-true}
-use Rattle.std.proofs.lemmas.List.{length-append}
+use Rattle.std.proofs.lemmas.Bool.{and_parts, cases_Bool, leb-true}
 use Rattle.type_table.specs.Limits.{IsWithinLimits}
 use Rattle.type_table.specs.Shape.{Shape, array_of, expanded, name_shape, shape}
 use Rattle.type_table.specs.Tree.{Tree, int, ptr, void, array, struct, named, Trees, no_trees, more_trees, TreeBody, opaque_body, fields, Structs, body_of, index_of}
 use Rattle.module_arena.specs.Module.{Bytes, Module}
 use Rattle.module_arena.specs.Same.{same_type}
-use Rattle.module_arena.specs.WellFormed.{IsWellFormed, is_within_limits, is_good_type, are_good_types}
+use Rattle.module_arena.specs.WellFormed.{IsWellFormed, is_within_limits, is_good_type}
 use Rattle.module_arena.proofs.WithinLimits.{within_limits_decides}
 use Rattle.record_table.specs.Fields.{bool_code}
 use Rattle.record_table.specs.Layout.{place}
 use Rattle.record_table.specs.TypeRecords.{earlier, definition}
-use Rattle.record_table.specs.Mentions.{with_new, with_tree, with_trees, written_types, mentioned}
-use Rattle.record_table.specs.Spelling.{Line, places, by_ids, body_by_ids, type_line, type_lines, string_table, texts_in}
-use Rattle.record_types.proofs.Tests.{all_both, both_of}
-use Rattle.record_types.proofs.GoodWritten.{AreGood, written_good}
+use Rattle.record_table.specs.Mentions.{mentioned}
+use Rattle.record_table.specs.Spelling.{places, by_ids, body_by_ids, type_line, type_lines, string_table, texts_in}
+use Rattle.record_types.proofs.Tests.{both_of}
+use Rattle.record_types.proofs.GoodWritten.{AreGood}
+use Rattle.record_types.proofs.GoodMentioned.{mentioned_good}
 use Rattle.spelled_alone.proofs.Numbers.{IsSmall, none, next, one, join, flat, counted}
 use Rattle.spelled_alone.proofs.LinesLow.{bool_low}
 use Rattle.spelled_alone.proofs.BodiesLow.{IsLowLine}
@@ -48,41 +48,6 @@ array_is_short : (structs : Structs) (n : ℕ) (t : Tree) → is_good_type struc
 array_is_short structs n t good =
     short n (expanded (name_shape (λ _. None) (body_of structs) 64) t) ((within_limits_decides (shape structs (array n t))).0 (and_parts (is_good_type structs t) (is_within_limits (shape structs (array n t))) good).1)
 
--- ---- all that are mentioned
-module _ (m : Module) where
-  with_new_good : (t : Tree) (all : List Tree) → is_good_type m.structs t ≡ true → AreGood m all → AreGood m (with_new t all)
-  with_new_good t all g h = elim (cases_Bool (list_any (same_type t) all)) [
-    | inl there ↦ rw there h
-    | inr new ↦ rw new (all_both (is_good_type m.structs) all (t ∷ []) h (and_from (is_good_type m.structs t) true g refl))
-  ]
-
-  mutual
-    with_tree_good : (t : Tree) (all : List Tree) → is_good_type m.structs t ≡ true → AreGood m all → AreGood m (with_tree t all)
-    with_tree_good (int w) all g h = with_new_good (int w) all g h
-    with_tree_good ptr all g h = with_new_good ptr all g h
-    with_tree_good void all g h = with_new_good void all g h
-    with_tree_good (array n t) all g h =
-        with_new_good (array n t) (with_tree t all) g (with_tree_good t all (and_parts (is_good_type m.structs t) (is_within_limits (shape m.structs (array n t))) g).0 h)
-    with_tree_good (struct packed ts) all g h =
-        with_new_good (struct packed ts) (with_trees ts all) g (with_trees_good ts all (and_parts (are_good_types m.structs ts) (is_within_limits (shape m.structs (struct packed ts))) g).0 h)
-    with_tree_good (named name) all g h = with_new_good (named name) all g h
-
-    with_trees_good : (ts : Trees) (all : List Tree) → are_good_types m.structs ts ≡ true → AreGood m all → AreGood m (with_trees ts all)
-    with_trees_good no_trees all g h = h
-    with_trees_good (more_trees t ts) all g h =
-        let p = and_parts (is_good_type m.structs t) (are_good_types m.structs ts) g in
-        with_trees_good ts (with_tree t all) p.1 (with_tree_good t all p.0 h)
-
-  folded_good : (ts all : List Tree) → AreGood m ts → AreGood m all → AreGood m (fold (λ all t. with_tree t all) all ts)
-  folded_good [] all g h = h
-  folded_good (t ∷ ts) all g h =
-      let p = and_parts (is_good_type m.structs t) (list_all (is_good_type m.structs) ts) g in
-      folded_good ts (with_tree t all) p.1 (with_tree_good t all p.0 h)
-
-  mentioned_good : IsWellFormed m → AreGood m (mentioned m)
-  mentioned_good well = folded_good (written_types m) [] (written_good m well) refl
-
--- ---- records of types
 number_some : (n : ℕ) → 0 < length ((earlier 0).spell n)
 number_some n = omega arith
 

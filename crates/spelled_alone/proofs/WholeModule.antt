@@ -1,31 +1,31 @@
 -- The records of a module that fits may be written, where its spelling is small.
-use Rattle.std.proofs.Common.{◌≡◌, ℕ, zero, suc, ◌+◌, ◌^◌, ◌<◌, ◌≤◌, ◌==◌, Bool, true, false, List, [], ◌∷◌, ◌++◌, length, map, flat_map, filter_map, Option, Some, None, refl, sym, ap, ◌∙◌, subst, arith, inl, inr}
+use Rattle.std.proofs.Common.{◌≡◌, ℕ, suc, ◌+◌, ◌^◌, ◌<◌, ◌≤◌, ◌==◌, true, false, List, [], ◌∷◌, ◌++◌, length, map, flat_map, filter_map, Option, Some, None, refl, sym, ap, ◌∙◌, subst, arith, inl, inr}
 use Rattle.std.specs.Prelude.{nat_lt, nat_le}
-use Rattle.std.specs.List.{list_all, AllByRecursion, fold}
-use Rattle.std.proofs.lemmas.Bool.{and_parts, ltb-true, leb-true, cases_Bool}
+use Rattle.std.specs.List.{list_all, AllByRecursion}
+use Rattle.std.proofs.lemmas.Bool.{and_parts, ltb-true, leb-true}
 use Rattle.std.proofs.lemmas.List.{length-append, length-map}
-use Rattle.bit_stream.specs.Writer.{Writer, begun}
+use Rattle.bit_stream.specs.Writer.{begun}
 use Rattle.bit_tree.specs.Written.{Written, no_more, a_definition, a_short_record, written, Allowed}
 use Rattle.type_table.specs.Tree.{TreeBody}
 use Rattle.module_arena.specs.Functions.{blocks, body}
-use Rattle.module_arena.specs.Module.{Bytes, LocalName, Block, Variable, Alias, Function, Module}
+use Rattle.module_arena.specs.Module.{Bytes, Block, Variable, Alias, Function, Module}
 use Rattle.module_arena.specs.WellFormed.{IsWellFormed, is_good_constant, known_of_variable, known_of_block, alias_count, count_for_aliases}
 use Rattle.record_table.specs.Fields.{Texts, Numbering, label}
 use Rattle.record_table.specs.Listed.{AreBytes, IsLabel}
 use Rattle.record_table.specs.Lays.{Lays}
 use Rattle.record_table.specs.Mentions.{mentioned}
 use Rattle.record_table.specs.Records.{producer}
-use Rattle.record_table.specs.StringTable.{has_text, with_text, once_each, joined, offset_in}
+use Rattle.record_table.specs.StringTable.{has_text, once_each, offset_in}
 use Rattle.record_table.specs.Spelling.{Line, put, put_block, put_bytes, put_bodies, put_module, written_module, head_lines, type_lines, global_lines, body_of, body_lines, within, numbering, string_table, texts_of, texts_in}
 use Rattle.record_table.proofs.TextsBack as back
-use Rattle.record_bodies.specs.FittingBodies.{BodyFits}
 use Rattle.record_law.specs.FittingEntries.{VariableFits, AliasFits}
 use Rattle.record_law.specs.FittingModules.{PartsFit, FunctionFits, after_variable, after_function, after_alias, VariableFollows, FunctionFollows, AliasFollows, none_yet, behind_variables, behind_functions, behind_types, ModuleFits}
-use Rattle.record_types.proofs.Tests.{all_front, all_rest, each_passes, both_of}
+use Rattle.record_law.proofs.OpeningBack.{table_of_bytes}
+use Rattle.record_types.proofs.Tests.{all_front, all_rest, each_passes}
 use Rattle.record_types.proofs.TextsHeld.{struct_held}
 use Rattle.record_types.proofs.TypesFit.{has_each}
 use Rattle.record_fits.proofs.EntriesFit.{RecordFits}
-use Rattle.written_size.specs.Plain.{MayBlock, MayRecord, IsPlain, IsOfBytes, IsWhole, of_bytes, AreShort, weight}
+use Rattle.written_size.specs.Plain.{MayBlock, IsPlain, IsOfBytes, IsWhole, of_bytes, AreShort, weight}
 use Rattle.written_size.proofs.Grows.{total, size, around_kept, grows}
 use Rattle.written_size.proofs.Wholes.{wholes_allowed, wholes_short, records_few}
 use Rattle.spelled_alone.proofs.Numbers.{AreFew}
@@ -39,21 +39,6 @@ use Rattle.spelled_alone.proofs.Counted as counts
 below : (bytes : List ℕ) → AreBytes bytes → AllByRecursion (λ (n : ℕ). n < 256) bytes
 below [] fit = tt
 below (b ∷ bytes) fit = (ltb-true b 256 fit.0, below bytes fit.1)
-
-joined_bytes : (texts : List Bytes) → AllByRecursion AreBytes texts → AreBytes (joined texts)
-joined_bytes [] h = tt
-joined_bytes (t ∷ texts) h = both_of (λ (b : ℕ). nat_lt b 256 ≡ true) t (joined texts) h.0 (joined_bytes texts h.1)
-
-with_text_bytes : (all : List Bytes) (text : Bytes) → AllByRecursion AreBytes all → AreBytes text → AllByRecursion AreBytes (with_text all text)
-with_text_bytes all [] h k = h
-with_text_bytes all (b ∷ bs) h k = elim (cases_Bool (has_text all (b ∷ bs))) [
-  | inl there ↦ rw there h
-  | inr new ↦ rw new (both_of AreBytes all ((b ∷ bs) ∷ []) h (k, tt))
-]
-
-fold_bytes : (texts all : List Bytes) → AllByRecursion AreBytes all → AllByRecursion AreBytes texts → AllByRecursion AreBytes (fold with_text all texts)
-fold_bytes [] all h k = h
-fold_bytes (t ∷ texts) all h k = fold_bytes texts (with_text all t) (with_text_bytes all t h k.0) k.1
 
 producer_bytes : AreBytes producer
 producer_bytes = each_passes (λ b. nat_lt b 256) producer refl
@@ -93,7 +78,7 @@ module _ (m : Module) (well : IsWellFormed m) (fit : ModuleFits m) (small : leng
   inside = put_module (texts_in m) m
 
   table_bytes : AreBytes (string_table m)
-  table_bytes = joined_bytes (once_each (texts_of m)) (fold_bytes (texts_of m) [] tt fit.texts_are_bytes)
+  table_bytes = table_of_bytes m fit.texts_are_bytes
 
   -- the producer and the table, in front of the module
   abbrev opening : Written

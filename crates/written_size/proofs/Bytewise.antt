@@ -1,5 +1,5 @@
 -- A block of bytes may be written, where the whole is small.
-use Rattle.std.proofs.Common.{◌≡◌, ℕ, zero, suc, ◌+◌, ◌-◌, ◌/◌, ◌^◌, ◌<◌, ◌≤◌, ◌==◌, Bool, true, false, nat_lt, List, [], ◌∷◌, ◌++◌, length, drop, Option, Some, None, IsSome, refl, sym, ap, ◌∙◌, subst, arith}
+use Rattle.std.proofs.Common.{◌≡◌, ℕ, ◌^◌, ◌<◌, ◌≤◌, Bool, true, false, nat_lt, List, [], ◌∷◌, ◌++◌, length, Option, Some, IsSome, refl, sym, ap, ◌∙◌, subst, arith}
 use Rattle.std.specs.List.{list_all, AllByRecursion}
 use Rattle.std.proofs.lemmas.Bool.{and_from, false≢true, lt-ltb, le-leb}
 use Rattle.std.proofs.lemmas.List.{length-append}
@@ -11,11 +11,10 @@ use Rattle.bit_stream.specs.declared.abbreviation.Scalar.TheVariants.{Field, Chu
 use Rattle.bit_stream.specs.declared.abbreviation.Tail.TheVariants.{Elements}
 use Rattle.bit_stream.specs.Scope.{Scope, template_of}
 use Rattle.bit_stream.specs.Record.{names_block}
-use Rattle.bit_stream.specs.Entry.{entered, defined, left, is_top, is_blockinfo}
-use Rattle.bit_stream.specs.Law.{AreOperands}
+use Rattle.bit_stream.specs.Entry.{defined, is_top, is_blockinfo}
 use Rattle.bit_stream.specs.Spelling.{template_for, rest_of, record_fits, each_fit, tail_fits, value_bits, each_bits, all_bits, chunks, with_record, with_tail}
-use Rattle.bit_stream.specs.Writer.{Writer, enter, end_block, define, abbreviated, id_bits, with_template, after_record}
-use Rattle.bit_tree.specs.Written.{Written, no_more, a_block, a_definition, a_short_record, written, MayDefine, MayPut, NamesFirst, MayAbbreviate, operands_of, Allowed}
+use Rattle.bit_stream.specs.Writer.{Writer, enter, end_block, define, abbreviated, id_bits, with_template}
+use Rattle.bit_tree.specs.Written.{no_more, a_definition, a_short_record, MayDefine, MayAbbreviate, Allowed}
 use Rattle.written_size.specs.Plain.{MayBlock, of_bytes}
 use Rattle.written_size.proofs.Grows.{size}
 use Rattle.written_size.proofs.Kept.{left_is, entered_inside}

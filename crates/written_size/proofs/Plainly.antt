@@ -1,12 +1,12 @@
 -- Blocks and records without abbreviations may be written, where the whole is small.
-use Rattle.std.proofs.Common.{◌≡◌, ℕ, zero, suc, ◌+◌, ◌/◌, ◌^◌, ◌<◌, ◌≤◌, Bool, true, false, List, [], ◌∷◌, length, refl, sym, ap, ◌∙◌, subst, arith}
+use Rattle.std.proofs.Common.{◌≡◌, ℕ, zero, suc, ◌+◌, ◌/◌, ◌^◌, ◌<◌, ◌≤◌, Bool, true, false, List, length, refl, sym, ap, subst, arith}
 use Rattle.std.proofs.lemmas.Bool.{false≢true}
 use Rattle.bit_stream.specs.Scope.{Scope}
 use Rattle.bit_stream.specs.Record.{names_block}
 use Rattle.bit_stream.specs.Entry.{is_top, is_blockinfo}
 use Rattle.bit_stream.specs.Writer.{Writer, enter, ended, end_block, put_record}
-use Rattle.bit_tree.specs.Written.{Written, no_more, a_block, a_definition, a_record, a_short_record, written, MayEnter, MayPut, NamesFirst, Allowed}
-use Rattle.written_size.specs.Plain.{MayBlock, MayRecord, IsPlain}
+use Rattle.bit_tree.specs.Written.{Written, no_more, a_block, a_definition, a_record, a_short_record, written, MayEnter, NamesFirst, Allowed}
+use Rattle.written_size.specs.Plain.{MayBlock, IsPlain}
 use Rattle.written_size.proofs.Grows.{size, around_kept, end_grows, put_grows, grows}
 use Rattle.written_size.proofs.Kept.{left_is, entered_inside, entered_deep, put_kept, scope_kept}
 

@@ -1,5 +1,5 @@
 -- Each record takes a bit, and each of its operands one.
-use Rattle.std.proofs.Common.{◌≡◌, ℕ, suc, ◌+◌, ◌<◌, ◌≤◌, List, length, arith}
+use Rattle.std.proofs.Common.{◌+◌, ◌≤◌, arith}
 use Rattle.bit_stream.specs.Writer.{Writer, enter, end_block, define, put_record, abbreviated}
 use Rattle.bit_tree.specs.Written.{Written, no_more, a_block, a_definition, a_record, a_short_record, written}
 use Rattle.written_size.specs.Plain.{weight}

@@ -1,5 +1,5 @@
 -- Blocks of bytes and blocks without abbreviations may be written, where the whole is small.
-use Rattle.std.proofs.Common.{◌≡◌, ℕ, zero, suc, ◌+◌, ◌^◌, ◌<◌, ◌≤◌, ◌⊎◌, false, List, [], length, refl, sym, ap, ◌∙◌, subst, arith, inl, inr}
+use Rattle.std.proofs.Common.{◌≡◌, ℕ, ◌+◌, ◌^◌, ◌<◌, ◌≤◌, ◌⊎◌, [], length, refl, sym, ap, ◌∙◌, subst, arith, inl, inr}
 use Rattle.bit_stream.specs.Entry.{is_blockinfo}
 use Rattle.bit_stream.specs.Scope.{Scope, top_level}
 use Rattle.bit_stream.specs.Writer.{Writer, begun, enter, end_block, define, abbreviated}
