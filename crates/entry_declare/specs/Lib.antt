@@ -1,0 +1,3 @@
+pub mod Stages
+pub mod Declaring
+pub mod Emptied
