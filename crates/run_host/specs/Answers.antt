@@ -1,4 +1,4 @@
--- For `put_byte`, `put_line`, `allocate`, `free`, `copy`, `fill` and `evaluate`: what their answers mean in the words of a run.
+-- For `put_byte`, `put_line`, `string_length`, `allocate`, `free`, `copy`, `fill` and `evaluate`: what their answers mean in the words of a run.
 use Rattle.std.specs.Prelude.{◌≡◌, ℕ, ⊤, List, [], ◌++◌, Option, Some, None, Result, Ok, Err}
 use Rattle.std.specs.Result.{IsErr}
 use Rattle.ir_eval.specs.declared.value.Scalar.{Scalar}

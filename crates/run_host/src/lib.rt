@@ -1,4 +1,4 @@
-//! What host functions do, a function each: bytes and lines, the heap, copies and fills, and the intrinsics over integers.
+//! What host functions do, a function each: bytes, lines and strings, the heap, copies and fills, and the intrinsics over integers.
 //!
 //! It stands on `ir_memory`, `ir_intrinsics`, `run_values` and the definitions of `run_rules`. It promises that each call answers as
 //! the definition of its host function says, memory and the bytes that are written included. Definitions: `specs/Answers`; `Host` of
@@ -7,12 +7,14 @@
 
 mod answer;
 mod block;
+mod counted;
 mod integer;
 mod range;
 mod written;
 
 pub use answer::Answer;
 pub use block::{allocate, free};
+pub use counted::string_length;
 pub use integer::evaluate;
 pub use range::{copy, fill};
 pub use written::{put_byte, put_line};
