@@ -1,5 +1,5 @@
 -- The records of a body that fits have operands of 64 bits.
-use Rattle.std.proofs.Common.{◌≡◌, ℕ, ◌+◌, ◌^◌, ◌<◌, true, List, [], ◌∷◌, map, flat_map, refl, arith}
+use Rattle.std.proofs.Common.{◌≡◌, ℕ, ◌+◌, ◌^◌, ◌<◌, true, List, [], ◌∷◌, map, flat_map, arith}
 use Rattle.std.specs.List.{list_all, AllByRecursion}
 use Rattle.ir_tables.specs.declared.opcode.Opcode.{Opcode}
 use Rattle.ir_tables.specs.declared.opcode.Opcode.TheVariants as op
