@@ -1,0 +1,4 @@
+pub mod Reader
+pub mod Entries
+pub mod Faults
+pub mod Fields

@@ -1,0 +1,21 @@
+//! Reading records over a judged stream: entry by entry, and the operands of a record one by one, with the least rule that
+//! they break.
+//!
+//! It stands on the walker of `bit_walk`, and holds no operands. It promises that the fields are read by their layouts, a
+//! rule that is broken and what follows included, and that BLOCKINFO and definitions are passed over. Definitions: `Walk`,
+//! `Layout`, `Fields`, `StringTable` and `Faults` of `record_table`, and `specs/`.
+#![tactic(auto)]
+
+mod codes;
+mod entry;
+mod fault;
+mod numbers;
+mod reader;
+mod texts;
+
+pub use codes::{read_alignment, read_flags, read_linkage, read_predicate};
+pub use entry::Entry;
+pub use fault::{BitcodeFault, misplaced};
+pub use numbers::{read_below, read_flag, read_index, read_place};
+pub use reader::RecordReader;
+pub use texts::{Texts, read_byte_string, read_label, read_last, read_name, read_rest, read_text};
