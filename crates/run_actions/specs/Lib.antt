@@ -1,0 +1,4 @@
+pub mod Carried
+pub mod Operands
+pub mod Edges
+pub mod Values

@@ -1,0 +1,18 @@
+//! Ways into blocks.
+
+/// A way into a block: the place of its first instruction behind the phis, and the moves that these get, from `first` up to `end` in
+/// the pool of the function's moves.
+#[derive(Clone, Copy, Debug, PartialEq, Eq)]
+pub struct Edge {
+    pub block: u32,
+    pub position: u32,
+    pub first: u32,
+    pub end: u32,
+}
+
+/// A case of a switch: the number, and the way that it goes.
+#[derive(Clone, Copy, Debug, PartialEq, Eq)]
+pub struct Case {
+    pub number: u128,
+    pub edge: Edge,
+}
