@@ -1,0 +1,12 @@
+pub mod Listed
+pub mod Distinct
+pub mod Apart
+pub mod OneModule
+pub mod Meant
+pub mod Arena
+pub mod Lies
+pub mod Roomed
+pub mod Put
+pub mod Spotted
+pub mod Bounded
+pub mod Asked

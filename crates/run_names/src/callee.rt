@@ -1,0 +1,47 @@
+//! What has an address.
+ghost use Rattle.std.specs.Prelude.{◌≡◌, ◌<◌, ◌^◌, IfSome, None};
+ghost use Rattle.linkage_rules.specs.Place as place;
+ghost use Rattle.run_rules.specs.Look as look;
+
+use ir_eval::{Pointer, Scalar};
+use module_arena::{FunctionId, HostRow};
+
+/// What has an address, and can be called there.
+#[derive(Clone, Copy)]
+pub enum CalleeRef {
+    /// The function of the module with that number, which has a body.
+    Code(FunctionId),
+    /// A function of the host.
+    Host(HostRow),
+    /// Nothing.
+    Nothing,
+}
+
+/// The number of the function symbol with an address: 16 bytes behind the one before, the first at 2^62.
+pub(crate) fn function_number(address: u64) -> Option<u64>
+    ensures number { result ≡ look.function_number address }
+    ensures small { IfSome result (λ n. n < 2 ^ 60) }
+{
+    let first = 1 << 62;
+    if address < first || (address - first) % 16 != 0 {
+        return None;
+    }
+    Some((address - first) / 16)
+}
+
+/// The address of the function with that number, counted from 0.
+fn function_address(number: u32) -> u64
+    ensures { result ≡ place.function_address number }
+{
+    (1 << 62) + 16 * u64::from(number)
+}
+
+/// A pointer to a function: it has no block.
+pub(crate) fn function_pointer(id: FunctionId) -> Scalar
+    ensures { result ≡ Scalar.Ptr (record { block = None; address = place.function_address id }) }
+{
+    Scalar::Ptr(Pointer {
+        block: None,
+        address: function_address(id.number()),
+    })
+}

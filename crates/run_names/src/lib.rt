@@ -1,0 +1,15 @@
+//! What the names of one module mean in a run of it: addresses of its globals, and what stands at an address.
+//!
+//! It stands on `ir_tables`, `type_table`, `module_arena`, `ir_eval`, and the definitions of `linkage_rules` and `run_rules`.
+//! It promises, for a checked module alone, exactly the addresses, bounds, and callees that look-up defines; all is
+//! found by numbers, and building is linear in the module. Definitions: `specs/Told`, `Standings`, `Spots`; `Look`, `Plan` of `run_rules`.
+#![tactic(auto)]
+
+mod callee;
+mod names;
+mod spot;
+mod standing;
+
+pub use callee::CalleeRef;
+pub use names::{Names, names_of};
+pub use spot::Spot;
