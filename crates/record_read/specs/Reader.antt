@@ -30,7 +30,7 @@ is_broken w = is_some (broken_by w)
 abbrev pub IsBroken : Walk → Type 0
 IsBroken w = is_broken w ≡ true
 
--- the least rule that is broken is none, or a greater one
+-- a rule is there, and is no greater than this one
 abbrev pub IsAtMost : ℕ → Option ℕ → Type 0
 IsAtMost limit None = ⊥
 IsAtMost limit (Some rule) = rule ≤ limit
