@@ -1,0 +1,12 @@
+//! The shapes of the types of a table by their ids: what they are but for their parts, their layouts, and their parts.
+//!
+//! It stands on `type_table` and the leaves of `run_rules`. It promises that widths, layouts, elements, fields and offsets
+//! are those of the types written out through the bodies of their structs. Definitions: `specs/Shapes`; `Shape` and `Layout` of
+//! `type_table`, `Leaves` of `run_rules`.
+#![tactic(auto)]
+
+mod form;
+mod part;
+
+pub use form::{Form, form_of, layout_of, parts, width};
+pub use part::{element, element_offset, elements, is_struct};
