@@ -1,5 +1,5 @@
 -- What is done to the newest frame carries an action out.
-use Rattle.std.proofs.Common.{◌≡◌, ℕ, Bool, ◌+◌, ◌<◌, ◌^◌, List, [], ◌∷◌, Result, Ok, Err, refl, sym, ap, ◌∙◌}
+use Rattle.std.proofs.Common.{◌≡◌, ℕ, Bool, List, [], ◌∷◌, Result, Ok, Err, refl, sym, ap, ◌∙◌}
 use Rattle.ir_tables.specs.declared.opcode.Opcode.{Opcode}
 use Rattle.ir_tables.specs.declared.predicate.Predicate.{Predicate}
 use Rattle.ir_tables.specs.declared.undefined_kind.UndefinedKind.{UndefinedKind}
@@ -16,7 +16,7 @@ use Rattle.run_rules.specs.State.{Frame, Due, Core, Goes, goes, fails}
 use Rattle.run_stack.specs.declared.origin.Origin.{Origin}
 use Rattle.run_stack.specs.Origins.{origin_of}
 use Rattle.run_stack.specs.UnderWay.{UnderWay, newest, older, on_newest, changed, IsRunning}
-use Rattle.run_actions.specs.Carried.{core_of, acted, IsCarriedOut, IsUndefined}
+use Rattle.run_actions.specs.Carried.{core_of, IsCarriedOut, IsUndefined}
 use Rattle.run_actions.specs.Operands.{leaf_of}
 
 -- ---- one change after another

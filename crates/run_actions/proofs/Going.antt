@@ -1,12 +1,12 @@
 -- The newest frame goes along a way.
-use Rattle.std.proofs.Common.{◌≡◌, ℕ, suc, zero, ◌<◌, true, false, eqb, List, [], ◌∷◌, map, refl, sym, ap, ◌∙◌, arith}
+use Rattle.std.proofs.Common.{◌≡◌, ℕ, suc, zero, true, false, eqb, List, [], ◌∷◌, map, refl, sym, ap, ◌∙◌, arith}
 use Rattle.std.specs.Prelude.{if◌then◌else◌}
 use Rattle.std.specs.List.{All}
 use Rattle.ir_eval.specs.declared.value.Scalar.{Scalar}
 use Rattle.ir_eval.specs.declared.value.Scalar.TheVariants.{Int, Ptr, Poison}
 use Rattle.ir_tables.specs.declared.undefined_kind.UndefinedKind.TheVariants.{BranchOnPoison}
 use Rattle.run_rules.specs.Act.{branches, switches, case_of}
-use Rattle.run_rules.specs.Action.{Edge, Action, Jump, Branch, Switch}
+use Rattle.run_rules.specs.Action.{Edge, Jump, Branch, Switch}
 use Rattle.run_rules.specs.Frame.{followed}
 use Rattle.run_rules.specs.State.{Frame, Core, goes, fails}
 use Rattle.run_stack.specs.declared.origin.Move.{Move}
