@@ -319,6 +319,7 @@ def towers():
     deep("@x = global ‹{ ptr, [1 x %T63] } zeroinitializer\n" + "\n".join(tower(1, "i32", 64)))
     module("@x = global [1 x %T62] zeroinitializer\n" + "\n".join(tower(1, "i32", 64)))
     deep("define void @f() { %1 = alloca ‹[1 x %T63] ret void }\n" + "\n".join(tower(1, "i32", 64)))
+    deep("declare void @f(ptr, ‹{ i8, %T63 })\n" + "\n".join(tower(1, "i32", 64)))
     deep("‹%U = type { [1 x %T63] }\n" + "\n".join(tower(1, "i32", 64)))
 
 
