@@ -21,6 +21,7 @@ import pathlib
 import sys
 
 sys.dont_write_bytecode = True
+import paths
 
 HEAD = "==== valid\n"
 
@@ -613,6 +614,23 @@ def products():
                   ["define void @h() {\n", (46341, "%v#=add i1 0,0 br label %b# b#:\n"), "ret void }\n"], too_large("@f", 2147516416)))
 
 
+def searched():
+    """V10 of functions whose blocks lead to each other at random, judged by a plain search over paths (tests/paths.py)."""
+    for text, number in paths.cases():
+        CASES.append((text, ACCEPTED if number is None else f"invalid V10 at instruction {number} of @f"))
+
+
+def speeds():
+    """Texts that a judge which compares pairs, or walks for each use, takes long for."""
+    # 46,340 blocks with one value each, one instruction below the limit of products.
+    LARGE.append((chain(46340, 1), ACCEPTED))
+    # 500,000 instructions in one block.
+    LARGE.append((["define i32 @f(i32 %v0) {\n%v=add i32 %v0, 1\n", (499998, "%w#=add i32 %v, %v0\n"), "ret i32 %v\n}\n"], ACCEPTED))
+    # A switch of 100,000 cases to one block, with a phi of 100,001 entries.
+    LARGE.append((["define i32 @f(i32 %c) {\na:switch i32 %c, label %b [\n", (100000, "i32 #, label %b\n"), "]\nb:%v=phi i32 [ 1, %a ]\n",
+                   (100000, ", [ 1, %a ]\n"), "ret i32 %v\n}\n"], ACCEPTED))
+
+
 def programs():
     """What clang 19 prints for forty C programs, at -O0 and at -O2 (tests/programs)."""
     for text in sorted((pathlib.Path(__file__).resolve().parent / "programs").glob("*.ll")):
@@ -620,7 +638,7 @@ def programs():
 
 
 TABLES = [worked, layouts, linkages, commons, appending, intrinsics, types, alignments, entries, phis, definedness, written, arithmetic, casts,
-          addresses, indices, aggregates, calls, constants, aliases, places, orders, products, programs]
+          addresses, indices, aggregates, calls, constants, aliases, places, orders, searched, products, speeds, programs]
 
 
 def script(text):
