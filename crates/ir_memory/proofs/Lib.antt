@@ -9,3 +9,4 @@ mod Changed
 mod Writes
 mod Places
 mod Answering
+mod Numbers

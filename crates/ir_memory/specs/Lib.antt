@@ -7,3 +7,4 @@ pub mod Answer
 pub mod Find
 pub mod Seen
 pub mod Lending
+pub mod Numbered

@@ -148,7 +148,7 @@ impl Memory {
         let block = self.kept.get(index);
         self.live -= block.size;
         forget(&mut self.starts, block.start);
-        end(self.alloc, &mut self.kept, &mut self.pieces, index);
+        end(&mut self.kept, &mut self.pieces, index);
         Ok(())
     }
 
@@ -351,7 +351,7 @@ fn write_leaf(
 }
 
 /// Ends a live block: its bytes and the pieces in it are given up.
-fn end(alloc: Global, kept: &mut Table, pieces: &mut Pieces, index: usize)
+fn end(kept: &mut Table, pieces: &mut Pieces, index: usize)
     requires index { index < length kept.old }
     requires live { (d : Kept) → (slice_index_or kept.old index d).live ≡ true }
     requires sound { (next : ℕ) × IsSound (at pieces.old) kept.old next }
@@ -362,7 +362,7 @@ fn end(alloc: Global, kept: &mut Table, pieces: &mut Pieces, index: usize)
     let from = block.start;
     let to = from + block.size;
     clear(pieces, block.mixed, from, to);
-    kept.end(alloc, index);
+    kept.end(index);
 }
 
 /// The least multiple of an alignment that is not below a number.

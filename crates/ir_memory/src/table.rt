@@ -1,26 +1,37 @@
 //! All blocks by their numbers.
-ghost use Rattle.std.specs.Prelude.{◌≡◌, ◌<◌, ◌++◌, ◌∷◌, [], length, slice_index_or, slice_set, OnOk, OnErr};
+ghost use Rattle.std.specs.Prelude.{◌≡◌, ◌<◌, ◌++◌, ◌∷◌, [], length, slice_index_or, slice_set, true, OnOk, OnErr};
 ghost use Rattle.ir_memory.specs.Seen.{ended_block};
 ghost use Rattle.ir_memory.specs.Lending.{LendsBlock};
+ghost use Rattle.ir_memory.specs.declared.kept.KeptBlock.{KeptBlock as Kept};
 ghost use Rattle.std.specs.Borrow.{sem};
 
 use crate::kept::KeptBlock;
 use std::alloc::{AllocError, Global};
+use std::collections::BTreeMap;
 use std::marker::Model;
 
-/// The blocks of a run by their numbers, counted from 0.
+/// The blocks of a run by their numbers, counted from 0. Of those that have ended nothing is kept: one row
+/// stands for each of them.
 #[derive(Drop)]
 pub struct Table {
-    blocks: Vec<KeptBlock>,
+    kept: BTreeMap<usize, KeptBlock>,
+    ended: KeptBlock,
+    count: usize,
 }
 
 impl Model for Table {
-    ghost use Rattle.std.specs.Prelude.{List};
+    ghost use Rattle.std.specs.Prelude.{◌≡◌, List};
+    ghost use Rattle.std.specs.Ordering.{nat_cmp};
+    ghost use Rattle.std.specs.BTreeMap as tree;
     ghost use Rattle.ir_memory.specs.declared.kept.KeptBlock.{KeptBlock};
+    ghost use Rattle.ir_memory.specs.Seen.{ended_block};
+    ghost use Rattle.ir_memory.specs.Numbered.{numbered};
 
     ghost Value = { List KeptBlock };
 
-    ghost view = { λ t. t.blocks.items };
+    ghost view = { λ t. numbered t.count (tree.get nat_cmp t.kept) };
+
+    ghost invariant = { λ t. t.ended ≡ ended_block };
 }
 
 impl Table {
@@ -29,7 +40,9 @@ impl Table {
         ensures { result ≡ [] }
     {
         Table {
-            blocks: Vec::new(alloc),
+            kept: BTreeMap::new(alloc),
+            ended: KeptBlock::ended(alloc),
+            count: 0,
         }
     }
 
@@ -37,7 +50,7 @@ impl Table {
     pub fn len(&self) -> usize
         ensures { result ≡ length self.now }
     {
-        self.blocks.len()
+        self.count
     }
 
     /// Adds a block behind all others. Where memory is refused, nothing changes.
@@ -45,7 +58,9 @@ impl Table {
         ensures pushed { OnOk result (self.new ≡ self.old ++ block ∷ []) }
         ensures err { OnErr result (self.new ≡ self.old) }
     {
-        self.blocks.push(block)?;
+        let count = self.count.checked_add(1).ok_or(AllocError)?;
+        self.kept.insert(self.count, block)?;
+        self.count = count;
         Ok(())
     }
 
@@ -54,23 +69,27 @@ impl Table {
         requires { index < length self.now }
         ensures { result.now ≡ slice_index_or self.now index result.now }
     {
-        &self.blocks[index]
+        match self.kept.get(&index) {
+            Some(block) => block,
+            None => &self.ended,
+        }
     }
 
-    /// The block of a number, to be changed.
+    /// The live block of a number, to be changed.
     pub fn get_mut(&mut self, index: usize) -> &mut KeptBlock
-        requires { index < length self.old }
+        requires index { index < length self.old }
+        requires live { (d : Kept) → (slice_index_or self.old index d).live ≡ true }
         ensures* writes_back { sem 𝓛 (LendsBlock self.entry index result) }
         ensures value { result.now ≡ slice_index_or self.old index result.now }
     {
-        &mut self.blocks[index]
+        self.kept.get_mut(&index).unwrap()
     }
 
-    /// Ends the block of a number: its bytes are given up.
-    pub fn end(&mut self, alloc: Global, index: usize)
+    /// Ends the block of a number: nothing of it is kept.
+    pub fn end(&mut self, index: usize)
         requires { index < length self.old }
         ensures { self.new ≡ slice_set self.old index ended_block }
     {
-        self.blocks[index] = KeptBlock::ended(alloc);
+        let _ended = self.kept.remove(&index);
     }
 }
