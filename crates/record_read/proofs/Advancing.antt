@@ -1,14 +1,14 @@
 -- What is given in front of the pieces of a tree.
-use Rattle.std.proofs.Common.{◌≡◌, ◌≤◌, ◌<◌, ◌+◌, ◌-◌, ℕ, suc, Bool, true, false, nat_eq, List, [], ◌∷◌, ◌++◌, length, Option, Some, None, refl, sym, ap, subst, ◌∙◌, arith}
+use Rattle.std.proofs.Common.{◌≡◌, ℕ, suc, Bool, true, false, nat_eq, List, [], ◌∷◌, ◌++◌, None, refl, sym, ap, subst, ◌∙◌}
 use Rattle.std.proofs.lemmas.List.{append_assoc}
 use Rattle.bit_stream.specs.Abbreviation.{Template}
 use Rattle.bit_tree.specs.Pieces.{Piece, begun, ended, defines, holds, flat}
 use Rattle.bit_tree.specs.Stream.{Tree, nothing, block, definition, values}
 use Rattle.record_table.specs.Walk.{going}
-use Rattle.record_table.specs.Faults.{Records, no_more, a_block, a_record, records}
+use Rattle.record_table.specs.Faults.{Records, records}
 use Rattle.record_read.specs.declared.entry.Entry.TheVariants.{Block, Record, End}
 use Rattle.record_read.specs.Reader.{Reader}
-use Rattle.record_read.specs.Entries.{IsBefore, IsInside, IsEnd, IsOver, Gives}
+use Rattle.record_read.specs.Entries.{IsBefore, IsEnd, IsOver, Gives}
 
 -- an end is no other piece
 no_begun : (others rest : List Piece) (id width words : ℕ) → IsEnd others → begun id width words ∷ rest ≡ others → ⊥

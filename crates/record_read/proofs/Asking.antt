@@ -1,7 +1,6 @@
 -- What rules that are asked do to a walk that breaks one already.
-use Rattle.std.proofs.Common.{◌≡◌, ◌≤◌, ◌<◌, ℕ, zero, suc, min, Bool, true, false, List, [], ◌∷◌, Option, Some, None, nat_lt, refl, sym, ap, ◌∙◌, arith}
-use Rattle.std.proofs.lemmas.Bool.{ltb-true}
-use Rattle.record_table.specs.Walk.{Walk, going, stopped, least, ask, break, next}
+use Rattle.std.proofs.Common.{◌≡◌, ◌≤◌, ◌<◌, ℕ, min, Bool, true, false, List, [], ◌∷◌, Option, Some, None, refl, sym, ap, ◌∙◌, arith}
+use Rattle.record_table.specs.Walk.{Walk, going, stopped, ask, break, next}
 use Rattle.record_read.specs.Reader.{IsBroken, IsBrokenBy, IsReader, walk_of, is_broken, is_stopped}
 
 least_some : (rule limit r : ℕ) → limit < rule → r ≤ limit → min rule r ≡ r

@@ -1,12 +1,9 @@
 -- How blocks are closed piece by piece: what is left of so many blocks that are open.
-use Rattle.std.proofs.Common.{◌≡◌, ◌<◌, ◌+◌, ◌-◌, ℕ, zero, suc, Bool, true, false, List, [], ◌∷◌, ◌++◌, length, Option, Some, None, refl, sym, ap, ◌∙◌, arith}
+use Rattle.std.proofs.Common.{◌≡◌, ◌<◌, ◌+◌, ◌-◌, ℕ, Bool, List, [], ◌∷◌, ◌++◌, length, refl, sym, ◌∙◌, arith}
 use Rattle.std.proofs.lemmas.List.{append_assoc}
 use Rattle.bit_tree.specs.Pieces.{Piece, begun, ended, defines, holds, flat}
 use Rattle.bit_stream.specs.Abbreviation.{Template}
 use Rattle.bit_tree.specs.Stream.{Tree, nothing, block, definition, values}
-use Rattle.bit_walk.specs.Walker.{Walker, Gave, piece_of}
-use Rattle.bit_walk.specs.declared.event.Event.{Event}
-use Rattle.bit_walk.specs.declared.event.Event.TheVariants.{Begun, Ended, Defined, Held}
 
 -- the pieces of these trees, each with the end of its block, and then others
 abbrev pub closing : List Tree → List Piece → List Piece

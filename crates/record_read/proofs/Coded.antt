@@ -1,5 +1,5 @@
 -- Codes as they are read, and codes that no table has.
-use Rattle.std.proofs.Common.{◌≡◌, ◌≤◌, ◌<◌, ℕ, Bool, true, false, not, ◌||◌, List, Option, Some, None, nat_lt, slice_index_or, refl, sym, ap, subst, ◌∙◌, arith}
+use Rattle.std.proofs.Common.{◌≡◌, ◌≤◌, ℕ, true, false, not, ◌||◌, Option, Some, None, nat_lt, slice_index_or, refl, sym, ap, subst, ◌∙◌, arith}
 use Rattle.std.proofs.lemmas.Bool.{ne_eqb, and_from, and_parts, both_ways, lt-ltb}
 use Rattle.std.specs.List.{list_all}
 use Rattle.ir_tables.specs.declared.opcode.Opcode.{Opcode}

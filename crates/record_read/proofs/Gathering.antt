@@ -1,14 +1,13 @@
 -- Bytes and indices as a loop gathers them, against what stands in the operands.
-use Rattle.std.proofs.Common.{◌≡◌, ◌⊎◌, ◌<◌, ◌≤◌, ◌+◌, ◌-◌, ◌^◌, ℕ, zero, suc, Bool, true, false, not, ◌&&◌, ◌==◌, cond, inl, inr, List, [], ◌∷◌, ◌++◌, Option, Some, None, nat_lt, length, refl, sym, ap, ◌∙◌, arith}
-use Rattle.std.specs.List.{list_all}
+use Rattle.std.proofs.Common.{◌≡◌, ◌⊎◌, ◌<◌, ◌+◌, ◌-◌, ℕ, Bool, true, false, not, ◌&&◌, cond, inl, inr, List, [], ◌∷◌, ◌++◌, Option, Some, None, nat_lt, refl, sym, ap, ◌∙◌, arith}
 use Rattle.std.proofs.lemmas.Bool.{ltb-true, ltb-false, and_parts, and_cases, not-true, not-false}
 use Rattle.record_table.specs.Walk.{Walk, going, stopped, ask, next, left}
-use Rattle.record_table.specs.Layout.{number, many, times, to_end, is_positive}
-use Rattle.record_table.specs.Fields.{byte, index}
-use Rattle.record_read.specs.Reader.{Reader, Reads, Takes, TakesBy, IsBrokenBy, is_broken, is_stopped}
+use Rattle.record_table.specs.Layout.{number, times, to_end}
+use Rattle.record_table.specs.Fields.{byte}
+use Rattle.record_read.specs.Reader.{Reader, Reads, Takes, TakesBy, IsBrokenBy, is_stopped}
 use Rattle.record_read.specs.Fields.{PushesByte, ReadsBytes, are_bytes}
 use Rattle.record_read.proofs.Asking.{still_by, next_by, asked_in_vain}
-use Rattle.record_read.proofs.Repeated.{IsSoFar, IsAll, begins, more, over}
+use Rattle.record_read.proofs.Repeated.{IsSoFar, begins, more, over}
 
 -- one more byte of a text, or a number that is none
 pub record ReadsByte (before : Reader) (text : List ℕ) (is : Bool) (after : Reader) (now : List ℕ) : Type 0 where

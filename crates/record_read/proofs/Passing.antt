@@ -1,5 +1,5 @@
 -- What a walker leaves while a block is passed over, and that what it gives is less.
-use Rattle.std.proofs.Common.{◌≡◌, ◌≤◌, ◌<◌, ◌+◌, ◌-◌, ℕ, Bool, true, false, List, [], ◌∷◌, ◌++◌, length, Option, Some, None, Result, Ok, Err, refl, sym, ap, ◌∙◌, arith}
+use Rattle.std.proofs.Common.{◌≡◌, ◌≤◌, ◌<◌, ◌+◌, ◌-◌, ℕ, Bool, true, false, List, ◌∷◌, ◌++◌, length, Option, Some, None, Ok, arith}
 use Rattle.bit_tree.specs.Pieces.{Piece, ended, flat}
 use Rattle.bit_tree.specs.Stream.{Tree}
 use Rattle.bit_walk.specs.Walker.{Walker, Gave, Walks, piece_of}

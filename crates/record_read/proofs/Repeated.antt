@@ -1,13 +1,9 @@
 -- So many values one behind the other, as a loop reads them: what is read so far, and what is still to come.
-use Rattle.std.proofs.Common.{◌≡◌, ◌⊎◌, ◌<◌, ◌+◌, ◌-◌, ◌^◌, ℕ, zero, suc, Bool, true, false, List, [], ◌∷◌, ◌++◌, Option, Some, None, nat_lt, cond, length, inl, inr, refl, sym, ap, subst, ◌∙◌, arith}
+use Rattle.std.proofs.Common.{◌≡◌, ◌⊎◌, ◌+◌, ℕ, zero, suc, true, false, List, [], ◌∷◌, ◌++◌, Option, inl, inr, refl, sym, subst, ◌∙◌, arith}
 use Rattle.std.proofs.lemmas.List.{append_assoc, append-nil}
-use Rattle.std.proofs.lemmas.Bool.{ltb-true, lt-ltb}
-use Rattle.record_table.specs.Walk.{Walk, going, stopped, ask, next, left}
+use Rattle.record_table.specs.Walk.{Walk, going, stopped}
 use Rattle.record_table.specs.Layout.{many}
-use Rattle.record_table.specs.Fields.{byte, index}
-use Rattle.record_read.specs.Reader.{Reader, Reads, Takes, IsBroken, IsBrokenBy, is_broken, is_stopped}
-use Rattle.record_read.specs.Fields.{PushesByte, are_bytes}
-use Rattle.record_read.proofs.Asking.{still_by, next_by, asked_in_vain}
+use Rattle.record_read.specs.Reader.{is_stopped}
 
 -- these are read, and so many are to come
 pub record IsSoFar {A : Type 0} (one : Walk → A × Walk) (first : Walk) (count : ℕ) (xs : List A) (n : ℕ) (now : Walk) : Type 0 where

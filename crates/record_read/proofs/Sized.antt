@@ -1,14 +1,14 @@
 -- Texts at an offset of the string table, and names.
-use Rattle.std.proofs.Common.{◌≡◌, ◌<◌, ◌≤◌, ◌+◌, ℕ, zero, suc, Bool, true, false, not, List, [], ◌∷◌, Option, Some, None, nat_le, length, refl, sym, ap, ◌∙◌, arith}
+use Rattle.std.proofs.Common.{◌≡◌, ◌<◌, ◌+◌, ℕ, zero, suc, true, false, [], Option, Some, None, refl, sym, ap, ◌∙◌, arith}
 use Rattle.module_arena.specs.declared.entry.LocalName as the_local
 use Rattle.module_arena.specs.declared.entry.LocalName.TheVariants as local
-use Rattle.module_arena.specs.Module.{Bytes, LocalName, Named, Numbered}
-use Rattle.record_table.specs.Walk.{Walk, going, stopped, ask, break, next}
+use Rattle.module_arena.specs.Module.{Bytes, Named}
+use Rattle.record_table.specs.Walk.{Walk, ask, next}
 use Rattle.record_table.specs.Layout.{Layout, number, many, times}
-use Rattle.record_table.specs.Fields.{Texts, label, label_by, is_name, is_label, called, version_1, byte}
+use Rattle.record_table.specs.Fields.{Texts, label, label_by, is_name, version_1, byte}
 use Rattle.record_table.specs.StringTable.{beyond, is_within, text_at, read_only, label_at}
 use Rattle.record_read.specs.Reader.{Reader, Reads, ReadsAs, IsBroken, is_broken}
-use Rattle.record_read.specs.Fields.{IsTextAt, IsTextKept, IsNamed, IsLocalNamed, ReadsText, ReadsBytes, IsLocal, are_bytes, IsBeyond}
+use Rattle.record_read.specs.Fields.{IsTextAt, IsTextKept, IsNamed, IsLocalNamed, ReadsText, ReadsBytes, IsLocal, IsBeyond}
 use Rattle.record_read.proofs.Asking.{tells_no_more, is_broken_by}
 
 -- a text that passes the end of the table

@@ -1,5 +1,5 @@
 -- For `RecordReader::next`: the blocks and records of a tree, one behind another; BLOCKINFO and definitions are passed over.
-use Rattle.std.specs.Prelude.{◌≡◌, ◌≤◌, ◌<◌, ℕ, suc, length, true, false, List, [], ◌∷◌, ◌++◌, Result, Ok, Err, None}
+use Rattle.std.specs.Prelude.{◌≡◌, ◌≤◌, ◌<◌, suc, length, true, false, List, [], ◌∷◌, ◌++◌, Result, Ok, Err, None}
 use Rattle.bit_tree.specs.Pieces.{Piece, ended, flat}
 use Rattle.bit_tree.specs.Stream.{Tree}
 use Rattle.record_table.specs.Walk.{going}
@@ -44,13 +44,13 @@ abbrev pub IsNearer : Entry → List Piece → List Piece → Type 0
 IsNearer End old new = Unit {0}
 IsNearer _ old new = length new < length old
 
--- the same in front of any blocks and records; or memory ran out
+-- the same in front of any blocks and records; or memory ran out, and the reader is spent
 abbrev pub Advances : {E : Type 0} → Reader → Result Entry E → Reader → Type 0
 Advances old (Ok entry) new = (new.spent ≡ false) × IsNearer entry old.left new.left × ((all : Records) (others : List Piece) → IsBefore old.left all others → Gives all old entry new others)
-Advances old (Err e) new = Unit {0}
+Advances old (Err e) new = new.spent ≡ true
 
--- what is left of a block was passed over, with its end; or memory ran out
+-- what is left of a block was passed over, with its end; or memory ran out, and the reader is spent
 abbrev pub Passes : {E : Type 0} → Reader → Result (Unit {0}) E → Reader → Type 0
 Passes old (Ok done) new = (new.spent ≡ false) × (new.at ≡ old.at) × (length new.left ≤ length old.left)
     × ((inside : Records) (others : List Piece) → IsBefore old.left inside (ended ∷ others) → new.left ≡ others)
-Passes old (Err e) new = Unit {0}
+Passes old (Err e) new = new.spent ≡ true

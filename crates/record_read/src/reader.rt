@@ -1,5 +1,5 @@
 //! A reader of records.
-ghost use Rattle.std.specs.Prelude.{◌≡◌, ◌≤◌, ◌<◌, ◌+◌, ◌^◌, ◌&&◌, not, nat_lt, true, false, [], length, IfOk};
+ghost use Rattle.std.specs.Prelude.{◌≡◌, ◌≤◌, ◌<◌, ◌+◌, ◌^◌, ◌&&◌, not, nat_lt, true, false, [], length, IfOk, OnOk, OnErr};
 ghost use Rattle.bit_tree.specs.Read.{IsStream};
 ghost use Rattle.bit_tree.specs.Stream.{Tree, Stream};
 ghost use Rattle.record_table.specs.Walk as walk;
@@ -18,7 +18,7 @@ use std::marker::Model;
 /// A reader over the blocks and records of a judged stream, in order.
 ///
 /// It holds no operands: those of a record are read as they are taken. Where one breaks a rule, the reading goes on as long
-/// as what follows is known, so that the least rule of the record is told.
+/// as what follows is known, so that the least rule of the record is told. After want of memory the reader is spent.
 #[derive(Drop)]
 pub struct RecordReader<'b> {
     walker: Walker<'b>,
@@ -28,23 +28,32 @@ pub struct RecordReader<'b> {
     broken: Option<u8>,
     /// How many records were given.
     at: u64,
+    /// Whether there were more pieces than can be counted.
+    overrun: bool,
 }
 
 impl<'b> Model for RecordReader<'b> {
+    ghost use Rattle.std.specs.Prelude.{◌||◌};
     ghost use Rattle.record_read.specs.Reader.{Reader, IsReader, walk_of};
 
     ghost Value = { Reader };
 
     ghost invariant = { λ r. IsReader r.stopped r.broken };
 
-    ghost view = { λ r. record { spent = r.walker.spent; left = r.walker.left; walk = walk_of r.stopped r.broken r.walker.operands; at = r.at } };
+    ghost view = { λ r. record { spent = r.overrun || r.walker.spent; left = r.walker.left; walk = walk_of r.stopped r.broken r.walker.operands; at = r.at } };
 }
 
-/// One more, where so many can be counted: there are not as many in a stream that memory holds.
-fn one_more(count: u64) -> Result<u64, AllocError>
-    ensures { IfOk result (λ more. more ≡ count + 1) }
+/// One more, where so many can be counted; else this is noted. There are not as many in a stream that memory holds.
+fn one_more(count: u64, overrun: &mut bool) -> Result<u64, AllocError>
+    ensures more { IfOk result (λ more. more ≡ count + 1) }
+    ensures stays { OnOk result (overrun.new ≡ overrun.old) }
+    ensures noted { OnErr result (overrun.new ≡ true) }
 {
-    count.checked_add(1).ok_or(AllocError)
+    if count == u64::MAX {
+        *overrun = true;
+        return Err(AllocError);
+    }
+    Ok(count + 1)
 }
 
 impl<'b> RecordReader<'b> {
@@ -61,6 +70,7 @@ impl<'b> RecordReader<'b> {
             stopped: false,
             broken: None,
             at: 0,
+            overrun: false,
         }
     }
 
@@ -72,7 +82,7 @@ impl<'b> RecordReader<'b> {
     }
 
     /// What stands next in the innermost open block, or in the stream. Operands of the record before that were not taken
-    /// are passed over, and so are definitions, and BLOCKINFO with what it holds.
+    /// are passed over, and so are definitions, and BLOCKINFO with what it holds. After want of memory the reader is spent.
     pub fn next(&mut self) -> Result<Entry, AllocError>
         requires { self.old.spent ≡ false }
         ensures { Advances self.old result self.new }
@@ -82,7 +92,7 @@ impl<'b> RecordReader<'b> {
                 Some(Event::Begun(head)) if head.id == 0 => self.pass_block()?,
                 Some(Event::Begun(head)) => return Ok(Entry::Block(head.id)),
                 Some(Event::Held(head)) => {
-                    self.at = one_more(self.at)?;
+                    self.at = one_more(self.at, &mut self.overrun)?;
                     self.stopped = false;
                     self.broken = None;
                     return Ok(Entry::Record(head.code));
@@ -94,7 +104,8 @@ impl<'b> RecordReader<'b> {
         }
     }
 
-    /// Goes past what is left of the innermost open block, blocks in it included.
+    /// Goes past what is left of the innermost open block, blocks in it included. Of the records that it passes none is
+    /// counted. After want of memory the reader is spent.
     pub fn pass_block(&mut self) -> Result<(), AllocError>
         requires { self.old.spent ≡ false }
         ensures { Passes self.old result self.new }
@@ -103,7 +114,7 @@ impl<'b> RecordReader<'b> {
         'pieces: while unclosed > 0 {
             match self.walker.next()? {
                 Some(Event::Begun(_)) => {
-                    unclosed = one_more(unclosed)?;
+                    unclosed = one_more(unclosed, &mut self.overrun)?;
                 }
                 Some(Event::Ended) => unclosed -= 1,
                 Some(Event::Held(_)) => {}
@@ -122,7 +133,7 @@ impl<'b> RecordReader<'b> {
     }
 
     /// What holds of a reader: it stops only where a rule is broken.
-    pub(crate) fn stops_where_broken(&self)
+    pub fn stops_where_broken(&self)
         ensures { is_stopped self.now.walk ≡ true → is_broken self.now.walk ≡ true }
     {
         let _stopped = self.stopped;

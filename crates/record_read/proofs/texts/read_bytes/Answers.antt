@@ -1,4 +1,4 @@
-use Rattle.std.proofs.Common.{rules, ◌≡◌, ◌+◌, ◌-◌, false, true, sym, ◌∙◌, arith}
+use Rattle.std.proofs.Common.{rules, ◌≡◌, ◌+◌, ◌-◌, false, true, sym, arith}
 use Rattle.std.proofs.lemmas.Bool.{not-true, not-false}
 use Rattle.record_read.proofs.Gathering.{numbered, byte_kept, byte_lost, bytes_are, loop_goes, loop_ends}
 use Rattle.record_read.proofs.texts.read_bytes.Goals as goal

@@ -1,5 +1,4 @@
-use Rattle.std.proofs.Common.{◌≡◌, ◌-◌, refl, sym, ap, ◌∙◌, arith}
-use Rattle.record_read.specs.Reader.{Reader}
+use Rattle.std.proofs.Common.{◌-◌, arith}
 use Rattle.record_read.proofs.Sized.{inline_label_none, inline_label}
 use Rattle.record_read.proofs.texts.read_inline_label.Goals as goal
 

@@ -1,6 +1,6 @@
-use Rattle.std.proofs.Common.{rules, ◌≡◌, ◌+◌, false, true, inl, sym, ap, ◌∙◌, arith}
+use Rattle.std.proofs.Common.{rules, ◌≡◌, ◌+◌, false, true, sym, ap, ◌∙◌}
 use Rattle.std.proofs.lemmas.Bool.{not-true, not-false}
-use Rattle.record_read.proofs.Gathering.{numbered, taken, none_taken, pushed_left, byte_kept, byte_lost, bytes_are, rest_are}
+use Rattle.record_read.proofs.Gathering.{numbered, taken, pushed_left, byte_kept, byte_lost, rest_are}
 use Rattle.record_read.proofs.texts.read_rest.Goals as goal
 
 pub bytes-preserved-then-not-branch : goal.bytes-preserved-then-not-branch

@@ -1,4 +1,4 @@
-use Rattle.std.proofs.Common.{◌≡◌, ◌-◌, refl, sym, ap, ◌∙◌, arith}
+use Rattle.std.proofs.Common.{◌-◌, arith}
 use Rattle.record_read.proofs.Sized.{table_label_none, table_label}
 use Rattle.record_read.proofs.texts.read_table_label.Goals as goal
 
