@@ -1,0 +1,9 @@
+//! The ends that a run can have once it has begun.
+//!
+//! It stands on the definitions of `run_rules`. It promises that no step of a run ends it for a name that is missing or for want of main:
+//! these are ends of opening alone. Definitions: `specs/Ends`, `specs/Laws`.
+#![tactic(auto)]
+
+mod law;
+
+pub use law::runs_end_so;
