@@ -16,6 +16,23 @@ pub fn spelled(bytes: &[u8]) -> u128
     ensures value { result ≡ spelled bytes.now }
     ensures fits { result < 256 ^ length bytes.now }
 {
+    match bytes.len() {
+        1 => u128::from(bytes[0]),
+        2 => u128::from(u16::from_le_bytes([bytes[0], bytes[1]])),
+        4 => u128::from(u32::from_le_bytes([bytes[0], bytes[1], bytes[2], bytes[3]])),
+        8 => u128::from(u64::from_le_bytes([
+            bytes[0], bytes[1], bytes[2], bytes[3], bytes[4], bytes[5], bytes[6], bytes[7],
+        ])),
+        _ => spelled_in_turn(bytes),
+    }
+}
+
+/// The number that bytes spell, one after the other.
+fn spelled_in_turn(bytes: &[u8]) -> u128
+    requires { length bytes.now ≤ 16 }
+    ensures value { result ≡ spelled bytes.now }
+    ensures fits { result < 256 ^ length bytes.now }
+{
     let mut number = 0;
     let mut left = bytes.len();
     while left > 0 {
@@ -27,6 +44,20 @@ pub fn spelled(bytes: &[u8]) -> u128
 
 /// Writes a number over bytes.
 pub fn spell(bytes: &mut [u8], number: u128)
+    requires { length bytes.old ≤ 16 }
+    ensures { bytes.new ≡ digits (length bytes.old) number }
+{
+    match bytes.len() {
+        1 => bytes[0] = digit(number, 0),
+        2 => bytes.copy_from_slice(&((number % (1 << 16)) as u16).to_le_bytes()),
+        4 => bytes.copy_from_slice(&((number % (1 << 32)) as u32).to_le_bytes()),
+        8 => bytes.copy_from_slice(&((number % (1 << 64)) as u64).to_le_bytes()),
+        _ => spell_in_turn(bytes, number),
+    }
+}
+
+/// Writes a number over bytes, one after the other.
+fn spell_in_turn(bytes: &mut [u8], number: u128)
     requires { length bytes.old ≤ 16 }
     ensures { bytes.new ≡ digits (length bytes.old) number }
 {

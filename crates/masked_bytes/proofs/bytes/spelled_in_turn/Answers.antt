@@ -1,6 +1,6 @@
 use Rattle.std.proofs.Common.{◌-◌, ◌+◌, ◌*◌, ap, ◌∙◌, sym, arith}
 use Rattle.masked_bytes.proofs.Numbers.{spelled-step, below_more, times_fits}
-use Rattle.masked_bytes.proofs.bytes.spelled.Goals as goal
+use Rattle.masked_bytes.proofs.bytes.spelled_in_turn.Goals as goal
 
 pub overflow_mul-number : goal.overflow_mul-number
 overflow_mul-number c =
