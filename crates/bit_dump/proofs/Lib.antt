@@ -1,3 +1,4 @@
 pub mod Sinks
+mod Spilling
 pub mod Telling
 pub mod Told

@@ -6,10 +6,10 @@ use Rattle.bit_tree.specs.Stream.{Tree, Stream}
 use Rattle.bit_tree.specs.Pieces.{Piece, flat}
 use Rattle.bit_dump.specs.Text.{dump_text, summary}
 use Rattle.bit_dump.specs.Outline.{Outline, nothing_told, after, told, with_more, after_head, after_operand, after_operands, after_record, emptied, summed, front}
-use Rattle.bit_dump.specs.Telling.{Tells, TookFront, Tried}
+use Rattle.bit_dump.specs.Telling.{Tells, TookFront, Tried, Finished}
 use Rattle.bit_dump.specs.declared.fault.DumpFault.{DumpFault}
 use Rattle.bit_dump.specs.declared.fault.DumpFault.TheVariants.{Bit, WriteFault, Memory}
-use Rattle.bit_dump.specs.Dumped.{WroteFront, Finished, Dumped}
+use Rattle.bit_dump.specs.Dumped.{WroteFront, Dumped}
 use Rattle.bit_dump.proofs.Told.{after_front, grown, grows, more_front, head_front, operands_grow, record_told, summed_is}
 use Rattle.bit_dump.proofs.Sinks.{added_none, added_both, front_is}
 
@@ -149,9 +149,9 @@ halts bytes whole before now later left others p o new WriteFault h is tried = w
 halts bytes whole before now later left others p o new Memory h is tried = inr (wrote_front bytes whole before later (after h.all p) others h.tree h.stream (rw is at h.are) tried)
 
 -- the whole stream was passed, and of its text this line is still to be written
-pub closes : (bytes : List ℕ) (whole : Bool) (before now later : Option (List ℕ)) (faults_before faults_now : ℕ) (o : Outline) (left : List Piece) (result : Result (Unit {0}) DumpFault) → IsTold bytes whole before now left o → left ≡ [] → Finished now later faults_before faults_now (summed o).text result → Dumped bytes whole before later result
+pub closes : (bytes : List ℕ) (whole : Bool) (before now later : Option (List ℕ)) (o : Outline) (left : List Piece) (result : Result (Unit {0}) DumpFault) → IsTold bytes whole before now left o → left ≡ [] → Finished now later (summed o).text result → Dumped bytes whole before later result
 unfolding told
-closes bytes whole before now later faults_before faults_now o left result h none k = by_result result k where
+closes bytes whole before now later o left result h none k = by_result result k where
   last : h.all ≡ told (nothing_told whole) (flat h.tree)
   last = rw none at h.are
 
@@ -165,8 +165,8 @@ closes bytes whole before now later faults_before faults_now o left result h non
       let all : dump_text h.tree whole ≡ (h.tells.written ++ (summed o).text) ++ [] = text ∙ sym (append-nil (h.tells.written ++ (summed o).text)) in
       record { tree = h.tree; stream = h.stream; count = length h.tells.written + count; added = rw (all, ← front) both }
 
-  by_result : (result : Result (Unit {0}) DumpFault) → Finished now later faults_before faults_now (summed o).text result → Dumped bytes whole before later result
+  by_result : (result : Result (Unit {0}) DumpFault) → Finished now later (summed o).text result → Dumped bytes whole before later result
   by_result (Ok done) k = (h.tree, h.stream, rw text (added_both before now later h.tells.written (summed o).text h.tells.added k))
   by_result (Err (Bit fault)) k = absurd k
   by_result (Err WriteFault) k = took k.count k.within k.added
-  by_result (Err Memory) k = inr (wants_more bytes whole before later left o (rw k h))
+  by_result (Err Memory) k = inr (took k.count k.within k.added)

@@ -1,6 +1,6 @@
 -- What `dump` answers and what it leaves its sink with.
 use Rattle.std.specs.Prelude.{◌≡◌, ◌⊎◌, ℕ, Bool, List, take, Option, Some, Result, Ok, Err}
-use Rattle.ir_base.specs.Outside.{Added, Rose, Wrote}
+use Rattle.ir_base.specs.Outside.{Added, Rose}
 use Rattle.bit_tree.specs.Stream.{Tree, Stream, stream_fault}
 use Rattle.bit_dump.specs.declared.fault.DumpFault.{DumpFault}
 use Rattle.bit_dump.specs.declared.fault.DumpFault.TheVariants.{Bit, WriteFault, Memory}
@@ -27,10 +27,3 @@ Counted before now (Ok done) = now ≡ before
 Counted before now (Err (Bit fault)) = now ≡ before
 Counted before now (Err WriteFault) = Rose before now
 Counted before now (Err Memory) = now ≡ before
-
--- the last line was added, or a front of it, or nothing where memory ran out
-abbrev pub Finished : Option (List ℕ) → Option (List ℕ) → ℕ → ℕ → List ℕ → Result (Unit {0}) DumpFault → Type 0
-Finished before now faults_before faults_now line (Ok done) = Added before now line
-Finished before now faults_before faults_now line (Err (Bit fault)) = ⊥
-Finished before now faults_before faults_now line (Err WriteFault) = Wrote before now faults_before faults_now line
-Finished before now faults_before faults_now line (Err Memory) = now ≡ before

@@ -1,9 +1,15 @@
 //! How many blocks, records and definitions there are.
-ghost use Rattle.std.specs.Prelude.{◌≡◌, ◌+◌, ◌++◌, IfOk, OnOk, string_bytes};
-ghost use Rattle.bit_dump.specs.Text.{summary};
+ghost use Rattle.std.specs.Prelude.{◌≡◌, ◌+◌, IfOk, OnOk, string_bytes};
+ghost use Rattle.std.specs.List.{flat_map};
+ghost use Rattle.bit_dump.specs.Dumped.{Counted};
+ghost use Rattle.bit_dump.specs.Telling.{Spilled};
+ghost use Rattle.bit_dump.specs.Text.{row_line, summary};
 ghost use Rattle.bit_dump.specs.Tally.{no_counts, no_tally, one_more, counts_of, with_one, counted};
 
-use crate::text::{put_row, put_total};
+use crate::DumpFault;
+use crate::summary::tell_row;
+use crate::text::put_total;
+use ir_base::Sink;
 use std::alloc::{AllocError, Global};
 use std::collections::BTreeMap;
 use std::marker::Model;
@@ -11,9 +17,9 @@ use std::marker::Model;
 /// How many blocks, records, and definitions of abbreviations.
 #[derive(Clone, Copy)]
 pub struct Counts {
-    pub blocks: u64,
-    pub records: u64,
-    pub abbreviations: u64,
+    pub blocks: u32,
+    pub records: u32,
+    pub abbreviations: u32,
 }
 
 /// What is counted.
@@ -24,8 +30,8 @@ pub enum Kind {
     Abbreviations,
 }
 
-/// One more. A count that 64 bits do not hold is more than memory holds.
-fn next(count: u64) -> Result<u64, AllocError>
+/// One more. A count that 32 bits do not hold is of more than a stream of 2^24 bytes has, and there is no memory for it.
+fn next(count: u32) -> Result<u32, AllocError>
     ensures { IfOk result (λ next. next ≡ count + 1) }
 {
     count.checked_add(1).ok_or(AllocError)
@@ -95,15 +101,26 @@ impl Tally {
         Ok(())
     }
 
-    /// A line for each block id, the ids ascending, and one for all.
+    /// A line for each block id, the ids ascending, and one for all. A front of them is written where they are many.
     #[tactic(auto, unfolding(crate::specs::Text::summary))]
-    pub fn put_summary(&self, out: &mut String) -> Result<(), AllocError>
-        ensures { OnOk result (string_bytes out.new ≡ string_bytes out.old ++ summary self.now) }
+    pub fn tell_summary<S: Sink>(&self, text: &mut String, sink: &mut S) -> Result<(), DumpFault>
+        ensures told { Spilled (summary self.now) (S.taken sink.old) (string_bytes text.old) (S.taken sink.new) (string_bytes text.new) result }
+        ensures counted { Counted (S.faults sink.old) (S.faults sink.new) result }
+    {
+        self.tell_rows(text, sink)?;
+        put_total(text, self.total)?;
+        Ok(())
+    }
+
+    /// A line for each block id, the ids ascending.
+    fn tell_rows<S: Sink>(&self, text: &mut String, sink: &mut S) -> Result<(), DumpFault>
+        ensures told { Spilled (flat_map row_line self.now.rows) (S.taken sink.old) (string_bytes text.old) (S.taken sink.new) (string_bytes text.new) result }
+        ensures counted { Counted (S.faults sink.old) (S.faults sink.new) result }
     {
         for (id, counts) in &self.rows {
-            put_row(out, *id, *counts)?;
+            tell_row(*id, *counts, text, sink)?;
         }
-        put_total(out, self.total)
+        Ok(())
     }
 
     /// The counts of a block id.

@@ -1,8 +1,9 @@
 //! Telling a whole stream.
 ghost use Rattle.std.specs.Prelude.{◌≤◌, ◌^◌, length};
 ghost use Rattle.bit_tree.specs.Read.{IsStream};
-ghost use Rattle.bit_dump.specs.Dumped.{Dumped, Counted, Finished};
+ghost use Rattle.bit_dump.specs.Dumped.{Dumped, Counted};
 ghost use Rattle.bit_dump.specs.Outline.{summed};
+ghost use Rattle.bit_dump.specs.Telling.{Finished};
 
 use crate::DumpFault;
 use crate::outline::Outline;
@@ -53,9 +54,9 @@ fn tell_judged<S: Sink>(
 
 /// Writes the summary behind what is not written yet.
 fn finish<S: Sink>(outline: &mut Outline, sink: &mut S) -> Result<(), DumpFault>
-    ensures told { Finished (S.taken sink.old) (S.taken sink.new) (S.faults sink.old) (S.faults sink.new) (summed outline.old).text result }
+    ensures told { Finished (S.taken sink.old) (S.taken sink.new) (summed outline.old).text result }
     ensures counted { Counted (S.faults sink.old) (S.faults sink.new) result }
 {
-    outline.sum_up()?;
+    outline.sum_up(sink)?;
     Ok(outline.flush(sink)?)
 }

@@ -10,6 +10,7 @@ mod fault;
 mod judged;
 mod outline;
 mod pieces;
+mod summary;
 mod text;
 
 pub use fault::DumpFault;

@@ -1,9 +1,14 @@
 //! What is told so far of a stream, and what one more piece of it adds.
 ghost use Rattle.std.specs.Prelude.{◌≡◌, ◌++◌, [], OnOk, OnErr, string_bytes};
 ghost use Rattle.ir_base.specs.Outside.{Added, Wrote, Rose};
-ghost use Rattle.bit_dump.specs.Outline.{nothing_told, after_block, after_end, after_definition, after_head, after_operand, after_close, emptied, summed, here};
+ghost use Rattle.bit_dump.specs.Outline.{nothing_told, after_block, after_end, after_definition, after_head, after_operand, after_close, emptied, here};
+ghost use Rattle.bit_dump.specs.Dumped.{Counted};
+ghost use Rattle.bit_dump.specs.Telling.{Spilled};
+ghost use Rattle.bit_dump.specs.Text.{summary};
 
+use crate::DumpFault;
 use crate::counts::{Kind, Tally};
+use crate::summary::ROOM;
 use crate::text::{
     put_block, put_definition, put_end, put_operand, put_record_end, put_record_head,
 };
@@ -53,10 +58,11 @@ impl Outline {
     }
 
     /// The summary, behind all entries.
-    pub fn sum_up(&mut self) -> Result<(), AllocError>
-        ensures { OnOk result (self.new ≡ summed self.old) }
+    pub fn sum_up<S: Sink>(&mut self, sink: &mut S) -> Result<(), DumpFault>
+        ensures told { Spilled (summary self.old.tally) (S.taken sink.old) self.old.text (S.taken sink.new) self.new.text result }
+        ensures counted { Counted (S.faults sink.old) (S.faults sink.new) result }
     {
-        self.tally.put_summary(&mut self.text)
+        self.tally.tell_summary(&mut self.text, sink)
     }
 
     /// Whether so much text is gathered that it is worth a write.
@@ -155,6 +161,3 @@ impl Outline {
         self.unclosed.last().copied()
     }
 }
-
-/// So many bytes of text are written at once.
-const ROOM: usize = 1 << 16;

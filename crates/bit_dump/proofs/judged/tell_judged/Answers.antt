@@ -27,7 +27,7 @@ pub returns-in-None : goal.returns-in-None
 returns-in-None g c =
     let gave = rw (c.telling.invariant.unspent, c.in-None.is) at c.in_ok-next.ensures in
     record {
-      told = closes c.args.bytes.now c.args.whole (g.S.Sink.taken c.args.sink.now) (g.S.Sink.taken c.telling.sink) (g.S.Sink.taken c.finish.new.sink) (g.S.Sink.faults c.telling.sink) (g.S.Sink.faults c.finish.new.sink) c.telling.outline c.telling.walker.left c.finish.result c.telling.invariant.told gave.1 c.finish.ensures.told;
+      told = closes c.args.bytes.now c.args.whole (g.S.Sink.taken c.args.sink.now) (g.S.Sink.taken c.telling.sink) (g.S.Sink.taken c.finish.new.sink) c.telling.outline c.telling.walker.left c.finish.result c.telling.invariant.told gave.1 c.finish.ensures.told;
       counted = subst (λ (n : ℕ). Counted n (g.S.Sink.faults c.finish.new.sink) c.finish.result) c.telling.invariant.faults c.finish.ensures.counted;
     }
 
