@@ -2,6 +2,7 @@ mod Advancing
 mod Definitions
 mod Judging
 mod On
+mod Literals
 mod Operands
 mod PassedOver
 mod PassingLoops

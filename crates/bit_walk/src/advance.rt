@@ -111,7 +111,13 @@ pub fn advance<'b>(
             Entry::Block(id) => Ok(plain(Some(block(id, scope)), place)),
             Entry::EndBlock => Ok(plain(Some(Event::Ended), place)),
             Entry::End => Ok(plain(None, place)),
-            Entry::Record(code) => Ok(held(place, width, &kept.template, code, item.blob)),
+            Entry::Record(code) => Ok(held(
+                place,
+                width,
+                kept.template.template(),
+                code,
+                item.blob,
+            )),
         },
     }
 }

@@ -95,7 +95,7 @@ fn next_template(cursor: &mut BitCursor, kept: &mut Kept, alloc: Global) -> Resu
         return Err(StreamFault::Memory);
     }
     let template = template(cursor, alloc)?;
-    kept.keep(bit as u32, template);
+    kept.keep(alloc, bit as u32, template)?;
     Ok(bit as u32)
 }
 

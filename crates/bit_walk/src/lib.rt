@@ -10,6 +10,7 @@ mod event;
 mod item;
 mod passing;
 mod scope;
+mod spelling;
 mod starts;
 mod values;
 mod verdict;

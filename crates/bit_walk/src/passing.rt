@@ -5,7 +5,8 @@ ghost use Rattle.bit_stream.specs.Record.{value_by, code_by, names_block};
 ghost use Rattle.bit_walk.specs.Passing.{with_first, is_none, pass_operand, pass_elements, pass_each, pass_counted, pass_tail, pass_unabbreviated, pass_abbreviated};
 ghost use Rattle.bit_stream.specs.declared.abbreviation.Scalar.TheVariants.{Chunks};
 
-use bit_stream::{NarrowWidth, Scalar, Tail, Template, bad_abbreviation, code_by, value_by};
+use crate::spelling::Spelling;
+use bit_stream::{NarrowWidth, Scalar, Tail, bad_abbreviation, code_by, value_by};
 use bits::{BitCursor, BitFault};
 
 /// A record, but for its operands behind the first.
@@ -93,6 +94,17 @@ fn pass_each(
     Ok(first)
 }
 
+/// The operands that an abbreviation spells one by one. Of its literals only the first operand is looked at.
+fn pass_fields(
+    cursor: &mut BitCursor,
+    spelling: &Spelling,
+    names_block: bool,
+) -> Result<Option<u64>, BitFault>
+    ensures { found (λ first. first) result cursor.new ≡ pass_each names_block spelling.now.operands None cursor.old }
+{
+    pass_each(cursor, spelling.read(), names_block)
+}
+
 /// A count of operands and so many of them.
 #[tactic(auto, unfolding(crate::specs::Passing::pass_counted))]
 fn pass_counted(
@@ -152,14 +164,15 @@ pub fn pass_unabbreviated<'b>(
 #[tactic(auto, unfolding(crate::specs::Passing::pass_abbreviated))]
 pub fn pass_abbreviated<'b>(
     cursor: &mut BitCursor<'b>,
-    template: &Template,
+    spelling: &Spelling,
     in_blockinfo: bool,
 ) -> Result<Passed<'b>, BitFault>
-    ensures { found (λ passed. record { code = passed.code; first = passed.first; blob = passed.blob.now }) result cursor.new ≡ pass_abbreviated in_blockinfo template.now cursor.old }
+    ensures { found (λ passed. record { code = passed.code; first = passed.first; blob = passed.blob.now }) result cursor.new ≡ pass_abbreviated in_blockinfo spelling.now cursor.old }
 {
+    let template = spelling.template();
     let code = code_by(cursor, template.code)?;
     let names_block = in_blockinfo && code == 1;
-    let front = pass_each(cursor, &template.operands, names_block)?;
+    let front = pass_fields(cursor, spelling, names_block)?;
     let rest = pass_tail(cursor, template.tail, names_block, front)?;
     Ok(Passed {
         code,

@@ -3,7 +3,8 @@ ghost use Rattle.std.specs.Prelude.{◌≡◌, ◌≤◌, ◌^◌, ◌<◌, ◌*
 ghost use Rattle.bits.specs.Bits.{stream_bits};
 ghost use Rattle.bit_walk.specs.Starts.{no_template, template_at, IsKept};
 
-use bit_stream::{Scalar, StreamFault, Tail, Template, template};
+use crate::spelling::{Spelling, no_template};
+use bit_stream::{StreamFault, Template, template};
 use bits::BitCursor;
 use std::alloc::{AllocError, Global};
 use std::marker::Model;
@@ -82,22 +83,11 @@ fn template_at(alloc: Global, bytes: &[u8], bit: u32) -> Result<Template, AllocE
     }
 }
 
-/// The abbreviation of no operands.
-fn no_template(alloc: Global) -> Template
-    ensures { result ≡ no_template }
-{
-    Template {
-        code: Scalar::Known(0),
-        operands: Vec::new(alloc),
-        tail: Tail::NoTail,
-    }
-}
-
 /// The abbreviation that was read last, and the bit where its definition starts, if it was read by that.
 #[derive(Drop)]
 pub struct Kept {
     pub start: Option<u32>,
-    pub template: Template,
+    pub template: Spelling,
 }
 
 impl Kept {
@@ -107,7 +97,7 @@ impl Kept {
     {
         Kept {
             start: None,
-            template: no_template(alloc),
+            template: Spelling::nothing(alloc),
         }
     }
 
@@ -124,17 +114,18 @@ impl Kept {
             }
         }
         let template = template_at(alloc, bytes, bit)?;
-        self.keep(bit, template);
-        Ok(())
+        self.keep(alloc, bit, template)
     }
 
     /// Keeps an abbreviation whose definition starts at this bit.
-    pub fn keep(&mut self, bit: u32, template: Template)
-        ensures { self.new ≡ record { start = Some bit; template = template } }
+    pub fn keep(&mut self, alloc: Global, bit: u32, template: Template) -> Result<(), AllocError>
+        ensures start { OnOk result (self.new.start ≡ Some bit) }
+        ensures template { OnOk result (self.new.template ≡ template) }
     {
         *self = Kept {
             start: Some(bit),
-            template,
+            template: Spelling::new(alloc, template)?,
         };
+        Ok(())
     }
 }

@@ -99,7 +99,11 @@ impl<'b> Walker<'b> {
         if self.spent {
             return None;
         }
-        next_value(&mut self.inner, &mut self.stage, &self.kept.template)
+        next_value(
+            &mut self.inner,
+            &mut self.stage,
+            self.kept.template.template(),
+        )
     }
 
     /// Whether the record that was given last ends in a blob, an empty one included.
@@ -120,6 +124,6 @@ impl<'b> Walker<'b> {
     pub fn template(&self) -> &Template
         ensures { result.now ≡ self.now.template }
     {
-        &self.kept.template
+        self.kept.template.template()
     }
 }

@@ -9,7 +9,7 @@ pub held-requires : goal.held-requires
 held-requires c =
     let passed = rw (c.in-Some.is, c.in-Record.is) at c.in_ok-item.ensures.read in
     let by = rw (c.in-Some.is, c.in-Record.is) at c.in_ok-item.ensures.by in
-    rw (c.width-width.ensures, c.copy-place.ensures) (operands_there c.args.scope.now.scope c.pass_judged.new.scope.scope c.args.cursor.now c.pass_judged.new.cursor c.in-Record.code c.in_ok-item.item.blob.now c.pass_judged.new.kept.template passed by)
+    rw (c.width-width.ensures, c.copy-place.ensures, c.template.ensures) (operands_there c.args.scope.now.scope c.pass_judged.new.scope.scope c.args.cursor.now c.pass_judged.new.cursor c.in-Record.code c.in_ok-item.item.blob.now c.pass_judged.new.kept.template passed by)
 
 pub returns-in-None-clause-read : goal.returns-in-None-clause-read
 returns-in-None-clause-read c = rw c.plain.ensures.stage ([], over c.pass_judged.new.kept.template c.plain.result.inner)
@@ -49,12 +49,13 @@ returns-in-Record-clause-read c =
     let passed = rw (c.in-Some.is, c.in-Record.is) at c.in_ok-item.ensures.read in
     let by = rw (c.in-Some.is, c.in-Record.is) at c.in_ok-item.ensures.by in
     let there = operands_there c.args.scope.now.scope c.pass_judged.new.scope.scope c.args.cursor.now c.pass_judged.new.cursor c.in-Record.code c.in_ok-item.item.blob.now c.pass_judged.new.kept.template passed by in
-    (there.0, c.held.ensures.left there.0 (rw (c.width-width.ensures, c.copy-place.ensures) there.1))
+    let left = rw (c.width-width.ensures, c.copy-place.ensures, c.template.ensures) at c.held.ensures.left in
+    (there.0, left there.0 there.1)
 
 pub returns-in-Record-clause-gave : goal.returns-in-Record-clause-gave
 returns-in-Record-clause-gave c = λ ps h. (
     let passed = rw (c.in-Some.is, c.in-Record.is) at c.in_ok-item.ensures.read in
     let by = rw (c.in-Some.is, c.in-Record.is) at c.in_ok-item.ensures.by in
-    let has_blob = rw (c.width-width.ensures, c.copy-place.ensures) at c.held.ensures.has_blob in
-    let left = rw (c.width-width.ensures, c.copy-place.ensures) at c.held.ensures.left in
+    let has_blob = rw (c.width-width.ensures, c.copy-place.ensures, c.template.ensures) at c.held.ensures.has_blob in
+    let left = rw (c.width-width.ensures, c.copy-place.ensures, c.template.ensures) at c.held.ensures.left in
     rw (c.held.ensures.event, c.width-width.ensures, c.copy-place.ensures) (step_held c.args.scope.now.scope c.pass_judged.new.scope.scope c.args.cursor.now c.pass_judged.new.cursor c.in-Record.code c.in_ok-item.item.blob.now c.pass_judged.new.kept.template ps (record { spent = false; left = []; operands = list_of (left_by c.held.result.stage c.pass_judged.new.kept.template c.held.result.inner); has_blob = c.held.result.has_blob; blob = c.held.result.blob.now; template = c.pass_judged.new.kept.template }) h passed by (λ ns k. read_list _ ns (left ns k)) has_blob c.held.ensures.blob))

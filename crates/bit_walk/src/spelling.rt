@@ -1,0 +1,107 @@
+//! An abbreviation that was read, and which of its operands a record by it spells with bits.
+ghost use Rattle.std.specs.Prelude.{◌≡◌, ◌++◌, filter, IfOk, OnOk};
+ghost use Rattle.bit_walk.specs.Starts.{no_template};
+ghost use Rattle.bit_walk.specs.Spelling.{has_bits, spelled_out};
+
+use bit_stream::{Scalar, Tail, Template};
+use std::alloc::{AllocError, Global};
+use std::marker::Model;
+
+/// An abbreviation, and the spellings of its operands but for the literals behind the first: a record goes on by no bit
+/// where these stand, so nothing of them has to be read where only the first operand is wanted.
+#[derive(Drop)]
+pub struct Spelling {
+    template: Template,
+    read: Vec<Scalar>,
+}
+
+impl Model for Spelling {
+    ghost use Rattle.std.specs.Prelude.{◌≡◌};
+    ghost use Rattle.bit_stream.specs.Abbreviation.{Template};
+    ghost use Rattle.bit_walk.specs.Spelling.{spelled_out};
+
+    ghost Value = { Template };
+
+    ghost view = { λ s. s.template };
+
+    ghost invariant = { λ s. s.read.items ≡ spelled_out s.template.operands };
+}
+
+impl Spelling {
+    /// That of an abbreviation.
+    pub fn new(alloc: Global, template: Template) -> Result<Self, AllocError>
+        ensures { IfOk result (λ spelling. spelling ≡ template) }
+    {
+        let read = spelled_out(alloc, &template.operands)?;
+        Ok(Spelling { template, read })
+    }
+
+    /// The abbreviation of no operands.
+    pub fn nothing(alloc: Global) -> Self
+        ensures { result ≡ no_template }
+    {
+        Spelling {
+            template: no_template(alloc),
+            read: Vec::new(alloc),
+        }
+    }
+
+    /// The abbreviation.
+    pub fn template(&self) -> &Template
+        ensures { result.now ≡ self.now }
+    {
+        &self.template
+    }
+
+    /// The spellings of its operands, but for the literals behind the first.
+    pub fn read(&self) -> &[Scalar]
+        ensures { result.now ≡ spelled_out self.now.operands }
+    {
+        self.read.as_slice()
+    }
+}
+
+/// The abbreviation of no operands.
+pub fn no_template(alloc: Global) -> Template
+    ensures { result ≡ no_template }
+{
+    Template {
+        code: Scalar::Known(0),
+        operands: Vec::new(alloc),
+        tail: Tail::NoTail,
+    }
+}
+
+/// The first of some spellings, and the others that are no literals.
+fn spelled_out(alloc: Global, scalars: &[Scalar]) -> Result<Vec<Scalar>, AllocError>
+    ensures { IfOk result (λ read. read.items ≡ spelled_out scalars.now) }
+{
+    let mut read = Vec::new(alloc);
+    if let [first, others @ ..] = scalars {
+        read.push(*first)?;
+        add_read(&mut read, others)?;
+    }
+    Ok(read)
+}
+
+/// Adds those that are no literals.
+fn add_read(read: &mut Vec<Scalar>, scalars: &[Scalar]) -> Result<(), AllocError>
+    ensures { OnOk result (read.new.items ≡ read.old.items ++ filter has_bits scalars.now) }
+{
+    for scalar in scalars {
+        if has_bits(*scalar) {
+            read.push(*scalar)?;
+        }
+    }
+    Ok(())
+}
+
+/// Whether a value of this spelling is read, and is no literal.
+fn has_bits(scalar: Scalar) -> bool
+    ensures { result ≡ has_bits scalar }
+{
+    match scalar {
+        Scalar::Known(_) => false,
+        Scalar::Field(_) | Scalar::Chunks(_) | Scalar::Letter => true,
+    }
+}
