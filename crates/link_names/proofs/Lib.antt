@@ -1,0 +1,5 @@
+mod FirstFree
+mod Hints
+mod Numbers
+mod Avoided
+mod Given

@@ -1,0 +1,110 @@
+//! The names of symbols in the module that is made of their parts.
+ghost use Rattle.std.specs.Prelude.{◌≡◌, ◌∷◌, [], map, All, IfOk, OnOk};
+ghost use Rattle.linkage_rules.specs.Globals.{name_of};
+ghost use Rattle.linkage_rules.specs.Grouped.{AreIds};
+ghost use Rattle.linkage_rules.specs.Ids.{IsEntryId, modules, seen};
+ghost use Rattle.linkage_rules.specs.Symbols.{symbols as all_symbols};
+ghost use Rattle.module_linker.specs.Rename.{all_names, renaming, shared_names};
+ghost use Rattle.link_names.specs.Naming.{HasMore, GivesName};
+
+use crate::Naming;
+use crate::numbered::base_of;
+use ir_base::{Name, NameList};
+use linkage_rules::{EntryId, Symbol, arena_of, name, push_part};
+use module_arena::Checked;
+use std::alloc::{AllocError, Global};
+
+/// The ids of all entries, part by part.
+fn all_ids(alloc: Global, parts: &[Checked]) -> Result<Vec<EntryId>, AllocError>
+    ensures { IfOk result (λ ids. AreIds parts.now ids.items) }
+{
+    let mut ids = Vec::new(alloc);
+    for part in 0..parts.len() {
+        push_part(&mut ids, part as u64, arena_of(parts, part as u64))?;
+    }
+    Ok(ids)
+}
+
+/// Avoids the names of some entries.
+fn avoid_names(
+    alloc: Global,
+    parts: &[Checked],
+    ids: &[EntryId],
+    naming: &mut Naming,
+) -> Result<(), AllocError>
+    requires { All (IsEntryId parts.now) ids.now }
+    ensures avoided { OnOk result (HasMore naming.old.avoided (map (λ id. name_of (seen (modules parts.now) id).global) ids.now) naming.new.avoided) }
+    ensures given { naming.new.given ≡ naming.old.given }
+{
+    for id in ids {
+        naming.avoid(alloc, name(parts, *id))?;
+    }
+    Ok(())
+}
+
+/// Avoids the names of all entries.
+fn avoid_all(alloc: Global, parts: &[Checked], naming: &mut Naming) -> Result<(), AllocError>
+    ensures avoided { OnOk result (HasMore naming.old.avoided (all_names (modules parts.now)) naming.new.avoided) }
+    ensures given { naming.new.given ≡ naming.old.given }
+{
+    let ids = all_ids(alloc, parts)?;
+    avoid_names(alloc, parts, ids.as_slice(), naming)
+}
+
+/// Gives the name of a symbol that all parts share.
+fn give_if_shared(alloc: Global, symbol: &Symbol, naming: &mut Naming) -> Result<(), AllocError>
+    ensures given { OnOk result (HasMore naming.old.given (shared_names (symbol.now ∷ [])) naming.new.given) }
+    ensures avoided { naming.new.avoided ≡ naming.old.avoided }
+{
+    match symbol {
+        Symbol::Shared(name) => naming.give(alloc, name),
+        Symbol::Local(_, _) => Ok(()),
+    }
+}
+
+/// Gives the names that all parts share.
+fn give_shared(alloc: Global, symbols: &[Symbol], naming: &mut Naming) -> Result<(), AllocError>
+    ensures given { OnOk result (HasMore naming.old.given (shared_names symbols.now) naming.new.given) }
+    ensures avoided { naming.new.avoided ≡ naming.old.avoided }
+{
+    for symbol in symbols {
+        give_if_shared(alloc, symbol, naming)?;
+    }
+    Ok(())
+}
+
+/// The name of the next symbol: a shared one is given already.
+fn name_symbol(alloc: Global, symbol: &Symbol, naming: &mut Naming) -> Result<Name, AllocError>
+    ensures name { IfOk result (λ new. GivesName naming.old symbol.now new naming.new) }
+    ensures avoided { naming.new.avoided ≡ naming.old.avoided }
+{
+    match symbol {
+        Symbol::Shared(name) => name.copy(alloc),
+        Symbol::Local(_, name) => {
+            let base = base_of(alloc, name)?;
+            naming.name_for(alloc, name, &base)
+        }
+    }
+}
+
+/// What the symbols of some parts are called in the module that is made of them, in their order. A name that all parts share
+/// stays. A part's own stays where no other symbol has it; else it gets a dot and the least number from 1 on that makes it a
+/// name of no entry. Only memory may be wanting.
+pub fn new_names(
+    alloc: Global,
+    parts: &[Checked],
+    symbols: &[Symbol],
+) -> Result<NameList, AllocError>
+    requires { symbols.now ≡ all_symbols (modules parts.now) }
+    ensures { IfOk result (λ names. names ≡ map (λ row. row.1) (renaming (modules parts.now))) }
+{
+    let mut naming = Naming::new(alloc);
+    avoid_all(alloc, parts, &mut naming)?;
+    give_shared(alloc, symbols, &mut naming)?;
+    let mut names = NameList::new(alloc);
+    for symbol in symbols {
+        let name = name_symbol(alloc, symbol, &mut naming)?;
+        names.push(name)?;
+    }
+    Ok(names)
+}
