@@ -1,0 +1,88 @@
+-- The first count past its limit, from the counts one after another.
+use Rattle.std.proofs.Common.{◌≡◌, ℕ, ◌^◌, ◌-◌, ◌<◌, Bool, true, false, cond, List, [], ◌∷◌, filter, min, nat_lt, Option, Some, None, refl, sym, ap, ◌∙◌, arith}
+use Rattle.std.proofs.Math.Nat.{min_comm, min-eq_left}
+use Rattle.std.specs.Option.{option_map, option_or}
+use Rattle.module_arena.specs.declared.fault.CountKind.{CountKind}
+use Rattle.module_arena.specs.declared.fault.CountKind.TheVariants.{Structs, Variables, Functions, Aliases}
+use Rattle.linkage_rules.specs.Lists.{first}
+use Rattle.linked_symbols.specs.Places.{clamped}
+use Rattle.module_linker.specs.Counts as linking
+use Rattle.module_linker.specs.Counts.{count_of_aliases, first_past, limit}
+use Rattle.link_counts.specs.declared.counting.SymbolCounts.{SymbolCounts}
+use Rattle.link_counts.specs.declared.too_many.Count.{Count}
+use Rattle.link_counts.specs.Told.{entry, entry_counts, first_entry_count, past, told}
+use Rattle.link_counts.proofs.Clamped.{past_clamped}
+
+or_told : (o p : Option Count) → option_map told (option_or o p) ≡ option_or (option_map told o) (option_map told p)
+or_told None p = refl
+or_told (Some c) p = refl
+
+or_regroup : {A : Type 0} (a b c : Option A) → option_or (option_or a b) c ≡ option_or a (option_or b c)
+or_regroup None b c = refl
+or_regroup (Some x) b c = refl
+
+abbrev own : CountKind → ℕ → Count
+own kind n = record { kind = kind; number = n }
+
+-- what is told of a count
+abbrev cut : linking.Count → linking.Count
+cut c = record { kind = c.kind; number = min (2 ^ 64 - 1) c.number }
+
+-- those past their limits
+abbrev counts_past : List linking.Count → List linking.Count
+counts_past cs = filter (λ c. nat_lt (limit c.kind) c.number) cs
+
+-- a count of entries or structs before others
+entries_first : (kind : CountKind) (n m : ℕ) (rest : List linking.Count) → limit kind ≡ 262144 → m ≡ clamped n → 262144 < 2 ^ 64 - 1
+    → first_past limit (entry kind n ∷ rest) ≡ option_or (option_map told (past kind m)) (first_past limit rest)
+entries_first kind n m rest lim is small = go (nat_lt 262144 n) refl
+  where
+    told_number : m ≡ min (2 ^ 64 - 1) n
+    told_number = is ∙ min_comm n (2 ^ 64 - 1)
+
+    passes : (b : Bool) → nat_lt 262144 n ≡ b → nat_lt 262144 m ≡ b
+    passes b e = ap (nat_lt 262144) is ∙ past_clamped (2 ^ 64 - 1) 262144 n small ∙ e
+
+    go : (b : Bool) → nat_lt 262144 n ≡ b → first_past limit (entry kind n ∷ rest) ≡ option_or (option_map told (past kind m)) (first_past limit rest)
+    go true e =
+        ap (λ c. option_map cut (first (cond c (entry kind n ∷ counts_past rest) (counts_past rest)))) (ap (λ l. nat_lt l n) lim ∙ e)
+        ∙ ap (λ k. Some (entry kind k)) (sym told_number)
+        ∙ sym (ap (λ c. option_or (option_map told (cond c (Some (own kind m)) None)) (first_past limit rest)) (passes true e))
+    go false e =
+        ap (λ c. option_map cut (first (cond c (entry kind n ∷ counts_past rest) (counts_past rest)))) (ap (λ l. nat_lt l n) lim ∙ e)
+        ∙ sym (ap (λ c. option_or (option_map told (cond c (Some (own kind m)) None)) (first_past limit rest)) (passes false e))
+
+or_none : {A : Type 0} (o : Option A) → option_or o None ≡ o
+or_none None = refl
+or_none (Some x) = refl
+
+exact : (n : ℕ) → n < 2 ^ 64 → n ≡ clamped n
+exact n few = sym (min-eq_left (omega (arith, few)))
+
+-- the counts one after another
+pub entries_told : (structs : ℕ) (counts : SymbolCounts) → 262144 < 2 ^ 64 - 1 → structs < 2 ^ 64 → counts.variables < 2 ^ 64 → counts.functions < 2 ^ 64
+    → option_map told (first_entry_count structs counts) ≡ first_past limit (entry_counts structs counts)
+entries_told structs counts small few_structs few_variables few_functions =
+    or_told (option_or (option_or p_structs p_variables) p_functions) p_aliases
+    ∙ ap (λ o. option_or o (option_map told p_aliases)) (or_told (option_or p_structs p_variables) p_functions ∙ ap (λ o. option_or o (option_map told p_functions)) (or_told p_structs p_variables))
+    ∙ or_regroup (option_or (option_map told p_structs) (option_map told p_variables)) (option_map told p_functions) (option_map told p_aliases)
+    ∙ or_regroup (option_map told p_structs) (option_map told p_variables) (option_or (option_map told p_functions) (option_map told p_aliases))
+    ∙ sym (entries_first Structs structs structs (entry Variables counts.variables ∷ entry Functions counts.functions ∷ entry Aliases number ∷ []) refl (exact structs few_structs) small
+    ∙ ap (option_or (option_map told p_structs)) (entries_first Variables counts.variables counts.variables (entry Functions counts.functions ∷ entry Aliases number ∷ []) refl (exact counts.variables few_variables) small
+    ∙ ap (option_or (option_map told p_variables)) (entries_first Functions counts.functions counts.functions (entry Aliases number ∷ []) refl (exact counts.functions few_functions) small
+    ∙ ap (option_or (option_map told p_functions)) (entries_first Aliases number (clamped number) [] refl refl small ∙ or_none (option_map told p_aliases)))))
+  where
+    number : ℕ
+    number = count_of_aliases counts.variables counts.functions counts.aliases
+
+    p_structs : Option Count
+    p_structs = past Structs structs
+
+    p_variables : Option Count
+    p_variables = past Variables counts.variables
+
+    p_functions : Option Count
+    p_functions = past Functions counts.functions
+
+    p_aliases : Option Count
+    p_aliases = past Aliases (clamped number)

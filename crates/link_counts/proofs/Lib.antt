@@ -1,0 +1,3 @@
+mod Clamped
+mod Counted
+mod FirstPast
