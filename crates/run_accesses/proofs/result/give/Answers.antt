@@ -1,0 +1,16 @@
+use Rattle.std.proofs.Common.{[], ◌∷◌, ap, ◌∙◌}
+use Rattle.run_rules.specs.Frame.{moved_on, with_value}
+use Rattle.run_stack.specs.UnderWay.{changed}
+use Rattle.run_actions.proofs.Carried.{position_after, running_after, twice}
+use Rattle.run_accesses.proofs.result.give.Goals as goal
+
+pub move_on-requires-clause-running : goal.move_on-requires-clause-running
+move_on-requires-clause-running c = rw c.set.ensures (running_after _ c.args.stack.now c.requires.on.running)
+
+pub move_on-requires-clause-room : goal.move_on-requires-clause-room
+move_on-requires-clause-room c =
+    let stays = position_after c.args.to (c.args.leaf ∷ []) c.args.stack.now in
+    rw c.set.ensures (rw stays c.requires.on.room)
+
+pub returns : goal.returns
+returns c = c.move_on.ensures ∙ ap (changed moved_on) c.set.ensures ∙ twice moved_on (λ f. with_value f c.args.to (c.args.leaf ∷ [])) c.args.stack.now

@@ -1,0 +1,23 @@
+//! What an instruction does to the frames and to memory together, a function for each class of instruction: loads, stores, allocas
+//! and moved addresses.
+//!
+//! It stands on the frames of `run_stack`, the values in memory of `run_values` and the words of `run_actions`. It promises that each
+//! call makes of the newest frame and of memory what the definition of actions says, whatever addresses have and whatever is due; that
+//! an undefined instruction and a passed limit are told exactly where they are so; and that memory is wanted by none but the actions
+//! that may. How far indices reach is told exactly. Definitions: `specs/Done`; `Displace` of `run_rules`.
+#![tactic(auto)]
+
+mod address;
+mod alloca;
+mod displaced;
+mod distance;
+mod loads;
+mod result;
+mod stores;
+
+pub use address::displace;
+pub use alloca::allocate;
+pub use displaced::displaced_by;
+pub use distance::{reach, sum};
+pub use loads::load;
+pub use stores::store;

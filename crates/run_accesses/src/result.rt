@@ -1,0 +1,38 @@
+//! The result of an instruction.
+ghost use Rattle.std.specs.Prelude.{◌≡◌, ◌∷◌, [], length};
+ghost use Rattle.run_rules.specs.Frame.{with_result};
+ghost use Rattle.run_stack.specs.UnderWay.{changed};
+ghost use Rattle.run_actions.specs.Operands.{HasPlaces, IsPlace, MayGoOn};
+
+use ir_eval::Scalar;
+use run_stack::Stack;
+
+/// The one item.
+#[inline]
+pub(crate) fn only<T: Copy>(items: &[T]) -> T
+    requires { length items.now ≡ 1 }
+    ensures { items.now ≡ result ∷ [] }
+{
+    items[0]
+}
+
+/// The result is this leaf, and the next instruction is due.
+#[inline]
+pub(crate) fn give(stack: &mut Stack, to: u32, leaf: Scalar)
+    requires on { MayGoOn stack.old }
+    requires place { IsPlace stack.old to }
+    ensures { stack.new ≡ changed (λ f. with_result f to (leaf ∷ [])) stack.old }
+{
+    stack.set(to, leaf);
+    stack.move_on();
+}
+
+/// The result has these leaves, and the next instruction is due.
+pub(crate) fn give_all(stack: &mut Stack, to: u32, value: &[Scalar])
+    requires on { MayGoOn stack.old }
+    requires places { HasPlaces stack.old to (length value.now) }
+    ensures { stack.new ≡ changed (λ f. with_result f to value.now) stack.old }
+{
+    stack.set_all(to, value);
+    stack.move_on();
+}
