@@ -1,0 +1,11 @@
+pub mod Walks
+pub mod Tests
+pub mod Gathered
+pub mod Bodies
+pub mod Names
+pub mod Good
+pub mod Naming
+pub mod Apart
+pub mod GatheredAhead
+pub mod StandIns
+pub mod Named
