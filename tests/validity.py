@@ -1,8 +1,8 @@
 #!/usr/bin/env python3
 """The cases of crates/module_table that ask whether a text is valid: texts, and what is told of each.
 
-What a text comes to is written here by hand from the rules of docs/language.md ("Valid"); nothing is taken from the program. Each
-text is a list of items whose names and numbers are in order. One line tells it:
+What a text comes to is written here by hand from the rules of docs/language.md ("Valid"), or told by the search of tests/paths.py;
+nothing is taken from the program. Each text is a list of items whose names and numbers are in order. One line tells it:
 
     ok                                   the module is valid
     invalid Vk at ENTITY                 the first failure, of the first entity and there of the least rule
@@ -622,7 +622,7 @@ def searched():
 
 def speeds():
     """Texts that a judge which compares pairs, or walks for each use, takes long for."""
-    # 46,340 blocks with one value each, one instruction below the limit of products.
+    # 46,340 blocks with one value each: with one block more it is too large.
     LARGE.append((chain(46340, 1), ACCEPTED))
     # 500,000 instructions in one block.
     LARGE.append((["define i32 @f(i32 %v0) {\n%v=add i32 %v0, 1\n", (499998, "%w#=add i32 %v, %v0\n"), "ret i32 %v\n}\n"], ACCEPTED))
