@@ -1,0 +1,10 @@
+//! The law of content: how records are spelled does not count.
+//!
+//! It stands on the definitions of `bit_tree` and `record_table`. It promises that two trees of one content, whatever widths and
+//! abbreviations spell them, stand for the same modules, and that the same record of them is refused. Definitions: `content` of `bit_tree`,
+//! `StandFor` and `record_fault` of `record_table`, and `specs/Laws` what the law is.
+#![tactic(auto)]
+
+mod laws;
+
+pub use laws::content_is_enough;
