@@ -1,0 +1,5 @@
+pub mod OneMore
+pub mod Becoming
+pub mod FunctionsDeclared
+pub mod Numbering
+pub mod AliasesDeclared

@@ -1,0 +1,2 @@
+pub mod FunctionsThere
+pub mod AliasesThere
