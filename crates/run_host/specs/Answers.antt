@@ -39,3 +39,23 @@ abbrev pub Refuses : {E : Type 0} → MemoryFault → Result Answer E → Type 0
 Refuses (faults.Undefined kind) answer = answer ≡ Ok (Fails kind)
 Refuses faults.MemoryLimit answer = answer ≡ Ok MemoryLimit
 Refuses faults.Memory answer = IsErr answer
+
+-- the program ends with this answer
+abbrev pub EndsTheRun : Answer → Type 0
+EndsTheRun (Gives result) = ⊥
+EndsTheRun Reads = ⊥
+EndsTheRun (Exits status) = ⊤
+EndsTheRun (Fails kind) = ⊤
+EndsTheRun MemoryLimit = ⊤
+
+-- memory refused since the call is undefined
+abbrev pub IsUndefined : MemoryFault → Type 0
+IsUndefined (faults.Undefined kind) = ⊤
+IsUndefined faults.MemoryLimit = ⊥
+IsUndefined faults.Memory = ⊥
+
+-- what is answered then
+abbrev pub FailsBy : MemoryFault → Answer → Type 0
+FailsBy (faults.Undefined kind) answer = answer ≡ Fails kind
+FailsBy faults.MemoryLimit answer = ⊥
+FailsBy faults.Memory answer = ⊥

@@ -1,6 +1,6 @@
 //! What a host function answers.
 ghost use Rattle.std.specs.Prelude.{◌≡◌, [], ◌∷◌};
-ghost use Rattle.run_host.specs.Answers.{Refuses, leaves_of};
+ghost use Rattle.run_host.specs.Answers.{FailsBy, IsUndefined, Refuses, leaves_of};
 
 use ir_eval::Scalar;
 use ir_intrinsics::Outcome;
@@ -8,7 +8,8 @@ use ir_memory::MemoryFault;
 use ir_tables::UndefinedKind;
 use std::alloc::AllocError;
 
-/// What a host function answers. The bytes that it writes are handed on apart.
+/// What a host function answers. The bytes that it writes are handed on apart. That input is read, and that the program exits, is
+/// told by the choice of the row.
 #[derive(Clone, Copy)]
 pub enum Answer {
     /// It returns: the leaves of its result, if it has one.
@@ -41,5 +42,17 @@ pub(crate) fn refused(fault: MemoryFault) -> Result<Answer, AllocError>
         MemoryFault::Undefined(kind) => Ok(Answer::Fails(kind)),
         MemoryFault::MemoryLimit => Ok(Answer::MemoryLimit),
         MemoryFault::Memory => Err(AllocError),
+    }
+}
+
+/// What is answered where memory refused a call that takes none.
+pub(crate) fn failing(fault: MemoryFault) -> Answer
+    requires { IsUndefined fault }
+    ensures { FailsBy fault result }
+{
+    match fault {
+        MemoryFault::Undefined(kind) => Answer::Fails(kind),
+        MemoryFault::MemoryLimit => unreachable!(),
+        MemoryFault::Memory => unreachable!(),
     }
 }

@@ -4,10 +4,10 @@ ghost use Rattle.ir_memory.specs.Answer.{Keeps};
 ghost use Rattle.ir_memory.specs.Given.{IsKnown};
 ghost use Rattle.run_rules.specs.Access as access;
 ghost use Rattle.run_rules.specs.Host.{allocates, frees};
-ghost use Rattle.run_host.specs.Answers.{answer_of};
+ghost use Rattle.run_host.specs.Answers.{EndsTheRun, answer_of};
 
 use crate::Answer;
-use crate::answer::{one, refused};
+use crate::answer::{failing, one};
 use ir_eval::{Pointer, Scalar};
 use ir_memory::{BlockKind, Memory};
 use run_values::has_room;
@@ -21,6 +21,7 @@ fn add_heap_block(memory: &mut Memory, size: u64) -> Result<Answer, AllocError>
     requires next { memory.old.next ≤ 2 ^ 61 }
     requires room { access.has_room size memory.old ≡ true }
     ensures answer { IfOk result (λ answer. allocates size memory.old ≡ answer_of answer memory.new []) }
+    ensures refused { IfOk result (λ answer. EndsTheRun answer → memory.new ≡ memory.old) }
     ensures err { OnErr result (memory.new ≡ memory.old) }
 {
     match memory.add_block(size, HEAP_ALIGN, BlockKind::Heap) {
@@ -31,10 +32,12 @@ fn add_heap_block(memory: &mut Memory, size: u64) -> Result<Answer, AllocError>
 }
 
 /// A new heap block of so many bytes, as `malloc` gives it; the limit on live bytes is told exactly where they would pass it.
+/// A refusal leaves memory as it was.
 #[tactic(auto, using(crate::proofs::Heaps::small, crate::proofs::Heaps::no_room))]
 pub fn allocate(memory: &mut Memory, size: u128) -> Result<Answer, AllocError>
     requires { memory.old.next ≤ 2 ^ 61 }
     ensures answer { IfOk result (λ answer. allocates size memory.old ≡ answer_of answer memory.new []) }
+    ensures refused { IfOk result (λ answer. EndsTheRun answer → memory.new ≡ memory.old) }
     ensures err { OnErr result (memory.new ≡ memory.old) }
 {
     if has_room(memory, size) {
@@ -44,18 +47,18 @@ pub fn allocate(memory: &mut Memory, size: u128) -> Result<Answer, AllocError>
     }
 }
 
-/// Ends the heap block that a pointer starts, as `free` does; null ends none.
-pub fn free(memory: &mut Memory, pointer: Pointer) -> Result<Answer, AllocError>
+/// Ends the heap block that a pointer starts, as `free` does; null ends none. It takes no memory.
+pub fn free(memory: &mut Memory, pointer: Pointer) -> Answer
     requires { IsKnown memory.old.list pointer }
-    ensures answer { IfOk result (λ answer. frees pointer memory.old ≡ answer_of answer memory.new []) }
-    ensures err { OnErr result (memory.new ≡ memory.old) }
+    ensures answer { frees pointer memory.old ≡ answer_of result memory.new [] }
+    ensures refused { EndsTheRun result → memory.new ≡ memory.old }
     ensures kept { Keeps memory.old memory.new }
 {
     if pointer.address == 0 {
-        return Ok(Answer::Gives(None));
+        return Answer::Gives(None);
     }
     match memory.end_block(Scalar::Ptr(pointer), BlockKind::Heap) {
-        Ok(()) => Ok(Answer::Gives(None)),
-        Err(fault) => refused(fault),
+        Ok(()) => Answer::Gives(None),
+        Err(fault) => failing(fault),
     }
 }

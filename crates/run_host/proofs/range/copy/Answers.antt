@@ -3,7 +3,7 @@ use Rattle.ir_memory.specs.Memory.{copied}
 use Rattle.run_rules.specs.Answer.{changes}
 use Rattle.run_values.proofs.Refusals.{on_err}
 use Rattle.run_host.specs.Answers.{leaves_of}
-use Rattle.run_host.proofs.Refusals.{refusal_told, unchanged}
+use Rattle.run_host.proofs.Refusals.{refusal_told, stays, unchanged}
 use Rattle.run_host.proofs.range.copy.Goals as goal
 
 pub returns-in-Ok-clause-answer : goal.returns-in-Ok-clause-answer
@@ -21,3 +21,12 @@ returns-in-Err-clause-err c =
     let m = c.args.memory.now in
     let expected = copied c.args.to c.args.from c.args.count c.args.may_overlap m in
     on_err c.refused.result (c.copy.new.self ≡ m) (unchanged expected m c.copy.new.self c.in-Err.fault c.in-Err.ensures.answer)
+
+pub returns-in-Err-clause-refused : goal.returns-in-Err-clause-refused
+returns-in-Err-clause-refused c =
+    let m = c.args.memory.now in
+    let expected = copied c.args.to c.args.from c.args.count c.args.may_overlap m in
+    stays c.refused.result (c.copy.new.self ≡ m) (unchanged expected m c.copy.new.self c.in-Err.fault c.in-Err.ensures.answer)
+
+pub returns-in-Ok-clause-refused : goal.returns-in-Ok-clause-refused
+returns-in-Ok-clause-refused c = λ ends. absurd ends
