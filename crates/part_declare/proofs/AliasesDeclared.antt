@@ -1,9 +1,9 @@
 -- An alias is declared as what it becomes: an alias, a variable or a function.
-use Rattle.std.proofs.Common.{◌≡◌, ℕ, suc, ◌+◌, ◌<◌, Bool, true, false, List, [], ◌∷◌, ◌++◌, map, length, slice_get, Option, Some, None, All, refl, sym, subst, ap, ◌∙◌, append-nil, bytes_eq, arith}
+use Rattle.std.proofs.Common.{◌≡◌, ℕ, ◌+◌, ◌<◌, Bool, false, List, [], ◌∷◌, ◌++◌, map, length, slice_get, Option, Some, None, All, refl, sym, subst, ap, ◌∙◌, append-nil, bytes_eq, arith}
 use Rattle.std.specs.Prelude.{option_to_list, ◌&&◌}
 use Rattle.std.specs.List.{list_any}
-use Rattle.std.proofs.lemmas.Option.{same_Some, slice_get-map, slice_get_within}
-use Rattle.std.proofs.lemmas.List.Elements.{All-head, All-tail}
+use Rattle.std.proofs.lemmas.Option.{same_Some, slice_get-map}
+use Rattle.std.proofs.lemmas.List.Elements.{All-head}
 use Rattle.std.specs.Option.{option_map, option_map_or}
 use Rattle.ir_tables.specs.declared.linkage.Linkage.{Linkage}
 use Rattle.ir_tables.specs.declared.linkage.Linkage.TheVariants.{External}
@@ -20,11 +20,11 @@ use Rattle.module_arena.specs.Changes.{with_variable, with_alias, with_function,
 use Rattle.module_arena.specs.Functions.{alias_names}
 use Rattle.module_arena.specs.Known.{Counts, counts, HasGlobal, AreDistinct, IsGood, KnowsAlias, alias_types}
 use Rattle.module_arena.specs.Lists.{Lists, global_name, name_at}
-use Rattle.module_arena.specs.Module.{Bytes, Variable, Alias, Function, Module}
-use Rattle.module_arena.specs.View.{module_of, type_at, constants_of, variable_view, alias_type_view, parameter_view}
+use Rattle.module_arena.specs.Module.{Bytes, Variable, Alias, Module}
+use Rattle.module_arena.specs.View.{module_of, type_at, constants_of, variable_view, alias_type_view}
 use Rattle.module_arena.specs.Renamed.{renamed_alias_type}
 use Rattle.module_arena.proofs.Renamed.{own, alias_type_stays}
-use Rattle.type_build.specs.Declarations.{IsFree, AreFew, one_variable_more, one_alias_more, one_function_more, without_initialiser, without_target, AreUntargeted}
+use Rattle.type_build.specs.Declarations.{IsFree, AreFew, one_variable_more, one_alias_more, one_function_more}
 use Rattle.type_build.specs.Parameters.{AreParameters}
 use Rattle.type_build.specs.Stands.{IsType}
 use Rattle.type_build.proofs.Known.{none_all}

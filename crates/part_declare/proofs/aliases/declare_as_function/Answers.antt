@@ -1,25 +1,20 @@
-use Rattle.std.proofs.Common.{◌≡◌, ◌+◌, ◌<◌, Some, None, All, length, refl, sym, subst, ap, ◌∙◌, arith}
+use Rattle.std.proofs.Common.{◌≡◌, ◌+◌, ◌<◌, Some, None, length, refl, sym, subst, ap, ◌∙◌}
 use Rattle.std.proofs.lemmas.List.Elements.{All-head, All-tail}
 use Rattle.std.proofs.lemmas.Option.{slice_get_within}
 use Rattle.ir_tables.specs.declared.linkage.Linkage.TheVariants.{External}
 use Rattle.type_table.specs.Types.{trees}
-use Rattle.module_arena.specs.declared.entry.Alias as the_alias
 use Rattle.module_arena.specs.declared.entry.Function as the_function
 use Rattle.module_arena.specs.declared.entry.GlobalId.TheVariants as global
-use Rattle.module_arena.specs.declared.entry.Variable as the_variable
-use Rattle.module_arena.specs.Changes.{with_variable, with_alias, with_function}
-use Rattle.module_arena.specs.Known.{KnowsAlias, alias_types}
+use Rattle.module_arena.specs.Changes.{with_function}
 use Rattle.module_arena.specs.Lists.{Lists, global_name}
 use Rattle.module_arena.specs.View.{module_of, type_at}
-use Rattle.module_arena.proofs.Renamed.{own}
 use Rattle.type_build.specs.Declarations.{IsFree}
 use Rattle.type_build.specs.Stands.{IsType}
-use Rattle.extract_core.proofs.Entries.{all_get, some_target, known_target}
 use Rattle.entry_declare.specs.Declaring.{IsDeclaring, KeepsNames}
 use Rattle.part_declare.specs.AliasesThere.{aliases_through}
 use Rattle.part_declare.proofs.OneMore.{with_function_keeps, function_called}
 use Rattle.entry_declare.proofs.Still.{types_there, type_is_copied}
-use Rattle.part_declare.proofs.AliasesDeclared.{alias_called_so, alias_free, alias_few, variable_few, function_few, alias_more, variable_more, function_more, alias_known, plain_known, signature_known, kept_joined, variable_joined, function_joined}
+use Rattle.part_declare.proofs.AliasesDeclared.{alias_called_so, alias_free, function_few, function_more, signature_known, function_joined}
 use Rattle.part_declare.proofs.FunctionsDeclared.{function_known}
 use Rattle.part_declare.proofs.aliases.declare_as_function.Goals as goal
 
