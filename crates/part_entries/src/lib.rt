@@ -1,0 +1,11 @@
+//! The new arena of a part before anything is defined in it: texts, types, and all entries as declarations (the tool
+//! `llvm-extract`).
+//!
+//! It stands on `entry_declare` and `part_declare`, which declare entries, on `entry_copy` and `struct_copy`, by whose new ids
+//! types and structs are known, and on `type_build`. It promises that exactly what the entries become is declared, none of it
+//! defined yet, and which ids they have. Definitions: `specs/Stages`, the module as far as it is made, and `specs/NewIds`.
+#![tactic(auto)]
+
+mod declaring;
+
+pub use declaring::{copy_ground, declare_entries};
