@@ -1,0 +1,5 @@
+pub mod Changed
+pub mod Filled
+pub mod Initialisers
+pub mod Bodies
+pub mod Next

@@ -1,0 +1,13 @@
+//! Declared variables and functions, initialised and defined as what is kept of a module (the tool `llvm-extract`).
+//!
+//! It stands on `entry_declare` and `part_declare`, which declare them, on `entry_copy`, by whose new ids types, constants and
+//! entries are known, and on `type_build`. It promises that exactly the initialisers and bodies of what the entries become are
+//! set, and that what is copied stays so. Definitions: `specs/Filling`, the module as far as it is made, and `specs/Naming`, what
+//! definitions name.
+#![tactic(auto)]
+
+mod defining;
+mod initialising;
+
+pub use defining::define_functions;
+pub use initialising::initialise_variables;
