@@ -1,16 +1,18 @@
 -- Types one behind the other, as a loop gathers them.
-use Rattle.std.proofs.Common.{◌≡◌, ◌⊎◌, ◌<◌, ◌+◌, ℕ, Bool, true, false, cond, List, [], ◌∷◌, ◌++◌, Option, Some, None, refl, sym, ap, subst, ◌∙◌, arith, All}
+use Rattle.std.proofs.Common.{◌≡◌, ◌⊎◌, ◌<◌, ◌+◌, ℕ, Bool, true, false, cond, List, [], ◌∷◌, ◌++◌, Option, Some, None, nat_lt, refl, sym, ap, subst, ◌∙◌, arith, All, inl, inr}
 use Rattle.std.specs.Prelude.{option_to_list}
 use Rattle.std.proofs.lemmas.List.{append-nil}
 use Rattle.std.proofs.lemmas.List.Elements.{All-push}
-use Rattle.record_table.specs.Layout.{many, times}
+use Rattle.std.proofs.lemmas.Bool.{ltb-true}
+use Rattle.record_table.specs.Walk.{Walk, next, ask, left}
+use Rattle.record_table.specs.Layout.{Layout, number, many, times, to_end}
 use Rattle.record_table.specs.TypeRecords.{earlier}
-use Rattle.record_read.specs.Reader.{Reader, ReadsAs, is_broken, is_stopped}
+use Rattle.record_read.specs.Reader.{Reader, Reads, ReadsAs, Takes, IsKept, is_broken, is_stopped}
 use Rattle.record_read.specs.Fields.{IsBelow}
-use Rattle.record_read.proofs.Gathering.{moves}
+use Rattle.record_read.proofs.Gathering.{moves, none_taken}
 use Rattle.record_read.proofs.Repeated.{IsSoFar, begins, more, over}
 use Rattle.type_read.specs.Fields.{AreBelow}
-use Rattle.type_read.proofs.Walks.{earlier_lasts}
+use Rattle.type_read.proofs.Walks.{earlier_lasts, vain_broken}
 
 -- what is gathered so far, as long as no rule is broken, and so many are to come
 pub record AreGathered (count : ℕ) (first now : Reader) (size n : ℕ) (items : List ℕ) : Type 0 where
@@ -67,3 +69,33 @@ all_gathered count first now size n items true answer h last is got =
 all_gathered count first now size n items false answer h last is got =
     let all = over (earlier count).read first.walk size h.xs n now.walk last h.far in
     record { kept = rw got (h.kept is ∙ sym all.values, h.below); reader = h.reader ∙ ap (λ w. record first { walk = w }) (sym all.walk) }
+
+-- an operand that was taken, and asked to be one of so many
+pub asked_below : (count : ℕ) (before mid after : Reader) (n : ℕ) (ty : Option ℕ) → Reads number before mid n → is_stopped mid.walk ≡ false → after ≡ record mid { walk = ask 2 (nat_lt n count) mid.walk } → ty ≡ cond (nat_lt n count) (Some n) None
+    → ReadsAs (IsBelow count) (earlier count) before after ty
+asked_below count before mid after n ty h goes asked is = by_test (nat_lt n count) refl
+  where
+    reader_is : after ≡ record before { walk = ((earlier count).read before.walk).1 }
+    reader_is = asked ∙ (ap (λ (r : Reader). record r { walk = ask 2 (nat_lt n count) r.walk }) h.reader ∙ ap (λ k. record before { walk = ask 2 (nat_lt k count) (next before.walk).1 }) h.value)
+
+    by_test : (b : Bool) → nat_lt n count ≡ b → ReadsAs (IsBelow count) (earlier count) before after ty
+    by_test true e = record { kept = rw (is, e) (h.value, ltb-true n count e); reader = reader_is }
+    by_test false e =
+        let at : after.walk ≡ ask 2 false mid.walk = ap (λ (r : Reader). r.walk) asked ∙ ap (λ b. ask 2 b mid.walk) e in
+        record { kept = rw (is, e, at) (still_going mid.walk goes); reader = reader_is }
+      where
+        still_going : (w : Walk) → is_stopped w ≡ false → is_broken (ask 2 false w) ≡ true
+        still_going w stops = vain_broken 2 w (λ s. absurd (stops_not w stops s))
+          where
+            stops_not : (v : Walk) → is_stopped v ≡ false → is_stopped (ask 2 false v) ≡ true → ⊥
+            stops_not (Walk.going rest broken) p q = cc
+            stops_not (Walk.stopped broken) p q = cc
+
+-- all that are left
+pub rest_gathered : (count : ℕ) (first before now : Reader) (items : List ℕ) (answer : Option (List ℕ)) → AreGathered count first before (left first.walk) (left before.walk) items → Takes before None now → answer ≡ cond (is_broken now.walk) None (Some items)
+    → ReadsAs (AreBelow count) (to_end (earlier count)) first now answer
+rest_gathered count first before now items answer h last is =
+    let none = none_taken before now last in
+    let same : is_broken now.walk ≡ is_broken before.walk = ap (λ (r : Reader). is_broken r.walk) none.0 in
+    let all = all_gathered count first before (left first.walk) (left before.walk) items (is_broken before.walk) answer h (inl none.1) refl (is ∙ ap (λ b. cond b None (Some items)) same) in
+    rw none.0 (record { kept = all.kept; reader = all.reader })

@@ -1,6 +1,7 @@
--- For `gather_types`: what is kept of the operands of a type or struct.
-use Rattle.std.specs.Prelude.{◌≡◌, ℕ, ◌<◌, ◌&&◌, Bool, true, false, List, All, Option, Some, None}
-use Rattle.type_table.specs.Types.{KnowsBody}
+-- For `read_types` and `gather_types`: what is kept of the operands of a type or struct.
+use Rattle.std.specs.Prelude.{◌≡◌, ℕ, ◌<◌, ◌&&◌, ◌⊎◌, Bool, true, false, List, All, Option, Some, None}
+use Rattle.type_table.specs.Types.{Knows, KnowsBody}
+use Rattle.type_table.specs.declared.ir_type.IrType.{IrType}
 use Rattle.type_table.specs.declared.ir_type.StructBody.{StructBody}
 use Rattle.module_arena.specs.Module.{Bytes}
 use Rattle.record_table.specs.Fields.{Texts, is_name}
@@ -14,6 +15,10 @@ use Rattle.type_read.specs.declared.definition.Definition.{Definition}
 -- the very types, each before so many
 abbrev pub AreBelow : ℕ → List ℕ → List ℕ → Type 0
 AreBelow count kept value = (kept ≡ value) × All (λ ty. ty < count) kept
+
+-- the very type, whose parts are types and structs before so many
+abbrev pub IsTypeOf : ℕ → ℕ → IrType → IrType → Type 0
+IsTypeOf count known kept value = (kept ≡ value) × Knows count known kept
 
 -- the very body, whose fields are types before so many
 abbrev pub IsBodyOf : ℕ → StructBody → StructBody → Type 0

@@ -1,14 +1,22 @@
--- For `gather_types` and `name_structs`: what is known ahead of a block of types.
-use Rattle.std.specs.Prelude.{◌≡◌, ◌⊎◌, ◌<◌, ◌^◌, ℕ, ◌&&◌, nat_eq, Bool, true, false, List, [], ◌∷◌, ◌++◌, map, length, slice_get, Option, Some, None, bytes_eq, if◌then◌else◌}
+-- For `read_types` and `gather_types`: the block of types as an arena has it.
+use Rattle.std.specs.Prelude.{◌≡◌, ◌⊎◌, ◌≤◌, ◌<◌, ◌≢◌, ◌^◌, ℕ, suc, ◌&&◌, nat_eq, not, Bool, true, false, List, [], ◌∷◌, ◌++◌, map, length, slice_get, Option, Some, None, Result, Ok, Err, bytes_eq, ⊤, if◌then◌else◌}
 use Rattle.std.specs.List.{list_all, list_any}
+use Rattle.bit_tree.specs.Pieces.{Piece, ended}
 use Rattle.type_table.specs.Types.{Types, with_struct, names, bodies}
+use Rattle.type_table.specs.declared.fault.TypeFault.{TypeFault}
+use Rattle.type_table.specs.declared.fault.TypeFault.TheVariants as type_fault
 use Rattle.module_arena.specs.Changes.{with_table}
 use Rattle.module_arena.specs.Lists.{Lists, no_lists}
 use Rattle.module_arena.specs.Module.{Bytes}
 use Rattle.record_table.specs.Fields.{Texts}
+use Rattle.record_table.specs.Walk.{going, told}
 use Rattle.record_table.specs.Faults.{Records, no_more, a_block, a_record}
 use Rattle.record_table.specs.Layout.{judged}
-use Rattle.record_table.specs.TypeRecords.{Kind, OfVoid, definition, kind_of_code, kinds, are_distinct}
+use Rattle.record_table.specs.TypeRecords.{Listed, Kind, OfVoid, definition, names_in, kind_of_code, kinds, all_fit, are_distinct, called}
+use Rattle.record_read.specs.Entries.{IsBefore}
+use Rattle.record_read.specs.Reader.{Reader, also_asked}
+use Rattle.record_read.specs.declared.fault.BitcodeFault.{BitcodeFault}
+use Rattle.record_read.specs.declared.fault.BitcodeFault.TheVariants.{Memory}
 use Rattle.type_read.specs.declared.structs.StructNames.{StructNames}
 use Rattle.type_read.specs.declared.structs.TypesAhead.{TypesAhead}
 use Rattle.type_read.specs.Fields.{is_good}
@@ -37,6 +45,12 @@ pub record IsFirstBad (place : ℕ) (all : List Bytes) : Type 0 where
 abbrev pub FindsBad : Option ℕ → List Bytes → Type 0
 FindsBad None all = are_good all ≡ true
 FindsBad (Some place) all = IsFirstBad place all
+
+-- the structs of a block: how many, and the first whose name is bad
+pub record AreNames (t : Texts) (inside : Records) (found : StructNames) : Type 0 where
+  pub count : found.count ≡ length (names_in t inside)
+  pub few : length (names_in t inside) < 2 ^ 31
+  pub first_bad : FindsBad found.first_bad (names_in t inside)
 
 -- structs of these names, none of which is defined, and no types
 abbrev pub only_named : List Bytes → Types
@@ -98,3 +112,82 @@ abbrev pub GathersRecord : Texts → ℕ → List ℕ → Lists → TypesAhead �
 GathersRecord t code operands old before new now =
     ((all : List Bytes) → AreGathered old before.structs all → AreGathered new now.structs (if nat_eq code 7 then all ++ (judged (definition t 0) operands).0.1 ∷ [] else all))
     × (now.voids.items ≡ before.voids.items ++ void_of code)
+
+-- ---- the block of types
+
+-- a block of types was begun, and the arena has the structs' names
+pub record IsBegun (t : Texts) (left : List Piece) (found : StructNames) (a : Lists) : Type 0 where
+  pub inside : Records
+  pub others : List Piece
+  pub before : IsBefore left inside (ended ∷ others)
+  pub names_are : AreNames t inside found
+  pub named : IsNamedAs found (names_in t inside) a
+
+-- The arena has the types and structs that were read, and nothing else. Of the structs' names nothing depends on them while
+-- one is bad, which will be refused.
+pub record IsListed (a : Lists) (found : StructNames) (all : List Bytes) (listed : Listed) : Type 0 where
+  pub rest : a ≡ record no_lists { table = a.table }
+  pub types : a.table.types ≡ listed.types.types
+  pub bodies_are : bodies a.table ≡ bodies listed.types
+  pub called_so : names listed.types ≡ called all
+  pub few : length all < 2 ^ 31
+  pub named : found.first_bad ≡ None → a.table ≡ listed.types
+
+-- no struct behind the first bad name is reached
+abbrev pub IsReached : Option ℕ → ℕ → Type 0
+IsReached None number = ⊤
+IsReached (Some place) number = number ≤ place
+
+-- The structs that are defined so far have the first of all names, which are good, and those behind them are not defined.
+pub record AreSoFar (found : StructNames) (all : List Bytes) (s : Listed) (later : List Bytes) : Type 0 where
+  pub all_is : all ≡ s.names ++ later
+  pub good : list_all is_good s.names ≡ true
+  pub first_bad : FindsBad found.first_bad all
+  pub reached : IsReached found.first_bad (length s.names)
+  pub undefined : (id : ℕ) → length s.names ≤ id → id < length all → slice_get (bodies s.types) id ≡ Some None
+
+-- the names from this record on, where those behind it are these
+abbrev pub later_names : Listed → ℕ → List ℕ → List Bytes → List Bytes
+later_names s code operands later = if nat_eq code 7 then (judged (definition s.texts (length s.types.types)) operands).0.1 ∷ later else later
+
+-- a record in front, none of whose operands are taken, behind what was read so far
+pub record IsOn (a : Lists) (found : StructNames) (all : List Bytes) (r : Reader) (operands : List ℕ) (s : Listed) : Type 0 where
+  pub listed : IsListed a found all s
+  pub walk : r.walk ≡ going operands None
+  pub at : r.at ≡ suc s.at
+
+-- one record more was read, behind which structs of these names are to come
+pub record IsMore (a : Lists) (found : StructNames) (all later : List Bytes) (s listed : Listed) : Type 0 where
+  pub listed_is : IsListed a found all listed
+  pub so_far : AreSoFar found all listed later
+  pub at : listed.at ≡ suc s.at
+  pub texts : listed.texts ≡ s.texts
+
+-- one record was read: the reader is in front of the same as before
+abbrev pub ReadsOne : {A E : Type 0} → Reader → Result A E → Reader → Type 0
+ReadsOne old (Ok done) new = (new.spent ≡ old.spent) × (new.left ≡ old.left) × (new.at ≡ old.at)
+ReadsOne old (Err fault) new = ⊤
+
+-- a struct that the arena has, and that is not defined
+abbrev pub IsUndefined : Lists → ℕ → Type 0
+IsUndefined a id = (id < length a.table.structs) × (slice_get (bodies a.table) id ≡ Some None)
+
+-- a refusal of a change of the table: by rule 7, or since memory ran out
+abbrev pub IsRefusedBy : TypeFault → Reader → Result (Unit {0}) BitcodeFault → Reader → Type 0
+IsRefusedBy fault before (Ok done) now = (fault ≢ type_fault.Memory) × (now ≡ record before { walk = also_asked 7 false before.walk })
+IsRefusedBy fault before (Err told) now = told ≡ Memory
+
+-- The table becomes this one where all of it is within the limits; else rule 7 is broken.
+abbrev pub AddsType : Types → Lists → Reader → Result (Unit {0}) BitcodeFault → Lists → Reader → Type 0
+AddsType after old before (Ok done) new now = (all_fit after ≡ true → new ≡ with_table old after) × (now ≡ record before { walk = also_asked 7 (all_fit after) before.walk })
+AddsType after old before (Err told) new now = told ≡ Memory
+
+-- the name at that place is the first bad one
+abbrev pub is_first : Option ℕ → ℕ → Bool
+is_first None number = false
+is_first (Some place) number = nat_eq number place
+
+-- rule 4 is asked where a name is kept: it is new unless it is the first bad one
+abbrev pub NamesNext : StructNames → ℕ → Bool → Reader → Reader → Type 0
+NamesNext found number true before now = now ≡ record before { walk = also_asked 4 (not (is_first found.first_bad number)) before.walk }
+NamesNext found number false before now = now ≡ before

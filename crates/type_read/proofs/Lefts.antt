@@ -1,0 +1,18 @@
+-- How many operands are left behind one that was taken.
+use Rattle.std.proofs.Common.{◌≡◌, ℕ, Bool, true, false, List, [], ◌∷◌, Option, Some, refl, ap, ◌∙◌}
+use Rattle.record_table.specs.Walk.{Walk, going, stopped, ask, left}
+use Rattle.record_read.specs.Reader.{Reader, Takes, TakesBy, is_stopped}
+
+pub asked_left : (rule : ℕ) (b : Bool) (w : Walk) → left (ask rule b w) ≡ left w
+asked_left rule true w = refl
+asked_left rule false (going rest broken) = refl
+asked_left rule false (stopped broken) = refl
+
+goes_by : (w : Walk) (before mid : Reader) (n : ℕ) → TakesBy w before (Some n) mid → is_stopped mid.walk ≡ false
+goes_by (going [] broken) before mid n h = absurd h
+goes_by (going (k ∷ rest) broken) before mid n h = ap (λ (r : Reader). is_stopped r.walk) h.1
+goes_by (stopped broken) before mid n h = absurd h
+
+-- what follows an operand that was taken is known
+pub goes_on : (before mid : Reader) (n : ℕ) → Takes before (Some n) mid → is_stopped mid.walk ≡ false
+goes_on before mid n h = goes_by before.walk before mid n h

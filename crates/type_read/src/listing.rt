@@ -1,0 +1,219 @@
+//! The block of types, record by record.
+ghost use Rattle.std.specs.Prelude.{◌≡◌, ◌∷◌, ◌<◌, ◌^◌, ℕ, List, false, length, OnOk};
+ghost use Rattle.bit_tree.specs.Pieces.{Piece, ended};
+ghost use Rattle.type_table.specs.Limits.{IsWithin};
+ghost use Rattle.type_table.specs.Types.{IsGood, IsKnown, IsKnownBody, with_body, with_type};
+ghost use Rattle.record_table.specs.Faults.{Records};
+ghost use Rattle.record_table.specs.Codes.{kind_view};
+ghost use Rattle.record_table.specs.Layout.{judged};
+ghost use Rattle.record_table.specs.TypeRecords as types;
+ghost use Rattle.record_read.specs.Entries.{IsBefore};
+ghost use Rattle.record_read.specs.Faults.{Answers};
+ghost use Rattle.record_read.specs.Fields.{texts_of};
+ghost use Rattle.type_read.specs.Listed.{AddsType, AreNames, AreSoFar, IsBegun, IsListed, IsMore, IsNamedAs, IsOn, IsRefusedBy, IsUndefined, NamesNext, ReadsOne, later_names};
+
+use crate::definition::{Definition, read_definition};
+use crate::records::read_type;
+use crate::structs::StructNames;
+use module_arena::Arena;
+use record_read::{BitcodeFault, Entry, RecordReader, Texts, misplaced};
+use record_table::{DEFINE, Kind, TYPES_BLOCK};
+use std::alloc::Global;
+use type_table::{IrType, StructBody, StructId, TypeFault};
+
+/// How many structs there are at most.
+const STRUCT_LIMIT: u32 = 262_144;
+
+/// What holds of the types of every arena.
+fn are_within(arena: &Arena)
+    ensures good { IsGood arena.now.table }
+    ensures within { IsWithin arena.now.table }
+{
+    let _count = arena.types().type_count();
+}
+
+/// Refuses a change of the table of types by rule 7: a type would be past a limit, or a struct would contain itself.
+fn refuse(reader: &mut RecordReader<'_>, fault: TypeFault) -> Result<(), BitcodeFault>
+    ensures { IsRefusedBy fault reader.old result reader.new }
+{
+    match fault {
+        TypeFault::Memory => Err(BitcodeFault::Memory),
+        TypeFault::Duplicate
+        | TypeFault::SelfContaining
+        | TypeFault::TooDeep
+        | TypeFault::TooLarge => {
+            reader.also(7, false);
+            Ok(())
+        }
+    }
+}
+
+/// Adds a type that was read. Rule 7 is broken where it is past a limit.
+fn add_type(
+    reader: &mut RecordReader<'_>,
+    arena: &mut Arena,
+    ty: IrType,
+) -> Result<(), BitcodeFault>
+    requires { IsKnown arena.old.table ty }
+    ensures { AddsType (with_type arena.old.table ty) arena.old reader.old result arena.new reader.new }
+{
+    match arena.add_type(ty) {
+        Ok(_) => {
+            are_within(arena);
+            Ok(())
+        }
+        Err(fault) => refuse(reader, fault),
+    }
+}
+
+/// Gives a struct what it is. Rule 7 is broken where a type would be past a limit, or a struct would contain itself.
+fn define_struct(
+    reader: &mut RecordReader<'_>,
+    arena: &mut Arena,
+    id: StructId,
+    body: StructBody,
+) -> Result<(), BitcodeFault>
+    requires undefined { IsUndefined arena.old id }
+    requires fields { IsKnownBody arena.old.table body }
+    ensures { AddsType (with_body arena.old.table id body) arena.old reader.old result arena.new reader.new }
+{
+    match arena.define_struct(id, body) {
+        Ok(()) => {
+            are_within(arena);
+            Ok(())
+        }
+        Err(fault) => refuse(reader, fault),
+    }
+}
+
+/// Reads the record of a type, behind so many structs: none may stand there.
+fn read_type_record(
+    reader: &mut RecordReader<'_>,
+    alloc: Global,
+    arena: &mut Arena,
+    kind: Kind,
+    defined: u32,
+) -> Result<(), BitcodeFault>
+    requires { 0 < reader.old.at }
+    ensures reads { ReadsOne reader.old result reader.new }
+    ensures answers { (names : StructNames) (all : List (List ℕ)) (s : types.Listed) (operands : List ℕ) → IsOn arena.old names all reader.old operands s → defined ≡ length s.names
+        → (later : List (List ℕ)) → AreSoFar names all s later
+        → Answers (λ _ listed. IsMore arena.new names all later s listed) (types.of_kind s operands (kind_view kind)) result }
+{
+    let count = arena.types().type_count();
+    let structs = arena.types().struct_count();
+    let ty = read_type(reader, alloc, kind, count, structs)?;
+    reader.also(5, defined == 0);
+    are_within(arena);
+    match ty {
+        Some(ty) => {
+            add_type(reader, arena, ty)?;
+            reader.finish(TYPES_BLOCK)
+        }
+        None => reader.finish(TYPES_BLOCK),
+    }
+}
+
+/// Asks of the struct of that number, whose name is kept, that no struct before it is called so: rule 4.
+fn ask_new(reader: &mut RecordReader<'_>, names: StructNames, number: u32, is_kept: bool)
+    ensures { NamesNext names number is_kept reader.old reader.new }
+{
+    if is_kept {
+        let is_new = match names.first_bad {
+            Some(place) => number != place,
+            None => true,
+        };
+        reader.also(4, is_new);
+    }
+}
+
+/// Reads the record of the struct of that number, counted from 0.
+fn read_struct_record(
+    reader: &mut RecordReader<'_>,
+    alloc: Global,
+    texts: &Texts,
+    arena: &mut Arena,
+    names: StructNames,
+    number: u32,
+) -> Result<(), BitcodeFault>
+    requires given { 0 < reader.old.at }
+    requires undefined { IsUndefined arena.old number }
+    ensures reads { ReadsOne reader.old result reader.new }
+    ensures answers { (all : List (List ℕ)) (s : types.Listed) (operands : List ℕ) → IsOn arena.old names all reader.old operands s → number ≡ length s.names → s.texts ≡ texts_of texts.now
+        → (later : List (List ℕ)) → AreSoFar names all s ((judged (types.definition s.texts (length s.types.types)) operands).0.1 ∷ later)
+        → Answers (λ _ listed. IsMore arena.new names all later s listed) (types.struct_record s (judged (types.definition s.texts (length s.types.types)) operands)) result }
+{
+    let count = arena.types().type_count();
+    let definition = read_definition(reader, alloc, texts, count)?;
+    let Definition { body, name } = definition;
+    ask_new(reader, names, number, name.is_some());
+    reader.also(7, number < STRUCT_LIMIT);
+    are_within(arena);
+    match body {
+        Some(body) => {
+            define_struct(reader, arena, StructId::new(number), body)?;
+            reader.finish(TYPES_BLOCK)
+        }
+        None => reader.finish(TYPES_BLOCK),
+    }
+}
+
+/// Reads a record of that code, behind so many structs, and tells how many there are then.
+fn read_record(
+    reader: &mut RecordReader<'_>,
+    alloc: Global,
+    texts: &Texts,
+    arena: &mut Arena,
+    names: StructNames,
+    defined: u32,
+    code: u32,
+) -> Result<u32, BitcodeFault>
+    requires given { 0 < reader.old.at }
+    requires undefined { code ≡ 7 → IsUndefined arena.old defined }
+    requires room { code ≡ 7 → defined < 2 ^ 31 }
+    ensures reads { ReadsOne reader.old result reader.new }
+    ensures answers { (all : List (List ℕ)) (s : types.Listed) (operands : List ℕ) → IsOn arena.old names all reader.old operands s → defined ≡ length s.names → s.texts ≡ texts_of texts.now
+        → (later : List (List ℕ)) → AreSoFar names all s (later_names s code operands later)
+        → Answers (λ number listed. IsMore arena.new names all later s listed × (number ≡ length listed.names)) (types.listed_by s code operands (types.kind_of_code code types.kinds)) result }
+{
+    if code == DEFINE {
+        read_struct_record(reader, alloc, texts, arena, names, defined)?;
+        return Ok(defined + 1);
+    }
+    match Kind::of_code(code) {
+        Some(kind) => {
+            read_type_record(reader, alloc, arena, kind, defined)?;
+            Ok(defined)
+        }
+        None => Err(BitcodeFault::UnknownRecord(TYPES_BLOCK, code)),
+    }
+}
+
+/// Reads the block of types that was begun, into an arena that has the names of its structs and nothing else. The reader
+/// stands behind the block then.
+pub fn read_types(
+    reader: &mut RecordReader<'_>,
+    alloc: Global,
+    texts: &Texts,
+    arena: &mut Arena,
+    names: StructNames,
+) -> Result<(), BitcodeFault>
+    requires unspent { reader.old.spent ≡ false }
+    requires begun { IsBegun (texts_of texts.now) reader.old.left names arena.old }
+    ensures unspent { OnOk result (reader.new.spent ≡ false) }
+    ensures answers { (inside : Records) (others : List Piece) → IsBefore reader.old.left inside (ended ∷ others) → AreNames (texts_of texts.now) inside names
+        → IsNamedAs names (types.names_in (texts_of texts.now) inside) arena.old
+        → Answers (λ _ listed. IsListed arena.new names (types.names_in (texts_of texts.now) inside) listed × (reader.new.left ≡ others) × (reader.new.at ≡ listed.at))
+        (types.listed (texts_of texts.now) reader.old.at inside) result }
+{
+    let mut defined: u32 = 0;
+    'records: loop {
+        match reader.next()? {
+            Entry::Record(code) => {
+                defined = read_record(reader, alloc, texts, arena, names, defined, code)?;
+            }
+            Entry::Block(id) => return Err(misplaced(id, reader.at())),
+            Entry::End => return Ok(()),
+        }
+    }
+}
