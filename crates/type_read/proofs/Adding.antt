@@ -1,5 +1,5 @@
 -- A type or a struct that was read, added to the table.
-use Rattle.std.proofs.Common.{◌≡◌, ◌≢◌, ◌<◌, ◌≤◌, ◌+◌, ◌/◌, ◌%◌, ◌*◌, ◌^◌, ◌&&◌, ◌||◌, ℕ, zero, suc, Bool, true, false, cond, List, [], ◌∷◌, ◌++◌, Option, Some, None, map, length, get_or, set, All, AllPairs, refl, sym, ap, subst, ◌∙◌, arith}
+use Rattle.std.proofs.Common.{◌≡◌, ◌≢◌, ◌<◌, ◌+◌, ◌/◌, ◌%◌, ◌*◌, ◌^◌, ◌&&◌, ◌||◌, ℕ, zero, suc, Bool, true, false, cond, List, [], ◌∷◌, ◌++◌, Option, Some, length, get_or, set, AllPairs, refl, sym, ap, subst, ◌∙◌, arith}
 use Rattle.std.specs.Prelude.{Result, Ok, Err, bytes_eq, not}
 use Rattle.std.specs.List.{list_all, list_any}
 use Rattle.std.proofs.lemmas.Bool.{and_parts, both_ways, not-true}
@@ -9,7 +9,7 @@ use Rattle.type_table.specs.declared.fault.TypeFault.{TypeFault}
 use Rattle.type_table.specs.declared.ir_type.IrType.{IrType}
 use Rattle.type_table.specs.declared.ir_type.StructBody.{StructBody}
 use Rattle.type_table.specs.Limits.{IsWithin, HasFault}
-use Rattle.type_table.specs.Types.{Types, IsGood, Knows, AllKnown, names, bodies, with_type, with_body}
+use Rattle.type_table.specs.Types.{Types, IsGood, Knows, AllKnown, names, with_type, with_body}
 use Rattle.type_table.proofs.Defined.{names-defined, bodies-defined}
 use Rattle.module_arena.specs.Changes.{with_table}
 use Rattle.module_arena.specs.Lists.{Lists}
@@ -18,7 +18,7 @@ use Rattle.module_arena.specs.WellFormed.{is_within_limits}
 use Rattle.std.proofs.lemmas.Slice.Eq.{bytes_eq-Decides}
 use Rattle.record_table.specs.Fields.{is_name}
 use Rattle.record_table.specs.TypeRecords.{Listed, all_fit, are_distinct, called, stand_in, stand_ins}
-use Rattle.record_read.specs.Reader.{Reader, also_asked}
+use Rattle.record_read.specs.Reader.{Reader}
 use Rattle.record_read.specs.declared.fault.BitcodeFault.{BitcodeFault}
 use Rattle.type_read.specs.Listed.{AddsType, IsRefusedBy, IsListed}
 use Rattle.type_read.specs.declared.structs.StructNames.{StructNames}

@@ -1,16 +1,15 @@
 -- Shapes do not depend on what structs are called: two tables of the same types and bodies, each with distinct names, have the same shapes.
-use Rattle.std.proofs.Common.{◌≡◌, ◌≢◌, ◌<◌, ◌+◌, ℕ, zero, suc, Bool, true, false, List, [], ◌∷◌, ◌++◌, Option, Some, None, map, length, get_or, All, AllPairs, refl, sym, ap, subst, ◌∙◌, arith}
+use Rattle.std.proofs.Common.{◌≡◌, ◌≢◌, ◌<◌, ◌+◌, ℕ, zero, suc, Bool, true, false, List, [], ◌∷◌, ◌++◌, Option, Some, None, map, length, get_or, AllPairs, refl, sym, ap, subst, ◌∙◌, arith}
 use Rattle.std.specs.List.{fold}
 use Rattle.std.specs.Option.{option_map}
-use Rattle.std.proofs.lemmas.List.{length-map, length_push, map-append}
-use Rattle.std.proofs.lemmas.List.Elements.{All-head, All-tail}
+use Rattle.std.proofs.lemmas.List.{length-map}
 use Rattle.type_table.specs.declared.ir_type.IrType.{IrType}
 use Rattle.type_table.specs.declared.ir_type.IrType.TheVariants.{Int, Ptr, Void, Array, Struct, Named}
 use Rattle.type_table.specs.declared.ir_type.StructBody.{StructBody}
 use Rattle.type_table.specs.declared.ir_type.StructBody.TheVariants.{Opaque, Plain, Packed}
-use Rattle.type_table.specs.Tree.{Tree, int, ptr, void, array, struct, named, Trees, no_trees, more_trees, TreeBody, opaque_body, fields, body_of}
-use Rattle.type_table.specs.Types.{Types, IsGood, names, bodies, trees, trees_at, tree_of, grow, tree_body, structs, Knows, AllKnown, KnowsBody}
-use Rattle.type_table.specs.Shape.{Label, Shape, array_of, struct_of, with_first, expanded, all_expanded, body_shape, name_shape, shape}
+use Rattle.type_table.specs.Tree.{Tree, int, ptr, void, array, struct, named, Trees, no_trees, more_trees, body_of}
+use Rattle.type_table.specs.Types.{Types, names, bodies, trees, trees_at, tree_of, grow, tree_body, structs, Knows, AllKnown}
+use Rattle.type_table.specs.Shape.{Shape, array_of, struct_of, with_first, expanded, all_expanded, body_shape, name_shape, shape}
 use Rattle.type_table.specs.Limits.{all_shapes}
 use Rattle.type_table.proofs.UnderIds.{index_of-at, body_of-place}
 use Rattle.type_table.proofs.Rooms.{name_shape-zero, name_shape-suc}

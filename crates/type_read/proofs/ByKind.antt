@@ -1,10 +1,10 @@
 -- A type by its kind, read one field behind the other.
-use Rattle.std.proofs.Common.{◌≡◌, ◌≤◌, ◌<◌, ◌&&◌, ℕ, Bool, true, false, List, Option, Some, None, sym, ap, ◌∙◌, arith}
+use Rattle.std.proofs.Common.{◌≡◌, ◌≤◌, ◌&&◌, ℕ, Bool, true, false, List, Some, None, sym, ap, ◌∙◌, arith}
 use Rattle.std.specs.Prelude.{nat_le}
 use Rattle.std.proofs.lemmas.Bool.{and_parts, leb-true}
 use Rattle.type_table.specs.declared.ir_type.IrType.TheVariants.{Int, Array, Struct, Named}
 use Rattle.record_table.specs.Walk.{next, ask}
-use Rattle.record_table.specs.Layout.{Layout, number, to_end}
+use Rattle.record_table.specs.Layout.{number, to_end}
 use Rattle.record_table.specs.Fields.{truth}
 use Rattle.record_table.specs.TypeRecords.{earlier, width, ir_type, OfInt, OfArray, OfStruct, OfName}
 use Rattle.record_read.specs.Reader.{Reader, Reads, ReadsAs, is_broken, is_stopped}

@@ -1,8 +1,8 @@
 -- A struct that contains itself has no shape, so that it is past every limit.
-use Rattle.std.proofs.Common.{◌≡◌, ◌<◌, ◌≤◌, ℕ, zero, suc, Bool, true, false, List, [], ◌∷◌, Option, Some, None, refl, sym, ap, ◌∙◌, arith}
+use Rattle.std.proofs.Common.{◌≡◌, ◌<◌, ◌≤◌, ℕ, zero, suc, List, Option, Some, None, refl, sym, ap, ◌∙◌, arith}
 use Rattle.type_table.specs.Contains.{Holds, SomeHolds, BodyHolds, holds_as_itself, holds_in_array, holds_in_struct, holds_in_body, first_holds, later_holds}
-use Rattle.type_table.specs.Shape.{Label, Shape, Shapes, array_of, struct_of, expanded, all_expanded, body_shape, name_shape}
-use Rattle.type_table.specs.Tree.{Tree, array, struct, named, Trees, more_trees, TreeBody, opaque_body, fields}
+use Rattle.type_table.specs.Shape.{Shape, Shapes, array_of, struct_of, expanded, all_expanded, body_shape, name_shape}
+use Rattle.type_table.specs.Tree.{Tree, Trees, TreeBody, opaque_body, fields}
 use Rattle.type_table.proofs.Rooms.{unmapped, unjoined, name_shape-zero, name_shape-suc}
 
 module _ (bodies : List ℕ → TreeBody) (name : List ℕ) where

@@ -1,13 +1,13 @@
 -- What the table of an arena tells of its limits is what the definition asks of all types.
-use Rattle.std.proofs.Common.{◌≡◌, ◌<◌, ◌+◌, ◌≢◌, ℕ, zero, suc, Bool, true, false, List, [], ◌∷◌, ◌++◌, Option, Some, None, map, length, get_or, All, Any, refl, sym, ap, subst, ◌∙◌, arith, inl, inr}
+use Rattle.std.proofs.Common.{◌≡◌, ◌<◌, ◌+◌, ◌≢◌, ℕ, zero, suc, true, false, List, [], ◌∷◌, ◌++◌, Option, Some, None, map, length, get_or, All, Any, refl, ap, subst, ◌∙◌, arith, inl, inr}
 use Rattle.std.specs.List.{list_all}
-use Rattle.std.proofs.lemmas.Bool.{and_from, and_parts, false_from_ne_true, false≢true, both_ways}
+use Rattle.std.proofs.lemmas.Bool.{and_from, and_parts, false_from_ne_true}
 use Rattle.std.proofs.lemmas.List.{length-append, length-map, get_or-append-add}
 use Rattle.std.proofs.lemmas.List.Elements.{All-head, All-tail}
 use Rattle.type_table.specs.declared.fault.TypeFault.{TypeFault}
 use Rattle.type_table.specs.declared.fault.TypeFault.TheVariants as fault
 use Rattle.type_table.specs.Limits.{IsTooDeep, IsTooLarge, IsWithinLimits, IsWithin, HasFault, SomeContainsItself, all_shapes}
-use Rattle.type_table.specs.Shape.{Shape, shape, nesting, parts}
+use Rattle.type_table.specs.Shape.{Shape, shape}
 use Rattle.type_table.specs.Tree.{named, body_of}
 use Rattle.type_table.specs.Types.{Types, names, trees, structs}
 use Rattle.type_table.proofs.UnderIds.{get_or-map}

@@ -1,13 +1,13 @@
 -- Types one behind the other, as a loop gathers them.
-use Rattle.std.proofs.Common.{◌≡◌, ◌⊎◌, ◌<◌, ◌+◌, ℕ, Bool, true, false, cond, List, [], ◌∷◌, ◌++◌, Option, Some, None, nat_lt, refl, sym, ap, subst, ◌∙◌, arith, All, inl, inr}
+use Rattle.std.proofs.Common.{◌≡◌, ◌⊎◌, ◌<◌, ◌+◌, ℕ, Bool, true, false, cond, List, [], ◌∷◌, ◌++◌, Option, Some, None, nat_lt, refl, sym, ap, subst, ◌∙◌, arith, All, inl}
 use Rattle.std.specs.Prelude.{option_to_list}
 use Rattle.std.proofs.lemmas.List.{append-nil}
 use Rattle.std.proofs.lemmas.List.Elements.{All-push}
 use Rattle.std.proofs.lemmas.Bool.{ltb-true}
 use Rattle.record_table.specs.Walk.{Walk, next, ask, left}
-use Rattle.record_table.specs.Layout.{Layout, number, many, times, to_end}
+use Rattle.record_table.specs.Layout.{number, many, times, to_end}
 use Rattle.record_table.specs.TypeRecords.{earlier}
-use Rattle.record_read.specs.Reader.{Reader, Reads, ReadsAs, Takes, IsKept, is_broken, is_stopped}
+use Rattle.record_read.specs.Reader.{Reader, Reads, ReadsAs, Takes, is_broken, is_stopped}
 use Rattle.record_read.specs.Fields.{IsBelow}
 use Rattle.record_read.proofs.Gathering.{moves, none_taken}
 use Rattle.record_read.proofs.Repeated.{IsSoFar, begins, more, over}

@@ -1,9 +1,9 @@
 -- Names of structs that are good, and the first that is not.
-use Rattle.std.proofs.Common.{◌≡◌, ◌≢◌, ◌⊎◌, ◌≤◌, ◌<◌, ◌+◌, ◌&&◌, ℕ, zero, suc, Bool, true, false, not, List, [], ◌∷◌, ◌++◌, Option, Some, None, length, refl, sym, ap, subst, ◌∙◌, arith, inl, inr}
+use Rattle.std.proofs.Common.{◌≡◌, ◌≢◌, ◌⊎◌, ◌≤◌, ◌<◌, ℕ, suc, true, false, not, List, [], ◌∷◌, ◌++◌, Option, Some, None, length, refl, sym, ap, subst, ◌∙◌, arith, inl, inr}
 use Rattle.std.specs.Prelude.{nat_eq, bytes_eq}
 use Rattle.std.specs.List.{list_all, list_any}
-use Rattle.std.proofs.lemmas.Bool.{and_parts, and_from, both_ways, not-true, not_from_true, not_from_false, or_from, or_parts, false_from_ne_true, eq-eqb, ne_eqb, cases_lt}
-use Rattle.std.proofs.lemmas.List.{append_assoc, length-append}
+use Rattle.std.proofs.lemmas.Bool.{and_parts, and_from, both_ways, not-true, not_from_false, or_from, or_parts, false_from_ne_true, eq-eqb, ne_eqb, cases_lt}
+use Rattle.std.proofs.lemmas.List.{append_assoc}
 use Rattle.std.proofs.lemmas.Slice.Eq.{bytes_eq-Decides}
 use Rattle.module_arena.specs.Module.{Bytes}
 use Rattle.type_read.proofs.Tests.{all_both, other_way, not_later}

@@ -1,5 +1,5 @@
 -- How many operands are left behind one that was taken.
-use Rattle.std.proofs.Common.{◌≡◌, ℕ, Bool, true, false, List, [], ◌∷◌, Option, Some, refl, ap, ◌∙◌}
+use Rattle.std.proofs.Common.{◌≡◌, ℕ, Bool, true, false, [], ◌∷◌, Some, refl, ap}
 use Rattle.record_table.specs.Walk.{Walk, going, stopped, ask, left}
 use Rattle.record_read.specs.Reader.{Reader, Takes, TakesBy, is_stopped}
 

@@ -1,14 +1,14 @@
 -- One record of the block of types: what is told of it, and what the arena has behind it.
-use Rattle.std.proofs.Common.{◌≡◌, ◌≢◌, ◌≤◌, ◌<◌, ◌==◌, ◌&&◌, ◌+◌, ℕ, min, zero, suc, Bool, true, false, List, [], ◌∷◌, ◌++◌, Option, Some, None, map, length, set, refl, sym, ap, subst, ◌∙◌, arith, inl, inr}
-use Rattle.std.specs.Prelude.{nat_lt, nat_eq, not, is_some, bytes_eq, slice_get, Result, Ok, Err}
-use Rattle.std.specs.List.{list_all, list_any}
-use Rattle.std.proofs.lemmas.Bool.{and_from, and_parts, both_ways, not-true, not_from_false}
+use Rattle.std.proofs.Common.{◌≡◌, ◌≤◌, ◌==◌, ◌&&◌, ◌+◌, ℕ, min, zero, suc, Bool, true, false, List, [], ◌∷◌, ◌++◌, Option, Some, None, length, set, refl, sym, ap, subst, ◌∙◌, arith}
+use Rattle.std.specs.Prelude.{nat_lt, not, is_some, bytes_eq, slice_get, Result, Ok}
+use Rattle.std.specs.List.{list_any}
+use Rattle.std.proofs.lemmas.Bool.{and_from, and_parts, not-true, not_from_false}
 use Rattle.std.proofs.lemmas.List.{append_assoc, length_push}
 use Rattle.type_table.proofs.Defined.{names-defined, bodies-defined}
 use Rattle.type_read.proofs.Tests.{all_both}
 use Rattle.type_table.specs.declared.ir_type.IrType.{IrType}
 use Rattle.type_table.specs.declared.ir_type.StructBody.{StructBody}
-use Rattle.type_table.specs.Types.{Types, IsGood, Knows, names, bodies, with_type, with_body}
+use Rattle.type_table.specs.Types.{Types, IsGood, Knows, bodies, with_type, with_body}
 use Rattle.module_arena.specs.Changes.{with_table}
 use Rattle.module_arena.specs.Lists.{Lists, no_lists}
 use Rattle.module_arena.specs.Module.{Bytes}
@@ -18,15 +18,15 @@ use Rattle.record_table.specs.Fields.{byte, is_name}
 use Rattle.record_table.specs.StringTable.{is_within}
 use Rattle.record_table.specs.Faults.{also, types_id}
 use Rattle.record_table.specs.TypeRecords.{Listed, Kind, ir_type, struct_body, definition, of_kind, struct_record, all_fit}
-use Rattle.record_read.specs.Reader.{Reader, ReadsAs, IsAtMost, IsBroken, IsBrokenBy, also_asked, is_broken}
+use Rattle.record_read.specs.Reader.{Reader, ReadsAs, IsAtMost, IsBrokenBy, also_asked, is_broken}
 use Rattle.record_read.specs.Faults.{Answers, Finishes}
 use Rattle.record_read.specs.Fields.{texts_of}
 use Rattle.record_read.specs.declared.texts.Texts as the_texts
 use Rattle.record_read.specs.declared.texts.Texts.TheVariants.{Inline, Table}
 use Rattle.record_read.proofs.Asking.{still_by, next_by}
 use Rattle.record_read.specs.declared.fault.BitcodeFault.{BitcodeFault}
-use Rattle.type_read.specs.Fields.{IsTypeOf, IsBodyOf, IsDefinition, is_good}
-use Rattle.type_read.specs.Listed.{AddsType, AreSoFar, IsListed, IsMore, IsOn, IsReached, NamesNext, is_first}
+use Rattle.type_read.specs.Fields.{IsTypeOf, IsDefinition, is_good}
+use Rattle.type_read.specs.Listed.{AddsType, AreSoFar, IsMore, IsOn, IsReached, NamesNext, is_first}
 use Rattle.type_read.specs.declared.structs.StructNames.{StructNames}
 use Rattle.type_read.specs.declared.definition.Definition.{Definition}
 use Rattle.type_read.proofs.Good.{bad_is_new, first_tells, reaches_next}

@@ -1,15 +1,14 @@
 -- Rules that stay broken, rules that are low, and rules that are told of a whole record.
-use Rattle.std.proofs.Common.{◌≡◌, ◌≤◌, ◌⊎◌, ◌-◌, ℕ, zero, suc, min, Bool, true, false, List, [], ◌∷◌, Option, Some, None, refl, sym, ap, ◌∙◌, arith, inl, inr}
+use Rattle.std.proofs.Common.{◌≡◌, ◌≤◌, ◌-◌, ℕ, zero, suc, min, Bool, true, false, [], ◌∷◌, Option, Some, None, refl, ap, ◌∙◌, arith}
 use Rattle.std.specs.Prelude.{nat_lt, Result, Ok, Err}
-use Rattle.record_table.specs.Walk.{Walk, going, stopped, least, ask, break, next, left, told}
+use Rattle.record_table.specs.Walk.{Walk, going, stopped, least, ask, next, left, told}
 use Rattle.record_table.specs.Layout.{many}
 use Rattle.record_table.specs.Faults.{Answer, also, unless_broken}
 use Rattle.record_table.specs.TypeRecords.{earlier, ir_type, struct_body, Kind, OfInt, OfPtr, OfVoid, OfArray, OfStruct, OfName}
 use Rattle.record_read.specs.declared.fault.BitcodeFault.{BitcodeFault}
 use Rattle.record_read.specs.declared.fault.BitcodeFault.TheVariants as fault
 use Rattle.record_read.specs.Faults.{Answers, Finishes}
-use Rattle.record_read.specs.Reader.{Reader, IsAtMost, IsBroken, IsBrokenBy, FinishesBy, also_asked, broken_by, is_broken, is_stopped}
-use Rattle.record_read.proofs.Asking.{still_by, next_by}
+use Rattle.record_read.specs.Reader.{Reader, IsAtMost, IsBroken, IsBrokenBy, also_asked, broken_by, is_broken, is_stopped}
 
 -- ---- where no rule is broken, none was
 

@@ -1,5 +1,5 @@
 -- For `read_types` and `gather_types`: what is kept of the operands of a type or struct.
-use Rattle.std.specs.Prelude.{◌≡◌, ℕ, ◌<◌, ◌&&◌, ◌⊎◌, Bool, true, false, List, All, Option, Some, None}
+use Rattle.std.specs.Prelude.{◌≡◌, ℕ, ◌<◌, ◌&&◌, Bool, true, false, List, All, Option, Some, None}
 use Rattle.type_table.specs.Types.{Knows, KnowsBody}
 use Rattle.type_table.specs.declared.ir_type.IrType.{IrType}
 use Rattle.type_table.specs.declared.ir_type.StructBody.{StructBody}
