@@ -75,11 +75,12 @@ pub fn typed_at(cursor: &mut Cursor, depth: u8) -> Result<TypedConstant, Fault>
 fn elements(cursor: &mut Cursor, depth: u8) -> Result<Vec<TypedConstant>, Fault>
     ensures { Follows (λ limits. elements_row (typed_at limits depth)) (λ elements. map typed_constant_view elements.items) cursor.old result cursor.new }
 {
-    let mut elements = Vec::new(cursor.alloc());
     if !begins_type(cursor) {
-        return Ok(elements);
+        return Ok(Vec::new(cursor.alloc()));
     }
-    elements.push(typed_at(cursor, depth)?)?;
+    let first = typed_at(cursor, depth)?;
+    let mut elements = Vec::with_capacity(cursor.alloc(), 1)?;
+    elements.push(first)?;
     'elements: while cursor.is_class_next(Terminal::Comma) {
         cursor.take_class(Terminal::Comma)?;
         elements.push(typed_at(cursor, depth)?)?;

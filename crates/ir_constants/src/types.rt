@@ -49,11 +49,12 @@ fn array(cursor: &mut Cursor, depth: u8) -> Result<Type, Fault>
 fn fields(cursor: &mut Cursor, depth: u8) -> Result<Vec<Type>, Fault>
     ensures { Follows (λ limits. types_row (type_at limits depth)) (λ fields. map type_view fields.items) cursor.old result cursor.new }
 {
-    let mut fields = Vec::new(cursor.alloc());
     if !begins_type(cursor) {
-        return Ok(fields);
+        return Ok(Vec::new(cursor.alloc()));
     }
-    fields.push(type_at(cursor, depth)?)?;
+    let first = type_at(cursor, depth)?;
+    let mut fields = Vec::with_capacity(cursor.alloc(), 1)?;
+    fields.push(first)?;
     'fields: while cursor.is_class_next(Terminal::Comma) {
         cursor.take_class(Terminal::Comma)?;
         fields.push(type_at(cursor, depth)?)?;
