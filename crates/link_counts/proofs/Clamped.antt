@@ -1,5 +1,6 @@
 -- A count that is cut at a number is past a lower limit exactly where the count is.
-use Rattle.std.proofs.Common.{◌≡◌, ℕ, zero, suc, ◌+◌, ◌<◌, ◌≤◌, min, max, inl, inr, nat_lt, refl, sym, ap, ◌∙◌, arith}
+use Rattle.std.proofs.Common.{◌≡◌, ℕ, zero, suc, ◌+◌, ◌<◌, ◌≤◌, min, max, inl, inr, nat_lt, refl, sym, ap, ◌∙◌, arith, ◌*◌}
+use Rattle.linked_symbols.proofs.Joined.{clamp_mul}
 use Rattle.std.proofs.lemmas.Bool.{cases_lt, lt-ltb, le-ltb}
 use Rattle.module_linker.specs.Counts.{count_of_aliases}
 
@@ -22,3 +23,11 @@ no_aliases variables functions aliases none = ap (count_of_aliases variables fun
 pub some_aliases : (variables functions aliases : ℕ) → 0 < aliases → count_of_aliases variables functions aliases ≡ aliases + max variables functions
 some_aliases variables functions zero some = absurd (omega (arith, some))
 some_aliases variables functions (suc n) some = refl
+
+-- the greater of two that are cut is the greater, cut
+max_clamped : (cut m n : ℕ) → max (min m cut) (min n cut) ≡ min (max m n) cut
+max_clamped cut m n = omega arith
+
+-- the greater of a length and its bytes, each cut
+pub bytes_clamped : (cut length size : ℕ) → max (min length cut) (min (min length cut * size) cut) ≡ min (max length (length * size)) cut
+bytes_clamped cut length size = ap (max (min length cut)) (clamp_mul cut length size) ∙ max_clamped cut length (length * size)

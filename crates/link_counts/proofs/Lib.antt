@@ -1,3 +1,5 @@
 mod Clamped
 mod Counted
+mod Elements
 mod FirstPast
+mod Sizes

@@ -1,16 +1,23 @@
--- For `count_symbols` and `too_many_entries`: symbols of one kind, and the counts of entries and structs.
-use Rattle.std.specs.Prelude.{ℕ, List, [], ◌∷◌, Option, Some, None, nat_lt, filter, length, if◌then◌else◌}
+-- For `count_symbols`, `too_many_entries` and `too_many`: symbols of one kind, the counts of entries and structs, and the sizes of appended arrays.
+use Rattle.std.specs.Prelude.{ℕ, ◌^◌, List, [], ◌∷◌, Option, Some, None, nat_lt, filter, filter_map, length, if◌then◌else◌}
 use Rattle.std.specs.Option.{option_or}
+use Rattle.linkage_rules.specs.Conflicts.{appends}
+use Rattle.linkage_rules.specs.Entries.{Entry}
 use Rattle.linkage_rules.specs.Grouped.{kind_of, same_kind}
+use Rattle.linkage_rules.specs.Lists.{first}
+use Rattle.linkage_rules.specs.Symbols.{variable_symbols}
+use Rattle.linkage_rules.specs.Winner.{definitions, home}
+use Rattle.linkage_rules.specs.declared.symbol.SymbolKind.TheVariants as kind
 use Rattle.linkage_rules.specs.declared.symbol.Symbol.{Symbol}
 use Rattle.linkage_rules.specs.declared.symbol.SymbolKind.{SymbolKind}
 use Rattle.linked_symbols.specs.Places.{clamped}
 use Rattle.module_arena.specs.Module.{Module}
 use Rattle.module_arena.specs.declared.fault.CountKind.{CountKind}
-use Rattle.module_arena.specs.declared.fault.CountKind.TheVariants.{Structs, Variables, Functions, Aliases}
+use Rattle.module_arena.specs.declared.fault.CountKind.TheVariants.{Structs, Variables, Functions, Aliases, AppendedBytes}
 use Rattle.module_linker.specs.Counts as linking
+use Rattle.module_linker.specs.Counts.{appended_bytes}
 use Rattle.link_counts.specs.declared.counting.SymbolCounts.{SymbolCounts}
-use Rattle.link_counts.specs.declared.too_many.Count.{Count}
+use Rattle.link_counts.specs.declared.limits.Count.{Count}
 
 -- how many of some symbols are of a kind
 abbrev pub count_of : List Module → SymbolKind → List Symbol → ℕ
@@ -38,3 +45,30 @@ abbrev pub first_entry_count : ℕ → SymbolCounts → Option Count
 first_entry_count structs counts =
     option_or (option_or (option_or (past Structs structs) (past Variables counts.variables)) (past Functions counts.functions))
     (past Aliases (clamped (linking.count_of_aliases counts.variables counts.functions counts.aliases)))
+
+-- the size of an appended array, as a count
+abbrev pub count_of_bytes : Option ℕ → Option Count
+count_of_bytes None = None
+count_of_bytes (Some n) = Some (record { kind = AppendedBytes; number = n })
+
+-- the size of a symbol that is defined there, if it is appended
+abbrev pub appended_at : List Module → Symbol → Option Entry → Option ℕ
+appended_at parts s None = None
+appended_at parts s (Some e) = if appends e then Some (appended_bytes parts e (definitions parts s)) else None
+
+-- the size of a symbol, if it is appended
+abbrev pub appended_of : List Module → Symbol → Option ℕ
+appended_of parts s = appended_at parts s (home parts s)
+
+-- a size that is past the limit
+abbrev pub if_long : Option ℕ → Option ℕ
+if_long None = None
+if_long (Some n) = if nat_lt (2 ^ 40) n then Some n else None
+
+-- the size of a symbol, if it is a variable that is appended and past the limit
+abbrev pub too_long_of : List Module → Symbol → Option ℕ
+too_long_of parts s = if same_kind kind.Variable (kind_of parts s) then if_long (appended_of parts s) else None
+
+-- the first such size that is past the limit
+abbrev pub first_appended : List Module → Option ℕ
+first_appended parts = first (filter (nat_lt (2 ^ 40)) (filter_map (appended_of parts) (variable_symbols parts)))

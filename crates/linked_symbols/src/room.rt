@@ -86,8 +86,9 @@ fn common_in(parts: &[Checked], id: EntryId) -> Option<u32>
     }
 }
 
-/// The elements of all definitions together; 2^64 - 1 where there are more.
-fn joined_length(parts: &[Checked], ids: &[EntryId]) -> u64
+/// The elements of the arrays of all definitions among some entries together; 2^64 - 1 where there are more (LangRef, "Linkage
+/// Types").
+pub fn joined_length(parts: &[Checked], ids: &[EntryId]) -> u64
     requires { All (IsEntryId parts.now) ids.now }
     ensures { result ≡ clamped (place.joined_length (filter winner.is_definition (map (seen (modules parts.now)) ids.now))) }
 {
@@ -100,8 +101,8 @@ fn joined_length(parts: &[Checked], ids: &[EntryId]) -> u64
     length
 }
 
-/// The greatest alignment that a definition states.
-fn greatest_stated(parts: &[Checked], ids: &[EntryId]) -> Option<u32>
+/// The greatest alignment in bytes that a definition among some entries states, where one states any.
+pub fn greatest_stated(parts: &[Checked], ids: &[EntryId]) -> Option<u32>
     requires { All (IsEntryId parts.now) ids.now }
     ensures { result ≡ place.greatest_stated (filter winner.is_definition (map (seen (modules parts.now)) ids.now)) }
 {
@@ -112,8 +113,8 @@ fn greatest_stated(parts: &[Checked], ids: &[EntryId]) -> Option<u32>
     greatest
 }
 
-/// The greatest alignment of common definitions, stated or their types'.
-fn greatest_common(parts: &[Checked], ids: &[EntryId]) -> Option<u32>
+/// The greatest alignment in bytes of the common definitions among some entries, stated or their types', where there is one.
+pub fn greatest_common(parts: &[Checked], ids: &[EntryId]) -> Option<u32>
     requires { All (IsEntryId parts.now) ids.now }
     ensures { result ≡ place.greatest_common (modules parts.now) (filter winner.is_definition (map (seen (modules parts.now)) ids.now)) }
 {

@@ -1,2 +1,2 @@
 mod StructsNamed
-mod StructsDefined
+pub mod StructsDefined

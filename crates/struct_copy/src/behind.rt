@@ -29,8 +29,8 @@ fn behind(count: u64, fields: &[TypeId]) -> u64
     behind
 }
 
-/// The id behind all fields of a body, of which each is below that count.
-pub(crate) fn behind_body(count: u64, body: &StructBody) -> u64
+/// The id behind all fields of a body, of which each is below that count: how many of the first types make all of them.
+pub fn behind_body(count: u64, body: &StructBody) -> u64
     requires { KnowsBody count (Some body.now) }
     ensures upto { result ≤ count }
     ensures past { KnowsBody result (Some body.now) }

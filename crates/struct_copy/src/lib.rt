@@ -9,4 +9,5 @@ mod behind;
 mod defining;
 mod naming;
 
+pub use behind::behind_body;
 pub use defining::copy_structs;

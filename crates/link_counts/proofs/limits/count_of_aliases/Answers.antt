@@ -1,7 +1,7 @@
 use Rattle.std.proofs.Common.{◌-◌, ◌^◌, ◌+◌, ◌<◌, min, sym, ap, ◌∙◌, arith}
 use Rattle.linked_symbols.specs.Places.{clamped}
 use Rattle.link_counts.proofs.Clamped.{no_aliases, some_aliases}
-use Rattle.link_counts.proofs.too_many.count_of_aliases.Goals as goal
+use Rattle.link_counts.proofs.limits.count_of_aliases.Goals as goal
 
 pub returns-then-counts-eq0 : goal.returns-then-counts-eq0
 returns-then-counts-eq0 c = sym (ap clamped (no_aliases c.args.counts.variables c.args.counts.functions c.args.counts.aliases (omega arith)))
