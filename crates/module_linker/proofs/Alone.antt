@@ -17,14 +17,14 @@ use Rattle.module_linker.specs.Structs.{new_struct, linked_type}
 use Rattle.module_linker.specs.Linked.{linked_constant, linked_block, linked_pieces, joined_alignment, linked_parameter, linked_definition, declared_parameters, linked_declaration}
 use Rattle.module_linker.proofs.Apart.{Apart}
 use Rattle.module_linker.proofs.Agreed.{AreDistinct}
-use Rattle.module_linker.specs.Alone.{NumberedFrom, IsList, HasNumbers, Stays}
+use Rattle.module_linker.proofs.Unchanged.{NumberedFrom, IsList, HasNumbers, IsUnchanged}
 use Rattle.linkage_rules.specs.Lists.{greatest}
 
 -- a module of which linking writes nothing anew
 pub record StaysAlone (m : Module) : Type 0 where
   pub distinct : AreDistinct m
   pub distinct_structs : Apart bytes_eq (map (λ s. s.0) m.structs)
-  pub stay : AllByRecursion Stays (globals m)
+  pub stay : AllByRecursion IsUnchanged (globals m)
 
 -- the greatest of one is that one
 greatest_alone : (o : Option ℕ) → greatest (cons_option o []) ≡ o
@@ -84,7 +84,7 @@ module _ (parts : List Module) (structs_own : new_struct parts 0 ≡ own) (globa
       ∙ ap (λ cs. Some (Aggregate Square cs)) (pieces_own is.2) ∙ sym is.4 in
       λ i. OfVariable (record { name = v.name; linkage = v.linkage; constant = v.constant; ty = ty i; alignment = align i; initialiser = init i })
 
-  pub definition_own : (g : Global) → Stays g → linked_definition parts (name_of g) (entry g) (entry g ∷ []) g ≡ g
+  pub definition_own : (g : Global) → IsUnchanged g → linked_definition parts (name_of g) (entry g) (entry g ∷ []) g ≡ g
   definition_own (OfVariable v) s = variable_own v (is_appending v.linkage) refl s.list
   definition_own (OfFunction f) s =
       let returns = type_own f.returns in let parameters = map_stays (linked_parameter parts 0) parameter_own f.parameters in

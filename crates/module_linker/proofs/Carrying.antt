@@ -27,6 +27,7 @@ use Rattle.module_linker.proofs.Parts.{all_true, entries_by, globals_all}
 use Rattle.module_linker.proofs.Searches.{all_units}
 use Rattle.module_linker.proofs.StructRows.{struct_names}
 use Rattle.module_linker.proofs.Symbols.{GoTogether}
+use Rattle.module_linker.proofs.Unchanged.{all_unchanged}
 
 -- no two entries of a part have one name
 pub all_distinct : (parts : List Module) → AllByRecursion IsWellFormed parts → AllByRecursion AreDistinct parts
@@ -56,4 +57,4 @@ pub struct_names_stay_apart : StructNamesStayApart
 struct_names_stay_apart parts = distinct_from (map (λ row. row.1) (struct_map parts)) (struct_names parts)
 
 pub module_stays : OneModuleStays
-module_stays m formed stay = linked_alone m (record { distinct = are_distinct m formed; distinct_structs = structs_distinct m formed; stay = stay })
+module_stays m formed valid stay = linked_alone m (record { distinct = are_distinct m formed; distinct_structs = structs_distinct m formed; stay = all_unchanged m formed valid stay })

@@ -15,6 +15,7 @@ pub mod Shapes
 pub mod StructRows
 pub mod SameShapes
 pub mod OwnNames
+pub mod Unchanged
 pub mod Alone
 pub mod LinkedAlone
 pub mod Parts

@@ -27,7 +27,7 @@ use Rattle.module_linker.proofs.StructRows.{value_at, index_at}
 use Rattle.module_linker.proofs.OwnNames.{self_named, own_renaming, own_global, own_structs, own_struct}
 use Rattle.module_linker.proofs.Alone.{StaysAlone, definition_own, declaration_own}
 use Rattle.module_linker.proofs.Searches.{map_map, map_append, at_all}
-use Rattle.module_linker.specs.Alone.{Stays}
+use Rattle.module_linker.proofs.Unchanged.{IsUnchanged}
 
 -- LISTS
 
@@ -116,12 +116,12 @@ module _ (m : Module) (s : StaysAlone m) where
   aliases_define : AliasesDefine (entries parts)
   aliases_define = subst AliasesDefine (sym entries_are) (go (globals m) s.stay)
     where
-      defines : (g : Global) → Stays g → is_alias g ≡ true → is_definition (entry g) ≡ true
+      defines : (g : Global) → IsUnchanged g → is_alias g ≡ true → is_definition (entry g) ≡ true
       defines (OfAlias a) h t = ap not (h.written refl)
       defines (OfVariable v) h t = cc
       defines (OfFunction f) h t = cc
 
-      go : (gs : List Global) → AllByRecursion Stays gs → AliasesDefine (map entry gs)
+      go : (gs : List Global) → AllByRecursion IsUnchanged gs → AliasesDefine (map entry gs)
       go [] a = tt
       go (g ∷ gs) a = (defines g a.0, go gs a.1)
 
@@ -163,8 +163,8 @@ module _ (m : Module) (s : StaysAlone m) where
   globals_own = λ i n. own_global parts names_apart 0 n i
 
   module _ (k : ℕ) (g : Global) (at : slice_get (globals m) k ≡ Some g) where
-    stays : Stays g
-    stays = at_all Stays (globals m) k g s.stay at
+    stays : IsUnchanged g
+    stays = at_all IsUnchanged (globals m) k g s.stay at
 
     one_entry : entries_of parts (symbol_of (entry g)) ≡ entry g ∷ []
     one_entry =

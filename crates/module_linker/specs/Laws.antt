@@ -30,6 +30,6 @@ StructNamesStayApart = (parts : List Module) → is_distinct bytes_eq (map (λ r
 abbrev pub CarriesSymbols : Type 0
 CarriesSymbols = (parts : List Module) → AllByRecursion IsWellFormed parts → AllByRecursion IsValid parts → first_conflict parts ≡ None → Merges parts
 
--- one module of which linking writes nothing anew is what is made of it
+-- a well-formed, valid module without an available_externally definition and an appending `zeroinitializer` is what is made of it alone
 abbrev pub OneModuleStays : Type 0
-OneModuleStays = (m : Module) → IsWellFormed m → AllByRecursion Stays (globals m) → link_result (m ∷ []) ≡ m
+OneModuleStays = (m : Module) → IsWellFormed m → IsValid m → AllByRecursion Stays (globals m) → link_result (m ∷ []) ≡ m

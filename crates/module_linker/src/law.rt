@@ -18,7 +18,8 @@ pub fn linking_carries_symbols()
     ensures { CarriesSymbols }
 {}
 
-/// A module that writes nothing which linking would write anew is its own linked module.
+/// A module that is well formed and valid is its own linked module, if none of its definitions is `available_externally` and none of its
+/// appending arrays is written as `zeroinitializer`.
 pub fn one_module_stays()
     ensures { OneModuleStays }
 {}

@@ -2,7 +2,8 @@
 //!
 //! It stands on the symbols, entries and homes of `linkage_rules`, on the first contents of `linked_contents`, and on the modules of
 //! `module_arena`. It promises that fresh names are free, that no two symbols get one name, that each symbol of well-formed, valid
-//! parts without a conflict is carried over with its definition and its meaning, and that one module alone stays as it is.
+//! parts without a conflict is carried over with its definition and its meaning, and that such a part alone stays as it is if it has
+//! no `available_externally` definition and no appending `zeroinitializer`.
 //! Definitions: `specs/Rename`, `Structs`, `Linked`, `Counts`; of what is promised `Carried`, `Known`, `Merges`, `Alone`, `Laws`.
 #![tactic(auto)]
 
