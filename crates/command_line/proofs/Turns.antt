@@ -101,6 +101,12 @@ full_variable tool before word value behind e true h =
 full_variable tool before word value behind e false h =
     rw h (refused tool before word behind (Full settings.Variable value) MissingValue e (rw h refl))
 
+full_alias : (tool : Tool) (before : List Role) (word value : List ℕ) (behind : List (List ℕ)) → role tool before word ≡ Full settings.Alias value → (name : Bool) → is_name value ≡ name → Turned tool before (word ∷ behind) (taking 1 (with_setting (given_by tool before) settings.Alias value (1 + length before) (1 + length before)))
+full_alias tool before word value behind e true h =
+    rw h (one_more tool before word behind (Full settings.Alias value) _ e (rw h refl) refl refl)
+full_alias tool before word value behind e false h =
+    rw h (refused tool before word behind (Full settings.Alias value) MissingValue e (rw h refl))
+
 -- a number in the option's own word, and one in the next
 pub same_place : (n : ℕ) → (n == n) ≡ true
 same_place n = eq-eqb n n refl
@@ -120,6 +126,7 @@ turn_full : (tool : Tool) (before : List Role) (word value : List ℕ) (behind :
 turn_full tool before word value behind settings.Output e = full_output tool before word value behind e _ refl
 turn_full tool before word value behind settings.Function e = full_function tool before word value behind e _ refl
 turn_full tool before word value behind settings.Variable e = full_variable tool before word value behind e _ refl
+turn_full tool before word value behind settings.Alias e = full_alias tool before word value behind e _ refl
 turn_full tool before word value behind settings.MaxSteps e = full_steps tool before word value behind e _ refl _ refl
 
 -- An option whose value is the next word.
@@ -142,6 +149,12 @@ open_variable tool before word value behind e true h =
 open_variable tool before word value behind e false h =
     rw h (refused tool before word (value ∷ behind) (Open settings.Variable) MissingValue e (rw h refl))
 
+open_alias : (tool : Tool) (before : List Role) (word value : List ℕ) (behind : List (List ℕ)) → role tool before word ≡ Open settings.Alias → (name : Bool) → is_name value ≡ name → Turned tool before (word ∷ value ∷ behind) (taking 2 (with_setting (given_by tool before) settings.Alias value (1 + length before) (1 + length before + 1)))
+open_alias tool before word value behind e true h =
+    rw h (two_more tool before word value behind settings.Alias _ e (rw h refl) refl refl)
+open_alias tool before word value behind e false h =
+    rw h (refused tool before word (value ∷ behind) (Open settings.Alias) MissingValue e (rw h refl))
+
 open_steps : (tool : Tool) (before : List Role) (word value : List ℕ) (behind : List (List ℕ)) → role tool before word ≡ Open settings.MaxSteps → (had : List (List ℕ)) → values settings.MaxSteps before ≡ had → (number : Bool) → is_number value ≡ number → Turned tool before (word ∷ value ∷ behind) (taking 2 (with_steps (given_by tool before) value (1 + length before) (1 + length before + 1)))
 open_steps tool before word value behind e [] h false n =
     let place : 1 + length (Open settings.MaxSteps ∷ before) ≡ 1 + length before + 1 = omega arith in
@@ -159,6 +172,7 @@ turn_open tool before word [] s e = refused tool before word [] (Open s) Missing
 turn_open tool before word (value ∷ behind) settings.Output e = open_output tool before word value behind e _ refl
 turn_open tool before word (value ∷ behind) settings.Function e = open_function tool before word value behind e _ refl
 turn_open tool before word (value ∷ behind) settings.Variable e = open_variable tool before word value behind e _ refl
+turn_open tool before word (value ∷ behind) settings.Alias e = open_alias tool before word value behind e _ refl
 turn_open tool before word (value ∷ behind) settings.MaxSteps e = open_steps tool before word value behind e _ refl _ refl
 
 -- Any word.

@@ -48,6 +48,7 @@ abbrev pub given_selection : List Role → Selection
 given_selection all = record {
   functions = values settings.Function all;
   variables = values settings.Variable all;
+  aliases = values settings.Alias all;
   delete = has_flag flags.Delete all;
   recursive = has_flag flags.Recursive all;
 }

@@ -22,6 +22,7 @@ is_unknown role = false
 abbrev pub is_no_name : Setting → List ℕ → Bool
 is_no_name settings.Function value = not (is_name value)
 is_no_name settings.Variable value = not (is_name value)
+is_no_name settings.Alias value = not (is_name value)
 is_no_name setting value = false
 
 -- told at the option, also where its value is the next word

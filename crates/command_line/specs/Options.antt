@@ -14,7 +14,7 @@ abbrev pub flag_named : List ℕ → Option Flag
 flag_named = row_of ((codes "S", flags.Text) ∷ (codes "delete", flags.Delete) ∷ (codes "recursive", flags.Recursive) ∷ (codes "dump", flags.Dump) ∷ [])
 
 abbrev pub setting_named : List ℕ → Option Setting
-setting_named = row_of ((codes "o", settings.Output) ∷ (codes "func", settings.Function) ∷ (codes "glob", settings.Variable) ∷ (codes "max-steps", settings.MaxSteps) ∷ [])
+setting_named = row_of ((codes "o", settings.Output) ∷ (codes "func", settings.Function) ∷ (codes "glob", settings.Variable) ∷ (codes "alias", settings.Alias) ∷ (codes "max-steps", settings.MaxSteps) ∷ [])
 
 -- the word for a standard stream
 abbrev pub is_dash : List ℕ → Bool

@@ -57,7 +57,7 @@ nothing_given tool = record {
   output = None;
   max_steps = None;
   text = false;
-  selection = record { functions = []; variables = []; delete = false; recursive = false };
+  selection = record { functions = []; variables = []; aliases = []; delete = false; recursive = false };
   dump = false;
   marked = false;
   dash = false;
@@ -120,6 +120,9 @@ with_setting given settings.Function value at value_at =
     else Err (MissingValue, at)
 with_setting given settings.Variable value at value_at =
     if is_name value then Ok (record given { selection = record given.selection { variables = given.selection.variables ++ value ∷ [] } })
+    else Err (MissingValue, at)
+with_setting given settings.Alias value at value_at =
+    if is_name value then Ok (record given { selection = record given.selection { aliases = given.selection.aliases ++ value ∷ [] } })
     else Err (MissingValue, at)
 
 abbrev pub with_input : Given → List ℕ → ℕ → Result Given Wrong

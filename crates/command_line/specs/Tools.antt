@@ -50,7 +50,7 @@ abbrev pub settings_of : Tool → List Setting
 settings_of LlvmAs = settings.Output ∷ []
 settings_of LlvmDis = settings.Output ∷ []
 settings_of LlvmLink = settings.Output ∷ []
-settings_of LlvmExtract = settings.Output ∷ settings.Function ∷ settings.Variable ∷ []
+settings_of LlvmExtract = settings.Output ∷ settings.Function ∷ settings.Variable ∷ settings.Alias ∷ []
 settings_of Lli = settings.MaxSteps ∷ []
 settings_of LlvmBcanalyzer = []
 
@@ -65,6 +65,7 @@ abbrev pub same_setting : Setting → Setting → Bool
 same_setting settings.Output settings.Output = true
 same_setting settings.Function settings.Function = true
 same_setting settings.Variable settings.Variable = true
+same_setting settings.Alias settings.Alias = true
 same_setting settings.MaxSteps settings.MaxSteps = true
 same_setting setting other = false
 

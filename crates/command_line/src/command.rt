@@ -77,6 +77,7 @@ pub enum OutputName {
 pub struct Selection {
     pub functions: NameList,
     pub variables: NameList,
+    pub aliases: NameList,
     pub delete: bool,
     pub recursive: bool,
 }

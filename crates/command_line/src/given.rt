@@ -55,6 +55,7 @@ impl Given {
             selection: Selection {
                 functions: NameList::new(alloc),
                 variables: NameList::new(alloc),
+                aliases: NameList::new(alloc),
                 delete: false,
                 recursive: false,
             },
@@ -126,6 +127,11 @@ impl Given {
             Setting::Variable => {
                 let name = name_of(alloc, value, at)?;
                 self.selection.variables.push(name)?;
+                Ok(())
+            }
+            Setting::Alias => {
+                let name = name_of(alloc, value, at)?;
+                self.selection.aliases.push(name)?;
                 Ok(())
             }
         }

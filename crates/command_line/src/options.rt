@@ -20,6 +20,7 @@ pub(crate) enum Setting {
     Output,
     Function,
     Variable,
+    Alias,
     MaxSteps,
 }
 
@@ -71,6 +72,7 @@ fn setting_named(name: &[u8]) -> Option<Setting>
         b"o" => Some(Setting::Output),
         b"func" => Some(Setting::Function),
         b"glob" => Some(Setting::Variable),
+        b"alias" => Some(Setting::Alias),
         b"max-steps" => Some(Setting::MaxSteps),
         _ => None,
     }

@@ -64,7 +64,9 @@ impl Tool {
     {
         match setting {
             Setting::Output => !matches!(self, Tool::Lli | Tool::LlvmBcanalyzer),
-            Setting::Function | Setting::Variable => matches!(self, Tool::LlvmExtract),
+            Setting::Function | Setting::Variable | Setting::Alias => {
+                matches!(self, Tool::LlvmExtract)
+            }
             Setting::MaxSteps => matches!(self, Tool::Lli),
         }
     }

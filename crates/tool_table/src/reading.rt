@@ -41,6 +41,7 @@ fn add_flag(shown: &mut Vec<u8>, mark: &str, given: bool) -> Result<(), AllocErr
 fn add_selection(shown: &mut Vec<u8>, selection: &Selection) -> Result<(), AllocError> {
     add_names(shown, ", function", &selection.functions)?;
     add_names(shown, ", variable", &selection.variables)?;
+    add_names(shown, ", alias", &selection.aliases)?;
     add_flag(shown, ", delete", selection.delete)?;
     add_flag(shown, ", recursive", selection.recursive)
 }
