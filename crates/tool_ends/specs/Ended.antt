@@ -9,7 +9,7 @@ use Rattle.bits.specs.declared.fault.BitFaultKind.TheVariants.{BadMagic, Truncat
 use Rattle.command_line.specs.Kinds.{kind_words}
 use Rattle.command_line.specs.Tools.{line_name}
 use Rattle.tool_ends.specs.declared.ended.Ended.{Ended}
-use Rattle.tool_ends.specs.declared.ended.Ended.TheVariants.{Exit, StepsUsed, Usage, CannotRead, CannotWrite, InputTooLarge, BadByte, NoItemHere, LeftOutWord, UnknownName, Duplicate, WrongNumber, ConstantRange, TooDeep, TooLarge, SelfContaining, TooMany, FunctionTooLarge, Invalid, BitFault, NotBuilt, Memory}
+use Rattle.tool_ends.specs.declared.ended.Ended.TheVariants.{Exit, StepsUsed, Usage, CannotRead, CannotWrite, InputTooLarge, BadByte, NoItemHere, LeftOutWord, UnknownName, Duplicate, WrongNumber, ConstantRange, TooDeep, TooLarge, SelfContaining, TooMany, FunctionTooLarge, Invalid, BitFault, NoSuchSymbol, NotBuilt, Memory}
 use Rattle.tool_ends.specs.declared.ended.Ended.TheVariants as ends
 
 -- 0 where a tool did its work; a program's own status; 1 where a tool refuses; 120 where memory ran out, and 124 where
@@ -36,6 +36,7 @@ status_of (TooMany name kind count) = 1
 status_of (FunctionTooLarge name function size) = 1
 status_of (Invalid name rule entity) = 1
 status_of (BitFault name fault) = 1
+status_of (NoSuchSymbol symbol) = 1
 status_of NotBuilt = 1
 status_of Memory = 120
 
@@ -100,6 +101,7 @@ line_of words (TooMany (Some name) kind count) = error_line words (name ++ (code
 line_of words (FunctionTooLarge name function size) = error_line words (name ++ (codes ": function too large: " ++ (function ++ (codes ", " ++ decimal size))))
 line_of words (Invalid name rule entity) = error_line words (name ++ (codes ": invalid V" ++ (decimal rule ++ (codes " at " ++ entity))))
 line_of words (BitFault name fault) = error_line words (name ++ (codes ": bit " ++ (decimal fault.bit ++ (codes ": " ++ fault_words fault.kind))))
+line_of words (NoSuchSymbol symbol) = error_line words (codes "no symbol " ++ symbol)
 line_of words NotBuilt = error_line words (codes "not built")
 line_of words Memory = error_line words (codes "out of memory")
 line_of words ended = placed_line words ended

@@ -55,6 +55,8 @@ pub enum Ended {
     Invalid(Text, u8, Text),
     /// The bits of the input of this name are no stream: this field is refused.
     BitFault(Text, BitFault),
+    /// No definition of its kind has the selected name that is spelled so in canonical text.
+    NoSuchSymbol(Text),
     /// The tool is not built, or not for such an input.
     NotBuilt,
     /// Memory ran out.
@@ -104,6 +106,7 @@ pub fn status_of(ended: &Ended) -> u8
         | Ended::FunctionTooLarge(_, _, _)
         | Ended::Invalid(_, _, _)
         | Ended::BitFault(_, _)
+        | Ended::NoSuchSymbol(_)
         | Ended::NotBuilt => 1,
         Ended::Memory => 120,
     }

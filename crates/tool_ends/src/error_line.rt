@@ -481,6 +481,7 @@ pub fn tell<E: Sink>(errors: &mut E, words: &[Text], ended: &Ended)
             let kind = fault_words(fault.kind).as_bytes();
             tell_bit(errors, words, name.bytes(), digits.bytes(), kind)
         }
+        Ended::NoSuchSymbol(symbol) => tell_text(errors, words, b"no symbol ", symbol.bytes()),
         Ended::NotBuilt => tell_text(errors, words, b"not built", b""),
         Ended::Memory => tell_text(errors, words, b"out of memory", b""),
         Ended::BadByte(_, _)

@@ -8,3 +8,6 @@ returns-in-Memory g c = rw c.in-Memory.is c.tell_text-in-Memory.ensures
 
 pub returns-in-CannotWrite : goal.returns-in-CannotWrite
 returns-in-CannotWrite g c = rw c.in-CannotWrite.is (rw c.bytes-in-CannotWrite.ensures at c.tell_text-in-CannotWrite.ensures)
+
+pub returns-in-NoSuchSymbol : goal.returns-in-NoSuchSymbol
+returns-in-NoSuchSymbol g c = rw c.in-NoSuchSymbol.is (rw c.bytes-in-NoSuchSymbol.ensures at c.tell_text-in-NoSuchSymbol.ensures)
