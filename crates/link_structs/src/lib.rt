@@ -1,0 +1,12 @@
+//! The named structs of the module that is made of several (the tool `llvm-link`): by what numbers the structs of a part are
+//! compared with those of the others.
+//!
+//! It stands on the shapes of `labelled_shapes` and the tables of `type_table`. It promises that a struct is told the number
+//! of its own shape, with its name and those of the structs in it, so structs of any parts are one in the linked module
+//! exactly where their numbers are equal. Each type and each struct of a part is looked at once.
+//! Definitions: `specs/Shapes`, `specs/Walked`, and `Shape` of `type_table`.
+#![tactic(auto)]
+
+mod walk;
+
+pub use walk::Walk;
