@@ -1,0 +1,6 @@
+pub mod ByKinds
+pub mod Rows
+pub mod Typed
+pub mod Told
+pub mod ByLeaves
+pub mod Walked

@@ -1,0 +1,4 @@
+pub mod Made
+pub mod Taken
+pub mod Printing
+pub mod Pieces

@@ -1,0 +1,92 @@
+//! The arguments of a call, by their places.
+ghost use Rattle.std.specs.Prelude.{◌≡◌, ◌<◌, ◌^◌, [], ◌∷◌};
+ghost use Rattle.std.specs.List.{list_any};
+ghost use Rattle.run_host.specs.Answers.{leaves_of};
+ghost use Rattle.run_rules.specs.Host.{is_poison, operand_at};
+ghost use Rattle.host_calls.specs.Taken.{number_of, pointer_of};
+
+use ir_eval::{Pointer, Scalar};
+use ir_intrinsics::Outcome;
+
+/// The argument at a place, counted from 0; where there is none, 0.
+pub(crate) fn operand_at(arguments: &[Scalar], place: usize) -> Scalar
+    ensures { result ≡ operand_at arguments.now place }
+{
+    arguments.get(place).copied().unwrap_or(Scalar::Int(0))
+}
+
+/// The number that a leaf is; 0 where it is none.
+fn number_of(leaf: Scalar) -> u128
+    ensures { result ≡ number_of leaf }
+{
+    match leaf {
+        Scalar::Int(number) => number,
+        Scalar::Ptr(_) => 0,
+        Scalar::Poison => 0,
+    }
+}
+
+/// The number that the argument at a place is.
+pub(crate) fn number_at(arguments: &[Scalar], place: usize) -> u128
+    ensures { result ≡ number_of (operand_at arguments.now place) }
+{
+    number_of(operand_at(arguments, place))
+}
+
+/// The same of a number below 2^64.
+pub(crate) fn count_at(arguments: &[Scalar], place: usize) -> u64
+    requires { number_of (operand_at arguments.now place) < 2 ^ 64 }
+    ensures { result ≡ number_of (operand_at arguments.now place) }
+{
+    number_at(arguments, place) as u64
+}
+
+/// The pointer that a leaf is; null where it is none.
+fn pointer_of(leaf: Scalar) -> Pointer
+    ensures { result ≡ pointer_of leaf }
+{
+    let null = Pointer {
+        block: None,
+        address: 0,
+    };
+    match leaf {
+        Scalar::Ptr(pointer) => pointer,
+        Scalar::Int(_) => null,
+        Scalar::Poison => null,
+    }
+}
+
+/// The pointer that the argument at a place is.
+pub(crate) fn pointer_at(arguments: &[Scalar], place: usize) -> Pointer
+    ensures { result ≡ pointer_of (operand_at arguments.now place) }
+{
+    pointer_of(operand_at(arguments, place))
+}
+
+/// Whether a leaf is poison.
+fn is_poison(leaf: Scalar) -> bool
+    ensures { result ≡ is_poison leaf }
+{
+    match leaf {
+        Scalar::Int(_) => false,
+        Scalar::Ptr(_) => false,
+        Scalar::Poison => true,
+    }
+}
+
+/// Whether an argument is poison.
+pub(crate) fn has_poison(arguments: &[Scalar]) -> bool
+    ensures { result ≡ list_any is_poison arguments.now }
+{
+    arguments.iter().any(|leaf| is_poison(*leaf))
+}
+
+/// A result of one leaf.
+pub(crate) fn one(first: Scalar) -> Option<Outcome>
+    ensures { leaves_of result ≡ first ∷ [] }
+{
+    Some(Outcome {
+        first,
+        second: None,
+    })
+}

@@ -1,0 +1,14 @@
+//! The calls of host functions: by a row of the host table, its arguments and memory.
+//!
+//! It stands on `run_host`, which has the host functions one by one, on `ir_printf`, and on the definitions of `run_rules`. It promises
+//! that a call by one of the row's types answers as `host` says: the result, memory, the bytes that are written, the byte that is
+//! asked for, and how the run ends. Definitions: `specs/Made`, `Taken`, `Printing`; `Host`, `Printing` of `run_rules`.
+#![tactic(auto)]
+
+mod argument;
+mod conversion;
+mod pattern;
+mod print;
+mod row;
+
+pub use row::call;

@@ -1,0 +1,75 @@
+//! `printf` (C, "The fprintf function").
+ghost use Rattle.std.specs.Prelude.{◌≡◌, ◌+◌, length, map};
+ghost use Rattle.run_host.specs.Answers.{Writes};
+ghost use Rattle.run_rules.specs.Printing.{printed, prints, written_from};
+ghost use Rattle.host_calls.specs.Printing.{AreOf, ArePrinted, Refuses, shape_from};
+
+use crate::argument::one;
+use crate::pattern::{Format, put_pieces};
+use ir_eval::Scalar;
+use ir_memory::{Leaf, Memory, MemoryFault};
+use ir_tables::UndefinedKind;
+use run_host::Answer;
+use run_values::push_string;
+use std::alloc::{AllocError, Global};
+
+/// What is answered where memory refused.
+fn refused(fault: MemoryFault) -> Result<Answer, AllocError>
+    ensures { Refuses fault result }
+{
+    match fault {
+        MemoryFault::Undefined(kind) => Ok(Answer::Fails(kind)),
+        MemoryFault::MemoryLimit => Ok(Answer::MemoryLimit),
+        MemoryFault::Memory => Err(AllocError),
+    }
+}
+
+/// Writes a pattern that was read, whose arguments are there: the result is the count of bytes modulo 2^32. Nothing is written where
+/// anything is undefined.
+fn print_format(
+    alloc: Global,
+    memory: &Memory,
+    format: &Format<'_>,
+    written: &mut Vec<u8>,
+) -> Result<Answer, AllocError>
+    requires { AreOf (length memory.now.list) format.now.kinds.now format.now.arguments.now }
+    ensures { Writes (printed memory.now (written_from memory.now format.now.pattern.now (length format.now.pattern.now + 1) 0 (map shape_from format.now.kinds.now) format.now.arguments.now)) memory.now written.old.items written.new.items result }
+{
+    let before = written.len();
+    match put_pieces(alloc, memory, format, written) {
+        Ok(()) => {
+            let count = (written.len() - before) as u128 % 0x1_0000_0000;
+            Ok(Answer::Gives(one(Scalar::Int(count))))
+        }
+        Err(fault) => {
+            written.truncate(before);
+            refused(fault)
+        }
+    }
+}
+
+/// `printf`: the pattern is read whole before any conversion is judged.
+pub(crate) fn print(
+    alloc: Global,
+    memory: &Memory,
+    kinds: &[Option<Leaf>],
+    arguments: &[Scalar],
+    written: &mut Vec<u8>,
+) -> Result<Answer, AllocError>
+    requires { ArePrinted (length memory.now.list) kinds.now arguments.now }
+    ensures { Writes (prints (map shape_from kinds.now) arguments.now memory.now) memory.now written.old.items written.new.items result }
+{
+    let Some(Scalar::Ptr(string)) = arguments.first() else {
+        return Ok(Answer::Fails(UndefinedKind::PoisonArgument));
+    };
+    let mut pattern = Vec::new(alloc);
+    if let Err(fault) = push_string(memory, *string, None, &mut pattern) {
+        return refused(fault);
+    }
+    let format = Format {
+        pattern: &pattern,
+        kinds: &kinds[1..],
+        arguments: &arguments[1..],
+    };
+    print_format(alloc, memory, &format, written)
+}
