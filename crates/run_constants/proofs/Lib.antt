@@ -1,0 +1,10 @@
+pub mod Appended
+pub mod Distances
+pub mod Fills
+pub mod Held
+pub mod OneLeaf
+pub mod Lists
+pub mod Reached
+pub mod Sounds
+pub mod Typed
+pub mod Within

@@ -1,0 +1,16 @@
+//! The leaves of the constants of a module in a run of it alone.
+//!
+//! It stands on the names of `run_names`, the shapes of `run_shapes`, the addresses of `run_accesses` and the scalars of `ir_eval`. It
+//! promises, for each constant that stands as those of a checked module do, exactly the leaves that the definition of constants gives:
+//! a constant of one leaf without memory, and no other answer than those leaves but want of memory. Definitions: `specs/Sound`, `Filled`;
+//! `Constant`, `Displace` of `run_rules`.
+#![tactic(auto)]
+
+mod arena;
+mod distance;
+mod filled;
+mod leaf;
+mod leaves;
+
+pub use leaf::{leaf_of, pointer_leaf};
+pub use leaves::push_leaves;
