@@ -1,6 +1,7 @@
 -- What an index stands for, against a place that was read.
-use Rattle.std.proofs.Common.{◌≡◌, ◌<◌, ◌≤◌, ◌+◌, ℕ, zero, suc, List, [], ◌∷◌, Option, Some, None, length, get_or, take, refl, sym, ap, subst, ◌∙◌, arith}
+use Rattle.std.proofs.Common.{◌≡◌, ◌<◌, ◌≤◌, ◌+◌, ℕ, zero, suc, true, List, [], ◌∷◌, Option, Some, None, length, get_or, take, refl, sym, ap, subst, ◌∙◌, arith}
 use Rattle.std.specs.Prelude.{bytes_eq, nat_lt}
+use Rattle.std.proofs.lemmas.Bool.{le-ltb}
 use Rattle.std.proofs.lemmas.List.{take_all}
 use Rattle.type_table.specs.Tree.{Tree, void}
 use Rattle.type_table.specs.Types.{tree, trees}
@@ -11,13 +12,12 @@ use Rattle.module_arena.specs.Module.{Bytes}
 use Rattle.record_table.specs.Walk.{next, ask}
 use Rattle.record_table.specs.Layout.{number, asking, indexed}
 use Rattle.record_table.specs.Fields.{Numbering, ty, global, target}
-use Rattle.record_read.specs.Reader.{Reader, ReadsAs, IsBroken}
+use Rattle.record_read.specs.Reader.{Reader, Reads, ReadsAs, IsBroken, is_broken, is_stopped}
 use Rattle.record_read.specs.Fields.{IsBelow}
 use Rattle.arena_read.specs.declared.module_reader.ModuleReader.{ModuleReader}
-use Rattle.arena_read.specs.Growing.{IsType}
 use Rattle.arena_read.specs.Numbered.{Numbers, IsDeclared, IsGlobal, ReadsGlobal, global_count, global_of}
-use Rattle.arena_read.specs.Kept.{TakesOnly}
-use Rattle.arena_read.proofs.Lasting.{next_still, ask_still}
+use Rattle.arena_read.specs.Kept.{ReadsType, TakesOnly}
+use Rattle.arena_read.proofs.Lasting.{next_still, ask_still, vain_broken}
 
 -- a front of a list has the items of the list
 get_take : {A : Type 0} (xs : List A) (n i : ℕ) (d : A) → i < n → i < length xs → get_or (take n xs) i d ≡ get_or xs i d
@@ -47,26 +47,48 @@ walk_is count many old r place is h = h.reader ∙ ap (λ n. record old { walk =
 
 -- ---- types
 
-module _ (m : ModuleReader) (k : Numbering) (h : Numbers m k) (there : m.growing.types < length m.growing.arena.table.types) where
-  many_types : length k.types ≡ m.growing.types
-  many_types = ap length h.types ∙ length_take (trees m.growing.arena.table) m.growing.types (let long = length-trees m.growing.arena.table in omega (arith, long, there))
+get_past : {A : Type 0} (xs : List A) (n : ℕ) (d : A) → length xs ≤ n → get_or xs n d ≡ d
+get_past [] n d le = refl
+get_past (x ∷ xs) zero d le = absurd (omega arith)
+get_past (x ∷ xs) (suc n) d le = get_past xs n d (omega arith)
 
-  pub type_read : (r : Reader) (count place id : ℕ) → count ≡ m.growing.types → id ≡ place → ReadsAs (IsBelow count) (asking 2 (λ n. nat_lt n count) number) m.reader r (Some place) → ReadsAs (IsType m.growing.arena) (ty k) m.reader r (Some id)
-  type_read r count place id is same reads =
-      let below = reads.kept.1 in
-      let long = length-trees m.growing.arena.table in
+module _ (m : ModuleReader) (mid r : Reader) (n count : ℕ) (reads : Reads number m.reader mid n) (asked : r ≡ record mid { walk = ask 2 (nat_lt n count) mid.walk }) where
+  whole : r ≡ record m.reader { walk = ask 2 (nat_lt n count) (next m.reader.walk).1 }
+  whole = asked ∙ ap (λ (q : Reader). record q { walk = ask 2 (nat_lt n count) q.walk }) reads.reader
+
+  pub type_takes : TakesOnly m (record m { reader = r })
+  type_takes =
+      let at : r.walk ≡ ask 2 (nat_lt n count) (next m.reader.walk).1 = ap (λ (q : Reader). q.walk) whole in
       record {
-        kept = record {
-          known = omega (arith, same, below, is, there);
-          tree_is = ap (tree m.growing.arena.table) same
-              ∙ (sym (get_take (trees m.growing.arena.table) m.growing.types place void (omega (arith, below, is)) (omega (arith, below, is, there, long)))
-              ∙ (ap (λ (ts : List Tree). get_or ts place void) (sym h.types) ∙ ap (λ n. get_or k.types n void) reads.kept.0));
-        };
-        reader = walk_is count (length k.types) m.reader r (Some place) (is ∙ sym many_types) reads;
+        rest = ap (λ (q : Reader). record m { reader = q }) (whole ∙ ap (λ w. record m.reader { walk = w }) (sym at));
+        lasts = λ broken. subst IsBroken (sym at) (ask_still 2 (nat_lt n count) (next m.reader.walk).1 (next_still m.reader.walk broken));
       }
 
-  pub no_type_read : (r : Reader) (count : ℕ) → count ≡ m.growing.types → ReadsAs (IsBelow count) (asking 2 (λ n. nat_lt n count) number) m.reader r None → ReadsAs (IsType m.growing.arena) (ty k) m.reader r None
-  no_type_read r count is reads = record { kept = reads.kept; reader = walk_is count (length k.types) m.reader r None (is ∙ sym many_types) reads }
+  pub none_broken : count ≤ n → (is_stopped r.walk ≡ true → is_broken r.walk ≡ true) → IsBroken r.walk
+  none_broken le stops = vain_broken 2 mid.walk r.walk (ap (λ (q : Reader). q.walk) asked ∙ ap (λ b. ask 2 b mid.walk) (le-ltb n count le)) stops
+
+  module _ (k : Numbering) (h : Numbers m k) (is : count ≡ m.growing.types) (there : count < length m.growing.arena.table.types) where
+    many_types : length k.types ≡ count
+    many_types = ap length h.types ∙ (length_take (trees m.growing.arena.table) m.growing.types (let long = length-trees m.growing.arena.table in omega (arith, long, there, is)) ∙ sym is)
+
+    type_reader : r ≡ record m.reader { walk = ((ty k).read m.reader.walk).1 }
+    type_reader = whole ∙ (λ j. record m.reader { walk = ask 2 (nat_lt (reads.value j) (sym many_types j)) (next m.reader.walk).1 })
+
+    pub type_read : (id : ℕ) → n < count → id ≡ n → ReadsType k m (record m { reader = r }) (Some id)
+    type_read id lt same =
+        let long = length-trees m.growing.arena.table in
+        record {
+          tree_is = ap (tree m.growing.arena.table) same
+              ∙ (sym (get_take (trees m.growing.arena.table) m.growing.types n void (omega (arith, lt, is)) (omega (arith, lt, there, long)))
+              ∙ (ap (λ (ts : List Tree). get_or ts n void) (sym h.types) ∙ ap (λ i. get_or k.types i void) reads.value));
+          reader = type_reader;
+        }
+
+    pub no_type_read : count ≤ n → ReadsType k m (record m { reader = r }) None
+    no_type_read le = record {
+      tree_is = sym (get_past k.types n void (let many = many_types in omega (arith, many, le))) ∙ ap (λ i. get_or k.types i void) reads.value;
+      reader = type_reader;
+    }
 
 -- ---- entries
 

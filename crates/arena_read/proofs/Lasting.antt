@@ -42,6 +42,12 @@ text_still w h = many_still byte.read (λ v b. ask_still 3 (nat_lt (next v).0 25
 pub stop_broken : (rule : ℕ) (w v : Walk) → v ≡ stop rule w → (is_stopped v ≡ true → is_broken v ≡ true) → IsBroken v
 stop_broken rule w v is h = h (ap is_stopped is ∙ stop_stops rule w)
 
+-- a rule that is asked in vain is broken, where a walk stops only so
+pub vain_broken : (rule : ℕ) (w v : Walk) → v ≡ ask rule false w → (is_stopped v ≡ true → is_broken v ≡ true) → IsBroken v
+vain_broken rule (going rest None) v is h = ap is_broken is
+vain_broken rule (going rest (Some r)) v is h = ap is_broken is
+vain_broken rule (stopped broken) v is h = h (ap is_stopped is)
+
 -- what holds of an answer, from what holds of it
 pub ok_by : {A E : Type 0} (r : Result A E) (P Q : A → Type 0) → IfOk r P → ((x : A) → P x → Q x) → IfOk r Q
 ok_by (Ok x) P Q h f = f x h

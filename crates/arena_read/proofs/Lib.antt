@@ -5,3 +5,4 @@ pub mod Steps
 pub mod TypesTold
 pub mod Indexed
 pub mod LeavesRead
+pub mod Parts

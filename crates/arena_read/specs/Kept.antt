@@ -4,7 +4,7 @@ use Rattle.type_table.specs.Tree.{Tree, int, void}
 use Rattle.type_table.specs.Types.{Types, tree}
 use Rattle.module_arena.specs.declared.constant.Const.{Const}
 use Rattle.module_arena.specs.Lists.{Lists}
-use Rattle.record_table.specs.Fields.{Numbering}
+use Rattle.record_table.specs.Fields.{Numbering, ty}
 use Rattle.record_table.specs.Walk.{Walk}
 use Rattle.record_read.specs.Reader.{IsKept, IsBroken, is_broken}
 use Rattle.arena_read.specs.declared.module_reader.ModuleReader.{ModuleReader}
@@ -68,3 +68,8 @@ tree_at t (Some id) = tree t id
 abbrev pub width_of : Tree → Option ℕ
 width_of (int width) = Some width
 width_of _ = None
+
+-- The operand in front stands for that type; none stands for `void`. Nothing else changed.
+pub record ReadsType (k : Numbering) (old new : ModuleReader) (answer : Option ℕ) : Type 0 where
+  pub tree_is : tree_at old.growing.arena.table answer ≡ ((ty k).read old.reader.walk).0
+  pub reader : new.reader ≡ record old.reader { walk = ((ty k).read old.reader.walk).1 }

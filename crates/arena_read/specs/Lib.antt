@@ -1,3 +1,4 @@
 pub mod Growing
 pub mod Numbered
 pub mod Kept
+pub mod ListParts

@@ -1,26 +1,29 @@
 //! Types, blocks and locals by their indices.
 ghost use Rattle.std.specs.Prelude.{◌≡◌, ◌<◌, length};
-ghost use Rattle.record_table.specs.Fields.{Numbering, ty, block, local};
+ghost use Rattle.record_table.specs.Fields.{Numbering, block, local};
 ghost use Rattle.record_read.specs.Reader.{ReadsAs};
-ghost use Rattle.arena_read.specs.Growing.{IsType};
 ghost use Rattle.arena_read.specs.Numbered.{Numbers, IsBlock, IsLocal};
-ghost use Rattle.arena_read.specs.Kept.{IsKnownType, TakesOnly};
+ghost use Rattle.arena_read.specs.Kept.{IsKnownType, ReadsType, TakesOnly};
 
 use crate::ModuleReader;
 use module_arena::{BlockId, ValueId};
 use record_read::read_place;
 use type_table::TypeId;
 
-/// A type by its index. Another index breaks rule 2; then there is none.
+/// A type by its index. Another index breaks rule 2; then there is none, which stands for `void`.
 pub fn read_type(m: &mut ModuleReader<'_>) -> Option<TypeId>
     ensures takes { TakesOnly m.old m.new }
     ensures known { IsKnownType m.new result }
-    ensures reads { (k : Numbering) → Numbers m.old k → ReadsAs (IsType m.old.growing.arena) (ty k) m.old.reader m.new.reader result }
+    ensures reads { (k : Numbering) → Numbers m.old k → ReadsType k m.old m.new result }
 {
     let count = m.growing.type_count();
-    match read_place(&mut m.reader, count) {
-        Some(place) => Some(TypeId::new(place)),
-        None => None,
+    let number = m.reader.number();
+    m.reader.ask(2, number < count);
+    m.reader.stops_where_broken();
+    if number < count {
+        Some(TypeId::new(number))
+    } else {
+        None
     }
 }
 

@@ -1,14 +1,19 @@
-use Rattle.std.proofs.Common.{Some}
-use Rattle.arena_read.proofs.Indexed.{takes_place, type_read, no_type_read}
+use Rattle.arena_read.proofs.Indexed.{type_takes, none_broken, type_read, no_type_read}
 use Rattle.arena_read.proofs.places.read_type.Goals as goal
 
-pub returns-in-Some-clause-takes : goal.returns-in-Some-clause-takes
-returns-in-Some-clause-takes c = takes_place c.args.m.now c.read_place.new.reader c.type_count-count.result (Some c.in-Some.place) c.in-Some.ensures
+pub returns-then-number-count-clause-takes : goal.returns-then-number-count-clause-takes
+returns-then-number-count-clause-takes c = type_takes c.args.m.now c.number-number.new.self c.ask.new.self c.number-number.result c.type_count-count.result c.number-number.ensures c.ask.ensures
 
-pub returns-in-Some-clause-reads : goal.returns-in-Some-clause-reads
-returns-in-Some-clause-reads c = λ k h.
-    type_read c.args.m.now k h (rw c.type_count-count.ensures.listed at c.type_count-count.ensures.there) c.read_place.new.reader c.type_count-count.result c.in-Some.place c.new.result c.type_count-count.ensures.listed c.new.ensures c.in-Some.ensures
+pub returns-then-number-count-clause-reads : goal.returns-then-number-count-clause-reads
+returns-then-number-count-clause-reads c = λ k h.
+    type_read c.args.m.now c.number-number.new.self c.ask.new.self c.number-number.result c.type_count-count.result c.number-number.ensures c.ask.ensures k h c.type_count-count.ensures.listed c.type_count-count.ensures.there c.new.result c.if-number-count.true c.new.ensures
 
-pub returns-in-None-clause-reads : goal.returns-in-None-clause-reads
-returns-in-None-clause-reads c = λ k h.
-    no_type_read c.args.m.now k h (rw c.type_count-count.ensures.listed at c.type_count-count.ensures.there) c.read_place.new.reader c.type_count-count.result c.type_count-count.ensures.listed c.in-None.ensures
+pub returns-else-number-count-clause-takes : goal.returns-else-number-count-clause-takes
+returns-else-number-count-clause-takes c = type_takes c.args.m.now c.number-number.new.self c.ask.new.self c.number-number.result c.type_count-count.result c.number-number.ensures c.ask.ensures
+
+pub returns-else-number-count-clause-known : goal.returns-else-number-count-clause-known
+returns-else-number-count-clause-known c = none_broken c.args.m.now c.number-number.new.self c.ask.new.self c.number-number.result c.type_count-count.result c.number-number.ensures c.ask.ensures c.if-number-count.false c.stops_where_broken.ensures
+
+pub returns-else-number-count-clause-reads : goal.returns-else-number-count-clause-reads
+returns-else-number-count-clause-reads c = λ k h.
+    no_type_read c.args.m.now c.number-number.new.self c.ask.new.self c.number-number.result c.type_count-count.result c.number-number.ensures c.ask.ensures k h c.type_count-count.ensures.listed c.type_count-count.ensures.there c.if-number-count.false
