@@ -6,5 +6,6 @@ pub mod OneLeaf
 pub mod Lists
 pub mod Reached
 pub mod Sounds
+pub mod Standing
 pub mod Typed
 pub mod Within

@@ -3,7 +3,6 @@ ghost use Rattle.std.specs.Prelude.{◌≡◌, ◌*◌, ◌^◌, ◌<◌, All, I
 ghost use Rattle.ir_eval.specs.Cast.{cast_of};
 ghost use Rattle.ir_eval.specs.Scalar.{binary_of};
 ghost use Rattle.ir_eval.specs.Value.{IsPointer};
-ghost use Rattle.ir_memory.specs.Given.{IsLeaf};
 ghost use Rattle.ir_tables.specs.Flags.{has_flag};
 ghost use Rattle.ir_tables.specs.declared.flag.Flag.TheVariants as flag;
 ghost use Rattle.module_arena.specs.Constants.{element_operands_fit, is_cast_between};

@@ -85,12 +85,12 @@ pub fn push_leaves(
         Const::Poison => push_filled(types_of(names), Fill::Poison, ty, into),
         Const::ByteString(bytes) => push_bytes(into, bytes.bytes()),
         Const::Aggregate(_, elements) => push_parts(names, elements.as_slice(), into),
-        Const::Integer(_) => push_scalar(names, ty, id, into),
-        Const::Truth(_) => push_scalar(names, ty, id, into),
-        Const::Null => push_scalar(names, ty, id, into),
-        Const::Address(_) => push_scalar(names, ty, id, into),
-        Const::ElementAddress(_, _) => push_scalar(names, ty, id, into),
-        Const::Cast(_, _, _) => push_scalar(names, ty, id, into),
-        Const::Binary(_, _, _) => push_scalar(names, ty, id, into),
+        Const::Integer(_)
+        | Const::Truth(_)
+        | Const::Null
+        | Const::Address(_)
+        | Const::ElementAddress(_, _)
+        | Const::Cast(_, _, _)
+        | Const::Binary(_, _, _) => push_scalar(names, ty, id, into),
     }
 }

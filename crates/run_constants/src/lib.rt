@@ -2,15 +2,17 @@
 //!
 //! It stands on the names of `run_names`, the shapes of `run_shapes`, the addresses of `run_accesses` and the scalars of `ir_eval`. It
 //! promises, for each constant that stands as those of a checked module do, exactly the leaves that the definition of constants gives:
-//! a constant of one leaf without memory, and no other answer than those leaves but want of memory. Definitions: `specs/Sound`, `Filled`;
-//! `Constant`, `Displace` of `run_rules`.
+//! a constant of one leaf without memory, and no other answer than those leaves but want of memory; and that each constant of a checked
+//! module stands so. Definitions: `specs/Sound`, `Laws`, `Filled`, `Places`; `Constant`, `Displace` of `run_rules`.
 #![tactic(auto)]
 
 mod arena;
 mod distance;
 mod filled;
+mod law;
 mod leaf;
 mod leaves;
 
+pub use law::constants_of_a_checked_module_can_stand;
 pub use leaf::{leaf_of, pointer_leaf};
 pub use leaves::push_leaves;

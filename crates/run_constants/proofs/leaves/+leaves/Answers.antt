@@ -8,10 +8,10 @@ use Rattle.run_rules.specs.Leaves.{poisons, zeros}
 use Rattle.run_shapes.specs.Shapes.{shape_in}
 use Rattle.run_constants.specs.declared.filled.Fill.TheVariants as fill
 use Rattle.run_constants.specs.Filled.{filled}
-use Rattle.run_constants.specs.Sound.{IsPart, is_single}
+use Rattle.run_constants.specs.Sound.{IsPart}
 use Rattle.run_constants.proofs.Appended.{part_end, part_more, reworded}
 use Rattle.run_constants.proofs.Fills.{filled_is}
-use Rattle.run_constants.proofs.Held.{as_form, sound_as, value_as}
+use Rattle.run_constants.proofs.Held.{sound_as, value_as}
 use Rattle.run_constants.proofs.OneLeaf.{shape_is}
 use Rattle.run_constants.proofs.Lists.{value_of, values_of}
 use Rattle.run_constants.proofs.Sounds.{all_parts, list_sound}
@@ -93,8 +93,3 @@ push_leaves-returns-in-Aggregate t c =
     reworded _ _ _ _ _ c.push_parts.ensures
     (ap (values_of a) c.as_slice.ensures
     ∙ value_as a c.args.id c.constant-known.result.now (const.Aggregate c.in-Aggregate.field-0 c.in-Aggregate.elements) c.constant-known.ensures.here c.in-Aggregate.is (tree a.table c.args.ty))
-
--- ---- constants of one leaf
-
-pub push_leaves-push_scalar-requires-clause-single : goal.push_leaves-push_scalar-requires-clause-single
-push_leaves-push_scalar-requires-clause-single t c = ap is_single (as_form c.args.names.now c.args.id c.constant-known.result.now (const.Integer c.in-Integer.field-0) c.constant-known.ensures.here c.in-Integer.is)
