@@ -1,2 +1,4 @@
+pub mod KeptNames
 pub mod NewIds
+pub mod Targets
 pub mod Parts

@@ -1,20 +1,31 @@
 -- The part of a module, once what is declared is initialised, defined and targeted.
-use Rattle.std.proofs.Common.{◌≡◌, List, [], ◌∷◌, ◌++◌, map, Option, Some, None, refl, subst, ap, ap₂, ◌∙◌}
+use Rattle.std.proofs.Common.{◌≡◌, List, [], ◌∷◌, ◌++◌, map, Option, Some, None, refl, sym, subst, ap, ap₂, ◌∙◌}
 use Rattle.std.specs.List.{cons_option}
 use Rattle.std.proofs.lemmas.List.{map-append}
 use Rattle.std.proofs.lemmas.Option.{same_Some}
+use Rattle.module_arena.specs.Known.{AreDistinct, IsGood}
+use Rattle.module_arena.specs.Lists.{Lists}
 use Rattle.module_arena.specs.Module.{PlainType, FunctionType, AliasType, Variable, Alias, Function, Module}
+use Rattle.module_arena.specs.Valid.{IsValid}
+use Rattle.module_arena.specs.View.{module_of}
+use Rattle.module_arena.specs.WellFormed.{IsWellFormed}
 use Rattle.type_build.specs.Declarations.{without_initialiser, without_target}
 use Rattle.type_build.specs.Parameters.{without_body}
+use Rattle.entry_copy.specs.Tables.{Tables, with_constants}
+use Rattle.extract_core.specs.declared.selection.Selection.{Selection}
 use Rattle.extract_core.specs.Extracted.{alias_as_variable, alias_as_function}
 use Rattle.entry_fates.specs.declared.fates.Fate.{Fate}
 use Rattle.entry_fates.specs.declared.fates.Fate.TheVariants.{Kept, Declared, LeftOut}
 use Rattle.entry_fates.specs.declared.fates.Fates.{Fates}
-use Rattle.entry_fates.specs.Fates.{variable_as, function_as, alias_as, alias_variable_as, alias_function_as, made, part_by}
+use Rattle.entry_fates.specs.Fates.{AreFates, variable_as, function_as, alias_as, alias_variable_as, alias_function_as, made, part_by}
 use Rattle.entry_declare.specs.Stages.{with_variables}
 use Rattle.part_declare.specs.FunctionsThere.{with_functions}
+use Rattle.part_entries.specs.NewIds.{HaveNewIds}
 use Rattle.part_entries.specs.Stages.{declared_by}
 use Rattle.entry_define.specs.Filling.{BeginWithVariables, BeginWithFunctions, with_aliases}
+use Rattle.module_extract.specs.Naming.{NamesAreThere}
+use Rattle.module_extract.proofs.KeptNames.{variable_named, function_named}
+use Rattle.module_extract.proofs.Targets.{alias_named}
 
 -- ---- what aliases become is whole as it is declared
 
@@ -85,3 +96,18 @@ module _ (M : Module) (fates : Fates) where
             ∙ ap (λ (x : Module). with_aliases (with_functions x (fs ++ functions_behind)) xs) one
             ∙ ap (λ (x : Module). with_aliases (with_functions (with_variables x (vs ++ variables_behind)) (fs ++ functions_behind)) xs) declared
             ∙ (λ i. record M { variables = vs ++ vw i; aliases = xs; functions = fs ++ fw i })
+
+-- ---- names
+
+pub names_there : (a : Lists) (s : Selection) → IsWellFormed (module_of a) → IsValid (module_of a) → AreDistinct a → IsGood a → (fates : Fates) → AreFates (module_of a) s fates
+    → (b : Lists) (t : Tables) → HaveNewIds a fates b t → NamesAreThere a fates t
+names_there a s formed valid distinct good fates are b t ids = record {
+  variables = variable_named a s fates are b t ids;
+  functions = function_named a s fates are b t ids;
+  targets = alias_named a s formed valid distinct fates are b t ids good;
+}
+
+-- new ids of constants change none of entries
+pub more_constants_ids : (a : Lists) (fates : Fates) (b : Lists) (t u : Tables) → u ≡ with_constants t u.constants → HaveNewIds a fates b t → HaveNewIds a fates b u
+more_constants_ids a fates b t u more h =
+    subst (HaveNewIds a fates b) (sym more) (record { variables = h.variables; functions = h.functions; aliases = h.aliases })

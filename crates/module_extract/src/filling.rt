@@ -18,7 +18,7 @@ use std::alloc::{AllocError, Global};
 use type_build::Builder;
 
 /// Defines what is kept among declared entries, once all constants are copied.
-pub fn define_entries(
+pub(crate) fn define_entries(
     copier: &Copier,
     alloc: Global,
     from: &Arena,

@@ -1,11 +1,12 @@
-//! What is kept of a module, defined among what is declared of it (the tool `llvm-extract`).
+//! The part of a module that a selection keeps, as a module (the tool `llvm-extract`).
 //!
-//! It stands on `part_entries`, which declares the entries, on `entry_define`, which initialises and defines them, and on
-//! `entry_copy`, by whose new ids they are known. It promises that declared entries become exactly the part by the fates of the
-//! entries. Definitions: `specs/Naming`, what definitions name, and `part_by` of `entry_fates`.
+//! It stands on `extract_core` and `kept_names`, which tell what is kept and named, on `entry_fates` and `part_entries`, which
+//! declare it, on `entry_copy`, and on the law of `extracted_is_valid`. It promises that exactly the extracted module is made, or
+//! the first name told that is missing. Definitions: `Extracted` and `Faults` of `extract_core`.
 #![tactic(auto)]
 
+mod extracting;
 mod filling;
 mod targeting;
 
-pub use filling::define_entries;
+pub use extracting::extract;

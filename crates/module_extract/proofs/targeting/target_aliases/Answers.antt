@@ -1,4 +1,4 @@
-use Rattle.std.proofs.Common.{◌≡◌, ◌+◌, ◌<◌, ◌++◌, [], map, length, slice_get, Some, take, drop, refl, sym, ap, ◌∙◌, append-nil, arith}
+use Rattle.std.proofs.Common.{◌≡◌, ◌<◌, ◌++◌, [], map, length, slice_get, Some, take, drop, refl, sym, ap, ◌∙◌, append-nil, arith}
 use Rattle.module_arena.specs.Changes.{alias_in}
 use Rattle.module_arena.specs.Module.{Module, Alias}
 use Rattle.module_arena.specs.View.{module_of}
