@@ -1,0 +1,7 @@
+mod Firsts
+mod Fresh
+mod Rowed
+mod Parts
+mod Avoiding
+mod Adding
+mod Ending

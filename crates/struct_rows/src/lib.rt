@@ -1,0 +1,12 @@
+//! The named structs of the module that is made of several (the tool `llvm-link`).
+//!
+//! It stands on the walk of `link_structs`, the names of `link_names` and the definitions of `module_linker`. It promises that
+//! the structs get exactly the names that the definition of a linked module gives them, and that of each struct of each part it
+//! is told which of them it is. Each type and each struct of a part is looked at once. Definitions: `specs/Numbers`,
+//! `specs/Rows`, and `Structs` of `module_linker`.
+#![tactic(auto)]
+
+mod avoided;
+mod rows;
+
+pub use rows::{StructRows, struct_rows};
