@@ -1,0 +1,4 @@
+pub mod Picked
+pub mod Selecting
+pub mod Lacking
+pub mod Searched

@@ -1,0 +1,11 @@
+//! The first name that a run of one module lacks: a name without meaning that a definition uses. Such a run does not begin.
+//!
+//! It stands on `run_names`, which tells what names mean, on `kept_names`, which tells what definitions use, and on the definitions of
+//! `run_rules`. It promises, for a checked module alone, exactly the name that `first_missing` of `run_rules` defines, in time linear in
+//! the module. Definitions: `specs/Used`; `Plan` of `run_rules`.
+#![tactic(auto)]
+
+mod defined;
+mod missing;
+
+pub use missing::missing_name;
