@@ -1,5 +1,5 @@
 //! `printf` (C, "The fprintf function").
-ghost use Rattle.std.specs.Prelude.{◌≡◌, ◌+◌, length, map};
+ghost use Rattle.std.specs.Prelude.{◌+◌, length, map};
 ghost use Rattle.run_host.specs.Answers.{Writes};
 ghost use Rattle.run_rules.specs.Printing.{printed, prints, written_from};
 ghost use Rattle.host_calls.specs.Printing.{AreOf, ArePrinted, Refuses, shape_from};

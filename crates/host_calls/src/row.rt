@@ -1,5 +1,5 @@
 //! One call of a host function, by its row.
-ghost use Rattle.std.specs.Prelude.{◌≡◌, ◌<◌, ◌≤◌, ◌^◌, ◌%◌, [], List, false, IfOk, OnErr, if◌then◌else◌, length, map};
+ghost use Rattle.std.specs.Prelude.{◌≡◌, ◌≤◌, ◌^◌, ◌%◌, [], List, false, IfOk, OnErr, if◌then◌else◌, length, map};
 ghost use Rattle.std.specs.List.{list_any};
 ghost use Rattle.ir_memory.specs.Memory.{copied, filled};
 ghost use Rattle.ir_tables.specs.declared.undefined_kind.UndefinedKind.TheVariants.{PoisonArgument};

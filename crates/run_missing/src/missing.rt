@@ -1,5 +1,5 @@
 //! The first name that a run lacks.
-ghost use Rattle.std.specs.Prelude.{◌≡◌, ◌<◌, ◌&&◌, IfOk, IfSome, find, length, map};
+ghost use Rattle.std.specs.Prelude.{◌≡◌, IfOk, IfSome, find, map};
 ghost use Rattle.std.specs.Option.{option_map};
 ghost use Rattle.extract_core.specs.Selected.{is_among};
 ghost use Rattle.module_arena.specs.declared.entry.GlobalId.TheVariants as GlobalId;
