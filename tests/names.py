@@ -1,6 +1,7 @@
 #!/usr/bin/env python3
 """Writes the rows of names and numbers at the end of crates/tool_table's stored input and output: texts, and how
-`llvm-as` tells what is wrong with them. A text with which nothing is wrong is judged by `llvm-extract`.
+`llvm-as` tells what is wrong with them. A text with which nothing is wrong is judged by `llvm-extract`, which then tells that the function
+`absent` is not there.
 
 What a text comes to is written here by hand from the rules of docs/language.md; nothing is taken from the program. `‹` stands
 before the place that is told, `›` before the first place of a duplicate; a place is line:column, in bytes, from 1.
@@ -399,14 +400,14 @@ def script(text):
 
 
 def words(answer):
-    """A module is taken by a tool that judges it and then ends, since its work is not built."""
-    return "llvm-extract names.ll" if answer == "module" else "llvm-as names.ll"
+    """A module is taken by a tool that judges it and then looks for a function that no text here has, so that nothing is written."""
+    return "llvm-extract --func=absent names.ll" if answer == "module" else "llvm-as names.ll"
 
 
 def told(text, answer):
     """What the program prints of the run."""
     if answer == "module":
-        line = "llvm-extract: not built"
+        line = "llvm-extract: no symbol @absent"
     elif answer.startswith("too many"):
         line = f"llvm-as: names.ll: {answer}"
     else:

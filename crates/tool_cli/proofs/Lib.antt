@@ -2,6 +2,7 @@ pub mod Contents
 pub mod Turns
 pub mod Delivered
 pub mod Linked
+pub mod Extracting
 pub mod Works
 pub mod Outcomes
 pub mod Judging

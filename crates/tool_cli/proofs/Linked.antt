@@ -29,7 +29,7 @@ accepted_by true R r = tt
 accepted_by false R r = r
 
 -- an accepted text stands for its module
-is_part : (bytes : List ℕ) (items : List ItemTree) (m : Module) → is_bitcode bytes ≡ false → IsTextOf bytes items m → IsPart bytes m
+pub is_part : (bytes : List ℕ) (items : List ItemTree) (m : Module) → is_bitcode bytes ≡ false → IsTextOf bytes items m → IsPart bytes m
 is_part bytes items m text is = record {
   stands = stands_by (is_bitcode bytes) (Reads bytes m) text (record { items = items; has_items = is.has_items; resolves = is.accepted.resolves });
   sized = is.accepted.sized;

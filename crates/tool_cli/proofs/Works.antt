@@ -1,5 +1,5 @@
 -- The work on one text.
-use Rattle.std.proofs.Common.{◌≡◌, ◌⊎◌, inl, inr, ℕ, Bool, List, [], ◌∷◌, length, codes, Option, Some, None, Result, Ok, Err, refl, ap, subst, arith}
+use Rattle.std.proofs.Common.{◌≡◌, ◌⊎◌, inl, inr, ℕ, Bool, List, [], ◌∷◌, length, codes, Option, Some, None, Result, Ok, Err, refl, ap, arith}
 use Rattle.std.specs.Prelude.{slice_get}
 use Rattle.ir_base.specs.Files.{Named}
 use Rattle.command_line.specs.declared.command.Command.{Command}
@@ -13,28 +13,30 @@ use Rattle.ir_syntax.specs.Tree.{ItemTree}
 use Rattle.module_arena.specs.Module.{Module}
 use Rattle.tool_output.specs.Outputs.{Outputs, outputs}
 use Rattle.tool_ends.specs.declared.ended.Ended.{Ended}
-use Rattle.tool_ends.specs.declared.ended.Ended.TheVariants.{Usage, CannotRead, CannotWrite, InputTooLarge, NotBuilt, Memory}
+use Rattle.tool_ends.specs.declared.ended.Ended.TheVariants.{Usage, CannotRead, CannotWrite, InputTooLarge, Memory}
 use Rattle.tool_ends.specs.declared.ended.Ended.TheVariants as ends
 use Rattle.tool_cli.specs.Inputs.{inputs_of}
 use Rattle.tool_cli.specs.Causes.{RefusesOne}
 use Rattle.tool_cli.specs.Analyzed.{IsAnalysis, IsDumped, IsBeforeWork}
-use Rattle.tool_cli.specs.Made.{IsResult}
 use Rattle.tool_cli.specs.Output.{output_of, IsUnwritten, FailsToWrite, IsWritten, IsWrittenOf}
-use Rattle.tool_cli.specs.Judged.{IsTextRefused, IsTextOf, IsFirstRefusal}
-use Rattle.tool_cli.specs.Told.{items_end, IsRun, IsTextRun, IsWithoutResult, IsJudgement, IsWork, IsOfTexts, IsOfWork}
+use Rattle.tool_cli.specs.Judged.{IsTextRefused, IsTextOf}
+use Rattle.tool_cli.specs.Told.{items_end, IsRun, IsTextRun, IsWork, IsOfTexts, IsOfWork}
 use Rattle.tool_cli.proofs.Delivered.{fails_wider}
 
 some_same : {a b : List ℕ} → Some a ≡ Some b → a ≡ b
 some_same e = cc
 
 -- one text, and it alone
+one_alone : (texts : List (List ℕ)) (text : List ℕ) → length texts ≡ 1 → slice_get texts 0 ≡ Some text → texts ≡ text ∷ []
+one_alone [] text one first = absurd (omega (arith, one))
+one_alone (t ∷ []) text one first = ap (λ (x : List ℕ). x ∷ []) (some_same first)
+one_alone (t ∷ u ∷ texts) text one first = absurd (omega (arith, one))
+
 pub only_text : (command : Command) (input : List ℕ) (output : OutputName) (texts : List (List ℕ)) (text : List ℕ) → command ≡ Assemble input output → length texts ≡ length (inputs_of command) → slice_get texts 0 ≡ Some text → texts ≡ text ∷ []
-only_text command input output texts text is count first = by texts (rw is at count) first
-  where
-    by : (texts : List (List ℕ)) → length texts ≡ 1 → slice_get texts 0 ≡ Some text → texts ≡ text ∷ []
-    by [] one first = absurd (omega (arith, one))
-    by (t ∷ []) one first = ap (λ (x : List ℕ). x ∷ []) (some_same first)
-    by (t ∷ u ∷ texts) one first = absurd (omega (arith, one))
+only_text command input output texts text is count first = one_alone texts text (rw is at count) first
+
+pub only_input : (command : Command) (input : List ℕ) (output : OutputName) (text : Bool) (selection : Selection) (texts : List (List ℕ)) (bytes : List ℕ) → command ≡ Extract input output text selection → length texts ≡ length (inputs_of command) → slice_get texts 0 ≡ Some bytes → texts ≡ bytes ∷ []
+only_input command input output text selection texts bytes is count first = one_alone texts bytes (rw is at count) first
 
 one_text : (input : List ℕ) (max_steps : ℕ) (arguments texts : List (List ℕ)) (text : List ℕ) (ended : Ended) → length texts ≡ 1 → slice_get texts 0 ≡ Some text → IsRun input max_steps text ended → IsWork (Lli input max_steps arguments) texts ended
 one_text input max_steps arguments [] text ended one first run = absurd (omega (arith, one))
@@ -90,31 +92,12 @@ text_run name bound text items m ended is (inr none) = inr none
 -- The work that writes nothing.
 
 -- a command that nothing is to be written for
-pub no_output : (command : Command) → ((input : List ℕ) (dump : Bool) → command ≡ Analyze input dump → ⊥) → ((input : List ℕ) (output : OutputName) → command ≡ Assemble input output → ⊥) → ((inputs : List (List ℕ)) (output : OutputName) (text : Bool) → command ≡ Link inputs output text → ⊥) → output_of command ≡ None
-no_output (Analyze input dump) analysis assembly link = absurd (analysis input dump refl)
-no_output (Assemble input output) analysis assembly link = absurd (assembly input output refl)
-no_output (Link inputs output text) analysis assembly link = absurd (link inputs output text refl)
-no_output command analysis assembly link = refl
-
--- has no result
-no_result : (command : Command) (texts : List (List ℕ)) → output_of command ≡ None → (bytes : List ℕ) → IsResult command texts bytes → ⊥
-no_result (Assemble input output) texts none bytes r = absurd cc
-no_result (Link inputs output text) texts none bytes r = absurd cc
-no_result (Analyze input dump) texts none bytes r = absurd cc
-no_result command texts none bytes r = r
-
-pub unbuilt : (command : Command) (texts : List (List ℕ)) → output_of command ≡ None → IsWithoutResult command texts NotBuilt
-unbuilt command texts none = (no_result command texts none, refl)
-
--- The command that judges its inputs, and has no result yet.
-
-pub judged_work : (command : Command) (texts : List (List ℕ)) (input : List ℕ) (output : OutputName) (text : Bool) (selection : Selection) (ended : Ended) → command ≡ Extract input output text selection → IsJudgement command texts ended → IsWork command texts ended
-judged_work command texts input output text selection ended is judged = rw is (rw is at judged)
-
-pub refused_work : (command : Command) (names texts : List (List ℕ)) (input : List ℕ) (output : OutputName) (text : Bool) (selection : Selection) (ended : Ended) → command ≡ Extract input output text selection → names ≡ inputs_of command → IsFirstRefusal names texts ended ⊎ (ended ≡ Memory) → IsWork command texts ended ⊎ (ended ≡ Memory)
-refused_work command names texts input output text selection ended is are (inl refused) =
-    inl (judged_work command texts input output text selection ended is (inl (subst (λ (ns : List (List ℕ)). IsFirstRefusal ns texts ended) are refused)))
-refused_work command names texts input output text selection ended is are (inr none) = inr none
+pub no_output : (command : Command) → ((input : List ℕ) (dump : Bool) → command ≡ Analyze input dump → ⊥) → ((input : List ℕ) (output : OutputName) → command ≡ Assemble input output → ⊥) → ((inputs : List (List ℕ)) (output : OutputName) (text : Bool) → command ≡ Link inputs output text → ⊥) → ((input : List ℕ) (output : OutputName) (text : Bool) (selection : Selection) → command ≡ Extract input output text selection → ⊥) → output_of command ≡ None
+no_output (Analyze input dump) analysis assembly link extraction = absurd (analysis input dump refl)
+no_output (Assemble input output) analysis assembly link extraction = absurd (assembly input output refl)
+no_output (Link inputs output text) analysis assembly link extraction = absurd (link inputs output text refl)
+no_output (Extract input output text selection) analysis assembly link extraction = absurd (extraction input output text selection refl)
+no_output command analysis assembly link extraction = refl
 
 pub silent_stops : (command : Command) (texts : List (List ℕ)) (o w : Type 0) (ended : Ended) → IsWork command texts ended ⊎ (ended ≡ Memory) → IsWork command texts ended ⊎ FailsToWrite (output_of command) o w ended
 silent_stops command texts o w ended (inl work) = inl work

@@ -4,7 +4,11 @@ use Rattle.std.specs.Bool.{MatchBool}
 use Rattle.bit_tree.specs.Stream.{Tree, Stream}
 use Rattle.bit_dump.specs.Text.{dump_text}
 use Rattle.command_line.specs.declared.command.Command.{Command}
-use Rattle.command_line.specs.declared.command.Command.TheVariants.{Assemble, Link, Analyze}
+use Rattle.command_line.specs.declared.command.Command.TheVariants.{Assemble, Link, Extract, Analyze}
+use Rattle.command_line.specs.declared.command.Selection as words
+use Rattle.extract_core.specs.Extracted.{Extracted}
+use Rattle.extract_core.specs.Selected.{no_such_symbol}
+use Rattle.extract_core.specs.declared.selection.Selection.{Selection}
 use Rattle.tool_output.specs.Alone.{links_alone}
 use Rattle.tool_output.specs.Written.{written}
 use Rattle.tool_output.specs.declared.format.OutputFormat.{OutputFormat}
@@ -53,16 +57,28 @@ pub record AssemblesTo (text : List ℕ) (m : Module) : Type 0 where
   pub sized : first_too_large m ≡ None
   pub valid : IsValid m
 
--- what a linked module is written as: with `-S` its canonical text, else bitcode
+-- what the words of `llvm-extract` select, as it is taken of a module
+abbrev pub selection_of : words.Selection → Selection
+selection_of s = record { functions = s.functions; variables = s.variables; aliases = s.aliases; delete = s.delete; recursive = s.recursive }
+
+-- an input stands for a module in which all that the words select is there, and this is the part of it that they keep
+pub record ExtractsTo (bytes : List ℕ) (selection : words.Selection) (part : Module) : Type 0 where
+  pub whole : Module
+  pub is_part : IsPart bytes whole
+  pub there : no_such_symbol whole (selection_of selection) ≡ None
+  pub extracted : part ≡ Extracted whole (selection_of selection)
+
+-- what a module is written as that was linked or extracted: with `-S` its canonical text, else bitcode
 abbrev pub format_of : Bool → OutputFormat
 format_of true = CanonicalText
 format_of false = Bitcode
 
 -- The result of a command whose inputs are these: of `llvm-as` the bitcode of the module that its text reads to; of `llvm-link` the bitcode, with
--- `-S` the canonical text, of the module that they are linked to; of `llvm-bcanalyzer` the text of the tree that its input is the stream of. Every
--- other work is not built, and what a program prints is no result.
+-- `-S` the canonical text, of the module that they are linked to; of `llvm-extract` the same of the part that its words select of its input; of
+-- `llvm-bcanalyzer` the text of the tree that its input is the stream of. Every other work is not built, and what a program prints is no result.
 abbrev pub IsResult : Command → List (List ℕ) → List ℕ → Type 0
 IsResult (Assemble input output) (text ∷ []) bytes = (m : Module) × AssemblesTo text m × (bytes ≡ written Bitcode m)
 IsResult (Link inputs output text) texts bytes = (m : Module) × LinksTo texts m × (bytes ≡ written (format_of text) m)
+IsResult (Extract input output text selection) (stream ∷ []) bytes = (m : Module) × ExtractsTo stream selection m × (bytes ≡ written (format_of text) m)
 IsResult (Analyze input dump) (stream ∷ []) bytes = (tree : Tree) × Stream stream tree × (bytes ≡ dump_text tree dump)
 IsResult command texts bytes = ⊥

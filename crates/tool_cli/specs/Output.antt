@@ -2,7 +2,7 @@
 use Rattle.std.specs.Prelude.{◌≡◌, ◌⊎◌, ℕ, ◌≤◌, true, List, drop, codes, Option, Some, None, Result, Ok, Err, IsSomeAnd}
 use Rattle.ir_base.specs.Files.{Named, Holds}
 use Rattle.command_line.specs.declared.command.Command.{Command}
-use Rattle.command_line.specs.declared.command.Command.TheVariants.{Assemble, Link, Analyze}
+use Rattle.command_line.specs.declared.command.Command.TheVariants.{Assemble, Link, Extract, Analyze}
 use Rattle.command_line.specs.declared.command.OutputName.{OutputName}
 use Rattle.command_line.specs.declared.command.OutputName.TheVariants.{Standard, File}
 use Rattle.command_line.specs.Tools.{tool_of}
@@ -19,6 +19,7 @@ use Rattle.tool_cli.specs.Made.{IsResult}
 abbrev pub output_of : Command → Option OutputName
 output_of (Assemble input output) = Some output
 output_of (Link inputs output text) = Some output
+output_of (Extract input output text selection) = Some output
 output_of (Analyze input dump) = Some Standard
 output_of command = None
 

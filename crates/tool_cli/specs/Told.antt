@@ -7,18 +7,21 @@ use Rattle.ir_syntax.specs.Tree.{ItemTree}
 use Rattle.ir_syntax.specs.declared.straight.Straight.{Straight}
 use Rattle.ir_run.specs.Straight.{value}
 use Rattle.module_arena.specs.Module.{Module}
+use Rattle.name_rules.specs.Spelled.{spelled_global}
+use Rattle.extract_core.specs.Selected.{no_such_symbol}
 use Rattle.command_line.specs.declared.command.Command.{Command}
-use Rattle.command_line.specs.declared.command.Command.TheVariants.{Assemble, Disassemble, Lli, Analyze}
+use Rattle.command_line.specs.declared.command.Command.TheVariants.{Assemble, Disassemble, Link, Extract, Lli, Analyze}
+use Rattle.command_line.specs.declared.command.Selection.{Selection}
 use Rattle.command_line.specs.declared.command.UsageKind.{UsageKind}
 use Rattle.command_line.specs.Faults.{IsFirstFault}
 use Rattle.command_line.specs.Commands.{IsReadAs}
 use Rattle.tool_ends.specs.declared.ended.Ended.{Ended}
-use Rattle.tool_ends.specs.declared.ended.Ended.TheVariants.{Exit, StepsUsed, Usage, CannotRead, CannotWrite, InputTooLarge, NotBuilt, Memory}
+use Rattle.tool_ends.specs.declared.ended.Ended.TheVariants.{Exit, StepsUsed, Usage, CannotRead, CannotWrite, InputTooLarge, NoSuchSymbol, NotBuilt, Memory}
 use Rattle.tool_ends.specs.declared.ended.Ended.TheVariants as ends
 use Rattle.tool_cli.specs.Inputs.{inputs_of, texts_read}
 use Rattle.tool_cli.specs.Analyzed.{IsAnalysis}
 use Rattle.tool_cli.specs.Judged.{is_bitcode, IsTextRefused, HasModule, IsFirstRefusal, AreAccepted}
-use Rattle.tool_cli.specs.Made.{IsResult, AssemblesTo}
+use Rattle.tool_cli.specs.Made.{IsResult, AssemblesTo, selection_of}
 
 -- the end of a program, each line of which is a step, and so is its return
 abbrev pub end_within : ℕ → Straight → Ended
@@ -56,6 +59,20 @@ IsJudgement command texts ended = IsFirstRefusal (inputs_of command) texts ended
 abbrev pub IsAssembling : List ℕ → List ℕ → Ended → Type 0
 IsAssembling name text ended = IsTextRefused name text ended ⊎ ((m : Module) × AssemblesTo text m × (ended ≡ ends.Ok))
 
+-- the end over a module: the first selected name that is not there is told, as canonical text spells it, and else there is a part
+abbrev pub part_end : Option (List ℕ) → Ended
+part_end None = ends.Ok
+part_end (Some name) = NoSuchSymbol (spelled_global name)
+
+-- the end of `llvm-extract` over the text of the input of this name: it is refused, or that over its module
+abbrev pub IsTextExtraction : List ℕ → Selection → List ℕ → Ended → Type 0
+IsTextExtraction name selection text ended =
+    IsTextRefused name text ended ⊎ ((m : Module) × AssemblesTo text m × (ended ≡ part_end (no_such_symbol m (selection_of selection))))
+
+-- the same over any bytes: bitcode is not built
+abbrev pub IsExtraction : List ℕ → Selection → List ℕ → Ended → Type 0
+IsExtraction name selection bytes ended = MatchBool (is_bitcode bytes) (ended ≡ NotBuilt) (IsTextExtraction name selection bytes ended)
+
 -- the end of a command whose inputs are these texts
 abbrev pub IsWork : Command → List (List ℕ) → Ended → Type 0
 IsWork (Lli input max_steps arguments) (text ∷ []) ended = IsRun input max_steps text ended
@@ -65,7 +82,9 @@ IsWork (Assemble input output) (text ∷ []) ended = IsAssembling input text end
 IsWork (Assemble input output) texts ended = ⊥
 IsWork (Analyze input dump) (bytes ∷ []) ended = IsAnalysis input bytes ended
 IsWork (Analyze input dump) texts ended = ⊥
-IsWork command texts ended = IsJudgement command texts ended
+IsWork (Extract input output text selection) (bytes ∷ []) ended = IsExtraction input selection bytes ended
+IsWork (Extract input output text selection) texts ended = ⊥
+IsWork (Link inputs output text) texts ended = IsJudgement (Link inputs output text) texts ended
 
 -- the end of a command whose inputs give this
 abbrev pub IsOutcome : Command → Result (List (List ℕ)) Ended → Ended → Type 0

@@ -10,6 +10,7 @@ mod analysis;
 mod assembling;
 mod delivery;
 mod entity;
+mod extraction;
 mod inputs;
 mod linking;
 mod parts;

@@ -54,8 +54,8 @@ fn linked(alloc: Global, names: &[Text], texts: &[Text]) -> Result<Option<Checke
     Ok(None)
 }
 
-// What a linked module is written as: with `-S` its canonical text, else bitcode.
-fn format_of(text: bool) -> OutputFormat
+/// What a module is written as that was linked or extracted: with `-S` its canonical text, else bitcode.
+pub(crate) fn format_of(text: bool) -> OutputFormat
     ensures { result ≡ format_of text }
 {
     if text {

@@ -12,9 +12,9 @@ ghost use Rattle.tool_cli.specs.Told.{items_end, IsTextRun, IsRun, IsWork, IsOfT
 
 use crate::analysis::analyze;
 use crate::assembling::assemble;
-use crate::inputs::inputs_of;
+use crate::extraction::extract_part;
 use crate::linking::link;
-use crate::parts::{accepted_text, is_bitcode, judge_all};
+use crate::parts::{accepted_text, is_bitcode};
 use command_line::Command;
 use ir_base::{Files, Sink, Text, TextList};
 use ir_run::run_straight;
@@ -79,13 +79,10 @@ fn silent_work(alloc: Global, command: &Command, texts: &TextList) -> Ended
             ..
         } => run(alloc, input, texts.at(0).bytes(), *max_steps),
         Command::Disassemble { .. } => Ended::NotBuilt,
-        Command::Extract { .. } => {
-            match judge_all(alloc, inputs_of(command), texts.as_slice()) {
-                Ok(()) => Ended::NotBuilt,
-                Err(ended) => ended,
-            }
-        }
-        Command::Assemble { .. } | Command::Link { .. } | Command::Analyze { .. } => unreachable!(),
+        Command::Assemble { .. }
+        | Command::Link { .. }
+        | Command::Extract { .. }
+        | Command::Analyze { .. } => unreachable!(),
     }
 }
 
@@ -131,6 +128,21 @@ pub fn work<F: Files, O: Sink>(
             alloc,
             inputs.as_slice(),
             texts.as_slice(),
+            place,
+            *text,
+            files,
+            output,
+        ),
+        Command::Extract {
+            input,
+            output: place,
+            text,
+            selection,
+        } => extract_part(
+            alloc,
+            input,
+            texts.at(0).bytes(),
+            selection,
             place,
             *text,
             files,

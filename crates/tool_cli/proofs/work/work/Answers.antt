@@ -5,8 +5,9 @@ use Rattle.tool_output.specs.Outputs.{outputs}
 use Rattle.tool_cli.specs.Output.{output_of, FailsToWrite, IsWritten}
 use Rattle.tool_cli.specs.Told.{IsWork}
 use Rattle.tool_cli.proofs.Judging.{short_first}
-use Rattle.tool_cli.proofs.Works.{analysis_work, analysis_written, analysis_cause, silent_stops, texts_of_work, texts_written, only_text, no_output}
+use Rattle.tool_cli.proofs.Works.{analysis_work, analysis_written, analysis_cause, silent_stops, texts_of_work, texts_written, only_text, only_input, no_output}
 use Rattle.tool_cli.proofs.Delivered.{leaves_none, silent_written, link_is, assemble_is}
+use Rattle.tool_cli.proofs.Extracting.{extract_is}
 use Rattle.tool_cli.proofs.work.work.Goals as goal
 
 pub analyze-requires : goal.analyze-requires
@@ -83,8 +84,39 @@ returns-in-Link-clause-unwritten g c = rw c.in-Link.is (λ analysis early. c.lin
 pub returns-in-Link-clause-files_unwritten : goal.returns-in-Link-clause-files_unwritten
 returns-in-Link-clause-files_unwritten g c = rw c.in-Link.is c.link.ensures.files_unwritten
 
+pub extract_part-requires : goal.extract_part-requires
+extract_part-requires g c = rw c.bytes-in-Extract.ensures (short_first _ _ c.requires.short c.at-in-Extract.ensures)
+
+pub returns-in-Extract-clause-work : goal.returns-in-Extract-clause-work
+returns-in-Extract-clause-work g c =
+    let P : Command → List (List ℕ) → Type 0 = λ command texts.
+    IsWork command texts c.extract_part.result
+    ⊎ FailsToWrite (output_of command) (Rose (g.O.Sink.faults c.args.output.now) (g.O.Sink.faults c.extract_part.new.output)) (Rose (g.F.Files.write_faults c.args.files.now) (g.F.Files.write_faults c.extract_part.new.files)) c.extract_part.result in
+    extract_is P _ _ _ _ _ _ _ c.in-Extract.is (only_input _ _ _ _ _ _ _ c.in-Extract.is c.requires.count c.at-in-Extract.ensures) (rw c.bytes-in-Extract.ensures at c.extract_part.ensures.work)
+
+pub returns-in-Extract-clause-written : goal.returns-in-Extract-clause-written
+returns-in-Extract-clause-written g c =
+    let P : Command → List (List ℕ) → Type 0 = λ command texts.
+    IsWritten command texts (outputs (g.O.Sink.taken c.args.output.now) (g.F.Files.contents c.args.files.now)) (outputs (g.O.Sink.taken c.extract_part.new.output) (g.F.Files.contents c.extract_part.new.files)) c.extract_part.result in
+    extract_is P _ _ _ _ _ _ _ c.in-Extract.is (only_input _ _ _ _ _ _ _ c.in-Extract.is c.requires.count c.at-in-Extract.ensures) (rw c.bytes-in-Extract.ensures at c.extract_part.ensures.written)
+
+pub returns-in-Extract-clause-cannot_write : goal.returns-in-Extract-clause-cannot_write
+returns-in-Extract-clause-cannot_write g c = rw c.in-Extract.is c.extract_part.ensures.cannot_write
+
+pub returns-in-Extract-clause-write_fault : goal.returns-in-Extract-clause-write_fault
+returns-in-Extract-clause-write_fault g c = rw c.in-Extract.is c.extract_part.ensures.write_fault
+
+pub returns-in-Extract-clause-leaves_files : goal.returns-in-Extract-clause-leaves_files
+returns-in-Extract-clause-leaves_files g c = rw c.in-Extract.is c.extract_part.ensures.leaves_files
+
+pub returns-in-Extract-clause-unwritten : goal.returns-in-Extract-clause-unwritten
+returns-in-Extract-clause-unwritten g c = rw c.in-Extract.is (λ analysis early. c.extract_part.ensures.unwritten early)
+
+pub returns-in-Extract-clause-files_unwritten : goal.returns-in-Extract-clause-files_unwritten
+returns-in-Extract-clause-files_unwritten g c = rw c.in-Extract.is c.extract_part.ensures.files_unwritten
+
 pub silent_work-requires-clause-silent : goal.silent_work-requires-clause-silent
-silent_work-requires-clause-silent g c = no_output c.args.command.now c.in_default.not-Analyze c.in_default.not-Assemble c.in_default.not-Link
+silent_work-requires-clause-silent g c = no_output c.args.command.now c.in_default.not-Analyze c.in_default.not-Assemble c.in_default.not-Link c.in_default.not-Extract
 
 pub returns-in_default-clause-work : goal.returns-in_default-clause-work
 returns-in_default-clause-work g c =

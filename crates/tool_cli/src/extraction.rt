@@ -1,0 +1,129 @@
+//! A part of an input, and what it makes written.
+ghost use Rattle.std.specs.Prelude.{◌≡◌, ◌⊎◌, ◌<◌, ℕ, List, [], ◌∷◌, Some, None, IfOk, IfErr, OnOk};
+ghost use Rattle.ir_base.specs.Outside.{Rose};
+ghost use Rattle.command_line.specs.declared.command.Command.TheVariants as commands;
+ghost use Rattle.extract_core.specs.Extracted.{Extracted};
+ghost use Rattle.extract_core.specs.Selected.{no_such_symbol};
+ghost use Rattle.module_arena.specs.View.{module_of};
+ghost use Rattle.name_rules.specs.Spelled.{spelled_global};
+ghost use Rattle.tool_output.specs.Outputs.{outputs};
+ghost use Rattle.tool_cli.specs.Judged.{IsShort};
+ghost use Rattle.tool_cli.specs.Made.{ExtractsTo, selection_of};
+ghost use Rattle.tool_cli.specs.Output.{IsUnwritten, FailsToWrite, IsUnwrittenOrMemory, IsFileUnwritten, IsWritten, LeavesFilesBut, LeavesStandard, LeavesNamed};
+ghost use Rattle.tool_cli.specs.Told.{part_end, IsExtraction, IsWork, IsOfTexts, IsOfWork};
+
+use crate::delivery::deliver;
+use crate::linking::format_of;
+use crate::parts::{accepted_text, is_bitcode};
+use command_line::{OutputName, Selection};
+use extract_core::ExtractFault;
+use ir_base::{Files, Name, NameList, Sink, Text};
+use module_arena::Checked;
+use module_extract::extract;
+use name_rules::spell_global;
+use std::alloc::{AllocError, Global};
+use tool_ends::Ended;
+
+// The same names in texts of their own.
+fn copied_names(alloc: Global, names: &[Name]) -> Result<NameList, AllocError>
+    ensures { IfOk result (λ copy. copy ≡ names.now) }
+{
+    let mut copy = NameList::new(alloc);
+    for name in names {
+        copy.push(name.copy(alloc)?)?;
+    }
+    Ok(copy)
+}
+
+// What the words select, as it is taken of a module.
+fn selection_of(alloc: Global, selection: &Selection) -> Result<extract_core::Selection, AllocError>
+    ensures { IfOk result (λ copy. copy ≡ selection_of selection.now) }
+{
+    Ok(extract_core::Selection {
+        functions: copied_names(alloc, selection.functions.as_slice())?,
+        variables: copied_names(alloc, selection.variables.as_slice())?,
+        aliases: copied_names(alloc, selection.aliases.as_slice())?,
+        delete: selection.delete,
+        recursive: selection.recursive,
+    })
+}
+
+// The selected name that is not there, told.
+fn symbol_told(alloc: Global, name: &Name) -> Ended
+    ensures told { (result ≡ Ended.NoSuchSymbol (spelled_global name.now)) ⊎ (result ≡ Ended.Memory) }
+    ensures of_texts { IsOfTexts result }
+{
+    match spell_global(alloc, name.text().bytes()) {
+        Ok(symbol) => Ended::NoSuchSymbol(symbol),
+        Err(_) => Ended::Memory,
+    }
+}
+
+// The part that the words select of a module.
+fn part_of(alloc: Global, checked: &Checked, selection: &Selection) -> Result<Checked, Ended>
+    ensures there { OnOk result (no_such_symbol (module_of checked.now) (selection_of selection.now) ≡ None) }
+    ensures part { IfOk result (λ part. module_of part ≡ Extracted (module_of checked.now) (selection_of selection.now)) }
+    ensures missing { IfErr result (λ ended. (ended ≡ part_end (no_such_symbol (module_of checked.now) (selection_of selection.now))) ⊎ (ended ≡ Ended.Memory)) }
+    ensures of_texts { IfErr result IsOfTexts }
+{
+    let Ok(selection) = selection_of(alloc, selection) else {
+        return Err(Ended::Memory);
+    };
+    match extract(alloc, checked, &selection) {
+        Ok(part) => Ok(part),
+        Err(ExtractFault::NoSuchSymbol(missing)) => Err(symbol_told(alloc, &missing)),
+        Err(ExtractFault::Memory) => Err(Ended::Memory),
+    }
+}
+
+// The part that the words select of the input of this name.
+fn extracted(
+    alloc: Global,
+    name: &Text,
+    bytes: &[u8],
+    selection: &Selection,
+) -> Result<Checked, Ended>
+    requires { IsShort bytes.now }
+    ensures made { IfOk result (λ part. ExtractsTo bytes.now selection.now (module_of part)) }
+    ensures work { IfErr result (λ ended. IsExtraction name.now selection.now bytes.now ended ⊎ (ended ≡ Ended.Memory)) }
+    ensures of_texts { IfErr result IsOfTexts }
+{
+    if is_bitcode(bytes) {
+        return Err(Ended::NotBuilt);
+    }
+    let accepted = accepted_text(alloc, name, bytes)?;
+    part_of(alloc, &accepted.checked, selection)
+}
+
+/// Extracts the part that the words select of the input of this name, and writes its bitcode to this place, or with `text` its canonical text.
+/// A selected name that no definition of its kind has is told.
+pub(crate) fn extract_part<F: Files, O: Sink>(
+    alloc: Global,
+    name: &Text,
+    bytes: &[u8],
+    selection: &Selection,
+    place: &OutputName,
+    text: bool,
+    files: &mut F,
+    output: &mut O,
+) -> Ended
+    requires { IsShort bytes.now }
+    ensures work { IsWork (commands.Extract name.now place.now text selection.now) (bytes.now ∷ []) result
+        ⊎ FailsToWrite (Some place.now) (Rose (O.faults output.old) (O.faults output.new)) (Rose (F.write_faults files.old) (F.write_faults files.new)) result }
+    ensures of_work { IsOfWork result }
+    ensures cannot_write { (name : List ℕ) → result ≡ Ended.CannotWrite name
+        → IsUnwritten (Some place.now) (Rose (O.faults output.old) (O.faults output.new)) (Rose (F.write_faults files.old) (F.write_faults files.new)) name }
+    ensures output_fault { O.faults output.old < O.faults output.new → IsUnwrittenOrMemory result }
+    ensures write_fault { F.write_faults files.old < F.write_faults files.new → IsFileUnwritten (Some place.now) result }
+    ensures written { IsWritten (commands.Extract name.now place.now text selection.now) (bytes.now ∷ []) (outputs (O.taken output.old) (F.contents files.old)) (outputs (O.taken output.new) (F.contents files.new)) result }
+    ensures leaves_files { LeavesFilesBut (Some place.now) result (F.contents files.old) (F.contents files.new) (F.read_faults files.old) (F.read_faults files.new) (F.write_faults files.old) (F.write_faults files.new) }
+    ensures reads { F.read_faults files.new ≡ F.read_faults files.old }
+    ensures unwritten { LeavesStandard (Some place.now) result → output.new ≡ output.old }
+    ensures files_unwritten { LeavesNamed (Some place.now) result → files.new ≡ files.old }
+{
+    let part = match extracted(alloc, name, bytes, selection) {
+        Ok(part) => part,
+        Err(ended) => return ended,
+    };
+    deliver(alloc, format_of(text), place, &part, files, output)
+}
