@@ -1,0 +1,2 @@
+mod TextsOf
+mod NamesApart

@@ -1,0 +1,55 @@
+//! Names the structs of a linked module.
+ghost use Rattle.std.specs.Prelude.{◌≡◌, ◌≤◌, length, Contains, bytes_eq, true, OnOk};
+ghost use Rattle.ir_tables.specs.Table.{is_distinct};
+ghost use Rattle.type_table.specs.Types.{structs, no_types, names, with_struct};
+ghost use Rattle.type_table.specs.declared.fault.TypeFault.{TypeFault};
+ghost use Rattle.module_arena.specs.View.{module_of};
+ghost use Rattle.type_build.specs.Holding.{entries};
+ghost use Rattle.item_build.specs.Partly.{with_structs};
+ghost use Rattle.link_head.specs.Head.{only_named};
+
+use ir_base::{Name, NameList};
+use std::alloc::{AllocError, Global};
+use type_build::Builder;
+use type_table::TypeFault;
+
+/// The fault of a table that takes the struct.
+fn out_of_memory(_fault: TypeFault) -> AllocError
+    requires { _fault ≡ TypeFault.Memory }
+{
+    AllocError
+}
+
+/// Names the next struct, where no struct has the name.
+fn name_struct(alloc: Global, into: &mut Builder, name: &Name) -> Result<(), AllocError>
+    requires few { length into.old.arena.table.structs ≤ 262144 }
+    requires free { Contains (names into.old.arena.table) name.now → ⊥ }
+    ensures table { OnOk result (into.new.arena.table ≡ with_struct into.old.arena.table name.now) }
+    ensures module { OnOk result (module_of into.new.arena ≡ with_structs (module_of into.old.arena) (structs into.new.arena.table)) }
+    ensures entries { OnOk result (entries into.new.arena ≡ entries into.old.arena) }
+{
+    let name = name.copy(alloc)?;
+    match into.arena.name_struct(name) {
+        Ok(_) => Ok(()),
+        Err(fault) => Err(out_of_memory(fault)),
+    }
+}
+
+/// Names structs, in order, where the new arena has no types and no two of the names are one.
+pub(crate) fn name_structs(
+    alloc: Global,
+    into: &mut Builder,
+    names: &NameList,
+) -> Result<(), AllocError>
+    requires empty { into.old.arena.table ≡ no_types }
+    requires few { length names.now ≤ 262144 }
+    requires apart { is_distinct bytes_eq names.now ≡ true }
+    ensures table { OnOk result (into.new.arena.table ≡ only_named names.now) }
+    ensures module { OnOk result (module_of into.new.arena ≡ with_structs (module_of into.old.arena) (structs into.new.arena.table)) }
+    ensures entries { OnOk result (entries into.new.arena ≡ entries into.old.arena) }
+{
+    'names: for name in names.as_slice() {
+        name_struct(alloc, into, name)?;
+    }
+    Ok(())
+}
