@@ -1,0 +1,16 @@
+//! Places in the lists of a body.
+
+/// Where a leaf is had from: the place in the frame where it stands, or its place among the known leaves of the body. Both are
+/// counted from 0.
+#[derive(Clone, Copy, Debug, PartialEq, Eq)]
+pub enum LeafAt {
+    Held(u32),
+    Known(u32),
+}
+
+/// Some items of a pool that follow one another: the place of the first, counted from 0, and how many they are.
+#[derive(Clone, Copy, Debug, PartialEq, Eq)]
+pub struct Span {
+    pub first: u32,
+    pub count: u32,
+}
