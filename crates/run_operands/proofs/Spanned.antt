@@ -1,5 +1,5 @@
 -- What stands in a span of a pool.
-use Rattle.std.proofs.Common.{◌≡◌, ℕ, ◌+◌, ◌-◌, ◌<◌, ◌≤◌, List, [], ◌∷◌, ◌++◌, append_assoc, length, take, drop, map, refl, sym, ap, ◌∙◌, arith, Result, Ok, Err, IfOk}
+use Rattle.std.proofs.Common.{◌≡◌, ℕ, ◌+◌, ◌-◌, ◌≤◌, List, [], ◌∷◌, ◌++◌, append_assoc, length, take, drop, map, sym, ap, ◌∙◌, arith, Result, Ok, Err, IfOk}
 use Rattle.std.proofs.Math.Seq.{drop-append_seam, take-length}
 use Rattle.std.proofs.lemmas.List.{drop-map, length-append, length-map, take-map}
 use Rattle.std.proofs.lemmas.List.FromFn.{map-range_with_len_more}

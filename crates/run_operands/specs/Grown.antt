@@ -1,5 +1,5 @@
 -- For the functions that put parts of instructions into pools: that pools only grow, and what was put where.
-use Rattle.std.specs.Prelude.{◌≡◌, ℕ, ◌<◌, ⊤, List, [], ◌++◌, map, length, slice_index_or}
+use Rattle.std.specs.Prelude.{◌≡◌, ◌<◌, ⊤, List, [], ◌++◌, map, length, slice_index_or}
 use Rattle.ir_eval.specs.declared.value.Scalar.TheVariants.{Poison}
 use Rattle.run_rules.specs.Action as actions
 use Rattle.run_rules.specs.Leaves.{Slot}
