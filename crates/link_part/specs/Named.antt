@@ -1,0 +1,15 @@
+-- For `give_body`, and how the code reads: which structs of the linked module those of a part are, and which have their bodies.
+use Rattle.std.specs.Prelude.{◌≡◌, ℕ, ◌<◌, List, [], map, length, slice_get, Some, None}
+use Rattle.module_arena.specs.Lists.{Lists}
+use Rattle.module_arena.specs.Module.{Bytes, Module}
+use Rattle.module_linker.specs.Structs.{struct_map, new_struct}
+use Rattle.entry_copy.specs.Tables.{Tables}
+
+-- the struct with this name in part i is, in the linked module, the one with that number
+abbrev pub IsNewStruct : List Module → ℕ → Bytes → ℕ → Type 0
+IsNewStruct parts i name number = slice_get (map (λ row. row.1) (struct_map parts)) number ≡ Some (new_struct parts i name)
+
+-- The structs of part i, whose lists are a, are those of the linked module which the copier says.
+pub record KnowsStructs (parts : List Module) (i : ℕ) (a : Lists) (t : Tables) : Type 0 where
+  pub count : length t.structs ≡ length a.table.structs
+  pub each : (id new : ℕ) (name : Bytes) → slice_get (map (λ s. s.0) a.table.structs) id ≡ Some name → slice_get t.structs id ≡ Some new → IsNewStruct parts i name new
