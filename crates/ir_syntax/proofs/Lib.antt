@@ -5,3 +5,9 @@ pub mod Refusals
 pub mod SmallLines
 pub mod Sizes
 pub mod Formed
+pub mod Widened
+pub mod WidenedConstants
+pub mod WidenedInstructions
+pub mod WidenedItems
+pub mod WidenedLanguages
+pub mod Further

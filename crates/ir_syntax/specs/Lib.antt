@@ -7,6 +7,7 @@ pub mod Functions
 pub mod Items
 pub mod Answers
 pub mod Refusal
+pub mod Widths
 pub mod Counts
 pub mod Small
 pub mod Forms

@@ -5,17 +5,23 @@ ghost use Rattle.ir_syntax.specs.Answers.{HasItems, FirstBad, passed};
 ghost use Rattle.ir_syntax.specs.Counts.{counted};
 ghost use Rattle.ir_syntax.specs.Forms.{AreItemsFormed};
 ghost use Rattle.ir_syntax.specs.Items.{IsViable};
-ghost use Rattle.ir_syntax.specs.Refusal.{IsRefused, IsLeftOut, through};
+ghost use Rattle.ir_syntax.specs.Refusal.{IsRefused, IsTooDeep, IsLeftOut, through};
 ghost use Rattle.ir_syntax.specs.Tree.{ItemTree};
 ghost use Rattle.ir_syntax.specs.View.{items_view};
+ghost use Rattle.ir_syntax.specs.Widths.{opens_nest, is_of_wider, is_first};
 ghost use Rattle.ir_syntax.specs.declared.read.SyntaxFault.{SyntaxFault as TheFault};
 ghost use Rattle.ir_lexer.specs.Ahead.{Located};
-ghost use Rattle.ir_terminals.specs.Position.{text_tokens};
+ghost use Rattle.phrase_rows.specs.Row.{among};
+ghost use Rattle.ir_terminals.specs.Position.{text_tokens, left};
+ghost use Rattle.ir_terminals.specs.Terminal.{code};
+ghost use Rattle.ir_constants.specs.Constants.{holder_shape};
 
 use crate::item::Items;
 use crate::items::all_items;
 use ir_base::{Place, Text};
-use ir_terminals::{Cursor, Fault, Limits};
+use ir_lexer::TokenKind;
+use ir_tables::Opcode;
+use ir_terminals::{Cursor, Fault, Limits, Terminal};
 use std::alloc::{AllocError, Global};
 use thiserror::Error;
 
@@ -88,6 +94,58 @@ fn is_viable_through(
     Ok(number < cursor.taken())
 }
 
+/// Whether a constant expression has this opcode.
+fn is_of_expression(opcode: Opcode) -> bool
+    ensures { result ≡ among (code (Terminal.Opcode opcode)) holder_shape.first }
+{
+    matches!(
+        opcode,
+        Opcode::GetElementPtr
+            | Opcode::PtrToInt
+            | Opcode::IntToPtr
+            | Opcode::Trunc
+            | Opcode::Add
+            | Opcode::Sub
+            | Opcode::Xor
+    )
+}
+
+/// Whether the token at which the cursor stands begins a type or a constant that holds others.
+fn opens_a_nest(cursor: &Cursor) -> bool
+    ensures { result ≡ is_first opens_nest (left cursor.now) }
+{
+    match cursor.terminal() {
+        Some(Terminal::OpenBracket | Terminal::OpenBrace | Terminal::Less) => true,
+        Some(Terminal::Opcode(opcode)) => is_of_expression(opcode),
+        _ => false,
+    }
+}
+
+/// Whether the wider language has the token at which the cursor stands in more places: an unnamed local, or `...`.
+fn is_of_wider_language(cursor: &Cursor) -> bool
+    ensures { result ≡ is_first is_of_wider (left cursor.now) }
+{
+    if let Some(TokenKind::UnnamedLocal) = cursor.kind() {
+        return true;
+    }
+    cursor.is_class_next(Terminal::Dots)
+}
+
+/// Whether the token at which the cursor stands, which is the first bad one, is too deep. With one nest more the text
+/// is read only where the token opens a nest: any other is as bad there.
+fn is_too_deep(alloc: Global, text: &[u8], cursor: &Cursor) -> Result<bool, AllocError>
+    requires short { length text.now ≤ 2 ^ 24 }
+    requires text { cursor.now.text ≡ text.now }
+    requires token { cursor.now.taken < length (text_tokens text.now) }
+    requires first_bad { FirstBad text.now (passed cursor.now) }
+    ensures { IfOk result (λ deep. MatchBool deep (IsTooDeep text.now cursor.now.taken) (IsTooDeep text.now cursor.now.taken → ⊥)) }
+{
+    if opens_a_nest(cursor) {
+        return is_viable_through(alloc, text, DEEPER, cursor.taken());
+    }
+    Ok(false)
+}
+
 /// Whether the token at which the cursor stands is left out: by itself, or where the wider language has it.
 fn is_left_out(alloc: Global, text: &[u8], cursor: &Cursor) -> Result<bool, AllocError>
     requires short { length text.now ≤ 2 ^ 24 }
@@ -102,6 +160,22 @@ fn is_left_out(alloc: Global, text: &[u8], cursor: &Cursor) -> Result<bool, Allo
     is_viable_through(alloc, text, WIDER, cursor.taken())
 }
 
+/// Whether the token at which the cursor stands, which is the first bad one, is left out. In the wider language the text
+/// is read only where the token is one that this language has in more places: any other is as bad there.
+fn is_bad_left_out(alloc: Global, text: &[u8], cursor: &Cursor) -> Result<bool, AllocError>
+    requires short { length text.now ≤ 2 ^ 24 }
+    requires text { cursor.now.text ≡ text.now }
+    requires token { cursor.now.taken < length (text_tokens text.now) }
+    requires first_bad { FirstBad text.now (passed cursor.now) }
+    ensures { (t : Located) → slice_get (text_tokens text.now) cursor.now.taken ≡ Some t
+        → IfOk result (λ left_out. MatchBool left_out (IsLeftOut text.now cursor.now.taken t) (IsLeftOut text.now cursor.now.taken t → ⊥)) }
+{
+    if is_of_wider_language(cursor) {
+        return is_left_out(alloc, text, cursor);
+    }
+    Ok(cursor.is_left_out())
+}
+
 /// The refusal of a token with this spelling, which is left out.
 fn left_out(alloc: Global, place: Place, spelling: &[u8]) -> SyntaxFault
     ensures { (result ≡ SyntaxFault.LeftOutWord place spelling.now) ⊎ (result ≡ SyntaxFault.Memory) }
@@ -113,6 +187,8 @@ fn left_out(alloc: Global, place: Place, spelling: &[u8]) -> SyntaxFault
 }
 
 /// Why the text is refused at the token where the cursor stands, which is the first bad one.
+///
+/// The text is read at most once more, since no token both opens a nest and is one of the wider language's.
 fn token_refusal(alloc: Global, text: &[u8], cursor: &Cursor) -> SyntaxFault
     requires short { length text.now ≤ 2 ^ 24 }
     requires text { cursor.now.text ≡ text.now }
@@ -121,12 +197,12 @@ fn token_refusal(alloc: Global, text: &[u8], cursor: &Cursor) -> SyntaxFault
     ensures { IsRefused text.now result ⊎ (result ≡ SyntaxFault.Memory) }
 {
     let place = cursor.place();
-    match is_viable_through(alloc, text, DEEPER, cursor.taken()) {
+    match is_too_deep(alloc, text, cursor) {
         Ok(true) => return SyntaxFault::TooDeep(place),
         Ok(false) => {}
         Err(_) => return SyntaxFault::Memory,
     }
-    match is_left_out(alloc, text, cursor) {
+    match is_bad_left_out(alloc, text, cursor) {
         Ok(true) => left_out(alloc, place, cursor.spelling()),
         Ok(false) => SyntaxFault::NoItemHere(place),
         Err(_) => SyntaxFault::Memory,
