@@ -1,0 +1,5 @@
+mod Joining
+mod Rising
+mod StartLists
+mod Tables
+mod Views
