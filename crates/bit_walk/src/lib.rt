@@ -1,8 +1,8 @@
 //! Walking over a stream of the bitcode container: first judged whole, then given entry by entry.
 //!
-//! It stands on `bit_tree` and holds a few bytes for each abbreviation, and no list of operands. Its promise: a stream is
-//! judged to be a tree or to have its first refused field, and a walker over a judged stream gives each entry and
-//! definition of its tree in order, with the operands of a record one by one. Definitions: `specs/Walker`.
+//! It stands on `bit_tree` and `given_starts`, and holds a few bytes for each abbreviation and no list of operands. Its
+//! promise: a stream is judged to be a tree or to have its first refused field, and a walker over a judged stream gives
+//! each entry and definition of its tree in order, with the operands of a record one by one. Definitions: `specs/Walker`.
 #![tactic(auto)]
 
 mod advance;

@@ -1,8 +1,5 @@
 //! The blocks that are open, and where the abbreviations that are in force in them are defined.
-ghost use Rattle.std.specs.Prelude.{◌≡◌, ℕ, ◌<◌, ◌≤◌, ◌^◌, [], length, OnOk, option_map, slice_get, unwrap_or};
-ghost use Rattle.std.specs.Ordering.{nat_cmp};
-ghost use Rattle.std.specs.Map.{lookup, remove_entry};
-ghost use Rattle.std.specs.BTreeMap.{is_at};
+ghost use Rattle.std.specs.Prelude.{◌≡◌, ℕ, ◌<◌, ◌≤◌, ◌^◌, length, OnOk, option_map, slice_get};
 ghost use Rattle.bits.specs.Bits.{stream_bits};
 ghost use Rattle.bit_stream.specs.Scope.{top_level, given_to, given_here, template_of};
 ghost use Rattle.bit_stream.specs.Writer.{in_force};
@@ -11,8 +8,8 @@ ghost use Rattle.bit_walk.specs.Starts.{Opened, with_scope, template_at};
 
 use crate::starts::StartList;
 use bit_stream::NarrowWidth;
+use given_starts::Given;
 use std::alloc::{AllocError, Global};
-use std::collections::BTreeMap;
 use std::marker::Model;
 use std::mem;
 
@@ -46,7 +43,7 @@ pub struct Scope<'b> {
     bytes: &'b [u8],
     block: Frame,
     around: Vec<Frame>,
-    given: BTreeMap<u64, StartList>,
+    given: Given,
     alloc: Global,
 }
 
@@ -57,7 +54,7 @@ impl<'b> Model for Scope<'b> {
 
     ghost Value = { Opened };
 
-    ghost view = { λ s. opened_at (stream_bits s.bytes.now) s.block s.around.items s.given.entries };
+    ghost view = { λ s. opened_at (stream_bits s.bytes.now) s.block s.around.items s.given };
 
     ghost invariant = { λ s. length s.bytes.now ≤ 2 ^ 24 };
 }
@@ -80,7 +77,7 @@ impl<'b> Scope<'b> {
                 target: None,
             },
             around: Vec::new(alloc),
-            given: BTreeMap::new(alloc),
+            given: Given::new(alloc),
             alloc,
         }
     }
@@ -148,10 +145,7 @@ impl<'b> Scope<'b> {
         ensures value { result ≡ length (given_to self.now.scope.given id) }
         ensures few { result ≤ 2 ^ 30 }
     {
-        match self.given.get(&id) {
-            Some(list) => list.len(),
-            None => 0,
-        }
+        self.given.count(id)
     }
 
     /// Enters a block.
@@ -200,9 +194,7 @@ impl<'b> Scope<'b> {
     pub fn give(&mut self, id: u64, start: u32) -> Result<(), AllocError>
         ensures { OnOk result (self.new ≡ with_scope self.old (given_for self.old.scope id (template_at self.old.bits start))) }
     {
-        let mut list = taken(&mut self.given, self.alloc, id);
-        list.push(start)?;
-        self.given.insert(id, list)?;
+        self.given.give(id, start)?;
         Ok(())
     }
 
@@ -235,10 +227,7 @@ impl<'b> Scope<'b> {
     {
         let block = &self.block;
         match block.id {
-            Some(id) => match self.given.get(&u64::from(id)) {
-                Some(list) => list.get(index),
-                None => None,
-            },
+            Some(id) => self.given.get(u64::from(id), index),
             None => None,
         }
     }
@@ -256,16 +245,5 @@ impl<'b> Scope<'b> {
         } else {
             block.own.get(index - given)
         }
-    }
-}
-
-/// Takes the starts of the definitions that were given to a block id out of a table.
-fn taken(given: &mut BTreeMap<u64, StartList>, alloc: Global, id: u64) -> StartList
-    ensures list { result ≡ unwrap_or (lookup (is_at (nat_cmp id)) given.old.entries) [] }
-    ensures others { given.new.entries ≡ remove_entry (is_at (nat_cmp id)) given.old.entries }
-{
-    match given.remove(&id) {
-        Some(list) => list,
-        None => StartList::new(alloc),
     }
 }
