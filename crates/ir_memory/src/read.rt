@@ -1,5 +1,5 @@
 //! What a load gives.
-ghost use Rattle.std.specs.Prelude.{◌≡◌, ℕ, ◌+◌, ◌<◌, ◌≤◌, ◌^◌, true, false, None, Some, slice_range, slice_index_or, length};
+ghost use Rattle.std.specs.Prelude.{◌≡◌, ℕ, ◌+◌, ◌<◌, ◌≤◌, ◌^◌, true, false, None, Some, IsSome, slice_range, slice_index_or, length};
 ghost use Rattle.ir_memory.specs.Memory as of;
 ghost use Rattle.ir_memory.specs.Cell as cell;
 ghost use Rattle.ir_memory.specs.Given.{IsLeaf};
@@ -34,7 +34,8 @@ pub fn read_at(kept: &Table, pieces: &Pieces, place: Place, leaf: Leaf) -> Scala
 fn has_pieces(pieces: &Pieces, mixed: bool, from: u64, to: u64) -> bool
     requires order { from ≤ to }
     requires unmixed { mixed ≡ false → (q : ℕ) → from ≤ q → q < to → at pieces.now q ≡ None }
-    ensures { result ≡ false → (q : ℕ) → from ≤ q → q < to → at pieces.now q ≡ None }
+    ensures none { result ≡ false → (q : ℕ) → from ≤ q → q < to → at pieces.now q ≡ None }
+    ensures some { result ≡ true → (q : ℕ) × (from ≤ q) × (q < to) × IsSome (at pieces.now q) }
 {
     mixed && !pieces.is_clear(from, to)
 }

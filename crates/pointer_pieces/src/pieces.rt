@@ -1,5 +1,5 @@
 //! The pieces of pointers by their addresses.
-ghost use Rattle.std.specs.Prelude.{◌≡◌, ℕ, ◌+◌, ◌<◌, ◌≤◌, ◌^◌, IfOk, OnOk, OnErr, true, None};
+ghost use Rattle.std.specs.Prelude.{◌≡◌, ℕ, ◌+◌, ◌<◌, ◌≤◌, ◌^◌, IfOk, IsSome, OnOk, OnErr, true, false, None};
 ghost use Rattle.std.specs.Ordering.{nat_cmp};
 ghost use Rattle.std.specs.BTreeMap as tree;
 ghost use Rattle.pointer_pieces.specs.Pieces.{without, with_pointer, with_moved};
@@ -40,7 +40,8 @@ impl Pieces {
     /// Whether a range has no piece.
     pub fn is_clear(&self, from: u64, to: u64) -> bool
         requires { from ≤ to }
-        ensures { result ≡ true → (q : ℕ) → from ≤ q → q < to → tree.get nat_cmp self.now.by_address q ≡ None }
+        ensures none { result ≡ true → (q : ℕ) → from ≤ q → q < to → tree.get nat_cmp self.now.by_address q ≡ None }
+        ensures some { result ≡ false → (q : ℕ) × (from ≤ q) × (q < to) × IsSome (tree.get nat_cmp self.now.by_address q) }
     {
         first_within(&self.by_address, from, to).is_none()
     }

@@ -65,7 +65,7 @@ fn bounds_at(spots: &[Spot], block: u64) -> Option<(u64, u64)>
 
 impl<'m> Names<'m> {
     /// The module.
-    pub fn program(&self) -> &Checked
+    pub fn program(&self) -> &'m Checked
         ensures { result.now ≡ self.now }
     {
         self.program

@@ -30,4 +30,4 @@ returns c =
     ∙ read-plain c.args.leaf (slice_range b.bytes c.args.place.offset (c.args.place.offset + size c.args.leaf))
     ∙ ap (read c.args.leaf) (sym
     (cells-there (at c.args.pieces.now) c.args.kept.now c.args.place (size c.args.leaf) b c.requires.room.index c.get-block.ensures
-    ∙ plain_cells (at c.args.pieces.now) (b.start + c.args.place.offset) (size c.args.leaf) _ long (λ a low high. c.has_pieces.ensures c.if-has_pieces.false a low (omega (arith, high, c.size-count.ensures.value)))))
+    ∙ plain_cells (at c.args.pieces.now) (b.start + c.args.place.offset) (size c.args.leaf) _ long (λ a low high. c.has_pieces.ensures.none c.if-has_pieces.false a low (omega (arith, high, c.size-count.ensures.value)))))
