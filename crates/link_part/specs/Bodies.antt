@@ -12,7 +12,7 @@ use Rattle.entry_copy.specs.Copies.{AllFit, CopiesTypes}
 use Rattle.entry_copy.specs.Tables.{Tables}
 use Rattle.item_build.specs.Partly.{IsPartly, body_at}
 use Rattle.item_build.specs.Partly as some_defined
-use Rattle.link_part.specs.Parts.{CanLink}
+use Rattle.link_stages.specs.Parts.{CanLink}
 use Rattle.link_part.specs.Named.{KnowsStructs}
 
 -- Part i, whose lists are a, is being copied to b, in which some structs of the linked module have no body yet. The structs are within
