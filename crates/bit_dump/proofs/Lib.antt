@@ -1,3 +1,4 @@
+mod Joined
 pub mod Sinks
 mod Spilling
 pub mod Telling

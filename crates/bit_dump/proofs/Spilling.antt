@@ -96,3 +96,9 @@ total_wanted before now old rest t h =
     let is : old ++ summary t ≡ (old ++ flat_map row_line t.rows) ++ (codes "total: " ++ counts_line t.total) =
     ap (λ (l : List ℕ). old ++ l) (summary_is t) ∙ sym (append_assoc old (flat_map row_line t.rows) (codes "total: " ++ counts_line t.total)) in
     front_behind before now now (old ++ flat_map row_line t.rows) rest (codes "total: " ++ counts_line t.total) (old ++ summary t) h is (took_none now (rest ++ (codes "total: " ++ counts_line t.total)))
+
+-- or before the last of the other lines
+pub rows_stop : (before now : Option (List ℕ)) (old new : List ℕ) (t : Tally) (fault : DumpFault) → Spilled (flat_map row_line t.rows) before old now new (Err fault) → Spilled (summary t) before old now new (Err fault)
+rows_stop before now old new t fault h =
+    let P : List ℕ → Type 0 = λ text. Spilled text before old now new (Err fault) in
+    subst P (sym (summary_is t)) (spilled_longer before now old new new (flat_map row_line t.rows) (codes "total: " ++ counts_line t.total) fault h)

@@ -1,5 +1,6 @@
 pub mod Dumped
 pub mod Fault
+pub mod Halves
 pub mod Outline
 pub mod Tally
 pub mod Telling

@@ -1,18 +1,9 @@
 //! How many blocks, records and definitions there are.
-ghost use Rattle.std.specs.Prelude.{◌≡◌, ◌+◌, IfOk, OnOk, string_bytes};
-ghost use Rattle.std.specs.List.{flat_map};
-ghost use Rattle.bit_dump.specs.Dumped.{Counted};
-ghost use Rattle.bit_dump.specs.Telling.{Spilled};
-ghost use Rattle.bit_dump.specs.Text.{row_line, summary};
-ghost use Rattle.bit_dump.specs.Tally.{no_counts, no_tally, one_more, counts_of, with_one, counted};
+ghost use Rattle.std.specs.Prelude.{◌≡◌, ◌+◌, ◌*◌, IfOk};
+ghost use Rattle.bit_dump.specs.Tally.{no_counts, one_more};
+ghost use Rattle.bit_dump.specs.Halves.{no_half, whole};
 
-use crate::DumpFault;
-use crate::summary::tell_row;
-use crate::text::put_total;
-use ir_base::Sink;
-use std::alloc::{AllocError, Global};
-use std::collections::BTreeMap;
-use std::marker::Model;
+use std::alloc::AllocError;
 
 /// How many blocks, records, and definitions of abbreviations.
 #[derive(Clone, Copy)]
@@ -50,7 +41,7 @@ impl Counts {
     }
 
     /// One more of a kind.
-    fn with(self, kind: Kind) -> Result<Self, AllocError>
+    pub fn with(self, kind: Kind) -> Result<Self, AllocError>
         ensures { IfOk result (λ counts. counts ≡ one_more kind self) }
     {
         let mut counts = self;
@@ -63,73 +54,63 @@ impl Counts {
     }
 }
 
-/// The counts of each block id, and of all.
-#[derive(Drop)]
-pub struct Tally {
-    rows: BTreeMap<u32, Counts>,
-    total: Counts,
+/// The lower or the upper sixteen bits of counts.
+#[derive(Clone, Copy)]
+pub struct Half {
+    pub blocks: u16,
+    pub records: u16,
+    pub abbreviations: u16,
 }
 
-impl Model for Tally {
-    ghost use Rattle.bit_dump.specs.Tally.{Tally};
-
-    ghost Value = { Tally };
-
-    ghost view = { λ t. record { rows = t.rows.entries; total = t.total } };
+/// The lower and the upper half of a count.
+fn halves(count: u32) -> (u16, u16)
+    ensures { result.0 + 65536 * result.1 ≡ count }
+{
+    ((count % 65536) as u16, (count / 65536) as u16)
 }
 
-impl Tally {
-    /// Nothing is counted yet.
-    pub fn new(alloc: Global) -> Self
-        ensures { result ≡ no_tally }
+impl Half {
+    /// None of a half.
+    pub fn none() -> Self
+        ensures { result ≡ no_half }
     {
-        Tally {
-            rows: BTreeMap::new(alloc),
-            total: Counts::none(),
+        Half {
+            blocks: 0,
+            records: 0,
+            abbreviations: 0,
         }
     }
+}
 
-    /// One more of a kind, for this block and in all.
-    pub fn add(&mut self, kind: Kind, here: Option<u32>) -> Result<(), AllocError>
-        ensures { OnOk result (self.new ≡ counted kind self.old here) }
+impl Counts {
+    /// The lower and the upper half of the counts.
+    pub fn halves(self) -> (Half, Half)
+        ensures { whole result.0 result.1 ≡ self }
     {
-        if let Some(id) = here {
-            let counts = self.of(id).with(kind)?;
-            self.rows.insert(id, counts)?;
-        }
-        self.total = self.total.with(kind)?;
-        Ok(())
+        let (blocks, upper_blocks) = halves(self.blocks);
+        let (records, upper_records) = halves(self.records);
+        let (abbreviations, upper_abbreviations) = halves(self.abbreviations);
+        let lower = Half {
+            blocks,
+            records,
+            abbreviations,
+        };
+        let upper = Half {
+            blocks: upper_blocks,
+            records: upper_records,
+            abbreviations: upper_abbreviations,
+        };
+        (lower, upper)
     }
 
-    /// A line for each block id, the ids ascending, and one for all. A front of them is written where they are many.
-    #[tactic(auto, unfolding(crate::specs::Text::summary))]
-    pub fn tell_summary<S: Sink>(&self, text: &mut String, sink: &mut S) -> Result<(), DumpFault>
-        ensures told { Spilled (summary self.now) (S.taken sink.old) (string_bytes text.old) (S.taken sink.new) (string_bytes text.new) result }
-        ensures counted { Counted (S.faults sink.old) (S.faults sink.new) result }
+    /// Counts of these halves.
+    pub fn of_halves(lower: Half, upper: Half) -> Self
+        ensures { result ≡ whole lower upper }
     {
-        self.tell_rows(text, sink)?;
-        put_total(text, self.total)?;
-        Ok(())
-    }
-
-    /// A line for each block id, the ids ascending.
-    fn tell_rows<S: Sink>(&self, text: &mut String, sink: &mut S) -> Result<(), DumpFault>
-        ensures told { Spilled (flat_map row_line self.now.rows) (S.taken sink.old) (string_bytes text.old) (S.taken sink.new) (string_bytes text.new) result }
-        ensures counted { Counted (S.faults sink.old) (S.faults sink.new) result }
-    {
-        for (id, counts) in &self.rows {
-            tell_row(*id, *counts, text, sink)?;
-        }
-        Ok(())
-    }
-
-    /// The counts of a block id.
-    fn of(&self, id: u32) -> Counts
-        ensures { result ≡ counts_of self.now.rows id }
-    {
-        match self.rows.get(&id) {
-            Some(counts) => *counts,
-            None => Counts::none(),
+        Counts {
+            blocks: u32::from(lower.blocks) + 65536 * u32::from(upper.blocks),
+            records: u32::from(lower.records) + 65536 * u32::from(upper.records),
+            abbreviations: u32::from(lower.abbreviations) + 65536 * u32::from(upper.abbreviations),
         }
     }
 }

@@ -11,6 +11,7 @@ mod judged;
 mod outline;
 mod pieces;
 mod summary;
+mod tally;
 mod text;
 
 pub use fault::DumpFault;

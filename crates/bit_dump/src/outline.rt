@@ -7,8 +7,9 @@ ghost use Rattle.bit_dump.specs.Telling.{Spilled};
 ghost use Rattle.bit_dump.specs.Text.{summary};
 
 use crate::DumpFault;
-use crate::counts::{Kind, Tally};
+use crate::counts::Kind;
 use crate::summary::ROOM;
+use crate::tally::Tally;
 use crate::text::{
     put_block, put_definition, put_end, put_operand, put_record_end, put_record_head,
 };

@@ -1,9 +1,0 @@
-use Rattle.std.proofs.Common.{◌≡◌, string_bytes}
-use Rattle.bit_dump.proofs.Spilling.{Rows}
-use Rattle.bit_dump.proofs.counts.Tally.tell_rows.Given as goal
-
-abbrev pub invariant-loop-id : goal.invariant-loop-id
-invariant-loop-id g l = record {
-  told : Rows (g.S.Sink.taken l.initial.sink) (g.S.Sink.taken l.sink) (string_bytes l.initial.text) (string_bytes l.text) l.self.rows l.id-iterator;
-  faults : g.S.Sink.faults l.sink ≡ g.S.Sink.faults l.initial.sink;
-}
