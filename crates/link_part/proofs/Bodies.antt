@@ -1,5 +1,4 @@
 -- Types of a part fit where some structs of the linked module have no body yet.
-use Rattle.std.proofs.Common.{List, All}
 use Rattle.std.proofs.lemmas.List.Elements.{All-weaker}
 use Rattle.type_table.specs.Limits.{IsWithinLimits}
 use Rattle.type_table.specs.Shape.{shape}

@@ -1,12 +1,11 @@
 -- A struct of the linked module gets its body from a part.
-use Rattle.std.proofs.Common.{◌≡◌, ℕ, ◌<◌, List, map, length, Option, Some, refl, sym, ap, ◌∙◌, subst}
-use Rattle.std.specs.Prelude.{slice_get}
+use Rattle.std.proofs.Common.{◌≡◌, ℕ, ◌<◌, List, length, Some, refl, sym, ap, ◌∙◌, subst}
 use Rattle.type_table.specs.declared.fault.TypeFault.{TypeFault}
 use Rattle.type_table.specs.declared.fault.TypeFault.TheVariants.{Memory}
 use Rattle.type_table.specs.declared.ir_type.StructBody.{StructBody}
 use Rattle.type_table.specs.Limits.{HasFault}
 use Rattle.type_table.specs.Tree.{Structs}
-use Rattle.type_table.specs.Types.{with_body, trees, tree_body, KnowsBody}
+use Rattle.type_table.specs.Types.{with_body, trees, tree_body}
 use Rattle.type_table.proofs.Defined.{names-defined, trees-defined}
 use Rattle.module_arena.specs.Changes.{with_table}
 use Rattle.module_arena.specs.Lists.{Lists}
@@ -21,8 +20,8 @@ use Rattle.item_build.specs.Partly.{AllFit, IsPartly, IsDone, body_at}
 use Rattle.item_build.proofs.Partly.{partly_grown}
 use Rattle.entry_copy.specs.Copies.{CopiesTypes, IsStructBody}
 use Rattle.entry_copy.specs.Tables.{Tables, with_types}
-use Rattle.entry_copy.specs.Tables as tables
 use Rattle.entry_copy.proofs.Starting.{types_still_copied}
+use Rattle.entry_copy.proofs.TypesCopied.{types_still}
 use Rattle.struct_copy.proofs.StructsDefined.{after_partly, after_memory, after_done, after_kept}
 use Rattle.link_part.specs.Bodies.{IsMaking, GivesBody}
 use Rattle.link_part.specs.Named.{KnowsStructs}
@@ -65,11 +64,4 @@ module _ (ms : List Module) (i : ℕ) (a b b1 : Lists) (t t1 : Tables) (new : �
 -- what was copied before stays copied
 pub still_after : (b b1 : Lists) (new : ℕ) (copy : StructBody) → Grows b b1 → (naming : Bytes → Bytes) (a : Lists) (t : Tables) → CopiesTypes naming a b t → CopiesTypes naming a (with_table b1 (with_body b1.table new copy)) t
 still_after b b1 new copy grows naming a t h =
-    types_still_copied b1 (with_table b1 (with_body b1.table new copy)) (trees-defined b1.table new copy) refl naming a t (names-defined b1.table new copy) (grown naming a t h)
-  where
-    grown : (naming : Bytes → Bytes) (a : Lists) (t : Tables) → CopiesTypes naming a b t → CopiesTypes naming a b1 t
-    grown naming a t h = record {
-      named = λ id lt. ap (λ (ss : List (Bytes × Option StructBody)). slice_get (map (λ s. s.0) ss) (tables.new_struct t id)) grows.structs ∙ h.named id lt;
-      few_types = h.few_types;
-      types = λ id lt. grows.types _ _ (h.types id lt);
-    }
+    types_still_copied b1 (with_table b1 (with_body b1.table new copy)) (trees-defined b1.table new copy) refl naming a t (names-defined b1.table new copy) (types_still naming a b t h b1 grows)

@@ -1,2 +1,5 @@
+pub mod PartStructs
 mod Bodies
 mod Given
+mod Grown
+mod Own

@@ -1,5 +1,5 @@
--- For `give_body`, and how the code reads: one part while its types are copied and its structs get their bodies.
-use Rattle.std.specs.Prelude.{◌≡◌, ℕ, ◌<◌, List, length, slice_get, slice_index_or, Some}
+-- For `copy_part`: one part while its types are copied and its structs get their bodies.
+use Rattle.std.specs.Prelude.{◌≡◌, ℕ, ◌<◌, List, length, slice_get, Some}
 use Rattle.module_arena.specs.Lists.{Lists}
 use Rattle.module_arena.specs.Module.{Module}
 use Rattle.module_arena.specs.Renamed.{renamed_body}

@@ -1,9 +1,12 @@
--- For `give_body`, and how the code reads: which structs of the linked module those of a part are, and which have their bodies.
-use Rattle.std.specs.Prelude.{◌≡◌, ℕ, ◌<◌, List, [], map, length, slice_get, Some, None}
+-- For `copy_part`: which structs of the linked module those of a part are, and which have their bodies.
+use Rattle.std.specs.Prelude.{◌≡◌, ℕ, ◌<◌, List, map, length, slice_get, Some}
 use Rattle.module_arena.specs.Lists.{Lists}
 use Rattle.module_arena.specs.Module.{Bytes, Module}
+use Rattle.module_linker.specs.Linked.{link_result}
 use Rattle.module_linker.specs.Structs.{struct_map, new_struct}
 use Rattle.entry_copy.specs.Tables.{Tables}
+use Rattle.entry_copy.specs.Tables as tables
+use Rattle.item_build.specs.Partly.{IsDone}
 
 -- the struct with this name in part i is, in the linked module, the one with that number
 abbrev pub IsNewStruct : List Module → ℕ → Bytes → ℕ → Type 0
@@ -13,3 +16,7 @@ IsNewStruct parts i name number = slice_get (map (λ row. row.1) (struct_map par
 pub record KnowsStructs (parts : List Module) (i : ℕ) (a : Lists) (t : Tables) : Type 0 where
   pub count : length t.structs ≡ length a.table.structs
   pub each : (id new : ℕ) (name : Bytes) → slice_get (map (λ s. s.0) a.table.structs) id ≡ Some name → slice_get t.structs id ≡ Some new → IsNewStruct parts i name new
+
+-- each struct of the part, whose lists are a, has its body in the arena b
+abbrev pub AreDone : List Module → Lists → Lists → Tables → Type 0
+AreDone parts a b t = (id : ℕ) → id < length a.table.structs → IsDone (link_result parts).structs b (tables.new_struct t id)

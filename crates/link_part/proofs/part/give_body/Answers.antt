@@ -1,15 +1,13 @@
-use Rattle.std.proofs.Common.{◌<◌, ℕ, length, List, Option, Some, refl, sym, subst, ap, ◌∙◌, arith}
+use Rattle.std.proofs.Common.{length, Some, sym, subst, ap, ◌∙◌, arith}
 use Rattle.type_table.specs.Types.{Types, KnowsBody}
 use Rattle.module_arena.specs.Lists.{Lists}
-use Rattle.module_arena.specs.Module.{Module}
 use Rattle.module_linker.specs.Linked.{link_result}
 use Rattle.module_linker.specs.Structs.{new_struct}
 use Rattle.item_build.specs.Partly.{IsDone}
 use Rattle.item_build.proofs.Partly.{new_structs}
 use Rattle.entry_copy.specs.Copies.{CopiesTypes}
 use Rattle.struct_copy.proofs.StructsDefined.{knows_more, struct_there}
-use Rattle.type_build.proofs.Staying.{structs_stay}
-use Rattle.link_part.specs.Bodies.{IsMaking, GivesBody}
+use Rattle.link_part.specs.Bodies.{IsMaking}
 use Rattle.link_part.proofs.Bodies.{part_fits}
 use Rattle.link_part.proofs.Given.{making_after, memory_after, done_after, kept_after, still_after}
 use Rattle.link_part.proofs.part.give_body.Goals as goal
