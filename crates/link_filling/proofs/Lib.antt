@@ -1,0 +1,12 @@
+pub mod Within
+pub mod Keeping
+pub mod Copied
+pub mod Joined
+pub mod Initialising
+pub mod Bare
+pub mod BodyCopied
+pub mod Aliases
+pub mod Filled
+pub mod Homes
+pub mod Steps
+pub mod Defining

@@ -1,0 +1,63 @@
+use Rattle.std.proofs.Common.{◌≡◌, IsSome, Some, slice_get, sym, subst, ◌∙◌, le_refl}
+use Rattle.linkage_rules.specs.Ids.{modules}
+use Rattle.module_arena.specs.Changes.{alias_in}
+use Rattle.module_arena.specs.View.{module_of}
+use Rattle.module_linker.specs.Linked.{linked_alias}
+use Rattle.module_arena.specs.declared.entry.GlobalId.TheVariants as global
+use Rattle.linked_symbols.proofs.Targets.{some_target}
+use Rattle.link_filling.specs.Filling.{IsBare}
+use Rattle.link_filling.proofs.Aliases.{alias_written, new_known, new_there, target_written}
+use Rattle.link_filling.proofs.Bare.{alias_there}
+use Rattle.link_filling.proofs.Keeping.{targeted_keeps, untargeted_behind}
+use Rattle.link_filling.proofs.targets.target.Goals as goal
+
+pub unwrap-target-requires : goal.unwrap-target-requires
+unwrap-target-requires c =
+    let a = c.arena_of-arena.result.now in
+    let x = c.alias.result.now in
+    some_target a c.arena_of-arena.ensures.well_formed c.args.home.number x (subst (λ n. slice_get a.aliases n ≡ Some x) c.new.ensures c.alias.ensures)
+
+pub unwrap-new-requires : goal.unwrap-new-requires
+unwrap-new-requires c =
+    let a = c.arena_of-arena.result.now in
+    let x = c.alias.result.now in
+    let at = subst (λ n. slice_get a.aliases n ≡ Some x) c.new.ensures c.alias.ensures in
+    subst IsSome (sym c.new_global.ensures)
+    (new_there c.args.parts.now c.args.home a c.arena_of-arena.ensures.arena c.requires.alias x at c.variable_count-good.ensures.good c.unwrap-target.result c.unwrap-target.ensures
+    c.args.into.now.arena c.args.copiers.now c.copier_of.result.now c.requires.copied c.requires.new_ids c.copier_of.ensures)
+
+pub set_target-requires-clause-known : goal.set_target-requires-clause-known
+set_target-requires-clause-known c =
+    let a = c.arena_of-arena.result.now in
+    let b = c.args.into.now.arena in
+    let x = c.alias.result.now in
+    let at = subst (λ n. slice_get a.aliases n ≡ Some x) c.new.ensures c.alias.ensures in
+    let d = c.requires.declared in
+    alias_there b c.args.id (linked_alias (modules c.args.parts.now) d.1 c.args.home.part (alias_in a x)) (subst (IsBare b (global.Alias c.args.id)) (alias_written c.args.parts.now c.args.home a c.arena_of-arena.ensures.arena c.requires.alias x at d.0 d.1) d.2)
+
+pub set_target-requires-clause-untargeted : goal.set_target-requires-clause-untargeted
+set_target-requires-clause-untargeted c = λ x there. c.requires.untargeted c.args.id x (le_refl c.args.id) there
+
+pub set_target-requires-clause-target : goal.set_target-requires-clause-target
+set_target-requires-clause-target c =
+    let a = c.arena_of-arena.result.now in
+    let x = c.alias.result.now in
+    let at = subst (λ n. slice_get a.aliases n ≡ Some x) c.new.ensures c.alias.ensures in
+    new_known c.args.parts.now c.args.home a c.arena_of-arena.ensures.arena c.requires.alias x at c.variable_count-good.ensures.good c.unwrap-target.result c.unwrap-target.ensures
+    c.args.into.now.arena c.args.copiers.now c.copier_of.result.now c.requires.copied c.requires.new_ids c.copier_of.ensures c.unwrap-new.result (sym c.new_global.ensures ∙ c.unwrap-new.ensures)
+
+pub returns-clause-module : goal.returns-clause-module
+returns-clause-module c = λ ids name.
+    let a = c.arena_of-arena.result.now in
+    let b = c.args.into.now.arena in
+    let x = c.alias.result.now in
+    let at = subst (λ n. slice_get a.aliases n ≡ Some x) c.new.ensures c.alias.ensures in
+    c.set_target.ensures.module
+    ∙ target_written c.args.parts.now c.args.home a c.arena_of-arena.ensures.arena c.requires.alias x at c.variable_count-good.ensures.good c.unwrap-target.result c.unwrap-target.ensures
+    b c.args.copiers.now c.copier_of.result.now c.requires.copied c.requires.new_ids c.copier_of.ensures c.unwrap-new.result (sym c.new_global.ensures ∙ c.unwrap-new.ensures) (module_of b) c.args.id ids name
+
+pub returns-clause-keeps : goal.returns-clause-keeps
+returns-clause-keeps c = targeted_keeps c.args.into.now.arena c.set_target.new.self c.args.id c.unwrap-new.result c.set_target.ensures.set
+
+pub returns-clause-untargeted : goal.returns-clause-untargeted
+returns-clause-untargeted c = untargeted_behind c.args.into.now.arena c.set_target.new.self c.args.id c.unwrap-new.result c.set_target.ensures.set c.requires.untargeted

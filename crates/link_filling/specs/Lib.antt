@@ -1,0 +1,3 @@
+pub mod Definitions
+pub mod Elements
+pub mod Filling

@@ -1,0 +1,16 @@
+//! The definitions of the module that is made of several (the tool `llvm-link`): initialisers, appended arrays, bodies and
+//! targets, each where its symbol is defined.
+//!
+//! It stands on the stages of `link_stages`: on entries that are declared, and on constants that the copiers of `entry_copy`
+//! copied. It promises that exactly the linked module is made of them. Definitions: `specs/Definitions`, `specs/Elements` and
+//! `specs/Filling`, `Filled` of `link_stages` and `Linked` of `module_linker`.
+#![tactic(auto)]
+
+mod appended;
+mod bodies;
+mod filling;
+mod initialisers;
+mod sources;
+mod targets;
+
+pub use filling::define_symbols;
