@@ -16,11 +16,17 @@ fn word_of(bytes: &[u8]) -> &str {
     str::from_utf8(bytes).unwrap_or("?")
 }
 
-fn find(alloc: Global, arena: &Arena, word: &str) -> Result<Answer, Refusal> {
-    match arena.lookup(&name(alloc, word)?) {
-        Some(id) => Ok(Answer::entry(id)),
-        None => Ok(Answer::Said("none")),
+/// An entry, or that there is none.
+fn found(id: Option<GlobalId>) -> Answer {
+    match id {
+        Some(id) => Answer::entry(id),
+        None => Answer::Said("none"),
     }
+}
+
+fn find(alloc: Global, arena: &Arena, word: &str) -> Result<Answer, Refusal> {
+    let name = name(alloc, word)?;
+    Ok(found(arena.lookup(&name)))
 }
 
 /// What an entry is.
