@@ -1,0 +1,9 @@
+pub mod Still
+pub mod OneMore
+pub mod Written
+pub mod JoinedTypes
+pub mod Commons
+pub mod Numbering
+pub mod Joined
+pub mod Rooms
+pub mod Homes

@@ -1,0 +1,18 @@
+//! The entries of the module that is made of several, declared (the tool `llvm-link`): one for each symbol, in order, under its
+//! new name, none of it defined yet.
+//!
+//! It stands on `link_stages`, on the copiers of `entry_copy`, by which types are known, and on the symbols and homes of
+//! `linkage_rules`. It promises that exactly the entries of the linked module are declared, and which ids they have. Definitions:
+//! `specs/Definitions`, what is declared of a symbol, `specs/Room` and `specs/Step`, that there is room for it and that it is
+//! there; the module while it is made: `specs/Declared` of `link_stages`.
+#![tactic(auto)]
+
+mod adding;
+mod copiers;
+mod declarations;
+mod declaring;
+mod definitions;
+mod parameters;
+mod types;
+
+pub use declaring::declare_symbols;
