@@ -53,8 +53,8 @@ fn define_symbol(
     }
 }
 
-/// Defines the symbols of some parts, which are declared under these ids, each as where it is defined. Only memory may be
-/// wanting.
+/// Defines the symbols of some parts, which are declared under these ids in their order, each as where it is defined; an
+/// appended array has the elements of all parts (LangRef, "Linkage Types"). Only memory may be wanting.
 #[tactic(auto, using(crate::proofs::Steps::id_there, crate::proofs::Steps::id_read))]
 pub fn define_symbols(
     copiers: &[Copier],
