@@ -1,0 +1,5 @@
+mod Whole
+mod PartTypes
+mod Beginning
+mod Adding
+mod Ending

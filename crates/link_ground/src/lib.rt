@@ -1,0 +1,12 @@
+//! What stands before the entries in the module that is made of several (the tool `llvm-link`): its texts, its named structs,
+//! and the types of all parts.
+//!
+//! It stands on `struct_rows`, which tells the structs, on `link_head` and on `link_part`. It promises that the new module has
+//! exactly the texts and the structs of the linked one, that each type of each part is copied under the new names, and that
+//! only memory may be wanting. Definitions: `specs/Making`, `Ground` and `Parts` of `link_stages`, and `Linked` of
+//! `module_linker`.
+#![tactic(auto)]
+
+mod ground;
+
+pub use ground::copy_ground;
