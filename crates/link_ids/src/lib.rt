@@ -1,0 +1,14 @@
+//! What the entries and constants of several modules are in the one that is made of them (the tool `llvm-link`).
+//!
+//! It stands on the symbols of `linkage_rules`, on the copiers of `entry_copy`, one a part, and on the stages of `link_stages`. It
+//! promises that each entry of each part gets as its new id that of its symbol's entry, and that all constants of all parts are
+//! copied then. Definitions: `specs/Others`, `NewIds` and `Copied` of `link_stages`; for the code `specs/Filing`, `specs/Constants`.
+#![tactic(auto)]
+
+mod constants;
+mod filing;
+mod ids;
+mod places;
+
+pub use constants::copy_constants;
+pub use ids::set_new_ids;
