@@ -14,6 +14,8 @@ import sys
 
 sys.dont_write_bytecode = True
 import canonical
+from assemble import EXTERNAL, VARIABLE, bitcode, int_type, record, types
+from assemble import printed as printed_bytes
 
 CRATE = pathlib.Path(__file__).resolve().parent.parent / "crates" / "tool_table"
 MARK = b"# One text, linked and printed: written by tests/link_text.py.\n"
@@ -23,9 +25,6 @@ RUN_BEHIND = b"> llvm-as -o - assembled.ll\n"
 
 # What the script says of each run, and what is told of it.
 RUNS = []
-
-# The same for what is not built: these rows change when linking is.
-UNBUILT = "errors\n| llvm-link: not built\n"
 
 
 def escaped(text):
@@ -124,15 +123,16 @@ def refusals():
     run(file_of("@x = global i8 255 @y = global i8 256"), "llvm-link -S -o out.ll canonical.ll", "status 1\nfiles canonical.ll\nerrors\n| llvm-link: canonical.ll:1:35: constant out of range\n")
 
 
-def unbuilt():
-    """What is not built, once all is judged that is."""
-    run(file_of("@x = global i8 255"), "llvm-link canonical.ll canonical.ll", f"status 1\nfiles canonical.ll canonical.ll\n{UNBUILT}")
-    run("", "llvm-link -S canonical.ll canonical.ll -o out.ll", f"status 1\nfiles canonical.ll canonical.ll\n{UNBUILT}")
-    run(file_of("@x = available_externally global i8 255"), "llvm-link -S canonical.ll", f"status 1\nfiles canonical.ll\n{UNBUILT}")
-    run("", "llvm-link canonical.ll", f"status 1\nfiles canonical.ll\n{UNBUILT}")
-    run(file_of("define available_externally void @f() { ret void }"), "llvm-link -S canonical.ll", f"status 1\nfiles canonical.ll\n{UNBUILT}")
-    run(file_of("@x = appending global [0 x i8] zeroinitializer"), "llvm-link -S canonical.ll", f"status 1\nfiles canonical.ll\n{UNBUILT}")
-    run("clear\nfile canonical.ll\n= 4243c0de\n", "llvm-link -S canonical.ll", f"status 1\nfiles canonical.ll\n{UNBUILT}")
+def changed():
+    """One text that linking changes, one text twice, and bitcode, which is not read yet."""
+    twice = "errors\n| llvm-link: conflict: two strong: @x in canonical.ll and canonical.ll\n"
+    run(file_of("@x = global i8 255"), "llvm-link canonical.ll canonical.ll", f"status 1\nfiles canonical.ll canonical.ll\n{twice}")
+    run("", "llvm-link -S canonical.ll canonical.ll -o out.ll", f"status 1\nfiles canonical.ll canonical.ll\n{twice}")
+    row("@x = available_externally global i8 255", "@x = external global i8\n")
+    run("", "llvm-link canonical.ll", "status 0\nfiles canonical.ll\noutput\n" + printed_bytes(bitcode(b"x", types(int_type(8)), record(VARIABLE, 0, 1, EXTERNAL, 0, 0, 0, 0))))
+    row("define available_externally void @f() { ret void }", "declare void @f()\n")
+    row("@x = appending global [0 x i8] zeroinitializer", "@x = appending global [0 x i8] []\n")
+    run("clear\nfile canonical.ll\n= 4243c0de\n", "llvm-link -S canonical.ll", "status 1\nfiles canonical.ll\nerrors\n| llvm-link: not built\n")
     # An appending list, empty or not, is what it is.
     row("@x = appending global [0 x i8] [] @y = appending global [1 x i8] [i8 255]", "@x = appending global [0 x i8] []\n@y = appending global [1 x i8] [i8 -1]\n")
 
@@ -149,7 +149,7 @@ def main():
         table()
     for text, told in canonical.ROWS:
         row(text, told)
-    for table in [streams, sinks, files, refusals, unbuilt]:
+    for table in [streams, sinks, files, refusals, changed]:
         table()
     given = canonical.bytes_of("".join(given for given, _ in RUNS))
     told = canonical.bytes_of("".join(told for _, told in RUNS))

@@ -15,13 +15,13 @@ use Rattle.tool_output.specs.declared.format.OutputFormat.TheVariants.{Bitcode}
 use Rattle.tool_output.specs.declared.fault.OutputFault.{OutputFault}
 use Rattle.tool_output.specs.declared.fault.OutputFault.TheVariants as fault
 use Rattle.tool_ends.specs.declared.ended.Ended.{Ended}
-use Rattle.tool_ends.specs.declared.ended.Ended.TheVariants.{CannotWrite, NotBuilt, Memory}
+use Rattle.tool_ends.specs.declared.ended.Ended.TheVariants.{CannotWrite, Memory}
 use Rattle.tool_ends.specs.declared.ended.Ended.TheVariants as ends
-use Rattle.tool_cli.specs.Judged.{IsTextRefused, IsTextOf, AreAccepted, IsFirstRefusal}
+use Rattle.tool_cli.specs.Judged.{IsTextRefused, IsTextOf}
 use Rattle.tool_cli.specs.Made.{LinksTo, AssemblesTo, IsResult, format_of}
 use Rattle.tool_cli.specs.Output.{output_of, IsUnwritten, FailsToWrite, IsFileUnwritten, IsBeforeWriting, LeavesStandard, LeavesNamed, KeepsOthers, KeepsFiles, LeavesFilesBut, Delivers, IsWritten}
 use Rattle.tool_cli.specs.Reads.{LeavesFiles}
-use Rattle.tool_cli.specs.Told.{IsWork, IsOfTexts, IsOfWork}
+use Rattle.tool_cli.specs.Told.{IsLinking, IsWork, IsOfTexts, IsOfWork}
 
 -- Counts.
 
@@ -182,16 +182,11 @@ delivered_of_work place bytes before now ended delivered = absurd delivered
 
 -- Ends of linking.
 
--- inputs that are linked to a module
-pub link_work : (names texts : List (List ℕ)) (place : OutputName) (text : Bool) (m : Module) → AreAccepted texts → LinksTo texts m → IsWork (Link names place text) texts ends.Ok
-link_work names texts place text m accepted links = inr (accepted, inl (written (format_of text) m, (m, links, refl), refl))
+pub link_result : (names texts : List (List ℕ)) (place : OutputName) (text : Bool) (m : Module) → LinksTo texts m → IsResult (Link names place text) texts (written (format_of text) m)
+link_result names texts place text m links = (m, links, refl)
 
--- what is linked to nothing yet is not built
-pub link_unbuilt : (names texts : List (List ℕ)) (place : OutputName) (text : Bool) → AreAccepted texts → ((m : Module) → LinksTo texts m → ⊥) → IsWork (Link names place text) texts NotBuilt
-link_unbuilt names texts place text accepted none = inr (accepted, inr ((λ bytes r. none r.0 r.1), refl))
-
-pub link_refused : (names texts : List (List ℕ)) (place : OutputName) (text : Bool) (o w : Type 0) (ended : Ended) → IsFirstRefusal names texts ended ⊎ (ended ≡ Memory) → IsWork (Link names place text) texts ended ⊎ FailsToWrite (Some place) o w ended
-link_refused names texts place text o w ended (inl refused) = inl (inl refused)
+pub link_refused : (names texts : List (List ℕ)) (place : OutputName) (text : Bool) (o w : Type 0) (ended : Ended) → IsLinking names texts ended ⊎ (ended ≡ Memory) → IsWork (Link names place text) texts ended ⊎ FailsToWrite (Some place) o w ended
+link_refused names texts place text o w ended (inl refused) = inl refused
 link_refused names texts place text o w ended (inr none) = inr (rw none tt)
 
 -- Ends of assembling.

@@ -1,28 +1,22 @@
--- Inputs that are linked, and inputs that are linked to nothing.
-use Rattle.std.proofs.Common.{◌≡◌, ◌⊎◌, inl, inr, ℕ, Bool, true, false, List, [], ◌∷◌, length, get_or, Result, refl, sym, ap, ◌∙◌, subst, arith, true≢false}
-use Rattle.std.specs.Prelude.{IfErr, OnOk}
+-- Inputs that stand for parts, and parts that are linked.
+use Rattle.std.proofs.Common.{◌≡◌, ℕ, ◌+◌, ◌≤◌, ◌<◌, Bool, true, false, List, [], ◌∷◌, ◌++◌, length, take, get_or, Some, None, refl, sym, ap, ◌∙◌, true≢false}
+use Rattle.std.specs.Prelude.{◌||◌}
 use Rattle.std.specs.Bool.{MatchBool}
-use Rattle.std.proofs.lemmas.Result.{on_ok_weaker, IfErr-weaker}
+use Rattle.std.proofs.lemmas.List.{take_more, take_all}
+use Rattle.std.proofs.lemmas.List.Folds.{list_any-append}
 use Rattle.ir_syntax.specs.Tree.{ItemTree}
+use Rattle.linkage_rules.specs.Ids.{modules}
+use Rattle.module_arena.specs.Lists.{Lists}
 use Rattle.module_arena.specs.Module.{Module}
+use Rattle.module_arena.specs.View.{module_of}
 use Rattle.name_rules.specs.Reads.{Reads}
-use Rattle.tool_output.specs.Alone.{links_alone}
-use Rattle.tool_ends.specs.declared.ended.Ended.{Ended}
-use Rattle.tool_ends.specs.declared.ended.Ended.TheVariants.{Memory}
-use Rattle.tool_cli.specs.Judged.{is_bitcode, IsTextOf, IsPartAccepted, AreAccepted, IsPartRefused, IsFirstRefusal}
-use Rattle.tool_cli.specs.Made.{IsPart, AreParts, IsLinked, LinksTo}
+use Rattle.tool_cli.specs.Judged.{is_bitcode, IsTextOf, IsPartAccepted}
+use Rattle.tool_cli.specs.Made.{IsPart, IsPartFound, AreParts}
+use Rattle.tool_cli.specs.Told.{has_bitcode}
 
 stands_by : (bitcode : Bool) (R : Type 0) → bitcode ≡ false → R → MatchBool bitcode ⊥ R
 stands_by true R e reads = absurd (true≢false e)
 stands_by false R e reads = reads
-
-reads_by : (bitcode : Bool) (R : Type 0) → bitcode ≡ false → MatchBool bitcode ⊥ R → R
-reads_by true R e stands = absurd stands
-reads_by false R e stands = stands
-
-nothing_by : (bitcode : Bool) (R : Type 0) → bitcode ≡ true → MatchBool bitcode ⊥ R → ⊥
-nothing_by true R e stands = stands
-nothing_by false R e stands = true≢false (sym e)
 
 accepted_by : (bitcode : Bool) (R : Type 0) → R → MatchBool bitcode (Unit {0}) R
 accepted_by true R r = tt
@@ -40,57 +34,59 @@ is_part bytes items m text is = record {
 pub text_accepted : (bytes : List ℕ) (items : List ItemTree) (m : Module) → IsTextOf bytes items m → IsPartAccepted bytes
 text_accepted bytes items m is = accepted_by (is_bitcode bytes) _ (items, (is.has_items, (m, is.accepted)))
 
--- One input.
+-- Inputs, one behind another.
 
--- bitcode is linked to nothing yet
-pub bitcode_unlinked : (bytes : List ℕ) → is_bitcode bytes ≡ true → (m : Module) → LinksTo (bytes ∷ []) m → ⊥
-bitcode_unlinked bytes bitcode m links = by links.parts links.are_parts
+-- one part more
+parts_more : (texts : List (List ℕ)) (ms : List Module) (text : List ℕ) (m : Module) → AreParts texts ms → IsPart text m → AreParts (texts ++ text ∷ []) (ms ++ m ∷ [])
+parts_more [] [] text m are is = (is, tt)
+parts_more [] (n ∷ ms) text m are is = absurd are
+parts_more (t ∷ texts) [] text m are is = absurd are
+parts_more (t ∷ texts) (n ∷ ms) text m are is = (are.0, parts_more texts ms text m are.1 is)
+
+modules_more : (parts : List Lists) (part : Lists) → modules (parts ++ part ∷ []) ≡ modules parts ++ module_of part ∷ []
+modules_more [] part = refl
+modules_more (p ∷ parts) part = ap (λ (ms : List Module). module_of p ∷ ms) (modules_more parts part)
+
+next_taken : (texts : List (List ℕ)) (i : ℕ) (text : List ℕ) → i < length texts → text ≡ get_or texts i text → take (i + 1) texts ≡ take i texts ++ text ∷ []
+next_taken texts i text h at = take_more texts i text h ∙ ap (λ (x : List ℕ). take i texts ++ x ∷ []) (sym at)
+
+-- The first so many inputs stand for these parts, or bitcode is among them.
+pub record AreFound (texts : List (List ℕ)) (i : ℕ) (parts : List Lists) (bitcode : Bool) : Type 0 where
+  pub told : bitcode ≡ has_bitcode (take i texts)
+  pub parts_are : bitcode ≡ false → AreParts (take i texts) (modules parts)
+
+pub found_first : (texts : List (List ℕ)) → AreFound texts 0 [] false
+found_first texts = record { told = refl; parts_are = λ none. tt }
+
+none_or : (b c : Bool) → c ≡ false → b ≡ (b || c)
+none_or true c none = refl
+none_or false c none = sym none
+
+some_or : (b c : Bool) → c ≡ true → true ≡ (b || c)
+some_or true c some = refl
+some_or false c some = sym some
+
+any_one : (text : List ℕ) (b : Bool) → is_bitcode text ≡ b → has_bitcode (text ∷ []) ≡ b
+any_one text b is = by (is_bitcode text) b is
   where
-    by : (parts : List Module) → AreParts (bytes ∷ []) parts → ⊥
-    by [] are = are
-    by (part ∷ parts) are = nothing_by (is_bitcode bytes) (Reads bytes part) bitcode are.0.stands
+    by : (x b : Bool) → x ≡ b → (x || false) ≡ b
+    by true b e = e
+    by false b e = e
 
--- a text whose module linking does not change is linked to it
-pub text_linked : (bytes : List ℕ) (items : List ItemTree) (m : Module) → is_bitcode bytes ≡ false → IsTextOf bytes items m → links_alone m ≡ true → LinksTo (bytes ∷ []) m
-text_linked bytes items m text is alone = record { parts = m ∷ []; are_parts = (is_part bytes items m text is, tt); linked = (alone, refl) }
+pub found_part : (texts : List (List ℕ)) (i : ℕ) (parts : List Lists) (bitcode : Bool) (text : List ℕ) (part : Lists) → i < length texts → text ≡ get_or texts i text → AreFound texts i parts bitcode → IsPartFound text (Some (module_of part)) → AreFound texts (i + 1) (parts ++ part ∷ []) bitcode
+found_part texts i parts bitcode text part h at found is = record {
+  told = rw (next_taken texts i text h at, list_any-append is_bitcode (take i texts) (text ∷ []), any_one text false is.0) (found.told ∙ none_or (has_bitcode (take i texts)) false refl);
+  parts_are = λ none. rw (next_taken texts i text h at, modules_more parts part) (parts_more (take i texts) (modules parts) text (module_of part) (found.parts_are none) is.1);
+}
 
--- a text whose module linking changes is linked to nothing yet
-pub text_unlinked : (bytes : List ℕ) (meant : Module) → is_bitcode bytes ≡ false → ((m : Module) → Reads bytes m → m ≡ meant) → links_alone meant ≡ false → (m : Module) → LinksTo (bytes ∷ []) m → ⊥
-text_unlinked bytes meant text only changed m links = by links.parts links.are_parts links.linked
-  where
-    by : (parts : List Module) → AreParts (bytes ∷ []) parts → IsLinked parts m → ⊥
-    by [] are linked = are
-    by (part ∷ []) are linked =
-        let same = only part (reads_by (is_bitcode bytes) (Reads bytes part) text are.0.stands) in
-        true≢false (sym linked.0 ∙ ap links_alone same ∙ changed)
-    by (part ∷ other ∷ parts) are linked = linked
+pub found_bitcode : (texts : List (List ℕ)) (i : ℕ) (parts : List Lists) (bitcode : Bool) (text : List ℕ) → i < length texts → text ≡ get_or texts i text → AreFound texts i parts bitcode → IsPartFound text None → AreFound texts (i + 1) parts true
+found_bitcode texts i parts bitcode text h at found is = record {
+  told = rw (next_taken texts i text h at, list_any-append is_bitcode (take i texts) (text ∷ []), any_one text true is) (some_or (has_bitcode (take i texts)) true refl);
+  parts_are = λ none. absurd (true≢false none);
+}
 
--- More inputs than one, or none.
+pub all_found : (texts : List (List ℕ)) (i : ℕ) (parts : List Lists) → length texts ≤ i → AreFound texts i parts false → AreParts texts (modules parts)
+all_found texts i parts h found = rw (take_all i texts h) at (found.parts_are refl)
 
-pub others_unlinked : (texts : List (List ℕ)) → (length texts ≡ 1 → ⊥) → (m : Module) → LinksTo texts m → ⊥
-others_unlinked texts many m links = by texts many links.parts links.are_parts links.linked
-  where
-    by : (texts : List (List ℕ)) → (length texts ≡ 1 → ⊥) → (parts : List Module) → AreParts texts parts → IsLinked parts m → ⊥
-    by texts many [] are linked = linked
-    by [] many (part ∷ parts) are linked = are
-    by (text ∷ []) many (part ∷ []) are linked = many refl
-    by (text ∷ other ∷ texts) many (part ∷ []) are linked = are.1
-    by texts many (part ∷ next ∷ parts) are linked = linked
-
--- The one input of all.
-
-pub one_only : (texts : List (List ℕ)) (text : List ℕ) → length texts ≡ 1 → text ≡ get_or texts 0 text → texts ≡ text ∷ []
-one_only [] text one at = absurd (omega (arith, one))
-one_only (t ∷ []) text one at = ap (λ (x : List ℕ). x ∷ []) (sym at)
-one_only (t ∷ u ∷ texts) text one at = absurd (omega (arith, one))
-
-pub one_accepted : {X : Type 0} (texts : List (List ℕ)) (text : List ℕ) (found : Result X Ended) → texts ≡ text ∷ [] → OnOk found (IsPartAccepted text) → OnOk found (AreAccepted texts)
-one_accepted texts text found are accepted = subst (λ (ts : List (List ℕ)). OnOk found (AreAccepted ts)) (sym are) (on_ok_weaker found (λ a. (a, tt)) accepted)
-
-pub one_refused : {X : Type 0} (names texts : List (List ℕ)) (name text : List ℕ) (found : Result X Ended) → names ≡ name ∷ [] → texts ≡ text ∷ [] → IfErr found (λ ended. IsPartRefused name text ended ⊎ (ended ≡ Memory)) → IfErr found (λ ended. IsFirstRefusal names texts ended ⊎ (ended ≡ Memory))
-one_refused names texts name text found named are refused =
-    rw (named, are) (IfErr-weaker found (λ ended. IsPartRefused name text ended ⊎ (ended ≡ Memory)) (λ ended. IsFirstRefusal (name ∷ []) (text ∷ []) ended ⊎ (ended ≡ Memory)) first refused)
-  where
-    first : (ended : Ended) → IsPartRefused name text ended ⊎ (ended ≡ Memory) → IsFirstRefusal (name ∷ []) (text ∷ []) ended ⊎ (ended ≡ Memory)
-    first ended (inl refused) = inl (inl refused)
-    first ended (inr none) = inr none
+pub all_told : (texts : List (List ℕ)) (i : ℕ) (parts : List Lists) (bitcode : Bool) → length texts ≤ i → AreFound texts i parts bitcode → bitcode ≡ has_bitcode texts
+all_told texts i parts bitcode h found = rw (take_all i texts h) at found.told

@@ -6,10 +6,13 @@ use Rattle.bit_dump.specs.Text.{dump_text}
 use Rattle.command_line.specs.declared.command.Command.{Command}
 use Rattle.command_line.specs.declared.command.Command.TheVariants.{Assemble, Link, Extract, Analyze}
 use Rattle.command_line.specs.declared.command.Selection as words
+use Rattle.linkage_rules.specs.Conflicts.{first_conflict}
+use Rattle.module_linker.specs.Counts.{too_many}
+use Rattle.module_linker.specs.Linked.{link_result}
+use Rattle.run_rules.specs.Same.{RunAlike}
 use Rattle.extract_core.specs.Extracted.{Extracted}
 use Rattle.extract_core.specs.Selected.{no_such_symbol}
 use Rattle.extract_core.specs.declared.selection.Selection.{Selection}
-use Rattle.tool_output.specs.Alone.{links_alone}
 use Rattle.tool_output.specs.Written.{written}
 use Rattle.tool_output.specs.declared.format.OutputFormat.{OutputFormat}
 use Rattle.tool_output.specs.declared.format.OutputFormat.TheVariants.{CanonicalText, Bitcode}
@@ -29,27 +32,30 @@ pub record IsPart (bytes : List ℕ) (m : Module) : Type 0 where
   pub sized : first_too_large m ≡ None
   pub valid : IsValid m
 
+-- what is found for an input: its module; and none only for bitcode
+abbrev pub IsPartFound : List ℕ → Option Module → Type 0
+IsPartFound bytes (Some m) = (is_bitcode bytes ≡ false) × IsPart bytes m
+IsPartFound bytes None = is_bitcode bytes ≡ true
+
 -- each input stands for its module
 abbrev pub AreParts : List (List ℕ) → List Module → Type 0
 AreParts [] [] = Unit {0}
 AreParts (bytes ∷ texts) (m ∷ ms) = IsPart bytes m × AreParts texts ms
 AreParts texts ms = ⊥
 
--- The module that parts are linked to: one part that linking does not change is linked to itself. All else is not built.
-abbrev pub IsLinked : List Module → Module → Type 0
-IsLinked (part ∷ []) m = (links_alone part ≡ true) × (m ≡ part)
-IsLinked parts m = ⊥
+-- The module that parts are linked to: they have no conflict, no count is past its limit, and it runs as they do side by side: for all
+-- arguments, inputs and bounds on steps it prints the same bytes and ends the same way.
+pub record IsLinked (parts : List Module) (m : Module) : Type 0 where
+  pub agree : first_conflict parts ≡ None
+  pub few : too_many parts ≡ None
+  pub made : m ≡ link_result parts
+  pub runs : RunAlike (m ∷ []) parts
 
 -- the inputs stand for parts that are linked to this module
 pub record LinksTo (texts : List (List ℕ)) (m : Module) : Type 0 where
   pub parts : List Module
   pub are_parts : AreParts texts parts
   pub linked : IsLinked parts m
-
--- what linking inputs comes to: this module, or none
-abbrev pub IsLinking : List (List ℕ) → Option Module → Type 0
-IsLinking texts (Some m) = LinksTo texts m
-IsLinking texts None = (m : Module) → ¬ LinksTo texts m
 
 -- a text reads to this module, of which no function is too large and which is valid
 pub record AssemblesTo (text : List ℕ) (m : Module) : Type 0 where

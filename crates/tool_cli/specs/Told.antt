@@ -1,6 +1,7 @@
 -- The whole meaning of a run: which end it has, where what its inputs hold is told.
-use Rattle.std.specs.Prelude.{◌≡◌, ◌⊎◌, nat_lt, ℕ, ◌+◌, ◌%◌, List, [], ◌∷◌, length, Option, Some, None, Result, Ok, Err, if◌then◌else◌}
+use Rattle.std.specs.Prelude.{◌≡◌, ◌⊎◌, nat_lt, ℕ, ◌+◌, ◌%◌, Bool, slice_index_or, List, [], ◌∷◌, length, Option, Some, None, Result, Ok, Err, if◌then◌else◌}
 use Rattle.std.specs.Bool.{MatchBool}
+use Rattle.std.specs.List.{list_any}
 use Rattle.ir_base.specs.Files.{Named}
 use Rattle.ir_syntax.specs.Small.{straight}
 use Rattle.ir_syntax.specs.Tree.{ItemTree}
@@ -8,6 +9,8 @@ use Rattle.ir_syntax.specs.declared.straight.Straight.{Straight}
 use Rattle.ir_run.specs.Straight.{value}
 use Rattle.module_arena.specs.Module.{Module}
 use Rattle.name_rules.specs.Spelled.{spelled_global}
+use Rattle.linkage_rules.specs.Conflicts.{FoundConflict, first_conflict}
+use Rattle.module_linker.specs.Counts.{Count, too_many}
 use Rattle.extract_core.specs.Selected.{no_such_symbol}
 use Rattle.command_line.specs.declared.command.Command.{Command}
 use Rattle.command_line.specs.declared.command.Command.TheVariants.{Assemble, Disassemble, Link, Extract, Lli, Analyze}
@@ -15,13 +18,15 @@ use Rattle.command_line.specs.declared.command.Selection.{Selection}
 use Rattle.command_line.specs.declared.command.UsageKind.{UsageKind}
 use Rattle.command_line.specs.Faults.{IsFirstFault}
 use Rattle.command_line.specs.Commands.{IsReadAs}
+use Rattle.tool_ends.specs.declared.clash.Clash.{Clash}
+use Rattle.tool_ends.specs.declared.clash.PartName.{PartName}
 use Rattle.tool_ends.specs.declared.ended.Ended.{Ended}
-use Rattle.tool_ends.specs.declared.ended.Ended.TheVariants.{Exit, StepsUsed, Usage, CannotRead, CannotWrite, InputTooLarge, NoSuchSymbol, NotBuilt, Memory}
+use Rattle.tool_ends.specs.declared.ended.Ended.TheVariants.{Exit, StepsUsed, Usage, CannotRead, CannotWrite, InputTooLarge, TooMany, Conflict, NoSuchSymbol, NotBuilt, Memory}
 use Rattle.tool_ends.specs.declared.ended.Ended.TheVariants as ends
 use Rattle.tool_cli.specs.Inputs.{inputs_of, texts_read}
 use Rattle.tool_cli.specs.Analyzed.{IsAnalysis}
 use Rattle.tool_cli.specs.Judged.{is_bitcode, IsTextRefused, HasModule, IsFirstRefusal, AreAccepted}
-use Rattle.tool_cli.specs.Made.{IsResult, AssemblesTo, selection_of}
+use Rattle.tool_cli.specs.Made.{AreParts, AssemblesTo, selection_of}
 
 -- the end of a program, each line of which is a step, and so is its return
 abbrev pub end_within : ℕ → Straight → Ended
@@ -41,18 +46,35 @@ IsTextRun name bound text ended =
 abbrev pub IsRun : List ℕ → ℕ → List ℕ → Ended → Type 0
 IsRun name bound bytes ended = MatchBool (is_bitcode bytes) (ended ≡ NotBuilt) (IsTextRun name bound bytes ended)
 
--- a command that has no result over inputs that are accepted ends so: it is not built
-abbrev pub IsWithoutResult : Command → List (List ℕ) → Ended → Type 0
-IsWithoutResult command texts ended = ((bytes : List ℕ) → ¬ IsResult command texts bytes) × (ended ≡ NotBuilt)
+-- an input by its number among those of these names
+abbrev pub part_named : List (List ℕ) → ℕ → PartName
+part_named names number = record { number = number; name = slice_index_or names number [] }
 
--- the end of a command over inputs that are accepted: `Ok` where it has a result
-abbrev pub IsWorked : Command → List (List ℕ) → Ended → Type 0
-IsWorked command texts ended =
-    ((bytes : List ℕ) × IsResult command texts bytes × (ended ≡ ends.Ok)) ⊎ IsWithoutResult command texts ended
+-- the conflict of inputs with these names, as it is told
+abbrev pub clash_told : List (List ℕ) → FoundConflict → Clash
+clash_told names c = record { kind = c.kind; symbol = spelled_global c.name; one = part_named names c.one; other = part_named names c.other }
 
--- the end of a command that judges its inputs, and then makes its result of them
-abbrev pub IsJudgement : Command → List (List ℕ) → Ended → Type 0
-IsJudgement command texts ended = IsFirstRefusal (inputs_of command) texts ended ⊎ (AreAccepted texts × IsWorked command texts ended)
+-- the end over parts with these names: their first conflict, or else the first count that is past its limit, or else there is a linked module
+abbrev pub link_end : List (List ℕ) → Option FoundConflict → Option Count → Ended
+link_end names (Some conflict) count = Conflict (clash_told names conflict)
+link_end names None (Some count) = TooMany None count.kind count.number
+link_end names None None = ends.Ok
+
+-- one of the inputs is bitcode
+abbrev pub has_bitcode : List (List ℕ) → Bool
+has_bitcode texts = list_any is_bitcode texts
+
+-- the inputs of these names stand for parts, over which this is the end
+pub record EndsByParts (names texts : List (List ℕ)) (ended : Ended) : Type 0 where
+  pub parts : List Module
+  pub are_parts : AreParts texts parts
+  pub told : ended ≡ link_end names (first_conflict parts) (too_many parts)
+
+-- The end of `llvm-link` over inputs of these names: the first that is refused, in their order; or else that over their parts. What bitcode stands for is
+-- not built.
+abbrev pub IsLinking : List (List ℕ) → List (List ℕ) → Ended → Type 0
+IsLinking names texts ended =
+    IsFirstRefusal names texts ended ⊎ (AreAccepted texts × MatchBool (has_bitcode texts) (ended ≡ NotBuilt) (EndsByParts names texts ended))
 
 -- The end of `llvm-as` over the text of the input of this name: it is refused, or the text of a module. Bytes that begin as bitcode does are a
 -- text like any other.
@@ -84,7 +106,7 @@ IsWork (Analyze input dump) (bytes ∷ []) ended = IsAnalysis input bytes ended
 IsWork (Analyze input dump) texts ended = ⊥
 IsWork (Extract input output text selection) (bytes ∷ []) ended = IsExtraction input selection bytes ended
 IsWork (Extract input output text selection) texts ended = ⊥
-IsWork (Link inputs output text) texts ended = IsJudgement (Link inputs output text) texts ended
+IsWork (Link inputs output text) texts ended = IsLinking inputs texts ended
 
 -- the end of a command whose inputs give this
 abbrev pub IsOutcome : Command → Result (List (List ℕ)) Ended → Ended → Type 0

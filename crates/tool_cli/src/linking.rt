@@ -1,57 +1,93 @@
 //! Inputs linked, and what they make written.
-ghost use Rattle.std.specs.Prelude.{◌≡◌, ◌⊎◌, ◌<◌, ℕ, List, [], ◌∷◌, length, Some, IfOk, IfErr, OnOk};
-ghost use Rattle.std.specs.Option.{option_map};
+ghost use Rattle.std.specs.Prelude.{◌≡◌, ◌⊎◌, ◌<◌, ℕ, List, length, Some, IfOk, IfErr, OnOk};
 ghost use Rattle.ir_base.specs.Outside.{Rose};
 ghost use Rattle.command_line.specs.declared.command.Command.TheVariants as commands;
+ghost use Rattle.linkage_rules.specs.Conflicts.{first_conflict};
+ghost use Rattle.module_arena.specs.Module.{Module};
 ghost use Rattle.module_arena.specs.View.{module_of};
+ghost use Rattle.module_link.specs.Faults.{HasFault};
+ghost use Rattle.module_linker.specs.Counts.{too_many};
 ghost use Rattle.tool_output.specs.Outputs.{outputs};
-ghost use Rattle.tool_cli.specs.Judged.{IsShort, AreShort, AreAccepted, IsPartAccepted, IsPartRefused, IsFirstRefusal};
-ghost use Rattle.tool_cli.specs.Made.{IsLinking, format_of};
+ghost use Rattle.tool_cli.specs.Judged.{AreShort};
+ghost use Rattle.tool_cli.specs.Made.{LinksTo, format_of};
 ghost use Rattle.tool_cli.specs.Output.{IsUnwritten, FailsToWrite, IsUnwrittenOrMemory, IsFileUnwritten, IsWritten, LeavesFilesBut, LeavesStandard, LeavesNamed};
-ghost use Rattle.tool_cli.specs.Told.{IsWork, IsOfTexts, IsOfWork};
+ghost use Rattle.tool_cli.specs.Told.{clash_told, link_end, part_named, IsLinking, IsWork, IsOfTexts, IsOfWork};
 
 use crate::delivery::deliver;
-use crate::parts::{accepted_text, is_bitcode, judge_all};
+use crate::parts::accepted_parts;
 use command_line::OutputName;
-use ir_base::{Files, Sink, Text};
+use ir_base::{Files, Name, Sink, Text};
+use linkage_rules::ConflictKind;
 use module_arena::Checked;
-use std::alloc::Global;
-use tool_ends::Ended;
-use tool_output::{OutputFormat, links_alone};
+use module_link::LinkFault;
+use name_rules::spell_global;
+use std::alloc::{AllocError, Global};
+use tool_ends::{Clash, Ended, PartName};
+use tool_output::OutputFormat;
 
-// The module that the input of this name is linked to alone: its own, where linking does not change that. None where that is not built.
-fn linked_one(alloc: Global, name: &Text, bytes: &[u8]) -> Result<Option<Checked>, Ended>
-    requires { IsShort bytes.now }
-    ensures accepted { OnOk result (IsPartAccepted bytes.now) }
-    ensures made { IfOk result (λ found. IsLinking (bytes.now ∷ []) (option_map module_of found)) }
-    ensures refused { IfErr result (λ ended. IsPartRefused name.now bytes.now ended ⊎ (ended ≡ Ended.Memory)) }
-    ensures of_texts { IfErr result IsOfTexts }
+// An input by its number among those of these names.
+fn part_named(alloc: Global, names: &[Text], number: u64) -> Result<PartName, AllocError>
+    ensures { IfOk result (λ part. part ≡ part_named names.now number) }
 {
-    if is_bitcode(bytes) {
-        return Ok(None);
-    }
-    let accepted = accepted_text(alloc, name, bytes)?;
-    if links_alone(accepted.checked.arena()) {
-        Ok(Some(accepted.checked))
-    } else {
-        Ok(None)
+    let name = match names.get(number as usize) {
+        Some(name) => name.copy(alloc)?,
+        None => Text::new(alloc),
+    };
+    Ok(PartName { number, name })
+}
+
+// The conflict of two inputs of these names, told.
+fn clash_told(
+    alloc: Global,
+    names: &[Text],
+    kind: ConflictKind,
+    symbol: &Name,
+    one: u64,
+    other: u64,
+) -> Result<Clash, AllocError>
+    ensures { IfOk result (λ clash. clash ≡ clash_told names.now (record { kind = kind; name = symbol.now; one = one; other = other })) }
+{
+    Ok(Clash {
+        kind,
+        symbol: spell_global(alloc, symbol.text().bytes())?,
+        one: part_named(alloc, names, one)?,
+        other: part_named(alloc, names, other)?,
+    })
+}
+
+// Why the parts that inputs of these names stand for are not linked, told.
+fn link_refusal(alloc: Global, names: &[Text], fault: LinkFault) -> Ended
+    ensures told { (parts : List Module) → HasFault parts fault → (result ≡ link_end names.now (first_conflict parts) (too_many parts)) ⊎ (result ≡ Ended.Memory) }
+    ensures of_texts { IsOfTexts result }
+{
+    match fault {
+        LinkFault::Conflict(kind, symbol, one, other) => {
+            match clash_told(alloc, names, kind, &symbol, one, other) {
+                Ok(clash) => Ended::Conflict(clash),
+                Err(_) => Ended::Memory,
+            }
+        }
+        LinkFault::TooMany(kind, count) => Ended::TooMany(None, kind, count),
+        LinkFault::Memory => Ended::Memory,
     }
 }
 
-// The module that the inputs of these names are linked to, once each is accepted. None where that is not built.
-fn linked(alloc: Global, names: &[Text], texts: &[Text]) -> Result<Option<Checked>, Ended>
+// The module that the inputs of these names are linked to.
+fn linked(alloc: Global, names: &[Text], texts: &[Text]) -> Result<Checked, Ended>
     requires same { length names.now ≡ length texts.now }
     requires short { AreShort texts.now }
-    ensures accepted { OnOk result (AreAccepted texts.now) }
-    ensures made { IfOk result (λ found. IsLinking texts.now (option_map module_of found)) }
-    ensures refused { IfErr result (λ ended. IsFirstRefusal names.now texts.now ended ⊎ (ended ≡ Ended.Memory)) }
+    ensures made { IfOk result (λ whole. LinksTo texts.now (module_of whole)) }
+    ensures linking { OnOk result (IsLinking names.now texts.now Ended.Ok) }
+    ensures refused { IfErr result (λ ended. IsLinking names.now texts.now ended ⊎ (ended ≡ Ended.Memory)) }
     ensures of_texts { IfErr result IsOfTexts }
 {
-    if texts.len() == 1 {
-        return linked_one(alloc, &names[0], texts[0].bytes());
+    let Some(parts) = accepted_parts(alloc, names, texts)? else {
+        return Err(Ended::NotBuilt);
+    };
+    match module_link::link(alloc, parts) {
+        Ok(whole) => Ok(whole),
+        Err(fault) => Err(link_refusal(alloc, names, fault)),
     }
-    judge_all(alloc, names, texts)?;
-    Ok(None)
 }
 
 /// What a module is written as that was linked or extracted: with `-S` its canonical text, else bitcode.
@@ -65,8 +101,8 @@ pub(crate) fn format_of(text: bool) -> OutputFormat
     }
 }
 
-/// Links the inputs of these names, and writes the bitcode of what they make to this place, or with `text` its canonical text. All but one text
-/// that linking does not change is not built.
+/// Links the inputs of these names, in their order, and writes the bitcode of what they make to this place, or with `text` its canonical text. A conflict of
+/// two of them is told, or else a count that is past its limit.
 pub(crate) fn link<F: Files, O: Sink>(
     alloc: Global,
     names: &[Text],
@@ -91,10 +127,9 @@ pub(crate) fn link<F: Files, O: Sink>(
     ensures unwritten { LeavesStandard (Some place.now) result → output.new ≡ output.old }
     ensures files_unwritten { LeavesNamed (Some place.now) result → files.new ≡ files.old }
 {
-    let checked = match linked(alloc, names, texts) {
-        Ok(Some(checked)) => checked,
-        Ok(None) => return Ended::NotBuilt,
+    let whole = match linked(alloc, names, texts) {
+        Ok(whole) => whole,
         Err(ended) => return ended,
     };
-    deliver(alloc, format_of(text), place, &checked, files, output)
+    deliver(alloc, format_of(text), place, &whole, files, output)
 }

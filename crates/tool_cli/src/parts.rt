@@ -1,5 +1,7 @@
 //! The inputs of tools that work on modules: which are accepted, and how the others are refused.
-ghost use Rattle.std.specs.Prelude.{◌≡◌, ◌⊎◌, length, IfOk, IfErr, OnOk};
+ghost use Rattle.std.specs.Prelude.{◌≡◌, ◌⊎◌, length, not, is_some, IfOk, IfErr, IfSome, OnOk};
+ghost use Rattle.std.specs.Option.{option_map};
+ghost use Rattle.linkage_rules.specs.Ids.{modules};
 ghost use Rattle.module_arena.specs.EntityView.{entity_view};
 ghost use Rattle.module_arena.specs.Module.{Module};
 ghost use Rattle.module_arena.specs.View.{module_of};
@@ -7,7 +9,8 @@ ghost use Rattle.ir_syntax.specs.View.{items_view};
 ghost use Rattle.name_rules.specs.Reads.{Reads};
 ghost use Rattle.name_rules.specs.Spelled.{spelled_global};
 ghost use Rattle.tool_cli.specs.Judged.{entity_words, is_bitcode, refusal_told, break_told, verdict_told, IsShort, AreShort, IsTextRefused, IsTextOf, AreAccepted, IsPartAccepted, IsPartRefused, IsFirstRefusal};
-ghost use Rattle.tool_cli.specs.Told.{IsOfTexts};
+ghost use Rattle.tool_cli.specs.Made.{AreParts, IsPartFound};
+ghost use Rattle.tool_cli.specs.Told.{has_bitcode, IsOfTexts};
 
 use crate::entity::entity_words;
 use ir_base::{Name, Text};
@@ -135,30 +138,50 @@ pub(crate) fn accepted_text(alloc: Global, name: &Text, text: &[u8]) -> Result<A
     }
 }
 
-// Judges the input of this name: a text is one of a module, and bitcode is passed over.
-fn judge(alloc: Global, name: &Text, bytes: &[u8]) -> Result<(), Ended>
+// The module of the input of this name, where it is a text of one that is valid. What bitcode stands for is not built: there is none.
+fn accepted_part(alloc: Global, name: &Text, bytes: &[u8]) -> Result<Option<Checked>, Ended>
     requires { IsShort bytes.now }
     ensures accepted { OnOk result (IsPartAccepted bytes.now) }
+    ensures part { IfOk result (λ found. IsPartFound bytes.now (option_map module_of found)) }
     ensures refused { IfErr result (λ ended. IsPartRefused name.now bytes.now ended ⊎ (ended ≡ Ended.Memory)) }
     ensures of_texts { IfErr result IsOfTexts }
 {
     if is_bitcode(bytes) {
-        return Ok(());
+        return Ok(None);
     }
-    accepted_text(alloc, name, bytes)?;
-    Ok(())
+    Ok(Some(accepted_text(alloc, name, bytes)?.checked))
 }
 
-/// Judges the inputs of these names, in their order.
-pub(crate) fn judge_all(alloc: Global, names: &[Text], texts: &[Text]) -> Result<(), Ended>
+/// The modules of the inputs of these names, in their order, where each is a text of one that is valid. None where one is bitcode, and all texts are
+/// accepted.
+pub(crate) fn accepted_parts(
+    alloc: Global,
+    names: &[Text],
+    texts: &[Text],
+) -> Result<Option<Vec<Checked>>, Ended>
     requires same { length names.now ≡ length texts.now }
     requires short { AreShort texts.now }
     ensures accepted { OnOk result (AreAccepted texts.now) }
+    ensures parts { IfOk result (λ found. IfSome found (λ parts. AreParts texts.now (modules parts.items))) }
+    ensures bitcode { IfOk result (λ found. is_some found ≡ not (has_bitcode texts.now)) }
     ensures refused { IfErr result (λ ended. IsFirstRefusal names.now texts.now ended ⊎ (ended ≡ Ended.Memory)) }
     ensures of_texts { IfErr result IsOfTexts }
 {
-    'parts: for index in 0..texts.len() {
-        judge(alloc, &names[index], texts[index].bytes())?;
+    let mut parts = Vec::new(alloc);
+    let mut is_bitcode_there = false;
+    'inputs: for index in 0..texts.len() {
+        match accepted_part(alloc, &names[index], texts[index].bytes())? {
+            Some(checked) => {
+                let Ok(()) = parts.push(checked) else {
+                    return Err(Ended::Memory);
+                };
+            }
+            None => is_bitcode_there = true,
+        }
     }
-    Ok(())
+    if is_bitcode_there {
+        Ok(None)
+    } else {
+        Ok(Some(parts))
+    }
 }

@@ -8,8 +8,11 @@ use Rattle.bits.specs.declared.fault.BitFaultKind.{BitFaultKind}
 use Rattle.bits.specs.declared.fault.BitFaultKind.TheVariants.{BadMagic, Truncated, BadAbbreviation, VbrTooLong, BadBlockLength, NestedTooDeep}
 use Rattle.command_line.specs.Kinds.{kind_words}
 use Rattle.command_line.specs.Tools.{line_name}
+use Rattle.linkage_rules.specs.declared.conflict.ConflictKind.{ConflictKind}
+use Rattle.linkage_rules.specs.declared.conflict.ConflictKind.TheVariants.{TwoStrong, FunctionAndVariable, AppendingAndPlain, ElementShape, Constness}
+use Rattle.tool_ends.specs.declared.clash.Clash.{Clash}
 use Rattle.tool_ends.specs.declared.ended.Ended.{Ended}
-use Rattle.tool_ends.specs.declared.ended.Ended.TheVariants.{Exit, StepsUsed, Usage, CannotRead, CannotWrite, InputTooLarge, BadByte, NoItemHere, LeftOutWord, UnknownName, Duplicate, WrongNumber, ConstantRange, TooDeep, TooLarge, SelfContaining, TooMany, FunctionTooLarge, Invalid, BitFault, NoSuchSymbol, NotBuilt, Memory}
+use Rattle.tool_ends.specs.declared.ended.Ended.TheVariants.{Exit, StepsUsed, Usage, CannotRead, CannotWrite, InputTooLarge, BadByte, NoItemHere, LeftOutWord, UnknownName, Duplicate, WrongNumber, ConstantRange, TooDeep, TooLarge, SelfContaining, TooMany, Conflict, FunctionTooLarge, Invalid, BitFault, NoSuchSymbol, NotBuilt, Memory}
 use Rattle.tool_ends.specs.declared.ended.Ended.TheVariants as ends
 
 -- 0 where a tool did its work; a program's own status; 1 where a tool refuses; 120 where memory ran out, and 124 where
@@ -33,6 +36,7 @@ status_of (TooDeep name place) = 1
 status_of (TooLarge name place) = 1
 status_of (SelfContaining name place) = 1
 status_of (TooMany name kind count) = 1
+status_of (Conflict clash) = 1
 status_of (FunctionTooLarge name function size) = 1
 status_of (Invalid name rule entity) = 1
 status_of (BitFault name fault) = 1
@@ -69,6 +73,18 @@ count_words Functions = codes "functions"
 count_words Aliases = codes "aliases"
 count_words AppendedBytes = codes "appended bytes"
 
+-- what is wrong with two entries of one name, in words
+abbrev pub conflict_words : ConflictKind → List ℕ
+conflict_words TwoStrong = codes "two strong"
+conflict_words FunctionAndVariable = codes "function and variable"
+conflict_words AppendingAndPlain = codes "appending and plain"
+conflict_words ElementShape = codes "element shape"
+conflict_words Constness = codes "constness"
+
+-- two entries that do not go together, in words: what is wrong, their name, and the names of the inputs
+abbrev pub clash_words : Clash → List ℕ
+clash_words clash = codes "conflict: " ++ (conflict_words clash.kind ++ (codes ": " ++ (clash.symbol ++ (codes " in " ++ (clash.one.name ++ (codes " and " ++ clash.other.name))))))
+
 -- line and column
 abbrev pub place_words : Place → List ℕ
 place_words place = decimal place.line ++ (codes ":" ++ decimal place.column)
@@ -98,6 +114,7 @@ line_of words (CannotWrite name) = error_line words (codes "cannot write " ++ na
 line_of words (InputTooLarge name limit) = error_line words (name ++ (codes ": over " ++ (decimal limit ++ codes " bytes")))
 line_of words (TooMany None kind count) = error_line words (codes "too many " ++ (count_words kind ++ (codes ": " ++ decimal count)))
 line_of words (TooMany (Some name) kind count) = error_line words (name ++ (codes ": too many " ++ (count_words kind ++ (codes ": " ++ decimal count))))
+line_of words (Conflict clash) = error_line words (clash_words clash)
 line_of words (FunctionTooLarge name function size) = error_line words (name ++ (codes ": function too large: " ++ (function ++ (codes ", " ++ decimal size))))
 line_of words (Invalid name rule entity) = error_line words (name ++ (codes ": invalid V" ++ (decimal rule ++ (codes " at " ++ entity))))
 line_of words (BitFault name fault) = error_line words (name ++ (codes ": bit " ++ (decimal fault.bit ++ (codes ": " ++ fault_words fault.kind))))

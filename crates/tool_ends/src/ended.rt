@@ -2,6 +2,7 @@
 ghost use Rattle.std.specs.Prelude.{◌≡◌};
 ghost use Rattle.tool_ends.specs.Ended.{status_of};
 
+use crate::clash::Clash;
 use bits::BitFault;
 use command_line::UsageKind;
 use ir_base::{Place, Text};
@@ -48,6 +49,8 @@ pub enum Ended {
     SelfContaining(Text, Place),
     /// There are so many of these, which is past the limit; in the input of this name, where it is about one.
     TooMany(Option<Text>, CountKind, u64),
+    /// Two inputs have entries of one name that do not go together.
+    Conflict(Clash),
     /// In the module of the input of this name the function spelled so is too large: its blocks times its values are these.
     FunctionTooLarge(Text, Text, u64),
     /// In the module of the input of this name the rule of validity of this number does not hold first, at what these words
@@ -103,6 +106,7 @@ pub fn status_of(ended: &Ended) -> u8
         | Ended::TooLarge(_, _)
         | Ended::SelfContaining(_, _)
         | Ended::TooMany(_, _, _)
+        | Ended::Conflict(_)
         | Ended::FunctionTooLarge(_, _, _)
         | Ended::Invalid(_, _, _)
         | Ended::BitFault(_, _)

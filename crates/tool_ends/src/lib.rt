@@ -1,14 +1,18 @@
 //! What a run of a tool ended with: its status, and the one line that tells it on standard error.
 //!
-//! It stands on `command_line` (kinds of faults of words), on the kinds of faults of `bits` and on the counts of `module_arena`. It promises the status
+//! It stands on `command_line` (kinds of faults of words), on the kinds of faults of `bits`, on the counts of `module_arena` and on the kinds of conflicts of `linkage_rules`. It promises the status
 //! of each end, and that its line, or a front of it where a write failed, is added to standard error; the line takes no memory.
 //! Definitions: `specs/Ended`.
 #![tactic(auto)]
 
+mod clash;
+mod clash_line;
 mod digits;
 mod ended;
 mod error_line;
+mod place_line;
 
+pub use clash::{Clash, PartName};
 pub use digits::Digits;
 pub use ended::{Ended, Report, status_of};
 pub use error_line::tell;

@@ -1,4 +1,3 @@
-pub mod Alone
 pub mod Outputs
 pub mod Written
 pub mod Writing

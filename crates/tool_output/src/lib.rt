@@ -1,18 +1,15 @@
-//! What the tools put out: whether the module of one text is what linking makes of it, and a module, as text or as bitcode, where it goes.
+//! What the tools put out: a module, as text or as bitcode, where it goes.
 //!
-//! It stands on `ir_printer` and `bitcode_write`, on the words for linkages of `linkage_rules`, and on the names of outputs of `command_line`. It
-//! promises that the result is put whole where it goes; that, where a write failed, a front of it is there at most, and the output is told; that else
+//! It stands on `ir_printer` and `bitcode_write`, and on the names of outputs of `command_line`. It promises that the result is put whole where it goes; that, where a write failed, a front of it is there at most, and the output is told; that else
 //! nothing changes, and nowhere anything beside; and that where memory ran out nothing was written.
-//! Definitions: `specs/Alone` (which modules linking leaves as they are), `specs/Written` (the bytes of a module), `specs/Outputs` (what outputs
+//! Definitions: `specs/Written` (the bytes of a module), `specs/Outputs` (what outputs
 //! have), `specs/Writing` (what is answered).
 #![tactic(auto)]
 
-mod alone;
 mod fault;
 mod format;
 mod writing;
 
-pub use alone::links_alone;
 pub use fault::OutputFault;
 pub use format::OutputFormat;
 pub use writing::write_module;

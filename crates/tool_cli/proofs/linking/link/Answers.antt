@@ -1,18 +1,18 @@
-use Rattle.std.proofs.Common.{inl, refl}
+use Rattle.std.proofs.Common.{refl}
 use Rattle.command_line.specs.declared.command.Command.TheVariants.{Link}
 use Rattle.tool_output.specs.Outputs.{outputs}
 use Rattle.tool_cli.proofs.Works.{texts_of_work, texts_written}
-use Rattle.tool_cli.proofs.Delivered.{delivered_of_work, delivered_work, result_written, link_work, link_unbuilt, link_refused, silent_written, leaves_none}
+use Rattle.tool_cli.proofs.Delivered.{delivered_of_work, delivered_work, result_written, link_refused, link_result, silent_written, leaves_none}
 use Rattle.tool_cli.proofs.linking.link.Goals as goal
 
-pub returns-in-Ok-None-clause-work : goal.returns-in-Ok-None-clause-work
-returns-in-Ok-None-clause-work g c = inl (link_unbuilt c.args.names.now _ c.args.place.now c.args.text c.in-Ok-None.ensures.accepted (rw c.in-Ok-None.field-0-is at c.in-Ok-None.ensures.made))
-
-pub returns-in-Ok-None-clause-leaves_files : goal.returns-in-Ok-None-clause-leaves_files
-returns-in-Ok-None-clause-leaves_files g c = leaves_none _ _ _ _ _
-
 pub returns-in-Err-clause-work : goal.returns-in-Err-clause-work
-returns-in-Err-clause-work g c = link_refused _ _ _ _ _ _ _ c.in-Err.ensures.refused
+returns-in-Err-clause-work g c = link_refused c.args.names.now c.args.texts.now c.args.place.now c.args.text _ _ _ c.in-Err.ensures.refused
+
+pub returns-in-Err-clause-of_work : goal.returns-in-Err-clause-of_work
+returns-in-Err-clause-of_work g c = texts_of_work _ c.in-Err.ensures.of_texts
+
+pub returns-in-Err-clause-cannot_write : goal.returns-in-Err-clause-cannot_write
+returns-in-Err-clause-cannot_write g c = λ name told. absurd (texts_written _ c.in-Err.ensures.of_texts name told)
 
 pub returns-in-Err-clause-written : goal.returns-in-Err-clause-written
 returns-in-Err-clause-written g c = silent_written (Link c.args.names.now c.args.place.now c.args.text) c.args.texts.now (outputs (g.O.Sink.taken c.args.output.now) (g.F.Files.contents c.args.files.now)) _ _ c.in-Err.ensures.of_texts refl
@@ -21,19 +21,12 @@ pub returns-in-Err-clause-leaves_files : goal.returns-in-Err-clause-leaves_files
 returns-in-Err-clause-leaves_files g c = leaves_none _ _ _ _ _
 
 pub returns-clause-work : goal.returns-clause-work
-returns-clause-work g c =
-    let work = link_work c.args.names.now c.args.texts.now c.args.place.now c.args.text _ c.in-Ok-Some.ensures.accepted (rw c.in-Ok-Some.field-0-is at c.in-Ok-Some.ensures.made) in
-    delivered_work (Link c.args.names.now c.args.place.now c.args.text) _ _ _ _ _ _ _ _ work c.deliver.ensures.delivered c.deliver.ensures.cannot_write
+returns-clause-work g c = delivered_work (Link c.args.names.now c.args.place.now c.args.text) _ _ _ _ _ _ _ _ c.in-Ok.ensures.linking c.deliver.ensures.delivered c.deliver.ensures.cannot_write
 
 pub returns-clause-written : goal.returns-clause-written
 returns-clause-written g c =
-    result_written (Link c.args.names.now c.args.place.now c.args.text) _ _ _ _ _ _ refl (_, rw c.in-Ok-Some.field-0-is at c.in-Ok-Some.ensures.made, refl) (rw c.format_of.ensures at c.deliver.ensures.delivered)
+    let result = link_result c.args.names.now c.args.texts.now c.args.place.now c.args.text _ c.in-Ok.ensures.made in
+    result_written (Link c.args.names.now c.args.place.now c.args.text) _ _ _ _ _ _ refl result (rw c.format_of.ensures at c.deliver.ensures.delivered)
 
 pub returns-clause-of_work : goal.returns-clause-of_work
 returns-clause-of_work g c = delivered_of_work _ _ _ _ _ c.deliver.ensures.delivered
-
-pub returns-in-Err-clause-of_work : goal.returns-in-Err-clause-of_work
-returns-in-Err-clause-of_work g c = texts_of_work _ c.in-Err.ensures.of_texts
-
-pub returns-in-Err-clause-cannot_write : goal.returns-in-Err-clause-cannot_write
-returns-in-Err-clause-cannot_write g c = λ name told. absurd (texts_written _ c.in-Err.ensures.of_texts name told)

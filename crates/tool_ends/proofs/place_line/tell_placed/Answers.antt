@@ -1,4 +1,4 @@
-use Rattle.tool_ends.proofs.error_line.tell_placed.Goals as goal
+use Rattle.tool_ends.proofs.place_line.tell_placed.Goals as goal
 
 pub returns-in-UnknownName : goal.returns-in-UnknownName
 returns-in-UnknownName g c = rw c.in-UnknownName.is (rw c.bytes-in-UnknownName.ensures at c.tell_place-in-UnknownName.ensures)

@@ -2,7 +2,7 @@ use Rattle.std.proofs.Common.{◌++◌, [], ◌∷◌, refl}
 use Rattle.std.specs.Prelude.{codes}
 use Rattle.tool_ends.specs.Ended.{located_by}
 use Rattle.tool_ends.proofs.Lines.{behind, line_told}
-use Rattle.tool_ends.proofs.error_line.tell_next.Goals as goal
+use Rattle.tool_ends.proofs.place_line.tell_next.Goals as goal
 
 pub returns : goal.returns
 returns g c =

@@ -1,0 +1,12 @@
+use Rattle.std.proofs.Common.{Option, drop}
+use Rattle.tool_ends.specs.declared.ended.Ended.{Ended}
+use Rattle.tool_cli.proofs.Judging.{IsJudged}
+use Rattle.tool_cli.proofs.Linked.{AreFound}
+use Rattle.tool_cli.proofs.parts.accepted_parts.Given as goal
+
+-- the inputs so far are accepted, so what is judged of the others is judged of all
+abbrev pub invariant-inputs : goal.invariant-inputs
+invariant-inputs l = record {
+  judged : (found : Option Ended) → IsJudged (drop l.index l.names) (drop l.index l.texts) found → IsJudged l.names l.texts found;
+  found : AreFound l.texts l.index l.parts.items l.is_bitcode_there;
+}
