@@ -1,0 +1,2 @@
+pub mod Linkable
+pub mod Told

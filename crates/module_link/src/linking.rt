@@ -1,0 +1,63 @@
+//! Parts linked to one module.
+ghost use Rattle.std.specs.Prelude.{◌≡◌, ◌∷◌, [], None, IfOk, IfErr, OnOk};
+ghost use Rattle.std.specs.List.{AllByRecursion};
+ghost use Rattle.linkage_rules.specs.Conflicts.{first_conflict};
+ghost use Rattle.linkage_rules.specs.Ids.{modules};
+ghost use Rattle.module_arena.specs.Functions.{first_too_large};
+ghost use Rattle.module_arena.specs.View.{module_of};
+ghost use Rattle.module_linker.specs.Counts as counts;
+ghost use Rattle.module_linker.specs.Linked.{link_result};
+ghost use Rattle.run_rules.specs.Same.{RunAlike};
+ghost use Rattle.module_link.specs.Faults.{HasFault};
+
+use crate::LinkFault;
+use crate::making::linked;
+use link_counts::too_many;
+use linkage_rules::resolve_symbols;
+use linked_is_valid::linking_keeps_modules;
+use linked_runs::linking_is_right;
+use module_arena::Checked;
+use std::alloc::Global;
+use struct_rows::struct_rows;
+
+/// The module that is made of some parts, or why there is none.
+fn link_all(alloc: Global, parts: &[Checked]) -> Result<Checked, LinkFault>
+    ensures agree { OnOk result (first_conflict (modules parts.now) ≡ None) }
+    ensures few { OnOk result (counts.too_many (modules parts.now) ≡ None) }
+    ensures fault { IfErr result (HasFault (modules parts.now)) }
+    ensures module { IfOk result (λ whole. module_of whole ≡ link_result (modules parts.now)) }
+    ensures small { AllByRecursion (λ m. first_too_large m ≡ None) (modules parts.now) → IfOk result (λ whole. first_too_large (module_of whole) ≡ None) }
+    ensures runs { IfOk result (λ whole. RunAlike (module_of whole ∷ []) (modules parts.now)) }
+{
+    let bindings = resolve_symbols(alloc, parts)?;
+    let rows = struct_rows(alloc, parts)?;
+    match too_many(parts, &bindings, rows.names.len() as u64) {
+        Some(count) => return Err(LinkFault::TooMany(count.kind, count.number)),
+        None => {}
+    }
+    // What is made of parts that have no conflict and pass no count is well formed and valid, and runs as they do.
+    linking_keeps_modules();
+    linking_is_right();
+    let whole = linked(alloc, parts, &bindings, &rows)?;
+    Ok(Checked::seal(whole))
+}
+
+/// Links parts, in their order, to one module (the tool `llvm-link`; LangRef, "Linkage Types"). It has one entry for each
+/// symbol, the definition that counts or else a declaration, and is well formed and valid, as each `Checked` is. It prints what
+/// the parts print that run side by side, and ends as they do, for all arguments, inputs and bounds.
+///
+/// `Conflict` exactly with the first conflict of the parts; else `TooMany` exactly with the first count of the linked module
+/// that is past its limit: structs, variables, functions, aliases, appended bytes. Else only memory may be wanting. The time
+/// is linear in the parts where the structs of each stand behind those that they hold, as every reader puts them.
+pub fn link(alloc: Global, parts: Vec<Checked>) -> Result<Checked, LinkFault>
+    // What is answered.
+    ensures agree { OnOk result (first_conflict (modules parts.items) ≡ None) }
+    ensures few { OnOk result (counts.too_many (modules parts.items) ≡ None) }
+    ensures fault { IfErr result (HasFault (modules parts.items)) }
+    // What is made.
+    ensures module { IfOk result (λ whole. module_of whole ≡ link_result (modules parts.items)) }
+    ensures small { AllByRecursion (λ m. first_too_large m ≡ None) (modules parts.items) → IfOk result (λ whole. first_too_large (module_of whole) ≡ None) }
+    ensures runs { IfOk result (λ whole. RunAlike (module_of whole ∷ []) (modules parts.items)) }
+{
+    link_all(alloc, parts.as_slice())
+}
