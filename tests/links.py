@@ -13,6 +13,9 @@ The rows stand before those of tests/extracting.py.
 import pathlib
 import sys
 
+sys.dont_write_bytecode = True
+from assemble import BYTE_CODE, printed as printed_bytes
+
 CRATE = pathlib.Path(__file__).resolve().parent.parent / "crates" / "tool_table"
 MARK = b"# Linked modules: written by tests/links.py.\n"
 MARKS_BEHIND = [b"# Parts of texts: written by tests/extracting.py.\n"]
@@ -962,7 +965,57 @@ declare extern_weak void @stop()
            "define linkonce %pair @make(%pair %x) { call void @stop() ret %pair %x } declare extern_weak void @stop() define available_externally i32 @puts(ptr %0) { ret i32 3 } define weak void @run(i32 %x) { call void @stop() ret void }")
 
 
-TABLES = [worked, conflicts, counts, renamed, structs, commons, appended, declared, kept, texts, aliases, together]
+def told(given, words, result):
+    """A run over what is given, and what is told of it behind its words."""
+    RUNS.append((f"clear\n{given}run {words}\n", f"> {words}\n{result}"))
+
+
+def ends():
+    """What is judged first, where a result goes, and what is at a limit."""
+    # The bitcode of what two texts come to.
+    parts = "file a.ll\n+ @x = external global i8\nfile b.ll\n+ @x = global i8 255\n"
+    told(parts, "llvm-link a.ll b.ll", f"status 0\nfiles a.ll b.ll\noutput\n{printed_bytes(BYTE_CODE)}")
+    told(parts, "llvm-link a.ll b.ll -o z.bc", f"status 0\nfiles a.ll b.ll\nwrote z.bc\n{printed_bytes(BYTE_CODE)}")
+    # Bitcode beside texts in conflict is not built; a text that is refused is told before any conflict.
+    clash = "file x.ll\n+ @x = global i32 1\nfile y.ll\n+ @x = global i32 2\n"
+    told(clash + "file c.bc\n= 42 43 c0 de\n", "llvm-link x.ll c.bc y.ll", "status 1\nfiles x.ll c.bc y.ll\nerrors\n| llvm-link: not built\n")
+    told(clash + "file c.bc\n= 42 43 c0 de\n", "llvm-link c.bc x.ll y.ll", "status 1\nfiles c.bc x.ll y.ll\nerrors\n| llvm-link: not built\n")
+    refused("c.ll:1:16: constant out of range", "@x = global i32 1", "@x = global i32 2", "@x = global i8 256")
+    # Where a conflict is told no file is written, and a standard error that fails changes no answer.
+    told(clash + "file z.bc\n+ kept\n", "llvm-link x.ll y.ll -o z.bc", "status 1\nfiles x.ll y.ll\nerrors\n| llvm-link: conflict: two strong: @x in x.ll and y.ll\n")
+    told(clash + "fails errors 1\n", "llvm-link x.ll y.ll -o z.bc", "status 1\nfiles x.ll y.ll\n")
+    # Of several symbols in conflict the first in their order is told: x stands before y, and variables before functions.
+    refused("conflict: two strong: @x in c.ll and d.ll", "@x = external global i32 @y = global i32 1", "@y = global i32 1", "@x = global i32 1", "@x = global i32 1")
+    refused("conflict: two strong: @v in b.ll and c.ll", "define void @f() { ret void }", "define void @f() { ret void } @v = global i32 1", "@v = global i32 1")
+    # 2^40 bytes exactly.
+    half = "@x = appending global [1 x [549755813888 x i8]] [[549755813888 x i8] zeroinitializer]"
+    linked("""
+@x = appending global [2 x [549755813888 x i8]] [[549755813888 x i8] zeroinitializer, [549755813888 x i8] zeroinitializer]
+""", half, half)
+    # What one part extracts and another declares.
+    linked("""
+@v = global i32 4
+define i32 @h() {
+0:
+  ret i32 3
+}
+define i32 @f() {
+0:
+  %1 = call i32 @h()
+  %2 = load i32, ptr @v
+  %3 = add i32 %1, %2
+  ret i32 %3
+}
+define i32 @main() {
+0:
+  %1 = call i32 @f()
+  ret i32 %1
+}
+""", "@v = external global i32 define i32 @h() { ret i32 3 } define i32 @f() { %1 = call i32 @h() %2 = load i32, ptr @v %3 = add i32 %1, %2 ret i32 %3 }",
+           "@v = global i32 4 declare i32 @f() define i32 @main() { %1 = call i32 @f() ret i32 %1 }")
+
+
+TABLES = [worked, conflicts, counts, renamed, structs, commons, appended, declared, kept, texts, aliases, together, ends]
 
 
 def first_of(marks, stored):
