@@ -1,4 +1,4 @@
-//! The lists of a body, into which its actions point.
+//! Leaves and slots in the pools of a body.
 ghost use Rattle.std.specs.Prelude.{◌≡◌, ◌-◌, ◌<◌, ◌≤◌, ◌∷◌, [], IfOk, OnOk, length, map, true};
 ghost use Rattle.std.specs.List.{range_with_len};
 ghost use Rattle.module_arena.specs.TypeTests.{lies_in_memory};
@@ -6,40 +6,14 @@ ghost use Rattle.run_rules.specs.Action as actions;
 ghost use Rattle.run_rules.specs.Leaves.{slots};
 ghost use Rattle.type_table.specs.Types.{structs, tree};
 ghost use Rattle.run_shapes.specs.Shapes.{shape_in};
-ghost use Rattle.run_operands.specs.Grown.{AreLeaves, AreSlots, Grows, HasOrigins, IsLeaf, no_pools};
+ghost use Rattle.run_flat.specs.Grown.{Adds, AreLeaves, AreSlots, HasOrigins, IsLeaf};
 
-use crate::leaf::{LeafAt, Span};
-use crate::pool::Pool;
 use ir_eval::Scalar;
+use run_flat::{LeafAt, Pools, Span};
 use run_slots::push_slots;
 use run_stack::Origin;
-use run_values::Slot;
 use std::alloc::{AllocError, Global};
 use type_table::{TypeId, TypeTable};
-
-/// The lists of a body, into which its actions point.
-#[derive(Drop)]
-pub struct Pools {
-    /// Leaves that are known.
-    pub known: Pool<Scalar>,
-    /// Where the leaves of values are had from, those of one value one after another.
-    pub origins: Pool<Origin>,
-    /// The slots of types, those of one type one after another.
-    pub slots: Pool<Slot>,
-}
-
-impl Pools {
-    /// Empty pools.
-    pub fn new(alloc: Global) -> Pools
-        ensures { result ≡ no_pools }
-    {
-        Pools {
-            known: Pool::new(alloc),
-            origins: Pool::new(alloc),
-            slots: Pool::new(alloc),
-        }
-    }
-}
 
 /// Puts the slots of a type among the slots. It is refused for want of memory alone.
 pub fn put_slots(
@@ -50,7 +24,7 @@ pub fn put_slots(
 ) -> Result<Span, AllocError>
     requires known { ty < length types.now.types }
     requires laid { lies_in_memory (structs types.now) (tree types.now ty) ≡ true }
-    ensures grows { OnOk result (Grows pools.old pools.new) }
+    ensures grows { OnOk result (Adds pools.old pools.new) }
     ensures slots { IfOk result (λ span. AreSlots pools.new span (slots (shape_in types.now ty))) }
 {
     // No type that lies in memory is larger than the limits of a table.
@@ -62,7 +36,7 @@ pub fn put_slots(
 
 /// Puts a leaf among those that are known. It is refused for want of memory alone.
 pub fn put_known(pools: &mut Pools, leaf: Scalar) -> Result<LeafAt, AllocError>
-    ensures grows { OnOk result (Grows pools.old pools.new) }
+    ensures grows { OnOk result (Adds pools.old pools.new) }
     ensures leaf { IfOk result (λ at. IsLeaf pools.new at (actions.Known leaf)) }
 {
     let place = pools.known.push(leaf)?;
@@ -71,7 +45,7 @@ pub fn put_known(pools: &mut Pools, leaf: Scalar) -> Result<LeafAt, AllocError>
 
 /// Appends a leaf that is known to the origins.
 fn append_known(pools: &mut Pools, leaf: Scalar) -> Result<(), AllocError>
-    ensures grows { OnOk result (Grows pools.old pools.new) }
+    ensures grows { OnOk result (Adds pools.old pools.new) }
     ensures leaf { OnOk result (HasOrigins pools.old pools.new (actions.Known leaf ∷ [])) }
 {
     pools.origins.push(Origin::Known(leaf))?;
@@ -80,7 +54,7 @@ fn append_known(pools: &mut Pools, leaf: Scalar) -> Result<(), AllocError>
 
 /// Puts the leaves of a value that are known among the origins. It is refused for want of memory alone.
 pub fn put_known_leaves(pools: &mut Pools, leaves: &[Scalar]) -> Result<Span, AllocError>
-    ensures grows { OnOk result (Grows pools.old pools.new) }
+    ensures grows { OnOk result (Adds pools.old pools.new) }
     ensures leaves { IfOk result (λ span. AreLeaves pools.new span (map actions.Known leaves.now)) }
 {
     let first = pools.origins.len();
@@ -92,7 +66,7 @@ pub fn put_known_leaves(pools: &mut Pools, leaves: &[Scalar]) -> Result<Span, Al
 
 /// Appends the leaf that stands at a place of the frame to the origins.
 fn append_held(pools: &mut Pools, place: u32) -> Result<(), AllocError>
-    ensures grows { OnOk result (Grows pools.old pools.new) }
+    ensures grows { OnOk result (Adds pools.old pools.new) }
     ensures leaf { OnOk result (HasOrigins pools.old pools.new (actions.Held place ∷ [])) }
 {
     pools.origins.push(Origin::Held(place))?;
@@ -103,7 +77,7 @@ fn append_held(pools: &mut Pools, place: u32) -> Result<(), AllocError>
 /// alone.
 pub fn put_held_leaves(pools: &mut Pools, begin: u32, end: u32) -> Result<Span, AllocError>
     requires { begin ≤ end }
-    ensures grows { OnOk result (Grows pools.old pools.new) }
+    ensures grows { OnOk result (Adds pools.old pools.new) }
     ensures leaves { IfOk result (λ span. AreLeaves pools.new span (map actions.Held (range_with_len begin (end - begin)))) }
 {
     let first = pools.origins.len();

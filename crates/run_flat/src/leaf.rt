@@ -14,3 +14,8 @@ pub struct Span {
     pub first: u32,
     pub count: u32,
 }
+
+/// No items, whatever pool these would be in.
+pub const NOTHING: Span = Span { first: 0, count: 0 };
+
+const _: () = prove!(size_of::<LeafAt>() <= 8);

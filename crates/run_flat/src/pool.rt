@@ -1,6 +1,6 @@
 //! Lists that only grow, and into which others point.
-ghost use Rattle.std.specs.Prelude.{◌≡◌, ◌+◌, ◌<◌, ◌≤◌, ◌++◌, ◌∷◌, [], IfOk, OnOk, Some, length, slice_get};
-ghost use Rattle.run_operands.specs.Spans.{IsBetween, IsSpanIn, spanned};
+ghost use Rattle.std.specs.Prelude.{◌≡◌, ◌+◌, ◌<◌, ◌≤◌, ◌++◌, ◌∷◌, [], IfOk, OnErr, OnOk, Some, length, slice_get};
+ghost use Rattle.run_flat.specs.Spans.{IsBetween, IsLonger, IsSpanIn, spanned};
 
 use crate::leaf::Span;
 use std::alloc::{AllocError, Global};
@@ -54,10 +54,11 @@ impl<T: Copy> Pool<T> {
         &self.items
     }
 
-    /// Adds an item at the end, and gives its place. Where it is refused, the pool may have gained the item.
+    /// Adds an item at the end, and gives its place. Where it is refused, the pool is as it was.
     pub fn push(&mut self, item: T) -> Result<u32, AllocError>
         ensures place { IfOk result (λ place. place ≡ length self.old) }
         ensures items { OnOk result (self.new ≡ self.old ++ item ∷ []) }
+        ensures err { OnErr result (self.new ≡ self.old) }
     {
         let place = numbered(self.items.len())?;
         self.items.push(item)?;
@@ -77,10 +78,11 @@ impl<T: Copy> Pool<T> {
         })
     }
 
-    /// Adds items at the end, in order, and gives where they stand.
+    /// Adds items at the end, in order, and gives where they stand. Where it is refused, the pool may have gained them.
     pub fn append(&mut self, items: &[T]) -> Result<Span, AllocError>
         ensures span { IfOk result (IsBetween (length self.old) (length self.new)) }
         ensures items { OnOk result (self.new ≡ self.old ++ items.now) }
+        ensures kept { IsLonger self.old self.new }
     {
         let first = self.items.len();
         self.items.extend_from_slice(items)?;

@@ -1,6 +1,6 @@
 -- For `Pool`: items of a list that follow one another.
 use Rattle.std.specs.Prelude.{◌≡◌, ℕ, ◌+◌, ◌^◌, ◌<◌, ◌≤◌, List, ◌++◌, length, take, drop}
-use Rattle.run_operands.specs.declared.leaf.Span.{Span}
+use Rattle.run_flat.specs.declared.leaf.Span.{Span}
 
 -- the items at the places of a span
 abbrev pub spanned : {A : Type 0} → List A → Span → List A

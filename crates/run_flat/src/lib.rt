@@ -1,0 +1,17 @@
+//! The flat form of a function's body: what each instruction comes to once each name, type and layout in it is known, with its lists in
+//! pools into which it points.
+//!
+//! It stands on the origins and moves of `run_stack`, the slots of `run_values`, and the ways, arms and parts of `run_actions`. It promises
+//! that pools only grow, so that what stands in them stands there still, and that an action takes at most 40 bytes. Definitions: `specs/Flat`,
+//! what a flat action is; `specs/Grown`, what stands where; `specs/Spans`.
+#![tactic(auto)]
+
+mod action;
+mod leaf;
+mod pool;
+mod pools;
+
+pub use action::{Action, CallParts, Term};
+pub use leaf::{LeafAt, NOTHING, Span};
+pub use pool::{Pool, numbered};
+pub use pools::Pools;
