@@ -1,0 +1,10 @@
+//! The body of a function, decoded: each instruction as a flat action at its place, with the pools into which actions point.
+//!
+//! It stands on the pools of `run_flat`. It promises that the action at each place of a block is the one that was put there, that all it
+//! points to is there, and that no edge sets more leaves than is told. Definitions: `specs/Bodies`; `Flat` of `run_flat`.
+#![tactic(auto)]
+
+mod body;
+mod widest;
+
+pub use body::Body;
