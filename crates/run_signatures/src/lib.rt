@@ -1,0 +1,12 @@
+//! Function types under numbers: those that a run of a module has met, each once.
+//!
+//! It stands on the types of `type_table`, the modules of `module_arena` and the pools of `run_flat`. It promises that two function types
+//! have one number exactly where they have one shape, and that each keeps its number. Definitions: `specs/Met`; `specs/Numbers`, the calls
+//! of a body under their numbers; `Calls` of `run_rules`.
+#![tactic(auto)]
+
+mod alike;
+mod signatures;
+mod written;
+
+pub use signatures::Signatures;
