@@ -1,0 +1,132 @@
+//! A module that is run.
+ghost use Rattle.std.specs.Prelude.{◌≡◌, ◌<◌, IfOk, None, Some, length, replicate, slice_get};
+ghost use Rattle.module_arena.specs.View.{module_of};
+ghost use Rattle.run_names.specs.Told.{HasCode, alone, callee_seen};
+ghost use Rattle.run_body.specs.Bodies.{Decoded};
+ghost use Rattle.run_rules.specs.Action.{Signature};
+ghost use Rattle.run_rules.specs.Calls.{same_signature};
+ghost use Rattle.run_rules.specs.Look.{table};
+ghost use Rattle.run_signatures.specs.Met.{known};
+ghost use Rattle.run_program.specs.Loaded.{IsBody, IsReady, nothing_ready};
+
+use module_arena::{Checked, Function, FunctionId};
+use run_body::Body;
+use run_names::{CalleeRef, Names};
+use run_signatures::Signatures;
+use std::alloc::{AllocError, Global};
+use std::marker::Model;
+use type_table::TypeTable;
+
+/// What a call asks of a function: the number of its function type among those that the run has met, and how many leaves its frame has.
+#[derive(Clone, Copy)]
+pub struct Head {
+    pub signature: u32,
+    pub leaves: u64,
+}
+
+/// A module that is run. A clause sees its lists, the function types that were met, and the bodies that are there.
+#[derive(Drop)]
+pub struct Program<'m> {
+    alloc: Global,
+    names: Names<'m>,
+    signatures: Signatures<'m>,
+    heads: Vec<Option<Head>>,
+    bodies: Vec<Option<Body<'m>>>,
+}
+
+impl<'m> Model for Program<'m> {
+    ghost use Rattle.run_program.specs.Loaded.{IsLoaded, Loaded};
+
+    ghost Value = { Loaded };
+
+    ghost view = { λ p. record { lists = p.names; met = p.signatures; bodies = p.bodies.items } };
+
+    ghost invariant = { λ p. IsLoaded p.names p.signatures p.heads.items p.bodies.items };
+}
+
+/// Room for something of each function, and nothing yet.
+fn none_yet<T: Drop>(alloc: Global, count: u32) -> Result<Vec<Option<T>>, AllocError>
+    ensures { IfOk result (λ room. room.items ≡ replicate count None) }
+{
+    let mut room = Vec::with_capacity(alloc, count as usize)?;
+    'functions: for _function in 0..count {
+        room.push(None)?;
+    }
+    Ok(room)
+}
+
+impl<'m> Program<'m> {
+    /// A module of which nothing is decoded yet. It is refused for want of memory alone.
+    pub fn new(alloc: Global, names: Names<'m>) -> Result<Program<'m>, AllocError>
+        ensures { IfOk result (λ program. program ≡ nothing_ready names.entry) }
+    {
+        let module: &'m Checked = names.program();
+        let count = module.arena().function_count();
+        let signatures = Signatures::new(alloc, module);
+        let heads = none_yet(alloc, count)?;
+        let bodies = none_yet(alloc, count)?;
+        let program = Program {
+            alloc,
+            names,
+            signatures,
+            heads,
+            bodies,
+        };
+        Ok(program)
+    }
+
+    /// Where memory comes from.
+    pub fn alloc(&self) -> Global {
+        self.alloc
+    }
+
+    /// The types of the module.
+    #[inline]
+    pub fn types(&self) -> &TypeTable
+        ensures { result.now ≡ self.now.lists.table }
+    {
+        self.names.program().arena().types()
+    }
+
+    /// A function of the module.
+    pub fn function(&self, id: FunctionId) -> &Function
+        requires { id < length self.now.lists.functions }
+        ensures function { slice_get self.now.lists.functions id ≡ Some result.now }
+        ensures result_known { result.now.result < length self.now.lists.table.types }
+    {
+        let arena = self.names.program().arena();
+        // The types of the functions of an arena are types of the arena.
+        let _count = arena.variable_count();
+        arena.function(id)
+    }
+
+    /// What can be called at an address.
+    #[inline]
+    pub fn callee(&self, address: u64) -> CalleeRef
+        ensures value { callee_seen (alone (module_of self.now.lists)) result ≡ table (alone (module_of self.now.lists)) address }
+        ensures code { HasCode self.now.lists result }
+    {
+        self.names.callee(address)
+    }
+
+    /// Whether two function types that were met have one shape.
+    #[inline]
+    pub fn is_same(&self, signature: u32, used: u32) -> bool
+        ensures { (s t : Signature) → slice_get (known self.now.met) signature ≡ Some s → slice_get (known self.now.met) used ≡ Some t → result ≡ same_signature s t }
+    {
+        self.signatures.is_same(signature, used)
+    }
+
+    /// The body of a function that was entered.
+    #[inline]
+    pub fn body(&self, function: u32) -> &Body<'m>
+        requires { (body : Decoded) × IsReady self.now function body }
+        ensures ready { IsReady self.now function result.now }
+        ensures body { IsBody self.now function result.now }
+    {
+        match &self.bodies[function as usize] {
+            Some(body) => body,
+            None => unreachable!(),
+        }
+    }
+}
