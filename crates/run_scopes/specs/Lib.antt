@@ -1,0 +1,4 @@
+pub mod Scopes
+pub mod Places
+pub mod Leaves
+pub mod Ways

@@ -1,0 +1,18 @@
+//! What the names in a function stand for in a run of its module alone: where its parameters and results stand in a frame, and where the
+//! leaves of its operands are had from.
+//!
+//! It stands on the names of `run_names`, the constants of `run_constants` and the types of `run_types`. It promises that each parameter
+//! and each result has the places in a frame that the definition of scopes gives, and that the leaves of each operand are had from exactly
+//! where that definition says. Definitions: `specs/Scopes`, what the ids of a function are; `specs/Places`; `Scope` of `run_rules`.
+#![tactic(auto)]
+
+mod leaves;
+mod parts;
+mod places;
+mod scope;
+mod ways;
+
+pub use leaves::{callee_leaf, operand_leaf, push_operands, push_value};
+pub use parts::{push_extracted, push_inserted};
+pub use scope::Scope;
+pub use ways::push_way;
