@@ -1,1 +1,1 @@
-pub mod Spanned
+mod Stands
