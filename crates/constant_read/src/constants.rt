@@ -161,9 +161,10 @@ fn read_nested(
     }
 }
 
-/// A constant of that type behind the code of its form. Another code breaks rule 3.
+/// A constant of that type behind the code of its form, in which lists and expressions may nest so deep. No type stands for
+/// `void`. Another code breaks rule 3. None only where a rule is broken. It is refused for want of memory alone.
 #[cycle(constants)]
-fn read_coded(
+pub fn read_coded(
     m: &mut ModuleReader<'_>,
     code: u64,
     ty: Option<TypeId>,

@@ -7,4 +7,4 @@
 mod constants;
 mod made;
 
-pub use constants::{NESTING_LIMIT, read_constant};
+pub use constants::{NESTING_LIMIT, read_coded, read_constant};

@@ -1,0 +1,4 @@
+pub mod Joined
+pub mod Leaves
+pub mod Typed
+pub mod Gathered
