@@ -1,0 +1,12 @@
+//! The ends of blocks out of the records of a body, read into an arena in the making.
+//!
+//! It stands on `operand_read`. It promises that an end is the one that is read by the layout of its opcode, that it stays so
+//! while constants are added, and that the least rule that is broken is kept. Definitions: `Lines` of `record_table`, and
+//! `specs/Ends`.
+#![tactic(auto)]
+
+mod branch;
+mod ending;
+mod switch;
+
+pub use ending::{is_end, read_ending};
