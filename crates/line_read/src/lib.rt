@@ -1,0 +1,16 @@
+//! Instructions that are no calls, out of the records of a body, read into an arena in the making.
+//!
+//! It stands on `operand_read`. It promises that an instruction is the one that is read by the layout of its opcode, that it
+//! stays so while constants are added, and that the least rule that is broken is kept. Definitions: `Lines` of `record_table`,
+//! and `specs/`.
+#![tactic(auto)]
+
+mod addresses;
+mod indices;
+mod opcode;
+mod operations;
+mod parts;
+mod phi;
+
+pub use addresses::read_store;
+pub use opcode::read_operation;
