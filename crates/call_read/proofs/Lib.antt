@@ -1,0 +1,6 @@
+pub mod Heads
+pub mod Voids
+pub mod ParameterTypes
+pub mod ArgumentLists
+pub mod Calling
+pub mod Lines

@@ -1,0 +1,77 @@
+//! The arguments of a call.
+ghost use Rattle.std.specs.Prelude.{◌≡◌, ◌++◌, All, map, slice_get, IfOk, IfSome, OnOk, option_to_list};
+ghost use Rattle.std.specs.Option.{option_map};
+ghost use Rattle.record_table.specs.Lines as lines;
+ghost use Rattle.arena_read.specs.Kept.{IsKnownType, tree_at};
+ghost use Rattle.operand_read.specs.Found.{Finds, HasOperands, both, kept_operand, operands_in};
+ghost use Rattle.call_read.specs.Calls.{TypesArgument};
+
+use arena_read::{ModuleReader, read_type};
+use module_arena::{Operand, OperandList, Value};
+use operand_read::{operand_list, push_operand, read_value, same};
+use std::alloc::AllocError;
+use type_table::TypeId;
+
+/// The parameter at that place, if there is one.
+fn parameter_at(parameters: &[Option<TypeId>], place: u64) -> Option<Option<TypeId>>
+    ensures { result ≡ slice_get parameters.now place }
+{
+    if place < parameters.len() as u64 {
+        Some(same(&parameters[place as usize]))
+    } else {
+        None
+    }
+}
+
+/// The type of an argument: that of its parameter, or one that stands in front of it.
+fn argument_type(m: &mut ModuleReader<'_>, parameter: Option<Option<TypeId>>) -> Option<TypeId>
+    requires { IfSome parameter (IsKnownType m.old) }
+    ensures { TypesArgument (option_map (tree_at m.old.growing.arena.table) parameter) m.old m.new result }
+{
+    match parameter {
+        Some(ty) => ty,
+        None => read_type(m),
+    }
+}
+
+/// One more argument, of that type and value, where both are known.
+fn add_argument(
+    arguments: &mut Vec<Operand>,
+    ty: Option<TypeId>,
+    value: Option<Value>,
+) -> Result<(), AllocError>
+    ensures { OnOk result (arguments.new.items ≡ arguments.old.items ++ option_to_list (option_map kept_operand (both ty value))) }
+{
+    push_operand(arguments, operand_of(ty, value))
+}
+
+/// An operand of a type and a value, where both are known.
+fn operand_of(ty: Option<TypeId>, value: Option<Value>) -> Option<Operand>
+    ensures { result ≡ option_map kept_operand (both ty value) }
+{
+    Some(Operand {
+        ty: ty?,
+        value: value?,
+    })
+}
+
+/// A count, and so many arguments: those for the parameters, and further ones behind their types. None only where a rule is
+/// broken.
+pub(crate) fn read_arguments(
+    m: &mut ModuleReader<'_>,
+    parameters: &[Option<TypeId>],
+) -> Result<Option<OperandList>, AllocError>
+    requires { All (IsKnownType m.old) parameters.now }
+    ensures { IfOk result (Finds HasOperands operands_in (λ k. (lines.arguments k (map (tree_at m.old.growing.arena.table) parameters.now)).read) m.old m.new) }
+{
+    let count = m.reader.number();
+    let mut arguments = Vec::new(m.alloc);
+    let mut place = 0;
+    'arguments: while m.reader.has_more(place, count) {
+        let ty = argument_type(m, parameter_at(parameters, place));
+        let value = read_value(m, &ty)?;
+        add_argument(&mut arguments, ty, value)?;
+        place += 1;
+    }
+    Ok(operand_list(&m.reader, arguments))
+}

@@ -1,0 +1,14 @@
+//! Calls, and any instruction by its opcode, out of the records of a body, read into an arena in the making.
+//!
+//! It stands on `line_read` and `operand_read`. It promises that an instruction is the one that is read by the layout of its
+//! opcode, that its result is called as its record says, and that the least rule that is broken is kept. Definitions: `Lines`
+//! of `record_table`, and `specs/`.
+#![tactic(auto)]
+
+mod arguments;
+mod call;
+mod head;
+mod line;
+mod parameters;
+
+pub use line::{Line, read_instruction};
