@@ -1,0 +1,12 @@
+//! What passes between a run and those who call it: the bytes of a step on their way out and in, and the end or fault that is kept.
+//!
+//! It stands on the bytes that wait in `run_traffic`, the frames of `run_stack`, and on `run_ends`, which tells the ends that a run can
+//! have. It promises that output is written before input is read, that a failed read or write is told as what it is, and that what was
+//! answered once can be answered again, word for word. Definitions: `specs/Traffic`, `specs/Told`.
+#![tactic(auto)]
+
+mod told;
+mod traffic;
+
+pub use told::Told;
+pub use traffic::{finish, flush, get, put};

@@ -1,0 +1,84 @@
+//! What a run has answered.
+ghost use Rattle.std.specs.Prelude.{◌≡◌, IfOk, IfSome, Ok};
+ghost use Rattle.std.specs.Option.{option_map};
+ghost use Rattle.run_rules.specs.Machine.{again, remembered};
+ghost use Rattle.run_ends.specs.Ends.{IsOfRuns};
+ghost use Rattle.run_passing.specs.Told.{told_seen};
+
+use ir_tables::UndefinedKind;
+use run_rules::{End, RunFault};
+
+/// An end or a fault that a run has answered. `End` cannot be told twice, since it may hold a name; a run that has begun has no such end.
+#[derive(Clone, Copy)]
+pub enum Told {
+    Exit(u8),
+    Undefined(UndefinedKind),
+    StepsUsed,
+    StackLimit,
+    MemoryLimit,
+    Failed(RunFault),
+}
+
+/// The end of a run as one that may be told again.
+fn told_of(end: &End) -> Told
+    requires { IsOfRuns end.now }
+    ensures { told_seen result ≡ Ok end.now }
+{
+    match end {
+        End::Exit(status) => Told::Exit(*status),
+        End::Undefined(kind) => Told::Undefined(*kind),
+        End::StepsUsed => Told::StepsUsed,
+        End::StackLimit => Told::StackLimit,
+        End::MemoryLimit => Told::MemoryLimit,
+        End::Unresolved(_) | End::NoMain => unreachable!(),
+    }
+}
+
+impl Told {
+    /// What a run answered. No run that has begun ends for a name that is missing, or for want of main.
+    pub fn of_run(answer: &Result<End, RunFault>) -> Told
+        requires { IfOk answer.now IsOfRuns }
+        ensures { told_seen result ≡ answer.now }
+    {
+        match answer {
+            Ok(end) => told_of(end),
+            Err(fault) => Told::Failed(*fault),
+        }
+    }
+
+    /// What a step answered, where that is an end or a fault, or else None.
+    pub fn of_step(answer: &Result<Option<End>, RunFault>) -> Option<Told>
+        requires { IfOk answer.now (λ end. IfSome end IsOfRuns) }
+        ensures { option_map told_seen result ≡ remembered answer.now }
+    {
+        match answer {
+            Ok(None) => None,
+            Ok(Some(end)) => Some(told_of(end)),
+            Err(fault) => Some(Told::Failed(*fault)),
+        }
+    }
+
+    /// The answer of a run.
+    pub fn answer(self) -> Result<End, RunFault>
+        ensures { result ≡ told_seen self }
+    {
+        match self {
+            Told::Exit(status) => Ok(End::Exit(status)),
+            Told::Undefined(kind) => Ok(End::Undefined(kind)),
+            Told::StepsUsed => Ok(End::StepsUsed),
+            Told::StackLimit => Ok(End::StackLimit),
+            Told::MemoryLimit => Ok(End::MemoryLimit),
+            Told::Failed(fault) => Err(fault),
+        }
+    }
+
+    /// The answer of a step.
+    pub fn step_answer(self) -> Result<Option<End>, RunFault>
+        ensures { result ≡ again (told_seen self) }
+    {
+        match self.answer() {
+            Ok(end) => Ok(Some(end)),
+            Err(fault) => Err(fault),
+        }
+    }
+}
