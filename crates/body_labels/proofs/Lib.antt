@@ -1,0 +1,5 @@
+pub mod Lasting
+pub mod Kept
+pub mod Named
+pub mod Ahead
+pub mod Sound

@@ -1,0 +1,9 @@
+//! The names that a body declares are known ahead of it: they are those that are read.
+//!
+//! It stands on the records of `record_table`. It promises the law that its call names, and has in its proofs what a reader
+//! needs record by record. Definitions: `Bodies` of `record_table`, and `specs/Laws`.
+#![tactic(auto)]
+
+mod laws;
+
+pub use laws::labels_are_those_read;
