@@ -1,0 +1,5 @@
+pub mod Lists
+pub mod Results
+pub mod Sounds
+pub mod Asks
+pub mod Bodies

@@ -1,0 +1,10 @@
+//! That the ends of blocks come to typed actions, and edges give phis leaves of their kinds.
+//!
+//! It stands on the look-up of `run_rules`, the typed runs of `typed_runs` and the instructions of `typed_actions`. It promises that where the
+//! values of an end have the leaves of their types, the phis of all blocks are in order, and each way leads to an instruction, the action of the
+//! end is typed. Definitions: `specs/Asked`; what is promised is in `specs/Laws`.
+#![tactic(auto)]
+
+mod law;
+
+pub use law::ends_are_typed;

@@ -1,0 +1,10 @@
+//! That opening a valid module needs what typed runs begin with.
+//!
+//! It stands on the plan of `run_rules`, the typed runs of `typed_runs`, the places of `run_places` and the constants of `typed_look`. It promises
+//! that of a well-formed, valid module each variable has an alignment, what is stored at first is of the kind of its slot, and main has
+//! the type that it is called with. What is promised is in `specs/Laws`.
+#![tactic(auto)]
+
+mod law;
+
+pub use law::plans_are_typed;
