@@ -13,7 +13,7 @@ use Rattle.module_arena.specs.Names.{block_results, parameter_names}
 use Rattle.module_arena.specs.Same.{same_local}
 use Rattle.module_arena.proofs.SameNames.{same_self}
 use Rattle.run_rules.specs.Constant.{Names, shape_of}
-use Rattle.run_rules.specs.Scope.{Placed, Typed, placed_from, parameters_of, result_shape, result_of, results_of, blocks_of, locals_of, scope_of, place_in}
+use Rattle.run_rules.specs.Scope.{Placed, Typed, placed_from, parameters_of, result_shape, result_of, results_of, blocks_of, locals_of, scope_of, local_in, place_in}
 use Rattle.typed_runs.specs.Kinds.{AreAt, kinds_of}
 use Rattle.typed_runs.proofs.Leaves.{some_same, none_some}
 use Rattle.typed_look.specs.Typings.{frame_kinds}
@@ -111,6 +111,12 @@ module _ (names : Names) where
       mapped_append (λ (x : Typed). x.0) (results_of names b) (flat_map (results_of names) bs)
       ∙ both (map (λ (x : Typed). x.0) (results_of names b)) (block_results b) (map (λ (x : Typed). x.0) (flat_map (results_of names) bs)) (flat_map block_results bs) (instructions_named b.instructions) (blocks_named bs)
 
+  -- where what is found stands
+  found_placed : (f : Function) (name : LocalName) (s : Shape) (l : Placed) → local_in (scope_of names f) name ≡ Some l → l.shape ≡ s → AreAt (frame_kinds names f) (place_in (scope_of names f) (Some name)) (kinds_of s)
+  found_placed f name s l e same =
+      subst (λ (o : Option Placed). AreAt (frame_kinds names f) (option_map_or (λ (l : Placed). l.place) o 0) (kinds_of s)) (sym e)
+      (subst (λ u. AreAt (frame_kinds names f) l.place (kinds_of u)) same (local_at names f name l e))
+
   module _ (f : Function) (distinct : AreDistinct (parameter_names f ++ flat_map with_block (blocks_of f))) where
     locals_distinct : AreDistinct (map (λ (x : Typed). x.0) (locals_of names f))
     locals_distinct =
@@ -130,5 +136,4 @@ module _ (names : Names) where
         let whole = behind_at (parameters_of names f) (flat_map (results_of names) (blocks_of f)) among.0 x among.1 in
         let r = found_there (locals_of names f) 0 whole.0 x locals_distinct whole.1 in
         subst (λ o. AreAt (frame_kinds names f) (place_in (scope_of names f) o) (kinds_of (result_shape names i.operation))) (sym named)
-        (subst (λ (o : Option Placed). AreAt (frame_kinds names f) (option_map_or (λ (l : Placed). l.place) o 0) (kinds_of (result_shape names i.operation))) (sym r.1)
-        (subst (λ s. AreAt (frame_kinds names f) r.0.place (kinds_of s)) r.2 (local_at names f name r.0 r.1)))
+        (found_placed f name (result_shape names i.operation) r.0 r.1 r.2)
