@@ -1,0 +1,3 @@
+mod Paired
+mod Placed
+mod Ended

@@ -1,0 +1,3 @@
+pub mod Suits
+pub mod Pairs
+pub mod Endings
