@@ -1,0 +1,13 @@
+//! What holds of the functions of a checked module.
+ghost use Rattle.run_suits.specs.Laws.{FunctionsHaveValues, PhisSuit};
+
+/// The parameters and results of each function of a well-formed, valid module are values: their types lie in memory and have few leaves,
+/// or are `void`, and indices lead to a part.
+pub fn functions_of_a_checked_module_have_values()
+    ensures { FunctionsHaveValues }
+{}
+
+/// Each phi of a function of a well-formed, valid module is a result of the function, and its entries are values and blocks of it.
+pub fn phis_of_a_checked_module_suit()
+    ensures { PhisSuit }
+{}
