@@ -1,2 +1,3 @@
 pub mod Functions
 pub mod Program
+pub mod Runs
