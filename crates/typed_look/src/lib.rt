@@ -1,7 +1,8 @@
-//! Look-up in a valid module gives what typed runs ask for: so far the callees.
+//! Look-up in a valid module gives what typed runs ask for: the callees.
 //!
 //! It stands on the typed runs of `typed_runs`, and on the validity of `module_arena`. It promises that each address of a
-//! well-formed, valid module has a typed callee. Its `proofs` have constants, locals and operands too, for the actions to come.
+//! well-formed, valid module has a typed callee. Its `proofs` have constants, locals and operands, on which `typed_bodies`
+//! stands.
 //! Definitions: `specs/Typings`; what is promised is in `specs/Laws`.
 #![tactic(auto)]
 
