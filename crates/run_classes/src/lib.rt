@@ -1,0 +1,20 @@
+//! What the flat actions of a body do to frames and to memory, a function for each group of them, with their operands taken from the pools
+//! of the body.
+//!
+//! It stands on the flat actions of `run_flat` and on the classes of `run_actions` and `run_accesses`. It promises that a typed action that
+//! stands at the newest frame makes of frames and memory what the definition of actions says, and that memory is wanted by none but the
+//! actions that may. Calls and returns are not here. Definitions: `specs/Groups`, `specs/May`; `Flat` of `run_flat`.
+#![tactic(auto)]
+
+mod distance;
+mod memory;
+mod operand;
+mod scalars;
+mod values;
+mod ways;
+
+pub use memory::act_on_memory;
+pub use operand::origin;
+pub use scalars::act_on_scalars;
+pub use values::act_on_values;
+pub use ways::act_on_ways;

@@ -1,0 +1,31 @@
+//! Operands from the pools of a body.
+ghost use Rattle.std.specs.Prelude.{◌≡◌, Some, slice_get};
+ghost use Rattle.run_actions.specs.Edges.{way_of};
+ghost use Rattle.run_flat.specs.Flat.{IsEdgeIn, IsLeafIn, edge_at, leaf_of};
+ghost use Rattle.run_stack.specs.Origins.{origin_of};
+
+use run_actions::Edge;
+use run_flat::{LeafAt, Pools};
+use run_stack::Origin;
+
+/// Where a leaf is had from: its place in a frame, or the leaf itself out of the pools.
+#[inline]
+pub fn origin(pools: &Pools, leaf: LeafAt) -> Origin
+    requires { IsLeafIn pools.now leaf }
+    ensures { origin_of result ≡ leaf_of pools.now leaf }
+{
+    match leaf {
+        LeafAt::Held(place) => Origin::Held(place),
+        LeafAt::Known(place) => Origin::Known(*pools.known.at(place)),
+    }
+}
+
+/// The way at a place.
+#[inline]
+pub(crate) fn way(pools: &Pools, place: u32) -> Edge
+    requires { IsEdgeIn pools.now place }
+    ensures there { slice_get pools.now.edges place ≡ Some result }
+    ensures means { way_of pools.now.moves result ≡ edge_at pools.now place }
+{
+    *pools.edges.at(place)
+}
