@@ -1,14 +1,16 @@
 //! A module that is run.
 ghost use Rattle.std.specs.Prelude.{◌≡◌, ◌<◌, IfOk, None, Some, length, replicate, slice_get};
 ghost use Rattle.module_arena.specs.View.{module_of};
+ghost use Rattle.run_names.specs.declared.callee.CalleeRef.TheVariants as callees;
 ghost use Rattle.run_names.specs.Told.{HasCode, alone, callee_seen};
 ghost use Rattle.run_body.specs.Bodies.{Decoded};
 ghost use Rattle.run_rules.specs.Action.{Signature};
 ghost use Rattle.run_rules.specs.Calls.{same_signature};
 ghost use Rattle.run_rules.specs.Look.{table};
 ghost use Rattle.run_signatures.specs.Met.{known};
-ghost use Rattle.run_program.specs.Loaded.{IsBody, IsReady, nothing_ready};
+ghost use Rattle.run_program.specs.Loaded.{HasHead, IsBody, IsReady, Keeps, nothing_ready};
 
+use crate::told::head_of;
 use module_arena::{Checked, Function, FunctionId};
 use run_body::Body;
 use run_names::{CalleeRef, Names};
@@ -115,6 +117,21 @@ impl<'m> Program<'m> {
         ensures { (s t : Signature) → slice_get (known self.now.met) signature ≡ Some s → slice_get (known self.now.met) used ≡ Some t → result ≡ same_signature s t }
     {
         self.signatures.is_same(signature, used)
+    }
+
+    /// What a call asks of a function that has a body. It is refused for want of memory alone, and wants none the second time.
+    pub fn head(&mut self, id: FunctionId) -> Result<Head, AllocError>
+        requires { HasCode self.old.lists (callees.Code id) }
+        ensures head { IfOk result (HasHead self.new id) }
+        ensures keeps { Keeps self.old self.new }
+    {
+        let place = id.number() as usize;
+        if let Some(head) = self.heads[place] {
+            return Ok(head);
+        }
+        let head = head_of(self.alloc, &self.names, &mut self.signatures, id)?;
+        self.heads[place] = Some(head);
+        Ok(head)
     }
 
     /// The body of a function that was entered.

@@ -1,0 +1,56 @@
+-- What is told of a function, and that it stays with a program.
+use Rattle.std.proofs.Common.{◌≡◌, ℕ, ◌<◌, true, List, set, length, map, Option, Some, refl, sym, ap, ◌∙◌, subst, arith}
+use Rattle.std.specs.Prelude.{slice_get}
+use Rattle.std.proofs.lemmas.Option.{same_Some, slice_get_within}
+use Rattle.module_arena.specs.declared.entry.Function.{Function}
+use Rattle.module_arena.specs.declared.entry.Parameter.{Parameter}
+use Rattle.module_arena.specs.Lists.{Lists}
+use Rattle.module_arena.specs.Valid.{IsValid}
+use Rattle.module_arena.specs.View.{module_of}
+use Rattle.module_arena.specs.WellFormed.{IsWellFormed}
+use Rattle.run_body.specs.Bodies.{Decoded}
+use Rattle.run_constants.specs.Sound.{names_of}
+use Rattle.run_names.specs.declared.callee.CalleeRef.TheVariants as callees
+use Rattle.run_names.specs.Standings.{has_code}
+use Rattle.run_names.specs.Told.{HasCode}
+use Rattle.run_rules.specs.Calls as calls
+use Rattle.run_rules.specs.Scope.{leaf_count}
+use Rattle.run_scopes.specs.Scopes.{function_of}
+use Rattle.run_signatures.specs.Met.{Met, known, written_as}
+use Rattle.run_signatures.specs.Numbers.{Numbers}
+use Rattle.run_program.specs.declared.program.Head.{Head}
+use Rattle.run_program.specs.Loaded.{IsHead, IsLoaded, Loaded}
+use Rattle.run_program.proofs.Growing.{loaded_grown, loaded_head}
+use Rattle.run_program.proofs.Heads.{head_is}
+
+-- the function that has a body is the one that is found
+pub code_of_found : (a : Lists) (id : ℕ) (f : Function) → HasCode a (callees.Code id) → slice_get a.functions id ≡ Some f → has_code f ≡ true
+code_of_found a id f code at = subst (λ (g : Function). has_code g ≡ true) (same_Some code.0 f (sym code.1 ∙ at)) code.2
+
+-- its number, and how many leaves it has
+pub head_made : (a : Lists) → IsWellFormed (module_of a) → IsValid (module_of a) → (id : ℕ) (f : Function) → slice_get a.functions id ≡ Some f → has_code f ≡ true → (met : Met) (lists : Lists) (types : List ℕ) (h : Head)
+    → lists ≡ a → types ≡ map (λ (p : Parameter). p.ty) f.parameters → slice_get (known met) h.signature ≡ Some (written_as lists f.result types f.variadic) → h.leaves ≡ leaf_count (names_of a) (function_of a f) → IsHead a met id h
+head_made a well_formed valid id f at code met lists types h same typed number leaves = record {
+  function = f;
+  there = at;
+  signature = written_as a f.result (map (λ (p : Parameter). p.ty) f.parameters) f.variadic;
+  written = refl;
+  number = number ∙ (λ i. Some (written_as (same i) f.result (typed i) f.variadic));
+  callee = head_is a well_formed valid id f at code ∙ ap (calls.Code id (written_as a f.result (map (λ (p : Parameter). p.ty) f.parameters) f.variadic)) (sym leaves);
+}
+
+module _ (p : Loaded) (a : Lists) (met : Met) (told : List (Option Head)) (decoded : List (Option Decoded)) (is : ◌≡◌ {A = Loaded} (record { lists = a; met = met; bodies = decoded }) p) (loaded : IsLoaded a met told decoded) where
+  -- a function of the program has its places
+  pub code_here : (id : ℕ) → HasCode p.lists (callees.Code id) → HasCode a (callees.Code id)
+  code_here id h = subst (λ (x : Loaded). HasCode x.lists (callees.Code id)) (sym is) h
+
+  pub head_place : (id : ℕ) → HasCode p.lists (callees.Code id) → id < length told
+  head_place id h =
+      let code = code_here id h in
+      let lt = slice_get_within a.functions id code.0 code.1 in
+      let many = loaded.heads_count in
+      omega (arith, lt, many)
+
+  -- a head is put in its place
+  pub loaded_with : (new : Met) → Numbers met new → (id : ℕ) (h : Head) → IsHead a new id h → IsLoaded a new (set told id (Some h)) decoded
+  loaded_with new numbers id h made = loaded_head a new told decoded (loaded_grown a met new numbers told decoded loaded) id h made

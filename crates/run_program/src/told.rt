@@ -1,0 +1,49 @@
+//! What a call asks of a function.
+ghost use Rattle.std.specs.Prelude.{◌≡◌, IfOk, map};
+ghost use Rattle.run_names.specs.declared.callee.CalleeRef.TheVariants as callees;
+ghost use Rattle.run_names.specs.Told.{HasCode};
+ghost use Rattle.run_program.specs.Loaded.{IsHead};
+ghost use Rattle.run_signatures.specs.Numbers.{Numbers};
+
+use crate::leaves::leaf_count;
+use crate::program::Head;
+use module_arena::{Function, FunctionId};
+use run_names::Names;
+use run_signatures::Signatures;
+use run_suits::functions_of_a_checked_module_have_values;
+use std::alloc::{AllocError, Global};
+use type_table::TypeId;
+
+/// The types of the parameters of a function.
+fn parameter_types(alloc: Global, function: &Function) -> Result<Vec<TypeId>, AllocError>
+    ensures { IfOk result (λ types. types.items ≡ map (λ p. p.ty) function.now.parameters) }
+{
+    let mut types = Vec::new(alloc);
+    'parameters: for parameter in function.parameters.as_slice() {
+        types.push(parameter.ty)?;
+    }
+    Ok(types)
+}
+
+/// What a call asks of a function that has a body. Its function type gets a number, if no function type of its shape has one.
+pub(crate) fn head_of(
+    alloc: Global,
+    names: &Names<'_>,
+    signatures: &mut Signatures<'_>,
+    id: FunctionId,
+) -> Result<Head, AllocError>
+    requires code { HasCode names.now (callees.Code id) }
+    requires lists { signatures.old.lists ≡ names.now }
+    ensures head { IfOk result (IsHead names.now signatures.new id) }
+    ensures numbers { Numbers signatures.old signatures.new }
+{
+    let arena = names.program().arena();
+    // The ids in an arena are those of the arena, and in a checked one each function has values.
+    let _count = arena.variable_count();
+    functions_of_a_checked_module_have_values();
+    let function = arena.function(id);
+    let leaves = leaf_count(arena, function)?;
+    let parameters = parameter_types(alloc, function)?;
+    let signature = signatures.number(function.result, &parameters, function.variadic)?;
+    Ok(Head { signature, leaves })
+}
