@@ -1,0 +1,124 @@
+-- What is stored part by part.
+use Rattle.std.proofs.Common.{◌≡◌, ℕ, zero, suc, ◌+◌, ◌-◌, ◌*◌, ◌<◌, ◌≤◌, List, [], ◌∷◌, ◌++◌, length, drop, get_or, Bool, true, false, not, cond, Result, Ok, Err, OnOk, refl, sym, ap, ◌∙◌, arith}
+use Rattle.std.proofs.lemmas.List.{at_drop_more, at_drop_all, map-append}
+use Rattle.ir_tables.specs.declared.undefined_kind.UndefinedKind.{UndefinedKind}
+use Rattle.ir_eval.specs.declared.value.Pointer.{Pointer}
+use Rattle.ir_eval.specs.declared.value.Scalar.TheVariants.{Int, Ptr}
+use Rattle.ir_memory.specs.declared.leaf.Leaf.TheVariants as leaf
+use Rattle.ir_memory.specs.Answer.{Keeps}
+use Rattle.ir_memory.specs.Memory.{Blocks, stored}
+use Rattle.module_arena.specs.Module.{Constant, Constants, more_constants}
+use Rattle.type_table.specs.Layout.{align, placed, size}
+use Rattle.type_table.specs.Shape.{Shape, Shapes, no_shapes, more_shapes}
+use Rattle.type_table.specs.Tree.{Tree}
+use Rattle.run_rules.specs.Access.{and_then, behind, stored_slots}
+use Rattle.run_rules.specs.Constant.{Names, shape_of}
+use Rattle.run_rules.specs.Leaves.{Slot, field_slots, repeated, slots_at}
+use Rattle.run_rules.specs.Plan.{Contents}
+use Rattle.run_initial.specs.Constants.{bytes_at, parts_at, value_at}
+use Rattle.run_initial.specs.declared.filled.Fill.{Fill}
+use Rattle.run_initial.specs.Fresh.{filled, is_fresh, leaf_in, put, to_store}
+
+-- what adds no block twice adds none
+pub kept_on : (m n o : Blocks) → Keeps m n → Keeps n o → Keeps m o
+kept_on m n o h k = (k.0 ∙ h.0, k.1 ∙ h.1)
+
+-- ---- two parts
+
+pub to_store_both : (xs ys : Contents) → to_store (xs ++ ys) ≡ to_store xs ++ to_store ys
+to_store_both [] ys = refl
+to_store_both (x ∷ xs) ys = go (not (is_fresh x.1)) (to_store_both xs ys)
+  where
+    go : (b : Bool) → to_store (xs ++ ys) ≡ to_store xs ++ to_store ys → cond b (x ∷ to_store (xs ++ ys)) (to_store (xs ++ ys)) ≡ cond b (x ∷ to_store xs) (to_store xs) ++ to_store ys
+    go true e = ap (λ (l : Contents). x ∷ l) e
+    go false e = e
+
+stored_both : (p : Pointer) (xs ys : Contents) (m : Blocks) → stored_slots p 1 (xs ++ ys) m ≡ and_then (stored_slots p 1 xs m) (λ n. stored_slots p 1 ys n)
+stored_both p [] ys m = refl
+stored_both p (x ∷ xs) ys m = go (stored (Ptr (behind p x.0.offset)) x.0.leaf 1 x.1 m) (stored_both p xs ys)
+  where
+    go : (r : Result Blocks UndefinedKind) → ((n : Blocks) → stored_slots p 1 (xs ++ ys) n ≡ and_then (stored_slots p 1 xs n) (λ o. stored_slots p 1 ys o))
+        → and_then r (λ n. stored_slots p 1 (xs ++ ys) n) ≡ and_then (and_then r (λ n. stored_slots p 1 xs n)) (λ o. stored_slots p 1 ys o)
+    go (Ok n) more = more n
+    go (Err e) more = refl
+
+-- of two parts the first is stored, and then the second
+pub put_both : (p : Pointer) (xs ys : Contents) (m n : Blocks) → put p xs m ≡ Ok n → put p (xs ++ ys) m ≡ put p ys n
+put_both p xs ys m n e =
+    ap (λ (l : Contents). stored_slots p 1 l m) (to_store_both xs ys)
+    ∙ stored_both p (to_store xs) (to_store ys) m
+    ∙ ap (λ (r : Result Blocks UndefinedKind). and_then r (λ o. stored_slots p 1 (to_store ys) o)) e
+
+-- a part more: what is left completes the whole
+pub part_more : (p : Pointer) (xs ys whole : Contents) (m n : Blocks) (all : Result Blocks UndefinedKind) → whole ≡ xs ++ ys → put p whole m ≡ all → put p xs m ≡ Ok n → put p ys n ≡ all
+part_more p xs ys whole m n all is before e = sym (put_both p xs ys m n e) ∙ ap (λ (l : Contents). put p l m) (sym is) ∙ before
+
+-- nothing is left
+pub part_end : (p : Pointer) (whole : Contents) (m : Blocks) (all : Result Blocks UndefinedKind) → whole ≡ [] → put p whole m ≡ all → all ≡ Ok m
+part_end p whole m all is before = sym before ∙ ap (λ (l : Contents). put p l m) is
+
+-- nothing is to be stored
+pub none_put : (p : Pointer) (xs : Contents) (m : Blocks) → to_store xs ≡ [] → put p xs m ≡ Ok m
+none_put p xs m e = ap (λ (l : Contents). stored_slots p 1 l m) e
+
+-- the same in other words
+pub reworded : {E : Type 0} (r : Result (Unit {0}) E) (p : Pointer) (xs ys : Contents) (m n : Blocks) → OnOk r (put p xs m ≡ Ok n) → xs ≡ ys → OnOk r (put p ys m ≡ Ok n)
+reworded (Ok u) p xs ys m n e same = ap (λ (l : Contents). put p l m) (sym same) ∙ e
+reworded (Err e) p xs ys m n h same = tt
+
+-- ---- elements and fields that are filled alike
+
+repeated_next : (k n : ℕ) (element : ℕ → List Slot) (at step : ℕ) → k ≡ suc n → repeated k element at step ≡ element at ++ repeated n element (at + step) step
+unfolding repeated
+repeated_next zero n element at step e = absurd (omega (arith, e))
+repeated_next (suc k) n element at step e = let same : k ≡ n = omega (arith, e) in ap (λ (m : ℕ). element at ++ repeated m element (at + step) step) same
+
+repeated_none : (n : ℕ) (element : ℕ → List Slot) (at step : ℕ) → n ≡ 0 → repeated n element at step ≡ []
+unfolding repeated
+repeated_none zero element at step e = refl
+repeated_none (suc n) element at step e = absurd (omega (arith, e))
+
+module _ (fill : Fill) where
+  filled_both : (ss us : List Slot) → filled fill (ss ++ us) ≡ filled fill ss ++ filled fill us
+  filled_both ss us = map-append (λ (s : Slot). (s, leaf_in fill s.leaf)) ss us
+
+  pub elements_next : (n place at step : ℕ) (element : ℕ → List Slot) → place < n
+      → filled fill (repeated (n - place) element (at + place * step) step) ≡ filled fill (element (at + place * step)) ++ filled fill (repeated (n - (place + 1)) element (at + (place + 1) * step) step)
+  elements_next n place at step element lt =
+      let left : n - place ≡ suc (n - (place + 1)) = omega (arith, lt) in
+      let further : at + place * step + step ≡ at + (place + 1) * step = omega arith in
+      ap (filled fill) (repeated_next (n - place) (n - (place + 1)) element (at + place * step) step left ∙ ap (λ (k : ℕ). element (at + place * step) ++ repeated (n - (place + 1)) element k step) further)
+      ∙ filled_both (element (at + place * step)) (repeated (n - (place + 1)) element (at + (place + 1) * step) step)
+
+  pub elements_none : (n place at step : ℕ) (element : ℕ → List Slot) → n ≤ place → filled fill (repeated (n - place) element at step) ≡ []
+  elements_none n place at step element le = let none : n - place ≡ 0 = omega (arith, le) in ap (filled fill) (repeated_none (n - place) element at step none)
+
+  pub fields_next : (s : Shape) (ss us : Shapes) (packed : Bool) (at end start : ℕ) → us ≡ more_shapes s ss → start ≡ placed packed end (align s)
+      → filled fill (field_slots us packed at end) ≡ filled fill (slots_at s (at + start)) ++ filled fill (field_slots ss packed at (start + size s))
+  fields_next s ss us packed at end start from is =
+      ap (λ (x : Shapes). filled fill (field_slots x packed at end)) from
+      ∙ ap (λ (k : ℕ). filled fill (slots_at s (at + k) ++ field_slots ss packed at (k + size s))) (sym is)
+      ∙ filled_both (slots_at s (at + start)) (field_slots ss packed at (start + size s))
+
+  pub fields_none : (us : Shapes) (packed : Bool) (at end : ℕ) → us ≡ no_shapes → filled fill (field_slots us packed at end) ≡ []
+  fields_none us packed at end none = ap (λ (x : Shapes). filled fill (field_slots x packed at end)) none
+
+-- ---- bytes
+
+pub bytes_next : (bytes : List ℕ) (place at : ℕ) (b : ℕ) → place < length bytes → b ≡ get_or bytes place b
+    → bytes_at (at + place) (drop place bytes) ≡ ((record { offset = at + place; leaf = leaf.Int 8 }, Int b) ∷ []) ++ bytes_at (at + (place + 1)) (drop (place + 1) bytes)
+bytes_next bytes place at b lt is =
+    at_drop_more (bytes_at (at + place)) bytes place b lt
+    ∙ ap (λ (x : ℕ). bytes_at (at + place) (x ∷ drop (place + 1) bytes)) (sym is)
+    ∙ (let further : at + place + 1 ≡ at + (place + 1) = omega arith in ap (λ (k : ℕ). (record { offset = at + place; leaf = leaf.Int 8 }, Int b) ∷ bytes_at k (drop (place + 1) bytes)) further)
+
+pub bytes_none : (bytes : List ℕ) (place at : ℕ) → length bytes ≤ place → bytes_at (at + place) (drop place bytes) ≡ []
+bytes_none bytes place at le = at_drop_all (bytes_at (at + place)) bytes place le
+
+-- ---- parts of a constant
+
+pub parts_next : (names : Names) (t : Tree) (c : Constant) (cs us : Constants) (packed : Bool) (at end start : ℕ) → us ≡ more_constants t c cs → start ≡ placed packed end (align (shape_of names t))
+    → parts_at names packed at end us ≡ value_at names t c (at + start) ++ parts_at names packed at (start + size (shape_of names t)) cs
+parts_next names t c cs us packed at end start from is =
+    ap (parts_at names packed at end) from
+    ∙ ap (λ (k : ℕ). value_at names t c (at + k) ++ parts_at names packed at (k + size (shape_of names t)) cs) (sym is)

@@ -1,0 +1,63 @@
+//! Where a value is put, and one leaf of it.
+ghost use Rattle.std.specs.Prelude.{◌≡◌, ◌+◌, ◌<◌, ◌^◌, ◌∷◌, [], OnOk, length};
+ghost use Rattle.ir_memory.specs.Answer.{Keeps};
+ghost use Rattle.ir_memory.specs.Given.{IsKnown, IsLeaf};
+ghost use Rattle.typed_runs.specs.Kinds.{IsOf};
+ghost use Rattle.run_initial.specs.Fresh.{Puts, is_fresh};
+
+use ir_eval::{Pointer, Scalar};
+use ir_memory::{Leaf, Memory};
+use run_values::{Slot, store_leaf};
+use std::alloc::AllocError;
+
+/// Where a value is put: its block, and how far behind the block's start, in bytes.
+#[derive(Clone, Copy)]
+pub struct Target {
+    pub block: Pointer,
+    pub offset: u64,
+}
+
+/// So many bytes further on.
+pub(crate) fn further(target: Target, distance: u64) -> Target
+    requires { target.offset + distance < 2 ^ 64 }
+    ensures { result ≡ record target { offset = target.offset + distance } }
+{
+    Target {
+        block: target.block,
+        offset: target.offset + distance,
+    }
+}
+
+/// Whether fresh memory reads as a leaf: an integer that is 0.
+fn is_fresh(value: Scalar) -> bool
+    ensures { result ≡ is_fresh value }
+{
+    match value {
+        Scalar::Int(number) => number == 0,
+        Scalar::Ptr(_) => false,
+        Scalar::Poison => false,
+    }
+}
+
+/// Stores a leaf, unless fresh memory reads as it; it is aligned to a byte. It is refused for want of memory alone.
+pub fn put_leaf(
+    memory: &mut Memory,
+    target: Target,
+    kind: Leaf,
+    value: Scalar,
+) -> Result<(), AllocError>
+    requires block { IsKnown memory.old.list target.block }
+    requires kind { IsLeaf kind }
+    requires value { IsOf (length memory.old.list) kind value }
+    ensures put { OnOk result (Puts target.block ((record { offset = target.offset; leaf = kind }, value) ∷ []) memory.old memory.new) }
+    ensures kept { Keeps memory.old memory.new }
+{
+    if is_fresh(value) {
+        return Ok(());
+    }
+    let slot = Slot::new(target.offset, kind);
+    match store_leaf(memory, Scalar::Ptr(target.block), 1, slot, value) {
+        Ok(()) => Ok(()),
+        Err(_) => Err(AllocError),
+    }
+}
