@@ -8,3 +8,4 @@ pub mod Outcomes
 pub mod Judging
 pub mod Order
 pub mod Verdicts
+pub mod Headline

@@ -50,7 +50,7 @@ unfolding analyzes
 analyzes_is words command read = ap is_analysis_behind read.is
 
 -- words are read as one command
-same_command : (words : List (List ℕ)) (one other : Command) → IsReadAs words one → IsReadAs words other → one ≡ other
+pub same_command : (words : List (List ℕ)) (one other : Command) → IsReadAs words one → IsReadAs words other → one ≡ other
 same_command words one other r s = (let e = r.is in let f = s.is in cc)
 
 given_ok : (given : Result (List (List ℕ)) Ended) (i f : Type 0) (texts : List (List ℕ)) → (Ok texts ≡ given) ⊎ IsErrAnd {T = List (List ℕ)} (Ok texts) (GaveUp i f) → Ok texts ≡ given

@@ -7,3 +7,4 @@ pub mod Told
 pub mod Reads
 pub mod Order
 pub mod Analyzed
+pub mod Headline

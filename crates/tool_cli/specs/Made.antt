@@ -19,6 +19,7 @@ use Rattle.tool_output.specs.declared.format.OutputFormat.TheVariants.{Canonical
 use Rattle.module_arena.specs.Functions.{first_too_large}
 use Rattle.module_arena.specs.Module.{Module}
 use Rattle.module_arena.specs.Valid.{IsValid}
+use Rattle.module_arena.specs.WellFormed.{IsWellFormed}
 use Rattle.name_rules.specs.Reads.{Reads}
 use Rattle.tool_cli.specs.Judged.{is_bitcode}
 
@@ -43,12 +44,15 @@ AreParts [] [] = Unit {0}
 AreParts (bytes ∷ texts) (m ∷ ms) = IsPart bytes m × AreParts texts ms
 AreParts texts ms = ⊥
 
--- The module that parts are linked to: they have no conflict, no count is past its limit, and it runs as they do side by side: for all
--- arguments, inputs and bounds on steps it prints the same bytes and ends the same way.
+-- The module that parts are linked to: they have no conflict, and no count is past its limit. It is well formed and valid, no function of it is too
+-- large, and it runs as they do side by side: for all arguments, inputs and bounds on steps it prints the same bytes and ends the same way.
 pub record IsLinked (parts : List Module) (m : Module) : Type 0 where
   pub agree : first_conflict parts ≡ None
   pub few : too_many parts ≡ None
   pub made : m ≡ link_result parts
+  pub well_formed : IsWellFormed m
+  pub valid : IsValid m
+  pub sized : first_too_large m ≡ None
   pub runs : RunAlike (m ∷ []) parts
 
 -- the inputs stand for parts that are linked to this module

@@ -85,7 +85,11 @@ fn linked(alloc: Global, names: &[Text], texts: &[Text]) -> Result<Checked, Ende
         return Err(Ended::NotBuilt);
     };
     match module_link::link(alloc, parts) {
-        Ok(whole) => Ok(whole),
+        Ok(whole) => {
+            // It is well formed and valid, as each module is that was checked.
+            let _arena = whole.arena();
+            Ok(whole)
+        }
         Err(fault) => Err(link_refusal(alloc, names, fault)),
     }
 }

@@ -14,11 +14,15 @@ ghost use Rattle.tool_cli.specs.Order.{has_file, KeepsOrder};
 ghost use Rattle.tool_cli.specs.Analyzed.{analyzes, IsBeforeWork};
 ghost use Rattle.tool_cli.specs.Output.{output_named, IsUnwritten, IsUnwrittenOrMemory, IsFileUnwritten, IsShown, LeavesFilesBut, LeavesStandard, LeavesNamed};
 ghost use Rattle.tool_cli.specs.Told.{IsTold, IsAfterReading};
+ghost use Rattle.tool_cli.specs.Headline.{RunsLinked};
 
 use crate::inputs::{inputs_of, read_inputs};
 use crate::work::work;
+use canon_reads::canon_is_read_back;
 use command_line::{WordsFault, read_words};
 use ir_base::{Files, Sink, Source, Text};
+use name_rules::one_module;
+use spelled_alone::modules_are_spelled_alone;
 use std::alloc::Global;
 use tool_ends::{Ended, Report, status_of, tell};
 
@@ -117,10 +121,19 @@ pub fn run_tool<F: Files, I: Source, O: Sink, E: Sink>(
     ensures shown { (held : Named) (stdin : List ℕ)
         → TellsAll (inputs_named words.now) (F.contents files.old) (I.left input.old) held stdin
         → IsShown words.now held stdin (outputs (O.taken output.old) (F.contents files.old)) (outputs (O.taken output.new) (F.contents files.new)) result.ended }
+    // The headline: what is linked runs as its parts do, never merged, or their conflict is told.
+    ensures headline { (held : Named) (stdin : List ℕ)
+        → TellsAll (inputs_named words.now) (F.contents files.old) (I.left input.old) held stdin
+        → RunsLinked words.now held stdin (outputs (O.taken output.old) (F.contents files.old)) (outputs (O.taken output.new) (F.contents files.new)) result.ended
+            (Stopped (output_named words.now) (Rose (I.faults input.old) (I.faults input.new)) (Rose (F.read_faults files.old) (F.read_faults files.new)) (Rose (O.faults output.old) (O.faults output.new)) (Rose (F.write_faults files.old) (F.write_faults files.new)) result.ended) }
     ensures unwritten { analyzes words.now ≡ false → LeavesStandard (output_named words.now) result.ended → output.new ≡ output.old }
     ensures before_work { IsBeforeWork result.ended → output.new ≡ output.old }
     ensures errors { Wrote (E.taken errors.old) (E.taken errors.new) (E.faults errors.old) (E.faults errors.new) (line_of words.now result.ended) }
 {
+    // A text stands for one module, and so does what is written of a module.
+    one_module();
+    canon_is_read_back();
+    modules_are_spelled_alone();
     let ended = ended_of(alloc, words, files, input, output);
     tell(errors, words, &ended);
     Report {

@@ -1,0 +1,171 @@
+-- What is linked runs as its parts: from what is told of a run, and what is shown.
+use Rattle.std.proofs.Common.{◌≡◌, ◌⊎◌, inl, inr, ◌<◌, ◌^◌, ℕ, Bool, true, false, List, [], ◌∷◌, Option, Some, None, Result, Ok, refl, sym, ap, ◌∙◌, subst, true≢false}
+use Rattle.std.specs.Bool.{MatchBool}
+use Rattle.std.specs.List.{AllByRecursion}
+use Rattle.std.specs.Option.{option_map}
+use Rattle.ir_base.specs.Files.{Named}
+use Rattle.ir_syntax.proofs.Refusals.{refused_bad}
+use Rattle.ir_syntax.proofs.Results.{items_not_bad, one_items}
+use Rattle.canon_reads.specs.Laws.{IsReadBack}
+use Rattle.command_line.specs.declared.command.Command.{Command}
+use Rattle.command_line.specs.declared.command.Command.TheVariants.{Link}
+use Rattle.command_line.specs.declared.command.OutputName.{OutputName}
+use Rattle.linkage_rules.specs.Conflicts.{FoundConflict, first_conflict}
+use Rattle.module_arena.specs.EntityView.{entity_view}
+use Rattle.module_arena.specs.Functions.{first_too_large}
+use Rattle.module_arena.specs.Module.{Module}
+use Rattle.module_arena.specs.Valid.{AllHold, Demand, Entity, IsFirstOf, IsValid, demands}
+use Rattle.module_arena.specs.WellFormed.{IsWellFormed}
+use Rattle.module_linker.specs.Counts.{Count, too_many}
+use Rattle.name_rules.specs.Breaks.{first_break}
+use Rattle.name_rules.specs.Laws.{ReadsOnce}
+use Rattle.name_rules.specs.ModuleOf.{module_of_items}
+use Rattle.name_rules.specs.Reads.{Reads}
+use Rattle.path_verify.specs.Verified.{told_of}
+use Rattle.run_rules.specs.Same.{RunAlike}
+use Rattle.spelled_alone.specs.Laws.{ModulesAreSpelledAlone}
+use Rattle.type_verify.specs.declared.fault.VerifyFault.{VerifyFault}
+use Rattle.type_verify.specs.declared.fault.VerifyFault.TheVariants as verdicts
+use Rattle.tool_ends.specs.declared.ended.Ended.{Ended}
+use Rattle.tool_ends.specs.declared.ended.Ended.TheVariants as ends
+use Rattle.tool_output.specs.Outputs.{Outputs}
+use Rattle.tool_output.specs.Written.{written}
+use Rattle.tool_output.specs.declared.format.OutputFormat.{OutputFormat}
+use Rattle.tool_output.specs.declared.format.OutputFormat.TheVariants.{CanonicalText, Bitcode}
+use Rattle.tool_cli.specs.Headline.{StandForOne, RunsAsParts, Links, ComesTo, RunsLinked}
+use Rattle.tool_cli.specs.Inputs.{inputs_of, texts_read}
+use Rattle.tool_cli.specs.Judged.{is_bitcode, IsFirstRefusal, IsPartRefused, IsTextRefused, IsVerdict}
+use Rattle.tool_cli.specs.Made.{AreParts, IsPart, format_of}
+use Rattle.tool_cli.specs.Output.{IsShown, IsWritten, IsWrittenOf}
+use Rattle.tool_cli.specs.Told.{EndsByParts, IsLinking, IsOutcome, IsTold, has_bitcode, link_end}
+use Rattle.tool_cli.proofs.Outcomes.{same_command}
+
+none_some : {A : Type 0} {x : A} → None ≡ Some x → ⊥
+none_some e = absurd cc
+
+-- ---- parts
+
+one_by : (bitcode : Bool) (R S Q : Type 0) → (R → S → Q) → MatchBool bitcode ⊥ R → MatchBool bitcode ⊥ S → Q
+one_by true R S Q from r s = absurd r
+one_by false R S Q from r s = from r s
+
+second_by : (bitcode : Bool) (P Q : Type 0) → bitcode ≡ false → MatchBool bitcode P Q → Q
+second_by true P Q e h = absurd (true≢false e)
+second_by false P Q e h = h
+
+not_bitcode : (bitcode : Bool) (R : Type 0) → MatchBool bitcode ⊥ R → bitcode ≡ false
+not_bitcode true R r = absurd r
+not_bitcode false R r = refl
+
+-- among demands that all hold none is the first that does not
+not_first : (ds : List Demand) (entity : Entity) (rule : ℕ) → AllHold ds → IsFirstOf ds entity rule → ⊥
+not_first [] entity rule all first = absurd first
+not_first (d ∷ ds) entity rule all (inl no) = no.0 all.0
+not_first (d ∷ ds) entity rule all (inr later) = not_first ds entity rule all.1 later.1
+
+-- a module that is accepted is not refused
+unjudged : (m : Module) (fault : VerifyFault) → first_too_large m ≡ None → IsValid m → IsVerdict m fault → ⊥
+unjudged m verdicts.Memory sized valid refused = absurd refused
+unjudged m (verdicts.FunctionTooLarge name size) sized valid refused = none_some (sym (ap (option_map told_of) sized) ∙ refused)
+unjudged m (verdicts.Invalid rule entity) sized valid refused = not_first (demands m) (entity_view entity) rule valid refused.1
+
+-- nor is its text
+unrefused_text : (name text : List ℕ) (m : Module) (ended : Ended) → first_too_large m ≡ None → IsValid m → Reads text m → IsTextRefused name text ended → ⊥
+unrefused_text name text m ended sized valid reads (inl none) =
+    let bad = refused_bad text none.fault none.refused in
+    items_not_bad text reads.items bad.0 reads.has_items bad.1
+unrefused_text name text m ended sized valid reads (inr (inl none)) =
+    let same = one_items text reads.items none.items reads.has_items none.has_items in
+    none_some (sym reads.resolves.unbroken ∙ ap first_break (sym same) ∙ none.breaks)
+unrefused_text name text m ended sized valid reads (inr (inr bad)) =
+    let same : bad.meant ≡ m = bad.resolves.joined ∙ ap module_of_items (one_items text reads.items bad.items reads.has_items bad.has_items) ∙ sym reads.resolves.joined in
+    unjudged m bad.fault sized valid (subst (λ (n : Module). IsVerdict n bad.fault) same bad.refused)
+
+-- nor is an input that stands for it
+unrefused : (name text : List ℕ) (m : Module) (ended : Ended) → IsPart text m → IsPartRefused name text ended → ⊥
+unrefused name text m ended is refused =
+    one_by (is_bitcode text) (Reads text m) (IsTextRefused name text ended) ⊥ (λ reads bad. unrefused_text name text m ended is.sized is.valid reads bad) is.stands refused
+
+none_refused : (names texts : List (List ℕ)) (parts : List Module) (ended : Ended) → AreParts texts parts → IsFirstRefusal names texts ended → ⊥
+none_refused [] [] parts ended are refused = absurd refused
+none_refused [] (text ∷ texts) parts ended are refused = absurd refused
+none_refused (name ∷ names) [] parts ended are refused = absurd refused
+none_refused (name ∷ names) (text ∷ texts) [] ended are refused = absurd are
+none_refused (name ∷ names) (text ∷ texts) (m ∷ parts) ended are (inl bad) = unrefused name text m ended are.0 bad
+none_refused (name ∷ names) (text ∷ texts) (m ∷ parts) ended are (inr later) = none_refused names texts parts ended are.1 later.1
+
+no_bitcode_in : (texts : List (List ℕ)) (parts : List Module) → AreParts texts parts → has_bitcode texts ≡ false
+no_bitcode_in [] parts are = refl
+no_bitcode_in (text ∷ texts) [] are = absurd are
+no_bitcode_in (text ∷ texts) (m ∷ parts) are = rw (not_bitcode (is_bitcode text) (Reads text m) are.0.stands, no_bitcode_in texts parts are.1) refl
+
+-- inputs stand for their parts alone
+same_parts : ReadsOnce → (texts : List (List ℕ)) (ps qs : List Module) → AreParts texts ps → AreParts texts qs → ps ≡ qs
+same_parts once [] [] [] are others = refl
+same_parts once [] [] (q ∷ qs) are others = absurd others
+same_parts once [] (p ∷ ps) qs are others = absurd are
+same_parts once (text ∷ texts) [] qs are others = absurd are
+same_parts once (text ∷ texts) (p ∷ ps) [] are others = absurd others
+same_parts once (text ∷ texts) (p ∷ ps) (q ∷ qs) are others =
+    let head : p ≡ q = one_by (is_bitcode text) (Reads text p) (Reads text q) (p ≡ q) (λ r s. once text p q r s) are.0.stands others.0.stands in
+    let tail : ps ≡ qs = same_parts once texts ps qs are.1 others.1 in
+    ap (λ (x : Module). x ∷ ps) head ∙ ap (λ (xs : List Module). q ∷ xs) tail
+
+-- of no part a function is too large
+pub all_sized : (texts : List (List ℕ)) (parts : List Module) → AreParts texts parts → AllByRecursion (λ m. first_too_large m ≡ None) parts
+all_sized [] [] are = tt
+all_sized [] (m ∷ parts) are = absurd are
+all_sized (text ∷ texts) [] are = absurd are
+all_sized (text ∷ texts) (m ∷ parts) are = (are.0.sized, all_sized texts parts are.1)
+
+-- ---- what is put
+
+-- what is written of a module that is well formed and valid stands for it alone
+stand_for_one : IsReadBack → ModulesAreSpelledAlone → (format : OutputFormat) (m : Module) → IsWellFormed m → IsValid m → StandForOne format (written format m) m
+unfolding written
+stand_for_one back alone CanonicalText m good valid = back m (record { well_formed = good; valid = valid })
+stand_for_one back alone Bitcode m good valid = λ few. alone m good valid few
+
+module _ (once : ReadsOnce) (back : IsReadBack) (alone : ModulesAreSpelledAlone) where
+  -- where parts are linked, what is put runs as they do
+  put_runs : (inputs texts : List (List ℕ)) (output : OutputName) (text : Bool) (parts : List Module) (before now : Outputs) → AreParts texts parts → IsWritten (Link inputs output text) texts before now ends.Ok → RunsAsParts parts output (format_of text) before now
+  put_runs inputs texts output text parts before now are wrote =
+      let m = wrote.1.0 in
+      let links = wrote.1.1 in
+      let same : links.parts ≡ parts = same_parts once texts links.parts parts links.are_parts are in
+      record {
+        whole = m;
+        well_formed = links.linked.well_formed;
+        valid = links.linked.valid;
+        sized = links.linked.sized;
+        runs = subst (λ (ps : List Module). RunAlike (m ∷ []) ps) same links.linked.runs;
+        bytes = wrote.0;
+        stand = subst (λ (bytes : List ℕ). StandForOne (format_of text) bytes m) (sym wrote.1.2) (stand_for_one back alone (format_of text) m links.linked.well_formed links.linked.valid);
+        put = wrote.2;
+      }
+
+  comes_by : (inputs texts : List (List ℕ)) (output : OutputName) (text : Bool) (parts : List Module) (conflict : Option FoundConflict) (count : Option Count) (before now : Outputs) (ended : Ended) → AreParts texts parts → ended ≡ link_end inputs conflict count → IsWritten (Link inputs output text) texts before now ended → ComesTo inputs parts output (format_of text) conflict count before now ended
+  comes_by inputs texts output text parts (Some conflict) count before now ended are told wrote =
+      (told, subst (λ (e : Ended). IsWritten (Link inputs output text) texts before now e) told wrote)
+  comes_by inputs texts output text parts None (Some count) before now ended are told wrote =
+      (told, subst (λ (e : Ended). IsWritten (Link inputs output text) texts before now e) told wrote)
+  comes_by inputs texts output text parts None None before now ended are told wrote =
+      (told, put_runs inputs texts output text parts before now are (subst (λ (e : Ended). IsWritten (Link inputs output text) texts before now e) told wrote))
+
+  comes_to : (inputs texts : List (List ℕ)) (output : OutputName) (text : Bool) (parts : List Module) (before now : Outputs) (ended : Ended) → AreParts texts parts → IsLinking inputs texts ended → IsWritten (Link inputs output text) texts before now ended → ComesTo inputs parts output (format_of text) (first_conflict parts) (too_many parts) before now ended
+  comes_to inputs texts output text parts before now ended are (inl refused) wrote = absurd (none_refused inputs texts parts ended are refused)
+  comes_to inputs texts output text parts before now ended are (inr accepted) wrote =
+      let by : EndsByParts inputs texts ended = second_by (has_bitcode texts) (ended ≡ ends.NotBuilt) (EndsByParts inputs texts ended) (no_bitcode_in texts parts are) accepted.1 in
+      let told = subst (λ (ps : List Module). ended ≡ link_end inputs (first_conflict ps) (too_many ps)) (same_parts once texts by.parts parts by.are_parts are) by.told in
+      comes_by inputs texts output text parts (first_conflict parts) (too_many parts) before now ended are told wrote
+
+  pub headline : (words : List (List ℕ)) (held : Named) (stdin : List ℕ) (before now : Outputs) (ended : Ended) (stopped : Type 0) → IsTold words held stdin ended ⊎ stopped → IsShown words held stdin before now ended → RunsLinked words held stdin before now ended stopped
+  headline words held stdin before now ended stopped (inr gave_up) shown = λ inputs texts output text links parts are. inr gave_up
+  headline words held stdin before now ended stopped (inl (inl usage)) shown = λ inputs texts output text links parts are. absurd (links.read.fine usage.0 usage.1.0 usage.1.1.is)
+  headline words held stdin before now ended stopped (inl (inr told)) shown = λ inputs texts output text links parts are.
+      let P : Result (List (List ℕ)) Ended → Type 0 = λ r. IsOutcome (Link inputs output text) r ended in
+      let Q : Command → Type 0 = λ c. IsOutcome c (texts_read held stdin 0 (inputs_of c)) ended in
+      let W : Result (List (List ℕ)) Ended → Type 0 = λ r. IsWrittenOf (Link inputs output text) r before now ended in
+      let linking = subst P links.given (subst Q (same_command words told.0 (Link inputs output text) told.1 links.read) told.2) in
+      let wrote = subst W links.given (shown (Link inputs output text) links.read) in
+      inl (comes_to inputs texts output text parts before now ended are linking wrote)
