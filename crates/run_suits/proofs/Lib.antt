@@ -5,3 +5,4 @@ pub mod Had
 pub mod Values
 pub mod Checked
 pub mod Functions
+pub mod Suited

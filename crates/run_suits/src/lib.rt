@@ -1,10 +1,14 @@
 //! What is asked of a function of a module before it is run holds in a checked module: laws alone.
 //!
-//! It stands on the validity of `module_arena`, the constants of `run_constants` and the scopes of `run_scopes`. It promises that in a
-//! well-formed, valid module each function's parameters and results are values, and that the entries of its phis are its own.
-//! Definitions: `specs/Laws`; `Places` and `Ways` of `run_scopes`.
+//! It stands on the validity of `module_arena`, the constants of `run_constants`, the scopes of `run_scopes` and what `run_arms` asks of a
+//! body. It promises that in a well-formed, valid module each function's parameters and results are values, that the entries of its phis
+//! are its own, and that its instructions and ends are what decoding asks for.
+//! Definitions: `specs/Laws`; `Places` and `Ways` of `run_scopes`, `Suits` of `run_arms`.
 #![tactic(auto)]
 
 mod law;
 
-pub use law::{functions_of_a_checked_module_have_values, phis_of_a_checked_module_suit};
+pub use law::{
+    functions_of_a_checked_module_have_values, functions_of_a_checked_module_suit,
+    phis_of_a_checked_module_suit,
+};
