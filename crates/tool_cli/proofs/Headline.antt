@@ -60,7 +60,7 @@ not_bitcode false R r = refl
 -- among demands that all hold none is the first that does not
 not_first : (ds : List Demand) (entity : Entity) (rule : ℕ) → AllHold ds → IsFirstOf ds entity rule → ⊥
 not_first [] entity rule all first = absurd first
-not_first (d ∷ ds) entity rule all (inl no) = no.0 all.0
+not_first (d ∷ ds) entity rule all (inl broken) = broken.0 all.0
 not_first (d ∷ ds) entity rule all (inr later) = not_first ds entity rule all.1 later.1
 
 -- a module that is accepted is not refused

@@ -1,17 +1,24 @@
 -- Inputs that stand for parts, and parts that are linked.
-use Rattle.std.proofs.Common.{◌≡◌, ℕ, ◌+◌, ◌≤◌, ◌<◌, Bool, true, false, List, [], ◌∷◌, ◌++◌, length, take, get_or, Some, None, refl, sym, ap, ◌∙◌, true≢false}
+use Rattle.std.proofs.Common.{◌≡◌, ℕ, ◌+◌, ◌≤◌, ◌<◌, Bool, true, false, List, [], ◌∷◌, ◌++◌, length, take, get_or, Option, Some, None, IfSome, refl, sym, ap, ◌∙◌, true≢false}
 use Rattle.std.specs.Prelude.{◌||◌}
 use Rattle.std.specs.Bool.{MatchBool}
 use Rattle.std.proofs.lemmas.List.{take_more, take_all}
 use Rattle.std.proofs.lemmas.List.Folds.{list_any-append}
 use Rattle.ir_syntax.specs.Tree.{ItemTree}
+use Rattle.linkage_rules.specs.Conflicts.{first_conflict}
 use Rattle.linkage_rules.specs.Ids.{modules}
+use Rattle.module_linker.specs.Counts.{too_many}
+use Rattle.module_linker.specs.Linked.{link_result}
+use Rattle.run_rules.specs.Same.{RunAlike}
+use Rattle.module_arena.specs.Functions.{first_too_large}
+use Rattle.module_arena.specs.Valid.{IsValid}
+use Rattle.module_arena.specs.WellFormed.{IsWellFormed}
 use Rattle.module_arena.specs.Lists.{Lists}
 use Rattle.module_arena.specs.Module.{Module}
 use Rattle.module_arena.specs.View.{module_of}
 use Rattle.name_rules.specs.Reads.{Reads}
 use Rattle.tool_cli.specs.Judged.{is_bitcode, IsTextOf, IsPartAccepted}
-use Rattle.tool_cli.specs.Made.{IsPart, IsPartFound, AreParts}
+use Rattle.tool_cli.specs.Made.{IsPart, IsPartFound, AreParts, LinksTo}
 use Rattle.tool_cli.specs.Told.{has_bitcode}
 
 stands_by : (bitcode : Bool) (R : Type 0) → bitcode ≡ false → R → MatchBool bitcode ⊥ R
@@ -90,3 +97,15 @@ all_found texts i parts h found = rw (take_all i texts h) at (found.parts_are re
 
 pub all_told : (texts : List (List ℕ)) (i : ℕ) (parts : List Lists) (bitcode : Bool) → length texts ≤ i → AreFound texts i parts bitcode → bitcode ≡ has_bitcode texts
 all_told texts i parts bitcode h found = rw (take_all i texts h) at found.told
+
+-- Parts that are linked.
+
+pub some_holds : {A : Type 0} (found : Option A) (x : A) (P : A → Type 0) → found ≡ Some x → IfSome found P → P x
+some_holds found x P e h = rw e at h
+
+pub parts_link : (texts : List (List ℕ)) (parts : List Module) (m : Module) → AreParts texts parts → first_conflict parts ≡ None → too_many parts ≡ None → m ≡ link_result parts → IsWellFormed m → IsValid m → first_too_large m ≡ None → RunAlike (m ∷ []) parts → LinksTo texts m
+parts_link texts parts m are agree few made well_formed valid sized runs = record {
+  parts = parts;
+  are_parts = are;
+  linked = record { agree = agree; few = few; made = made; well_formed = well_formed; valid = valid; sized = sized; runs = runs };
+}

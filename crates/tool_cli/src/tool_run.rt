@@ -125,7 +125,7 @@ pub fn run_tool<F: Files, I: Source, O: Sink, E: Sink>(
     ensures headline { (held : Named) (stdin : List ℕ)
         → TellsAll (inputs_named words.now) (F.contents files.old) (I.left input.old) held stdin
         → RunsLinked words.now held stdin (outputs (O.taken output.old) (F.contents files.old)) (outputs (O.taken output.new) (F.contents files.new)) result.ended
-            (Stopped (output_named words.now) (Rose (I.faults input.old) (I.faults input.new)) (Rose (F.read_faults files.old) (F.read_faults files.new)) (Rose (O.faults output.old) (O.faults output.new)) (Rose (F.write_faults files.old) (F.write_faults files.new)) result.ended) }
+        (Stopped (output_named words.now) (Rose (I.faults input.old) (I.faults input.new)) (Rose (F.read_faults files.old) (F.read_faults files.new)) (Rose (O.faults output.old) (O.faults output.new)) (Rose (F.write_faults files.old) (F.write_faults files.new)) result.ended) }
     ensures unwritten { analyzes words.now ≡ false → LeavesStandard (output_named words.now) result.ended → output.new ≡ output.old }
     ensures before_work { IsBeforeWork result.ended → output.new ≡ output.old }
     ensures errors { Wrote (E.taken errors.old) (E.taken errors.new) (E.faults errors.old) (E.faults errors.new) (line_of words.now result.ended) }
