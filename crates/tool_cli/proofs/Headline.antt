@@ -1,5 +1,5 @@
 -- What is linked runs as its parts: from what is told of a run, and what is shown.
-use Rattle.std.proofs.Common.{◌≡◌, ◌⊎◌, inl, inr, ◌<◌, ◌^◌, ℕ, Bool, true, false, List, [], ◌∷◌, Option, Some, None, Result, Ok, refl, sym, ap, ◌∙◌, subst, true≢false}
+use Rattle.std.proofs.Common.{◌≡◌, ◌⊎◌, inl, inr, ℕ, Bool, true, false, List, [], ◌∷◌, Option, Some, None, Result, refl, sym, ap, ◌∙◌, subst, true≢false}
 use Rattle.std.specs.Bool.{MatchBool}
 use Rattle.std.specs.List.{AllByRecursion}
 use Rattle.std.specs.Option.{option_map}
@@ -32,7 +32,7 @@ use Rattle.tool_output.specs.Outputs.{Outputs}
 use Rattle.tool_output.specs.Written.{written}
 use Rattle.tool_output.specs.declared.format.OutputFormat.{OutputFormat}
 use Rattle.tool_output.specs.declared.format.OutputFormat.TheVariants.{CanonicalText, Bitcode}
-use Rattle.tool_cli.specs.Headline.{StandForOne, RunsAsParts, Links, ComesTo, RunsLinked}
+use Rattle.tool_cli.specs.Headline.{StandForOne, RunsAsParts, ComesTo, RunsLinked}
 use Rattle.tool_cli.specs.Inputs.{inputs_of, texts_read}
 use Rattle.tool_cli.specs.Judged.{is_bitcode, IsFirstRefusal, IsPartRefused, IsTextRefused, IsVerdict}
 use Rattle.tool_cli.specs.Made.{AreParts, IsPart, format_of}
