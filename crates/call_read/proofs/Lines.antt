@@ -31,7 +31,7 @@ use Rattle.operand_read.proofs.Joined.{starting}
 use Rattle.line_read.specs.Kept.{DoesInst, GivesInst, HasInst, operation_in}
 use Rattle.line_read.specs.Operations.{is_giving, operation}
 use Rattle.call_read.specs.declared.line.Line.{Line}
-use Rattle.call_read.specs.Calls.{IsNameOf, NamesResult, ReadsLine, ReadsReturned, ids_of, kept_call, operation_read}
+use Rattle.call_read.specs.Calls.{IsNameOf, NamesResult, ReadsLine, ReadsReturned, ids_of, kept_call, name_behind, operation_read}
 use Rattle.call_read.proofs.Calling.{kept_so, made_so, unless_broken}
 use Rattle.call_read.proofs.Heads.{label_still, name_stays, named_by, takes_walk}
 
@@ -47,6 +47,12 @@ instruction_is texts k own op.Br h = absurd (cc)
 instruction_is texts k own op.Switch h = absurd (cc)
 instruction_is texts k own op.Unreachable h = absurd (cc)
 instruction_is texts k own _ h = refl
+
+-- its name stands in front
+behind_is : (texts : Texts) (k : Numbering) (own : ℕ) (o : Opcode) (w : Walk) → is_giving o ≡ true → name_behind texts own o k w ≡ ((label texts own).read w).1
+behind_is texts k own op.Store w h = absurd (cc)
+behind_is texts k own op.Call w h = absurd (cc)
+behind_is texts k own _ w h = refl
 
 pub giving_is : (o : Opcode) → is_end o ≡ false → (o ≡ op.Call → ⊥) → (o ≡ op.Store → ⊥) → is_giving o ≡ true
 giving_is op.Ret end call store = absurd (cc)
@@ -96,7 +102,9 @@ giving_line t own defined o a r b name x y gives named found is =
       none = kept.1;
       defines = kept_so (λ i. result_of i ≡ ids_of defined name) (is_broken b.reader.walk) x y is
           (λ unbroken. results_given defined b x (ids_of defined name) (ids_given defined name ((label texts own).read a.reader.walk).0 b.reader.walk later unbroken) (found.there b.growing (grows_self b.growing)));
-      name = λ k n. subst (λ (v : Option m.LocalName). IsNameOf name v b.reader.walk) (sym (ap (λ (f : Walk → m.Instruction × Walk). (f a.reader.walk).0.result) (instruction_is texts k own o gives))) later;
+      name = λ k n.
+          subst (λ (v : Walk). IsNameOf name ((instruction texts k own o).read a.reader.walk).0.result v) (at ∙ sym (behind_is texts k own o a.reader.walk gives))
+          (subst (λ (v : Option m.LocalName). IsNameOf name v r.walk) (sym (ap (λ (f : Walk → m.Instruction × Walk). (f a.reader.walk).0.result) (instruction_is texts k own o gives))) called);
     }
 
 -- ---- a store
@@ -144,5 +152,7 @@ call_line texts own defined void a b c g returns name result f parts call x y re
           (λ d e. ap option_to_list (result_so f result parts d same (sym call_is ∙ e) ∙ result_is) ∙ ids_so texts own defined void b.reader.walk g.reader.walk name later unbroken));
       name = λ k n.
           let void_so = void_is ∙ ap is_void (ap (λ (t : Types). tree_at t returns) table_b ∙ returned.tree_is k n) in
-          subst (λ (v : Option m.LocalName). IsNameOf name v g.reader.walk) (λ j. ((result_by texts own (void_so j)).read (returned.walk k n j)).0) later;
+          let at : c.reader.walk ≡ ((result_by texts own void).read b.reader.walk).1 = ap (λ (x : ModuleReader). x.reader.walk) named.rest in
+          subst (λ (p : Option m.LocalName × Walk). IsNameOf name p.0 p.1) (λ j. (result_by texts own (void_so j)).read (returned.walk k n j))
+          (subst (λ (v : Walk). IsNameOf name ((result_by texts own void).read b.reader.walk).0 v) at named.kept);
     }

@@ -2,6 +2,7 @@
 use Rattle.std.specs.Prelude.{◌≡◌, ◌<◌, ℕ, Bool, true, List, [], ◌∷◌, length, map, flat_map, option_to_list, All, ⊤, Option, Some, None, IfSome}
 use Rattle.std.specs.Option.{option_map}
 use Rattle.ir_tables.specs.declared.opcode.Opcode.{Opcode}
+use Rattle.ir_tables.specs.declared.opcode.Opcode.TheVariants as op
 use Rattle.type_table.specs.Tree.{Tree}
 use Rattle.module_arena.specs.declared.entry.LocalName as the_local
 use Rattle.module_arena.specs.declared.instruction.Call as the_call
@@ -9,7 +10,8 @@ use Rattle.module_arena.specs.declared.instruction.Operand.{Operand}
 use Rattle.module_arena.specs.declared.instruction.Value.{Value}
 use Rattle.module_arena.specs.Mentions.{result_of}
 use Rattle.module_arena.specs.Module as m
-use Rattle.record_table.specs.Fields.{Texts, Numbering, ty}
+use Rattle.module_arena.specs.TypeTests.{is_void}
+use Rattle.record_table.specs.Fields.{Texts, Numbering, label, ty}
 use Rattle.record_table.specs.Layout.{counted}
 use Rattle.record_table.specs.Lines.{instruction, result_by, return_type, typed_value}
 use Rattle.record_table.specs.Walk.{Walk}
@@ -89,10 +91,17 @@ ids_of defined (Some name) = defined ∷ []
 abbrev pub operation_read : Texts → ℕ → Opcode → Numbering → Walk → m.Operation × Walk
 operation_read texts own opcode k w = let i = (instruction texts k own opcode).read w in (i.0.operation, i.1)
 
+-- the walk behind the name of the result, from which on it is read what the instruction does
+abbrev pub name_behind : Texts → ℕ → Opcode → Numbering → Walk → Walk
+name_behind texts own op.Call k w = let t = (return_type k).read w in ((result_by texts own (is_void t.0)).read t.1).1
+name_behind texts own op.Store k w = w
+name_behind texts own o k w = ((label texts own).read w).1
+
 -- An instruction was read by the layout of its opcode, and all that it names is there. There is none exactly where a rule is
--- broken. It defines that value where it has a result, and the result is called as its record says.
+-- broken. It defines that value where it has a result, and the result is called as its record says: there is no name only
+-- where a rule is broken by then.
 pub record ReadsLine (texts : Texts) (defined own : ℕ) (opcode : Opcode) (old new : ModuleReader) (line : Line) : Type 0 where
   pub reads : Finds HasInst operation_in (operation_read texts own opcode) old new line.instruction
   pub none : is_broken new.reader.walk ≡ true → line.instruction ≡ None
   pub defines : IfSome line.instruction (λ i. result_of i ≡ ids_of defined line.name)
-  pub name : (k : Numbering) → Numbers old k → IsNameOf line.name ((instruction texts k own opcode).read old.reader.walk).0.result new.reader.walk
+  pub name : (k : Numbering) → Numbers old k → IsNameOf line.name ((instruction texts k own opcode).read old.reader.walk).0.result (name_behind texts own opcode k old.reader.walk)
