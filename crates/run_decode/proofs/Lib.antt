@@ -1,0 +1,4 @@
+mod Meant
+mod Called
+mod Rowed
+mod Told

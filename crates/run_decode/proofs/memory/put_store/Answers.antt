@@ -1,0 +1,22 @@
+use Rattle.std.proofs.Common.{subst}
+use Rattle.type_table.specs.Types.{Types}
+use Rattle.run_rules.specs.Leaves.{slots}
+use Rattle.run_shapes.specs.Shapes.{shape_in}
+use Rattle.run_flat.specs.Grown.{AreSlots}
+use Rattle.run_flat.proofs.Growth.{adds_then}
+use Rattle.run_decode.proofs.Meant.{store_meant}
+use Rattle.run_decode.proofs.memory.put_store.Goals as goal
+
+pub returns-clause-grows : goal.returns-clause-grows
+returns-clause-grows c =
+    let p = c.put_slots.new.pools in
+    let q = c.put_operand.new.pools in
+    let r = c.put_scalar.new.pools in
+    adds_then c.args.pools.now p r c.in_ok-slots.ensures.grows (adds_then p q r c.in_ok-value.ensures.grows c.in_ok-address.ensures.grows)
+
+pub returns-clause-action : goal.returns-clause-action
+returns-clause-action c = λ flags.
+    let p = c.put_slots.new.pools in
+    let which = subst (λ (t : Types). AreSlots p c.in_ok-slots.slots (slots (shape_in t c.args.stored.now.ty))) c.types.ensures c.in_ok-slots.ensures.slots in
+    store_meant c.args.scope.now p c.put_operand.new.pools c.in_ok-value.ensures.grows c.put_scalar.new.pools c.in_ok-address.ensures.grows flags c.align_of.result c.args.stored.now c.args.address c.args.alignment c.in_ok-slots.slots c.in_ok-value.value
+    c.in_ok-address.address c.align_of.ensures which c.in_ok-value.ensures.leaves c.in_ok-address.ensures.leaf
