@@ -10,7 +10,7 @@ ghost use Rattle.run_rules.specs.Look.{table};
 ghost use Rattle.run_signatures.specs.Met.{known};
 ghost use Rattle.run_program.specs.Loaded.{HasHead, IsBody, IsReady, Keeps, nothing_ready};
 
-use crate::told::head_of;
+use crate::told::{body_of, head_of};
 use module_arena::{Checked, Function, FunctionId};
 use run_body::Body;
 use run_names::{CalleeRef, Names};
@@ -132,6 +132,23 @@ impl<'m> Program<'m> {
         let head = head_of(self.alloc, &self.names, &mut self.signatures, id)?;
         self.heads[place] = Some(head);
         Ok(head)
+    }
+
+    /// Decodes the body of a function that has one, unless it is there already, and tells how many leaves an edge of it sets at most. It
+    /// is refused for want of memory alone, and wants none the second time.
+    pub fn prepare(&mut self, id: FunctionId) -> Result<u32, AllocError>
+        requires code { HasCode self.old.lists (callees.Code id) }
+        ensures ready { IfOk result (λ widest. (body : Decoded) × (IsReady self.new id body × (body.widest ≡ widest))) }
+        ensures keeps { Keeps self.old self.new }
+    {
+        let place = id.number() as usize;
+        if let Some(body) = &self.bodies[place] {
+            return Ok(body.widest());
+        }
+        let body = body_of(self.alloc, &self.names, &mut self.signatures, id)?;
+        let widest = body.widest();
+        self.bodies[place] = Some(body);
+        Ok(widest)
     }
 
     /// The body of a function that was entered.

@@ -1,16 +1,18 @@
-//! What a call asks of a function.
+//! What calls ask of a function, and its body.
 ghost use Rattle.std.specs.Prelude.{◌≡◌, IfOk, map};
 ghost use Rattle.run_names.specs.declared.callee.CalleeRef.TheVariants as callees;
 ghost use Rattle.run_names.specs.Told.{HasCode};
-ghost use Rattle.run_program.specs.Loaded.{IsHead};
+ghost use Rattle.run_program.specs.Loaded.{IsBodyOf, IsHead};
 ghost use Rattle.run_signatures.specs.Numbers.{Numbers};
 
 use crate::leaves::leaf_count;
 use crate::program::Head;
 use module_arena::{Function, FunctionId};
+use run_body::Body;
+use run_decode::decode;
 use run_names::Names;
 use run_signatures::Signatures;
-use run_suits::functions_of_a_checked_module_have_values;
+use run_suits::{functions_of_a_checked_module_have_values, functions_of_a_checked_module_suit};
 use std::alloc::{AllocError, Global};
 use type_table::TypeId;
 
@@ -46,4 +48,24 @@ pub(crate) fn head_of(
     let parameters = parameter_types(alloc, function)?;
     let signature = signatures.number(function.result, &parameters, function.variadic)?;
     Ok(Head { signature, leaves })
+}
+
+/// The body of a function that has one, decoded. The function types of its calls get numbers.
+pub(crate) fn body_of<'m>(
+    alloc: Global,
+    names: &Names<'m>,
+    signatures: &mut Signatures<'m>,
+    id: FunctionId,
+) -> Result<Body<'m>, AllocError>
+    requires code { HasCode names.now (callees.Code id) }
+    requires lists { signatures.old.lists ≡ names.now }
+    ensures body { IfOk result (IsBodyOf names.now signatures.new id) }
+    ensures numbers { Numbers signatures.old signatures.new }
+{
+    let arena = names.program().arena();
+    // The ids in an arena are those of the arena, and in a checked one each function is what decoding asks for.
+    let _count = arena.variable_count();
+    functions_of_a_checked_module_suit();
+    let body = decode(alloc, names, signatures, id)?;
+    Ok(body)
 }
