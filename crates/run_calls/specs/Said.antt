@@ -1,11 +1,11 @@
--- For `return_value` and `DueCalls`: what their answers mean in the words of a run.
+-- For `call_address`, `return_value` and `call_due`: what their answers mean in the words of a run.
 use Rattle.std.specs.Prelude.{◌≡◌, ℕ, true, false, Bool, List, [], ◌∷◌}
 use Rattle.ir_eval.specs.declared.value.Pointer.{Pointer}
 use Rattle.ir_eval.specs.declared.value.Scalar.{Scalar}
 use Rattle.ir_memory.specs.Memory.{Blocks}
 use Rattle.run_rules.specs.declared.end.End.{End}
 use Rattle.run_rules.specs.declared.end.End.TheVariants as ends
-use Rattle.run_rules.specs.Calls.{returned}
+use Rattle.run_rules.specs.Calls.{begun, entered, returned}
 use Rattle.run_rules.specs.State as rules
 use Rattle.run_rules.specs.State.{Frame, Due, Core}
 use Rattle.run_stack.specs.UnderWay.{UnderWay, newest, older}
@@ -28,6 +28,11 @@ abbrev pub next_of : Next → Core → List ℕ → rules.Next
 next_of Goes c output = rules.Goes c output
 next_of (Gets to) c output = rules.Gets to c
 next_of (Stops stop) c output = rules.Stops (end_of stop)
+
+-- a function is entered, or too many would be under way
+pub record IsEntered (function leaves : ℕ) (arguments : List Scalar) (to : ℕ) (next : Next) (old new : UnderWay) : Type 0 where
+  pub enters : (due : List Due) (m : Blocks) → entered (begun function leaves arguments to) (core_of old.frames due m) ≡ next_of next (core_of new.frames due m) []
+  pub no_byte : (place : ℕ) → ¬ (next ≡ Gets place)
 
 -- whether nothing is due any more, by a test
 abbrev pub IsLast : List Due → Bool → Type 0
