@@ -1,0 +1,3 @@
+pub mod Staying
+pub mod Coming
+pub mod Calling

@@ -1,0 +1,190 @@
+use Rattle.std.proofs.Common.{◌≡◌, List, true, length, refl, sym, ◌∙◌, subst}
+use Rattle.run_rules.specs.State.{Due}
+use Rattle.run_rules.specs.Wants.{wants_memory}
+use Rattle.run_flat.specs.declared.action.Action.{Action}
+use Rattle.run_flat.specs.declared.action.Action.TheVariants as flat
+use Rattle.run_flat.specs.declared.pools.Pools.{Pools}
+use Rattle.run_flat.specs.Flat.{action_of}
+use Rattle.run_calls.specs.declared.next.Next.{Next}
+use Rattle.run_calls.specs.Made.{StaysReady}
+use Rattle.run_calls.specs.Said.{IsLast}
+use Rattle.run_classes.specs.May.{MayAct}
+use Rattle.run_classes.proofs.Placed.{on_err, on_ok}
+use Rattle.run_acts.specs.Acting.{ActsFor, ComesTo, FunctionsStay, MayActIn, WantsHere}
+use Rattle.run_acts.proofs.Calling.{acts_for, comes_for, if_ok, is_inner_else, keeps_itself, may_act, may_act_in, some_body, stands, wanted, wants_for, written_none}
+use Rattle.run_acts.proofs.Staying.{ready_still}
+use Rattle.run_acts.proofs.instruction.act.Goals as goal
+
+-- ---- the instruction
+
+pub body-decoded-requires : goal.body-decoded-requires
+body-decoded-requires c = some_body c.args.program.now c.args.stack.now c.args.memory.now c.requires.may c.function.result c.function.ensures
+
+pub action-flat-requires : goal.action-flat-requires
+action-flat-requires c =
+    let b = c.body-decoded in
+    stands c.args.program.now c.args.stack.now c.args.memory.now c.requires.may c.function.result c.function.ensures b.result.now b.ensures.ready b.ensures.body c.block.result c.position.result c.block.ensures c.position.ensures
+
+-- ---- a call
+
+pub act_on_call-requires : goal.act_on_call-requires
+act_on_call-requires c =
+    let p = c.args.program.now in
+    let s = c.args.stack.now in
+    let m = c.args.memory.now in
+    let b = c.body-decoded in
+    let x = c.action-flat in
+    let may =
+    may_act_in p s m c.requires.may c.function.result c.function.ensures b.result.now b.ensures.ready b.ensures.body c.block.result c.position.result c.block.ensures c.position.ensures x.result.now x.ensures.action x.ensures.within
+    x.ensures.fits
+    in
+    record { may = (b.result.now, subst (λ (y : Action). MayActIn p b.result.now y s m) c.in-Call.is may); none = c.requires.none }
+
+pub returns-in-Call-clause-acts : goal.returns-in-Call-clause-acts
+returns-in-Call-clause-acts c =
+    let p = c.args.program.now in
+    let s = c.args.stack.now in
+    let m = c.args.memory.now in
+    let b = c.body-decoded in
+    let x = c.action-flat in
+    let k = c.in-Call in
+    let new = c.act_on_call.new in
+    let action = flat.Call k.to k.callee k.call in
+    let may =
+    subst (λ (y : Action). MayActIn p b.result.now y s m) k.is
+    (may_act_in p s m c.requires.may c.function.result c.function.ensures b.result.now b.ensures.ready b.ensures.body c.block.result c.position.result c.block.ensures c.position.ensures x.result.now x.ensures.action
+    x.ensures.within x.ensures.fits)
+    in
+    if_ok c.act_on_call.result _ (λ (next : Next). (due : List Due) → IsLast due c.args.is_last → ActsFor p due next s new.stack m new.memory new.room.written.items)
+    (λ next came due last. acts_for p b.result.now action s m may due next new.stack new.memory new.room.written.items (came b.result.now due may)) c.act_on_call.ensures.came
+
+pub returns-in-Call-clause-wants : goal.returns-in-Call-clause-wants
+returns-in-Call-clause-wants c =
+    let p = c.args.program.now in
+    let s = c.args.stack.now in
+    let m = c.args.memory.now in
+    let b = c.body-decoded in
+    let x = c.action-flat in
+    let k = c.in-Call in
+    let action = flat.Call k.to k.callee k.call in
+    let may =
+    subst (λ (y : Action). MayActIn p b.result.now y s m) k.is
+    (may_act_in p s m c.requires.may c.function.result c.function.ensures b.result.now b.ensures.ready b.ensures.body c.block.result c.position.result c.block.ensures c.position.ensures x.result.now x.ensures.action
+    x.ensures.within x.ensures.fits)
+    in
+    wanted c.act_on_call.result (WantsHere p s) (wants_for p b.result.now action s m may refl)
+
+-- ---- a return
+
+pub act_on_return-requires : goal.act_on_return-requires
+act_on_return-requires c =
+    let p = c.args.program.now in
+    let s = c.args.stack.now in
+    let m = c.args.memory.now in
+    let b = c.body-decoded in
+    let x = c.action-flat in
+    let may =
+    may_act_in p s m c.requires.may c.function.result c.function.ensures b.result.now b.ensures.ready b.ensures.body c.block.result c.position.result c.block.ensures c.position.ensures x.result.now x.ensures.action x.ensures.within
+    x.ensures.fits
+    in
+    record { may = (b.result.now, subst (λ (y : Action). MayActIn p b.result.now y s m) c.in-Return.is may) }
+
+pub returns-in-Return-clause-acts : goal.returns-in-Return-clause-acts
+returns-in-Return-clause-acts c =
+    let p = c.args.program.now in
+    let s = c.args.stack.now in
+    let m = c.args.memory.now in
+    let b = c.body-decoded in
+    let x = c.action-flat in
+    let k = c.in-Return in
+    let new = c.act_on_return.new in
+    let action = flat.Return k.value in
+    let may =
+    subst (λ (y : Action). MayActIn p b.result.now y s m) k.is
+    (may_act_in p s m c.requires.may c.function.result c.function.ensures b.result.now b.ensures.ready b.ensures.body c.block.result c.position.result c.block.ensures c.position.ensures x.result.now x.ensures.action
+    x.ensures.within x.ensures.fits)
+    in
+    let none = c.act_on_return.ensures.written ∙ c.requires.none in
+    if_ok c.act_on_return.result _ (λ (next : Next). (due : List Due) → IsLast due c.args.is_last → ActsFor p due next s new.stack m new.memory new.room.written.items)
+    (λ next came due last.
+    acts_for p b.result.now action s m may due next new.stack new.memory new.room.written.items
+    (written_none p (action_of b.result.now.pools p.lists action) due next s new.stack m new.memory new.room.written.items none (came b.result.now due last may))) c.act_on_return.ensures.came
+
+pub returns-in-Return-clause-keeps : goal.returns-in-Return-clause-keeps
+returns-in-Return-clause-keeps c = keeps_itself c.args.program.now
+
+pub returns-in-Return-clause-wants : goal.returns-in-Return-clause-wants
+returns-in-Return-clause-wants c =
+    let p = c.args.program.now in
+    let s = c.args.stack.now in
+    let m = c.args.memory.now in
+    let b = c.body-decoded in
+    let x = c.action-flat in
+    let k = c.in-Return in
+    let action = flat.Return k.value in
+    let may =
+    subst (λ (y : Action). MayActIn p b.result.now y s m) k.is
+    (may_act_in p s m c.requires.may c.function.result c.function.ensures b.result.now b.ensures.ready b.ensures.body c.block.result c.position.result c.block.ensures c.position.ensures x.result.now x.ensures.action
+    x.ensures.within x.ensures.fits)
+    in
+    on_err c.act_on_return.result _ (WantsHere p s) (λ wants. wants_for p b.result.now action s m may (wants b.result.now may)) c.act_on_return.ensures.wants
+
+-- ---- any other
+
+pub act_within-requires : goal.act_within-requires
+act_within-requires c =
+    let p = c.args.program.now in
+    let s = c.args.stack.now in
+    let m = c.args.memory.now in
+    let b = c.body-decoded in
+    let x = c.action-flat in
+    let may =
+    may_act_in p s m c.requires.may c.function.result c.function.ensures b.result.now b.ensures.ready b.ensures.body c.block.result c.position.result c.block.ensures c.position.ensures x.result.now x.ensures.action x.ensures.within
+    x.ensures.fits
+    in
+    record {
+      inner = is_inner_else p b.result.now x.result.now s m may c.in_default.not-Call c.in_default.not-Return;
+      may = subst (λ (q : Pools). MayAct (length m.list) q x.result.now s) (sym c.pools-pools.ensures) (may_act p b.result.now x.result.now s m may);
+      next = c.requires.may.next;
+    }
+
+pub returns-in_default-clause-acts : goal.returns-in_default-clause-acts
+returns-in_default-clause-acts c =
+    let p = c.args.program.now in
+    let s = c.args.stack.now in
+    let m = c.args.memory.now in
+    let b = c.body-decoded in
+    let x = c.action-flat in
+    let new = c.act_within.new in
+    let may =
+    may_act_in p s m c.requires.may c.function.result c.function.ensures b.result.now b.ensures.ready b.ensures.body c.block.result c.position.result c.block.ensures c.position.ensures x.result.now x.ensures.action x.ensures.within
+    x.ensures.fits
+    in
+    if_ok c.act_within.result _ (λ (next : Next). (due : List Due) → IsLast due c.args.is_last → ActsFor p due next s new.stack m new.memory c.args.room.now.written.items)
+    (λ next comes due last.
+    comes_for p b.result.now x.result.now s m may due next new.stack new.memory c.args.room.now.written.items c.requires.none
+    (subst (λ (q : Pools). ComesTo (action_of q p.lists x.result.now) next s new.stack m new.memory) c.pools-pools.ensures (comes p.lists))) c.act_within.ensures.comes
+
+pub returns-in_default-clause-ready : goal.returns-in_default-clause-ready
+returns-in_default-clause-ready c =
+    let p = c.args.program.now in
+    let s = c.args.stack.now in
+    let new = c.act_within.new.stack in
+    on_ok c.act_within.result (FunctionsStay s new) (StaysReady p s p new) (ready_still p s new) c.act_within.ensures.stays
+
+pub returns-in_default-clause-keeps : goal.returns-in_default-clause-keeps
+returns-in_default-clause-keeps c = keeps_itself c.args.program.now
+
+pub returns-in_default-clause-wants : goal.returns-in_default-clause-wants
+returns-in_default-clause-wants c =
+    let p = c.args.program.now in
+    let s = c.args.stack.now in
+    let m = c.args.memory.now in
+    let b = c.body-decoded in
+    let x = c.action-flat in
+    let may =
+    may_act_in p s m c.requires.may c.function.result c.function.ensures b.result.now b.ensures.ready b.ensures.body c.block.result c.position.result c.block.ensures c.position.ensures x.result.now x.ensures.action x.ensures.within
+    x.ensures.fits
+    in
+    on_err c.act_within.result _ (WantsHere p s)
+    (λ wants. wants_for p b.result.now x.result.now s m may (subst (λ (q : Pools). wants_memory (action_of q p.lists x.result.now) ≡ true) c.pools-pools.ensures (wants p.lists))) c.act_within.ensures.wants

@@ -1,0 +1,77 @@
+//! Calls and returns.
+ghost use Rattle.std.specs.Prelude.{◌≡◌, [], IfOk, List, OnErr, OnOk, true};
+ghost use Rattle.run_body.specs.Bodies.{Decoded};
+ghost use Rattle.run_rules.specs.State.{Due};
+ghost use Rattle.run_rules.specs.Wants.{wants_memory};
+ghost use Rattle.run_flat.specs.Flat.{action_of};
+ghost use Rattle.run_flat.specs.declared.action.Action.TheVariants as flat;
+ghost use Rattle.run_program.specs.Loaded.{Keeps};
+ghost use Rattle.run_calls.specs.Made.{StaysReady};
+ghost use Rattle.run_calls.specs.Said.{IsLast};
+ghost use Rattle.run_acts.specs.Acting.{CameTo, MayActIn};
+
+use crate::room::Room;
+use ir_memory::Memory;
+use run_calls::{Call, Next, call_address, return_value};
+use run_classes::origin;
+use run_flat::{LeafAt, Span};
+use run_program::Program;
+use run_stack::Stack;
+use std::alloc::AllocError;
+
+/// A call by the newest frame, which then stands behind it. It is refused for want of memory alone.
+pub(crate) fn act_on_call(
+    program: &mut Program<'_>,
+    stack: &mut Stack,
+    memory: &mut Memory,
+    to: u32,
+    callee: LeafAt,
+    place: u32,
+    room: &mut Room,
+) -> Result<Next, AllocError>
+    requires may { (b : Decoded) × MayActIn program.old b (flat.Call to callee place) stack.old memory.old }
+    requires none { room.old.written.items ≡ [] }
+    ensures came { IfOk result (λ next. (b : Decoded) (due : List Due) → MayActIn program.old b (flat.Call to callee place) stack.old memory.old
+        → CameTo program.old (action_of b.pools program.old.lists (flat.Call to callee place)) due next stack.old stack.new memory.old memory.new room.new.written.items) }
+    ensures ready { OnOk result (StaysReady program.old stack.old program.new stack.new) }
+    ensures keeps { Keeps program.old program.new }
+{
+    let decoded = program.body(stack.function());
+    let pools = decoded.pools();
+    let parts = *pools.calls.at(place);
+    let operand = origin(pools, callee);
+    let address = stack.read(&operand);
+    let listed = pools.origins.in_span(parts.arguments);
+    room.leaves.clear();
+    stack.read_all(listed, &mut room.leaves)?;
+    stack.move_on();
+    let call = Call {
+        callee: address,
+        parts,
+        arguments: &room.leaves,
+        to,
+    };
+    call_address(program, stack, memory, &call, &mut room.written)
+}
+
+/// A return of the newest frame's function; `is_last` tells that nothing is due. Only a value of more than one leaf wants memory.
+pub(crate) fn act_on_return(
+    program: &Program<'_>,
+    stack: &mut Stack,
+    memory: &mut Memory,
+    value: Span,
+    is_last: bool,
+    room: &mut Room,
+) -> Result<Next, AllocError>
+    requires may { (b : Decoded) × MayActIn program.now b (flat.Return value) stack.old memory.old }
+    ensures came { IfOk result (λ next. (b : Decoded) (due : List Due) → IsLast due is_last → MayActIn program.now b (flat.Return value) stack.old memory.old
+        → CameTo program.now (action_of b.pools program.now.lists (flat.Return value)) due next stack.old stack.new memory.old memory.new []) }
+    ensures ready { OnOk result (StaysReady program.now stack.old program.now stack.new) }
+    ensures wants { OnErr result ((b : Decoded) → MayActIn program.now b (flat.Return value) stack.old memory.old → wants_memory (action_of b.pools program.now.lists (flat.Return value)) ≡ true) }
+    ensures written { room.new.written.items ≡ room.old.written.items }
+{
+    let decoded = program.body(stack.function());
+    let pools = decoded.pools();
+    let leaves = pools.origins.in_span(value);
+    return_value(stack, memory, leaves, is_last, &mut room.leaves)
+}

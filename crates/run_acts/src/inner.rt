@@ -1,0 +1,78 @@
+//! Instructions that stay in their function.
+ghost use Rattle.std.specs.Prelude.{◌≡◌, ◌≤◌, ◌^◌, IfOk, OnErr, OnOk, length, true};
+ghost use Rattle.module_arena.specs.Lists.{Lists};
+ghost use Rattle.run_rules.specs.Wants.{wants_memory};
+ghost use Rattle.run_flat.specs.Flat.{action_of};
+ghost use Rattle.run_classes.specs.May.{MayAct};
+ghost use Rattle.run_acts.specs.Acting.{AnswersMemory, AnswersWith, ComesTo, FunctionsStay, is_inner};
+
+use ir_eval::Scalar;
+use ir_memory::{Memory, MemoryFault};
+use ir_tables::UndefinedKind;
+use run_calls::{Next, Stop};
+use run_classes::{act_on_memory, act_on_scalars, act_on_values, act_on_ways};
+use run_flat::{Action, Pools};
+use run_stack::Stack;
+use std::alloc::AllocError;
+
+/// What an instruction comes to that goes on or is undefined.
+#[inline]
+fn next_of(done: Result<(), UndefinedKind>) -> Next
+    ensures { AnswersWith done result }
+{
+    match done {
+        Ok(()) => Next::Goes,
+        Err(kind) => Next::Stops(Stop::Undefined(kind)),
+    }
+}
+
+/// What an instruction comes to that memory may refuse.
+#[inline]
+fn next_of_access(done: Result<(), MemoryFault>) -> Result<Next, AllocError>
+    ensures { AnswersMemory done result }
+{
+    match done {
+        Ok(()) => Ok(Next::Goes),
+        Err(MemoryFault::Undefined(kind)) => Ok(Next::Stops(Stop::Undefined(kind))),
+        Err(MemoryFault::MemoryLimit) => Ok(Next::Stops(Stop::MemoryLimit)),
+        Err(MemoryFault::Memory) => Err(AllocError),
+    }
+}
+
+/// An instruction of the newest frame that neither calls nor returns. What `room` has is lost.
+///
+/// It is refused for want of memory alone, by an instruction that may want it.
+#[inline]
+pub(crate) fn act_within(
+    stack: &mut Stack,
+    memory: &mut Memory,
+    pools: &Pools,
+    action: Action,
+    room: &mut Vec<Scalar>,
+) -> Result<Next, AllocError>
+    requires inner { is_inner action ≡ true }
+    requires may { MayAct (length memory.old.list) pools.now action stack.old }
+    requires next { memory.old.next ≤ 2 ^ 61 }
+    ensures comes { IfOk result (λ next. (a : Lists) → ComesTo (action_of pools.now a action) next stack.old stack.new memory.old memory.new) }
+    ensures stays { OnOk result (FunctionsStay stack.old stack.new) }
+    ensures wants { OnErr result ((a : Lists) → wants_memory (action_of pools.now a action) ≡ true) }
+{
+    match action {
+        Action::Compute { .. } | Action::Compare { .. } | Action::Convert { .. } => {
+            Ok(next_of(act_on_scalars(stack, pools, action)))
+        }
+        Action::Jump { .. } | Action::Branch { .. } | Action::Switch { .. } | Action::Unreachable =>
+            { Ok(next_of(act_on_ways(stack, pools, action))) }
+        Action::Load { .. }
+        | Action::Store { .. }
+        | Action::Allocate { .. }
+        | Action::Displace { .. } => {
+            next_of_access(act_on_memory(stack, memory, pools, action, room))
+        }
+        Action::Select { .. } | Action::Freeze { .. } | Action::Gather { .. } => {
+            act_on_values(stack, pools, action, room)?;
+            Ok(Next::Goes)
+        }
+        Action::Call { .. } | Action::Return { .. } | Action::Passed => unreachable!(),
+    }
+}

@@ -1,0 +1,47 @@
+//! One instruction.
+ghost use Rattle.std.specs.Prelude.{◌≡◌, [], IfOk, List, OnErr, OnOk};
+ghost use Rattle.run_rules.specs.State.{Due};
+ghost use Rattle.run_program.specs.Loaded.{Keeps};
+ghost use Rattle.run_calls.specs.Made.{StaysReady};
+ghost use Rattle.run_calls.specs.Said.{IsLast};
+ghost use Rattle.run_acts.specs.Acting.{ActsFor, MayActHere, WantsHere};
+
+use crate::calls::{act_on_call, act_on_return};
+use crate::inner::act_within;
+use crate::room::Room;
+use ir_memory::Memory;
+use run_calls::Next;
+use run_flat::Action;
+use run_program::Program;
+use run_stack::Stack;
+use std::alloc::AllocError;
+
+/// Carries out the instruction of the newest frame; `is_last` tells that nothing is due. What it writes is put into the room, in which
+/// nothing is.
+///
+/// It is refused for want of memory alone, by an instruction that may want it.
+pub fn act(
+    program: &mut Program<'_>,
+    stack: &mut Stack,
+    memory: &mut Memory,
+    is_last: bool,
+    room: &mut Room,
+) -> Result<Next, AllocError>
+    requires may { MayActHere program.old stack.old memory.old }
+    requires none { room.old.written.items ≡ [] }
+    ensures acts { IfOk result (λ next. (due : List Due) → IsLast due is_last → ActsFor program.old due next stack.old stack.new memory.old memory.new room.new.written.items) }
+    ensures ready { OnOk result (StaysReady program.old stack.old program.new stack.new) }
+    ensures keeps { Keeps program.old program.new }
+    ensures wants { OnErr result (WantsHere program.old stack.old) }
+{
+    let decoded = program.body(stack.function());
+    let pools = decoded.pools();
+    let flat = *decoded.action(stack.block(), stack.position());
+    match flat {
+        Action::Call { to, callee, call } => {
+            act_on_call(program, stack, memory, to, callee, call, room)
+        }
+        Action::Return { value } => act_on_return(program, stack, memory, value, is_last, room),
+        _ => act_within(stack, memory, pools, flat, &mut room.leaves),
+    }
+}

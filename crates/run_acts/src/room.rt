@@ -1,0 +1,9 @@
+//! Room that instructions use.
+use ir_eval::Scalar;
+
+/// Room that instructions use again and again: for the leaves of a value, and for the bytes that one writes.
+#[derive(Drop)]
+pub struct Room {
+    pub leaves: Vec<Scalar>,
+    pub written: Vec<u8>,
+}
