@@ -1,0 +1,89 @@
+-- What is known of a defined variable of a sound arena, and of an arena's constants.
+use Rattle.std.proofs.Common.{◌≡◌, ℕ, ◌+◌, ◌^◌, ◌<◌, ◌≤◌, All, List, length, option_to_list, Bool, true, false, Option, Some, None, is_some, refl, sym, ap, ◌∙◌, subst, arith}
+use Rattle.std.specs.Prelude.{slice_get, Result, Ok, Err, IfOk}
+use Rattle.std.specs.Option.{option_map_or}
+use Rattle.std.proofs.lemmas.Bool.{and_parts}
+use Rattle.std.proofs.lemmas.Option.{slice_get_within}
+use Rattle.ir_memory.specs.Memory.{Blocks, no_blocks}
+use Rattle.type_table.specs.Limits.{Fits, IsWithin}
+use Rattle.type_table.specs.Layout.{size}
+use Rattle.type_table.specs.Types.{Types, structs, tree}
+use Rattle.type_table.specs.Types as types
+use Rattle.module_arena.specs.Changes.{constant_in}
+use Rattle.module_arena.specs.declared.constant.Const.{Const}
+use Rattle.module_arena.specs.declared.entry.Variable.{Variable}
+use Rattle.module_arena.specs.Known.{IsGood, KnowsVariable}
+use Rattle.module_arena.specs.Lists.{Lists}
+use Rattle.module_arena.specs.TypeTests.{lies_in_memory}
+use Rattle.module_arena.specs.Valid.{IsValid}
+use Rattle.module_arena.specs.View.{module_of}
+use Rattle.module_arena.specs.WellFormed.{IsWellFormed}
+use Rattle.module_arena.proofs.ConstantsTold.{constant_here}
+use Rattle.run_constants.specs.Sound.{IsPart, constant_of}
+use Rattle.run_names.proofs.Bounded as bounded
+use Rattle.run_names.proofs.Listed.{all_get}
+use Rattle.run_names.specs.Spots.{defines, is_defined}
+use Rattle.run_rules.specs.Opening.{with_variables}
+use Rattle.run_rules.specs.Plan as plans
+use Rattle.run_shapes.specs.Shapes.{shape_in}
+use Rattle.run_shapes.proofs.Outlines.{laid_is, shape_fits}
+use Rattle.run_contents.specs.Held.{is_list}
+use Rattle.run_contents.specs.Placed.{ArePlaced, Fills}
+use Rattle.run_contents.proofs.Holdings.{sound}
+
+-- ---- a constant of a form
+
+pub list_told : (a b : Lists) → b ≡ a → IsGood b → (id : ℕ) (known form : Const) → id < length a.constants → slice_get b.constants id ≡ Some known → known ≡ form → is_list (constant_in a form) ≡ is_list (constant_of a id)
+list_told a b same good id known form lt at is =
+    sym
+    (ap is_list
+    (subst (λ (x : Lists). constant_of x id ≡ constant_in x known) same (constant_here b good id known at) ∙ ap (constant_in a) is))
+
+-- ---- a variable that is defined
+
+pub defines_within : (a : Lists) (n : ℕ) → defines a n ≡ true → n < length a.variables
+defines_within a n h = go (slice_get a.variables n) refl h
+  where
+    go : (o : Option Variable) → slice_get a.variables n ≡ o → option_map_or is_defined o false ≡ true → n < length a.variables
+    go None e k = cc
+    go (Some v) e k = slice_get_within a.variables n v e
+
+pub initialised : (v : Variable) → is_defined v ≡ true → (id : ℕ) × (v.initialiser ≡ Some id)
+initialised v h = go v.initialiser refl (and_parts (is_some v.initialiser) _ h).0
+  where
+    go : (o : Option ℕ) → v.initialiser ≡ o → is_some o ≡ true → (id : ℕ) × (v.initialiser ≡ Some id)
+    go None e k = cc
+    go (Some id) e k = (id, e)
+
+module _ (a b : Lists) (same : b ≡ a) (good : IsGood b) (well_formed : IsWellFormed (module_of a)) (valid : IsValid (module_of a)) (number : ℕ) (v : Variable) (there : slice_get b.variables number ≡ Some v) (defined : defines a number ≡ true) (id : ℕ) (has : v.initialiser ≡ Some id) where
+  at : slice_get a.variables number ≡ Some v
+  at = subst (λ (x : Lists). slice_get x.variables number ≡ Some v) same there
+
+  is : is_defined v ≡ true
+  is = sym (ap (λ (o : Option Variable). option_map_or is_defined o false) at) ∙ defined
+
+  known : KnowsVariable (length a.table.types) (length a.constants) v
+  known = subst (λ (x : Lists). KnowsVariable (length x.table.types) (length x.constants) v) same (all_get (KnowsVariable (length b.table.types) (length b.constants)) b.variables number v good.variables there)
+
+  pub value_known : id < length a.constants
+  value_known = subst (λ (o : Option ℕ). All (λ (n : ℕ). n < length a.constants) (option_to_list o)) has known.initialiser_known 0 id (omega arith)
+
+  pub part : IsPart a (record { ty = v.ty; value = id })
+  part = record { ty = known.ty_known; value = value_known; sound = sound a well_formed valid number v at is id has }
+
+  pub laid : lies_in_memory (structs a.table) (tree a.table v.ty) ≡ true
+  laid = bounded.lies_in_memory a number v at valid defined
+
+  pub ends : (t : Types) → t ≡ a.table → types.IsGood t → IsWithin t → 0 + size (shape_in a.table v.ty) ≤ 2 ^ 40
+  ends t e typed within =
+      let lt : v.ty < length t.types = subst (λ (x : Types). v.ty < length x.types) (sym e) known.ty_known in
+      let fits : Fits (shape_in a.table v.ty) = subst (λ (x : Types). Fits (shape_in x v.ty)) e (shape_fits t typed within v.ty lt) in
+      let most = fits.size_fits (laid_is a.table v.ty laid) in
+      omega (arith, most)
+
+-- ---- blocks that were made
+
+pub placed_where : {E : Type 0} (a : Lists) (r : Result Bool E) (vs ws : List plans.Variable) (m : Blocks) → vs ≡ ws → IfOk r (λ all. Fills all (with_variables vs no_blocks) m) → (with_variables ws no_blocks ≡ Ok m → ArePlaced a m) → IfOk r (λ all. all ≡ true → ArePlaced a m)
+placed_where a (Ok true) vs ws m same h placed = λ e. placed (ap (λ (l : List plans.Variable). with_variables l no_blocks) (sym same) ∙ h)
+placed_where a (Ok false) vs ws m same h placed = λ e. cc
+placed_where a (Err x) vs ws m same h placed = tt

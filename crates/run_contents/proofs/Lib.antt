@@ -1,0 +1,8 @@
+pub mod Others
+pub mod Aligned
+pub mod Rooms
+pub mod Made
+pub mod Holdings
+pub mod Stores
+pub mod Placed
+pub mod Known

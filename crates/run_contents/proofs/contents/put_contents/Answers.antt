@@ -1,0 +1,43 @@
+use Rattle.std.proofs.Common.{Some, ap, sym, ◌∙◌, subst}
+use Rattle.std.proofs.lemmas.Option.{slice_get-get_or}
+use Rattle.module_arena.specs.Lists.{Lists}
+use Rattle.module_arena.specs.Valid.{IsValid}
+use Rattle.module_arena.specs.View.{module_of}
+use Rattle.module_arena.specs.WellFormed.{IsWellFormed}
+use Rattle.run_names.specs.declared.spot.Spot.{Spot}
+use Rattle.run_contents.proofs.Known.{defines_within, initialised}
+use Rattle.run_contents.proofs.Rooms.{its_variable}
+use Rattle.run_contents.proofs.Stores.{one_stored, others_placed}
+use Rattle.run_contents.proofs.contents.put_contents.Goals as goal
+
+pub put_variable-requires-clause-defined : goal.put_variable-requires-clause-defined
+put_variable-requires-clause-defined c =
+    let s = c.index-spots-block.result in
+    let there = slice_get-get_or c.spots-spots.result.now c.spots.block s c.spots-test.true ∙ ap (λ (x : Spot). Some x) (sym c.index-spots-block.is) in
+    c.spots-spots.ensures.defined c.spots.block s there
+
+pub put_variable-requires-clause-id : goal.put_variable-requires-clause-id
+put_variable-requires-clause-id c =
+    let s = c.index-spots-block.result in
+    let there = slice_get-get_or c.spots-spots.result.now c.spots.block s c.spots-test.true ∙ ap (λ (x : Spot). Some x) (sym c.index-spots-block.is) in
+    defines_within c.args.names.now s.variable (c.spots-spots.ensures.defined c.spots.block s there)
+
+pub spots-preserved : goal.spots-preserved
+spots-preserved c =
+    let a = c.args.names.now in
+    let well_formed : IsWellFormed (module_of a) = subst (λ (b : Lists). IsWellFormed (module_of b)) c.program-program.ensures c.arena-arena.ensures.well_formed in
+    let valid : IsValid (module_of a) = subst (λ (b : Lists). IsValid (module_of b)) c.program-program.ensures c.arena-arena.ensures.valid in
+    let spots = c.spots-spots.result.now in
+    let are = c.spots-spots.ensures in
+    let k = c.spots.block in
+    let s = c.index-spots-block.result in
+    let there = slice_get-get_or spots k s c.spots-test.true ∙ ap (λ (x : Spot). Some x) (sym c.index-spots-block.is) in
+    let its = its_variable a well_formed valid spots are k s there in
+    let has = initialised its.0 its.1.is in
+    let m = c.spots.memory in
+    let n = c.put_variable.new.memory in
+    let put = c.in_ok-put_variable.ensures.put its.0 its.1.at in
+    record {
+      stored = one_stored a well_formed valid spots are k s there its.0 its.1 has.0 has.1 m n c.spots.invariant.placed put ∙ c.spots.invariant.stored;
+      placed = others_placed a well_formed valid spots are k s there its.0 its.1 has.0 has.1 m n c.spots.invariant.placed put c.in_ok-put_variable.ensures.kept;
+    }

@@ -1,0 +1,12 @@
+//! Memory as it is at first: the blocks of variables, and what variables hold.
+//!
+//! It stands on the names of `run_names`, the constants that `run_initial` puts, and `ir_memory`. It promises, for a checked module run
+//! alone, exactly the blocks and the contents that the definition of opening gives; it is refused for want of memory alone. Definitions:
+//! `specs/Placed`, `specs/Held`; `Opening` and `Plan` of `run_rules`.
+#![tactic(auto)]
+
+mod contents;
+mod variables;
+
+pub use contents::put_contents;
+pub use variables::place_variables;
