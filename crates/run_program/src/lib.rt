@@ -2,9 +2,9 @@
 //! bodies that are there.
 //!
 //! It stands on the names of `run_names`, the scopes of `run_scopes`, the laws of `run_suits`, the function types of `run_signatures` and the
-//! bodies of `run_body`. It promises that a call is told exactly the function type and the leaves that a function has, that a body that is
-//! there is what look-up finds in a run of the module alone, and stays there, and that function types are told apart as the definitions
-//! tell them apart. Definitions: `specs/Loaded`; `Look` and `Scope` of `run_rules`.
+//! bodies that `run_decode` makes. It promises that a call is told exactly the function type and the leaves that a function has, that a body
+//! that is there is what look-up finds in a run of the module alone, and stays there, and that function types are told apart as the
+//! definitions tell them apart. Definitions: `specs/Loaded`; `Look` and `Scope` of `run_rules`.
 #![tactic(auto)]
 
 mod leaves;

@@ -66,6 +66,5 @@ pub(crate) fn body_of<'m>(
     // The ids in an arena are those of the arena, and in a checked one each function is what decoding asks for.
     let _count = arena.variable_count();
     functions_of_a_checked_module_suit();
-    let body = decode(alloc, names, signatures, id)?;
-    Ok(body)
+    decode(alloc, names, signatures, id)
 }
