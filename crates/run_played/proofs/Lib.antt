@@ -1,3 +1,4 @@
 pub mod Fronts
 pub mod Longer
+pub mod Few
 pub mod Whole

@@ -1,12 +1,12 @@
 -- Answers of a machine that was just opened are those of its program.
-use Rattle.std.proofs.Common.{◌≡◌, ℕ, ◌+◌, ◌-◌, ◌≤◌, nat_lt, Bool, true, false, List, [], ◌∷◌, ◌++◌, length, Option, Some, None, IfSome, Result, Ok, Err, refl, sym, ap, ◌∙◌, subst, arith}
-use Rattle.std.specs.Prelude.{option_map, if◌then◌else◌}
+use Rattle.std.proofs.Common.{◌≡◌, inl, inr, ℕ, ◌+◌, ◌-◌, ◌<◌, ◌≤◌, nat_lt, Bool, true, false, List, [], ◌∷◌, ◌++◌, length, Option, Some, None, IfSome, Result, Ok, Err, refl, sym, ap, ◌∙◌, subst, arith}
+use Rattle.std.specs.Prelude.{if◌then◌else◌}
 use Rattle.std.proofs.lemmas.Bool.{false≢true, ltb-true, ltb-false}
 use Rattle.std.proofs.lemmas.List.{length-append}
 use Rattle.ir_base.specs.Outside.{Lost}
 use Rattle.run_rules.specs.Action.{Action}
 use Rattle.run_rules.specs.Calls.{Callee}
-use Rattle.run_rules.specs.Clauses.{Outside, IsAtEnd, IsFront, IsRest, output_of, told}
+use Rattle.run_rules.specs.Clauses.{Outside, Traffic, IsFront, IsRest, output_of, told}
 use Rattle.run_rules.specs.Look.{look, table}
 use Rattle.run_rules.specs.Machine.{Machine, new_machine, step_of}
 use Rattle.run_rules.specs.Opening.{opened}
@@ -14,30 +14,27 @@ use Rattle.run_rules.specs.Plan.{plan}
 use Rattle.run_rules.specs.RunClauses.{Came, ReadsWell, RunCouldNotRead, RunCouldNotWrite, RunEnds, RunWantedMemory, output_within}
 use Rattle.run_rules.specs.Side.{begun, run_opened}
 use Rattle.run_rules.specs.State.{Core, State}
+use Rattle.run_rules.specs.Step.{Outcome, Step, GoesOn, IsOver, advanced, outcome, run}
 use Rattle.run_rules.specs.declared.end.End.{End}
 use Rattle.run_rules.specs.declared.end.End.TheVariants.{StepsUsed}
 use Rattle.run_rules.specs.declared.fault.RunFault.TheVariants.{ReadFault, WriteFault, Memory}
-use Rattle.run_rules.specs.Step.{Outcome, Step, GoesOn, IsOver, advanced, outcome, run}
-use Rattle.run_laws.proofs.BeforeReads.{writes_before}
 use Rattle.run_laws.proofs.Reached.{added_none, lost_none}
+use Rattle.run_played.proofs.Few.{ends_in_time}
 use Rattle.run_played.proofs.Fronts.{front_of_front, next_output, reached_output}
 use Rattle.run_played.proofs.Longer.{advanced_steps, none_earlier}
 use Rattle.run_played.specs.Laws.{EarlyEndsArePlayed, RunsArePlayed}
-use Rattle.run_played.specs.Played.{AsksAt, Plays, Program, PutsBeforeItReads, outcome_of}
+use Rattle.run_played.specs.Played.{AsksAt, Plays, Program, PutsBeforeItReads, Reaches, outcome_of}
 
 -- an output and an end
 abbrev an_outcome : List ℕ → End → Outcome
 an_outcome output end = record { output = output; end = end }
 
--- ---- what is left of the input
+-- ---- what is left of the input, where that is told
 
-left_in : (old new : Machine) (l : Option (List ℕ)) (heard input : List ℕ) → Some input ≡ option_map (λ rest. heard ++ rest) l → (old.closed ≡ false → new.closed ≡ true → IfSome l (λ rest. rest ≡ []))
-    → (rest : List ℕ) × (input ≡ heard ++ rest) × IsRest old new rest
-left_in old new None heard input e at_end = absurd cc
-left_in old new (Some rest) heard input e at_end = let same : input ≡ heard ++ rest = cc in (rest, same, at_end)
-
-rest_of : (old new : Machine) (before after : Outside) (heard input : List ℕ) → before.left ≡ Some input → Lost before.left after.left heard → IsAtEnd old new after → (rest : List ℕ) × (input ≡ heard ++ rest) × IsRest old new rest
-rest_of old new before after heard input left lost at_end = left_in old new after.left heard input (sym left ∙ lost) at_end
+-- the bytes that are left behind those that were read
+pub left_behind : (over : Bool) (left : Option (List ℕ)) (heard input : List ℕ) → Lost (Some input) left heard → (over ≡ true → IfSome left (λ rest. rest ≡ [])) → (rest : List ℕ) × (input ≡ heard ++ rest) × (over ≡ true → rest ≡ [])
+left_behind over None heard input lost at_end = absurd cc
+left_behind over (Some rest) heard input lost at_end = let same : input ≡ heard ++ rest = cc in (rest, same, at_end)
 
 -- ---- what a run comes to
 
@@ -48,8 +45,7 @@ outcome_told (Some x) = an_outcome x.1 x.0
 
 told_outcome : (x : Step) (end : End) (output : List ℕ) (steps : ℕ) → told x ≡ Some (end, output, steps) → outcome x ≡ an_outcome output end
 told_outcome (GoesOn s) end output steps e = absurd cc
-told_outcome (IsOver other s) end output steps e =
-    ap outcome_told e
+told_outcome (IsOver other s) end output steps e = ap outcome_told e
 
 outcome_output : (x : Step) → (outcome x).output ≡ output_of x
 outcome_output (GoesOn s) = refl
@@ -57,6 +53,9 @@ outcome_output (IsOver end s) = refl
 
 none_off : (n : ℕ) → n - 0 ≡ n
 none_off n = omega arith
+
+none_first : (n : ℕ) → 0 + n ≡ n
+none_first n = omega arith
 
 same_core : (r : Result Core End) (a b : Core) → r ≡ Ok a → r ≡ Ok b → a ≡ b
 same_core r a b e f = cc
@@ -80,29 +79,25 @@ module _ (p : Program) (c : Core) (opens : opened (plan (p.code ∷ [])) p.words
   -- so many steps from the first state
   steps_are : (n : ℕ) (input : List ℕ) (at : State) → advanced L T n (begun c input) ≡ GoesOn at → at.steps ≡ n
   steps_are n input at to = advanced_steps L T n (begun c input) at to ∙ none_first n
-    where
-      none_first : (n : ℕ) → 0 + n ≡ n
-      none_first n = omega arith
 
   -- a state that was reached
   reached : (input : List ℕ) (used : ℕ) (at : State) (a : AsksAt p input used at) → advanced L T a.reaches.count (begun c input) ≡ GoesOn at
   reached input used at a =
       subst (λ (d : Core). advanced L T a.reaches.count (begun d input) ≡ GoesOn at) (same_core (opened (plan (p.code ∷ [])) p.words) a.reaches.core c a.reaches.opens opens) a.reaches.steps
 
+  reaches : (input : List ℕ) (count : ℕ) (at : State) → count ≤ p.bound → advanced L T count (begun c input) ≡ GoesOn at → Reaches p input at
+  reaches input count at within steps = record { core = c; opens = opens; count = count; within = within; steps = steps }
+
+  -- what is left behind the bytes that were read
+  is_rest : (new : Machine) (rest : List ℕ) → (new.closed ≡ true → rest ≡ []) → IsRest old new rest
+  is_rest new rest ends = λ _ closed. ends closed
+
   -- ---- output before input
 
-  puts_early : (new : Machine) (before after : Outside) (heard put : List ℕ) (went_at : IsAtEnd old new after) → Lost before.left after.left heard → ReadsWell old new (record { heard = heard; flushed = put })
-      → (input : List ℕ) → before.left ≡ Some input → PutsBeforeItReads p input heard put
-  puts_early new before after heard put at_end lost well input left = λ some at a there.
-      let rest = rest_of old new before after heard input left lost at_end in
-      writes_before old new (record { heard = heard; flushed = put }) well rest.0 at rest.2 some
-      (record {
-        count = a.reaches.count;
-        steps = subst (λ (xs : List ℕ). advanced L T a.reaches.count (begun c xs) ≡ GoesOn at) rest.1 (reached input (length heard - 65536) at a);
-        asks = a.asks_there;
-        placed = subst (λ (xs : List ℕ). length xs ≡ (length heard - 65536) + length at.input) rest.1 a.placed;
-        there = there;
-      })
+  puts_early : (new : Machine) (t : Traffic) → ReadsWell old new t → new.steps ≤ p.bound → (rest : List ℕ) → IsRest old new rest → PutsBeforeItReads p (t.heard ++ rest) t.heard t.flushed
+  puts_early new t (inl none) within rest is = λ some. let no_byte : ⊥ = omega (arith, subst (λ (xs : List ℕ). 0 < length xs) none some) in absurd no_byte
+  puts_early new t (inr l) within rest is = λ some.
+      (l.after rest, reaches (t.heard ++ rest) l.count (l.after rest) (omega (arith, l.within, within)) (l.reached rest is), omega (arith, l.consumed rest is, l.near), l.written rest is)
 
   -- ---- each answer
 
@@ -113,14 +108,21 @@ module _ (p : Program) (c : Core) (opens : opened (plan (p.code ∷ [])) p.words
     lost = r.went.moves.lost;
     added = r.went.moves.added;
     faulted = r.fine;
-    printed = λ input left.
-        let rest = rest_of old new before after r.traffic.heard input left r.went.moves.lost r.went.at_end in
-        side_is input
-        ∙ ap (λ (xs : List ℕ). outcome (run L T p.bound (begun c xs))) rest.1
-        ∙ told_outcome (run L T p.bound (begun c (r.traffic.heard ++ rest.0))) end r.traffic.flushed new.steps
-        (subst (λ (n : ℕ). told (run L T n (begun c (r.traffic.heard ++ rest.0))) ≡ Some (end, r.traffic.flushed, new.steps)) (none_off p.bound) (r.runs rest.0 [] rest.2));
-    early = puts_early new before after r.traffic.heard r.traffic.flushed r.went.at_end r.went.moves.lost r.went.well;
+    over = new.closed;
+    at_end = r.went.at_end refl;
+    printed = λ rest ends. side_is (r.traffic.heard ++ rest) ∙ told_outcome (run L T p.bound (begun c (r.traffic.heard ++ rest))) end r.traffic.flushed new.steps (comes rest ends);
+    early = λ rest ends. puts_early new r.traffic r.went.well (in_time rest ends) rest (is_rest new rest ends);
   }
+    where
+      comes : (rest : List ℕ) → (new.closed ≡ true → rest ≡ []) → told (run L T p.bound (begun c (r.traffic.heard ++ rest))) ≡ Some (end, r.traffic.flushed, new.steps)
+      comes rest ends = subst (λ (n : ℕ). told (run L T n (begun c (r.traffic.heard ++ rest))) ≡ Some (end, r.traffic.flushed, new.steps)) (none_off p.bound) (r.runs rest [] (is_rest new rest ends))
+
+      in_time : (rest : List ℕ) → (new.closed ≡ true → rest ≡ []) → new.steps ≤ p.bound
+      in_time rest ends = subst (λ (n : ℕ). new.steps ≤ n) (none_first p.bound) (ends_in_time L T p.bound (begun c (r.traffic.heard ++ rest)) end r.traffic.flushed new.steps (comes rest ends))
+
+  -- where a run came to a state on the way
+  came_in_time : (new : Machine) (t : Traffic) (rest : List ℕ) (at : State) → Came p.bound old new t rest [] at → new.steps ≤ p.bound
+  came_in_time new t rest at came = omega (arith, came.made, steps_are came.count (t.heard ++ rest) at came.steps, came.within)
 
   could_not_read : (new : Machine) (before after : Outside) → RunCouldNotRead p.bound old new before after → Plays p (Err ReadFault) before after
   could_not_read new before after r = record {
@@ -129,18 +131,21 @@ module _ (p : Program) (c : Core) (opens : opened (plan (p.code ∷ [])) p.words
     lost = r.went.moves.lost;
     added = r.went.moves.added;
     faulted = (r.rose, r.write_faults);
-    printed = λ input left.
-        let rest = rest_of old new before after r.traffic.heard input left r.went.moves.lost r.went.at_end in
-        let here = r.comes rest.0 [] (any_rest rest.0) in
-        let came : Came p.bound old new r.traffic rest.0 [] here.0 = here.1 in
-        let to : advanced L T came.count (begun c input) ≡ GoesOn here.0 = subst (λ (xs : List ℕ). advanced L T came.count (begun c xs) ≡ GoesOn here.0) (sym rest.1) came.steps in
-        let asking : AsksAt p input (length r.traffic.heard) here.0 = record {
-          reaches = record { core = c; opens = opens; count = came.count; within = omega (arith, came.within); steps = to };
+    over = new.closed;
+    at_end = r.went.at_end refl;
+    printed = λ rest ends.
+        let here = r.comes rest [] (any_rest rest) in
+        let came : Came p.bound old new r.traffic rest [] here.0 = here.1 in
+        let asking : AsksAt p (r.traffic.heard ++ rest) (length r.traffic.heard) here.0 = record {
+          reaches = reaches (r.traffic.heard ++ rest) came.count here.0 (omega (arith, came.within)) came.steps;
+          due = here.2;
           asks_there = here.3;
-          placed = ap length rest.1 ∙ length-append r.traffic.heard rest.0 ∙ ap (λ (xs : List ℕ). length r.traffic.heard + length xs) (sym here.4);
+          placed = length-append r.traffic.heard rest ∙ ap (λ (xs : List ℕ). length r.traffic.heard + length xs) (sym here.4);
         } in
-        (here.0, record { is_asking = asking; first = λ other a. not_before rest.0 input other a rest.1 here.0 (sym came.made) }, sym here.5);
-    early = puts_early new before after r.traffic.heard r.traffic.flushed r.went.at_end r.went.moves.lost r.went.well;
+        (here.0, record { is_asking = asking; first = λ other a. not_before rest other a here.0 (sym came.made) }, sym here.5);
+    early = λ rest ends.
+        let here = r.comes rest [] (any_rest rest) in
+        puts_early new r.traffic r.went.well (came_in_time new r.traffic rest here.0 here.1) rest (is_rest new rest ends);
   }
     where
       any_rest : (xs : List ℕ) → IsRest old new xs
@@ -153,24 +158,22 @@ module _ (p : Program) (c : Core) (opens : opened (plan (p.code ∷ [])) p.words
           let count : came.count ≡ new.steps = sym (steps_are came.count (r.traffic.heard ++ xs) here.0 came.steps) ∙ sym came.made in
           (here.0, subst (λ (n : ℕ). advanced L T n (begun c (r.traffic.heard ++ xs)) ≡ GoesOn here.0) count came.steps, here.4)
 
-      not_before : (rest input : List ℕ) (other : State) → AsksAt p input (length r.traffic.heard) other → input ≡ r.traffic.heard ++ rest → (at : State) → at.steps ≡ new.steps → at.steps ≤ other.steps
-      not_before rest input other a is at made = go (nat_lt a.reaches.count new.steps) refl
+      not_before : (rest : List ℕ) (other : State) → AsksAt p (r.traffic.heard ++ rest) (length r.traffic.heard) other → (at : State) → at.steps ≡ new.steps → at.steps ≤ other.steps
+      not_before rest other a at made = go (nat_lt a.reaches.count new.steps) refl
         where
           to : advanced L T a.reaches.count (begun c (r.traffic.heard ++ rest)) ≡ GoesOn other
-          to = subst (λ (xs : List ℕ). advanced L T a.reaches.count (begun c xs) ≡ GoesOn other) is (reached input (length r.traffic.heard) other a)
+          to = reached (r.traffic.heard ++ rest) (length r.traffic.heard) other a
 
           count : other.steps ≡ a.reaches.count
           count = steps_are a.reaches.count (r.traffic.heard ++ rest) other to
 
           go : (earlier : Bool) → nat_lt a.reaches.count new.steps ≡ earlier → at.steps ≤ other.steps
-          go true e =
-              absurd (none_earlier L T c r.traffic.heard rest a.reaches.count new.steps other more to a.asks_there
-              (subst (λ (xs : List ℕ). length xs ≡ length r.traffic.heard + length other.input) is a.placed) (ltb-true a.reaches.count new.steps e))
+          go true e = absurd (none_earlier L T c r.traffic.heard rest a.reaches.count new.steps other more to a.asks_there a.placed (ltb-true a.reaches.count new.steps e))
           go false e = omega (arith, made, count, ltb-false a.reaches.count new.steps e)
 
   -- what a state on the way has, and the step under way, are in front of all
-  within_front : (new : Machine) (at : State) (count : ℕ) (input : List ℕ) → count ≤ p.bound → advanced L T count (begun c input) ≡ GoesOn at → IsFront (output_within p.bound old at) (outcome_of p input).output
-  within_front new at count input few to = go (nat_lt at.steps p.bound) refl
+  within_front : (at : State) (count : ℕ) (input : List ℕ) → count ≤ p.bound → advanced L T count (begun c input) ≡ GoesOn at → IsFront (output_within p.bound old at) (outcome_of p input).output
+  within_front at count input few to = go (nat_lt at.steps p.bound) refl
     where
       steps : at.steps ≡ count
       steps = steps_are count input at to
@@ -186,13 +189,16 @@ module _ (p : Program) (c : Core) (opens : opened (plan (p.code ∷ [])) p.words
     lost = r.went.moves.lost;
     added = r.went.moves.added;
     faulted = (r.rose, r.read_faults);
-    printed = λ input left.
-        let rest = rest_of old new before after r.traffic.heard input left r.went.moves.lost r.went.at_end in
-        let here = r.comes rest.0 [] rest.2 in
-        let came : Came p.bound old new r.traffic rest.0 [] here.0 = here.1 in
-        let to : advanced L T came.count (begun c input) ≡ GoesOn here.0 = subst (λ (xs : List ℕ). advanced L T came.count (begun c xs) ≡ GoesOn here.0) (sym rest.1) came.steps in
-        front_of_front r.traffic.flushed (output_within p.bound old here.0) (outcome_of p input).output here.2 (within_front new here.0 came.count input (omega (arith, came.within)) to);
-    early = puts_early new before after r.traffic.heard r.traffic.flushed r.went.at_end r.went.moves.lost r.went.well;
+    over = new.closed;
+    at_end = r.went.at_end refl;
+    printed = λ rest ends.
+        let here = r.comes rest [] (is_rest new rest ends) in
+        let came : Came p.bound old new r.traffic rest [] here.0 = here.1 in
+        let all = (outcome_of p (r.traffic.heard ++ rest)).output in
+        front_of_front r.traffic.flushed (output_within p.bound old here.0) all here.2 (within_front here.0 came.count (r.traffic.heard ++ rest) (omega (arith, came.within)) came.steps);
+    early = λ rest ends.
+        let here = r.comes rest [] (is_rest new rest ends) in
+        puts_early new r.traffic r.went.well (came_in_time new r.traffic rest here.0 here.1) rest (is_rest new rest ends);
   }
 
   wanted_memory : (new : Machine) (before after : Outside) → RunWantedMemory p.bound old new before after → Plays p (Err Memory) before after
@@ -202,15 +208,18 @@ module _ (p : Program) (c : Core) (opens : opened (plan (p.code ∷ [])) p.words
     lost = r.went.moves.lost;
     added = r.went.moves.added;
     faulted = r.fine;
-    printed = λ input left.
-        let rest = rest_of old new before after r.traffic.heard input left r.went.moves.lost r.went.at_end in
-        let here = r.comes rest.0 [] rest.2 in
-        let came : Came p.bound old new r.traffic rest.0 [] here.0 = here.1 in
-        let to : advanced L T came.count (begun c input) ≡ GoesOn here.0 = subst (λ (xs : List ℕ). advanced L T came.count (begun c xs) ≡ GoesOn here.0) (sym rest.1) came.steps in
+    over = new.closed;
+    at_end = r.went.at_end refl;
+    printed = λ rest ends.
+        let here = r.comes rest [] (is_rest new rest ends) in
+        let came : Came p.bound old new r.traffic rest [] here.0 = here.1 in
+        let all = (outcome_of p (r.traffic.heard ++ rest)).output in
         let put_so : IsFront r.traffic.flushed here.0.output = (new.unwritten, here.3) in
-        front_of_front r.traffic.flushed here.0.output (outcome_of p input).output put_so
-        (subst (IsFront here.0.output) (side_output input) (reached_output L T came.count p.bound (begun c input) here.0 (omega (arith, came.within)) to));
-    early = puts_early new before after r.traffic.heard r.traffic.flushed r.went.at_end r.went.moves.lost r.went.well;
+        front_of_front r.traffic.flushed here.0.output all put_so
+        (subst (IsFront here.0.output) (side_output (r.traffic.heard ++ rest)) (reached_output L T came.count p.bound (begun c (r.traffic.heard ++ rest)) here.0 (omega (arith, came.within)) came.steps));
+    early = λ rest ends.
+        let here = r.comes rest [] (is_rest new rest ends) in
+        puts_early new r.traffic r.went.well (came_in_time new r.traffic rest here.0 here.1) rest (is_rest new rest ends);
   }
 
 pub runs_played : RunsArePlayed
@@ -220,8 +229,8 @@ runs_played p c new (Err WriteFault) before after opens r = could_not_write p c 
 runs_played p c new (Err Memory) before after opens r = wanted_memory p c opens new before after r
 
 -- nothing was read or printed
-nothing_early : (p : Program) (input : List ℕ) → PutsBeforeItReads p input [] []
-nothing_early p input = λ some at a there. let none : ⊥ = omega (arith, some) in absurd none
+nothing_early : (p : Program) (rest : List ℕ) → PutsBeforeItReads p rest [] []
+nothing_early p rest = λ some. let none : ⊥ = omega (arith, some) in absurd none
 
 pub early_ends_played : EarlyEndsArePlayed
 early_ends_played = record {
@@ -231,8 +240,10 @@ early_ends_played = record {
     lost = lost_none outside.left;
     added = added_none outside.taken;
     faulted = (refl, refl);
-    printed = λ input left. ap (λ (r : Result Core End). run_opened (look (p.code ∷ [])) (table (p.code ∷ [])) input p.bound r) opens;
-    early = λ input left. nothing_early p input;
+    over = false;
+    at_end = λ closed. absurd (false≢true closed);
+    printed = λ rest ends. ap (λ (r : Result Core End). run_opened (look (p.code ∷ [])) (table (p.code ∷ [])) rest p.bound r) opens;
+    early = λ rest ends. nothing_early p rest;
   };
   wants = λ p outside. record {
     heard = [];
@@ -240,7 +251,9 @@ early_ends_played = record {
     lost = lost_none outside.left;
     added = added_none outside.taken;
     faulted = (refl, refl);
-    printed = λ input left. ((outcome_of p input).output, refl);
-    early = λ input left. nothing_early p input;
+    over = false;
+    at_end = λ closed. absurd (false≢true closed);
+    printed = λ rest ends. ((outcome_of p rest).output, refl);
+    early = λ rest ends. nothing_early p rest;
   };
 }

@@ -1,5 +1,5 @@
 -- For `runs_are_played`: a program, what it prints and how it ends, and what an answer tells of that.
-use Rattle.std.specs.Prelude.{◌≡◌, ℕ, ◌+◌, ◌-◌, ◌<◌, ◌≤◌, true, List, [], ◌∷◌, length, Some, Result, Ok, Err}
+use Rattle.std.specs.Prelude.{◌≡◌, ℕ, ◌+◌, ◌-◌, ◌<◌, ◌≤◌, Bool, true, List, [], ◌∷◌, ◌++◌, length, IfSome, Result, Ok, Err}
 use Rattle.ir_base.specs.Outside.{Rose, Lost, Added}
 use Rattle.module_arena.specs.Module.{Module}
 use Rattle.run_rules.specs.Clauses.{Outside, IsFront, NoFaults}
@@ -32,9 +32,10 @@ pub record Reaches (p : Program) (input : List ℕ) (at : State) : Type 0 where
   pub within : count ≤ p.bound
   pub steps : advanced (look (p.code ∷ [])) (table (p.code ∷ [])) count (begun core input) ≡ GoesOn at
 
--- at this state a getchar is due that finds so many bytes of the input used
+-- at this state a getchar is due, for which there is a step, that finds so many bytes of the input used
 pub record AsksAt (p : Program) (input : List ℕ) (used : ℕ) (at : State) : Type 0 where
   pub reaches : Reaches p input at
+  pub due : at.steps < p.bound
   pub asks_there : asks (look (p.code ∷ [])) (table (p.code ∷ [])) at ≡ true
   pub placed : length input ≡ used + length at.input
 
@@ -53,10 +54,11 @@ HasPrinted p input heard put (Err ReadFault) = (at : State) × AsksFirst p input
 HasPrinted p input heard put (Err WriteFault) = IsFront put (outcome_of p input).output
 HasPrinted p input heard put (Err Memory) = IsFront put (outcome_of p input).output
 
--- No input is read while earlier output is held: what was put holds the output before the getchar that gives the byte 65,536 places before the end of
--- what was read, or the first byte.
+-- Bytes are read for a getchar alone, and not while earlier output is held: where some were, a state that the program reaches has used the byte 65,536 places
+-- before the end of what was read, or the first byte, and all its output was put.
 abbrev pub PutsBeforeItReads : Program → List ℕ → List ℕ → List ℕ → Type 0
-PutsBeforeItReads p input heard put = 0 < length heard → (at : State) → AsksAt p input (length heard - 65536) at → 0 < length at.input → IsFront at.output put
+PutsBeforeItReads p input heard put =
+    0 < length heard → (after : State) × Reaches p input after × (length after.input + (length heard - 65536) < length input) × IsFront after.output put
 
 -- which counts of faults rose by an answer
 abbrev pub HasFaulted : Result End RunFault → Outside → Outside → Type 0
@@ -65,13 +67,15 @@ HasFaulted (Err ReadFault) before after = Rose before.read_faults after.read_fau
 HasFaulted (Err WriteFault) before after = Rose before.write_faults after.write_faults × (after.read_faults ≡ before.read_faults)
 HasFaulted (Err Memory) before after = NoFaults before after
 
--- How a program was run to an answer: the bytes of its input that were read, and those that it put out; and, where the input is told, what these are of its
--- run.
+-- How a program was run to an answer: the bytes of its input that were read, and those that it put out; whether a read has given no byte, so that none are
+-- left; and what all that is of its run, whatever bytes are left behind those that were read.
 pub record Plays (p : Program) (answer : Result End RunFault) (before after : Outside) : Type 0 where
   pub heard : List ℕ
   pub put : List ℕ
   pub lost : Lost before.left after.left heard
   pub added : Added before.taken after.taken put
   pub faulted : HasFaulted answer before after
-  pub printed : (input : List ℕ) → before.left ≡ Some input → HasPrinted p input heard put answer
-  pub early : (input : List ℕ) → before.left ≡ Some input → PutsBeforeItReads p input heard put
+  pub over : Bool
+  pub at_end : over ≡ true → IfSome after.left (λ rest. rest ≡ [])
+  pub printed : (rest : List ℕ) → (over ≡ true → rest ≡ []) → HasPrinted p (heard ++ rest) heard put answer
+  pub early : (rest : List ℕ) → (over ≡ true → rest ≡ []) → PutsBeforeItReads p (heard ++ rest) heard put

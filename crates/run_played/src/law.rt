@@ -2,7 +2,7 @@
 ghost use Rattle.run_played.specs.Laws.{EarlyEndsArePlayed, RunsArePlayed};
 
 /// What `run` of a machine that was just opened answers is told of the program: its end with all its output; or the output before the first
-/// getchar that found what was read used up; or a front of its output.
+/// getchar that found what was read used up; or a front of its output. What was put out before input was read is written.
 pub fn runs_are_played()
     ensures { RunsArePlayed }
 {}
