@@ -1,0 +1,13 @@
+//! What is known ahead of a body: how many values and blocks it has, and what its parameters are called.
+//!
+//! It stands on `record_read` and `body_names`, and is read before the lines are, since these name what stands behind them. It
+//! promises the counts of what `Bodies` of `record_table` gathers, and the names of a first record that breaks no rule.
+//! Definitions: `Bodies` of `record_table`, and `specs/Ahead`.
+#![tactic(auto)]
+
+mod ahead;
+mod giving;
+mod parameters;
+
+pub use ahead::{BodyAhead, gather_body};
+pub use giving::opcode_of;

@@ -1,0 +1,12 @@
+//! The records of a body, one by one, read into an arena in the making.
+//!
+//! It stands on `call_read`, `ending_read` and `body_names`. It promises that each record is read as its layout says, that what
+//! is read stays what it is while constants are added, and that a record that breaks a rule is refused by the least that it
+//! breaks. Definitions: `Bodies` of `record_table`, and `specs/Begun`.
+#![tactic(auto)]
+
+mod begun;
+mod records;
+
+pub use begun::{Begun, Due};
+pub use records::{read_block, read_end, read_line, read_parameters};
