@@ -1,11 +1,14 @@
 #!/usr/bin/env python3
-"""Forty C programs: what clang-19 prints of them, and what they do as native programs.
+"""Programs in C: what clang-19 prints of them, what they do as native programs, and whether `lli` does the same.
 
-    tests/programs.py --make     compiles each with clang-19 and runs it; writes tests/programs/NAME.O0.ll, NAME.O2.ll and results.txt
-    tests/programs.py --check    each program has its two texts and its line of results.txt, and they are of this very source
+    tests/programs.py --make        compiles each with clang-19 and runs it; writes the texts and results.txt of both folders
+    tests/programs.py --check       each program has its texts and its line of results.txt, and they are of this very source
+    tests/programs.py --run TOOL    runs each text by the ir-tools program of this name, and compares output and status
+    tests/programs.py --link TOOL   the same of linked texts alone, run by lli-19
 
-A program is run three times: as made at -O0, at -O2, and at -O1 with a trap at whatever is undefined. The three must agree. Each
-line of results.txt has the name, the source's checksum, the status, and the output as a Python literal.
+tests/programs has forty programs of one part, NAME.c, which are also cut in two by `llvm-extract` and linked again; tests/linked has programs
+of several parts, NAME.1.c, NAME.2.c and so on, which `llvm-link` makes one, in their order. A program is run three times: as made at -O0, at -O2, and at -O1 with a trap at whatever is undefined. The
+three must agree. Each line of results.txt has the name, the sources' checksum, the status, and the output as a Python literal.
 """
 import ast
 import hashlib
@@ -15,78 +18,148 @@ import subprocess
 import sys
 import tempfile
 
-HERE = pathlib.Path(__file__).resolve().parent / "programs"
+HERE = pathlib.Path(__file__).resolve().parent
+FOLDERS = [HERE / "programs", HERE / "linked"]
 LEVELS = (0, 2)
 # No position-independent tables, no vectors, no calls that the source does not write.
 FLAGS = ["-fno-pie", "-Wl,-no-pie", "-fno-vectorize", "-fno-slp-vectorize", "-fno-builtin-calloc", "-U__OPTIMIZE__"]
 # These are compiled with no flag but the level.
 PLAIN = {"bits", "fibonacci", "list", "machine", "matrix", "queens", "setup", "sieve", "sort", "text"}
+# The parts of this one have tentative definitions, which are one variable.
+COMMON = {"common": ["-fcommon"]}
 # The arguments of those that are given some, and the inputs of those that read.
 ARGUMENTS = {"echo": ["one", "-22", "three", "400", "", "-"]}
 INPUTS = {
     "count": b"one two\tthree\n\n  four  \n\xff\x00last",
     "turn": b"Hello, World\nab cd\tef\n\nno line feed",
+    "input": b"a line\nanother One\n\nthe last",
 }
 
 
-def names():
-    """The names of the programs."""
-    return sorted(path.stem for path in HERE.glob("*.c"))
+class Program:
+    """A program of a folder: its name, and its sources in their order."""
+
+    def __init__(self, folder, name, sources):
+        self.folder, self.name, self.sources = folder, name, sources
+        self.flags = [] if name in PLAIN and len(sources) == 1 else FLAGS + (COMMON.get(name, []) if len(sources) > 1 else [])
+
+    def checksum(self):
+        return hashlib.sha256(b"".join(path.read_bytes() for path in self.sources)).hexdigest()[:16]
+
+    def texts(self, level):
+        """The texts of its parts at a level."""
+        return [path.with_name(f"{path.name[:-2]}.O{level}.ll") for path in self.sources]
+
+    def ran(self, *flags):
+        """The status and the output of the native program, made with these flags."""
+        with tempfile.TemporaryDirectory() as room:
+            subprocess.run(["clang-19", "-w", *flags, "-o", f"{room}/program", *self.sources], check=True)
+            return told([f"{room}/program", *ARGUMENTS.get(self.name, [])], self.name)
+
+    def make(self):
+        """Writes its texts, and gives its line of results.txt."""
+        for level in LEVELS:
+            for source, text in zip(self.sources, self.texts(level), strict=True):
+                subprocess.run(["clang-19", "-w", f"-O{level}", *self.flags, "-S", "-emit-llvm", "-o", text.name, source.name], cwd=self.folder, check=True)
+        runs = [self.ran(f"-O{level}", *self.flags) for level in LEVELS]
+        runs.append(self.ran("-O1", *COMMON.get(self.name, []), "-fsanitize=undefined", "-fsanitize-trap=undefined"))
+        if len(set(runs)) != 1 or runs[0][0] < 0:
+            sys.exit(f"{self.name}: the runs differ: {runs}")
+        return f"{self.name} {self.checksum()} {runs[0][0]} {runs[0][1]!r}\n"
+
+    def wrong(self, found):
+        """What its texts and its line of results.txt lack."""
+        if found.get(self.name, ("",))[0] != self.checksum():
+            yield f"{self.name}: not of this source"
+        for level in LEVELS:
+            for source, path in zip(self.sources, self.texts(level), strict=True):
+                text = path.read_text() if path.exists() else ""
+                if not re.search(rf'^source_filename = "{re.escape(source.name)}"$', text, re.M):
+                    yield f"{path.name}: no text of {source.name}"
+
+    def runs(self, tool, runner):
+        """What runs of its texts give, each with a word on which it is; of the linked ones alone where another tool runs them."""
+        words = ARGUMENTS.get(self.name, [])
+        for level in LEVELS:
+            texts = self.texts(level)
+            with tempfile.TemporaryDirectory() as room:
+                if len(texts) == 1:
+                    if runner[0] == tool:
+                        yield f"O{level}", told([*runner, *texts, *words], self.name)
+                    texts = cut(tool, texts[0], room)
+                subprocess.run([tool, "llvm-link", "-S", "-o", f"{room}/linked.ll", *texts], check=True)
+                yield f"O{level}, linked", told([*runner, f"{room}/linked.ll", *words], self.name)
 
 
-def checksum(name):
-    """A checksum of the source."""
-    return hashlib.sha256((HERE / f"{name}.c").read_bytes()).hexdigest()[:16]
+def cut(tool, text, room):
+    """Two parts of a text: every second function that it defines, and all else."""
+    names = re.findall(r"^define [^@]*@([\w.$-]+)\(", text.read_text(), re.M)[::2]
+    chosen = [f"--func={name}" for name in names]
+    parts = [f"{room}/chosen.ll", f"{room}/others.ll"]
+    for part, more in zip(parts, [[], ["--delete"]], strict=True):
+        subprocess.run([tool, "llvm-extract", "-S", *chosen, *more, "-o", part, text], check=True)
+    return parts
 
 
-def ran(name, *flags):
-    """The status and the output of the program, made with these flags."""
-    with tempfile.TemporaryDirectory() as room:
-        subprocess.run(["clang-19", "-w", *flags, "-o", f"{room}/program", f"{HERE}/{name}.c"], check=True)
-        made = subprocess.run([f"{room}/program", *ARGUMENTS.get(name, [])], input=INPUTS.get(name, b""), stdout=subprocess.PIPE, timeout=60)
+def told(words, name):
+    """The status and the output of a run."""
+    made = subprocess.run([str(word) for word in words], input=INPUTS.get(name, b""), stdout=subprocess.PIPE, timeout=600)
     return made.returncode, made.stdout
 
 
-def make():
-    """Writes the texts, and what the programs do."""
-    lines = []
-    for name in names():
-        flags = [] if name in PLAIN else FLAGS
-        for level in LEVELS:
-            subprocess.run(["clang-19", "-w", f"-O{level}", *flags, "-S", "-emit-llvm", "-o", f"{name}.O{level}.ll", f"{name}.c"], cwd=HERE, check=True)
-        runs = [ran(name, f"-O{level}", *flags) for level in LEVELS] + [ran(name, "-O1", "-fsanitize=undefined", "-fsanitize-trap=undefined")]
-        if len(set(runs)) != 1 or runs[0][0] < 0:
-            sys.exit(f"{name}: the runs differ: {runs}")
-        lines.append(f"{name} {checksum(name)} {runs[0][0]} {runs[0][1]!r}\n")
-    (HERE / "results.txt").write_text("".join(lines))
+def programs(folder):
+    """The programs of a folder, by their names."""
+    sources = {}
+    for path in sorted(folder.glob("*.c")):
+        sources.setdefault(path.name.split(".")[0], []).append(path)
+    return [Program(folder, name, paths) for name, paths in sorted(sources.items())]
 
 
-def results():
-    """What each program does: its checksum, its status and its output."""
+def results(folder):
+    """What each program of a folder does: its checksum, its status and its output."""
     found = {}
-    for line in (HERE / "results.txt").read_text().splitlines():
+    for line in (folder / "results.txt").read_text().splitlines():
         name, source, status, output = line.split(" ", 3)
         found[name] = source, int(status), ast.literal_eval(output)
     return found
 
 
+def make():
+    """Writes the texts, and what the programs do."""
+    for folder in FOLDERS:
+        (folder / "results.txt").write_text("".join(program.make() for program in programs(folder)))
+
+
 def check():
-    """Ends with 1 where a program lacks a text or a line, or they are of another source."""
-    found, wrong = results(), []
-    wrong += [f"{name}: no such program" for name in found if name not in names()]
-    for name in names():
-        wrong += [f"{name}: not of this source" for _ in [0] if found.get(name, ("",))[0] != checksum(name)]
-        for level in LEVELS:
-            path = HERE / f"{name}.O{level}.ll"
-            text = path.read_text() if path.exists() else ""
-            wrong += [f"{path.name}: no text of {name}.c" for _ in [0] if not re.search(rf'^source_filename = "{name}\.c"$', text, re.M)]
+    """What is missing, or of another source."""
+    for folder in FOLDERS:
+        found, here = results(folder), programs(folder)
+        yield from [f"{name}: no such program" for name in found if name not in [it.name for it in here]]
+        for program in here:
+            yield from program.wrong(found)
+
+
+def run(tool, runner):
+    """What is otherwise than with the native programs."""
+    for folder in FOLDERS:
+        found = results(folder)
+        for program in programs(folder):
+            for which, told_here in program.runs(tool, runner):
+                if told_here != found[program.name][1:]:
+                    yield f"{program.name}, {which}: {told_here}, and natively {found[program.name][1:]}"
+
+
+def main():
+    if sys.argv[1:] == ["--make"]:
+        make()
+        return
+    runners = {"--run": [*sys.argv[2:], "lli"], "--link": ["lli-19"]}
+    runner = runners.get(sys.argv[1])
+    wrong = list(run(sys.argv[2], runner) if runner else check())
     for it in wrong:
         print(f"tests/programs.py: {it}")
-    return 1 if wrong else 0
+    sys.exit(1 if wrong else 0)
 
 
 if __name__ == "__main__":
-    if sys.argv[1:] == ["--make"]:
-        make()
-    else:
-        sys.exit(check())
+    main()

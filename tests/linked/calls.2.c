@@ -1,0 +1,2 @@
+int steps(int n);
+int half(int n) { return steps(n / 2); }

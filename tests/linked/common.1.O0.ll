@@ -1,0 +1,42 @@
+; ModuleID = 'common.1.c'
+source_filename = "common.1.c"
+target datalayout = "e-m:e-p270:32:32-p271:32:32-p272:64:64-i64:64-i128:128-f80:128-n8:16:32:64-S128"
+target triple = "x86_64-pc-linux-gnu"
+
+@.str = private unnamed_addr constant [11 x i8] c"%d %d %ld\0A\00", align 1
+@shared = common dso_local global i32 0, align 4
+@given = common dso_local global i32 0, align 4
+@room = common dso_local global i8 0, align 1
+
+; Function Attrs: noinline nounwind optnone uwtable
+define dso_local i32 @main() #0 {
+  %1 = alloca i32, align 4
+  store i32 0, ptr %1, align 4
+  call void @put() #2
+  %2 = load i32, ptr @shared, align 4
+  %3 = load i32, ptr @given, align 4
+  %4 = call i64 @sum() #2
+  %5 = call i32 (ptr, ...) @printf(ptr noundef @.str, i32 noundef %2, i32 noundef %3, i64 noundef %4) #2
+  %6 = call i64 @sum() #2
+  %7 = trunc i64 %6 to i32
+  %8 = srem i32 %7, 200
+  ret i32 %8
+}
+
+declare dso_local void @put() #1
+
+declare dso_local i32 @printf(ptr noundef, ...) #1
+
+declare dso_local i64 @sum() #1
+
+attributes #0 = { noinline nounwind optnone uwtable "frame-pointer"="all" "min-legal-vector-width"="0" "no-builtin-calloc" "no-trapping-math"="true" "stack-protector-buffer-size"="8" "target-cpu"="x86-64" "target-features"="+cmov,+cx8,+fxsr,+mmx,+sse,+sse2,+x87" "tune-cpu"="generic" }
+attributes #1 = { "frame-pointer"="all" "no-builtin-calloc" "no-trapping-math"="true" "stack-protector-buffer-size"="8" "target-cpu"="x86-64" "target-features"="+cmov,+cx8,+fxsr,+mmx,+sse,+sse2,+x87" "tune-cpu"="generic" }
+attributes #2 = { "no-builtin-calloc" }
+
+!llvm.module.flags = !{!0, !1, !2}
+!llvm.ident = !{!3}
+
+!0 = !{i32 1, !"wchar_size", i32 4}
+!1 = !{i32 7, !"uwtable", i32 2}
+!2 = !{i32 7, !"frame-pointer", i32 2}
+!3 = !{!"Debian clang version 19.1.7 (3~deb12u1)"}

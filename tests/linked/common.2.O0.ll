@@ -1,0 +1,28 @@
+; ModuleID = 'common.2.c'
+source_filename = "common.2.c"
+target datalayout = "e-m:e-p270:32:32-p271:32:32-p272:64:64-i64:64-i128:128-f80:128-n8:16:32:64-S128"
+target triple = "x86_64-pc-linux-gnu"
+
+@given = dso_local global i32 12, align 4
+@shared = common dso_local global i32 0, align 4
+@room = common dso_local global i64 0, align 8
+
+; Function Attrs: noinline nounwind optnone uwtable
+define dso_local void @put() #0 {
+  store i32 5, ptr @shared, align 4
+  store i64 1234567890123, ptr @room, align 8
+  %1 = load i32, ptr @given, align 4
+  %2 = add nsw i32 %1, 1
+  store i32 %2, ptr @given, align 4
+  ret void
+}
+
+attributes #0 = { noinline nounwind optnone uwtable "frame-pointer"="all" "min-legal-vector-width"="0" "no-builtin-calloc" "no-trapping-math"="true" "stack-protector-buffer-size"="8" "target-cpu"="x86-64" "target-features"="+cmov,+cx8,+fxsr,+mmx,+sse,+sse2,+x87" "tune-cpu"="generic" }
+
+!llvm.module.flags = !{!0, !1, !2}
+!llvm.ident = !{!3}
+
+!0 = !{i32 1, !"wchar_size", i32 4}
+!1 = !{i32 7, !"uwtable", i32 2}
+!2 = !{i32 7, !"frame-pointer", i32 2}
+!3 = !{!"Debian clang version 19.1.7 (3~deb12u1)"}

@@ -1,0 +1,30 @@
+; ModuleID = 'common.3.c'
+source_filename = "common.3.c"
+target datalayout = "e-m:e-p270:32:32-p271:32:32-p272:64:64-i64:64-i128:128-f80:128-n8:16:32:64-S128"
+target triple = "x86_64-pc-linux-gnu"
+
+@shared = common dso_local global i32 0, align 4
+@given = external dso_local global i32, align 4
+@room = external dso_local global i64, align 8
+
+; Function Attrs: noinline nounwind optnone uwtable
+define dso_local i64 @sum() #0 {
+  %1 = load i32, ptr @shared, align 4
+  %2 = load i32, ptr @given, align 4
+  %3 = add nsw i32 %1, %2
+  %4 = sext i32 %3 to i64
+  %5 = load i64, ptr @room, align 8
+  %6 = srem i64 %5, 1000
+  %7 = add nsw i64 %4, %6
+  ret i64 %7
+}
+
+attributes #0 = { noinline nounwind optnone uwtable "frame-pointer"="all" "min-legal-vector-width"="0" "no-builtin-calloc" "no-trapping-math"="true" "stack-protector-buffer-size"="8" "target-cpu"="x86-64" "target-features"="+cmov,+cx8,+fxsr,+mmx,+sse,+sse2,+x87" "tune-cpu"="generic" }
+
+!llvm.module.flags = !{!0, !1, !2}
+!llvm.ident = !{!3}
+
+!0 = !{i32 1, !"wchar_size", i32 4}
+!1 = !{i32 7, !"uwtable", i32 2}
+!2 = !{i32 7, !"frame-pointer", i32 2}
+!3 = !{!"Debian clang version 19.1.7 (3~deb12u1)"}

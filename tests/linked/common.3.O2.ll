@@ -1,0 +1,35 @@
+; ModuleID = 'common.3.c'
+source_filename = "common.3.c"
+target datalayout = "e-m:e-p270:32:32-p271:32:32-p272:64:64-i64:64-i128:128-f80:128-n8:16:32:64-S128"
+target triple = "x86_64-pc-linux-gnu"
+
+@shared = common dso_local local_unnamed_addr global i32 0, align 4
+@given = external dso_local local_unnamed_addr global i32, align 4
+@room = external dso_local local_unnamed_addr global i64, align 8
+
+; Function Attrs: mustprogress nofree norecurse nosync nounwind willreturn memory(read, argmem: none, inaccessiblemem: none) uwtable
+define dso_local range(i64 -2147484647, 2147484647) i64 @sum() local_unnamed_addr #0 {
+  %1 = load i32, ptr @shared, align 4, !tbaa !3
+  %2 = load i32, ptr @given, align 4, !tbaa !3
+  %3 = add nsw i32 %2, %1
+  %4 = sext i32 %3 to i64
+  %5 = load i64, ptr @room, align 8, !tbaa !7
+  %6 = srem i64 %5, 1000
+  %7 = add nsw i64 %6, %4
+  ret i64 %7
+}
+
+attributes #0 = { mustprogress nofree norecurse nosync nounwind willreturn memory(read, argmem: none, inaccessiblemem: none) uwtable "min-legal-vector-width"="0" "no-builtin-calloc" "no-trapping-math"="true" "stack-protector-buffer-size"="8" "target-cpu"="x86-64" "target-features"="+cmov,+cx8,+fxsr,+mmx,+sse,+sse2,+x87" "tune-cpu"="generic" }
+
+!llvm.module.flags = !{!0, !1}
+!llvm.ident = !{!2}
+
+!0 = !{i32 1, !"wchar_size", i32 4}
+!1 = !{i32 7, !"uwtable", i32 2}
+!2 = !{!"Debian clang version 19.1.7 (3~deb12u1)"}
+!3 = !{!4, !4, i64 0}
+!4 = !{!"int", !5, i64 0}
+!5 = !{!"omnipotent char", !6, i64 0}
+!6 = !{!"Simple C/C++ TBAA"}
+!7 = !{!8, !8, i64 0}
+!8 = !{!"long long", !5, i64 0}

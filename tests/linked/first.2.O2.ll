@@ -1,0 +1,33 @@
+; ModuleID = 'first.2.c'
+source_filename = "first.2.c"
+target datalayout = "e-m:e-p270:32:32-p271:32:32-p272:64:64-i64:64-i128:128-f80:128-n8:16:32:64-S128"
+target triple = "x86_64-pc-linux-gnu"
+
+@chosen = weak dso_local local_unnamed_addr global i32 7, align 4
+
+; Function Attrs: nounwind uwtable
+define weak dso_local i32 @choice() local_unnamed_addr #0 {
+  ret i32 70
+}
+
+; Function Attrs: nounwind uwtable
+define dso_local i32 @asked() local_unnamed_addr #0 {
+  %1 = load i32, ptr @chosen, align 4, !tbaa !3
+  %2 = tail call i32 @choice() #1
+  %3 = add nsw i32 %2, %1
+  ret i32 %3
+}
+
+attributes #0 = { nounwind uwtable "min-legal-vector-width"="0" "no-builtin-calloc" "no-trapping-math"="true" "stack-protector-buffer-size"="8" "target-cpu"="x86-64" "target-features"="+cmov,+cx8,+fxsr,+mmx,+sse,+sse2,+x87" "tune-cpu"="generic" }
+attributes #1 = { "no-builtin-calloc" }
+
+!llvm.module.flags = !{!0, !1}
+!llvm.ident = !{!2}
+
+!0 = !{i32 1, !"wchar_size", i32 4}
+!1 = !{i32 7, !"uwtable", i32 2}
+!2 = !{!"Debian clang version 19.1.7 (3~deb12u1)"}
+!3 = !{!4, !4, i64 0}
+!4 = !{!"int", !5, i64 0}
+!5 = !{!"omnipotent char", !6, i64 0}
+!6 = !{!"Simple C/C++ TBAA"}

@@ -1,0 +1,48 @@
+; ModuleID = 'heap.2.c'
+source_filename = "heap.2.c"
+target datalayout = "e-m:e-p270:32:32-p271:32:32-p272:64:64-i64:64-i128:128-f80:128-n8:16:32:64-S128"
+target triple = "x86_64-pc-linux-gnu"
+
+; Function Attrs: nofree nounwind memory(write, argmem: none, inaccessiblemem: readwrite) uwtable
+define dso_local noundef ptr @counted(i64 noundef %0) local_unnamed_addr #0 {
+  %2 = icmp sgt i64 %0, 0
+  br i1 %2, label %3, label %10
+
+3:                                                ; preds = %1, %3
+  %4 = phi i64 [ %7, %3 ], [ %0, %1 ]
+  %5 = phi ptr [ %6, %3 ], [ null, %1 ]
+  %6 = tail call noalias dereferenceable_or_null(16) ptr @malloc(i64 noundef 16) #2
+  %7 = add nsw i64 %4, -1
+  store i64 %4, ptr %6, align 8, !tbaa !3
+  %8 = getelementptr inbounds i8, ptr %6, i64 8
+  store ptr %5, ptr %8, align 8, !tbaa !9
+  %9 = icmp ugt i64 %4, 1
+  br i1 %9, label %3, label %10, !llvm.loop !10
+
+10:                                               ; preds = %3, %1
+  %11 = phi ptr [ null, %1 ], [ %6, %3 ]
+  ret ptr %11
+}
+
+; Function Attrs: mustprogress nofree nounwind willreturn allockind("alloc,uninitialized") allocsize(0) memory(inaccessiblemem: readwrite)
+declare dso_local noalias noundef ptr @malloc(i64 noundef) local_unnamed_addr #1
+
+attributes #0 = { nofree nounwind memory(write, argmem: none, inaccessiblemem: readwrite) uwtable "min-legal-vector-width"="0" "no-builtin-calloc" "no-trapping-math"="true" "stack-protector-buffer-size"="8" "target-cpu"="x86-64" "target-features"="+cmov,+cx8,+fxsr,+mmx,+sse,+sse2,+x87" "tune-cpu"="generic" }
+attributes #1 = { mustprogress nofree nounwind willreturn allockind("alloc,uninitialized") allocsize(0) memory(inaccessiblemem: readwrite) "alloc-family"="malloc" "no-builtin-calloc" "no-trapping-math"="true" "stack-protector-buffer-size"="8" "target-cpu"="x86-64" "target-features"="+cmov,+cx8,+fxsr,+mmx,+sse,+sse2,+x87" "tune-cpu"="generic" }
+attributes #2 = { nounwind allocsize(0) "no-builtin-calloc" }
+
+!llvm.module.flags = !{!0, !1}
+!llvm.ident = !{!2}
+
+!0 = !{i32 1, !"wchar_size", i32 4}
+!1 = !{i32 7, !"uwtable", i32 2}
+!2 = !{!"Debian clang version 19.1.7 (3~deb12u1)"}
+!3 = !{!4, !5, i64 0}
+!4 = !{!"list", !5, i64 0, !8, i64 8}
+!5 = !{!"long", !6, i64 0}
+!6 = !{!"omnipotent char", !7, i64 0}
+!7 = !{!"Simple C/C++ TBAA"}
+!8 = !{!"any pointer", !6, i64 0}
+!9 = !{!4, !8, i64 8}
+!10 = distinct !{!10, !11}
+!11 = !{!"llvm.loop.mustprogress"}

@@ -1,0 +1,59 @@
+; ModuleID = 'heap.4.c'
+source_filename = "heap.4.c"
+target datalayout = "e-m:e-p270:32:32-p271:32:32-p272:64:64-i64:64-i128:128-f80:128-n8:16:32:64-S128"
+target triple = "x86_64-pc-linux-gnu"
+
+%struct.list = type { i64, ptr }
+
+; Function Attrs: noinline nounwind optnone uwtable
+define dso_local i64 @dropped(ptr noundef %0) #0 {
+  %2 = alloca ptr, align 8
+  %3 = alloca i64, align 8
+  %4 = alloca ptr, align 8
+  store ptr %0, ptr %2, align 8
+  store i64 0, ptr %3, align 8
+  br label %5
+
+5:                                                ; preds = %8, %1
+  %6 = load ptr, ptr %2, align 8
+  %7 = icmp ne ptr %6, null
+  br i1 %7, label %8, label %19
+
+8:                                                ; preds = %5
+  %9 = load ptr, ptr %2, align 8
+  %10 = getelementptr inbounds %struct.list, ptr %9, i32 0, i32 1
+  %11 = load ptr, ptr %10, align 8
+  store ptr %11, ptr %4, align 8
+  %12 = load ptr, ptr %2, align 8
+  %13 = getelementptr inbounds %struct.list, ptr %12, i32 0, i32 0
+  %14 = load i64, ptr %13, align 8
+  %15 = load i64, ptr %3, align 8
+  %16 = add nsw i64 %15, %14
+  store i64 %16, ptr %3, align 8
+  %17 = load ptr, ptr %2, align 8
+  call void @free(ptr noundef %17) #2
+  %18 = load ptr, ptr %4, align 8
+  store ptr %18, ptr %2, align 8
+  br label %5, !llvm.loop !4
+
+19:                                               ; preds = %5
+  %20 = load i64, ptr %3, align 8
+  ret i64 %20
+}
+
+; Function Attrs: nounwind
+declare dso_local void @free(ptr noundef) #1
+
+attributes #0 = { noinline nounwind optnone uwtable "frame-pointer"="all" "min-legal-vector-width"="0" "no-builtin-calloc" "no-trapping-math"="true" "stack-protector-buffer-size"="8" "target-cpu"="x86-64" "target-features"="+cmov,+cx8,+fxsr,+mmx,+sse,+sse2,+x87" "tune-cpu"="generic" }
+attributes #1 = { nounwind "frame-pointer"="all" "no-builtin-calloc" "no-trapping-math"="true" "stack-protector-buffer-size"="8" "target-cpu"="x86-64" "target-features"="+cmov,+cx8,+fxsr,+mmx,+sse,+sse2,+x87" "tune-cpu"="generic" }
+attributes #2 = { nounwind "no-builtin-calloc" }
+
+!llvm.module.flags = !{!0, !1, !2}
+!llvm.ident = !{!3}
+
+!0 = !{i32 1, !"wchar_size", i32 4}
+!1 = !{i32 7, !"uwtable", i32 2}
+!2 = !{i32 7, !"frame-pointer", i32 2}
+!3 = !{!"Debian clang version 19.1.7 (3~deb12u1)"}
+!4 = distinct !{!4, !5}
+!5 = !{!"llvm.loop.mustprogress"}

@@ -1,0 +1,48 @@
+; ModuleID = 'heap.4.c'
+source_filename = "heap.4.c"
+target datalayout = "e-m:e-p270:32:32-p271:32:32-p272:64:64-i64:64-i128:128-f80:128-n8:16:32:64-S128"
+target triple = "x86_64-pc-linux-gnu"
+
+; Function Attrs: nounwind uwtable
+define dso_local i64 @dropped(ptr noundef %0) local_unnamed_addr #0 {
+  %2 = icmp eq ptr %0, null
+  br i1 %2, label %11, label %3
+
+3:                                                ; preds = %1, %3
+  %4 = phi ptr [ %7, %3 ], [ %0, %1 ]
+  %5 = phi i64 [ %9, %3 ], [ 0, %1 ]
+  %6 = getelementptr inbounds i8, ptr %4, i64 8
+  %7 = load ptr, ptr %6, align 8, !tbaa !3
+  %8 = load i64, ptr %4, align 8, !tbaa !9
+  %9 = add nsw i64 %8, %5
+  tail call void @free(ptr noundef nonnull %4) #2
+  %10 = icmp eq ptr %7, null
+  br i1 %10, label %11, label %3, !llvm.loop !10
+
+11:                                               ; preds = %3, %1
+  %12 = phi i64 [ 0, %1 ], [ %9, %3 ]
+  ret i64 %12
+}
+
+; Function Attrs: mustprogress nounwind willreturn allockind("free") memory(argmem: readwrite, inaccessiblemem: readwrite)
+declare dso_local void @free(ptr allocptr nocapture noundef) local_unnamed_addr #1
+
+attributes #0 = { nounwind uwtable "min-legal-vector-width"="0" "no-builtin-calloc" "no-trapping-math"="true" "stack-protector-buffer-size"="8" "target-cpu"="x86-64" "target-features"="+cmov,+cx8,+fxsr,+mmx,+sse,+sse2,+x87" "tune-cpu"="generic" }
+attributes #1 = { mustprogress nounwind willreturn allockind("free") memory(argmem: readwrite, inaccessiblemem: readwrite) "alloc-family"="malloc" "no-builtin-calloc" "no-trapping-math"="true" "stack-protector-buffer-size"="8" "target-cpu"="x86-64" "target-features"="+cmov,+cx8,+fxsr,+mmx,+sse,+sse2,+x87" "tune-cpu"="generic" }
+attributes #2 = { nounwind "no-builtin-calloc" }
+
+!llvm.module.flags = !{!0, !1}
+!llvm.ident = !{!2}
+
+!0 = !{i32 1, !"wchar_size", i32 4}
+!1 = !{i32 7, !"uwtable", i32 2}
+!2 = !{!"Debian clang version 19.1.7 (3~deb12u1)"}
+!3 = !{!4, !8, i64 8}
+!4 = !{!"list", !5, i64 0, !8, i64 8}
+!5 = !{!"long", !6, i64 0}
+!6 = !{!"omnipotent char", !7, i64 0}
+!7 = !{!"Simple C/C++ TBAA"}
+!8 = !{!"any pointer", !6, i64 0}
+!9 = !{!4, !5, i64 0}
+!10 = distinct !{!10, !11}
+!11 = !{!"llvm.loop.mustprogress"}

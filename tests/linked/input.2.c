@@ -1,0 +1,2 @@
+int getchar(void);
+int read_byte(void) { return getchar(); }

@@ -1,0 +1,55 @@
+; ModuleID = 'input.3.c'
+source_filename = "input.3.c"
+target datalayout = "e-m:e-p270:32:32-p271:32:32-p272:64:64-i64:64-i128:128-f80:128-n8:16:32:64-S128"
+target triple = "x86_64-pc-linux-gnu"
+
+; Function Attrs: noinline nounwind optnone uwtable
+define dso_local void @write_byte(i32 noundef %0) #0 {
+  %2 = alloca i32, align 4
+  store i32 %0, ptr %2, align 4
+  %3 = load i32, ptr %2, align 4
+  %4 = call i32 @upper(i32 noundef %3) #2
+  %5 = call i32 @putchar(i32 noundef %4) #2
+  ret void
+}
+
+declare dso_local i32 @putchar(i32 noundef) #1
+
+; Function Attrs: noinline nounwind optnone uwtable
+define internal i32 @upper(i32 noundef %0) #0 {
+  %2 = alloca i32, align 4
+  store i32 %0, ptr %2, align 4
+  %3 = load i32, ptr %2, align 4
+  %4 = icmp sge i32 %3, 97
+  br i1 %4, label %5, label %11
+
+5:                                                ; preds = %1
+  %6 = load i32, ptr %2, align 4
+  %7 = icmp sle i32 %6, 122
+  br i1 %7, label %8, label %11
+
+8:                                                ; preds = %5
+  %9 = load i32, ptr %2, align 4
+  %10 = sub nsw i32 %9, 32
+  br label %13
+
+11:                                               ; preds = %5, %1
+  %12 = load i32, ptr %2, align 4
+  br label %13
+
+13:                                               ; preds = %11, %8
+  %14 = phi i32 [ %10, %8 ], [ %12, %11 ]
+  ret i32 %14
+}
+
+attributes #0 = { noinline nounwind optnone uwtable "frame-pointer"="all" "min-legal-vector-width"="0" "no-builtin-calloc" "no-trapping-math"="true" "stack-protector-buffer-size"="8" "target-cpu"="x86-64" "target-features"="+cmov,+cx8,+fxsr,+mmx,+sse,+sse2,+x87" "tune-cpu"="generic" }
+attributes #1 = { "frame-pointer"="all" "no-builtin-calloc" "no-trapping-math"="true" "stack-protector-buffer-size"="8" "target-cpu"="x86-64" "target-features"="+cmov,+cx8,+fxsr,+mmx,+sse,+sse2,+x87" "tune-cpu"="generic" }
+attributes #2 = { "no-builtin-calloc" }
+
+!llvm.module.flags = !{!0, !1, !2}
+!llvm.ident = !{!3}
+
+!0 = !{i32 1, !"wchar_size", i32 4}
+!1 = !{i32 7, !"uwtable", i32 2}
+!2 = !{i32 7, !"frame-pointer", i32 2}
+!3 = !{!"Debian clang version 19.1.7 (3~deb12u1)"}

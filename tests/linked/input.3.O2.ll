@@ -1,0 +1,28 @@
+; ModuleID = 'input.3.c'
+source_filename = "input.3.c"
+target datalayout = "e-m:e-p270:32:32-p271:32:32-p272:64:64-i64:64-i128:128-f80:128-n8:16:32:64-S128"
+target triple = "x86_64-pc-linux-gnu"
+
+; Function Attrs: nofree nounwind uwtable
+define dso_local void @write_byte(i32 noundef %0) local_unnamed_addr #0 {
+  %2 = add i32 %0, -97
+  %3 = icmp ult i32 %2, 26
+  %4 = add nsw i32 %0, -32
+  %5 = select i1 %3, i32 %4, i32 %0
+  %6 = tail call i32 @putchar(i32 noundef %5) #2
+  ret void
+}
+
+; Function Attrs: nofree nounwind
+declare dso_local noundef i32 @putchar(i32 noundef) local_unnamed_addr #1
+
+attributes #0 = { nofree nounwind uwtable "min-legal-vector-width"="0" "no-builtin-calloc" "no-trapping-math"="true" "stack-protector-buffer-size"="8" "target-cpu"="x86-64" "target-features"="+cmov,+cx8,+fxsr,+mmx,+sse,+sse2,+x87" "tune-cpu"="generic" }
+attributes #1 = { nofree nounwind "no-builtin-calloc" "no-trapping-math"="true" "stack-protector-buffer-size"="8" "target-cpu"="x86-64" "target-features"="+cmov,+cx8,+fxsr,+mmx,+sse,+sse2,+x87" "tune-cpu"="generic" }
+attributes #2 = { "no-builtin-calloc" }
+
+!llvm.module.flags = !{!0, !1}
+!llvm.ident = !{!2}
+
+!0 = !{i32 1, !"wchar_size", i32 4}
+!1 = !{i32 7, !"uwtable", i32 2}
+!2 = !{!"Debian clang version 19.1.7 (3~deb12u1)"}

@@ -1,0 +1,45 @@
+; ModuleID = 'leave.1.c'
+source_filename = "leave.1.c"
+target datalayout = "e-m:e-p270:32:32-p271:32:32-p272:64:64-i64:64-i128:128-f80:128-n8:16:32:64-S128"
+target triple = "x86_64-pc-linux-gnu"
+
+; Function Attrs: noreturn nounwind uwtable
+define dso_local noundef i32 @deep(i32 noundef %0) local_unnamed_addr #0 {
+  br label %2
+
+2:                                                ; preds = %2, %1
+  %3 = phi i32 [ %0, %1 ], [ %4, %2 ]
+  tail call void @check(i32 noundef %3) #3
+  %4 = add nsw i32 %3, 1
+  br label %2
+}
+
+declare dso_local void @check(i32 noundef) local_unnamed_addr #1
+
+; Function Attrs: noreturn nounwind uwtable
+define dso_local noundef i32 @main() local_unnamed_addr #0 {
+  %1 = tail call i32 @putchar(i32 noundef 62) #4
+  br label %2
+
+2:                                                ; preds = %2, %0
+  %3 = phi i32 [ 1, %0 ], [ %4, %2 ]
+  tail call void @check(i32 noundef %3) #3
+  %4 = add nuw nsw i32 %3, 1
+  br label %2
+}
+
+; Function Attrs: nofree nounwind
+declare dso_local noundef i32 @putchar(i32 noundef) local_unnamed_addr #2
+
+attributes #0 = { noreturn nounwind uwtable "min-legal-vector-width"="0" "no-builtin-calloc" "no-trapping-math"="true" "stack-protector-buffer-size"="8" "target-cpu"="x86-64" "target-features"="+cmov,+cx8,+fxsr,+mmx,+sse,+sse2,+x87" "tune-cpu"="generic" }
+attributes #1 = { "no-builtin-calloc" "no-trapping-math"="true" "stack-protector-buffer-size"="8" "target-cpu"="x86-64" "target-features"="+cmov,+cx8,+fxsr,+mmx,+sse,+sse2,+x87" "tune-cpu"="generic" }
+attributes #2 = { nofree nounwind "no-builtin-calloc" "no-trapping-math"="true" "stack-protector-buffer-size"="8" "target-cpu"="x86-64" "target-features"="+cmov,+cx8,+fxsr,+mmx,+sse,+sse2,+x87" "tune-cpu"="generic" }
+attributes #3 = { nounwind "no-builtin-calloc" }
+attributes #4 = { "no-builtin-calloc" }
+
+!llvm.module.flags = !{!0, !1}
+!llvm.ident = !{!2}
+
+!0 = !{i32 1, !"wchar_size", i32 4}
+!1 = !{i32 7, !"uwtable", i32 2}
+!2 = !{!"Debian clang version 19.1.7 (3~deb12u1)"}

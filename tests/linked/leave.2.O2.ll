@@ -1,0 +1,47 @@
+; ModuleID = 'leave.2.c'
+source_filename = "leave.2.c"
+target datalayout = "e-m:e-p270:32:32-p271:32:32-p272:64:64-i64:64-i128:128-f80:128-n8:16:32:64-S128"
+target triple = "x86_64-pc-linux-gnu"
+
+@most = external dso_local local_unnamed_addr constant i32, align 4
+
+; Function Attrs: nounwind uwtable
+define dso_local void @check(i32 noundef %0) local_unnamed_addr #0 {
+  %2 = srem i32 %0, 10
+  %3 = add nsw i32 %2, 48
+  %4 = tail call i32 @putchar(i32 noundef %3) #3
+  %5 = load i32, ptr @most, align 4, !tbaa !3
+  %6 = icmp sgt i32 %5, %0
+  br i1 %6, label %9, label %7
+
+7:                                                ; preds = %1
+  %8 = shl nsw i32 %5, 1
+  tail call void @exit(i32 noundef %8) #4
+  unreachable
+
+9:                                                ; preds = %1
+  ret void
+}
+
+; Function Attrs: nofree nounwind
+declare dso_local noundef i32 @putchar(i32 noundef) local_unnamed_addr #1
+
+; Function Attrs: noreturn
+declare dso_local void @exit(i32 noundef) local_unnamed_addr #2
+
+attributes #0 = { nounwind uwtable "min-legal-vector-width"="0" "no-builtin-calloc" "no-trapping-math"="true" "stack-protector-buffer-size"="8" "target-cpu"="x86-64" "target-features"="+cmov,+cx8,+fxsr,+mmx,+sse,+sse2,+x87" "tune-cpu"="generic" }
+attributes #1 = { nofree nounwind "no-builtin-calloc" "no-trapping-math"="true" "stack-protector-buffer-size"="8" "target-cpu"="x86-64" "target-features"="+cmov,+cx8,+fxsr,+mmx,+sse,+sse2,+x87" "tune-cpu"="generic" }
+attributes #2 = { noreturn "no-builtin-calloc" "no-trapping-math"="true" "stack-protector-buffer-size"="8" "target-cpu"="x86-64" "target-features"="+cmov,+cx8,+fxsr,+mmx,+sse,+sse2,+x87" "tune-cpu"="generic" }
+attributes #3 = { "no-builtin-calloc" }
+attributes #4 = { noreturn nounwind "no-builtin-calloc" }
+
+!llvm.module.flags = !{!0, !1}
+!llvm.ident = !{!2}
+
+!0 = !{i32 1, !"wchar_size", i32 4}
+!1 = !{i32 7, !"uwtable", i32 2}
+!2 = !{!"Debian clang version 19.1.7 (3~deb12u1)"}
+!3 = !{!4, !4, i64 0}
+!4 = !{!"int", !5, i64 0}
+!5 = !{!"omnipotent char", !6, i64 0}
+!6 = !{!"Simple C/C++ TBAA"}

@@ -1,0 +1,3 @@
+int here = 10;
+int present(int n) { return n + here; }
+int *where(void) { return &here; }

@@ -1,0 +1,29 @@
+; ModuleID = 'pointers.2.c'
+source_filename = "pointers.2.c"
+target datalayout = "e-m:e-p270:32:32-p271:32:32-p272:64:64-i64:64-i128:128-f80:128-n8:16:32:64-S128"
+target triple = "x86_64-pc-linux-gnu"
+
+%struct.node = type { ptr, ptr, i32 }
+
+@c = external dso_local global %struct.node, align 8
+@from_b = dso_local constant [2 x ptr] [ptr @c, ptr null], align 16
+@b = dso_local global %struct.node { ptr @from_b, ptr @plus, i32 10 }, align 8
+
+; Function Attrs: noinline nounwind optnone uwtable
+define internal i32 @plus(i32 noundef %0) #0 {
+  %2 = alloca i32, align 4
+  store i32 %0, ptr %2, align 4
+  %3 = load i32, ptr %2, align 4
+  %4 = mul nsw i32 %3, 2
+  ret i32 %4
+}
+
+attributes #0 = { noinline nounwind optnone uwtable "frame-pointer"="all" "min-legal-vector-width"="0" "no-builtin-calloc" "no-trapping-math"="true" "stack-protector-buffer-size"="8" "target-cpu"="x86-64" "target-features"="+cmov,+cx8,+fxsr,+mmx,+sse,+sse2,+x87" "tune-cpu"="generic" }
+
+!llvm.module.flags = !{!0, !1, !2}
+!llvm.ident = !{!3}
+
+!0 = !{i32 1, !"wchar_size", i32 4}
+!1 = !{i32 7, !"uwtable", i32 2}
+!2 = !{i32 7, !"frame-pointer", i32 2}
+!3 = !{!"Debian clang version 19.1.7 (3~deb12u1)"}

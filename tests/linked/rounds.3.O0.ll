@@ -1,0 +1,44 @@
+; ModuleID = 'rounds.3.c'
+source_filename = "rounds.3.c"
+target datalayout = "e-m:e-p270:32:32-p271:32:32-p272:64:64-i64:64-i128:128-f80:128-n8:16:32:64-S128"
+target triple = "x86_64-pc-linux-gnu"
+
+; Function Attrs: noinline nounwind optnone uwtable
+define dso_local i32 @two(i32 noundef %0) #0 {
+  %2 = alloca i32, align 4
+  store i32 %0, ptr %2, align 4
+  %3 = call i32 @putchar(i32 noundef 50) #2
+  %4 = load i32, ptr %2, align 4
+  %5 = icmp sle i32 %4, 0
+  br i1 %5, label %6, label %7
+
+6:                                                ; preds = %1
+  br label %12
+
+7:                                                ; preds = %1
+  %8 = load i32, ptr %2, align 4
+  %9 = sub nsw i32 %8, 2
+  %10 = call i32 @three(i32 noundef %9) #2
+  %11 = add nsw i32 %10, 2
+  br label %12
+
+12:                                               ; preds = %7, %6
+  %13 = phi i32 [ 2, %6 ], [ %11, %7 ]
+  ret i32 %13
+}
+
+declare dso_local i32 @putchar(i32 noundef) #1
+
+declare dso_local i32 @three(i32 noundef) #1
+
+attributes #0 = { noinline nounwind optnone uwtable "frame-pointer"="all" "min-legal-vector-width"="0" "no-builtin-calloc" "no-trapping-math"="true" "stack-protector-buffer-size"="8" "target-cpu"="x86-64" "target-features"="+cmov,+cx8,+fxsr,+mmx,+sse,+sse2,+x87" "tune-cpu"="generic" }
+attributes #1 = { "frame-pointer"="all" "no-builtin-calloc" "no-trapping-math"="true" "stack-protector-buffer-size"="8" "target-cpu"="x86-64" "target-features"="+cmov,+cx8,+fxsr,+mmx,+sse,+sse2,+x87" "tune-cpu"="generic" }
+attributes #2 = { "no-builtin-calloc" }
+
+!llvm.module.flags = !{!0, !1, !2}
+!llvm.ident = !{!3}
+
+!0 = !{i32 1, !"wchar_size", i32 4}
+!1 = !{i32 7, !"uwtable", i32 2}
+!2 = !{i32 7, !"frame-pointer", i32 2}
+!3 = !{!"Debian clang version 19.1.7 (3~deb12u1)"}

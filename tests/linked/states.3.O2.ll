@@ -1,0 +1,32 @@
+; ModuleID = 'states.3.c'
+source_filename = "states.3.c"
+target datalayout = "e-m:e-p270:32:32-p271:32:32-p272:64:64-i64:64-i128:128-f80:128-n8:16:32:64-S128"
+target triple = "x86_64-pc-linux-gnu"
+
+@turns = external dso_local local_unnamed_addr global i32, align 4
+
+; Function Attrs: mustprogress nofree norecurse nosync nounwind willreturn memory(readwrite, argmem: none, inaccessiblemem: none) uwtable
+define dso_local range(i32 1024, 0) i32 @grow(i32 noundef %0) local_unnamed_addr #0 {
+  %2 = load i32, ptr @turns, align 4, !tbaa !3
+  %3 = add nsw i32 %2, 2
+  store i32 %3, ptr @turns, align 4, !tbaa !3
+  %4 = icmp sgt i32 %0, 300
+  %5 = select i1 %4, i32 2048, i32 1024
+  %6 = mul nsw i32 %0, 3
+  %7 = srem i32 %6, 1000
+  %8 = or i32 %5, %7
+  ret i32 %8
+}
+
+attributes #0 = { mustprogress nofree norecurse nosync nounwind willreturn memory(readwrite, argmem: none, inaccessiblemem: none) uwtable "min-legal-vector-width"="0" "no-builtin-calloc" "no-trapping-math"="true" "stack-protector-buffer-size"="8" "target-cpu"="x86-64" "target-features"="+cmov,+cx8,+fxsr,+mmx,+sse,+sse2,+x87" "tune-cpu"="generic" }
+
+!llvm.module.flags = !{!0, !1}
+!llvm.ident = !{!2}
+
+!0 = !{i32 1, !"wchar_size", i32 4}
+!1 = !{i32 7, !"uwtable", i32 2}
+!2 = !{!"Debian clang version 19.1.7 (3~deb12u1)"}
+!3 = !{!4, !4, i64 0}
+!4 = !{!"int", !5, i64 0}
+!5 = !{!"omnipotent char", !6, i64 0}
+!6 = !{!"Simple C/C++ TBAA"}

@@ -1,0 +1,34 @@
+; ModuleID = 'states.4.c'
+source_filename = "states.4.c"
+target datalayout = "e-m:e-p270:32:32-p271:32:32-p272:64:64-i64:64-i128:128-f80:128-n8:16:32:64-S128"
+target triple = "x86_64-pc-linux-gnu"
+
+@turns = external dso_local global i32, align 4
+
+; Function Attrs: noinline nounwind optnone uwtable
+define dso_local i32 @shrink(i32 noundef %0) #0 {
+  %2 = alloca i32, align 4
+  store i32 %0, ptr %2, align 4
+  %3 = load i32, ptr @turns, align 4
+  %4 = add nsw i32 %3, 3
+  store i32 %4, ptr @turns, align 4
+  %5 = load i32, ptr %2, align 4
+  %6 = icmp slt i32 %5, 50
+  %7 = zext i1 %6 to i64
+  %8 = select i1 %6, i32 0, i32 2
+  %9 = shl i32 %8, 10
+  %10 = load i32, ptr %2, align 4
+  %11 = sdiv i32 %10, 2
+  %12 = or i32 %9, %11
+  ret i32 %12
+}
+
+attributes #0 = { noinline nounwind optnone uwtable "frame-pointer"="all" "min-legal-vector-width"="0" "no-builtin-calloc" "no-trapping-math"="true" "stack-protector-buffer-size"="8" "target-cpu"="x86-64" "target-features"="+cmov,+cx8,+fxsr,+mmx,+sse,+sse2,+x87" "tune-cpu"="generic" }
+
+!llvm.module.flags = !{!0, !1, !2}
+!llvm.ident = !{!3}
+
+!0 = !{i32 1, !"wchar_size", i32 4}
+!1 = !{i32 7, !"uwtable", i32 2}
+!2 = !{i32 7, !"frame-pointer", i32 2}
+!3 = !{!"Debian clang version 19.1.7 (3~deb12u1)"}

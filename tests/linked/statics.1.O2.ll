@@ -1,0 +1,51 @@
+; ModuleID = 'statics.1.c'
+source_filename = "statics.1.c"
+target datalayout = "e-m:e-p270:32:32-p271:32:32-p272:64:64-i64:64-i128:128-f80:128-n8:16:32:64-S128"
+target triple = "x86_64-pc-linux-gnu"
+
+@.str = private unnamed_addr constant [16 x i8] c"%d %d %d %d %d\0A\00", align 1
+@count = internal unnamed_addr global i32 100, align 4
+
+; Function Attrs: nounwind uwtable
+define dso_local range(i32 -2147483648, 2147483348) i32 @main() local_unnamed_addr #0 {
+  %1 = load i32, ptr @count, align 4, !tbaa !3
+  %2 = add nsw i32 %1, 1
+  store i32 %2, ptr @count, align 4, !tbaa !3
+  %3 = tail call i32 @second() #3
+  %4 = tail call i32 @third() #3
+  %5 = load i32, ptr @count, align 4, !tbaa !3
+  %6 = add nsw i32 %5, 1
+  store i32 %6, ptr @count, align 4, !tbaa !3
+  %7 = tail call i32 @second() #3
+  %8 = tail call i32 (ptr, ...) @printf(ptr noundef nonnull dereferenceable(1) @.str, i32 noundef %2, i32 noundef %3, i32 noundef %4, i32 noundef %6, i32 noundef %7) #4
+  %9 = add i32 %1, -299
+  %10 = add i32 %9, %3
+  %11 = add i32 %10, %4
+  %12 = add i32 %11, %6
+  %13 = add i32 %12, %7
+  ret i32 %13
+}
+
+declare dso_local i32 @second() local_unnamed_addr #1
+
+declare dso_local i32 @third() local_unnamed_addr #1
+
+; Function Attrs: nofree nounwind
+declare dso_local noundef i32 @printf(ptr nocapture noundef readonly, ...) local_unnamed_addr #2
+
+attributes #0 = { nounwind uwtable "min-legal-vector-width"="0" "no-builtin-calloc" "no-trapping-math"="true" "stack-protector-buffer-size"="8" "target-cpu"="x86-64" "target-features"="+cmov,+cx8,+fxsr,+mmx,+sse,+sse2,+x87" "tune-cpu"="generic" }
+attributes #1 = { "no-builtin-calloc" "no-trapping-math"="true" "stack-protector-buffer-size"="8" "target-cpu"="x86-64" "target-features"="+cmov,+cx8,+fxsr,+mmx,+sse,+sse2,+x87" "tune-cpu"="generic" }
+attributes #2 = { nofree nounwind "no-builtin-calloc" "no-trapping-math"="true" "stack-protector-buffer-size"="8" "target-cpu"="x86-64" "target-features"="+cmov,+cx8,+fxsr,+mmx,+sse,+sse2,+x87" "tune-cpu"="generic" }
+attributes #3 = { nounwind "no-builtin-calloc" }
+attributes #4 = { "no-builtin-calloc" }
+
+!llvm.module.flags = !{!0, !1}
+!llvm.ident = !{!2}
+
+!0 = !{i32 1, !"wchar_size", i32 4}
+!1 = !{i32 7, !"uwtable", i32 2}
+!2 = !{!"Debian clang version 19.1.7 (3~deb12u1)"}
+!3 = !{!4, !4, i64 0}
+!4 = !{!"int", !5, i64 0}
+!5 = !{!"omnipotent char", !6, i64 0}
+!6 = !{!"Simple C/C++ TBAA"}

@@ -1,0 +1,50 @@
+; ModuleID = 'weak.1.c'
+source_filename = "weak.1.c"
+target datalayout = "e-m:e-p270:32:32-p271:32:32-p272:64:64-i64:64-i128:128-f80:128-n8:16:32:64-S128"
+target triple = "x86_64-pc-linux-gnu"
+
+@level = weak dso_local global i32 1, align 4
+@.str = private unnamed_addr constant [13 x i8] c"%d %d %d %d\0A\00", align 1
+
+; Function Attrs: noinline nounwind optnone uwtable
+define weak dso_local i32 @early() #0 {
+  ret i32 1
+}
+
+; Function Attrs: noinline nounwind optnone uwtable
+define dso_local i32 @late() #0 {
+  ret i32 20
+}
+
+; Function Attrs: noinline nounwind optnone uwtable
+define dso_local i32 @main() #0 {
+  %1 = alloca i32, align 4
+  store i32 0, ptr %1, align 4
+  %2 = load i32, ptr @level, align 4
+  %3 = call i32 @early() #2
+  %4 = call i32 @late() #2
+  %5 = call i32 @from_second() #2
+  %6 = call i32 (ptr, ...) @printf(ptr noundef @.str, i32 noundef %2, i32 noundef %3, i32 noundef %4, i32 noundef %5) #2
+  %7 = load i32, ptr @level, align 4
+  %8 = call i32 @early() #2
+  %9 = add nsw i32 %7, %8
+  %10 = call i32 @late() #2
+  %11 = add nsw i32 %9, %10
+  ret i32 %11
+}
+
+declare dso_local i32 @printf(ptr noundef, ...) #1
+
+declare dso_local i32 @from_second() #1
+
+attributes #0 = { noinline nounwind optnone uwtable "frame-pointer"="all" "min-legal-vector-width"="0" "no-builtin-calloc" "no-trapping-math"="true" "stack-protector-buffer-size"="8" "target-cpu"="x86-64" "target-features"="+cmov,+cx8,+fxsr,+mmx,+sse,+sse2,+x87" "tune-cpu"="generic" }
+attributes #1 = { "frame-pointer"="all" "no-builtin-calloc" "no-trapping-math"="true" "stack-protector-buffer-size"="8" "target-cpu"="x86-64" "target-features"="+cmov,+cx8,+fxsr,+mmx,+sse,+sse2,+x87" "tune-cpu"="generic" }
+attributes #2 = { "no-builtin-calloc" }
+
+!llvm.module.flags = !{!0, !1, !2}
+!llvm.ident = !{!3}
+
+!0 = !{i32 1, !"wchar_size", i32 4}
+!1 = !{i32 7, !"uwtable", i32 2}
+!2 = !{i32 7, !"frame-pointer", i32 2}
+!3 = !{!"Debian clang version 19.1.7 (3~deb12u1)"}
