@@ -5,6 +5,7 @@ pub mod Texts
 pub mod TypeRecords
 pub mod Trees
 pub mod Types
+pub mod Ranges
 pub mod Constants
 pub mod Fields
 pub mod Lines
