@@ -26,7 +26,7 @@ use Rattle.line_read.specs.Kept.{HasInst}
 use Rattle.body_names.specs.Called.{AreNames, Calls, IsTame, ReadsCalled, called_as}
 use Rattle.body_names.specs.declared.called.Names.{Names}
 use Rattle.body_records.specs.declared.begun.Begun.{Begun}
-use Rattle.body_records.specs.Begun.{Begins, Follows, Has, IsBody, Passes, due_view}
+use Rattle.body_records.specs.Begun.{Begins, Follows, Has, IsBody, Passes, block_called, due_view}
 use Rattle.body_records.proofs.Closing.{vain_both}
 
 pub tame_first : (x : the_texts.Texts) (operands : List ℕ) → IsTame x (going operands None)
@@ -112,6 +112,7 @@ module _ (x : the_texts.Texts) (a : ModuleReader) (q : Reader) (before : Begun) 
           (subst (λ n. AreNames named (bodies.after_all s.own (n ∷ [])) (bodies.with_names s.taken (n ∷ []))) v (calls.judged s.own s.taken follows.names).1);
       ordinary = ap (λ (b : Begun). b.names.strange) begins.rest ∙ (calls.strange ∙ (or_false before.names.strange (is_none name) (ap is_none some) ∙ follows.ordinary));
       name = λ is. ap (λ (b : Begun). local_view b.name) begins.rest ∙ (ap called_as (sym some) ∙ v);
+      blocks = ap (λ (b : Begun). map block_called b.blocks.items) begins.rest ∙ follows.blocks;
       results = ap (λ (b : Begun). map local_view b.results.items) begins.rest ∙ (follows.results ∙ ap (λ (is : List m.Instruction). results_of s.blocks ++ results_in is) (block_closed s.due s.instructions may));
       counted = λ not. follows.counted (block_not s.due may);
       next = λ not. ap (λ (b : Begun). b.next) begins.rest ∙ (follows.next (block_not s.due may) ∙ ap (λ (b : Begun). count + length b.results.items) (sym begins.rest));

@@ -1,6 +1,6 @@
 -- A record that is finished answers as its rules say.
 use Rattle.std.proofs.Common.{◌≡◌, ◌≤◌, ◌-◌, ℕ, suc, min, Bool, true, false, [], ◌∷◌, Option, Some, None, refl, sym, ap, ◌∙◌, arith}
-use Rattle.std.specs.Prelude.{Result, Ok, Err}
+use Rattle.std.specs.Prelude.{Result, Ok, Err, OnOk}
 use Rattle.record_table.specs.Walk.{Walk, going, stopped, least, told}
 use Rattle.record_table.specs.Faults.{Answer, also, unless_broken}
 use Rattle.record_read.specs.declared.fault.BitcodeFault.{BitcodeFault}
@@ -85,6 +85,11 @@ finished means id at r (Some rule) value (Err given) place is f keep =
     memory_or (fault.UnknownRecord i c) e = e
     memory_or (fault.BadRecord i n k) e = e
     memory_or fault.Memory e = tt
+
+-- what is known is known where there is no error
+pub when_ok : {A E P : Type 0} (result : Result A E) → P → OnOk result P
+when_ok (Ok value) p = p
+when_ok (Err e) p = tt
 
 -- want of memory answers whatever the records say
 pub out_of_memory : {A B : Type 0} (means : B → A → Type 0) (answer : Answer A) (given : BitcodeFault) → given ≡ fault.Memory → Answers means answer (Err given)

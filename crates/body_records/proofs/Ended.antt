@@ -30,7 +30,7 @@ use Rattle.line_read.specs.Kept.{HasInst}
 use Rattle.ending_read.specs.Ends.{HasEnding, ReadsEnding, ending_in}
 use Rattle.body_names.specs.Called.{AreNames}
 use Rattle.body_records.specs.declared.begun.Begun.{Begun}
-use Rattle.body_records.specs.Begun.{Ends, Follows, Has, IsBody, Means, Passes, due_view, results_so_far}
+use Rattle.body_records.specs.Begun.{Ends, Follows, Has, IsBody, Means, Passes, block_called, due_view, results_so_far}
 
 -- operands were taken, and the reader is behind the record
 pub passes_by : (a b : ModuleReader) (r : Reader) → Goes a b → r.spent ≡ b.reader.spent → r.left ≡ b.reader.left → r.at ≡ b.reader.at → Passes a (record b { reader = r })
@@ -69,6 +69,8 @@ module _ (k : Numbering) (count : ℕ) (a b : ModuleReader) (before after : Begu
     names = subst (λ (x : Begun). AreNames x.names s.own s.taken) (sym ends.rest) follows.names;
     ordinary = ap (λ (x : Begun). x.names.strange) ends.rest ∙ follows.ordinary;
     name = λ is. absurd (cc);
+    blocks = ap (map block_called) ends.blocks
+        ∙ (map-append block_called before.blocks.items (kept ∷ []) ∙ ((λ j. follows.blocks j ++ follows.name line j ∷ []) ∙ sym (map-append (λ (c : m.Block). c.name) s.blocks (read ∷ []))));
     results = ap (λ (x : Begun). map local_view x.results.items) ends.rest ∙ (follows.results ∙ results_same);
     counted = λ not. follows.counted not_parameters;
     next = λ not. ap (λ (x : Begun). x.next) ends.rest ∙ (follows.next not_parameters ∙ ap (λ (x : Begun). count + length x.results.items) (sym ends.rest));

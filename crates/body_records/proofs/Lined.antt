@@ -39,7 +39,7 @@ use Rattle.call_read.specs.Calls.{IsNameOf, ReadsLine, ids_of, name_behind, oper
 use Rattle.body_names.specs.Called.{AreNames, beyond_table}
 use Rattle.body_names.specs.declared.called.Names.{Names}
 use Rattle.body_records.specs.declared.begun.Begun.{Begun}
-use Rattle.body_records.specs.Begun.{Adds, CallsKept, Follows, Has, IsBody, IsCounted, Means, due_view, results_so_far}
+use Rattle.body_records.specs.Begun.{Adds, CallsKept, Follows, Has, IsBody, IsCounted, Means, block_called, due_view, results_so_far}
 use Rattle.body_records.proofs.Closing.{told_unbroken, vain_both}
 use Rattle.body_records.proofs.Ended.{passes_by}
 use Rattle.body_records.proofs.Missing.{broken_on, missing_name}
@@ -175,6 +175,7 @@ module _ (x : the_texts.Texts) (k : Numbering) (count : ℕ) (a b : ModuleReader
         names = subst (λ (y : Begun). AreNames y.names t.own t.taken) (sym adds.rest) (subst (λ ns. AreNames named (bodies.after_all s.own ns) (bodies.with_names s.taken ns)) names_are (called name made).0);
         ordinary = ap (λ (y : Begun). y.names.strange) adds.rest ∙ (called name made).1;
         name = λ is. ap (λ (y : Begun). local_view y.name) adds.rest ∙ follows.name line;
+        blocks = ap (λ (y : Begun). map block_called y.blocks.items) adds.rest ∙ follows.blocks;
         results = ap (map local_view) adds.results ∙ (map-append local_view before.results.items (option_to_list name) ∙ ((λ j. follows.results j ++ (named_list name ∙ names_are) j) ∙ results_more));
         counted = λ not. follows.counted not_parameters;
         next = λ not.

@@ -88,6 +88,7 @@ module _ (x : the_texts.Texts) (count : ℕ) (a : ModuleReader) (q : Reader) (be
       names = subst (λ n. AreNames named n t.taken) (ap (λ n. bodies.after_all n read.0) (sym (follows.first line).1)) called.names_are;
       ordinary = called.strange none_broken ∙ follows.ordinary;
       name = λ is. absurd (cc);
+      blocks = follows.blocks;
       results = follows.results ∙ ap (λ d. results_of s.blocks ++ results_in (opened d s.instructions)) line;
       counted = λ not. names_many (texts_of x) (texts_sound x) count operands unbroken;
       next = λ not. sym (add-zero count) ∙ ap (λ xs. count + length xs) (sym (follows.first line).0);

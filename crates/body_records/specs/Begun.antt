@@ -2,6 +2,7 @@
 use Rattle.std.specs.Prelude.{◌≡◌, ◌+◌, ℕ, suc, true, false, List, [], ◌∷◌, ◌++◌, length, map, flat_map, All, Option, Some, None, Result, slice_index_or, option_to_list, OnOk, Bool}
 use Rattle.ir_tables.specs.declared.opcode.Opcode.{Opcode}
 use Rattle.type_table.specs.Types.{trees}
+use Rattle.module_arena.specs.declared.entry.Block as the_block
 use Rattle.module_arena.specs.declared.entry.LocalName as the_local
 use Rattle.module_arena.specs.declared.instruction.Ending as the_ending
 use Rattle.module_arena.specs.declared.instruction.Inst.{Inst}
@@ -97,12 +98,17 @@ pub record Ends (old : Begun) (end : the_ending.Ending) (new : Begun) : Type 0 w
 abbrev pub results_so_far : bodies.Begun → List m.LocalName
 results_so_far s = results_of s.blocks ++ results_in (opened s.due s.instructions)
 
+-- what a block is called
+abbrev pub block_called : the_block.Block → m.LocalName
+block_called b = local_view b.name
+
 -- what was read so far, but for what it does
 pub record Follows (count : ℕ) (b : Begun) (s : bodies.Begun) : Type 0 where
   pub due_is : due_view b.due ≡ s.due
   pub names : AreNames b.names s.own s.taken
   pub ordinary : b.names.strange ≡ false
   pub name : s.due ≡ bodies.Line → local_view b.name ≡ s.name
+  pub blocks : map block_called b.blocks.items ≡ map (λ (c : m.Block). c.name) s.blocks
   pub results : map local_view b.results.items ≡ results_so_far s
   pub counted : (s.due ≡ bodies.Parameters → ⊥) → length s.parameters ≡ count
   pub next : (s.due ≡ bodies.Parameters → ⊥) → b.next ≡ count + length b.results.items

@@ -1,8 +1,8 @@
 //! The records of a body. What they say is added before they are refused: where one is, the body is not used any more.
-ghost use Rattle.std.specs.Prelude.{◌≡◌, ◌<◌, ℕ, true, false, IfOk};
+ghost use Rattle.std.specs.Prelude.{◌≡◌, ◌<◌, ℕ, true, false, IfOk, OnOk};
 ghost use Rattle.record_table.specs.Fields.{Numbering};
 ghost use Rattle.record_table.specs.Lines as lines;
-ghost use Rattle.body_records.specs.Begun.{CallsKept, ReadsBlock, ReadsEnd, ReadsInstruction, ReadsParameters};
+ghost use Rattle.body_records.specs.Begun.{CallsKept, Passes, ReadsBlock, ReadsEnd, ReadsInstruction, ReadsParameters};
 
 use crate::begun::{Begun, Due};
 use arena_read::ModuleReader;
@@ -23,7 +23,8 @@ pub fn read_parameters(
     count: u32,
 ) -> Result<(), BitcodeFault>
     requires { 0 < m.old.reader.at }
-    ensures { (k : Numbering) → ReadsParameters texts.now k count m.old body.old result m.new body.new }
+    ensures passes { OnOk result (Passes m.old m.new) }
+    ensures reads { (k : Numbering) → ReadsParameters texts.now k count m.old body.old result m.new body.new }
 {
     let all_new = read_names(&mut m.reader, m.alloc, texts, &mut body.names, count as u64)?;
     m.reader.also(4, all_new);
@@ -40,7 +41,8 @@ pub fn read_block(
     body: &mut Begun,
 ) -> Result<(), BitcodeFault>
     requires { 0 < m.old.reader.at }
-    ensures { (k : Numbering) (count : ℕ) → ReadsBlock texts.now k count m.old body.old result m.new body.new }
+    ensures passes { OnOk result (Passes m.old m.new) }
+    ensures reads { (k : Numbering) (count : ℕ) → ReadsBlock texts.now k count m.old body.old result m.new body.new }
 {
     let name = read_called(&mut m.reader, m.alloc, texts, body.names.own)?;
     let is_new = body.names.call(m.alloc, name.as_ref())?;
@@ -63,7 +65,8 @@ pub fn read_end(
 ) -> Result<(), BitcodeFault>
     requires given { 0 < m.old.reader.at }
     requires end { lines.is_end opcode ≡ true }
-    ensures { (k : Numbering) (count : ℕ) → ReadsEnd k count opcode m.old body.old result m.new body.new }
+    ensures passes { OnOk result (Passes m.old m.new) }
+    ensures reads { (k : Numbering) (count : ℕ) → ReadsEnd k count opcode m.old body.old result m.new body.new }
 {
     let ending = read_ending(m, opcode)?;
     m.reader.also(5, body.due.is_line());
@@ -95,7 +98,8 @@ pub fn read_line(
 ) -> Result<(), BitcodeFault>
     requires given { 0 < m.old.reader.at }
     requires line { lines.is_end opcode ≡ false }
-    ensures { (k : Numbering) (count : ℕ) → ReadsInstruction texts.now k count opcode m.old body.old result m.new body.new }
+    ensures passes { OnOk result (Passes m.old m.new) }
+    ensures reads { (k : Numbering) (count : ℕ) → ReadsInstruction texts.now k count opcode m.old body.old result m.new body.new }
 {
     let defined = ValueId::new(body.next);
     let line = read_instruction(m, texts, opcode, defined, body.names.own)?;

@@ -5,17 +5,17 @@ use Rattle.record_table.specs.Fields.{label}
 use Rattle.record_table.specs.Layout.{judged}
 use Rattle.record_read.specs.Fields.{IsLocal, texts_of}
 use Rattle.record_read.specs.Reader.{Reader, IsBroken, IsKept}
-use Rattle.body_records.proofs.Closing.{closes, out_of_memory, told_broken}
-use Rattle.body_records.proofs.Blocked.{block_body, name_told, told_same}
+use Rattle.body_records.proofs.Closing.{closes, out_of_memory, told_broken, when_ok}
+use Rattle.body_records.proofs.Blocked.{block_body, name_told, passes_here, told_same}
 use Rattle.body_records.proofs.records.read_block.Goals as goal
 
-pub returns-in_err-name : goal.returns-in_err-name
-returns-in_err-name c = λ k count numbers s operands front place follows.
+pub returns-in_err-name-clause-reads : goal.returns-in_err-name-clause-reads
+returns-in_err-name-clause-reads c = λ k count numbers s operands front place follows.
     let p = err_from_is_err_and c.from_residual.result c.from_residual.ensures.1 in
     rw p.1 (out_of_memory _ _ p.0 p.2)
 
-pub returns-in-Some : goal.returns-in-Some
-returns-in-Some c = λ k count numbers s operands front place follows.
+pub returns-in-Some-clause-reads : goal.returns-in-Some-clause-reads
+returns-in-Some-clause-reads c = λ k count numbers s operands front place follows.
     let a = c.args.m.now in
     let x = c.args.texts.now in
     let q = c.read_called.new.reader in
@@ -30,8 +30,8 @@ returns-in-Some c = λ k count numbers s operands front place follows.
     c.finish.new.self (c.finish.ensures.spent ∙ (ap (λ (r : Reader). r.spent) c.also-2.ensures ∙ ap (λ (r : Reader). r.spent) c.also.ensures))
     (c.finish.ensures.left ∙ (ap (λ (r : Reader). r.left) c.also-2.ensures ∙ ap (λ (r : Reader). r.left) c.also.ensures)) (c.finish.ensures.at ∙ (ap (λ (r : Reader). r.at) c.also-2.ensures ∙ ap (λ (r : Reader). r.at) c.also.ensures)))
 
-pub returns-in-None : goal.returns-in-None
-returns-in-None c = λ k count numbers s operands front place follows.
+pub returns-in-None-clause-reads : goal.returns-in-None-clause-reads
+returns-in-None-clause-reads c = λ k count numbers s operands front place follows.
     let a = c.args.m.now in
     let x = c.args.texts.now in
     let q = c.read_called.new.reader in
@@ -43,3 +43,17 @@ returns-in-None c = λ k count numbers s operands front place follows.
     closes _ s.at q c.also.new.self c.also-2.new.self c.in_ok-is_new.is_new (bodies.are_new s.taken (read.0 ∷ [])) c.is_block.result (bodies.is_block s.due) read.1 _ c.finish-in-None.result
     (ap (λ (r : Reader). r.at) c.in_ok-name.ensures.reads.reader ∙ place) c.also.ensures c.also-2.ensures five four told_is c.finish-in-None.ensures.told
     (λ unbroken new may. absurd (told_broken q.walk broken (told_is ∙ unbroken)))
+
+pub returns-in-Some-clause-passes : goal.returns-in-Some-clause-passes
+returns-in-Some-clause-passes c =
+    when_ok c.finish.result (passes_here c.args.m.now c.read_called.new.reader c.finish.new.self _ c.in_ok-name.ensures.reads.reader
+    (c.finish.ensures.spent ∙ (ap (λ (r : Reader). r.spent) c.also-2.ensures ∙ ap (λ (r : Reader). r.spent) c.also.ensures))
+    (c.finish.ensures.left ∙ (ap (λ (r : Reader). r.left) c.also-2.ensures ∙ ap (λ (r : Reader). r.left) c.also.ensures))
+    (c.finish.ensures.at ∙ (ap (λ (r : Reader). r.at) c.also-2.ensures ∙ ap (λ (r : Reader). r.at) c.also.ensures)))
+
+pub returns-in-None-clause-passes : goal.returns-in-None-clause-passes
+returns-in-None-clause-passes c =
+    when_ok c.finish-in-None.result (passes_here c.args.m.now c.read_called.new.reader c.finish-in-None.new.self _ c.in_ok-name.ensures.reads.reader
+    (c.finish-in-None.ensures.spent ∙ (ap (λ (r : Reader). r.spent) c.also-2.ensures ∙ ap (λ (r : Reader). r.spent) c.also.ensures))
+    (c.finish-in-None.ensures.left ∙ (ap (λ (r : Reader). r.left) c.also-2.ensures ∙ ap (λ (r : Reader). r.left) c.also.ensures))
+    (c.finish-in-None.ensures.at ∙ (ap (λ (r : Reader). r.at) c.also-2.ensures ∙ ap (λ (r : Reader). r.at) c.also.ensures)))

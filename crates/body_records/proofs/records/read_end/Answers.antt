@@ -9,17 +9,17 @@ use Rattle.arena_read.specs.declared.module_reader.ModuleReader.{ModuleReader}
 use Rattle.arena_read.proofs.Kept.{grows_self}
 use Rattle.ending_read.specs.Ends.{ReadsEnding}
 use Rattle.body_labels.proofs.Kept.{due_line}
-use Rattle.body_records.proofs.Closing.{closes, out_of_memory, told_broken, told_unbroken}
-use Rattle.body_records.proofs.Ended.{ended_body}
+use Rattle.body_records.proofs.Closing.{closes, out_of_memory, told_broken, told_unbroken, when_ok}
+use Rattle.body_records.proofs.Ended.{ended_body, passes_by}
 use Rattle.body_records.proofs.records.read_end.Goals as goal
 
-pub returns-in_err-ending : goal.returns-in_err-ending
-returns-in_err-ending c = λ k count numbers s operands front place follows.
+pub returns-in_err-ending-clause-reads : goal.returns-in_err-ending-clause-reads
+returns-in_err-ending-clause-reads c = λ k count numbers s operands front place follows.
     let p = err_from_is_err_and c.from_residual.result c.from_residual.ensures.1 in
     rw p.1 (out_of_memory _ _ p.0 p.2)
 
-pub returns-in_ok-end-in-Some : goal.returns-in_ok-end-in-Some
-returns-in_ok-end-in-Some c = λ k count numbers s operands front place follows.
+pub returns-in_ok-end-in-Some-clause-reads : goal.returns-in_ok-end-in-Some-clause-reads
+returns-in_ok-end-in-Some-clause-reads c = λ k count numbers s operands front place follows.
     let old = c.args.m.now in
     let new = c.read_ending.new.m in
     let o = c.args.opcode in
@@ -33,8 +33,8 @@ returns-in_ok-end-in-Some c = λ k count numbers s operands front place follows.
     (c.finish.ensures.spent ∙ ap (λ (r : Reader). r.spent) c.also.ensures) (c.finish.ensures.left ∙ ap (λ (r : Reader). r.left) c.also.ensures) (c.finish.ensures.at ∙ ap (λ (r : Reader). r.at) c.also.ensures)
     numbers (told_unbroken new.reader.walk (told_is ∙ unbroken)))
 
-pub returns-in-None : goal.returns-in-None
-returns-in-None c = λ k count numbers s operands front place follows.
+pub returns-in-None-clause-reads : goal.returns-in-None-clause-reads
+returns-in-None-clause-reads c = λ k count numbers s operands front place follows.
     let old = c.args.m.now in
     let new = c.read_ending.new.m in
     let o = c.args.opcode in
@@ -45,3 +45,17 @@ returns-in-None c = λ k count numbers s operands front place follows.
     closes _ s.at new.reader new.reader c.also.new.self true true c.is_line.result (bodies.is_line s.due) (judged (ending k o) operands).1 _ c.finish-in-None.result
     (ap (λ (x : ModuleReader). x.reader.at) reads.reads.goes.rest ∙ place) refl c.also.ensures five refl told_is c.finish-in-None.ensures.told
     (λ unbroken four may. absurd (told_broken new.reader.walk broken (told_is ∙ unbroken)))
+
+pub returns-in_ok-end-in-Some-clause-passes : goal.returns-in_ok-end-in-Some-clause-passes
+returns-in_ok-end-in-Some-clause-passes c =
+    when_ok c.finish.result (passes_by c.args.m.now c.read_ending.new.m c.finish.new.self c.in_ok-ending.ensures.reads.goes
+    (c.finish.ensures.spent ∙ ap (λ (r : Reader). r.spent) c.also.ensures)
+    (c.finish.ensures.left ∙ ap (λ (r : Reader). r.left) c.also.ensures)
+    (c.finish.ensures.at ∙ ap (λ (r : Reader). r.at) c.also.ensures))
+
+pub returns-in-None-clause-passes : goal.returns-in-None-clause-passes
+returns-in-None-clause-passes c =
+    when_ok c.finish-in-None.result (passes_by c.args.m.now c.read_ending.new.m c.finish-in-None.new.self c.in_ok-ending.ensures.reads.goes
+    (c.finish-in-None.ensures.spent ∙ ap (λ (r : Reader). r.spent) c.also.ensures)
+    (c.finish-in-None.ensures.left ∙ ap (λ (r : Reader). r.left) c.also.ensures)
+    (c.finish-in-None.ensures.at ∙ ap (λ (r : Reader). r.at) c.also.ensures))

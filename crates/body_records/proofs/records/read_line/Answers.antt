@@ -8,27 +8,28 @@ use Rattle.record_read.specs.Reader.{Reader}
 use Rattle.arena_read.specs.declared.module_reader.ModuleReader.{ModuleReader}
 use Rattle.call_read.specs.Calls.{ReadsLine}
 use Rattle.body_labels.proofs.Kept.{due_line}
-use Rattle.body_records.proofs.Closing.{closes, out_of_memory}
+use Rattle.body_records.proofs.Closing.{closes, out_of_memory, when_ok}
+use Rattle.body_records.proofs.Ended.{passes_by}
 use Rattle.body_records.proofs.Lined.{line_added, line_same, line_told}
 use Rattle.body_records.proofs.records.read_line.Goals as goal
 
-pub returns-in_err-line : goal.returns-in_err-line
-returns-in_err-line c = λ k count numbers s operands front place follows counted.
+pub returns-in_err-line-clause-reads : goal.returns-in_err-line-clause-reads
+returns-in_err-line-clause-reads c = λ k count numbers s operands front place follows counted.
     let p = err_from_is_err_and c.from_residual.result c.from_residual.ensures.1 in
     rw p.1 (out_of_memory _ _ p.0 p.2)
 
-pub returns-in_err-is_new : goal.returns-in_err-is_new
-returns-in_err-is_new c = λ k count numbers s operands front place follows counted.
+pub returns-in_err-is_new-clause-reads : goal.returns-in_err-is_new-clause-reads
+returns-in_err-is_new-clause-reads c = λ k count numbers s operands front place follows counted.
     let p = err_from_is_err_and c.from_residual-in_err-is_new.result c.from_residual-in_err-is_new.ensures.1 in
     rw p.1 (out_of_memory _ _ p.0 p.2)
 
-pub returns-in_err-add : goal.returns-in_err-add
-returns-in_err-add c = λ k count numbers s operands front place follows counted.
+pub returns-in_err-add-clause-reads : goal.returns-in_err-add-clause-reads
+returns-in_err-add-clause-reads c = λ k count numbers s operands front place follows counted.
     let p = err_from_is_err_and c.from_residual-in_err-add.result c.from_residual-in_err-add.ensures.1 in
     rw p.1 (out_of_memory _ _ p.0 p.2)
 
-pub returns : goal.returns
-returns c = λ k count numbers s operands front place follows counted.
+pub returns-clause-reads : goal.returns-clause-reads
+returns-clause-reads c = λ k count numbers s operands front place follows counted.
     let a = c.args.m.now in
     let b = c.read_instruction.new.m in
     let x = c.args.texts.now in
@@ -48,3 +49,10 @@ returns c = λ k count numbers s operands front place follows counted.
     line_added x k count a b before named o line.name line.instruction is_new s operands front follows numbers reads c.in_ok-is_new.ensures (due_line s.due may) unbroken c.add.new.self c.in_ok-add.ensures counted
     c.finish.new.self (c.finish.ensures.spent ∙ (ap (λ (r : Reader). r.spent) c.also-2.ensures ∙ ap (λ (r : Reader). r.spent) c.also.ensures))
     (c.finish.ensures.left ∙ (ap (λ (r : Reader). r.left) c.also-2.ensures ∙ ap (λ (r : Reader). r.left) c.also.ensures)) (c.finish.ensures.at ∙ (ap (λ (r : Reader). r.at) c.also-2.ensures ∙ ap (λ (r : Reader). r.at) c.also.ensures)))
+
+pub returns-clause-passes : goal.returns-clause-passes
+returns-clause-passes c =
+    when_ok c.finish.result (passes_by c.args.m.now c.read_instruction.new.m c.finish.new.self c.in_ok-line.ensures.reads.goes
+    (c.finish.ensures.spent ∙ (ap (λ (r : Reader). r.spent) c.also-2.ensures ∙ ap (λ (r : Reader). r.spent) c.also.ensures))
+    (c.finish.ensures.left ∙ (ap (λ (r : Reader). r.left) c.also-2.ensures ∙ ap (λ (r : Reader). r.left) c.also.ensures))
+    (c.finish.ensures.at ∙ (ap (λ (r : Reader). r.at) c.also-2.ensures ∙ ap (λ (r : Reader). r.at) c.also.ensures)))
