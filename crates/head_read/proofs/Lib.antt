@@ -1,0 +1,4 @@
+pub mod Walked
+pub mod Named
+pub mod FrontsRead
+pub mod Finding

@@ -1,0 +1,48 @@
+-- The name in front of a record.
+use Rattle.std.proofs.Common.{◌≡◌, ◌<◌, ◌&&◌, ℕ, suc, Bool, true, false, [], ◌∷◌, Option, Some, None, get_or, length, refl, sym, ap, ◌∙◌, arith}
+use Rattle.std.specs.Prelude.{nat_lt}
+use Rattle.std.proofs.lemmas.Bool.{and_from, lt-ltb}
+use Rattle.module_arena.specs.Module.{Bytes}
+use Rattle.record_table.specs.Fields.{Texts, is_name}
+use Rattle.record_read.specs.Reader.{Reader, is_broken}
+use Rattle.record_read.specs.Fields.{ReadsText, IsNamed, are_bytes}
+use Rattle.record_read.proofs.Sized.{named_reads}
+use Rattle.type_read.specs.Fields.{is_good}
+use Rattle.head_read.specs.Fronts.{ReadsFrontName}
+
+-- items that are each below 256
+pub all_bytes : (bs : Bytes) → ((i : ℕ) → i < length bs → get_or bs i 0 < 256) → are_bytes bs ≡ true
+all_bytes [] each = refl
+all_bytes (b ∷ bs) each = and_from (nat_lt b 256) (are_bytes bs) (lt-ltb b 256 (each 0 (omega arith))) (all_bytes bs (λ i lt. each (suc i) (omega arith)))
+
+no_name : (x : Bytes) → is_name x ≡ false → is_good x ≡ false
+no_name x h = ap (λ b. b && are_bytes x) h
+
+no_bytes : (x : Bytes) → are_bytes x ≡ false → is_good x ≡ false
+no_bytes x h = by_case (is_name x) (are_bytes x) h
+  where
+    by_case : (a b : Bool) → b ≡ false → (a && b) ≡ false
+    by_case true b e = e
+    by_case false b e = refl
+
+pub name_some : (t : Texts) (old mid now : Reader) (text : Option Bytes) (name : Bytes) → ReadsText t.middle old mid text → IsNamed text mid (Some name) now → are_bytes name ≡ true → ReadsFrontName t old now (Some name)
+name_some t old mid now None name h n bytes = absurd (cc (n.0))
+name_some t old mid now (Some text) name h n bytes =
+    let same : name ≡ (t.middle.read old.walk).0 = n.0 ∙ h.kept in
+    record {
+      value = (same, ap is_good (sym same) ∙ and_from (is_name name) (are_bytes name) (ap is_name n.0 ∙ n.1) bytes);
+      reader = named_reads t.middle old mid now (Some text) (Some name) h n;
+      broken = λ none. absurd (cc);
+    }
+
+pub name_none : (t : Texts) (old mid now : Reader) (text : Option Bytes) → ReadsText t.middle old mid text → IsNamed text mid None now → ReadsFrontName t old now None
+name_none t old mid now None h n = record {
+  value = no_bytes (t.middle.read old.walk).0 h.kept.0;
+  reader = named_reads t.middle old mid now None None h n;
+  broken = λ none. ap (λ (r : Reader). is_broken r.walk) n.1 ∙ h.kept.1;
+}
+name_none t old mid now (Some text) h n = record {
+  value = no_name (t.middle.read old.walk).0 (ap is_name (sym h.kept) ∙ n.0);
+  reader = named_reads t.middle old mid now (Some text) None h n;
+  broken = λ none. n.2;
+}
