@@ -67,7 +67,7 @@ impl Output {
         }
     }
 
-    // Writes what is held, and these bytes behind it.
+    // Writes what is held, and these bytes behind it: first what is held and as many of them as fill it up, by one write.
     fn write_with<O: Sink>(&mut self, bytes: &[u8], sink: &mut O) -> Result<(), Failed>
         ensures ok { OnOk result (Added (O.taken sink.old) (O.taken sink.new) (self.old ++ bytes.now)) }
         ensures none { OnOk result (self.new ≡ []) }
@@ -78,10 +78,18 @@ impl Output {
         ensures later { O.faults sink.old ≤ O.faults sink.new }
         ensures short { length self.new < 65536 }
     {
-        write_all(sink, &self.bytes)?;
-        write_all(sink, bytes)?;
-        self.bytes.clear();
-        Ok(())
+        let held = self.bytes.len();
+        let more = bytes.len().min(FULL - held);
+        match self.bytes.extend_from_slice(&bytes[..more]) {
+            Ok(()) => {}
+            Err(_) => unreachable!(),
+        }
+        let written = write_both(&self.bytes, &bytes[more..], sink);
+        match written {
+            Ok(()) => self.bytes.clear(),
+            Err(_) => self.bytes.truncate(held),
+        }
+        written
     }
 
     /// Writes all that is held.
@@ -100,4 +108,17 @@ impl Output {
     {
         self.write_with(&[], sink)
     }
+}
+
+// Writes bytes and those behind them.
+fn write_both<O: Sink>(bytes: &[u8], behind: &[u8], sink: &mut O) -> Result<(), Failed>
+    ensures ok { OnOk result (Added (O.taken sink.old) (O.taken sink.new) (bytes.now ++ behind.now)) }
+    ensures front { OnErr result (WritesFront (O.taken sink.old) (O.taken sink.new) (bytes.now ++ behind.now)) }
+    ensures fine { OnOk result (O.faults sink.new ≡ O.faults sink.old) }
+    ensures rose { OnErr result (Rose (O.faults sink.old) (O.faults sink.new)) }
+    ensures later { O.faults sink.old ≤ O.faults sink.new }
+{
+    write_all(sink, bytes)?;
+    write_all(sink, behind)?;
+    Ok(())
 }
