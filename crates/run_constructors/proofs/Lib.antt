@@ -1,0 +1,3 @@
+pub mod Sorted
+pub mod Elements
+pub mod Listed
