@@ -1,0 +1,139 @@
+//! What instructions see of a run.
+ghost use Rattle.std.specs.Prelude.{◌≡◌, ◌^◌, ◌<◌, ℕ, [], IfOk, OnErr, OnOk, true};
+ghost use Rattle.run_machine.specs.Living.{Acts, Enters, HasFrames, IsLive, may_want_in, StaysEntered, StaysIn, StaysLive, TakesNumber, Turns};
+ghost use Rattle.run_passing.specs.Traffic.{Gets};
+ghost use Rattle.run_rules.specs.Clauses.{outside};
+
+use ir_base::{Sink, Source};
+use ir_memory::Memory;
+use run_acts::{Room, act};
+use run_calls::{DueCalls, Next, Stop, call_due};
+use run_passing::get;
+use run_program::Program;
+use run_rules::RunFault;
+use run_stack::Stack;
+use run_traffic::{Input, Output};
+use std::alloc::AllocError;
+use std::marker::Model;
+
+/// What instructions see of a run: what is run, the frames, memory, and what is due. What an instruction writes stands in the room.
+#[derive(Drop)]
+pub(crate) struct Live<'m> {
+    pub program: Program<'m>,
+    pub stack: Stack,
+    pub memory: Memory,
+    pub due: DueCalls,
+    pub room: Room,
+}
+
+impl<'m> Model for Live<'m> {
+    ghost use Rattle.run_machine.specs.Living.{Living};
+
+    ghost Value = { Living };
+
+    ghost view = { λ l. record { program = l.program; stack = l.stack; memory = l.memory; due = l.due; written = l.room.written.items } };
+}
+
+/// What a step comes to, but for the bytes on their way.
+#[derive(Clone, Copy)]
+pub(crate) enum Turn {
+    /// The run is over on entering what is due, before any instruction.
+    Over(Stop),
+    /// An instruction was carried out, and came to this.
+    Came(Next),
+}
+
+impl<'m> Live<'m> {
+    /// While no function is under way, what is due is called; a stop comes back where the run is over by that.
+    ///
+    /// It is refused for want of memory alone, and only where no function was under way.
+    pub fn enter_due(&mut self) -> Result<Option<Stop>, AllocError>
+        requires { (steps : ℕ) × IsLive steps self.old }
+        ensures entered { IfOk result (λ stop. Enters stop self.old self.new) }
+        ensures live { (steps : ℕ) → IsLive steps self.old → IfOk result (λ stop. StaysEntered steps stop self.new) }
+        ensures idle { OnErr result (self.old.stack.frames ≡ []) }
+        ensures kept { OnErr result (self.new.program.lists ≡ self.old.program.lists) }
+    {
+        'idle: while self.stack.is_empty() {
+            let Some(due) = self.due.next() else {
+                return Ok(None);
+            };
+            match call_due(&mut self.program, &mut self.stack, due)? {
+                Next::Goes => {}
+                Next::Stops(stop) => return Ok(Some(stop)),
+                // What is due asks for no byte.
+                Next::Gets(_) => unreachable!(),
+            }
+        }
+        Ok(None)
+    }
+
+    /// Carries out the instruction that is due in the newest function. What it writes stands in the room.
+    ///
+    /// It is refused for want of memory alone, by an instruction that may want it.
+    #[inline]
+    pub fn act(&mut self) -> Result<Next, AllocError>
+        requires frames { HasFrames self.old }
+        requires live { (steps : ℕ) × IsLive steps self.old × (steps < 2 ^ 32) }
+        ensures acted { IfOk result (λ next. Acts next self.old self.new) }
+        ensures live { (steps : ℕ) → IsLive steps self.old → IfOk result (λ next. StaysLive steps next self.new) }
+        ensures wants { OnErr result (may_want_in self.old ≡ true) }
+        ensures kept { OnErr result (self.new.program.lists ≡ self.old.program.lists) }
+    {
+        self.room.written.clear();
+        let is_last = self.due.is_empty();
+        act(
+            &mut self.program,
+            &mut self.stack,
+            &mut self.memory,
+            is_last,
+            &mut self.room,
+        )
+    }
+
+    /// Enters what is due, and carries out an instruction. What that writes stands in the room.
+    ///
+    /// It is refused for want of memory alone, where no function was under way, or by an instruction that may want it.
+    #[inline]
+    pub fn turn(&mut self) -> Result<Turn, AllocError>
+        requires { (steps : ℕ) × IsLive steps self.old × (steps < 2 ^ 32) }
+        ensures turned { IfOk result (λ turn. Turns turn self.old self.new) }
+        ensures live { (steps : ℕ) → IsLive steps self.old → IfOk result (λ turn. StaysIn steps turn self.new) }
+        ensures wants { OnErr result (may_want_in self.old ≡ true) }
+        ensures kept { OnErr result (self.new.program.lists ≡ self.old.program.lists) }
+    {
+        if let Some(stop) = self.enter_due()? {
+            return Ok(Turn::Over(stop));
+        }
+        let next = self.act()?;
+        Ok(Turn::Came(next))
+    }
+
+    /// What the last instruction writes.
+    #[inline]
+    pub fn written(&self) -> &[u8]
+        ensures { result.now ≡ self.now.written }
+    {
+        &self.room.written
+    }
+
+    /// The newest frame gets the next byte of the input at that place, or -1 at its end. Before input is read all that is held is written.
+    ///
+    /// It is refused where a read or that write failed.
+    #[inline]
+    pub fn take_byte<I: Source, O: Sink>(
+        &mut self,
+        to: u32,
+        waiting: &mut Input,
+        held: &mut Output,
+        input: &mut I,
+        output: &mut O,
+    ) -> Result<(), RunFault>
+        requires { (steps : ℕ) × IsLive steps self.old × HasFrames self.old × TakesNumber to self.old }
+        ensures gets { Gets to result self.old.stack self.new.stack waiting.old waiting.new held.old held.new (outside (I.left input.old) (I.faults input.old) (O.taken output.old) (O.faults output.old)) (outside (I.left input.new) (I.faults input.new) (O.taken output.new) (O.faults output.new)) }
+        ensures others { self.new ≡ record self.old { stack = self.new.stack } }
+        ensures live { OnOk result ((steps : ℕ) → IsLive steps self.old → TakesNumber to self.old → IsLive steps self.new) }
+    {
+        get(&mut self.stack, to, waiting, held, input, output)
+    }
+}
