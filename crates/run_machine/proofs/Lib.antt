@@ -5,3 +5,5 @@ pub mod Gets
 pub mod Lived
 pub mod Entering
 pub mod Onward
+pub mod Begun
+pub mod Valid

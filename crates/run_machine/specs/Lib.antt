@@ -1,2 +1,4 @@
 pub mod Seen
 pub mod Living
+pub mod Fresh
+pub mod Opened

@@ -1,4 +1,4 @@
--- For `steps`, `step` and `run` of `Machine`: how a clause sees a machine.
+-- For `open`, `steps`, `step` and `run` of `Machine`: how a clause sees a machine.
 use Rattle.std.specs.Prelude.{ℕ, Bool, List, Option, None, Result}
 use Rattle.module_arena.specs.Lists.{Lists}
 use Rattle.module_arena.specs.View.{module_of}
