@@ -1,13 +1,9 @@
 -- What is opened of a valid module is typed, and nothing of it is decoded.
-use Rattle.std.proofs.Common.{◌≡◌, ℕ, ◌+◌, ◌*◌, ◌^◌, ◌<◌, ◌≤◌, Bool, false, List, [], ◌∷◌, length, Result, Ok, Err, refl, sym, ap, ◌∙◌, subst, arith, lit<}
-use Rattle.std.specs.List.{All}
+use Rattle.std.proofs.Common.{◌≡◌, ℕ, ◌<◌, false, List, [], length, Result, Ok, Err, sym, ap, ◌∙◌, subst, arith, lit<}
 use Rattle.std.proofs.lemmas.List.Elements.{All-nil}
-use Rattle.ir_memory.specs.Memory.{Blocks}
 use Rattle.module_arena.specs.Lists.{Lists}
 use Rattle.module_arena.specs.Module.{Module}
-use Rattle.module_arena.specs.Valid.{IsValid}
 use Rattle.module_arena.specs.View.{module_of}
-use Rattle.module_arena.specs.WellFormed.{IsWellFormed}
 use Rattle.run_names.specs.Told.{alone}
 use Rattle.run_rules.specs.declared.end.End.{End}
 use Rattle.run_rules.specs.Look.{look, table}
@@ -15,7 +11,7 @@ use Rattle.run_rules.specs.Machine.{Machine, new_machine, opened_machine}
 use Rattle.run_rules.specs.Opening.{opened}
 use Rattle.run_rules.specs.Plan.{plan}
 use Rattle.run_rules.specs.Side.{begun}
-use Rattle.run_rules.specs.State.{Core, Due, Frame}
+use Rattle.run_rules.specs.State.{Core, Frame}
 use Rattle.run_program.specs.Loaded.{Loaded, nothing_ready}
 use Rattle.run_stack.specs.UnderWay.{UnderWay}
 use Rattle.run_calls.specs.Made.{IsFunctionReady}
@@ -24,11 +20,11 @@ use Rattle.run_open.specs.declared.opening.OpenRun.{OpenRun}
 use Rattle.run_open.specs.Opens.{Opens, core_opened}
 use Rattle.typed_look.specs.Typings.{IsTypedLook, typing_of}
 use Rattle.typed_runs.specs.Plans.{AreWords, IsTypedPlan}
-use Rattle.typed_runs.specs.States.{IsTypedCore, IsTypedState, reach}
+use Rattle.typed_runs.specs.States.{IsTypedCore, IsTypedState}
 use Rattle.typed_runs.proofs.Opening.{begun_typed}
 use Rattle.run_traffic.specs.Input.{Waiting}
 use Rattle.run_machine.specs.Fresh.{IsOpenRun}
-use Rattle.run_machine.specs.Living.{IsLive, IsOnItsWay, Living, going}
+use Rattle.run_machine.specs.Living.{IsOnItsWay, going}
 use Rattle.run_machine.specs.Seen.{the_machine}
 
 core_typed : (a : Lists) (words : List (List ℕ)) (c : Core) → IsTypedPlan (typing_of (alone (module_of a))) (look (alone (module_of a))) (table (alone (module_of a))) (plan (alone (module_of a))) → AreWords words
