@@ -8,19 +8,25 @@ use Rattle.bits.specs.declared.fault.BitFaultKind.{BitFaultKind}
 use Rattle.bits.specs.declared.fault.BitFaultKind.TheVariants.{BadMagic, Truncated, BadAbbreviation, VbrTooLong, BadBlockLength, NestedTooDeep}
 use Rattle.command_line.specs.Kinds.{kind_words}
 use Rattle.command_line.specs.Tools.{line_name}
+use Rattle.ir_tables.specs.UndefinedKind.{undefined_word}
 use Rattle.linkage_rules.specs.declared.conflict.ConflictKind.{ConflictKind}
 use Rattle.linkage_rules.specs.declared.conflict.ConflictKind.TheVariants.{TwoStrong, FunctionAndVariable, AppendingAndPlain, ElementShape, Constness}
 use Rattle.tool_ends.specs.declared.clash.Clash.{Clash}
 use Rattle.tool_ends.specs.declared.ended.Ended.{Ended}
-use Rattle.tool_ends.specs.declared.ended.Ended.TheVariants.{Exit, StepsUsed, Usage, CannotRead, CannotWrite, InputTooLarge, BadByte, NoItemHere, LeftOutWord, UnknownName, Duplicate, WrongNumber, ConstantRange, TooDeep, TooLarge, SelfContaining, TooMany, Conflict, FunctionTooLarge, Invalid, BitFault, NoSuchSymbol, NotBuilt, Memory}
+use Rattle.tool_ends.specs.declared.ended.Ended.TheVariants.{Exit, StepsUsed, Undefined, StackLimit, MemoryLimit, Unresolved, NoMain, Usage, CannotRead, CannotWrite, InputTooLarge, BadByte, NoItemHere, LeftOutWord, UnknownName, Duplicate, WrongNumber, ConstantRange, TooDeep, TooLarge, SelfContaining, TooMany, Conflict, FunctionTooLarge, Invalid, BitFault, NoSuchSymbol, NotBuilt, Memory}
 use Rattle.tool_ends.specs.declared.ended.Ended.TheVariants as ends
 
--- 0 where a tool did its work; a program's own status; 1 where a tool refuses; 120 where memory ran out, and 124 where
--- the steps did
+-- 0 where a tool did its work; a program's own status; 1 where a tool refuses; 120 where memory ran out; and of a program that has no end of its own 121 where
+-- its frames weigh too much, 122 where its memory has too many bytes, 123 where it lacks a name or main, 124 where its steps are used up, 125 where it is undefined
 abbrev pub status_of : Ended → ℕ
 status_of ends.Ok = 0
 status_of (Exit status) = status
 status_of StepsUsed = 124
+status_of (Undefined kind) = 125
+status_of StackLimit = 121
+status_of MemoryLimit = 122
+status_of (Unresolved name) = 123
+status_of NoMain = 123
 status_of (Usage kind k) = 1
 status_of (CannotRead name) = 1
 status_of (CannotWrite name) = 1
@@ -108,6 +114,11 @@ abbrev pub line_of : List (List ℕ) → Ended → List ℕ
 line_of words ends.Ok = []
 line_of words (Exit status) = []
 line_of words StepsUsed = error_line words (codes "steps used up")
+line_of words (Undefined kind) = error_line words (codes "undefined: " ++ undefined_word kind)
+line_of words StackLimit = error_line words (codes "stack limit")
+line_of words MemoryLimit = error_line words (codes "memory limit")
+line_of words (Unresolved name) = error_line words (codes "unresolved " ++ name)
+line_of words NoMain = error_line words (codes "no main")
 line_of words (Usage kind k) = error_line words (codes "usage: " ++ (kind_words kind ++ (codes " at word " ++ decimal k)))
 line_of words (CannotRead name) = error_line words (codes "cannot read " ++ name)
 line_of words (CannotWrite name) = error_line words (codes "cannot write " ++ name)

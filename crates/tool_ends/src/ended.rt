@@ -6,6 +6,7 @@ use crate::clash::Clash;
 use bits::BitFault;
 use command_line::UsageKind;
 use ir_base::{Place, Text};
+use ir_tables::UndefinedKind;
 use module_arena::CountKind;
 use std::alloc::AllocError;
 
@@ -18,6 +19,16 @@ pub enum Ended {
     Exit(u8),
     /// The program has more steps than it was given.
     StepsUsed,
+    /// The program did what has no meaning: this.
+    Undefined(UndefinedKind),
+    /// The frames of the program's functions would weigh more than 4,194,304 together.
+    StackLimit,
+    /// More bytes of the program's memory would be live than 2^28.
+    MemoryLimit,
+    /// The program uses a name, spelled so, that neither it nor the host defines.
+    Unresolved(Text),
+    /// The program has no function `main` that can be entered.
+    NoMain,
     /// The words have this fault, at the word with this number, counted from 0.
     Usage(UsageKind, u64),
     /// The input of this name could not be read.
@@ -90,7 +101,11 @@ pub fn status_of(ended: &Ended) -> u8
     match ended {
         Ended::Ok => 0,
         Ended::Exit(status) => *status,
+        Ended::StackLimit => 121,
+        Ended::MemoryLimit => 122,
+        Ended::Unresolved(_) | Ended::NoMain => 123,
         Ended::StepsUsed => 124,
+        Ended::Undefined(_) => 125,
         Ended::Usage(_, _)
         | Ended::CannotRead(_)
         | Ended::CannotWrite(_)

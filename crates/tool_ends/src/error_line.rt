@@ -245,6 +245,13 @@ pub fn tell<E: Sink>(errors: &mut E, words: &[Text], ended: &Ended)
     let _ = match ended {
         Ended::Ok | Ended::Exit(_) => Ok(()),
         Ended::StepsUsed => tell_text(errors, words, b"steps used up", b""),
+        Ended::Undefined(kind) => {
+            tell_text(errors, words, b"undefined: ", kind.word().as_bytes())
+        }
+        Ended::StackLimit => tell_text(errors, words, b"stack limit", b""),
+        Ended::MemoryLimit => tell_text(errors, words, b"memory limit", b""),
+        Ended::Unresolved(name) => tell_text(errors, words, b"unresolved ", name.bytes()),
+        Ended::NoMain => tell_text(errors, words, b"no main", b""),
         Ended::Usage(kind, word) => {
             let digits = Digits::of(*word);
             tell_usage(errors, words, kind.words().as_bytes(), digits.bytes())

@@ -1,6 +1,7 @@
 //! What a run of a tool ended with: its status, and the one line that tells it on standard error.
 //!
-//! It stands on `command_line` (kinds of faults of words), on the kinds of faults of `bits`, on the counts of `module_arena` and on the kinds of conflicts of `linkage_rules`. It promises the status
+//! It stands on `command_line` (kinds of faults of words), on the kinds of faults of `bits`, on the counts of `module_arena`, on the kinds of conflicts of `linkage_rules` and on the
+//! kinds of what is undefined of `ir_tables`. It promises the status
 //! of each end, and that its line, or a front of it where a write failed, is added to standard error; the line takes no memory.
 //! Definitions: `specs/Ended`.
 #![tactic(auto)]

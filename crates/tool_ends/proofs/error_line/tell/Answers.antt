@@ -11,3 +11,9 @@ returns-in-CannotWrite g c = rw c.in-CannotWrite.is (rw c.bytes-in-CannotWrite.e
 
 pub returns-in-NoSuchSymbol : goal.returns-in-NoSuchSymbol
 returns-in-NoSuchSymbol g c = rw c.in-NoSuchSymbol.is (rw c.bytes-in-NoSuchSymbol.ensures at c.tell_text-in-NoSuchSymbol.ensures)
+
+pub returns-in-StackLimit : goal.returns-in-StackLimit
+returns-in-StackLimit g c = rw c.in-StackLimit.is c.tell_text-in-StackLimit.ensures
+
+pub returns-in-MemoryLimit : goal.returns-in-MemoryLimit
+returns-in-MemoryLimit g c = rw c.in-MemoryLimit.is c.tell_text-in-MemoryLimit.ensures
