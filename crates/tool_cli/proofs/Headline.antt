@@ -1,5 +1,5 @@
 -- What is linked runs as its parts: from what is told of a run, and what is shown.
-use Rattle.std.proofs.Common.{◌≡◌, ◌⊎◌, inl, inr, ℕ, Bool, true, false, List, [], ◌∷◌, Option, Some, None, Result, refl, sym, ap, ◌∙◌, subst, true≢false}
+use Rattle.std.proofs.Common.{◌≡◌, ◌⊎◌, ◌↔◌, inl, inr, ℕ, Bool, true, false, List, [], ◌∷◌, Option, Some, None, Result, refl, sym, ap, ◌∙◌, subst, true≢false}
 use Rattle.std.specs.Bool.{MatchBool}
 use Rattle.std.specs.List.{AllByRecursion}
 use Rattle.std.specs.Option.{option_map}
@@ -7,6 +7,7 @@ use Rattle.ir_base.specs.Files.{Named}
 use Rattle.ir_syntax.proofs.Refusals.{refused_bad}
 use Rattle.ir_syntax.proofs.Results.{items_not_bad, one_items}
 use Rattle.canon_reads.specs.Laws.{IsReadBack}
+use Rattle.canonical.specs.Canonical.{canon}
 use Rattle.command_line.specs.declared.command.Command.{Command}
 use Rattle.command_line.specs.declared.command.Command.TheVariants.{Link}
 use Rattle.command_line.specs.declared.command.OutputName.{OutputName}
@@ -35,9 +36,10 @@ use Rattle.tool_output.specs.declared.format.OutputFormat.TheVariants.{Canonical
 use Rattle.tool_cli.specs.Headline.{StandForOne, RunsAsParts, ComesTo, RunsLinked}
 use Rattle.tool_cli.specs.Inputs.{inputs_of, texts_read}
 use Rattle.tool_cli.specs.Judged.{is_bitcode, IsFirstRefusal, IsPartRefused, IsTextRefused, IsVerdict}
-use Rattle.tool_cli.specs.Made.{AreParts, IsPart, format_of}
+use Rattle.tool_cli.specs.Made.{AreParts, IsPart, RunsLike, StandsFor, format_of}
 use Rattle.tool_cli.specs.Output.{IsShown, IsWritten, IsWrittenOf}
 use Rattle.tool_cli.specs.Told.{EndsByParts, IsLinking, IsOutcome, IsTold, has_bitcode, link_end}
+use Rattle.tool_cli.proofs.Begins.{canon_begins}
 use Rattle.tool_cli.proofs.Outcomes.{same_command}
 
 none_some : {A : Type 0} {x : A} → None ≡ Some x → ⊥
@@ -45,7 +47,7 @@ none_some e = absurd cc
 
 -- ---- parts
 
-one_by : (bitcode : Bool) (R S Q : Type 0) → (R → S → Q) → MatchBool bitcode ⊥ R → MatchBool bitcode ⊥ S → Q
+pub one_by : (bitcode : Bool) (R S Q : Type 0) → (R → S → Q) → MatchBool bitcode ⊥ R → MatchBool bitcode ⊥ S → Q
 one_by true R S Q from r s = absurd r
 one_by false R S Q from r s = from r s
 
@@ -70,7 +72,7 @@ unjudged m (verdicts.FunctionTooLarge name size) sized valid refused = none_some
 unjudged m (verdicts.Invalid rule entity) sized valid refused = not_first (demands m) (entity_view entity) rule valid refused.1
 
 -- nor is its text
-unrefused_text : (name text : List ℕ) (m : Module) (ended : Ended) → first_too_large m ≡ None → IsValid m → Reads text m → IsTextRefused name text ended → ⊥
+pub unrefused_text : (name text : List ℕ) (m : Module) (ended : Ended) → first_too_large m ≡ None → IsValid m → Reads text m → IsTextRefused name text ended → ⊥
 unrefused_text name text m ended sized valid reads (inl none) =
     let bad = refused_bad text none.fault none.refused in
     items_not_bad text reads.items bad.0 reads.has_items bad.1
@@ -120,11 +122,20 @@ all_sized (text ∷ texts) (m ∷ parts) are = (are.0.sized, all_sized texts par
 
 -- ---- what is put
 
+-- an input that is no bitcode stands for what its text reads to
+text_stands : (bytes : List ℕ) (n : Module) (P : Type 0) → is_bitcode bytes ≡ false → (Reads bytes n ↔ P) → StandsFor bytes n ↔ P
+text_stands bytes n P text reads = subst (λ (bitcode : Bool). MatchBool bitcode ⊥ (Reads bytes n) ↔ P) (sym text) reads
+
 -- what is written of a module that is well formed and valid stands for it alone
 stand_for_one : IsReadBack → ModulesAreSpelledAlone → (format : OutputFormat) (m : Module) → IsWellFormed m → IsValid m → StandForOne format (written format m) m
 unfolding written
-stand_for_one back alone CanonicalText m good valid = back m (record { well_formed = good; valid = valid })
+stand_for_one back alone CanonicalText m good valid = λ n. text_stands (canon m) n (n ≡ m) (canon_begins m) (back m (record { well_formed = good; valid = valid }) n)
 stand_for_one back alone Bitcode m good valid = λ few. alone m good valid few
+
+-- text that stands for a module alone, given to `lli`, runs as that does
+runs_again : (format : OutputFormat) (bytes : List ℕ) (m : Module) (parts : List Module) → StandForOne format bytes m → first_too_large m ≡ None → IsValid m → RunAlike (m ∷ []) parts → format ≡ CanonicalText → RunsLike bytes parts
+runs_again CanonicalText bytes m parts stand sized valid runs text = record { meant = m; is_part = record { stands = (stand m).1 refl; sized = sized; valid = valid }; runs = runs }
+runs_again Bitcode bytes m parts stand sized valid runs text = absurd cc
 
 module _ (once : ReadsOnce) (back : IsReadBack) (alone : ModulesAreSpelledAlone) where
   -- where parts are linked, what is put runs as they do
@@ -133,14 +144,18 @@ module _ (once : ReadsOnce) (back : IsReadBack) (alone : ModulesAreSpelledAlone)
       let m = wrote.1.0 in
       let links = wrote.1.1 in
       let same : links.parts ≡ parts = same_parts once texts links.parts parts links.are_parts are in
+      let stand : StandForOne (format_of text) wrote.0 m = subst (λ (bytes : List ℕ). StandForOne (format_of text) bytes m) (sym wrote.1.2) (stand_for_one back alone (format_of text) m links.linked.well_formed links.linked.valid) in
+      let runs : RunAlike (m ∷ []) parts = subst (λ (ps : List Module). RunAlike (m ∷ []) ps) same links.linked.runs in
       record {
         whole = m;
         well_formed = links.linked.well_formed;
         valid = links.linked.valid;
         sized = links.linked.sized;
-        runs = subst (λ (ps : List Module). RunAlike (m ∷ []) ps) same links.linked.runs;
+        runs = runs;
         bytes = wrote.0;
-        stand = subst (λ (bytes : List ℕ). StandForOne (format_of text) bytes m) (sym wrote.1.2) (stand_for_one back alone (format_of text) m links.linked.well_formed links.linked.valid);
+        spelled = wrote.1.2;
+        stand = stand;
+        again = runs_again (format_of text) wrote.0 m parts stand links.linked.sized links.linked.valid runs;
         put = wrote.2;
       }
 
@@ -163,9 +178,9 @@ module _ (once : ReadsOnce) (back : IsReadBack) (alone : ModulesAreSpelledAlone)
   headline words held stdin before now ended stopped (inr gave_up) shown = λ inputs texts output text links parts are. inr gave_up
   headline words held stdin before now ended stopped (inl (inl usage)) shown = λ inputs texts output text links parts are. absurd (links.read.fine usage.0 usage.1.0 usage.1.1.is)
   headline words held stdin before now ended stopped (inl (inr told)) shown = λ inputs texts output text links parts are.
-      let P : Result (List (List ℕ)) Ended → Type 0 = λ r. IsOutcome (Link inputs output text) r ended in
-      let Q : Command → Type 0 = λ c. IsOutcome c (texts_read held stdin 0 (inputs_of c)) ended in
+      let P : Result (List (List ℕ)) Ended → Type 0 = λ r. IsOutcome (Link inputs output text) stdin r ended in
+      let Q : Command → Type 0 = λ c. IsOutcome c stdin (texts_read held stdin 0 (inputs_of c)) ended in
       let W : Result (List (List ℕ)) Ended → Type 0 = λ r. IsWrittenOf (Link inputs output text) r before now ended in
       let linking = subst P links.given (subst Q (same_command words told.0 (Link inputs output text) told.1 links.read) told.2) in
-      let wrote = subst W links.given (shown (Link inputs output text) links.read) in
+      let wrote = subst W links.given (shown (Link inputs output text) links.read refl) in
       inl (comes_to inputs texts output text parts before now ended are linking wrote)

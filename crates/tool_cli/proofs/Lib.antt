@@ -5,7 +5,12 @@ pub mod Linked
 pub mod Extracting
 pub mod Works
 pub mod Outcomes
+pub mod Programs
+pub mod Commands
+pub mod Steps
 pub mod Judging
 pub mod Order
 pub mod Verdicts
+pub mod Begins
 pub mod Headline
+pub mod Ran

@@ -1,13 +1,13 @@
 -- Standard input is untouched until its turn, and files where none is an input.
-use Rattle.std.proofs.Common.{◌≡◌, ◌⊎◌, inl, inr, ℕ, zero, suc, ◌+◌, ◌<◌, ◌≤◌, Bool, true, false, cond, not, ◌||◌, List, [], ◌∷◌, length, get_or, Option, Some, refl, sym, ap, ◌∙◌, arith}
+use Rattle.std.proofs.Common.{◌≡◌, ◌⊎◌, inl, inr, ℕ, zero, suc, ◌+◌, ◌<◌, ◌≤◌, Bool, true, false, cond, not, ◌||◌, List, [], ◌∷◌, length, get_or, codes, Option, Some, refl, sym, ap, ◌∙◌, arith, true≢false}
 use Rattle.std.specs.List.{IsAmong}
 use Rattle.ir_base.specs.Files.{Named}
 use Rattle.command_line.specs.Options.{is_dash}
 use Rattle.tool_ends.specs.declared.ended.Ended.{Ended}
 use Rattle.tool_ends.specs.declared.ended.Ended.TheVariants.{CannotRead, InputTooLarge, Memory}
 use Rattle.tool_cli.specs.Causes.{Refuses}
-use Rattle.tool_cli.specs.Order.{has_file, behind_stdin, refused_input, KeepsOrder}
-use Rattle.tool_cli.specs.Told.{IsOfWork}
+use Rattle.tool_cli.specs.Order.{has_file, behind_stdin, refused_input, IsBeforeStdin, KeepsOrder}
+use Rattle.tool_cli.specs.Told.{IsOfRun}
 
 -- The names behind standard input.
 
@@ -56,10 +56,17 @@ over_only name limit ended (inr e) other is = absurd (let h = sym (ap refused_in
 pub memory_keeps : {A : Type 0} (names : List (List ℕ)) (before now : A) → KeepsOrder names before now Memory
 memory_keeps names before now = λ other is stands. absurd (let h = is in cc)
 
-pub work_keeps : {A : Type 0} (names : List (List ℕ)) (before now : A) (ended : Ended) → IsOfWork ended → KeepsOrder names before now ended
-work_keeps names before now (CannotRead name) of = absurd of
-work_keeps names before now (InputTooLarge name limit) of = absurd of
-work_keeps names before now ended of = λ other is stands. absurd (let h = is in cc)
+-- a program that could not read standard input is no input before that
+dash_after : (names : List (List ℕ)) (name other : List ℕ) → name ≡ codes "-" → refused_input (CannotRead name) ≡ Some other → IsBeforeStdin names other → ⊥
+dash_after names name other is refused stands =
+    let h : Some name ≡ Some other = refused in
+    let same : name ≡ other = cc in
+    true≢false (sym (ap is_dash is) ∙ ap is_dash same ∙ stands.0)
+
+pub work_keeps : {A : Type 0} (names : List (List ℕ)) (before now : A) (ended : Ended) (hears : Bool) → IsOfRun ended hears → KeepsOrder names before now ended
+work_keeps names before now (CannotRead name) hears of = λ other is stands. absurd (dash_after names name other of.1 is stands)
+work_keeps names before now (InputTooLarge name limit) hears of = absurd of
+work_keeps names before now ended hears of = λ other is stands. absurd (let h = is in cc)
 
 -- Files.
 

@@ -1,16 +1,15 @@
 -- The work on one text.
-use Rattle.std.proofs.Common.{◌≡◌, ◌⊎◌, inl, inr, ℕ, Bool, List, [], ◌∷◌, length, codes, Option, Some, None, Result, Ok, Err, refl, ap, arith}
+use Rattle.std.proofs.Common.{◌≡◌, ◌⊎◌, inl, inr, ℕ, Bool, true, false, ◌&&◌, List, [], ◌∷◌, length, codes, Option, Some, Result, Ok, Err, refl, sym, ap, ◌∙◌, subst, arith, true≢false}
 use Rattle.std.specs.Prelude.{slice_get}
 use Rattle.ir_base.specs.Files.{Named}
 use Rattle.command_line.specs.declared.command.Command.{Command}
-use Rattle.command_line.specs.declared.command.Command.TheVariants.{Assemble, Link, Extract, Lli, Analyze}
+use Rattle.command_line.specs.declared.command.Command.TheVariants.{Assemble, Extract, Lli, Analyze}
 use Rattle.command_line.specs.declared.command.OutputName.{OutputName}
 use Rattle.command_line.specs.declared.command.OutputName.TheVariants.{Standard}
 use Rattle.command_line.specs.declared.command.Selection.{Selection}
+use Rattle.command_line.specs.declared.command.UsageKind.{UsageKind}
+use Rattle.command_line.specs.Options.{is_dash}
 use Rattle.bit_dump.specs.Text.{dump_text}
-use Rattle.ir_syntax.specs.Small.{straight}
-use Rattle.ir_syntax.specs.Tree.{ItemTree}
-use Rattle.module_arena.specs.Module.{Module}
 use Rattle.tool_output.specs.Outputs.{Outputs, outputs}
 use Rattle.tool_ends.specs.declared.ended.Ended.{Ended}
 use Rattle.tool_ends.specs.declared.ended.Ended.TheVariants.{Usage, CannotRead, CannotWrite, InputTooLarge, Memory}
@@ -19,8 +18,7 @@ use Rattle.tool_cli.specs.Inputs.{inputs_of}
 use Rattle.tool_cli.specs.Causes.{RefusesOne}
 use Rattle.tool_cli.specs.Analyzed.{IsAnalysis, IsDumped, IsBeforeWork}
 use Rattle.tool_cli.specs.Output.{output_of, IsUnwritten, FailsToWrite, IsWritten, IsWrittenOf}
-use Rattle.tool_cli.specs.Judged.{IsTextRefused, IsTextOf}
-use Rattle.tool_cli.specs.Told.{items_end, IsRun, IsTextRun, IsWork, IsOfTexts, IsOfWork}
+use Rattle.tool_cli.specs.Told.{IsWork, IsOfTexts, IsOfWork, IsOfRun}
 use Rattle.tool_cli.proofs.Delivered.{fails_wider}
 
 some_same : {a b : List ℕ} → Some a ≡ Some b → a ≡ b
@@ -38,15 +36,8 @@ only_text command input output texts text is count first = one_alone texts text 
 pub only_input : (command : Command) (input : List ℕ) (output : OutputName) (text : Bool) (selection : Selection) (texts : List (List ℕ)) (bytes : List ℕ) → command ≡ Extract input output text selection → length texts ≡ length (inputs_of command) → slice_get texts 0 ≡ Some bytes → texts ≡ bytes ∷ []
 only_input command input output text selection texts bytes is count first = one_alone texts bytes (rw is at count) first
 
-one_text : (input : List ℕ) (max_steps : ℕ) (arguments texts : List (List ℕ)) (text : List ℕ) (ended : Ended) → length texts ≡ 1 → slice_get texts 0 ≡ Some text → IsRun input max_steps text ended → IsWork (Lli input max_steps arguments) texts ended
-one_text input max_steps arguments [] text ended one first run = absurd (omega (arith, one))
-one_text input max_steps arguments (t ∷ []) text ended one first run = rw (some_same first) run
-one_text input max_steps arguments (t ∷ u ∷ texts) text ended one first run = absurd (omega (arith, one))
-
-pub lli_work : (command : Command) (input : List ℕ) (max_steps : ℕ) (arguments texts : List (List ℕ)) (text : List ℕ) (ended : Ended) → command ≡ Lli input max_steps arguments → length texts ≡ length (inputs_of command) → slice_get texts 0 ≡ Some text → IsRun input max_steps text ended ⊎ (ended ≡ Memory) → IsWork command texts ended ⊎ (ended ≡ Memory)
-lli_work command input max_steps arguments texts text ended is count first (inl run) =
-    inl (rw is (one_text input max_steps arguments texts text ended (rw is at count) first run))
-lli_work command input max_steps arguments texts text ended is count first (inr none) = inr none
+pub only_program : (command : Command) (input : List ℕ) (bound : ℕ) (arguments texts : List (List ℕ)) (bytes : List ℕ) → command ≡ Lli input bound arguments → length texts ≡ length (inputs_of command) → slice_get texts 0 ≡ Some bytes → texts ≡ bytes ∷ []
+only_program command input bound arguments texts bytes is count first = one_alone texts bytes (rw is at count) first
 
 one_stream : (input : List ℕ) (dump : Bool) (texts : List (List ℕ)) (bytes : List ℕ) (ended : Ended) → length texts ≡ 1 → slice_get texts 0 ≡ Some bytes → IsAnalysis input bytes ended → IsWork (Analyze input dump) texts ended
 one_stream input dump [] bytes ended one first told = absurd (omega (arith, one))
@@ -80,28 +71,7 @@ analysis_written command input dump texts bytes taken taken_now contents ended i
 pub analysis_cause : (command : Command) (input : List ℕ) (dump : Bool) (o w : Type 0) (name : List ℕ) → command ≡ Analyze input dump → (name ≡ codes "-") × o → IsUnwritten (output_of command) o w name
 analysis_cause command input dump o w name is cause = rw is cause
 
-pub text_refused : (name : List ℕ) (bound : ℕ) (text : List ℕ) (ended : Ended) → IsTextRefused name text ended ⊎ (ended ≡ Memory) → IsTextRun name bound text ended ⊎ (ended ≡ Memory)
-text_refused name bound text ended (inl refused) = inl (inl refused)
-text_refused name bound text ended (inr none) = inr none
-
--- what `lli` makes of a text that is accepted
-pub text_run : (name : List ℕ) (bound : ℕ) (text : List ℕ) (items : List ItemTree) (m : Module) (ended : Ended) → IsTextOf text items m → (ended ≡ items_end bound (straight items)) ⊎ (ended ≡ Memory) → IsTextRun name bound text ended ⊎ (ended ≡ Memory)
-text_run name bound text items m ended is (inl run) = inl (inr (items, (is.has_items, (m, is.accepted)), run))
-text_run name bound text items m ended is (inr none) = inr none
-
 -- The work that writes nothing.
-
--- a command that nothing is to be written for
-pub no_output : (command : Command) → ((input : List ℕ) (dump : Bool) → command ≡ Analyze input dump → ⊥) → ((input : List ℕ) (output : OutputName) → command ≡ Assemble input output → ⊥) → ((inputs : List (List ℕ)) (output : OutputName) (text : Bool) → command ≡ Link inputs output text → ⊥) → ((input : List ℕ) (output : OutputName) (text : Bool) (selection : Selection) → command ≡ Extract input output text selection → ⊥) → output_of command ≡ None
-no_output (Analyze input dump) analysis assembly link extraction = absurd (analysis input dump refl)
-no_output (Assemble input output) analysis assembly link extraction = absurd (assembly input output refl)
-no_output (Link inputs output text) analysis assembly link extraction = absurd (link inputs output text refl)
-no_output (Extract input output text selection) analysis assembly link extraction = absurd (extraction input output text selection refl)
-no_output command analysis assembly link extraction = refl
-
-pub silent_stops : (command : Command) (texts : List (List ℕ)) (o w : Type 0) (ended : Ended) → IsWork command texts ended ⊎ (ended ≡ Memory) → IsWork command texts ended ⊎ FailsToWrite (output_of command) o w ended
-silent_stops command texts o w ended (inl work) = inl work
-silent_stops command texts o w ended (inr none) = inr (rw none tt)
 
 pub texts_written : (ended : Ended) → IsOfTexts ended → (name : List ℕ) → ended ≡ CannotWrite name → ⊥
 texts_written (CannotWrite other) of name e = of
@@ -134,8 +104,15 @@ early_refusal contents left i f names ends.Ok why = why
 early_refusal contents left i f names (CannotWrite name) why = why
 early_refusal contents left i f names ended why = tt
 
-pub not_before_work : (ended : Ended) → IsOfWork ended → IsBeforeWork ended → ⊥
-not_before_work (Usage kind k) of early = of
-not_before_work (CannotRead name) of early = of
-not_before_work (InputTooLarge name limit) of early = of
-not_before_work ended of early = early
+pub not_before_work : (ended : Ended) (hears : Bool) → IsOfRun ended hears → IsBeforeWork hears ended → ⊥
+not_before_work (Usage kind k) hears of early = of
+not_before_work (CannotRead name) hears of early = (let dash : (hears && is_dash name) ≡ true = rw (of.0, of.1) refl in true≢false (sym dash ∙ early))
+not_before_work (InputTooLarge name limit) hears of early = of
+not_before_work ended hears of early = early
+
+-- no end of work tells that
+pub run_no_usage : (ended : Ended) (hears : Bool) (kind : UsageKind) (k : ℕ) → IsOfRun ended hears → ended ≡ Usage kind k → ⊥
+run_no_usage ended hears kind k of e = subst (λ (x : Ended). IsOfRun x hears) e of
+
+pub run_no_large : (ended : Ended) (hears : Bool) (name : List ℕ) (limit : ℕ) → IsOfRun ended hears → ended ≡ InputTooLarge name limit → ⊥
+run_no_large ended hears name limit of e = subst (λ (x : Ended). IsOfRun x hears) e of

@@ -1,5 +1,5 @@
 -- What telling the stream of an input comes to: the end, and what standard output took.
-use Rattle.std.specs.Prelude.{◌≡◌, ◌⊎◌, ℕ, Bool, true, false, List, drop, Option, Some, None}
+use Rattle.std.specs.Prelude.{◌≡◌, ◌⊎◌, ◌&&◌, ℕ, Bool, true, false, List, drop, Option, Some, None}
 use Rattle.ir_base.specs.Outside.{Added}
 use Rattle.bits.specs.declared.fault.BitFault.{BitFault as TheFault}
 use Rattle.bit_tree.specs.Stream.{Tree, Stream, stream_fault}
@@ -8,6 +8,7 @@ use Rattle.bit_dump.specs.Text.{dump_text}
 use Rattle.command_line.specs.declared.command.Command.{Command}
 use Rattle.command_line.specs.declared.command.Command.TheVariants.{Analyze}
 use Rattle.command_line.specs.Tools.{tool_of}
+use Rattle.command_line.specs.Options.{is_dash}
 use Rattle.command_line.specs.Commands.{command_behind}
 use Rattle.tool_ends.specs.declared.ended.Ended.{Ended}
 use Rattle.tool_ends.specs.declared.ended.Ended.TheVariants.{Usage, CannotRead, CannotWrite, InputTooLarge, BitFault, Memory}
@@ -41,9 +42,9 @@ is_analysis_behind (Some command) = is_analysis command
 unfoldable pub analyzes : List (List ℕ) → Bool
 analyzes words = is_analysis_behind (command_behind (tool_of words) (drop 1 words))
 
--- an end before the tool did any work
-abbrev pub IsBeforeWork : Ended → Type 0
-IsBeforeWork (Usage kind k) = Unit {0}
-IsBeforeWork (CannotRead name) = Unit {0}
-IsBeforeWork (InputTooLarge name limit) = Unit {0}
-IsBeforeWork ended = ⊥
+-- An end before the tool did any work. Where a program reads standard input, that this could not be read is none.
+abbrev pub IsBeforeWork : Bool → Ended → Type 0
+IsBeforeWork hears (Usage kind k) = Unit {0}
+IsBeforeWork hears (CannotRead name) = (hears && is_dash name) ≡ false
+IsBeforeWork hears (InputTooLarge name limit) = Unit {0}
+IsBeforeWork hears ended = ⊥

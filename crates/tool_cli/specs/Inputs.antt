@@ -1,5 +1,5 @@
 -- The inputs that words name, and what reading them gives where their content is told.
-use Rattle.std.specs.Prelude.{◌≡◌, ℕ, ◌+◌, nat_lt, Bool, List, [], ◌∷◌, length, drop, Option, Some, None, Result, Ok, Err, if◌then◌else◌}
+use Rattle.std.specs.Prelude.{◌≡◌, ℕ, ◌+◌, nat_lt, Bool, true, false, not, List, [], ◌∷◌, length, drop, Option, Some, None, Result, Ok, Err, if◌then◌else◌}
 use Rattle.std.specs.Bool.{MatchBool}
 use Rattle.std.specs.List.{IsAmong, list_any}
 use Rattle.ir_base.specs.Files.{Named}
@@ -29,6 +29,32 @@ inputs_behind (Some command) = inputs_of command
 unfoldable pub inputs_named : List (List ℕ) → List (List ℕ)
 inputs_named words = inputs_behind (command_behind (tool_of words) (drop 1 words))
 
+-- the command runs a program
+abbrev pub runs_program : Command → Bool
+runs_program (Lli input max_steps arguments) = true
+runs_program command = false
+
+-- the program that the command runs has standard input for its own: its module comes from a file
+abbrev pub hears : Command → Bool
+hears (Lli input max_steps arguments) = not (is_dash input)
+hears command = false
+
+abbrev pub runs_behind : Option Command → Bool
+runs_behind None = false
+runs_behind (Some command) = runs_program command
+
+abbrev pub hears_behind : Option Command → Bool
+hears_behind None = false
+hears_behind (Some command) = hears command
+
+-- the command that the words are read as runs a program
+unfoldable pub runs : List (List ℕ) → Bool
+runs words = runs_behind (command_behind (tool_of words) (drop 1 words))
+
+-- and that program has standard input for its own
+unfoldable pub listens : List (List ℕ) → Bool
+listens words = hears_behind (command_behind (tool_of words) (drop 1 words))
+
 -- standard input is one of the inputs
 abbrev pub has_stdin : List (List ℕ) → Bool
 has_stdin names = list_any is_dash names
@@ -47,6 +73,11 @@ Tells contents left files stdin name = MatchBool (is_dash name) (left ≡ Some s
 
 abbrev pub TellsAll : List (List ℕ) → Option Named → Option (List ℕ) → Named → List ℕ → Type 0
 TellsAll names contents left files stdin = (name : List ℕ) → IsAmong names name → Tells contents left files stdin name
+
+-- the outside tells all that the run of these words depends on: what their inputs hold, and what the program reads that they run
+pub record TellsRun (words : List (List ℕ)) (contents : Option Named) (left : Option (List ℕ)) (files : Named) (stdin : List ℕ) : Type 0 where
+  pub inputs : TellsAll (inputs_named words) contents left files stdin
+  pub heard : listens words ≡ true → left ≡ Some stdin
 
 -- An input is a text of at most 16 MiB,
 abbrev pub alone : List ℕ → Option (List ℕ) → Result (List ℕ) Ended

@@ -7,4 +7,5 @@ pub mod Told
 pub mod Reads
 pub mod Order
 pub mod Analyzed
+pub mod Running
 pub mod Headline

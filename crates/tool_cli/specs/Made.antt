@@ -33,6 +33,13 @@ pub record IsPart (bytes : List ℕ) (m : Module) : Type 0 where
   pub sized : first_too_large m ≡ None
   pub valid : IsValid m
 
+-- An input stands for a module that runs as these parts do, never merged, side by side: for all arguments, inputs and bounds on steps it prints the same
+-- bytes and ends the same way.
+pub record RunsLike (bytes : List ℕ) (parts : List Module) : Type 0 where
+  pub meant : Module
+  pub is_part : IsPart bytes meant
+  pub runs : RunAlike (meant ∷ []) parts
+
 -- what is found for an input: its module; and none only for bitcode
 abbrev pub IsPartFound : List ℕ → Option Module → Type 0
 IsPartFound bytes (Some m) = (is_bitcode bytes ≡ false) × IsPart bytes m

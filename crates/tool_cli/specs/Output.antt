@@ -1,8 +1,8 @@
 -- For `run_tool`: where the result of a command goes, and what is written there, by the end of the run.
-use Rattle.std.specs.Prelude.{◌≡◌, ◌⊎◌, ℕ, ◌≤◌, true, List, drop, codes, Option, Some, None, Result, Ok, Err, IsSomeAnd}
+use Rattle.std.specs.Prelude.{◌≡◌, ◌⊎◌, ℕ, ◌≤◌, true, false, List, drop, codes, Option, Some, None, Result, Ok, Err, IsSomeAnd}
 use Rattle.ir_base.specs.Files.{Named, Holds}
 use Rattle.command_line.specs.declared.command.Command.{Command}
-use Rattle.command_line.specs.declared.command.Command.TheVariants.{Assemble, Link, Extract, Analyze}
+use Rattle.command_line.specs.declared.command.Command.TheVariants.{Assemble, Link, Extract, Lli, Analyze}
 use Rattle.command_line.specs.declared.command.OutputName.{OutputName}
 use Rattle.command_line.specs.declared.command.OutputName.TheVariants.{Standard, File}
 use Rattle.command_line.specs.Tools.{tool_of}
@@ -12,14 +12,15 @@ use Rattle.tool_ends.specs.declared.ended.Ended.{Ended}
 use Rattle.tool_ends.specs.declared.ended.Ended.TheVariants.{CannotWrite, Memory}
 use Rattle.tool_ends.specs.declared.ended.Ended.TheVariants as ends
 use Rattle.tool_cli.specs.Analyzed.{is_analysis}
-use Rattle.tool_cli.specs.Inputs.{inputs_of, texts_read}
+use Rattle.tool_cli.specs.Inputs.{inputs_of, runs_program, texts_read}
 use Rattle.tool_cli.specs.Made.{IsResult}
 
--- Where the result of a command goes. Of a command whose work is not built, and of a program that is run, there is none.
+-- Where the result of a command goes, and what a program prints. Of a command whose work is not built there is none.
 abbrev pub output_of : Command → Option OutputName
 output_of (Assemble input output) = Some output
 output_of (Link inputs output text) = Some output
 output_of (Extract input output text selection) = Some output
+output_of (Lli input max_steps arguments) = Some Standard
 output_of (Analyze input dump) = Some Standard
 output_of command = None
 
@@ -119,7 +120,7 @@ abbrev pub IsWrittenOf : Command → Result (List (List ℕ)) Ended → Outputs 
 IsWrittenOf command (Ok texts) before now ended = IsWritten command texts before now ended
 IsWrittenOf command (Err refusal) before now ended = now ≡ before
 
--- where words are a command, this was written
+-- where words are a command that runs no program, this was written
 abbrev pub IsShown : List (List ℕ) → Named → List ℕ → Outputs → Outputs → Ended → Type 0
 IsShown words files stdin before now ended =
-    (command : Command) → IsReadAs words command → IsWrittenOf command (texts_read files stdin 0 (inputs_of command)) before now ended
+    (command : Command) → IsReadAs words command → runs_program command ≡ false → IsWrittenOf command (texts_read files stdin 0 (inputs_of command)) before now ended

@@ -1,12 +1,8 @@
 -- The whole meaning of a run: which end it has, where what its inputs hold is told.
-use Rattle.std.specs.Prelude.{◌≡◌, ◌⊎◌, nat_lt, ℕ, ◌+◌, ◌%◌, Bool, slice_index_or, List, [], ◌∷◌, length, Option, Some, None, Result, Ok, Err, if◌then◌else◌}
+use Rattle.std.specs.Prelude.{◌≡◌, ◌⊎◌, ℕ, Bool, true, slice_index_or, List, [], ◌∷◌, codes, Option, Some, None, Result, Ok, Err}
 use Rattle.std.specs.Bool.{MatchBool}
 use Rattle.std.specs.List.{list_any}
 use Rattle.ir_base.specs.Files.{Named}
-use Rattle.ir_syntax.specs.Small.{straight}
-use Rattle.ir_syntax.specs.Tree.{ItemTree}
-use Rattle.ir_syntax.specs.declared.straight.Straight.{Straight}
-use Rattle.ir_run.specs.Straight.{value}
 use Rattle.module_arena.specs.Module.{Module}
 use Rattle.name_rules.specs.Spelled.{spelled_global}
 use Rattle.linkage_rules.specs.Conflicts.{FoundConflict, first_conflict}
@@ -21,30 +17,23 @@ use Rattle.command_line.specs.Commands.{IsReadAs}
 use Rattle.tool_ends.specs.declared.clash.Clash.{Clash}
 use Rattle.tool_ends.specs.declared.clash.PartName.{PartName}
 use Rattle.tool_ends.specs.declared.ended.Ended.{Ended}
-use Rattle.tool_ends.specs.declared.ended.Ended.TheVariants.{Exit, StepsUsed, Usage, CannotRead, CannotWrite, InputTooLarge, TooMany, Conflict, NoSuchSymbol, NotBuilt, Memory}
+use Rattle.tool_ends.specs.declared.ended.Ended.TheVariants.{Usage, CannotRead, CannotWrite, InputTooLarge, TooMany, Conflict, NoSuchSymbol, NotBuilt, Memory}
 use Rattle.tool_ends.specs.declared.ended.Ended.TheVariants as ends
 use Rattle.tool_cli.specs.Inputs.{inputs_of, texts_read}
 use Rattle.tool_cli.specs.Analyzed.{IsAnalysis}
-use Rattle.tool_cli.specs.Judged.{is_bitcode, IsTextRefused, HasModule, IsFirstRefusal, AreAccepted}
+use Rattle.tool_cli.specs.Judged.{is_bitcode, IsTextRefused, IsFirstRefusal, AreAccepted}
 use Rattle.tool_cli.specs.Made.{AreParts, AssemblesTo, selection_of}
+use Rattle.tool_cli.specs.Running.{end_of}
 
--- the end of a program, each line of which is a step, and so is its return
-abbrev pub end_within : ℕ → Straight → Ended
-end_within bound program = if nat_lt bound (length program.lines + 1) then StepsUsed else Exit (value program % 256)
-
--- the end of `lli` over items: a program of additions runs within so many steps, and what else is not built
-abbrev pub items_end : ℕ → Option Straight → Ended
-items_end bound None = NotBuilt
-items_end bound (Some program) = end_within bound program
-
--- the end of `lli` over the text of the input of this name, within so many steps
-abbrev pub IsTextRun : List ℕ → ℕ → List ℕ → Ended → Type 0
-IsTextRun name bound text ended =
-    IsTextRefused name text ended ⊎ ((items : List ItemTree) × HasModule text items × (ended ≡ items_end bound (straight items)))
+-- The end of `lli` over the text of the input of this name: it is refused; or that of its module's program, which has these words, may make so many steps, and
+-- reads these bytes of standard input.
+abbrev pub IsTextRun : List ℕ → ℕ → List (List ℕ) → List ℕ → List ℕ → Ended → Type 0
+IsTextRun name bound words stdin text ended =
+    IsTextRefused name text ended ⊎ ((m : Module) × AssemblesTo text m × (ended ≡ end_of name bound words stdin m))
 
 -- the same over any bytes: bitcode is not built
-abbrev pub IsRun : List ℕ → ℕ → List ℕ → Ended → Type 0
-IsRun name bound bytes ended = MatchBool (is_bitcode bytes) (ended ≡ NotBuilt) (IsTextRun name bound bytes ended)
+abbrev pub IsRun : List ℕ → ℕ → List (List ℕ) → List ℕ → List ℕ → Ended → Type 0
+IsRun name bound words stdin bytes ended = MatchBool (is_bitcode bytes) (ended ≡ NotBuilt) (IsTextRun name bound words stdin bytes ended)
 
 -- an input by its number among those of these names
 abbrev pub part_named : List (List ℕ) → ℕ → PartName
@@ -95,9 +84,8 @@ IsTextExtraction name selection text ended =
 abbrev pub IsExtraction : List ℕ → Selection → List ℕ → Ended → Type 0
 IsExtraction name selection bytes ended = MatchBool (is_bitcode bytes) (ended ≡ NotBuilt) (IsTextExtraction name selection bytes ended)
 
--- the end of a command whose inputs are these texts
+-- the end of a command that runs no program, whose inputs are these texts
 abbrev pub IsWork : Command → List (List ℕ) → Ended → Type 0
-IsWork (Lli input max_steps arguments) (text ∷ []) ended = IsRun input max_steps text ended
 IsWork (Lli input max_steps arguments) texts ended = ⊥
 IsWork (Disassemble input output) texts ended = ended ≡ NotBuilt
 IsWork (Assemble input output) (text ∷ []) ended = IsAssembling input text ended
@@ -108,23 +96,34 @@ IsWork (Extract input output text selection) (bytes ∷ []) ended = IsExtraction
 IsWork (Extract input output text selection) texts ended = ⊥
 IsWork (Link inputs output text) texts ended = IsLinking inputs texts ended
 
+-- the end of any command over these bytes of standard input
+abbrev pub IsEndOf : Command → List ℕ → List (List ℕ) → Ended → Type 0
+IsEndOf (Lli input max_steps arguments) stdin (bytes ∷ []) ended = IsRun input max_steps arguments stdin bytes ended
+IsEndOf (Lli input max_steps arguments) stdin texts ended = ⊥
+IsEndOf command stdin texts ended = IsWork command texts ended
+
 -- the end of a command whose inputs give this
-abbrev pub IsOutcome : Command → Result (List (List ℕ)) Ended → Ended → Type 0
-IsOutcome command (Ok texts) ended = IsWork command texts ended
-IsOutcome command (Err refusal) ended = ended ≡ refusal
+abbrev pub IsOutcome : Command → List ℕ → Result (List (List ℕ)) Ended → Ended → Type 0
+IsOutcome command stdin (Ok texts) ended = IsEndOf command stdin texts ended
+IsOutcome command stdin (Err refusal) ended = ended ≡ refusal
 
 -- the end that words have: by their first fault, or by the command that they are and what its inputs hold
 abbrev pub IsTold : List (List ℕ) → Named → List ℕ → Ended → Type 0
 IsTold words files stdin ended =
     ((kind : UsageKind) × ((k : ℕ) × IsFirstFault words kind k × (ended ≡ Usage kind k)))
-    ⊎ ((command : Command) × IsReadAs words command × IsOutcome command (texts_read files stdin 0 (inputs_of command)) ended)
+    ⊎ ((command : Command) × IsReadAs words command × IsOutcome command stdin (texts_read files stdin 0 (inputs_of command)) ended)
 
--- an end that the work of a tool may have
+-- an end that the work of a tool may have that runs no program
 abbrev pub IsOfWork : Ended → Type 0
 IsOfWork (Usage kind k) = ⊥
 IsOfWork (CannotRead name) = ⊥
 IsOfWork (InputTooLarge name limit) = ⊥
 IsOfWork ended = Unit {0}
+
+-- the same where it may run a program which has standard input for its own: that may not be read
+abbrev pub IsOfRun : Ended → Bool → Type 0
+IsOfRun (CannotRead name) hears = (hears ≡ true) × (name ≡ codes "-")
+IsOfRun ended hears = IsOfWork ended
 
 -- an end that work may have which writes nothing
 abbrev pub IsOfTexts : Ended → Type 0

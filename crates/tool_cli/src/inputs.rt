@@ -35,8 +35,8 @@ pub fn inputs_of(command: &Command) -> &[Text]
     }
 }
 
-// The name of standard input.
-fn is_dash(name: &[u8]) -> bool
+/// Whether this is the name of standard input.
+pub(crate) fn is_dash(name: &[u8]) -> bool
     ensures { result ≡ is_dash name.now }
 {
     matches!(name, b"-")

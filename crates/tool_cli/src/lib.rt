@@ -2,8 +2,8 @@
 //!
 //! It stands on every layer below. Its promise is the contract of `run_tool`, the call that `main` makes over the
 //! process's own streams: what is answered, what is read and what is written, for any source and sink.
-//! Definitions: `specs/Told` for the meaning of an answer, `specs/Made` and `specs/Output` for what is written, `specs/Ended` of `tool_ends` for
-//! the line and the status.
+//! Definitions: `specs/Told` for the meaning of an answer, `specs/Made` and `specs/Output` for what is written, `specs/Running` for programs that are
+//! run, `specs/Headline` for what linking promises, `specs/Ended` of `tool_ends` for the line and the status.
 #![tactic(auto)]
 
 mod analysis;
@@ -14,6 +14,7 @@ mod extraction;
 mod inputs;
 mod linking;
 mod parts;
+mod running;
 mod tool_run;
 mod work;
 

@@ -1,20 +1,24 @@
 //! The whole program, over whatever it reads and writes.
-ghost use Rattle.std.specs.Prelude.{◌≡◌, ◌⊎◌, ◌<◌, ℕ, List, [], true, false};
+ghost use Rattle.std.specs.Prelude.{◌≡◌, ◌⊎◌, ◌<◌, ℕ, List, [], true, false, codes};
 ghost use Rattle.std.specs.List.{IsAmong};
 ghost use Rattle.ir_base.specs.Outside.{Rose, Wrote};
 ghost use Rattle.ir_base.specs.Files.{Named};
+ghost use Rattle.command_line.specs.declared.command.Command.{Command};
 ghost use Rattle.command_line.specs.declared.command.UsageKind.{UsageKind};
+ghost use Rattle.command_line.specs.Commands.{IsReadAs};
 ghost use Rattle.command_line.specs.Faults.{IsFirstFault};
 ghost use Rattle.tool_output.specs.Outputs.{outputs};
 ghost use Rattle.tool_ends.specs.Ended.{line_of, status_of};
-ghost use Rattle.tool_cli.specs.Inputs.{inputs_named, has_stdin, TellsAll};
+ghost use Rattle.run_rules.specs.Clauses.{outside};
+ghost use Rattle.tool_cli.specs.Inputs.{inputs_named, has_stdin, listens, runs, TellsAll, TellsRun};
 ghost use Rattle.tool_cli.specs.Causes.{IsEmptied, Stopped, IsUnread, IsPassed, IsStdinOrMemory, IsUnreadOrMemory};
-ghost use Rattle.tool_cli.specs.Reads.{LeavesInput};
+ghost use Rattle.tool_cli.specs.Reads.{LosesInput};
 ghost use Rattle.tool_cli.specs.Order.{has_file, KeepsOrder};
 ghost use Rattle.tool_cli.specs.Analyzed.{analyzes, IsBeforeWork};
 ghost use Rattle.tool_cli.specs.Output.{output_named, IsUnwritten, IsUnwrittenOrMemory, IsFileUnwritten, IsShown, LeavesFilesBut, LeavesStandard, LeavesNamed};
 ghost use Rattle.tool_cli.specs.Told.{IsTold, IsAfterReading};
 ghost use Rattle.tool_cli.specs.Headline.{RunsLinked};
+ghost use Rattle.tool_cli.specs.Running.{IsPlayed, IsUnbegun, RunsModule};
 
 use crate::inputs::{inputs_of, read_inputs};
 use crate::work::work;
@@ -39,10 +43,10 @@ fn ended_of<F: Files, I: Source, O: Sink>(
     ensures is_usage { (kind : UsageKind) (k : ℕ) → IsFirstFault words.now kind k
         → (result ≡ Ended.Usage kind k) ⊎ (result ≡ Ended.Memory) }
     ensures told { (held : Named) (stdin : List ℕ)
-        → TellsAll (inputs_named words.now) (F.contents files.old) (I.left input.old) held stdin
+        → TellsRun words.now (F.contents files.old) (I.left input.old) held stdin
         → IsTold words.now held stdin result
         ⊎ Stopped (output_named words.now) (Rose (I.faults input.old) (I.faults input.new)) (Rose (F.read_faults files.old) (F.read_faults files.new)) (Rose (O.faults output.old) (O.faults output.new)) (Rose (F.write_faults files.old) (F.write_faults files.new)) result }
-    ensures cannot_read { (name : List ℕ) → result ≡ Ended.CannotRead name → IsAmong (inputs_named words.now) name
+    ensures cannot_read { (name : List ℕ) → result ≡ Ended.CannotRead name → (IsAmong (inputs_named words.now) name ⊎ ((listens words.now ≡ true) × (name ≡ codes "-")))
         × IsUnread (F.contents files.old) (Rose (I.faults input.old) (I.faults input.new)) (Rose (F.read_faults files.old) (F.read_faults files.new)) name }
     ensures too_large { (name : List ℕ) (limit : ℕ) → result ≡ Ended.InputTooLarge name limit
         → IsAmong (inputs_named words.now) name × IsPassed (F.contents files.old) (I.left input.old) name limit }
@@ -56,16 +60,21 @@ fn ended_of<F: Files, I: Source, O: Sink>(
     // What is read and written.
     ensures before_reading { (kind : UsageKind) (k : ℕ) → result ≡ Ended.Usage kind k → (input.new ≡ input.old) × (files.new ≡ files.old) }
     ensures order { KeepsOrder (inputs_named words.now) input.old input.new result }
-    ensures unread { has_stdin (inputs_named words.now) ≡ false → input.new ≡ input.old }
+    ensures unread { has_stdin (inputs_named words.now) ≡ false → listens words.now ≡ false → input.new ≡ input.old }
     ensures files_unread { has_file (inputs_named words.now) ≡ false → LeavesNamed (output_named words.now) result → files.new ≡ files.old }
     ensures whole { IsAfterReading result → has_stdin (inputs_named words.now) ≡ true → IsEmptied (I.left input.new) }
-    ensures leaves_input { LeavesInput (I.left input.old) (I.left input.new) (I.faults input.old) (I.faults input.new) }
+    ensures leaves_input { LosesInput (listens words.now) (I.left input.old) (I.left input.new) (I.faults input.old) (I.faults input.new) }
     ensures leaves_files { LeavesFilesBut (output_named words.now) result (F.contents files.old) (F.contents files.new) (F.read_faults files.old) (F.read_faults files.new) (F.write_faults files.old) (F.write_faults files.new) }
     ensures shown { (held : Named) (stdin : List ℕ)
         → TellsAll (inputs_named words.now) (F.contents files.old) (I.left input.old) held stdin
         → IsShown words.now held stdin (outputs (O.taken output.old) (F.contents files.old)) (outputs (O.taken output.new) (F.contents files.new)) result }
-    ensures unwritten { analyzes words.now ≡ false → LeavesStandard (output_named words.now) result → output.new ≡ output.old }
-    ensures before_work { IsBeforeWork result → output.new ≡ output.old }
+    ensures unwritten { analyzes words.now ≡ false → runs words.now ≡ false → LeavesStandard (output_named words.now) result → output.new ≡ output.old }
+    ensures before_work { IsBeforeWork (listens words.now) result → output.new ≡ output.old }
+    ensures not_begun { (command : Command) → IsReadAs words.now command → IsUnbegun command result → (listens words.now ≡ true → input.new ≡ input.old) × (output.new ≡ output.old) }
+    ensures played { (held : Named) (stdin : List ℕ)
+        → TellsAll (inputs_named words.now) (F.contents files.old) (I.left input.old) held stdin
+        → IsPlayed words.now held stdin
+        (outside (I.left input.old) (I.faults input.old) (O.taken output.old) (O.faults output.old)) (outside (I.left input.new) (I.faults input.new) (O.taken output.new) (O.faults output.new)) result }
 {
     let command = match read_words(alloc, words) {
         Ok(command) => command,
@@ -73,7 +82,7 @@ fn ended_of<F: Files, I: Source, O: Sink>(
         Err(WordsFault::Memory) => return Ended::Memory,
     };
     match read_inputs(alloc, files, input, inputs_of(&command)) {
-        Ok(texts) => work(alloc, &command, &texts, files, output),
+        Ok(texts) => work(alloc, &command, &texts, files, input, output),
         Err(ended) => ended,
     }
 }
@@ -95,10 +104,10 @@ pub fn run_tool<F: Files, I: Source, O: Sink, E: Sink>(
     ensures is_usage { (kind : UsageKind) (k : ℕ) → IsFirstFault words.now kind k
         → (result.ended ≡ Ended.Usage kind k) ⊎ (result.ended ≡ Ended.Memory) }
     ensures told { (held : Named) (stdin : List ℕ)
-        → TellsAll (inputs_named words.now) (F.contents files.old) (I.left input.old) held stdin
+        → TellsRun words.now (F.contents files.old) (I.left input.old) held stdin
         → IsTold words.now held stdin result.ended
         ⊎ Stopped (output_named words.now) (Rose (I.faults input.old) (I.faults input.new)) (Rose (F.read_faults files.old) (F.read_faults files.new)) (Rose (O.faults output.old) (O.faults output.new)) (Rose (F.write_faults files.old) (F.write_faults files.new)) result.ended }
-    ensures cannot_read { (name : List ℕ) → result.ended ≡ Ended.CannotRead name → IsAmong (inputs_named words.now) name
+    ensures cannot_read { (name : List ℕ) → result.ended ≡ Ended.CannotRead name → (IsAmong (inputs_named words.now) name ⊎ ((listens words.now ≡ true) × (name ≡ codes "-")))
         × IsUnread (F.contents files.old) (Rose (I.faults input.old) (I.faults input.new)) (Rose (F.read_faults files.old) (F.read_faults files.new)) name }
     ensures too_large { (name : List ℕ) (limit : ℕ) → result.ended ≡ Ended.InputTooLarge name limit
         → IsAmong (inputs_named words.now) name × IsPassed (F.contents files.old) (I.left input.old) name limit }
@@ -113,21 +122,32 @@ pub fn run_tool<F: Files, I: Source, O: Sink, E: Sink>(
     // What is read and written.
     ensures before_reading { (kind : UsageKind) (k : ℕ) → result.ended ≡ Ended.Usage kind k → (input.new ≡ input.old) × (files.new ≡ files.old) }
     ensures order { KeepsOrder (inputs_named words.now) input.old input.new result.ended }
-    ensures unread { has_stdin (inputs_named words.now) ≡ false → input.new ≡ input.old }
+    ensures unread { has_stdin (inputs_named words.now) ≡ false → listens words.now ≡ false → input.new ≡ input.old }
     ensures files_unread { has_file (inputs_named words.now) ≡ false → LeavesNamed (output_named words.now) result.ended → files.new ≡ files.old }
     ensures whole { IsAfterReading result.ended → has_stdin (inputs_named words.now) ≡ true → IsEmptied (I.left input.new) }
-    ensures leaves_input { LeavesInput (I.left input.old) (I.left input.new) (I.faults input.old) (I.faults input.new) }
+    ensures leaves_input { LosesInput (listens words.now) (I.left input.old) (I.left input.new) (I.faults input.old) (I.faults input.new) }
     ensures leaves_files { LeavesFilesBut (output_named words.now) result.ended (F.contents files.old) (F.contents files.new) (F.read_faults files.old) (F.read_faults files.new) (F.write_faults files.old) (F.write_faults files.new) }
     ensures shown { (held : Named) (stdin : List ℕ)
         → TellsAll (inputs_named words.now) (F.contents files.old) (I.left input.old) held stdin
         → IsShown words.now held stdin (outputs (O.taken output.old) (F.contents files.old)) (outputs (O.taken output.new) (F.contents files.new)) result.ended }
     // The headline: what is linked runs as its parts do, never merged, or their conflict is told.
     ensures headline { (held : Named) (stdin : List ℕ)
-        → TellsAll (inputs_named words.now) (F.contents files.old) (I.left input.old) held stdin
+        → TellsRun words.now (F.contents files.old) (I.left input.old) held stdin
         → RunsLinked words.now held stdin (outputs (O.taken output.old) (F.contents files.old)) (outputs (O.taken output.new) (F.contents files.new)) result.ended
         (Stopped (output_named words.now) (Rose (I.faults input.old) (I.faults input.new)) (Rose (F.read_faults files.old) (F.read_faults files.new)) (Rose (O.faults output.old) (O.faults output.new)) (Rose (F.write_faults files.old) (F.write_faults files.new)) result.ended) }
-    ensures unwritten { analyzes words.now ≡ false → LeavesStandard (output_named words.now) result.ended → output.new ≡ output.old }
-    ensures before_work { IsBeforeWork result.ended → output.new ≡ output.old }
+    // Its second half: an input that stands for a module is run, and what it prints, and how it ends, is what parts do that it runs as.
+    ensures ran { (held : Named) (stdin : List ℕ)
+        → TellsRun words.now (F.contents files.old) (I.left input.old) held stdin
+        → RunsModule words.now held stdin
+        (outside (I.left input.old) (I.faults input.old) (O.taken output.old) (O.faults output.old)) (outside (I.left input.new) (I.faults input.new) (O.taken output.new) (O.faults output.new)) result.ended
+        (Stopped (output_named words.now) (Rose (I.faults input.old) (I.faults input.new)) (Rose (F.read_faults files.old) (F.read_faults files.new)) (Rose (O.faults output.old) (O.faults output.new)) (Rose (F.write_faults files.old) (F.write_faults files.new)) result.ended) }
+    ensures unwritten { analyzes words.now ≡ false → runs words.now ≡ false → LeavesStandard (output_named words.now) result.ended → output.new ≡ output.old }
+    ensures before_work { IsBeforeWork (listens words.now) result.ended → output.new ≡ output.old }
+    ensures not_begun { (command : Command) → IsReadAs words.now command → IsUnbegun command result.ended → (listens words.now ≡ true → input.new ≡ input.old) × (output.new ≡ output.old) }
+    ensures played { (held : Named) (stdin : List ℕ)
+        → TellsAll (inputs_named words.now) (F.contents files.old) (I.left input.old) held stdin
+        → IsPlayed words.now held stdin
+        (outside (I.left input.old) (I.faults input.old) (O.taken output.old) (O.faults output.old)) (outside (I.left input.new) (I.faults input.new) (O.taken output.new) (O.faults output.new)) result.ended }
     ensures errors { Wrote (E.taken errors.old) (E.taken errors.new) (E.faults errors.old) (E.faults errors.new) (line_of words.now result.ended) }
 {
     // A text stands for one module, and so does what is written of a module.

@@ -1,16 +1,28 @@
-use Rattle.std.proofs.Common.{◌⊎◌, ℕ, ◌<◌, Option, sym, ap, ◌∙◌, subst}
+use Rattle.std.proofs.Common.{◌≡◌, ◌⊎◌, inl, inr, ℕ, ◌<◌, Bool, true, false, List, codes, Option, Some, refl, sym, ap, ◌∙◌, subst}
 use Rattle.ir_base.specs.Files.{Named}
 use Rattle.ir_base.specs.Outside.{Rose}
+use Rattle.command_line.specs.declared.command.Command.{Command}
 use Rattle.command_line.specs.declared.command.OutputName.{OutputName}
+use Rattle.run_rules.specs.Clauses.{outside}
 use Rattle.tool_output.specs.Outputs.{outputs}
-use Rattle.tool_cli.specs.Inputs.{inputs_of, inputs_named, texts_read}
-use Rattle.tool_cli.specs.Output.{output_of, FailsToWrite, IsUnwritten, IsWritten}
-use Rattle.tool_cli.specs.Told.{IsWork}
-use Rattle.tool_cli.proofs.Works.{nothing_shown, early_refusal, not_before_work}
+use Rattle.tool_cli.specs.Analyzed.{IsBeforeWork}
+use Rattle.tool_cli.specs.Causes.{IsEmptied, Stopped}
+use Rattle.tool_cli.specs.Inputs.{has_stdin, hears, inputs_of, inputs_named, listens, texts_read}
+use Rattle.tool_cli.specs.Output.{output_of, IsUnwritten, IsWritten}
+use Rattle.tool_cli.specs.Reads.{LosesInput}
+use Rattle.tool_cli.specs.Running.{IsUnbegun}
+use Rattle.tool_cli.specs.Told.{IsEndOf}
+use Rattle.tool_cli.proofs.Works.{nothing_shown, early_refusal, not_before_work, run_no_large, run_no_usage}
 use Rattle.tool_cli.proofs.Delivered.{leaves_after, leaves_read}
-use Rattle.tool_cli.proofs.Outcomes.{inputs_are, analyzes_is, output_is, shown_ok, told_ok, told_err, cause_of_unread, cause_of_large}
+use Rattle.tool_cli.proofs.Outcomes.{inputs_are, analyzes_is, output_is, same_command, shown_ok, told_ok, told_err, cause_of_unread, cause_of_large}
+use Rattle.tool_cli.proofs.Commands.{end_over, heard, hears_no_stdin, input_cause, listens_is, loses_after, loses_none, loses_read, played_err, played_ok, runs_is, same_outside, stdin_unheard, unread_cause, unread_told}
+use Rattle.tool_cli.proofs.Steps.{words_fit}
 use Rattle.tool_cli.proofs.Order.{work_keeps}
 use Rattle.tool_cli.proofs.tool_run.ended_of.Goals as goal
+
+-- the command is what the words are read as, and its steps fit
+pub work-requires-clause-steps : goal.work-requires-clause-steps
+work-requires-clause-steps g c = words_fit c.args.words.now c.in-Ok.command c.in-Ok.ensures.command
 
 pub returns-in-Ok-read_inputs-clause-told : goal.returns-in-Ok-read_inputs-clause-told
 returns-in-Ok-read_inputs-clause-told g c =
@@ -18,23 +30,89 @@ returns-in-Ok-read_inputs-clause-told g c =
     let reads = g.F.Files.read_faults in
     let sinks = g.O.Sink.faults in
     let writes = g.F.Files.write_faults in
+    let left = g.I.Source.left in
+    let taken = g.O.Sink.taken in
     let same = inputs_are c.args.words.now c.in-Ok.command c.in-Ok.ensures.command ∙ sym c.inputs_of.ensures in
-    -- no write was counted while inputs were read
-    let work = subst (λ (n : ℕ). IsWork c.in-Ok.command c.in-Ok-read_inputs.texts c.work.result ⊎ FailsToWrite (output_of c.in-Ok.command) (Rose (sinks c.args.output.now) (sinks c.work.new.output)) (Rose n (writes c.work.new.files)) c.work.result) c.in-Ok-read_inputs.ensures.leaves_files.writes c.work.ensures.work in
+    let before = outside (left c.read_inputs.new.input) (faults c.read_inputs.new.input) (taken c.args.output.now) (sinks c.args.output.now) in
+    let after = outside (left c.work.new.input) (faults c.work.new.input) (taken c.work.new.output) (sinks c.work.new.output) in
+    let Done : List ℕ → ℕ → ℕ → Type 0 = λ stdin i w. IsEndOf c.in-Ok.command stdin c.in-Ok-read_inputs.texts c.work.result ⊎ Stopped (output_of c.in-Ok.command) (Rose i (faults c.work.new.input)) ⊥ (Rose (sinks c.args.output.now) (sinks c.work.new.output)) (Rose w (writes c.work.new.files)) c.work.result in
     λ held stdin tells.
+    -- a program that has standard input for its own finds it as it was
+    let told : hears c.in-Ok.command ≡ true → left c.read_inputs.new.input ≡ Some stdin = λ own. ap left (c.in-Ok-read_inputs.ensures.unread (ap has_stdin c.inputs_of.ensures ∙ hears_no_stdin c.in-Ok.command own)) ∙ tells.heard (listens_is c.args.words.now c.in-Ok.command c.in-Ok.ensures.command ∙ own) in
+    let done : Done stdin (faults c.read_inputs.new.input) (writes c.read_inputs.new.files) = end_over c.in-Ok.command c.in-Ok-read_inputs.texts stdin before after (Rose (writes c.read_inputs.new.files) (writes c.work.new.files)) c.work.result told c.work.ensures.work c.work.ensures.ran in
+    -- nothing failed, and no write was counted, while inputs were read
+    let work : Done stdin (faults c.args.input.now) (writes c.args.files.now) = subst (λ (n : ℕ). Done stdin (faults c.args.input.now) n) c.in-Ok-read_inputs.ensures.leaves_files.writes (subst (λ (n : ℕ). Done stdin n (writes c.read_inputs.new.files)) c.in-Ok-read_inputs.ensures.input_fine done) in
     told_ok c.args.words.now c.in-Ok.command c.inputs_of.result.now c.in-Ok-read_inputs.texts held stdin c.work.result
-    (Rose (faults c.args.input.now) (faults c.read_inputs.new.input)) (Rose (reads c.args.files.now) (reads c.read_inputs.new.files)) (Rose (reads c.args.files.now) (reads c.work.new.files)) (Rose (sinks c.args.output.now) (sinks c.work.new.output)) (Rose (writes c.args.files.now) (writes c.work.new.files))
-    c.in-Ok.ensures.command c.inputs_of.ensures (c.in-Ok-read_inputs.ensures.told held stdin (rw same at tells)) work
+    (Rose (faults c.args.input.now) (faults c.read_inputs.new.input)) (Rose (faults c.args.input.now) (faults c.work.new.input)) (Rose (reads c.args.files.now) (reads c.read_inputs.new.files)) (Rose (reads c.args.files.now) (reads c.work.new.files)) (Rose (sinks c.args.output.now) (sinks c.work.new.output)) (Rose (writes c.args.files.now) (writes c.work.new.files))
+    c.in-Ok.ensures.command c.inputs_of.ensures (c.in-Ok-read_inputs.ensures.told held stdin (rw same at tells.inputs)) work
+
+pub returns-in-Ok-read_inputs-clause-cannot_read : goal.returns-in-Ok-read_inputs-clause-cannot_read
+returns-in-Ok-read_inputs-clause-cannot_read g c =
+    let faults = g.I.Source.faults in
+    let contents = g.F.Files.contents in
+    let reads = g.F.Files.read_faults in
+    let mid = outside (g.I.Source.left c.read_inputs.new.input) (faults c.read_inputs.new.input) (g.O.Sink.taken c.args.output.now) (g.O.Sink.faults c.args.output.now) in
+    let after = outside (g.I.Source.left c.work.new.input) (faults c.work.new.input) (g.O.Sink.taken c.work.new.output) (g.O.Sink.faults c.work.new.output) in
+    λ name told.
+    let cause = unread_cause c.in-Ok.command c.in-Ok-read_inputs.texts mid after c.work.result c.work.ensures.of_work c.work.ensures.ran name told in
+    let rose = subst (λ (n : ℕ). Rose n (faults c.work.new.input)) c.in-Ok-read_inputs.ensures.input_fine cause.1.1 in
+    (inr (listens_is c.args.words.now c.in-Ok.command c.in-Ok.ensures.command ∙ cause.0, cause.1.0), unread_told (contents c.args.files.now) (Rose (faults c.args.input.now) (faults c.work.new.input)) (Rose (reads c.args.files.now) (reads c.work.new.files)) name cause.1.0 rose)
+
+pub returns-in-Ok-read_inputs-clause-input_fault : goal.returns-in-Ok-read_inputs-clause-input_fault
+returns-in-Ok-read_inputs-clause-input_fault g c =
+    let faults = g.I.Source.faults in
+    let mid = outside (g.I.Source.left c.read_inputs.new.input) (faults c.read_inputs.new.input) (g.O.Sink.taken c.args.output.now) (g.O.Sink.faults c.args.output.now) in
+    let after = outside (g.I.Source.left c.work.new.input) (faults c.work.new.input) (g.O.Sink.taken c.work.new.output) (g.O.Sink.faults c.work.new.output) in
+    λ rose.
+    input_cause (hears c.in-Ok.command) mid after c.work.result (λ none. ap faults (c.work.ensures.unread none)) (heard c.in-Ok.command c.in-Ok-read_inputs.texts mid after c.work.result c.work.ensures.ran)
+    (subst (λ (n : ℕ). n < faults c.work.new.input) (sym c.in-Ok-read_inputs.ensures.input_fine) rose)
+
+pub returns-in-Ok-read_inputs-clause-leaves_input : goal.returns-in-Ok-read_inputs-clause-leaves_input
+returns-in-Ok-read_inputs-clause-leaves_input g c =
+    let faults = g.I.Source.faults in
+    let left = g.I.Source.left in
+    let taken = g.O.Sink.taken in
+    let sinks = g.O.Sink.faults in
+    let mid = outside (left c.read_inputs.new.input) (faults c.read_inputs.new.input) (taken c.args.output.now) (sinks c.args.output.now) in
+    let after = outside (left c.work.new.input) (faults c.work.new.input) (taken c.work.new.output) (sinks c.work.new.output) in
+    let none : hears c.in-Ok.command ≡ true → has_stdin c.inputs_of.result.now ≡ false = λ own. ap has_stdin c.inputs_of.ensures ∙ hears_no_stdin c.in-Ok.command own in
+    subst (λ (b : Bool). LosesInput b (left c.args.input.now) (left c.work.new.input) (faults c.args.input.now) (faults c.work.new.input)) (sym (listens_is c.args.words.now c.in-Ok.command c.in-Ok.ensures.command))
+    (loses_after (hears c.in-Ok.command) (left c.args.input.now) (faults c.args.input.now) mid after c.work.result c.in-Ok-read_inputs.ensures.leaves_input c.in-Ok-read_inputs.ensures.input_fine (λ own. ap left (c.in-Ok-read_inputs.ensures.unread (none own))) (λ quiet. (ap left (c.work.ensures.unread quiet), ap faults (c.work.ensures.unread quiet)))
+    (heard c.in-Ok.command c.in-Ok-read_inputs.texts mid after c.work.result c.work.ensures.ran))
 
 pub returns-in-Ok-read_inputs-clause-unread : goal.returns-in-Ok-read_inputs-clause-unread
 returns-in-Ok-read_inputs-clause-unread g c =
     let same = inputs_are c.args.words.now c.in-Ok.command c.in-Ok.ensures.command ∙ sym c.inputs_of.ensures in
-    λ none. c.in-Ok-read_inputs.ensures.unread (rw same at none)
+    λ none quiet. c.work.ensures.unread (rw (listens_is c.args.words.now c.in-Ok.command c.in-Ok.ensures.command) at quiet) ∙ c.in-Ok-read_inputs.ensures.unread (rw same at none)
 
 pub returns-in-Ok-read_inputs-clause-whole : goal.returns-in-Ok-read_inputs-clause-whole
 returns-in-Ok-read_inputs-clause-whole g c =
+    let are = inputs_are c.args.words.now c.in-Ok.command c.in-Ok.ensures.command in
+    λ _ one.
+    let quiet = stdin_unheard c.in-Ok.command (rw are at one) in
+    subst (λ (left : Option (List ℕ)). IsEmptied left) (sym (ap g.I.Source.left (c.work.ensures.unread quiet))) (c.in-Ok-read_inputs.ensures.emptied (rw (are ∙ sym c.inputs_of.ensures) at one))
+
+pub returns-in-Ok-read_inputs-clause-not_begun : goal.returns-in-Ok-read_inputs-clause-not_begun
+returns-in-Ok-read_inputs-clause-not_begun g c = λ command read early.
+    let same = same_command c.args.words.now command c.in-Ok.command read c.in-Ok.ensures.command in
+    let left = c.work.ensures.not_begun (subst (λ (one : Command). IsUnbegun one c.work.result) same early) in
+    (λ own. left.0 ∙ c.in-Ok-read_inputs.ensures.unread (ap has_stdin c.inputs_of.ensures ∙ hears_no_stdin c.in-Ok.command (sym (listens_is c.args.words.now c.in-Ok.command c.in-Ok.ensures.command) ∙ own)), left.1)
+
+pub returns-in-Ok-read_inputs-clause-played : goal.returns-in-Ok-read_inputs-clause-played
+returns-in-Ok-read_inputs-clause-played g c =
+    let faults = g.I.Source.faults in
+    let left = g.I.Source.left in
+    let taken = g.O.Sink.taken in
+    let sinks = g.O.Sink.faults in
     let same = inputs_are c.args.words.now c.in-Ok.command c.in-Ok.ensures.command ∙ sym c.inputs_of.ensures in
-    λ _ one. c.in-Ok-read_inputs.ensures.emptied (rw same at one)
+    let mid = outside (left c.read_inputs.new.input) (faults c.read_inputs.new.input) (taken c.args.output.now) (sinks c.args.output.now) in
+    let before = outside (left c.args.input.now) (faults c.args.input.now) (taken c.args.output.now) (sinks c.args.output.now) in
+    let after = outside (left c.work.new.input) (faults c.work.new.input) (taken c.work.new.output) (sinks c.work.new.output) in
+    let own : hears c.in-Ok.command ≡ true → mid ≡ before = λ h.
+    let kept = c.in-Ok-read_inputs.ensures.unread (ap has_stdin c.inputs_of.ensures ∙ hears_no_stdin c.in-Ok.command h) in
+    same_outside (left c.args.input.now) (left c.read_inputs.new.input) (faults c.args.input.now) (faults c.read_inputs.new.input) (taken c.args.output.now) (sinks c.args.output.now) (ap left kept) (ap faults kept) in
+    λ held stdin tells.
+    played_ok c.args.words.now c.in-Ok.command c.inputs_of.result.now c.in-Ok-read_inputs.texts held stdin mid before after c.work.result (Rose (faults c.args.input.now) (faults c.read_inputs.new.input)) (Rose (g.F.Files.read_faults c.args.files.now) (g.F.Files.read_faults c.read_inputs.new.files)) c.in-Ok.ensures.command c.inputs_of.ensures (c.in-Ok-read_inputs.ensures.told held stdin (rw same at tells)) own refl c.work.ensures.ran
 
 pub returns-clause-told : goal.returns-clause-told
 returns-clause-told g c =
@@ -46,14 +124,14 @@ returns-clause-told g c =
     λ held stdin tells.
     told_err c.args.words.now c.in-Ok.command c.inputs_of.result.now held stdin c.in-Err.ended
     (Rose (faults c.args.input.now) (faults c.read_inputs.new.input)) (Rose (reads c.args.files.now) (reads c.read_inputs.new.files)) (Rose (sinks c.args.output.now) (sinks c.args.output.now)) (Rose (writes c.args.files.now) (writes c.read_inputs.new.files))
-    c.in-Ok.ensures.command c.inputs_of.ensures (c.in-Err.ensures.told held stdin (rw same at tells))
+    c.in-Ok.ensures.command c.inputs_of.ensures (c.in-Err.ensures.told held stdin (rw same at tells.inputs))
 
 pub returns-clause-cannot_read : goal.returns-clause-cannot_read
 returns-clause-cannot_read g c =
     let faults = g.I.Source.faults in
     let reads = g.F.Files.read_faults in
     let same = inputs_are c.args.words.now c.in-Ok.command c.in-Ok.ensures.command ∙ sym c.inputs_of.ensures in
-    cause_of_unread _ c.inputs_of.result.now (g.F.Files.contents c.args.files.now) (g.I.Source.left c.args.input.now)
+    cause_of_unread (λ name. (listens c.args.words.now ≡ true) × (name ≡ codes "-")) (inputs_named c.args.words.now) c.inputs_of.result.now (g.F.Files.contents c.args.files.now) (g.I.Source.left c.args.input.now)
     (Rose (faults c.args.input.now) (faults c.read_inputs.new.input)) (Rose (reads c.args.files.now) (reads c.read_inputs.new.files))
     c.in-Err.ended same c.in-Err.ensures.refused
 
@@ -69,10 +147,10 @@ returns-clause-too_large g c =
 pub returns-clause-unread : goal.returns-clause-unread
 returns-clause-unread g c =
     let same = inputs_are c.args.words.now c.in-Ok.command c.in-Ok.ensures.command ∙ sym c.inputs_of.ensures in
-    λ none. c.in-Err.ensures.unread (rw same at none)
+    λ none quiet. c.in-Err.ensures.unread (rw same at none)
 
 pub returns-in-Ok-read_inputs-clause-order : goal.returns-in-Ok-read_inputs-clause-order
-returns-in-Ok-read_inputs-clause-order g c = work_keeps (inputs_named c.args.words.now) c.args.input.now c.read_inputs.new.input c.work.result c.work.ensures.of_work
+returns-in-Ok-read_inputs-clause-order g c = work_keeps (inputs_named c.args.words.now) c.args.input.now c.work.new.input c.work.result (hears c.in-Ok.command) c.work.ensures.of_work
 
 pub returns-in-Ok-read_inputs-clause-files_unread : goal.returns-in-Ok-read_inputs-clause-files_unread
 returns-in-Ok-read_inputs-clause-files_unread g c =
@@ -96,12 +174,12 @@ returns-in-Ok-read_inputs-clause-shown g c =
     let taken = g.O.Sink.taken in
     let contents = g.F.Files.contents in
     let same = inputs_are c.args.words.now c.in-Ok.command c.in-Ok.ensures.command ∙ sym c.inputs_of.ensures in
-    -- no file changed while inputs were read
-    let written = subst (λ (before : Option Named). IsWritten c.in-Ok.command c.in-Ok-read_inputs.texts (outputs (taken c.args.output.now) before) (outputs (taken c.work.new.output) (contents c.work.new.files)) c.work.result) c.in-Ok-read_inputs.ensures.leaves_files.contents c.work.ensures.written in
     λ held stdin tells.
     shown_ok c.args.words.now c.in-Ok.command c.inputs_of.result.now c.in-Ok-read_inputs.texts held stdin (outputs (taken c.args.output.now) (contents c.args.files.now)) (outputs (taken c.work.new.output) (contents c.work.new.files)) c.work.result
     (Rose (faults c.args.input.now) (faults c.read_inputs.new.input)) (Rose (reads c.args.files.now) (reads c.read_inputs.new.files))
-    c.in-Ok.ensures.command c.inputs_of.ensures (c.in-Ok-read_inputs.ensures.told held stdin (rw same at tells)) written
+    c.in-Ok.ensures.command c.inputs_of.ensures (c.in-Ok-read_inputs.ensures.told held stdin (rw same at tells))
+    -- no file changed while inputs were read
+    (λ plain. subst (λ (before : Option Named). IsWritten c.in-Ok.command c.in-Ok-read_inputs.texts (outputs (taken c.args.output.now) before) (outputs (taken c.work.new.output) (contents c.work.new.files)) c.work.result) c.in-Ok-read_inputs.ensures.leaves_files.contents (c.work.ensures.written plain))
 
 pub returns-in-Ok-read_inputs-clause-cannot_write : goal.returns-in-Ok-read_inputs-clause-cannot_write
 returns-in-Ok-read_inputs-clause-cannot_write g c =
@@ -123,11 +201,11 @@ returns-in-Ok-read_inputs-clause-leaves_files g c =
 
 pub returns-in-Ok-read_inputs-clause-unwritten : goal.returns-in-Ok-read_inputs-clause-unwritten
 returns-in-Ok-read_inputs-clause-unwritten g c =
-    λ none early. c.work.ensures.unwritten (rw (analyzes_is c.args.words.now c.in-Ok.command c.in-Ok.ensures.command) at none) (rw (output_is c.args.words.now c.in-Ok.command c.in-Ok.ensures.command) at early)
+    λ none plain early. c.work.ensures.unwritten (rw (analyzes_is c.args.words.now c.in-Ok.command c.in-Ok.ensures.command) at none) (rw (runs_is c.args.words.now c.in-Ok.command c.in-Ok.ensures.command) at plain) (rw (output_is c.args.words.now c.in-Ok.command c.in-Ok.ensures.command) at early)
 
 pub returns-in-Ok-read_inputs-clause-before_work : goal.returns-in-Ok-read_inputs-clause-before_work
 returns-in-Ok-read_inputs-clause-before_work g c =
-    λ early. absurd (not_before_work c.work.result c.work.ensures.of_work early)
+    λ early. absurd (not_before_work c.work.result (hears c.in-Ok.command) c.work.ensures.of_work (subst (λ (b : Bool). IsBeforeWork b c.work.result) (listens_is c.args.words.now c.in-Ok.command c.in-Ok.ensures.command) early))
 
 pub returns-clause-shown : goal.returns-clause-shown
 returns-clause-shown g c =
@@ -136,9 +214,60 @@ returns-clause-shown g c =
     let contents = g.F.Files.contents in
     let left = g.I.Source.left in
     let taken = g.O.Sink.taken in
-    λ held stdin tells command read.
+    λ held stdin tells command read plain.
     nothing_shown command (texts_read held stdin 0 (inputs_of command)) (outputs (taken c.args.output.now) (contents c.args.files.now)) (outputs (taken c.args.output.now) (contents c.read_inputs.new.files)) c.in-Err.ended
     (early_refusal (contents c.args.files.now) (left c.args.input.now) (Rose (faults c.args.input.now) (faults c.read_inputs.new.input)) (Rose (reads c.args.files.now) (reads c.read_inputs.new.files)) c.inputs_of.result.now c.in-Err.ended c.in-Err.ensures.refused) (ap (λ (now : Option Named). outputs (taken c.args.output.now) now) c.in-Err.ensures.leaves_files.contents)
 
 pub returns-clause-leaves_files : goal.returns-clause-leaves_files
 returns-clause-leaves_files g c = leaves_read _ _ _ _ _ _ _ _ c.in-Err.ensures.leaves_files
+
+pub returns-clause-leaves_input : goal.returns-clause-leaves_input
+returns-clause-leaves_input g c =
+    let faults = g.I.Source.faults in
+    let left = g.I.Source.left in
+    subst (λ (b : Bool). LosesInput b (left c.args.input.now) (left c.read_inputs.new.input) (faults c.args.input.now) (faults c.read_inputs.new.input)) (sym (listens_is c.args.words.now c.in-Ok.command c.in-Ok.ensures.command))
+    (loses_read (hears c.in-Ok.command) (left c.args.input.now) (left c.read_inputs.new.input) (faults c.args.input.now) (faults c.read_inputs.new.input) c.in-Err.ensures.leaves_input (λ own. ap faults (c.in-Err.ensures.unread (ap has_stdin c.inputs_of.ensures ∙ hears_no_stdin c.in-Ok.command own))))
+
+pub returns-clause-not_begun : goal.returns-clause-not_begun
+returns-clause-not_begun g c = λ command read early.
+    (λ own. c.in-Err.ensures.unread (ap has_stdin c.inputs_of.ensures ∙ hears_no_stdin c.in-Ok.command (sym (listens_is c.args.words.now c.in-Ok.command c.in-Ok.ensures.command) ∙ own)), refl)
+
+pub returns-clause-played : goal.returns-clause-played
+returns-clause-played g c =
+    let faults = g.I.Source.faults in
+    let left = g.I.Source.left in
+    let reads = g.F.Files.read_faults in
+    let taken = g.O.Sink.taken in
+    let sinks = g.O.Sink.faults in
+    let before = outside (left c.args.input.now) (faults c.args.input.now) (taken c.args.output.now) (sinks c.args.output.now) in
+    let after = outside (left c.read_inputs.new.input) (faults c.read_inputs.new.input) (taken c.args.output.now) (sinks c.args.output.now) in
+    λ held stdin tells.
+    played_err c.args.words.now c.in-Ok.command c.inputs_of.result.now (g.F.Files.contents c.args.files.now) (left c.args.input.now) (Rose (faults c.args.input.now) (faults c.read_inputs.new.input)) (Rose (reads c.args.files.now) (reads c.read_inputs.new.files)) held stdin before after
+    c.in-Err.ended c.in-Ok.ensures.command c.inputs_of.ensures c.in-Err.ensures.refused refl
+
+pub returns-in-Err-Usage-clause-leaves_input : goal.returns-in-Err-Usage-clause-leaves_input
+returns-in-Err-Usage-clause-leaves_input g c = loses_none _ _ _
+
+pub returns-in-Err-Memory-clause-leaves_input : goal.returns-in-Err-Memory-clause-leaves_input
+returns-in-Err-Memory-clause-leaves_input g c = loses_none _ _ _
+
+pub returns-in-Err-Usage-clause-played : goal.returns-in-Err-Usage-clause-played
+returns-in-Err-Usage-clause-played g c = λ held stdin tells name bound arguments bytes is. inl (inl tt, refl)
+
+pub returns-in-Err-Memory-clause-played : goal.returns-in-Err-Memory-clause-played
+returns-in-Err-Memory-clause-played g c = λ held stdin tells name bound arguments bytes is. inl (inr refl, refl)
+
+pub returns-in-Err-Usage-clause-not_begun : goal.returns-in-Err-Usage-clause-not_begun
+returns-in-Err-Usage-clause-not_begun g c = λ command read early. (λ own. refl, refl)
+
+pub returns-in-Err-Memory-clause-not_begun : goal.returns-in-Err-Memory-clause-not_begun
+returns-in-Err-Memory-clause-not_begun g c = λ command read early. (λ own. refl, refl)
+
+pub returns-in-Ok-read_inputs-clause-usage : goal.returns-in-Ok-read_inputs-clause-usage
+returns-in-Ok-read_inputs-clause-usage g c = λ kind k told. absurd (run_no_usage c.work.result (hears c.in-Ok.command) kind k c.work.ensures.of_work told)
+
+pub returns-in-Ok-read_inputs-clause-before_reading : goal.returns-in-Ok-read_inputs-clause-before_reading
+returns-in-Ok-read_inputs-clause-before_reading g c = λ kind k told. absurd (run_no_usage c.work.result (hears c.in-Ok.command) kind k c.work.ensures.of_work told)
+
+pub returns-in-Ok-read_inputs-clause-too_large : goal.returns-in-Ok-read_inputs-clause-too_large
+returns-in-Ok-read_inputs-clause-too_large g c = λ name limit told. absurd (run_no_large c.work.result (hears c.in-Ok.command) name limit c.work.ensures.of_work told)

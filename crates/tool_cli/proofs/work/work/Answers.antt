@@ -1,12 +1,15 @@
-use Rattle.std.proofs.Common.{◌⊎◌, ℕ, List, refl}
+use Rattle.std.proofs.Common.{◌⊎◌, inl, ℕ, List, refl, true≢false}
 use Rattle.command_line.specs.declared.command.Command.{Command}
 use Rattle.ir_base.specs.Outside.{Rose}
+use Rattle.run_rules.specs.Clauses.{outside}
 use Rattle.tool_output.specs.Outputs.{outputs}
 use Rattle.tool_cli.specs.Output.{output_of, FailsToWrite, IsWritten}
 use Rattle.tool_cli.specs.Told.{IsWork}
 use Rattle.tool_cli.proofs.Judging.{short_first}
-use Rattle.tool_cli.proofs.Works.{analysis_work, analysis_written, analysis_cause, silent_stops, texts_of_work, texts_written, only_text, only_input, no_output}
-use Rattle.tool_cli.proofs.Delivered.{leaves_none, silent_written, link_is, assemble_is}
+use Rattle.tool_cli.specs.Inputs.{hears}
+use Rattle.tool_cli.proofs.Works.{analysis_work, analysis_written, analysis_cause, only_text, only_input, only_program}
+use Rattle.tool_cli.proofs.Commands.{lli_not_begun, lli_of_run, lli_output_fault, lli_unread, lli_unwritten, program_is, work_of_run}
+use Rattle.tool_cli.proofs.Delivered.{leaves_none, link_is, assemble_is}
 use Rattle.tool_cli.proofs.Extracting.{extract_is}
 use Rattle.tool_cli.proofs.work.work.Goals as goal
 
@@ -14,13 +17,13 @@ pub analyze-requires : goal.analyze-requires
 analyze-requires g c = rw c.bytes.ensures (short_first _ _ c.requires.short c.at.ensures)
 
 pub returns-in-Analyze-clause-work : goal.returns-in-Analyze-clause-work
-returns-in-Analyze-clause-work g c = analysis_work _ _ _ _ _ _ _ _ c.in-Analyze.is c.requires.count c.at.ensures (rw c.bytes.ensures at c.analyze.ensures.analysis)
+returns-in-Analyze-clause-work g c = λ plain. analysis_work _ _ _ _ _ _ _ _ c.in-Analyze.is c.requires.count c.at.ensures (rw c.bytes.ensures at c.analyze.ensures.analysis)
 
 pub returns-in-Analyze-clause-cannot_write : goal.returns-in-Analyze-clause-cannot_write
 returns-in-Analyze-clause-cannot_write g c = λ name told. analysis_cause _ _ _ _ _ name c.in-Analyze.is (c.analyze.ensures.cannot_write name told)
 
 pub returns-in-Analyze-clause-written : goal.returns-in-Analyze-clause-written
-returns-in-Analyze-clause-written g c = analysis_written _ _ _ _ _ _ _ _ _ c.in-Analyze.is c.requires.count c.at.ensures (rw c.bytes.ensures at c.analyze.ensures.shown)
+returns-in-Analyze-clause-written g c = λ plain. analysis_written _ _ _ _ _ _ _ _ _ c.in-Analyze.is c.requires.count c.at.ensures (rw c.bytes.ensures at c.analyze.ensures.shown)
 
 pub returns-in-Analyze-clause-leaves_files : goal.returns-in-Analyze-clause-leaves_files
 returns-in-Analyze-clause-leaves_files g c = leaves_none _ _ _ _ _
@@ -33,12 +36,14 @@ returns-in-Assemble-clause-work g c =
     let P : Command → List (List ℕ) → Type 0 = λ command texts.
     IsWork command texts c.assemble.result
     ⊎ FailsToWrite (output_of command) (Rose (g.O.Sink.faults c.args.output.now) (g.O.Sink.faults c.assemble.new.output)) (Rose (g.F.Files.write_faults c.args.files.now) (g.F.Files.write_faults c.assemble.new.files)) c.assemble.result in
+    λ plain.
     assemble_is P _ _ _ _ _ c.in-Assemble.is (only_text _ _ _ _ _ c.in-Assemble.is c.requires.count c.at-in-Assemble.ensures) (rw c.bytes-in-Assemble.ensures at c.assemble.ensures.work)
 
 pub returns-in-Assemble-clause-written : goal.returns-in-Assemble-clause-written
 returns-in-Assemble-clause-written g c =
     let P : Command → List (List ℕ) → Type 0 = λ command texts.
     IsWritten command texts (outputs (g.O.Sink.taken c.args.output.now) (g.F.Files.contents c.args.files.now)) (outputs (g.O.Sink.taken c.assemble.new.output) (g.F.Files.contents c.assemble.new.files)) c.assemble.result in
+    λ plain.
     assemble_is P _ _ _ _ _ c.in-Assemble.is (only_text _ _ _ _ _ c.in-Assemble.is c.requires.count c.at-in-Assemble.ensures) (rw c.bytes-in-Assemble.ensures at c.assemble.ensures.written)
 
 pub returns-in-Assemble-clause-cannot_write : goal.returns-in-Assemble-clause-cannot_write
@@ -51,7 +56,7 @@ pub returns-in-Assemble-clause-leaves_files : goal.returns-in-Assemble-clause-le
 returns-in-Assemble-clause-leaves_files g c = rw c.in-Assemble.is c.assemble.ensures.leaves_files
 
 pub returns-in-Assemble-clause-unwritten : goal.returns-in-Assemble-clause-unwritten
-returns-in-Assemble-clause-unwritten g c = rw c.in-Assemble.is (λ analysis early. c.assemble.ensures.unwritten early)
+returns-in-Assemble-clause-unwritten g c = rw c.in-Assemble.is (λ analysis plain early. c.assemble.ensures.unwritten early)
 
 pub returns-in-Assemble-clause-files_unwritten : goal.returns-in-Assemble-clause-files_unwritten
 returns-in-Assemble-clause-files_unwritten g c = rw c.in-Assemble.is c.assemble.ensures.files_unwritten
@@ -61,12 +66,14 @@ returns-in-Link-clause-work g c =
     let P : Command → List (List ℕ) → Type 0 = λ command texts.
     IsWork command texts c.link.result
     ⊎ FailsToWrite (output_of command) (Rose (g.O.Sink.faults c.args.output.now) (g.O.Sink.faults c.link.new.output)) (Rose (g.F.Files.write_faults c.args.files.now) (g.F.Files.write_faults c.link.new.files)) c.link.result in
+    λ plain.
     link_is P _ _ _ _ _ _ _ c.in-Link.is c.as_slice.ensures c.as_slice-in-Link.ensures c.link.ensures.work
 
 pub returns-in-Link-clause-written : goal.returns-in-Link-clause-written
 returns-in-Link-clause-written g c =
     let P : Command → List (List ℕ) → Type 0 = λ command texts.
     IsWritten command texts (outputs (g.O.Sink.taken c.args.output.now) (g.F.Files.contents c.args.files.now)) (outputs (g.O.Sink.taken c.link.new.output) (g.F.Files.contents c.link.new.files)) c.link.result in
+    λ plain.
     link_is P _ _ _ _ _ _ _ c.in-Link.is c.as_slice.ensures c.as_slice-in-Link.ensures c.link.ensures.written
 
 pub returns-in-Link-clause-cannot_write : goal.returns-in-Link-clause-cannot_write
@@ -79,7 +86,7 @@ pub returns-in-Link-clause-leaves_files : goal.returns-in-Link-clause-leaves_fil
 returns-in-Link-clause-leaves_files g c = rw c.in-Link.is c.link.ensures.leaves_files
 
 pub returns-in-Link-clause-unwritten : goal.returns-in-Link-clause-unwritten
-returns-in-Link-clause-unwritten g c = rw c.in-Link.is (λ analysis early. c.link.ensures.unwritten early)
+returns-in-Link-clause-unwritten g c = rw c.in-Link.is (λ analysis plain early. c.link.ensures.unwritten early)
 
 pub returns-in-Link-clause-files_unwritten : goal.returns-in-Link-clause-files_unwritten
 returns-in-Link-clause-files_unwritten g c = rw c.in-Link.is c.link.ensures.files_unwritten
@@ -92,12 +99,14 @@ returns-in-Extract-clause-work g c =
     let P : Command → List (List ℕ) → Type 0 = λ command texts.
     IsWork command texts c.extract_part.result
     ⊎ FailsToWrite (output_of command) (Rose (g.O.Sink.faults c.args.output.now) (g.O.Sink.faults c.extract_part.new.output)) (Rose (g.F.Files.write_faults c.args.files.now) (g.F.Files.write_faults c.extract_part.new.files)) c.extract_part.result in
+    λ plain.
     extract_is P _ _ _ _ _ _ _ c.in-Extract.is (only_input _ _ _ _ _ _ _ c.in-Extract.is c.requires.count c.at-in-Extract.ensures) (rw c.bytes-in-Extract.ensures at c.extract_part.ensures.work)
 
 pub returns-in-Extract-clause-written : goal.returns-in-Extract-clause-written
 returns-in-Extract-clause-written g c =
     let P : Command → List (List ℕ) → Type 0 = λ command texts.
     IsWritten command texts (outputs (g.O.Sink.taken c.args.output.now) (g.F.Files.contents c.args.files.now)) (outputs (g.O.Sink.taken c.extract_part.new.output) (g.F.Files.contents c.extract_part.new.files)) c.extract_part.result in
+    λ plain.
     extract_is P _ _ _ _ _ _ _ c.in-Extract.is (only_input _ _ _ _ _ _ _ c.in-Extract.is c.requires.count c.at-in-Extract.ensures) (rw c.bytes-in-Extract.ensures at c.extract_part.ensures.written)
 
 pub returns-in-Extract-clause-cannot_write : goal.returns-in-Extract-clause-cannot_write
@@ -110,30 +119,117 @@ pub returns-in-Extract-clause-leaves_files : goal.returns-in-Extract-clause-leav
 returns-in-Extract-clause-leaves_files g c = rw c.in-Extract.is c.extract_part.ensures.leaves_files
 
 pub returns-in-Extract-clause-unwritten : goal.returns-in-Extract-clause-unwritten
-returns-in-Extract-clause-unwritten g c = rw c.in-Extract.is (λ analysis early. c.extract_part.ensures.unwritten early)
+returns-in-Extract-clause-unwritten g c = rw c.in-Extract.is (λ analysis plain early. c.extract_part.ensures.unwritten early)
 
 pub returns-in-Extract-clause-files_unwritten : goal.returns-in-Extract-clause-files_unwritten
 returns-in-Extract-clause-files_unwritten g c = rw c.in-Extract.is c.extract_part.ensures.files_unwritten
 
-pub silent_work-requires-clause-silent : goal.silent_work-requires-clause-silent
-silent_work-requires-clause-silent g c = no_output c.args.command.now c.in_default.not-Analyze c.in_default.not-Assemble c.in_default.not-Link c.in_default.not-Extract
+pub returns-in-Analyze-clause-of_work : goal.returns-in-Analyze-clause-of_work
+returns-in-Analyze-clause-of_work g c = work_of_run c.analyze.result (hears c.args.command.now) c.analyze.ensures.of_work
 
-pub returns-in_default-clause-work : goal.returns-in_default-clause-work
-returns-in_default-clause-work g c =
-    let sinks = g.O.Sink.faults c.args.output.now in
+pub returns-in-Analyze-clause-unwritten : goal.returns-in-Analyze-clause-unwritten
+returns-in-Analyze-clause-unwritten g c = rw c.in-Analyze.is (λ analysis plain early. absurd (true≢false analysis))
+
+pub returns-in-Analyze-clause-ran : goal.returns-in-Analyze-clause-ran
+returns-in-Analyze-clause-ran g c = rw c.in-Analyze.is tt
+
+pub returns-in-Analyze-clause-not_begun : goal.returns-in-Analyze-clause-not_begun
+returns-in-Analyze-clause-not_begun g c = rw c.in-Analyze.is (λ never. absurd never)
+
+pub returns-in-Assemble-clause-of_work : goal.returns-in-Assemble-clause-of_work
+returns-in-Assemble-clause-of_work g c = work_of_run c.assemble.result (hears c.args.command.now) c.assemble.ensures.of_work
+
+pub returns-in-Assemble-clause-ran : goal.returns-in-Assemble-clause-ran
+returns-in-Assemble-clause-ran g c = rw c.in-Assemble.is tt
+
+pub returns-in-Assemble-clause-not_begun : goal.returns-in-Assemble-clause-not_begun
+returns-in-Assemble-clause-not_begun g c = rw c.in-Assemble.is (λ never. absurd never)
+
+pub returns-in-Link-clause-of_work : goal.returns-in-Link-clause-of_work
+returns-in-Link-clause-of_work g c = work_of_run c.link.result (hears c.args.command.now) c.link.ensures.of_work
+
+pub returns-in-Link-clause-ran : goal.returns-in-Link-clause-ran
+returns-in-Link-clause-ran g c = rw c.in-Link.is tt
+
+pub returns-in-Link-clause-not_begun : goal.returns-in-Link-clause-not_begun
+returns-in-Link-clause-not_begun g c = rw c.in-Link.is (λ never. absurd never)
+
+pub returns-in-Extract-clause-of_work : goal.returns-in-Extract-clause-of_work
+returns-in-Extract-clause-of_work g c = work_of_run c.extract_part.result (hears c.args.command.now) c.extract_part.ensures.of_work
+
+pub returns-in-Extract-clause-ran : goal.returns-in-Extract-clause-ran
+returns-in-Extract-clause-ran g c = rw c.in-Extract.is tt
+
+pub returns-in-Extract-clause-not_begun : goal.returns-in-Extract-clause-not_begun
+returns-in-Extract-clause-not_begun g c = rw c.in-Extract.is (λ never. absurd never)
+
+pub run_bytes-requires-clause-short : goal.run_bytes-requires-clause-short
+run_bytes-requires-clause-short g c = rw c.bytes-in-Lli.ensures (short_first _ _ c.requires.short c.at-in-Lli.ensures)
+
+pub run_bytes-requires-clause-steps : goal.run_bytes-requires-clause-steps
+run_bytes-requires-clause-steps g c = rw c.in-Lli.is at c.requires.steps
+
+pub returns-in-Lli-clause-ran : goal.returns-in-Lli-clause-ran
+returns-in-Lli-clause-ran g c =
+    let before = outside (g.I.Source.left c.args.input.now) (g.I.Source.faults c.args.input.now) (g.O.Sink.taken c.args.output.now) (g.O.Sink.faults c.args.output.now) in
+    let after = outside (g.I.Source.left c.run_bytes.new.input) (g.I.Source.faults c.run_bytes.new.input) (g.O.Sink.taken c.run_bytes.new.output) (g.O.Sink.faults c.run_bytes.new.output) in
+    let one = only_program c.args.command.now _ _ _ c.args.texts.now _ c.in-Lli.is c.requires.count c.at-in-Lli.ensures in
+    program_is c.args.command.now _ _ _ c.args.texts.now _ before after c.run_bytes.result c.in-Lli.is one (rw c.bytes-in-Lli.ensures at c.run_bytes.ensures.ran)
+
+pub returns-in-Lli-clause-of_work : goal.returns-in-Lli-clause-of_work
+returns-in-Lli-clause-of_work g c =
+    let before = outside (g.I.Source.left c.args.input.now) (g.I.Source.faults c.args.input.now) (g.O.Sink.taken c.args.output.now) (g.O.Sink.faults c.args.output.now) in
+    let after = outside (g.I.Source.left c.run_bytes.new.input) (g.I.Source.faults c.run_bytes.new.input) (g.O.Sink.taken c.run_bytes.new.output) (g.O.Sink.faults c.run_bytes.new.output) in
+    let one = only_program c.args.command.now _ _ _ c.args.texts.now _ c.in-Lli.is c.requires.count c.at-in-Lli.ensures in
+    lli_of_run c.args.command.now _ _ _ c.args.texts.now _ before after c.run_bytes.result c.in-Lli.is one (rw c.bytes-in-Lli.ensures at c.run_bytes.ensures.ran)
+
+pub returns-in-Lli-clause-cannot_write : goal.returns-in-Lli-clause-cannot_write
+returns-in-Lli-clause-cannot_write g c =
+    let before = outside (g.I.Source.left c.args.input.now) (g.I.Source.faults c.args.input.now) (g.O.Sink.taken c.args.output.now) (g.O.Sink.faults c.args.output.now) in
+    let after = outside (g.I.Source.left c.run_bytes.new.input) (g.I.Source.faults c.run_bytes.new.input) (g.O.Sink.taken c.run_bytes.new.output) (g.O.Sink.faults c.run_bytes.new.output) in
     let writes = g.F.Files.write_faults c.args.files.now in
-    silent_stops c.args.command.now c.args.texts.now (Rose sinks sinks) (Rose writes writes) c.silent_work.result c.silent_work.ensures.work
+    let one = only_program c.args.command.now _ _ _ c.args.texts.now _ c.in-Lli.is c.requires.count c.at-in-Lli.ensures in
+    lli_unwritten c.args.command.now _ _ _ c.args.texts.now _ before after (Rose writes writes) c.run_bytes.result c.in-Lli.is one (rw c.bytes-in-Lli.ensures at c.run_bytes.ensures.ran)
 
-pub returns-in_default-clause-of_work : goal.returns-in_default-clause-of_work
-returns-in_default-clause-of_work g c = texts_of_work c.silent_work.result c.silent_work.ensures.of_texts
+pub returns-in-Lli-clause-output_fault : goal.returns-in-Lli-clause-output_fault
+returns-in-Lli-clause-output_fault g c =
+    let before = outside (g.I.Source.left c.args.input.now) (g.I.Source.faults c.args.input.now) (g.O.Sink.taken c.args.output.now) (g.O.Sink.faults c.args.output.now) in
+    let after = outside (g.I.Source.left c.run_bytes.new.input) (g.I.Source.faults c.run_bytes.new.input) (g.O.Sink.taken c.run_bytes.new.output) (g.O.Sink.faults c.run_bytes.new.output) in
+    let one = only_program c.args.command.now _ _ _ c.args.texts.now _ c.in-Lli.is c.requires.count c.at-in-Lli.ensures in
+    lli_output_fault c.args.command.now _ _ _ c.args.texts.now _ before after c.run_bytes.result c.in-Lli.is one (rw c.bytes-in-Lli.ensures at c.run_bytes.ensures.ran)
 
-pub returns-in_default-clause-cannot_write : goal.returns-in_default-clause-cannot_write
-returns-in_default-clause-cannot_write g c = λ name told. absurd (texts_written c.silent_work.result c.silent_work.ensures.of_texts name told)
+pub returns-in-Lli-clause-work : goal.returns-in-Lli-clause-work
+returns-in-Lli-clause-work g c = rw c.in-Lli.is (λ plain. absurd (true≢false plain))
 
-pub returns-in_default-clause-written : goal.returns-in_default-clause-written
-returns-in_default-clause-written g c =
-    let held = outputs (g.O.Sink.taken c.args.output.now) (g.F.Files.contents c.args.files.now) in
-    silent_written c.args.command.now c.args.texts.now held held c.silent_work.result c.silent_work.ensures.of_texts refl
+pub returns-in-Lli-clause-written : goal.returns-in-Lli-clause-written
+returns-in-Lli-clause-written g c = rw c.in-Lli.is (λ plain. absurd (true≢false plain))
 
-pub returns-in_default-clause-leaves_files : goal.returns-in_default-clause-leaves_files
-returns-in_default-clause-leaves_files g c = leaves_none _ _ _ _ _
+pub returns-in-Lli-clause-unwritten : goal.returns-in-Lli-clause-unwritten
+returns-in-Lli-clause-unwritten g c = rw c.in-Lli.is (λ analysis plain early. absurd (true≢false plain))
+
+pub returns-in-Lli-clause-leaves_files : goal.returns-in-Lli-clause-leaves_files
+returns-in-Lli-clause-leaves_files g c = leaves_none _ _ _ _ _
+
+pub returns-in-Lli-clause-unread : goal.returns-in-Lli-clause-unread
+returns-in-Lli-clause-unread g c = lli_unread c.args.command.now _ _ _ c.args.input.now c.run_bytes.new.input c.in-Lli.is c.run_bytes.ensures.unread
+
+pub returns-in-Lli-clause-not_begun : goal.returns-in-Lli-clause-not_begun
+returns-in-Lli-clause-not_begun g c = lli_not_begun _ c.args.command.now _ _ _ c.run_bytes.result c.in-Lli.is c.run_bytes.ensures.not_begun
+
+pub returns-in-Disassemble-clause-work : goal.returns-in-Disassemble-clause-work
+returns-in-Disassemble-clause-work g c = rw c.in-Disassemble.is (λ plain. inl refl)
+
+pub returns-in-Disassemble-clause-cannot_write : goal.returns-in-Disassemble-clause-cannot_write
+returns-in-Disassemble-clause-cannot_write g c = λ name told. absurd (let h = told in cc)
+
+pub returns-in-Disassemble-clause-ran : goal.returns-in-Disassemble-clause-ran
+returns-in-Disassemble-clause-ran g c = rw c.in-Disassemble.is tt
+
+pub returns-in-Disassemble-clause-written : goal.returns-in-Disassemble-clause-written
+returns-in-Disassemble-clause-written g c = λ plain. refl
+
+pub returns-in-Disassemble-clause-leaves_files : goal.returns-in-Disassemble-clause-leaves_files
+returns-in-Disassemble-clause-leaves_files g c = leaves_none _ _ _ _ _
+
+pub returns-in-Disassemble-clause-not_begun : goal.returns-in-Disassemble-clause-not_begun
+returns-in-Disassemble-clause-not_begun g c = rw c.in-Disassemble.is (λ never. absurd never)
