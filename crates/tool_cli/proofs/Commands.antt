@@ -1,5 +1,5 @@
 -- Commands that may run a program: what is told of the end and of standard input, whichever they are.
-use Rattle.std.proofs.Common.{◌≡◌, ◌⊎◌, inl, inr, ℕ, zero, suc, ◌<◌, Bool, true, false, not, ◌||◌, List, [], ◌∷◌, get_or, codes, Option, Some, Result, Ok, refl, sym, ap, ◌∙◌, subst, arith, true≢false}
+use Rattle.std.proofs.Common.{◌≡◌, ◌⊎◌, inl, inr, ℕ, zero, suc, ◌<◌, Bool, true, false, not, ◌||◌, List, [], ◌∷◌, get_or, codes, Option, Some, Result, Ok, Err, refl, sym, ap, ◌∙◌, subst, arith, true≢false}
 use Rattle.std.specs.Prelude.{IsErrAnd}
 use Rattle.std.specs.List.{IsAmong}
 use Rattle.ir_base.specs.Files.{Named}
@@ -13,13 +13,13 @@ use Rattle.run_rules.specs.Clauses.{Outside, outside}
 use Rattle.tool_ends.specs.declared.ended.Ended.{Ended}
 use Rattle.tool_ends.specs.declared.ended.Ended.TheVariants.{CannotRead, CannotWrite, InputTooLarge, Memory}
 use Rattle.tool_cli.specs.Causes.{GaveUp, Stopped, IsUnread, IsStdinOrMemory, RefusesOne}
-use Rattle.tool_cli.specs.Inputs.{inputs_of, has_stdin, hears, hears_behind, listens, runs, runs_behind, runs_program, texts_read}
+use Rattle.tool_cli.specs.Inputs.{input_read, inputs_of, has_stdin, hears, hears_behind, listens, read_on, runs, runs_behind, runs_program, texts_read}
 use Rattle.tool_cli.specs.Output.{output_of, FailsToWrite, IsUnwritten, IsUnwrittenOrMemory}
 use Rattle.tool_cli.specs.Reads.{LeavesInput, LosesInput}
-use Rattle.tool_cli.specs.Running.{IsRan, IsRanBy, IsBeforeRun, IsPlayed, IsUnbegun, without_input}
+use Rattle.tool_cli.specs.Running.{IsRan, IsRanBy, IsBeforeRun, IsPlayed, IsPlayedOf, IsQuiet, IsUnbegun, IsUnreadOf, without_input}
 use Rattle.tool_cli.specs.Told.{IsEndOf, IsOfRun, IsOfWork, IsWork}
 use Rattle.tool_cli.proofs.Outcomes.{same_command, given_ok}
-use Rattle.tool_cli.proofs.Programs.{ran_told, ran_input, ran_lost, ran_of_run, ran_output_fault, ran_unread, ran_unwritten, ran_played, lost_none}
+use Rattle.tool_cli.proofs.Programs.{ran_told, ran_input, ran_lost, ran_of_run, ran_output_fault, ran_unread, ran_unwritten, ran_played, lost_none, quiet_after}
 
 -- ---- the words
 
@@ -167,6 +167,9 @@ loses_after false left_before count mid after ended leaves fine unread quiet own
 
 -- ---- what is printed
 
+err_same : (a b : Ended) (given : Result (List (List ℕ)) Ended) → Err a ≡ given → given ≡ Err b → a ≡ b
+err_same a b given e f = cc
+
 only_one : (name other : List ℕ) → IsAmong (name ∷ []) other → other ≡ name
 only_one name other among = by among.0 among.1.0 among.1.1
   where
@@ -174,17 +177,32 @@ only_one name other among = by among.0 among.1.0 among.1.1
     by zero h e = e
     by (suc i) h e = absurd (omega (arith, h))
 
-refused_before : (contents : Option Named) (left : Option (List ℕ)) (i f : Type 0) (name : List ℕ) (ended : Ended) → RefusesOne contents left i f (name ∷ []) ended → IsBeforeRun name ended ⊎ (ended ≡ Memory)
-refused_before contents left i f name (CannotRead other) why = inl (only_one name other why.0)
-refused_before contents left i f name (InputTooLarge other limit) why = inl tt
-refused_before contents left i f name Memory why = inr refl
-refused_before contents left i f name ended why = absurd why
+-- nothing happened
+pub nothing_played : (name : List ℕ) (bound : ℕ) (arguments : List (List ℕ)) (given : Result (List ℕ) Ended) (now : Outside) → IsPlayedOf name bound arguments given now now Memory
+nothing_played name bound arguments (Ok bytes) now = inl (inr (inr refl), quiet_after name now now now (λ file. refl) refl refl)
+nothing_played name bound arguments (Err refusal) now = (inr (inr refl), quiet_after name now now now (λ file. refl) refl refl)
+
+-- one input was refused, for what is outside of it
+unread_of : (contents : Option Named) (left : Option (List ℕ)) (i f : Type 0) (name : List ℕ) (ended : Ended) → GaveUp i f ended → RefusesOne contents left i f (name ∷ []) ended → IsUnreadOf name ended
+unread_of contents left i f name (CannotRead other) gave_up why = inl (ap CannotRead (only_one name other why.0))
+unread_of contents left i f name Memory gave_up why = inr refl
+unread_of contents left i f name ended gave_up why = absurd gave_up
+
+-- or as what it gives
+refused_played : (contents : Option Named) (left : Option (List ℕ)) (i f : Type 0) (name : List ℕ) (bound : ℕ) (arguments : List (List ℕ)) (given : Result (List ℕ) Ended) (before after : Outside) (ended : Ended) → (Err ended ≡ read_on given (λ text. Ok [])) ⊎ GaveUp i f ended → RefusesOne contents left i f (name ∷ []) ended → IsQuiet name before after → IsPlayedOf name bound arguments given before after ended
+refused_played contents left i f name bound arguments (Ok bytes) before after ended (inl e) why quiet = absurd (let h : Err ended ≡ Ok (bytes ∷ []) = e in cc)
+refused_played contents left i f name bound arguments (Ok bytes) before after ended (inr gave_up) why quiet = inl (inr (unread_of contents left i f name ended gave_up why), quiet)
+refused_played contents left i f name bound arguments (Err refusal) before after ended (inl e) why quiet = (inl (err_same ended refusal (Err refusal) e refl), quiet)
+refused_played contents left i f name bound arguments (Err refusal) before after ended (inr gave_up) why quiet = (inr (unread_of contents left i f name ended gave_up why), quiet)
 
 -- an input was refused before
-pub played_err : (words : List (List ℕ)) (command : Command) (names : List (List ℕ)) (contents : Option Named) (left : Option (List ℕ)) (i f : Type 0) (held : Named) (stdin : List ℕ) (before after : Outside) (ended : Ended) → IsReadAs words command → names ≡ inputs_of command → RefusesOne contents left i f names ended → after.taken ≡ before.taken → IsPlayed words held stdin before after ended
-played_err words command names contents left i f held stdin before after ended read are why same = λ name bound arguments bytes is.
-    let one : names ≡ name ∷ [] = are ∙ ap inputs_of (same_command words command (Lli name bound arguments) read is.read) in
-    inl (refused_before contents left i f name ended (subst (λ (ns : List (List ℕ)). RefusesOne contents left i f ns ended) one why), same)
+pub played_err : (words : List (List ℕ)) (command : Command) (names : List (List ℕ)) (contents : Option Named) (left : Option (List ℕ)) (i f : Type 0) (held : Named) (stdin : List ℕ) (before after : Outside) (ended : Ended) → IsReadAs words command → names ≡ inputs_of command → (Err ended ≡ texts_read held stdin 0 names) ⊎ GaveUp i f ended → RefusesOne contents left i f names ended → (has_stdin names ≡ false → after ≡ before) → without_input after ≡ without_input before → IsPlayed words held stdin before after ended
+played_err words command names contents left i f held stdin before after ended read are given why unread same_output = λ name bound arguments is.
+    let one : names ≡ name ∷ [] = are ∙ ap inputs_of (same_command words command (Lli name bound arguments) read is) in
+    let Given : List (List ℕ) → Type 0 = λ ns. (Err ended ≡ texts_read held stdin 0 ns) ⊎ GaveUp i f ended in
+    let Why : List (List ℕ) → Type 0 = λ ns. RefusesOne contents left i f ns ended in
+    let file : is_dash name ≡ false → after ≡ before = λ e. unread (ap has_stdin one ∙ ap (λ dash. dash || false) e) in
+    refused_played contents left i f name bound arguments (input_read held stdin 0 name) before after ended (subst Given one given) (subst Why one why) (quiet_after name after before after file same_output refl)
 
 -- the outside with the same input
 pub same_outside : (left left' : Option (List ℕ)) (reads reads' : ℕ) (taken : Option (List ℕ)) (writes : ℕ) → left' ≡ left → reads' ≡ reads → outside left' reads' taken writes ≡ outside left reads taken writes
@@ -193,11 +211,18 @@ same_outside left left' reads reads' taken writes e f = ap (λ (l : Option (List
 ok_same : (a b : List (List ℕ)) (given : Result (List (List ℕ)) Ended) → Ok a ≡ given → given ≡ Ok b → a ≡ b
 ok_same a b given e f = cc
 
+-- what one input gave
+one_given : (given : Result (List ℕ) Ended) (texts : List (List ℕ)) → Ok texts ≡ read_on given (λ text. Ok []) → (bytes : List ℕ) × (given ≡ Ok bytes) × (texts ≡ bytes ∷ [])
+one_given (Ok bytes) texts e = (bytes, refl, ok_same texts (bytes ∷ []) (Ok (bytes ∷ [])) e refl)
+one_given (Err refusal) texts e = absurd (let h : Ok texts ≡ Err refusal = e in cc)
+
 pub played_ok : (words : List (List ℕ)) (command : Command) (names texts : List (List ℕ)) (held : Named) (stdin : List ℕ) (mid before after : Outside) (ended : Ended) (i f : Type 0) → IsReadAs words command → names ≡ inputs_of command → (Ok texts ≡ texts_read held stdin 0 names) ⊎ IsErrAnd {T = List (List ℕ)} (Ok texts) (GaveUp i f) → (hears command ≡ true → mid ≡ before) → without_input mid ≡ without_input before → IsRanBy command texts mid after ended → IsPlayed words held stdin before after ended
-played_ok words command names texts held stdin mid before after ended i f read are given own same_output ran = λ name bound arguments bytes is.
-    let same : command ≡ Lli name bound arguments = same_command words command (Lli name bound arguments) read is.read in
-    let one : texts ≡ bytes ∷ [] = ok_same texts (bytes ∷ []) (texts_read held stdin 0 (name ∷ [])) (given_ok (texts_read held stdin 0 names) i f texts given ∙ ap (λ ns. texts_read held stdin 0 ns) (are ∙ ap inputs_of same)) is.given in
+played_ok words command names texts held stdin mid before after ended i f read are given own same_output ran = λ name bound arguments is.
+    let same : command ≡ Lli name bound arguments = same_command words command (Lli name bound arguments) read is in
+    let one = one_given (input_read held stdin 0 name) texts (given_ok (texts_read held stdin 0 names) i f texts given ∙ ap (λ ns. texts_read held stdin 0 ns) (are ∙ ap inputs_of same)) in
     let Own : Command → Type 0 = λ c. hears c ≡ true → mid ≡ before in
-    let Ran : Command → Type 0 = λ c. IsRanBy c (bytes ∷ []) mid after ended in
-    ran_played name bound arguments bytes mid before after ended (λ file. subst Own same own (ap not file)) same_output
-    (subst Ran same (subst (λ (ts : List (List ℕ)). IsRanBy command ts mid after ended) one ran))
+    let Ran : Command → Type 0 = λ c. IsRanBy c (one.0 ∷ []) mid after ended in
+    let Played : Result (List ℕ) Ended → Type 0 = λ r. IsPlayedOf name bound arguments r before after ended in
+    subst Played (sym one.1)
+    (ran_played name bound arguments one.0 mid before after ended (λ file. subst Own same own (ap not file)) same_output
+    (subst Ran same (subst (λ (ts : List (List ℕ)). IsRanBy command ts mid after ended) one.2 ran)))

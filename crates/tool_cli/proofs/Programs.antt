@@ -27,7 +27,7 @@ use Rattle.tool_cli.specs.Causes.{Stopped}
 use Rattle.tool_cli.specs.Judged.{is_bitcode, refusal_told, break_told, verdict_told, IsTextOf, IsTextRefused}
 use Rattle.tool_cli.specs.Made.{AssemblesTo}
 use Rattle.tool_cli.specs.Output.{IsUnwrittenOrMemory}
-use Rattle.tool_cli.specs.Running.{end_told, program_of, end_of, AnswerTold, IsRunTo, IsRunFrom, IsUnrun, IsRan, IsBeforeRun, RunsInput, without_input}
+use Rattle.tool_cli.specs.Running.{end_told, program_of, end_of, AnswerTold, IsRunTo, IsRunFrom, IsUnrun, IsRan, IsBeforeRun, IsPlayedOf, IsQuiet, RunsInput, without_input}
 use Rattle.tool_cli.specs.Told.{IsRun, IsTextRun, IsOfRun}
 use Rattle.tool_cli.proofs.Linked.{is_part}
 
@@ -124,7 +124,7 @@ verdict_before : (name : List ℕ) (fault : VerifyFault) → IsBeforeRun name (v
 verdict_before name verdicts.Memory = inr refl
 verdict_before name fault = inl tt
 
-unrun_before : (name bytes : List ℕ) (ended : Ended) → IsUnrun name bytes ended → IsBeforeRun name ended ⊎ (ended ≡ Memory)
+pub unrun_before : (name bytes : List ℕ) (ended : Ended) → IsUnrun name bytes ended → IsBeforeRun name ended ⊎ (ended ≡ Memory)
 unrun_before name bytes ended unrun =
     let P : Ended → Type 0 = λ e. IsBeforeRun name e ⊎ (e ≡ Memory) in
     unrun_is P (is_bitcode bytes) name bytes ended (inl tt) (λ refused. refused_is P name bytes ended (refusal_before name) (break_before name) (verdict_before name) refused) unrun
@@ -352,10 +352,18 @@ from_before name p mid before after ended same same_output runs = by (is_dash na
     by true same runs = subst (λ (o : Outside). IsRunTo p o (without_input after) ended) same_output runs
     by false same runs = subst (λ (o : Outside). IsRunTo p o after ended) (same refl) runs
 
-pub ran_played : (name : List ℕ) (bound : ℕ) (words : List (List ℕ)) (bytes : List ℕ) (mid before after : Outside) (ended : Ended) → (is_dash name ≡ false → mid ≡ before) → without_input mid ≡ without_input before → IsRan name bound words bytes mid after ended → ((IsBeforeRun name ended ⊎ (ended ≡ Memory)) × (after.taken ≡ before.taken)) ⊎ RunsInput name bound words bytes before after ended
+-- all was quiet before, and so it stays
+quiet_by : (dash : Bool) (mid before after : Outside) → (dash ≡ false → mid ≡ before) → without_input mid ≡ without_input before → after ≡ mid → MatchBool dash (without_input after ≡ without_input before) (after ≡ before)
+quiet_by true mid before after same same_output quiet = ap without_input quiet ∙ same_output
+quiet_by false mid before after same same_output quiet = quiet ∙ same refl
+
+pub quiet_after : (name : List ℕ) (mid before after : Outside) → (is_dash name ≡ false → mid ≡ before) → without_input mid ≡ without_input before → after ≡ mid → IsQuiet name before after
+quiet_after name mid before after same same_output quiet = quiet_by (is_dash name) mid before after same same_output quiet
+
+pub ran_played : (name : List ℕ) (bound : ℕ) (words : List (List ℕ)) (bytes : List ℕ) (mid before after : Outside) (ended : Ended) → (is_dash name ≡ false → mid ≡ before) → without_input mid ≡ without_input before → IsRan name bound words bytes mid after ended → IsPlayedOf name bound words (Ok bytes) before after ended
 ran_played name bound words bytes mid before after ended same same_output (inl (inl unrun, quiet)) =
-    inl (unrun_before name bytes ended unrun, ap (λ (o : Outside). o.taken) quiet ∙ ap (λ (o : Outside). o.taken) same_output)
+    inl (inl unrun, quiet_after name mid before after same same_output quiet)
 ran_played name bound words bytes mid before after ended same same_output (inl (inr none, quiet)) =
-    inl (inr none, ap (λ (o : Outside). o.taken) quiet ∙ ap (λ (o : Outside). o.taken) same_output)
+    inl (inr (inr none), quiet_after name mid before after same same_output quiet)
 ran_played name bound words bytes mid before after ended same same_output (inr runs) =
     inr (record { meant = runs.meant; is_part = runs.is_part; runs = from_before name (program_of bound words runs.meant) mid before after ended same same_output runs.runs })

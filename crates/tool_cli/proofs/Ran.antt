@@ -19,15 +19,15 @@ use Rattle.run_rules.specs.declared.fault.RunFault.{RunFault}
 use Rattle.run_rules.specs.declared.fault.RunFault.TheVariants as faults
 use Rattle.tool_ends.specs.declared.ended.Ended.{Ended}
 use Rattle.tool_ends.specs.declared.ended.Ended.TheVariants.{NotBuilt, Memory}
-use Rattle.tool_cli.specs.Inputs.{inputs_of, listens, texts_read}
+use Rattle.tool_cli.specs.Inputs.{inputs_of, listens, read_on, texts_read}
 use Rattle.tool_cli.specs.Judged.{is_bitcode}
 use Rattle.tool_cli.specs.Made.{IsPart}
-use Rattle.tool_cli.specs.Running.{end_told, end_of, program_of, program_input, without_input, AnswerTold, ComesOut, IsBeforeRun, IsPlayed, IsRunFrom, IsRunTo, RunsInput, RunsModule}
+use Rattle.tool_cli.specs.Running.{end_told, end_of, program_of, program_input, without_input, AnswerTold, ComesOut, IsBeforeRun, IsPlayed, IsPlayedOf, IsRunFrom, IsRunTo, IsUnreadOf, IsUnrun, RunsModule}
 use Rattle.tool_cli.specs.Told.{IsOutcome, IsRun, IsTextRun, IsTold}
 use Rattle.tool_cli.proofs.Commands.{listens_is}
 use Rattle.tool_cli.proofs.Headline.{one_by, unrefused_text}
 use Rattle.tool_cli.proofs.Outcomes.{same_command}
-use Rattle.tool_cli.proofs.Programs.{IsEnd, end_begun, printed_over, told_is_end}
+use Rattle.tool_cli.proofs.Programs.{IsEnd, end_begun, printed_over, told_is_end, unrun_before}
 
 -- ---- its end
 
@@ -56,14 +56,20 @@ put_from : (p : Program) (dash : Bool) (before after : Outside) (ended : Ended) 
 put_from p true before after ended stdin left is runs = put_by p (without_input before) (without_input after) ended [] runs.0 refl is runs.1 runs.2
 put_from p false before after ended stdin left is runs = put_by p before after ended stdin runs.0 (left refl) is runs.1 runs.2
 
+-- where it is not run the end comes before it has begun
+early_by : (name bytes : List ℕ) (ended : Ended) → IsUnrun name bytes ended ⊎ IsUnreadOf name ended → IsBeforeRun name ended ⊎ (ended ≡ Memory)
+early_by name bytes ended (inl unrun) = unrun_before name bytes ended unrun
+early_by name bytes ended (inr (inl e)) = inl (subst (λ (x : Ended). IsBeforeRun name x) (sym e) refl)
+early_by name bytes ended (inr (inr none)) = inr none
+
 -- it has begun, since this is an end of its own
 unbegun : (name : List ℕ) (end : End) (ended : Ended) → ended ≡ end_told end → IsBeforeRun name ended ⊎ (ended ≡ Memory) → ⊥
 unbegun name end ended told (inl early) = end_begun name end (subst (λ (e : Ended). IsBeforeRun name e) told early)
 unbegun name end ended told (inr none) = subst (λ (e : Ended). IsEnd e) (sym told ∙ none) (told_is_end end)
 
-put_of : ReadsOnce → (name : List ℕ) (bound : ℕ) (words : List (List ℕ)) (stdin bytes : List ℕ) (m : Module) (before after : Outside) (ended : Ended) → (is_dash name ≡ false → before.left ≡ Some stdin) → IsPart bytes m → ended ≡ end_of name bound words stdin m → ((IsBeforeRun name ended ⊎ (ended ≡ Memory)) × (after.taken ≡ before.taken)) ⊎ RunsInput name bound words bytes before after ended → Added before.taken after.taken (outcome_of (program_of bound words m) (program_input name stdin)).output
+put_of : ReadsOnce → (name : List ℕ) (bound : ℕ) (words : List (List ℕ)) (stdin bytes : List ℕ) (m : Module) (before after : Outside) (ended : Ended) → (is_dash name ≡ false → before.left ≡ Some stdin) → IsPart bytes m → ended ≡ end_of name bound words stdin m → IsPlayedOf name bound words (Ok bytes) before after ended → Added before.taken after.taken (outcome_of (program_of bound words m) (program_input name stdin)).output
 put_of once name bound words stdin bytes m before after ended left part told (inl early) =
-    absurd (unbegun name (outcome_of (program_of bound words m) (program_input name stdin)).end ended told early.0)
+    absurd (unbegun name (outcome_of (program_of bound words m) (program_input name stdin)).end ended told (early_by name bytes ended early.0))
 put_of once name bound words stdin bytes m before after ended left part told (inr runs) =
     let same : runs.meant ≡ m = one_by (is_bitcode bytes) (Reads bytes runs.meant) (Reads bytes m) (runs.meant ≡ m) (λ r s. once bytes runs.meant m r s) runs.is_part.stands part.stands in
     let run : IsRunFrom name (program_of bound words m) before after ended = subst (λ (n : Module). IsRunFrom name (program_of bound words n) before after ended) same runs.runs in
@@ -79,9 +85,11 @@ ran_module once words held stdin before after ended stopped left (inr gave_up) p
 ran_module once words held stdin before after ended stopped left (inl (inl usage)) played = λ name bound arguments bytes is parts like. absurd (is.read.fine usage.0 usage.1.0 usage.1.1.is)
 ran_module once words held stdin before after ended stopped left (inl (inr told)) played = λ name bound arguments bytes is parts like.
     let m = like.meant in
-    let P : Result (List (List ℕ)) Ended → Type 0 = λ r. IsOutcome (Lli name bound arguments) stdin r ended in
+    let Given : Result (List ℕ) Ended → Type 0 = λ r. IsOutcome (Lli name bound arguments) stdin (read_on r (λ text. Ok [])) ended in
+    let Played : Result (List ℕ) Ended → Type 0 = λ r. IsPlayedOf name bound arguments r before after ended in
     let Q : Command → Type 0 = λ c. IsOutcome c stdin (texts_read held stdin 0 (inputs_of c)) ended in
-    let run = subst P is.given (subst Q (same_command words told.0 (Lli name bound arguments) told.1 is.read) told.2) in
+    let run = subst Given is.given (subst Q (same_command words told.0 (Lli name bound arguments) told.1 is.read) told.2) in
+    let came = subst Played is.given (played name bound arguments is.read) in
     let end = run_end once name bound arguments stdin bytes m ended like.is_part run in
     let own : is_dash name ≡ false → before.left ≡ Some stdin = λ file. left (listens_is words (Lli name bound arguments) is.read ∙ ap not file) in
-    inl (comes_out name bound arguments stdin m parts before after ended like.runs (end, put_of once name bound arguments stdin bytes m before after ended own like.is_part end (played name bound arguments bytes is)))
+    inl (comes_out name bound arguments stdin m parts before after ended like.runs (end, put_of once name bound arguments stdin bytes m before after ended own like.is_part end came))

@@ -20,7 +20,7 @@ use Rattle.run_rules.specs.declared.fault.RunFault.TheVariants as faults
 use Rattle.tool_ends.specs.declared.ended.Ended.{Ended}
 use Rattle.tool_ends.specs.declared.ended.Ended.TheVariants.{Exit, StepsUsed, Undefined, StackLimit, MemoryLimit, Unresolved, NoMain, CannotRead, CannotWrite, NotBuilt, Memory}
 use Rattle.tool_ends.specs.declared.ended.Ended.TheVariants as ends
-use Rattle.tool_cli.specs.Inputs.{texts_read}
+use Rattle.tool_cli.specs.Inputs.{input_read}
 use Rattle.tool_cli.specs.Judged.{is_bitcode, IsTextRefused}
 use Rattle.tool_cli.specs.Made.{IsPart, RunsLike}
 
@@ -112,16 +112,30 @@ abbrev pub IsUnbegun : Command → Ended → Type 0
 IsUnbegun (Lli name bound words) ended = IsBeforeRun name ended
 IsUnbegun command ended = ⊥
 
+-- nothing is put, and nothing is read but the module itself where the input of this name is standard input
+abbrev pub IsQuiet : List ℕ → Outside → Outside → Type 0
+IsQuiet name before after = MatchBool (is_dash name) (without_input after ≡ without_input before) (after ≡ before)
+
+-- the input of this name was not read, or memory ran out
+abbrev pub IsUnreadOf : List ℕ → Ended → Type 0
+IsUnreadOf name ended = (ended ≡ CannotRead name) ⊎ (ended ≡ Memory)
+
+-- Where the input of this name gives bytes: it is not run, and all is quiet; or its program was run. Where it is refused, that is told, and all is quiet.
+abbrev pub IsPlayedOf : List ℕ → ℕ → List (List ℕ) → Result (List ℕ) Ended → Outside → Outside → Ended → Type 0
+IsPlayedOf name bound arguments (Ok bytes) before after ended =
+    ((IsUnrun name bytes ended ⊎ IsUnreadOf name ended) × IsQuiet name before after) ⊎ RunsInput name bound arguments bytes before after ended
+IsPlayedOf name bound arguments (Err refusal) before after ended = ((ended ≡ refusal) ⊎ IsUnreadOf name ended) × IsQuiet name before after
+
+-- where words run an input, that comes of it which it gives
+abbrev pub IsPlayed : List (List ℕ) → Named → List ℕ → Outside → Outside → Ended → Type 0
+IsPlayed words files stdin before after ended =
+    (name : List ℕ) (bound : ℕ) (arguments : List (List ℕ)) → IsReadAs words (Lli name bound arguments)
+    → IsPlayedOf name bound arguments (input_read files stdin 0 name) before after ended
+
 -- the words run the input of this name, which holds these bytes
 pub record RunsBytes (words : List (List ℕ)) (files : Named) (stdin name : List ℕ) (bound : ℕ) (arguments : List (List ℕ)) (bytes : List ℕ) : Type 0 where
   pub read : IsReadAs words (Lli name bound arguments)
-  pub given : texts_read files stdin 0 (name ∷ []) ≡ Ok (bytes ∷ [])
-
--- Where words run an input: its program has not begun, and nothing is put; or its program was run.
-abbrev pub IsPlayed : List (List ℕ) → Named → List ℕ → Outside → Outside → Ended → Type 0
-IsPlayed words files stdin before after ended =
-    (name : List ℕ) (bound : ℕ) (arguments : List (List ℕ)) (bytes : List ℕ) → RunsBytes words files stdin name bound arguments bytes
-    → ((IsBeforeRun name ended ⊎ (ended ≡ Memory)) × (after.taken ≡ before.taken)) ⊎ RunsInput name bound arguments bytes before after ended
+  pub given : input_read files stdin 0 name ≡ Ok bytes
 
 -- this end of what runs is told, and all of its output is put
 abbrev pub ComesOut : Outcome → Outside → Outside → Ended → Type 0

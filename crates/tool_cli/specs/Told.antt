@@ -1,4 +1,4 @@
--- The whole meaning of a run: which end it has, where what its inputs hold is told.
+-- The whole meaning of a run: which end it has, where it is told what its inputs hold and what its program reads.
 use Rattle.std.specs.Prelude.{◌≡◌, ◌⊎◌, ℕ, Bool, true, slice_index_or, List, [], ◌∷◌, codes, Option, Some, None, Result, Ok, Err}
 use Rattle.std.specs.Bool.{MatchBool}
 use Rattle.std.specs.List.{list_any}

@@ -58,7 +58,7 @@ fn ended_of<F: Files, I: Source, O: Sink>(
     ensures write_fault { F.write_faults files.old < F.write_faults files.new → IsFileUnwritten (output_named words.now) result }
 
     // What is read and written.
-    ensures before_reading { (kind : UsageKind) (k : ℕ) → result ≡ Ended.Usage kind k → (input.new ≡ input.old) × (files.new ≡ files.old) }
+    ensures before_reading { (kind : UsageKind) (k : ℕ) → IsFirstFault words.now kind k → (input.new ≡ input.old) × (files.new ≡ files.old) × (output.new ≡ output.old) }
     ensures order { KeepsOrder (inputs_named words.now) input.old input.new result }
     ensures unread { has_stdin (inputs_named words.now) ≡ false → listens words.now ≡ false → input.new ≡ input.old }
     ensures files_unread { has_file (inputs_named words.now) ≡ false → LeavesNamed (output_named words.now) result → files.new ≡ files.old }
@@ -120,7 +120,7 @@ pub fn run_tool<F: Files, I: Source, O: Sink, E: Sink>(
     ensures status { result.status ≡ status_of result.ended }
 
     // What is read and written.
-    ensures before_reading { (kind : UsageKind) (k : ℕ) → result.ended ≡ Ended.Usage kind k → (input.new ≡ input.old) × (files.new ≡ files.old) }
+    ensures before_reading { (kind : UsageKind) (k : ℕ) → IsFirstFault words.now kind k → (input.new ≡ input.old) × (files.new ≡ files.old) × (output.new ≡ output.old) }
     ensures order { KeepsOrder (inputs_named words.now) input.old input.new result.ended }
     ensures unread { has_stdin (inputs_named words.now) ≡ false → listens words.now ≡ false → input.new ≡ input.old }
     ensures files_unread { has_file (inputs_named words.now) ≡ false → LeavesNamed (output_named words.now) result.ended → files.new ≡ files.old }

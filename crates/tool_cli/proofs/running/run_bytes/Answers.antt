@@ -30,19 +30,19 @@ returns-then-is_dash-clause-not_begun g c =
     let after = outside (g.I.Source.left c.args.input.now) (g.I.Source.faults c.args.input.now) (g.O.Sink.taken c.run_program.new.output) (g.O.Sink.faults c.run_program.new.output) in
     λ early. absurd (begun_from_nothing c.args.name.now (program_of c.args.max_steps c.args.words.now (module_of c.in-Ok.accepted.checked)) before after c.run_program.result c.run_program.ensures early)
 
-pub returns-else-is_dash-clause-ran : goal.returns-else-is_dash-clause-ran
-returns-else-is_dash-clause-ran g c =
+pub returns-clause-ran : goal.returns-clause-ran
+returns-clause-ran g c =
     let before = outside (g.I.Source.left c.args.input.now) (g.I.Source.faults c.args.input.now) (g.O.Sink.taken c.args.output.now) (g.O.Sink.faults c.args.output.now) in
     let after = outside (g.I.Source.left c.run_program-else-is_dash.new.input) (g.I.Source.faults c.run_program-else-is_dash.new.input) (g.O.Sink.taken c.run_program-else-is_dash.new.output) (g.O.Sink.faults c.run_program-else-is_dash.new.output) in
     let m = module_of c.in-Ok.accepted.checked in
     program_ran c.args.name.now c.args.max_steps c.args.words.now c.args.bytes.now (items_view c.in-Ok.accepted.items) m before after c.run_program-else-is_dash.result (sym c.is_bitcode.ensures ∙ c.if-is_bitcode.false) c.in-Ok.ensures.module
     (run_from_input c.args.name.now (program_of c.args.max_steps c.args.words.now m) before after c.run_program-else-is_dash.result (rw c.bytes.ensures at (sym c.is_dash.ensures ∙ c.if-is_dash.false)) c.run_program-else-is_dash.ensures)
 
-pub returns-else-is_dash-clause-unread : goal.returns-else-is_dash-clause-unread
-returns-else-is_dash-clause-unread g c = λ dash. absurd (true≢false (sym dash ∙ rw c.bytes.ensures at (sym c.is_dash.ensures ∙ c.if-is_dash.false)))
+pub returns-clause-unread : goal.returns-clause-unread
+returns-clause-unread g c = λ dash. absurd (true≢false (sym dash ∙ rw c.bytes.ensures at (sym c.is_dash.ensures ∙ c.if-is_dash.false)))
 
-pub returns-else-is_dash-clause-not_begun : goal.returns-else-is_dash-clause-not_begun
-returns-else-is_dash-clause-not_begun g c =
+pub returns-clause-not_begun : goal.returns-clause-not_begun
+returns-clause-not_begun g c =
     let before = outside (g.I.Source.left c.args.input.now) (g.I.Source.faults c.args.input.now) (g.O.Sink.taken c.args.output.now) (g.O.Sink.faults c.args.output.now) in
     let after = outside (g.I.Source.left c.run_program-else-is_dash.new.input) (g.I.Source.faults c.run_program-else-is_dash.new.input) (g.O.Sink.taken c.run_program-else-is_dash.new.output) (g.O.Sink.faults c.run_program-else-is_dash.new.output) in
     λ early. absurd (begun_from_input c.args.name.now (program_of c.args.max_steps c.args.words.now (module_of c.in-Ok.accepted.checked)) before after c.run_program-else-is_dash.result (rw c.bytes.ensures at (sym c.is_dash.ensures ∙ c.if-is_dash.false)) c.run_program-else-is_dash.ensures early)

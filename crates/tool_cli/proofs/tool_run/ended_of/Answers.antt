@@ -1,13 +1,14 @@
-use Rattle.std.proofs.Common.{◌≡◌, ◌⊎◌, inl, inr, ℕ, ◌<◌, Bool, true, false, List, codes, Option, Some, refl, sym, ap, ◌∙◌, subst}
+use Rattle.std.proofs.Common.{◌≡◌, ◌⊎◌, inr, ℕ, ◌<◌, Bool, true, false, List, codes, Option, Some, Err, refl, sym, ap, ◌∙◌, subst}
 use Rattle.ir_base.specs.Files.{Named}
 use Rattle.ir_base.specs.Outside.{Rose}
 use Rattle.command_line.specs.declared.command.Command.{Command}
 use Rattle.command_line.specs.declared.command.OutputName.{OutputName}
+use Rattle.command_line.specs.declared.command.WordsFault.{WordsFault}
 use Rattle.run_rules.specs.Clauses.{outside}
 use Rattle.tool_output.specs.Outputs.{outputs}
 use Rattle.tool_cli.specs.Analyzed.{IsBeforeWork}
 use Rattle.tool_cli.specs.Causes.{IsEmptied, Stopped}
-use Rattle.tool_cli.specs.Inputs.{has_stdin, hears, inputs_of, inputs_named, listens, texts_read}
+use Rattle.tool_cli.specs.Inputs.{has_stdin, hears, input_read, inputs_of, inputs_named, listens, texts_read}
 use Rattle.tool_cli.specs.Output.{output_of, IsUnwritten, IsWritten}
 use Rattle.tool_cli.specs.Reads.{LosesInput}
 use Rattle.tool_cli.specs.Running.{IsUnbegun}
@@ -15,7 +16,7 @@ use Rattle.tool_cli.specs.Told.{IsEndOf}
 use Rattle.tool_cli.proofs.Works.{nothing_shown, early_refusal, not_before_work, run_no_large, run_no_usage}
 use Rattle.tool_cli.proofs.Delivered.{leaves_after, leaves_read}
 use Rattle.tool_cli.proofs.Outcomes.{inputs_are, analyzes_is, output_is, same_command, shown_ok, told_ok, told_err, cause_of_unread, cause_of_large}
-use Rattle.tool_cli.proofs.Commands.{end_over, heard, hears_no_stdin, input_cause, listens_is, loses_after, loses_none, loses_read, played_err, played_ok, runs_is, same_outside, stdin_unheard, unread_cause, unread_told}
+use Rattle.tool_cli.proofs.Commands.{end_over, heard, hears_no_stdin, input_cause, listens_is, loses_after, loses_none, loses_read, nothing_played, played_err, played_ok, runs_is, same_outside, stdin_unheard, unread_cause, unread_told}
 use Rattle.tool_cli.proofs.Steps.{words_fit}
 use Rattle.tool_cli.proofs.Order.{work_keeps}
 use Rattle.tool_cli.proofs.tool_run.ended_of.Goals as goal
@@ -241,9 +242,13 @@ returns-clause-played g c =
     let sinks = g.O.Sink.faults in
     let before = outside (left c.args.input.now) (faults c.args.input.now) (taken c.args.output.now) (sinks c.args.output.now) in
     let after = outside (left c.read_inputs.new.input) (faults c.read_inputs.new.input) (taken c.args.output.now) (sinks c.args.output.now) in
+    let same = inputs_are c.args.words.now c.in-Ok.command c.in-Ok.ensures.command ∙ sym c.inputs_of.ensures in
+    let kept : has_stdin c.inputs_of.result.now ≡ false → after ≡ before = λ none.
+    let unread = c.in-Err.ensures.unread none in
+    same_outside (left c.args.input.now) (left c.read_inputs.new.input) (faults c.args.input.now) (faults c.read_inputs.new.input) (taken c.args.output.now) (sinks c.args.output.now) (ap left unread) (ap faults unread) in
     λ held stdin tells.
     played_err c.args.words.now c.in-Ok.command c.inputs_of.result.now (g.F.Files.contents c.args.files.now) (left c.args.input.now) (Rose (faults c.args.input.now) (faults c.read_inputs.new.input)) (Rose (reads c.args.files.now) (reads c.read_inputs.new.files)) held stdin before after
-    c.in-Err.ended c.in-Ok.ensures.command c.inputs_of.ensures c.in-Err.ensures.refused refl
+    c.in-Err.ended c.in-Ok.ensures.command c.inputs_of.ensures (c.in-Err.ensures.told held stdin (rw same at tells)) c.in-Err.ensures.refused kept refl
 
 pub returns-in-Err-Usage-clause-leaves_input : goal.returns-in-Err-Usage-clause-leaves_input
 returns-in-Err-Usage-clause-leaves_input g c = loses_none _ _ _
@@ -252,10 +257,13 @@ pub returns-in-Err-Memory-clause-leaves_input : goal.returns-in-Err-Memory-claus
 returns-in-Err-Memory-clause-leaves_input g c = loses_none _ _ _
 
 pub returns-in-Err-Usage-clause-played : goal.returns-in-Err-Usage-clause-played
-returns-in-Err-Usage-clause-played g c = λ held stdin tells name bound arguments bytes is. inl (inl tt, refl)
+returns-in-Err-Usage-clause-played g c =
+    λ held stdin tells name bound arguments is. absurd (is.fine c.in-Err-Usage.kind c.in-Err-Usage.word (c.in-Err-Usage.ensures.usage c.in-Err-Usage.kind c.in-Err-Usage.word (ap (λ (fault : WordsFault). Err fault) c.in-Err-Usage.field-0-is)).is)
 
 pub returns-in-Err-Memory-clause-played : goal.returns-in-Err-Memory-clause-played
-returns-in-Err-Memory-clause-played g c = λ held stdin tells name bound arguments bytes is. inl (inr refl, refl)
+returns-in-Err-Memory-clause-played g c =
+    let now = outside (g.I.Source.left c.args.input.now) (g.I.Source.faults c.args.input.now) (g.O.Sink.taken c.args.output.now) (g.O.Sink.faults c.args.output.now) in
+    λ held stdin tells name bound arguments is. nothing_played name bound arguments (input_read held stdin 0 name) now
 
 pub returns-in-Err-Usage-clause-not_begun : goal.returns-in-Err-Usage-clause-not_begun
 returns-in-Err-Usage-clause-not_begun g c = λ command read early. (λ own. refl, refl)
@@ -267,7 +275,10 @@ pub returns-in-Ok-read_inputs-clause-usage : goal.returns-in-Ok-read_inputs-clau
 returns-in-Ok-read_inputs-clause-usage g c = λ kind k told. absurd (run_no_usage c.work.result (hears c.in-Ok.command) kind k c.work.ensures.of_work told)
 
 pub returns-in-Ok-read_inputs-clause-before_reading : goal.returns-in-Ok-read_inputs-clause-before_reading
-returns-in-Ok-read_inputs-clause-before_reading g c = λ kind k told. absurd (run_no_usage c.work.result (hears c.in-Ok.command) kind k c.work.ensures.of_work told)
+returns-in-Ok-read_inputs-clause-before_reading g c = λ kind k first. absurd (c.in-Ok.ensures.command.fine kind k first.is)
+
+pub returns-clause-before_reading : goal.returns-clause-before_reading
+returns-clause-before_reading g c = λ kind k first. absurd (c.in-Ok.ensures.command.fine kind k first.is)
 
 pub returns-in-Ok-read_inputs-clause-too_large : goal.returns-in-Ok-read_inputs-clause-too_large
 returns-in-Ok-read_inputs-clause-too_large g c = λ name limit told. absurd (run_no_large c.work.result (hears c.in-Ok.command) name limit c.work.ensures.of_work told)
