@@ -8,7 +8,7 @@ docs/commands.md. Nothing is taken from the program.
     tests/extracting.py            writes the rows
     tests/extracting.py --check    tells whether they are what it would write
 
-The rows stand before those of tests/link_text.py.
+The rows stand before those of tests/running.py.
 """
 import sys
 
@@ -17,9 +17,9 @@ from assemble import (ALIAS, BLOCK, CALL, CRATE, EMPTY, EXTERNAL, FUNCTION, PARA
                       bitcode, body, content, input_of, int_type, integer, line, of_global, placed, printed, record, types)
 
 MARK = b"# Parts of texts: written by tests/extracting.py.\n"
-MARK_BEHIND = b"# One text, linked and printed: written by tests/link_text.py.\n"
+MARK_BEHIND = b"# Programs that run: written by tests/running.py.\n"
 RUN = b"> llvm-extract -S extracted.ll\n"
-RUN_BEHIND = b"> llvm-link -S -o - canonical.ll\n"
+RUN_BEHIND = b"> lli run.ll\n"
 
 # What the script says of each run, and what is told of it.
 RUNS = []

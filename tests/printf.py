@@ -140,4 +140,5 @@ def main():
     (FOLDER / "stdout").write_text(stdout)
 
 
-main()
+if __name__ == "__main__":
+    main()

@@ -300,4 +300,5 @@ def main():
             sys.exit("crates/scalar_table: stdin or stdout is not what tests/scalars.py writes")
 
 
-main()
+if __name__ == "__main__":
+    main()
