@@ -9,7 +9,7 @@ Nothing is taken from the program.
     tests/running.py            writes the rows
     tests/running.py --check    tells whether they are what it would write
 
-The rows stand before those of tests/link_text.py.
+The rows stand before those of tests/linked_runs.py.
 """
 import sys
 
@@ -20,9 +20,9 @@ import scalars
 from assemble import CRATE, content, placed
 
 MARK = b"# Programs that run: written by tests/running.py.\n"
-MARK_BEHIND = b"# One text, linked and printed: written by tests/link_text.py.\n"
+MARK_BEHIND = b"# Linked programs that run: written by tests/linked_runs.py.\n"
 RUN = b"> lli run.ll\n"
-RUN_BEHIND = b"> llvm-link -S -o - canonical.ll\n"
+RUN_BEHIND = b"> llvm-link -S -o linked.ll a.ll b.ll\n"
 
 # What the script says of each run, and what is told of it.
 RUNS = []
@@ -40,13 +40,18 @@ def shown(name, data):
     return f"{name}\n{told}" if data else ""
 
 
-def run(text, status, line, out, words, given, took, said):
-    """A run of a text, and what is told of it: its status, the bytes that standard input gave, its output, and the line of its end."""
+def run_of(name, before, status, line, out, words, given, took, said):
+    """A run of a file, and what is told of it: its status, the bytes that standard input gave, its output, and the line of its end."""
     stdin = "" if given is None else f"input\n{content(given)}"
     RUNS.append((
-        f"clear\nfile run.ll\n{content(text)}{stdin}{said}run lli {words}\n",
-        f"> lli {words}\nstatus {status}\nfiles run.ll\n" + ("" if took is None else f"input {took}\n")
+        f"{before}{stdin}{said}run lli {words}\n",
+        f"> lli {words}\nstatus {status}\nfiles {name}\n" + ("" if took is None else f"input {took}\n")
         + shown("output", out.encode("latin-1")) + (f"errors\n| lli: {line}\n" if line else "")))
+
+
+def run(text, *told):
+    """A run of a text, and what is told of it."""
+    run_of("run.ll", f"clear\nfile run.ll\n{content(text)}", *told)
 
 
 def ends(text, status, out="", words="run.ll", given=None, took=None, said=""):
@@ -58,10 +63,14 @@ def ends(text, status, out="", words="run.ll", given=None, took=None, said=""):
 STATUS = {"memory limit": 122, "stack limit": 121, "no main": 123, "steps used up": 124, "cannot read -": 1, "cannot write -": 1}
 
 
+def status_of(line):
+    """The status of an end that is told by this line."""
+    return 125 if line.startswith("undefined: ") else 123 if line.startswith("unresolved ") else STATUS[line]
+
+
 def stops(text, line, out="", words="run.ll", given=None, took=None, said=""):
     """A program whose end is told by a line."""
-    status = 125 if line.startswith("undefined: ") else 123 if line.startswith("unresolved ") else STATUS[line]
-    run(text, status, line, out, words, given, took, said)
+    run(text, status_of(line), line, out, words, given, took, said)
 
 
 def undefined(text, kind, **more):
@@ -715,18 +724,23 @@ def orders():
 TABLES = [arithmetic, pointers, choices, steps_of_addresses, memory, parts, calls, streams, host, over_integers, printing, limits, opening, orders]
 
 
-def main():
-    for table in TABLES:
-        table()
+def store(mark, mark_behind, run_line, run_behind):
+    """Puts the rows in their place, before what is behind; with --check tells whether they stand there."""
     given = "".join(given for given, _ in RUNS).encode()
     told = "".join(told for _, told in RUNS).encode()
     old_stdin, old_stdout = (CRATE / "stdin").read_bytes(), (CRATE / "stdout").read_bytes()
-    stdin = placed(old_stdin, MARK, MARK_BEHIND, MARK + given)
-    stdout = placed(old_stdout, RUN, RUN_BEHIND, told)
+    stdin = placed(old_stdin, mark, mark_behind, mark + given)
+    stdout = placed(old_stdout, run_line, run_behind, told)
     if "--check" in sys.argv[1:]:
         sys.exit(0 if (old_stdin, old_stdout) == (stdin, stdout) else 1)
     (CRATE / "stdin").write_bytes(stdin)
     (CRATE / "stdout").write_bytes(stdout)
+
+
+def main():
+    for table in TABLES:
+        table()
+    store(MARK, MARK_BEHIND, RUN, RUN_BEHIND)
 
 
 if __name__ == "__main__":
