@@ -1,0 +1,3 @@
+pub mod Producer
+pub mod Table
+pub mod Entering
