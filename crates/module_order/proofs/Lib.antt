@@ -1,0 +1,5 @@
+pub mod Recorded
+pub mod Numbered
+pub mod Dues
+pub mod Endings
+pub mod Texts

@@ -1,0 +1,18 @@
+//! The order of a module's block: what stands in it, its version and its texts, whose body is due, and what is missing at its
+//! end.
+//!
+//! It stands on `record_read`. It promises for each of these records what it stands for, or the least rule that it breaks, and
+//! that a block is over exactly where nothing of it is missing. Definitions: `Records` of `record_table`, and `specs/`.
+#![tactic(auto)]
+
+mod due;
+mod ending;
+mod part;
+mod text;
+mod version;
+
+pub use due::next_due;
+pub use ending::expect_whole;
+pub use part::Part;
+pub use text::read_module_text;
+pub use version::read_version;

@@ -1,0 +1,90 @@
+//! What stands in the block of a module.
+ghost use Rattle.std.specs.Prelude.{◌≡◌, ◌<◌, ◌&&◌, ℕ, suc, nat_le, nat_lt, Option};
+ghost use Rattle.record_table.specs.Records as records;
+ghost use Rattle.record_table.specs.Walk.{told};
+ghost use Rattle.record_read.specs.Faults.{Answers};
+ghost use Rattle.module_order.specs.Order.{IsBehindRecord, place_of};
+
+use record_read::{BitcodeFault, RecordReader};
+use record_table::MODULE_BLOCK;
+
+/// What stands in the block of a module, in its order. The first five stand there at most once.
+#[derive(Clone, Copy)]
+pub enum Part {
+    Version,
+    Source,
+    Layout,
+    Triple,
+    Types,
+    Variable,
+    Function,
+    Alias,
+    Body,
+}
+
+impl Part {
+    /// The part's place, counted from 1.
+    pub fn place(self) -> u8
+        ensures { result ≡ place_of self }
+    {
+        match self {
+            Part::Version => 1,
+            Part::Source => 2,
+            Part::Layout => 3,
+            Part::Triple => 4,
+            Part::Types => 5,
+            Part::Variable => 6,
+            Part::Function => 7,
+            Part::Alias => 8,
+            Part::Body => 9,
+        }
+    }
+
+    /// Whether it may stand behind what stands at that place; 0 is the beginning of the block. The version comes first, and
+    /// the types always.
+    pub fn may_follow(self, last: u8) -> bool
+        ensures { result ≡ records.may_follow last (place_of self) }
+    {
+        match self {
+            Part::Version => last == 0,
+            Part::Source => is_in_front(last, 2),
+            Part::Layout => is_in_front(last, 3),
+            Part::Triple => is_in_front(last, 4),
+            Part::Types => is_in_front(last, 5),
+            Part::Variable => is_behind(last, 6),
+            Part::Function => is_behind(last, 7),
+            Part::Alias => is_behind(last, 8),
+            Part::Body => is_behind(last, 9),
+        }
+    }
+}
+
+/// Whether what stands at that place may stand behind the place `last`: once, and not first.
+fn is_in_front(last: u8, place: u8) -> bool
+    ensures { result ≡ (nat_le 1 last && nat_lt last place) }
+{
+    1 <= last && last < place
+}
+
+/// Whether what stands at that place may: behind the types, and behind what stands at the same place too.
+fn is_behind(last: u8, place: u8) -> bool
+    ensures { result ≡ (nat_le 5 last && nat_le last place) }
+{
+    5 <= last && last <= place
+}
+
+/// Ends the record of a part, behind what stands at the place `last`. It is refused by the least rule that it breaks: rule 5
+/// is that it may stand there.
+pub(crate) fn end_part(
+    reader: &mut RecordReader<'_>,
+    last: u8,
+    part: Part,
+) -> Result<(), BitcodeFault>
+    requires { 0 < reader.old.at }
+    ensures stays { IsBehindRecord reader.old reader.new }
+    ensures answers { (s after : records.Sofar) (broken : Option ℕ) → s.last ≡ last → reader.old.at ≡ suc s.at → told reader.old.walk ≡ broken
+        → Answers (λ done t. t ≡ record after { at = suc s.at; last = place_of part }) (records.placed s (place_of part) broken after) result }
+{
+    reader.also(5, part.may_follow(last));
+    reader.finish(MODULE_BLOCK)
+}
