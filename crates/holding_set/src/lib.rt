@@ -1,8 +1,10 @@
-//! What the entries of an arena hold, set all at once: initialisers and targets, in the order of the entries.
+//! What the entries of an arena hold, set all at once: initialisers, targets and bodies, in the order of the entries.
 //!
 //! It stands on `module_arena`. It promises which lists the arena has then. Definitions: `specs/Holding`.
 #![tactic(auto)]
 
+mod bodies;
 mod setting;
 
+pub use bodies::set_bodies;
 pub use setting::{set_initialisers, set_targets};
