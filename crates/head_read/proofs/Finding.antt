@@ -81,3 +81,13 @@ found_none all r now h gives = by_rest h.rest h.has (gives h.rest [] h.before)
     by_rest no_more has g = record { is = sym has; before = λ yes. absurd (cc) }
     by_rest (a_block id held behind) has g = absurd g
     by_rest (a_record code operands behind) has g = absurd g
+
+-- in a stream without the block nothing stands in it
+pub none_inside : (all : Records) → has_module all ≡ false → first_module all ≡ no_more
+none_inside no_more h = refl
+none_inside (a_record code operands behind) h = none_inside behind h
+none_inside (a_block id inside behind) h = by (nat_eq id module_id) h (none_inside behind)
+  where
+    by : (b : Bool) → (b || has_module behind) ≡ false → (has_module behind ≡ false → first_module behind ≡ no_more) → cond b inside (first_module behind) ≡ no_more
+    by true e on = absurd (cc)
+    by false e on = on e

@@ -1,27 +1,23 @@
 -- The front of a record, read one field behind another.
-use Rattle.std.proofs.Common.{◌≡◌, ◌<◌, ℕ, zero, suc, Bool, List, [], ◌∷◌, Option, Some, None, All, true, false, nat_lt, refl, sym, ap, subst, ◌∙◌, arith}
+use Rattle.std.proofs.Common.{◌≡◌, ◌<◌, ℕ, zero, suc, Bool, List, [], Option, Some, None, true, false, nat_lt, refl, sym, ap, subst, ◌∙◌, arith}
 use Rattle.std.specs.Option.{option_map}
 use Rattle.std.proofs.lemmas.List.Elements.{All-cons, All-nil}
 use mathlib.Core.Logic.{inl, inr}
 use Rattle.ir_tables.specs.declared.linkage.Linkage.{Linkage}
 use Rattle.module_arena.specs.declared.entry.AliasType as the_alias_type
 use Rattle.module_arena.specs.declared.entry.AliasType.TheVariants as alias_type
-use Rattle.module_arena.specs.Known.{alias_types}
 use Rattle.module_arena.specs.Module.{Bytes}
 use Rattle.record_table.specs.Fields as fields
 use Rattle.record_table.specs.Fields.{Texts}
-use Rattle.record_table.specs.Layout.{Layout, counted, either_by, number, times}
+use Rattle.record_table.specs.Layout.{counted, either_by, number, times}
 use Rattle.record_table.specs.TypeRecords.{earlier}
 use Rattle.record_table.specs.Walk.{Walk, next, stop, ask, least}
 use Rattle.record_read.specs.Reader.{Reader, Reads, ReadsAs, IsKept, IsBroken, is_broken, is_stopped}
 use Rattle.record_read.specs.Fields.{IsBelow}
 use Rattle.arena_read.proofs.Lasting.{next_still, stop_broken, stop_still}
 use Rattle.type_read.specs.Fields.{AreBelow}
-use Rattle.type_read.proofs.Bodies.{Behind, behind}
-use Rattle.head_read.specs.Fronts.{AliasTypeFields, IsListedType, IsListedFunction, ReadsAlias, ReadsFrontName, ReadsFunction, ReadsVariable, alias_type_front, function_type, function_type_of, kept_alias_type}
-use Rattle.head_read.specs.declared.fronts.VariableFront.{VariableFront}
-use Rattle.head_read.specs.declared.fronts.FunctionFront.{FunctionFront}
-use Rattle.head_read.specs.declared.fronts.AliasFront.{AliasFront}
+use Rattle.type_read.proofs.Bodies.{behind}
+use Rattle.head_read.specs.Fronts.{AliasTypeFields, IsListedType, IsListedFunction, ReadsAlias, ReadsFrontName, ReadsFunction, ReadsVariable, alias_type_front, function_type, function_type_of}
 use Rattle.head_read.proofs.Walked.{Exactly, exactly, kept_on, walk_on, linkage_still, truth_still, earlier_still, types_still, alignment_still}
 
 -- ---- types

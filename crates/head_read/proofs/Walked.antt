@@ -1,5 +1,5 @@
 -- One field behind another, seen from a reader whose walk stands there; and what is broken stays so.
-use Rattle.std.proofs.Common.{◌≡◌, ℕ, Bool, true, false, Option, Some, None, refl, ap, ◌∙◌}
+use Rattle.std.proofs.Common.{◌≡◌, ℕ, Option, Some, None, refl, ap, ◌∙◌}
 use Rattle.std.specs.Prelude.{nat_lt}
 use Rattle.record_table.specs.Walk.{Walk, going, stopped, break, next}
 use Rattle.record_table.specs.Layout.{Layout, counted, found_or}
