@@ -1,0 +1,5 @@
+pub mod Ended
+pub mod Initialisers
+pub mod Fields
+pub mod Layouts
+pub mod Answered

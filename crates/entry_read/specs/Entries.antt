@@ -1,0 +1,124 @@
+-- For `read_variable`, `read_function` and `read_alias`: the record of an entry.
+use Rattle.std.specs.Prelude.{◌≡◌, ◌↔◌, ◌<◌, ◌-◌, ℕ, suc, Bool, true, false, List, length, All, Option, Some, None, IfSome, option_to_list}
+use Rattle.std.specs.Option.{option_map}
+use Rattle.module_arena.specs.declared.entry.GlobalId.{GlobalId}
+use Rattle.module_arena.specs.Known.{HasGlobal, counts}
+use Rattle.module_arena.specs.Lists.{Lists, global_name, name_at}
+use Rattle.module_arena.specs.Module as m
+use Rattle.module_arena.specs.Module.{Bytes}
+use Rattle.module_arena.specs.View.{constant_at, constants_of}
+use Rattle.record_table.specs.Faults.{module_id}
+use Rattle.record_table.specs.Fields as fields
+use Rattle.record_table.specs.Fields.{Texts, Numbering}
+use Rattle.record_table.specs.Layout.{judged}
+use Rattle.record_table.specs.Records as records
+use Rattle.record_table.specs.Walk.{Walk, going}
+use Rattle.record_read.specs.declared.fault.BitcodeFault.{BitcodeFault}
+use Rattle.record_read.specs.declared.fault.BitcodeFault.TheVariants as fault
+use Rattle.record_read.specs.Reader.{IsBroken, also_asked, is_broken}
+use Rattle.type_read.specs.Fields.{IsNameOf, is_good}
+use Rattle.arena_read.specs.declared.counts.LocalCounts.{LocalCounts}
+use Rattle.arena_read.specs.declared.module_reader.ModuleReader.{ModuleReader}
+use Rattle.arena_read.specs.Growing.{Grows}
+use Rattle.arena_read.specs.Numbered.{Numbers, IsDeclared}
+use Rattle.operand_read.specs.Found.{Always, Finds}
+use Rattle.head_read.specs.Fronts.{variable_front, function_front, alias_front}
+use Rattle.entry_read.specs.declared.holding.VariableFields.{VariableFields}
+
+-- The record that was given last stands behind what was read so far, and none of its operands are taken.
+pub record IsInFront (texts : Texts) (m : ModuleReader) (s : records.Sofar) (operands : List ℕ) : Type 0 where
+  pub numbers : Numbers m s.k
+  pub texts_are : s.texts ≡ texts
+  pub walk : m.reader.walk ≡ going operands None
+  pub at : m.reader.at ≡ suc s.at
+
+-- Whether a name is new is told by the arena, in which entries are declared ahead: it is where no other entry has it. A text
+-- that is no name is that of no entry.
+pub record IsToldNew (a : Lists) (own : GlobalId) (s : records.Sofar) (name : Bytes) : Type 0 where
+  pub told : is_good name ≡ true → (records.is_new s name ≡ true) ↔ ((g : GlobalId) → global_name a g ≡ Some name → g ≡ own)
+  pub other : is_good name ≡ false → records.is_new s name ≡ true
+
+-- The arena got constants alone, the record is behind, and nothing else changed.
+pub record Passes (old new : ModuleReader) (t : records.Sofar) : Type 0 where
+  pub rest : new ≡ record old { growing = new.growing; reader = new.reader }
+  pub grows : Grows old.growing new.growing
+  pub spent : new.reader.spent ≡ old.reader.spent
+  pub left : new.reader.left ≡ old.reader.left
+  pub at : new.reader.at ≡ t.at
+
+-- a constant of the arena, or none
+abbrev pub HasInitialiser : Lists → Option ℕ → Type 0
+HasInitialiser a initialiser = All (λ id. id < length a.constants) (option_to_list initialiser)
+
+-- what a variable is set to
+abbrev pub initialiser_in : Lists → Option ℕ → Option m.Constant
+initialiser_in a initialiser = option_map (constant_at (constants_of a)) initialiser
+
+-- The record of a variable is read, no rule of which is broken. Its initialiser is there, and where all entries are declared it
+-- is the one that is read.
+pub record ReadsVariable (texts : Texts) (k : Numbering) (operands : List ℕ) (old new : ModuleReader) (initialiser : Option ℕ) (t : records.Sofar) : Type 0 where
+  pub passes : Passes old new t
+  pub there : Always new.growing (λ a. HasInitialiser a initialiser)
+  pub is : IsDeclared old k → Always new.growing (λ a. initialiser_in a initialiser ≡ (judged (records.variable texts k) operands).0.initialiser)
+  pub good : is_good (judged (records.variable texts k) operands).0.name ≡ true
+  pub front : is_broken ((variable_front texts (length k.types)).read (going operands None)).1 ≡ false
+
+-- the record of a function is read: it is defined or not
+pub record ReadsFunction (texts : Texts) (k : Numbering) (operands : List ℕ) (old new : ModuleReader) (defined : Bool) (t : records.Sofar) : Type 0 where
+  pub passes : Passes old new t
+  pub is : defined ≡ (judged (records.function texts k) operands).0.0
+  pub good : is_good (judged (records.function texts k) operands).0.1.name ≡ true
+  pub front : (judged (function_front texts (length k.types)) operands).1 ≡ None
+
+-- The record of an alias is read. Its target is there, and where all entries are declared it is the one that is read.
+pub record ReadsAlias (texts : Texts) (k : Numbering) (operands : List ℕ) (old new : ModuleReader) (target : Option GlobalId) (t : records.Sofar) : Type 0 where
+  pub passes : Passes old new t
+  pub there : IfSome target (HasGlobal (counts new.growing.arena))
+  pub is : IsDeclared old k → (g : GlobalId) × (target ≡ Some g) × (name_at new.growing.arena g ≡ (judged (records.alias texts k) operands).0.target)
+  pub good : is_good (judged (records.alias texts k) operands).0.name ≡ true
+  pub front : is_broken ((alias_front texts (length k.types)).read (going operands None)).1 ≡ false
+
+-- ---- the end of a record
+
+-- rule 4 is asked of a name: no other entry has it
+pub record AsksName (old : ModuleReader) (name : Bytes) (own : GlobalId) (new : ModuleReader) : Type 0 where
+  pub is : Bool
+  pub asks : new ≡ record old { reader = record old.reader { walk = also_asked 4 is old.reader.walk } }
+  pub told : (is ≡ true) ↔ ((g : GlobalId) → global_name old.growing.arena g ≡ Some name → g ≡ own)
+
+-- the same of a name that may be none
+abbrev pub AsksNew : ModuleReader → Option Bytes → GlobalId → ModuleReader → Type 0
+AsksNew old None own new = new ≡ old
+AsksNew old (Some name) own new = AsksName old name own new
+
+-- the record is behind, and nothing else changed
+pub record EndsRecord (old new : ModuleReader) : Type 0 where
+  pub rest : new ≡ record old { reader = new.reader }
+  pub spent : new.reader.spent ≡ old.reader.spent
+  pub left : new.reader.left ≡ old.reader.left
+  pub at : new.reader.at ≡ old.reader.at
+
+-- a record of the module's block, behind which so many were given, is refused by that rule
+abbrev pub IsRefusedAt : ℕ → ℕ → BitcodeFault → Type 0
+IsRefusedAt at rule given = given ≡ fault.BadRecord module_id (at - 1) rule
+
+-- ---- the operands of a variable
+
+-- what a variable is set to, as `Finds` says it
+abbrev pub HasHeld : LocalCounts → Lists → Option ℕ → Type 0
+HasHeld l a initialiser = HasInitialiser a initialiser
+
+-- the same as it is meant
+abbrev pub held_in : Numbering → Lists → Option ℕ → Option m.Constant
+held_in k a initialiser = initialiser_in a initialiser
+
+-- what is read of a variable's initialiser
+abbrev pub initialiser_read : Texts → Numbering → Walk → Option m.Constant × Walk
+initialiser_read texts k w = let x = (records.variable texts k).read w in (x.0.initialiser, x.1)
+
+-- The operands of a variable were read. Its name is none exactly where it is none that is good.
+pub record ReadsFields (texts : Texts) (old new : ModuleReader) (found : VariableFields) : Type 0 where
+  pub name : IsNameOf found.name ((fields.name texts).read old.reader.walk).0
+  pub named : found.name ≡ None → IsBroken new.reader.walk
+  pub initialiser : Finds HasHeld held_in (initialiser_read texts) old new found.initialiser
+  pub front : (k : Numbering) → Numbers old k → is_broken new.reader.walk ≡ false → is_broken ((variable_front texts (length k.types)).read old.reader.walk).1 ≡ false

@@ -1,0 +1,11 @@
+//! The records of variables, functions and aliases, read into an arena in which they are declared.
+//!
+//! It stands on `head_read` and `constant_read`. It promises for each record what the entry holds that it stands for, or the
+//! least rule that it breaks. Definitions: `Records` of `record_table`, and `specs/Entries`.
+#![tactic(auto)]
+
+mod ending;
+mod holding;
+mod records;
+
+pub use records::{read_alias, read_function, read_variable};
