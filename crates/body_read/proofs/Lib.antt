@@ -1,0 +1,4 @@
+pub mod Told
+pub mod Started
+pub mod Reading
+pub mod Closed
