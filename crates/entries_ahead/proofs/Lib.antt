@@ -1,0 +1,9 @@
+pub mod Dropped
+pub mod Due
+pub mod Whole
+pub mod Declaring
+pub mod VoidTypes
+pub mod Told
+pub mod Complete
+pub mod FrontsDeclared
+pub mod Called

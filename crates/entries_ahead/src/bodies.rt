@@ -1,0 +1,219 @@
+//! What is known ahead of the bodies of a module's block.
+ghost use Rattle.std.specs.Prelude.{◌≡◌, ◌≤◌, ◌^◌, ◌∷◌, ◌++◌, ℕ, List, [], false, true, length, slice_get, None, IfOk, OnOk, option_to_list};
+ghost use Rattle.bit_tree.specs.Pieces.{Piece, ended};
+ghost use Rattle.bit_tree.specs.Read.{IsStream};
+ghost use Rattle.bit_tree.specs.Stream.{Tree, Stream};
+ghost use Rattle.record_table.specs.Faults.{Records, records};
+ghost use Rattle.record_table.specs.Fields.{Numbering};
+ghost use Rattle.record_table.specs.Layout.{judged};
+ghost use Rattle.record_table.specs.Walk.{going};
+ghost use Rattle.record_read.specs.Entries.{IsBefore};
+ghost use Rattle.record_read.specs.Fields.{texts_of};
+ghost use Rattle.body_ahead.specs.Ahead.{AreVoids};
+ghost use Rattle.head_read.specs.Ahead.{IsInBlock, first_module};
+ghost use Rattle.head_read.specs.Fronts.{function_front};
+ghost use Rattle.entries_ahead.specs.Bodies.{AddsBody, AddsDue, AddsIf, AddsIfBody, Foresees, count_due};
+
+use body_ahead::{BodyAhead, gather_body};
+use head_read::{FunctionFront, find_module, read_function_front};
+use record_read::{Entry, RecordReader, Texts};
+use record_table::{BODY_BLOCK, FUNCTION};
+use std::alloc::{AllocError, Global};
+use type_table::TypeList;
+
+/// How many types there are. More than 32 bits hold are more than memory holds.
+fn count_of(types: &TypeList) -> Result<u32, AllocError>
+    ensures { IfOk result (λ count. count ≡ length types.now) }
+{
+    match u32::try_from(types.len()) {
+        Ok(count) => Ok(count),
+        Err(_) => Err(AllocError),
+    }
+}
+
+/// How many parameters there are, where they are known.
+fn known_count(parameters: &Option<TypeList>) -> Result<Option<u32>, AllocError>
+    ensures { IfOk result (λ count. option_to_list count ≡ count_due true parameters.now) }
+{
+    match parameters {
+        Some(types) => {
+            let count = count_of(types)?;
+            Ok(Some(count))
+        }
+        None => Ok(None),
+    }
+}
+
+/// How many parameters the function has, if it is defined.
+fn due_count(front: &FunctionFront) -> Result<Option<u32>, AllocError>
+    ensures { IfOk result (λ count. option_to_list count ≡ count_due front.now.defined front.now.parameters) }
+{
+    let is_defined = front.defined;
+    if is_defined {
+        let count = known_count(&front.parameters)?;
+        return Ok(count);
+    }
+    Ok(None)
+}
+
+/// One body more is due, where there is one.
+fn push_known(due: &mut Vec<u32>, count: Option<u32>) -> Result<(), AllocError>
+    ensures { OnOk result (due.new.items ≡ due.old.items ++ option_to_list count) }
+{
+    if let Some(count) = count {
+        due.push(count)?;
+    }
+    Ok(())
+}
+
+/// Reads the record of a function, which there are so many types for. Its body is due if it is defined and breaks no rule.
+fn gather_function(
+    reader: &mut RecordReader<'_>,
+    alloc: Global,
+    texts: &Texts,
+    types: u64,
+    due: &mut Vec<u32>,
+) -> Result<(), AllocError>
+    ensures spent { OnOk result (reader.new.spent ≡ reader.old.spent) }
+    ensures left { OnOk result (reader.new.left ≡ reader.old.left) }
+    ensures gathers { (operands : List ℕ) → reader.old.walk ≡ going operands None → OnOk result (AddsDue (judged (function_front (texts_of texts.now) types) operands) due.old.items due.new.items) }
+{
+    let front = read_function_front(reader, alloc, texts, types)?;
+    let is_refused = reader.told().is_some();
+    if is_refused {
+        return Ok(());
+    }
+    let count = due_count(&front)?;
+    push_known(due, count)?;
+    Ok(())
+}
+
+/// Reads a record of that code, if it is that of a function.
+fn gather_record(
+    reader: &mut RecordReader<'_>,
+    alloc: Global,
+    texts: &Texts,
+    types: u64,
+    due: &mut Vec<u32>,
+    code: u32,
+) -> Result<(), AllocError>
+    ensures spent { OnOk result (reader.new.spent ≡ reader.old.spent) }
+    ensures left { OnOk result (reader.new.left ≡ reader.old.left) }
+    ensures gathers { (operands : List ℕ) → reader.old.walk ≡ going operands None → OnOk result (AddsIf code (judged (function_front (texts_of texts.now) types) operands) due.old.items due.new.items) }
+{
+    if code == FUNCTION {
+        gather_function(reader, alloc, texts, types, due)?;
+        return Ok(());
+    }
+    Ok(())
+}
+
+/// How many parameters the function at that place has.
+fn due_at(due: &[u32], place: usize) -> Option<u32>
+    ensures { result ≡ slice_get due.now place }
+{
+    match due.get(place) {
+        Some(count) => Some(*count),
+        None => None,
+    }
+}
+
+/// Goes through the body that was begun, of the first function whose body is due and did not come. One that is of none is
+/// passed over.
+fn gather_due(
+    reader: &mut RecordReader<'_>,
+    alloc: Global,
+    texts: &Texts,
+    voids: &[bool],
+    due: &[u32],
+    bodies: &mut Vec<BodyAhead>,
+) -> Result<(), AllocError>
+    requires { reader.old.spent ≡ false }
+    ensures unspent { OnOk result (reader.new.spent ≡ false) }
+    ensures gathers { (held : Records) (others : List Piece) → IsBefore reader.old.left held (ended ∷ others)
+        → OnOk result (AddsBody (texts_of texts.now) voids.now due.now held bodies.old.items bodies.new.items × (reader.new.left ≡ others)) }
+{
+    let place = bodies.as_slice().len();
+    match due_at(due, place) {
+        Some(count) => {
+            let body = gather_body(reader, alloc, texts, count, voids)?;
+            bodies.push(body)?;
+            Ok(())
+        }
+        None => {
+            reader.pass_block()?;
+            Ok(())
+        }
+    }
+}
+
+/// Goes through the block of that id that was begun.
+fn gather_block(
+    reader: &mut RecordReader<'_>,
+    alloc: Global,
+    texts: &Texts,
+    voids: &[bool],
+    due: &[u32],
+    bodies: &mut Vec<BodyAhead>,
+    id: u32,
+) -> Result<(), AllocError>
+    requires { reader.old.spent ≡ false }
+    ensures unspent { OnOk result (reader.new.spent ≡ false) }
+    ensures gathers { (held : Records) (others : List Piece) → IsBefore reader.old.left held (ended ∷ others)
+        → OnOk result (AddsIfBody id (texts_of texts.now) voids.now due.now held bodies.old.items bodies.new.items × (reader.new.left ≡ others)) }
+{
+    if id == BODY_BLOCK {
+        gather_due(reader, alloc, texts, voids, due, bodies)?;
+        return Ok(());
+    }
+    reader.pass_block()?;
+    Ok(())
+}
+
+/// What is known ahead of the bodies of the module's block that was begun.
+fn gather_bodies(
+    reader: &mut RecordReader<'_>,
+    alloc: Global,
+    texts: &Texts,
+    types: u64,
+    voids: &[bool],
+) -> Result<Vec<BodyAhead>, AllocError>
+    requires unspent { reader.old.spent ≡ false }
+    requires begun { IsInBlock reader.old.left }
+    ensures { (inside : Records) (others : List Piece) → IsBefore reader.old.left inside (ended ∷ others)
+        → IfOk result (λ bodies. (k : Numbering) → AreVoids voids.now k → Foresees (texts_of texts.now) k types [] bodies.items inside) }
+{
+    let mut due = Vec::new(alloc);
+    let mut bodies = Vec::new(alloc);
+    'entries: loop {
+        match reader.next()? {
+            Entry::Record(code) => gather_record(reader, alloc, texts, types, &mut due, code)?,
+            Entry::Block(id) => {
+                gather_block(reader, alloc, texts, voids, due.as_slice(), &mut bodies, id)?;
+            }
+            Entry::End => return Ok(bodies),
+        }
+    }
+}
+
+/// What is known ahead of the bodies of a judged stream's module, whose types are so many. `voids` says of each whether it is
+/// `void`.
+pub(crate) fn look_at_bodies(
+    alloc: Global,
+    bytes: &[u8],
+    texts: &Texts,
+    types: u64,
+    voids: &[bool],
+) -> Result<Vec<BodyAhead>, AllocError>
+    requires short { length bytes.now ≤ 2 ^ 24 }
+    requires judged { IsStream bytes.now }
+    ensures { (tree : Tree) (k : Numbering) → Stream bytes.now tree → AreVoids voids.now k → IfOk result (λ bodies. Foresees (texts_of texts.now) k types [] bodies.items (first_module (records tree))) }
+{
+    let mut reader = RecordReader::new(alloc, bytes);
+    let is_there = find_module(&mut reader)?;
+    if is_there {
+        let bodies = gather_bodies(&mut reader, alloc, texts, types, voids)?;
+        return Ok(bodies);
+    }
+    Ok(Vec::new(alloc))
+}

@@ -1,0 +1,15 @@
+//! The variables, functions and aliases of a module, declared in an arena ahead of their records, so that constants may name
+//! what stands behind them.
+//!
+//! It stands on `head_read` and `body_ahead`, and goes through a module's block once its types are known. It promises that
+//! what its records declare is declared in their order, up to one that is refused for a cause, and what is known ahead of the
+//! bodies that are due. Definitions: `Records` of `record_table`, and `specs/`.
+#![tactic(auto)]
+
+mod adding;
+mod bodies;
+mod declare;
+mod entries;
+mod voids;
+
+pub use declare::declare_entries;
