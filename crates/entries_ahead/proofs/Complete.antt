@@ -1,11 +1,8 @@
 -- All entries that the records declare, where there are as many as the records name.
-use Rattle.std.proofs.Common.{◌≡◌, ◌⊎◌, ◌≤◌, ◌<◌, ◌+◌, ℕ, zero, suc, Bool, true, false, cond, List, [], ◌∷◌, ◌++◌, length, inl, inr, refl, sym, ap, subst, ◌∙◌, arith, length-append}
+use Rattle.std.proofs.Common.{◌≡◌, ◌≤◌, ◌+◌, ℕ, suc, Bool, true, false, cond, List, [], ◌∷◌, ◌++◌, length, inl, inr, refl, ap, ◌∙◌, arith, length-append}
 use Rattle.std.specs.Prelude.{nat_eq}
 use Rattle.std.proofs.lemmas.Bool.{eqb-true}
-use Rattle.module_arena.specs.declared.entry.Alias as the_alias
-use Rattle.module_arena.specs.declared.entry.Function as the_function
 use Rattle.module_arena.specs.declared.entry.LocalName.{LocalName}
-use Rattle.module_arena.specs.declared.entry.Variable as the_variable
 use Rattle.module_arena.specs.Changes.{with_variable, with_function, with_alias}
 use Rattle.module_arena.specs.Lists.{Lists}
 use Rattle.record_table.specs.Faults.{Records, no_more, a_block, a_record}

@@ -4,7 +4,6 @@ use Rattle.std.proofs.lemmas.Option.{none-some, same_Some}
 use Rattle.bit_tree.specs.Pieces.{Piece, ended}
 use Rattle.type_table.specs.Types.{Types}
 use Rattle.module_arena.specs.declared.entry.LocalName.{LocalName}
-use Rattle.module_arena.specs.Changes.{with_variable, with_function, with_alias}
 use Rattle.module_arena.specs.Lists.{Lists}
 use Rattle.record_table.specs.Faults.{Records, no_more, a_block, a_record}
 use Rattle.record_table.specs.Fields.{Texts}
@@ -12,9 +11,8 @@ use Rattle.record_table.specs.Walk.{going}
 use Rattle.record_read.specs.Entries.{IsBefore, Gives}
 use Rattle.record_read.specs.declared.entry.Entry.TheVariants.{Block, Record, End}
 use Rattle.record_read.specs.Reader.{Reader}
-use Rattle.head_read.specs.Fronts.{alias_front, function_front, variable_front}
 use Rattle.head_read.proofs.Finding.{GivesAll}
-use Rattle.entries_ahead.specs.Entries.{Declares, DeclaresBy, DeclaresOne, Declaring, a_function, a_variable, an_alias, alias_entry, declaring, front_of, function_entry, names_behind, names_for, nothing, variable_entry}
+use Rattle.entries_ahead.specs.Entries.{Declares, DeclaresBy, DeclaresOne, Declaring, a_function, a_variable, an_alias, declaring, nothing}
 
 abbrev Names : Type 0
 Names = List (List LocalName)

@@ -1,5 +1,5 @@
 -- The bodies of a module's block as they are gone through ahead: what was gathered so far, and what is to come.
-use Rattle.std.proofs.Common.{◌≡◌, ◌≤◌, ◌<◌, ◌+◌, ℕ, suc, Bool, true, false, true≢false, cond, List, [], ◌∷◌, ◌++◌, Option, Some, None, length, slice_get, drop, is_some, refl, sym, ap, subst, ◌∙◌, arith, length-append}
+use Rattle.std.proofs.Common.{◌≡◌, ◌≤◌, ◌+◌, ℕ, suc, Bool, true, false, true≢false, cond, List, [], ◌∷◌, ◌++◌, Option, Some, None, length, slice_get, drop, is_some, refl, sym, ap, subst, ◌∙◌, arith, length-append}
 use Rattle.std.proofs.lemmas.Bool.{false≢true}
 use Rattle.std.proofs.lemmas.List.{append_assoc, append-nil}
 use Rattle.std.proofs.lemmas.Option.{none-some}
@@ -18,7 +18,7 @@ use Rattle.type_read.specs.Fields.{AreBelow}
 use Rattle.head_read.specs.Fronts.{FunctionFields, ReadsFunction, function_front}
 use Rattle.head_read.specs.declared.fronts.FunctionFront.{FunctionFront}
 use Rattle.head_read.proofs.Finding.{GivesAll}
-use Rattle.entries_ahead.specs.Bodies.{AddsBody, AddsDue, AddsIf, AddsIfBody, AddsOne, AddsWhere, AddsWhereBody, AddsWhereDue, Foresees, ForeseesBlock, ForeseesRecord, count_due, due_of}
+use Rattle.entries_ahead.specs.Bodies.{AddsBody, AddsDue, AddsIf, AddsIfBody, AddsWhere, AddsWhereBody, AddsWhereDue, Foresees, ForeseesBlock, ForeseesRecord, count_due, due_of}
 use Rattle.entries_ahead.proofs.Dropped.{drop_append, drop_none, drop_some, is_there}
 
 -- ---- a function's record

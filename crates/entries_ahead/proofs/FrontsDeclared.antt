@@ -21,7 +21,7 @@ use Rattle.entries_ahead.specs.Entries.{DeclaresAlias, DeclaresBy, DeclaresFunct
 use Rattle.body_ahead.specs.declared.ahead.BodyAhead.{BodyAhead}
 use Rattle.entries_ahead.specs.Bodies.{names_given}
 use Rattle.entries_ahead.proofs.Dropped.{drop_none, drop_some, is_there}
-use Rattle.entries_ahead.proofs.Whole.{added, alias_none, alias_whole, function_none, function_whole, knows_alias, knows_function, knows_variable, refused, variable_none, variable_whole}
+use Rattle.entries_ahead.proofs.Whole.{added, alias_whole, function_whole, knows_alias, knows_function, knows_variable, refused, variable_whole}
 
 -- ---- a variable
 

@@ -1,5 +1,5 @@
 -- An entry out of what its record begins with.
-use Rattle.std.proofs.Common.{◌≡◌, ◌⊎◌, ◌<◌, ℕ, suc, Bool, true, false, true≢false, List, [], ◌∷◌, Option, Some, None, All, length, inl, inr, refl, sym, ap, subst, ◌∙◌}
+use Rattle.std.proofs.Common.{◌≡◌, ◌<◌, ℕ, suc, Bool, true, false, true≢false, List, [], ◌∷◌, Option, Some, None, All, length, inl, inr, refl, sym, subst, ◌∙◌}
 use Rattle.std.specs.Prelude.{option_to_list, Result, Ok, Err, IfOk}
 use Rattle.std.proofs.lemmas.List.Elements.{All-cons, All-head, All-nil, All-tail}
 use Rattle.std.proofs.lemmas.Option.{none-some, same_Some}
@@ -14,16 +14,15 @@ use Rattle.module_arena.specs.declared.entry.Parameter.{Parameter}
 use Rattle.module_arena.specs.declared.entry.Variable as the_variable
 use Rattle.module_arena.specs.declared.fault.ArenaFault.{ArenaFault}
 use Rattle.module_arena.specs.declared.fault.ArenaFault.TheVariants.{Duplicate, Memory, TooMany}
-use Rattle.module_arena.specs.Known.{HasFault, HasGlobal, KnowsAlias, KnowsBody, KnowsFunction, KnowsVariable, alias_types, counts, first_excess}
-use Rattle.module_arena.specs.Lists.{Lists, global_name}
+use Rattle.module_arena.specs.Known.{HasFault, HasGlobal, KnowsAlias, KnowsBody, KnowsFunction, KnowsVariable, alias_types, counts}
+use Rattle.module_arena.specs.Lists.{Lists}
 use Rattle.module_arena.specs.Module.{Bytes}
 use Rattle.record_table.specs.Fields.{Texts}
-use Rattle.record_table.specs.Layout.{Layout}
-use Rattle.record_table.specs.Walk.{Walk, going}
+use Rattle.record_table.specs.Walk.{Walk}
 use Rattle.record_read.specs.Reader.{Reader, IsBroken, IsKept, is_broken}
 use Rattle.record_read.specs.Fields.{IsBelow}
 use Rattle.type_read.specs.Fields.{AreBelow, IsNameOf}
-use Rattle.head_read.specs.Fronts.{AliasFields, FunctionFields, IsListedType, ReadsAlias, ReadsFunction, ReadsVariable, VariableFields, alias_front, function_front, kept_alias_type, variable_front}
+use Rattle.head_read.specs.Fronts.{AliasFields, FunctionFields, IsListedType, ReadsAlias, ReadsFunction, ReadsVariable, VariableFields, alias_front, function_front, variable_front}
 use Rattle.head_read.specs.declared.fronts.VariableFront.{VariableFront}
 use Rattle.head_read.specs.declared.fronts.FunctionFront.{FunctionFront}
 use Rattle.head_read.specs.declared.fronts.AliasFront.{AliasFront}

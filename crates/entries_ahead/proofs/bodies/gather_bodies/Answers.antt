@@ -1,4 +1,4 @@
-use Rattle.std.proofs.Common.{◌≡◌, ◌<◌, ◌∷◌, List, length, sym, ap, subst, ◌∙◌, arith}
+use Rattle.std.proofs.Common.{◌≡◌, ◌∷◌, List, length, ap, subst, ◌∙◌, arith}
 use Rattle.bit_tree.specs.Pieces.{Piece, ended}
 use Rattle.record_table.specs.Faults.{Records}
 use Rattle.record_read.specs.Entries.{IsBefore}

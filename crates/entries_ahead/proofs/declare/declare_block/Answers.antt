@@ -1,4 +1,4 @@
-use Rattle.std.proofs.Common.{◌≤◌, Some, None, length, map, refl, ap, subst, ◌∙◌, arith}
+use Rattle.std.proofs.Common.{◌≤◌, length, map, refl, ap, subst, ◌∙◌, arith}
 use Rattle.std.specs.Prelude.{IfSome}
 use Rattle.record_read.specs.Fields.{texts_of}
 use Rattle.record_read.specs.declared.entry.Entry.TheVariants.{Block, Record, End}

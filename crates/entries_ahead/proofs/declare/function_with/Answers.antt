@@ -1,4 +1,4 @@
-use Rattle.std.proofs.Common.{◌≡◌, map, drop, sym, ap, subst, ◌∙◌}
+use Rattle.std.proofs.Common.{map, drop, sym, ap, ◌∙◌}
 use Rattle.entries_ahead.specs.Bodies.{names_given}
 use Rattle.entries_ahead.specs.Entries.{names_for, whole_function}
 use Rattle.entries_ahead.proofs.FrontsDeclared.{names_there}

@@ -1,4 +1,4 @@
-use Rattle.std.proofs.Common.{length, map, ap, sym, ◌∙◌, arith}
+use Rattle.std.proofs.Common.{map, ap, ◌∙◌, arith}
 use Rattle.type_table.specs.Types.{tree, trees}
 use Rattle.type_table.proofs.Added.{length-trees}
 use Rattle.module_arena.specs.TypeTests.{is_void}
