@@ -1,8 +1,8 @@
 -- How calls answer: for want of memory, by a record's least rule, by a block that is misplaced, and by what is given in front.
-use Rattle.std.proofs.Common.{◌≡◌, ◌≤◌, ◌<◌, ◌-◌, ℕ, suc, min, Bool, true, false, List, [], ◌∷◌, Option, Some, None, refl, sym, ap, subst, ◌∙◌, arith}
+use Rattle.std.proofs.Common.{◌≡◌, ◌-◌, ℕ, suc, min, Bool, true, false, List, [], ◌∷◌, Option, Some, None, refl, ap, subst, ◌∙◌, arith}
 use Rattle.std.specs.Prelude.{Result, Ok, Err}
 use Rattle.record_table.specs.Walk.{Walk, going, stopped, least, told}
-use Rattle.record_table.specs.Faults.{Answer, ◌>>=◌, BadRecord, RecordFault, Records, UnknownRecord, also, is_block_id, misplaced, unless_broken}
+use Rattle.record_table.specs.Faults.{Answer, BadRecord, RecordFault, Records, UnknownRecord, also, is_block_id, misplaced, unless_broken}
 use Rattle.record_read.specs.declared.entry.Entry.{Entry}
 use Rattle.record_read.specs.declared.fault.BitcodeFault.{BitcodeFault}
 use Rattle.record_read.specs.declared.fault.BitcodeFault.TheVariants as fault

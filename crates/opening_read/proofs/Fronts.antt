@@ -1,13 +1,12 @@
 -- The producer's block, entry by entry.
-use Rattle.std.proofs.Common.{◌≡◌, ◌-◌, ℕ, zero, suc, Bool, true, false, not, ◌&&◌, cond, List, [], ◌∷◌, Option, Some, None, bytes_eq, nat_eq, refl, sym, ap, subst, ◌∙◌, arith}
+use Rattle.std.proofs.Common.{◌≡◌, ℕ, suc, Bool, true, false, ◌&&◌, cond, List, [], ◌∷◌, Option, Some, None, bytes_eq, nat_eq, refl, sym, ap, subst, ◌∙◌}
 use Rattle.std.specs.Prelude.{OnOk, Result, Ok, Err}
-use Rattle.std.proofs.lemmas.Bool.{cases_Bool}
 use Rattle.bit_tree.specs.Pieces.{Piece, ended}
-use Rattle.record_table.specs.Faults.{Answer, ◌>>=◌, BadRecord, ForeignProducer, Records, UnknownRecord, also, is_block_id, no_more, a_block, a_record, misplaced, unless_broken}
+use Rattle.record_table.specs.Faults.{Answer, ◌>>=◌, ForeignProducer, Records, also, is_block_id, no_more, a_block, a_record, misplaced}
 use Rattle.record_table.specs.Fields.{byte}
 use Rattle.record_table.specs.Layout.{judged, many, times}
 use Rattle.record_table.specs.Records.{is_ours, producer, producer_from}
-use Rattle.record_table.specs.Walk.{Walk, going, told}
+use Rattle.record_table.specs.Walk.{going, told}
 use Rattle.record_read.specs.declared.entry.Entry.{Entry}
 use Rattle.record_read.specs.declared.entry.Entry.TheVariants.{Block, Record, End}
 use Rattle.record_read.specs.declared.fault.BitcodeFault.{BitcodeFault}
@@ -15,9 +14,8 @@ use Rattle.record_read.specs.declared.fault.BitcodeFault.TheVariants as fault
 use Rattle.record_read.specs.Entries.{Gives, IsBefore}
 use Rattle.record_read.specs.Faults.{Answers, Finishes, IsMisplaced}
 use Rattle.record_read.specs.Reader.{Reader, also_asked}
-use Rattle.opening_read.specs.declared.producer.Front.{Front}
-use Rattle.opening_read.specs.Producer.{FindsFront, IsBehind, IsEnded, IsInBlock, another, behind_first, first_block, is_producer_block, noted_or, producer_of}
-use Rattle.opening_read.proofs.Answering.{fault_is, finished, misplaced_so, never_none, never_ok, told_also}
+use Rattle.opening_read.specs.Producer.{FindsFront, IsBehind, IsEnded, another, behind_first, first_block, is_producer_block, noted_or, producer_of}
+use Rattle.opening_read.proofs.Answering.{finished, misplaced_so, never_none, never_ok, told_also}
 
 -- ---- another record
 

@@ -1,5 +1,5 @@
 -- The operands against the name of this producer, byte by byte.
-use Rattle.std.proofs.Common.{◌≡◌, ◌<◌, ◌+◌, ◌-◌, ℕ, suc, Bool, true, false, ◌&&◌, List, [], ◌∷◌, ◌++◌, length, get_or, drop, Option, Some, None, is_none, bytes_eq, nat_eq, refl, sym, ap, subst, ◌∙◌, arith, ◌⊎◌, drop-cons, add-one}
+use Rattle.std.proofs.Common.{◌≡◌, ◌<◌, ◌+◌, ℕ, suc, Bool, true, false, ◌&&◌, List, [], ◌∷◌, ◌++◌, get_or, drop, Option, Some, None, is_none, bytes_eq, nat_eq, refl, sym, ap, subst, ◌∙◌, ◌⊎◌, drop-cons, add-one}
 use Rattle.record_table.specs.Fields.{byte}
 use Rattle.record_table.specs.Walk.{Walk, going, stopped}
 use Rattle.record_table.specs.Layout.{many}

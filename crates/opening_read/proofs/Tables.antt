@@ -1,13 +1,12 @@
 -- The table's block, and the way into the module's, entry by entry.
-use Rattle.std.proofs.Common.{◌≡◌, ◌-◌, ℕ, zero, suc, Bool, true, false, cond, List, [], ◌∷◌, Option, Some, None, nat_eq, refl, sym, ap, subst, ◌∙◌, arith}
+use Rattle.std.proofs.Common.{◌≡◌, ◌-◌, ℕ, suc, Bool, true, false, cond, List, [], ◌∷◌, Option, Some, None, nat_eq, refl, sym, ap, subst, ◌∙◌}
 use Rattle.std.specs.Prelude.{OnOk, Result, Ok, Err}
 use Rattle.bit_tree.specs.Pieces.{Piece, ended}
-use Rattle.record_table.specs.Faults.{Answer, ◌>>=◌, BadRecord, Records, UnknownRecord, also, no_more, a_block, a_record, is_block_id, misplaced, unless_broken}
+use Rattle.record_table.specs.Faults.{Answer, ◌>>=◌, BadRecord, Records, UnknownRecord, also, no_more, a_block, a_record, unless_broken}
 use Rattle.record_table.specs.Fields.{byte}
 use Rattle.record_table.specs.Layout.{judged, to_end}
 use Rattle.record_table.specs.Records.{Table, table, table_ended}
 use Rattle.record_table.specs.Walk.{Walk, going, stopped, told}
-use Rattle.record_read.specs.declared.entry.Entry.{Entry}
 use Rattle.record_read.specs.declared.entry.Entry.TheVariants.{Block, Record, End}
 use Rattle.record_read.specs.declared.fault.BitcodeFault.{BitcodeFault}
 use Rattle.record_read.specs.declared.fault.BitcodeFault.TheVariants as fault
