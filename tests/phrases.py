@@ -16,9 +16,8 @@ CRATE = HERE.parent / "crates" / "syntax_table"
 
 CASES = []
 
-# The lines that begin a text whose items are told by their parts, and one that is told as a program.
+# The line that begins a text whose items are told by their parts.
 PARTS = "==== parts\n"
-PROGRAM = "==== program\n"
 
 
 def accepted(text, structs=0, variables=0, declared=0, defined=0, blocks=0, instructions=0, others=0, aliases=0):
@@ -31,11 +30,6 @@ def accepted(text, structs=0, variables=0, declared=0, defined=0, blocks=0, inst
 def parts(text, told):
     """Read, and told by the parts of its items."""
     CASES.append((PARTS + text, told))
-
-
-def program(text, told):
-    """Read, and told by what `@main` returns where it is a program of additions."""
-    CASES.append((PROGRAM + text, told))
 
 
 # `int sum = 0; for (int i = 0; i < 5; i++) sum += i; return sum;`, as clang 18 prints it, with fewer attributes.
@@ -672,16 +666,6 @@ def refusals():
             left_out(before + "‹" + word)
 
 
-def programs():
-    program("define i32 @main() { %1 = add i32 40, 2 ret i32 %1 }", "1 lines, line 1")
-    program("define i32 @main() { ret i32 -2147483648 }", "0 lines, number 2147483648")
-    program("define i32 @main() { ret i32 4294967295 }", "0 lines, number 4294967295")
-    for text in ["define i32 @main() { ret i32 4294967296 }", "define i32 @main() { ret i32 -2147483649 }", "define i32 @main() { %2 = add i32 40, 2 ret i32 %2 }",
-                 "define i32 @main() { %1 = add nsw i32 40, 2 ret i32 %1 }", "define i32 @main() { %1 = add i32 %1, 2 ret i32 %1 }", "define i32 @main(i32) { ret i32 1 }",
-                 "define i32 @main() { ret i32 1 } @x = global i32 1"]:
-        program(text, "no program")
-
-
 def count(pattern, text):
     return len(re.findall(pattern, text, re.M))
 
@@ -705,7 +689,7 @@ def clang(path):
 
 
 def main():
-    for table in [items, variables, aliases, types, constants, functions, instructions, endings, text_ends, values, phrases, texts, refusals, programs]:
+    for table in [items, variables, aliases, types, constants, functions, instructions, endings, text_ends, values, phrases, texts, refusals]:
         table()
     for path in sorted((HERE / "modules").glob("*.ll")):
         clang(path)

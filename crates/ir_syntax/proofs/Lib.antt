@@ -2,7 +2,6 @@ pub mod Grammar
 pub mod Loops
 pub mod Results
 pub mod Refusals
-pub mod SmallLines
 pub mod Sizes
 pub mod Formed
 pub mod Widened

@@ -9,5 +9,4 @@ pub mod Answers
 pub mod Refusal
 pub mod Widths
 pub mod Counts
-pub mod Small
 pub mod Forms

@@ -12,8 +12,6 @@ mod heads;
 mod item;
 mod items;
 mod read;
-mod small;
-mod straight;
 mod variables;
 
 pub use item::{
@@ -21,5 +19,3 @@ pub use item::{
     StructBody, Variable,
 };
 pub use read::{SyntaxFault, read_items};
-pub use small::straight_of;
-pub use straight::{Line, LineList, Operand, Straight};

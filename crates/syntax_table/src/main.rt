@@ -1,6 +1,6 @@
 //! Reads texts, one behind another with a line `====` between two, and prints for each how many items of each kind it
 //! has, with its blocks and instructions, or why it is refused. A text that begins with the line `==== parts` is told
-//! by the parts of its items, and one that begins with `==== program` by what its `@main` returns.
+//! by the parts of its items.
 //!
 //! It stands on `ir_syntax`, and serves to show it: its stored input has each phrase whole and cut, each word that is
 //! dropped or left out, and modules as clang prints them.
@@ -10,7 +10,7 @@ mod counts;
 mod parts;
 
 use counts::print_counts;
-use ir_syntax::{Items, Operand, SyntaxFault, read_items, straight_of};
+use ir_syntax::{SyntaxFault, read_items};
 use parts::print_parts;
 use std::io;
 use std::io::Read;
@@ -23,22 +23,6 @@ const LARGEST: usize = 16_777_216;
 enum Asked {
     Counts,
     Parts,
-    Program,
-}
-
-/// Prints what the program of additions returns that the items are, if they are one.
-fn print_program(rt: &HostRuntime, items: &Items) -> io::Result<()> {
-    let Ok(told) = straight_of(rt.alloc(), items) else {
-        return println!(rt; "out of memory");
-    };
-    let Some(program) = told else {
-        return println!(rt; "no program");
-    };
-    print!(rt; "{} lines, ", program.lines.len())?;
-    match program.result {
-        Operand::Number(number) => println!(rt; "number {number}"),
-        Operand::Line(line) => println!(rt; "line {line}"),
-    }
 }
 
 /// Prints why a text is refused.
@@ -67,7 +51,6 @@ fn tell(rt: &HostRuntime, asked: Asked, text: &[u8]) -> io::Result<()> {
         Ok(items) => match asked {
             Asked::Counts => print_counts(rt, items.as_slice()),
             Asked::Parts => print_parts(rt, items.as_slice()),
-            Asked::Program => print_program(rt, &items),
         },
         Err(fault) => print_fault(rt, fault),
     }
@@ -87,8 +70,6 @@ fn main(rt: HostRuntime) -> io::Result<()> {
             asked = Asked::Counts;
         } else if line == b"==== parts\n".as_slice() {
             asked = Asked::Parts;
-        } else if line == b"==== program\n".as_slice() {
-            asked = Asked::Program;
         } else {
             text.extend_from_slice(line)?;
         }
