@@ -124,6 +124,16 @@ def recursion():
     part("--glob=t --recursive", "@t = global ptr @f", "declare void @f()")
 
 
+def both_ways():
+    """What is called is chosen too; what is left out of the one part makes up the other."""
+    of("@v = internal global i32 4 define internal i32 @h() { ret i32 3 } define i32 @f() { %1 = call i32 @h() %2 = load i32, ptr @v %3 = add i32 %1, %2 ret i32 %3 } define i32 @main() { %1 = call i32 @f() ret i32 %1 }")
+    h = ["define i32 @h() {", "0:", "  ret i32 3", "}"]
+    f = ["define i32 @f() {", "0:", "  %1 = call i32 @h()", "  %2 = load i32, ptr @v", "  %3 = add i32 %1, %2", "  ret i32 %3", "}"]
+    part("--func=f --recursive", "@v = external global i32", *h, *f)
+    part("--func=f --recursive --delete", "@v = global i32 4", "declare i32 @f()", "define i32 @main() {", "0:", "  %1 = call i32 @f()", "  ret i32 %1", "}")
+    missing("--func=nope", "@nope")
+
+
 def linkages():
     """What is kept is seen from outside, and stays else as it is; what is declared is external, or extern_weak where it was."""
     of("@a = private global i8 1, align 4 @b = weak global i8 2 @c = extern_weak global i8 @d = external constant i8 @e = linkonce_odr constant i8 3 @f = common global i8 0 "
@@ -154,6 +164,14 @@ def appending():
     part("--func=f --glob=a", "@a = appending global [1 x i32] [i32 1]", *f)
     of("@a = appending constant [2 x [1 x i16]] [[1 x i16] [i16 7], [1 x i16] undef], align 8 @p = global ptr @a")
     part("--glob=p", "@a = appending constant [0 x [1 x i16]] [], align 8", "@p = global ptr @a")
+    # What constructors name is not called by what is kept.
+    of("@llvm.global_ctors = appending global [1 x { i32, ptr, ptr }] [{ i32, ptr, ptr } { i32 1, ptr @c, ptr null }] define internal void @c() { ret void } define i32 @main() { ret i32 0 }")
+    constructors = "@llvm.global_ctors = appending global [1 x { i32, ptr, ptr }] [{ i32, ptr, ptr } { i32 1, ptr @c, ptr null }]"
+    c = ["define void @c() {", "0:", "  ret void", "}"]
+    part("--glob=llvm.global_ctors", constructors, "declare void @c()")
+    part("--glob=llvm.global_ctors --recursive", constructors, "declare void @c()")
+    part("--func=c", *c)
+    part("--func=main --delete", constructors, *c)
 
 
 def aliases():
@@ -277,7 +295,7 @@ def codes():
 
 
 def main():
-    for table in [example, recursion, linkages, appending, aliases, texts, symbols, streams, refusals, codes]:
+    for table in [example, recursion, both_ways, linkages, appending, aliases, texts, symbols, streams, refusals, codes]:
         table()
     given = "".join(given for given, _ in RUNS).encode()
     told = "".join(told for _, told in RUNS).encode()

@@ -486,7 +486,14 @@ def turns():
     running.ends(text, 255, out="?!.", given="a", took=1, said="fails input 3\nfails output 4\n")
 
 
-TABLES = [again, winners, commons, own, constructors, aliases, maybe, elsewhere, structs, hosts, traffic, kinds, missing, places, tables, limits, halts, alone, much_output, much_input, turns]
+def parted():
+    """What was cut in two is linked again, and runs as before."""
+    first = ["@v = external global i32", "define i32 @h() { 0: ret i32 3 }", "define i32 @f() { 0: %1 = call i32 @h() / %2 = load i32, ptr @v / %3 = add i32 %1, %2 / ret i32 %3 }"]
+    main = "define i32 @main() { 0: %1 = call i32 @f() / ret i32 %1 }"
+    linked([first, ["@v = global i32 4", "declare i32 @f()", main]], ["@v = global i32 4", *first[1:], main], ends(7))
+
+
+TABLES = [again, winners, commons, own, constructors, aliases, maybe, elsewhere, structs, hosts, traffic, kinds, missing, places, tables, limits, parted, halts, alone, much_output, much_input, turns]
 
 
 def main():

@@ -411,6 +411,8 @@ def host():
     ends("define void @f() { call void @exit(i32 3) unreachable } " + main_of("call void @f() ret i32 0", "declare void @exit(i32)"), 3)
     ends(main_of("call void @abort() unreachable", "declare void @abort()"), 134)
     ends(main_of("%1 = call i32 @putchar(i32 67) call void @abort() unreachable", "declare void @abort()", PUTCHAR), 134, "C")
+    ends("define void @f() { call void @abort() unreachable } " + main_of("call void @f() ret i32 0", "declare void @abort()"), 134)
+    ends("define i32 @f() { call void @abort() ret i32 7 } " + main_of("%1 = call i32 @f() ret i32 %1", "declare void @abort()"), 134)
     # malloc: a block of alignment 16, fresh memory is zero.
     ends(main_of("%p = call ptr @malloc(i64 4) %r = load i32, ptr %p ret i32 %r", MALLOC), 0)
     ends(main_of("%q = alloca i8 %p = call ptr @malloc(i64 0) %r = ptrtoint ptr %p to i64 " + tests("i64", 65568), MALLOC), 1)
@@ -451,6 +453,7 @@ def host():
         undefined(main_of(f"%m = call ptr @malloc(i64 1) call void @free(ptr %m) %p = call ptr @{name}(ptr @k, ptr %m, i64 1) ret i32 1", c, "@k = constant i8 0", MALLOC, FREE), "ended block")
     overlap = "%q = getelementptr i8, ptr @t, i64 2 "
     undefined(main_of(overlap + "%p = call ptr @memcpy(ptr %q, ptr @t, i64 4) ret i32 1", "declare ptr @memcpy(ptr, ptr, i64)", table), "overlap")
+    undefined(main_of("%q = getelementptr i8, ptr @t, i64 1 %p = call ptr @memcpy(ptr @t, ptr %q, i64 2) ret i32 1", "declare ptr @memcpy(ptr, ptr, i64)", table), "overlap")
     ends(main_of(overlap + "%p = call ptr @memcpy(ptr %q, ptr %q, i64 4) " + loads + tests("i64", 0x0807060504030201), "declare ptr @memcpy(ptr, ptr, i64)", table), 1)
     ends(main_of(overlap + "%p = call ptr @memmove(ptr %q, ptr @t, i64 4) " + loads + tests("i64", 0x0807040302010201), "declare ptr @memmove(ptr, ptr, i64)", table), 1)
     ends(main_of(overlap + "%p = call ptr @memmove(ptr @t, ptr %q, i64 4) " + loads + tests("i64", 0x0807060506050403), "declare ptr @memmove(ptr, ptr, i64)", table), 1)
@@ -472,14 +475,19 @@ def host():
             c = f"declare void @llvm.{name}.p0.p0.i{bits}(ptr, ptr, i{bits}, i1)"
             ends(main_of(f"%q = getelementptr i8, ptr @t, i64 4 call void @llvm.{name}.p0.p0.i{bits}(ptr @t, ptr %q, i{bits} 4, i1 false) {loads}" + tests("i64", result), c, table), 1)
             undefined(main_of(f"call void @llvm.{name}.p0.p0.i{bits}(ptr @t, ptr null, i{bits} 1, i1 true) ret i32 0", c, table), "outside a block")
+            undefined(main_of(f"call void @llvm.{name}.p0.p0.i{bits}(ptr @t, ptr @t, i{bits} poison, i1 false) ret i32 0", c, table), "poison argument")
+            ends(main_of(f"call void @llvm.{name}.p0.p0.i{bits}(ptr null, ptr null, i{bits} 0, i1 false) ret i32 3", c), 3)
         c = f"declare void @llvm.memset.p0.i{bits}(ptr, i8, i{bits}, i1)"
         ends(main_of(f"call void @llvm.memset.p0.i{bits}(ptr @t, i8 -1, i{bits} 3, i1 false) {loads}" + tests("i64", 0x0807060504FFFFFF), c, table), 1)
         undefined(main_of(f"call void @llvm.memset.p0.i{bits}(ptr @t, i8 poison, i{bits} 0, i1 false) ret i32 0", c, table), "poison argument")
+        undefined(main_of(f"call void @llvm.memset.p0.i{bits}(ptr @t, i8 0, i{bits} 9, i1 false) ret i32 0", c, table), "outside a block")
+        ends(main_of(f"call void @llvm.memset.p0.i{bits}(ptr null, i8 1, i{bits} 0, i1 false) ret i32 3", c), 3)
     overlap_of = "declare void @llvm.memcpy.p0.p0.i64(ptr, ptr, i64, i1)"
     undefined(main_of(overlap + "call void @llvm.memcpy.p0.p0.i64(ptr %q, ptr @t, i64 4, i1 false) ret i32 0", overlap_of, table), "overlap")
     for name in ["start", "end"]:
         ends(main_of(f"%p = alloca i32 call void @llvm.lifetime.{name}.p0(i64 4, ptr %p) %r = load i32, ptr %p ret i32 %r", f"declare void @llvm.lifetime.{name}.p0(i64, ptr)"), 0)
         ends(main_of(f"%p = alloca i32 call void @llvm.lifetime.{name}.p0(ptr %p) %r = load i32, ptr %p ret i32 %r", f"declare void @llvm.lifetime.{name}.p0(ptr)"), 0)
+        ends(main_of(f"call void @llvm.lifetime.{name}.p0(i64 -1, ptr null) ret i32 3", f"declare void @llvm.lifetime.{name}.p0(i64, ptr)"), 3)
         undefined(main_of(f"call void @llvm.lifetime.{name}.p0(ptr poison) ret i32 0", f"declare void @llvm.lifetime.{name}.p0(ptr)"), "poison argument")
     # A definition of that name is no host function.
     ends(main_of("%r = call i32 @putchar(i32 1) ret i32 %r", "define i32 @putchar(i32 %c) { ret i32 50 }"), 50)
