@@ -1,0 +1,351 @@
+#!/usr/bin/env python3
+"""Runs parts side by side, never merged, and compares that with what `llvm-link` and `lli` make of them: the same bytes on standard output,
+the same line on standard error, the same status; for several words, inputs and bounds on steps.
+
+The run in here (tests/outside/machine.py over tests/outside/parts.py) is a plain one, written from docs/running.md, docs/linking.md and
+docs/language.md; nothing is taken from the program.
+
+    tests/outside/side.py [--tool PROGRAM] [SET ..]    ./ir-tools, and all sets, unless others are named
+
+| set | parts |
+|---|---|
+| `own` | the rows of this script, on what the others leave out |
+| `links` | the rows of tests/links.py: those with a main, and those without it with a further part, which tells what lies in memory or calls a function |
+| `linked_runs` | the rows of tests/linked_runs.py, with their words, inputs and bounds |
+| `running` | the programs of tests/running.py, of one part each |
+| `linked` | the programs of tests/linked: parts that clang-19 printed at -O0 and at -O2 |
+| `programs` | the programs of tests/programs at -O0 and at -O2, cut in two by `llvm-extract` |
+
+Each is run without a bound, with the number of steps that it takes here, one less and one more, with half of them and with none. A program
+that takes more than MOST steps is compared at that bound and at half of it. Parts in conflict are compared by the line that tells of it.
+"""
+import pathlib
+import shlex
+import subprocess
+import sys
+import tempfile
+
+sys.dont_write_bytecode = True
+HERE = pathlib.Path(__file__).resolve().parent
+sys.path[:0] = [str(HERE), str(HERE.parent)]
+import linked_runs
+import links
+import programs
+import running
+from machine import Run, Side
+from parts import I32, PTR, VOID, Part, spelled
+
+# How many steps a run takes in here at most, and with how many a program is run with other words and another input too.
+MOST, FEW = 100000, 3000
+OTHERS = ["one", "", "-22", "\xff"], b"a Line\n\xff\x00 22 x\nlast"
+
+
+class Case:
+    """Parts, and the words and inputs that they are run with."""
+
+    def __init__(self, name, texts, given=((), b"")):
+        self.name, self.texts, self.given = name, texts, [given] if isinstance(given, tuple) else given
+
+
+class Compared:
+    """Counts of what was compared, and what differed."""
+
+    def __init__(self, tool):
+        self.tool, self.cases, self.conflicts, self.runs, self.long, self.differing, self.reads_bitcode = tool, 0, 0, 0, 0, [], True
+
+    def told(self, room, *words, given=b""):
+        """The status, standard output and standard error of the program."""
+        made = subprocess.run([self.tool, *(word.encode("latin-1") for word in words)], input=given, capture_output=True, cwd=room, timeout=600)
+        return made.returncode, made.stdout, made.stderr
+
+    def same(self, case, which, ours, theirs):
+        if ours != theirs:
+            self.differing.append(case.name)
+            print(f"{case.name}, {which}:\n  side by side {str(ours)[:300]}\n  by {pathlib.Path(self.tool).name} {str(theirs)[:300]}")
+
+    def compare(self, case):
+        """Links the parts of a case, and runs what was linked."""
+        self.cases += 1
+        with tempfile.TemporaryDirectory() as room:
+            names = [f"{number}.ll" for number in range(len(case.texts))]
+            for name, text in zip(names, case.texts):
+                (pathlib.Path(room) / name).write_bytes(text.encode("latin-1"))
+            side, told = Side(case.texts), self.told(room, "llvm-link", "-S", "-o", "linked.ll", *names)
+            conflict = side.conflict()
+            if conflict:
+                self.conflicts += 1
+                kind, name, one, other = conflict
+                line = f"llvm-link: conflict: {kind}: {spelled(name)} in {names[one]} and {names[other]}\n"
+                self.same(case, "the conflict", (1, b"", line.encode("latin-1")), told)
+                return
+            self.same(case, "linking", (0, b"", b""), told)
+            if self.reads_bitcode:
+                self.told(room, "llvm-link", "-o", "linked.bc", *names)
+                self.reads_bitcode = self.told(room, "lli", "linked.bc")[2] != b"lli: not built\n"
+            for words, given in case.given:
+                self.compare_runs(case, side, room, list(words), given)
+
+    def compare_runs(self, case, side, room, words, given):
+        """Runs with these words and this input, at several bounds, and a short program with OTHERS too."""
+        for module in ["linked.ll", "linked.bc"] if self.reads_bitcode else ["linked.ll"]:
+            steps = self.compare_run(case, side, room, module, words, given, lambda steps: {0, steps // 2, steps - 1, steps, steps + 1})
+            if steps <= FEW and (words, given) != OTHERS:
+                self.compare_run(case, side, room, module, *OTHERS, lambda steps: {steps - 1})
+
+    def compare_run(self, case, side, room, module, words, given, bounds_of):
+        """Runs a module at several bounds, and without one where it ends; gives the number of steps."""
+        arguments = [word.encode("latin-1") for word in [module, *words]]
+        whole = Run(side, arguments, given)
+        ended, steps = whole.advance(MOST), whole.steps
+        is_long = ended == (124, "steps used up")
+        self.long += is_long
+        run = Run(side, arguments, given)
+        for bound in sorted(bound for bound in bounds_of(steps) if 0 <= bound <= MOST):
+            self.compare_bound(case, room, module, words, given, run.advance(bound), bytes(run.output), bound)
+        if not is_long:
+            self.compare_bound(case, room, module, words, given, ended, bytes(whole.output), None)
+        return steps
+
+    def compare_bound(self, case, room, module, words, given, ended, output, bound):
+        self.runs += 1
+        status, line = ended
+        ours = status, output, (f"lli: {line}\n" if line else "").encode("latin-1")
+        theirs = self.told(room, "lli", *([] if bound is None else [f"--max-steps={bound}"]), module, *words, given=given)
+        self.same(case, f"{module} {words} {given[:40]!r}, bound {bound}", ours, theirs)
+
+
+# ---- sets of parts
+
+
+def simple(ty):
+    """A type as it is written, where that needs no name; else i64."""
+    return f"i{ty[1]}" if ty[0] == "int" else ty[0] if ty in (PTR, VOID) else "i64"
+
+
+def ends_in(ty):
+    """The end of a body that gives something of this type."""
+    return "ret void" if ty == VOID else f"ret {simple(ty)} {'null' if ty == PTR else '1'}"
+
+
+def defining(side):
+    """A text that defines what the parts leave undefined."""
+    found = []
+    for symbol in side.symbols:
+        if symbol[0] is None and side.meaning(symbol) == ("unresolved",):
+            entry = side.entries[symbol][0]
+            if entry.is_variable():
+                found.append(f"{spelled(symbol[1])} = global i64 {len(found) + 77}")
+            else:
+                found.append(f"define {simple(entry.returns)} {spelled(symbol[1])}({', '.join(simple(ty) for ty, _ in entry.parameters)}) {{ {ends_in(entry.returns)} }}")
+    return "\n".join(found)
+
+
+def telling(side):
+    """The body of a main that writes what lies in memory, from the start of each variable on."""
+    found = []
+    for symbol, size, _ in side.rooms():
+        for at in range(side.places()[symbol][1], side.places()[symbol][1] + min(size, 48)):
+            found.append(f"%b{at} = load i8, ptr inttoptr (i64 {at} to ptr) %f{at} = freeze i8 %b{at} %z{at} = zext i8 %f{at} to i32 %c{at} = call i32 @putchar(i32 %z{at})")
+    return "\n".join([*found, "ret i32 0"])
+
+
+def status_from(ty):
+    """The end of a main whose status tells %r, of this type."""
+    if ty == VOID:
+        return "ret i32 0"
+    word = "ptrtoint" if ty == PTR else "add" if ty == I32 else "zext" if ty[1] < 32 else "trunc"
+    return f"%t = {word} {simple(ty)} %r{', 0' if ty == I32 else ' to i32'} ret i32 %t"
+
+
+def calling(side):
+    """The bodies of mains that call a function by its address each, where its types are integers and pointers."""
+    for number, symbol in enumerate(side.functions):
+        entry = side.homes[symbol]
+        if entry is not None and all(ty[0] in ("int", "ptr", "void") for ty in [entry.returns, *(ty for ty, _ in entry.parameters)]):
+            given = ", ".join("ptr inttoptr (i64 65536 to ptr)" if ty == PTR else f"{simple(ty)} 1" for ty, _ in entry.parameters)
+            result = "%r = " if entry.returns != VOID else ""
+            yield f"{result}call {simple(entry.returns)} inttoptr (i64 {2**62 + 16 * number} to ptr)({given}) {status_from(entry.returns)}"
+
+
+def probed(name, texts):
+    """Cases of parts without a main, each with a further part that has one."""
+    side = Side(texts)
+    if side.conflict() or (None, "putchar") in side.entries and side.entries[None, "putchar"][0].is_variable():
+        return
+    for number, body in enumerate([telling(side), *calling(side)]):
+        last = f"{defining(side)}\ndeclare i32 @putchar(i32)\ndefine i32 @main() {{ {body} }}"
+        yield Case(f"{name}, main {number}", [*texts, last])
+
+
+def of_links(_):
+    """The rows of tests/links.py that are linked or in conflict, but for very long ones."""
+    for table in links.TABLES:
+        links.ROWS.clear()
+        table()
+        for number, (_, texts, _, line) in enumerate(links.ROWS):
+            name = f"links, {table.__name__} {number}"
+            if line and not line.startswith("conflict: ") or sum(map(len, texts)) > 100000:
+                continue
+            has_main = any(entry.name == "main" for part, text in enumerate(texts) for entry in Part(part, text).entries)
+            yield from [Case(name, texts)] if has_main or line else probed(name, texts)
+
+
+def given_by(told):
+    """The words and inputs of the rows of a script."""
+    found = []
+    for _, _, _, words, given, _, _ in told:
+        words = shlex.split(words)
+        words = tuple(words[next(n for n, word in enumerate(words) if not word.startswith("--max-steps")) + 1:])
+        given = given or b""
+        it = words, given if isinstance(given, bytes) else given.encode("latin-1")
+        found += [it] if it not in found else []
+    return found
+
+
+def collected(tables):
+    """What tables of rows run: a name, texts, and words and inputs."""
+    found, table_name = [], ""
+
+    def linked(parts, _, *runs, names=None):
+        found.append(Case(f"{table_name} {len(found)}", [linked_runs.whole(part) for part in parts], given_by(runs)))
+
+    def run(text, *told):
+        found.append(Case(f"{table_name} {len(found)}", [text if isinstance(text, str) else links.whole(text)], given_by([told])))
+
+    before = linked_runs.linked, running.run
+    linked_runs.linked, running.run = linked, run
+    for table in tables:
+        table_name = f"{table.__module__}, {table.__name__}"
+        table()
+    linked_runs.linked, running.run = before
+    return found
+
+
+def of_linked_runs(_):
+    """The rows of tests/linked_runs.py."""
+    return collected(linked_runs.TABLES)
+
+
+def of_running(_):
+    """The rows of tests/running.py."""
+    return collected(running.TABLES)
+
+
+def frames(count):
+    """Parts that call each other, so many frames of 60,005 beside one of 2: there is room for 69."""
+    def turn(name, other):
+        return (f"declare i32 @{other}([60000 x i8], i32) define i32 @{name}([60000 x i8] %a, i32 %n) {{ %c = icmp eq i32 %n, 1 br i1 %c, label %z, label %s "
+                f"z: ret i32 7 s: %m = sub i32 %n, 1 %r = call i32 @{other}([60000 x i8] %a, i32 %m) ret i32 %r }}")
+    main = f"declare i32 @f([60000 x i8], i32) define i32 @main() {{ %r = call i32 @f([60000 x i8] zeroinitializer, i32 {count}) ret i32 %r }}"
+    return main, turn("f", "g"), turn("g", "f")
+
+
+def constructors(*rows):
+    """The array of constructors."""
+    elements = ", ".join(f"{{ i32, ptr, ptr }} {{ i32 {priority}, ptr {function}, ptr null }}" for priority, function in rows)
+    return f"@llvm.global_ctors = appending global [{len(rows)} x {{ i32, ptr, ptr }}] [{elements}]"
+
+
+PUT = "declare i32 @putchar(i32)"
+MAIN = "define i32 @main() { %p = call i32 @putchar(i32 109) ret i32 %p }"
+TWICE = "define i32 @main() { %1 = call ptr @f() %2 = load i32, ptr %1 store i32 9, ptr %1 %3 = load i32, ptr @x %4 = add i32 %2, %3 ret i32 %4 }"
+
+# Parts that turn on what the other sets do not: each a tuple of texts.
+OWN = [
+    frames(69), frames(70),
+    # A pointer to what another part had on its stack, in a variable of its own, on the heap, and by its address alone.
+    ("declare ptr @f() @x = global i32 1 " + TWICE, "define ptr @f() { %1 = alloca i32 ret ptr %1 }"),
+    ("declare ptr @f() @x = internal global i32 1 " + TWICE, "@x = internal global i32 5 define ptr @f() { ret ptr @x }"),
+    ("declare ptr @f() @x = external global i32 " + TWICE, "@x = global i32 5 define ptr @f() { %1 = ptrtoint ptr @x to i64 %2 = inttoptr i64 %1 to ptr ret ptr %2 }"),
+    ("declare ptr @f() @x = global i32 1 " + TWICE, "declare ptr @malloc(i64) declare void @free(ptr) define ptr @f() { %1 = call ptr @malloc(i64 4) call void @free(ptr %1) ret ptr %1 }"),
+    ("declare ptr @f() @x = global i32 1 " + TWICE, "@y = constant i32 5 define ptr @f() { ret ptr @y }"),
+    ("declare ptr @f() @x = global i32 1 " + TWICE, "@y = global [3 x i8] c\"abc\" define ptr @f() { ret ptr @y }"),
+    ("declare ptr @f() @x = global i32 1 " + TWICE, "@y = global [8 x i8] c\"abcdefgh\", align 4 define ptr @f() { ret ptr getelementptr (i8, ptr @y, i64 1) }"),
+    # A part takes a variable for longer than it is.
+    ("@x = external global [4 x i32] define i32 @main() { %1 = load i32, ptr getelementptr inbounds ([4 x i32], ptr @x, i64 0, i64 3) ret i32 %1 }", "@x = global i32 5"),
+    ("@x = external global [4 x i32] define i32 @main() { %1 = load i32, ptr getelementptr ([4 x i32], ptr @x, i64 0, i64 3) ret i32 %1 }",
+     "@x = global i32 5 @y = global i32 6"),
+    ("@x = external global [4 x i32] define i32 @main() { %1 = load i32, ptr getelementptr inbounds ([4 x i32], ptr @x, i64 0, i64 3) ret i32 %1 }",
+     "@x = global [4 x i32] [i32 5, i32 6, i32 7, i32 8]"),
+    # Elements of all parts, each with a name of its part's own.
+    ("@x = appending global [1 x ptr] [ptr @v] @v = internal global i32 3 define i32 @main() { %1 = load ptr, ptr getelementptr ([1 x ptr], ptr @x, i64 2) %2 = load i32, ptr %1 ret i32 %2 }",
+     "@x = appending global [1 x ptr] [ptr @v] @v = internal global i32 4", "@x = appending global [1 x ptr] [ptr @v] @v = internal global i32 5"),
+    # A weak function that is nowhere, one that is seen elsewhere, and one that a host has.
+    ("declare extern_weak i32 @f() define i32 @main() { %1 = call i32 @f() ret i32 %1 }", "declare extern_weak i32 @f()"),
+    ("declare i32 @f() define i32 @main() { %1 = call i32 @f() ret i32 %1 }", "define available_externally i32 @f() { ret i32 3 }",
+     "define weak i32 @f() { ret i32 4 }", "define linkonce i32 @f() { ret i32 5 }"),
+    (PUT + MAIN, "define available_externally i32 @putchar(i32 %c) { ret i32 3 }"),
+    ("declare extern_weak i32 @putchar(i32) " + MAIN, "declare extern_weak i32 @putchar(i32)"),
+    # Function types by their shapes.
+    ("%T = type { i32, %U } %U = type { i8 } declare i32 @f(%T) define i32 @main() { %1 = call i32 @f(%T { i32 3, %U { i8 4 } }) ret i32 %1 }",
+     "%U = type { i32, %T } %T = type { i8 } define i32 @f(%U %x) { %1 = extractvalue %U %x, 1, 0 %2 = zext i8 %1 to i32 ret i32 %2 }"),
+    ("%T = type { i32, i8 } declare i32 @f(%T) define i32 @main() { %1 = call i32 @f(%T { i32 3, i8 4 }) ret i32 %1 }",
+     "%T = type <{ i32, i8 }> define i32 @f(%T %x) { ret i32 4 }"),
+    ("declare i32 @f(...) define i32 @main() { %1 = call i32 (...) @f() ret i32 %1 }", "define i32 @f() { ret i32 4 }"),
+    ("declare i32 @f(...) define i32 @main() { %1 = call i32 @f() ret i32 %1 }", "define i32 @f() { ret i32 4 }"),
+    ("declare void @putchar(ptr) define i32 @main() { call void @putchar(ptr null) ret i32 1 }", PUT),
+    # Constructors that the host has, that end the run, that are no function of that type, and that destroy.
+    (constructors((5, "@abort")) + " declare void @abort() " + PUT + MAIN, constructors((4, "@c")) + PUT + " define void @c() { %1 = call i32 @putchar(i32 99) ret void }"),
+    (constructors((5, "@main")) + PUT + MAIN, constructors((5, "@c"), (5, "@c")) + PUT + " define internal void @c() { %1 = call i32 @putchar(i32 99) ret void }"),
+    (constructors((5, "@c")) + " declare void @c() " + PUT + MAIN,
+     constructors((5, "@c")) + " declare void @exit(i32) define internal void @c() { call void @exit(i32 77) ret void }", "define void @c() { ret void }"),
+    (constructors((5, "@d"), (1, "null")) + " @d = internal alias void (), ptr @c define internal void @c() { %1 = call i32 @putchar(i32 100) ret void } " + PUT + MAIN,
+     constructors((5, "@c")).replace("ctors", "dtors") + " define void @c() { unreachable }"),
+    (constructors((5, "@c")) + PUT + MAIN + " declare extern_weak void @c()", constructors((3, "@c")) + " declare extern_weak void @c()"),
+    # Mains: by an alias, of another type, hidden by one of a part's own, of no part, a variable.
+    ("@main = alias i32 (), ptr @start define internal i32 @start() { ret i32 3 }", "define internal i32 @main() { ret i32 4 }"),
+    ("define i64 @main() { ret i64 3 }", "define internal i32 @main() { ret i32 4 }"),
+    ("define weak i32 @main() { ret i32 3 }", "@main = alias i32 (), ptr @main.1 define i32 @main.1() { ret i32 5 }"),
+    ("declare i32 @main()", "define internal i32 @main() { ret i32 4 }"), ("@main = global i32 3", "define internal i32 @main() { ret i32 4 }"),
+    ("define i32 @main(i32 %n, ptr %v) { %1 = getelementptr ptr, ptr %v, i32 %n %2 = load ptr, ptr %1 %3 = icmp eq ptr %2, null %4 = zext i1 %3 to i32 %5 = add i32 %4, %n ret i32 %5 }",
+     "@main.1 = global i32 1"),
+    # What is missing: named by an own function, by an alias's target, by an initialiser, and by what does not count.
+    ("declare void @z() @y = external global i32 define internal void @f() { call void @z() ret void } define i32 @main() { ret i32 1 }",
+     "@x = global ptr @y @y = external global i32"),
+    ("@a = alias i32 (), ptr @f declare i32 @z() define internal i32 @f() { %1 = call i32 @z() ret i32 %1 } define i32 @main() { ret i32 1 }", "declare i32 @a()"),
+    ("define weak i32 @f() { %1 = call i32 @z() ret i32 %1 } declare i32 @z() define i32 @main() { %1 = call i32 @f() ret i32 %1 }", "define i32 @f() { ret i32 8 }"),
+    ("@\"a b\\FF\" = external global i32 define i32 @main() { %1 = load i32, ptr @\"a b\\ff\" ret i32 %1 }", "declare void @f()"),
+    # One variable more than there is room for, of all parts.
+    ("@x = global [134217728 x i8] zeroinitializer define i32 @main() { %1 = alloca i8 ret i32 1 }", "@y = global [134217727 x i8] zeroinitializer"),
+    ("@x = global [134217728 x i8] zeroinitializer define i32 @main() { %1 = alloca i16 ret i32 1 }", "@y = global [134217727 x i8] zeroinitializer"),
+    ("@x = global [134217728 x i8] zeroinitializer define i32 @main(i32 %n, ptr %v) { ret i32 1 }", "@y = global [134217727 x i8] zeroinitializer"),
+]
+
+
+def of_own(_):
+    """The rows of this script."""
+    return [Case(f"own {number}", list(texts)) for number, texts in enumerate(OWN)]
+
+
+def of_programs(tool, folder):
+    """The programs of a folder at both levels, those of one part cut in two."""
+    for program in programs.programs(folder):
+        for level in programs.LEVELS:
+            paths = program.texts(level)
+            with tempfile.TemporaryDirectory() as room:
+                paths = programs.cut(tool, paths[0], room) if len(paths) == 1 else paths
+                texts = [pathlib.Path(path).read_bytes().decode("latin-1") for path in paths]
+            yield Case(f"{folder.name}, {program.name} at O{level}", texts, (tuple(programs.ARGUMENTS.get(program.name, [])), programs.INPUTS.get(program.name, b"")))
+
+
+SETS = {"own": of_own, "links": of_links, "linked_runs": of_linked_runs, "running": of_running,
+        "linked": lambda tool: of_programs(tool, programs.FOLDERS[1]), "programs": lambda tool: of_programs(tool, programs.FOLDERS[0])}
+
+
+def main(words):
+    tool = str(HERE.parents[1] / "ir-tools")
+    if words[:1] == ["--tool"]:
+        tool, words = str(pathlib.Path(words[1]).resolve()), words[2:]
+    differs = False
+    for name in words or SETS:
+        compared = Compared(tool)
+        for case in SETS[name](tool):
+            compared.compare(case)
+        print(f"{name}: {compared.cases} sets of parts, {compared.conflicts} of them in conflict, {compared.runs} runs compared, {compared.long} programs that take more than {MOST} steps, "
+              f"{len(compared.differing)} differences{'' if compared.reads_bitcode else '; bitcode is not run yet'}", flush=True)
+        differs = differs or bool(compared.differing)
+    sys.exit(1 if differs else 0)
+
+
+if __name__ == "__main__":
+    main(sys.argv[1:])
