@@ -10,14 +10,16 @@ docs/language.md; nothing is taken from the program.
 | set | parts |
 |---|---|
 | `own` | the rows of this script, on what the others leave out |
+| `random` | COUNT sets of two to six parts at random, of few names, so that linkages of each kind meet |
 | `links` | the rows of tests/links.py: those with a main, and those without it with a further part, which tells what lies in memory or calls a function |
 | `linked_runs` | the rows of tests/linked_runs.py, with their words, inputs and bounds |
 | `running` | the programs of tests/running.py, of one part each |
-| `linked` | the programs of tests/linked: parts that clang-19 printed at -O0 and at -O2 |
+| `linked` | the programs of tests/linked: parts that clang-19 printed at -O0 and at -O2, in both orders, and some at one level beside others at the other |
 | `programs` | the programs of tests/programs at -O0 and at -O2, cut in two by `llvm-extract` |
 
 Each is run without a bound, with the number of steps that it takes here, one less and one more, with half of them and with none. A program
-that takes more than MOST steps is compared at that bound and at half of it. Parts in conflict are compared by the line that tells of it.
+that takes more than MOST steps is compared at that bound and at half of it, and a short one is run with OTHERS too. Parts in conflict are
+compared by the line that tells of it.
 """
 import pathlib
 import shlex
@@ -30,6 +32,7 @@ HERE = pathlib.Path(__file__).resolve().parent
 sys.path[:0] = [str(HERE), str(HERE.parent)]
 import linked_runs
 import links
+import paths
 import programs
 import running
 from machine import Run, Side
@@ -37,6 +40,8 @@ from parts import I32, PTR, VOID, Part, spelled
 
 # How many steps a run takes in here at most, and with how many a program is run with other words and another input too.
 MOST, FEW = 100000, 3000
+# How many sets of parts are made at random.
+COUNT = 400
 OTHERS = ["one", "", "-22", "\xff"], b"a Line\n\xff\x00 22 x\nlast"
 
 
@@ -81,7 +86,7 @@ class Compared:
             self.same(case, "linking", (0, b"", b""), told)
             if self.reads_bitcode:
                 self.told(room, "llvm-link", "-o", "linked.bc", *names)
-                self.reads_bitcode = self.told(room, "lli", "linked.bc")[2] != b"lli: not built\n"
+                self.reads_bitcode = self.told(room, "lli", "--max-steps=0", "linked.bc")[2] != b"lli: not built\n"
             for words, given in case.given:
                 self.compare_runs(case, side, room, list(words), given)
 
@@ -317,19 +322,132 @@ def of_own(_):
     return [Case(f"own {number}", list(texts)) for number, texts in enumerate(OWN)]
 
 
-def of_programs(tool, folder):
-    """The programs of a folder at both levels, those of one part cut in two."""
-    for program in programs.programs(folder):
+# ---- parts at random
+
+# What a part may have of a variable and of a function under a name: linkages of declarations, and of definitions.
+DECLARED, DEFINED = ["external", "external", "extern_weak"], ["", "weak", "weak_odr", "linkonce", "linkonce_odr", "internal", "private", "available_externally"]
+TYPES = ["i8", "i16", "i32", "i64", "i128", "[3 x i16]", "%T", "ptr"]
+STRUCTS = ["{ i8, i32 }", "{ i32, i8 }", "<{ i8, i32 }>", "{ i8, i32 }", "{ i8, [2 x i16] }"]
+
+
+class Chosen:
+    """A part at random: a struct, variables, an appended array, a constructor, functions and aliases, of names that other parts have too."""
+
+    def __init__(self, chance, number):
+        self.chance, self.number, self.whole, self.has_list = chance, number, {}, chance.below(3) == 0
+        lines = [f"%T = type {chance.one_of(STRUCTS)}", PUT]
+        self.names = [name for name in ("a", "b", "c", "d") if chance.below(4)] or ["a"]
+        lines += [self.variable(name) for name in self.names]
+        lines += [self.appended()] if self.has_list else []
+        lines += [self.constructor()] if chance.below(3) == 0 else []
+        self.functions = [name for name in ("f", "g", "h") if chance.below(4)] or ["f"]
+        lines += [self.function(name) for name in self.functions]
+        lines += [self.alias(name) for name in ("b", "c", "e", "g", "k") if name not in self.names + self.functions and chance.below(2)]
+        self.text = "\n".join(filter(None, lines))
+
+    def linkage(self):
+        """Of a definition: one that is external is rare, so that conflicts are."""
+        linkage = self.chance.one_of(DEFINED)
+        return linkage if linkage or self.chance.below(3) == 0 else self.chance.one_of(DEFINED)
+
+    def variable(self, name):
+        ty = self.chance.one_of(TYPES)
+        stated = self.chance.one_of(["", "", ", align 1", ", align 4", ", align 32"])
+        if self.chance.below(3) == 0:
+            return f"@{name} = {self.chance.one_of(DECLARED)} global {ty}{stated}"
+        if self.chance.below(5) == 0:
+            return f"@{name} = common global {ty} {'null' if ty == 'ptr' else 'zeroinitializer'}{stated}"
+        linkage = self.linkage()
+        self.whole[name] = linkage in ("", "internal", "private")
+        value = self.chance.below(120) if ty[0] == "i" else f"@{self.chance.one_of(self.names)}" if ty == "ptr" else "[i16 1, i16 2, i16 -3]" if ty[0] == "[" else "zeroinitializer"
+        return f"@{name} = {linkage} {self.chance.one_of(['global', 'global', 'global', 'constant'])} {ty} {value}{stated}"
+
+    def appended(self):
+        """An array that is appended; now and then it has other elements, is constant or is plain, so that there is a conflict."""
+        count, which = self.chance.below(3), self.chance.below(12)
+        if which == 0:
+            return "@list = external global [2 x ptr]"
+        ty = "i64" if which == 1 else "ptr"
+        elements = ", ".join("i64 65536" if which == 1 else f"ptr @{self.chance.one_of(self.names)}" for _ in range(count))
+        return f"@list = appending {'constant' if which == 2 else 'global'} [{count} x {ty}] [{elements}]"
+
+    def constructor(self):
+        linkage = self.chance.one_of(["internal", "internal", "weak", "linkonce", "private"])
+        body = f"%k = call i32 @putchar(i32 {65 + self.number}) store i8 {self.number + 1}, ptr @{self.chance.one_of(self.names)} ret void"
+        return f"{constructors((self.chance.below(3), '@init'))} define {linkage} void @init() {{ {body} }}"
+
+    def function(self, name):
+        if self.chance.below(40) == 0:
+            return f"@{name} = external global i32"
+        if self.chance.below(3) == 0:
+            return f"declare {self.chance.one_of(DECLARED)} i32 @{name}(i32)"
+        linkage = self.linkage()
+        self.whole[name] = linkage in ("", "internal", "private")
+        return f"define {linkage} i32 @{name}(i32 %n) {{ %c = icmp sgt i32 %n, 0 br i1 %c, label %go, label %no no: ret i32 {self.chance.below(99)} go: %m = sub i32 %n, 1 {self.statements()} }}"
+
+    def statements(self):
+        """Instructions on what the part has by name, and a result that depends on each."""
+        found, sum_of = [], "%m"
+        for n in range(1 + self.chance.below(5)):
+            found.append(self.statement(n))
+            found.append(f"%s{n} = add i32 {sum_of}, %x{n} %k{n} = call i32 @putchar(i32 %s{n})")
+            sum_of = f"%s{n}"
+        return " ".join([*found, f"ret i32 {sum_of}"])
+
+    def statement(self, n):
+        variable, function = f"@{self.chance.one_of(self.names)}", f"@{self.chance.one_of(self.functions)}"
+        if self.has_list and self.chance.below(3) == 0:
+            return f"%p{n} = load ptr, ptr getelementptr (ptr, ptr @list, i64 {self.chance.below(4)}) %l{n} = load i8, ptr %p{n} %x{n} = zext i8 %l{n} to i32"
+        return self.chance.one_of([
+            f"%x{n} = call i32 {function}(i32 %m)", f"%x{n} = call i32 {function}(i32 %m)", f"%x{n} = ptrtoint ptr {variable} to i32", f"%x{n} = ptrtoint ptr {function} to i32",
+            f"%l{n} = load i8, ptr {variable} %x{n} = zext i8 %l{n} to i32", f"%x{n} = load i32, ptr {variable}, align 1", f"store i8 {self.chance.below(100)}, ptr {variable} %x{n} = add i32 %m, 1",
+            f"%l{n} = getelementptr %T, ptr {variable}, i64 0, i32 1 %b{n} = load i8, ptr %l{n} %x{n} = sext i8 %b{n} to i32", f"%x{n} = ptrtoint ptr getelementptr (%T, ptr {variable}, i64 1) to i32",
+            f"%l{n} = icmp eq ptr {variable}, null %x{n} = zext i1 %l{n} to i32", f"%l{n} = icmp eq ptr {function}, null %x{n} = select i1 %l{n}, i32 7, i32 5"])
+
+    def alias(self, name):
+        """An alias of what the part defines, or nothing."""
+        targets = [target for target in self.functions + self.names if self.whole.get(target) and (target in self.functions) == (name in "gk")]
+        linkage = self.chance.one_of(["", "internal"])
+        return f"@{name} = {linkage} alias {'i32 (i32)' if name in 'gk' else 'i8'}, ptr @{self.chance.one_of(targets)}" if targets else ""
+
+
+def of_random(_):
+    """Parts at random; behind them one that defines what is missing, and one whose main calls a function."""
+    chance = paths.Chance(20261129)
+    for number in range(COUNT):
+        texts = [Chosen(chance, part).text for part in range(1 + chance.below(4))]
+        more = [defining(Side(texts))] if chance.below(8) else []
+        yield Case(f"random {number}", [*texts, *more, "declare i32 @f(i32) define i32 @main() { %r = call i32 @f(i32 3) ret i32 %r }"])
+
+
+def read(path):
+    return pathlib.Path(path).read_bytes().decode("latin-1")
+
+
+def given_to(program):
+    """The words and the input of a program."""
+    return tuple(programs.ARGUMENTS.get(program.name, [])), programs.INPUTS.get(program.name, b"")
+
+
+def of_linked(_):
+    """The programs of tests/linked: at each level, in the other order, and with the levels by turns."""
+    for program in programs.programs(programs.FOLDERS[1]):
+        one, other = [[read(path) for path in program.texts(level)] for level in programs.LEVELS]
+        mixed = [[pair[(n + first) % 2] for n, pair in enumerate(zip(one, other))] for first in (0, 1)]
+        for which, texts in [("O0", one), ("O2", other), ("O0, turned round", one[::-1]), ("O2, turned round", other[::-1]), ("O0 and O2", mixed[0]), ("O2 and O0", mixed[1])]:
+            yield Case(f"linked, {program.name} at {which}", texts, given_to(program))
+
+
+def of_programs(tool):
+    """The programs of tests/programs at both levels, cut in two."""
+    for program in programs.programs(programs.FOLDERS[0]):
         for level in programs.LEVELS:
-            paths = program.texts(level)
             with tempfile.TemporaryDirectory() as room:
-                paths = programs.cut(tool, paths[0], room) if len(paths) == 1 else paths
-                texts = [pathlib.Path(path).read_bytes().decode("latin-1") for path in paths]
-            yield Case(f"{folder.name}, {program.name} at O{level}", texts, (tuple(programs.ARGUMENTS.get(program.name, [])), programs.INPUTS.get(program.name, b"")))
+                texts = [read(path) for path in programs.cut(tool, program.texts(level)[0], room)]
+            yield Case(f"programs, {program.name} at O{level}", texts, given_to(program))
 
 
-SETS = {"own": of_own, "links": of_links, "linked_runs": of_linked_runs, "running": of_running,
-        "linked": lambda tool: of_programs(tool, programs.FOLDERS[1]), "programs": lambda tool: of_programs(tool, programs.FOLDERS[0])}
+SETS = {"own": of_own, "random": of_random, "links": of_links, "linked_runs": of_linked_runs, "running": of_running, "linked": of_linked, "programs": of_programs}
 
 
 def main(words):
