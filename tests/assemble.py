@@ -8,7 +8,7 @@ docs/commands.md. Nothing is taken from the program.
     tests/assemble.py            writes the rows
     tests/assemble.py --check    tells whether they are what it would write
 
-The rows stand behind those of tests/link_text.py, and before those of tests/names.py, which takes all that is behind its own mark.
+The rows stand behind those of tests/link_text.py, and before those of tests/bitcode.py.
 """
 import pathlib
 import sys
@@ -17,9 +17,9 @@ sys.dont_write_bytecode = True
 
 CRATE = pathlib.Path(__file__).resolve().parent.parent / "crates" / "tool_table"
 MARK = b"# Texts assembled: written by tests/assemble.py.\n"
-MARK_BEHIND = b"# Names and numbers: written by tests/names.py.\n"
+MARK_BEHIND = b"# Bitcode read: written by tests/bitcode.py.\n"
 RUN = b"> llvm-as -o - assembled.ll\n"
-RUN_BEHIND = b"> llvm-as names.ll\n"
+RUN_BEHIND = b"> llvm-dis -o - spelled.bc\n"
 
 # What the script says of each run, and what is told of it.
 RUNS = []

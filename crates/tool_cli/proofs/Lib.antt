@@ -11,6 +11,7 @@ pub mod Steps
 pub mod Judging
 pub mod Order
 pub mod Verdicts
+pub mod Spelled
 pub mod Begins
 pub mod Headline
 pub mod Ran

@@ -3,7 +3,7 @@ use Rattle.std.proofs.Common.{◌≡◌, ◌⊎◌, inl, inr, ℕ, Bool, true, f
 use Rattle.std.specs.Prelude.{slice_get}
 use Rattle.ir_base.specs.Files.{Named}
 use Rattle.command_line.specs.declared.command.Command.{Command}
-use Rattle.command_line.specs.declared.command.Command.TheVariants.{Assemble, Extract, Lli, Analyze}
+use Rattle.command_line.specs.declared.command.Command.TheVariants.{Assemble, Disassemble, Extract, Lli, Analyze}
 use Rattle.command_line.specs.declared.command.OutputName.{OutputName}
 use Rattle.command_line.specs.declared.command.OutputName.TheVariants.{Standard}
 use Rattle.command_line.specs.declared.command.Selection.{Selection}
@@ -32,6 +32,9 @@ one_alone (t ∷ u ∷ texts) text one first = absurd (omega (arith, one))
 
 pub only_text : (command : Command) (input : List ℕ) (output : OutputName) (texts : List (List ℕ)) (text : List ℕ) → command ≡ Assemble input output → length texts ≡ length (inputs_of command) → slice_get texts 0 ≡ Some text → texts ≡ text ∷ []
 only_text command input output texts text is count first = one_alone texts text (rw is at count) first
+
+pub only_bitcode : (command : Command) (input : List ℕ) (output : OutputName) (texts : List (List ℕ)) (bytes : List ℕ) → command ≡ Disassemble input output → length texts ≡ length (inputs_of command) → slice_get texts 0 ≡ Some bytes → texts ≡ bytes ∷ []
+only_bitcode command input output texts bytes is count first = one_alone texts bytes (rw is at count) first
 
 pub only_input : (command : Command) (input : List ℕ) (output : OutputName) (text : Bool) (selection : Selection) (texts : List (List ℕ)) (bytes : List ℕ) → command ≡ Extract input output text selection → length texts ≡ length (inputs_of command) → slice_get texts 0 ≡ Some bytes → texts ≡ bytes ∷ []
 only_input command input output text selection texts bytes is count first = one_alone texts bytes (rw is at count) first

@@ -1,8 +1,9 @@
--- Whether inputs are texts of modules, judged in the order of the words.
+-- Whether inputs are texts of modules, judged in the order of the words, and whether bitcode spells one.
 use Rattle.std.specs.Prelude.{◌≡◌, ◌⊎◌, ◌==◌, ◌≤◌, ℕ, Bool, List, [], ◌∷◌, ◌++◌, codes, length, Some, None, Err}
 use Rattle.std.specs.Bool.{MatchBool}
 use Rattle.std.specs.Fmt.{decimal}
 use Rattle.std.specs.List.{starts_with}
+use Rattle.bitcode_read.specs.Answers.{IsReadFault}
 use Rattle.ir_syntax.specs.Answers.{HasItems}
 use Rattle.ir_syntax.specs.Refusal.{IsRefused}
 use Rattle.ir_syntax.specs.Tree.{ItemTree}
@@ -18,11 +19,14 @@ use Rattle.name_rules.specs.Reads.{Resolves}
 use Rattle.name_rules.specs.Spelled.{spelled, spelled_global}
 use Rattle.name_rules.specs.declared.fault.ResolveFault.{ResolveFault}
 use Rattle.name_rules.specs.declared.fault.ResolveFault.TheVariants as breaks
+use Rattle.record_read.specs.declared.fault.BitcodeFault.{BitcodeFault}
+use Rattle.record_read.specs.declared.fault.BitcodeFault.TheVariants as bitcode_faults
+use Rattle.record_table.specs.Records.{Spells}
 use Rattle.type_verify.specs.declared.fault.VerifyFault.{VerifyFault}
 use Rattle.type_verify.specs.declared.fault.VerifyFault.TheVariants as verdicts
 use Rattle.path_verify.specs.Verified.{Verifies}
 use Rattle.tool_ends.specs.declared.ended.Ended.{Ended}
-use Rattle.tool_ends.specs.declared.ended.Ended.TheVariants.{BadByte, NoItemHere, LeftOutWord, TooMany, Duplicate, UnknownName, WrongNumber, ConstantRange, TooDeep, SelfContaining, TooLarge, FunctionTooLarge, Invalid, Memory}
+use Rattle.tool_ends.specs.declared.ended.Ended.TheVariants.{BadByte, NoItemHere, LeftOutWord, TooMany, Duplicate, UnknownName, WrongNumber, ConstantRange, TooDeep, SelfContaining, TooLarge, FunctionTooLarge, Invalid, BitFault, ForeignProducer, BadVersion, UnknownRecord, BadRecord, Memory}
 use Rattle.tool_cli.specs.declared.inputs.TheConstants.{LARGEST}
 
 -- The bytes that bitcode begins with (LLVM Bitcode File Format, "LLVM IR Magic Number").
@@ -103,6 +107,44 @@ pub record HasInvalidModule (name text : List ℕ) (ended : Ended) : Type 0 wher
 -- the text of the input of this name is refused, and this is told
 abbrev pub IsTextRefused : List ℕ → List ℕ → Ended → Type 0
 IsTextRefused name text ended = HasNoItems name text ended ⊎ (HasNoModule name text ended ⊎ HasInvalidModule name text ended)
+
+-- the refusal of bitcode, told with the name of its input
+abbrev pub bitcode_told : List ℕ → BitcodeFault → Ended
+bitcode_told name (bitcode_faults.Bit fault) = BitFault name fault
+bitcode_told name bitcode_faults.ForeignProducer = ForeignProducer name
+bitcode_told name (bitcode_faults.BadVersion version) = BadVersion name version
+bitcode_told name (bitcode_faults.UnknownRecord block code) = UnknownRecord name block code
+bitcode_told name (bitcode_faults.BadRecord block index rule) = BadRecord name block index rule
+bitcode_told name bitcode_faults.Memory = Memory
+
+-- bytes spell no module for this reason, which is no want of memory
+abbrev pub IsBitcodeFault : List ℕ → BitcodeFault → Type 0
+IsBitcodeFault bytes bitcode_faults.Memory = ⊥
+IsBitcodeFault bytes fault = IsReadFault bytes fault
+
+-- the bytes of the input of this name spell no module, and this is told
+pub record SpellsNothing (name bytes : List ℕ) (ended : Ended) : Type 0 where
+  pub fault : BitcodeFault
+  pub refused : IsBitcodeFault bytes fault
+  pub told : ended ≡ bitcode_told name fault
+
+-- the module that the bytes of the input of this name spell is refused, and this is told
+pub record SpellsInvalid (name bytes : List ℕ) (ended : Ended) : Type 0 where
+  pub meant : Module
+  pub spelled : Spells bytes meant
+  pub fault : VerifyFault
+  pub refused : IsVerdict meant fault
+  pub told : ended ≡ verdict_told name fault
+
+-- the input of this name is refused as bitcode, and this is told
+abbrev pub IsBitcodeRefused : List ℕ → List ℕ → Ended → Type 0
+IsBitcodeRefused name bytes ended = SpellsNothing name bytes ended ⊎ SpellsInvalid name bytes ended
+
+-- bytes spell this module, of which no function is too large and which is valid
+pub record IsBitcodeOf (bytes : List ℕ) (m : Module) : Type 0 where
+  pub spelled : Spells bytes m
+  pub sized : first_too_large m ≡ None
+  pub valid : IsValid m
 
 -- a module is accepted: no function is too large, and it is valid
 pub record IsAcceptedModule (items : List ItemTree) (m : Module) : Type 0 where

@@ -4,7 +4,7 @@ use Rattle.std.specs.Bool.{MatchBool}
 use Rattle.bit_tree.specs.Stream.{Tree, Stream}
 use Rattle.bit_dump.specs.Text.{dump_text}
 use Rattle.command_line.specs.declared.command.Command.{Command}
-use Rattle.command_line.specs.declared.command.Command.TheVariants.{Assemble, Link, Extract, Analyze}
+use Rattle.command_line.specs.declared.command.Command.TheVariants.{Assemble, Disassemble, Link, Extract, Analyze}
 use Rattle.command_line.specs.declared.command.Selection as words
 use Rattle.linkage_rules.specs.Conflicts.{first_conflict}
 use Rattle.module_linker.specs.Counts.{too_many}
@@ -21,7 +21,7 @@ use Rattle.module_arena.specs.Module.{Module}
 use Rattle.module_arena.specs.Valid.{IsValid}
 use Rattle.module_arena.specs.WellFormed.{IsWellFormed}
 use Rattle.name_rules.specs.Reads.{Reads}
-use Rattle.tool_cli.specs.Judged.{is_bitcode}
+use Rattle.tool_cli.specs.Judged.{is_bitcode, IsBitcodeOf}
 
 -- The module that an input stands for: that of its text. What bitcode stands for is not built.
 abbrev pub StandsFor : List ℕ → Module → Type 0
@@ -90,11 +90,12 @@ abbrev pub format_of : Bool → OutputFormat
 format_of true = CanonicalText
 format_of false = Bitcode
 
--- The result of a command whose inputs are these: of `llvm-as` the bitcode of the module that its text reads to; of `llvm-link` the bitcode, with
--- `-S` the canonical text, of the module that they are linked to; of `llvm-extract` the same of the part that its words select of its input; of
--- `llvm-bcanalyzer` the text of the tree that its input is the stream of. Every other work is not built, and what a program prints is no result.
+-- The result of a command whose inputs are these: of `llvm-as` the bitcode of the module that its text reads to; of `llvm-dis` the canonical text of the
+-- module that its input spells; of `llvm-link` the bitcode, with `-S` the canonical text, of the module that they are linked to; of `llvm-extract` the same of
+-- the part that its words select of its input; of `llvm-bcanalyzer` the text of the tree that its input is the stream of. What a program prints is no result.
 abbrev pub IsResult : Command → List (List ℕ) → List ℕ → Type 0
 IsResult (Assemble input output) (text ∷ []) bytes = (m : Module) × AssemblesTo text m × (bytes ≡ written Bitcode m)
+IsResult (Disassemble input output) (bytes ∷ []) text = (m : Module) × IsBitcodeOf bytes m × (text ≡ written CanonicalText m)
 IsResult (Link inputs output text) texts bytes = (m : Module) × LinksTo texts m × (bytes ≡ written (format_of text) m)
 IsResult (Extract input output text selection) (stream ∷ []) bytes = (m : Module) × ExtractsTo stream selection m × (bytes ≡ written (format_of text) m)
 IsResult (Analyze input dump) (stream ∷ []) bytes = (tree : Tree) × Stream stream tree × (bytes ≡ dump_text tree dump)

@@ -2,7 +2,7 @@
 use Rattle.std.specs.Prelude.{◌≡◌, ◌⊎◌, ℕ, ◌≤◌, true, false, List, drop, codes, Option, Some, None, Result, Ok, Err, IsSomeAnd}
 use Rattle.ir_base.specs.Files.{Named, Holds}
 use Rattle.command_line.specs.declared.command.Command.{Command}
-use Rattle.command_line.specs.declared.command.Command.TheVariants.{Assemble, Link, Extract, Lli, Analyze}
+use Rattle.command_line.specs.declared.command.Command.TheVariants.{Assemble, Disassemble, Link, Extract, Lli, Analyze}
 use Rattle.command_line.specs.declared.command.OutputName.{OutputName}
 use Rattle.command_line.specs.declared.command.OutputName.TheVariants.{Standard, File}
 use Rattle.command_line.specs.Tools.{tool_of}
@@ -15,14 +15,14 @@ use Rattle.tool_cli.specs.Analyzed.{is_analysis}
 use Rattle.tool_cli.specs.Inputs.{inputs_of, runs_program, texts_read}
 use Rattle.tool_cli.specs.Made.{IsResult}
 
--- Where the result of a command goes, and what a program prints. Of a command whose work is not built there is none.
+-- where the result of a command goes, and what a program prints
 abbrev pub output_of : Command → Option OutputName
 output_of (Assemble input output) = Some output
+output_of (Disassemble input output) = Some output
 output_of (Link inputs output text) = Some output
 output_of (Extract input output text selection) = Some output
 output_of (Lli input max_steps arguments) = Some Standard
 output_of (Analyze input dump) = Some Standard
-output_of command = None
 
 abbrev pub output_behind : Option Command → Option OutputName
 output_behind None = None

@@ -21,7 +21,7 @@ use Rattle.tool_ends.specs.declared.ended.Ended.TheVariants.{Usage, CannotRead, 
 use Rattle.tool_ends.specs.declared.ended.Ended.TheVariants as ends
 use Rattle.tool_cli.specs.Inputs.{inputs_of, texts_read}
 use Rattle.tool_cli.specs.Analyzed.{IsAnalysis}
-use Rattle.tool_cli.specs.Judged.{is_bitcode, IsTextRefused, IsFirstRefusal, AreAccepted}
+use Rattle.tool_cli.specs.Judged.{is_bitcode, IsBitcodeOf, IsBitcodeRefused, IsTextRefused, IsFirstRefusal, AreAccepted}
 use Rattle.tool_cli.specs.Made.{AreParts, AssemblesTo, selection_of}
 use Rattle.tool_cli.specs.Running.{end_of}
 
@@ -70,6 +70,10 @@ IsLinking names texts ended =
 abbrev pub IsAssembling : List ℕ → List ℕ → Ended → Type 0
 IsAssembling name text ended = IsTextRefused name text ended ⊎ ((m : Module) × AssemblesTo text m × (ended ≡ ends.Ok))
 
+-- The end of `llvm-dis` over the bytes of the input of this name: they are refused, or spell a module. Bytes that do not begin as bitcode does spell none.
+abbrev pub IsDisassembling : List ℕ → List ℕ → Ended → Type 0
+IsDisassembling name bytes ended = IsBitcodeRefused name bytes ended ⊎ ((m : Module) × IsBitcodeOf bytes m × (ended ≡ ends.Ok))
+
 -- the end over a module: the first selected name that is not there is told, as canonical text spells it, and else there is a part
 abbrev pub part_end : Option (List ℕ) → Ended
 part_end None = ends.Ok
@@ -87,7 +91,8 @@ IsExtraction name selection bytes ended = MatchBool (is_bitcode bytes) (ended �
 -- the end of a command that runs no program, whose inputs are these texts
 abbrev pub IsWork : Command → List (List ℕ) → Ended → Type 0
 IsWork (Lli input max_steps arguments) texts ended = ⊥
-IsWork (Disassemble input output) texts ended = ended ≡ NotBuilt
+IsWork (Disassemble input output) (bytes ∷ []) ended = IsDisassembling input bytes ended
+IsWork (Disassemble input output) texts ended = ⊥
 IsWork (Assemble input output) (text ∷ []) ended = IsAssembling input text ended
 IsWork (Assemble input output) texts ended = ⊥
 IsWork (Analyze input dump) (bytes ∷ []) ended = IsAnalysis input bytes ended

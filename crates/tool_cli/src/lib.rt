@@ -8,7 +8,9 @@
 
 mod analysis;
 mod assembling;
+mod bitcode;
 mod delivery;
+mod disassembling;
 mod entity;
 mod extraction;
 mod inputs;

@@ -89,8 +89,8 @@ fn rule_told(alloc: Global, name: Text, rule: u8, entity: &Entity) -> Result<End
     Ok(Ended::Invalid(name, rule, words))
 }
 
-// The refusal of a module, told with the name of its input.
-fn verdict_told(alloc: Global, name: &Text, fault: VerifyFault) -> Ended
+/// The refusal of a module, told with the name of its input.
+pub(crate) fn verdict_told(alloc: Global, name: &Text, fault: VerifyFault) -> Ended
     ensures told { (result ≡ verdict_told name.now fault) ⊎ (result ≡ Ended.Memory) }
     ensures of_texts { IsOfTexts result }
 {

@@ -12,6 +12,7 @@ ghost use Rattle.tool_cli.specs.Told.{IsWork, IsOfRun};
 
 use crate::analysis::analyze;
 use crate::assembling::assemble;
+use crate::disassembling::disassemble;
 use crate::extraction::extract_part;
 use crate::linking::link;
 use crate::running::run_bytes;
@@ -62,6 +63,10 @@ pub fn work<F: Files, I: Source, O: Sink>(
             input,
             output: place,
         } => assemble(alloc, input, texts.at(0).bytes(), place, files, output),
+        Command::Disassemble {
+            input,
+            output: place,
+        } => disassemble(alloc, input, texts.at(0).bytes(), place, files, output),
         Command::Link {
             inputs,
             output: place,
@@ -103,6 +108,5 @@ pub fn work<F: Files, I: Source, O: Sink>(
             input,
             output,
         ),
-        Command::Disassemble { .. } => Ended::NotBuilt,
     }
 }

@@ -13,7 +13,7 @@ use Rattle.linkage_rules.specs.declared.conflict.ConflictKind.{ConflictKind}
 use Rattle.linkage_rules.specs.declared.conflict.ConflictKind.TheVariants.{TwoStrong, FunctionAndVariable, AppendingAndPlain, ElementShape, Constness}
 use Rattle.tool_ends.specs.declared.clash.Clash.{Clash}
 use Rattle.tool_ends.specs.declared.ended.Ended.{Ended}
-use Rattle.tool_ends.specs.declared.ended.Ended.TheVariants.{Exit, StepsUsed, Undefined, StackLimit, MemoryLimit, Unresolved, NoMain, Usage, CannotRead, CannotWrite, InputTooLarge, BadByte, NoItemHere, LeftOutWord, UnknownName, Duplicate, WrongNumber, ConstantRange, TooDeep, TooLarge, SelfContaining, TooMany, Conflict, FunctionTooLarge, Invalid, BitFault, NoSuchSymbol, NotBuilt, Memory}
+use Rattle.tool_ends.specs.declared.ended.Ended.TheVariants.{Exit, StepsUsed, Undefined, StackLimit, MemoryLimit, Unresolved, NoMain, Usage, CannotRead, CannotWrite, InputTooLarge, BadByte, NoItemHere, LeftOutWord, UnknownName, Duplicate, WrongNumber, ConstantRange, TooDeep, TooLarge, SelfContaining, TooMany, Conflict, FunctionTooLarge, Invalid, BitFault, ForeignProducer, BadVersion, UnknownRecord, BadRecord, NoSuchSymbol, NotBuilt, Memory}
 use Rattle.tool_ends.specs.declared.ended.Ended.TheVariants as ends
 
 -- 0 where a tool did its work; a program's own status; 1 where a tool refuses; 120 where memory ran out; and of a program that has no end of its own 121 where
@@ -46,6 +46,10 @@ status_of (Conflict clash) = 1
 status_of (FunctionTooLarge name function size) = 1
 status_of (Invalid name rule entity) = 1
 status_of (BitFault name fault) = 1
+status_of (ForeignProducer name) = 1
+status_of (BadVersion name version) = 1
+status_of (UnknownRecord name block code) = 1
+status_of (BadRecord name block index rule) = 1
 status_of (NoSuchSymbol symbol) = 1
 status_of NotBuilt = 1
 status_of Memory = 120
@@ -109,6 +113,15 @@ placed_line words (TooLarge name place) = error_line words (located name place (
 placed_line words (SelfContaining name place) = error_line words (located name place (codes "contains itself"))
 placed_line words ended = []
 
+-- what standard error is told of an end about the records of an input; of another end nothing
+abbrev pub line_of_record : List (List ℕ) → Ended → List ℕ
+line_of_record words (ForeignProducer name) = error_line words (name ++ codes ": foreign producer")
+line_of_record words (BadVersion name version) = error_line words (name ++ (codes ": version " ++ decimal version))
+line_of_record words (UnknownRecord name block code) = error_line words (name ++ (codes ": unknown record " ++ (decimal code ++ (codes " in block " ++ decimal block))))
+line_of_record words (BadRecord name block index rule) =
+    error_line words (name ++ (codes ": bad record " ++ (decimal index ++ (codes " in block " ++ (decimal block ++ (codes ", rule " ++ decimal rule))))))
+line_of_record words ended = []
+
 -- what standard error is told: one line, or nothing of a tool that did its work and of a program that ended
 abbrev pub line_of : List (List ℕ) → Ended → List ℕ
 line_of words ends.Ok = []
@@ -129,6 +142,10 @@ line_of words (Conflict clash) = error_line words (clash_words clash)
 line_of words (FunctionTooLarge name function size) = error_line words (name ++ (codes ": function too large: " ++ (function ++ (codes ", " ++ decimal size))))
 line_of words (Invalid name rule entity) = error_line words (name ++ (codes ": invalid V" ++ (decimal rule ++ (codes " at " ++ entity))))
 line_of words (BitFault name fault) = error_line words (name ++ (codes ": bit " ++ (decimal fault.bit ++ (codes ": " ++ fault_words fault.kind))))
+line_of words (ForeignProducer name) = line_of_record words (ForeignProducer name)
+line_of words (BadVersion name version) = line_of_record words (BadVersion name version)
+line_of words (UnknownRecord name block code) = line_of_record words (UnknownRecord name block code)
+line_of words (BadRecord name block index rule) = line_of_record words (BadRecord name block index rule)
 line_of words (NoSuchSymbol symbol) = error_line words (codes "no symbol " ++ symbol)
 line_of words NotBuilt = error_line words (codes "not built")
 line_of words Memory = error_line words (codes "out of memory")

@@ -69,6 +69,15 @@ pub enum Ended {
     Invalid(Text, u8, Text),
     /// The bits of the input of this name are no stream: this field is refused.
     BitFault(Text, BitFault),
+    /// The stream that is the input of this name does not begin with the name of this producer.
+    ForeignProducer(Text),
+    /// The bitcode that is the input of this name has a version that is not read: this.
+    BadVersion(Text, u64),
+    /// In the bitcode that is the input of this name a block with this id has no record of this code; the code is 0 where no block with that id may stand there.
+    UnknownRecord(Text, u32, u32),
+    /// In the bitcode that is the input of this name, in a block with this id, the record with this index over the stream, counted from 0, breaks the rule of this
+    /// number, and none before it.
+    BadRecord(Text, u32, u64, u8),
     /// No definition of its kind has the selected name that is spelled so in canonical text.
     NoSuchSymbol(Text),
     /// The tool is not built, or not for such an input.
@@ -125,6 +134,10 @@ pub fn status_of(ended: &Ended) -> u8
         | Ended::FunctionTooLarge(_, _, _)
         | Ended::Invalid(_, _, _)
         | Ended::BitFault(_, _)
+        | Ended::ForeignProducer(_)
+        | Ended::BadVersion(_, _)
+        | Ended::UnknownRecord(_, _, _)
+        | Ended::BadRecord(_, _, _, _)
         | Ended::NoSuchSymbol(_)
         | Ended::NotBuilt => 1,
         Ended::Memory => 120,

@@ -9,6 +9,7 @@ use crate::clash_line::tell_clash;
 use crate::digits::Digits;
 use crate::ended::Ended;
 use crate::place_line::tell_placed;
+use crate::record_line::tell_record;
 use bits::BitFaultKind;
 use command_line::line_name;
 use ir_base::{Failed, Sink, Text, write_pieces};
@@ -226,7 +227,7 @@ fn tell_rule<'t, E: Sink>(
 }
 
 // A line with a text behind the tool's name, and a name behind that.
-fn tell_text<'t, E: Sink>(
+pub(crate) fn tell_text<'t, E: Sink>(
     errors: &mut E,
     words: &[Text],
     text: &'t [u8],
@@ -283,6 +284,10 @@ pub fn tell<E: Sink>(errors: &mut E, words: &[Text], ended: &Ended)
             let kind = fault_words(fault.kind).as_bytes();
             tell_bit(errors, words, name.bytes(), digits.bytes(), kind)
         }
+        Ended::ForeignProducer(_)
+        | Ended::BadVersion(_, _)
+        | Ended::UnknownRecord(_, _, _)
+        | Ended::BadRecord(_, _, _, _) => tell_record(errors, words, ended),
         Ended::NoSuchSymbol(symbol) => tell_text(errors, words, b"no symbol ", symbol.bytes()),
         Ended::NotBuilt => tell_text(errors, words, b"not built", b""),
         Ended::Memory => tell_text(errors, words, b"out of memory", b""),

@@ -12,6 +12,7 @@ mod digits;
 mod ended;
 mod error_line;
 mod place_line;
+mod record_line;
 
 pub use clash::{Clash, PartName};
 pub use digits::Digits;

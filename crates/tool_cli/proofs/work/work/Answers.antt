@@ -7,10 +7,11 @@ use Rattle.tool_cli.specs.Output.{output_of, FailsToWrite, IsWritten}
 use Rattle.tool_cli.specs.Told.{IsWork}
 use Rattle.tool_cli.proofs.Judging.{short_first}
 use Rattle.tool_cli.specs.Inputs.{hears}
-use Rattle.tool_cli.proofs.Works.{analysis_work, analysis_written, analysis_cause, only_text, only_input, only_program}
+use Rattle.tool_cli.proofs.Works.{analysis_work, analysis_written, analysis_cause, only_text, only_bitcode, only_input, only_program}
 use Rattle.tool_cli.proofs.Commands.{lli_not_begun, lli_of_run, lli_output_fault, lli_unread, lli_unwritten, program_is, work_of_run}
 use Rattle.tool_cli.proofs.Delivered.{leaves_none, link_is, assemble_is}
 use Rattle.tool_cli.proofs.Extracting.{extract_is}
+use Rattle.tool_cli.proofs.Spelled.{disassemble_is}
 use Rattle.tool_cli.proofs.work.work.Goals as goal
 
 pub analyze-requires : goal.analyze-requires
@@ -216,20 +217,44 @@ returns-in-Lli-clause-unread g c = lli_unread c.args.command.now _ _ _ c.args.in
 pub returns-in-Lli-clause-not_begun : goal.returns-in-Lli-clause-not_begun
 returns-in-Lli-clause-not_begun g c = lli_not_begun _ c.args.command.now _ _ _ c.run_bytes.result c.in-Lli.is c.run_bytes.ensures.not_begun
 
+pub disassemble-requires : goal.disassemble-requires
+disassemble-requires g c = rw c.bytes-in-Disassemble.ensures (short_first _ _ c.requires.short c.at-in-Disassemble.ensures)
+
 pub returns-in-Disassemble-clause-work : goal.returns-in-Disassemble-clause-work
-returns-in-Disassemble-clause-work g c = rw c.in-Disassemble.is (λ plain. inl refl)
+returns-in-Disassemble-clause-work g c =
+    let P : Command → List (List ℕ) → Type 0 = λ command texts.
+    IsWork command texts c.disassemble.result
+    ⊎ FailsToWrite (output_of command) (Rose (g.O.Sink.faults c.args.output.now) (g.O.Sink.faults c.disassemble.new.output)) (Rose (g.F.Files.write_faults c.args.files.now) (g.F.Files.write_faults c.disassemble.new.files)) c.disassemble.result in
+    λ plain.
+    disassemble_is P _ _ _ _ _ c.in-Disassemble.is (only_bitcode _ _ _ _ _ c.in-Disassemble.is c.requires.count c.at-in-Disassemble.ensures) (rw c.bytes-in-Disassemble.ensures at c.disassemble.ensures.work)
+
+pub returns-in-Disassemble-clause-written : goal.returns-in-Disassemble-clause-written
+returns-in-Disassemble-clause-written g c =
+    let P : Command → List (List ℕ) → Type 0 = λ command texts.
+    IsWritten command texts (outputs (g.O.Sink.taken c.args.output.now) (g.F.Files.contents c.args.files.now)) (outputs (g.O.Sink.taken c.disassemble.new.output) (g.F.Files.contents c.disassemble.new.files)) c.disassemble.result in
+    λ plain.
+    disassemble_is P _ _ _ _ _ c.in-Disassemble.is (only_bitcode _ _ _ _ _ c.in-Disassemble.is c.requires.count c.at-in-Disassemble.ensures) (rw c.bytes-in-Disassemble.ensures at c.disassemble.ensures.written)
 
 pub returns-in-Disassemble-clause-cannot_write : goal.returns-in-Disassemble-clause-cannot_write
-returns-in-Disassemble-clause-cannot_write g c = λ name told. absurd (let h = told in cc)
+returns-in-Disassemble-clause-cannot_write g c = rw c.in-Disassemble.is c.disassemble.ensures.cannot_write
+
+pub returns-in-Disassemble-clause-write_fault : goal.returns-in-Disassemble-clause-write_fault
+returns-in-Disassemble-clause-write_fault g c = rw c.in-Disassemble.is c.disassemble.ensures.write_fault
+
+pub returns-in-Disassemble-clause-leaves_files : goal.returns-in-Disassemble-clause-leaves_files
+returns-in-Disassemble-clause-leaves_files g c = rw c.in-Disassemble.is c.disassemble.ensures.leaves_files
+
+pub returns-in-Disassemble-clause-unwritten : goal.returns-in-Disassemble-clause-unwritten
+returns-in-Disassemble-clause-unwritten g c = rw c.in-Disassemble.is (λ analysis plain early. c.disassemble.ensures.unwritten early)
+
+pub returns-in-Disassemble-clause-files_unwritten : goal.returns-in-Disassemble-clause-files_unwritten
+returns-in-Disassemble-clause-files_unwritten g c = rw c.in-Disassemble.is c.disassemble.ensures.files_unwritten
+
+pub returns-in-Disassemble-clause-of_work : goal.returns-in-Disassemble-clause-of_work
+returns-in-Disassemble-clause-of_work g c = work_of_run c.disassemble.result (hears c.args.command.now) c.disassemble.ensures.of_work
 
 pub returns-in-Disassemble-clause-ran : goal.returns-in-Disassemble-clause-ran
 returns-in-Disassemble-clause-ran g c = rw c.in-Disassemble.is tt
-
-pub returns-in-Disassemble-clause-written : goal.returns-in-Disassemble-clause-written
-returns-in-Disassemble-clause-written g c = λ plain. refl
-
-pub returns-in-Disassemble-clause-leaves_files : goal.returns-in-Disassemble-clause-leaves_files
-returns-in-Disassemble-clause-leaves_files g c = leaves_none _ _ _ _ _
 
 pub returns-in-Disassemble-clause-not_begun : goal.returns-in-Disassemble-clause-not_begun
 returns-in-Disassemble-clause-not_begun g c = rw c.in-Disassemble.is (λ never. absurd never)
