@@ -1,5 +1,6 @@
 #!/usr/bin/env python3
-"""Writes the rows of `llvm-dis` among crates/tool_table's stored input and output.
+"""Writes the rows of bitcode that is read among crates/tool_table's stored input and output: by `llvm-dis`, and as an input of `llvm-link`,
+`llvm-extract` and `lli`.
 
 The bitcode is made by the encoder of tests/assemble.py from records that are written by hand from docs/bitcode.md, or written out byte for
 byte; so are canonical texts (docs/language.md), refusals, and what is told of runs (docs/commands.md, docs/running.md). Nothing is taken from
@@ -14,14 +15,17 @@ import sys
 
 sys.dont_write_bytecode = True
 from assemble import (
-    ADD, BLOCK, BR, BYTE_CODE, CRATE, EMPTY, EXTERNAL, FUNCTION, INTERNAL, LAYOUT, MODULES, PARAMS, PTR, RET, SOURCE, TRIPLE, VARIABLE, Bits,
-    bitcode, block, body, byte_record, file_of, integer, int_type, line, placed, printed, put_block, record, string, types, value)
+    ADD, BLOCK, BR, BYTE, BYTE_CODE, CALL, CRATE, EMPTY, EXTERNAL, FUNCTION, INTERNAL, LAYOUT, MODULES, PARAMS, PTR, RET, SOURCE, SUM_CODE,
+    TRIPLE, VARIABLE, Bits, bitcode, block, body, byte_record, content, file_of, integer, int_type, line, of_global, placed, printed,
+    put_block, record, string, types, value)
 from streams import GREAT_COUNT, LONG_VBR, SEVENTEEN
 
 MARK = b"# Bitcode read: written by tests/bitcode.py.\n"
 MARK_BEHIND = b"# Names and numbers: written by tests/names.py.\n"
 RUN = b"> llvm-dis -o - spelled.bc\n"
 RUN_BEHIND = b"> llvm-as names.ll\n"
+
+ICMP, SELECT, LOAD = 24, 30, 33
 
 # What the script says of each run, and what is told of it.
 RUNS = []
@@ -259,7 +263,170 @@ def refused():
     run(given_by(b"?") + "room errors 0\n", "llvm-dis -", "status 1\ninput 1\n")
 
 
-TABLES = [disassembled, places, refused]
+# ---- bitcode as an input of the other tools
+
+# A part that lacks a function, one that defines it, and what they are linked to.
+CALLS = "declare i32 @g() define i32 @main() { %1 = call i32 @g() ret i32 %1 }"
+CALLS_CODE = bitcode(
+    b"gmain", types(int_type(32)), record(FUNCTION, 0, 1, EXTERNAL, 0, 0, 0, 0), record(FUNCTION, 1, 4, EXTERNAL, 1, 0, 0, 0),
+    body(record(PARAMS), record(BLOCK, 0), record(CALL, 0, 0, 0, 0, *of_global(0), 0), record(RET, 1, 0, *value(0))))
+GIVES = "define i32 @g() { ret i32 7 }"
+GIVES_BODY = body(record(PARAMS), record(BLOCK, 0), record(RET, 1, 0, *integer(7)))
+GIVES_CODE = bitcode(b"g", types(int_type(32)), record(FUNCTION, 0, 1, EXTERNAL, 1, 0, 0, 0), GIVES_BODY)
+BOTH_CODE = bitcode(
+    b"gmain", types(int_type(32)), record(FUNCTION, 0, 1, EXTERNAL, 1, 0, 0, 0), record(FUNCTION, 1, 4, EXTERNAL, 1, 0, 0, 0), GIVES_BODY,
+    body(record(PARAMS), record(BLOCK, 0), record(CALL, 0, 0, 0, 0, *of_global(0), 0), record(RET, 1, 0, *value(0))))
+BOTH_LINES = ["define i32 @g() {", "0:", "  ret i32 7", "}", "define i32 @main() {", "0:", "  %1 = call i32 @g()", "  ret i32 %1", "}"]
+
+
+# Two parts that point at each other, and two that have a function of one name each for itself.
+RINGS = [
+    "@b = external global ptr @a = global ptr @b define i32 @main() { %1 = load ptr, ptr @a %2 = load ptr, ptr %1 %3 = icmp eq ptr %2, @a"
+    " %4 = select i1 %3, i32 7, i32 9 ret i32 %4 }",
+    "@a = external global ptr @b = global ptr @a"]
+RING_CODE = bitcode(
+    b"bamain", types(PTR, int_type(32), int_type(1)), record(VARIABLE, 0, 1, EXTERNAL, 0, 0, 0, 1, *of_global(1)), record(VARIABLE, 1, 1, EXTERNAL, 0, 0, 0, 1, *of_global(0)),
+    record(FUNCTION, 2, 4, EXTERNAL, 1, 1, 0, 0),
+    body(record(PARAMS), record(BLOCK, 0), record(LOAD, 0, 0, 0, *of_global(1), 0), record(LOAD, 0, 0, 0, *value(0), 0),
+         record(ICMP, 0, 0, 1, 0, *value(1), *of_global(1)), record(SELECT, 0, 1, *value(2), *integer(7), *integer(9)), record(RET, 1, 1, *value(3))))
+RING_LINES = ["@b = global ptr @a", "@a = global ptr @b", "define i32 @main() {", "0:", "  %1 = load ptr, ptr @a", "  %2 = load ptr, ptr %1",
+              "  %3 = icmp eq ptr %2, @a", "  %4 = select i1 %3, i32 7, i32 9", "  ret i32 %4", "}"]
+OWN = [
+    "define internal i32 @f() { ret i32 1 } define i32 @main() { %1 = call i32 @f() %2 = call i32 @g() %3 = add i32 %1, %2 ret i32 %3 } declare i32 @g()",
+    "define internal i32 @f() { ret i32 2 } define i32 @g() { %1 = call i32 @f() ret i32 %1 } define i32 @f.1() { ret i32 40 }"]
+
+
+def function(offset, size, linkage):
+    return record(FUNCTION, offset, size, linkage, 1, 0, 0, 0)
+
+
+def call_of(number):
+    return record(CALL, 0, 0, 0, 0, *of_global(number), 0)
+
+
+def gives(number):
+    return body(record(PARAMS), record(BLOCK, 0), record(RET, 1, 0, *integer(number)))
+
+
+OWN_CODE = bitcode(
+    b"fmaingf.2f.1", types(int_type(32)), function(0, 1, INTERNAL), function(1, 4, EXTERNAL), function(5, 1, EXTERNAL), function(6, 3, INTERNAL), function(9, 3, EXTERNAL),
+    gives(1), body(record(PARAMS), record(BLOCK, 0), call_of(0), call_of(2), record(ADD, 0, 0, 0, *value(0), *value(1)), record(RET, 1, 0, *value(2))),
+    body(record(PARAMS), record(BLOCK, 0), call_of(3), record(RET, 1, 0, *value(0))), gives(2), gives(40))
+OWN_LINES = ["define internal i32 @f() {", "0:", "  ret i32 1", "}", "define i32 @main() {", "0:", "  %1 = call i32 @f()", "  %2 = call i32 @g()",
+             "  %3 = add i32 %1, %2", "  ret i32 %3", "}", "define i32 @g() {", "0:", "  %1 = call i32 @f.2()", "  ret i32 %1", "}",
+             "define internal i32 @f.2() {", "0:", "  ret i32 2", "}", "define i32 @f.1() {", "0:", "  ret i32 40", "}"]
+
+
+def written(text, name):
+    return f"file {name}\n{content(text)}"
+
+
+def linked():
+    """Bitcode, and texts, by `llvm-link`; and what that wrote, by the tools that read."""
+    texts = written(CALLS, "a.ll") + written(GIVES, "b.ll")
+    codes = stored(CALLS_CODE, "a.bc") + stored(GIVES_CODE, "b.bc")
+    both = stream(lines(*BOTH_LINES))
+    first = True
+    for one in ["a.ll", "a.bc"]:
+        for other in ["b.ll", "b.bc"]:
+            run("clear\n" + texts + codes if first else "", f"llvm-link -o z.bc {one} {other}", f"status 0\nfiles {one} {other}\nwrote z.bc\n{printed(BOTH_CODE)}")
+            run("", f"llvm-link -S {one} {other}", f"status 0\nfiles {one} {other}\n{both}")
+            first = False
+    run("", "lli z.bc", "status 7\nfiles z.bc\n")
+    run("", "llvm-dis -o z.ll z.bc", f"status 0\nfiles z.bc\nwrote z.ll\n{printed(lines(*BOTH_LINES).encode())}")
+    run("", "lli z.ll", "status 7\nfiles z.ll\n")
+    run("", "llvm-link -o y.bc z.bc", f"status 0\nfiles z.bc\nwrote y.bc\n{printed(BOTH_CODE)}")
+    # The other order makes the same module of these.
+    run("", "llvm-link -S b.bc a.bc", f"status 0\nfiles b.bc a.bc\n{both}")
+    # A conflict names inputs of either kind, and one that lacks a function is linked all the same.
+    run("", "llvm-link b.bc b.ll", f"status 1\nfiles b.bc b.ll\n{line('llvm-link: conflict: two strong: @g in b.bc and b.ll')}")
+    run("", "llvm-link a.bc", f"status 0\nfiles a.bc\noutput\n{printed(CALLS_CODE)}")
+    # From standard input; and what is spelled otherwise is written as one spelling.
+    run(f"input\n= {CALLS_CODE.hex(' ')}\n", "llvm-link -S - b.ll", f"status 0\nfiles b.ll\ninput {len(CALLS_CODE)}\n{both}")
+    for code, text in OTHERWISE[1:2] + OTHERWISE[3:]:
+        run("clear\n" + stored(code), "llvm-link -S spelled.bc", f"status 0\nfiles spelled.bc\n{stream(lines(*text))}")
+    for code, _ in OTHERWISE[3:]:
+        run("clear\n" + stored(code), "llvm-link spelled.bc", f"status 0\nfiles spelled.bc\noutput\n{printed(BYTE_CODE)}")
+    # What is linked runs as its parts do, as bitcode and as the text of that.
+    for (one, other), code, text, status in [(RINGS, RING_CODE, RING_LINES, 7), (OWN, OWN_CODE, OWN_LINES, 3)]:
+        run("clear\n" + written(one, "a.ll") + written(other, "b.ll"), "llvm-link -o z.bc a.ll b.ll", f"status 0\nfiles a.ll b.ll\nwrote z.bc\n{printed(code)}")
+        run("", "lli z.bc", f"status {status}\nfiles z.bc\n")
+        run("", "llvm-dis z.bc", f"status 0\nfiles z.bc\nwrote z.ll\n{printed(lines(*text).encode())}")
+        run("", "lli z.ll", f"status {status}\nfiles z.ll\n")
+    # A weak definition of bitcode gives way to a strong one of a text.
+    weak = bitcode(b"x", types(int_type(8)), record(VARIABLE, 0, 1, 6, 0, 0, 0, 1, *integer(1)))
+    run("clear\n" + stored(weak, "w.bc") + written(BYTE, "x.ll"), "llvm-link w.bc x.ll", f"status 0\nfiles w.bc x.ll\noutput\n{printed(BYTE_CODE)}")
+
+
+def ran():
+    """Bitcode that `lli` runs, from a file and from standard input."""
+    run("clear\n" + stored(SUM_CODE), "lli spelled.bc", "status 42\nfiles spelled.bc\n")
+    run(given_by(SUM_CODE), "lli -", f"status 42\ninput {len(SUM_CODE)}\n")
+    run(given_by(SUM_CODE), "lli", f"status 42\ninput {len(SUM_CODE)}\n")
+    run("clear\n" + stored(OTHERWISE[2][0]), "lli spelled.bc", "status 42\nfiles spelled.bc\n")
+    run("", "lli --max-steps=1 spelled.bc", f"status 124\nfiles spelled.bc\n{line('lli: steps used up')}")
+    run("clear\n" + stored(CALLS_CODE, "a.bc"), "lli a.bc", f"status 123\nfiles a.bc\n{line('lli: unresolved @g')}")
+    run("clear\n" + stored(EMPTY, "e.bc"), "lli e.bc", f"status 123\nfiles e.bc\n{line('lli: no main')}")
+    # The program has standard input for its own where its bitcode comes from a file, and else none.
+    hears = bitcode(
+        b"getcharmain", types(int_type(32)), record(FUNCTION, 0, 7, EXTERNAL, 0, 0, 0, 0), record(FUNCTION, 7, 4, EXTERNAL, 1, 0, 0, 0),
+        body(record(PARAMS), record(BLOCK, 0), record(CALL, 0, 0, 0, 0, *of_global(0), 0), record(RET, 1, 0, *value(0))))
+    run("clear\n" + stored(hears) + "input\n+ A\n", "lli spelled.bc", "status 65\nfiles spelled.bc\ninput 1\n")
+    run(given_by(hears), "lli -", f"status 255\ninput {len(hears)}\n")
+    # Its arguments are the name of the bitcode, and the words behind.
+    counts = bitcode(
+        b"main", types(int_type(32), PTR), record(FUNCTION, 0, 4, EXTERNAL, 1, 0, 0, 2, 0, 1),
+        body(record(PARAMS, 0, 0), record(BLOCK, 0), record(RET, 1, 0, *value(0))))
+    run("clear\n" + stored(counts), "lli spelled.bc one two", "status 3\nfiles spelled.bc\n")
+    # It prints while it runs.
+    prints = bitcode(
+        b"putcharmain", types(int_type(32)), record(FUNCTION, 0, 7, EXTERNAL, 0, 0, 0, 1, 0), record(FUNCTION, 7, 4, EXTERNAL, 1, 0, 0, 0),
+        body(record(PARAMS), record(BLOCK, 0), record(CALL, 0, 0, 0, 1, 0, *of_global(0), 1, *integer(75)), record(RET, 1, 0, *integer(0))))
+    run("clear\n" + stored(prints), "lli spelled.bc", "status 0\nfiles spelled.bc\noutput\n+ K\n")
+    run("fails output 1\n", "lli spelled.bc", f"status 1\nfiles spelled.bc\n{line('lli: cannot write -')}")
+
+
+def extracted():
+    """Parts of bitcode."""
+    code = bitcode(
+        b"xfh", types(int_type(32), PTR), record(VARIABLE, 0, 1, INTERNAL, 0, 0, 0, 1, *integer(1)), record(FUNCTION, 1, 1, EXTERNAL, 1, 0, 0, 0),
+        record(FUNCTION, 2, 1, INTERNAL, 1, 0, 0, 0),
+        body(record(PARAMS), record(BLOCK, 0), record(LOAD, 0, 0, 0, *of_global(0), 0), record(RET, 1, 0, *value(0))),
+        body(record(PARAMS), record(BLOCK, 0), record(RET, 1, 0, *integer(2))))
+    run("clear\n" + stored(code), "llvm-extract -S --func=f spelled.bc",
+        f"status 0\nfiles spelled.bc\n{stream(lines('@x = external global i32', 'define i32 @f() {', '0:', '  %1 = load i32, ptr @x', '  ret i32 %1', '}'))}")
+    run("", "llvm-extract -S --delete --func=f spelled.bc",
+        f"status 0\nfiles spelled.bc\n{stream(lines('@x = global i32 1', 'define i32 @h() {', '0:', '  ret i32 2', '}'))}")
+    h = bitcode(b"h", types(int_type(32)), record(FUNCTION, 0, 1, EXTERNAL, 1, 0, 0, 0), body(record(PARAMS), record(BLOCK, 0), record(RET, 1, 0, *integer(2))))
+    run("", "llvm-extract --func=h -o h.bc spelled.bc", f"status 0\nfiles spelled.bc\nwrote h.bc\n{printed(h)}")
+    run("", "llvm-extract -S h.bc --func h", f"status 0\nfiles h.bc\n{stream(lines('define i32 @h() {', '0:', '  ret i32 2', '}'))}")
+    run("", "llvm-extract --func=none spelled.bc", f"status 1\nfiles spelled.bc\n{line('llvm-extract: no symbol @none')}")
+    run(given_by(h), "llvm-extract -S --func=h", f"status 0\ninput {len(h)}\n{stream(lines('define i32 @h() {', '0:', '  ret i32 2', '}'))}")
+
+
+# The tools that read a text or bitcode, over one input that they refuse.
+READERS = [("llvm-link", "llvm-link -o out.bc spelled.bc"), ("llvm-extract", "llvm-extract --func=f -o out.bc spelled.bc"), ("lli", "lli spelled.bc one")]
+
+
+def refused_by_all():
+    """Bitcode that is refused, by each tool that reads it. Bytes that do not begin as bitcode does are a text."""
+    for code, told in REFUSED:
+        if not code.startswith(bytes.fromhex("42 43 c0 de")):
+            continue
+        for tool, words in READERS:
+            run("clear\n" + stored(code), words, f"status 1\nfiles spelled.bc\n{line(f'{tool}: spelled.bc: {told}')}")
+    for tool, words in READERS:
+        run("clear\n" + stored(bytes.fromhex("42 43 c0 df")), words, f"status 1\nfiles spelled.bc\n{line(f'{tool}: spelled.bc:1:1: no item here')}")
+        run("clear\n" + stored(bytes.fromhex("42 43 c0 de")), words, f"status 1\nfiles spelled.bc\n{line(f'{tool}: spelled.bc: foreign producer')}")
+    # The first input that is refused is told, whichever it is, and a conflict of those before it is not.
+    given = "clear\n" + stored(EMPTY[:52], "bad.bc") + "file bad.ll\n+ ?\n" + stored(GIVES_CODE, "b.bc")
+    run(given, "llvm-link b.bc b.bc bad.bc bad.ll", f"status 1\nfiles b.bc b.bc bad.bc bad.ll\n{line('llvm-link: bad.bc: bad record 2 in block 8, rule 5')}")
+    run("", "llvm-link b.bc bad.ll bad.bc", f"status 1\nfiles b.bc bad.ll bad.bc\n{line('llvm-link: bad.ll:1:1: bad byte')}")
+    # A program that is refused reads nothing and prints nothing.
+    run("input\n+ A\n", "lli bad.bc", f"status 1\nfiles bad.bc\n{line('lli: bad.bc: bad record 2 in block 8, rule 5')}")
+
+
+TABLES = [disassembled, places, refused, linked, ran, extracted, refused_by_all]
 
 
 def main():

@@ -272,11 +272,11 @@ def streams():
 
 
 def refusals():
-    """A text that is refused is told before a name that is not there, and bitcode is not built."""
+    """A text, or bitcode, that is refused is told before a name that is not there."""
     run(file_of("@x = global i8 256"), "llvm-extract -S --func=none extracted.ll", f"status 1\nfiles extracted.ll\n{line('llvm-extract: extracted.ll:1:16: constant out of range')}")
     run(file_of("declare internal void @f()"), "llvm-extract --func=f -o out.bc extracted.ll", f"status 1\nfiles extracted.ll\n{line('llvm-extract: extracted.ll: invalid V2 at @f')}")
     run(file_of("@x = global"), "llvm-extract -S extracted.ll", f"status 1\nfiles extracted.ll\n{line('llvm-extract: extracted.ll:1:12: no item here')}")
-    run("clear\nfile extracted.ll\n= 42 43 c0 de\n", "llvm-extract --func=none extracted.ll", f"status 1\nfiles extracted.ll\n{line('llvm-extract: not built')}")
+    run("clear\nfile extracted.ll\n= 42 43 c0 de\n", "llvm-extract --func=none extracted.ll", f"status 1\nfiles extracted.ll\n{line('llvm-extract: extracted.ll: foreign producer')}")
 
 
 def codes():

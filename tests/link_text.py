@@ -124,7 +124,7 @@ def refusals():
 
 
 def changed():
-    """One text that linking changes, one text twice, and bitcode, which is not read yet."""
+    """One text that linking changes, one text twice, and bitcode of no producer."""
     twice = "errors\n| llvm-link: conflict: two strong: @x in canonical.ll and canonical.ll\n"
     run(file_of("@x = global i8 255"), "llvm-link canonical.ll canonical.ll", f"status 1\nfiles canonical.ll canonical.ll\n{twice}")
     run("", "llvm-link -S canonical.ll canonical.ll -o out.ll", f"status 1\nfiles canonical.ll canonical.ll\n{twice}")
@@ -132,7 +132,7 @@ def changed():
     run("", "llvm-link canonical.ll", "status 0\nfiles canonical.ll\noutput\n" + printed_bytes(bitcode(b"x", types(int_type(8)), record(VARIABLE, 0, 1, EXTERNAL, 0, 0, 0, 0))))
     row("define available_externally void @f() { ret void }", "declare void @f()\n")
     row("@x = appending global [0 x i8] zeroinitializer", "@x = appending global [0 x i8] []\n")
-    run("clear\nfile canonical.ll\n= 4243c0de\n", "llvm-link -S canonical.ll", "status 1\nfiles canonical.ll\nerrors\n| llvm-link: not built\n")
+    run("clear\nfile canonical.ll\n= 4243c0de\n", "llvm-link -S canonical.ll", "status 1\nfiles canonical.ll\nerrors\n| llvm-link: canonical.ll: foreign producer\n")
     # An appending list, empty or not, is what it is.
     row("@x = appending global [0 x i8] [] @y = appending global [1 x i8] [i8 255]", "@x = appending global [0 x i8] []\n@y = appending global [1 x i8] [i8 -1]\n")
 

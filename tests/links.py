@@ -976,10 +976,10 @@ def ends():
     parts = "file a.ll\n+ @x = external global i8\nfile b.ll\n+ @x = global i8 255\n"
     told(parts, "llvm-link a.ll b.ll", f"status 0\nfiles a.ll b.ll\noutput\n{printed_bytes(BYTE_CODE)}")
     told(parts, "llvm-link a.ll b.ll -o z.bc", f"status 0\nfiles a.ll b.ll\nwrote z.bc\n{printed_bytes(BYTE_CODE)}")
-    # Bitcode beside texts in conflict is not built; a text that is refused is told before any conflict.
+    # An input that is refused, bitcode or text, is told before any conflict.
     clash = "file x.ll\n+ @x = global i32 1\nfile y.ll\n+ @x = global i32 2\n"
-    told(clash + "file c.bc\n= 42 43 c0 de\n", "llvm-link x.ll c.bc y.ll", "status 1\nfiles x.ll c.bc y.ll\nerrors\n| llvm-link: not built\n")
-    told(clash + "file c.bc\n= 42 43 c0 de\n", "llvm-link c.bc x.ll y.ll", "status 1\nfiles c.bc x.ll y.ll\nerrors\n| llvm-link: not built\n")
+    told(clash + "file c.bc\n= 42 43 c0 de\n", "llvm-link x.ll c.bc y.ll", "status 1\nfiles x.ll c.bc y.ll\nerrors\n| llvm-link: c.bc: foreign producer\n")
+    told(clash + "file c.bc\n= 42 43 c0 de\n", "llvm-link c.bc x.ll y.ll", "status 1\nfiles c.bc x.ll y.ll\nerrors\n| llvm-link: c.bc: foreign producer\n")
     refused("c.ll:1:16: constant out of range", "@x = global i32 1", "@x = global i32 2", "@x = global i8 256")
     # Where a conflict is told no file is written, and a standard error that fails changes no answer.
     told(clash + "file z.bc\n+ kept\n", "llvm-link x.ll y.ll -o z.bc", "status 1\nfiles x.ll y.ll\nerrors\n| llvm-link: conflict: two strong: @x in x.ll and y.ll\n")

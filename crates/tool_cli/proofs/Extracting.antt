@@ -1,7 +1,6 @@
 -- Ends of extraction.
-use Rattle.std.proofs.Common.{◌≡◌, ◌⊎◌, inl, inr, ℕ, Bool, true, false, List, [], ◌∷◌, Some, None, Result, Ok, Err, refl, sym, ap, ◌∙◌, subst, true≢false}
+use Rattle.std.proofs.Common.{◌≡◌, ◌⊎◌, inl, inr, ℕ, Bool, List, [], ◌∷◌, Some, None, Result, Ok, Err, refl, sym, ap, ◌∙◌, subst}
 use Rattle.std.specs.Prelude.{IfOk, IfErr, OnOk}
-use Rattle.std.specs.Bool.{MatchBool}
 use Rattle.command_line.specs.declared.command.Command.{Command}
 use Rattle.command_line.specs.declared.command.Command.TheVariants.{Extract}
 use Rattle.command_line.specs.declared.command.OutputName.{OutputName}
@@ -12,65 +11,33 @@ use Rattle.extract_core.specs.Selected.{no_such_symbol}
 use Rattle.extract_core.specs.declared.selection.ExtractFault.{ExtractFault}
 use Rattle.extract_core.specs.declared.selection.ExtractFault.TheVariants as faults
 use Rattle.extract_core.specs.declared.selection.Selection.{Selection}
-use Rattle.ir_syntax.specs.Tree.{ItemTree}
 use Rattle.module_arena.specs.Lists.{Lists}
 use Rattle.module_arena.specs.Module.{Module}
 use Rattle.module_arena.specs.View.{module_of}
-use Rattle.name_rules.specs.Reads.{Reads}
 use Rattle.name_rules.specs.Spelled.{spelled_global}
 use Rattle.tool_ends.specs.declared.ended.Ended.{Ended}
-use Rattle.tool_ends.specs.declared.ended.Ended.TheVariants.{NoSuchSymbol, NotBuilt, Memory}
+use Rattle.tool_ends.specs.declared.ended.Ended.TheVariants.{NoSuchSymbol, Memory}
 use Rattle.tool_ends.specs.declared.ended.Ended.TheVariants as ends
 use Rattle.tool_output.specs.Written.{written}
-use Rattle.tool_cli.specs.Judged.{is_bitcode, IsTextOf}
-use Rattle.tool_cli.specs.Made.{ExtractsTo, IsResult, format_of, selection_of}
+use Rattle.tool_cli.specs.Made.{ExtractsTo, IsPart, IsResult, format_of, selection_of}
 use Rattle.tool_cli.specs.Output.{FailsToWrite}
-use Rattle.tool_cli.specs.Told.{part_end, IsTextExtraction, IsExtraction, IsWork}
-use Rattle.tool_cli.proofs.Delivered.{text_assembled}
-use Rattle.tool_cli.proofs.Linked.{is_part}
+use Rattle.tool_cli.specs.Told.{part_end, IsExtraction, IsWork}
 
--- Over bytes that are bitcode, and over those that are not.
-
-bitcode_by : (bitcode : Bool) (P Q : Type 0) → bitcode ≡ true → P → MatchBool bitcode P Q
-bitcode_by true P Q e p = p
-bitcode_by false P Q e p = absurd (true≢false (sym e))
-
-text_by : (bitcode : Bool) (P Q : Type 0) → bitcode ≡ false → Q → MatchBool bitcode P Q
-text_by true P Q e q = absurd (true≢false e)
-text_by false P Q e q = q
-
--- bytes that stand for a module are a text
-module_by : (bitcode : Bool) (R P Q : Type 0) → (R → Q) → MatchBool bitcode ⊥ R → MatchBool bitcode P Q
-module_by true R P Q from stands = absurd stands
-module_by false R P Q from stands = from stands
-
--- of bitcode nothing is extracted yet
-pub bitcode_unextracted : (name bytes : List ℕ) (selection : words.Selection) → is_bitcode bytes ≡ true → IsExtraction name selection bytes NotBuilt
-bitcode_unextracted name bytes selection bitcode = bitcode_by (is_bitcode bytes) (NotBuilt ≡ NotBuilt) (IsTextExtraction name selection bytes NotBuilt) bitcode refl
+-- An input that stands for a module.
 
 -- a module in which a selected name is not there
-pub missing_unextracted : (name bytes : List ℕ) (selection : words.Selection) (items : List ItemTree) (m : Module) (ended : Ended) → is_bitcode bytes ≡ false → IsTextOf bytes items m → (ended ≡ part_end (no_such_symbol m (selection_of selection))) ⊎ (ended ≡ Memory) → IsExtraction name selection bytes ended ⊎ (ended ≡ Memory)
-missing_unextracted name bytes selection items m ended text is (inl told) =
-    inl (text_by (is_bitcode bytes) (ended ≡ NotBuilt) (IsTextExtraction name selection bytes ended) text (inr (m, text_assembled bytes items m is, told)))
-missing_unextracted name bytes selection items m ended text is (inr none) = inr none
+missing_unextracted : (name bytes : List ℕ) (selection : words.Selection) (m : Module) (ended : Ended) → IsPart bytes m → (ended ≡ part_end (no_such_symbol m (selection_of selection))) ⊎ (ended ≡ Memory) → IsExtraction name selection bytes ended ⊎ (ended ≡ Memory)
+missing_unextracted name bytes selection m ended is (inl told) = inl (inr (m, is, told))
+missing_unextracted name bytes selection m ended is (inr none) = inr none
 
--- the part of a text's module
-pub part_extracted : (bytes : List ℕ) (selection : words.Selection) (items : List ItemTree) (m part : Module) → is_bitcode bytes ≡ false → IsTextOf bytes items m → no_such_symbol m (selection_of selection) ≡ None → part ≡ Extracted m (selection_of selection) → ExtractsTo bytes selection part
-part_extracted bytes selection items m part text is there extracted = record {
-  whole = m;
-  is_part = is_part bytes items m text is;
-  there = there;
-  extracted = extracted;
-}
+-- what is found: a part, or an end
+pub found_extracted : (bytes : List ℕ) (selection : words.Selection) (m : Module) (found : Result Lists Ended) → IsPart bytes m → OnOk found (no_such_symbol m (selection_of selection) ≡ None) → IfOk found (λ part. module_of part ≡ Extracted m (selection_of selection)) → IfOk found (λ part. ExtractsTo bytes selection (module_of part))
+found_extracted bytes selection m (Ok part) is there extracted = record { whole = m; is_part = is; there = there; extracted = extracted }
+found_extracted bytes selection m (Err ended) is there extracted = tt
 
--- the same of what is found: a part, or an end
-pub found_extracted : (bytes : List ℕ) (selection : words.Selection) (items : List ItemTree) (m : Module) (found : Result Lists Ended) → is_bitcode bytes ≡ false → IsTextOf bytes items m → OnOk found (no_such_symbol m (selection_of selection) ≡ None) → IfOk found (λ part. module_of part ≡ Extracted m (selection_of selection)) → IfOk found (λ part. ExtractsTo bytes selection (module_of part))
-found_extracted bytes selection items m (Ok part) text is there extracted = part_extracted bytes selection items m (module_of part) text is there extracted
-found_extracted bytes selection items m (Err ended) text is there extracted = tt
-
-pub found_unextracted : (name bytes : List ℕ) (selection : words.Selection) (items : List ItemTree) (m : Module) (found : Result Lists Ended) → is_bitcode bytes ≡ false → IsTextOf bytes items m → IfErr found (λ ended. (ended ≡ part_end (no_such_symbol m (selection_of selection))) ⊎ (ended ≡ Memory)) → IfErr found (λ ended. IsExtraction name selection bytes ended ⊎ (ended ≡ Memory))
-found_unextracted name bytes selection items m (Ok part) text is missing = tt
-found_unextracted name bytes selection items m (Err ended) text is missing = missing_unextracted name bytes selection items m ended text is missing
+pub found_unextracted : (name bytes : List ℕ) (selection : words.Selection) (m : Module) (found : Result Lists Ended) → IsPart bytes m → IfErr found (λ ended. (ended ≡ part_end (no_such_symbol m (selection_of selection))) ⊎ (ended ≡ Memory)) → IfErr found (λ ended. IsExtraction name selection bytes ended ⊎ (ended ≡ Memory))
+found_unextracted name bytes selection m (Ok part) is missing = tt
+found_unextracted name bytes selection m (Err ended) is missing = missing_unextracted name bytes selection m ended is missing
 
 -- What the words select, taken of a module.
 
@@ -91,9 +58,7 @@ taken_missing m s t fault symbol ended taken is has (inr none) = inr none
 -- The command.
 
 pub extract_work : (name bytes : List ℕ) (place : OutputName) (text : Bool) (selection : words.Selection) (part : Module) → ExtractsTo bytes selection part → IsWork (Extract name place text selection) (bytes ∷ []) ends.Ok
-extract_work name bytes place text selection part e =
-    module_by (is_bitcode bytes) (Reads bytes e.whole) (ends.Ok ≡ NotBuilt) (IsTextExtraction name selection bytes ends.Ok)
-    (λ reads. inr (e.whole, record { reads = reads; sized = e.is_part.sized; valid = e.is_part.valid }, ap part_end (sym e.there))) e.is_part.stands
+extract_work name bytes place text selection part e = inr (e.whole, e.is_part, ap part_end (sym e.there))
 
 pub extract_result : (name bytes : List ℕ) (place : OutputName) (text : Bool) (selection : words.Selection) (part : Module) → ExtractsTo bytes selection part → IsResult (Extract name place text selection) (bytes ∷ []) (written (format_of text) part)
 extract_result name bytes place text selection part e = (part, e, refl)

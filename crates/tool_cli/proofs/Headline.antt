@@ -1,8 +1,10 @@
 -- What is linked runs as its parts: from what is told of a run, and what is shown.
-use Rattle.std.proofs.Common.{◌≡◌, ◌⊎◌, ◌↔◌, inl, inr, ℕ, Bool, true, false, List, [], ◌∷◌, Option, Some, None, Result, refl, sym, ap, ◌∙◌, subst, true≢false}
+use Rattle.std.proofs.Common.{◌≡◌, ◌⊎◌, ◌↔◌, inl, inr, ℕ, Bool, true, false, List, [], ◌∷◌, Option, Some, None, Result, refl, sym, ap, ◌∙◌, subst}
 use Rattle.std.specs.Bool.{MatchBool}
 use Rattle.std.specs.List.{AllByRecursion}
 use Rattle.std.specs.Option.{option_map}
+use Rattle.bit_tree.proofs.Faults.{tree_no_fault}
+use Rattle.bit_tree.proofs.One.{one_tree}
 use Rattle.ir_base.specs.Files.{Named}
 use Rattle.ir_syntax.proofs.Refusals.{refused_bad}
 use Rattle.ir_syntax.proofs.Results.{items_not_bad, one_items}
@@ -23,6 +25,10 @@ use Rattle.name_rules.specs.Laws.{ReadsOnce}
 use Rattle.name_rules.specs.ModuleOf.{module_of_items}
 use Rattle.name_rules.specs.Reads.{Reads}
 use Rattle.path_verify.specs.Verified.{told_of}
+use Rattle.record_read.specs.declared.fault.BitcodeFault.{BitcodeFault}
+use Rattle.record_read.specs.declared.fault.BitcodeFault.TheVariants as bitcode_faults
+use Rattle.record_table.specs.Records.{Spells, fault_in, record_fault}
+use Rattle.record_table.specs.Spelling.{spelling}
 use Rattle.run_rules.specs.Same.{RunAlike}
 use Rattle.spelled_alone.specs.Laws.{ModulesAreSpelledAlone}
 use Rattle.type_verify.specs.declared.fault.VerifyFault.{VerifyFault}
@@ -33,31 +39,25 @@ use Rattle.tool_output.specs.Outputs.{Outputs}
 use Rattle.tool_output.specs.Written.{written}
 use Rattle.tool_output.specs.declared.format.OutputFormat.{OutputFormat}
 use Rattle.tool_output.specs.declared.format.OutputFormat.TheVariants.{CanonicalText, Bitcode}
-use Rattle.tool_cli.specs.Headline.{StandForOne, RunsAsParts, ComesTo, RunsLinked}
+use Rattle.tool_cli.specs.Headline.{AreReadable, StandForOne, RunsAsParts, ComesTo, RunsLinked}
 use Rattle.tool_cli.specs.Inputs.{inputs_of, texts_read}
-use Rattle.tool_cli.specs.Judged.{is_bitcode, IsFirstRefusal, IsPartRefused, IsTextRefused, IsVerdict}
+use Rattle.tool_cli.specs.Judged.{is_bitcode, IsBitcodeFault, IsBitcodeRefused, IsFirstRefusal, IsPartRefused, IsTextRefused, IsVerdict}
 use Rattle.tool_cli.specs.Made.{AreParts, IsPart, RunsLike, StandsFor, format_of}
 use Rattle.tool_cli.specs.Output.{IsShown, IsWritten, IsWrittenOf}
-use Rattle.tool_cli.specs.Told.{EndsByParts, IsLinking, IsOutcome, IsTold, has_bitcode, link_end}
-use Rattle.tool_cli.proofs.Begins.{canon_begins}
+use Rattle.tool_cli.specs.Told.{IsLinking, IsOutcome, IsTold, link_end}
+use Rattle.tool_cli.proofs.Begins.{canon_begins, spelling_begins}
 use Rattle.tool_cli.proofs.Outcomes.{same_command}
+use Rattle.tool_cli.proofs.Spelled.{spells_once}
 
 none_some : {A : Type 0} {x : A} → None ≡ Some x → ⊥
 none_some e = absurd cc
 
 -- ---- parts
 
-pub one_by : (bitcode : Bool) (R S Q : Type 0) → (R → S → Q) → MatchBool bitcode ⊥ R → MatchBool bitcode ⊥ S → Q
-one_by true R S Q from r s = absurd r
-one_by false R S Q from r s = from r s
-
-second_by : (bitcode : Bool) (P Q : Type 0) → bitcode ≡ false → MatchBool bitcode P Q → Q
-second_by true P Q e h = absurd (true≢false e)
-second_by false P Q e h = h
-
-not_bitcode : (bitcode : Bool) (R : Type 0) → MatchBool bitcode ⊥ R → bitcode ≡ false
-not_bitcode true R r = absurd r
-not_bitcode false R r = refl
+-- what follows where two inputs are both bitcode, and where they are both texts
+two_by : (bitcode : Bool) (P Q R S T : Type 0) → (P → R → T) → (Q → S → T) → MatchBool bitcode P Q → MatchBool bitcode R S → T
+two_by true P Q R S T of_bitcode of_text p r = of_bitcode p r
+two_by false P Q R S T of_bitcode of_text q s = of_text q s
 
 -- among demands that all hold none is the first that does not
 not_first : (ds : List Demand) (entity : Entity) (rule : ℕ) → AllHold ds → IsFirstOf ds entity rule → ⊥
@@ -83,10 +83,25 @@ unrefused_text name text m ended sized valid reads (inr (inr bad)) =
     let same : bad.meant ≡ m = bad.resolves.joined ∙ ap module_of_items (one_items text reads.items bad.items reads.has_items bad.has_items) ∙ sym reads.resolves.joined in
     unjudged m bad.fault sized valid (subst (λ (n : Module). IsVerdict n bad.fault) same bad.refused)
 
+-- bytes that spell a module are not refused as bitcode
+spells_something : (bytes : List ℕ) (m : Module) (fault : BitcodeFault) → Spells bytes m → IsBitcodeFault bytes fault → ⊥
+spells_something bytes m (bitcode_faults.Bit bit) spells refused = none_some (sym (tree_no_fault bytes spells.tree spells.is_tree) ∙ refused)
+spells_something bytes m bitcode_faults.Memory spells refused = absurd refused
+spells_something bytes m fault spells refused =
+    let same = one_tree bytes refused.tree spells.tree refused.is_tree spells.is_tree in
+    none_some (sym (ap record_fault same ∙ ap fault_in spells.stands) ∙ refused.is_told)
+
+-- nor where that is accepted
+pub unrefused_bitcode : (name bytes : List ℕ) (m : Module) (ended : Ended) → first_too_large m ≡ None → IsValid m → Spells bytes m → IsBitcodeRefused name bytes ended → ⊥
+unrefused_bitcode name bytes m ended sized valid spells (inl none) = spells_something bytes m none.fault spells none.refused
+unrefused_bitcode name bytes m ended sized valid spells (inr bad) =
+    unjudged m bad.fault sized valid (subst (λ (n : Module). IsVerdict n bad.fault) (spells_once bytes bad.meant m bad.spelled spells) bad.refused)
+
 -- nor is an input that stands for it
-unrefused : (name text : List ℕ) (m : Module) (ended : Ended) → IsPart text m → IsPartRefused name text ended → ⊥
-unrefused name text m ended is refused =
-    one_by (is_bitcode text) (Reads text m) (IsTextRefused name text ended) ⊥ (λ reads bad. unrefused_text name text m ended is.sized is.valid reads bad) is.stands refused
+pub unrefused : (name bytes : List ℕ) (m : Module) (ended : Ended) → IsPart bytes m → IsPartRefused name bytes ended → ⊥
+unrefused name bytes m ended is refused =
+    two_by (is_bitcode bytes) (Spells bytes m) (Reads bytes m) (IsBitcodeRefused name bytes ended) (IsTextRefused name bytes ended) ⊥
+    (λ spells bad. unrefused_bitcode name bytes m ended is.sized is.valid spells bad) (λ reads bad. unrefused_text name bytes m ended is.sized is.valid reads bad) is.stands refused
 
 none_refused : (names texts : List (List ℕ)) (parts : List Module) (ended : Ended) → AreParts texts parts → IsFirstRefusal names texts ended → ⊥
 none_refused [] [] parts ended are refused = absurd refused
@@ -96,10 +111,10 @@ none_refused (name ∷ names) (text ∷ texts) [] ended are refused = absurd are
 none_refused (name ∷ names) (text ∷ texts) (m ∷ parts) ended are (inl bad) = unrefused name text m ended are.0 bad
 none_refused (name ∷ names) (text ∷ texts) (m ∷ parts) ended are (inr later) = none_refused names texts parts ended are.1 later.1
 
-no_bitcode_in : (texts : List (List ℕ)) (parts : List Module) → AreParts texts parts → has_bitcode texts ≡ false
-no_bitcode_in [] parts are = refl
-no_bitcode_in (text ∷ texts) [] are = absurd are
-no_bitcode_in (text ∷ texts) (m ∷ parts) are = rw (not_bitcode (is_bitcode text) (Reads text m) are.0.stands, no_bitcode_in texts parts are.1) refl
+-- an input stands for one module
+pub stands_once : ReadsOnce → (bytes : List ℕ) (m n : Module) → StandsFor bytes m → StandsFor bytes n → m ≡ n
+stands_once once bytes m n one other =
+    two_by (is_bitcode bytes) (Spells bytes m) (Reads bytes m) (Spells bytes n) (Reads bytes n) (m ≡ n) (λ r s. spells_once bytes m n r s) (λ r s. once bytes m n r s) one other
 
 -- inputs stand for their parts alone
 same_parts : ReadsOnce → (texts : List (List ℕ)) (ps qs : List Module) → AreParts texts ps → AreParts texts qs → ps ≡ qs
@@ -109,7 +124,7 @@ same_parts once [] (p ∷ ps) qs are others = absurd are
 same_parts once (text ∷ texts) [] qs are others = absurd are
 same_parts once (text ∷ texts) (p ∷ ps) [] are others = absurd others
 same_parts once (text ∷ texts) (p ∷ ps) (q ∷ qs) are others =
-    let head : p ≡ q = one_by (is_bitcode text) (Reads text p) (Reads text q) (p ≡ q) (λ r s. once text p q r s) are.0.stands others.0.stands in
+    let head : p ≡ q = stands_once once text p q are.0.stands others.0.stands in
     let tail : ps ≡ qs = same_parts once texts ps qs are.1 others.1 in
     ap (λ (x : Module). x ∷ ps) head ∙ ap (λ (xs : List Module). q ∷ xs) tail
 
@@ -124,18 +139,21 @@ all_sized (text ∷ texts) (m ∷ parts) are = (are.0.sized, all_sized texts par
 
 -- an input that is no bitcode stands for what its text reads to
 text_stands : (bytes : List ℕ) (n : Module) (P : Type 0) → is_bitcode bytes ≡ false → (Reads bytes n ↔ P) → StandsFor bytes n ↔ P
-text_stands bytes n P text reads = subst (λ (bitcode : Bool). MatchBool bitcode ⊥ (Reads bytes n) ↔ P) (sym text) reads
+text_stands bytes n P text reads = subst (λ (bitcode : Bool). MatchBool bitcode (Spells bytes n) (Reads bytes n) ↔ P) (sym text) reads
+
+-- and bitcode for what it spells
+bitcode_stands : (bytes : List ℕ) (n : Module) (P : Type 0) → is_bitcode bytes ≡ true → (Spells bytes n ↔ P) → StandsFor bytes n ↔ P
+bitcode_stands bytes n P bitcode spells = subst (λ (bitcode : Bool). MatchBool bitcode (Spells bytes n) (Reads bytes n) ↔ P) (sym bitcode) spells
 
 -- what is written of a module that is well formed and valid stands for it alone
 stand_for_one : IsReadBack → ModulesAreSpelledAlone → (format : OutputFormat) (m : Module) → IsWellFormed m → IsValid m → StandForOne format (written format m) m
 unfolding written
-stand_for_one back alone CanonicalText m good valid = λ n. text_stands (canon m) n (n ≡ m) (canon_begins m) (back m (record { well_formed = good; valid = valid }) n)
-stand_for_one back alone Bitcode m good valid = λ few. alone m good valid few
+stand_for_one back alone CanonicalText m good valid = λ readable n. text_stands (canon m) n (n ≡ m) (canon_begins m) (back m (record { well_formed = good; valid = valid }) n)
+stand_for_one back alone Bitcode m good valid = λ few n. bitcode_stands (spelling m) n (n ≡ m) (spelling_begins m ((alone m good valid few m).1 refl)) (alone m good valid few n)
 
--- text that stands for a module alone, given to `lli`, runs as that does
-runs_again : (format : OutputFormat) (bytes : List ℕ) (m : Module) (parts : List Module) → StandForOne format bytes m → first_too_large m ≡ None → IsValid m → RunAlike (m ∷ []) parts → format ≡ CanonicalText → RunsLike bytes parts
-runs_again CanonicalText bytes m parts stand sized valid runs text = record { meant = m; is_part = record { stands = (stand m).1 refl; sized = sized; valid = valid }; runs = runs }
-runs_again Bitcode bytes m parts stand sized valid runs text = absurd cc
+-- what stands for a module alone, given to `lli`, runs as that does
+runs_again : (format : OutputFormat) (bytes : List ℕ) (m : Module) (parts : List Module) → StandForOne format bytes m → first_too_large m ≡ None → IsValid m → RunAlike (m ∷ []) parts → AreReadable format bytes → RunsLike bytes parts
+runs_again format bytes m parts stand sized valid runs readable = record { meant = m; is_part = record { stands = (stand readable m).1 refl; sized = sized; valid = valid }; runs = runs }
 
 module _ (once : ReadsOnce) (back : IsReadBack) (alone : ModulesAreSpelledAlone) where
   -- where parts are linked, what is put runs as they do
@@ -170,7 +188,7 @@ module _ (once : ReadsOnce) (back : IsReadBack) (alone : ModulesAreSpelledAlone)
   comes_to : (inputs texts : List (List ℕ)) (output : OutputName) (text : Bool) (parts : List Module) (before now : Outputs) (ended : Ended) → AreParts texts parts → IsLinking inputs texts ended → IsWritten (Link inputs output text) texts before now ended → ComesTo inputs parts output (format_of text) (first_conflict parts) (too_many parts) before now ended
   comes_to inputs texts output text parts before now ended are (inl refused) wrote = absurd (none_refused inputs texts parts ended are refused)
   comes_to inputs texts output text parts before now ended are (inr accepted) wrote =
-      let by : EndsByParts inputs texts ended = second_by (has_bitcode texts) (ended ≡ ends.NotBuilt) (EndsByParts inputs texts ended) (no_bitcode_in texts parts are) accepted.1 in
+      let by = accepted.1 in
       let told = subst (λ (ps : List Module). ended ≡ link_end inputs (first_conflict ps) (too_many ps)) (same_parts once texts by.parts parts by.are_parts are) by.told in
       comes_by inputs texts output text parts (first_conflict parts) (too_many parts) before now ended are told wrote
 

@@ -4,11 +4,9 @@ use Rattle.std.specs.Bool.{MatchBool}
 use Rattle.ir_base.specs.Outside.{Rose, Lost}
 use Rattle.command_line.specs.Options.{is_dash}
 use Rattle.command_line.specs.declared.command.OutputName.TheVariants.{Standard}
-use Rattle.ir_syntax.specs.Tree.{ItemTree}
 use Rattle.ir_syntax.specs.declared.read.SyntaxFault.{SyntaxFault}
 use Rattle.ir_syntax.specs.declared.read.SyntaxFault.TheVariants as syntax_faults
 use Rattle.module_arena.specs.Module.{Module}
-use Rattle.name_rules.specs.Reads.{Reads}
 use Rattle.name_rules.specs.declared.fault.ResolveFault.{ResolveFault}
 use Rattle.name_rules.specs.declared.fault.ResolveFault.TheVariants as breaks
 use Rattle.run_played.specs.Played.{HasPrinted, Plays, Program, outcome_of}
@@ -19,17 +17,18 @@ use Rattle.run_rules.specs.declared.end.End.{End}
 use Rattle.run_rules.specs.declared.end.End.TheVariants as stops
 use Rattle.run_rules.specs.declared.fault.RunFault.{RunFault}
 use Rattle.run_rules.specs.declared.fault.RunFault.TheVariants as faults
+use Rattle.record_read.specs.declared.fault.BitcodeFault.{BitcodeFault}
+use Rattle.record_read.specs.declared.fault.BitcodeFault.TheVariants as bitcode_faults
 use Rattle.type_verify.specs.declared.fault.VerifyFault.{VerifyFault}
 use Rattle.type_verify.specs.declared.fault.VerifyFault.TheVariants as verdicts
 use Rattle.tool_ends.specs.declared.ended.Ended.{Ended}
-use Rattle.tool_ends.specs.declared.ended.Ended.TheVariants.{CannotRead, CannotWrite, NotBuilt, Memory}
+use Rattle.tool_ends.specs.declared.ended.Ended.TheVariants.{CannotRead, CannotWrite, Memory}
 use Rattle.tool_cli.specs.Causes.{Stopped}
-use Rattle.tool_cli.specs.Judged.{is_bitcode, refusal_told, break_told, verdict_told, IsTextOf, IsTextRefused}
-use Rattle.tool_cli.specs.Made.{AssemblesTo}
+use Rattle.tool_cli.specs.Judged.{is_bitcode, bitcode_told, refusal_told, break_told, verdict_told, IsBitcodeRefused, IsPartRefused, IsTextRefused}
+use Rattle.tool_cli.specs.Made.{IsPart}
 use Rattle.tool_cli.specs.Output.{IsUnwrittenOrMemory}
-use Rattle.tool_cli.specs.Running.{end_told, program_of, end_of, AnswerTold, IsRunTo, IsRunFrom, IsUnrun, IsRan, IsBeforeRun, IsPlayedOf, IsQuiet, RunsInput, without_input}
-use Rattle.tool_cli.specs.Told.{IsRun, IsTextRun, IsOfRun}
-use Rattle.tool_cli.proofs.Linked.{is_part}
+use Rattle.tool_cli.specs.Running.{end_told, program_of, end_of, AnswerTold, IsRunTo, IsRunFrom, IsRan, IsBeforeRun, IsPlayedOf, IsQuiet, RunsInput, without_input}
+use Rattle.tool_cli.specs.Told.{IsRun, IsOfRun}
 
 -- ---- the answer of a run
 
@@ -100,17 +99,27 @@ end_from p true before after w ended stdin left runs = with_faults (end_by p (wi
     with_faults (inr stopped) = inr (stopped_wider (Rose 0 0) (Rose before.read_faults after.read_faults) ⊥ ⊥ (Rose before.write_faults after.write_faults) w ended (λ rose. absurd (never_rose rose)) (λ x. x) stopped)
 end_from p false before after w ended stdin left runs = end_by p before after w ended stdin runs.0 (left refl) runs.1 runs.2
 
--- ---- refused texts
+-- ---- refused inputs
 
--- what holds of each end that tells a refusal
-refused_is : (P : Ended → Type 0) (name text : List ℕ) (ended : Ended) → ((fault : SyntaxFault) → P (refusal_told name fault)) → ((fault : ResolveFault) → P (break_told name fault)) → ((fault : VerifyFault) → P (verdict_told name fault)) → IsTextRefused name text ended → P ended
-refused_is P name text ended f g h (inl none) = subst P (sym none.told) (f none.fault)
-refused_is P name text ended f g h (inr (inl none)) = subst P (sym none.told) (g none.fault)
-refused_is P name text ended f g h (inr (inr bad)) = subst P (sym bad.told) (h bad.fault)
+-- what holds of each end that tells a refusal of a text
+text_is : (P : Ended → Type 0) (name text : List ℕ) (ended : Ended) → ((fault : SyntaxFault) → P (refusal_told name fault)) → ((fault : ResolveFault) → P (break_told name fault)) → ((fault : VerifyFault) → P (verdict_told name fault)) → IsTextRefused name text ended → P ended
+text_is P name text ended f g h (inl none) = subst P (sym none.told) (f none.fault)
+text_is P name text ended f g h (inr (inl none)) = subst P (sym none.told) (g none.fault)
+text_is P name text ended f g h (inr (inr bad)) = subst P (sym bad.told) (h bad.fault)
 
-unrun_is : (P : Ended → Type 0) (bitcode : Bool) (name text : List ℕ) (ended : Ended) → P NotBuilt → (IsTextRefused name text ended → P ended) → MatchBool bitcode (ended ≡ NotBuilt) (IsTextRefused name text ended) → P ended
-unrun_is P true name text ended b t unrun = subst P (sym unrun) b
-unrun_is P false name text ended b t unrun = t unrun
+-- of bitcode
+bitcode_is : (P : Ended → Type 0) (name bytes : List ℕ) (ended : Ended) → ((fault : BitcodeFault) → P (bitcode_told name fault)) → ((fault : VerifyFault) → P (verdict_told name fault)) → IsBitcodeRefused name bytes ended → P ended
+bitcode_is P name bytes ended f h (inl none) = subst P (sym none.told) (f none.fault)
+bitcode_is P name bytes ended f h (inr bad) = subst P (sym bad.told) (h bad.fault)
+
+-- of either
+refused_by : (P : Ended → Type 0) (bitcode : Bool) (name bytes : List ℕ) (ended : Ended) → (IsBitcodeRefused name bytes ended → P ended) → (IsTextRefused name bytes ended → P ended) → MatchBool bitcode (IsBitcodeRefused name bytes ended) (IsTextRefused name bytes ended) → P ended
+refused_by P true name bytes ended b t refused = b refused
+refused_by P false name bytes ended b t refused = t refused
+
+refused_is : (P : Ended → Type 0) (name bytes : List ℕ) (ended : Ended) → ((fault : SyntaxFault) → P (refusal_told name fault)) → ((fault : ResolveFault) → P (break_told name fault)) → ((fault : VerifyFault) → P (verdict_told name fault)) → ((fault : BitcodeFault) → P (bitcode_told name fault)) → IsPartRefused name bytes ended → P ended
+refused_is P name bytes ended f g h k refused =
+    refused_by P (is_bitcode bytes) name bytes ended (λ bad. bitcode_is P name bytes ended k h bad) (λ bad. text_is P name bytes ended f g h bad) refused
 
 refusal_before : (name : List ℕ) (fault : SyntaxFault) → IsBeforeRun name (refusal_told name fault) ⊎ (refusal_told name fault ≡ Memory)
 refusal_before name syntax_faults.Memory = inr refl
@@ -124,10 +133,14 @@ verdict_before : (name : List ℕ) (fault : VerifyFault) → IsBeforeRun name (v
 verdict_before name verdicts.Memory = inr refl
 verdict_before name fault = inl tt
 
-pub unrun_before : (name bytes : List ℕ) (ended : Ended) → IsUnrun name bytes ended → IsBeforeRun name ended ⊎ (ended ≡ Memory)
-unrun_before name bytes ended unrun =
+bitcode_before : (name : List ℕ) (fault : BitcodeFault) → IsBeforeRun name (bitcode_told name fault) ⊎ (bitcode_told name fault ≡ Memory)
+bitcode_before name bitcode_faults.Memory = inr refl
+bitcode_before name fault = inl tt
+
+pub refused_before : (name bytes : List ℕ) (ended : Ended) → IsPartRefused name bytes ended → IsBeforeRun name ended ⊎ (ended ≡ Memory)
+refused_before name bytes ended refused =
     let P : Ended → Type 0 = λ e. IsBeforeRun name e ⊎ (e ≡ Memory) in
-    unrun_is P (is_bitcode bytes) name bytes ended (inl tt) (λ refused. refused_is P name bytes ended (refusal_before name) (break_before name) (verdict_before name) refused) unrun
+    refused_is P name bytes ended (refusal_before name) (break_before name) (verdict_before name) (bitcode_before name) refused
 
 refusal_of : (name : List ℕ) (hears : Bool) (fault : SyntaxFault) → IsOfRun (refusal_told name fault) hears
 refusal_of name hears syntax_faults.Memory = tt
@@ -141,30 +154,22 @@ verdict_of : (name : List ℕ) (hears : Bool) (fault : VerifyFault) → IsOfRun 
 verdict_of name hears verdicts.Memory = tt
 verdict_of name hears fault = tt
 
-unrun_of : (name bytes : List ℕ) (hears : Bool) (ended : Ended) → IsUnrun name bytes ended → IsOfRun ended hears
-unrun_of name bytes hears ended unrun =
+bitcode_of : (name : List ℕ) (hears : Bool) (fault : BitcodeFault) → IsOfRun (bitcode_told name fault) hears
+bitcode_of name hears bitcode_faults.Memory = tt
+bitcode_of name hears fault = tt
+
+refused_of : (name bytes : List ℕ) (hears : Bool) (ended : Ended) → IsPartRefused name bytes ended → IsOfRun ended hears
+refused_of name bytes hears ended refused =
     let P : Ended → Type 0 = λ e. IsOfRun e hears in
-    unrun_is P (is_bitcode bytes) name bytes ended tt (λ refused. refused_is P name bytes ended (refusal_of name hears) (break_of name hears) (verdict_of name hears) refused) unrun
+    refused_is P name bytes ended (refusal_of name hears) (break_of name hears) (verdict_of name hears) (bitcode_of name hears) refused
 
 -- ---- what running an input comes to
 
-bitcode_by : (bitcode : Bool) (P Q : Type 0) → bitcode ≡ true → P → MatchBool bitcode P Q
-bitcode_by true P Q e p = p
-bitcode_by false P Q e p = absurd (true≢false (sym e))
+pub refused_ran : (name : List ℕ) (bound : ℕ) (words : List (List ℕ)) (bytes : List ℕ) (now : Outside) (ended : Ended) → IsPartRefused name bytes ended ⊎ (ended ≡ Memory) → IsRan name bound words bytes now now ended
+refused_ran name bound words bytes now ended refused = inl (refused, refl)
 
-text_by : (bitcode : Bool) (P Q : Type 0) → bitcode ≡ false → Q → MatchBool bitcode P Q
-text_by true P Q e q = absurd (true≢false e)
-text_by false P Q e q = q
-
-pub bitcode_ran : (name : List ℕ) (bound : ℕ) (words : List (List ℕ)) (bytes : List ℕ) (now : Outside) → is_bitcode bytes ≡ true → IsRan name bound words bytes now now NotBuilt
-bitcode_ran name bound words bytes now e = inl (inl (bitcode_by (is_bitcode bytes) (NotBuilt ≡ NotBuilt) (IsTextRefused name bytes NotBuilt) e refl), refl)
-
-pub refused_ran : (name : List ℕ) (bound : ℕ) (words : List (List ℕ)) (bytes : List ℕ) (now : Outside) (ended : Ended) → is_bitcode bytes ≡ false → IsTextRefused name bytes ended ⊎ (ended ≡ Memory) → IsRan name bound words bytes now now ended
-refused_ran name bound words bytes now ended e (inl refused) = inl (inl (text_by (is_bitcode bytes) (ended ≡ NotBuilt) (IsTextRefused name bytes ended) e refused), refl)
-refused_ran name bound words bytes now ended e (inr none) = inl (inr none, refl)
-
-pub program_ran : (name : List ℕ) (bound : ℕ) (words : List (List ℕ)) (bytes : List ℕ) (items : List ItemTree) (m : Module) (before after : Outside) (ended : Ended) → is_bitcode bytes ≡ false → IsTextOf bytes items m → IsRunFrom name (program_of bound words m) before after ended → IsRan name bound words bytes before after ended
-program_ran name bound words bytes items m before after ended text is runs = inr (record { meant = m; is_part = is_part bytes items m text is; runs = runs })
+pub program_ran : (name : List ℕ) (bound : ℕ) (words : List (List ℕ)) (bytes : List ℕ) (m : Module) (before after : Outside) (ended : Ended) → IsPart bytes m → IsRunFrom name (program_of bound words m) before after ended → IsRan name bound words bytes before after ended
+program_ran name bound words bytes m before after ended is runs = inr (record { meant = m; is_part = is; runs = runs })
 
 -- where it was begun, its end is none that comes before
 pub end_begun : (name : List ℕ) (end : End) → IsBeforeRun name (end_told end) → ⊥
@@ -190,22 +195,13 @@ begun_from_nothing name p before after ended runs = begun_by name p (without_inp
 
 -- ---- what is told of it
 
-run_unrun : (bitcode : Bool) (P Q R : Type 0) → MatchBool bitcode P Q → MatchBool bitcode P (Q ⊎ R)
-run_unrun true P Q R unrun = unrun
-run_unrun false P Q R unrun = inl unrun
-
-module_by : (bitcode : Bool) (R P Q : Type 0) → (R → Q) → MatchBool bitcode ⊥ R → MatchBool bitcode P Q
-module_by true R P Q from stands = absurd stands
-module_by false R P Q from stands = from stands
-
 pub ran_told : (name : List ℕ) (bound : ℕ) (words : List (List ℕ)) (bytes stdin : List ℕ) (before after : Outside) (w : Type 0) (ended : Ended) → (is_dash name ≡ false → before.left ≡ Some stdin) → IsRan name bound words bytes before after ended → IsRun name bound words stdin bytes ended ⊎ Stopped (Some Standard) (Rose before.read_faults after.read_faults) ⊥ (Rose before.write_faults after.write_faults) w ended
-ran_told name bound words bytes stdin before after w ended left (inl (inl unrun, same)) =
-    inl (run_unrun (is_bitcode bytes) (ended ≡ NotBuilt) (IsTextRefused name bytes ended) ((m : Module) × AssemblesTo bytes m × (ended ≡ end_of name bound words stdin m)) unrun)
+ran_told name bound words bytes stdin before after w ended left (inl (inl refused, same)) = inl (inl refused)
 ran_told name bound words bytes stdin before after w ended left (inl (inr none, same)) = inr (inr (rw none tt))
 ran_told name bound words bytes stdin before after w ended left (inr runs) = with_end (end_from (program_of bound words runs.meant) (is_dash name) before after w ended stdin left runs.runs)
   where
     with_end : (ended ≡ end_of name bound words stdin runs.meant) ⊎ Stopped (Some Standard) (Rose before.read_faults after.read_faults) ⊥ (Rose before.write_faults after.write_faults) w ended → IsRun name bound words stdin bytes ended ⊎ Stopped (Some Standard) (Rose before.read_faults after.read_faults) ⊥ (Rose before.write_faults after.write_faults) w ended
-    with_end (inl told) = inl (module_by (is_bitcode bytes) (Reads bytes runs.meant) (ended ≡ NotBuilt) (IsTextRun name bound words stdin bytes ended) (λ reads. inr (runs.meant, record { reads = reads; sized = runs.is_part.sized; valid = runs.is_part.valid }, told)) runs.is_part.stands)
+    with_end (inl told) = inl (inr (runs.meant, runs.is_part, told))
     with_end (inr stopped) = inr stopped
 
 -- an end that a run may have
@@ -229,7 +225,7 @@ of_from p true before after ended runs = of_by false p (without_input before) (w
 of_from p false before after ended runs = of_by true p before after ended runs.0 (λ rose. refl) runs.1 runs.2
 
 pub ran_of_run : (name : List ℕ) (bound : ℕ) (words : List (List ℕ)) (bytes : List ℕ) (before after : Outside) (ended : Ended) → IsRan name bound words bytes before after ended → IsOfRun ended (not (is_dash name))
-ran_of_run name bound words bytes before after ended (inl (inl unrun, same)) = unrun_of name bytes (not (is_dash name)) ended unrun
+ran_of_run name bound words bytes before after ended (inl (inl refused, same)) = refused_of name bytes (not (is_dash name)) ended refused
 ran_of_run name bound words bytes before after ended (inl (inr none, same)) = subst (λ (e : Ended). IsOfRun e (not (is_dash name))) (sym none) tt
 ran_of_run name bound words bytes before after ended (inr runs) = of_from (program_of bound words runs.meant) (is_dash name) before after ended runs.runs
 
@@ -297,7 +293,7 @@ no_write_before input name ended (inl early) e = subst (λ (x : Ended). IsBefore
 no_write_before input name ended (inr none) e = absurd (let h : Memory ≡ CannotWrite name = sym none ∙ e in cc)
 
 pub ran_unwritten : (input : List ℕ) (bound : ℕ) (words : List (List ℕ)) (bytes : List ℕ) (before after : Outside) (ended : Ended) → IsRan input bound words bytes before after ended → (name : List ℕ) → ended ≡ CannotWrite name → (name ≡ codes "-") × Rose before.write_faults after.write_faults
-ran_unwritten input bound words bytes before after ended (inl (inl unrun, same)) = λ name e. absurd (no_write_before input name ended (unrun_before input bytes ended unrun) e)
+ran_unwritten input bound words bytes before after ended (inl (inl refused, same)) = λ name e. absurd (no_write_before input name ended (refused_before input bytes ended refused) e)
 ran_unwritten input bound words bytes before after ended (inl (inr none, same)) = λ name e. absurd (no_write_before input name ended (inr none) e)
 ran_unwritten input bound words bytes before after ended (inr runs) = λ name e. unwritten_from name (program_of bound words runs.meant) (is_dash input) before after ended runs.runs e
 
@@ -312,7 +308,7 @@ no_read : (name : List ℕ) (ended : Ended) → IsOfRun ended false → ended �
 no_read name ended of e = true≢false (sym (subst (λ (x : Ended). IsOfRun x false) e of).0)
 
 pub ran_unread : (input : List ℕ) (bound : ℕ) (words : List (List ℕ)) (bytes : List ℕ) (before after : Outside) (ended : Ended) → is_dash input ≡ false → IsRan input bound words bytes before after ended → (name : List ℕ) → ended ≡ CannotRead name → Rose before.read_faults after.read_faults
-ran_unread input bound words bytes before after ended file (inl (inl unrun, same)) = λ name e. absurd (no_read name ended (unrun_of input bytes false ended unrun) e)
+ran_unread input bound words bytes before after ended file (inl (inl refused, same)) = λ name e. absurd (no_read name ended (refused_of input bytes false ended refused) e)
 ran_unread input bound words bytes before after ended file (inl (inr none, same)) = λ name e. absurd (let h : Memory ≡ CannotRead name = sym none ∙ e in cc)
 ran_unread input bound words bytes before after ended file (inr runs) =
     let run = run_by (program_of bound words runs.meant) (is_dash input) before after ended runs.runs file in
@@ -361,8 +357,8 @@ pub quiet_after : (name : List ℕ) (mid before after : Outside) → (is_dash na
 quiet_after name mid before after same same_output quiet = quiet_by (is_dash name) mid before after same same_output quiet
 
 pub ran_played : (name : List ℕ) (bound : ℕ) (words : List (List ℕ)) (bytes : List ℕ) (mid before after : Outside) (ended : Ended) → (is_dash name ≡ false → mid ≡ before) → without_input mid ≡ without_input before → IsRan name bound words bytes mid after ended → IsPlayedOf name bound words (Ok bytes) before after ended
-ran_played name bound words bytes mid before after ended same same_output (inl (inl unrun, quiet)) =
-    inl (inl unrun, quiet_after name mid before after same same_output quiet)
+ran_played name bound words bytes mid before after ended same same_output (inl (inl refused, quiet)) =
+    inl (inl refused, quiet_after name mid before after same same_output quiet)
 ran_played name bound words bytes mid before after ended same same_output (inl (inr none, quiet)) =
     inl (inr (inr none), quiet_after name mid before after same same_output quiet)
 ran_played name bound words bytes mid before after ended same same_output (inr runs) =

@@ -8,7 +8,6 @@ use Rattle.command_line.specs.declared.command.Command.TheVariants.{Lli}
 use Rattle.command_line.specs.Options.{is_dash}
 use Rattle.module_arena.specs.Module.{Module}
 use Rattle.name_rules.specs.Laws.{ReadsOnce}
-use Rattle.name_rules.specs.Reads.{Reads}
 use Rattle.run_played.specs.Played.{Plays, Program, outcome_of}
 use Rattle.run_rules.specs.Clauses.{Outside}
 use Rattle.run_rules.specs.Same.{RunAlike}
@@ -18,31 +17,22 @@ use Rattle.run_rules.specs.declared.end.End.{End}
 use Rattle.run_rules.specs.declared.fault.RunFault.{RunFault}
 use Rattle.run_rules.specs.declared.fault.RunFault.TheVariants as faults
 use Rattle.tool_ends.specs.declared.ended.Ended.{Ended}
-use Rattle.tool_ends.specs.declared.ended.Ended.TheVariants.{NotBuilt, Memory}
+use Rattle.tool_ends.specs.declared.ended.Ended.TheVariants.{Memory}
 use Rattle.tool_cli.specs.Inputs.{inputs_of, listens, read_on, texts_read}
-use Rattle.tool_cli.specs.Judged.{is_bitcode}
+use Rattle.tool_cli.specs.Judged.{IsPartRefused}
 use Rattle.tool_cli.specs.Made.{IsPart}
-use Rattle.tool_cli.specs.Running.{end_told, end_of, program_of, program_input, without_input, AnswerTold, ComesOut, IsBeforeRun, IsPlayed, IsPlayedOf, IsRunFrom, IsRunTo, IsUnreadOf, IsUnrun, RunsModule}
-use Rattle.tool_cli.specs.Told.{IsOutcome, IsRun, IsTextRun, IsTold}
+use Rattle.tool_cli.specs.Running.{end_told, end_of, program_of, program_input, without_input, AnswerTold, ComesOut, IsBeforeRun, IsPlayed, IsPlayedOf, IsRunFrom, IsRunTo, IsUnreadOf, RunsModule}
+use Rattle.tool_cli.specs.Told.{IsOutcome, IsRun, IsTold}
 use Rattle.tool_cli.proofs.Commands.{listens_is}
-use Rattle.tool_cli.proofs.Headline.{one_by, unrefused_text}
+use Rattle.tool_cli.proofs.Headline.{stands_once, unrefused}
 use Rattle.tool_cli.proofs.Outcomes.{same_command}
-use Rattle.tool_cli.proofs.Programs.{IsEnd, end_begun, printed_over, told_is_end, unrun_before}
+use Rattle.tool_cli.proofs.Programs.{IsEnd, end_begun, printed_over, refused_before, told_is_end}
 
 -- ---- its end
 
-part_by : (bitcode : Bool) (R P S Q : Type 0) → (R → S → Q) → MatchBool bitcode ⊥ R → MatchBool bitcode P S → Q
-part_by true R P S Q from r s = absurd r
-part_by false R P S Q from r s = from r s
-
-text_end : ReadsOnce → (name : List ℕ) (bound : ℕ) (words : List (List ℕ)) (stdin bytes : List ℕ) (m : Module) (ended : Ended) → IsPart bytes m → Reads bytes m → IsTextRun name bound words stdin bytes ended → ended ≡ end_of name bound words stdin m
-text_end once name bound words stdin bytes m ended part reads (inl refused) = absurd (unrefused_text name bytes m ended part.sized part.valid reads refused)
-text_end once name bound words stdin bytes m ended part reads (inr run) = run.2 ∙ ap (λ (n : Module). end_of name bound words stdin n) (once bytes run.0 m run.1.reads reads)
-
 run_end : ReadsOnce → (name : List ℕ) (bound : ℕ) (words : List (List ℕ)) (stdin bytes : List ℕ) (m : Module) (ended : Ended) → IsPart bytes m → IsRun name bound words stdin bytes ended → ended ≡ end_of name bound words stdin m
-run_end once name bound words stdin bytes m ended part run =
-    part_by (is_bitcode bytes) (Reads bytes m) (ended ≡ NotBuilt) (IsTextRun name bound words stdin bytes ended) (ended ≡ end_of name bound words stdin m)
-    (λ reads text. text_end once name bound words stdin bytes m ended part reads text) part.stands run
+run_end once name bound words stdin bytes m ended part (inl refused) = absurd (unrefused name bytes m ended part refused)
+run_end once name bound words stdin bytes m ended part (inr run) = run.2 ∙ ap (λ (n : Module). end_of name bound words stdin n) (stands_once once bytes run.0 m run.1.stands part.stands)
 
 -- ---- its output
 
@@ -57,8 +47,8 @@ put_from p true before after ended stdin left is runs = put_by p (without_input 
 put_from p false before after ended stdin left is runs = put_by p before after ended stdin runs.0 (left refl) is runs.1 runs.2
 
 -- where it is not run the end comes before it has begun
-early_by : (name bytes : List ℕ) (ended : Ended) → IsUnrun name bytes ended ⊎ IsUnreadOf name ended → IsBeforeRun name ended ⊎ (ended ≡ Memory)
-early_by name bytes ended (inl unrun) = unrun_before name bytes ended unrun
+early_by : (name bytes : List ℕ) (ended : Ended) → IsPartRefused name bytes ended ⊎ IsUnreadOf name ended → IsBeforeRun name ended ⊎ (ended ≡ Memory)
+early_by name bytes ended (inl refused) = refused_before name bytes ended refused
 early_by name bytes ended (inr (inl e)) = inl (subst (λ (x : Ended). IsBeforeRun name x) (sym e) refl)
 early_by name bytes ended (inr (inr none)) = inr none
 
@@ -71,7 +61,7 @@ put_of : ReadsOnce → (name : List ℕ) (bound : ℕ) (words : List (List ℕ))
 put_of once name bound words stdin bytes m before after ended left part told (inl early) =
     absurd (unbegun name (outcome_of (program_of bound words m) (program_input name stdin)).end ended told (early_by name bytes ended early.0))
 put_of once name bound words stdin bytes m before after ended left part told (inr runs) =
-    let same : runs.meant ≡ m = one_by (is_bitcode bytes) (Reads bytes runs.meant) (Reads bytes m) (runs.meant ≡ m) (λ r s. once bytes runs.meant m r s) runs.is_part.stands part.stands in
+    let same : runs.meant ≡ m = stands_once once bytes runs.meant m runs.is_part.stands part.stands in
     let run : IsRunFrom name (program_of bound words m) before after ended = subst (λ (n : Module). IsRunFrom name (program_of bound words n) before after ended) same runs.runs in
     let end : End = (outcome_of (program_of bound words m) (program_input name stdin)).end in
     put_from (program_of bound words m) (is_dash name) before after ended stdin left (subst (λ (e : Ended). IsEnd e) (sym told) (told_is_end end)) run

@@ -10,7 +10,6 @@ use Rattle.module_arena.specs.Module.{Module}
 use Rattle.module_arena.specs.Valid.{IsValid}
 use Rattle.module_arena.specs.WellFormed.{IsWellFormed}
 use Rattle.module_linker.specs.Counts.{Count, too_many}
-use Rattle.record_table.specs.Records.{Spells}
 use Rattle.run_rules.specs.Same.{RunAlike}
 use Rattle.tool_ends.specs.declared.ended.Ended.{Ended}
 use Rattle.tool_ends.specs.declared.ended.Ended.TheVariants.{Conflict, TooMany}
@@ -23,14 +22,17 @@ use Rattle.tool_cli.specs.Inputs.{texts_read}
 use Rattle.tool_cli.specs.Made.{AreParts, RunsLike, StandsFor, format_of}
 use Rattle.tool_cli.specs.Told.{clash_told}
 
--- These bytes, in that format, stand for this module and for no other: text as an input; bitcode, which no input stands by yet, where it has fewer than
--- 2 ^ 32 words of 32 bits.
+-- bytes written in that format are no more than can be read: bitcode where it has fewer than 2 ^ 32 words of 32 bits, which every input has
+abbrev pub AreReadable : OutputFormat → List ℕ → Type 0
+AreReadable CanonicalText bytes = Unit {0}
+AreReadable Bitcode bytes = length bytes / 4 < 2 ^ 32
+
+-- these bytes, in that format, stand as an input for this module and for no other
 abbrev pub StandForOne : OutputFormat → List ℕ → Module → Type 0
-StandForOne CanonicalText bytes m = (n : Module) → StandsFor bytes n ↔ (n ≡ m)
-StandForOne Bitcode bytes m = length bytes / 4 < 2 ^ 32 → (n : Module) → Spells bytes n ↔ (n ≡ m)
+StandForOne format bytes m = AreReadable format bytes → (n : Module) → StandsFor bytes n ↔ (n ≡ m)
 
 -- Bytes were put that stand for one module. It is well formed and valid, no function of it is too large, and for all arguments, inputs and bounds on
--- steps it prints the same bytes as these parts, never merged, side by side, and ends the same way. So text, given to `lli`, runs as they do (`RunsModule`).
+-- steps it prints the same bytes as these parts, never merged, side by side, and ends the same way. So these bytes, given to `lli`, run as they do (`RunsModule`).
 pub record RunsAsParts (parts : List Module) (output : OutputName) (format : OutputFormat) (before now : Outputs) : Type 0 where
   pub whole : Module
   pub well_formed : IsWellFormed whole
@@ -40,7 +42,7 @@ pub record RunsAsParts (parts : List Module) (output : OutputName) (format : Out
   pub bytes : List ℕ
   pub spelled : bytes ≡ written format whole
   pub stand : StandForOne format bytes whole
-  pub again : format ≡ CanonicalText → RunsLike bytes parts
+  pub again : AreReadable format bytes → RunsLike bytes parts
   pub put : IsPut output bytes before now
 
 -- the words link the inputs of these names, which hold these texts
@@ -56,7 +58,7 @@ ComesTo names parts output format None (Some count) before now ended = (ended �
 ComesTo names parts output format None None before now ended = (ended ≡ ends.Ok) × RunsAsParts parts output format before now
 
 -- Where the words link inputs that stand for parts: a conflict is told exactly where the linkage rules name one, and else a count past its limit exactly
--- where there is one; otherwise what is put runs as the parts do. Unless the run stopped for what is outside of it. Bitcode stands for no part yet.
+-- where there is one; otherwise what is put runs as the parts do. Unless the run stopped for what is outside of it.
 abbrev pub RunsLinked : List (List ℕ) → Named → List ℕ → Outputs → Outputs → Ended → Type 0 → Type 0
 RunsLinked words files stdin before now ended stopped =
     (inputs texts : List (List ℕ)) (output : OutputName) (text : Bool) → Links words files stdin inputs texts output text

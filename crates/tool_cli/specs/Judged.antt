@@ -1,4 +1,4 @@
--- Whether inputs are texts of modules, judged in the order of the words, and whether bitcode spells one.
+-- Whether inputs are texts of modules, or bitcode that spells them, judged in the order of the words.
 use Rattle.std.specs.Prelude.{◌≡◌, ◌⊎◌, ◌==◌, ◌≤◌, ℕ, Bool, List, [], ◌∷◌, ◌++◌, codes, length, Some, None, Err}
 use Rattle.std.specs.Bool.{MatchBool}
 use Rattle.std.specs.Fmt.{decimal}
@@ -161,22 +161,22 @@ pub record IsTextOf (text : List ℕ) (items : List ItemTree) (m : Module) : Typ
 abbrev pub HasModule : List ℕ → List ItemTree → Type 0
 HasModule text items = HasItems text items × ((m : Module) × IsAcceptedModule items m)
 
--- an input of this name is a text that is refused; bitcode is not judged
+-- an input of this name is refused, as bitcode where it begins as that does, and else as a text, and this is told
 abbrev pub IsPartRefused : List ℕ → List ℕ → Ended → Type 0
-IsPartRefused name text ended = MatchBool (is_bitcode text) ⊥ (IsTextRefused name text ended)
+IsPartRefused name bytes ended = MatchBool (is_bitcode bytes) (IsBitcodeRefused name bytes ended) (IsTextRefused name bytes ended)
 
--- an input is a text of a module, or bitcode
+-- an input is bitcode that spells a module, or a text of one
 abbrev pub IsPartAccepted : List ℕ → Type 0
-IsPartAccepted text = MatchBool (is_bitcode text) (Unit {0}) ((items : List ItemTree) × HasModule text items)
+IsPartAccepted bytes = MatchBool (is_bitcode bytes) ((m : Module) × IsBitcodeOf bytes m) ((items : List ItemTree) × HasModule bytes items)
 
 -- each input is
 abbrev pub AreAccepted : List (List ℕ) → Type 0
 AreAccepted [] = Unit {0}
-AreAccepted (text ∷ texts) = IsPartAccepted text × AreAccepted texts
+AreAccepted (bytes ∷ texts) = IsPartAccepted bytes × AreAccepted texts
 
 -- of the inputs of these names, the first that is refused is refused so
 abbrev pub IsFirstRefusal : List (List ℕ) → List (List ℕ) → Ended → Type 0
-IsFirstRefusal (name ∷ names) (text ∷ texts) ended = IsPartRefused name text ended ⊎ (IsPartAccepted text × IsFirstRefusal names texts ended)
+IsFirstRefusal (name ∷ names) (bytes ∷ texts) ended = IsPartRefused name bytes ended ⊎ (IsPartAccepted bytes × IsFirstRefusal names texts ended)
 IsFirstRefusal _ _ ended = ⊥
 
 -- a text is no larger than an input may be

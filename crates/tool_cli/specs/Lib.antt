@@ -9,3 +9,4 @@ pub mod Order
 pub mod Analyzed
 pub mod Running
 pub mod Headline
+pub mod Laws

@@ -1,5 +1,5 @@
 -- For `run_tool`: the result of a command over its inputs, which is what it writes.
-use Rattle.std.specs.Prelude.{◌≡◌, ℕ, Bool, true, false, List, [], ◌∷◌, Option, Some, None}
+use Rattle.std.specs.Prelude.{◌≡◌, ℕ, Bool, true, false, List, [], ◌∷◌, None}
 use Rattle.std.specs.Bool.{MatchBool}
 use Rattle.bit_tree.specs.Stream.{Tree, Stream}
 use Rattle.bit_dump.specs.Text.{dump_text}
@@ -21,11 +21,12 @@ use Rattle.module_arena.specs.Module.{Module}
 use Rattle.module_arena.specs.Valid.{IsValid}
 use Rattle.module_arena.specs.WellFormed.{IsWellFormed}
 use Rattle.name_rules.specs.Reads.{Reads}
+use Rattle.record_table.specs.Records.{Spells}
 use Rattle.tool_cli.specs.Judged.{is_bitcode, IsBitcodeOf}
 
--- The module that an input stands for: that of its text. What bitcode stands for is not built.
+-- the module that an input stands for: where it begins as bitcode does the one that it spells, and else the one that its text reads to
 abbrev pub StandsFor : List ℕ → Module → Type 0
-StandsFor bytes m = MatchBool (is_bitcode bytes) ⊥ (Reads bytes m)
+StandsFor bytes m = MatchBool (is_bitcode bytes) (Spells bytes m) (Reads bytes m)
 
 -- an input stands for this module, of which no function is too large and which is valid
 pub record IsPart (bytes : List ℕ) (m : Module) : Type 0 where
@@ -39,11 +40,6 @@ pub record RunsLike (bytes : List ℕ) (parts : List Module) : Type 0 where
   pub meant : Module
   pub is_part : IsPart bytes meant
   pub runs : RunAlike (meant ∷ []) parts
-
--- what is found for an input: its module; and none only for bitcode
-abbrev pub IsPartFound : List ℕ → Option Module → Type 0
-IsPartFound bytes (Some m) = (is_bitcode bytes ≡ false) × IsPart bytes m
-IsPartFound bytes None = is_bitcode bytes ≡ true
 
 -- each input stands for its module
 abbrev pub AreParts : List (List ℕ) → List Module → Type 0

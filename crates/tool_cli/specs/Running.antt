@@ -18,10 +18,10 @@ use Rattle.run_rules.specs.declared.end.End.TheVariants as stops
 use Rattle.run_rules.specs.declared.fault.RunFault.{RunFault}
 use Rattle.run_rules.specs.declared.fault.RunFault.TheVariants as faults
 use Rattle.tool_ends.specs.declared.ended.Ended.{Ended}
-use Rattle.tool_ends.specs.declared.ended.Ended.TheVariants.{Exit, StepsUsed, Undefined, StackLimit, MemoryLimit, Unresolved, NoMain, CannotRead, CannotWrite, NotBuilt, Memory}
+use Rattle.tool_ends.specs.declared.ended.Ended.TheVariants.{Exit, StepsUsed, Undefined, StackLimit, MemoryLimit, Unresolved, NoMain, CannotRead, CannotWrite, Memory}
 use Rattle.tool_ends.specs.declared.ended.Ended.TheVariants as ends
 use Rattle.tool_cli.specs.Inputs.{input_read}
-use Rattle.tool_cli.specs.Judged.{is_bitcode, IsTextRefused}
+use Rattle.tool_cli.specs.Judged.{IsPartRefused}
 use Rattle.tool_cli.specs.Made.{IsPart, RunsLike}
 
 -- a run makes no more steps than this
@@ -76,15 +76,11 @@ pub record RunsInput (name : List ℕ) (bound : ℕ) (words : List (List ℕ)) (
   pub is_part : IsPart bytes meant
   pub runs : IsRunFrom name (program_of bound words meant) before after ended
 
--- the input of this name is not run: its text is refused, and bitcode is not built
-abbrev pub IsUnrun : List ℕ → List ℕ → Ended → Type 0
-IsUnrun name bytes ended = MatchBool (is_bitcode bytes) (ended ≡ NotBuilt) (IsTextRefused name bytes ended)
-
 -- What running the input of this name comes to: it is refused, or memory ran out before its program began, and nothing is read or put; or its program
 -- was run.
 abbrev pub IsRan : List ℕ → ℕ → List (List ℕ) → List ℕ → Outside → Outside → Ended → Type 0
 IsRan name bound words bytes before after ended =
-    ((IsUnrun name bytes ended ⊎ (ended ≡ Memory)) × (after ≡ before)) ⊎ RunsInput name bound words bytes before after ended
+    ((IsPartRefused name bytes ended ⊎ (ended ≡ Memory)) × (after ≡ before)) ⊎ RunsInput name bound words bytes before after ended
 
 -- the same of a command whose inputs are these texts; of one that runs no program nothing
 abbrev pub IsRanBy : Command → List (List ℕ) → Outside → Outside → Ended → Type 0
@@ -123,7 +119,7 @@ IsUnreadOf name ended = (ended ≡ CannotRead name) ⊎ (ended ≡ Memory)
 -- Where the input of this name gives bytes: it is not run, and all is quiet; or its program was run. Where it is refused, that is told, and all is quiet.
 abbrev pub IsPlayedOf : List ℕ → ℕ → List (List ℕ) → Result (List ℕ) Ended → Outside → Outside → Ended → Type 0
 IsPlayedOf name bound arguments (Ok bytes) before after ended =
-    ((IsUnrun name bytes ended ⊎ IsUnreadOf name ended) × IsQuiet name before after) ⊎ RunsInput name bound arguments bytes before after ended
+    ((IsPartRefused name bytes ended ⊎ IsUnreadOf name ended) × IsQuiet name before after) ⊎ RunsInput name bound arguments bytes before after ended
 IsPlayedOf name bound arguments (Err refusal) before after ended = ((ended ≡ refusal) ⊎ IsUnreadOf name ended) × IsQuiet name before after
 
 -- where words run an input, that comes of it which it gives

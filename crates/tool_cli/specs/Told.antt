@@ -1,7 +1,5 @@
 -- The whole meaning of a run: which end it has, where it is told what its inputs hold and what its program reads.
 use Rattle.std.specs.Prelude.{◌≡◌, ◌⊎◌, ℕ, Bool, true, slice_index_or, List, [], ◌∷◌, codes, Option, Some, None, Result, Ok, Err}
-use Rattle.std.specs.Bool.{MatchBool}
-use Rattle.std.specs.List.{list_any}
 use Rattle.ir_base.specs.Files.{Named}
 use Rattle.module_arena.specs.Module.{Module}
 use Rattle.name_rules.specs.Spelled.{spelled_global}
@@ -17,23 +15,19 @@ use Rattle.command_line.specs.Commands.{IsReadAs}
 use Rattle.tool_ends.specs.declared.clash.Clash.{Clash}
 use Rattle.tool_ends.specs.declared.clash.PartName.{PartName}
 use Rattle.tool_ends.specs.declared.ended.Ended.{Ended}
-use Rattle.tool_ends.specs.declared.ended.Ended.TheVariants.{Usage, CannotRead, CannotWrite, InputTooLarge, TooMany, Conflict, NoSuchSymbol, NotBuilt, Memory}
+use Rattle.tool_ends.specs.declared.ended.Ended.TheVariants.{Usage, CannotRead, CannotWrite, InputTooLarge, TooMany, Conflict, NoSuchSymbol, Memory}
 use Rattle.tool_ends.specs.declared.ended.Ended.TheVariants as ends
 use Rattle.tool_cli.specs.Inputs.{inputs_of, texts_read}
 use Rattle.tool_cli.specs.Analyzed.{IsAnalysis}
-use Rattle.tool_cli.specs.Judged.{is_bitcode, IsBitcodeOf, IsBitcodeRefused, IsTextRefused, IsFirstRefusal, AreAccepted}
-use Rattle.tool_cli.specs.Made.{AreParts, AssemblesTo, selection_of}
+use Rattle.tool_cli.specs.Judged.{IsBitcodeOf, IsBitcodeRefused, IsTextRefused, IsPartRefused, IsFirstRefusal, AreAccepted}
+use Rattle.tool_cli.specs.Made.{AreParts, AssemblesTo, IsPart, selection_of}
 use Rattle.tool_cli.specs.Running.{end_of}
 
--- The end of `lli` over the text of the input of this name: it is refused; or that of its module's program, which has these words, may make so many steps, and
--- reads these bytes of standard input.
-abbrev pub IsTextRun : List ℕ → ℕ → List (List ℕ) → List ℕ → List ℕ → Ended → Type 0
-IsTextRun name bound words stdin text ended =
-    IsTextRefused name text ended ⊎ ((m : Module) × AssemblesTo text m × (ended ≡ end_of name bound words stdin m))
-
--- the same over any bytes: bitcode is not built
+-- The end of `lli` over the input of this name: it is refused; or that of the program of the module that it stands for, which has these words, may make so
+-- many steps, and reads these bytes of standard input.
 abbrev pub IsRun : List ℕ → ℕ → List (List ℕ) → List ℕ → List ℕ → Ended → Type 0
-IsRun name bound words stdin bytes ended = MatchBool (is_bitcode bytes) (ended ≡ NotBuilt) (IsTextRun name bound words stdin bytes ended)
+IsRun name bound words stdin bytes ended =
+    IsPartRefused name bytes ended ⊎ ((m : Module) × IsPart bytes m × (ended ≡ end_of name bound words stdin m))
 
 -- an input by its number among those of these names
 abbrev pub part_named : List (List ℕ) → ℕ → PartName
@@ -49,21 +43,15 @@ link_end names (Some conflict) count = Conflict (clash_told names conflict)
 link_end names None (Some count) = TooMany None count.kind count.number
 link_end names None None = ends.Ok
 
--- one of the inputs is bitcode
-abbrev pub has_bitcode : List (List ℕ) → Bool
-has_bitcode texts = list_any is_bitcode texts
-
 -- the inputs of these names stand for parts, over which this is the end
 pub record EndsByParts (names texts : List (List ℕ)) (ended : Ended) : Type 0 where
   pub parts : List Module
   pub are_parts : AreParts texts parts
   pub told : ended ≡ link_end names (first_conflict parts) (too_many parts)
 
--- The end of `llvm-link` over inputs of these names: the first that is refused, in their order; or else that over their parts. What bitcode stands for is
--- not built.
+-- the end of `llvm-link` over inputs of these names: the first that is refused, in their order; or else that over their parts
 abbrev pub IsLinking : List (List ℕ) → List (List ℕ) → Ended → Type 0
-IsLinking names texts ended =
-    IsFirstRefusal names texts ended ⊎ (AreAccepted texts × MatchBool (has_bitcode texts) (ended ≡ NotBuilt) (EndsByParts names texts ended))
+IsLinking names texts ended = IsFirstRefusal names texts ended ⊎ (AreAccepted texts × EndsByParts names texts ended)
 
 -- The end of `llvm-as` over the text of the input of this name: it is refused, or the text of a module. Bytes that begin as bitcode does are a
 -- text like any other.
@@ -79,14 +67,10 @@ abbrev pub part_end : Option (List ℕ) → Ended
 part_end None = ends.Ok
 part_end (Some name) = NoSuchSymbol (spelled_global name)
 
--- the end of `llvm-extract` over the text of the input of this name: it is refused, or that over its module
-abbrev pub IsTextExtraction : List ℕ → Selection → List ℕ → Ended → Type 0
-IsTextExtraction name selection text ended =
-    IsTextRefused name text ended ⊎ ((m : Module) × AssemblesTo text m × (ended ≡ part_end (no_such_symbol m (selection_of selection))))
-
--- the same over any bytes: bitcode is not built
+-- the end of `llvm-extract` over the input of this name: it is refused, or that over the module that it stands for
 abbrev pub IsExtraction : List ℕ → Selection → List ℕ → Ended → Type 0
-IsExtraction name selection bytes ended = MatchBool (is_bitcode bytes) (ended ≡ NotBuilt) (IsTextExtraction name selection bytes ended)
+IsExtraction name selection bytes ended =
+    IsPartRefused name bytes ended ⊎ ((m : Module) × IsPart bytes m × (ended ≡ part_end (no_such_symbol m (selection_of selection))))
 
 -- the end of a command that runs no program, whose inputs are these texts
 abbrev pub IsWork : Command → List (List ℕ) → Ended → Type 0

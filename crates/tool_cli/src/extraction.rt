@@ -14,7 +14,7 @@ ghost use Rattle.tool_cli.specs.Told.{part_end, IsExtraction, IsWork, IsOfTexts,
 
 use crate::delivery::deliver;
 use crate::linking::format_of;
-use crate::parts::{accepted_text, is_bitcode};
+use crate::parts::accepted_part;
 use command_line::{OutputName, Selection};
 use extract_core::ExtractFault;
 use ir_base::{Files, Name, NameList, Sink, Text};
@@ -88,11 +88,8 @@ fn extracted(
     ensures work { IfErr result (λ ended. IsExtraction name.now selection.now bytes.now ended ⊎ (ended ≡ Ended.Memory)) }
     ensures of_texts { IfErr result IsOfTexts }
 {
-    if is_bitcode(bytes) {
-        return Err(Ended::NotBuilt);
-    }
-    let accepted = accepted_text(alloc, name, bytes)?;
-    part_of(alloc, &accepted.checked, selection)
+    let whole = accepted_part(alloc, name, bytes)?;
+    part_of(alloc, &whole, selection)
 }
 
 /// Extracts the part that the words select of the input of this name, and writes its bitcode to this place, or with `text` its canonical text.

@@ -3,7 +3,7 @@
 //! It stands on every layer below. Its promise is the contract of `run_tool`, the call that `main` makes over the
 //! process's own streams: what is answered, what is read and what is written, for any source and sink.
 //! Definitions: `specs/Told` for the meaning of an answer, `specs/Made` and `specs/Output` for what is written, `specs/Running` for programs that are
-//! run, `specs/Headline` for what linking promises, `specs/Ended` of `tool_ends` for the line and the status.
+//! run, `specs/Headline` for what linking promises, `specs/Laws` for inputs, `specs/Ended` of `tool_ends` for the line and the status.
 #![tactic(auto)]
 
 mod analysis;
@@ -14,11 +14,13 @@ mod disassembling;
 mod entity;
 mod extraction;
 mod inputs;
+mod laws;
 mod linking;
 mod parts;
 mod running;
 mod tool_run;
 mod work;
 
+pub use laws::{accepted_is_not_refused, inputs_are_readable};
 pub use tool_ends::{Ended, Report};
 pub use tool_run::{end_without_words, run_tool};

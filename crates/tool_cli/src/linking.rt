@@ -81,9 +81,7 @@ fn linked(alloc: Global, names: &[Text], texts: &[Text]) -> Result<Checked, Ende
     ensures refused { IfErr result (λ ended. IsLinking names.now texts.now ended ⊎ (ended ≡ Ended.Memory)) }
     ensures of_texts { IfErr result IsOfTexts }
 {
-    let Some(parts) = accepted_parts(alloc, names, texts)? else {
-        return Err(Ended::NotBuilt);
-    };
+    let parts = accepted_parts(alloc, names, texts)?;
     match module_link::link(alloc, parts) {
         Ok(whole) => {
             // It is well formed and valid, as each module is that was checked.

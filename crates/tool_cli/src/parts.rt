@@ -1,6 +1,5 @@
 //! The inputs of tools that work on modules: which are accepted, and how the others are refused.
-ghost use Rattle.std.specs.Prelude.{◌≡◌, ◌⊎◌, length, not, is_some, IfOk, IfErr, IfSome, OnOk};
-ghost use Rattle.std.specs.Option.{option_map};
+ghost use Rattle.std.specs.Prelude.{◌≡◌, ◌⊎◌, length, IfOk, IfErr, OnOk};
 ghost use Rattle.linkage_rules.specs.Ids.{modules};
 ghost use Rattle.module_arena.specs.EntityView.{entity_view};
 ghost use Rattle.module_arena.specs.Module.{Module};
@@ -8,10 +7,11 @@ ghost use Rattle.module_arena.specs.View.{module_of};
 ghost use Rattle.ir_syntax.specs.View.{items_view};
 ghost use Rattle.name_rules.specs.Reads.{Reads};
 ghost use Rattle.name_rules.specs.Spelled.{spelled_global};
-ghost use Rattle.tool_cli.specs.Judged.{entity_words, is_bitcode, refusal_told, break_told, verdict_told, IsShort, AreShort, IsTextRefused, IsTextOf, AreAccepted, IsPartAccepted, IsPartRefused, IsFirstRefusal};
-ghost use Rattle.tool_cli.specs.Made.{AreParts, IsPartFound};
-ghost use Rattle.tool_cli.specs.Told.{has_bitcode, IsOfTexts};
+ghost use Rattle.tool_cli.specs.Judged.{entity_words, is_bitcode, refusal_told, break_told, verdict_told, IsShort, AreShort, IsTextRefused, IsTextOf, AreAccepted, IsPartRefused, IsFirstRefusal};
+ghost use Rattle.tool_cli.specs.Made.{AreParts, IsPart};
+ghost use Rattle.tool_cli.specs.Told.{IsOfTexts};
 
+use crate::bitcode::accepted_bitcode;
 use crate::entity::entity_words;
 use ir_base::{Name, Text};
 use ir_resolve::resolve;
@@ -26,8 +26,8 @@ use type_verify::VerifyFault;
 /// The bytes that bitcode begins with (LLVM Bitcode File Format, "LLVM IR Magic Number").
 const BITCODE_MAGIC: [u8; 4] = [0x42, 0x43, 0xC0, 0xDE];
 
-/// Whether the bytes begin as bitcode does.
-pub(crate) fn is_bitcode(bytes: &[u8]) -> bool
+// Whether the bytes begin as bitcode does.
+fn is_bitcode(bytes: &[u8]) -> bool
     ensures { result ≡ is_bitcode bytes.now }
 {
     bytes.starts_with(&BITCODE_MAGIC)
@@ -138,50 +138,42 @@ pub(crate) fn accepted_text(alloc: Global, name: &Text, text: &[u8]) -> Result<A
     }
 }
 
-// The module of the input of this name, where it is a text of one that is valid. What bitcode stands for is not built: there is none.
-fn accepted_part(alloc: Global, name: &Text, bytes: &[u8]) -> Result<Option<Checked>, Ended>
+/// The module that the input of this name stands for, where it is one that is valid: as bitcode where the input begins as that does, and else as a text.
+pub(crate) fn accepted_part(alloc: Global, name: &Text, bytes: &[u8]) -> Result<Checked, Ended>
     requires { IsShort bytes.now }
-    ensures accepted { OnOk result (IsPartAccepted bytes.now) }
-    ensures part { IfOk result (λ found. IsPartFound bytes.now (option_map module_of found)) }
+    ensures part { IfOk result (λ checked. IsPart bytes.now (module_of checked)) }
     ensures refused { IfErr result (λ ended. IsPartRefused name.now bytes.now ended ⊎ (ended ≡ Ended.Memory)) }
     ensures of_texts { IfErr result IsOfTexts }
 {
     if is_bitcode(bytes) {
-        return Ok(None);
+        return accepted_bitcode(alloc, name, bytes);
     }
-    Ok(Some(accepted_text(alloc, name, bytes)?.checked))
+    // The items of a text are let go as soon as its module is there.
+    match accepted_text(alloc, name, bytes) {
+        Ok(accepted) => Ok(accepted.checked),
+        Err(ended) => Err(ended),
+    }
 }
 
-/// The modules of the inputs of these names, in their order, where each is a text of one that is valid. None where one is bitcode, and all texts are
-/// accepted.
+/// The modules that the inputs of these names stand for, in their order, where each stands for one that is valid.
 pub(crate) fn accepted_parts(
     alloc: Global,
     names: &[Text],
     texts: &[Text],
-) -> Result<Option<Vec<Checked>>, Ended>
+) -> Result<Vec<Checked>, Ended>
     requires same { length names.now ≡ length texts.now }
     requires short { AreShort texts.now }
     ensures accepted { OnOk result (AreAccepted texts.now) }
-    ensures parts { IfOk result (λ found. IfSome found (λ parts. AreParts texts.now (modules parts.items))) }
-    ensures bitcode { IfOk result (λ found. is_some found ≡ not (has_bitcode texts.now)) }
+    ensures parts { IfOk result (λ parts. AreParts texts.now (modules parts.items)) }
     ensures refused { IfErr result (λ ended. IsFirstRefusal names.now texts.now ended ⊎ (ended ≡ Ended.Memory)) }
     ensures of_texts { IfErr result IsOfTexts }
 {
     let mut parts = Vec::new(alloc);
-    let mut is_bitcode_there = false;
     'inputs: for index in 0..texts.len() {
-        match accepted_part(alloc, &names[index], texts[index].bytes())? {
-            Some(checked) => {
-                let Ok(()) = parts.push(checked) else {
-                    return Err(Ended::Memory);
-                };
-            }
-            None => is_bitcode_there = true,
-        }
+        let checked = accepted_part(alloc, &names[index], texts[index].bytes())?;
+        let Ok(()) = parts.push(checked) else {
+            return Err(Ended::Memory);
+        };
     }
-    if is_bitcode_there {
-        Ok(None)
-    } else {
-        Ok(Some(parts))
-    }
+    Ok(parts)
 }

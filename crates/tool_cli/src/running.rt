@@ -8,7 +8,7 @@ ghost use Rattle.tool_cli.specs.Judged.{IsShort};
 ghost use Rattle.tool_cli.specs.Running.{end_told, program_of, AnswerTold, IsRunTo, IsRan, IsBeforeRun};
 
 use crate::inputs::is_dash;
-use crate::parts::{accepted_text, is_bitcode};
+use crate::parts::accepted_part;
 use ir_base::{Failed, Name, Sink, Source, Text, TextList};
 use module_arena::Checked;
 use module_run::run_module;
@@ -96,7 +96,7 @@ fn run_program<I: Source, O: Sink>(
 }
 
 /// Runs the module that the input of this name stands for, with these words, for at most so many steps. Where it came from standard input, its program has
-/// no input. What bitcode stands for is not built.
+/// no input.
 pub(crate) fn run_bytes<I: Source, O: Sink>(
     alloc: Global,
     name: &Text,
@@ -113,12 +113,8 @@ pub(crate) fn run_bytes<I: Source, O: Sink>(
     ensures unread { is_dash name.now ≡ true → input.new ≡ input.old }
     ensures not_begun { IsBeforeRun name.now result → (input.new ≡ input.old) × (output.new ≡ output.old) }
 {
-    if is_bitcode(bytes) {
-        return Ended::NotBuilt;
-    }
-    // The items of the text are let go before the run.
-    let checked = match accepted_text(alloc, name, bytes) {
-        Ok(accepted) => accepted.checked,
+    let checked = match accepted_part(alloc, name, bytes) {
+        Ok(checked) => checked,
         Err(ended) => return ended,
     };
     if is_dash(name.bytes()) {

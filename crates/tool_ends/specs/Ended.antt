@@ -13,7 +13,7 @@ use Rattle.linkage_rules.specs.declared.conflict.ConflictKind.{ConflictKind}
 use Rattle.linkage_rules.specs.declared.conflict.ConflictKind.TheVariants.{TwoStrong, FunctionAndVariable, AppendingAndPlain, ElementShape, Constness}
 use Rattle.tool_ends.specs.declared.clash.Clash.{Clash}
 use Rattle.tool_ends.specs.declared.ended.Ended.{Ended}
-use Rattle.tool_ends.specs.declared.ended.Ended.TheVariants.{Exit, StepsUsed, Undefined, StackLimit, MemoryLimit, Unresolved, NoMain, Usage, CannotRead, CannotWrite, InputTooLarge, BadByte, NoItemHere, LeftOutWord, UnknownName, Duplicate, WrongNumber, ConstantRange, TooDeep, TooLarge, SelfContaining, TooMany, Conflict, FunctionTooLarge, Invalid, BitFault, ForeignProducer, BadVersion, UnknownRecord, BadRecord, NoSuchSymbol, NotBuilt, Memory}
+use Rattle.tool_ends.specs.declared.ended.Ended.TheVariants.{Exit, StepsUsed, Undefined, StackLimit, MemoryLimit, Unresolved, NoMain, Usage, CannotRead, CannotWrite, InputTooLarge, BadByte, NoItemHere, LeftOutWord, UnknownName, Duplicate, WrongNumber, ConstantRange, TooDeep, TooLarge, SelfContaining, TooMany, Conflict, FunctionTooLarge, Invalid, BitFault, ForeignProducer, BadVersion, UnknownRecord, BadRecord, NoSuchSymbol, Memory}
 use Rattle.tool_ends.specs.declared.ended.Ended.TheVariants as ends
 
 -- 0 where a tool did its work; a program's own status; 1 where a tool refuses; 120 where memory ran out; and of a program that has no end of its own 121 where
@@ -51,7 +51,6 @@ status_of (BadVersion name version) = 1
 status_of (UnknownRecord name block code) = 1
 status_of (BadRecord name block index rule) = 1
 status_of (NoSuchSymbol symbol) = 1
-status_of NotBuilt = 1
 status_of Memory = 120
 
 -- the tool's name, or `ir-tools` where the words name none, a colon and a space, the text, and a line feed
@@ -147,6 +146,5 @@ line_of words (BadVersion name version) = line_of_record words (BadVersion name 
 line_of words (UnknownRecord name block code) = line_of_record words (UnknownRecord name block code)
 line_of words (BadRecord name block index rule) = line_of_record words (BadRecord name block index rule)
 line_of words (NoSuchSymbol symbol) = error_line words (codes "no symbol " ++ symbol)
-line_of words NotBuilt = error_line words (codes "not built")
 line_of words Memory = error_line words (codes "out of memory")
 line_of words ended = placed_line words ended

@@ -80,8 +80,6 @@ pub enum Ended {
     BadRecord(Text, u32, u64, u8),
     /// No definition of its kind has the selected name that is spelled so in canonical text.
     NoSuchSymbol(Text),
-    /// The tool is not built, or not for such an input.
-    NotBuilt,
     /// Memory ran out.
     Memory,
 }
@@ -138,8 +136,7 @@ pub fn status_of(ended: &Ended) -> u8
         | Ended::BadVersion(_, _)
         | Ended::UnknownRecord(_, _, _)
         | Ended::BadRecord(_, _, _, _)
-        | Ended::NoSuchSymbol(_)
-        | Ended::NotBuilt => 1,
+        | Ended::NoSuchSymbol(_) => 1,
         Ended::Memory => 120,
     }
 }

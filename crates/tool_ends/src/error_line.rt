@@ -289,7 +289,6 @@ pub fn tell<E: Sink>(errors: &mut E, words: &[Text], ended: &Ended)
         | Ended::UnknownRecord(_, _, _)
         | Ended::BadRecord(_, _, _, _) => tell_record(errors, words, ended),
         Ended::NoSuchSymbol(symbol) => tell_text(errors, words, b"no symbol ", symbol.bytes()),
-        Ended::NotBuilt => tell_text(errors, words, b"not built", b""),
         Ended::Memory => tell_text(errors, words, b"out of memory", b""),
         Ended::BadByte(_, _)
         | Ended::NoItemHere(_, _)

@@ -1,9 +1,9 @@
-use Rattle.std.proofs.Common.{ap, ◌∙◌}
 use Rattle.std.proofs.lemmas.Result.{err_from_is_err_and}
+use Rattle.linkage_rules.specs.Ids.{modules}
+use Rattle.module_arena.specs.View.{module_of}
 use Rattle.tool_cli.proofs.Judging.{short_at, judged_on, refused_at, judged_at_end}
-use Rattle.tool_cli.proofs.Linked.{found_part, found_bitcode}
+use Rattle.tool_cli.proofs.Linked.{part_accepted, taken_more, taken_all}
 use Rattle.tool_cli.proofs.parts.accepted_parts.Goals as goal
-use Rattle.tool_cli.proofs.parts.accepted_parts.Goals.{in-Some+in-Ok, in-None}
 
 pub accepted_part-requires : goal.accepted_part-requires
 accepted_part-requires c = rw c.bytes.ensures (short_at c.args.texts.now c.inputs.index c.index-texts-index.result c.requires.short c.inputs-test.true c.index-texts-index.is)
@@ -15,23 +15,18 @@ returns-in_err-checked-clause-refused c =
     c.inputs-test.true c.requires.same c.index-names-index.is c.index-texts-index.is c.inputs.invariant.judged (rw c.bytes.ensures at c.in_err-checked.ensures.refused))
 
 pub inputs-preserved : goal.inputs-preserved
-inputs-preserved c = record {
-  judged = λ found rest.
-      judged_on c.args.names.now c.args.texts.now c.inputs.index c.index-names-index.result c.index-texts-index.result found
-      c.inputs-test.true c.requires.same c.index-names-index.is c.index-texts-index.is (rw c.bytes.ensures at c.in_ok-checked.ensures.accepted) c.inputs.invariant.judged rest;
-  found =
-      elim c.match-branch-2.branch [
-        | in-Some+in-Ok w ↦ rw (ap (λ v. v.items) w.parts-is ∙ w.in-Ok.ensures.items, w.is_bitcode_there-is)
-            (found_part c.args.texts.now c.inputs.index c.inputs.parts.items c.inputs.is_bitcode_there c.index-texts-index.result w.in-Some.checked c.inputs-test.true c.index-texts-index.is c.inputs.invariant.found
-            (rw (w.in-Some.is, c.bytes.ensures) at c.in_ok-checked.ensures.part))
-        | in-None w ↦ rw (ap (λ v. v.items) w.parts-is, w.is_bitcode_there-is)
-            (found_bitcode c.args.texts.now c.inputs.index c.inputs.parts.items c.inputs.is_bitcode_there c.index-texts-index.result c.inputs-test.true c.index-texts-index.is c.inputs.invariant.found
-            (rw (w.in-None.is, c.bytes.ensures) at c.in_ok-checked.ensures.part))
-      ];
-}
+inputs-preserved c =
+    let part = rw c.bytes.ensures at c.in_ok-checked.ensures.part in
+    record {
+      judged = λ found rest.
+          judged_on c.args.names.now c.args.texts.now c.inputs.index c.index-names-index.result c.index-texts-index.result found
+          c.inputs-test.true c.requires.same c.index-names-index.is c.index-texts-index.is (part_accepted c.index-texts-index.result (module_of c.in_ok-checked.checked) part) c.inputs.invariant.judged rest;
+      are = rw c.in-Ok.ensures.items
+          (taken_more c.args.texts.now c.inputs.index c.inputs.parts.items c.index-texts-index.result c.in_ok-checked.checked c.inputs-test.true c.index-texts-index.is c.inputs.invariant.are part);
+    }
 
-pub returns-then-is_bitcode_there-clause-accepted : goal.returns-then-is_bitcode_there-clause-accepted
-returns-then-is_bitcode_there-clause-accepted c = judged_at_end c.args.names.now c.args.texts.now c.inputs.index c.inputs-test.false c.inputs.invariant.judged
+pub returns-clause-accepted : goal.returns-clause-accepted
+returns-clause-accepted c = judged_at_end c.args.names.now c.args.texts.now c.inputs.index c.inputs-test.false c.inputs.invariant.judged
 
-pub returns-else-is_bitcode_there-clause-accepted : goal.returns-else-is_bitcode_there-clause-accepted
-returns-else-is_bitcode_there-clause-accepted c = judged_at_end c.args.names.now c.args.texts.now c.inputs.index c.inputs-test.false c.inputs.invariant.judged
+pub returns-clause-parts : goal.returns-clause-parts
+returns-clause-parts c = taken_all c.args.texts.now c.inputs.index (modules c.inputs.parts.items) c.inputs-test.false c.inputs.invariant.are

@@ -1,0 +1,18 @@
+-- For `accepted_is_not_refused` and `inputs_are_readable`: what is accepted is refused by no tool, and what was written can be read as an input.
+use Rattle.std.specs.Prelude.{ℕ, List}
+use Rattle.module_arena.specs.Module.{Module}
+use Rattle.tool_ends.specs.declared.ended.Ended.{Ended}
+use Rattle.tool_output.specs.declared.format.OutputFormat.{OutputFormat}
+use Rattle.tool_cli.specs.Headline.{AreReadable}
+use Rattle.tool_cli.specs.Judged.{IsBitcodeOf, IsBitcodeRefused, IsPartRefused, IsShort, IsTextRefused}
+use Rattle.tool_cli.specs.Made.{AssemblesTo, IsPart}
+
+-- no end tells that a text is refused which reads to a module that is accepted, nor bitcode that spells one, nor an input that stands for one
+pub record AcceptedIsNotRefused : Type 0 where
+  pub texts : (name text : List ℕ) (m : Module) (ended : Ended) → AssemblesTo text m → IsTextRefused name text ended → ⊥
+  pub bitcode : (name bytes : List ℕ) (m : Module) (ended : Ended) → IsBitcodeOf bytes m → IsBitcodeRefused name bytes ended → ⊥
+  pub parts : (name bytes : List ℕ) (m : Module) (ended : Ended) → IsPart bytes m → IsPartRefused name bytes ended → ⊥
+
+-- bytes that were written in either format, and are no more than an input may have, are readable
+abbrev pub InputsAreReadable : Type 0
+InputsAreReadable = (format : OutputFormat) (bytes : List ℕ) → IsShort bytes → AreReadable format bytes
