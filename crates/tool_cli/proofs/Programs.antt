@@ -27,7 +27,7 @@ use Rattle.tool_cli.specs.Causes.{Stopped}
 use Rattle.tool_cli.specs.Judged.{is_bitcode, bitcode_told, refusal_told, break_told, verdict_told, IsBitcodeRefused, IsPartRefused, IsTextRefused}
 use Rattle.tool_cli.specs.Made.{IsPart}
 use Rattle.tool_cli.specs.Output.{IsUnwrittenOrMemory}
-use Rattle.tool_cli.specs.Running.{end_told, program_of, end_of, AnswerTold, IsRunTo, IsRunFrom, IsRan, IsBeforeRun, IsPlayedOf, IsQuiet, RunsInput, without_input}
+use Rattle.tool_cli.specs.Running.{end_told, program_of, end_of, AnswerTold, IsRunTo, IsRunFrom, IsRan, IsBeforeRun, IsPlayedOf, IsQuiet, without_input}
 use Rattle.tool_cli.specs.Told.{IsRun, IsOfRun}
 
 -- ---- the answer of a run

@@ -1,4 +1,4 @@
-use Rattle.std.proofs.Common.{◌⊎◌, inl, ℕ, List, refl, true≢false}
+use Rattle.std.proofs.Common.{◌⊎◌, ℕ, List, true≢false}
 use Rattle.command_line.specs.declared.command.Command.{Command}
 use Rattle.ir_base.specs.Outside.{Rose}
 use Rattle.run_rules.specs.Clauses.{outside}
