@@ -20,10 +20,11 @@ use ir_syntax::{Item, Items};
 use item_build::{build_structs, declare_items, initialise_items, set_targets, set_texts};
 use module_arena::Arena;
 use std::alloc::{AllocError, Global};
+use struct_order::dependency_order;
 use type_build::Builder;
 
-/// The texts and the structs of the items, and no entries.
-fn begin(alloc: Global, items: &[Item]) -> Result<Builder, AllocError>
+/// The texts and the structs of the items, and no entries. The structs get their bodies in the order of these numbers first.
+fn begin(alloc: Global, items: &[Item], order: &[u32]) -> Result<Builder, AllocError>
     requires buildable { AreBuildable (items_view items.now) }
     requires unbroken { first_break (items_view items.now) ≡ None }
     ensures module { IfOk result (λ builder. module_of builder.arena ≡ without_entries (items_view items.now)) }
@@ -31,7 +32,7 @@ fn begin(alloc: Global, items: &[Item]) -> Result<Builder, AllocError>
 {
     let mut builder = Builder::new(alloc);
     set_texts(&mut builder, alloc, items)?;
-    build_structs(&mut builder, alloc, items)?;
+    build_structs(&mut builder, alloc, items, order)?;
     Ok(builder)
 }
 
@@ -51,15 +52,15 @@ fn build_entries(builder: &mut Builder, alloc: Global, items: &[Item]) -> Result
     Ok(())
 }
 
-/// The arena of these items: texts, structs, variables, aliases and functions in the order of the text. It is refused for
-/// want of memory alone.
-pub(crate) fn build_items(alloc: Global, items: &[Item]) -> Result<Arena, AllocError>
+/// The arena of these items: texts, structs, variables, aliases and functions in the order of the text. The structs get their
+/// bodies in the order of these numbers first. It is refused for want of memory alone.
+pub(crate) fn build_items(alloc: Global, items: &[Item], order: &[u32]) -> Result<Arena, AllocError>
     requires buildable { AreBuildable (items_view items.now) }
     requires few { counted (items_view items.now) ≤ 2 ^ 24 }
     requires unbroken { first_break (items_view items.now) ≡ None }
     ensures { IfOk result (λ arena. module_of arena ≡ module_of_items (items_view items.now)) }
 {
-    let mut builder = begin(alloc, items)?;
+    let mut builder = begin(alloc, items, order)?;
     build_entries(&mut builder, alloc, items)?;
     let Builder { arena, .. } = builder;
     Ok(arena)
@@ -73,5 +74,7 @@ pub(crate) fn build(alloc: Global, items: &Items) -> Result<Arena, AllocError>
     requires unbroken { first_break (items_view items.now) ≡ None }
     ensures { IfOk result (λ arena. module_of arena ≡ module_of_items (items_view items.now)) }
 {
-    build_items(alloc, items.as_slice())
+    // Each struct behind those that it holds, so that no type is measured twice.
+    let order = dependency_order(alloc, items)?;
+    build_items(alloc, items.as_slice(), &order)
 }

@@ -8,3 +8,4 @@ pub mod Room
 pub mod Declared
 pub mod Completed
 pub mod ModuleTexts
+pub mod Placing

@@ -3,3 +3,4 @@ pub mod Named
 pub mod Declaring
 pub mod Completing
 pub mod Texts
+pub mod Places

@@ -11,6 +11,7 @@ ghost use Rattle.buildable.specs.Laws.{AreBuildable};
 ghost use Rattle.item_build.specs.Named.{CanDefineItem, struct_behind, AreDone};
 ghost use Rattle.item_build.specs.Partly.{IsPartly, AllFit, with_structs};
 
+use crate::along::define_along;
 use crate::defining::define_struct;
 use crate::naming::name_structs;
 use ir_syntax::Item;
@@ -18,7 +19,7 @@ use std::alloc::{AllocError, Global};
 use type_build::Builder;
 
 /// Gives the struct with that number its body, where the item is one, and tells the next number.
-fn define_item(
+pub(crate) fn define_item(
     builder: &mut Builder,
     alloc: Global,
     number: u32,
@@ -56,8 +57,14 @@ fn define_structs(builder: &mut Builder, alloc: Global, items: &[Item]) -> Resul
     Ok(())
 }
 
-/// Names the structs of a text, in order, and gives each its body, where the arena has no types.
-pub fn build_structs(builder: &mut Builder, alloc: Global, items: &[Item]) -> Result<(), AllocError>
+/// Names the structs of a text, in order, and gives each its body, where the arena has no types: in the order of these numbers first, and
+/// then in that of the text. Where the order has each struct behind those that it holds, the time is linear.
+pub fn build_structs(
+    builder: &mut Builder,
+    alloc: Global,
+    items: &[Item],
+    order: &[u32],
+) -> Result<(), AllocError>
     requires buildable { AreBuildable (items_view items.now) }
     requires unbroken { first_break (items_view items.now) ≡ None }
     requires empty { builder.old.arena.table ≡ no_types }
@@ -65,5 +72,7 @@ pub fn build_structs(builder: &mut Builder, alloc: Global, items: &[Item]) -> Re
     ensures entries { OnOk result (entries builder.new.arena ≡ entries builder.old.arena) }
 {
     name_structs(builder, alloc, items)?;
-    define_structs(builder, alloc, items)
+    define_along(builder, alloc, items, order)?;
+    define_structs(builder, alloc, items)?;
+    Ok(())
 }

@@ -3,9 +3,10 @@
 //! It stands on `type_build`, and on what `buildable` asks for. It promises that a struct which is defined has the fields
 //! that the text writes, that each entry is the one that its item writes, that nothing else of the module changes, and that only
 //! memory may be wanting: structs of which some have no body yet are never deeper or larger than the whole. Definitions:
-//! `specs/Partly`, `specs/Named`, `specs/Declaring`, `specs/Completing`, `specs/Texts`.
+//! `specs/Partly`, `specs/Named`, `specs/Places`, `specs/Declaring`, `specs/Completing`, `specs/Texts`.
 #![tactic(auto)]
 
+mod along;
 mod building;
 mod declaring;
 mod defining;

@@ -48,8 +48,7 @@ fn link_all(alloc: Global, parts: &[Checked]) -> Result<Checked, LinkFault>
 ///
 /// `Conflict` exactly with the first conflict of the parts; else `TooMany` exactly with the first count of the linked module
 /// that is past its limit: structs, variables, functions, aliases, appended bytes. Else only memory may be wanting. The time
-/// is linear in the parts where the structs of each stand behind those that they hold; a long chain in another order is measured again
-/// and again.
+/// is linear in the parts where the body of each struct was made before a type was its name, as in a module that was read from a text.
 pub fn link(alloc: Global, parts: Vec<Checked>) -> Result<Checked, LinkFault>
     // What is answered.
     ensures agree { OnOk result (first_conflict (modules parts.items) ≡ None) }
