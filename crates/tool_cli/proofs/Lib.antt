@@ -10,6 +10,7 @@ pub mod Commands
 pub mod Steps
 pub mod Judging
 pub mod Order
+pub mod Front
 pub mod Verdicts
 pub mod Spelled
 pub mod Begins

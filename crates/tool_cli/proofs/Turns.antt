@@ -148,7 +148,7 @@ refused_one names others name before now contents contents_now left left_now i f
 
 -- The turn at the name with this index.
 
-next_name : (names : List (List ℕ)) (i : ℕ) (name : List ℕ) → i < length names → name ≡ get_or names i name → drop i names ≡ name ∷ drop (i + 1) names
+pub next_name : (names : List (List ℕ)) (i : ℕ) (name : List ℕ) → i < length names → name ≡ get_or names i name → drop i names ≡ name ∷ drop (i + 1) names
 next_name names i name h e = rw (add-one, drop-cons names i name) (ap (λ n. n ∷ drop (suc i) names) (sym e))
 
 -- what the inputs give is these texts and then what the rest of them give
@@ -187,7 +187,7 @@ told_on names i name contents contents_now left left_now left_next held stdin to
       ),
     )
 
-none_behind : (names : List (List ℕ)) (i : ℕ) → length names ≤ i → drop i names ≡ []
+pub none_behind : (names : List (List ℕ)) (i : ℕ) → length names ≤ i → drop i names ≡ []
 none_behind names i h = grind (arith, common_steps)
 
 pub told_at_end : (names : List (List ℕ)) (i : ℕ) (left left_now : Option (List ℕ)) (held : Named) (stdin : List ℕ) (total : ℕ) (texts : List (List ℕ)) → length names ≤ i → GoesOn names i left left_now held stdin total texts → Ok texts ≡ texts_read held stdin 0 names

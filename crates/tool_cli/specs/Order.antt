@@ -1,9 +1,12 @@
--- In which order inputs are read: one that is refused leaves those behind it untouched.
-use Rattle.std.specs.Prelude.{◌≡◌, ℕ, Bool, false, not, List, [], ◌∷◌, Option, Some, None, if◌then◌else◌}
+-- For `read_inputs` and `run_tool`: in which order inputs are read. One that is refused leaves those behind it untouched.
+use Rattle.std.specs.Prelude.{◌≡◌, ◌⊎◌, ℕ, Bool, false, not, List, [], ◌∷◌, Option, Some, None, Err, if◌then◌else◌}
 use Rattle.std.specs.List.{IsAmong, list_any}
+use Rattle.ir_base.specs.Files.{Named}
 use Rattle.command_line.specs.Options.{is_dash}
 use Rattle.tool_ends.specs.declared.ended.Ended.{Ended}
 use Rattle.tool_ends.specs.declared.ended.Ended.TheVariants.{CannotRead, InputTooLarge}
+use Rattle.tool_cli.specs.Inputs.{texts_read}
+use Rattle.tool_cli.specs.Causes.{GaveUp}
 
 -- one of the inputs is a file
 abbrev pub has_file : List (List ℕ) → Bool
@@ -27,3 +30,24 @@ refused_input ended = None
 -- standard input is untouched where an input before it is refused
 abbrev pub KeepsOrder : {A : Type 0} → List (List ℕ) → A → A → Ended → Type 0
 KeepsOrder names before now ended = (name : List ℕ) → refused_input ended ≡ Some name → IsBeforeStdin names name → now ≡ before
+
+-- the names in front of the first that is standard input
+abbrev pub before_stdin : List (List ℕ) → List (List ℕ)
+before_stdin [] = []
+before_stdin (name ∷ names) = if is_dash name then [] else name ∷ before_stdin names
+
+-- by what these files hold, this refuses the first input that is refused in front of standard input
+abbrev pub IsRefusedInFront : Named → List (List ℕ) → Ended → Type 0
+IsRefusedInFront held names refusal = texts_read held [] 0 (before_stdin names) ≡ Err refusal
+
+-- where the files are told, and refuse an input in front of it, standard input is untouched, whatever the answer
+abbrev pub KeepsTurn : {A : Type 0} → Option Named → List (List ℕ) → A → A → Type 0
+KeepsTurn contents names before now = (held : Named) (refusal : Ended) → contents ≡ Some held → IsRefusedInFront held names refusal → now ≡ before
+
+-- and the answer is that refusal, but for a read of a file that failed, and for want of memory
+abbrev pub IsInTurn : Option Named → Type 0 → List (List ℕ) → Ended → Type 0
+IsInTurn contents files_rose names ended = (held : Named) (refusal : Ended) → contents ≡ Some held → IsRefusedInFront held names refusal → (ended ≡ refusal) ⊎ GaveUp ⊥ files_rose ended
+
+-- where the files are told, they refuse no input in front of standard input
+abbrev pub HasFineFront : Option Named → List (List ℕ) → Type 0
+HasFineFront contents names = (held : Named) (refusal : Ended) → contents ≡ Some held → IsRefusedInFront held names refusal → ⊥

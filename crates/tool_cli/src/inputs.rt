@@ -6,7 +6,7 @@ ghost use Rattle.command_line.specs.Options.{is_dash};
 ghost use Rattle.tool_cli.specs.Inputs.{inputs_of, has_stdin, TellsAll, texts_read};
 ghost use Rattle.tool_cli.specs.Judged.{IsShort, AreShort};
 ghost use Rattle.tool_cli.specs.Reads.{LeavesInput, LeavesFiles};
-ghost use Rattle.tool_cli.specs.Order.{has_file, KeepsOrder};
+ghost use Rattle.tool_cli.specs.Order.{has_file, HasFineFront, IsInTurn, KeepsOrder, KeepsTurn};
 ghost use Rattle.tool_cli.specs.Causes.{IsEmptied, HasRead, GaveUp, RefusesStdin, RefusesFile, Refuses, RefusesOne, IsStdinOrMemory, IsUnreadOrMemory};
 
 use command_line::Command;
@@ -134,6 +134,9 @@ pub fn read_inputs<F: Files, I: Source>(
     ensures short { IfOk result AreShort }
     ensures refused { IfErr result (RefusesOne (F.contents files.old) (I.left input.old) (Rose (I.faults input.old) (I.faults input.new)) (Rose (F.read_faults files.old) (F.read_faults files.new)) names.now) }
     ensures order { IfErr result (KeepsOrder names.now input.old input.new) }
+    ensures turn { KeepsTurn (F.contents files.old) names.now input.old input.new }
+    ensures in_turn { IfErr result (IsInTurn (F.contents files.old) (Rose (F.read_faults files.old) (F.read_faults files.new)) names.now) }
+    ensures fine_front { OnOk result (HasFineFront (F.contents files.old) names.now) }
     ensures unread { has_stdin names.now ≡ false → input.new ≡ input.old }
     ensures files_unread { has_file names.now ≡ false → files.new ≡ files.old }
     ensures emptied { OnOk result (has_stdin names.now ≡ true → IsEmptied (I.left input.new)) }

@@ -10,10 +10,10 @@ ghost use Rattle.command_line.specs.Faults.{IsFirstFault};
 ghost use Rattle.tool_output.specs.Outputs.{outputs};
 ghost use Rattle.tool_ends.specs.Ended.{line_of, status_of};
 ghost use Rattle.run_rules.specs.Clauses.{outside};
-ghost use Rattle.tool_cli.specs.Inputs.{inputs_named, has_stdin, listens, runs, TellsAll, TellsRun};
+ghost use Rattle.tool_cli.specs.Inputs.{inputs_named, inputs_of, has_stdin, listens, runs, TellsAll, TellsRun};
 ghost use Rattle.tool_cli.specs.Causes.{IsEmptied, Stopped, IsUnread, IsPassed, IsStdinOrMemory, IsUnreadOrMemory};
 ghost use Rattle.tool_cli.specs.Reads.{LosesInput};
-ghost use Rattle.tool_cli.specs.Order.{has_file, KeepsOrder};
+ghost use Rattle.tool_cli.specs.Order.{has_file, IsInTurn, KeepsOrder, KeepsTurn};
 ghost use Rattle.tool_cli.specs.Analyzed.{analyzes, IsBeforeWork};
 ghost use Rattle.tool_cli.specs.Output.{output_named, IsUnwritten, IsUnwrittenOrMemory, IsFileUnwritten, IsShown, LeavesFilesBut, LeavesStandard, LeavesNamed};
 ghost use Rattle.tool_cli.specs.Told.{IsTold, IsAfterReading};
@@ -60,6 +60,8 @@ fn ended_of<F: Files, I: Source, O: Sink>(
     // What is read and written.
     ensures before_reading { (kind : UsageKind) (k : ℕ) → IsFirstFault words.now kind k → (input.new ≡ input.old) × (files.new ≡ files.old) × (output.new ≡ output.old) }
     ensures order { KeepsOrder (inputs_named words.now) input.old input.new result }
+    ensures turn { KeepsTurn (F.contents files.old) (inputs_named words.now) input.old input.new }
+    ensures in_turn { (command : Command) → IsReadAs words.now command → IsInTurn (F.contents files.old) (Rose (F.read_faults files.old) (F.read_faults files.new)) (inputs_of command) result }
     ensures unread { has_stdin (inputs_named words.now) ≡ false → listens words.now ≡ false → input.new ≡ input.old }
     ensures files_unread { has_file (inputs_named words.now) ≡ false → LeavesNamed (output_named words.now) result → files.new ≡ files.old }
     ensures whole { IsAfterReading result → has_stdin (inputs_named words.now) ≡ true → IsEmptied (I.left input.new) }
@@ -122,6 +124,8 @@ pub fn run_tool<F: Files, I: Source, O: Sink, E: Sink>(
     // What is read and written.
     ensures before_reading { (kind : UsageKind) (k : ℕ) → IsFirstFault words.now kind k → (input.new ≡ input.old) × (files.new ≡ files.old) × (output.new ≡ output.old) }
     ensures order { KeepsOrder (inputs_named words.now) input.old input.new result.ended }
+    ensures turn { KeepsTurn (F.contents files.old) (inputs_named words.now) input.old input.new }
+    ensures in_turn { (command : Command) → IsReadAs words.now command → IsInTurn (F.contents files.old) (Rose (F.read_faults files.old) (F.read_faults files.new)) (inputs_of command) result.ended }
     ensures unread { has_stdin (inputs_named words.now) ≡ false → listens words.now ≡ false → input.new ≡ input.old }
     ensures files_unread { has_file (inputs_named words.now) ≡ false → LeavesNamed (output_named words.now) result.ended → files.new ≡ files.old }
     ensures whole { IsAfterReading result.ended → has_stdin (inputs_named words.now) ≡ true → IsEmptied (I.left input.new) }

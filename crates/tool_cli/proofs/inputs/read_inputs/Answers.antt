@@ -4,6 +4,7 @@ use Rattle.ir_base.specs.Outside.{Rose}
 use Rattle.tool_cli.proofs.Turns.{Unread, onto_none, refused_one, over_one, told_refused, told_over, told_on, told_at_end, stdin_on, stdin_at_end, unread_on, unread_so_far, lost_by, lost_so_far}
 use Rattle.tool_cli.specs.declared.inputs.TheConstants.{LARGEST_TOGETHER}
 use Rattle.tool_cli.proofs.Judging.{short_more}
+use Rattle.tool_cli.proofs.Front.{due_on, front_over, front_refused, none_due, turn_kept}
 use Rattle.tool_cli.proofs.Order.{untouched_on, order_kept, refuses_only, over_only, memory_keeps, files_on}
 use Rattle.tool_cli.proofs.inputs.read_inputs.Goals as goal
 
@@ -18,6 +19,7 @@ loop-name-init g c = record {
   same_faults = refl;
   input = Unread refl refl refl;
   untouched = inl refl;
+  due = λ held told refusal first. (first, refl);
   no_file = λ none. refl;
   told = λ held stdin tells. (stdin, (λ e. e, rw c.new-texts.ensures (onto_none _)));
 }
@@ -149,6 +151,10 @@ loop-name-preserved g c =
       input = stdin_on c.args.names.now c.loop-name.name-index c.name-item.result c.in_ok-text.text (contents c.loop-name.files) c.args.input.now c.loop-name.input c.read_input.new.input (left c.args.input.now) (left c.loop-name.input) (left c.read_input.new.input)
           c.loop-name-test.true c.name-item.is c.in_ok-text.ensures.read c.read_input.ensures.unread (λ h. ap left (c.read_input.ensures.unread h)) c.read_input.ensures.leaves_input.lost c.loop-name.invariant.input;
       untouched = untouched_on c.args.names.now c.loop-name.name-index c.name-item.result c.args.input.now c.loop-name.input c.read_input.new.input c.name-item.is c.read_input.ensures.unread c.loop-name.invariant.untouched;
+      due = λ held told.
+          due_on c.args.names.now c.loop-name.name-index c.name-item.result held c.loop-name.total c.args.input.now c.loop-name.input c.loop-name-test.true c.name-item.is (c.loop-name.invariant.due held told)
+          (contents c.args.files.now) (contents c.loop-name.files) (left c.loop-name.input) (left c.read_input.new.input) c.loop-name.invariant.same_contents told
+          c.in_ok-text.text c.in_ok-text.ensures.read c.read_input.new.input c.bytes.result.now c.bytes.ensures c.if-total-gt-LARGEST_TOGETHER.false c.read_input.ensures.unread;
       no_file = files_on c.args.names.now c.loop-name.name-index c.name-item.result c.args.files.now c.loop-name.files c.read_input.new.files c.loop-name-test.true c.name-item.is c.read_input.ensures.files_unread c.loop-name.invariant.no_file;
       told = λ held stdin tells.
           told_on c.args.names.now c.loop-name.name-index c.name-item.result (contents c.args.files.now) (contents c.loop-name.files) (left c.args.input.now) (left c.loop-name.input) (left c.read_input.new.input) held stdin c.loop-name.total c.loop-name.texts c.push.new.self c.in_ok-text.text c.bytes.result.now
@@ -295,3 +301,51 @@ returns-clause-leaves_files g c = record {
 
 pub returns-clause-files_unread : goal.returns-clause-files_unread
 returns-clause-files_unread g c = c.loop-name.invariant.no_file
+
+pub returns-in_err-text-clause-turn : goal.returns-in_err-text-clause-turn
+returns-in_err-text-clause-turn g c = λ held refusal told first.
+    turn_kept c.args.names.now c.loop-name.name-index c.name-item.result held c.loop-name.total c.args.input.now c.loop-name.input c.loop-name-test.true c.name-item.is (c.loop-name.invariant.due held told) c.read_input.new.input c.read_input.ensures.unread refusal first
+
+pub returns-then-total-gt-LARGEST_TOGETHER-clause-turn : goal.returns-then-total-gt-LARGEST_TOGETHER-clause-turn
+returns-then-total-gt-LARGEST_TOGETHER-clause-turn g c = λ held refusal told first.
+    turn_kept c.args.names.now c.loop-name.name-index c.name-item.result held c.loop-name.total c.args.input.now c.loop-name.input c.loop-name-test.true c.name-item.is (c.loop-name.invariant.due held told) c.read_input.new.input c.read_input.ensures.unread refusal first
+
+pub returns-in_err-push-clause-turn : goal.returns-in_err-push-clause-turn
+returns-in_err-push-clause-turn g c = λ held refusal told first.
+    turn_kept c.args.names.now c.loop-name.name-index c.name-item.result held c.loop-name.total c.args.input.now c.loop-name.input c.loop-name-test.true c.name-item.is (c.loop-name.invariant.due held told) c.read_input.new.input c.read_input.ensures.unread refusal first
+
+pub returns-clause-turn : goal.returns-clause-turn
+returns-clause-turn g c = λ held refusal told first. (c.loop-name.invariant.due held told refusal first).1
+
+pub returns-in_err-text-clause-in_turn : goal.returns-in_err-text-clause-in_turn
+returns-in_err-text-clause-in_turn g c =
+    let left = g.I.Source.left in
+    let faults = g.I.Source.faults in
+    let contents = g.F.Files.contents in
+    let reads = g.F.Files.read_faults in
+    let why = rw (c.loop-name.invariant.same_faults, c.loop-name.invariant.same_reads) at c.in_err-text.ensures.refused in
+    let p = err_from_is_err_and c.from_residual.result c.from_residual.ensures.1 in
+    rw (p.1, p.2) (λ held refusal told first.
+    front_refused c.args.names.now c.loop-name.name-index c.name-item.result held c.loop-name.total c.args.input.now c.loop-name.input c.loop-name-test.true c.name-item.is (c.loop-name.invariant.due held told)
+    (contents c.args.files.now) (contents c.loop-name.files) (left c.loop-name.input) (left c.read_input.new.input) c.loop-name.invariant.same_contents told
+    (Rose (faults c.args.input.now) (faults c.read_input.new.input)) (Rose (reads c.args.files.now) (reads c.read_input.new.files)) c.in_err-text.field-0.0 refusal why first)
+
+pub returns-then-total-gt-LARGEST_TOGETHER-clause-in_turn : goal.returns-then-total-gt-LARGEST_TOGETHER-clause-in_turn
+returns-then-total-gt-LARGEST_TOGETHER-clause-in_turn g c =
+    let left = g.I.Source.left in
+    let contents = g.F.Files.contents in
+    let reads = g.F.Files.read_faults in
+    λ held refusal told first.
+    front_over c.args.names.now c.loop-name.name-index c.name-item.result held c.loop-name.total c.args.input.now c.loop-name.input c.loop-name-test.true c.name-item.is (c.loop-name.invariant.due held told)
+    (contents c.args.files.now) (contents c.loop-name.files) (left c.loop-name.input) (left c.read_input.new.input) c.loop-name.invariant.same_contents told
+    c.in_ok-text.text c.in_ok-text.ensures.read (Rose (reads c.args.files.now) (reads c.read_input.new.files)) c.too_large.result refusal
+    (rw c.bytes.ensures at c.if-total-gt-LARGEST_TOGETHER.true) (rw c.bytes-then-total-gt-LARGEST_TOGETHER.ensures at c.too_large.ensures) first
+
+pub returns-in_err-push-clause-in_turn : goal.returns-in_err-push-clause-in_turn
+returns-in_err-push-clause-in_turn g c =
+    let p = err_from_is_err_and c.from_residual-in_err-push.result c.from_residual-in_err-push.ensures.1 in
+    rw (p.1, p.2) (λ held refusal told first. inr tt)
+
+pub returns-clause-fine_front : goal.returns-clause-fine_front
+returns-clause-fine_front g c = λ held refusal told first.
+    none_due c.args.names.now c.loop-name.name-index held c.loop-name.total c.args.input.now c.loop-name.input refusal c.loop-name-test.false (c.loop-name.invariant.due held told) first

@@ -9,6 +9,7 @@ use Rattle.tool_output.specs.Outputs.{outputs}
 use Rattle.tool_cli.specs.Analyzed.{IsBeforeWork}
 use Rattle.tool_cli.specs.Causes.{IsEmptied, Stopped}
 use Rattle.tool_cli.specs.Inputs.{has_stdin, hears, input_read, inputs_of, inputs_named, listens, texts_read}
+use Rattle.tool_cli.specs.Order.{IsRefusedInFront}
 use Rattle.tool_cli.specs.Output.{output_of, IsUnwritten, IsWritten}
 use Rattle.tool_cli.specs.Reads.{LosesInput}
 use Rattle.tool_cli.specs.Running.{IsUnbegun}
@@ -282,3 +283,38 @@ returns-clause-before_reading g c = λ kind k first. absurd (c.in-Ok.ensures.com
 
 pub returns-in-Ok-read_inputs-clause-too_large : goal.returns-in-Ok-read_inputs-clause-too_large
 returns-in-Ok-read_inputs-clause-too_large g c = λ name limit told. absurd (run_no_large c.work.result (hears c.in-Ok.command) name limit c.work.ensures.of_work told)
+
+-- the inputs in their turn
+
+pub returns-in-Ok-read_inputs-clause-turn : goal.returns-in-Ok-read_inputs-clause-turn
+returns-in-Ok-read_inputs-clause-turn g c =
+    let same = inputs_are c.args.words.now c.in-Ok.command c.in-Ok.ensures.command ∙ sym c.inputs_of.ensures in
+    λ held refusal told first. absurd (c.in-Ok-read_inputs.ensures.fine_front held refusal told (subst (λ (names : List (List ℕ)). IsRefusedInFront held names refusal) same first))
+
+pub returns-clause-turn : goal.returns-clause-turn
+returns-clause-turn g c =
+    let same = inputs_are c.args.words.now c.in-Ok.command c.in-Ok.ensures.command ∙ sym c.inputs_of.ensures in
+    λ held refusal told first. c.in-Err.ensures.turn held refusal told (subst (λ (names : List (List ℕ)). IsRefusedInFront held names refusal) same first)
+
+pub returns-in-Err-Usage-clause-turn : goal.returns-in-Err-Usage-clause-turn
+returns-in-Err-Usage-clause-turn g c = λ held refusal told first. refl
+
+pub returns-in-Err-Memory-clause-turn : goal.returns-in-Err-Memory-clause-turn
+returns-in-Err-Memory-clause-turn g c = λ held refusal told first. refl
+
+pub returns-in-Ok-read_inputs-clause-in_turn : goal.returns-in-Ok-read_inputs-clause-in_turn
+returns-in-Ok-read_inputs-clause-in_turn g c = λ command read held refusal told first.
+    let same = ap inputs_of (same_command c.args.words.now command c.in-Ok.command read c.in-Ok.ensures.command) ∙ sym c.inputs_of.ensures in
+    absurd (c.in-Ok-read_inputs.ensures.fine_front held refusal told (subst (λ (names : List (List ℕ)). IsRefusedInFront held names refusal) same first))
+
+pub returns-clause-in_turn : goal.returns-clause-in_turn
+returns-clause-in_turn g c = λ command read held refusal told first.
+    let same = ap inputs_of (same_command c.args.words.now command c.in-Ok.command read c.in-Ok.ensures.command) ∙ sym c.inputs_of.ensures in
+    c.in-Err.ensures.in_turn held refusal told (subst (λ (names : List (List ℕ)). IsRefusedInFront held names refusal) same first)
+
+pub returns-in-Err-Usage-clause-in_turn : goal.returns-in-Err-Usage-clause-in_turn
+returns-in-Err-Usage-clause-in_turn g c =
+    λ command read held refusal told first. absurd (read.fine c.in-Err-Usage.kind c.in-Err-Usage.word (c.in-Err-Usage.ensures.usage c.in-Err-Usage.kind c.in-Err-Usage.word (ap (λ (fault : WordsFault). Err fault) c.in-Err-Usage.field-0-is)).is)
+
+pub returns-in-Err-Memory-clause-in_turn : goal.returns-in-Err-Memory-clause-in_turn
+returns-in-Err-Memory-clause-in_turn g c = λ command read held refusal told first. inr tt
