@@ -9,6 +9,7 @@ use ir_tables::Predicate;
 
 /// Whether two integers or two pointers compare so, as an integer of width 1, or poison. The width is
 /// from 1 to 128, and that of a pointer is written 64. `samesign` gives poison for unlike signs.
+#[inline(always)]
 pub fn compare(predicate: Predicate, samesign: bool, width: u8, a: Scalar, b: Scalar) -> Scalar
     requires width { IsWidth width }
     requires operands { AreComparable width a b }

@@ -10,6 +10,7 @@ use ir_tables::{Flag, Flags, Opcode};
 /// The cast of an integer, a pointer or poison. Widths are from 1 to 128, and that of a pointer is written
 /// 64; `trunc` narrows, `zext` and `sext` widen.
 #[tactic(auto, using(crate::proofs::Ranges::cast_kind, crate::proofs::Ranges::cast_block), unfolding(crate::specs::Cast::cast_of))]
+#[inline(always)]
 pub fn cast(op: Opcode, flags: Flags, from: u8, to: u8, operand: Scalar) -> Scalar
     requires from { IsWidth from }
     requires to { IsWidth to }

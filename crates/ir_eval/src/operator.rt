@@ -28,6 +28,7 @@ fn is_no_divisor(b: Scalar) -> bool
 /// The binary instruction on two integers of a width from 1 to 128, or poison. It refuses a division by
 /// zero or by poison, and the quotient and the remainder of the least value by -1.
 #[tactic(auto, using(crate::proofs::Ranges::binary_kind), unfolding(crate::specs::Scalar::binary_of))]
+#[inline(always)]
 pub fn binary(
     op: Opcode,
     flags: Flags,
@@ -51,6 +52,26 @@ pub fn binary(
     }
 }
 
+/// A division or a remainder, where there is a divisor.
+#[inline(never)]
+fn divided(op: Opcode, flags: Flags, width: u8, a: u128, b: u128) -> Result<Scalar, UndefinedKind>
+    requires division { IsTrue (is_division op) }
+    requires width { IsWidth width }
+    requires a { a < 2 ^ width }
+    requires b { b < 2 ^ width }
+    requires divisor { 0 < b }
+    ensures { result ≡ integers op flags width a b }
+{
+    match op {
+        Opcode::UDiv => Ok(quotient(flags, a, b)),
+        Opcode::SDiv => signed_quotient(flags, width, a, b),
+        Opcode::URem => Ok(remainder(a, b)),
+        Opcode::SRem => signed_remainder(width, a, b),
+        _ => unreachable!(),
+    }
+}
+
+#[inline(always)]
 fn integers(op: Opcode, flags: Flags, width: u8, a: u128, b: u128) -> Result<Scalar, UndefinedKind>
     requires binary { IsTrue (is_binary op) }
     requires width { IsWidth width }
@@ -63,10 +84,9 @@ fn integers(op: Opcode, flags: Flags, width: u8, a: u128, b: u128) -> Result<Sca
         Opcode::Add => Ok(sum(flags, width, a, b)),
         Opcode::Sub => Ok(difference(flags, width, a, b)),
         Opcode::Mul => Ok(product(flags, width, a, b)),
-        Opcode::UDiv => Ok(quotient(flags, a, b)),
-        Opcode::SDiv => signed_quotient(flags, width, a, b),
-        Opcode::URem => Ok(remainder(a, b)),
-        Opcode::SRem => signed_remainder(width, a, b),
+        Opcode::UDiv | Opcode::SDiv | Opcode::URem | Opcode::SRem => {
+            divided(op, flags, width, a, b)
+        }
         Opcode::Shl => Ok(shifted_left(flags, width, a, b)),
         Opcode::LShr => Ok(shifted_right(flags, width, a, b)),
         Opcode::AShr => Ok(signed_shifted_right(flags, width, a, b)),

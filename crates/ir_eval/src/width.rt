@@ -4,6 +4,7 @@ ghost use Rattle.std.specs.Option.{option_map_or};
 ghost use Rattle.ir_eval.specs.Value.{IsWidth, signed, fits_signed, reduced, has_sign};
 
 /// The greatest number of this width.
+#[inline]
 pub fn greatest(width: u8) -> u128
     requires { IsWidth width }
     ensures { result ≡ 2 ^ width - 1 }
@@ -12,6 +13,7 @@ pub fn greatest(width: u8) -> u128
 }
 
 /// The low bits of a word.
+#[inline]
 pub fn low_bits(width: u8, word: u128) -> u128
     requires { IsWidth width }
     ensures { result ≡ word % 2 ^ width }
@@ -20,6 +22,7 @@ pub fn low_bits(width: u8, word: u128) -> u128
 }
 
 /// The number read with its sign.
+#[inline]
 pub fn signed(width: u8, number: u128) -> i128
     requires width { IsWidth width }
     requires number { number < 2 ^ width }
@@ -34,6 +37,7 @@ pub fn signed(width: u8, number: u128) -> i128
 }
 
 /// Whether the sign bit is set.
+#[inline]
 pub fn has_sign(width: u8, number: u128) -> bool
     requires { IsWidth width }
     ensures { result ≡ has_sign width number }
@@ -42,6 +46,7 @@ pub fn has_sign(width: u8, number: u128) -> bool
 }
 
 /// The low bits of a number with its sign, as two's complement.
+#[inline]
 pub fn reduced(width: u8, number: i128) -> u128
     requires { IsWidth width }
     ensures { result ≡ reduced width number }
@@ -50,6 +55,7 @@ pub fn reduced(width: u8, number: i128) -> u128
 }
 
 /// Whether an exact result is there, and is at most the greatest number of the width.
+#[inline]
 pub fn fits_unsigned(width: u8, exact: Option<u128>) -> bool
     requires { IsWidth width }
     ensures { result ≡ option_map_or (λ number. nat_lt number (2 ^ width)) exact false }
@@ -61,6 +67,7 @@ pub fn fits_unsigned(width: u8, exact: Option<u128>) -> bool
 }
 
 /// Whether an exact result with sign is there, and the width has it.
+#[inline]
 pub fn fits_signed(width: u8, exact: Option<i128>) -> bool
     requires { IsWidth width }
     ensures { result ≡ option_map_or (fits_signed width) exact false }
