@@ -3,6 +3,7 @@ ghost use Rattle.std.specs.Prelude.{◌≡◌, ◌+◌, ◌<◌, ◌≤◌, ◌^
 ghost use Rattle.masked_bytes.specs.Masked.{put, digit, digits, spelled};
 
 /// The byte at a place of a number, the least first.
+#[inline]
 fn digit(number: u128, place: usize) -> u8
     requires { place < 16 }
     ensures { result ≡ digit number place }
@@ -11,6 +12,7 @@ fn digit(number: u128, place: usize) -> u8
 }
 
 /// The number that bytes spell.
+#[inline(always)]
 pub fn spelled(bytes: &[u8]) -> u128
     requires { length bytes.now ≤ 16 }
     ensures value { result ≡ spelled bytes.now }
@@ -28,6 +30,7 @@ pub fn spelled(bytes: &[u8]) -> u128
 }
 
 /// The number that bytes spell, one after the other.
+#[inline(never)]
 fn spelled_in_turn(bytes: &[u8]) -> u128
     requires { length bytes.now ≤ 16 }
     ensures value { result ≡ spelled bytes.now }
@@ -43,6 +46,7 @@ fn spelled_in_turn(bytes: &[u8]) -> u128
 }
 
 /// Writes a number over bytes.
+#[inline(always)]
 pub fn spell(bytes: &mut [u8], number: u128)
     requires { length bytes.old ≤ 16 }
     ensures { bytes.new ≡ digits (length bytes.old) number }
@@ -57,6 +61,7 @@ pub fn spell(bytes: &mut [u8], number: u128)
 }
 
 /// Writes a number over bytes, one after the other.
+#[inline(never)]
 fn spell_in_turn(bytes: &mut [u8], number: u128)
     requires { length bytes.old ≤ 16 }
     ensures { bytes.new ≡ digits (length bytes.old) number }
@@ -67,6 +72,7 @@ fn spell_in_turn(bytes: &mut [u8], number: u128)
 }
 
 /// Writes a number at a place.
+#[inline(always)]
 pub fn put_number(bytes: &mut Vec<u8>, at: usize, count: usize, number: u128)
     requires within { at + count ≤ vec_len bytes.old }
     requires count { count ≤ 16 }

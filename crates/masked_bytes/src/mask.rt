@@ -57,6 +57,7 @@ fn set(words: &mut Vec<u64>, at: usize, to: bool)
 }
 
 /// Marks so many bytes, or unmarks them.
+#[inline(never)]
 pub fn set_all(words: &mut Vec<u64>, at: usize, count: usize, to: bool)
     requires within { at + count ≤ 64 * vec_len words.old }
     requires small { at + count < 2 ^ 64 }
@@ -69,6 +70,7 @@ pub fn set_all(words: &mut Vec<u64>, at: usize, count: usize, to: bool)
 }
 
 /// Unmarks so many bytes, which costs nothing where none is marked.
+#[inline(always)]
 pub fn clear(words: &mut Vec<u64>, clean: bool, at: usize, count: usize)
     requires within { at + count ≤ 64 * vec_len words.old }
     requires small { at + count < 2 ^ 64 }
@@ -83,6 +85,7 @@ pub fn clear(words: &mut Vec<u64>, clean: bool, at: usize, count: usize)
 }
 
 /// Whether one of so many bytes is marked.
+#[inline]
 pub fn has_any(words: &Vec<u64>, clean: bool, at: usize, count: usize) -> bool
     requires within { at + count ≤ 64 * vec_len words.now }
     requires small { at + count < 2 ^ 64 }

@@ -52,6 +52,7 @@ impl MaskedBytes {
     }
 
     /// How many there are.
+    #[inline]
     pub fn len(&self) -> usize
         ensures { result ≡ length self.now }
     {
@@ -71,6 +72,7 @@ impl MaskedBytes {
     }
 
     /// The number that so many of them spell, the least byte first, or None exactly where one is poison.
+    #[inline(always)]
     pub fn number(&self, at: usize, count: usize) -> Option<u128>
         requires within { at + count ≤ length self.now }
         requires count { count ≤ 16 }
@@ -84,6 +86,7 @@ impl MaskedBytes {
     }
 
     /// Writes the least bytes of a number.
+    #[inline(always)]
     pub fn write_number(&mut self, at: usize, count: usize, number: u128)
         requires within { at + count ≤ length self.old }
         requires count { count ≤ 16 }
