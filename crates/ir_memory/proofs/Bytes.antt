@@ -1,6 +1,6 @@
 -- Bytes of numbers.
 use Rattle.std.proofs.Common.{◌≡◌, ℕ, zero, suc, ◌+◌, ◌-◌, ◌*◌, ◌/◌, ◌%◌, ◌^◌, ◌<◌, ◌≤◌, List, [], ◌∷◌, length, drop, get_or, refl, sym, ap, ◌∙◌, arith, Some, None, Option, ◌&&◌, drop-cons, add-one, lit≤, pow-add}
-use Rattle.std.proofs.Math.Nat.{pow-le-pow_right, div-eq_of_lt, pow-succ'}
+use Rattle.std.proofs.Math.Nat.{pow-le-pow_right, div-eq_of_lt, mod-eq_of_lt, pow-succ'}
 use Rattle.ir_memory.specs.declared.cell.Cell.{Cell}
 use Rattle.ir_eval.specs.declared.value.Pointer.{Pointer}
 use Rattle.ir_memory.specs.Cell.{byte_at, byte_of, joined, number_of, is_piece, are_pieces}
@@ -19,6 +19,14 @@ shift (suc place) =
     let f = pow-add 2 8 (8 * place) in
     let g : 256 ^ suc place ≡ 256 * 256 ^ place = pow-succ' 256 place in
     rw (e, f, g) (ap (λ n. 256 * n) (shift place))
+
+-- a number of whole bytes is cut nowhere
+pub whole_bytes : (number width : ℕ) → number < 256 ^ ((width + 7) / 8) → width % 8 ≡ 0 → number ≡ number % 2 ^ width
+whole_bytes number width fits whole =
+    let count : 8 * ((width + 7) / 8) ≡ width = omega (arith, whole) in
+    let power : 2 ^ width ≡ 256 ^ ((width + 7) / 8) = ap (λ n. 2 ^ n) (sym count) ∙ shift ((width + 7) / 8) in
+    let less : number < 2 ^ width = omega (arith, power, fits) in
+    sym (mod-eq_of_lt less)
 
 pub byte_shift : (number place : ℕ) → number / 2 ^ (8 * place) % 256 ≡ byte_at number place
 byte_shift number place = ap (λ n. number / n % 256) (shift place)

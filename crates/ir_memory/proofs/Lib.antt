@@ -10,3 +10,4 @@ mod Writes
 mod Places
 mod Answering
 mod Numbers
+mod Paged

@@ -8,3 +8,4 @@ pub mod Find
 pub mod Seen
 pub mod Lending
 pub mod Numbered
+pub mod Rows

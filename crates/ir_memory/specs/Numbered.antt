@@ -1,14 +1,27 @@
--- How the table keeps blocks: the live ones by their numbers, and of the others nothing but how many numbers there are.
-use Rattle.std.specs.Prelude.{ℕ, List, map, Option, Some, None}
+-- How the table keeps blocks: a row for each number, in pages of 64 rows each; a row that is not there is one of a block that has ended.
+use Rattle.std.specs.Prelude.{◌≡◌, ℕ, ◌+◌, ◌*◌, ◌/◌, ◌%◌, ◌<◌, ◌≤◌, List, [], length, map, slice_index_or}
 use Rattle.std.specs.List.{range_with_len}
 use Rattle.ir_memory.specs.declared.kept.KeptBlock.{KeptBlock}
 use Rattle.ir_memory.specs.Seen.{ended_block}
 
--- a block that is kept, or what is left of one that is not
-abbrev pub or_ended : Option KeptBlock → KeptBlock
-or_ended None = ended_block
-or_ended (Some block) = block
+-- the block of a row
+abbrev pub row : List KeptBlock → ℕ → KeptBlock
+row rows k = slice_index_or rows k ended_block
+
+-- a page; behind all pages one without rows
+abbrev pub page : List (List KeptBlock) → ℕ → List KeptBlock
+page pages p = slice_index_or pages p []
+
+-- the block of a number
+abbrev pub kept_in : List (List KeptBlock) → ℕ → KeptBlock
+kept_in pages n = row (page pages (n / 64)) (n % 64)
 
 -- the blocks of the first so many numbers
-abbrev pub numbered : ℕ → (ℕ → Option KeptBlock) → List KeptBlock
-numbered count kept = map (λ i. or_ended (kept i)) (range_with_len 0 count)
+abbrev pub numbered : ℕ → (ℕ → KeptBlock) → List KeptBlock
+numbered count kept = map kept (range_with_len 0 count)
+
+-- there are as many pages as so many numbers ask for, and where the last one is not full, it has a row for each of its numbers
+pub record IsPaged (count : ℕ) (pages : List (List KeptBlock)) : Type 0 where
+  pub enough : count ≤ 64 * length pages
+  pub few : 64 * length pages < count + 64
+  pub last : length (page pages (count / 64)) ≡ count % 64

@@ -61,6 +61,7 @@ pub fn started(
 }
 
 /// The one block that a pointer can speak of: its own, or the one that has its address. Blocks and pieces serve the clauses.
+#[inline(always)]
 fn candidate(
     _kept: &Table,
     _pieces: &Pieces,
@@ -80,6 +81,7 @@ fn candidate(
 }
 
 /// Whether the pointer's own block has ended.
+#[inline(always)]
 fn has_ended(block: &KeptBlock, pointer: Pointer) -> bool
     ensures { result ≡ (not block.now.live && is_some pointer.block) }
 {
@@ -87,20 +89,23 @@ fn has_ended(block: &KeptBlock, pointer: Pointer) -> bool
 }
 
 /// Whether the access writes to a sealed constant.
+#[inline(always)]
 fn is_fixed(block: &KeptBlock, sealed: bool, writes: bool) -> bool
     ensures { result ≡ (writes && sealed && is_constant block.now.kind) }
 {
     writes && sealed && block.is_constant()
 }
 
+#[inline(always)]
 fn is_aligned(address: u64, align: u32) -> bool
     requires { IsAlignment align }
     ensures { result ≡ nat_eq (address % align) 0 }
 {
-    address % u64::from(align) == 0
+    address & (u64::from(align) - 1) == 0
 }
 
 /// The place of an access of at least one byte, or the first check that fails.
+#[inline(always)]
 pub fn access(
     kept: &Table,
     _pieces: &Pieces,

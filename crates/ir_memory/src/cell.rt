@@ -1,5 +1,5 @@
 //! One byte of memory, and leaves as cells.
-ghost use Rattle.std.specs.Prelude.{◌≡◌, ◌<◌, ◌≤◌, ◌^◌, ◌%◌, length, IfSome};
+ghost use Rattle.std.specs.Prelude.{◌≡◌, ◌+◌, ◌/◌, ◌<◌, ◌≤◌, ◌^◌, ◌%◌, length, IfSome};
 ghost use Rattle.ir_memory.specs.Cell as of;
 ghost use Rattle.ir_memory.specs.Given.{IsLeaf};
 ghost use Rattle.ir_memory.specs.Seen.{of_number};
@@ -89,6 +89,7 @@ fn pointer_of(cells: &[Cell]) -> Option<Pointer>
 }
 
 /// A number cut to a width.
+#[inline]
 fn low_bits(number: u128, width: u8) -> u128
     requires { width ≤ 128 }
     ensures { result ≡ number % 2 ^ width }
@@ -126,7 +127,22 @@ pub fn read(leaf: Leaf, cells: &[Cell]) -> Scalar
     }
 }
 
+/// A number that so many bytes spell as a width takes, cut to that width.
+#[inline(always)]
+fn cut(number: u128, width: u8) -> u128
+    requires width { width ≤ 128 }
+    requires fits { number < 256 ^ ((width + 7) / 8) }
+    ensures { result ≡ number % 2 ^ width }
+{
+    if width % 8 == 0 {
+        // All bits of all bytes are of the width.
+        return number;
+    }
+    low_bits(number, width)
+}
+
 /// The value of a leaf from the number that its bytes spell, where no piece stands among them.
+#[inline(always)]
 pub fn value_of(leaf: Leaf, number: Option<u128>) -> Scalar
     requires leaf { IsLeaf leaf }
     requires fits { IfSome number (λ n. n < 256 ^ of.size leaf) }
@@ -136,7 +152,7 @@ pub fn value_of(leaf: Leaf, number: Option<u128>) -> Scalar
         return Scalar::Poison;
     };
     match leaf {
-        Leaf::Int(width) => Scalar::Int(low_bits(number, width)),
+        Leaf::Int(width) => Scalar::Int(cut(number, width)),
         Leaf::Ptr => Scalar::Ptr(Pointer {
             block: None,
             address: number as u64,

@@ -35,6 +35,7 @@ pub fn meets(may_overlap: bool, one: Place, other: Place, count: usize) -> bool
 
 /// Copies cells, as if through a buffer. Where memory is refused, nothing changes; it is asked for only where
 /// the source may have pieces.
+#[inline(never)]
 pub fn copy_cells(
     alloc: Global,
     kept: &mut Table,

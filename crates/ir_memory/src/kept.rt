@@ -1,5 +1,5 @@
 //! One block as memory keeps it.
-ghost use Rattle.std.specs.Prelude.{◌≡◌, ◌+◌, ◌&&◌, nat_le, IfOk, ℕ, Option};
+ghost use Rattle.std.specs.Prelude.{◌≡◌, ◌+◌, ◌&&◌, nat_le, IfOk, ℕ, Option, true};
 ghost use Rattle.ir_memory.specs.Block as block;
 ghost use Rattle.ir_memory.specs.Seen.{fresh, ended_block, seen};
 ghost use Rattle.pointer_pieces.specs.declared.piece.Piece.{Piece};
@@ -54,7 +54,33 @@ impl KeptBlock {
         }
     }
 
+    /// Whether nothing of it is kept.
+    pub fn is_gone(&self) -> bool
+        ensures { result ≡ true → self.now ≡ ended_block }
+    {
+        if self.live {
+            return false;
+        }
+        if self.mixed {
+            return false;
+        }
+        if self.start != 0 {
+            return false;
+        }
+        if self.size != 0 {
+            return false;
+        }
+        if self.bytes.len() != 0 {
+            return false;
+        }
+        match self.kind {
+            BlockKind::Stack => true,
+            BlockKind::Variable(_) | BlockKind::Heap => false,
+        }
+    }
+
     /// Whether it is live and holds so many bytes from an address on.
+    #[inline(always)]
     pub fn is_home(&self, address: u64, count: u64) -> bool
         ensures { result ≡ (self.now.live && (nat_le self.now.start address && nat_le (address + count) (self.now.start + self.now.size))) }
     {
@@ -72,6 +98,7 @@ impl KeptBlock {
     }
 
     /// Whether the block is a constant variable.
+    #[inline(always)]
     pub fn is_constant(&self) -> bool
         ensures { result ≡ block.is_constant self.now.kind }
     {

@@ -12,6 +12,7 @@ pub enum Leaf {
 
 impl Leaf {
     /// How many bytes the leaf takes in memory.
+    #[inline(always)]
     pub fn size(self) -> usize
         requires { IsLeaf self }
         ensures value { result ≡ of.size self }

@@ -14,6 +14,7 @@ mod kept;
 mod kind;
 mod leaf;
 mod memory;
+mod page;
 mod read;
 mod starts;
 mod table;

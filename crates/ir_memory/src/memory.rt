@@ -154,6 +154,7 @@ impl Memory {
 
     /// The start and the end of the pointer's live block, and None exactly where the pointer has no block or
     /// its block has ended. The first address of all is 65,536.
+    #[inline(always)]
     pub fn bounds(&self, pointer: Pointer) -> Option<(u64, u64)>
         requires { IsKnown self.now.list pointer }
         ensures value { result ≡ of.bounds_at self.now.list pointer.block }
@@ -169,6 +170,7 @@ impl Memory {
     }
 
     /// The leaf at an address (LangRef, "load"). It is refused exactly where the access is undefined.
+    #[inline(always)]
     pub fn load(&self, address: Scalar, leaf: Leaf, align: u32) -> Result<Scalar, UndefinedKind>
         requires address { IsAddress self.now.list address }
         requires leaf { IsLeaf leaf }
@@ -195,6 +197,7 @@ impl Memory {
 
     /// Writes a leaf at an address (LangRef, "store"). It is refused exactly where the access is undefined.
     #[tactic(auto, using(crate::proofs::Known::count_steps))]
+    #[inline(always)]
     pub fn store(
         &mut self,
         address: Scalar,
@@ -325,6 +328,7 @@ impl Memory {
 }
 
 /// Writes a leaf at a place. Where memory is refused, nothing changes; it is asked for only by pointers.
+#[inline(always)]
 fn write_leaf(
     kept: &mut Table,
     pieces: &mut Pieces,

@@ -15,6 +15,7 @@ use ir_eval::Scalar;
 use pointer_pieces::Pieces;
 
 /// The leaf at a place.
+#[inline(always)]
 pub fn read_at(kept: &Table, pieces: &Pieces, place: Place, leaf: Leaf) -> Scalar
     requires leaf { IsLeaf leaf }
     requires room { IsRoom kept.now place (cell.size leaf) }
@@ -31,6 +32,7 @@ pub fn read_at(kept: &Table, pieces: &Pieces, place: Place, leaf: Leaf) -> Scala
 }
 
 /// Whether a piece stands in a range of a block, which may be mixed.
+#[inline(always)]
 fn has_pieces(pieces: &Pieces, mixed: bool, from: u64, to: u64) -> bool
     requires order { from ≤ to }
     requires unmixed { mixed ≡ false → (q : ℕ) → from ≤ q → q < to → at pieces.now q ≡ None }
@@ -41,6 +43,7 @@ fn has_pieces(pieces: &Pieces, mixed: bool, from: u64, to: u64) -> bool
 }
 
 /// The leaf at a place where pieces may stand.
+#[inline(never)]
 fn read_pieces(block: &KeptBlock, pieces: &Pieces, offset: usize, leaf: Leaf) -> Scalar
     requires leaf { IsLeaf leaf }
     requires within { offset + cell.size leaf ≤ length block.now.bytes }

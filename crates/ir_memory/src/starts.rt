@@ -8,6 +8,7 @@ use std::alloc::AllocError;
 use std::collections::BTreeMap;
 
 /// The number of the block with the greatest start that is not above an address.
+#[inline(never)]
 pub fn last_started(starts: &BTreeMap<u64, u64>, address: u64) -> Option<u64>
     ensures last { IfSome result (λ i. IsLast (tree.get nat_cmp starts.now) address i) }
     ensures none { IfNone result ((q : ℕ) → q ≤ address → tree.get nat_cmp starts.now q ≡ None) }

@@ -1,37 +1,59 @@
 //! All blocks by their numbers.
-ghost use Rattle.std.specs.Prelude.{◌≡◌, ◌<◌, ◌++◌, ◌∷◌, [], length, slice_index_or, slice_set, true, OnOk, OnErr};
+ghost use Rattle.std.specs.Prelude.{◌≡◌, ◌≢◌, ℕ, ◌+◌, ◌<◌, ◌++◌, ◌∷◌, [], length, slice_index_or, slice_set, true, OnOk, OnErr};
+ghost use Rattle.ir_memory.specs.Numbered.{IsPaged, kept_in};
 ghost use Rattle.ir_memory.specs.Seen.{ended_block};
 ghost use Rattle.ir_memory.specs.Lending.{LendsBlock};
 ghost use Rattle.ir_memory.specs.declared.kept.KeptBlock.{KeptBlock as Kept};
 ghost use Rattle.std.specs.Borrow.{sem};
 
 use crate::kept::KeptBlock;
+use crate::page::{Page, ROWS};
 use std::alloc::{AllocError, Global};
-use std::collections::BTreeMap;
 use std::marker::Model;
 
-/// The blocks of a run by their numbers, counted from 0. Of those that have ended nothing is kept: one row
-/// stands for each of them.
+/// The blocks of a run by their numbers, counted from 0, in pages of 64 numbers each. Of those that have ended nothing is kept: one
+/// row stands for each of them, and for all of a page together none.
 #[derive(Drop)]
 pub struct Table {
-    kept: BTreeMap<usize, KeptBlock>,
+    alloc: Global,
+    pages: Vec<Page>,
     ended: KeptBlock,
     count: usize,
 }
 
 impl Model for Table {
     ghost use Rattle.std.specs.Prelude.{◌≡◌, List};
-    ghost use Rattle.std.specs.Ordering.{nat_cmp};
-    ghost use Rattle.std.specs.BTreeMap as tree;
     ghost use Rattle.ir_memory.specs.declared.kept.KeptBlock.{KeptBlock};
     ghost use Rattle.ir_memory.specs.Seen.{ended_block};
-    ghost use Rattle.ir_memory.specs.Numbered.{numbered};
+    ghost use Rattle.ir_memory.specs.Numbered.{IsPaged, kept_in, numbered};
 
     ghost Value = { List KeptBlock };
 
-    ghost view = { λ t. numbered t.count (tree.get nat_cmp t.kept) };
+    ghost view = { λ t. numbered t.count (kept_in t.pages.items) };
 
-    ghost invariant = { λ t. t.ended ≡ ended_block };
+    ghost invariant = { λ t. (t.ended ≡ ended_block) × IsPaged t.count t.pages.items };
+}
+
+/// Puts the block that has the next number behind the first so many. Where memory is refused, nothing changes.
+fn put(
+    pages: &mut Vec<Page>,
+    alloc: Global,
+    count: usize,
+    block: KeptBlock,
+) -> Result<(), AllocError>
+    requires { IsPaged count pages.old.items }
+    ensures paged { OnOk result (IsPaged (count + 1) pages.new.items) }
+    ensures here { OnOk result (kept_in pages.new.items count ≡ block) }
+    ensures others { OnOk result ((k : ℕ) → k ≢ count → kept_in pages.new.items k ≡ kept_in pages.old.items k) }
+    ensures err { OnErr result (pages.new.items ≡ pages.old.items) }
+{
+    if count % ROWS == 0 {
+        let page = Page::new(alloc, block)?;
+        pages.push(page)?;
+        return Ok(());
+    }
+    pages[count / ROWS].push(block)?;
+    Ok(())
 }
 
 impl Table {
@@ -40,7 +62,8 @@ impl Table {
         ensures { result ≡ [] }
     {
         Table {
-            kept: BTreeMap::new(alloc),
+            alloc,
+            pages: Vec::new(alloc),
             ended: KeptBlock::ended(alloc),
             count: 0,
         }
@@ -59,30 +82,35 @@ impl Table {
         ensures err { OnErr result (self.new ≡ self.old) }
     {
         let count = self.count.checked_add(1).ok_or(AllocError)?;
-        self.kept.insert(self.count, block)?;
+        put(&mut self.pages, self.alloc, self.count, block)?;
         self.count = count;
         Ok(())
     }
 
     /// The block of a number.
+    #[inline(always)]
     pub fn get(&self, index: usize) -> &KeptBlock
         requires { index < length self.now }
         ensures { result.now ≡ slice_index_or self.now index result.now }
     {
-        match self.kept.get(&index) {
-            Some(block) => block,
-            None => &self.ended,
+        let page = &self.pages[index / ROWS];
+        let place = index % ROWS;
+        if place < page.len() {
+            return page.at(place);
         }
+        &self.ended
     }
 
     /// The live block of a number, to be changed.
+    #[inline(always)]
     pub fn get_mut(&mut self, index: usize) -> &mut KeptBlock
         requires index { index < length self.old }
         requires live { (d : Kept) → (slice_index_or self.old index d).live ≡ true }
         ensures* writes_back { sem 𝓛 (LendsBlock self.entry index result) }
         ensures value { result.now ≡ slice_index_or self.old index result.now }
     {
-        self.kept.get_mut(&index).unwrap()
+        let page = &mut self.pages[index / ROWS];
+        page.at_mut(index % ROWS)
     }
 
     /// Ends the block of a number: nothing of it is kept.
@@ -90,6 +118,7 @@ impl Table {
         requires { index < length self.old }
         ensures { self.new ≡ slice_set self.old index ended_block }
     {
-        let _ended = self.kept.remove(&index);
+        let alloc = self.alloc;
+        self.pages[index / ROWS].end(alloc, index % ROWS);
     }
 }

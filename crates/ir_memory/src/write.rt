@@ -14,6 +14,7 @@ use pointer_pieces::Pieces;
 use std::alloc::AllocError;
 
 /// Removes the pieces of a range of a block, which may be mixed.
+#[inline(always)]
 pub fn clear(pieces: &mut Pieces, mixed: bool, from: u64, to: u64)
     requires order { from ≤ to }
     requires unmixed { mixed ≡ false → (q : ℕ) → from ≤ q → q < to → at pieces.old q ≡ None }
@@ -25,6 +26,7 @@ pub fn clear(pieces: &mut Pieces, mixed: bool, from: u64, to: u64)
 }
 
 /// Writes the least bytes of a number at a place.
+#[inline(always)]
 pub fn write_number(kept: &mut Table, pieces: &mut Pieces, place: Place, count: usize, number: u128)
     requires count { count ≤ 16 }
     requires room { IsRoom kept.old place count }
@@ -39,6 +41,7 @@ pub fn write_number(kept: &mut Table, pieces: &mut Pieces, place: Place, count: 
 }
 
 /// Writes one byte in so many places.
+#[inline(never)]
 pub fn write_many(kept: &mut Table, pieces: &mut Pieces, place: Place, count: usize, byte: u8)
     requires room { IsRoom kept.old place count }
     requires sound { (next : ℕ) × IsSound (at pieces.old) kept.old next }
@@ -52,6 +55,7 @@ pub fn write_many(kept: &mut Table, pieces: &mut Pieces, place: Place, count: us
 }
 
 /// Writes poison in so many places.
+#[inline(never)]
 pub fn write_poison(kept: &mut Table, pieces: &mut Pieces, place: Place, count: usize)
     requires room { IsRoom kept.old place count }
     requires sound { (next : ℕ) × IsSound (at pieces.old) kept.old next }
@@ -65,6 +69,7 @@ pub fn write_poison(kept: &mut Table, pieces: &mut Pieces, place: Place, count: 
 }
 
 /// Writes a pointer at a place. Where memory is refused, nothing changes.
+#[inline(never)]
 pub fn write_pointer(
     kept: &mut Table,
     pieces: &mut Pieces,

@@ -1,0 +1,6 @@
+use Rattle.std.proofs.Common.{rules}
+use Rattle.ir_memory.proofs.Paged.{gone_block}
+use Rattle.ir_memory.proofs.kept.KeptBlock.is_gone.Goals as goal
+
+pub returns-in-Stack : goal.returns-in-Stack
+returns-in-Stack c = λ _. search (rules, gone_block)
