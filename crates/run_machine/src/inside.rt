@@ -43,6 +43,7 @@ impl<'m> Stepping for Inside<'m> {
         self.steps
     }
 
+    #[inline(always)]
     fn step<I: Source, O: Sink>(
         &mut self,
         input: &mut I,

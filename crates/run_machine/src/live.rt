@@ -1,5 +1,5 @@
 //! What instructions see of a run.
-ghost use Rattle.std.specs.Prelude.{◌≡◌, ◌^◌, ◌<◌, ℕ, [], IfOk, OnErr, OnOk, true};
+ghost use Rattle.std.specs.Prelude.{◌≡◌, ◌==◌, ◌^◌, ◌<◌, ℕ, [], IfOk, length, OnErr, OnOk, true};
 ghost use Rattle.run_machine.specs.Living.{Acts, Enters, HasFrames, IsLive, may_want_in, StaysEntered, StaysIn, StaysLive, TakesNumber, Turns};
 ghost use Rattle.run_passing.specs.Traffic.{Gets};
 ghost use Rattle.run_rules.specs.Clauses.{outside};
@@ -47,7 +47,31 @@ impl<'m> Live<'m> {
     /// While no function is under way, what is due is called; a stop comes back where the run is over by that.
     ///
     /// It is refused for want of memory alone, and only where no function was under way.
+    #[inline(always)]
     pub fn enter_due(&mut self) -> Result<Option<Stop>, AllocError>
+        requires { (steps : ℕ) × IsLive steps self.old }
+        ensures entered { IfOk result (λ stop. Enters stop self.old self.new) }
+        ensures live { (steps : ℕ) → IsLive steps self.old → IfOk result (λ stop. StaysEntered steps stop self.new) }
+        ensures idle { OnErr result (self.old.stack.frames ≡ []) }
+        ensures kept { OnErr result (self.new.program.lists ≡ self.old.program.lists) }
+    {
+        if self.is_idle() {
+            return self.enter_idle();
+        }
+        Ok(None)
+    }
+
+    // Whether no function is under way.
+    #[inline(always)]
+    fn is_idle(&self) -> bool
+        ensures { result ≡ (length self.now.stack.frames == 0) }
+    {
+        self.stack.is_empty()
+    }
+
+    // What is due is called, one call after another, until a function is under way or the run is over.
+    #[inline(never)]
+    fn enter_idle(&mut self) -> Result<Option<Stop>, AllocError>
         requires { (steps : ℕ) × IsLive steps self.old }
         ensures entered { IfOk result (λ stop. Enters stop self.old self.new) }
         ensures live { (steps : ℕ) → IsLive steps self.old → IfOk result (λ stop. StaysEntered steps stop self.new) }
@@ -71,7 +95,7 @@ impl<'m> Live<'m> {
     /// Carries out the instruction that is due in the newest function. What it writes stands in the room.
     ///
     /// It is refused for want of memory alone, by an instruction that may want it.
-    #[inline]
+    #[inline(always)]
     pub fn act(&mut self) -> Result<Next, AllocError>
         requires frames { HasFrames self.old }
         requires live { (steps : ℕ) × IsLive steps self.old × (steps < 2 ^ 32) }
@@ -94,7 +118,7 @@ impl<'m> Live<'m> {
     /// Enters what is due, and carries out an instruction. What that writes stands in the room.
     ///
     /// It is refused for want of memory alone, where no function was under way, or by an instruction that may want it.
-    #[inline]
+    #[inline(always)]
     pub fn turn(&mut self) -> Result<Turn, AllocError>
         requires { (steps : ℕ) × IsLive steps self.old × (steps < 2 ^ 32) }
         ensures turned { IfOk result (λ turn. Turns turn self.old self.new) }
@@ -110,7 +134,7 @@ impl<'m> Live<'m> {
     }
 
     /// What the last instruction writes.
-    #[inline]
+    #[inline(always)]
     pub fn written(&self) -> &[u8]
         ensures { result.now ≡ self.now.written }
     {
@@ -120,7 +144,7 @@ impl<'m> Live<'m> {
     /// The newest frame gets the next byte of the input at that place, or -1 at its end. Before input is read all that is held is written.
     ///
     /// It is refused where a read or that write failed.
-    #[inline]
+    #[inline(never)]
     pub fn take_byte<I: Source, O: Sink>(
         &mut self,
         to: u32,

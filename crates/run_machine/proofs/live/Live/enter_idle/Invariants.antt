@@ -1,6 +1,6 @@
 use Rattle.std.proofs.Common.{length}
 use Rattle.run_machine.proofs.Entering.{Entering}
-use Rattle.run_machine.proofs.live.Live.enter_due.Given as goal
+use Rattle.run_machine.proofs.live.Live.enter_idle.Given as goal
 
 abbrev pub invariant-idle : goal.invariant-idle
 invariant-idle l =
