@@ -20,6 +20,7 @@ use std::alloc::AllocError;
 /// nothing is.
 ///
 /// It is refused for want of memory alone, by an instruction that may want it.
+#[inline(always)]
 pub fn act(
     program: &mut Program<'_>,
     stack: &mut Stack,
