@@ -33,6 +33,7 @@ pub trait Stepping {
 
 /// Makes steps to an end or a fault, or until their count is the bound, which is at most 2^32; then the end is the one that `halt`
 /// gives.
+#[inline(never)]
 pub fn run<M: Stepping, I: Source, O: Sink>(
     machine: &mut M,
     bound: u64,
