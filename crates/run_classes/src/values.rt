@@ -17,6 +17,7 @@ use std::alloc::AllocError;
 /// A select, a freeze, or parts of values put together. What `room` has is lost.
 ///
 /// Only a value of more than one leaf, or of parts, wants memory. Refused memory leaves all frames as they were.
+#[inline(never)]
 pub fn act_on_values(
     stack: &mut Stack,
     pools: &Pools,
