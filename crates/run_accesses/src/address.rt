@@ -18,6 +18,7 @@ use ir_memory::Memory;
 use run_stack::{Origin, Stack};
 
 /// A pointer moved by a distance in bytes; `inbounds` asks for the bounds of its block.
+#[inline]
 fn moved_pointer(memory: &Memory, inbounds: bool, pointer: Pointer, distance: i128) -> Scalar
     requires { IsKnown memory.now.list pointer }
     ensures { result ≡ displaced (λ p. bounds_at memory.now.list p.block) inbounds (Ptr pointer) (Some distance) }
@@ -31,6 +32,7 @@ fn moved_pointer(memory: &Memory, inbounds: bool, pointer: Pointer, distance: i1
 }
 
 /// A base moved by a distance in bytes, which is not known where an index is poison.
+#[inline]
 fn moved(memory: &Memory, inbounds: bool, base: Scalar, distance: Option<i128>) -> Scalar
     requires { IsAddress memory.now.list base }
     ensures { result ≡ displaced (λ p. bounds_at memory.now.list p.block) inbounds base distance }

@@ -16,6 +16,7 @@ use run_values::block_size;
 /// A new block for so many elements, which ends when its function returns; the count is unsigned. Size and alignment are in bytes.
 ///
 /// Refused where the count is poison, or the limit on live bytes would be passed. Refused memory may have made the block already.
+#[inline(never)]
 pub fn allocate(
     stack: &mut Stack,
     memory: &mut Memory,

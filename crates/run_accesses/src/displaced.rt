@@ -7,6 +7,7 @@ use ir_eval::width::reduced;
 use ir_eval::{Pointer, Scalar};
 
 /// Whether an address that is moved by so many bytes lies before the start of a block or after its end, exactly and not modulo 2^64.
+#[inline]
 fn is_outside(address: u64, distance: i128, bounds: (u64, u64)) -> bool
     ensures { result ≡ rules.is_outside (pos address +ℤ distance) bounds }
 {
@@ -18,6 +19,7 @@ fn is_outside(address: u64, distance: i128, bounds: (u64, u64)) -> bool
 }
 
 /// Whether the address of a pointer, or the exact sum, lies outside a block of these bounds. Without bounds nothing is checked.
+#[inline]
 fn leaves_block(pointer: Pointer, distance: i128, bounds: Option<(u64, u64)>) -> bool
     ensures { result ≡ rules.leaves_block pointer (pos pointer.address +ℤ distance) bounds }
 {
@@ -30,6 +32,7 @@ fn leaves_block(pointer: Pointer, distance: i128, bounds: Option<(u64, u64)>) ->
 }
 
 /// The address moved by so many bytes, modulo 2^64.
+#[inline]
 fn moved(address: u64, distance: i128) -> u64
     ensures { result ≡ reduced 64 (pos address +ℤ distance) }
 {
@@ -38,6 +41,7 @@ fn moved(address: u64, distance: i128) -> u64
 
 /// A pointer moved by so many bytes; its block stays. Where bounds of its live block are given, it is poison if the address or the exact
 /// sum lies outside of them (LangRef, "getelementptr Instruction", `inbounds`).
+#[inline]
 pub fn displaced_by(pointer: Pointer, distance: i128, bounds: Option<(u64, u64)>) -> Scalar
     ensures { result ≡ rules.displaced_by pointer distance bounds }
 {

@@ -15,7 +15,7 @@ use run_values::{Slot, load_leaf, load_value};
 /// The value at an address, leaf by leaf. The alignment is in bytes. What `room` has is lost.
 ///
 /// Refused where the load is undefined; only a value of more than one leaf wants memory. A refusal leaves the frames as they were.
-#[inline]
+#[inline(always)]
 pub fn load(
     stack: &mut Stack,
     memory: &Memory,

@@ -28,6 +28,7 @@ pub(crate) fn give(stack: &mut Stack, to: u32, leaf: Scalar)
 }
 
 /// The result has these leaves, and the next instruction is due.
+#[inline(never)]
 pub(crate) fn give_all(stack: &mut Stack, to: u32, value: &[Scalar])
     requires on { MayGoOn stack.old }
     requires places { HasPlaces stack.old to (length value.now) }

@@ -15,6 +15,7 @@ use run_stack::{Origin, Stack};
 use run_values::{Slot, store_leaf, store_value};
 
 /// Stores the leaves of a value. Only more leaves than one take room for them.
+#[inline(always)]
 fn put_value(
     stack: &Stack,
     memory: &mut Memory,
@@ -51,7 +52,7 @@ fn put_value(
 ///
 /// Refused where the store is undefined, and then leaves before that may have been written: such a run has no further step. Memory is
 /// wanted by pointers, and by a value of more than one leaf. A refusal leaves the frames as they were.
-#[inline]
+#[inline(always)]
 pub fn store(
     stack: &mut Stack,
     memory: &mut Memory,
