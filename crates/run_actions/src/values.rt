@@ -52,6 +52,7 @@ fn give_all(stack: &mut Stack, to: u32, value: &[Scalar])
 /// lost.
 ///
 /// Refused memory leaves all frames as they were.
+#[inline(never)]
 pub fn gather(
     stack: &mut Stack,
     to: u32,
@@ -71,6 +72,7 @@ pub fn gather(
 }
 
 // What the condition chooses of each pair of leaves, in the place of what `room` had.
+#[inline(never)]
 fn choose_all(
     stack: &Stack,
     condition: Scalar,
@@ -128,6 +130,7 @@ pub fn select(
 }
 
 // What freezing gives for each leaf, in the place of what `room` had.
+#[inline(never)]
 fn freeze_all(stack: &Stack, value: &[Part], room: &mut Vec<Scalar>) -> Result<(), AllocError>
     requires { All (IsPartThere stack.now) value.now }
     ensures ok { OnOk result (room.new.items ≡ map (λ p. freeze_of p.pointer (leaf_of stack.now p.value)) value.now) }

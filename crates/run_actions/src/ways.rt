@@ -75,6 +75,7 @@ fn chosen<'a>(number: u128, otherwise: &'a Edge, cases: &'a [Case]) -> &'a Edge
 /// A way to the block of the first case with the number, or else to the other (LangRef, "switch Instruction").
 ///
 /// Refused where the value is poison: that is undefined.
+#[inline(never)]
 pub fn switch(
     stack: &mut Stack,
     value: &Origin,
