@@ -33,6 +33,7 @@ fn spread(leaves: &mut [Scalar], first: usize, scratch: &[Scalar], moves: &[Move
 
 /// Each phi of the frame whose leaves begin at `first` gets what it was to get before any of them did.
 #[tactic(auto, using(crate::proofs::Assigned::spread_gathered))]
+#[inline(never)]
 pub fn assign(leaves: &mut [Scalar], first: usize, scratch: &mut [Scalar], moves: &[Move])
     requires there { first ≤ length leaves.old }
     requires within { All (IsMoveIn (length leaves.old - first)) moves.now }

@@ -155,6 +155,7 @@ impl Stack {
     }
 
     /// The newest frame goes along an edge: to that place, where each phi gets what it was to get before any of them did.
+    #[inline]
     pub fn follow(&mut self, block: u32, position: u32, moves: &[Move])
         requires running { IsRunning self.old.frames }
         requires within { All (IsMoveIn (length (newest self.old.frames).leaves)) moves.now }
