@@ -13,6 +13,7 @@ use ir_memory::{Memory, MemoryFault};
 use ir_tables::UndefinedKind;
 
 /// Loads a value of one leaf. It is refused exactly where the load is undefined, and wants no memory.
+#[inline(always)]
 pub fn load_leaf(
     memory: &Memory,
     address: Scalar,
@@ -59,6 +60,7 @@ fn push_leaves(
 
 /// Adds the leaves of a value at an address, in their order. Where the load is undefined, or memory is wanted, nothing is added;
 /// memory is wanted only where there was no room for all of them.
+#[inline(never)]
 pub fn load_value(
     memory: &Memory,
     address: Scalar,

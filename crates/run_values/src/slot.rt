@@ -30,6 +30,7 @@ impl Slot {
     }
 
     /// How far it lies behind the first byte, in bytes.
+    #[inline]
     pub fn offset(self) -> u64
         ensures { result ≡ self.offset }
     {
@@ -37,6 +38,7 @@ impl Slot {
     }
 
     /// What it is.
+    #[inline]
     pub fn leaf(self) -> Leaf
         ensures { result ≡ self.leaf }
     {

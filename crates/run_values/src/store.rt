@@ -15,6 +15,7 @@ use ir_tables::UndefinedKind;
 
 /// Stores a value of one leaf. It is refused exactly where the store is undefined, and then memory is unchanged; memory is wanted
 /// by pointers alone.
+#[inline(always)]
 pub fn store_leaf(
     memory: &mut Memory,
     address: Scalar,
@@ -66,6 +67,7 @@ fn store_leaves(
 
 /// Stores the leaves of a value at an address, in their order. Where the store is undefined, or memory is wanted, leaves before
 /// that may have been written: such a run has no further step. Memory is wanted by pointers alone.
+#[inline(never)]
 pub fn store_value(
     memory: &mut Memory,
     address: Scalar,
