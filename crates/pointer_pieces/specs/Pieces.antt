@@ -1,7 +1,17 @@
--- The pieces of pointers as a function from addresses, and what each call makes of it.
-use Rattle.std.specs.Prelude.{ℕ, ◌+◌, ◌-◌, ◌<◌, ◌≤◌, Bool, ◌&&◌, nat_le, nat_lt, IsSome, Option, Some, None, if◌then◌else◌}
+-- The pieces of pointers as a function from addresses, how slots keep them, and what each call makes of it.
+use Rattle.std.specs.Prelude.{ℕ, ◌+◌, ◌-◌, ◌/◌, ◌%◌, Bool, ◌&&◌, nat_le, nat_lt, Option, Some, None, slice_index_or, if◌then◌else◌}
 use Rattle.ir_eval.specs.declared.value.Pointer.{Pointer}
 use Rattle.pointer_pieces.specs.declared.piece.Piece.{Piece}
+use Rattle.pointer_pieces.specs.declared.slot.Slot.{Slot}
+
+-- the piece at a place of a slot
+abbrev pub piece_in : Option Slot → ℕ → Option Piece
+piece_in None k = None
+piece_in (Some s) k = slice_index_or s.pieces k None
+
+-- the piece at an address, where each slot has those of eight addresses
+unfoldable pub at_slots : (ℕ → Option Slot) → ℕ → Option Piece
+at_slots slots q = piece_in (slots (q / 8)) (q % 8)
 
 -- an address is one of a range
 abbrev pub is_within : ℕ → ℕ → ℕ → Bool
@@ -26,23 +36,3 @@ shifted to from count pieces q = if is_within to (to + count) q then pieces (fro
 -- one range has what stands in another
 abbrev pub with_moved : ℕ → ℕ → ℕ → (ℕ → Option Piece) → ℕ → Option Piece
 with_moved to from count pieces q = if is_within to (to + count) q then pieces (from + (q - to)) else pieces q
-
-abbrev pub piece_or : Option Piece → Option Piece → Option Piece
-piece_or None other = other
-piece_or (Some piece) other = Some piece
-
--- the ones, and where there is none the others
-abbrev pub with_all : (ℕ → Option Piece) → (ℕ → Option Piece) → ℕ → Option Piece
-with_all ones others q = piece_or (ones q) (others q)
-
-abbrev pub piece_without : Option Piece → Option Piece → Option Piece
-piece_without None other = other
-piece_without (Some piece) other = None
-
--- of the others those where the ones have none
-abbrev pub where_lacking : (ℕ → Option Piece) → (ℕ → Option Piece) → ℕ → Option Piece
-where_lacking ones others q = piece_without (ones q) (others q)
-
--- all pieces stand in a range
-abbrev pub IsInside : ℕ → ℕ → (ℕ → Option Piece) → Type 0
-IsInside from to pieces = (q : ℕ) → IsSome (pieces q) → (from ≤ q) × (q < to)

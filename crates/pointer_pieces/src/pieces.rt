@@ -1,78 +1,106 @@
 //! The pieces of pointers by their addresses.
-ghost use Rattle.std.specs.Prelude.{◌≡◌, ℕ, ◌+◌, ◌<◌, ◌≤◌, ◌^◌, IfOk, IsSome, OnOk, OnErr, true, false, None};
+ghost use Rattle.std.specs.Prelude.{◌≡◌, ℕ, ◌+◌, ◌-◌, ◌<◌, ◌≤◌, ◌^◌, IfOk, IfSome, IsSome, OnOk, OnErr, Some, true, false, None};
 ghost use Rattle.std.specs.Ordering.{nat_cmp};
 ghost use Rattle.std.specs.BTreeMap as tree;
-ghost use Rattle.pointer_pieces.specs.Pieces.{without, with_pointer, with_moved};
+ghost use Rattle.pointer_pieces.specs.Pieces.{at_slots, without, with_pointer, with_moved};
 
-use crate::added::{add_all, add_range, lacking, remove_all};
-use crate::moved::{moved, set_piece, write_all};
+use crate::moved::moved;
 use crate::piece::Piece;
-use crate::ranges::first_within;
+use crate::slot::Slot;
+use crate::slots::{clear, first_piece, make_room, put, write_all};
 use ir_eval::Pointer;
 use std::alloc::{AllocError, Global};
 use std::collections::BTreeMap;
 
-/// The pieces of pointers in memory, by the addresses where they stand.
+/// The pieces of pointers in memory, by the addresses where they stand: those of eight addresses each in a slot.
 #[derive(Drop)]
 pub struct Pieces {
     alloc: Global,
-    by_address: BTreeMap<u64, Piece>,
+    slots: BTreeMap<u64, Slot>,
+}
+
+/// The pieces of a pointer from an address on.
+fn pieces_of(alloc: Global, at: u64, pointer: Pointer) -> Result<BTreeMap<u64, Piece>, AllocError>
+    requires { at + 8 < 2 ^ 64 }
+    ensures { IfOk result (λ m. (q : ℕ) → tree.get nat_cmp m q ≡ with_pointer at 8 pointer (λ q. None) q) }
+{
+    let mut found = BTreeMap::new(alloc);
+    for k in 0..8 {
+        found.insert(
+            at + k,
+            Piece {
+                pointer,
+                place: k as u8,
+            },
+        )?;
+    }
+    Ok(found)
 }
 
 impl Pieces {
     /// No pieces.
     pub fn new(alloc: Global) -> Pieces
-        ensures { (q : ℕ) → tree.get nat_cmp result.by_address q ≡ None }
+        ensures { (q : ℕ) → at_slots (tree.get nat_cmp result.slots) q ≡ None }
     {
         Pieces {
             alloc,
-            by_address: BTreeMap::new(alloc),
+            slots: BTreeMap::new(alloc),
         }
     }
 
     /// The piece at an address.
     pub fn get(&self, address: u64) -> Option<Piece>
-        ensures { result ≡ tree.get nat_cmp self.now.by_address address }
+        ensures { result ≡ at_slots (tree.get nat_cmp self.now.slots) address }
     {
-        self.by_address.get(&address).copied()
+        match self.slots.get(&(address / 8)) {
+            Some(slot) => slot.pieces[(address % 8) as usize],
+            None => None,
+        }
+    }
+
+    /// The pointer whose eight pieces stand from an address on, in order. None tells nothing where that is no multiple of 8.
+    pub fn pointer(&self, address: u64) -> Option<Pointer>
+        ensures { IfSome result (λ p. (k : ℕ) → k < 8 → at_slots (tree.get nat_cmp self.now.slots) (address + k) ≡ Some (record { pointer = p; place = k })) }
+    {
+        if address % 8 != 0 {
+            return None;
+        }
+        match self.slots.get(&(address / 8)) {
+            Some(slot) => slot.pointer(),
+            None => None,
+        }
     }
 
     /// Whether a range has no piece.
     pub fn is_clear(&self, from: u64, to: u64) -> bool
         requires { from ≤ to }
-        ensures none { result ≡ true → (q : ℕ) → from ≤ q → q < to → tree.get nat_cmp self.now.by_address q ≡ None }
-        ensures some { result ≡ false → (q : ℕ) × (from ≤ q) × (q < to) × IsSome (tree.get nat_cmp self.now.by_address q) }
+        ensures none { result ≡ true → (q : ℕ) → from ≤ q → q < to → at_slots (tree.get nat_cmp self.now.slots) q ≡ None }
+        ensures some { result ≡ false → (q : ℕ) × (from ≤ q) × (q < to) × IsSome (at_slots (tree.get nat_cmp self.now.slots) q) }
     {
-        first_within(&self.by_address, from, to).is_none()
+        first_piece(&self.slots, from, to).is_none()
     }
 
     /// Removes the pieces of a range, which takes no memory.
     pub fn clear(&mut self, from: u64, to: u64)
         requires { from ≤ to }
-        ensures { (q : ℕ) → tree.get nat_cmp self.new.by_address q ≡ without from to (tree.get nat_cmp self.old.by_address) q }
+        ensures { (q : ℕ) → at_slots (tree.get nat_cmp self.new.slots) q ≡ without from to (at_slots (tree.get nat_cmp self.old.slots)) q }
     {
-        while let Some((key, _)) = first_within(&self.by_address, from, to) {
-            let _removed = self.by_address.remove(&key);
-        }
+        clear(&mut self.slots, from, to);
     }
 
     /// Places the eight pieces of a pointer. Where memory is refused, nothing changes.
     pub fn place(&mut self, at: u64, pointer: Pointer) -> Result<(), AllocError>
         requires { at + 8 < 2 ^ 64 }
-        ensures placed { OnOk result ((q : ℕ) → tree.get nat_cmp self.new.by_address q ≡ with_pointer at 8 pointer (tree.get nat_cmp self.old.by_address) q) }
-        ensures err { OnErr result ((q : ℕ) → tree.get nat_cmp self.new.by_address q ≡ tree.get nat_cmp self.old.by_address q) }
+        ensures placed { OnOk result ((q : ℕ) → at_slots (tree.get nat_cmp self.new.slots) q ≡ with_pointer at 8 pointer (at_slots (tree.get nat_cmp self.old.slots)) q) }
+        ensures err { OnErr result ((q : ℕ) → at_slots (tree.get nat_cmp self.new.slots) q ≡ at_slots (tree.get nat_cmp self.old.slots) q) }
     {
-        add_range(&mut self.by_address, at, at + 8, pointer)?;
-        for k in 0..8 {
-            set_piece(
-                &mut self.by_address,
-                at + k,
-                Piece {
-                    pointer,
-                    place: k as u8,
-                },
-            );
+        if at % 8 == 0 {
+            put(&mut self.slots, at / 8, Slot::whole(pointer))?;
+            return Ok(());
         }
+        let found = pieces_of(self.alloc, at, pointer)?;
+        make_room(&mut self.slots, &found, at, at + 8)?;
+        write_all(&mut self.slots, &found, at, at + 8);
         Ok(())
     }
 
@@ -81,17 +109,13 @@ impl Pieces {
     pub fn copy(&mut self, to: u64, from: u64, count: u64) -> Result<(), AllocError>
         requires target { to + count < 2 ^ 64 }
         requires source { from + count < 2 ^ 64 }
-        ensures copied { OnOk result ((q : ℕ) → tree.get nat_cmp self.new.by_address q ≡ with_moved to from count (tree.get nat_cmp self.old.by_address) q) }
-        ensures err { OnErr result ((q : ℕ) → tree.get nat_cmp self.new.by_address q ≡ tree.get nat_cmp self.old.by_address q) }
+        ensures copied { OnOk result ((q : ℕ) → at_slots (tree.get nat_cmp self.new.slots) q ≡ with_moved to from count (at_slots (tree.get nat_cmp self.old.slots)) q) }
+        ensures err { OnErr result ((q : ℕ) → at_slots (tree.get nat_cmp self.new.slots) q ≡ at_slots (tree.get nat_cmp self.old.slots) q) }
     {
         let end = to + count;
-        let found = moved(self.alloc, &self.by_address, to, from, count)?;
-        let fresh = lacking(self.alloc, &self.by_address, &found, to, end)?;
-        if let Err(fault) = add_all(&mut self.by_address, &fresh, to, end) {
-            remove_all(&mut self.by_address, &fresh, to, end);
-            return Err(fault);
-        }
-        write_all(&mut self.by_address, &found, to, end);
+        let found = moved(self.alloc, &self.slots, to, from, count)?;
+        make_room(&mut self.slots, &found, to, end)?;
+        write_all(&mut self.slots, &found, to, end);
         Ok(())
     }
 }
