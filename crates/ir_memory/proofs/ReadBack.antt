@@ -69,6 +69,10 @@ read-spelled leaf.Ptr scalar.Poison is fits = refl
 read-spelled leaf.Ptr (scalar.Int n) is fits = absurd fits
 read-spelled leaf.Ptr (scalar.Ptr p) is fits = ap (λ t. pointer (if t then Some p else None) (number_of (pieces p))) (are_pieces-pieces p 8 0)
 
+-- the pieces of a pointer are read as that
+pub whole_read : (p : Pointer) → scalar.Ptr p ≡ read leaf.Ptr (pieces p)
+whole_read p = sym (read-spelled leaf.Ptr (scalar.Ptr p) tt tt)
+
 -- the cells that were written are there
 after_front : (at : ℕ) (cells rest : List Cell) → at ≤ length cells → drop at (take at cells ++ rest) ≡ rest
 after_front zero cells rest within = refl

@@ -4,7 +4,8 @@ use Rattle.std.specs.Prelude.{◌≢◌, slice_range}
 use Rattle.std.specs.List.{range_with_len}
 use Rattle.std.proofs.lemmas.Bool.Decides.{nat_tests}
 use Rattle.std.proofs.lemmas.Option.{slice_get-get_or}
-use Rattle.std.proofs.lemmas.List.{length-take-le, get_or-take, get_or_default, get_or-set_other, same_lists}
+use Rattle.std.proofs.lemmas.List.{length-take-le, get_or-take, get_or_default, get_or-set_other, same_lists, take_all}
+use Rattle.std.proofs.lemmas.List.FromFn.{get_or-map-range_with_len}
 use Rattle.std.proofs.lemmas.List.Edits.{length-between, get_or-between}
 use Rattle.ir_eval.specs.declared.value.Pointer.{Pointer}
 use Rattle.pointer_pieces.specs.declared.piece.Piece.{Piece}
@@ -217,3 +218,14 @@ put-back kept target source count mixed b a from new within there apart is is_fr
     (is_new
     ∙ ap (λ x. with_copied target.offset (slice_range x.bytes source.offset (source.offset + count)) mixed b) (is_from ∙ get_or-set_other kept target.index source.index a from apart ∙ get_or_default kept source.index from d there)
     ∙ ap (λ x. with_copied target.offset (slice_range (get_or kept source.index d).bytes source.offset (source.offset + count)) mixed x) (is ∙ get_or_default kept target.index b d within))
+
+-- the pieces of a pointer stand in order
+pub pointer_gathered : (p : ℕ → Option Piece) (b : KeptBlock) (offset : ℕ) (pointer : Pointer) → offset + 8 ≤ length b.bytes → ((k : ℕ) → k < 8 → p (b.start + offset + k) ≡ Some (record { pointer = pointer; place = k })) → pieces pointer ≡ slice_range (cells p b.start b.bytes) offset (offset + 8)
+pointer_gathered p b offset pointer within each =
+    let long : length (pieces pointer) ≡ 8 = refl in
+    sym (take_all 8 (pieces pointer) (omega (arith, long)))
+    ∙ gathered p b offset 8 (pieces pointer) (omega (arith, long)) within (λ j h.
+    let same : b.start + offset + j ≡ b.start + (offset + j) = omega arith in
+    get_or-map-range_with_len (λ k. cell.Piece pointer k) 0 8 j j cell.Poison h (omega arith)
+    ∙ ap (λ (o : Option Piece). over o (get_or b.bytes (offset + j) None)) (sym (each j h))
+    ∙ ap (λ (a : ℕ). over (p a) (get_or b.bytes (offset + j) None)) same)

@@ -4,6 +4,7 @@ use Rattle.std.specs.Ordering.{nat_cmp}
 use Rattle.std.specs.BTreeMap as tree
 use Rattle.pointer_pieces.specs.declared.piece.Piece.{Piece}
 use Rattle.pointer_pieces.specs.declared.pieces.Pieces.{Pieces}
+use Rattle.pointer_pieces.specs.Pieces.{at_slots}
 use Rattle.masked_bytes.specs.Masked.{placed, put}
 use Rattle.ir_memory.specs.declared.kind.BlockKind.{BlockKind}
 use Rattle.ir_memory.specs.declared.kind.BlockKind.TheVariants.{Stack}
@@ -20,7 +21,7 @@ use Rattle.ir_memory.specs.Kept.{IsPlaced}
 
 -- the piece at an address
 abbrev pub at : Pieces → ℕ → Option Piece
-at pieces = tree.get nat_cmp pieces.by_address
+at pieces = at_slots (tree.get nat_cmp pieces.slots)
 
 -- a byte or poison as a cell
 abbrev pub plain : Option ℕ → Cell

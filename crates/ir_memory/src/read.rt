@@ -2,6 +2,7 @@
 ghost use Rattle.std.specs.Prelude.{◌≡◌, ℕ, ◌+◌, ◌<◌, ◌≤◌, ◌^◌, true, false, None, Some, IsSome, slice_range, slice_index_or, length};
 ghost use Rattle.ir_memory.specs.Memory as of;
 ghost use Rattle.ir_memory.specs.Cell as cell;
+ghost use Rattle.ir_memory.specs.declared.leaf.Leaf.TheVariants.{Ptr};
 ghost use Rattle.ir_memory.specs.Given.{IsLeaf};
 ghost use Rattle.ir_memory.specs.Seen as seen;
 ghost use Rattle.ir_memory.specs.Seen.{at, all_seen, IsRoom, IsSound};
@@ -25,10 +26,37 @@ pub fn read_at(kept: &Table, pieces: &Pieces, place: Place, leaf: Leaf) -> Scala
     let block = kept.get(place.index);
     let from = block.start + place.offset as u64;
     let count = leaf.size();
+    if may_point(leaf, block.mixed) {
+        return read_pointer(block, pieces, place.offset);
+    }
     if has_pieces(pieces, block.mixed, from, from + count as u64) {
         return read_pieces(block, pieces, place.offset, leaf);
     }
     value_of(leaf, block.bytes.number(place.offset, count))
+}
+
+/// Whether a leaf is a pointer that is read of a mixed block.
+#[inline(always)]
+fn may_point(leaf: Leaf, mixed: bool) -> bool
+    ensures { result ≡ true → leaf ≡ Ptr }
+{
+    match leaf {
+        Leaf::Ptr => mixed,
+        Leaf::Int(_) => false,
+    }
+}
+
+/// The pointer at a place where pieces may stand, most often those of one pointer in order.
+#[inline(never)]
+fn read_pointer(block: &KeptBlock, pieces: &Pieces, offset: usize) -> Scalar
+    requires within { offset + 8 ≤ length block.now.bytes }
+    requires small { block.now.start + (offset + 8) < 2 ^ 64 }
+    ensures { result ≡ cell.read Ptr (slice_range (seen.cells (at pieces.now) block.now.start block.now.bytes) offset (offset + 8)) }
+{
+    if let Some(pointer) = pieces.pointer(block.start + offset as u64) {
+        return Scalar::Ptr(pointer);
+    }
+    read_pieces(block, pieces, offset, Leaf::Ptr)
 }
 
 /// Whether a piece stands in a range of a block, which may be mixed.

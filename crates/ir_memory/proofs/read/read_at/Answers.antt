@@ -1,9 +1,12 @@
-use Rattle.std.proofs.Common.{◌≡◌, ◌∙◌, ◌+◌, ap, sym, length, arith}
+use Rattle.std.proofs.Common.{◌≡◌, ◌∙◌, ◌+◌, Some, ap, refl, subst, sym, length, arith}
 use Rattle.std.specs.Prelude.{slice_range}
 use Rattle.std.proofs.lemmas.List.Edits.{length-between}
 use Rattle.masked_bytes.specs.Masked as masked
+use Rattle.ir_memory.specs.declared.leaf.Leaf.{Leaf}
+use Rattle.ir_memory.specs.declared.leaf.Leaf.TheVariants as leaf
 use Rattle.ir_memory.specs.Cell.{read, size}
-use Rattle.ir_memory.specs.Seen.{at, of_number}
+use Rattle.ir_memory.specs.Memory.{cells_at}
+use Rattle.ir_memory.specs.Seen.{all_seen, at, of_number}
 use Rattle.ir_memory.proofs.Writes.{room-bytes, room-small, cells-within, cells-there, plain_cells, read-plain}
 use Rattle.ir_memory.proofs.read.read_at.Goals as goal
 
@@ -15,6 +18,20 @@ overflow_add-from-2 c = let small = room-small _ c.args.kept.now _ c.args.place 
 
 pub read_pieces-requires-clause-small : goal.read_pieces-requires-clause-small
 read_pieces-requires-clause-small c = let small = room-small _ c.args.kept.now _ c.args.place (size c.args.leaf) _ c.requires.sound.1 c.requires.room c.get-block.ensures in omega (arith, small)
+
+pub read_pointer-requires : goal.read_pointer-requires
+read_pointer-requires c =
+    let eight : size c.args.leaf ≡ 8 = ap size (c.if-may_point.ensures refl) in
+    let small = room-small _ c.args.kept.now _ c.args.place (size c.args.leaf) _ c.requires.sound.1 c.requires.room c.get-block.ensures in
+    let within = room-bytes _ c.args.kept.now _ c.args.place (size c.args.leaf) _ c.requires.sound.1 c.requires.room c.get-block.ensures in
+    record { within = omega (arith, within, eight); small = omega (arith, small, eight) }
+
+pub returns-then-may_point : goal.returns-then-may_point
+returns-then-may_point c =
+    let p = at c.args.pieces.now in
+    let kept = c.args.kept.now in
+    subst (λ (l : Leaf). c.read_pointer.result ≡ read l (cells_at (all_seen p kept) (size l) (Some c.args.place))) (sym (c.if-may_point.ensures refl))
+    (c.read_pointer.ensures ∙ ap (read leaf.Ptr) (sym (cells-within p kept c.args.place 8 _ c.requires.room.index c.get-block.ensures)))
 
 pub returns-then-has_pieces : goal.returns-then-has_pieces
 returns-then-has_pieces c = c.read_pieces.ensures ∙ ap (read c.args.leaf) (sym (cells-within (at c.args.pieces.now) c.args.kept.now c.args.place (size c.args.leaf) _ c.requires.room.index c.get-block.ensures))
