@@ -1,4 +1,4 @@
--- How the code writes the bodies of functions.
+-- Says how the code reads: the bodies of functions that the table makes.
 use Rattle.std.specs.Prelude.{ℕ, ◌<◌, List, [], ◌∷◌, Some, None}
 use Rattle.ir_tables.specs.Flags.{flags_with}
 use Rattle.ir_tables.specs.declared.flag.Flag.TheVariants as flag
@@ -63,17 +63,22 @@ abbrev pub entry_block : Parts → Block
 entry_block p =
     block 0 (slots p 0 ∷ slots p 1 ∷ slots p 2 ∷ stores p (Known p.start) 0 ∷ stores p (Known p.start) 1 ∷ stores p (Known p.start) 2 ∷ []) (ending.Jump 1)
 
+-- the second block: whether the counter is below the limit
 abbrev pub test_block : Parts → Block
 test_block p = block 4 (loads p 3 2 ∷ compares p 4 3 (Known p.limit) ∷ []) (ending.Branch (at p.bit 4) 2 4)
 
+-- the third block: the counter is added to the sum
 abbrev pub turn_block : Parts → Block
 turn_block p = block 7 (loads p 5 2 ∷ loads p 6 1 ∷ adds p 7 6 (Local 5) ∷ stores p (Local 7) 1 ∷ []) (ending.Jump 3)
 
+-- the fourth block: the counter goes up by the step
 abbrev pub step_block : Parts → Block
 step_block p = block 11 (loads p 8 2 ∷ adds p 9 8 (Known p.step) ∷ stores p (Local 9) 2 ∷ []) (ending.Jump 1)
 
+-- the last block: the sum is returned
 abbrev pub last_block : Parts → Block
 last_block p = block 14 (loads p 10 1 ∷ []) (ending.Return (at p.ty 10))
 
+-- the blocks of the function that sums
 abbrev pub sum_blocks : Parts → List Block
 sum_blocks p = entry_block p ∷ test_block p ∷ turn_block p ∷ step_block p ∷ last_block p ∷ []

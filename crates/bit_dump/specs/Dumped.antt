@@ -1,4 +1,4 @@
--- What `dump` answers and what it leaves its sink with.
+-- For `dump`: what it answers and what it leaves its sink with.
 use Rattle.std.specs.Prelude.{◌≡◌, ◌⊎◌, ℕ, Bool, List, take, Option, Some, Result, Ok, Err}
 use Rattle.ir_base.specs.Outside.{Added, Rose}
 use Rattle.bit_tree.specs.Stream.{Tree, Stream, stream_fault}

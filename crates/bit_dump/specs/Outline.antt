@@ -15,6 +15,7 @@ pub record Outline : Type 0 where
   pub tally : Tally
   pub text : List ℕ
 
+-- before the first piece
 abbrev pub nothing_told : Bool → Outline
 nothing_told whole = record { whole = whole; unclosed = []; tally = no_tally; text = [] }
 
@@ -26,6 +27,7 @@ here unclosed = slice_get unclosed (length unclosed - 1)
 abbrev pub shown : Bool → List ℕ → List ℕ
 shown whole line = if whole then line else []
 
+-- a block begins
 abbrev pub after_block : Outline → ℕ → ℕ → ℕ → Outline
 after_block o id width words = record {
   whole = o.whole;
@@ -34,6 +36,7 @@ after_block o id width words = record {
   text = o.text ++ shown o.whole (block_line (length o.unclosed) id width words);
 }
 
+-- the innermost block ends
 abbrev pub after_end : Outline → Outline
 after_end o = record {
   whole = o.whole;
@@ -42,6 +45,7 @@ after_end o = record {
   text = o.text ++ shown o.whole (end_line (length o.unclosed - 1) (slice_index_or o.unclosed (length o.unclosed - 1) 0));
 }
 
+-- an abbreviation is defined
 abbrev pub after_definition : Outline → ℕ → List AbbrevOp → Outline
 after_definition o id ops = record {
   whole = o.whole;
@@ -50,6 +54,7 @@ after_definition o id ops = record {
   text = o.text ++ shown o.whole (definition_line (length o.unclosed) id ops);
 }
 
+-- a record with all its operands
 abbrev pub after_record : Outline → (id code : ℕ) → List ℕ → Bool → ℕ → Outline
 after_record o id code operands has_blob size = record {
   whole = o.whole;
@@ -74,6 +79,7 @@ told o (p ∷ ps) = told (after o p) ps
 unfoldable pub record_head : (depth id code : ℕ) → List ℕ
 record_head depth id code = indent depth ++ codes "record " ++ decimal code ++ codes " by " ++ decimal id ++ codes ":"
 
+-- what stands behind the operands of a record: the size of its blob, where it has one
 unfoldable pub record_end : Bool → ℕ → List ℕ
 record_end has_blob size = blob_text has_blob size ++ codes "\n"
 
@@ -94,6 +100,7 @@ after_head o id code = record {
 abbrev pub after_operand : Outline → ℕ → Outline
 after_operand o operand = with_more o (operand_text operand)
 
+-- several operands, one after another
 unfoldable pub after_operands : Outline → List ℕ → Outline
 after_operands o [] = o
 after_operands o (n ∷ ns) = after_operands (after_operand o n) ns

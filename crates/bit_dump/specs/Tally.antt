@@ -1,4 +1,4 @@
--- Says for `dump` how many blocks, records and definitions of abbreviations a tree has, for each block id and in all.
+-- For `dump`: how many blocks, records and definitions of abbreviations a tree has, for each block id and in all.
 use Rattle.std.specs.Prelude.{ℕ, ◌+◌, List, [], Option, Some, None, unwrap_or}
 use Rattle.std.specs.Ordering.{nat_cmp}
 use Rattle.std.specs.Map.{lookup}
@@ -13,9 +13,11 @@ pub record Tally : Type 0 where
   pub rows : List (ℕ × Counts)
   pub total : Counts
 
+-- nothing was counted
 abbrev pub no_counts : Counts
 no_counts = record { blocks = 0; records = 0; abbreviations = 0 }
 
+-- nothing was counted, of no block id
 abbrev pub no_tally : Tally
 no_tally = record { rows = []; total = no_counts }
 

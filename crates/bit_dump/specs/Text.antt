@@ -1,4 +1,4 @@
--- Says for `dump` which text a tree is told by.
+-- For `dump`: which text a tree is told by.
 use Rattle.std.specs.Prelude.{ℕ, zero, suc, Bool, true, false, List, [], ◌∷◌, ◌++◌, length, codes, if◌then◌else◌, None}
 use Rattle.std.specs.List.{flat_map}
 use Rattle.std.specs.Fmt.{decimal}
@@ -27,6 +27,7 @@ op_text Blob = codes "blob"
 abbrev pub later_op : AbbrevOp → List ℕ
 later_op op = codes ", " ++ op_text op
 
+-- the operands of a definition, with commas between them
 unfoldable pub ops_text : List AbbrevOp → List ℕ
 ops_text [] = []
 ops_text (op ∷ ops) = op_text op ++ flat_map later_op ops
@@ -43,6 +44,7 @@ end_line depth id = indent depth ++ codes "end " ++ decimal id ++ codes "\n"
 unfoldable pub definition_head : (depth id : ℕ) → List ℕ
 definition_head depth id = indent depth ++ codes "abbreviation " ++ decimal id ++ codes ": "
 
+-- the line of a definition
 unfoldable pub definition_line : (depth id : ℕ) → List AbbrevOp → List ℕ
 definition_line depth id ops = definition_head depth id ++ ops_text ops ++ codes "\n"
 

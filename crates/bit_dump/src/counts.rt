@@ -16,8 +16,11 @@ pub struct Counts {
 /// What is counted.
 #[derive(Clone, Copy)]
 pub enum Kind {
+    /// Blocks.
     Blocks,
+    /// Records.
     Records,
+    /// Definitions of abbreviations.
     Abbreviations,
 }
 

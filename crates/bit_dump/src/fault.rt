@@ -11,10 +11,13 @@ use thiserror::Error;
 /// A fault of the stream, a failed write, or want of memory.
 #[derive(Clone, Copy, Debug, PartialEq, Eq, Error)]
 pub enum DumpFault {
+    /// A field of the stream, by its kind and its first bit.
     #[error(transparent)]
     Bit(BitFault),
+    /// The sink failed to write.
     #[error("cannot write")]
     WriteFault,
+    /// Memory ran out.
     #[error("out of memory")]
     Memory,
 }

@@ -3,6 +3,12 @@
 //! It stands on `bit_walk` and gives no meaning to a record. Its promise: what is written is the text of the stream's
 //! tree, or nothing where a field of the stream is refused, or a front of that text where a write fails or memory runs
 //! out. Definitions: `specs/Text` and `specs/Tally`.
+//!
+//! ```
+//! let mut sink = MemorySink::new(alloc, 65_536, NumberList::new(alloc))?;
+//! dump(alloc, bytes, true, &mut sink)?;
+//! // sink.taken() is the text of the stream's tree, and behind it how many blocks, records and definitions there are
+//! ```
 #![tactic(auto)]
 
 mod counts;

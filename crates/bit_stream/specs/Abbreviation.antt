@@ -1,4 +1,4 @@
--- An abbreviation that the format admits, and the operands that define it.
+-- For `Template`: an abbreviation that the format admits, and the operands that define it.
 use Rattle.std.specs.Prelude.{Bool, true, false, List, [], ◌∷◌, ◌++◌, Option, Some, None, map}
 use Rattle.bit_stream.specs.declared.abbreviation.AbbrevOp.{AbbrevOp}
 use Rattle.bit_stream.specs.declared.abbreviation.AbbrevOp.TheVariants.{Literal, Fixed, Vbr, Array, Char6, Blob}
@@ -36,6 +36,7 @@ is_blob NoTail = false
 is_blob (Elements s) = false
 is_blob Bytes = true
 
+-- there is an abbreviation, and its last operand is a blob
 abbrev pub ends_in_blob : Option Template → Bool
 ends_in_blob None = false
 ends_in_blob (Some t) = is_blob t.tail

@@ -1,4 +1,4 @@
--- The definition of an abbreviation (LLVM Bitcode File Format, "DEFINE_ABBREV Encoding").
+-- For `template`: the definition of an abbreviation (LLVM Bitcode File Format, "DEFINE_ABBREV Encoding").
 use Rattle.std.specs.Prelude.{ℕ, zero, suc, ◌-◌, List, [], ◌∷◌, ◌++◌, Ok, if◌then◌else◌, ◌==◌, ◌||◌, nat_lt}
 use Rattle.bits.specs.Cursor.{Cursor, Found, ◌>>=◌}
 use Rattle.bits.specs.Reading.{fixed, vbr}
@@ -35,6 +35,7 @@ encoding_of bit number d =
     else (if number == 5 then Ok (AsBlob, d)
     else refuse bit))))
 
+-- the encoding of an operand: a number of 3 bits, and what stands behind it
 unfoldable pub encoding : Cursor → Found Encoding
 encoding c = fixed 3 c >>= λ number d. encoding_of c.at number d
 
@@ -46,6 +47,7 @@ scalar_by AsArray bit c = refuse bit
 scalar_by AsLetter bit c = Ok (Letter, c)
 scalar_by AsBlob bit c = refuse bit
 
+-- the value of a literal operand
 unfoldable pub literal : Cursor → Found Scalar
 literal c = vbr 8 c >>= λ number d. Ok (Known number, d)
 
@@ -75,10 +77,12 @@ part_by AsField left bit c = scalar_by AsField bit c >>= λ s d. Ok (Value s, d)
 part_by AsChunks left bit c = scalar_by AsChunks bit c >>= λ s d. Ok (Value s, d)
 part_by AsLetter left bit c = scalar_by AsLetter bit c >>= λ s d. Ok (Value s, d)
 
+-- the next operand of a definition, of which so many are left: a literal or an encoding
 unfoldable pub part : ℕ → Cursor → Found Part
 part left c = fixed 1 c >>= λ flag d.
     if flag == 1 then (literal d >>= λ s e. Ok (Value s, e)) else (encoding d >>= λ e f. part_by e left d.at f)
 
+-- one thing for a scalar, another for what ends the operands
 abbrev pub by_part : {X : Type 0} → Part → (Scalar → X) → (Tail → X) → X
 by_part (Value s) more done = more s
 by_part (End t) more done = done t

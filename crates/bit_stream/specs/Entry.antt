@@ -1,4 +1,4 @@
--- An entry of a stream (LLVM Bitcode File Format, "Abbreviation IDs" and "Blocks").
+-- For `next_entry` of `BitReader`: an entry of a stream (LLVM Bitcode File Format, "Abbreviation IDs" and "Blocks").
 use Rattle.std.specs.Prelude.{◌≡◌, ℕ, ◌+◌, ◌-◌, ◌/◌, ◌^◌, Bool, false, List, [], ◌∷◌, ◌++◌, length, take, Option, Some, None, Result, Ok, Err, if◌then◌else◌, ◌==◌, ◌&&◌, ◌||◌, nat_lt, nat_le, slice_index_or}
 use Rattle.bits.specs.Cursor.{Cursor, Found, ◌>>=◌}
 use Rattle.bits.specs.Reading.{fixed, vbr, align}
@@ -21,9 +21,11 @@ pub record Item : Type 0 where
   pub operands : List ℕ
   pub blob : List ℕ
 
+-- an entry without operands, and the blocks that are open behind it
 abbrev pub plain : Option Entry → Scope → Item
 plain entry s = record { entry = entry; scope = s; operands = []; blob = [] }
 
+-- no block is open
 abbrev pub is_top : Scope → Bool
 is_top s = length s.around == 0
 
@@ -32,6 +34,7 @@ abbrev pub is_zero : Option ℕ → Bool
 is_zero None = false
 is_zero (Some id) = id == 0
 
+-- the innermost block is BLOCKINFO, whose id is 0
 abbrev pub is_blockinfo : Scope → Bool
 is_blockinfo s = is_zero s.block.id
 
@@ -97,6 +100,7 @@ unfoldable pub define_for : Option ℕ → ℕ → Scope → Cursor → Found It
 define_for None bit s c = refuse bit
 define_for (Some id) bit s c = template c >>= λ t d. Ok (plain None (given_for s id t), d)
 
+-- a definition: in BLOCKINFO for the block id that its record names, else for the block in which it stands
 unfoldable pub define : ℕ → Scope → Cursor → Found Item
 define bit s c =
     if is_blockinfo s then define_for s.block.target bit s c
@@ -108,6 +112,7 @@ abbrev pub named : ℕ → Scope → List ℕ → Result Scope BitFault
 named bit s [] = Err (record { kind = BadAbbreviation; bit = bit })
 named bit s (id ∷ others) = Ok (targeting s id)
 
+-- what a record makes of the open blocks: in BLOCKINFO the one of code 1 names a block id
 unfoldable pub recorded : ℕ → Scope → ℕ → List ℕ → Result Scope BitFault
 recorded bit s code operands = if is_blockinfo s && (code == 1) then named bit s operands else Ok s
 

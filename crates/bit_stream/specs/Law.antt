@@ -1,4 +1,4 @@
--- What a writer wrote is read as what was written.
+-- For `abbreviated_is_read_back` and `record_is_read_back`: what a writer wrote is read as what was written.
 use Rattle.std.specs.Prelude.{◌≡◌, ℕ, ◌+◌, ◌<◌, ◌≤◌, ◌^◌, Bool, true, false, List, [], ◌++◌, length, Some, Ok, nat_le}
 use Rattle.std.specs.List.{AllByRecursion, list_all}
 use Rattle.bits.specs.Bits.{bits_of}
@@ -28,6 +28,7 @@ pub record IsInBlock (s : Scope) : Type 0 where
   pub plain : is_blockinfo s ≡ false
   pub wide : 2 ≤ s.block.width
 
+-- a record by itself
 abbrev pub record_item : Scope → ℕ → List ℕ → Item
 record_item s code ns = record { entry = Some (Record code); scope = s; operands = ns; blob = [] }
 
@@ -43,11 +44,13 @@ is_sound (Field w) = true
 is_sound (Chunks w) = nat_le 2 w
 is_sound Letter = true
 
+-- a tail with elements of a sound encoding, or none
 abbrev pub is_sound_tail : Tail → Bool
 is_sound_tail NoTail = true
 is_sound_tail (Elements s) = is_sound s
 is_sound_tail Bytes = false
 
+-- each encoding of the abbreviation can be read back
 pub record IsSound (t : Template) : Type 0 where
   pub code : is_sound t.code ≡ true
   pub operands : list_all is_sound t.operands ≡ true

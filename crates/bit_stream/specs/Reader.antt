@@ -1,4 +1,4 @@
--- A reader of a stream, and what its calls answer.
+-- For `BitReader`: a reader of a stream, and what its calls answer.
 use Rattle.std.specs.Prelude.{◌≡◌, ℕ, Bool, false, List, [], length, take, drop, Option, Some, None, Result, Ok, Err, if◌then◌else◌, ◌==◌, ◌&&◌, not, nat_lt}
 use Rattle.bits.specs.Bits.{value, stream_bits}
 use Rattle.bits.specs.Cursor.{Cursor, Found}
@@ -33,6 +33,7 @@ begins bytes = not (nat_lt (length bytes) 4) && (value (take 32 (stream_bits byt
 abbrev pub untold : Told
 untold = record { width = 0; words = 0; abbreviation = 0; has_blob = false }
 
+-- a reader behind the magic number, or the fault where the bytes do not begin with it
 abbrev pub opened : List ℕ → Result Reader BitFault
 opened bytes =
     if begins bytes then Ok (record { cursor = record { at = 32; rest = drop 32 (stream_bits bytes) }; scope = top_level; stopped = None; operands = []; blob = []; told = untold; definitions = [] })

@@ -1,4 +1,5 @@
--- The values of a record (LLVM Bitcode File Format, "Data Records").
+-- For `value_by`, `code_by` and `next_entry` of `BitReader`: the values of a record (LLVM Bitcode File Format, "Data
+-- Records").
 use Rattle.std.specs.Prelude.{ℕ, zero, suc, ◌^◌, Bool, List, [], ◌∷◌, ◌++◌, length, Ok, if◌then◌else◌, ◌==◌, ◌&&◌, nat_le, slice_index}
 use Rattle.std.specs.Prelude.{codes}
 use Rattle.bits.specs.Cursor.{Cursor, Found, ◌>>=◌}
@@ -60,10 +61,12 @@ pub record Read : Type 0 where
 abbrev pub names_block : Bool → ℕ → Bool
 names_block in_blockinfo code = in_blockinfo && (code == 1)
 
+-- a record without an abbreviation: its code, how many operands it has, and these, each in chunks of 6 bits
 unfoldable pub unabbreviated : Bool → Cursor → Found Read
 unabbreviated in_blockinfo c = code_by (Chunks 6) c >>= λ code d.
     counted (names_block in_blockinfo code) (Chunks 6) [] d >>= λ all e. Ok (record { code = code; operands = all; blob = [] }, e)
 
+-- a record by an abbreviation: its code, its operands one by one, and its tail
 unfoldable pub abbreviated : Bool → Template → Cursor → Found Read
 abbreviated in_blockinfo t c = code_by t.code c >>= λ code d.
     each (names_block in_blockinfo code) t.operands [] d >>= λ front e.

@@ -1,4 +1,5 @@
--- How entries are spelled (LLVM Bitcode File Format, "Abbreviation IDs", "DEFINE_ABBREV Encoding", "Data Records").
+-- For `BitWriter`: how entries are spelled (LLVM Bitcode File Format, "Abbreviation IDs", "DEFINE_ABBREV Encoding",
+-- "Data Records").
 use Rattle.std.specs.Prelude.{ℕ, suc, ◌+◌, ◌-◌, ◌^◌, Bool, true, false, List, [], ◌∷◌, ◌++◌, length, take, drop, Option, Some, None, option_map, if◌then◌else◌, ◌==◌, ◌&&◌, ◌||◌, nat_lt, nat_le}
 use Rattle.std.specs.List.{flat_map, list_all}
 use Rattle.bits.specs.Bits.{bits_of}
@@ -45,6 +46,7 @@ element_scalar (Some (Field w)) = Some (Elements (Field w))
 element_scalar (Some (Chunks w)) = Some (Elements (Chunks w))
 element_scalar (Some Letter) = Some (Elements Letter)
 
+-- what stands for an encoding, where there is one
 abbrev pub with_scalar : {X : Type 0} → Option Scalar → (Scalar → Option X) → Option X
 with_scalar None f = None
 with_scalar (Some s) f = f s
@@ -66,6 +68,7 @@ template_for (op ∷ ops) = if nat_lt 64 (suc (length ops)) then None
 abbrev pub is_letter : ℕ → Bool
 is_letter n = (nat_le 97 n && nat_le n 122) || (nat_le 65 n && nat_le n 90) || (nat_le 48 n && nat_le n 57) || (n == 46) || (n == 95)
 
+-- the number of a letter among a-z, A-Z, 0-9, `.` and `_`
 abbrev pub letter_number : ℕ → ℕ
 letter_number n = if nat_le 97 n then n - 97 else (if n == 95 then 63 else (if nat_le 65 n then n - 65 + 26 else (if nat_le 48 n then n - 48 + 52 else 62)))
 
@@ -76,6 +79,7 @@ fits (Field w) n = nat_lt n (2 ^ w)
 fits (Chunks w) n = true
 fits Letter n = is_letter n
 
+-- the bits of a value in an encoding
 unfoldable pub value_bits : Scalar → ℕ → List Bool
 value_bits (Known v) n = []
 value_bits (Field w) n = bits_of w n
@@ -86,6 +90,7 @@ value_bits Letter n = bits_of 6 (letter_number n)
 abbrev pub all_fit : Scalar → List ℕ → Bool
 all_fit s ns = list_all (fits s) ns
 
+-- the bits of several values in one encoding
 abbrev pub all_bits : Scalar → List ℕ → List Bool
 all_bits s ns = flat_map (value_bits s) ns
 
@@ -100,6 +105,7 @@ each_fit [] (n ∷ ns) = false
 each_fit (s ∷ ss) [] = false
 each_fit (s ∷ ss) (n ∷ ns) = fits s n && each_fit ss ns
 
+-- the bits of several values, each in an encoding of its own
 unfoldable pub each_bits : List Scalar → List ℕ → List Bool
 each_bits [] ns = []
 each_bits (s ∷ ss) [] = []
@@ -115,6 +121,7 @@ tail_fits NoTail ns = length ns == 0
 tail_fits (Elements s) ns = all_fit s ns
 tail_fits Bytes ns = all_fit (Field 8) ns
 
+-- bits with a tail behind them
 unfoldable pub with_tail : Tail → List ℕ → List Bool → List Bool
 with_tail NoTail ns bits = bits
 with_tail (Elements s) ns bits = bits ++ chunks 6 (length ns) ++ all_bits s ns
@@ -126,6 +133,7 @@ record_fits None code ns = false
 record_fits (Some t) code ns =
     fits t.code code && nat_le (length t.operands) (length ns) && each_fit t.operands (take (length t.operands) ns) && tail_fits t.tail (drop (length t.operands) ns)
 
+-- bits with a record behind them, by an abbreviation or without one
 unfoldable pub with_record : Option Template → ℕ → List ℕ → List Bool → List Bool
 with_record None code ns bits = bits
 with_record (Some t) code ns bits =

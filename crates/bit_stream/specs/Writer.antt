@@ -1,4 +1,4 @@
--- A writer of a stream, and what its calls add.
+-- For `BitWriter`: a writer of a stream, and what its calls add.
 use Rattle.std.specs.Prelude.{◌≡◌, ℕ, ◌+◌, ◌-◌, ◌/◌, ◌%◌, ◌^◌, Bool, true, false, List, [], ◌∷◌, ◌++◌, length, take, Option, Some, None, Result, Ok, Err, IsErr, if◌then◌else◌, ◌==◌, ◌&&◌, slice_index_or}
 use Rattle.bits.specs.Bits.{bits_of}
 use Rattle.bit_stream.specs.declared.abbreviation.AbbrevOp.{AbbrevOp}
@@ -20,6 +20,7 @@ pub record Writer : Type 0 where
 abbrev pub begun : Writer
 begun = record { bits = bits_of 32 0xdec0_4342; around = []; scope = top_level; spent = false }
 
+-- bits are added
 abbrev pub write : Writer → List Bool → Writer
 write w more = record w { bits = w.bits ++ more }
 
@@ -54,10 +55,12 @@ abbrev pub defined_in : Scope → Option ℕ → Template → Scope
 defined_in s None t = s
 defined_in s (Some id) t = given_for s id t
 
+-- an abbreviation is defined, where the definition is one: in BLOCKINFO for its target, else for the innermost block
 abbrev pub with_template : Scope → Option Template → Scope
 with_template s None = s
 with_template s (Some t) = if is_blockinfo s then defined_in s s.block.target t else defined s t
 
+-- the definition of an abbreviation is written
 abbrev pub define : Writer → List AbbrevOp → Writer
 define w ops = record {
   bits = w.bits ++ id_bits w 2 ++ definition_bits ops;
@@ -71,6 +74,7 @@ abbrev pub given_count : Scope → Option ℕ → ℕ
 given_count s None = 0
 given_count s (Some id) = length (given_to s.given id)
 
+-- how many abbreviations are in force: in BLOCKINFO those of its target, else those of the innermost block
 abbrev pub in_force : Scope → ℕ
 in_force s = if is_blockinfo s then given_count s s.block.target else s.block.given + length s.block.own
 
@@ -79,9 +83,11 @@ abbrev pub naming : Scope → List ℕ → Scope
 naming s [] = s
 naming s (id ∷ others) = targeting s id
 
+-- what a record makes of the open blocks: in BLOCKINFO the one of code 1 names a block id
 abbrev pub after_record : Scope → ℕ → List ℕ → Scope
 after_record s code operands = if is_blockinfo s && (code == 1) then naming s operands else s
 
+-- a record is written without an abbreviation
 abbrev pub put_record : Writer → ℕ → List ℕ → Writer
 put_record w code operands = record {
   bits = w.bits ++ id_bits w 3 ++ record_bits code operands;
@@ -90,6 +96,7 @@ put_record w code operands = record {
   spent = w.spent;
 }
 
+-- a record is written by the abbreviation with this id
 abbrev pub abbreviated : Writer → ℕ → ℕ → List ℕ → Writer
 abbreviated w id code operands = record {
   bits = with_record (template_of w.scope id) code operands (w.bits ++ id_bits w id);

@@ -13,17 +13,24 @@ use std::alloc::Global;
 /// How an operand is encoded, in the order of the encodings' numbers from 1.
 #[derive(Clone, Copy)]
 pub enum Encoding {
+    /// A field of a fixed width.
     AsField,
+    /// A number in chunks of a width.
     AsChunks,
+    /// An array, whose elements the next operand encodes.
     AsArray,
+    /// A letter, in 6 bits.
     AsLetter,
+    /// Bytes.
     AsBlob,
 }
 
 /// A later operand of a definition: a value, or what ends the list.
 #[derive(Clone, Copy)]
 pub enum Part {
+    /// One value more.
     Value(Scalar),
+    /// What ends the list.
     End(Tail),
 }
 

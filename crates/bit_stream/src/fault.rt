@@ -10,8 +10,10 @@ use thiserror::Error;
 /// A fault of the stream, or want of memory.
 #[derive(Clone, Copy, Debug, Error)]
 pub enum StreamFault {
+    /// A field of the stream, by its kind and its first bit.
     #[error(transparent)]
     Bit(BitFault),
+    /// Memory ran out.
     #[error("out of memory")]
     Memory,
 }

@@ -3,6 +3,20 @@
 //! It stands on `bits` and gives no meaning to a record. Its promise: the reader gives the entries of the bits
 //! in order, or the first field that is refused with its bit, from then on; each call of the writer adds the
 //! bits of its entry. Definitions: `specs/Entry` and `specs/Reader`, `specs/Spelling` and `specs/Writer`.
+//!
+//! ```
+//! let mut writer = BitWriter::new(alloc)?;
+//! writer.enter(8, 3)?;
+//! writer.put_record(1, &[2])?;
+//! writer.end_block()?;
+//! let bytes = writer.finish();
+//!
+//! let mut reader = BitReader::new(alloc, bytes.bytes())?;
+//! reader.next_entry()? // Entry::Block(8)
+//! reader.next_entry()? // Entry::Record(1), and reader.operands() are [2]
+//! reader.next_entry()? // Entry::EndBlock
+//! reader.next_entry()? // Entry::End
+//! ```
 #![tactic(auto)]
 
 mod abbreviation;

@@ -1,4 +1,5 @@
--- Says for `Stream` what a tree holds whatever it is spelled by: two spellings of the same records have one content.
+-- For `content_is_enough`: what a tree holds whatever it is spelled by: two spellings of the same records have one
+-- content.
 use Rattle.std.specs.Prelude.{ℕ, List}
 use Rattle.bit_tree.specs.Stream.{Tree, nothing, block, definition, values}
 

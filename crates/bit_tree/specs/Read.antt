@@ -1,4 +1,4 @@
--- What reading a whole stream answers.
+-- For `read_stream` and `judge`: what reading a whole stream answers.
 use Rattle.std.specs.Prelude.{◌≡◌, ℕ, List, Some, Result, Ok, Err}
 use Rattle.bit_stream.specs.declared.fault.StreamFault.{StreamFault}
 use Rattle.bit_stream.specs.declared.fault.StreamFault.TheVariants.{Bit, Memory}

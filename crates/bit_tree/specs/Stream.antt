@@ -1,4 +1,5 @@
--- A whole stream: its blocks, definitions and records as a tree, or the first field that is refused.
+-- For `read_stream` and `judge`: a whole stream, that is its blocks, definitions and records as a tree, or the first
+-- field that is refused.
 use Rattle.std.specs.Prelude.{◌≡◌, ℕ, zero, suc, ◌+◌, Bool, true, false, List, [], ◌∷◌, ◌++◌, length, drop, Option, Some, None, Ok, Err, if◌then◌else◌}
 use Rattle.bits.specs.Bits.{stream_bits}
 use Rattle.bits.specs.Cursor.{Cursor, Found}
@@ -83,6 +84,7 @@ pub record Shown : Type 0 where
   pub operands : List ℕ
   pub blob : List ℕ
 
+-- an entry without operands
 abbrev pub bare : Entry → Shown
 bare entry = record { entry = entry; operands = []; blob = [] }
 

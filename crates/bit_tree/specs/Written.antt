@@ -1,4 +1,5 @@
--- What a writer is told to write, when its calls may be made, and the tree that was written.
+-- For `what_was_written_is_read`: what a writer is told to write, when its calls may be made, and the tree that was
+-- written.
 use Rattle.std.specs.Prelude.{◌≡◌, ℕ, ◌+◌, ◌<◌, ◌≤◌, ◌/◌, ◌^◌, ◌++◌, Bool, true, false, List, [], ◌∷◌, length, take, drop, Option, Some, None, IsSome, nat_lt}
 use Rattle.std.specs.List.{list_all}
 use Rattle.bits.specs.Bits.{stream_bits}
@@ -40,21 +41,26 @@ front_of NoTail k ns = ns
 front_of (Elements s) k ns = ns
 front_of Bytes k ns = take k ns
 
+-- what a blob has, of values that are written by an abbreviation with so many operands
 abbrev pub back_of : Tail → ℕ → List ℕ → List ℕ
 back_of NoTail k ns = []
 back_of (Elements s) k ns = []
 back_of Bytes k ns = drop k ns
 
+-- the operands of a record that is written by an abbreviation
 abbrev pub operands_by : Template → List ℕ → List ℕ
 operands_by t ns = front_of t.tail (length t.operands) ns
 
+-- the blob of a record that is written by an abbreviation
 abbrev pub blob_by : Template → List ℕ → List ℕ
 blob_by t ns = back_of t.tail (length t.operands) ns
 
+-- a definition stands in front, where it is one
 abbrev pub with_definition : ℕ → Option Template → Tree → Tree
 with_definition id None behind = behind
 with_definition id (Some t) behind = definition id t behind
 
+-- a record stands in front
 abbrev pub with_values : ℕ → Option Template → ℕ → List ℕ → Tree → Tree
 with_values id None code ns behind = values id code ns false [] behind
 with_values id (Some t) code ns behind = values id code (operands_by t ns) (is_blob t.tail) (blob_by t ns) behind
@@ -108,6 +114,7 @@ pub record MayPut (w : Writer) (code : ℕ) (ns operands : List ℕ) : Type 0 wh
   pub numbers : AreOperands ns
   pub names : names_block (is_blockinfo w.scope) code ≡ true → NamesFirst operands
 
+-- the operands of a record that is written by an abbreviation or without one
 abbrev pub operands_of : Option Template → List ℕ → List ℕ
 operands_of None ns = ns
 operands_of (Some t) ns = operands_by t ns

@@ -3,6 +3,17 @@
 //!
 //! It stands on `bit_stream`. Its promise: what is read of a stream is its tree, judged without holding it too, and
 //! what a writer wrote is read as what was written. Definitions: `specs/Stream`, `specs/Content`, `specs/Written`.
+//!
+//! ```
+//! let mut writer = BitWriter::new(alloc)?;
+//! writer.enter(8, 3)?;
+//! writer.put_record(1, &[2])?;
+//! writer.end_block()?;
+//! let bytes = writer.finish();
+//!
+//! let entries = read_stream(alloc, bytes.bytes())?; // Entry::Block(8), Entry::Record(1) and Entry::EndBlock
+//! entries.at(1).operands // [2]
+//! ```
 #![tactic(auto)]
 
 mod held;

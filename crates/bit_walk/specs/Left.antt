@@ -18,6 +18,7 @@ abbrev pub defines_found : ℕ → Found Template → List Piece
 defines_found id (Ok x) = defines id x.0 ∷ []
 defines_found id (Err fault) = []
 
+-- the pieces that an entry gives
 abbrev pub piece_at : Option Entry → Scope → Cursor → Item → List Piece
 piece_at None s c i = defines_found (next_id s) (defined_at s c)
 piece_at (Some (Block id)) s c i = begun id i.scope.block.width i.scope.block.words ∷ []

@@ -26,6 +26,7 @@ abbrev pub with_first : Option ℕ → ℕ → Option ℕ
 with_first None n = Some n
 with_first (Some first) n = Some first
 
+-- no operand was kept
 abbrev pub is_none : Option ℕ → Bool
 is_none None = true
 is_none (Some first) = false
@@ -61,10 +62,12 @@ pub record Passed : Type 0 where
   pub first : Option ℕ
   pub blob : List ℕ
 
+-- a record without an abbreviation is passed over
 unfoldable pub pass_unabbreviated : Bool → Cursor → Found Passed
 pass_unabbreviated info c = code_by (Chunks 6) c >>= λ code d.
     pass_counted (names_block info code) (Chunks 6) None d >>= λ first e. Ok (record { code = code; first = first; blob = [] }, e)
 
+-- a record by an abbreviation is passed over
 unfoldable pub pass_abbreviated : Bool → Template → Cursor → Found Passed
 pass_abbreviated info t c = code_by t.code c >>= λ code d.
     pass_each (names_block info code) t.operands None d >>= λ front e.
@@ -80,6 +83,7 @@ abbrev pub named : ℕ → Scope → Option ℕ → Result Scope BitFault
 named bit s None = Err (record { kind = BadAbbreviation; bit = bit })
 named bit s (Some id) = Ok (targeting s id)
 
+-- what a record makes of the open blocks: in BLOCKINFO the one of code 1 names a block id
 unfoldable pub recorded : ℕ → Scope → ℕ → Option ℕ → Result Scope BitFault
 recorded bit s code first = if is_blockinfo s && (code == 1) then named bit s first else Ok s
 
@@ -88,11 +92,13 @@ abbrev pub came : Passed → Cursor → Result Scope BitFault → Found Item
 came r c (Ok s) = Ok (record { entry = Some (Record r.code); scope = s; operands = []; blob = r.blob }, c)
 came r c (Err fault) = Err fault
 
+-- the record with that abbreviation id is passed over
 unfoldable pub pass_record : ℕ → ℕ → Scope → Cursor → Found Item
 pass_record id bit s c =
     if id == 3 then (pass_unabbreviated (is_blockinfo s) c >>= λ r d. came r d (recorded bit s r.code r.first))
     else (pass_by_template (template_of s id) bit (is_blockinfo s) c >>= λ r d. came r d (recorded bit s r.code r.first))
 
+-- the entry with that abbreviation id, inside a block, is passed over
 unfoldable pub pass_inside : ℕ → ℕ → Scope → Cursor → Found Item
 pass_inside id bit s c =
     if id == 0 then end_block s c

@@ -19,6 +19,7 @@ IsOn bits c = c.rest ≡ drop c.at bits
 abbrev pub no_template : Template
 no_template = record { code = Known 0; operands = []; tail = NoTail }
 
+-- the abbreviation that was read, or one of nothing
 abbrev pub or_none : Found Template → Template
 or_none (Ok x) = x.0
 or_none (Err fault) = no_template
@@ -37,9 +38,11 @@ pub record StartFrame : Type 0 where
   pub own : List ℕ
   pub target : Option ℕ
 
+-- a block whose abbreviations are read where their definitions start
 abbrev pub frame_at : List Bool → StartFrame → Frame
 frame_at bits f = record { id = f.id; width = f.width; count_bit = f.count_bit; words = f.words; given = f.given; own = map (template_at bits) f.own; target = f.target }
 
+-- the abbreviations that a block id was given, read where their definitions start
 abbrev pub row_at : List Bool → ℕ × List ℕ → ℕ × List Template
 row_at bits row = (row.0, map (template_at bits) row.1)
 
@@ -48,9 +51,11 @@ pub record Opened : Type 0 where
   pub bits : List Bool
   pub scope : Scope
 
+-- open blocks whose abbreviations are read where their definitions start
 abbrev pub opened_at : List Bool → StartFrame → List StartFrame → List (ℕ × List ℕ) → Opened
 opened_at bits block around given = record { bits = bits; scope = record { block = frame_at bits block; around = map (frame_at bits) around; given = map (row_at bits) given } }
 
+-- other blocks are open
 abbrev pub with_scope : Opened → Scope → Opened
 with_scope o s = record { bits = o.bits; scope = s }
 

@@ -3,6 +3,17 @@
 //! It stands on `bit_tree` and `given_starts`, and holds a few bytes for each abbreviation and no list of operands. Its
 //! promise: a stream is judged to be a tree or to have its first refused field, and a walker over a judged stream gives
 //! each entry and definition of its tree in order, with the operands of a record one by one. Definitions: `specs/Walker`.
+//!
+//! ```
+//! judge(alloc, bytes)?;
+//! let mut walker = Walker::new(alloc, bytes);
+//! while let Some(event) = walker.next()? {
+//!     if let Event::Held(head) = event {
+//!         // a record with the code head.code, whose operands are given one by one:
+//!         while let Some(operand) = walker.next_operand() {}
+//!     }
+//! }
+//! ```
 #![tactic(auto)]
 
 mod advance;

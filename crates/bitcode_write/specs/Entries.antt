@@ -42,16 +42,19 @@ module _ (a : Lists) where
   abbrev pub define_in : List ℕ × TreeBody → Line
   define_in s = (7, (definition (texts a) 0).spell (body_by_ids (mentioned (module_of a)) s.1, s.0))
 
+  -- the record of the struct with that id
   abbrev pub struct_in : ℕ → Line
   struct_in id = define_in (slice_index_or (structs a.table) id ([], opaque_body))
 
-  -- the entry that is meant
+  -- the variable that is meant
   abbrev pub variable_of : the_variable.Variable → m.Variable
   variable_of v = variable_view (trees a.table) (constants_of a) v
 
+  -- the alias that is meant
   abbrev pub alias_of : the_alias.Alias → m.Alias
   alias_of x = alias_view (trees a.table) (name_at a) x
 
+  -- the function that is meant
   abbrev pub function_of : the_function.Function → m.Function
   function_of f = function_view (trees a.table) (constants_of a) f
 

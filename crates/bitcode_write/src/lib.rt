@@ -2,6 +2,10 @@
 //!
 //! It stands on the operands of `operand_write` and `line_write` and on the writer of `bit_stream`. It promises the one spelling of the module,
 //! and nothing else; only want of memory refuses it. Definitions: `Spelling` of `record_table`; of its parts `specs/Put` and `specs/Entries`.
+//!
+//! ```
+//! let bytes = write(alloc, &checked)?; // begins with `BC`, 0xC0 and 0xDE
+//! ```
 #![tactic(auto)]
 
 mod bodies;

@@ -1,4 +1,4 @@
--- A number in chunks, as the format says it: by the list of the chunks' data.
+-- For `what_is_read_is_in_chunks`: a number in chunks, as the format says it: by the list of the chunks' data.
 use Rattle.std.specs.Prelude.{◌≡◌, ℕ, ◌+◌, ◌-◌, ◌*◌, ◌^◌, ◌<◌, Bool, true, false, List, [], ◌∷◌, ◌++◌}
 use Rattle.std.specs.List.{AllByRecursion}
 use Rattle.bits.specs.Bits.{bits_of}

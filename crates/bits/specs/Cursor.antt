@@ -1,4 +1,4 @@
--- A place in a stream, and what reading from it finds.
+-- For `BitCursor`: a place in a stream, and what reading from it finds.
 use Rattle.std.specs.Prelude.{ℕ, Bool, List, Result, Ok, Err}
 use Rattle.bits.specs.declared.fault.BitFault.{BitFault}
 
@@ -12,6 +12,7 @@ abbrev pub Found : Type 0 → Type 0
 Found A = Result (A × Cursor) BitFault
 
 infixl 10 ◌>>=◌
+-- one reading after another, unless the first finds a fault
 abbrev pub ◌>>=◌ : {A B : Type 0} → Found A → (A → Cursor → Found B) → Found B
 Ok x >>= f = f x.0 x.1
 Err e >>= f = Err e

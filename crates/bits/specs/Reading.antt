@@ -1,4 +1,4 @@
--- What stands at the front of a run of bits: a fixed field, a number in chunks, bytes, or a fault.
+-- For `BitCursor`: what stands at the front of a run of bits: a fixed field, a number in chunks, bytes, or a fault.
 use Rattle.std.specs.Prelude.{ℕ, zero, suc, ◌+◌, ◌-◌, ◌*◌, ◌%◌, ◌^◌, Bool, false, List, [], ◌∷◌, length, take, drop, Result, Ok, Err, if◌then◌else◌, nat_lt, nat_le, ◌||◌, slice_index_or}
 use Rattle.bits.specs.declared.fault.BitFaultKind.{BitFaultKind}
 use Rattle.bits.specs.declared.fault.BitFaultKind.TheVariants.{Truncated, VbrTooLong}
@@ -9,6 +9,7 @@ use Rattle.bits.specs.Cursor.{Cursor, Found, ◌>>=◌}
 abbrev pub Read : Type 0
 Read = Result (ℕ × ℕ) BitFaultKind
 
+-- a field of so many bits at the front
 unfoldable pub fixed_at : ℕ → List Bool → Read
 fixed_at w bits = if nat_lt (length bits) w then Err Truncated else Ok (value (take w bits), w)
 
@@ -59,6 +60,7 @@ unfoldable pub bytes_of : ℕ → List Bool → List ℕ
 bytes_of zero bits = []
 bytes_of (suc n) bits = value (take 8 bits) ∷ bytes_of n (drop 8 bits)
 
+-- so many bytes
 unfoldable pub bytes : ℕ → Cursor → Found (List ℕ)
 bytes n c = if nat_lt (length c.rest) (8 * n) then Err (record { kind = Truncated; bit = c.at })
     else Ok (bytes_of n c.rest, record { at = c.at + 8 * n; rest = drop (8 * n) c.rest })

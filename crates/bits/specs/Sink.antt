@@ -1,8 +1,9 @@
--- What every sink of bits keeps.
+-- For `BitSink`: what every sink of bits keeps.
 use Rattle.std.specs.Prelude.{◌≡◌, ◌+◌, ◌%◌, ◌^◌, ◌<◌, ◌≤◌, length, vec_len}
 use Rattle.std.specs.Vec.{vec_capacity}
 use Rattle.bits.specs.declared.sink.BitSink.TheInside.{Inside}
 
+-- fewer than 32 bits wait, which fit in as many; what was written is whole words, with room for one more
 pub record IsSink (w : Inside) : Type 0 where
   pub few : w.count < 32
   pub small : w.pending < 2 ^ w.count

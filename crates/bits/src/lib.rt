@@ -3,6 +3,17 @@
 //! It stands on `ir_base` for its texts. Its promise: a read gives the number that the bits in front
 //! stand for, or the fault of the field and its first bit; a write adds the bits of its number.
 //! Definitions: `specs/Bits`, `specs/Reading`, `specs/Chunked`, `specs/Writing`.
+//!
+//! ```
+//! let mut sink = BitSink::new(alloc)?;
+//! sink.fixed(5, 3)?;
+//! sink.vbr(100, 6)?;
+//! let bytes = sink.finish();
+//!
+//! let mut cursor = BitCursor::new(bytes.bytes());
+//! cursor.fixed(3) // Ok(5)
+//! cursor.vbr(6) // Ok(100)
+//! ```
 #![tactic(auto)]
 
 mod cursor;

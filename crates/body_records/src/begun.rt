@@ -12,7 +12,9 @@ use std::mem;
 /// What may stand next in a body.
 #[derive(Clone, Copy)]
 pub enum Due {
+    /// What the parameters are called, which stands first.
     Parameters,
+    /// The first block.
     FirstBlock,
     /// A line of the block that has not ended.
     Line,

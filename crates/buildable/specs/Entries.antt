@@ -1,4 +1,5 @@
--- What the entries of a module are built from.
+-- For `build_structs`, `declare_items`, `initialise_items` and `set_targets`: what the entries of a module are built
+-- from.
 use Rattle.std.specs.Prelude.{ℕ, ◌^◌, ◌<◌, ◌-◌, List, length, All, Option, Some, None}
 use Rattle.ir_constants.specs.Tree.{TypeTree, ConstantTree}
 use Rattle.ir_syntax.specs.Tree.{BodyTree, OpaqueBody, PlainBody, PackedBody, ParameterTree, HeadTree, ItemTree, Struct, Variable, Alias, Declaration, Definition}

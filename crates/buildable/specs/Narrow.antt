@@ -1,4 +1,5 @@
--- What the phrases of a text ask for beyond its tree: integer types of 1 to 128 bits, and no result of a store.
+-- For `what_is_read_is_narrow` and `resolve`: what the phrases of a text ask for beyond its tree: integer types of 1 to
+-- 128 bits, and no result of a store.
 use Rattle.std.specs.Prelude.{◌≡◌, ℕ, ◌≤◌, List, All, Option, Some, None}
 use Rattle.ir_constants.specs.Tree.{TypeTree, IntegerType, PointerType, VoidType, ArrayType, StructType, NamedType, TypeTrees, no_types, more_types, ConstantTree, IntegerConstant, SimpleConstant, AddressConstant, BytesConstant, ListConstant, ElementAddress, Conversion, Arithmetic, ConstantTrees, no_constants, more_constants, TypedConstantTree, ValueTree, LocalValue, ConstantValue, TypedValueTree}
 use Rattle.ir_instructions.specs.Tree.{SignatureTree, CallTree, IncomingTree, OperationTree, Binary, Compare, Cast, Select, Freeze, Phi, Load, Store, Alloca, GetElementPtr, Call, ExtractValue, InsertValue, InstructionTree, CaseTree, EndingTree, ReturnVoid, Return, Jump, Branch, Switch, Unreachable, BlockTree}
@@ -14,6 +15,7 @@ abbrev mutual
   IsNarrow (StructType place packed parts) = AreNarrow parts
   IsNarrow (NamedType name) = Unit {0}
 
+  -- the same of several types
   pub AreNarrow : TypeTrees → Type 0
   AreNarrow no_types = Unit {0}
   AreNarrow (more_types t ts) = IsNarrow t × AreNarrow ts
@@ -31,6 +33,7 @@ abbrev mutual
   IsNarrowConstant (Arithmetic place opcode flags left_type left right_type right) =
       (IsNarrow left_type × IsNarrowConstant left) × (IsNarrow right_type × IsNarrowConstant right)
 
+  -- the same of several constants and their types
   pub AreNarrowConstants : ConstantTrees → Type 0
   AreNarrowConstants no_constants = Unit {0}
   AreNarrowConstants (more_constants ty c cs) = (IsNarrow ty × IsNarrowConstant c) × AreNarrowConstants cs

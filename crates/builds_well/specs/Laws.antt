@@ -1,4 +1,4 @@
--- The law of building.
+-- For `items_without_a_break_are_buildable`: the law of building.
 use Rattle.std.specs.Prelude.{◌≡◌, ◌^◌, ◌≤◌, List, None}
 use Rattle.ir_syntax.specs.Tree.{ItemTree}
 use Rattle.ir_syntax.specs.Forms.{AreItemsFormed}

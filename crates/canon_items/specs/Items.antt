@@ -1,4 +1,5 @@
--- The items of the canonical text of a module, with no places.
+-- For `tokens_are_items` and `items_stand_for_their_module`: the items of the canonical text of a module, with no
+-- places.
 use Rattle.std.specs.Prelude.{◌≡◌, ℕ, true, false, List, [], ◌∷◌, ◌++◌, map, Option, Some, None, option_map}
 use Rattle.ir_tables.specs.declared.linkage.Linkage.{Linkage}
 use Rattle.ir_tables.specs.declared.linkage.Linkage.TheVariants.{External}

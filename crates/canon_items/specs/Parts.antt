@@ -1,4 +1,5 @@
--- Types, constants, instructions and blocks of a module as canonical text writes them, with no places.
+-- For `tokens_are_items` and `items_stand_for_their_module`: types, constants, instructions and blocks of a module as
+-- canonical text writes them, with no places.
 use Rattle.std.specs.Prelude.{ℕ, ◌-◌, ◌^◌, ◌==◌, nat_lt, Bool, true, false, List, [], ◌∷◌, map, Option, Some, None, option_map, if◌then◌else◌}
 use Rattle.ir_terminals.specs.declared.values.Integer.{Integer}
 use Rattle.ir_terminals.specs.declared.values.PlacedName.{PlacedName}

@@ -1,4 +1,4 @@
--- Items without the places of their tokens.
+-- For `tokens_are_items` and `one_list_of_items`: items without the places of their tokens.
 use Rattle.std.specs.Prelude.{map, option_map}
 use Rattle.ir_base.specs.declared.place.Place.{Place}
 use Rattle.ir_terminals.specs.declared.values.Integer.{Integer}

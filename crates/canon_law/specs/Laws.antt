@@ -1,4 +1,4 @@
--- The laws of canonical text.
+-- For `pieces_are_tokens`, `tokens_are_items` and `one_list_of_items`: the laws of canonical text.
 use Rattle.std.specs.Prelude.{◌≡◌, ℕ, List}
 use Rattle.ir_lexer.specs.Pieces.{tokens_of}
 use Rattle.ir_lexer.specs.Tokens.{Tokens}

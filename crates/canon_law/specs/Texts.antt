@@ -1,4 +1,5 @@
--- What canonical text can write of blocks, functions and modules, so that it is read back.
+-- For `pieces_are_tokens` and `tokens_are_items`: what canonical text can write of blocks, functions and modules, so
+-- that it is read back.
 use Rattle.std.specs.Prelude.{◌≡◌, ℕ, Bool, true, false, List, [], ◌∷◌, Option, Some, None}
 use Rattle.ir_tables.specs.declared.linkage.Linkage.{Linkage}
 use Rattle.ir_tables.specs.declared.linkage.Linkage.TheVariants as linkage

@@ -1,4 +1,4 @@
--- What canonical text can write, so that it is read back.
+-- For `pieces_are_tokens` and `tokens_are_items`: what canonical text can write, so that it is read back.
 use Rattle.std.specs.Prelude.{◌≡◌, ℕ, zero, suc, ◌+◌, ◌-◌, ◌^◌, ◌<◌, ◌≤◌, true, List, [], ◌∷◌, ◌++◌, map, filter, Option, Some, None}
 use Rattle.ir_base.specs.Name.{is_name}
 use Rattle.ir_tables.specs.Flag.{flags, flag_code}

@@ -1,4 +1,4 @@
--- The laws of the items of canonical text.
+-- For `items_stand_for_their_module` and `canon_reads_to_no_other`: the laws of the items of canonical text.
 use Rattle.std.specs.Prelude.{◌≡◌}
 use Rattle.module_arena.specs.Module.{Module}
 use Rattle.canonical.specs.Canonical.{canon}

@@ -1,4 +1,4 @@
--- Canonical text is read back as its module.
+-- For `canon_is_read_back` and the laws beside it: canonical text is read back as its module.
 use Rattle.std.specs.Prelude.{◌≡◌, ◌↔◌, None}
 use Rattle.ir_lexer.specs.Pieces.{tokens_of}
 use Rattle.ir_lexer.specs.Tokens.{Tokens}

@@ -1,4 +1,4 @@
--- The canonical text of a module: its pieces, and their bytes.
+-- For `print` and `print_text`: the canonical text of a module: its pieces, and their bytes.
 use Rattle.std.specs.Prelude.{ℕ, Bool, true, false, List, [], ◌∷◌, ◌++◌, map, codes, Option, Some, None}
 use Rattle.ir_lexer.specs.Pieces.{Piece, Line, pieces_text}
 use Rattle.ir_tables.specs.Linkage.{linkage_word}

@@ -1,4 +1,4 @@
--- Constants, values and flags in canonical text.
+-- For `print` and `put_constant`: constants, values and flags in canonical text.
 use Rattle.std.specs.Prelude.{ℕ, ◌==◌, Bool, true, false, List, [], ◌∷◌, codes, if◌then◌else◌}
 use Rattle.ir_lexer.specs.Pieces.{Space}
 use Rattle.ir_tables.specs.Flag.{flags, flag_word}

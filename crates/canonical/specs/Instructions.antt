@@ -1,4 +1,4 @@
--- Instructions and blocks in canonical text.
+-- For `print`, `put_instruction` and `put_ending`: instructions and blocks in canonical text.
 use Rattle.std.specs.Prelude.{List, map, codes, Option, Some, None}
 use Rattle.ir_lexer.specs.Pieces.{Space, Line, Indented}
 use Rattle.ir_tables.specs.declared.opcode.Opcode.TheVariants as op

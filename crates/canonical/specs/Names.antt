@@ -1,4 +1,4 @@
--- How names, texts and numbers stand in canonical text.
+-- For `print` and `put_global`: how names, texts and numbers stand in canonical text.
 use Rattle.std.specs.Prelude.{ℕ, ◌-◌, ◌^◌, nat_lt, List, [], ◌∷◌, ◌++◌, flat_map, if◌then◌else◌}
 use Rattle.ir_lexer.specs.declared.token.TokenKind.TheVariants as kind
 use Rattle.module_arena.specs.Module.{Bytes, LocalName, Named, Numbered}

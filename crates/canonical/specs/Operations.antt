@@ -1,4 +1,4 @@
--- What instructions do, in canonical text.
+-- For `print` and `put_instruction`: what instructions do, in canonical text.
 use Rattle.std.specs.Prelude.{ℕ, Bool, true, false, List, [], ◌∷◌, ◌++◌, map, codes, Option, Some, None}
 use Rattle.ir_tables.specs.Predicate.{predicate_word}
 use Rattle.ir_tables.specs.declared.opcode.Opcode.TheVariants as op

@@ -1,4 +1,4 @@
--- Phrases to be printed: their tokens with separators, given the separator behind the last one.
+-- For `print`: phrases to be printed: their tokens with separators, given the separator behind the last one.
 use Rattle.std.specs.Prelude.{ℕ, List, [], ◌∷◌, ◌++◌, codes}
 use Rattle.ir_lexer.specs.Pieces.{Piece, Separator, Nothing, Space}
 use Rattle.ir_lexer.specs.declared.token.TokenKind.{TokenKind}

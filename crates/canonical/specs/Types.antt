@@ -1,4 +1,4 @@
--- Types in canonical text.
+-- For `print` and `put_type`: types in canonical text.
 use Rattle.std.specs.Prelude.{Bool, true, false, List, [], ◌∷◌, codes}
 use Rattle.name_rules.specs.Spelled.{decimal}
 use Rattle.type_table.specs.Tree.{Tree, int, ptr, void, array, struct, named, Trees, no_trees, more_trees}

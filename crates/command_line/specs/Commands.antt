@@ -1,4 +1,4 @@
--- The command that the words are read as.
+-- For `read_words`: the command that the words are read as.
 use Rattle.std.specs.Prelude.{◌≡◌, ◌⊎◌, ℕ, List, [], ◌∷◌, drop, codes, Option, Some, None, Result, Err}
 use Rattle.command_line.specs.declared.command.OutputName.{OutputName}
 use Rattle.command_line.specs.declared.command.OutputName.TheVariants.{Standard}
@@ -28,22 +28,27 @@ abbrev pub arguments_from : List (List ℕ) → List (List ℕ)
 arguments_from [] = codes "-" ∷ []
 arguments_from (word ∷ words) = word ∷ words
 
+-- the number that the first of some values is
 abbrev pub first_number : List (List ℕ) → Option ℕ
 first_number [] = None
 first_number (value ∷ values) = Some (decimal value)
 
+-- the bound on steps: 1,000,000,000 where none is given
 abbrev pub steps_from : Option ℕ → ℕ
 steps_from None = 1000000000
 steps_from (Some n) = n
 
 -- What the roles of all words give.
 
+-- the output that is given
 abbrev pub given_output : List Role → Option OutputName
 given_output all = first_output (values settings.Output all)
 
+-- the bound on steps that is given
 abbrev pub given_steps : List Role → Option ℕ
 given_steps all = first_number (values settings.MaxSteps all)
 
+-- what is selected of a module
 abbrev pub given_selection : List Role → Selection
 given_selection all = record {
   functions = values settings.Function all;
@@ -53,6 +58,7 @@ given_selection all = record {
   recursive = has_flag flags.Recursive all;
 }
 
+-- the command of a tool over words of these roles
 abbrev pub command_of : Tool → List Role → Command
 command_of LlvmAs all = commands.Assemble (input_from (others all)) (output_from (default_name (input_from (others all)) (codes ".ll") (codes ".bc")) (given_output all))
 command_of LlvmDis all = commands.Disassemble (input_from (others all)) (output_from (default_name (input_from (others all)) (codes ".bc") (codes ".ll")) (given_output all))
@@ -61,6 +67,7 @@ command_of LlvmExtract all = commands.Extract (input_from (others all)) (output_
 command_of Lli all = commands.Lli (input_from (others all)) (steps_from (given_steps all)) (arguments_from (others all))
 command_of LlvmBcanalyzer all = commands.Analyze (input_from (others all)) (has_flag flags.Dump all)
 
+-- the command of a tool over words, where there is a tool
 abbrev pub command_behind : Option Tool → List (List ℕ) → Option Command
 command_behind None words = None
 command_behind (Some tool) words = Some (command_of tool (roles tool words))

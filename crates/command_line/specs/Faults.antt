@@ -1,4 +1,4 @@
--- What may be wrong with the words, and which fault is the first.
+-- For `read_words`: what may be wrong with the words, and which fault is the first.
 use Rattle.std.specs.Prelude.{◌≡◌, ◌⊎◌, ℕ, ◌+◌, ◌<◌, ◌≤◌, Bool, true, false, not, ◌&&◌, IsTrue, List, [], ◌∷◌, ◌++◌, length, drop, Option, Some, None}
 use Rattle.ir_base.specs.Name.{is_name}
 use Rattle.command_line.specs.declared.command.UsageKind.{UsageKind}
@@ -14,6 +14,7 @@ use Rattle.command_line.specs.Roles.{Role, Unknown, Full, Open, Value, Input, ro
 
 -- One test a kind, on the role of a word, the roles before it, and the words behind it.
 
+-- the word is no option of the tool
 abbrev pub is_unknown : Role → Bool
 is_unknown Unknown = true
 is_unknown role = false
@@ -44,12 +45,14 @@ is_twice settings.Output before = not (is_empty (values settings.Output before))
 is_twice settings.MaxSteps before = not (is_empty (values settings.MaxSteps before))
 is_twice setting before = false
 
+-- the word gives again what may be given once
 abbrev pub is_repeated : List Role → Role → Bool
 is_repeated before (Full setting value) = is_twice setting before
 is_repeated before (Open setting) = is_twice setting before
 is_repeated before (Input word) = is_dash word && has_dash before
 is_repeated before role = false
 
+-- the tool takes one file and has one already
 abbrev pub is_surplus : Tool → List Role → Role → Bool
 is_surplus tool before (Input word) = takes_one tool && not (is_empty (others before))
 is_surplus tool before role = false
@@ -79,6 +82,7 @@ pub record EndFault (tool : Tool) (words : List (List ℕ)) (kind : UsageKind) (
   pub place : k ≡ 1 + length words
   pub wrong : IsTrue (needs_file tool && is_empty (others (roles tool words)))
 
+-- by the tool that the first word names and the words behind it: they are wrong in this way at word k
 abbrev pub FaultBehind : Option Tool → List (List ℕ) → UsageKind → ℕ → Type 0
 FaultBehind None words kind k = (kind ≡ NoTool) × (k ≡ 0)
 FaultBehind (Some tool) words kind k = WordFault tool words kind k ⊎ EndFault tool words kind k

@@ -1,8 +1,9 @@
--- The kinds of faults in words, and their order.
+-- For `read_words` and `UsageKind::words`: the kinds of faults in words, and their order.
 use Rattle.std.specs.Prelude.{ℕ, List, codes}
 use Rattle.command_line.specs.declared.command.UsageKind.{UsageKind}
 use Rattle.command_line.specs.declared.command.UsageKind.TheVariants.{NoTool, UnknownOption, MissingValue, BadNumber, Repeated, TooManyFiles, NoFile}
 
+-- the kind in words
 abbrev pub kind_words : UsageKind → List ℕ
 kind_words NoTool = codes "no tool"
 kind_words UnknownOption = codes "unknown option"

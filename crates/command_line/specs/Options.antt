@@ -1,4 +1,4 @@
--- How an option is written: one dash or two, a name, and behind the first `=` a value.
+-- For `read_words`: how an option is written: one dash or two, a name, and behind the first `=` a value.
 use Rattle.std.specs.Prelude.{◌∷◌, [], ℕ, ◌+◌, Bool, ◌==◌, List, take, drop, position, codes, bytes_eq, Option, Some, None, if◌then◌else◌}
 use Rattle.std.specs.List.{starts_with}
 use Rattle.command_line.specs.declared.tool.Tool.{Tool}
@@ -10,11 +10,24 @@ use Rattle.command_line.specs.declared.options.Spelling.{Spelling}
 use Rattle.command_line.specs.declared.options.Spelling.TheVariants as spellings
 use Rattle.command_line.specs.Tools.{row_of, has, takes}
 
+-- the flag of a name
 abbrev pub flag_named : List ℕ → Option Flag
-flag_named = row_of ((codes "S", flags.Text) ∷ (codes "delete", flags.Delete) ∷ (codes "recursive", flags.Recursive) ∷ (codes "dump", flags.Dump) ∷ [])
+flag_named = row_of (
+    (codes "S", flags.Text) ∷
+    (codes "delete", flags.Delete) ∷
+    (codes "recursive", flags.Recursive) ∷
+    (codes "dump", flags.Dump) ∷
+    [])
 
+-- the setting of a name
 abbrev pub setting_named : List ℕ → Option Setting
-setting_named = row_of ((codes "o", settings.Output) ∷ (codes "func", settings.Function) ∷ (codes "glob", settings.Variable) ∷ (codes "alias", settings.Alias) ∷ (codes "max-steps", settings.MaxSteps) ∷ [])
+setting_named = row_of (
+    (codes "o", settings.Output) ∷
+    (codes "func", settings.Function) ∷
+    (codes "glob", settings.Variable) ∷
+    (codes "alias", settings.Alias) ∷
+    (codes "max-steps", settings.MaxSteps) ∷
+    [])
 
 -- the word for a standard stream
 abbrev pub is_dash : List ℕ → Bool
@@ -36,16 +49,20 @@ abbrev pub name_before : List ℕ → Option ℕ → List ℕ
 name_before option None = option
 name_before option (Some at) = take at option
 
+-- what stands behind the `=`
 abbrev pub value_behind : List ℕ → Option ℕ → Option (List ℕ)
 value_behind option None = None
 value_behind option (Some at) = Some (drop (at + 1) option)
 
+-- where the first `=` stands
 abbrev pub equals_sign : List ℕ → Option ℕ
 equals_sign option = position (λ byte. byte == 61) option
 
+-- what stands before the first `=`
 abbrev pub name_part : List ℕ → List ℕ
 name_part option = name_before option (equals_sign option)
 
+-- what stands behind the first `=`
 abbrev pub value_part : List ℕ → Option (List ℕ)
 value_part option = value_behind option (equals_sign option)
 
@@ -67,10 +84,12 @@ named tool None (Some setting) None = if takes tool setting then Open setting el
 named tool None (Some setting) (Some value) = if takes tool setting then Full setting value else Unknown
 named tool None None value = Unknown
 
+-- what a word is, by what stands behind its dashes, or that it has none
 abbrev pub spelled_behind : Tool → Option (List ℕ) → Spelled
 spelled_behind tool None = Input
 spelled_behind tool (Some option) = named tool (flag_named (name_part option)) (setting_named (name_part option)) (value_part option)
 
+-- what a word is, whatever stands before it
 unfoldable pub spelled : Tool → List ℕ → Spelled
 spelled tool word =
     if is_dash word then Input

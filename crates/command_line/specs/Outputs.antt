@@ -1,10 +1,11 @@
--- Where the result goes.
+-- For `read_words`: where the result goes.
 use Rattle.std.specs.Prelude.{ℕ, ◌-◌, ◌==◌, List, [], ◌∷◌, ◌++◌, length, take, Option, Some, None, if◌then◌else◌}
 use Rattle.std.specs.List.{ends_with}
 use Rattle.command_line.specs.declared.command.OutputName.{OutputName}
 use Rattle.command_line.specs.declared.command.OutputName.TheVariants.{Standard, File}
 use Rattle.command_line.specs.Options.{is_dash}
 
+-- the output that a word names: `-` is standard output
 abbrev pub output_name : List ℕ → OutputName
 output_name name = if is_dash name then Standard else File name
 
@@ -13,6 +14,7 @@ abbrev pub first_output : List (List ℕ) → Option OutputName
 first_output [] = None
 first_output (value ∷ values) = Some (output_name value)
 
+-- the output that is given, or else the default
 abbrev pub output_from : OutputName → Option OutputName → OutputName
 output_from default None = default
 output_from default (Some output) = output

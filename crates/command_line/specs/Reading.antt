@@ -1,4 +1,4 @@
--- The words read from the left, one turn after the other.
+-- Says how the code reads: the words are read from the left, one turn after the other.
 use Rattle.std.specs.Prelude.{◌≡◌, ℕ, ◌+◌, Bool, true, false, not, ◌&&◌, ◌||◌, ◌==◌, List, [], ◌∷◌, ◌++◌, length, drop, codes, Option, Some, None, Result, Ok, Err, if◌then◌else◌}
 use Rattle.ir_base.specs.Name.{is_name}
 use Rattle.command_line.specs.declared.command.UsageKind.{UsageKind}
@@ -50,6 +50,7 @@ Takes (Err fault) now reading = Fails fault reading
 
 -- What has been given so far.
 
+-- no word was read behind the tool's
 abbrev pub nothing_given : Tool → Given
 nothing_given tool = record {
   tool = tool;
@@ -63,6 +64,7 @@ nothing_given tool = record {
   dash = false;
 }
 
+-- what words of these roles give
 abbrev pub given_by : Tool → List Role → Given
 given_by tool all = record {
   tool = tool;
@@ -76,6 +78,7 @@ given_by tool all = record {
   dash = has_dash all;
 }
 
+-- the command of the tool, of what was given
 abbrev pub command_by : Tool → Given → Command
 command_by LlvmAs given = commands.Assemble (input_from given.others) (output_from (default_name (input_from given.others) (codes ".ll") (codes ".bc")) given.output)
 command_by LlvmDis given = commands.Disassemble (input_from given.others) (output_from (default_name (input_from given.others) (codes ".bc") (codes ".ll")) given.output)
@@ -84,24 +87,29 @@ command_by LlvmExtract given = commands.Extract (input_from given.others) (outpu
 command_by Lli given = commands.Lli (input_from given.others) (steps_from given.max_steps) (arguments_from given.others)
 command_by LlvmBcanalyzer given = commands.Analyze (input_from given.others) given.dump
 
+-- the command of what was given
 abbrev pub command_from : Given → Command
 command_from given = command_by given.tool given
 
 -- What one turn gives.
 
+-- a flag is given
 abbrev pub with_flag : Given → Flag → Given
 with_flag given flags.Text = record given { text = true }
 with_flag given flags.Delete = record given { selection = record given.selection { delete = true } }
 with_flag given flags.Recursive = record given { selection = record given.selection { recursive = true } }
 with_flag given flags.Dump = record given { dump = true }
 
+-- there is one
 abbrev pub is_some : {A : Type 0} → Option A → Bool
 is_some None = false
 is_some (Some x) = true
 
+-- an output is given, once
 abbrev pub with_output : Given → List ℕ → ℕ → Result Given Wrong
 with_output given value at = if is_some given.output then Err (Repeated, at) else Ok (record given { output = Some (output_name value) })
 
+-- a bound on steps is given, once, and is a number
 abbrev pub with_steps : Given → List ℕ → ℕ → ℕ → Result Given Wrong
 with_steps given value at value_at =
     if not (is_number value) && value_at == at then Err (BadNumber, at)
@@ -109,9 +117,11 @@ with_steps given value at value_at =
     else if not (is_number value) then Err (BadNumber, value_at)
     else Ok (record given { max_steps = Some (decimal value) })
 
+-- the value is a name
 abbrev pub name_read : List ℕ → ℕ → Result (List ℕ) Wrong
 name_read value at = if is_name value then Ok value else Err (MissingValue, at)
 
+-- a setting is given its value
 abbrev pub with_setting : Given → Setting → List ℕ → ℕ → ℕ → Result Given Wrong
 with_setting given settings.Output value at value_at = with_output given value at
 with_setting given settings.MaxSteps value at value_at = with_steps given value at value_at
@@ -125,16 +135,19 @@ with_setting given settings.Alias value at value_at =
     if is_name value then Ok (record given { selection = record given.selection { aliases = given.selection.aliases ++ value ∷ [] } })
     else Err (MissingValue, at)
 
+-- an input is given
 abbrev pub with_input : Given → List ℕ → ℕ → Result Given Wrong
 with_input given word at =
     if is_dash word && given.dash then Err (Repeated, at)
     else if takes_one given.tool && not (is_empty given.others) then Err (TooManyFiles, at)
     else Ok (record given { others = given.others ++ word ∷ []; dash = is_dash word || given.dash })
 
+-- so many words are taken, unless something is wrong
 abbrev pub taking : ℕ → Result Given Wrong → Result (Given × ℕ) Wrong
 taking count (Ok given) = Ok (given, count)
 taking count (Err wrong) = Err wrong
 
+-- a turn over a word by what it is spelled as
 abbrev pub spelled_turn : Given → Spelled → List ℕ → Option (List ℕ) → ℕ → Result (Given × ℕ) Wrong
 spelled_turn given options.Marker word next at = Ok (record given { marked = true }, 1)
 spelled_turn given (options.Lone flag) word next at = Ok (with_flag given flag, 1)
@@ -144,6 +157,7 @@ spelled_turn given (options.Open setting) word (Some value) at = taking 2 (with_
 spelled_turn given options.Unknown word next at = Err (UnknownOption, at)
 spelled_turn given options.Input word next at = taking 1 (with_input given word at)
 
+-- a turn over a word by what stands before it
 abbrev pub turn_by : Given → Bool → Bool → Spelled → List ℕ → Option (List ℕ) → ℕ → Result (Given × ℕ) Wrong
 turn_by given true marked spelling word next at = Ok (record given { others = given.others ++ word ∷ [] }, 1)
 turn_by given false true spelling word next at = taking 1 (with_input given word at)
@@ -155,6 +169,7 @@ turn given word next at = turn_by given (is_program given.tool (is_empty given.o
 
 -- The first fault of a word, and of all words.
 
+-- the first kind of fault that a word has
 abbrev pub first_kind : Tool → List Role → Role → List (List ℕ) → Option UsageKind
 first_kind tool before role behind =
     if is_unknown role then Some UnknownOption
@@ -164,6 +179,7 @@ first_kind tool before role behind =
     else if is_surplus tool before role then Some TooManyFiles
     else None
 
+-- the fault of this word, or else what the others come to
 abbrev pub scan_by : Option UsageKind → ℕ → Result (List Role) Wrong → Result (List Role) Wrong
 scan_by None k rest = rest
 scan_by (Some kind) k rest = Err (kind, k)
@@ -178,10 +194,12 @@ abbrev pub ReadsGiven : Tool → Result Given WordsFault → Result (List Role) 
 ReadsGiven tool (Ok given) reading = (all : List Role) × (reading ≡ Ok all) × (given ≡ given_by tool all)
 ReadsGiven tool (Err fault) reading = Fails fault reading
 
+-- the command, unless something is wrong
 abbrev pub command_read : Tool → Result (List Role) Wrong → Result Command Wrong
 command_read tool (Ok all) = Ok (command_of tool all)
 command_read tool (Err wrong) = Err wrong
 
+-- the command of a tool over words, or what is wrong
 abbrev pub reading_by : Option Tool → List (List ℕ) → Result Command Wrong
 reading_by None words = Err (NoTool, 0)
 reading_by (Some tool) words = command_read tool (scan tool [] words)

@@ -1,4 +1,4 @@
--- What each word behind the tool's is, given what the words before it are.
+-- For `read_words`: what each word behind the tool's is, given what the words before it are.
 use Rattle.std.specs.Prelude.{ℕ, Bool, true, false, not, ◌||◌, List, [], ◌∷◌, ◌++◌, Option, Some, None, if◌then◌else◌}
 use Rattle.command_line.specs.declared.tool.Tool.{Tool}
 use Rattle.command_line.specs.declared.tool.Tool.TheVariants as tools
@@ -8,6 +8,7 @@ use Rattle.command_line.specs.Tools.{same_flag, same_setting}
 use Rattle.command_line.specs.Options as options
 use Rattle.command_line.specs.Options.{Spelled, spelled, is_dash}
 
+-- what a word is, given what the words before it are
 pub data Role : Type 0 where
   Unknown : Role
   Lone : Flag → Role
@@ -28,6 +29,7 @@ abbrev pub awaited : List Role → Option Setting
 awaited (Open setting ∷ before) = Some setting
 awaited before = None
 
+-- the first `--` is among them
 abbrev pub is_marked : List Role → Bool
 is_marked [] = false
 is_marked (Marker ∷ before) = true
@@ -40,6 +42,7 @@ others (Input word ∷ before) = others before ++ word ∷ []
 others (Argument word ∷ before) = others before ++ word ∷ []
 others (role ∷ before) = others before
 
+-- there is none
 abbrev pub is_empty : {A : Type 0} → List A → Bool
 is_empty [] = true
 is_empty (x ∷ xs) = false
@@ -49,6 +52,7 @@ abbrev pub is_program : Tool → Bool → Bool
 is_program tools.Lli no_others = not no_others
 is_program tool no_others = false
 
+-- the role of a word that nothing before it decides
 abbrev pub role_spelled : Spelled → List ℕ → Role
 role_spelled options.Marker word = Marker
 role_spelled (options.Lone flag) word = Lone flag
@@ -64,6 +68,7 @@ role_by None true marked spelling word = Argument word
 role_by None false true spelling word = Input word
 role_by None false false spelling word = role_spelled spelling word
 
+-- the role of a word behind others
 abbrev pub role : Tool → List Role → List ℕ → Role
 role tool before word = role_by (awaited before) (is_program tool (is_empty (others before))) (is_marked before) (spelled tool word) word
 
@@ -72,6 +77,7 @@ abbrev pub roles_onto : Tool → List Role → List (List ℕ) → List Role
 roles_onto tool before [] = before
 roles_onto tool before (word ∷ words) = roles_onto tool (role tool before word ∷ before) words
 
+-- the roles of the words, the last one first
 abbrev pub roles : Tool → List (List ℕ) → List Role
 roles tool words = roles_onto tool [] words
 
@@ -82,6 +88,7 @@ values setting (Full other value ∷ before) = if same_setting setting other the
 values setting (Value other value ∷ before) = if same_setting setting other then values setting before ++ value ∷ [] else values setting before
 values setting (role ∷ before) = values setting before
 
+-- the flag is among them
 abbrev pub has_flag : Flag → List Role → Bool
 has_flag flag [] = false
 has_flag flag (Lone other ∷ before) = same_flag flag other || has_flag flag before

@@ -9,12 +9,19 @@ use thiserror::Error;
 /// What is wrong with a word. Of one word the kind that stands first is told.
 #[derive(Clone, Copy, Debug)]
 pub enum UsageKind {
+    /// There is no word, or the first one names no tool.
     NoTool,
+    /// An option that the tool does not have.
     UnknownOption,
+    /// An option whose value is not there, or is none that the option can have.
     MissingValue,
+    /// A number of steps that is no number, or one above 2^32.
     BadNumber,
+    /// What may be given once is given again.
     Repeated,
+    /// A second file, where the tool takes one.
     TooManyFiles,
+    /// No file is named. It is told behind the last word.
     NoFile,
 }
 
@@ -38,8 +45,10 @@ impl UsageKind {
 /// The first fault of the words with the number of its word, counted from 0, or want of memory.
 #[derive(Clone, Copy, Debug, Error)]
 pub enum WordsFault {
+    /// What is wrong, and the number of the word.
     #[error("usage: {kind} at word {word}", kind = .0.words(), word = .1)]
     Usage(UsageKind, u64),
+    /// Memory ran out.
     #[error("out of memory")]
     Memory,
 }
@@ -67,7 +76,9 @@ impl<T: Drop> From<AllocFailed<T>> for WordsFault {
 /// Where the result goes.
 #[derive(Drop)]
 pub enum OutputName {
+    /// Standard output, written `-`.
     Standard,
+    /// A file of this name.
     File(Text),
 }
 
@@ -87,30 +98,36 @@ pub struct Selection {
 /// that the whole tree is told, and not its counts alone.
 #[derive(Drop)]
 pub enum Command {
+    /// `llvm-as`: the text of a module as bitcode.
     Assemble {
         input: Text,
         output: OutputName,
     },
+    /// `llvm-dis`: the bitcode of a module as canonical text.
     Disassemble {
         input: Text,
         output: OutputName,
     },
+    /// `llvm-link`: several modules as one.
     Link {
         inputs: TextList,
         output: OutputName,
         text: bool,
     },
+    /// `llvm-extract`: a part of a module.
     Extract {
         input: Text,
         output: OutputName,
         text: bool,
         selection: Selection,
     },
+    /// `lli`: runs a module, for at most so many steps.
     Lli {
         input: Text,
         max_steps: u64,
         arguments: TextList,
     },
+    /// `llvm-bcanalyzer`: tells what a stream is made of.
     Analyze {
         input: Text,
         dump: bool,

@@ -4,6 +4,13 @@
 //! are read as that one, and a fault exactly where it is the first from the left, of one word the first
 //! in the order of `UsageKind`; want of memory is the one free answer. Definitions: `specs/Tools` (each
 //! tool's options), `Options` and `Roles` (what each word is), `Faults` (what is wrong), `Commands`.
+//!
+//! ```
+//! read_words(alloc, words)
+//! // of `llvm-as a.ll`: Ok(Command::Assemble { input, output }): `a.ll`, and OutputName::File(name), which is `a.bc`
+//! // of `llvm-link`: Err(WordsFault::Usage(UsageKind::NoFile, 1))
+//! // of `llvm-as -x`: Err(WordsFault::Usage(UsageKind::UnknownOption, 1))
+//! ```
 #![tactic(auto)]
 
 mod command;

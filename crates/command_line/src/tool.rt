@@ -8,11 +8,17 @@ use ir_base::Text;
 /// A tool, as the first word of the command line names it.
 #[derive(Clone, Copy)]
 pub enum Tool {
+    /// `llvm-as`
     LlvmAs,
+    /// `llvm-dis`
     LlvmDis,
+    /// `llvm-link`
     LlvmLink,
+    /// `llvm-extract`
     LlvmExtract,
+    /// `lli`
     Lli,
+    /// `llvm-bcanalyzer`
     LlvmBcanalyzer,
 }
 

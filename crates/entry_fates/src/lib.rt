@@ -2,6 +2,11 @@
 //!
 //! It stands on `extract_core`. It promises which entries stay definitions, which become declarations and which are left
 //! out, and that what they become so is the extracted module. Definitions: `specs/Fates`.
+//!
+//! ```
+//! kept_linkage(Linkage::Internal) // Linkage::External: other modules can name what is kept
+//! kept_linkage(Linkage::Weak) // Linkage::Weak
+//! ```
 #![tactic(auto)]
 
 mod fates;

@@ -3,6 +3,17 @@
 //! It stands on `ir_base`, `ir_tables`, `type_table`, `module_arena` and `indexmap`. It promises that the first selected
 //! name that is not there is told, and else exactly which entries are kept. Definitions: `specs/Selected`, what is chosen
 //! and kept, `specs/Extracted`, the extracted module, and `specs/Flags`, what is told of each entry.
+//!
+//! ```
+//! let selection = Selection {
+//!     functions, // `main`
+//!     variables: NameList::new(alloc),
+//!     aliases: NameList::new(alloc),
+//!     delete: false,
+//!     recursive: true,
+//! };
+//! let kept = choose(alloc, &checked, &selection)?; // kept.functions tells of each function whether it is kept
+//! ```
 #![tactic(auto)]
 
 mod chosen;

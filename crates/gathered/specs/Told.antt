@@ -14,6 +14,7 @@ pub record State : Type 0 where
   pub taken : Option (List ℕ)
   pub faults : ℕ
 
+-- what waits, what the sink has, and how many faults it told
 abbrev pub state : Pending → Option (List ℕ) → ℕ → State
 state pending taken faults = record { pending = pending; taken = taken; faults = faults }
 

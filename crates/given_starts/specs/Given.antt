@@ -1,4 +1,4 @@
--- Says what `Given` promises: the ids that were given definitions, ascending, each with the bits where they start.
+-- For `Given`: the ids that were given definitions, ascending, each with the bits where they start.
 use Rattle.std.specs.Prelude.{ℕ, List, [], ◌∷◌, ◌++◌, unwrap_or}
 use Rattle.std.specs.Ordering.{nat_cmp}
 use Rattle.std.specs.Map.{lookup, remove_entry}

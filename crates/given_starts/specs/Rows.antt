@@ -1,4 +1,4 @@
--- Says how `Given` keeps definitions: as rows of an id and the bit where one starts.
+-- Says how the code reads: definitions as rows of an id and the bit where one starts.
 use Rattle.std.specs.Prelude.{ℕ, ◌+◌, ◌*◌, ◌^◌, List, [], ◌∷◌, if◌then◌else◌, ◌==◌}
 use Rattle.std.specs.List.Sorted.{IsNonDecreasingBy}
 use Rattle.given_starts.specs.declared.row.Row.{Row}

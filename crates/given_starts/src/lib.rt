@@ -2,6 +2,15 @@
 //!
 //! It stands on std alone. It promises that an id has the starts that it was given, in order, and that the ids ascend. A
 //! look-up is two binary searches, and giving a definition moves few others. Definitions: `specs/Given`.
+//!
+//! ```
+//! let mut given = Given::new(alloc);
+//! given.give(17, 96)?;
+//! given.give(17, 128)?;
+//! given.count(17) // 2
+//! given.get(17, 1) // Some(128)
+//! given.count(8) // 0
+//! ```
 #![tactic(auto)]
 
 mod given;

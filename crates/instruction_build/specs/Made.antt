@@ -1,4 +1,5 @@
--- What an instruction of an arena stands for: an operation, and the value that it defines, where it defines one.
+-- Says how the code reads: what an instruction of an arena stands for: an operation, and the value that it defines,
+-- where it defines one.
 use Rattle.std.specs.Prelude.{◌≡◌, ℕ, Bool, cond, List, [], option_to_list, Option, Some, None, Box}
 use Rattle.std.specs.Global.{Global}
 use Rattle.std.specs.Option.{option_map}

@@ -1,4 +1,5 @@
--- What the parts of a body stand for in an arena, where these are the names of the function's values and blocks.
+-- For `build_instruction` and `build_ending`: what the parts of a body stand for in an arena, where these are the names
+-- of the function's values and blocks.
 use Rattle.std.specs.Prelude.{◌≡◌, ◌<◌, List, length, All}
 use Rattle.type_table.specs.Types.{trees}
 use Rattle.module_arena.specs.declared.instruction.Value as the_value

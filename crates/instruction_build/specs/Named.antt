@@ -1,4 +1,4 @@
--- The locals of a function, and the instruction that is built over them.
+-- For `build_instruction` and `build_ending`: the locals of a function, and the instruction that is built over them.
 use Rattle.std.specs.Prelude.{ℕ, cond, List, [], ◌∷◌, map, Some, None}
 use Rattle.ir_instructions.specs.Tree.{InstructionTree}
 use Rattle.module_arena.specs.declared.entry.LocalName as the_local_name

@@ -1,4 +1,5 @@
--- The parts of an instruction over the locals of a function: what an arena can take, and what its ids stand for.
+-- Says how the code reads: the parts of an instruction over the locals of a function: what an arena can take, and what
+-- its ids stand for.
 use Rattle.std.specs.Prelude.{◌≡◌, ℕ, ◌<◌, List, [], ◌∷◌, length, slice_index_or}
 use Rattle.ir_terminals.specs.declared.values.Local.{Local}
 use Rattle.ir_constants.specs.Tree.{ValueTree, TypedValueTree}

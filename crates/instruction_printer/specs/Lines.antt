@@ -1,4 +1,4 @@
--- The instructions and ends of a function, by the ids of an arena.
+-- For `put_instruction` and `put_ending`: the instructions and ends of a function, by the ids of an arena.
 use Rattle.std.specs.Prelude.{ℕ, ◌<◌, List, [], ◌++◌, length, codes, Option, Some, None}
 use Rattle.ir_lexer.specs.Pieces.{Piece, Space}
 use Rattle.type_table.specs.Types.{trees}

@@ -1,4 +1,5 @@
--- What the values and blocks of a function are called, and what stands behind an alignment.
+-- For `put_alignment`, and how the code reads: what the values and blocks of a function are called, and what stands
+-- behind an alignment.
 use Rattle.std.specs.Prelude.{ℕ, List, [], ◌++◌, map, codes, Option, Some, None}
 use Rattle.ir_lexer.specs.Pieces.{Piece, Separator, Nothing, Space}
 use Rattle.type_table.specs.Types.{trees}

@@ -1,4 +1,5 @@
--- The parts of operations, by the ids of an arena and of a function in it.
+-- For `put_dotted` and `put_ending`, and how the code reads: the parts of operations, by the ids of an arena and of a
+-- function in it.
 use Rattle.std.specs.Prelude.{ℕ, ◌<◌, true, List, map, length}
 use Rattle.ir_lexer.specs.Pieces.{Piece, Nothing}
 use Rattle.type_table.specs.Types.{Types, trees, tree}
@@ -19,10 +20,11 @@ use Rattle.canonical.specs.Operations.{dotted}
 use Rattle.instruction_printer.specs.Named.{values_in, labels_in, value_of, operand_of}
 
 module _ (a : Lists) (f : Function) where
-  -- the value, the operand and its type are there
+  -- the value is there
   abbrev pub HasThisValue : the_value.Value → Type 0
   HasThisValue value = HasValue (length a.constants) (length (value_names f)) value
 
+  -- the operand, its value and its type, are there
   abbrev pub HasThis : the_operand.Operand → Type 0
   HasThis part = HasOperand (length a.table.types) (length a.constants) (length (value_names f)) part
 

@@ -1,4 +1,4 @@
--- When a call answers what is expected of it, want of memory aside.
+-- For `read_file` and `write_file` of `MemoryFiles`: when a call answers what is expected of it, want of memory aside.
 use Rattle.std.specs.Prelude.{◌≡◌, ◌⊎◌, Option, IfSome, Result, Ok, Err}
 
 -- The expected result, or want of memory, which is free: `memory` is the fault that tells of it.

@@ -1,4 +1,4 @@
--- Files by name, and what a call does to them where they are told.
+-- For `read_file` and `write_file` of `Files`: files by name, and what a call does to them where they are told.
 use Rattle.std.specs.Prelude.{◌≡◌, ◌⊎◌, ℕ, ◌<◌, List, length, take, Option, Some, None, IfSome, IsSomeAnd, option_map, if◌then◌else◌, bytes_eq}
 
 -- what is in each file, by its name

@@ -1,4 +1,4 @@
--- Files in memory.
+-- For `MemoryFiles`: files in memory.
 use Rattle.std.specs.Prelude.{ℕ, Bool, nat_le, List, length, Option, Some, None, Result, Ok, Err, bytes_eq, if◌then◌else◌}
 use Rattle.std.specs.Map.{lookup}
 use Rattle.ir_base.specs.Calls.{next_count, next_fails}
@@ -19,6 +19,7 @@ pub record FilesState : Type 0 where
 abbrev pub named_in : List (List ℕ × List ℕ) → Named
 named_in files name = lookup (bytes_eq name) files
 
+-- the files by their names
 abbrev pub named : FilesState → Named
 named state = named_in state.files
 

@@ -1,4 +1,4 @@
--- A source in memory.
+-- For `MemorySource`: a source in memory.
 use Rattle.std.specs.Prelude.{ℕ, List}
 use Rattle.ir_base.specs.Calls.{named_calls}
 

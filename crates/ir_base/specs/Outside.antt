@@ -1,4 +1,5 @@
--- What a call does to what an object of the outside has, where it tells that, and to its count of faults.
+-- For the calls of `Source`, `Sink` and `Files`: what a call does to what an object of the outside has, where it tells
+-- that, and to its count of faults.
 use Rattle.std.specs.Borrow.{Bor}
 use Rattle.std.specs.Prelude.{◌≡◌, ◌⊎◌, ℕ, ◌-◌, ◌^◌, ◌<◌, ◌≤◌, List, [], ◌∷◌, ◌++◌, length, take, Option, option_map}
 

@@ -4,6 +4,17 @@
 //! fails only where the object's count of faults rose, for every source, sink and set of files, in memory and of the
 //! host. Definitions: `specs/Outside`, `specs/Files`, and `specs/Answers` for what any call is to answer; the objects
 //! in memory and the adapters have a file of `specs/` each.
+//!
+//! ```
+//! let mut files = MemoryFiles::new(alloc, NumberList::new(alloc));
+//! files.put(Text::from_slice(alloc, b"a.ll")?, Text::from_slice(alloc, b"ret")?)?;
+//!
+//! let mut source = MemorySource::new(Text::from_slice(alloc, b"i32 0")?, NumberList::new(alloc));
+//! let text = read_all(alloc, &mut source, 3)?; // `i32`: no more than 3 bytes
+//!
+//! let mut sink = MemorySink::new(alloc, 100, NumberList::new(alloc))?;
+//! write_all(&mut sink, text.bytes())?; // sink.taken() is `i32`
+//! ```
 #![tactic(auto)]
 
 mod compared;

@@ -1,4 +1,4 @@
--- The constants.
+-- For `constant_of` and `typed_constant_of`: the rows of constants.
 use Rattle.std.specs.Prelude.{ℕ, zero, suc, false, List, [], ◌∷◌, ◌++◌, Option, Some, None}
 use Rattle.phrase_rows.specs.Row.{Row, Shape, fail, chain, mapped, both, second, before, pair, alt, many, separated, labelled}
 use Rattle.ir_lexer.specs.Ahead.{Located}
@@ -47,9 +47,11 @@ expression_classes =
 abbrev pub holder_shape : Shape
 holder_shape = record { first = nest_shape.first ++ expression_classes; more = []; empty = false }
 
+-- how constants begin
 abbrev pub constant_shape : Shape
 constant_shape = record { first = code terminal.Integer ∷ code terminal.GlobalName ∷ code terminal.ByteString ∷ simple_classes ++ holder_shape.first; more = []; empty = false }
 
+-- the constant that is one word
 abbrev pub simple_word : Terminal → Option Simple
 simple_word terminal.True = Some simple.True
 simple_word terminal.False = Some simple.False
@@ -79,6 +81,7 @@ bytes_row = mapped BytesConstant byte_string_row
 unfoldable pub typed_core : Limits → Row Located ConstantTree → Row Located TypedConstantTree
 typed_core limits c = pair (type_row limits) c
 
+-- TYPE CONST, the constants read by the row that is given
 abbrev pub typed_over : Limits → Row Located ConstantTree → Row Located TypedConstantTree
 typed_over limits c = labelled type_shape (typed_core limits c)
 
@@ -86,6 +89,7 @@ typed_over limits c = labelled type_shape (typed_core limits c)
 unfoldable pub elements_core : Row Located TypedConstantTree → Row Located (List TypedConstantTree)
 elements_core typed = separated class (word terminal.Comma) typed
 
+-- TYPE CONST,*
 abbrev pub elements_row : Row Located TypedConstantTree → Row Located (List TypedConstantTree)
 elements_row typed = labelled list_shape (elements_core typed)
 
@@ -105,9 +109,11 @@ packed_constant_row typed = mapped (λ v. ListConstant v.0 brackets.Packed (cons
 unfoldable pub operands_core : Row Located TypedConstantTree → Row Located (List TypedConstantTree)
 operands_core typed = both (λ c cs. c ∷ cs) typed (many class (second (word terminal.Comma) typed))
 
+-- how the operands of an expression begin and go on
 abbrev pub operands_shape : Shape
 operands_shape = record { first = type_shape.first; more = code terminal.Comma ∷ []; empty = false }
 
+-- TYPE CONST (, TYPE CONST)*
 abbrev pub operands_row : Row Located TypedConstantTree → Row Located (List TypedConstantTree)
 operands_row typed = labelled operands_shape (operands_core typed)
 
@@ -129,9 +135,11 @@ arithmetic_row typed place opcode =
     mapped (λ v. Arithmetic place opcode v.0 v.1.0.0 v.1.0.1 v.1.1.0 v.1.1.1)
     (pair (flags_row opcode) (second (word terminal.OpenParenthesis) (pair (before typed (word terminal.Comma)) (before typed (word terminal.CloseParenthesis)))))
 
+-- how an expression goes on behind its opcode
 abbrev pub expression_shape : Shape
 expression_shape = record { first = flag_class ∷ code terminal.OpenParenthesis ∷ []; more = []; empty = false }
 
+-- what stands behind the opcode of an expression, by the opcode
 abbrev pub expression_by : Limits → Row Located TypedConstantTree → Place → Opcode → Row Located ConstantTree
 expression_by limits typed place op.GetElementPtr = element_address_row limits typed place
 expression_by limits typed place op.PtrToInt = conversion_row limits typed place op.PtrToInt
@@ -146,6 +154,7 @@ expression_by limits typed place _ = fail expression_shape
 unfoldable pub expression_core : Limits → Row Located TypedConstantTree → Opcode × Place → Row Located ConstantTree
 expression_core limits typed v = expression_by limits typed v.1 v.0
 
+-- what stands behind the opcode of an expression
 abbrev pub expression_body : Limits → Row Located TypedConstantTree → Opcode × Place → Row Located ConstantTree
 expression_body limits typed v = labelled expression_shape (expression_core limits typed v)
 
@@ -161,6 +170,7 @@ holder_step limits typed = alt class (array_constant_row typed) (alt class (stru
 unfoldable pub constant_core : Row Located ConstantTree → Row Located ConstantTree
 constant_core holder = alt class integer_constant_row (alt class address_row (alt class bytes_row (alt class simple_row holder)))
 
+-- a constant, those that hold others read by the row that is given
 abbrev pub constant_over : Row Located ConstantTree → Row Located ConstantTree
 constant_over holder = labelled constant_shape (constant_core holder)
 
@@ -169,6 +179,7 @@ unfoldable pub holder_core : Limits → ℕ → Row Located ConstantTree
 holder_core limits zero = fail holder_shape
 holder_core limits (suc n) = holder_step limits (typed_over limits (constant_over (labelled holder_shape (holder_core limits n))))
 
+-- a constant that holds others, in so many nests at most
 abbrev pub holder_row : Limits → ℕ → Row Located ConstantTree
 holder_row limits depth = labelled holder_shape (holder_core limits depth)
 

@@ -1,4 +1,4 @@
--- The flags of an opcode: which it may have, in any order, each once.
+-- For `flags_of`: the flags of an opcode: which it may have, in any order, each once.
 use Rattle.std.specs.Prelude.{ℕ, true, false, not, ◌&&◌, [], ◌∷◌, cond, Option, Some, None}
 use Rattle.phrase_rows.specs.Row.{Row, Shape, one, loop, labelled}
 use Rattle.ir_lexer.specs.Ahead.{Located}
@@ -15,6 +15,7 @@ abbrev pub with_flag : Opcode → ℕ → Option Flag → Option ℕ
 with_flag opcode flags None = None
 with_flag opcode flags (Some f) = cond (may_have opcode f && not (has_flag flags f)) (Some (flags_with flags f)) None
 
+-- how a flag begins
 abbrev pub flag_shape : Shape
 flag_shape = record { first = flag_class ∷ []; more = []; empty = false }
 
@@ -26,8 +27,10 @@ flag_step opcode flags = one class (flag_class ∷ []) (λ t. with_flag opcode f
 unfoldable pub flags_core : Opcode → Row Located ℕ
 flags_core opcode = loop class flag_shape (flag_step opcode) 0
 
+-- how flags begin and go on
 abbrev pub flags_shape : Shape
 flags_shape = record { first = flag_class ∷ []; more = flag_class ∷ []; empty = true }
 
+-- FLAG*, each that the opcode may have, once
 abbrev pub flags_row : Opcode → Row Located ℕ
 flags_row opcode = labelled flags_shape (flags_core opcode)

@@ -1,4 +1,4 @@
--- What `read_items` promises of the constants of a text: opcodes, flags and parts as their phrases have them.
+-- For `read_items`: the forms of the constants of a text: opcodes, flags and parts as their phrases have them.
 use Rattle.std.specs.Prelude.{◌≡◌, ℕ, ◌≤◌, Bool, true, false, List, [], ◌∷◌}
 use Rattle.ir_tables.specs.declared.opcode.Opcode.{Opcode}
 use Rattle.ir_tables.specs.declared.opcode.Opcode.TheVariants as op
@@ -36,6 +36,7 @@ is_constant_sum op.Sub = true
 is_constant_sum op.Xor = true
 is_constant_sum _ = false
 
+-- the list has one
 abbrev pub HasConstant : ConstantTrees → Type 0
 HasConstant no_constants = ⊥
 HasConstant (more_constants t c cs) = Unit {0}
@@ -53,16 +54,20 @@ abbrev mutual
   IsFormed (Arithmetic place opcode flags left_type left right_type right) =
       (is_constant_sum opcode ≡ true) × AreFlagsOf opcode flags × IsFormed left × IsFormed right
 
+  -- the same of several constants
   pub AreFormed : ConstantTrees → Type 0
   AreFormed no_constants = Unit {0}
   AreFormed (more_constants t c cs) = IsFormed c × AreFormed cs
 
+-- a constant with its type has its phrase's form
 abbrev pub IsTypedFormed : TypedConstantTree → Type 0
 IsTypedFormed typed = IsFormed typed.1
 
+-- a value has its phrase's form
 abbrev pub IsValueFormed : ValueTree → Type 0
 IsValueFormed (LocalValue name) = Unit {0}
 IsValueFormed (ConstantValue constant) = IsFormed constant
 
+-- a value with its type has its phrase's form
 abbrev pub IsOperandFormed : TypedValueTree → Type 0
 IsOperandFormed typed = IsValueFormed typed.1

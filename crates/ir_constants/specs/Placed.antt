@@ -1,4 +1,4 @@
--- A token for what its terminal stands for, and its place.
+-- For `constant_of` and `type_of`: a token for what its terminal stands for, and its place.
 use Rattle.std.specs.Prelude.{ℕ, List, Option, option_map}
 use Rattle.phrase_rows.specs.Row.{Row, one}
 use Rattle.ir_base.specs.declared.place.Place.{Place}

@@ -1,4 +1,4 @@
--- Types, constants and values as plain trees.
+-- For all of this crate: types, constants and values as plain trees.
 use Rattle.std.specs.Prelude.{ℕ, Bool, List, [], ◌∷◌}
 use Rattle.ir_base.specs.declared.place.Place.{Place}
 use Rattle.ir_tables.specs.declared.opcode.Opcode.{Opcode}
@@ -11,6 +11,7 @@ use Rattle.ir_constants.specs.declared.constant.Brackets.{Brackets}
 
 -- a type, with the place of its first token
 mutual
+  -- a type by itself
   pub data TypeTree : Type 0 where
     IntegerType : Place → (width : ℕ) → TypeTree
     PointerType : Place → TypeTree
@@ -19,16 +20,19 @@ mutual
     StructType : Place → (packed : Bool) → (fields : TypeTrees) → TypeTree
     NamedType : PlacedName → TypeTree
 
+  -- types, one after another
   pub data TypeTrees : Type 0 where
     no_types : TypeTrees
     more_types : TypeTree → TypeTrees → TypeTrees
 
+-- a list of types as one tree
 abbrev pub types : List TypeTree → TypeTrees
 types [] = no_types
 types (t ∷ ts) = more_types t (types ts)
 
 -- a constant, with the place of its first token; flags are the sum of their codes
 mutual
+  -- a constant by itself
   pub data ConstantTree : Type 0 where
     IntegerConstant : Integer → ConstantTree
     SimpleConstant : Simple → Place → ConstantTree
@@ -48,6 +52,7 @@ mutual
 abbrev pub TypedConstantTree : Type 0
 TypedConstantTree = TypeTree × ConstantTree
 
+-- a list of constants with their types as one tree
 abbrev pub constants : List TypedConstantTree → ConstantTrees
 constants [] = no_constants
 constants (c ∷ cs) = more_constants c.0 c.1 (constants cs)

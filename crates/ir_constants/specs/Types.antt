@@ -1,4 +1,4 @@
--- The types.
+-- For `type_of`, `value_type_of` and `fields_of`: the rows of types.
 use Rattle.std.specs.Prelude.{ℕ, zero, suc, true, false, List, [], ◌∷◌}
 use Rattle.phrase_rows.specs.Row.{Row, Shape, fail, mapped, second, before, pair, alt, separated, labelled}
 use Rattle.ir_lexer.specs.Ahead.{Located}
@@ -51,6 +51,7 @@ list_shape = record { first = type_shape.first; more = code terminal.Comma ∷ t
 unfoldable pub types_core : Row Located TypeTree → Row Located (List TypeTree)
 types_core t = separated class (word terminal.Comma) t
 
+-- TYPE,*
 abbrev pub types_row : Row Located TypeTree → Row Located (List TypeTree)
 types_row t = labelled list_shape (types_core t)
 
@@ -70,6 +71,7 @@ nest_step t = alt class (array_row t) (alt class (struct_row t) (packed_row t))
 unfoldable pub value_type_core : Limits → Row Located TypeTree → Row Located TypeTree
 value_type_core limits nest = alt class int_row (alt class ptr_row (alt class (named_row limits) nest))
 
+-- a type but `void`, those that hold others read by the row that is given
 abbrev pub value_type_over : Limits → Row Located TypeTree → Row Located TypeTree
 value_type_over limits nest = labelled value_type_shape (value_type_core limits nest)
 
@@ -77,6 +79,7 @@ value_type_over limits nest = labelled value_type_shape (value_type_core limits 
 unfoldable pub type_core : Limits → Row Located TypeTree → Row Located TypeTree
 type_core limits nest = alt class void_row (value_type_over limits nest)
 
+-- a type, those that hold others read by the row that is given
 abbrev pub type_over : Limits → Row Located TypeTree → Row Located TypeTree
 type_over limits nest = labelled type_shape (type_core limits nest)
 
@@ -85,6 +88,7 @@ unfoldable pub nest_core : Limits → ℕ → Row Located TypeTree
 nest_core limits zero = fail nest_shape
 nest_core limits (suc n) = nest_step (type_over limits (labelled nest_shape (nest_core limits n)))
 
+-- a type that holds others, in so many nests at most
 abbrev pub nest_row : Limits → ℕ → Row Located TypeTree
 nest_row limits depth = labelled nest_shape (nest_core limits depth)
 

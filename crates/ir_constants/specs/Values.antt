@@ -1,4 +1,4 @@
--- The values.
+-- For `value_of` and `typed_value_of`: the rows of values.
 use Rattle.std.specs.Prelude.{false, [], ◌∷◌}
 use Rattle.phrase_rows.specs.Row.{Row, Shape, mapped, pair, alt, labelled}
 use Rattle.ir_lexer.specs.Ahead.{Located}
@@ -11,6 +11,7 @@ use Rattle.ir_constants.specs.Types.{type_shape, type_row}
 use Rattle.ir_constants.specs.Constants.{constant_shape, constant_row}
 use Rattle.ir_constants.specs.Tree.{ValueTree, LocalValue, ConstantValue, TypedValueTree}
 
+-- how values begin
 abbrev pub value_shape : Shape
 value_shape = record { first = code terminal.Local ∷ constant_shape.first; more = []; empty = false }
 
@@ -18,6 +19,7 @@ value_shape = record { first = code terminal.Local ∷ constant_shape.first; mor
 unfoldable pub value_core : Limits → Row Located ValueTree
 value_core limits = alt class (mapped LocalValue local_row) (mapped ConstantValue (constant_row limits))
 
+-- LOCAL or CONST
 abbrev pub value_row : Limits → Row Located ValueTree
 value_row limits = labelled value_shape (value_core limits)
 
@@ -25,5 +27,6 @@ value_row limits = labelled value_shape (value_core limits)
 unfoldable pub typed_value_core : Limits → Row Located TypedValueTree
 typed_value_core limits = pair (type_row limits) (value_row limits)
 
+-- TYPE VALUE
 abbrev pub typed_value_row : Limits → Row Located TypedValueTree
 typed_value_row limits = labelled type_shape (typed_value_core limits)

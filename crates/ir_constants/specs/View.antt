@@ -1,4 +1,4 @@
--- The plain tree of a type, a constant or a value as it lies in memory. It says how the code reads.
+-- For all of this crate, and how the code reads: the plain tree of a type, a constant or a value as it lies in memory.
 use Rattle.ir_terminals.specs.declared.values.Integer.{Integer}
 use Rattle.ir_constants.specs.declared.ty.Type as the_type
 use Rattle.ir_constants.specs.declared.ty.Type.TheOpen as open_type
@@ -16,6 +16,7 @@ use Rattle.ir_constants.specs.Tree.{TypeTree, IntegerType, PointerType, VoidType
 abbrev pub ArrayParts : Type 0
 ArrayParts = Integer × TypeTree
 
+-- a type, where those in it are trees already
 abbrev pub type_step : open_type.Type-F TypeTree ArrayParts → TypeTree
 type_step (open_type.Integer place width) = IntegerType place width
 type_step (open_type.Ptr place) = PointerType place
@@ -24,12 +25,15 @@ type_step (open_type.Array place array) = ArrayType place array.value.0 array.va
 type_step (open_type.Struct place packed fields) = StructType place packed (types fields.items)
 type_step (open_type.Named name) = NamedType name
 
+-- the parts of an array type, where its element is a tree already
 abbrev pub array_step : open_type.ArrayType-F TypeTree ArrayParts → ArrayParts
 array_step array = (array.count, array.element)
 
+-- a type as a tree
 abbrev pub type_view : the_type.Type → TypeTree
 type_view = fold-Type TypeTree ArrayParts type_step array_step
 
+-- a constant, where those in it are trees already
 abbrev pub constant_step : open_constant.Constant-F ConstantTree TypedConstantTree → ConstantTree
 constant_step (open_constant.Integer integer) = IntegerConstant integer
 constant_step (open_constant.Simple simple place) = SimpleConstant simple place
@@ -40,18 +44,23 @@ constant_step (open_constant.GetElementPtr place flags source operands) = Elemen
 constant_step (open_constant.Cast place opcode operand to) = Conversion place opcode operand.value.0 operand.value.1 (type_view to.value)
 constant_step (open_constant.Binary place opcode flags left right) = Arithmetic place opcode flags left.value.0 left.value.1 right.value.0 right.value.1
 
+-- a constant with its type, where the constant is a tree already
 abbrev pub typed_step : open_constant.TypedConstant-F ConstantTree TypedConstantTree → TypedConstantTree
 typed_step typed = (type_view typed.ty, typed.value)
 
+-- a constant as a tree
 abbrev pub constant_view : the_constant.Constant → ConstantTree
 constant_view = fold-Constant ConstantTree TypedConstantTree constant_step typed_step
 
+-- a constant with its type as a tree
 abbrev pub typed_constant_view : TypedConstant → TypedConstantTree
 typed_constant_view typed = (type_view typed.ty, constant_view typed.value)
 
+-- a value as a tree
 abbrev pub value_view : Value → ValueTree
 value_view (value.Local local) = LocalValue local
 value_view (value.Constant constant) = ConstantValue (constant_view constant)
 
+-- a value with its type as a tree
 abbrev pub typed_value_view : TypedValue → TypedValueTree
 typed_value_view typed = (type_view typed.ty, value_view typed.value)

@@ -8,11 +8,17 @@ use ir_terminals::{Integer, PlacedName, PlacedText};
 /// A constant that is one word (LangRef, "Simple Constants", "Undefined Values" and "Poison Values").
 #[derive(Clone, Copy)]
 pub enum Simple {
+    /// `true`
     True,
+    /// `false`
     False,
+    /// `null`
     Null,
+    /// `undef`
     Undef,
+    /// `poison`
     Poison,
+    /// `zeroinitializer`
     ZeroInitializer,
 }
 
@@ -31,7 +37,9 @@ pub enum Brackets {
 #[derive(Drop)]
 #[cycle(constants)]
 pub enum Constant {
+    /// An integer.
     Integer(Integer),
+    /// A constant that is one word.
     Simple(Simple, Place),
     /// The address of a variable or a function.
     Global(PlacedName),

@@ -3,6 +3,14 @@
 //! It stands on the terminals of `ir_terminals` and the rows of `phrase_rows`. Its promise: each call reads its row of
 //! the grammar, with the value of that row, or stands at the first token with which the row can't go on. Whether a
 //! constant fits its type is not its concern. Definitions: `specs/Types`, `specs/Constants`, `specs/Values`.
+//!
+//! ```
+//! let limits = Limits { nesting: 64, wide: false };
+//! let mut cursor = Cursor::new(alloc, b"i32 7, ptr @a", limits);
+//! let first = typed_constant_of(&mut cursor)?; // a Type::Integer of 32 bits, and the Constant::Integer 7
+//! cursor.take_class(Terminal::Comma)?;
+//! let second = typed_constant_of(&mut cursor)?; // a Type::Ptr, and the Constant::Global `a`
+//! ```
 #![tactic(auto)]
 
 mod constant;

@@ -7,7 +7,9 @@ use ir_terminals::Local;
 /// What an instruction works on: a parameter, a result or a constant.
 #[derive(Drop)]
 pub enum Value {
+    /// A parameter or a result, by what it is called.
     Local(Local),
+    /// A constant.
     Constant(Constant),
 }
 

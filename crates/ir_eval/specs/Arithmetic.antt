@@ -1,4 +1,4 @@
--- LangRef, "add Instruction", "sub Instruction", "mul Instruction".
+-- For `binary`: sums, differences and products (LangRef, "add Instruction", "sub Instruction", "mul Instruction").
 use Rattle.std.specs.Prelude.{ℕ, ℤ, pos, ◌+ℤ◌, ◌-ℤ◌, ◌*ℤ◌, not, ◌&&◌, if◌then◌else◌}
 use Rattle.ir_tables.specs.declared.flag.Flag.TheVariants.{Nuw, Nsw}
 use Rattle.ir_tables.specs.Flags.{has_flag}
@@ -14,11 +14,14 @@ arithmetic flags width unsigned_exact signed_exact =
     else if has_flag flags Nsw && not (fits_signed width signed_exact) then Poison
     else Int (reduced width unsigned_exact)
 
+-- `add`
 abbrev pub sum_of : ℕ → ℕ → ℕ → ℕ → Scalar
 sum_of flags width a b = arithmetic flags width (pos a +ℤ pos b) (signed width a +ℤ signed width b)
 
+-- `sub`
 abbrev pub difference_of : ℕ → ℕ → ℕ → ℕ → Scalar
 difference_of flags width a b = arithmetic flags width (pos a -ℤ pos b) (signed width a -ℤ signed width b)
 
+-- `mul`
 abbrev pub product_of : ℕ → ℕ → ℕ → ℕ → Scalar
 product_of flags width a b = arithmetic flags width (pos a *ℤ pos b) (signed width a *ℤ signed width b)

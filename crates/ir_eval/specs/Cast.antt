@@ -1,5 +1,5 @@
--- LangRef, "trunc .. to Instruction", "zext .. to Instruction", "sext .. to Instruction", "ptrtoint .. to
--- Instruction", "inttoptr .. to Instruction".
+-- For `cast`: the casts (LangRef, "trunc .. to Instruction", "zext .. to Instruction", "sext .. to Instruction",
+-- "ptrtoint .. to Instruction", "inttoptr .. to Instruction").
 use Rattle.std.specs.Prelude.{ℕ, ◌%◌, ◌^◌, ◌<◌, ◌≡◌, pos, ◌&&◌, None, ⊤, if◌then◌else◌}
 use Rattle.ir_tables.specs.declared.opcode.Opcode.{Opcode}
 use Rattle.ir_tables.specs.declared.opcode.Opcode.TheVariants.{Trunc, ZExt, SExt, PtrToInt, IntToPtr}
@@ -27,12 +27,15 @@ sign_extended_of from to number = Int (reduced to (signed from number))
 abbrev pub address_of : ℕ → Pointer → Scalar
 address_of to pointer = Int (pointer.address % 2 ^ to)
 
+-- a pointer of no block
 abbrev pub pointer_at : ℕ → Pointer
 pointer_at address = record { block = None; address = address }
 
+-- `inttoptr`: the number's lowest 64 bits as an address, of no block
 abbrev pub pointer_of : ℕ → Scalar
 pointer_of number = Ptr (pointer_at (number % 2 ^ 64))
 
+-- a cast by its opcode; poison stays poison
 unfoldable pub cast_of : Opcode → ℕ → ℕ → ℕ → Scalar → Scalar
 cast_of Trunc flags from to (Int number) = truncated_of flags from to number
 cast_of ZExt flags from to (Int number) = zero_extended_of flags from number

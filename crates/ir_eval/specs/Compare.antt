@@ -1,4 +1,4 @@
--- LangRef, "icmp Instruction".
+-- For `compare`: comparisons (LangRef, "icmp Instruction").
 use Rattle.std.specs.Prelude.{ℕ, Bool, true, false, not, ◌&&◌, ◌==◌, nat_lt, nat_le, int_lt, int_le, ◌<◌, ◌^◌, ◌≡◌, ⊤, Option, Some, None, if◌then◌else◌}
 use Rattle.std.specs.Bool.{beq}
 use Rattle.ir_tables.specs.declared.predicate.Predicate.{Predicate}
@@ -37,10 +37,12 @@ number_of (Int number) = Some number
 number_of (Ptr pointer) = Some pointer.address
 number_of Poison = None
 
+-- a comparison of numbers, poison where one is not there
 abbrev pub compared : Predicate → Bool → ℕ → Option ℕ → Option ℕ → Scalar
 compared predicate samesign width (Some a) (Some b) = comparison_of predicate samesign width a b
 compared predicate samesign width _ _ = Poison
 
+-- `icmp`
 abbrev pub compare_of : Predicate → Bool → ℕ → Scalar → Scalar → Scalar
 compare_of predicate samesign width a b = compared predicate samesign width (number_of a) (number_of b)
 

@@ -1,4 +1,5 @@
--- LangRef, "udiv Instruction", "sdiv Instruction", "urem Instruction", "srem Instruction". The divisor is not zero.
+-- For `binary`: quotients and remainders (LangRef, "udiv Instruction", "sdiv Instruction", "urem Instruction", "srem
+-- Instruction"). The divisor is not zero.
 use Rattle.std.specs.Prelude.{ℕ, ◌/◌, ◌%◌, pos, int_div, int_rem, not, ◌&&◌, ◌==◌, Result, Ok, Err, if◌then◌else◌}
 use Rattle.std.specs.Ordering.{int_eq}
 use Rattle.ir_tables.specs.declared.flag.Flag.TheVariants.{Exact}
@@ -9,9 +10,11 @@ use Rattle.ir_eval.specs.Value.{signed, reduced, fits_signed}
 use Rattle.ir_eval.specs.declared.value.Scalar.{Scalar}
 use Rattle.ir_eval.specs.declared.value.Scalar.TheVariants.{Int, Poison}
 
+-- `udiv`
 abbrev pub quotient_of : ℕ → ℕ → ℕ → Scalar
 quotient_of flags a b = if has_flag flags Exact && not (a % b == 0) then Poison else Int (a / b)
 
+-- `urem`
 abbrev pub remainder_of : ℕ → ℕ → Scalar
 remainder_of a b = Int (a % b)
 

@@ -1,5 +1,5 @@
--- The instructions over integers and pointers (LangRef, "Binary Operations", "Bitwise Binary Operations",
--- "select Instruction", "freeze Instruction", "Poison Values").
+-- For `binary`, `select` and `freeze`: the instructions over integers and pointers (LangRef, "Binary Operations",
+-- "Bitwise Binary Operations", "select Instruction", "freeze Instruction", "Poison Values").
 use Rattle.std.specs.Prelude.{ℕ, zero, suc, Bool, true, false, ◌&&◌, ◌==◌, Result, Ok, Err, if◌then◌else◌}
 use Rattle.ir_tables.specs.declared.opcode.Opcode.{Opcode}
 use Rattle.ir_tables.specs.declared.opcode.Opcode.TheVariants.{Add, Sub, Mul, UDiv, SDiv, URem, SRem, Shl, LShr, AShr, And, Or, Xor}
@@ -13,6 +13,7 @@ use Rattle.ir_eval.specs.Cast.{pointer_at}
 use Rattle.ir_eval.specs.declared.value.Scalar.{Scalar}
 use Rattle.ir_eval.specs.declared.value.Scalar.TheVariants.{Int, Ptr, Poison}
 
+-- the instructions whose divisor must not be zero
 abbrev pub is_division : Opcode → Bool
 is_division UDiv = true
 is_division SDiv = true
@@ -20,6 +21,7 @@ is_division URem = true
 is_division SRem = true
 is_division _ = false
 
+-- the instructions on two operands of one type that give that type
 abbrev pub is_binary : Opcode → Bool
 is_binary Add = true
 is_binary Sub = true

@@ -1,4 +1,5 @@
--- LangRef, "shl Instruction", "lshr Instruction", "ashr Instruction". A shift by at least the width gives poison.
+-- For `binary`: shifts (LangRef, "shl Instruction", "lshr Instruction", "ashr Instruction"). A shift by at least the
+-- width gives poison.
 use Rattle.std.specs.Prelude.{ℕ, ◌/◌, ◌%◌, ◌^◌, pos, ◌*ℤ◌, not, ◌&&◌, ◌==◌, nat_le, if◌then◌else◌}
 use Rattle.std.specs.Int.{int_div_euclid}
 use Rattle.ir_tables.specs.declared.flag.Flag.TheVariants.{Exact}

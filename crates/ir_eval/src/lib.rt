@@ -4,6 +4,14 @@
 //! what the definition says on whole numbers without bound, at every width from 1 to 128, and refuses
 //! exactly where the result is undefined; nothing takes memory. Definitions: `specs/Value`, `specs/Scalar`
 //! and a file for each group of instructions.
+//!
+//! ```
+//! let none = Flags::empty();
+//! binary(Opcode::Add, none, 8, Scalar::Int(250), Scalar::Int(7)) // Ok(Scalar::Int(1))
+//! binary(Opcode::Add, none.with(Flag::Nuw), 8, Scalar::Int(250), Scalar::Int(7)) // Ok(Scalar::Poison)
+//! binary(Opcode::UDiv, none, 8, Scalar::Int(1), Scalar::Int(0)) // Err(UndefinedKind::DivisionByZero)
+//! compare(Predicate::Slt, false, 8, Scalar::Int(255), Scalar::Int(1)) // Scalar::Int(1): -1 is below 1
+//! ```
 #![tactic(auto)]
 
 mod arithmetic;

@@ -11,7 +11,10 @@ pub struct Pointer {
 /// Values").
 #[derive(Clone, Copy, Debug, PartialEq, Eq)]
 pub enum Scalar {
+    /// An integer without a sign. Its width stands beside it.
     Int(u128),
+    /// A pointer.
     Ptr(Pointer),
+    /// Poison, of whatever type.
     Poison,
 }

@@ -1,4 +1,4 @@
--- The blocks of a function.
+-- For `blocks_of`: the rows of the blocks of a function.
 use Rattle.std.specs.Prelude.{false, List, ◌∷◌, ◌++◌}
 use Rattle.phrase_rows.specs.Row.{Row, Shape, mapped, both, second, before, pair, optional, many, labelled}
 use Rattle.ir_lexer.specs.Ahead.{Located}
@@ -11,6 +11,7 @@ use Rattle.ir_instructions.specs.Tree.{BlockTree}
 use Rattle.ir_instructions.specs.Instructions.{instruction_shape, instructions_row}
 use Rattle.ir_instructions.specs.Endings.{ending_shape, ending_row}
 
+-- how blocks begin and go on
 abbrev pub block_shape : Shape
 block_shape = record { first = code terminal.Label ∷ instruction_shape.first ++ ending_shape.first; more = ending_shape.more; empty = false }
 
@@ -18,6 +19,7 @@ block_shape = record { first = code terminal.Label ∷ instruction_shape.first +
 unfoldable pub block_core : Limits → Row Located BlockTree
 block_core limits = mapped (λ v. record { label = v.0; instructions = v.1.0; ending = v.1.1 }) (pair (optional class label_row) (pair (instructions_row limits) (ending_row limits)))
 
+-- LABEL? INSTRUCTION* ENDING
 abbrev pub block_row : Limits → Row Located BlockTree
 block_row limits = labelled block_shape (block_core limits)
 

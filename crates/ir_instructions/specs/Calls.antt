@@ -1,4 +1,4 @@
--- Calls.
+-- For `blocks_of` and `signature`: the rows of calls.
 use Rattle.std.specs.Prelude.{true, false, cond, List, [], ◌∷◌, ◌++◌, Option}
 use Rattle.phrase_rows.specs.Row.{Row, Shape, fail, chain, mapped, second, before, pair, alt, nothing, optional, separated, loop, labelled}
 use Rattle.ir_lexer.specs.Ahead.{Located}
@@ -25,9 +25,11 @@ some_types_row limits = chain (type_row limits) commas_shape (λ t. loop class c
 abbrev pub signature_types_row : Limits → Row Located SignatureTree
 signature_types_row limits = alt class (mapped (λ p. ([], true)) (word terminal.Dots)) (alt class (some_types_row limits) (nothing ([], false)))
 
+-- how a signature begins
 abbrev pub signature_shape : Shape
 signature_shape = record { first = code terminal.OpenParenthesis ∷ []; more = code terminal.OpenParenthesis ∷ []; empty = true }
 
+-- (( TYPE,* ))?, by its parts
 unfoldable pub signature_core : Limits → Row Located (Option SignatureTree)
 signature_core limits = optional class (second (word terminal.OpenParenthesis) (before (signature_types_row limits) (word terminal.CloseParenthesis)))
 
@@ -39,9 +41,11 @@ signature_row limits = labelled signature_shape (signature_core limits)
 unfoldable pub argument_core : Limits → Row Located TypedValueTree
 argument_core limits = pair (type_row limits) (second parameter_attributes_row (value_row limits))
 
+-- TYPE PDROP* VALUE
 abbrev pub argument_row : Limits → Row Located TypedValueTree
 argument_row limits = labelled type_shape (argument_core limits)
 
+-- (TYPE PDROP* VALUE),*, by its parts
 unfoldable pub argument_list_core : Limits → Row Located (List TypedValueTree)
 argument_list_core limits = separated class (word terminal.Comma) (argument_row limits)
 
@@ -49,9 +53,11 @@ argument_list_core limits = separated class (word terminal.Comma) (argument_row 
 abbrev pub argument_list_row : Limits → Row Located (List TypedValueTree)
 argument_list_row limits = labelled list_shape (argument_list_core limits)
 
+-- how arguments begin
 abbrev pub arguments_shape : Shape
 arguments_shape = record { first = code terminal.OpenParenthesis ∷ []; more = []; empty = false }
 
+-- ( (TYPE PDROP* VALUE),* ), by its parts
 unfoldable pub arguments_core : Limits → Row Located (List TypedValueTree)
 arguments_core limits = second (word terminal.OpenParenthesis) (before (argument_list_row limits) (word terminal.CloseParenthesis))
 
@@ -59,9 +65,11 @@ arguments_core limits = second (word terminal.OpenParenthesis) (before (argument
 abbrev pub arguments_row : Limits → Row Located (List TypedValueTree)
 arguments_row limits = labelled arguments_shape (arguments_core limits)
 
+-- how the type of a call's result begins, behind what is dropped
 abbrev pub result_type_shape : Shape
 result_type_shape = record { first = code terminal.CallingConvention ∷ parameter_attribute_shape.first ++ type_shape.first; more = []; empty = false }
 
+-- CC? PDROP* TYPE, by its parts
 unfoldable pub result_type_core : Limits → Row Located TypeTree
 result_type_core limits = second convention_row (second parameter_attributes_row (type_row limits))
 
@@ -69,9 +77,11 @@ result_type_core limits = second convention_row (second parameter_attributes_row
 abbrev pub result_type_row : Limits → Row Located TypeTree
 result_type_row limits = labelled result_type_shape (result_type_core limits)
 
+-- how the end of a call begins and goes on
 abbrev pub call_end_shape : Shape
 call_end_shape = record { first = function_attributes_shape.first ++ commas_shape.first; more = commas_shape.more ++ function_attributes_shape.more; empty = true }
 
+-- FDROP* (, MD)*, by its parts
 unfoldable pub call_end_core : Row Located (Unit {0})
 call_end_core = second function_attributes_row attachments_row
 
@@ -79,9 +89,11 @@ call_end_core = second function_attributes_row attachments_row
 abbrev pub call_end_row : Row Located (Unit {0})
 call_end_row = labelled call_end_shape call_end_core
 
+-- how a callee with its arguments begins and goes on
 abbrev pub called_shape : Shape
 called_shape = record { first = value_shape.first; more = call_end_shape.more; empty = false }
 
+-- VALUE ( (TYPE PDROP* VALUE),* ) FDROP* (, MD)*, by its parts
 unfoldable pub called_core : Limits → Row Located (ValueTree × List TypedValueTree)
 called_core limits = pair (value_row limits) (before (arguments_row limits) call_end_row)
 
@@ -89,12 +101,15 @@ called_core limits = pair (value_row limits) (before (arguments_row limits) call
 abbrev pub called_row : Limits → Row Located (ValueTree × List TypedValueTree)
 called_row limits = labelled called_shape (called_core limits)
 
+-- a call of its parts
 abbrev pub call_of : TypeTree × (Option SignatureTree × (ValueTree × List TypedValueTree)) → OperationTree
 call_of v = Call (record { returns = v.0; signature = v.1.0; callee = v.1.1.0; arguments = v.1.1.1 })
 
+-- how a call goes on behind its opcode
 abbrev pub call_shape : Shape
 call_shape = record { first = result_type_shape.first; more = called_shape.more; empty = false }
 
+-- CC? PDROP* TYPE (( TYPE,* ))? VALUE ( (TYPE PDROP* VALUE),* ) FDROP* (, MD)*, behind `call`, by its parts
 unfoldable pub call_core : Limits → Row Located OperationTree
 call_core limits = mapped call_of (pair (result_type_row limits) (pair (signature_row limits) (called_row limits)))
 

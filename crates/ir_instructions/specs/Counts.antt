@@ -1,4 +1,4 @@
--- How much blocks hold.
+-- For the proof of `read_items`: how much blocks hold.
 use Rattle.std.specs.Prelude.{ℕ, ◌+◌, List, length, sum_by}
 use Rattle.ir_instructions.specs.Tree.{BlockTree}
 

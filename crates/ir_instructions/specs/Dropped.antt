@@ -1,4 +1,5 @@
--- What is read and dropped: metadata, attributes and calling conventions.
+-- For `attachments`, `parameter_attributes`, `function_attributes` and `convention`: what is read and dropped:
+-- metadata, attributes and calling conventions.
 use Rattle.std.specs.Prelude.{ℕ, true, false, List, [], ◌∷◌, ◌++◌}
 use Rattle.phrase_rows.specs.Row.{Row, Shape, one, mapped, second, alt, optional, loop, labelled}
 use Rattle.ir_lexer.specs.Ahead.{Located}
@@ -25,6 +26,7 @@ comma_shape = record { first = code terminal.Comma ∷ []; more = []; empty = fa
 abbrev pub commas_shape : Shape
 commas_shape = record { first = comma_shape.first; more = comma_shape.first; empty = true }
 
+-- (, MD)*, by its parts
 unfoldable pub attachments_core : Row Located (Unit {0})
 attachments_core = loop class comma_shape (λ u. second (word terminal.Comma) attachment_row) tt
 
@@ -44,6 +46,7 @@ parameter_alignment_row = second (word terminal.Align) (alt class (dropped (word
 abbrev pub parameter_list_row : Row Located (Unit {0})
 parameter_list_row = second (word terminal.ParameterDroppedList) (matched_row terminal.OpenParenthesis)
 
+-- how the attribute of a parameter begins
 abbrev pub parameter_attribute_shape : Shape
 parameter_attribute_shape = record { first = code terminal.ParameterDropped ∷ code terminal.AttributeDropped ∷ code terminal.Align ∷ code terminal.ParameterDroppedList ∷ []; more = []; empty = false }
 
@@ -51,9 +54,11 @@ parameter_attribute_shape = record { first = code terminal.ParameterDropped ∷ 
 abbrev pub parameter_attribute_row : Row Located (Unit {0})
 parameter_attribute_row = alt class parameter_word_row (alt class parameter_alignment_row parameter_list_row)
 
+-- PDROP*, by its parts
 unfoldable pub parameter_attributes_core : Row Located (Unit {0})
 parameter_attributes_core = loop class parameter_attribute_shape (λ u. parameter_attribute_row) tt
 
+-- how the attributes of a parameter begin and go on
 abbrev pub parameter_attributes_shape : Shape
 parameter_attributes_shape = record { first = parameter_attribute_shape.first; more = parameter_attribute_shape.first; empty = true }
 
@@ -94,6 +99,7 @@ abbrev pub function_attribute_first : List ℕ
 function_attribute_first =
     function_word_classes ++ code terminal.Quoted ∷ code terminal.Align ∷ code terminal.Section ∷ code terminal.FunctionDroppedList ∷ code terminal.UnwindTable ∷ []
 
+-- how the attribute of a function begins and goes on
 abbrev pub function_attribute_shape : Shape
 function_attribute_shape = record { first = function_attribute_first; more = code terminal.Equals ∷ code terminal.OpenParenthesis ∷ []; empty = false }
 
@@ -102,12 +108,15 @@ unfoldable pub function_attribute_core : Row Located (Unit {0})
 function_attribute_core =
     alt class function_word_row (alt class function_string_row (alt class function_alignment_row (alt class section_row (alt class function_list_row unwind_table_row))))
 
+-- the attribute of a function
 abbrev pub function_attribute_row : Row Located (Unit {0})
 function_attribute_row = labelled function_attribute_shape function_attribute_core
 
+-- FDROP*, by its parts
 unfoldable pub function_attributes_core : Row Located (Unit {0})
 function_attributes_core = loop class function_attribute_shape (λ u. function_attribute_row) tt
 
+-- how the attributes of a function begin and go on
 abbrev pub function_attributes_shape : Shape
 function_attributes_shape = record { first = function_attribute_first; more = function_attribute_shape.more ++ function_attribute_first; empty = true }
 

@@ -1,4 +1,4 @@
--- The instructions that end a block.
+-- For `blocks_of`: the rows of the instructions that end a block.
 use Rattle.std.specs.Prelude.{false, List, [], ◌∷◌}
 use Rattle.phrase_rows.specs.Row.{Row, Shape, mapped, second, before, pair, alt, many, labelled}
 use Rattle.ir_lexer.specs.Ahead.{Located}
@@ -16,9 +16,11 @@ use Rattle.ir_instructions.specs.Tree.{CaseTree, EndingTree, ReturnVoid, Return,
 use Rattle.ir_instructions.specs.Dropped.{comma_shape, attachments_row}
 use Rattle.ir_instructions.specs.Operations.{tail_shape}
 
+-- how a target begins
 abbrev pub target_shape : Shape
 target_shape = record { first = code terminal.LabelWord ∷ []; more = []; empty = false }
 
+-- label LOCAL, by its parts
 unfoldable pub target_core : Row Located Local
 target_core = second (word terminal.LabelWord) local_row
 
@@ -26,6 +28,7 @@ target_core = second (word terminal.LabelWord) local_row
 abbrev pub target_row : Row Located Local
 target_row = labelled target_shape target_core
 
+-- , label LOCAL, by its parts
 unfoldable pub next_target_core : Row Located Local
 next_target_core = second (word terminal.Comma) target_row
 
@@ -37,6 +40,7 @@ next_target_row = labelled comma_shape next_target_core
 abbrev pub returned_row : Limits → Row Located EndingTree
 returned_row limits = mapped (λ v. Return (v.0, v.1)) (pair (value_type_row limits) (value_row limits))
 
+-- void, or TYPE VALUE, by its parts
 unfoldable pub return_value_core : Limits → Row Located EndingTree
 return_value_core limits = alt class (mapped (λ p. ReturnVoid) (word terminal.Void)) (returned_row limits)
 
@@ -44,9 +48,11 @@ return_value_core limits = alt class (mapped (λ p. ReturnVoid) (word terminal.V
 abbrev pub return_value_row : Limits → Row Located EndingTree
 return_value_row limits = labelled type_shape (return_value_core limits)
 
+-- how `ret` begins and goes on
 abbrev pub return_shape : Shape
 return_shape = record { first = code (terminal.Opcode op.Ret) ∷ []; more = comma_shape.first; empty = false }
 
+-- ret void, or ret TYPE VALUE, by its parts
 unfoldable pub return_core : Limits → Row Located EndingTree
 return_core limits = second (word (terminal.Opcode op.Ret)) (before (return_value_row limits) attachments_row)
 
@@ -58,9 +64,11 @@ return_row limits = labelled return_shape (return_core limits)
 abbrev pub condition_row : Limits → Row Located EndingTree
 condition_row limits = mapped (λ v. Branch v.0 v.1.0 v.1.1) (pair (typed_value_row limits) (pair next_target_row next_target_row))
 
+-- how the targets of a branch begin
 abbrev pub branch_target_shape : Shape
 branch_target_shape = record { first = code terminal.LabelWord ∷ type_shape.first; more = []; empty = false }
 
+-- label LOCAL, or TYPE VALUE , label LOCAL , label LOCAL, by its parts
 unfoldable pub branch_target_core : Limits → Row Located EndingTree
 branch_target_core limits = alt class (mapped Jump target_row) (condition_row limits)
 
@@ -68,9 +76,11 @@ branch_target_core limits = alt class (mapped Jump target_row) (condition_row li
 abbrev pub branch_target_row : Limits → Row Located EndingTree
 branch_target_row limits = labelled branch_target_shape (branch_target_core limits)
 
+-- how `br` begins and goes on
 abbrev pub branch_shape : Shape
 branch_shape = record { first = code (terminal.Opcode op.Br) ∷ []; more = comma_shape.first; empty = false }
 
+-- br label LOCAL, or br TYPE VALUE , label LOCAL , label LOCAL, by its parts
 unfoldable pub branch_core : Limits → Row Located EndingTree
 branch_core limits = second (word (terminal.Opcode op.Br)) (before (branch_target_row limits) attachments_row)
 
@@ -78,6 +88,7 @@ branch_core limits = second (word (terminal.Opcode op.Br)) (before (branch_targe
 abbrev pub branch_row : Limits → Row Located EndingTree
 branch_row limits = labelled branch_shape (branch_core limits)
 
+-- TYPE CONST , label LOCAL, by its parts
 unfoldable pub case_core : Limits → Row Located CaseTree
 case_core limits = pair (typed_constant_row limits) next_target_row
 
@@ -89,9 +100,11 @@ case_row limits = labelled type_shape (case_core limits)
 abbrev pub case_list_row : Limits → Row Located (List CaseTree)
 case_list_row limits = many class (case_row limits)
 
+-- how the cases of a `switch` begin
 abbrev pub cases_shape : Shape
 cases_shape = record { first = code terminal.OpenBracket ∷ []; more = []; empty = false }
 
+-- [ (TYPE CONST , label LOCAL)* ], by its parts
 unfoldable pub cases_core : Limits → Row Located (List CaseTree)
 cases_core limits = second (word terminal.OpenBracket) (before (case_list_row limits) (word terminal.CloseBracket))
 
@@ -99,6 +112,7 @@ cases_core limits = second (word terminal.OpenBracket) (before (case_list_row li
 abbrev pub cases_row : Limits → Row Located (List CaseTree)
 cases_row limits = labelled cases_shape (cases_core limits)
 
+-- , label LOCAL [ (TYPE CONST , label LOCAL)* ] (, MD)*, by its parts
 unfoldable pub switch_targets_core : Limits → Row Located (Local × List CaseTree)
 switch_targets_core limits = pair next_target_row (before (cases_row limits) attachments_row)
 
@@ -106,9 +120,11 @@ switch_targets_core limits = pair next_target_row (before (cases_row limits) att
 abbrev pub switch_targets_row : Limits → Row Located (Local × List CaseTree)
 switch_targets_row limits = labelled tail_shape (switch_targets_core limits)
 
+-- how `switch` begins and goes on
 abbrev pub switch_shape : Shape
 switch_shape = record { first = code (terminal.Opcode op.Switch) ∷ []; more = comma_shape.first; empty = false }
 
+-- switch TYPE VALUE , label LOCAL [ (TYPE CONST , label LOCAL)* ], by its parts
 unfoldable pub switch_core : Limits → Row Located EndingTree
 switch_core limits = second (word (terminal.Opcode op.Switch)) (mapped (λ v. Switch v.0 v.1.0 v.1.1) (pair (typed_value_row limits) (switch_targets_row limits)))
 
@@ -116,9 +132,11 @@ switch_core limits = second (word (terminal.Opcode op.Switch)) (mapped (λ v. Sw
 abbrev pub switch_row : Limits → Row Located EndingTree
 switch_row limits = labelled switch_shape (switch_core limits)
 
+-- how `unreachable` begins and goes on
 abbrev pub unreachable_shape : Shape
 unreachable_shape = record { first = code (terminal.Opcode op.Unreachable) ∷ []; more = comma_shape.first; empty = false }
 
+-- unreachable, by its parts
 unfoldable pub unreachable_core : Row Located EndingTree
 unreachable_core = mapped (λ p. Unreachable) (before (word (terminal.Opcode op.Unreachable)) attachments_row)
 
@@ -126,6 +144,7 @@ unreachable_core = mapped (λ p. Unreachable) (before (word (terminal.Opcode op.
 abbrev pub unreachable_row : Row Located EndingTree
 unreachable_row = labelled unreachable_shape unreachable_core
 
+-- how the ends of blocks begin and go on
 abbrev pub ending_shape : Shape
 ending_shape = record { first = code (terminal.Opcode op.Ret) ∷ code (terminal.Opcode op.Br) ∷ code (terminal.Opcode op.Switch) ∷ code (terminal.Opcode op.Unreachable) ∷ []; more = code terminal.Comma ∷ []; empty = false }
 
@@ -133,5 +152,6 @@ ending_shape = record { first = code (terminal.Opcode op.Ret) ∷ code (terminal
 unfoldable pub ending_core : Limits → Row Located EndingTree
 ending_core limits = alt class (return_row limits) (alt class (branch_row limits) (alt class (switch_row limits) unreachable_row))
 
+-- the instruction that ends a block
 abbrev pub ending_row : Limits → Row Located EndingTree
 ending_row limits = labelled ending_shape (ending_core limits)

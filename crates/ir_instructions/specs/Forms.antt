@@ -1,4 +1,4 @@
--- What `read_items` promises of the instructions of a text: opcodes, flags and parts as their phrases have them.
+-- For `read_items`: the forms of the instructions of a text: opcodes, flags and parts as their phrases have them.
 use Rattle.std.specs.Prelude.{◌≡◌, Bool, true, false, Option, Some, None}
 use Rattle.ir_tables.specs.declared.opcode.Opcode.{Opcode}
 use Rattle.ir_tables.specs.declared.opcode.Opcode.TheVariants as op
@@ -23,6 +23,7 @@ is_binary op.Or = true
 is_binary op.Xor = true
 is_binary _ = false
 
+-- the opcodes of casts
 abbrev pub is_cast : Opcode → Bool
 is_cast op.Trunc = true
 is_cast op.ZExt = true
@@ -31,10 +32,12 @@ is_cast op.PtrToInt = true
 is_cast op.IntToPtr = true
 is_cast _ = false
 
+-- a count, where there is one, has its phrase's form
 abbrev pub IsCountFormed : Option TypedValueTree → Type 0
 IsCountFormed (Some count) = IsOperandFormed count
 IsCountFormed None = Unit {0}
 
+-- the value of a phi has its phrase's form
 abbrev pub IsIncomingFormed : IncomingTree → Type 0
 IsIncomingFormed incoming = IsValueFormed incoming.0
 
@@ -54,12 +57,15 @@ IsOperationFormed (Call call) = IsValueFormed call.callee × AllAre IsOperandFor
 IsOperationFormed (ExtractValue value indices) = IsOperandFormed value × IsNotEmpty indices
 IsOperationFormed (InsertValue value part indices) = IsOperandFormed value × IsOperandFormed part × IsNotEmpty indices
 
+-- an instruction has its phrase's form
 abbrev pub IsInstructionFormed : InstructionTree → Type 0
 IsInstructionFormed instruction = IsOperationFormed instruction.operation
 
+-- a case has its phrase's form
 abbrev pub IsCaseFormed : CaseTree → Type 0
 IsCaseFormed case = IsTypedFormed case.0
 
+-- the end of a block has its phrase's form
 abbrev pub IsEndingFormed : EndingTree → Type 0
 IsEndingFormed ReturnVoid = Unit {0}
 IsEndingFormed (Return value) = IsOperandFormed value
@@ -68,5 +74,6 @@ IsEndingFormed (Branch condition then_to else_to) = IsOperandFormed condition
 IsEndingFormed (Switch value otherwise cases) = IsOperandFormed value × AllAre IsCaseFormed cases
 IsEndingFormed Unreachable = Unit {0}
 
+-- a block has its phrase's form
 abbrev pub IsBlockFormed : BlockTree → Type 0
 IsBlockFormed block = AllAre IsInstructionFormed block.instructions × IsEndingFormed block.ending

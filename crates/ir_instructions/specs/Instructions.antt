@@ -1,4 +1,4 @@
--- The instructions.
+-- For `blocks_of`: the rows of instructions.
 use Rattle.std.specs.Prelude.{ℕ, false, List, [], ◌∷◌, Some, None}
 use Rattle.phrase_rows.specs.Row.{Row, Shape, one, chain, mapped, second, before, pair, alt, many, labelled}
 use Rattle.ir_lexer.specs.Ahead.{Located}
@@ -30,6 +30,7 @@ operation_classes = code (terminal.Opcode op.Store) ∷ result_classes
 abbrev pub marked_call_row : Limits → Row Located OperationTree
 marked_call_row limits = second (word terminal.TailMark) (second (word (terminal.Opcode op.Call)) (call_row limits))
 
+-- how operations begin and go on, whose opcodes have these classes
 abbrev pub operation_over_shape : List ℕ → Shape
 operation_over_shape classes = record { first = code terminal.TailMark ∷ classes; more = operation_shape.more; empty = false }
 
@@ -37,6 +38,7 @@ operation_over_shape classes = record { first = code terminal.TailMark ∷ class
 unfoldable pub operation_over_core : List ℕ → Limits → Row Located OperationTree
 operation_over_core classes limits = alt class (marked_call_row limits) (chain (one class classes opcode_of) operation_shape (operation_behind limits))
 
+-- an operation whose opcode has one of these classes
 abbrev pub operation_over : List ℕ → Limits → Row Located OperationTree
 operation_over classes limits = labelled (operation_over_shape classes) (operation_over_core classes limits)
 
@@ -48,6 +50,7 @@ assigned_row limits = mapped (λ v. record { result = Some v.0; operation = v.1 
 abbrev pub bare_row : Limits → Row Located InstructionTree
 bare_row limits = mapped (λ o. record { result = None; operation = o }) (operation_over operation_classes limits)
 
+-- how instructions begin and go on
 abbrev pub instruction_shape : Shape
 instruction_shape = record { first = code terminal.Local ∷ code terminal.TailMark ∷ operation_classes; more = operation_shape.more; empty = false }
 
@@ -55,6 +58,7 @@ instruction_shape = record { first = code terminal.Local ∷ code terminal.TailM
 unfoldable pub instruction_core : Limits → Row Located InstructionTree
 instruction_core limits = alt class (assigned_row limits) (bare_row limits)
 
+-- an instruction, with the result that it defines or without one
 abbrev pub instruction_row : Limits → Row Located InstructionTree
 instruction_row limits = labelled instruction_shape (instruction_core limits)
 

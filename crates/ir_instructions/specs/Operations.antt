@@ -1,4 +1,4 @@
--- The instructions, behind their opcodes.
+-- For `blocks_of`: the rows of instructions, behind their opcodes.
 use Rattle.std.specs.Prelude.{false, List, [], ◌∷◌, ◌++◌, Option}
 use Rattle.phrase_rows.specs.Row.{Row, Shape, fail, chain, mapped, second, before, pair, labelled}
 use Rattle.ir_lexer.specs.Ahead.{Located}
@@ -23,6 +23,7 @@ use Rattle.ir_instructions.specs.Calls.{call_core}
 abbrev pub tail_shape : Shape
 tail_shape = record { first = comma_shape.first; more = comma_shape.first; empty = false }
 
+-- , VALUE, by its parts
 unfoldable pub next_value_core : Limits → Row Located ValueTree
 next_value_core limits = second (word terminal.Comma) (value_row limits)
 
@@ -30,6 +31,7 @@ next_value_core limits = second (word terminal.Comma) (value_row limits)
 abbrev pub next_value_row : Limits → Row Located ValueTree
 next_value_row limits = labelled comma_shape (next_value_core limits)
 
+-- , TYPE VALUE, by its parts
 unfoldable pub next_typed_value_core : Limits → Row Located TypedValueTree
 next_typed_value_core limits = second (word terminal.Comma) (typed_value_row limits)
 
@@ -37,9 +39,11 @@ next_typed_value_core limits = second (word terminal.Comma) (typed_value_row lim
 abbrev pub next_typed_value_row : Limits → Row Located TypedValueTree
 next_typed_value_row limits = labelled comma_shape (next_typed_value_core limits)
 
+-- how two operands of one type begin and go on
 abbrev pub operands_shape : Shape
 operands_shape = record { first = type_shape.first; more = comma_shape.first; empty = false }
 
+-- TYPE VALUE , VALUE (, MD)*, by its parts
 unfoldable pub operands_core : Limits → Row Located (TypedValueTree × ValueTree)
 operands_core limits = pair (typed_value_row limits) (before (next_value_row limits) attachments_row)
 
@@ -47,9 +51,11 @@ operands_core limits = pair (typed_value_row limits) (before (next_value_row lim
 abbrev pub operands_row : Limits → Row Located (TypedValueTree × ValueTree)
 operands_row limits = labelled operands_shape (operands_core limits)
 
+-- how the type to which a cast goes begins and goes on
 abbrev pub cast_type_shape : Shape
 cast_type_shape = record { first = code terminal.To ∷ []; more = comma_shape.first; empty = false }
 
+-- to TYPE (, MD)*, by its parts
 unfoldable pub cast_type_core : Limits → Row Located TypeTree
 cast_type_core limits = second (word terminal.To) (before (type_row limits) attachments_row)
 
@@ -57,6 +63,7 @@ cast_type_core limits = second (word terminal.To) (before (type_row limits) atta
 abbrev pub cast_type_row : Limits → Row Located TypeTree
 cast_type_row limits = labelled cast_type_shape (cast_type_core limits)
 
+-- , TYPE VALUE , TYPE VALUE (, MD)*, by its parts
 unfoldable pub arms_core : Limits → Row Located (TypedValueTree × TypedValueTree)
 arms_core limits = pair (next_typed_value_row limits) (before (next_typed_value_row limits) attachments_row)
 
@@ -64,6 +71,7 @@ arms_core limits = pair (next_typed_value_row limits) (before (next_typed_value_
 abbrev pub arms_row : Limits → Row Located (TypedValueTree × TypedValueTree)
 arms_row limits = labelled tail_shape (arms_core limits)
 
+-- , TYPE VALUE (, align INT)? (, MD)*, by its parts
 unfoldable pub address_core : Limits → Row Located (TypedValueTree × Option Integer)
 address_core limits = pair (next_typed_value_row limits) alignment_row
 
@@ -71,6 +79,7 @@ address_core limits = pair (next_typed_value_row limits) alignment_row
 abbrev pub address_row : Limits → Row Located (TypedValueTree × Option Integer)
 address_row limits = labelled tail_shape (address_core limits)
 
+-- , LOCAL ], by its parts
 unfoldable pub from_block_core : Row Located Local
 from_block_core = second (word terminal.Comma) (before local_row (word terminal.CloseBracket))
 
@@ -78,9 +87,11 @@ from_block_core = second (word terminal.Comma) (before local_row (word terminal.
 abbrev pub from_block_row : Row Located Local
 from_block_row = labelled comma_shape from_block_core
 
+-- how the value of a phi begins
 abbrev pub incoming_shape : Shape
 incoming_shape = record { first = code terminal.OpenBracket ∷ []; more = []; empty = false }
 
+-- [ VALUE , LOCAL ], by its parts
 unfoldable pub incoming_core : Limits → Row Located IncomingTree
 incoming_core limits = second (word terminal.OpenBracket) (pair (value_row limits) from_block_row)
 
@@ -88,6 +99,7 @@ incoming_core limits = second (word terminal.OpenBracket) (pair (value_row limit
 abbrev pub incoming_row : Limits → Row Located IncomingTree
 incoming_row limits = labelled incoming_shape (incoming_core limits)
 
+-- , TYPE VALUE (, TYPE VALUE)* (, MD)*, by its parts
 unfoldable pub operand_list_core : Limits → Row Located (List TypedValueTree)
 operand_list_core limits = chain (next_typed_value_row limits) commas_shape (λ t. listed_row (typed_value_row limits) (t ∷ []))
 
@@ -95,6 +107,7 @@ operand_list_core limits = chain (next_typed_value_row limits) commas_shape (λ 
 abbrev pub operand_list_row : Limits → Row Located (List TypedValueTree)
 operand_list_row limits = labelled tail_shape (operand_list_core limits)
 
+-- , INT (, INT)* (, MD)*, by its parts
 unfoldable pub indices_core : Row Located (List Integer)
 indices_core = second (word terminal.Comma) (chain integer_row commas_shape (λ i. listed_row integer_row (i ∷ [])))
 
@@ -110,6 +123,7 @@ operation_shape = record {
   empty = false;
 }
 
+-- FLAG* TYPE VALUE , VALUE (, MD)*, by its parts
 unfoldable pub binary_core : Opcode → Limits → Row Located OperationTree
 binary_core opcode limits = mapped (λ v. Binary opcode v.0 v.1.0 v.1.1) (pair (flags_row opcode) (operands_row limits))
 
@@ -117,6 +131,7 @@ binary_core opcode limits = mapped (λ v. Binary opcode v.0 v.1.0 v.1.1) (pair (
 abbrev pub binary_row : Opcode → Limits → Row Located OperationTree
 binary_row opcode limits = labelled operation_shape (binary_core opcode limits)
 
+-- FLAG* PREDICATE TYPE VALUE , VALUE (, MD)*, by its parts
 unfoldable pub compare_core : Limits → Row Located OperationTree
 compare_core limits = mapped (λ v. Compare v.0 v.1.0 v.1.1.0 v.1.1.1) (pair (flags_row op.ICmp) (pair predicate_row (operands_row limits)))
 
@@ -124,6 +139,7 @@ compare_core limits = mapped (λ v. Compare v.0 v.1.0 v.1.1.0 v.1.1.1) (pair (fl
 abbrev pub compare_row : Limits → Row Located OperationTree
 compare_row limits = labelled operation_shape (compare_core limits)
 
+-- FLAG* TYPE VALUE to TYPE (, MD)*, by its parts
 unfoldable pub cast_core : Opcode → Limits → Row Located OperationTree
 cast_core opcode limits = mapped (λ v. Cast opcode v.0 v.1.0 v.1.1) (pair (flags_row opcode) (pair (typed_value_row limits) (cast_type_row limits)))
 
@@ -131,6 +147,7 @@ cast_core opcode limits = mapped (λ v. Cast opcode v.0 v.1.0 v.1.1) (pair (flag
 abbrev pub cast_row : Opcode → Limits → Row Located OperationTree
 cast_row opcode limits = labelled operation_shape (cast_core opcode limits)
 
+-- TYPE VALUE , TYPE VALUE , TYPE VALUE (, MD)*, by its parts
 unfoldable pub select_core : Limits → Row Located OperationTree
 select_core limits = mapped (λ v. Select v.0 v.1.0 v.1.1) (pair (typed_value_row limits) (arms_row limits))
 
@@ -138,6 +155,7 @@ select_core limits = mapped (λ v. Select v.0 v.1.0 v.1.1) (pair (typed_value_ro
 abbrev pub select_row : Limits → Row Located OperationTree
 select_row limits = labelled operation_shape (select_core limits)
 
+-- TYPE VALUE (, MD)*, by its parts
 unfoldable pub freeze_core : Limits → Row Located OperationTree
 freeze_core limits = mapped Freeze (before (typed_value_row limits) attachments_row)
 
@@ -145,6 +163,7 @@ freeze_core limits = mapped Freeze (before (typed_value_row limits) attachments_
 abbrev pub freeze_row : Limits → Row Located OperationTree
 freeze_row limits = labelled operation_shape (freeze_core limits)
 
+-- TYPE [ VALUE , LOCAL ] (, [ VALUE , LOCAL ])* (, MD)*, by its parts
 unfoldable pub phi_core : Limits → Row Located OperationTree
 phi_core limits = mapped (λ v. Phi v.0 v.1) (pair (type_row limits) (chain (incoming_row limits) commas_shape (λ i. listed_row (incoming_row limits) (i ∷ []))))
 
@@ -152,6 +171,7 @@ phi_core limits = mapped (λ v. Phi v.0 v.1) (pair (type_row limits) (chain (inc
 abbrev pub phi_row : Limits → Row Located OperationTree
 phi_row limits = labelled operation_shape (phi_core limits)
 
+-- FLAG* TYPE , TYPE VALUE (, align INT)? (, MD)*, by its parts
 unfoldable pub load_core : Limits → Row Located OperationTree
 load_core limits = mapped (λ v. Load v.0 v.1.0 v.1.1.0 v.1.1.1) (pair (flags_row op.Load) (pair (type_row limits) (address_row limits)))
 
@@ -159,6 +179,7 @@ load_core limits = mapped (λ v. Load v.0 v.1.0 v.1.1.0 v.1.1.1) (pair (flags_ro
 abbrev pub load_row : Limits → Row Located OperationTree
 load_row limits = labelled operation_shape (load_core limits)
 
+-- FLAG* TYPE VALUE , TYPE VALUE (, align INT)? (, MD)*, by its parts
 unfoldable pub store_core : Limits → Row Located OperationTree
 store_core limits = mapped (λ v. Store v.0 v.1.0 v.1.1.0 v.1.1.1) (pair (flags_row op.Store) (pair (typed_value_row limits) (address_row limits)))
 
@@ -166,6 +187,7 @@ store_core limits = mapped (λ v. Store v.0 v.1.0 v.1.1.0 v.1.1.1) (pair (flags_
 abbrev pub store_row : Limits → Row Located OperationTree
 store_row limits = labelled operation_shape (store_core limits)
 
+-- TYPE (, TYPE VALUE)? (, align INT)? (, MD)*, by its parts
 unfoldable pub alloca_core : Limits → Row Located OperationTree
 alloca_core limits = mapped (λ v. Alloca v.0 v.1.0 v.1.1) (pair (type_row limits) (count_row limits))
 
@@ -173,6 +195,7 @@ alloca_core limits = mapped (λ v. Alloca v.0 v.1.0 v.1.1) (pair (type_row limit
 abbrev pub alloca_row : Limits → Row Located OperationTree
 alloca_row limits = labelled operation_shape (alloca_core limits)
 
+-- FLAG* TYPE , TYPE VALUE (, TYPE VALUE)* (, MD)*, by its parts
 unfoldable pub element_address_core : Limits → Row Located OperationTree
 element_address_core limits = mapped (λ v. GetElementPtr v.0 v.1.0 v.1.1) (pair (flags_row op.GetElementPtr) (pair (type_row limits) (operand_list_row limits)))
 
@@ -180,6 +203,7 @@ element_address_core limits = mapped (λ v. GetElementPtr v.0 v.1.0 v.1.1) (pair
 abbrev pub element_address_row : Limits → Row Located OperationTree
 element_address_row limits = labelled operation_shape (element_address_core limits)
 
+-- TYPE VALUE (, INT)+ (, MD)*, by its parts
 unfoldable pub extract_core : Limits → Row Located OperationTree
 extract_core limits = mapped (λ v. ExtractValue v.0 v.1) (pair (typed_value_row limits) indices_row)
 
@@ -187,6 +211,7 @@ extract_core limits = mapped (λ v. ExtractValue v.0 v.1) (pair (typed_value_row
 abbrev pub extract_row : Limits → Row Located OperationTree
 extract_row limits = labelled operation_shape (extract_core limits)
 
+-- TYPE VALUE , TYPE VALUE (, INT)+ (, MD)*, by its parts
 unfoldable pub insert_core : Limits → Row Located OperationTree
 insert_core limits = mapped (λ v. InsertValue v.0 v.1.0 v.1.1) (pair (typed_value_row limits) (pair (next_typed_value_row limits) indices_row))
 
@@ -222,5 +247,6 @@ operation_core limits op.Switch = fail operation_shape
 operation_core limits op.Unreachable = fail operation_shape
 operation_core limits opcode = binary_row opcode limits
 
+-- what stands behind an opcode
 abbrev pub operation_behind : Limits → Opcode → Row Located OperationTree
 operation_behind limits opcode = labelled operation_shape (operation_core limits opcode)

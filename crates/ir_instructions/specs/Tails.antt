@@ -1,4 +1,5 @@
--- What stands behind commas at the end of an instruction: alignments, further parts, and metadata, which comes last.
+-- For `blocks_of`: what stands behind commas at the end of an instruction: alignments, further parts, and metadata,
+-- which comes last.
 use Rattle.std.specs.Prelude.{Bool, true, false, cond, List, [], ◌∷◌, ◌++◌, Option, Some, None}
 use Rattle.phrase_rows.specs.Row.{Row, mapped, second, before, pair, alt, nothing, loop, labelled}
 use Rattle.ir_lexer.specs.Ahead.{Located}
@@ -15,6 +16,7 @@ use Rattle.ir_instructions.specs.Dropped.{attachment_row, attachments_row, comma
 abbrev pub alignment_behind_row : Row Located (Option Integer)
 alignment_behind_row = alt class (before (mapped Some (second (word terminal.Align) integer_row)) attachments_row) (mapped (λ u. None) (second attachment_row attachments_row))
 
+-- (, align INT)? (, MD)*, by its parts
 unfoldable pub alignment_core : Row Located (Option Integer)
 alignment_core = alt class (second (word terminal.Comma) alignment_behind_row) (nothing None)
 
@@ -26,6 +28,7 @@ alignment_row = labelled commas_shape alignment_core
 abbrev pub count_behind_row : Limits → Row Located (Option TypedValueTree × Option Integer)
 count_behind_row limits = alt class (pair (mapped Some (typed_value_row limits)) alignment_row) (mapped (λ a. (None, a)) alignment_behind_row)
 
+-- (, TYPE VALUE)? (, align INT)? (, MD)*, by its parts
 unfoldable pub count_core : Limits → Row Located (Option TypedValueTree × Option Integer)
 count_core limits = alt class (second (word terminal.Comma) (count_behind_row limits)) (nothing (None, None))
 
@@ -41,6 +44,7 @@ Listed A = List A × Bool
 abbrev pub listed_step : {A : Type 0} → Row Located A → Listed A → Row Located (Listed A)
 listed_step p s = second (word terminal.Comma) (cond s.1 (mapped (λ u. s) attachment_row) (alt class (mapped (λ u. (s.0, true)) attachment_row) (mapped (λ a. (s.0 ++ a ∷ [], false)) p)))
 
+-- (, PART)* (, MD)*, behind these parts, as a loop
 unfoldable pub listed_core : {A : Type 0} → Row Located A → List A → Row Located (List A)
 listed_core p parts = mapped (λ s. s.0) (loop class comma_shape (listed_step p) (parts, false))
 

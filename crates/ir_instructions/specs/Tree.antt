@@ -1,4 +1,4 @@
--- Instructions and blocks as plain trees.
+-- For all of this crate: instructions and blocks as plain trees.
 use Rattle.std.specs.Prelude.{ℕ, Bool, List, Option}
 use Rattle.ir_tables.specs.declared.opcode.Opcode.{Opcode}
 use Rattle.ir_tables.specs.declared.predicate.Predicate.{Predicate}
@@ -55,6 +55,7 @@ pub data EndingTree : Type 0 where
   Switch : TypedValueTree → (otherwise : Local) → List CaseTree → EndingTree
   Unreachable : EndingTree
 
+-- a block, with its label where it has one
 pub record BlockTree : Type 0 where
   pub label : Option Local
   pub instructions : List InstructionTree

@@ -1,4 +1,5 @@
--- The plain tree of an instruction or a block as it lies in memory.
+-- For `blocks_of` and `signature`, and how the code reads: the plain tree of an instruction or a block as it lies in
+-- memory.
 use Rattle.std.specs.Prelude.{map, Option, option_map, Box}
 use Rattle.std.specs.Global.{Global}
 use Rattle.ir_terminals.specs.declared.values.Integer.{Integer}
@@ -18,9 +19,11 @@ use Rattle.ir_instructions.specs.declared.block.Ending.TheVariants as ending
 use Rattle.ir_instructions.specs.declared.block.Block.{Block}
 use Rattle.ir_instructions.specs.Tree.{SignatureTree, CallTree, IncomingTree, OperationTree, Binary, Compare, Cast, Select, Freeze, Phi, Load, Store, Alloca, GetElementPtr, Call, ExtractValue, InsertValue, InstructionTree, CaseTree, EndingTree, ReturnVoid, Return, Jump, Branch, Switch, Unreachable, BlockTree}
 
+-- a signature as a tree
 abbrev pub signature_view : Signature → SignatureTree
 signature_view s = (map type_view s.parameters.items, s.variadic)
 
+-- a call as a tree
 abbrev pub call_view : the_call.Call → CallTree
 call_view c = record {
   returns = type_view c.returns;
@@ -29,9 +32,11 @@ call_view c = record {
   arguments = map typed_value_view c.arguments.items;
 }
 
+-- the value of a phi as a tree
 abbrev pub incoming_view : Incoming → IncomingTree
 incoming_view i = (value_view i.value, i.block)
 
+-- two operands of one type as trees
 abbrev pub operands_view : Operands → TypedValueTree × ValueTree
 operands_view o = (typed_value_view o.left, value_view o.right)
 
@@ -39,6 +44,7 @@ operands_view o = (typed_value_view o.left, value_view o.right)
 abbrev pub count_view : Option (Box TypedValue Global) × Option Integer → Option TypedValueTree × Option Integer
 count_view c = (option_map (λ b. typed_value_view b.value) c.0, c.1)
 
+-- an operation as a tree
 abbrev pub operation_view : the_operation.Operation → OperationTree
 operation_view (op.Binary opcode flags operands) = Binary opcode flags (typed_value_view operands.value.left) (value_view operands.value.right)
 operation_view (op.Compare flags predicate operands) = Compare flags predicate (typed_value_view operands.value.left) (value_view operands.value.right)
@@ -54,12 +60,15 @@ operation_view (op.Call call) = Call (call_view call.value)
 operation_view (op.ExtractValue extraction) = ExtractValue (typed_value_view extraction.value.value) extraction.value.indices.items
 operation_view (op.InsertValue insertion) = InsertValue (typed_value_view insertion.value.value) (typed_value_view insertion.value.part) insertion.value.indices.items
 
+-- an instruction as a tree
 abbrev pub instruction_view : Instruction → InstructionTree
 instruction_view i = record { result = i.result; operation = operation_view i.operation }
 
+-- a case as a tree
 abbrev pub case_view : Case → CaseTree
 case_view c = (typed_constant_view c.value, c.target)
 
+-- the end of a block as a tree
 abbrev pub ending_view : Ending → EndingTree
 ending_view ending.ReturnVoid = ReturnVoid
 ending_view (ending.Return value) = Return (typed_value_view value.value)
@@ -68,5 +77,6 @@ ending_view (ending.Branch branch) = Branch (typed_value_view branch.value.condi
 ending_view (ending.Switch switch) = Switch (typed_value_view switch.value.value) switch.value.otherwise (map case_view switch.value.cases.items)
 ending_view ending.Unreachable = Unreachable
 
+-- a block as a tree
 abbrev pub block_view : Block → BlockTree
 block_view b = record { label = b.label; instructions = map instruction_view b.instructions.items; ending = ending_view b.ending }

@@ -3,6 +3,14 @@
 //! It stands on the values of `ir_constants`. Its promise: each call reads its row of the grammar, with the value of
 //! that row, or stands at the first token with which the row can't go on. Metadata, attributes and calling conventions
 //! are read and dropped. Definitions: `specs/Operations`, `specs/Instructions`, `specs/Endings`, `specs/Blocks`.
+//!
+//! ```
+//! let limits = Limits { nesting: 64, wide: false };
+//! let mut cursor = Cursor::new(alloc, b"{ %1 = add i32 %0, 1 ret i32 %1 }", limits);
+//! let blocks = blocks_of(&mut cursor)?;
+//! // One block without a label: its one instruction is an Operation::Binary whose result is called 1, and an
+//! // Ending::Return ends it.
+//! ```
 #![tactic(auto)]
 
 mod attributes;

@@ -1,4 +1,5 @@
--- How the code tells overflow: by the instruction with a flag, which gives poison where the exact result does not fit.
+-- Says how the code reads: overflow is told by the instruction with a flag, which gives poison where the exact result
+-- does not fit.
 use Rattle.std.specs.Prelude.{ℕ, Bool, true, false, Some}
 use Rattle.ir_tables.specs.declared.opcode.Opcode.{Opcode}
 use Rattle.ir_tables.specs.declared.opcode.Opcode.TheVariants.{Add, Sub, Mul}

@@ -1,4 +1,4 @@
--- What `apply` promises of the kinds of its results.
+-- For `apply`: the kinds of its results.
 use Rattle.std.specs.Prelude.{ℕ, Bool, true, false, ⊤, Option, Some, None}
 use Rattle.ir_tables.specs.declared.intrinsic.Intrinsic.{Intrinsic}
 use Rattle.ir_eval.specs.Value.{IsInteger}

@@ -1,4 +1,4 @@
--- What `apply` asks of its operands (LangRef, "Intrinsic Functions").
+-- For `apply`: what it asks of its operands (LangRef, "Intrinsic Functions").
 use Rattle.std.specs.Prelude.{◌≡◌, ℕ, Option, Some, None}
 use Rattle.ir_tables.specs.declared.intrinsic.Intrinsic.{Intrinsic}
 use Rattle.ir_tables.specs.declared.intrinsic.Intrinsic.TheVariants.{Ctpop, Bswap, Bitreverse, Ctlz, Cttz, Abs, Fshl, Fshr}

@@ -1,6 +1,6 @@
--- What `apply` promises for: the results of the integer intrinsics, on whole numbers without bound (LangRef, "Bit
--- Manipulation Intrinsics", "Standard C/C++ Library Intrinsics", "Saturation Arithmetic Intrinsics", "Arithmetic with
--- Overflow Intrinsics").
+-- For `apply`: the results of the integer intrinsics, on whole numbers without bound (LangRef, "Bit Manipulation
+-- Intrinsics", "Standard C/C++ Library Intrinsics", "Saturation Arithmetic Intrinsics", "Arithmetic with Overflow
+-- Intrinsics").
 use Rattle.std.specs.Prelude.{ℕ, zero, suc, ◌+◌, ◌-◌, ◌*◌, ◌/◌, ◌%◌, ◌^◌, ◌==◌, min, max, Bool, true, false, not, ◌&&◌, ℤ, pos, ◌+ℤ◌, ◌-ℤ◌, ◌*ℤ◌, int_le, unsigned_abs, count_ones, Some, None, if◌then◌else◌}
 use Rattle.std.specs.Int.{saturate_to_bits}
 use lib.Count.{count_leading_zeros, count_trailing_zeros}
@@ -21,6 +21,7 @@ reversed_digits base (suc count) number = (number % base) * base ^ count + rever
 abbrev pub leading_zeros_of : ℕ → ℕ → ℕ → Scalar
 leading_zeros_of width number asked = if (number == 0) && (asked == 1) then Poison else Int (count_leading_zeros width number)
 
+-- how many zeros the number ends with; poison for zero where that is asked
 abbrev pub trailing_zeros_of : ℕ → ℕ → ℕ → Scalar
 trailing_zeros_of width number asked = if (number == 0) && (asked == 1) then Poison else Int (count_trailing_zeros width number)
 
@@ -34,6 +35,7 @@ absolute_of width number asked =
 abbrev pub least_of : ℕ → ℕ → ℕ → Scalar
 least_of width a b = Int (if int_le (signed width a) (signed width b) then a else b)
 
+-- the greater of two signed numbers
 abbrev pub greatest_of : ℕ → ℕ → ℕ → Scalar
 greatest_of width a b = Int (if int_le (signed width a) (signed width b) then b else a)
 

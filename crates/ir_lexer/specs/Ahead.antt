@@ -1,4 +1,4 @@
--- All that a lexer has yet to answer, as one list.
+-- For `answers_ahead`: all that a lexer has yet to answer, as one list.
 use Rattle.std.specs.Prelude.{◌≡◌, ℕ, zero, suc, Bool, true, false, List, [], ◌∷◌, length, Option, Some, None, Result, Ok, Err}
 use Rattle.ir_base.specs.declared.place.Place.{Place}
 use Rattle.ir_lexer.specs.Lexer.{Lexing, rest, spelled, answer, after}
@@ -18,9 +18,11 @@ pub record Ahead : Type 0 where
   pub bad : Bool
   pub place : Place
 
+-- a token in front of what is ahead
 abbrev pub before_all : Located → Ahead → Ahead
 before_all t a = record { tokens = t ∷ a.tokens; bad = a.bad; place = a.place }
 
+-- what is ahead, by the next answer and what is ahead behind it
 abbrev pub answered : Lexing → Result (Option Token) BadByte → Ahead → Ahead
 answered l (Ok None) a = record { tokens = []; bad = false; place = place_of l.text (after l).at }
 answered l (Ok (Some t)) a = before_all (record { token = spelled l.text t; place = t.place }) a
@@ -35,6 +37,7 @@ ahead_within (suc n) l = answered l (answer l) (ahead_within n (after l))
 unfoldable pub ahead : Lexing → Ahead
 ahead l = ahead_within (suc (length (rest l))) l
 
+-- the tokens without their places
 abbrev pub tokens_in : List Located → List Spelled
 tokens_in [] = []
 tokens_in (t ∷ ts) = t.token ∷ tokens_in ts

@@ -1,13 +1,15 @@
--- The classes of bytes, by what they may do in a token.
+-- For `next` of `Lexer`: the classes of bytes, by what they may do in a token.
 use Rattle.std.specs.Prelude.{ℕ, Bool, true, false, ◌==◌, ◌&&◌, ◌||◌, nat_le, if◌then◌else◌, List, [], ◌∷◌}
 use Rattle.ir_lexer.specs.declared.class.Class.{Class}
 use Rattle.ir_lexer.specs.declared.class.Class.TheVariants.{LetterC, Letter, Underscore, Digit, Minus, Dollar, Dot, Quote, At, Percent, Bang, Hash, Colon, Mark, Semicolon, LineFeed, Blank, Other}
 use Rattle.ir_lexer.specs.declared.class.ClassSet.{ClassSet}
 use Rattle.ir_lexer.specs.declared.class.ClassSet.TheVariants as sets
 
+-- the byte is from the one to the other
 abbrev pub from_to : ℕ → ℕ → ℕ → Bool
 from_to low high b = nat_le low b && nat_le b high
 
+-- the byte is one of these
 abbrev pub one_of : List ℕ → ℕ → Bool
 one_of [] b = false
 one_of (x ∷ xs) b = (b == x) || one_of xs b
@@ -34,6 +36,7 @@ byte_class b =
     else (if one_of (32 ∷ 9 ∷ 13 ∷ []) b then Blank
     else Other))))))))))))))))
 
+-- a letter
 abbrev pub is_letter : Class → Bool
 is_letter Letter = true
 is_letter LetterC = true
@@ -44,6 +47,7 @@ abbrev pub starts_word : Class → Bool
 starts_word Underscore = true
 starts_word c = is_letter c
 
+-- what goes on with a word
 abbrev pub in_word : Class → Bool
 in_word Digit = true
 in_word c = starts_word c
@@ -55,55 +59,68 @@ starts_name Dollar = true
 starts_name Dot = true
 starts_name c = starts_word c
 
+-- what goes on with an identifier or with a label
 abbrev pub in_name : Class → Bool
 in_name Digit = true
 in_name c = starts_name c
 
+-- a digit
 abbrev pub is_digit : Class → Bool
 is_digit Digit = true
 is_digit _ = false
 
+-- `-`
 abbrev pub is_minus : Class → Bool
 is_minus Minus = true
 is_minus _ = false
 
+-- `.`
 abbrev pub is_dot : Class → Bool
 is_dot Dot = true
 is_dot _ = false
 
+-- `"`
 abbrev pub is_quote : Class → Bool
 is_quote Quote = true
 is_quote _ = false
 
+-- anything but `"`
 abbrev pub no_quote : Class → Bool
 no_quote Quote = false
 no_quote _ = true
 
+-- `@`
 abbrev pub is_at : Class → Bool
 is_at At = true
 is_at _ = false
 
+-- `%`
 abbrev pub is_percent : Class → Bool
 is_percent Percent = true
 is_percent _ = false
 
+-- `!`
 abbrev pub is_bang : Class → Bool
 is_bang Bang = true
 is_bang _ = false
 
+-- `#`
 abbrev pub is_hash : Class → Bool
 is_hash Hash = true
 is_hash _ = false
 
+-- `:`
 abbrev pub is_colon : Class → Bool
 is_colon Colon = true
 is_colon _ = false
 
+-- a mark or `:`
 abbrev pub is_punctuation : Class → Bool
 is_punctuation Mark = true
 is_punctuation Colon = true
 is_punctuation _ = false
 
+-- `c`
 abbrev pub is_c : Class → Bool
 is_c LetterC = true
 is_c _ = false
@@ -114,14 +131,17 @@ is_blank Blank = true
 is_blank LineFeed = true
 is_blank _ = false
 
+-- `;`
 abbrev pub is_semicolon : Class → Bool
 is_semicolon Semicolon = true
 is_semicolon _ = false
 
+-- a line feed
 abbrev pub is_line_feed : Class → Bool
 is_line_feed LineFeed = true
 is_line_feed _ = false
 
+-- anything but a line feed
 abbrev pub in_line : Class → Bool
 in_line LineFeed = false
 in_line _ = true

@@ -1,4 +1,4 @@
--- Forms of spellings as values: what is spelled so, and the longest front of a text that is.
+-- For `next` of `Lexer`: forms of spellings as values: what is spelled so, and the longest front of a text that is.
 use Rattle.std.specs.Prelude.{◌≡◌, ℕ, suc, ◌+◌, Bool, true, false, cond, List, [], ◌∷◌, ◌++◌, take, drop, Option, Some, None}
 use Rattle.ir_lexer.specs.Class.{byte_class}
 use Rattle.ir_lexer.specs.declared.class.Class.{Class}
@@ -25,6 +25,7 @@ pub data Form : Type 0 where
   Run : (p : Class → Bool) → Form
   Upto : (p : Class → Bool) (test : List ℕ → Bool) (q : Class → Bool) (f : Form) → Form
 
+-- bytes of one class that pass a test, the byte of another class that ends them, and what is spelled behind it
 pub record IsUpto (p : Class → Bool) (test : List ℕ → Bool) (q : Class → Bool) (f : List ℕ → Type 0) (s : List ℕ) : Type 0 where
   pub inside : List ℕ
   pub byte : ℕ
@@ -44,6 +45,7 @@ Spells (One p f) (b ∷ s) = (p (byte_class b) ≡ true) × Spells f s
 Spells (Run p) s = each p s ≡ true
 Spells (Upto p test q f) s = IsUpto p test q (Spells f) s
 
+-- so many more, where there is a count
 abbrev pub more : ℕ → Option ℕ → Option ℕ
 more n None = None
 more n (Some m) = Some (n + m)

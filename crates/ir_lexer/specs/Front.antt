@@ -1,4 +1,4 @@
--- Reading: the token at the front of a text, by its first byte.
+-- For `next` of `Lexer`, and how the code reads: the token at the front of a text, by its first byte.
 use Rattle.std.specs.Prelude.{ℕ, suc, Bool, ◌&&◌, cond, List, [], ◌∷◌, Option, Some, None}
 use Rattle.ir_lexer.specs.Class.{byte_class, starts_with, is_c, is_quote}
 use Rattle.ir_lexer.specs.Form.{longest}
@@ -26,6 +26,7 @@ rows_of c.Colon = Punctuation ∷ []
 rows_of c.Mark = Punctuation ∷ []
 rows_of _ = []
 
+-- a token of this kind, where it is found, or else the other
 abbrev pub or_else : TokenKind → Option ℕ → Option (TokenKind × ℕ) → Option (TokenKind × ℕ)
 or_else kind (Some n) other = Some (kind, suc n)
 or_else kind None other = other

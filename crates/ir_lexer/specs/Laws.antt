@@ -1,4 +1,4 @@
--- Laws of token lists.
+-- For `one_list` and the laws beside it: laws of token lists.
 use Rattle.std.specs.Prelude.{◌≡◌, ℕ, List, ◌⊎◌, ◌↔◌, Some}
 use Rattle.ir_lexer.specs.Quoted.{StandsFor, decode}
 use Rattle.ir_lexer.specs.declared.quoted.Escape.TheVariants.{Plain}

@@ -1,4 +1,4 @@
--- A lexer in a text, and what it answers.
+-- For `Lexer`: a lexer in a text, and what it answers.
 use Rattle.std.specs.Prelude.{◌≡◌, ℕ, ◌+◌, ◌-◌, ◌≤◌, ◌<◌, Bool, true, false, List, [], ◌∷◌, length, take, drop, Option, Some, None, Result, Ok, Err}
 use Rattle.ir_lexer.specs.Front.{next_token}
 use Rattle.ir_lexer.specs.Gap.{gap_length}
@@ -52,21 +52,26 @@ advanced l n = record { text = l.text; at = l.at + n }
 unfoldable pub skipped : Lexing → Lexing
 skipped l = advanced l (gap_length false (rest l))
 
+-- a token of so many bytes at the lexer's place
 abbrev pub token_at : Lexing → TokenKind → ℕ → Token
 token_at l kind n = record { kind = kind; place = place_of l.text l.at; start = l.at; «end» = l.at + n }
 
+-- there is nothing left
 abbrev pub is_nil : List ℕ → Bool
 is_nil [] = true
 is_nil (b ∷ bs) = false
 
+-- the token that stands in front, or the place where none does
 abbrev pub found : Lexing → Option (TokenKind × ℕ) → Result (Option Token) BadByte
 found l None = Err (record { place = place_of l.text l.at })
 found l (Some (kind, n)) = Ok (Some (token_at l kind n))
 
+-- the answer at what stands behind separators and comments
 abbrev pub answer_at : Lexing → List ℕ → Result (Option Token) BadByte
 answer_at l [] = Ok None
 answer_at l (b ∷ bs) = found l (next_token (b ∷ bs))
 
+-- the lexer behind the token that stands in front
 abbrev pub gone : Lexing → Option (TokenKind × ℕ) → Lexing
 gone l None = l
 gone l (Some (kind, n)) = advanced l n

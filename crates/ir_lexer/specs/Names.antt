@@ -1,4 +1,5 @@
--- The bytes that a quoted spelling stands for, and the names that labels, globals and locals spell.
+-- For `name_of`, `is_number`, `is_quoted` and `unquote`: the bytes that a quoted spelling stands for, and the names
+-- that labels, globals and locals spell.
 use Rattle.std.specs.Prelude.{◌≡◌, ℕ, suc, ◌-◌, Bool, true, false, cond, List, length, take, drop, Option, Some}
 use Rattle.ir_lexer.specs.Class.{is_digit, is_quote, no_quote, starts_with}
 use Rattle.ir_lexer.specs.Form.{each, run}

@@ -1,4 +1,4 @@
--- Text in pieces: spellings with separators, where no spelling can go on into what follows it.
+-- For `pieces_are_tokens`: text in pieces: spellings with separators, where no spelling can go on into what follows it.
 use Rattle.std.specs.Prelude.{◌≡◌, ℕ, Bool, true, false, cond, List, [], ◌∷◌, ◌++◌}
 use Rattle.ir_lexer.specs.Class.{starts_with, in_word, in_name, is_digit, is_dot, is_quote, is_colon}
 use Rattle.ir_lexer.specs.Table.{IsToken}
@@ -25,6 +25,7 @@ barred k.Punctuation dots = cond dots (in_name ∷ is_colon ∷ []) []
 barred k.Label dots = []
 barred k.ByteString dots = []
 
+-- the text begins with none of these classes
 abbrev pub with_none : List (Class → Bool) → List ℕ → Bool
 with_none [] rest = true
 with_none (p ∷ ps) rest = cond (starts_with p rest) false (with_none ps rest)
@@ -33,26 +34,31 @@ with_none (p ∷ ps) rest = cond (starts_with p rest) false (with_none ps rest)
 abbrev pub can_follow : Spelled → List ℕ → Bool
 can_follow t rest = with_none (barred t.kind (starts_with is_dot t.spelling)) rest
 
+-- what may stand between two tokens: nothing, a space, a line feed, or a line feed and two spaces
 pub data Separator : Type 0 where
   Nothing : Separator
   Space : Separator
   Line : Separator
   Indented : Separator
 
+-- the bytes of a separator
 abbrev pub separator_bytes : Separator → List ℕ
 separator_bytes Nothing = []
 separator_bytes Space = 32 ∷ []
 separator_bytes Line = 10 ∷ []
 separator_bytes Indented = 10 ∷ 32 ∷ 32 ∷ []
 
+-- a token and what stands behind it
 pub record Piece : Type 0 where
   pub token : Spelled
   pub separator : Separator
 
+-- the text that the pieces make
 abbrev pub pieces_text : List Piece → List ℕ
 pieces_text [] = []
 pieces_text (p ∷ ps) = p.token.spelling ++ (separator_bytes p.separator ++ pieces_text ps)
 
+-- the tokens of the pieces
 abbrev pub tokens_of : List Piece → List Spelled
 tokens_of [] = []
 tokens_of (p ∷ ps) = p.token ∷ tokens_of ps

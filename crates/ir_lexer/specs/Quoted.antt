@@ -1,4 +1,5 @@
--- Strings: what stands between the quotes, and the bytes that it stands for.
+-- For `unquote` and `strings_stand_for_their_bytes`: strings: what stands between the quotes, and the bytes that it
+-- stands for.
 use Rattle.std.specs.Prelude.{◌≡◌, ◌≢◌, ◌⊎◌, ◌++◌, ℕ, ◌+◌, ◌-◌, ◌*◌, ◌<◌, ◌==◌, Bool, true, false, not, cond, List, [], ◌∷◌, Option, Some, None, if◌then◌else◌}
 use Rattle.ir_lexer.specs.Class.{from_to}
 use Rattle.ir_lexer.specs.declared.quoted.Escape.{Escape}
@@ -33,14 +34,17 @@ abbrev pub StandsFor : List ℕ → List ℕ → Type 0
 StandsFor inside [] = inside ≡ []
 StandsFor inside (byte ∷ bytes) = (part : List ℕ) × (rest : List ℕ) × (inside ≡ part ++ rest) × SpellsByte part byte × StandsFor rest bytes
 
+-- a byte in front of the others, where there are any
 abbrev pub with_byte : ℕ → Option (List ℕ) → Option (List ℕ)
 with_byte b (Some bs) = Some (b ∷ bs)
 with_byte b None = None
 
+-- behind a backslash and what may be a digit
 abbrev pub after_slash : Option ℕ → Unescaped
 after_slash (Some high) = More (High high)
 after_slash None = Bad
 
+-- behind a backslash, a digit and what may be another
 abbrev pub after_high : ℕ → Option ℕ → Unescaped
 after_high high (Some low) = Byte (16 * high + low)
 after_high high None = Bad
@@ -51,11 +55,13 @@ unescaped Plain b = if b == 92 then More Slash else Byte b
 unescaped Slash b = if b == 92 then Byte 92 else after_slash (digit_value b)
 unescaped (High high) b = after_high high (digit_value b)
 
+-- what a byte completes, and the bytes behind it
 abbrev pub decoded : Unescaped → (Escape → Option (List ℕ)) → Option (List ℕ)
 decoded (More state) f = f state
 decoded (Byte b) f = with_byte b (f Plain)
 decoded Bad f = None
 
+-- a string may not end inside an escape
 abbrev pub at_end : Escape → Option (List ℕ)
 at_end Plain = Some []
 at_end _ = None
@@ -65,6 +71,7 @@ unfoldable pub decode : Escape → List ℕ → Option (List ℕ)
 decode state [] = at_end state
 decode state (b ∷ bs) = decoded (unescaped state b) (λ next. decode next bs)
 
+-- a zero byte is among them
 abbrev pub has_zero : List ℕ → Bool
 has_zero [] = false
 has_zero (b ∷ bs) = cond (b == 0) true (has_zero bs)
@@ -78,10 +85,12 @@ zero_in before (Some bs) = Some (cond before true (has_zero bs))
 abbrev pub zeros : List ℕ → Option Bool
 zeros inside = zero_in false (decode Plain inside)
 
+-- the string stands for bytes
 abbrev pub is_whole : Option Bool → Bool
 is_whole None = false
 is_whole (Some z) = true
 
+-- the string stands for bytes, none of which is zero
 abbrev pub is_clean : Option Bool → Bool
 is_clean None = false
 is_clean (Some z) = not z
@@ -100,6 +109,7 @@ abbrev pub HighFits : Escape → Type 0
 HighFits (High high) = high < 16
 HighFits _ = Unit {0}
 
+-- a digit that is kept is below 16
 abbrev pub UnescapedFits : Unescaped → Type 0
 UnescapedFits (More state) = HighFits state
 UnescapedFits _ = Unit {0}

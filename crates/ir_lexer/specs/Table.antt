@@ -1,4 +1,4 @@
--- The table of the tokens.
+-- For `next` of `Lexer` and `name_of`: the table of the tokens.
 use Rattle.std.specs.Prelude.{◌≡◌, ℕ, Bool, List}
 use Rattle.ir_lexer.specs.Class.{is_letter, starts_word, in_word, starts_name, in_name, is_digit, is_minus, is_dot, is_quote, no_quote, is_at, is_percent, is_bang, is_hash, is_colon, is_punctuation, is_c}
 use Rattle.ir_lexer.specs.Form.{Form, Done, One, Run, Upto, Spells, anything}
@@ -7,6 +7,7 @@ use Rattle.ir_lexer.specs.declared.class.Class.{Class}
 use Rattle.ir_lexer.specs.declared.token.TokenKind.{TokenKind}
 use Rattle.ir_lexer.specs.declared.token.TokenKind.TheVariants as k
 
+-- the rows of the table: some kinds of tokens have several
 pub data Row : Type 0 where
   Label : Row
   QuotedLabel : Row
@@ -29,6 +30,7 @@ pub data Row : Type 0 where
   Punctuation : Row
   Dots : Row
 
+-- the kind of the tokens of a row
 abbrev pub kind_of : Row → TokenKind
 kind_of Label = k.Label
 kind_of QuotedLabel = k.Label
@@ -74,9 +76,11 @@ starts RecordMark = is_hash
 starts Punctuation = is_punctuation
 starts Dots = is_dot
 
+-- [-a-zA-Z$._][-a-zA-Z$._0-9]*
 abbrev pub identifier : Form
 identifier = One starts_name (Run in_name)
 
+-- [0-9]+
 abbrev pub digits : Form
 digits = One is_digit (Run is_digit)
 
@@ -84,6 +88,7 @@ digits = One is_digit (Run is_digit)
 abbrev pub inside : (List ℕ → Bool) → Form → Form
 inside test f = Upto no_quote test is_quote f
 
+-- " and what passes a test up to the next "
 abbrev pub string : (List ℕ → Bool) → Form
 string test = One is_quote (inside test Done)
 

@@ -1,4 +1,4 @@
--- What the tokens of a text are.
+-- For `one_list` and the laws beside it: what the tokens of a text are.
 use Rattle.std.specs.Prelude.{◌≡◌, ℕ, ◌≤◌, Bool, true, false, not, ◌&&◌, cond, List, [], ◌∷◌, ◌++◌, length, Option, Some, None}
 use Rattle.ir_lexer.specs.Class.{byte_class, starts_with, is_blank, is_semicolon, is_line_feed, is_c, is_quote}
 use Rattle.ir_lexer.specs.Table.{IsToken}

@@ -3,6 +3,14 @@
 //! It stands on `ir_base`. Its promise: the tokens are those of the text, each the longest that begins there, or
 //! the first byte where none begins is told. What a token means to a phrase is not its concern. Definitions:
 //! `specs/Table` has the spellings of each kind, `specs/Tokens` the tokens of a text.
+//!
+//! ```
+//! let mut lexer = Lexer::new(b"ret i32 0 ; the end");
+//! while let Some(token) = lexer.next()? {
+//!     let spelling = lexer.spelling(&token);
+//!     // `ret`, a TokenKind::Word at 1:1; `i32`, a TokenKind::Word at 1:5; `0`, a TokenKind::Integer at 1:9
+//! }
+//! ```
 #![tactic(auto)]
 
 mod class;

@@ -15,16 +15,22 @@ use std::alloc::{AllocError, Global};
 /// Where reading the inside of a string stands.
 #[derive(Clone, Copy)]
 pub enum Escape {
+    /// Outside an escape.
     Plain,
+    /// Behind a backslash.
     Slash,
+    /// Behind a backslash and a digit of this value.
     High(u8),
 }
 
 /// What a byte completes: a longer escape, or a byte.
 #[derive(Clone, Copy)]
 pub enum Unescaped {
+    /// The escape goes on.
     More(Escape),
+    /// A byte is whole.
     Byte(u8),
+    /// There is no such escape.
     Bad,
 }
 

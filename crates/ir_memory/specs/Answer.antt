@@ -1,4 +1,4 @@
--- What the answer of a call that changes memory says.
+-- For `end_block`, `store`, `fill` and `copy` of `Memory`: what the answer of a call that changes memory says.
 use Rattle.std.specs.Prelude.{◌≡◌, ⊤, length, IsOk, Result, Ok, Err}
 use Rattle.ir_tables.specs.declared.undefined_kind.UndefinedKind.{UndefinedKind}
 use Rattle.ir_memory.specs.declared.leaf.Leaf.{Leaf}

@@ -1,4 +1,4 @@
--- One block of memory, of which all calls of `Memory` promise.
+-- For all calls of `Memory`: one block of memory.
 use Rattle.std.specs.Prelude.{ℕ, ◌+◌, Bool, true, false, ◌&&◌, nat_eq, nat_le, List, [], ◌++◌, take, drop, length, replicate}
 use Rattle.ir_memory.specs.declared.kind.BlockKind.{BlockKind}
 use Rattle.ir_memory.specs.declared.kind.BlockKind.TheVariants.{Variable, Stack, Heap}
@@ -7,6 +7,7 @@ use Rattle.ir_memory.specs.declared.cell.Cell.TheVariants.{Byte}
 
 -- one block: where it starts, how many bytes it has, what it is for, whether it lives, and its cells
 
+-- where a block begins, how many bytes it has, of which kind it is, whether it is live, and its bytes
 pub record Block : Type 0 where
   pub start : ℕ
   pub size : ℕ

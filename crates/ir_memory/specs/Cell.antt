@@ -1,4 +1,5 @@
--- One byte of memory, and the leaves of values as cells. Memory is little endian, and a pointer has 8 bytes.
+-- For all calls of `Memory`: one byte of memory, and the leaves of values as cells. Memory is little endian, and a
+-- pointer has 8 bytes.
 use Rattle.std.specs.Prelude.{ℕ, ◌+◌, ◌*◌, ◌/◌, ◌%◌, ◌^◌, Bool, true, false, ◌&&◌, nat_eq, List, [], ◌∷◌, map, replicate, Option, Some, None, if◌then◌else◌}
 use Rattle.std.specs.List.{range_with_len}
 use Rattle.ir_eval.specs.declared.value.Pointer.{Pointer}

@@ -1,4 +1,4 @@
--- How the code finds the block that can have an address.
+-- Says how the code reads: how the block that can have an address is found.
 use Rattle.std.specs.Prelude.{◌≡◌, ℕ, ◌+◌, ◌<◌, ◌≤◌, List, length, true, Option, Some, None, Result, Ok, Err, IsSome, slice_index_or}
 use Rattle.ir_tables.specs.declared.undefined_kind.UndefinedKind.{UndefinedKind}
 use Rattle.ir_memory.specs.declared.access.Place.{Place}

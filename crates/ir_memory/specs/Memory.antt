@@ -1,4 +1,4 @@
--- Memory: blocks in the order of their addresses, and what each call does to them.
+-- For all calls of `Memory`: blocks in the order of their addresses, and what each call does to them.
 use Rattle.std.specs.Prelude.{ℕ, zero, suc, ◌+◌, ◌-◌, ◌*◌, ◌/◌, ◌%◌, Bool, true, false, not, ◌&&◌, nat_eq, nat_lt, List, [], ◌∷◌, ◌++◌, Option, Some, None, Result, Ok, Err, is_none, position, slice_get, slice_range, replicate, if◌then◌else◌}
 use Rattle.ir_eval.specs.declared.value.Pointer.{Pointer}
 use Rattle.ir_eval.specs.declared.value.Scalar.{Scalar}

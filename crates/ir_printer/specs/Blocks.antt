@@ -1,4 +1,4 @@
--- The blocks of a function, by the ids of an arena.
+-- Says how the code reads: the blocks of a function, by the ids of an arena.
 use Rattle.std.specs.Prelude.{◌<◌, length, All}
 use Rattle.type_table.specs.Types.{trees}
 use Rattle.module_arena.specs.declared.entry.Block as the_block

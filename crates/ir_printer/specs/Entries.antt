@@ -1,4 +1,4 @@
--- The entries of a module in canonical text, line by line, as the arena has them.
+-- Says how the code reads: the entries of a module in canonical text, line by line, as the arena has them.
 use Rattle.std.specs.Prelude.{List, ◌++◌, codes, map}
 use Rattle.ir_lexer.specs.Pieces.{Line}
 use Rattle.type_table.specs.Types.{trees}

@@ -1,4 +1,4 @@
--- The functions of a module in canonical text, as the arena has them.
+-- Says how the code reads: the functions of a module in canonical text, as the arena has them.
 use Rattle.std.specs.Prelude.{codes, map}
 use Rattle.type_table.specs.Types.{trees, tree}
 use Rattle.module_arena.specs.declared.entry.Function.{Function}

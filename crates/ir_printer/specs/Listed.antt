@@ -1,4 +1,4 @@
--- The entries of a module in canonical text, as the arena has them.
+-- Says how the code reads: the parts of the entries of a module in canonical text, as the arena has them.
 use Rattle.std.specs.Prelude.{ℕ, ◌<◌, Bool, List, [], codes, map, length}
 use Rattle.ir_lexer.specs.Pieces.{Piece, Nothing}
 use Rattle.type_table.specs.Tree.{opaque_body}

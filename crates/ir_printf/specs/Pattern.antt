@@ -1,4 +1,4 @@
--- The pieces of a pattern, for `next_piece`: literals, and conversions as they are written.
+-- For `next_piece`: the pieces of a pattern: literals, and conversions as they are written.
 use Rattle.std.specs.Prelude.{◌≡◌, ℕ, ◌+◌, ◌-◌, ◌*◌, ◌==◌, ◌&&◌, ◌||◌, nat_le, Bool, true, false, not, List, [], ◌∷◌, ◌++◌, drop, take, length, slice_get, slice_range, Option, Some, None, Result, Ok, Err, if◌then◌else◌}
 use Rattle.std.specs.List.{prefix_len, list_any}
 use Rattle.ir_printf.specs.declared.conversion.ConversionKind.{ConversionKind}
@@ -16,9 +16,11 @@ use Rattle.ir_printf.specs.declared.pattern.BadFormat.{BadFormat}
 abbrev pub is_flag : ℕ → Bool
 is_flag byte = byte == 45 || (byte == 48 || (byte == 43 || byte == 32))
 
+-- `0` to `9`
 abbrev pub is_digit : ℕ → Bool
 is_digit byte = nat_le 48 byte && nat_le byte 57
 
+-- the byte stands in front
 abbrev pub begins_with : ℕ → List ℕ → Bool
 begins_with byte [] = false
 begins_with byte (first ∷ others) = first == byte
@@ -27,6 +29,7 @@ begins_with byte (first ∷ others) = first == byte
 abbrev pub flags_size : List ℕ → ℕ
 flags_size bytes = prefix_len is_flag bytes
 
+-- how many digits stand in front
 abbrev pub digits_size : List ℕ → ℕ
 digits_size bytes = prefix_len is_digit bytes
 
@@ -74,15 +77,18 @@ abbrev pub precision_in : List ℕ → Option (Option ℕ)
 precision_in [] = Some None
 precision_in (dot ∷ digits) = elim (small_number digits) [ None ↦ None | Some n ↦ Some (Some n) ]
 
+-- the byte is among them
 abbrev pub has_byte : ℕ → List ℕ → Bool
 has_byte byte bytes = list_any (λ b. b == byte) bytes
 
+-- the conversions that write numbers
 abbrev pub is_of_number : ConversionKind → Bool
 is_of_number kind.Char = false
 is_of_number kind.Bytes = false
 is_of_number kind.Percent = false
 is_of_number _ = true
 
+-- the length of an `int`
 abbrev pub is_word : Length → Bool
 is_word size.Word = true
 is_word _ = false
@@ -97,6 +103,7 @@ may_have which span = is_of_number which || is_word span
 abbrev pub percent : Conversion
 percent = record { kind = kind.Percent; left = false; zero = false; plus = false; space = false; width = 0; precision = None; length = size.Word }
 
+-- the conversion of these flags, this kind, length, width and precision
 abbrev pub with_parts : List ℕ → ConversionKind → Length → ℕ → Option ℕ → Conversion
 with_parts flags which span width precision = record {
   kind = which;
@@ -118,12 +125,15 @@ joined _ _ _ _ _ = None
 abbrev pub width_end : List ℕ → ℕ
 width_end bytes = flags_size bytes + digits_size (drop (flags_size bytes) bytes)
 
+-- how many bytes there are up to the end of the precision
 abbrev pub precision_end : List ℕ → ℕ
 precision_end bytes = width_end bytes + precision_size (drop (width_end bytes) bytes)
 
+-- how many bytes there are up to the end of the length
 abbrev pub length_end : List ℕ → ℕ
 length_end bytes = precision_end bytes + (length_in (drop (precision_end bytes) bytes)).1
 
+-- the kind of the conversion whose letter stands there
 abbrev pub kind_at : List ℕ → ℕ → Option ConversionKind
 kind_at bytes at = elim (slice_get bytes at) [ None ↦ None | Some byte ↦ kind_of byte ]
 
@@ -143,6 +153,7 @@ conversion_size bytes = if begins_with 37 bytes then 1 else length_end bytes + 1
 
 -- ---- pieces
 
+-- a byte that is written as it is: any but `%`
 abbrev pub is_literal : ℕ → Bool
 is_literal byte = not (byte == 37)
 

@@ -1,4 +1,4 @@
--- What a conversion writes, for `number_text` and `bytes_text`.
+-- For `number_text` and `bytes_text`: what a conversion writes.
 use Rattle.std.specs.Prelude.{ℕ, ◌+◌, ◌-◌, ◌%◌, ◌^◌, ◌≡◌, ◌==◌, ◌&&◌, nat_le, Bool, true, false, not, List, [], ◌∷◌, ◌++◌, take, length, replicate, Option, Some, None, is_none, if◌then◌else◌}
 use Rattle.std.specs.Fmt.{digits}
 use Rattle.ir_printf.specs.declared.conversion.ConversionKind.{ConversionKind}
@@ -20,6 +20,7 @@ bits_of size.Long = 64
 abbrev pub cut : Length → ℕ → ℕ
 cut span bits = bits % 2 ^ bits_of span
 
+-- the conversion that writes signed numbers
 abbrev pub is_signed : ConversionKind → Bool
 is_signed kind.Signed = true
 is_signed _ = false
@@ -93,12 +94,14 @@ printed_bytes conversion bytes = spaced conversion (precise_bytes conversion.kin
 
 -- ---- what the calls ask for
 
+-- the conversions that write numbers
 abbrev pub is_number : ConversionKind → Bool
 is_number kind.Char = false
 is_number kind.Bytes = false
 is_number kind.Percent = false
 is_number _ = true
 
+-- the length of a `long`
 abbrev pub is_long : Length → Bool
 is_long size.Long = true
 is_long _ = false

@@ -3,6 +3,12 @@
 //! It stands on `ir_base`. Its promise: a pattern is read as its literals and conversions, whose places join to the
 //! pattern, and a number or a string is written as its conversion says, for every combination of flags, width, precision
 //! and length. Where arguments come from is not its concern. Definitions: `specs/Pattern`, `specs/Printed`.
+//!
+//! ```
+//! next_piece(b"n = %5d\n", 0) // Ok(Piece::Literal(0, 4))
+//! next_piece(b"n = %5d\n", 4) // Ok(Piece::Convert(conversion, 7)): a ConversionKind::Signed of width 5
+//! number_text(alloc, &conversion, 42)? // `   42`
+//! ```
 #![tactic(auto)]
 
 mod conversion;

@@ -1,4 +1,4 @@
--- Functions that get their blocks, one after the other.
+-- Says how the code reads: functions that get their blocks, one after the other.
 use Rattle.std.specs.Prelude.{◌≡◌, ℕ, ◌+◌, List, ◌++◌, map, filter_map, length, option_to_list}
 use Rattle.ir_syntax.specs.Tree.{ItemTree, Definition}
 use Rattle.module_arena.specs.Changes.{defined}

@@ -1,4 +1,4 @@
--- A module that gets the entries of a text.
+-- Says how the code reads: a module that gets the entries of a text.
 use Rattle.std.specs.Prelude.{List, [], filter_map}
 use Rattle.ir_syntax.specs.Tree.{ItemTree}
 use Rattle.module_arena.specs.Module.{Module}

@@ -3,6 +3,14 @@
 //! It stands on the rules of `name_rules`, which `name_judge` judges and by which `build` builds. It promises that what
 //! is resolved is the one module of the items and well formed, and that a refusal is the first demand in the order of the
 //! text that fails. Definitions: `Reads` and `Breaks` of `name_rules`.
+//!
+//! ```
+//! let items = read_items(alloc, b"@a = global i32 7")?;
+//! let arena = resolve(alloc, &items)?; // one variable
+//!
+//! let items = read_items(alloc, b"@a = global ptr @b")?;
+//! resolve(alloc, &items) // Err(ResolveFault::UnknownName(place, name)): `@b`, at 1:17
+//! ```
 #![tactic(auto)]
 
 mod blocks;

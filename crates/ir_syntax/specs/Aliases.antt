@@ -1,4 +1,4 @@
--- Aliases, and what a global name may name.
+-- For `read_items`: the rows of aliases, and of what a global name may name.
 use Rattle.std.specs.Prelude.{false, [], ◌∷◌, ◌++◌, Option, Some, None}
 use Rattle.phrase_rows.specs.Row.{Row, Shape, chain, mapped, both, second, pair, alt, labelled}
 use Rattle.ir_lexer.specs.Ahead.{Located}
@@ -22,9 +22,11 @@ abbrev pub alias_type_of : TypeTree → Option SignatureTree → AliasTypeTree
 alias_type_of t None = PlainAlias t
 alias_type_of t (Some s) = FunctionAlias t s.0 s.1
 
+-- how the type of an alias begins and goes on
 abbrev pub alias_type_shape : Shape
 alias_type_shape = record { first = type_shape.first; more = signature_shape.first; empty = false }
 
+-- TYPE (( TYPE,* ))?, whose list may end in `...`, by its parts
 unfoldable pub alias_type_core : Limits → Row Located AliasTypeTree
 alias_type_core limits = both alias_type_of (type_row limits) (signature_row limits)
 
@@ -32,6 +34,7 @@ alias_type_core limits = both alias_type_of (type_row limits) (signature_row lim
 abbrev pub alias_type_row : Limits → Row Located AliasTypeTree
 alias_type_row limits = labelled alias_type_shape (alias_type_core limits)
 
+-- , ptr GLOBAL, by its parts
 unfoldable pub target_core : Row Located PlacedName
 target_core = second (word terminal.Comma) (second (word terminal.Ptr) global_name_row)
 
@@ -39,12 +42,15 @@ target_core = second (word terminal.Comma) (second (word terminal.Ptr) global_na
 abbrev pub target_row : Row Located PlacedName
 target_row = labelled comma_shape target_core
 
+-- an alias of its parts
 abbrev pub alias_of : GlobalHead → AliasTypeTree × PlacedName → ItemTree
 alias_of h v = Alias (record { name = h.0; linkage = h.1; ty = v.0; target = v.1 })
 
+-- how `alias` begins
 abbrev pub alias_shape : Shape
 alias_shape = record { first = code terminal.«Alias» ∷ []; more = []; empty = false }
 
+-- alias ATYPE , ptr GLOBAL, behind GLOBAL = LINKAGE? GDROP*, by its parts
 unfoldable pub alias_core : Limits → GlobalHead → Row Located ItemTree
 alias_core limits h = mapped (alias_of h) (second (word terminal.«Alias») (pair (alias_type_row limits) target_row))
 
@@ -52,9 +58,11 @@ alias_core limits h = mapped (alias_of h) (second (word terminal.«Alias») (pai
 abbrev pub alias_row : Limits → GlobalHead → Row Located ItemTree
 alias_row limits h = labelled alias_shape (alias_core limits h)
 
+-- how an alias or a variable goes on behind its head
 abbrev pub global_behind_shape : Shape
 global_behind_shape = record { first = alias_shape.first ++ variable_shape.first; more = variable_shape.more; empty = false }
 
+-- an alias or a variable, behind its name and its linkage, by its parts
 unfoldable pub global_behind_core : Limits → GlobalHead → Row Located ItemTree
 global_behind_core limits h = alt class (alias_row limits h) (variable_row limits h)
 

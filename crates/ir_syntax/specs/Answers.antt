@@ -1,4 +1,4 @@
--- What reading all of a text comes to, with given limits.
+-- For `read_items`: what reading all of a text comes to, with given limits.
 use Rattle.std.specs.Prelude.{◌≡◌, ℕ, ◌-◌, List, [], ◌∷◌, length, Bool, false, not, Result, Ok, Err}
 use Rattle.phrase_rows.specs.Answer.{answer, IsFirstBad}
 use Rattle.ir_lexer.specs.Tokens.{Tokens}

@@ -1,4 +1,4 @@
--- How many items, parameters, blocks and instructions there are.
+-- For `read_items` and `resolve`: how many items, parameters, blocks and instructions there are.
 use Rattle.std.specs.Prelude.{ℕ, ◌+◌, List, length}
 use Rattle.std.specs.List.{sum_by}
 use Rattle.ir_instructions.specs.Tree.{BlockTree}

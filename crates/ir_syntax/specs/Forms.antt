@@ -1,4 +1,4 @@
--- What `read_items` promises of the items of a text: parts as their phrases have them.
+-- For `read_items`: the forms of the items of a text: parts as their phrases have them.
 use Rattle.std.specs.Prelude.{◌≡◌, Bool, true, false, not, List, Option, Some, None, is_some}
 use Rattle.ir_tables.specs.declared.linkage.Linkage.{Linkage}
 use Rattle.ir_tables.specs.declared.linkage.Linkage.TheVariants as linkage
@@ -13,6 +13,7 @@ is_declaring (Some linkage.External) = true
 is_declaring (Some linkage.ExternWeak) = true
 is_declaring _ = false
 
+-- an initialiser, where there is one, has its phrase's form
 abbrev pub IsInitialiserFormed : Option ConstantTree → Type 0
 IsInitialiserFormed (Some constant) = IsFormed constant
 IsInitialiserFormed None = Unit {0}

@@ -1,4 +1,4 @@
--- Functions: declarations and definitions.
+-- For `read_items`: the rows of functions: declarations and definitions.
 use Rattle.std.specs.Prelude.{Bool, true, false, cond, List, [], ◌∷◌, ◌++◌, map, Some, None}
 use Rattle.phrase_rows.specs.Row.{Row, Shape, fail, one, chain, mapped, second, before, pair, alt, nothing, optional, loop, labelled}
 use Rattle.ir_lexer.specs.Ahead.{Located}
@@ -15,6 +15,7 @@ use Rattle.ir_instructions.specs.Blocks.{blocks_row}
 use Rattle.ir_syntax.specs.Tree.{ParameterTree, HeadTree, ItemTree, Declaration, Definition}
 use Rattle.ir_syntax.specs.Heads.{optional_linkage_row, global_word_shape, global_words_row}
 
+-- how a parameter begins and goes on
 abbrev pub parameter_shape : Shape
 parameter_shape = record { first = type_shape.first; more = code terminal.Local ∷ parameter_attribute_shape.first; empty = false }
 
@@ -22,6 +23,7 @@ parameter_shape = record { first = type_shape.first; more = code terminal.Local 
 unfoldable pub parameter_core : Limits → Row Located ParameterTree
 parameter_core limits = pair (type_row limits) (second parameter_attributes_row (optional class local_row))
 
+-- a parameter
 abbrev pub parameter_row : Limits → Row Located ParameterTree
 parameter_row limits = labelled parameter_shape (parameter_core limits)
 
@@ -37,9 +39,11 @@ ParametersTree = List ParameterTree × Bool
 abbrev pub parameter_step : Bool → Limits → ParametersTree → Row Located ParametersTree
 parameter_step dots limits s = cond s.1 (fail comma_shape) (second (word terminal.Comma) (alt class (mapped (λ d. (s.0, d)) (dots_row dots)) (mapped (λ p. (s.0 ++ p ∷ [], false)) (parameter_row limits))))
 
+-- how further parameters begin and go on
 abbrev pub more_parameters_shape : Shape
 more_parameters_shape = record { first = comma_shape.first; more = parameter_shape.more ++ comma_shape.first; empty = true }
 
+-- further parameters, each behind a comma
 abbrev pub more_parameters_row : Bool → Limits → ParametersTree → Row Located ParametersTree
 more_parameters_row dots limits s = labelled more_parameters_shape (loop class (record { first = comma_shape.first; more = parameter_shape.more; empty = false }) (parameter_step dots limits) s)
 
@@ -51,6 +55,7 @@ some_parameters_row dots limits = chain (parameter_row limits) more_parameters_s
 abbrev pub parameter_list_row : Bool → Limits → Row Located ParametersTree
 parameter_list_row dots limits = alt class (mapped (λ d. ([], d)) (dots_row dots)) (alt class (some_parameters_row dots limits) (nothing ([], false)))
 
+-- how parameters begin
 abbrev pub parameters_shape : Shape
 parameters_shape = record { first = code terminal.OpenParenthesis ∷ []; more = []; empty = false }
 
@@ -58,9 +63,11 @@ parameters_shape = record { first = code terminal.OpenParenthesis ∷ []; more =
 unfoldable pub parameters_core : Bool → Limits → Row Located ParametersTree
 parameters_core dots limits = second (word terminal.OpenParenthesis) (before (parameter_list_row dots limits) (word terminal.CloseParenthesis))
 
+-- ( PARAMETERS )
 abbrev pub parameters_row : Bool → Limits → Row Located ParametersTree
 parameters_row dots limits = labelled parameters_shape (parameters_core dots limits)
 
+-- how the head of a function begins
 abbrev pub head_shape : Shape
 head_shape = record {
   first = linkage_class ∷ global_word_shape.first ++ code terminal.CallingConvention ∷ parameter_attribute_shape.first ++ type_shape.first;
@@ -74,9 +81,11 @@ head_core limits =
     mapped (λ v. record { linkage = v.0; returns = v.1.0; name = v.1.1 })
     (pair optional_linkage_row (second global_words_row (second convention_row (second parameter_attributes_row (pair (type_row limits) global_name_row)))))
 
+-- the head of a function: its linkage, its result's type and its name
 abbrev pub head_row : Limits → Row Located HeadTree
 head_row limits = labelled head_shape (head_core limits)
 
+-- how metadata begins
 abbrev pub attachment_shape : Shape
 attachment_shape = record { first = code terminal.MetaName ∷ []; more = []; empty = false }
 
@@ -84,9 +93,11 @@ attachment_shape = record { first = code terminal.MetaName ∷ []; more = []; em
 abbrev pub metadata_row : Row Located (Unit {0})
 metadata_row = loop class attachment_shape (λ u. attachment_row) tt
 
+-- the types of parameters
 abbrev pub parameter_types : List ParameterTree → List TypeTree
 parameter_types all = map (λ p. p.0) all
 
+-- how a declaration goes on behind its head
 abbrev pub declared_shape : Shape
 declared_shape = record { first = parameters_shape.first; more = function_attribute_shape.more ++ function_attribute_shape.first; empty = false }
 
@@ -94,6 +105,7 @@ declared_shape = record { first = parameters_shape.first; more = function_attrib
 unfoldable pub declared_core : Limits → Row Located (List TypeTree × Bool)
 declared_core limits = mapped (λ s. (parameter_types s.0, s.1)) (before (parameters_row true limits) function_attributes_row)
 
+-- what stands behind the head of a declaration
 abbrev pub declared_row : Limits → Row Located (List TypeTree × Bool)
 declared_row limits = labelled declared_shape (declared_core limits)
 
@@ -101,6 +113,7 @@ declared_row limits = labelled declared_shape (declared_core limits)
 abbrev pub declaration_row : Limits → Row Located ItemTree
 declaration_row limits = mapped (λ v. Declaration v.0 v.1.0 v.1.1.0 v.1.1.1) (pair (word terminal.Declare) (second metadata_row (pair (head_row limits) (declared_row limits))))
 
+-- how what stands behind the parameters of a definition begins
 abbrev pub body_shape : Shape
 body_shape = record { first = function_attribute_shape.first ++ code terminal.MetaName ∷ code terminal.OpenBrace ∷ []; more = []; empty = false }
 
@@ -108,6 +121,7 @@ body_shape = record { first = function_attribute_shape.first ++ code terminal.Me
 unfoldable pub body_core : Limits → Row Located (List BlockTree)
 body_core limits = second function_attributes_row (second metadata_row (blocks_row limits))
 
+-- what stands behind the parameters of a definition: attributes, metadata and blocks
 abbrev pub body_row : Limits → Row Located (List BlockTree)
 body_row limits = labelled body_shape (body_core limits)
 
@@ -115,6 +129,7 @@ body_row limits = labelled body_shape (body_core limits)
 unfoldable pub defined_core : Limits → Row Located (ParametersTree × List BlockTree)
 defined_core limits = pair (parameters_row limits.wide limits) (body_row limits)
 
+-- what stands behind the head of a definition
 abbrev pub defined_row : Limits → Row Located (ParametersTree × List BlockTree)
 defined_row limits = labelled parameters_shape (defined_core limits)
 

@@ -1,4 +1,4 @@
--- What stands before the type of a variable, an alias or a function.
+-- For `read_items`: what stands before the type of a variable, an alias or a function.
 use Rattle.std.specs.Prelude.{false, [], ◌∷◌, ◌++◌, Option}
 use Rattle.phrase_rows.specs.Row.{Row, Shape, before, pair, alt, optional, loop, labelled}
 use Rattle.ir_lexer.specs.Ahead.{Located}
@@ -14,6 +14,7 @@ use Rattle.ir_instructions.specs.Dropped.{dropped}
 abbrev pub optional_linkage_row : Row Located (Option Linkage)
 optional_linkage_row = optional class linkage_row
 
+-- how a word begins that is dropped
 abbrev pub global_word_shape : Shape
 global_word_shape = record { first = code terminal.GlobalDropped ∷ code terminal.UnnamedAddress ∷ []; more = []; empty = false }
 
@@ -29,9 +30,11 @@ global_words_row = loop class global_word_shape (λ u. global_word_row) tt
 abbrev pub GlobalHead : Type 0
 GlobalHead = PlacedName × Option Linkage
 
+-- how the head of a variable or an alias begins and goes on
 abbrev pub global_head_shape : Shape
 global_head_shape = record { first = code terminal.GlobalName ∷ []; more = linkage_class ∷ global_word_shape.first; empty = false }
 
+-- GLOBAL = LINKAGE? GDROP*, by its parts
 unfoldable pub global_head_core : Row Located GlobalHead
 global_head_core = pair (before global_name_row (word terminal.Equals)) (before optional_linkage_row global_words_row)
 

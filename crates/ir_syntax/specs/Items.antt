@@ -1,4 +1,4 @@
--- The items of a text.
+-- For `read_items`: the items of a text.
 use Rattle.std.specs.Prelude.{false, List, [], ◌∷◌, ◌++◌}
 use Rattle.phrase_rows.specs.Row.{Row, Shape, one, mapped, second, before, pair, alt, optional, many, labelled}
 use Rattle.phrase_rows.specs.Reads.{Front}
@@ -44,6 +44,7 @@ node_row = alt class (second (word terminal.MetaMark) (matched_row terminal.Open
 abbrev pub metadata_item_row : Row Located ItemTree
 metadata_item_row = mapped Metadata (before metadata_name_row (second (word terminal.Equals) (second (optional class (word terminal.Distinct)) node_row)))
 
+-- how items begin and go on
 abbrev pub item_shape : Shape
 item_shape = record {
   first = code terminal.SourceFilename ∷ code terminal.Target ∷ code terminal.Local ∷ code terminal.GlobalName ∷ code terminal.Declare ∷ code terminal.Define ∷ code terminal.«Attributes» ∷ code terminal.MetaName ∷ code terminal.MetaNumber ∷ [];
@@ -57,6 +58,7 @@ item_core limits =
     alt class source_row (alt class (second (word terminal.Target) target_row) (alt class (struct_row limits) (alt class (global_row limits)
     (alt class (declaration_row limits) (alt class (definition_row limits) (alt class attributes_row metadata_item_row))))))
 
+-- an item
 abbrev pub item_row : Limits → Row Located ItemTree
 item_row limits = labelled item_shape (item_core limits)
 

@@ -1,4 +1,4 @@
--- The kinds of a refusal, at the first bad place.
+-- For `read_items`: the kinds of a refusal, at the first bad place.
 use Rattle.std.specs.Prelude.{◌≡◌, ◌⊎◌, ℕ, suc, true, false, List, length, take, slice_get, Some}
 use Rattle.ir_lexer.specs.Ahead.{Located}
 use Rattle.ir_terminals.specs.LeftOut.{is_left_out_as}

@@ -1,4 +1,4 @@
--- The items of a text as plain trees.
+-- For `read_items`: the items of a text as plain trees.
 use Rattle.std.specs.Prelude.{Bool, List, Option}
 use Rattle.ir_base.specs.declared.place.Place.{Place}
 use Rattle.ir_tables.specs.declared.linkage.Linkage.{Linkage}
@@ -15,6 +15,7 @@ pub data BodyTree : Type 0 where
   PlainBody : List TypeTree → BodyTree
   PackedBody : List TypeTree → BodyTree
 
+-- a variable, with what the text writes of it
 pub record VariableTree : Type 0 where
   pub name : PlacedName
   pub linkage : Option Linkage
@@ -28,6 +29,7 @@ pub data AliasTypeTree : Type 0 where
   PlainAlias : TypeTree → AliasTypeTree
   FunctionAlias : (returns : TypeTree) → (parameters : List TypeTree) → (variadic : Bool) → AliasTypeTree
 
+-- an alias, with what the text writes of it
 pub record AliasTree : Type 0 where
   pub name : PlacedName
   pub linkage : Option Linkage

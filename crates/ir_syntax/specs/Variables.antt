@@ -1,4 +1,4 @@
--- Variables, and the structs that have names.
+-- For `read_items`: the rows of variables, and of the structs that have names.
 use Rattle.std.specs.Prelude.{Bool, true, false, [], ◌∷◌, ◌++◌, Option, Some, None}
 use Rattle.phrase_rows.specs.Row.{Row, Shape, mapped, second, before, pair, alt, nothing, loop, labelled}
 use Rattle.ir_lexer.specs.Ahead.{Located}
@@ -41,6 +41,7 @@ struct_row limits = mapped (λ v. Struct v.0 v.1) (pair (before (named_local_row
 abbrev pub constant_word_row : Row Located Bool
 constant_word_row = alt class (mapped (λ p. false) (word terminal.Global)) (mapped (λ p. true) (word terminal.Constant))
 
+-- how an initialiser begins
 abbrev pub initialiser_shape : Shape
 initialiser_shape = record { first = constant_shape.first; more = []; empty = true }
 
@@ -50,6 +51,7 @@ initialiser_core limits (Some linkage.External) = nothing None
 initialiser_core limits (Some linkage.ExternWeak) = nothing None
 initialiser_core limits _ = mapped Some (constant_row limits)
 
+-- CONST, or nothing where the linkage is that of a declaration
 abbrev pub initialiser_row : Limits → Option Linkage → Row Located (Option ConstantTree)
 initialiser_row limits written = labelled initialiser_shape (initialiser_core limits written)
 
@@ -58,6 +60,7 @@ abbrev pub tail_row : Option Integer → Row Located (Option Integer)
 tail_row None = alt class (mapped Some (second (word terminal.Align) integer_row)) (alt class (mapped (λ u. None) section_row) (mapped (λ u. None) attachment_row))
 tail_row (Some a) = alt class (mapped (λ u. Some a) section_row) (mapped (λ u. Some a) attachment_row)
 
+-- how what stands behind a variable's comma begins
 abbrev pub tail_shape : Shape
 tail_shape = record { first = code terminal.Align ∷ code terminal.Section ∷ code terminal.MetaName ∷ []; more = []; empty = false }
 
@@ -69,6 +72,7 @@ tail_step alignment = second (word terminal.Comma) (labelled tail_shape (tail_ro
 abbrev pub tails_row : Row Located (Option Integer)
 tails_row = loop class comma_shape tail_step None
 
+-- how what stands behind the type of a variable begins and goes on
 abbrev pub variable_rest_shape : Shape
 variable_rest_shape = record { first = constant_shape.first ++ comma_shape.first; more = comma_shape.first; empty = true }
 
@@ -76,15 +80,19 @@ variable_rest_shape = record { first = constant_shape.first ++ comma_shape.first
 unfoldable pub variable_rest_core : Limits → Option Linkage → Row Located (Option ConstantTree × Option Integer)
 variable_rest_core limits written = pair (initialiser_row limits written) tails_row
 
+-- what stands behind the type of a variable
 abbrev pub variable_rest_row : Limits → Option Linkage → Row Located (Option ConstantTree × Option Integer)
 variable_rest_row limits written = labelled variable_rest_shape (variable_rest_core limits written)
 
+-- a variable of its parts
 abbrev pub variable_of : GlobalHead → Bool × (TypeTree × (Option ConstantTree × Option Integer)) → ItemTree
 variable_of h v = Variable (record { name = h.0; linkage = h.1; constant = v.0; ty = v.1.0; initialiser = v.1.1.0; alignment = v.1.1.1 })
 
+-- how a variable goes on behind its head
 abbrev pub variable_shape : Shape
 variable_shape = record { first = code terminal.Global ∷ code terminal.Constant ∷ []; more = comma_shape.first; empty = false }
 
+-- (global|constant) TYPE CONST? TAIL*, behind GLOBAL = LINKAGE? GDROP*, by its parts
 unfoldable pub variable_core : Limits → GlobalHead → Row Located ItemTree
 variable_core limits h = mapped (variable_of h) (pair constant_word_row (pair (type_row limits) (variable_rest_row limits h.1)))
 

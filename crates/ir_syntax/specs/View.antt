@@ -1,4 +1,4 @@
--- The plain tree of an item as it lies in memory.
+-- For `read_items`, and how the code reads: the plain tree of an item as it lies in memory.
 use Rattle.std.specs.Prelude.{Bool, List, map, Option, option_map}
 use Rattle.ir_terminals.specs.declared.values.Integer.{Integer}
 use Rattle.ir_constants.specs.Tree.{TypeTree, ConstantTree}
@@ -23,11 +23,13 @@ use Rattle.ir_syntax.specs.Heads.{GlobalHead}
 use Rattle.ir_syntax.specs.Functions.{parameter_types}
 use Rattle.ir_syntax.specs.Tree.{BodyTree, OpaqueBody, PlainBody, PackedBody, VariableTree, AliasTypeTree, PlainAlias, FunctionAlias, AliasTree, ParameterTree, HeadTree, ItemTree, SourceFilename, DataLayout, TargetTriple, Struct, Variable, Alias, Declaration, Definition, Attributes, Metadata}
 
+-- the body of a struct as a tree
 abbrev pub body_view : StructBody → BodyTree
 body_view bodies.Opaque = OpaqueBody
 body_view (bodies.Plain fields) = PlainBody (map type_view fields.items)
 body_view (bodies.Packed fields) = PackedBody (map type_view fields.items)
 
+-- a variable as a tree
 abbrev pub variable_view : the_variable.Variable → VariableTree
 variable_view v = record {
   name = v.name;
@@ -38,19 +40,24 @@ variable_view v = record {
   alignment = v.alignment;
 }
 
+-- the type of an alias as a tree
 abbrev pub alias_type_view : AliasType → AliasTypeTree
 alias_type_view (alias_type.Plain ty) = PlainAlias (type_view ty)
 alias_type_view (alias_type.Function returns signature) = FunctionAlias (type_view returns) (map type_view signature.parameters.items) signature.variadic
 
+-- an alias as a tree
 abbrev pub alias_view : the_alias.Alias → AliasTree
 alias_view a = record { name = a.name; linkage = a.linkage; ty = alias_type_view a.ty; target = a.target }
 
+-- the head of a variable or an alias as a tree
 abbrev pub global_view : the_head.GlobalHead → GlobalHead
 global_view h = (h.name, h.linkage)
 
+-- a parameter as a tree
 abbrev pub parameter_view : Parameter → ParameterTree
 parameter_view p = (type_view p.ty, p.name)
 
+-- parameters as trees, and whether more may follow
 abbrev pub parameters_view : FormalParameters → List ParameterTree × Bool
 parameters_view p = (map parameter_view p.parameters.items, p.variadic)
 
@@ -58,15 +65,19 @@ parameters_view p = (map parameter_view p.parameters.items, p.variadic)
 abbrev pub declared_view : FormalParameters → List TypeTree × Bool
 declared_view p = (parameter_types (map parameter_view p.parameters.items), p.variadic)
 
+-- what stands behind the head of a definition as trees
 abbrev pub defined_view : Defined → (List ParameterTree × Bool) × List BlockTree
 defined_view d = (parameters_view d.parameters, map block_view d.blocks.items)
 
+-- what stands behind the type of a variable as trees
 abbrev pub variable_rest_view : VariableRest → Option ConstantTree × Option Integer
 variable_rest_view v = (option_map constant_view v.initialiser, v.alignment)
 
+-- the head of a function as a tree
 abbrev pub head_view : Head → HeadTree
 head_view h = record { linkage = h.linkage; returns = type_view h.returns; name = h.name }
 
+-- an item as a tree
 abbrev pub item_view : Item → ItemTree
 item_view (items.SourceFilename place text) = SourceFilename place text
 item_view (items.DataLayout place text) = DataLayout place text
@@ -79,5 +90,6 @@ item_view (items.Definition place definition) = Definition place (head_view defi
 item_view (items.Attributes place) = Attributes place
 item_view (items.Metadata place) = Metadata place
 
+-- items as trees
 abbrev pub items_view : List Item → List ItemTree
 items_view all = map item_view all

@@ -1,4 +1,5 @@
--- At which tokens `read_items` reads a refused text once more: those at which a wider language can go on.
+-- Says how the code reads: at which tokens `read_items` reads a refused text once more: those at which a wider language
+-- can go on.
 use Rattle.std.specs.Prelude.{◌||◌, Bool, true, false, List, [], ◌∷◌}
 use Rattle.phrase_rows.specs.Row.{among}
 use Rattle.ir_lexer.specs.Ahead.{Located}
@@ -13,6 +14,7 @@ use Rattle.ir_constants.specs.Constants.{holder_shape}
 abbrev pub opens_nest : Located → Bool
 opens_nest t = among (class t) holder_shape.first
 
+-- a local that has a number for a name
 abbrev pub is_unnamed : TokenKind → Bool
 is_unnamed kind.UnnamedLocal = true
 is_unnamed _ = false

@@ -9,6 +9,7 @@ use ir_terminals::{Integer, Local, PlacedName, PlacedText};
 /// What a struct is.
 #[derive(Drop)]
 pub enum StructBody {
+    /// `opaque`: the fields are not known.
     Opaque,
     /// The fields of `{ .. }`.
     Plain(Vec<Type>),
@@ -99,7 +100,9 @@ pub enum Item {
     TargetTriple(Place, PlacedText),
     /// A struct that has a name.
     Struct(PlacedName, StructBody),
+    /// `global` or `constant`
     Variable(Box<Variable>),
+    /// `alias`
     Alias(Box<Alias>),
     /// `declare`
     Declaration(Place, Box<Declaration>),

@@ -1,9 +1,10 @@
--- The flags of instructions.
+-- For `Flag`: the flags of instructions, their words and their codes.
 use Rattle.std.specs.Prelude.{ℕ, List, [], ◌∷◌, map, find, Option, codes, bytes_eq, nat_eq}
 use Rattle.ir_tables.specs.Table.{Entry}
 use Rattle.ir_tables.specs.declared.flag.Flag.{Flag}
 use Rattle.ir_tables.specs.declared.flag.Flag.TheVariants.{Nuw, Nsw, Exact, Disjoint, Nneg, Samesign, Inbounds, Nusw, Volatile}
 
+-- the word of a flag
 abbrev pub flag_word : Flag → List ℕ
 flag_word Nuw = codes "nuw"
 flag_word Nsw = codes "nsw"
@@ -15,6 +16,7 @@ flag_word Inbounds = codes "inbounds"
 flag_word Nusw = codes "nusw"
 flag_word Volatile = codes "volatile"
 
+-- the code of a flag
 abbrev pub flag_code : Flag → ℕ
 flag_code Nuw = 1
 flag_code Nsw = 2
@@ -30,6 +32,7 @@ flag_code Volatile = 256
 abbrev pub flags : List Flag
 flags = Nuw ∷ Nsw ∷ Exact ∷ Disjoint ∷ Nneg ∷ Samesign ∷ Inbounds ∷ Nusw ∷ Volatile ∷ []
 
+-- the words and codes of all flags
 abbrev pub flag_table : List Entry
 flag_table = map (λ flag. record { word = flag_word flag; code = flag_code flag }) flags
 
@@ -37,5 +40,6 @@ flag_table = map (λ flag. record { word = flag_word flag; code = flag_code flag
 unfoldable pub flag_of_word : List ℕ → Option Flag
 flag_of_word word = find (λ flag. bytes_eq (flag_word flag) word) flags
 
+-- the flag of a code
 unfoldable pub flag_of_code : ℕ → Option Flag
 flag_of_code code = find (λ flag. nat_eq (flag_code flag) code) flags

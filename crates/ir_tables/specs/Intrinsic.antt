@@ -1,4 +1,4 @@
--- The intrinsics over integers, in the order of their table.
+-- For `Intrinsic`: the intrinsics over integers, in the order of their table.
 use Rattle.std.specs.Prelude.{ℕ, List, [], ◌∷◌, map, find, Option, codes, bytes_eq, nat_eq}
 use Rattle.ir_tables.specs.Table.{Entry}
 use Rattle.ir_tables.specs.declared.intrinsic.Intrinsic.{Intrinsic}
@@ -29,6 +29,7 @@ intrinsic_word UmulWithOverflow = codes "umul.with.overflow"
 intrinsic_word Fshl = codes "fshl"
 intrinsic_word Fshr = codes "fshr"
 
+-- the code of an intrinsic
 abbrev pub intrinsic_code : Intrinsic → ℕ
 intrinsic_code Ctpop = 1
 intrinsic_code Bswap = 2
@@ -55,8 +56,32 @@ intrinsic_code Fshr = 22
 
 -- all of them, in the order of the table
 abbrev pub intrinsics : List Intrinsic
-intrinsics = Ctpop ∷ Bswap ∷ Bitreverse ∷ Ctlz ∷ Cttz ∷ Abs ∷ Smin ∷ Smax ∷ Umin ∷ Umax ∷ SaddSat ∷ UaddSat ∷ SsubSat ∷ UsubSat ∷ SaddWithOverflow ∷ UaddWithOverflow ∷ SsubWithOverflow ∷ UsubWithOverflow ∷ SmulWithOverflow ∷ UmulWithOverflow ∷ Fshl ∷ Fshr ∷ []
+intrinsics =
+    Ctpop ∷
+    Bswap ∷
+    Bitreverse ∷
+    Ctlz ∷
+    Cttz ∷
+    Abs ∷
+    Smin ∷
+    Smax ∷
+    Umin ∷
+    Umax ∷
+    SaddSat ∷
+    UaddSat ∷
+    SsubSat ∷
+    UsubSat ∷
+    SaddWithOverflow ∷
+    UaddWithOverflow ∷
+    SsubWithOverflow ∷
+    UsubWithOverflow ∷
+    SmulWithOverflow ∷
+    UmulWithOverflow ∷
+    Fshl ∷
+    Fshr ∷
+    []
 
+-- the words and codes of all intrinsics
 abbrev pub intrinsic_table : List Entry
 intrinsic_table = map (λ intrinsic. record { word = intrinsic_word intrinsic; code = intrinsic_code intrinsic }) intrinsics
 
@@ -64,5 +89,6 @@ intrinsic_table = map (λ intrinsic. record { word = intrinsic_word intrinsic; c
 unfoldable pub intrinsic_of_word : List ℕ → Option Intrinsic
 intrinsic_of_word word = find (λ intrinsic. bytes_eq (intrinsic_word intrinsic) word) intrinsics
 
+-- the intrinsic of a code
 unfoldable pub intrinsic_of_code : ℕ → Option Intrinsic
 intrinsic_of_code code = find (λ intrinsic. nat_eq (intrinsic_code intrinsic) code) intrinsics

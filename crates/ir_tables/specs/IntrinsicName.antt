@@ -1,4 +1,4 @@
--- What `Intrinsic::of_name` promises for: the names of the intrinsics over integers (LangRef, "Intrinsic Functions").
+-- For `of_name` of `Intrinsic`: the names of the intrinsics over integers (LangRef, "Intrinsic Functions").
 use Rattle.std.specs.Prelude.{◌≡◌, ℕ, ◌%◌, ◌≤◌, List, ◌++◌, codes, Bool, true, ◌==◌, IsTrue}
 use Rattle.std.specs.Fmt.{decimal}
 use Rattle.ir_tables.specs.declared.intrinsic.Intrinsic.{Intrinsic}

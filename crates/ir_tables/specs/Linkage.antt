@@ -1,9 +1,10 @@
--- The linkages.
+-- For `Linkage`: the linkages, their words and their codes.
 use Rattle.std.specs.Prelude.{ℕ, List, [], ◌∷◌, map, find, Option, codes, bytes_eq, nat_eq}
 use Rattle.ir_tables.specs.Table.{Entry}
 use Rattle.ir_tables.specs.declared.linkage.Linkage.{Linkage}
 use Rattle.ir_tables.specs.declared.linkage.Linkage.TheVariants.{External, Private, Internal, AvailableExternally, Linkonce, LinkonceOdr, Weak, WeakOdr, Common, Appending, ExternWeak}
 
+-- the word of a linkage
 abbrev pub linkage_word : Linkage → List ℕ
 linkage_word External = codes "external"
 linkage_word Private = codes "private"
@@ -17,6 +18,7 @@ linkage_word Common = codes "common"
 linkage_word Appending = codes "appending"
 linkage_word ExternWeak = codes "extern_weak"
 
+-- the code of a linkage
 abbrev pub linkage_code : Linkage → ℕ
 linkage_code External = 0
 linkage_code Private = 1
@@ -34,6 +36,7 @@ linkage_code ExternWeak = 10
 abbrev pub linkages : List Linkage
 linkages = External ∷ Private ∷ Internal ∷ AvailableExternally ∷ Linkonce ∷ LinkonceOdr ∷ Weak ∷ WeakOdr ∷ Common ∷ Appending ∷ ExternWeak ∷ []
 
+-- the words and codes of all linkages
 abbrev pub linkage_table : List Entry
 linkage_table = map (λ linkage. record { word = linkage_word linkage; code = linkage_code linkage }) linkages
 
@@ -41,5 +44,6 @@ linkage_table = map (λ linkage. record { word = linkage_word linkage; code = li
 unfoldable pub linkage_of_word : List ℕ → Option Linkage
 linkage_of_word word = find (λ linkage. bytes_eq (linkage_word linkage) word) linkages
 
+-- the linkage of a code
 unfoldable pub linkage_of_code : ℕ → Option Linkage
 linkage_of_code code = find (λ linkage. nat_eq (linkage_code linkage) code) linkages

@@ -1,4 +1,4 @@
--- What `Opcode::may_have` promises for: the flags that an opcode may have.
+-- For `may_have` of `Opcode`: the flags that an opcode may have.
 use Rattle.std.specs.Prelude.{Bool, true, false}
 use Rattle.ir_tables.specs.declared.opcode.Opcode.{Opcode}
 use Rattle.ir_tables.specs.declared.opcode.Opcode.TheVariants as op
@@ -11,22 +11,27 @@ wraps flag.Nuw = true
 wraps flag.Nsw = true
 wraps _ = false
 
+-- `exact`
 abbrev pub is_exact : Flag → Bool
 is_exact flag.Exact = true
 is_exact _ = false
 
+-- `disjoint`
 abbrev pub is_disjoint : Flag → Bool
 is_disjoint flag.Disjoint = true
 is_disjoint _ = false
 
+-- `samesign`
 abbrev pub is_samesign : Flag → Bool
 is_samesign flag.Samesign = true
 is_samesign _ = false
 
+-- `nneg`
 abbrev pub is_nneg : Flag → Bool
 is_nneg flag.Nneg = true
 is_nneg _ = false
 
+-- `volatile`
 abbrev pub is_volatile : Flag → Bool
 is_volatile flag.Volatile = true
 is_volatile _ = false

@@ -1,9 +1,10 @@
--- The opcodes.
+-- For `Opcode`: the opcodes, their words and their codes.
 use Rattle.std.specs.Prelude.{ℕ, List, [], ◌∷◌, map, find, Option, codes, bytes_eq, nat_eq}
 use Rattle.ir_tables.specs.Table.{Entry}
 use Rattle.ir_tables.specs.declared.opcode.Opcode.{Opcode}
 use Rattle.ir_tables.specs.declared.opcode.Opcode.TheVariants.{Add, Sub, Mul, UDiv, SDiv, URem, SRem, Shl, LShr, AShr, And, Or, Xor, ICmp, Trunc, ZExt, SExt, PtrToInt, IntToPtr, Select, Freeze, Phi, Load, Store, Alloca, GetElementPtr, Call, ExtractValue, InsertValue, Ret, Br, Switch, Unreachable}
 
+-- the word of an opcode
 abbrev pub opcode_word : Opcode → List ℕ
 opcode_word Add = codes "add"
 opcode_word Sub = codes "sub"
@@ -39,6 +40,7 @@ opcode_word Br = codes "br"
 opcode_word Switch = codes "switch"
 opcode_word Unreachable = codes "unreachable"
 
+-- the code of an opcode
 abbrev pub opcode_code : Opcode → ℕ
 opcode_code Add = 1
 opcode_code Sub = 2
@@ -76,8 +78,43 @@ opcode_code Unreachable = 33
 
 -- all of them, in the order of the table
 abbrev pub opcodes : List Opcode
-opcodes = Add ∷ Sub ∷ Mul ∷ UDiv ∷ SDiv ∷ URem ∷ SRem ∷ Shl ∷ LShr ∷ AShr ∷ And ∷ Or ∷ Xor ∷ ICmp ∷ Trunc ∷ ZExt ∷ SExt ∷ PtrToInt ∷ IntToPtr ∷ Select ∷ Freeze ∷ Phi ∷ Load ∷ Store ∷ Alloca ∷ GetElementPtr ∷ Call ∷ ExtractValue ∷ InsertValue ∷ Ret ∷ Br ∷ Switch ∷ Unreachable ∷ []
+opcodes =
+    Add ∷
+    Sub ∷
+    Mul ∷
+    UDiv ∷
+    SDiv ∷
+    URem ∷
+    SRem ∷
+    Shl ∷
+    LShr ∷
+    AShr ∷
+    And ∷
+    Or ∷
+    Xor ∷
+    ICmp ∷
+    Trunc ∷
+    ZExt ∷
+    SExt ∷
+    PtrToInt ∷
+    IntToPtr ∷
+    Select ∷
+    Freeze ∷
+    Phi ∷
+    Load ∷
+    Store ∷
+    Alloca ∷
+    GetElementPtr ∷
+    Call ∷
+    ExtractValue ∷
+    InsertValue ∷
+    Ret ∷
+    Br ∷
+    Switch ∷
+    Unreachable ∷
+    []
 
+-- the words and codes of all opcodes
 abbrev pub opcode_table : List Entry
 opcode_table = map (λ opcode. record { word = opcode_word opcode; code = opcode_code opcode }) opcodes
 
@@ -85,5 +122,6 @@ opcode_table = map (λ opcode. record { word = opcode_word opcode; code = opcode
 unfoldable pub opcode_of_word : List ℕ → Option Opcode
 opcode_of_word word = find (λ opcode. bytes_eq (opcode_word opcode) word) opcodes
 
+-- the opcode of a code
 unfoldable pub opcode_of_code : ℕ → Option Opcode
 opcode_of_code code = find (λ opcode. nat_eq (opcode_code opcode) code) opcodes

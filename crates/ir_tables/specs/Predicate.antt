@@ -1,9 +1,10 @@
--- The predicates of `icmp`.
+-- For `Predicate`: the predicates of `icmp`, their words and their codes.
 use Rattle.std.specs.Prelude.{ℕ, List, [], ◌∷◌, map, find, Option, codes, bytes_eq, nat_eq}
 use Rattle.ir_tables.specs.Table.{Entry}
 use Rattle.ir_tables.specs.declared.predicate.Predicate.{Predicate}
 use Rattle.ir_tables.specs.declared.predicate.Predicate.TheVariants.{Eq, Ne, Ugt, Uge, Ult, Ule, Sgt, Sge, Slt, Sle}
 
+-- the word of a predicate
 abbrev pub predicate_word : Predicate → List ℕ
 predicate_word Eq = codes "eq"
 predicate_word Ne = codes "ne"
@@ -16,6 +17,7 @@ predicate_word Sge = codes "sge"
 predicate_word Slt = codes "slt"
 predicate_word Sle = codes "sle"
 
+-- the code of a predicate
 abbrev pub predicate_code : Predicate → ℕ
 predicate_code Eq = 1
 predicate_code Ne = 2
@@ -32,6 +34,7 @@ predicate_code Sle = 10
 abbrev pub predicates : List Predicate
 predicates = Eq ∷ Ne ∷ Ugt ∷ Uge ∷ Ult ∷ Ule ∷ Sgt ∷ Sge ∷ Slt ∷ Sle ∷ []
 
+-- the words and codes of all predicates
 abbrev pub predicate_table : List Entry
 predicate_table = map (λ predicate. record { word = predicate_word predicate; code = predicate_code predicate }) predicates
 
@@ -39,5 +42,6 @@ predicate_table = map (λ predicate. record { word = predicate_word predicate; c
 unfoldable pub predicate_of_word : List ℕ → Option Predicate
 predicate_of_word word = find (λ predicate. bytes_eq (predicate_word predicate) word) predicates
 
+-- the predicate of a code
 unfoldable pub predicate_of_code : ℕ → Option Predicate
 predicate_of_code code = find (λ predicate. nat_eq (predicate_code predicate) code) predicates

@@ -1,4 +1,4 @@
--- Tables of words and codes.
+-- For `Table`: tables of words and codes.
 use Rattle.std.specs.Prelude.{◌≡◌, ℕ, Bool, true, not, ◌&&◌, List, [], ◌∷◌, map, length, Some, slice_get, ◌==◌, bytes_eq, nat_eq}
 use Rattle.std.specs.List.{list_any}
 use Rattle.ir_tables.specs.declared.table.Row.{Row}
@@ -8,15 +8,19 @@ pub record Entry : Type 0 where
   pub word : List ℕ
   pub code : ℕ
 
+-- a row as an entry
 abbrev pub entry_of : Row → Entry
 entry_of row = record { word = row.word.now; code = row.code }
 
+-- rows as entries
 abbrev pub entries : List Row → List Entry
 entries rows = map entry_of rows
 
+-- the words of a table
 abbrev pub words : List Entry → List (List ℕ)
 words table = map (λ entry. entry.word) table
 
+-- the codes of a table
 abbrev pub codes_of : List Entry → List ℕ
 codes_of table = map (λ entry. entry.code) table
 

@@ -1,9 +1,10 @@
--- The kinds of undefined behaviour.
+-- For `UndefinedKind`: the kinds of undefined behaviour, their words and their codes.
 use Rattle.std.specs.Prelude.{ℕ, List, [], ◌∷◌, map, find, Option, codes, bytes_eq, nat_eq}
 use Rattle.ir_tables.specs.Table.{Entry}
 use Rattle.ir_tables.specs.declared.undefined_kind.UndefinedKind.{UndefinedKind}
 use Rattle.ir_tables.specs.declared.undefined_kind.UndefinedKind.TheVariants.{DivisionByZero, DivisionOverflow, BranchOnPoison, PoisonAddress, OutsideBlock, EndedBlock, Misaligned, WriteToConstant, BadFree, Overlap, NoFunction, AnotherFunctionType, PoisonArgument, Unreachable, BadFormat}
 
+-- the words that tell a kind
 abbrev pub undefined_word : UndefinedKind → List ℕ
 undefined_word DivisionByZero = codes "division by zero"
 undefined_word DivisionOverflow = codes "division overflow"
@@ -21,6 +22,7 @@ undefined_word PoisonArgument = codes "poison argument"
 undefined_word Unreachable = codes "unreachable"
 undefined_word BadFormat = codes "bad format"
 
+-- the code of a kind
 abbrev pub undefined_code : UndefinedKind → ℕ
 undefined_code DivisionByZero = 1
 undefined_code DivisionOverflow = 2
@@ -40,8 +42,25 @@ undefined_code BadFormat = 15
 
 -- all of them, in the order of the table
 abbrev pub undefined_kinds : List UndefinedKind
-undefined_kinds = DivisionByZero ∷ DivisionOverflow ∷ BranchOnPoison ∷ PoisonAddress ∷ OutsideBlock ∷ EndedBlock ∷ Misaligned ∷ WriteToConstant ∷ BadFree ∷ Overlap ∷ NoFunction ∷ AnotherFunctionType ∷ PoisonArgument ∷ Unreachable ∷ BadFormat ∷ []
+undefined_kinds =
+    DivisionByZero ∷
+    DivisionOverflow ∷
+    BranchOnPoison ∷
+    PoisonAddress ∷
+    OutsideBlock ∷
+    EndedBlock ∷
+    Misaligned ∷
+    WriteToConstant ∷
+    BadFree ∷
+    Overlap ∷
+    NoFunction ∷
+    AnotherFunctionType ∷
+    PoisonArgument ∷
+    Unreachable ∷
+    BadFormat ∷
+    []
 
+-- the words and codes of all kinds
 abbrev pub undefined_table : List Entry
 undefined_table = map (λ kind. record { word = undefined_word kind; code = undefined_code kind }) undefined_kinds
 
@@ -49,5 +68,6 @@ undefined_table = map (λ kind. record { word = undefined_word kind; code = unde
 unfoldable pub undefined_of_word : List ℕ → Option UndefinedKind
 undefined_of_word word = find (λ kind. bytes_eq (undefined_word kind) word) undefined_kinds
 
+-- the kind of a code
 unfoldable pub undefined_of_code : ℕ → Option UndefinedKind
 undefined_of_code code = find (λ kind. nat_eq (undefined_code kind) code) undefined_kinds

@@ -1,4 +1,4 @@
--- How the code reads a width.
+-- Says how the code reads: the digits of a width in the name of an intrinsic.
 use Rattle.std.specs.Prelude.{ℕ, ◌+◌, ◌-◌, ◌*◌, List, [], ◌∷◌, Option, Some, None, Bool, ◌&&◌, ◌==◌, nat_le, nat_lt, length, slice_index, if◌then◌else◌}
 
 -- one of the bytes `0` to `9`

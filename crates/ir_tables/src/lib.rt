@@ -3,6 +3,13 @@
 //! It stands on nothing. Its promise: a word, its row and its code determine each other, a set of flags
 //! and its code determine each other, and nothing takes memory. Definitions: `specs/Table`, and a file
 //! for each enum.
+//!
+//! ```
+//! Opcode::of_word(b"add") // Some(Opcode::Add)
+//! Opcode::Add.word() // "add"
+//! Flags::empty().with(Flag::Nsw).has(Flag::Nuw) // false
+//! Intrinsic::of_name(b"llvm.ctpop.i32") // Some((Intrinsic::Ctpop, 32))
+//! ```
 #![tactic(auto)]
 
 mod flag;

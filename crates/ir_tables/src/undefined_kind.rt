@@ -8,20 +8,35 @@ use crate::{Row, Table};
 /// A kind of undefined behaviour.
 #[derive(Clone, Copy, Debug, PartialEq, Eq)]
 pub enum UndefinedKind {
+    /// A divisor is zero or poison.
     DivisionByZero,
+    /// The least number is divided by -1.
     DivisionOverflow,
+    /// `br` or `switch` on poison.
     BranchOnPoison,
+    /// An access through poison, or a call of it.
     PoisonAddress,
+    /// No block holds all the bytes of an access.
     OutsideBlock,
+    /// An access to a block that has ended.
     EndedBlock,
+    /// The address of an access is no multiple of its alignment.
     Misaligned,
+    /// A write to a constant.
     WriteToConstant,
+    /// A block is ended from elsewhere than its start, again, or by what may not end it.
     BadFree,
+    /// The ranges of a copy overlap that may not.
     Overlap,
+    /// A call of an address that no function has.
     NoFunction,
+    /// A call with another function type than the function has.
     AnotherFunctionType,
+    /// A host function or the count of an `alloca` is given poison.
     PoisonArgument,
+    /// `unreachable` is reached.
     Unreachable,
+    /// A pattern of `printf` that does not go with its arguments.
     BadFormat,
 }
 

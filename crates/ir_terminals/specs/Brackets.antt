@@ -1,4 +1,4 @@
--- Brackets and all that stands in them, as rows.
+-- For `skip_brackets` and `skip_braced` of `Cursor`: brackets and all that stands in them, as rows.
 use Rattle.std.specs.Prelude.{ℕ, ◌==◌, Bool, true, false, List, [], ◌∷◌, ◌++◌, if◌then◌else◌}
 use Rattle.ir_lexer.specs.Ahead.{Located}
 use Rattle.phrase_rows.specs.Row.{Row, Move, On, Ends, Stops, machine}
@@ -13,6 +13,7 @@ use Rattle.ir_terminals.specs.declared.brackets.Turn.TheVariants as turns
 use Rattle.ir_terminals.specs.declared.terminal.Terminal.{Terminal}
 use Rattle.ir_terminals.specs.declared.terminal.Terminal.TheVariants as terminals
 
+-- what a terminal is to brackets
 abbrev pub role : Terminal → Role
 role terminals.OpenParenthesis = roles.Opens brackets.Parenthesis
 role terminals.OpenBracket = roles.Opens brackets.Square
@@ -24,6 +25,7 @@ role terminals.CloseBrace = roles.Closes brackets.Brace
 role terminals.Greater = roles.Closes brackets.Angle
 role _ = roles.Neither
 
+-- the two are brackets of one form
 abbrev pub is_same : Bracket → Bracket → Bool
 is_same brackets.Parenthesis brackets.Parenthesis = true
 is_same brackets.Square brackets.Square = true

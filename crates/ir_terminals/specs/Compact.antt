@@ -1,4 +1,4 @@
--- How the code keeps texts that do not change.
+-- Says how the code reads: how texts that do not change are kept.
 use Rattle.std.specs.Prelude.{◌≡◌, ℕ, ◌≤◌, List, take}
 use Rattle.ir_terminals.specs.declared.compact.Stored.{Stored}
 use Rattle.ir_terminals.specs.declared.compact.Stored.TheVariants.{Short, Long}

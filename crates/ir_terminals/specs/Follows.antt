@@ -1,4 +1,4 @@
--- What a call that moves a cursor gives.
+-- For the calls that move a `Cursor`: what such a call gives.
 use Rattle.std.specs.Prelude.{◌≡◌, Result, Ok, Err}
 use Rattle.ir_lexer.specs.Ahead.{Located}
 use Rattle.phrase_rows.specs.Row.{Reading, Done, Bad, Row}

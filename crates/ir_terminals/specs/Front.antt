@@ -1,4 +1,4 @@
--- What a cursor keeps: a lexer, and what the lexer answered last.
+-- Says how the code reads: what a cursor keeps: a lexer, and what the lexer answered last.
 use Rattle.std.specs.Prelude.{◌≡◌, ℕ, ◌≤◌, ◌^◌, Bool, true, false, List, [], length, drop}
 use Rattle.ir_lexer.specs.Ahead.{Ahead, ahead, before_all}
 use Rattle.ir_lexer.specs.Lexer.{Lexing, LiesIn, spelled}

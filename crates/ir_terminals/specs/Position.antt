@@ -1,4 +1,4 @@
--- Where a cursor stands in a text, and what it has left.
+-- For `Cursor`: where a cursor stands in a text, and what it has left.
 use Rattle.std.specs.Prelude.{ℕ, zero, suc, ◌+◌, Bool, true, false, List, [], ◌∷◌, drop, Option, Some, None}
 use Rattle.ir_base.specs.declared.place.Place.{Place}
 use Rattle.ir_lexer.specs.Ahead.{Located, ahead}
@@ -36,14 +36,17 @@ left p = drop p.taken (text_tokens p.text)
 abbrev pub stepped : Position → Position
 stepped p = record { limits = p.limits; text = p.text; taken = p.taken + 1 }
 
+-- what the first token is to phrases
 abbrev pub first_terminal : List Located → Option Terminal
 first_terminal [] = None
 first_terminal (t ∷ ts) = Some (terminal t.token)
 
+-- the kind of the first token
 abbrev pub first_kind : List Located → Option TokenKind
 first_kind [] = None
 first_kind (t ∷ ts) = Some t.token.kind
 
+-- the spelling of the first token
 abbrev pub first_spelling : List Located → List ℕ
 first_spelling [] = []
 first_spelling (t ∷ ts) = t.token.spelling
@@ -63,10 +66,12 @@ abbrev pub IsFirstToken : List Located → Type 0
 IsFirstToken [] = Unit {0}
 IsFirstToken (t ∷ ts) = IsToken t.token.kind t.token.spelling
 
+-- `<`
 abbrev pub is_less : Terminal → Bool
 is_less terminals.Less = true
 is_less _ = false
 
+-- the first token is `<`
 abbrev pub is_first_less : List Located → Bool
 is_first_less [] = false
 is_first_less (t ∷ ts) = is_less (terminal t.token)

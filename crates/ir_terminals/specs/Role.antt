@@ -1,4 +1,4 @@
--- What a token is to the phrases of the language.
+-- For `terminal_of`, and `terminal` of `Cursor`: what a token is to the phrases of the language.
 use Rattle.std.specs.Prelude.{ℕ, List, [], ◌∷◌, codes}
 use Rattle.ir_lexer.specs.Ahead.{Located}
 use Rattle.ir_lexer.specs.Tokens.{Spelled}
@@ -25,6 +25,7 @@ marks =
     means (codes "...") terminals.Dots ∷
     []
 
+-- what a token of this kind and spelling is
 abbrev pub terminal_in : TokenKind → List ℕ → Terminal
 terminal_in kind.Label spelling = terminals.Label
 terminal_in kind.Word spelling = word_terminal spelling

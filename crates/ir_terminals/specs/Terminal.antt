@@ -1,4 +1,4 @@
--- The classes of the terminals.
+-- For `code` of `Terminal`, and `is_class_next` of `Cursor`: the classes of the terminals.
 use Rattle.std.specs.Prelude.{ℕ, ◌+◌, List, map}
 use Rattle.ir_tables.specs.Opcode.{opcode_code, opcodes}
 use Rattle.ir_terminals.specs.declared.terminal.Terminal.{Terminal}
@@ -8,12 +8,15 @@ use Rattle.ir_terminals.specs.declared.terminal.Terminal.TheVariants as terminal
 abbrev pub integer_type_class : ℕ
 integer_type_class = 41
 
+-- the class of the linkages
 abbrev pub linkage_class : ℕ
 linkage_class = 42
 
+-- the class of the flags
 abbrev pub flag_class : ℕ
 flag_class = 59
 
+-- the class of the predicates
 abbrev pub predicate_class : ℕ
 predicate_class = 60
 

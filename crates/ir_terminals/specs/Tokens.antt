@@ -1,4 +1,4 @@
--- The rows of one token.
+-- For the calls of `Cursor` that read one token, as `integer`: the rows of one token.
 use Rattle.std.specs.Prelude.{ℕ, [], ◌∷◌}
 use Rattle.ir_base.specs.declared.place.Place.{Place}
 use Rattle.ir_lexer.specs.Ahead.{Located}
@@ -22,12 +22,15 @@ use Rattle.ir_terminals.specs.declared.values.PlacedText.{PlacedText}
 abbrev pub word : Terminal → Row Located Place
 word wanted = one class (code wanted ∷ []) place_of_token
 
+-- an integer
 abbrev pub integer_row : Row Located Integer
 integer_row = one class (code terminals.Integer ∷ []) integer_of
 
+-- a global name
 abbrev pub global_name_row : Row Located PlacedName
 global_name_row = one class (code terminals.GlobalName ∷ []) name_of_global
 
+-- a local name or number
 abbrev pub local_row : Row Located Local
 local_row = one class (code terminals.Local ∷ []) local_of
 
@@ -35,24 +38,31 @@ local_row = one class (code terminals.Local ∷ []) local_of
 abbrev pub named_local_row : Limits → Row Located PlacedName
 named_local_row limits = one class (code terminals.Local ∷ []) (named_local_of limits.wide)
 
+-- a label
 abbrev pub label_row : Row Located Local
 label_row = one class (code terminals.Label ∷ []) label_of
 
+-- a string
 abbrev pub quoted_row : Row Located PlacedText
 quoted_row = one class (code terminals.Quoted ∷ []) text_of
 
+-- a byte string
 abbrev pub byte_string_row : Row Located PlacedText
 byte_string_row = one class (code terminals.ByteString ∷ []) bytes_of
 
+-- a linkage
 abbrev pub linkage_row : Row Located Linkage
 linkage_row = one class (linkage_class ∷ []) linkage_of
 
+-- a flag
 abbrev pub flag_row : Row Located Flag
 flag_row = one class (flag_class ∷ []) flag_of
 
+-- a predicate
 abbrev pub predicate_row : Row Located Predicate
 predicate_row = one class (predicate_class ∷ []) predicate_of
 
+-- an opcode
 abbrev pub opcode_row : Row Located Opcode
 opcode_row = one class opcode_classes opcode_of
 

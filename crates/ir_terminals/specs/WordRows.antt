@@ -1,12 +1,14 @@
--- How the code finds the row of a word: its number, and the row with that number.
+-- Says how the code reads: how the row of a word is found: its number, and the row with that number.
 use Rattle.std.specs.Prelude.{ℕ, ◌+◌, ◌-◌, ◌*◌, ◌/◌, ◌%◌, List, length, map, get_or}
 use Rattle.ir_terminals.specs.Words.{Meaning}
 use Rattle.ir_terminals.specs.declared.words.TheConstants.{FIRST, ROWS}
 use Rattle.ir_terminals.specs.declared.words.Word.{Word}
 
+-- what a row of the code says
 abbrev pub meaning_of : Word → Meaning
 meaning_of word = record { word = word.spelling.now; terminal = word.terminal }
 
+-- what rows of the code say
 abbrev pub meanings_of : List Word → List Meaning
 meanings_of words = map meaning_of words
 

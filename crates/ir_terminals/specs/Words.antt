@@ -1,4 +1,4 @@
--- The words of the language, by their roles.
+-- For `terminal_of`: the words of the language, by their roles.
 use Rattle.std.specs.Prelude.{ℕ, ◌==◌, ◌&&◌, nat_le, List, [], ◌∷◌, ◌++◌, map, cond, bytes_eq, codes, Bool, Option, Some, None, if◌then◌else◌}
 use Rattle.ir_tables.specs.Flag.{flags, flag_word}
 use Rattle.ir_tables.specs.Linkage.{linkages, linkage_word}
@@ -13,6 +13,7 @@ pub record Meaning : Type 0 where
   pub word : List ℕ
   pub terminal : Terminal
 
+-- a word and what it is
 abbrev pub means : List ℕ → Terminal → Meaning
 means word terminal = record { word = word; terminal = terminal }
 
@@ -22,7 +23,13 @@ each_means words terminal = map (λ word. means word terminal) words
 
 -- dropped before `global` and `constant`, and before a function's type
 abbrev pub global_dropped : List (List ℕ)
-global_dropped = codes "dso_local" ∷ codes "dso_preemptable" ∷ codes "default" ∷ codes "hidden" ∷ codes "protected" ∷ []
+global_dropped =
+    codes "dso_local" ∷
+    codes "dso_preemptable" ∷
+    codes "default" ∷
+    codes "hidden" ∷
+    codes "protected" ∷
+    []
 
 -- dropped there too, and behind a function
 abbrev pub unnamed_addresses : List (List ℕ)
@@ -34,7 +41,23 @@ calling_conventions = codes "ccc" ∷ codes "fastcc" ∷ codes "coldcc" ∷ []
 
 -- dropped at a parameter alone
 abbrev pub parameter_dropped : List (List ℕ)
-parameter_dropped = codes "zeroext" ∷ codes "signext" ∷ codes "noext" ∷ codes "inreg" ∷ codes "noalias" ∷ codes "nocapture" ∷ codes "nonnull" ∷ codes "noundef" ∷ codes "writable" ∷ codes "returned" ∷ codes "immarg" ∷ codes "nest" ∷ codes "allocptr" ∷ codes "allocalign" ∷ codes "dead_on_unwind" ∷ []
+parameter_dropped =
+    codes "zeroext" ∷
+    codes "signext" ∷
+    codes "noext" ∷
+    codes "inreg" ∷
+    codes "noalias" ∷
+    codes "nocapture" ∷
+    codes "nonnull" ∷
+    codes "noundef" ∷
+    codes "writable" ∷
+    codes "returned" ∷
+    codes "immarg" ∷
+    codes "nest" ∷
+    codes "allocptr" ∷
+    codes "allocalign" ∷
+    codes "dead_on_unwind" ∷
+    []
 
 -- dropped at a parameter and behind a function
 abbrev pub attribute_dropped : List (List ℕ)
@@ -42,11 +65,44 @@ attribute_dropped = codes "nofree" ∷ codes "readnone" ∷ codes "readonly" ∷
 
 -- dropped behind a function alone
 abbrev pub function_dropped : List (List ℕ)
-function_dropped = codes "alwaysinline" ∷ codes "builtin" ∷ codes "cold" ∷ codes "convergent" ∷ codes "hot" ∷ codes "inlinehint" ∷ codes "minsize" ∷ codes "mustprogress" ∷ codes "nobuiltin" ∷ codes "nocallback" ∷ codes "noduplicate" ∷ codes "noinline" ∷ codes "norecurse" ∷ codes "noredzone" ∷ codes "noreturn" ∷ codes "nosync" ∷ codes "nounwind" ∷ codes "optnone" ∷ codes "optsize" ∷ codes "speculatable" ∷ codes "ssp" ∷ codes "sspreq" ∷ codes "sspstrong" ∷ codes "willreturn" ∷ []
+function_dropped =
+    codes "alwaysinline" ∷
+    codes "builtin" ∷
+    codes "cold" ∷
+    codes "convergent" ∷
+    codes "hot" ∷
+    codes "inlinehint" ∷
+    codes "minsize" ∷
+    codes "mustprogress" ∷
+    codes "nobuiltin" ∷
+    codes "nocallback" ∷
+    codes "noduplicate" ∷
+    codes "noinline" ∷
+    codes "norecurse" ∷
+    codes "noredzone" ∷
+    codes "noreturn" ∷
+    codes "nosync" ∷
+    codes "nounwind" ∷
+    codes "optnone" ∷
+    codes "optsize" ∷
+    codes "speculatable" ∷
+    codes "ssp" ∷
+    codes "sspreq" ∷
+    codes "sspstrong" ∷
+    codes "willreturn" ∷
+    []
 
 -- dropped at a parameter, with the brackets behind them
 abbrev pub parameter_dropped_lists : List (List ℕ)
-parameter_dropped_lists = codes "dereferenceable" ∷ codes "dereferenceable_or_null" ∷ codes "sret" ∷ codes "captures" ∷ codes "range" ∷ codes "initializes" ∷ codes "nofpclass" ∷ []
+parameter_dropped_lists =
+    codes "dereferenceable" ∷
+    codes "dereferenceable_or_null" ∷
+    codes "sret" ∷
+    codes "captures" ∷
+    codes "range" ∷
+    codes "initializes" ∷
+    codes "nofpclass" ∷
+    []
 
 -- dropped behind a function, with the brackets behind them
 abbrev pub function_dropped_lists : List (List ℕ)
@@ -119,9 +175,11 @@ width_in (first ∷ digits) = if (first == 105) && are_digits digits then Some (
 abbrev pub is_width : ℕ → Bool
 is_width width = nat_le 1 width && nat_le width 128
 
+-- the integer type of this width, where there is one
 abbrev pub of_width : ℕ → Terminal
 of_width width = if is_width width then terminals.IntegerType width else terminals.Other
 
+-- an integer type where the word has a width, or else what the list says
 abbrev pub width_or : Option ℕ → Terminal → Terminal
 width_or (Some width) listed = of_width width
 width_or None listed = listed

@@ -7,7 +7,9 @@ use std::alloc::{AllocError, AllocFailed};
 /// Memory ran out, or the cursor stands at the first token with which no such phrase begins or goes on.
 #[derive(Clone, Copy, Debug)]
 pub enum Fault {
+    /// Memory ran out.
     Memory,
+    /// The cursor stands at the first token with which no such phrase begins or goes on.
     Refused,
 }
 

@@ -3,6 +3,14 @@
 //! It stands on `ir_base`, `ir_lexer`, `ir_tables` and `phrase_rows`. Its promise: each reading call follows its row of
 //! one token or of matching brackets, whatever stands behind it. What phrases are made of tokens is not its concern.
 //! Definitions: `specs/Words`, `specs/Terminal`, `specs/Values`, `specs/Position`, `specs/Tokens`, `specs/LeftOut`.
+//!
+//! ```
+//! let limits = Limits { nesting: 64, wide: false };
+//! let mut cursor = Cursor::new(alloc, b"@a = global i32 7", limits);
+//! let name = cursor.global_name()?; // a PlacedName: `a`, at 1:1
+//! cursor.take_class(Terminal::Equals)?; // 1:4
+//! cursor.terminal() // Some(Terminal::Global)
+//! ```
 #![tactic(auto)]
 
 mod brackets;

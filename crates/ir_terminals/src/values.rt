@@ -28,6 +28,8 @@ pub struct PlacedText {
 /// What a local value or a label is called: by a name, or by a number, with the place of the token.
 #[derive(Drop)]
 pub enum Local {
+    /// A name.
     Named(PlacedName),
+    /// A number.
     Numbered(Number, Place),
 }

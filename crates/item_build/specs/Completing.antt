@@ -1,4 +1,4 @@
--- Items that complete the entries of a module, one after the other.
+-- For `initialise_items` and `set_targets`: items that complete the entries of a module, one after the other.
 use Rattle.std.specs.Prelude.{ℕ, ◌+◌, List, ◌++◌, filter_map, length, Option, Some, None, option_to_list}
 use Rattle.ir_constants.specs.Tree.{ConstantTree}
 use Rattle.ir_syntax.specs.Tree.{ItemTree, Variable, Alias}

@@ -1,4 +1,4 @@
--- Items that are declared in a module, one after the other, and what is asked for of each.
+-- For `declare_items`: items that are declared in a module, one after the other, and what is asked for of each.
 use Rattle.std.specs.Prelude.{◌≡◌, List, map, filter_map, length, Option, Some, None}
 use Rattle.ir_terminals.specs.declared.values.PlacedName.{PlacedName}
 use Rattle.ir_syntax.specs.Tree.{ItemTree, Variable, Alias, Declaration, Definition}
@@ -24,9 +24,11 @@ declared_in m _ = m
 abbrev pub declared_variables : List ItemTree → List m.Variable
 declared_variables items = map without_initialiser (filter_map variable_in items)
 
+-- the aliases that items declare
 abbrev pub declared_aliases : List ItemTree → List m.Alias
 declared_aliases items = map without_target (filter_map alias_in items)
 
+-- the functions that items declare
 abbrev pub declared_functions : List ItemTree → List m.Function
 declared_functions items = map without_body (filter_map function_in items)
 

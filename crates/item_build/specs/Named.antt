@@ -1,4 +1,5 @@
--- Structs that are named, none of which has its body, and items that name and define them one after the other.
+-- Says how the code reads: structs that are named, none of which has its body, and items that name and define them one
+-- after the other.
 use Rattle.std.specs.Prelude.{ℕ, ◌+◌, ◌<◌, List, [], map, length, Contains, None, option_to_list}
 use Rattle.ir_syntax.specs.Tree.{ItemTree, Struct}
 use Rattle.type_table.specs.Tree.{TreeBody, Structs}

@@ -1,4 +1,4 @@
--- The texts of a module.
+-- For `set_texts`: the texts of a module.
 use Rattle.std.specs.Prelude.{Option}
 use Rattle.module_arena.specs.Module.{Bytes, Module}
 

@@ -3,6 +3,11 @@
 //! It stands on `ir_base`, `type_table`, `module_arena`, `extract_core` and `indexmap`. It promises that exactly the entries are
 //! told whose names stand in what is kept, in time linear in the arena. Definitions: `specs/Marks`, and `specs/Flags` and
 //! `specs/Extracted` of `extract_core`.
+//!
+//! ```
+//! let kept = choose(alloc, &checked, &selection)?;
+//! let named = named_by_kept(alloc, checked.arena(), &kept)?; // of each entry, whether a kept definition names it
+//! ```
 #![tactic(auto)]
 
 mod marks;

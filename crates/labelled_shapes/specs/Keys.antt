@@ -26,22 +26,27 @@ abbrev pub writes_of : Label → IrType → fed.HashWrites
 writes_of None head = fed.u8 0 ++ type_writes head
 writes_of (Some name) head = fed.u8 1 ++ fed.slice fed.u8 name ++ type_writes head
 
+-- what a hasher is fed of a shape
 abbrev pub labelled_writes : Labelled → fed.HashWrites
 labelled_writes s = writes_of s.label s.head
 
+-- a label is equal to itself
 label_same : (l : Label) → same_label l l ≡ true
 label_same None = refl
 label_same (Some name) = (bytes_decides name name).1 refl
 
+-- labels that test equal are equal
 label_so : (l m : Label) → same_label l m ≡ true → l ≡ m
 label_so None None e = refl
 label_so (Some name) (Some other) e = ap Some ((bytes_decides name other).0 e)
 label_so None (Some other) e = absurd (true≢false (sym e))
 label_so (Some name) None e = absurd (true≢false (sym e))
 
+-- a shape is equal to itself
 labelled_same : (s : Labelled) → same_labelled s s ≡ true
 labelled_same s = λ j. label_same s.label j && (types_decide s.head s.head).1 refl j
 
+-- shapes that test equal are equal
 labelled_so : (s t : Labelled) → same_labelled s t ≡ true → s ≡ t
 labelled_so s t e =
     λ j. record {

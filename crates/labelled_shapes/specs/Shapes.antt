@@ -46,6 +46,7 @@ IsKnownHead count label (Array n element) = (label ≡ None) × (element < count
 IsKnownHead count label (Struct packed fields) = All (λ field. field < count) fields
 IsKnownHead count label (Named id) = ⊥
 
+-- the parts of a shape are among the first so many
 abbrev pub IsKnownShape : ℕ → Labelled → Type 0
 IsKnownShape count s = IsKnownHead count s.label s.head
 

@@ -3,6 +3,13 @@
 //!
 //! It stands on `ir_base`, `type_table` and `indexmap`. It promises that a shape is kept under one number alone, and that what
 //! has a number keeps it. Definitions: `specs/Keys`, `specs/Shapes`, and `Shape` of `type_table`.
+//!
+//! ```
+//! let mut shapes = ShapeSet::new(alloc);
+//! shapes.keep(Labelled { label: None, head: IrType::Int(32) })? // 0
+//! shapes.keep(Labelled { label: None, head: IrType::Ptr })? // 1
+//! shapes.keep(Labelled { label: None, head: IrType::Int(32) })? // 0
+//! ```
 #![tactic(auto)]
 
 mod labelled;

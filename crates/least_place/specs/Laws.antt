@@ -1,4 +1,4 @@
--- The laws.
+-- For `the_first_break_stands_at_the_least_place` and `demands_stand_at_tokens_in_order`: the laws.
 use Rattle.std.specs.Prelude.{◌≡◌, ℕ, List, Some}
 use Rattle.ir_syntax.specs.Answers.{HasItems}
 use Rattle.ir_syntax.specs.Tree.{ItemTree}

@@ -1,4 +1,4 @@
--- Where a refusal stands, and what stands before it.
+-- For `the_first_break_stands_at_the_least_place`: where a refusal stands, and what stands before it.
 use Rattle.std.specs.Prelude.{◌≡◌, ◌==◌, ◌&&◌, ◌||◌, nat_lt, Bool, false, List, [], ◌∷◌, ◌++◌, Option, Some, None}
 use Rattle.ir_base.specs.declared.place.Place.{Place}
 use Rattle.ir_lexer.specs.Ahead.{Located}

@@ -1,4 +1,4 @@
--- What a module has under a name: a variable, a function or an alias.
+-- For `resolve_symbols`: what a module has under a name: a variable, a function or an alias.
 use Rattle.std.specs.Prelude.{ℕ, Bool, true, false, List, [], ◌++◌, map, is_some, Option, None}
 use Rattle.ir_tables.specs.declared.linkage.Linkage.{Linkage}
 use Rattle.type_table.specs.Tree.{Tree, int, ptr, void, array, struct, named}

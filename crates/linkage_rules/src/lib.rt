@@ -3,6 +3,13 @@
 //! It stands on `ir_base`, `ir_tables`, `type_table`, `module_arena` and `indexmap`. It promises that parts are refused
 //! exactly with their first conflict, and else have exactly the symbols, entries and homes that are defined. Definitions:
 //! `specs/Entries`, `Linkages`, `Winner`, `Symbols`, `Conflicts`, and of the answer `Resolved`; for runs `Bind` and `Place`.
+//!
+//! ```
+//! // of the parts `declare void @f()` and `define void @f() { ret void }`
+//! let bindings = resolve_symbols(alloc, parts)?;
+//! let symbol = bindings.symbols().at(0); // Symbol::Shared(name): `f`
+//! bindings.home(symbol) // Some(EntryId { part: 1, kind: SymbolKind::Function, number: 0 })
+//! ```
 #![tactic(auto)]
 
 mod bindings;

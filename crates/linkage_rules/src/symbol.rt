@@ -21,8 +21,11 @@ pub enum Symbol {
 /// What a symbol is.
 #[derive(Clone, Copy)]
 pub enum SymbolKind {
+    /// A variable.
     Variable,
+    /// A function.
     Function,
+    /// An alias.
     Alias,
 }
 

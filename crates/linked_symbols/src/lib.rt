@@ -4,6 +4,13 @@
 //! name of each part is told exactly what it means, through aliases, and no other name anything; and of each symbol that is
 //! defined its size, alignment and address, of commons and appended arrays those of all parts together. Definitions:
 //! `specs/Meanings` and `specs/Places`, and `Bind` and `Place` of `linkage_rules`.
+//!
+//! ```
+//! // of the parts `declare void @f()` and `define void @f() { ret void }`
+//! let bindings = resolve_symbols(alloc, parts)?;
+//! let meanings = bind_names(alloc, parts, &bindings)?;
+//! meanings.bind(0, &name) // of `f` Some(Bound::Definition(1, GlobalId::Function(id)))
+//! ```
 #![tactic(auto)]
 
 mod absent;

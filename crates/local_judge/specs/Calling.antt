@@ -1,4 +1,4 @@
--- What a function has called so far, as it is judged.
+-- Says how the code reads: what a function has called so far, as it is judged.
 use Rattle.std.specs.Prelude.{◌≡◌, List, OnOk, Result}
 use Rattle.module_arena.specs.Module.{Bytes}
 use Rattle.name_table.specs.Entries.{value_of}

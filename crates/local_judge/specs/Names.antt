@@ -1,4 +1,4 @@
--- What a function's values and blocks are called, as it is gathered.
+-- Says how the code reads: what a function's values and blocks are called, as it is gathered.
 use Rattle.std.specs.Prelude.{◌≡◌, ℕ, ◌<◌, ◌≤◌, ◌^◌, Bool, true, false, List, ◌++◌, map, nat_eq, bytes_eq, is_some}
 use Rattle.indexmap.specs.IndexSet.{contains}
 use Rattle.ir_terminals.specs.Digits.{IsWritten}

@@ -1,4 +1,4 @@
--- What each call of `Arena` that changes it promises: one entry more, or one entry set.
+-- For the calls of `Arena` that change it: what each promises: one entry more, or one entry set.
 use Rattle.std.specs.Prelude.{ℕ, List, [], ◌∷◌, ◌++◌, set, map, Option, Some, slice_get}
 use Rattle.std.specs.Option.{option_map_or}
 use Rattle.type_table.specs.Tree.{TreeBody, opaque_body}

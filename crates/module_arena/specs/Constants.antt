@@ -24,6 +24,7 @@ abbrev mutual
   constants_in t (Binary opcode flags a left b right) = (t, Binary opcode flags a left b right) ∷ (constants_in a left ++ constants_in b right)
   constants_in t c = (t, c) ∷ []
 
+  -- the same of several constants, each with its type
   pub constants_of : Constants → List Typed
   constants_of no_constants = []
   constants_of (more_constants t c cs) = constants_in t c ++ constants_of cs
@@ -115,6 +116,7 @@ abbrev mutual
   fits structs t (Binary opcode flags a left b right) =
       is_integer t && (same_type t a && (same_type t b && (fits structs a left && fits structs b right)))
 
+  -- the constants are as many as are expected, each of its type, and fit
   pub parts_fit : Structs → Expected → Constants → Bool
   parts_fit structs (each n t) no_constants = n == 0
   parts_fit structs (each n t) (more_constants u c cs) = nat_lt 0 n && (same_type t u && (fits structs u c && parts_fit structs (each (n - 1) t) cs))

@@ -33,6 +33,7 @@ abbrev mutual
   same_type (named a) (named b) = bytes_eq a b
   same_type _ _ = false
 
+  -- types, one after another
   pub same_types : Trees → Trees → Bool
   same_types no_trees no_trees = true
   same_types (more_trees a as_) (more_trees b bs) = same_type a b && same_types as_ bs
@@ -50,6 +51,7 @@ abbrev pub same_opcode : Opcode → Opcode → Bool
 same_opcode a b = opcode_code a == opcode_code b
 
 abbrev mutual
+  -- one constant, as it is written
   pub same_constant : Constant → Constant → Bool
   same_constant (Integer a) (Integer b) = a == b
   same_constant (Truth a) (Truth b) = beq a b
@@ -66,6 +68,7 @@ abbrev mutual
       same_opcode o p && ((f == g) && (same_type s u && (same_constant a c && (same_type t v && same_constant b d))))
   same_constant _ _ = false
 
+  -- constants with their types, one after another
   pub same_constants : Constants → Constants → Bool
   same_constants no_constants no_constants = true
   same_constants (more_constants t a as_) (more_constants u b bs) = same_type t u && (same_constant a b && same_constants as_ bs)

@@ -60,23 +60,28 @@ opcode_back op.Br = refl
 opcode_back op.Switch = refl
 opcode_back op.Unreachable = refl
 
+-- opcodes that test equal are equal
 opcode_sound : (a b : Opcode) → same_opcode a b ≡ true → a ≡ b
 opcode_sound a b h = ap (λ o. unwrap_or o a) (sym (opcode_back a) ∙ ap opcode_of_code ((Decides-eqb (opcode_code a) (opcode_code b)).0 h) ∙ opcode_back b)
 
+-- a number is equal to itself
 number_self : (n : ℕ) → (n == n) ≡ true
 number_self n = (Decides-eqb n n).1 refl
 
+-- brackets that test equal are equal
 brackets_sound : (a b : Brackets) → (brackets_code a == brackets_code b) ≡ true → a ≡ b
 brackets_sound brackets.Square brackets.Square h = refl
 brackets_sound brackets.Braces brackets.Braces h = refl
 brackets_sound brackets.Packed brackets.Packed h = refl
 brackets_sound _ _ h = absurd (false≢true h)
 
+-- constants with their types that test equal are equal
 typed_sound : (a b : TypedConst) → same_typed a b ≡ true → a ≡ b
 typed_sound a b h =
     let k = and_parts (a.ty == b.ty) (a.value == b.value) h in
     λ j. record { ty = (Decides-eqb a.ty b.ty).0 k.0 j; value = (Decides-eqb a.value b.value).0 k.1 j }
 
+-- a constant with its type is equal to itself
 typed_self : (a : TypedConst) → same_typed a a ≡ true
 typed_self a = and_from (a.ty == a.ty) (a.value == a.value) (number_self a.ty) (number_self a.value)
 
@@ -84,30 +89,36 @@ typed_self a = and_from (a.ty == a.ty) (a.value == a.value) (number_self a.ty) (
 pub same_typed_decides : (a b : TypedConst) → Decides (same_typed a b) (a ≡ b)
 same_typed_decides = decided_by same_typed typed_sound typed_self
 
+-- the test of lists of constants tells whether they are equal
 typed_lists : (as_ bs : List TypedConst) → Decides (all_same_typed as_ bs) (as_ ≡ bs)
 typed_lists = pointwise_decides same_typed_decides
 
+-- entries that test equal are equal
 global_sound : (a b : GlobalId) → same_global a b ≡ true → a ≡ b
 global_sound (global.Variable a) (global.Variable b) h = ap global.Variable ((Decides-eqb a b).0 h)
 global_sound (global.Function a) (global.Function b) h = ap global.Function ((Decides-eqb a b).0 h)
 global_sound (global.Alias a) (global.Alias b) h = ap global.Alias ((Decides-eqb a b).0 h)
 global_sound _ _ h = absurd (false≢true h)
 
+-- an entry is equal to itself
 global_self : (a : GlobalId) → same_global a a ≡ true
 global_self (global.Variable a) = number_self a
 global_self (global.Function a) = number_self a
 global_self (global.Alias a) = number_self a
 
+-- `getelementptr`s that test equal are equal
 address_sound : (a b : ConstAddress) → ((a.source == b.source) && all_same_typed a.operands b.operands) ≡ true → a ≡ b
 address_sound a b h =
     let k = and_parts (a.source == b.source) (all_same_typed a.operands b.operands) h in
     λ j. record { source = (Decides-eqb a.source b.source).0 k.0 j; operands = (typed_lists a.operands b.operands).0 k.1 j }
 
+-- pairs that test equal are equal
 pair_sound : (a b : ConstPair) → (same_typed a.left b.left && same_typed a.right b.right) ≡ true → a ≡ b
 pair_sound a b h =
     let k = and_parts (same_typed a.left b.left) (same_typed a.right b.right) h in
     λ j. record { left = typed_sound a.left b.left k.0 j; right = typed_sound a.right b.right k.1 j }
 
+-- constants that test equal are equal
 const_sound : (a b : Const) → same_const a b ≡ true → a ≡ b
 const_sound (const.Integer a) (const.Integer b) h = ap const.Integer ((Decides-eqb a b).0 h)
 const_sound (const.Truth a) (const.Truth b) h = ap const.Truth ((booleans_Decides a b).0 h)
@@ -133,6 +144,7 @@ const_sound (const.Binary opcode flags a) (const.Binary other others b) h =
     λ j. const.Binary (opcode_sound opcode other k.0 j) ((Decides-eqb flags others).0 l.0 j) (pair_sound a b l.1 j)
 const_sound _ _ h = absurd (false≢true h)
 
+-- a constant is equal to itself
 const_self : (a : Const) → same_const a a ≡ true
 const_self (const.Integer a) = number_self a
 const_self (const.Truth a) = (booleans_Decides a a).1 refl

@@ -36,6 +36,7 @@ abbrev mutual
   is_free_of_void (struct packed ts) = are_free_of_void ts
   is_free_of_void (named name) = true
 
+  -- the same of several types
   pub are_free_of_void : Trees → Bool
   are_free_of_void no_trees = true
   are_free_of_void (more_trees t ts) = is_free_of_void t && are_free_of_void ts
@@ -50,6 +51,7 @@ abbrev mutual
   is_free_of_names (struct packed ts) = are_free_of_names ts
   is_free_of_names (named name) = false
 
+  -- the same of several types
   pub are_free_of_names : Trees → Bool
   are_free_of_names no_trees = true
   are_free_of_names (more_trees t ts) = is_free_of_names t && are_free_of_names ts

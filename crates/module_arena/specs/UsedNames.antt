@@ -1,9 +1,11 @@
--- The variables and functions that are named in a constant, an instruction, an initialiser or a body.
+-- For `choose`, `missing_name` and `Copier`: the variables and functions that are named in a constant, an instruction,
+-- an initialiser or a body.
 use Rattle.std.specs.Prelude.{List, [], ◌∷◌, ◌++◌, flat_map}
 use Rattle.std.specs.Option.{option_map_or}
 use Rattle.module_arena.specs.Module.{Bytes, Constant, Integer, Truth, Null, Undef, Poison, ZeroInitializer, Address, ByteString, Aggregate, ElementAddress, Cast, Binary, Constants, no_constants, more_constants, Value, Local, Known, Operand, Incoming, Operation, BinaryOperation, Compare, Convert, Select, Freeze, Phi, Load, Store, Alloca, GetElementPtr, Call, ExtractValue, InsertValue, Instruction, Case, Ending, ReturnVoid, Return, Jump, Branch, Switch, Unreachable, Block, Variable, Function}
 
 abbrev mutual
+  -- the entries that a constant names
   pub names_in_constant : Constant → List Bytes
   names_in_constant (Integer number) = []
   names_in_constant (Truth truth) = []
@@ -18,6 +20,7 @@ abbrev mutual
   names_in_constant (Cast opcode from value to) = names_in_constant value
   names_in_constant (Binary opcode flags left_type left right_type right) = names_in_constant left ++ names_in_constant right
 
+  -- those that several constants name
   pub names_in_constants : Constants → List Bytes
   names_in_constants no_constants = []
   names_in_constants (more_constants ty constant others) = names_in_constant constant ++ names_in_constants others

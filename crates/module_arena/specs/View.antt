@@ -52,13 +52,16 @@ abbrev pub constant_at : List Constant → ℕ → Constant
 constant_at done id = slice_index_or done id Constant.Null
 
 module _ (types : List Tree) where
+  -- the type with that id
   abbrev pub type_at : ℕ → Tree
   type_at id = slice_index_or types id void
 
+  -- constants with their types
   abbrev pub constants_at : List Constant → List TypedConst → Constants
   constants_at done [] = no_constants
   constants_at done (c ∷ cs) = more_constants (type_at c.ty) (constant_at done c.value) (constants_at done cs)
 
+  -- a constant, where those before it are known
   abbrev pub constant_view : (GlobalId → Bytes) → List Constant → the_const.Const → Constant
   constant_view names done (const.Integer number) = Constant.Integer number
   constant_view names done (const.Truth truth) = Constant.Truth truth
@@ -74,11 +77,13 @@ module _ (types : List Tree) where
   constant_view names done (const.Binary opcode flags pair) =
       Constant.Binary opcode flags (type_at pair.left.ty) (constant_at done pair.left.value) (type_at pair.right.ty) (constant_at done pair.right.value)
 
+  -- constants with one more behind them
   abbrev pub grow : (GlobalId → Bytes) → List Constant → the_const.Const → List Constant
   grow names done c = done ++ constant_view names done c ∷ []
 
   -- ---- entries
 
+  -- a variable
   abbrev pub variable_view : List Constant → the_variable.Variable → Variable
   variable_view constants v = record {
     name = v.name;
@@ -89,45 +94,57 @@ module _ (types : List Tree) where
     initialiser = option_map (constant_at constants) v.initialiser;
   }
 
+  -- a signature
   abbrev pub signature_view : the_signature.Signature → Signature
   signature_view s = record { returns = type_at s.returns; parameters = map type_at s.parameters; variadic = s.variadic }
 
+  -- the type of an alias
   abbrev pub alias_type_view : the_alias_type.AliasType → AliasType
   alias_type_view (alias_type.Plain ty) = AliasType.PlainType (type_at ty)
   alias_type_view (alias_type.Function returns parameters variadic) =
       AliasType.FunctionType (record { returns = type_at returns; parameters = map type_at parameters; variadic = variadic })
 
+  -- an alias
   abbrev pub alias_view : (GlobalId → Bytes) → the_alias.Alias → Alias
   alias_view names x = record { name = x.name; linkage = x.linkage; ty = alias_type_view x.ty; target = option_map_or names x.target [] }
 
+  -- a parameter
   abbrev pub parameter_view : the_parameter.Parameter → Parameter
   parameter_view p = record { ty = type_at p.ty; name = local_view p.name }
 
   -- ---- instructions, from the names of the values and of the blocks
 
   module _ (constants : List Constant) (values blocks : List LocalName) where
+    -- what the value with that id is called
     abbrev pub value_name : ℕ → LocalName
     value_name id = slice_index_or values id (LocalName.Numbered 0)
 
+    -- what the block with that id is called
     abbrev pub block_name : ℕ → LocalName
     block_name id = slice_index_or blocks id (LocalName.Numbered 0)
 
+    -- a value
     abbrev pub value_view : the_value.Value → Value
     value_view (value.Local id) = Value.Local (value_name id)
     value_view (value.Known id) = Value.Known (constant_at constants id)
 
+    -- an operand
     abbrev pub operand_view : the_operand.Operand → Operand
     operand_view o = record { ty = type_at o.ty; value = value_view o.value }
 
+    -- an entry of a phi
     abbrev pub incoming_view : the_incoming.Incoming → Incoming
     incoming_view i = record { value = value_view i.value; block = block_name i.block }
 
+    -- a case of a `switch`
     abbrev pub case_view : the_case.Case → Case
     case_view c = record { ty = type_at c.ty; value = constant_at constants c.value; target = block_name c.target }
 
+    -- an operation with its result
     abbrev pub gives : ℕ → Operation → Instruction
     gives result operation = record { result = Some (value_name result); operation = operation }
 
+    -- an instruction
     abbrev pub inst_view : Inst → Instruction
     inst_view (inst.Binary opcode flags result left right) = gives result (Operation.BinaryOperation opcode flags (operand_view left) (value_view right))
     inst_view (inst.Compare flags predicate result left right) = gives result (Operation.Compare flags predicate (operand_view left) (value_view right))
@@ -146,6 +163,7 @@ module _ (types : List Tree) where
     inst_view (inst.ExtractValue result aggregate indices) = gives result (Operation.ExtractValue (operand_view aggregate) indices)
     inst_view (inst.InsertValue result insertion) = gives result (Operation.InsertValue (operand_view insertion.aggregate) (operand_view insertion.part) insertion.indices)
 
+    -- the end of a block
     abbrev pub ending_view : the_ending.Ending → Ending
     ending_view ending.ReturnVoid = Ending.ReturnVoid
     ending_view (ending.Return operand) = Ending.Return (operand_view operand)
@@ -154,13 +172,16 @@ module _ (types : List Tree) where
     ending_view (ending.Switch operand otherwise cases) = Ending.Switch (operand_view operand) (block_name otherwise) (map case_view cases)
     ending_view ending.Unreachable = Ending.Unreachable
 
+    -- a block
     abbrev pub block_view : the_block.Block → Block
     block_view b = record { name = local_view b.name; instructions = map inst_view b.instructions; ending = ending_view b.end }
 
+  -- the blocks of a body, behind its function's parameters
   abbrev pub body_view : List Constant → List LocalName → the_body.Body → List Block
   body_view constants parameters b =
       map (block_view constants (parameters ++ map local_view b.results) (map (λ block. local_view block.name) b.blocks)) b.blocks
 
+  -- a function
   abbrev pub function_view : List Constant → the_function.Function → Function
   function_view constants f = record {
     name = f.name;

@@ -52,6 +52,7 @@ abbrev mutual
   is_good_type structs (struct packed ts) = are_good_types structs ts && is_within_limits (shape structs (struct packed ts))
   is_good_type structs (named name) = list_any (λ s. bytes_eq s.0 name) structs && is_within_limits (shape structs (named name))
 
+  -- the same of several types
   pub are_good_types : Structs → Trees → Bool
   are_good_types structs no_trees = true
   are_good_types structs (more_trees t ts) = is_good_type structs t && are_good_types structs ts
@@ -140,6 +141,7 @@ abbrev mutual
   depth (Binary opcode flags a left b right) = max (depth left) (depth right) + 1
   depth _ = 0
 
+  -- how deep the deepest of some constants nests
   pub greatest_depth : Constants → ℕ
   greatest_depth no_constants = 0
   greatest_depth (more_constants t c cs) = max (depth c) (greatest_depth cs)

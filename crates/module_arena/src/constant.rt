@@ -49,9 +49,13 @@ pub enum Const {
     Integer(u128),
     /// `true` or `false` at a type other than i1, which no valid module has.
     Truth(bool),
+    /// `null`
     Null,
+    /// `undef`
     Undef,
+    /// `poison`
     Poison,
+    /// `zeroinitializer`
     ZeroInitializer,
     /// The address of a variable, alias or function.
     Address(GlobalId),

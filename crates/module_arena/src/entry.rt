@@ -11,15 +11,20 @@ use type_table::{TypeId, TypeList};
 /// What a global name stands for.
 #[derive(Clone, Copy, Debug, PartialEq, Eq, Hash)]
 pub enum GlobalId {
+    /// A variable.
     Variable(VariableId),
+    /// A function.
     Function(FunctionId),
+    /// An alias.
     Alias(AliasId),
 }
 
 /// What a parameter, a block or a result is called within its function.
 #[derive(Drop)]
 pub enum LocalName {
+    /// A name.
     Named(Name),
+    /// A number, counted from 0.
     Numbered(u32),
 }
 

@@ -6,10 +6,15 @@ use thiserror::Error;
 /// What there may be too many of.
 #[derive(Clone, Copy, Debug)]
 pub enum CountKind {
+    /// Structs that have names.
     Structs,
+    /// Variables.
     Variables,
+    /// Functions.
     Functions,
+    /// Aliases.
     Aliases,
+    /// Bytes of an array that linking appends.
     AppendedBytes,
 }
 

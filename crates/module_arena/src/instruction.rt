@@ -8,7 +8,9 @@ use type_table::{TypeId, TypeList};
 /// What an instruction works on: a parameter or result of its function, or a constant.
 #[derive(Clone, Copy, PartialEq, Eq)]
 pub enum Value {
+    /// A parameter or a result.
     Local(ValueId),
+    /// A constant.
     Known(ConstId),
 }
 
@@ -115,11 +117,17 @@ pub type CaseList = ItemList<Case>;
 /// How a block ends (LangRef, "Terminator Instructions"), one variant a phrase.
 #[derive(Drop)]
 pub enum Ending {
+    /// `ret void`
     ReturnVoid,
+    /// `ret` with a value.
     Return(Operand),
+    /// `br` to one block.
     Jump(BlockId),
+    /// `br` on a condition: to the first block where it is true, else to the second.
     Branch(Operand, BlockId, BlockId),
+    /// `switch`: the value, the block for any other value, and the cases.
     Switch(Operand, BlockId, CaseList),
+    /// `unreachable`
     Unreachable,
 }
 

@@ -3,6 +3,21 @@
 //! It stands on `ir_base`, `ir_tables`, `type_table` and `indexmap`. It promises that an arena is a module, of which each
 //! call changes the one entry that it names and nothing else, that a sealed arena is well formed and valid, and which
 //! functions a run has of its own. Definitions: `specs/Module`, `WellFormed`, `Valid`, `HostRows`, `View`, `Changes`, `Known`.
+//!
+//! ```
+//! let mut arena = Arena::new(alloc);
+//! let ty = arena.add_type(IrType::Int(32))?;
+//! let seven = arena.add_const(Const::Integer(7))?;
+//! let id = arena.declare_variable(Variable {
+//!     name,
+//!     linkage: Linkage::External,
+//!     constant: false,
+//!     ty,
+//!     alignment: None,
+//!     initialiser: None,
+//! })?;
+//! arena.set_initialiser(id, seven); // `global i32 7` under that name
+//! ```
 #![tactic(auto)]
 
 mod arena;

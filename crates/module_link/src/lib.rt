@@ -4,6 +4,13 @@
 //! has, on `link_ground`, `link_entries`, `link_ids` and `link_filling`, which make it, and on the laws of `linked_is_valid` and
 //! `linked_runs`. It promises that exactly the linked module is made, which runs as its parts do side by side, or that the first
 //! conflict is told, or else the first count past its limit. Definitions: `specs/Faults`, and `Linked` and `Counts` of `module_linker`.
+//!
+//! ```
+//! let mut parts = Vec::new(alloc);
+//! parts.push(first)?; // declare void @f()
+//! parts.push(second)?; // define void @f() { ret void }
+//! let linked = link(alloc, parts)?; // define void @f() { ret void }
+//! ```
 #![tactic(auto)]
 
 mod fault;

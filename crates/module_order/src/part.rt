@@ -11,14 +11,23 @@ use record_table::MODULE_BLOCK;
 /// What stands in the block of a module, in its order. The first five stand there at most once.
 #[derive(Clone, Copy)]
 pub enum Part {
+    /// The version of the record table.
     Version,
+    /// The name of the source.
     Source,
+    /// The data layout.
     Layout,
+    /// The target triple.
     Triple,
+    /// The block of types.
     Types,
+    /// The record of a variable.
     Variable,
+    /// The record of a function.
     Function,
+    /// The record of an alias.
     Alias,
+    /// The block of a function's body.
     Body,
 }
 

@@ -1,4 +1,4 @@
--- How many structs, variables, functions and aliases items have.
+-- Says how the code reads: how many structs, variables, functions and aliases items have.
 use Rattle.std.specs.Prelude.{◌≡◌, List, length, filter_map}
 use Rattle.ir_syntax.specs.Tree.{ItemTree}
 use Rattle.name_rules.specs.ModuleOf.{struct_in, variable_in, function_in, alias_in}

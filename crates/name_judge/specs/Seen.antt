@@ -1,4 +1,4 @@
--- What has stood in a text so far.
+-- Says how the code reads: what has stood in a text so far.
 use Rattle.std.specs.Prelude.{◌≡◌, List, filter_map}
 use Rattle.ir_base.specs.declared.place.Place.{Place}
 use Rattle.ir_terminals.specs.declared.values.PlacedName.{PlacedName}

@@ -4,6 +4,11 @@
 //! on `struct_ends` for structs that contain themselves. It promises that items are let through exactly where they break no
 //! rule, and that else the first break is told: too many of a kind, else the first demand in the order of the text.
 //! Definitions: `specs/Seen`; the breaks are those of `name_rules`, `specs/Breaks`.
+//!
+//! ```
+//! let items = read_items(alloc, b"@a = global i32 7\n@a = global i32 8")?;
+//! judge(alloc, &items) // Err(ResolveFault::Duplicate(here, first)): here is 2:1, first is 1:1
+//! ```
 #![tactic(auto)]
 
 ghost use Rattle.std.specs.Prelude.{◌≤◌, ◌^◌};

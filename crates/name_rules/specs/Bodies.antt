@@ -1,4 +1,4 @@
--- The instructions and blocks that a text writes, as those of a module.
+-- For `resolve`: the instructions and blocks that a text writes, as those of a module.
 use Rattle.std.specs.Prelude.{ℕ, false, cond, List, [], ◌∷◌, map, Option, Some, None, option_map}
 use Rattle.ir_constants.specs.Tree.{TypeTree, TypedValueTree}
 use Rattle.ir_instructions.specs.Tree.{SignatureTree, CallTree, IncomingTree, OperationTree, InstructionTree, CaseTree, EndingTree, BlockTree}

@@ -1,4 +1,4 @@
--- Why items are no module: the first thing that they ask for in vain.
+-- For `resolve` and `judge`: why items are no module: the first thing that they ask for in vain.
 use Rattle.std.specs.Prelude.{ℕ, nat_le, true, false, List, [], ◌∷◌, ◌++◌, length, filter_map, flat_map, map, Option, Some, None}
 use Rattle.ir_base.specs.declared.place.Place.{Place}
 use Rattle.ir_terminals.specs.declared.values.PlacedName.{PlacedName}

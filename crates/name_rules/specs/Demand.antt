@@ -1,4 +1,4 @@
--- What a text asks for, token by token, and the first that does not hold.
+-- For `resolve` and `judge`: what a text asks for, token by token, and the first that does not hold.
 use Rattle.std.specs.Prelude.{ℕ, Bool, true, false, not, ◌&&◌, ◌||◌, ◌≡◌, ◌^◌, ◌-◌, nat_lt, nat_le, bytes_eq, List, [], ◌∷◌, Option, Some, None, Result, Ok, Err, if◌then◌else◌}
 use Rattle.ir_base.specs.declared.place.Place.{Place}
 use Rattle.ir_terminals.specs.declared.values.Integer.{Integer}

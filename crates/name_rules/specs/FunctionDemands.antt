@@ -1,4 +1,4 @@
--- What the parameters, instructions and blocks of a function ask for.
+-- For `resolve` and `check_definition`: what the parameters, instructions and blocks of a function ask for.
 use Rattle.std.specs.Prelude.{ℕ, ◌==◌, true, false, List, [], ◌∷◌, ◌++◌, flat_map, fold, Option, Some, None}
 use Rattle.ir_terminals.specs.declared.values.Integer.{Integer}
 use Rattle.ir_terminals.specs.declared.values.Local.{Local}

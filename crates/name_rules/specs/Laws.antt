@@ -1,4 +1,4 @@
--- Laws of reading.
+-- For `one_module`, `numbers_are_told_as_written` and `what_bytes_read_to_is_well_formed`: laws of reading.
 use Rattle.std.specs.Prelude.{◌≡◌, ℕ, ◌==◌, true, false, List, [], ◌∷◌}
 use Rattle.ir_terminals.specs.Digits.{are_digits, decimal as number_of_digits}
 use Rattle.module_arena.specs.Module.{Bytes, Module}

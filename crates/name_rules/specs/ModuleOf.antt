@@ -1,4 +1,4 @@
--- The module that items stand for: names and numbers joined, and what is dropped gone.
+-- For `resolve`: the module that items stand for: names and numbers joined, and what is dropped gone.
 use Rattle.std.specs.Prelude.{ℕ, Bool, false, List, [], ◌∷◌, map, filter_map, unwrap_or, Option, Some, None, option_map}
 use Rattle.ir_terminals.specs.declared.values.PlacedText.{PlacedText}
 use Rattle.ir_tables.specs.declared.linkage.Linkage.{Linkage}

@@ -1,4 +1,4 @@
--- The module that a text stands for.
+-- For `resolve` and `one_module`: the module that a text stands for.
 use Rattle.std.specs.Prelude.{◌≡◌, ℕ, List, None}
 use Rattle.ir_syntax.specs.Tree.{ItemTree}
 use Rattle.ir_syntax.specs.Answers.{HasItems}

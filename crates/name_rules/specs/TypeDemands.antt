@@ -1,4 +1,4 @@
--- What the types and constants that a text writes ask for.
+-- For `resolve` and `check_type`: what the types and constants that a text writes ask for.
 use Rattle.std.specs.Prelude.{Bool, false, not, ◌&&◌, ◌||◌, ◌^◌, nat_lt, bytes_eq, is_none, List, [], ◌∷◌, ◌++◌, Option}
 use Rattle.std.specs.List.{list_any}
 use Rattle.ir_terminals.specs.declared.values.Integer.{Integer}

@@ -1,4 +1,4 @@
--- The types, constants and values that a text writes, as those of a module.
+-- For `resolve`: the types, constants and values that a text writes, as those of a module.
 use Rattle.std.specs.Prelude.{ℕ, ◌-◌, ◌%◌, ◌^◌, ◌==◌, Bool, true, false, List, Option, option_map, if◌then◌else◌}
 use Rattle.ir_terminals.specs.declared.values.Integer.{Integer}
 use Rattle.ir_constants.specs.declared.constant.Simple.{Simple}

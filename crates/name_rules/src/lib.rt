@@ -3,6 +3,12 @@
 //! It stands on the items of `ir_syntax` and on the module of `module_arena`. It promises that a text reads to at most one
 //! module, and spells the names and numbers that refusals tell. Definitions: `specs/Reads`, of which `specs/ModuleOf` says
 //! which module it is, and `specs/Breaks` what the items ask for, in the order of the text.
+//!
+//! ```
+//! spell_global(alloc, b"main")? // `@main`
+//! spell_global(alloc, b"a b")? // `@"a b"`
+//! spell_struct(alloc, b"pair")? // `%pair`
+//! ```
 #![tactic(auto)]
 
 mod fault;

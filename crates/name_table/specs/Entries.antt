@@ -1,4 +1,4 @@
--- What a table has for a name.
+-- For `NameTable`: what a table has for a name.
 use Rattle.std.specs.Prelude.{ℕ, List, [], ◌∷◌, map, Option, Some, None, bytes_eq, cond}
 use Rattle.std.specs.Borrow.{Bor}
 

@@ -2,6 +2,14 @@
 //!
 //! It stands on `indexmap`. It promises that a name has the value that it was given last, and that other names keep
 //! theirs. It copies no name. Definitions: `specs/Entries`.
+//!
+//! ```
+//! let mut table = NameTable::new(alloc);
+//! table.put(b"a", 1)?;
+//! table.put(b"a", 2)?;
+//! table.get(b"a") // Some(2)
+//! table.get(b"b") // None
+//! ```
 #![tactic(auto)]
 
 ghost use Rattle.std.specs.Prelude.{◌≡◌, ℕ, [], List, Some, OnOk, OnErr, bytes_eq, cond};

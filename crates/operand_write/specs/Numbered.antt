@@ -42,6 +42,7 @@ module _ (a : Lists) where
 
   -- what indices stand for in the body of a function
   module _ (f : Function) where
+    -- what its parameters and results are called
     abbrev pub values_in : List m.LocalName
     values_in = map local_view (value_names f)
 

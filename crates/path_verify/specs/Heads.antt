@@ -1,4 +1,4 @@
--- What a function itself is asked for, without its blocks.
+-- Says how the code reads: what a function itself is asked for, without its blocks.
 use Rattle.std.specs.Prelude.{ℕ, Bool, not, List, [], ◌∷◌, is_some}
 use Rattle.module_arena.specs.EntryRules.{linkage_suits, is_common, is_appending, function_name_suits, function_types_suit}
 use Rattle.module_arena.specs.Module.{Function, Module}

@@ -3,6 +3,12 @@
 //! It stands on `entry_rules`, `instruction_verify`, `last_verify` and `use_verify`. It promises that a module is accepted exactly where no function
 //! is too large and all that it is asked for holds, and that else the first function that is too large, or the first demand that does
 //! not hold, is told; and how often blocks are spread at most. Definitions: `specs/Verified`, and `Valid` of `module_arena`.
+//!
+//! ```
+//! let items = read_items(alloc, b"define void @f() { ret void }")?;
+//! let arena = resolve(alloc, &items)?;
+//! let checked = verify(alloc, arena)?; // a module that is valid
+//! ```
 #![tactic(auto)]
 
 mod all_entries;

@@ -1,4 +1,4 @@
--- The parts of constants in canonical text, as the arena has them.
+-- For `put_typed`, and how the code reads: the parts of constants in canonical text, as the arena has them.
 use Rattle.std.specs.Prelude.{ℕ, ◌<◌, true, false, List, codes, length, if◌then◌else◌}
 use Rattle.ir_lexer.specs.Pieces.{Piece, Separator, Nothing, Space}
 use Rattle.ir_tables.specs.Flag.{flag_word}

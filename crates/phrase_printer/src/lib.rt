@@ -3,6 +3,13 @@
 //! It stands on the arena of `module_arena` and on the room of `gathered`. Each function puts one phrase and promises that its
 //! pieces, and nothing else, were put. Nothing takes memory. Definitions: `canonical/specs`, and `specs/Printing` for what it is
 //! to put pieces.
+//!
+//! ```
+//! let mut out = Gathered::new();
+//! put_global(&mut out, &mut sink, &name, Separator::Space);
+//! put_type(&mut out, &mut sink, arena.types(), ty, Separator::Nothing);
+//! out.finish(&mut sink)?; // `@a i32`, where the name is `a` and the type `i32`
+//! ```
 #![tactic(auto)]
 
 mod brackets;

@@ -6,8 +6,11 @@ ghost use Rattle.phrase_printer.specs.Printing.{separator_of, separator_before};
 /// What stands behind a token of canonical text.
 #[derive(Clone, Copy)]
 pub enum Separator {
+    /// Nothing: the next token stands directly behind.
     Nothing,
+    /// A space.
     Space,
+    /// A line feed.
     Line,
     /// A line feed and two spaces.
     Indented,

@@ -1,4 +1,4 @@
--- All of the tokens, or the first bad place.
+-- For `read_items`: all of the tokens, or the first bad place.
 use Rattle.std.specs.Prelude.{◌≡◌, ℕ, ◌≤◌, ◌<◌, ◌-◌, List, [], ◌∷◌, length, take, Bool, true, cond, Result, Ok, Err}
 use Rattle.phrase_rows.specs.Row.{Reading, Done, Bad, Row}
 use Rattle.phrase_rows.specs.Reads.{Front}

@@ -1,4 +1,4 @@
--- What it is that a row's reader reads the row.
+-- For the proof of `read_items`: what it is that a row's reader reads the row.
 use Rattle.std.specs.Prelude.{◌≡◌, ℕ, ◌≤◌, List, [], ◌∷◌, ◌++◌, length, true, false, ◌⊎◌}
 use Rattle.phrase_rows.specs.Row.{Reading, Done, Bad, Shape, Row, among}
 
@@ -21,10 +21,13 @@ abbrev pub Takes : {T A : Type 0} → Row T A → List T → Reading T A → Typ
 Takes {T} r ts (Done a rest) = (us : List T) × (ts ≡ us ++ rest) × r.whole us a
 Takes {T} r ts (Bad rest) = (us : List T) × (ts ≡ us ++ rest) × r.cut us
 
+-- the tokens that reading leaves
 abbrev pub left : {T A : Type 0} → Reading T A → List T
 left (Done a rest) = rest
 left (Bad rest) = rest
 
+-- The reader reads the row: what it takes is taken rightly, a whole phrase before what cannot go on with it is read,
+-- and the first bad token is told.
 pub record Reads {T A : Type 0} (class : T → ℕ) (r : Row T A) (s : Shape) : Type 0 where
   pub takes : (ts : List T) → Takes r ts (r.run ts)
   -- a whole phrase before what cannot go on with it is read

@@ -1,4 +1,5 @@
--- Rows of a grammar as values: what each means, and how it is read.
+-- For `read_items`, and all calls that it reads phrases by: rows of a grammar as values: what each means, and how it is
+-- read.
 use Rattle.std.specs.Prelude.{◌≡◌, ℕ, zero, suc, List, [], ◌∷◌, ◌++◌, length, Bool, true, false, ◌⊎◌, ◌==◌, cond, Option, Some, None, ◌&&◌}
 
 -- what reading gives: a value and the tokens left, or the tokens from the first bad one on
@@ -6,6 +7,7 @@ pub data Reading (T A : Type 0) : Type 0 where
   Done : (value : A) (rest : List T) → Reading T A
   Bad : (rest : List T) → Reading T A
 
+-- reading goes on behind a value
 abbrev pub bind : {T A B : Type 0} → Reading T A → (A → List T → Reading T B) → Reading T B
 bind (Done a rest) f = f a rest
 bind (Bad rest) f = Bad rest
@@ -23,6 +25,7 @@ pub record Row (T A : Type 0) : Type 1 where
   pub run : List T → Reading T A
   pub shape : Shape
 
+-- the class is one of these
 abbrev pub among : ℕ → List ℕ → Bool
 among k [] = false
 among k (x ∷ xs) = cond (k == x) true (among k xs)
@@ -60,6 +63,7 @@ fail {T} {A} s = record {
   shape = s;
 }
 
+-- reads one token of these classes that has a value
 abbrev pub run_one : {T A : Type 0} → (T → ℕ) → List ℕ → (T → Option A) → List T → Reading T A
 run_one class ks f [] = Bad []
 run_one class ks f (t ∷ ts) = cond (among (class t) ks) (elim (f t) [ Some a ↦ Done a ts | None ↦ Bad (t ∷ ts) ]) (Bad (t ∷ ts))
@@ -82,6 +86,7 @@ chain {T} {A} {B} p s q = record {
   shape = record { first = cond p.shape.empty (p.shape.first ++ s.first) p.shape.first; more = cond s.empty (s.more ++ p.shape.more) s.more; empty = p.shape.empty && s.empty };
 }
 
+-- the phrases of a row, with another value for each
 abbrev pub mapped : {T A B : Type 0} → (A → B) → Row T A → Row T B
 mapped {T} {A} {B} f p = record {
   whole = λ us b. (a : A) × p.whole us a × (b ≡ f a);
@@ -115,6 +120,7 @@ alt {T} {A} class p q = record {
   shape = record { first = p.shape.first ++ q.shape.first; more = p.shape.more ++ q.shape.more ++ cond q.shape.empty p.shape.first []; empty = q.shape.empty };
 }
 
+-- the phrases of a row, or no token
 abbrev pub optional : {T A : Type 0} → (T → ℕ) → Row T A → Row T (Option A)
 optional class p = alt class (mapped Some p) (nothing None)
 
@@ -176,6 +182,7 @@ abbrev pub GoesOn : {T S A : Type 0} → (S → T → Move S A) → S → List T
 GoesOn step s [] = Unit {0}
 GoesOn step s (t ∷ us) = elim (step s t) as (λ m. Type 0) [ On m ↦ GoesOn step m us | Ends b ↦ ⊥ | Stops ↦ ⊥ ]
 
+-- reads token by token, as the steps of a machine say
 abbrev pub run_machine : {T S A : Type 0} → (S → T → Move S A) → S → List T → Reading T A
 run_machine step s [] = Bad []
 run_machine step s (t ∷ ts) = elim (step s t) [ On m ↦ run_machine step m ts | Ends a ↦ Done a ts | Stops ↦ Bad (t ∷ ts) ]

@@ -1,4 +1,4 @@
--- How large the value of a phrase is, counted in its tokens.
+-- For the proof of `read_items`: how large the value of a phrase is, counted in its tokens.
 use Rattle.std.specs.Prelude.{ℕ, ◌≤◌, ◌+◌, List, length}
 use Rattle.phrase_rows.specs.Row.{Row}
 

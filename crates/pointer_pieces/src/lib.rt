@@ -2,6 +2,14 @@
 //!
 //! It stands on the pointers of `ir_eval`. Its promise: each call changes the pieces of the addresses that
 //! it names and no others, and where memory is refused, none at all. Definitions: `specs/Pieces`.
+//!
+//! ```
+//! let mut pieces = Pieces::new(alloc);
+//! pieces.place(65_536, pointer)?;
+//! pieces.get(65_539) // Some(Piece { pointer, place: 3 })
+//! pieces.clear(65_539, 65_540);
+//! pieces.get(65_539) // None
+//! ```
 #![tactic(auto)]
 
 mod moved;

@@ -1,4 +1,4 @@
--- The law.
+-- For `what_is_read_is_narrow`: the law.
 use Rattle.std.specs.Prelude.{ℕ, List}
 use Rattle.ir_syntax.specs.Answers.{HasItems}
 use Rattle.ir_syntax.specs.Tree.{ItemTree}

@@ -3,6 +3,14 @@
 //! It stands on `name_table`, `type_verify` (classes of types) and `module_arena`, and copies no name. It promises that the table holds the
 //! texts of the module, each once, at which offset each of them stands, and the place of each type. Definitions: `StringTable`, `Mentions` and
 //! `Spelling` of `record_table`, and `specs/Table`, `specs/Order`.
+//!
+//! ```
+//! let mut table = TextTable::new(alloc);
+//! table.add(b"main")?;
+//! table.add(b"printf")?;
+//! table.add(b"main")?; // it is there already
+//! table.offset(b"printf") // 4
+//! ```
 #![tactic(auto)]
 
 mod constants;

@@ -26,6 +26,7 @@ pub enum BitcodeFault {
     /// In this block the record of this index over the stream, counted from 0, and the least rule that it breaks.
     #[error("bad record {1} in block {0}, rule {2}")]
     BadRecord(u32, u64, u8),
+    /// Memory ran out.
     #[error("out of memory")]
     Memory,
 }

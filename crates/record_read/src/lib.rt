@@ -4,6 +4,14 @@
 //! It stands on the walker of `bit_walk`, and holds no operands. It promises that the fields are read by their layouts, a
 //! rule that is broken and what follows included, and that BLOCKINFO and definitions are passed over. Definitions: `Walk`,
 //! `Layout`, `Fields`, `StringTable` and `Faults` of `record_table`, and `specs/`.
+//!
+//! ```
+//! let mut reader = RecordReader::new(alloc, bytes);
+//! reader.next()? // Entry::Record(code)
+//! let linkage = reader.number(); // its first operand
+//! reader.ask(3, linkage < 11); // breaks rule 3 where that is none
+//! reader.finish(MODULE_BLOCK)?; // refused where a rule is broken, or operands are left
+//! ```
 #![tactic(auto)]
 
 mod codes;

@@ -88,6 +88,7 @@ abbrev pub CallResultStands : Bool → Option LocalName → Type 0
 CallResultStands true result = IsAbsent result
 CallResultStands false result = IsSome (λ name. ⊤) result
 
+-- a call has a result where it does not return `void`; of others nothing is asked here
 abbrev pub ResultStands : Operation → Option LocalName → Type 0
 ResultStands (Call s callee arguments) result = CallResultStands (is_void s.returns) result
 ResultStands _ result = ⊤

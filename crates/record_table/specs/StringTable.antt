@@ -1,5 +1,5 @@
--- Version 2: all texts stand in one table, one behind the other, and a record says of a text where it stands and how long
--- it is.
+-- For `write` and `read` of bitcode: version 2, where all texts stand in one table, one behind the other, and a record
+-- says of a text where it stands and how long it is.
 use Rattle.std.specs.Prelude.{ℕ, zero, suc, ◌+◌, nat_le, Bool, List, [], ◌∷◌, ◌++◌, length, take, drop, flat_map, Option, Some, None, bytes_eq, ◌&&◌, if◌then◌else◌}
 use Rattle.std.specs.List.{list_any, fold}
 use Rattle.module_arena.specs.Module.{Bytes}

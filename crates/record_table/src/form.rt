@@ -9,9 +9,13 @@ ghost use Rattle.record_table.specs.Codes.{form_view};
 pub enum Form {
     /// An integer.
     Number,
+    /// `null`
     Null,
+    /// `undef`
     Undef,
+    /// `poison`
     Poison,
+    /// `zeroinitializer`
     Zero,
     /// The address of a variable, function or alias.
     Global,

@@ -7,11 +7,17 @@ ghost use Rattle.record_table.specs.Codes.{kind_view};
 /// How a type stands in the block of types.
 #[derive(Clone, Copy, Debug, PartialEq, Eq)]
 pub enum Kind {
+    /// An integer, by its width.
     Int,
+    /// A pointer.
     Ptr,
+    /// `void`
     Void,
+    /// An array, by its length and the type of its elements.
     Array,
+    /// A struct that is written out, by its fields.
     Struct,
+    /// A struct that has a name, by its number.
     Named,
 }
 

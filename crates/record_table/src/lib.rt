@@ -4,6 +4,12 @@
 //! records, forms of constants and kinds of types, and the laws that its calls name: what fits is read of what it spells.
 //! Definitions: `specs/Layout`, `Fields`, `StringTable`, `Constants` and `Lines` what stands in a record, `specs/TypeRecords`, `Bodies` and
 //! `Records` what is read and what is refused, `specs/Mentions` and `Spelling` what is written, `specs/Laws` and `LineLaws` the laws.
+//!
+//! ```
+//! Kind::of_code(Kind::Array.code()) // Some(Kind::Array)
+//! Form::of_code(Form::Global.code()) // Some(Form::Global)
+//! is_block_id(MODULE_BLOCK) // true
+//! ```
 #![tactic(auto)]
 
 mod blocks;

@@ -19,10 +19,11 @@ use Rattle.run_flat.specs.Grown.{Stands}
 use Rattle.run_scopes.specs.Scopes.{Framed, label_of, labels_in, scope_in, values_in}
 
 module _ (a : Lists) (f : the_function.Function) where
-  -- what stands for a case, and for the end of a block
+  -- what stands for a case
   abbrev pub case_of : the_case.Case → m.Case
   case_of c = case_view (trees a.table) (constants_of a) (values_in a f) (labels_in a f) c
 
+  -- what stands for the end of a block
   abbrev pub ending_of : the_ending.Ending → m.Ending
   ending_of e = ending_view (trees a.table) (constants_of a) (values_in a f) (labels_in a f) e
 

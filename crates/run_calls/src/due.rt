@@ -39,8 +39,11 @@ const ABORTED: u8 = 134;
 /// it takes them.
 #[derive(Clone, Copy)]
 pub enum DueCall {
+    /// A constructor.
     Constructor(u64),
+    /// Main without arguments.
     Main(u64),
+    /// Main with the count of its arguments and their array.
     MainWith(u64, u32, Pointer),
 }
 

@@ -8,10 +8,15 @@ use run_rules::End;
 /// How a run ends that has begun. `End` has the other ends, too, those of opening.
 #[derive(Clone, Copy)]
 pub enum Stop {
+    /// The program ended with this status.
     Exit(u8),
+    /// What it did is undefined.
     Undefined(UndefinedKind),
+    /// The steps are used up.
     StepsUsed,
+    /// The frames would weigh more than they may.
     StackLimit,
+    /// The live blocks would have more bytes than they may.
     MemoryLimit,
 }
 

@@ -4,7 +4,9 @@
 /// counted from 0.
 #[derive(Clone, Copy, Debug, PartialEq, Eq)]
 pub enum LeafAt {
+    /// A place in the frame.
     Held(u32),
+    /// A place among the known leaves.
     Known(u32),
 }
 

@@ -3,6 +3,10 @@
 //! It stands on `ir_memory`, `ir_intrinsics`, `run_values` and the definitions of `run_rules`. It promises that each call answers as
 //! the definition of its host function says, memory and the bytes that are written included. Definitions: `specs/Answers`; `Host` of
 //! `run_rules`.
+//!
+//! ```
+//! evaluate(Intrinsic::Ctpop, 32, &[Scalar::Int(7)]) // Answer::Gives(Some(outcome)): outcome.first is Scalar::Int(3)
+//! ```
 #![tactic(auto)]
 
 mod answer;

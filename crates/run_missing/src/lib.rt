@@ -3,6 +3,12 @@
 //! It stands on `run_names`, which tells what names mean, on `kept_names`, which tells what definitions use, and on the definitions of
 //! `run_rules`. It promises, for a checked module alone, exactly the name that `first_missing` of `run_rules` defines, in time linear in
 //! the module. Definitions: `specs/Used`; `Plan` of `run_rules`.
+//!
+//! ```
+//! // of `declare void @f() define i32 @main() { call void @f() ret i32 0 }`
+//! let names = names_of(alloc, &checked)?;
+//! missing_name(alloc, &names)? // Some(GlobalId::Function(id)), which is `@f`
+//! ```
 #![tactic(auto)]
 
 mod defined;

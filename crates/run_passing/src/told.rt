@@ -11,11 +11,17 @@ use run_rules::{End, RunFault};
 /// An end or a fault that a run has answered. `End` cannot be told twice, since it may hold a name; a run that has begun has no such end.
 #[derive(Clone, Copy)]
 pub enum Told {
+    /// The program ended with this status.
     Exit(u8),
+    /// What it did is undefined.
     Undefined(UndefinedKind),
+    /// The steps are used up.
     StepsUsed,
+    /// The frames would weigh more than they may.
     StackLimit,
+    /// The live blocks would have more bytes than they may.
     MemoryLimit,
+    /// A read or a write failed, or memory ran out.
     Failed(RunFault),
 }
 

@@ -5,10 +5,13 @@ use thiserror::Error;
 /// Why a call did not come to an end of the run: a read or a write failed, or the interpreter has no memory left.
 #[derive(Clone, Copy, PartialEq, Eq, Debug, Error)]
 pub enum RunFault {
+    /// The input failed to be read.
     #[error("cannot read the input")]
     ReadFault,
+    /// The output failed to be written.
     #[error("cannot write the output")]
     WriteFault,
+    /// Memory ran out.
     #[error("out of memory")]
     Memory,
 }

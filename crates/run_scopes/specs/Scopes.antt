@@ -53,10 +53,11 @@ abbrev pub AreApart : List m.LocalName → Type 0
 AreApart names = (i j : ℕ) (name : m.LocalName) → slice_get names i ≡ Some name → slice_get names j ≡ Some name → i ≡ j
 
 module _ (a : Lists) (f : Function) where
-  -- what parameters and results are called, and blocks
+  -- what parameters and results are called
   abbrev pub values_in : List m.LocalName
   values_in = map local_view (value_names f)
 
+  -- what blocks are called
   abbrev pub labels_in : List m.LocalName
   labels_in = map (λ b. local_view b.name) (function_blocks f)
 
@@ -68,19 +69,23 @@ module _ (a : Lists) (f : Function) where
   abbrev pub label_of : ℕ → m.LocalName
   label_of id = block_name (trees a.table) (constants_of a) values_in labels_in id
 
-  -- what stands for values, operands, entries of phis, instructions and blocks
+  -- what stands for a value
   abbrev pub value_of : the_value.Value → m.Value
   value_of v = value_view (trees a.table) (constants_of a) values_in labels_in v
 
+  -- what stands for an operand
   abbrev pub operand_of : the_operand.Operand → m.Operand
   operand_of o = operand_view (trees a.table) (constants_of a) values_in labels_in o
 
+  -- what stands for an entry of a phi
   abbrev pub incoming_of : the_incoming.Incoming → m.Incoming
   incoming_of i = incoming_view (trees a.table) (constants_of a) values_in labels_in i
 
+  -- what stands for an instruction
   abbrev pub instruction_of : Inst → m.Instruction
   instruction_of i = inst_view (trees a.table) (constants_of a) values_in labels_in i
 
+  -- what stands for a block
   abbrev pub block_of : the_block.Block → m.Block
   block_of b = block_view (trees a.table) (constants_of a) values_in labels_in b
 

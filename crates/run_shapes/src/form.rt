@@ -15,7 +15,9 @@ use type_table::{IrType, Layout, StructBody, TypeId, TypeTable};
 pub enum Form {
     /// An integer, by its width in bits.
     Int(u8),
+    /// A pointer.
     Pointer,
+    /// `void`
     Nothing,
     /// A struct without a body.
     Opaque,

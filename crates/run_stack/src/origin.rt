@@ -4,7 +4,9 @@ use ir_eval::Scalar;
 /// Where a leaf is had from: the place in the frame where it stands, counted from 0, or the leaf itself.
 #[derive(Clone, Copy, Debug, PartialEq, Eq)]
 pub enum Origin {
+    /// A place in the frame.
     Held(u32),
+    /// The leaf itself.
     Known(Scalar),
 }
 

@@ -3,6 +3,15 @@
 //! It stands on the sinks and sources of `ir_base`, and takes memory only where it is made. It promises that all that is put is
 //! written in order, and none before 65,536 bytes are there unless it is asked for; and that each byte of the input is given once, in
 //! order, and none is read once a read has given none. Definitions: `specs/Output`, `specs/Input`.
+//!
+//! ```
+//! let mut input = Input::new(alloc)?;
+//! input.take(&mut source)? // Some(b'a'), where the source has `ab`
+//!
+//! let mut output = Output::new(alloc)?;
+//! output.put(b"b", &mut sink)?; // the sink may not have it yet
+//! output.flush(&mut sink)?; // now it has
+//! ```
 #![tactic(auto)]
 
 mod input;

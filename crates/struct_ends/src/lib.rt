@@ -3,6 +3,12 @@
 //! It stands on the mentions of `struct_order` and the rules of `name_rules`. It promises that a struct is told to contain
 //! itself exactly where a field holds it by value, through however many other structs. Definitions: `specs/Mentioning`, and
 //! `specs/Reach` for the search.
+//!
+//! ```
+//! let items = read_items(alloc, b"%a = type { [2 x %b] }\n%b = type { %a }")?;
+//! let mentions = StructMentions::of_items(alloc, &items)?;
+//! mentions.contains_itself(alloc, b"a")? // true
+//! ```
 #![tactic(auto)]
 
 mod mentions;

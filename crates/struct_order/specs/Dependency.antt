@@ -1,4 +1,4 @@
--- Structs in an order in which each stands behind those that its fields name.
+-- For `dependency_order`: structs in an order in which each stands behind those that its fields name.
 use Rattle.std.specs.Prelude.{◌≡◌, ◌⊎◌, ℕ, ◌<◌, true, List, [], ◌∷◌, map, length, slice_index_or, nat_eq}
 use Rattle.std.specs.List.{IsDistinct}
 use Rattle.type_table.specs.Tree.{Structs, index_of, body_of}

@@ -1,4 +1,4 @@
--- Numbers in an order in which each stands behind those that it mentions.
+-- For `dependency_order` and `all_mentions`: numbers in an order in which each stands behind those that it mentions.
 use Rattle.std.specs.Prelude.{◌≡◌, ◌⊎◌, ℕ, ◌<◌, ◌≤◌, Bool, true, false, List, [], ◌∷◌, map, length, All, slice_index_or, nat_eq}
 use Rattle.std.specs.List.{list_any, IsDistinct}
 use Rattle.std.specs.Global.{Vec}

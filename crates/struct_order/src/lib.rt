@@ -3,6 +3,11 @@
 //! It stands on `name_rules` and the tables of `name_table`. It promises that the order has exactly the structs for
 //! which there is such an order, and that the measures of structs are those that the rules of names and numbers ask.
 //! Definitions: `specs/Dependency`, and `specs/Measured` of `name_rules`.
+//!
+//! ```
+//! let items = read_items(alloc, b"%a = type { %b }\n%b = type { i32 }")?;
+//! dependency_order(alloc, &items)? // [1, 0]: `%b` stands before `%a`
+//! ```
 #![tactic(auto)]
 
 ghost use Rattle.std.specs.Prelude.{◌<◌, ◌^◌, length, IfOk};

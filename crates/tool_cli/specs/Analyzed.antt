@@ -1,4 +1,4 @@
--- What telling the stream of an input comes to: the end, and what standard output took.
+-- For `run_tool`: what telling the stream of an input comes to: the end, and what standard output took.
 use Rattle.std.specs.Prelude.{◌≡◌, ◌⊎◌, ◌&&◌, ℕ, Bool, true, false, List, drop, Option, Some, None}
 use Rattle.ir_base.specs.Outside.{Added}
 use Rattle.bits.specs.declared.fault.BitFault.{BitFault as TheFault}
@@ -34,6 +34,7 @@ IsDumped bytes whole before now (CannotWrite name) = WroteFront bytes whole befo
 IsDumped bytes whole before now Memory = (now ≡ before) ⊎ WroteFront bytes whole before now
 IsDumped bytes whole before now ended = now ≡ before
 
+-- the command, where there is one, tells the stream of an input
 abbrev pub is_analysis_behind : Option Command → Bool
 is_analysis_behind None = false
 is_analysis_behind (Some command) = is_analysis command

@@ -1,4 +1,4 @@
--- What reading an input took, why inputs were not read, and why a run stopped.
+-- For `run_tool`: what reading an input took, why inputs were not read, and why a run stopped.
 use Rattle.std.specs.Prelude.{◌≡◌, ◌⊎◌, ℕ, ◌<◌, ◌≤◌, List, [], length, codes, Option, IfSome}
 use Rattle.std.specs.Bool.{MatchBool}
 use Rattle.std.specs.List.{IsAmong}

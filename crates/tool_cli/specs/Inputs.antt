@@ -1,4 +1,4 @@
--- The inputs that words name, and what reading them gives where their content is told.
+-- For `run_tool`: the inputs that words name, and what reading them gives where their content is told.
 use Rattle.std.specs.Prelude.{◌≡◌, ℕ, ◌+◌, nat_lt, Bool, true, false, not, List, [], ◌∷◌, length, drop, Option, Some, None, Result, Ok, Err, if◌then◌else◌}
 use Rattle.std.specs.Bool.{MatchBool}
 use Rattle.std.specs.List.{IsAmong, list_any}
@@ -21,6 +21,7 @@ inputs_of (Extract input output text selection) = input ∷ []
 inputs_of (Lli input max_steps arguments) = input ∷ []
 inputs_of (Analyze input dump) = input ∷ []
 
+-- the inputs of the command, where there is one
 abbrev pub inputs_behind : Option Command → List (List ℕ)
 inputs_behind None = []
 inputs_behind (Some command) = inputs_of command
@@ -39,10 +40,12 @@ abbrev pub hears : Command → Bool
 hears (Lli input max_steps arguments) = not (is_dash input)
 hears command = false
 
+-- the command, where there is one, runs a program
 abbrev pub runs_behind : Option Command → Bool
 runs_behind None = false
 runs_behind (Some command) = runs_program command
 
+-- the command, where there is one, runs a program that has standard input for its own
 abbrev pub hears_behind : Option Command → Bool
 hears_behind None = false
 hears_behind (Some command) = hears command
@@ -71,6 +74,7 @@ stdin_after stdin name = if is_dash name then [] else stdin
 abbrev pub Tells : Option Named → Option (List ℕ) → Named → List ℕ → List ℕ → Type 0
 Tells contents left files stdin name = MatchBool (is_dash name) (left ≡ Some stdin) (contents ≡ Some files)
 
+-- each of these names is told
 abbrev pub TellsAll : List (List ℕ) → Option Named → Option (List ℕ) → Named → List ℕ → Type 0
 TellsAll names contents left files stdin = (name : List ℕ) → IsAmong names name → Tells contents left files stdin name
 
@@ -98,6 +102,7 @@ abbrev pub with_text : List ℕ → Result (List (List ℕ)) Ended → Result (L
 with_text text (Ok texts) = Ok (text ∷ texts)
 with_text text (Err ended) = Err ended
 
+-- a text that was read, in front of those that are read behind it
 abbrev pub read_on : Result (List ℕ) Ended → (List ℕ → Result (List (List ℕ)) Ended) → Result (List (List ℕ)) Ended
 read_on (Ok text) others = with_text text (others text)
 read_on (Err ended) others = Err ended

@@ -24,6 +24,7 @@ output_of (Extract input output text selection) = Some output
 output_of (Lli input max_steps arguments) = Some Standard
 output_of (Analyze input dump) = Some Standard
 
+-- the output of the command, where there is one
 abbrev pub output_behind : Option Command → Option OutputName
 output_behind None = None
 output_behind (Some command) = output_of command

@@ -1,4 +1,4 @@
--- What a call that reads inputs leaves: it says so beside its answer.
+-- For `run_tool`: what a call that reads inputs leaves: it says so beside its answer.
 use Rattle.std.specs.Prelude.{◌≡◌, ◌⊎◌, ℕ, ◌+◌, ◌≤◌, Bool, false, List, length, Option}
 use Rattle.std.specs.Bool.{MatchBool}
 use Rattle.ir_base.specs.Outside.{Rose, Lost, LostUpTo}

@@ -1,4 +1,5 @@
--- The whole meaning of a run: which end it has, where it is told what its inputs hold and what its program reads.
+-- For `run_tool`: the whole meaning of a run: which end it has, where it is told what its inputs hold and what its
+-- program reads.
 use Rattle.std.specs.Prelude.{◌≡◌, ◌⊎◌, ℕ, Bool, true, slice_index_or, List, [], ◌∷◌, codes, Option, Some, None, Result, Ok, Err}
 use Rattle.ir_base.specs.Files.{Named}
 use Rattle.module_arena.specs.Module.{Module}

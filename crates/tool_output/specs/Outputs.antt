@@ -10,6 +10,7 @@ pub record Outputs : Type 0 where
   pub taken : Option (List ℕ)
   pub contents : Option Named
 
+-- what standard output has, and the files
 abbrev pub outputs : Option (List ℕ) → Option Named → Outputs
 outputs taken contents = record { taken = taken; contents = contents }
 

@@ -3,6 +3,8 @@
 /// What is written of a module: its canonical text, or the bitcode that is its one spelling.
 #[derive(Clone, Copy)]
 pub enum OutputFormat {
+    /// Canonical text.
     CanonicalText,
+    /// Bitcode.
     Bitcode,
 }

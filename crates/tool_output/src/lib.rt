@@ -4,6 +4,11 @@
 //! nothing changes, and nowhere anything beside; and that where memory ran out nothing was written.
 //! Definitions: `specs/Written` (the bytes of a module), `specs/Outputs` (what outputs
 //! have), `specs/Writing` (what is answered).
+//!
+//! ```
+//! write_module(alloc, OutputFormat::CanonicalText, &OutputName::Standard, &checked, &mut files, &mut sink)?;
+//! // the sink has the canonical text of the module now
+//! ```
 #![tactic(auto)]
 
 mod fault;

@@ -1,4 +1,5 @@
--- What is asked for where an entry is declared, and what is declared of it.
+-- For `declare_variable`, `declare_function`, `declare_definition` and `declare_alias`: what is asked for where an
+-- entry is declared, and what is declared of it.
 use Rattle.std.specs.Prelude.{◌≡◌, ℕ, ◌^◌, ◌<◌, ◌≤◌, ◌+◌, List, [], length, slice_get, All, Option, Some, None}
 use Rattle.ir_terminals.specs.declared.values.Integer.{Integer}
 use Rattle.ir_syntax.specs.Tree.{AliasTypeTree, PlainAlias, FunctionAlias}
@@ -23,9 +24,11 @@ AreFew n = first_excess n ≡ None
 abbrev pub one_variable_more : Lists → Counts
 one_variable_more a = record (counts a) { variables = length a.variables + 1 }
 
+-- the counts with one alias more
 abbrev pub one_alias_more : Lists → Counts
 one_alias_more a = record (counts a) { aliases = length a.aliases + 1 }
 
+-- the counts with one function more
 abbrev pub one_function_more : Lists → Counts
 one_function_more a = record (counts a) { functions = length a.functions + 1 }
 

@@ -1,4 +1,4 @@
--- Which types an arena can take: each is within the limits, and so is each that is written in it.
+-- For `Builder`: which types an arena can take: each is within the limits, and so is each that is written in it.
 use Rattle.std.specs.Prelude.{◌≤◌, All, Contains, map}
 use Rattle.type_table.specs.Limits.{IsWithinLimits}
 use Rattle.type_table.specs.Shape.{shape}
@@ -16,6 +16,7 @@ abbrev mutual
   CanBe structs (struct packed ts) = IsWithinLimits (shape structs (struct packed ts)) × AllCanBe structs ts
   CanBe structs (named name) = IsWithinLimits (shape structs (named name)) × Contains (map (λ s. s.0) structs) name
 
+  -- the same of several types
   pub AllCanBe : Structs → Trees → Type 0
   AllCanBe structs no_trees = Unit {0}
   AllCanBe structs (more_trees t ts) = CanBe structs t × AllCanBe structs ts

@@ -1,4 +1,4 @@
--- Which constants an arena can take.
+-- For `add_constant` of `Builder`, and `initialise`: which constants an arena can take.
 use Rattle.std.specs.Prelude.{◌≡◌, ℕ, ◌^◌, ◌<◌, List, Some}
 use Rattle.ir_constants.specs.Tree.{ConstantTree, IntegerConstant, SimpleConstant, AddressConstant, BytesConstant, ListConstant, ElementAddress, Conversion, Arithmetic, ConstantTrees, no_constants, more_constants, TypedConstantTree}
 use Rattle.type_table.specs.Tree.{Structs}
@@ -29,6 +29,7 @@ module _ (structs : Structs) (a : Lists) where
     CanHold (Arithmetic place opcode flags left_type left right_type right) =
         (CanBe structs (type_in left_type) × CanHold left) × (CanBe structs (type_in right_type) × CanHold right)
 
+    -- the same of several constants and their types
     pub AllCanHold : ConstantTrees → Type 0
     AllCanHold no_constants = Unit {0}
     AllCanHold (more_constants ty c cs) = (CanBe structs (type_in ty) × CanHold c) × AllCanHold cs

@@ -1,4 +1,4 @@
--- The parameters of a function, and a function without its body.
+-- For `declare_definition`: the parameters of a function, and a function without its body.
 use Rattle.std.specs.Prelude.{◌≡◌, ℕ, ◌<◌, Bool, true, false, List, [], ◌∷◌, map, length, All, Option, None}
 use Rattle.ir_terminals.specs.declared.values.Local.{Local}
 use Rattle.ir_syntax.specs.Tree.{ParameterTree, HeadTree}

@@ -1,4 +1,4 @@
--- Constants with the types that are written before them, as lists.
+-- For `add_typed` of `Builder`: constants with the types that are written before them, as lists.
 use Rattle.std.specs.Prelude.{◌≡◌, ℕ, List, [], ◌∷◌}
 use Rattle.ir_tables.specs.declared.opcode.Opcode.{Opcode}
 use Rattle.module_arena.specs.declared.constant.Const.{Const}

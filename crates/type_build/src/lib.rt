@@ -3,6 +3,13 @@
 //! It stands on `ir_syntax`, `name_rules` and the arena of `module_arena`. It promises that its ids are those of the types,
 //! constants and entries that the text writes, that nothing else of the module changes, and that only memory may be
 //! wanting. Definitions: `specs/Stands`, `specs/Fitting`, `specs/Holding`, `specs/Declarations`, and `Written` of `name_rules`.
+//!
+//! ```
+//! let mut builder = Builder::new(alloc);
+//! let ty = builder.keep_type(alloc, IrType::Int(32))?;
+//! let seven = builder.keep_constant(alloc, Const::Integer(7))?;
+//! builder.keep_type(alloc, IrType::Int(32))? // `ty` again
+//! ```
 #![tactic(auto)]
 
 mod aliases;

@@ -1,4 +1,4 @@
--- What an answer says of a list of demands.
+-- For `check_type`, `check_constant` and the calls beside them: what an answer says of a list of demands.
 use Rattle.std.specs.Prelude.{List, ◌++◌, Result}
 use Rattle.name_rules.specs.declared.fault.ResolveFault.{ResolveFault}
 use Rattle.name_rules.specs.Demand.{Demand, Judged}

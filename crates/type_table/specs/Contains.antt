@@ -11,10 +11,12 @@ module _ (bodies : List ℕ → TreeBody) (name : List ℕ) where
       holds_in_struct : {packed : Bool} {ts : Trees} → SomeHolds ts → Holds (struct packed ts)
       holds_in_body : {outer : List ℕ} {packed : Bool} {ts : Trees} → bodies outer ≡ fields packed ts → SomeHolds ts → Holds (named outer)
 
+    -- one of several types holds it
     pub data SomeHolds : Trees → Type 0 where
       first_holds : {t : Tree} {ts : Trees} → Holds t → SomeHolds (more_trees t ts)
       later_holds : {t : Tree} {ts : Trees} → SomeHolds ts → SomeHolds (more_trees t ts)
 
+  -- a field of a body holds it
   abbrev pub BodyHolds : TreeBody → Type 0
   BodyHolds opaque_body = ⊥
   BodyHolds (fields packed ts) = SomeHolds ts

@@ -10,6 +10,7 @@ use Rattle.type_table.specs.Measures.{type_measures, measure_of, Measures}
 use Rattle.type_table.specs.Tree.{body_of}
 use Rattle.type_table.specs.Types.{Types, names, structs, IsGood}
 
+-- the size, where there is one, is within the limit
 abbrev pub HasSmallSize : Option Layout → Type 0
 HasSmallSize None = ⊤
 HasSmallSize (Some l) = l.size ≤ 2 ^ 40
@@ -20,6 +21,7 @@ pub record IsSmall (m : Measure) : Type 0 where
   pub parts_fit : m.parts ≤ 2 ^ 20
   pub size_fits : HasSmallSize m.layout
 
+-- there is a size, and it is past the limit
 abbrev pub HasLargeSize : Option Layout → Type 0
 HasLargeSize None = ⊥
 HasLargeSize (Some l) = 2 ^ 40 < l.size

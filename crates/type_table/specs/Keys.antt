@@ -46,9 +46,11 @@ body_writes Opaque = fed.u8 0
 body_writes (Plain parts) = fed.u8 1 ++ fed.slice fed.u64 parts
 body_writes (Packed parts) = fed.u8 2 ++ fed.slice fed.u64 parts
 
+-- a number is equal to itself
 number_same : (n : ℕ) → (n == n) ≡ true
 number_same n = (unsigned_Decides n n).1 refl
 
+-- a type is equal to itself
 type_same : (a : IrType) → type_eq a a ≡ true
 type_same (Int w) = number_same w
 type_same Ptr = refl
@@ -57,6 +59,7 @@ type_same (Array n part) = λ j. number_same n j && number_same part j
 type_same (Struct packed parts) = λ j. (booleans_Decides packed packed).1 refl j && (bytes_decides parts parts).1 refl j
 type_same (Named id) = number_same id
 
+-- types that test equal are equal
 type_so : (a b : IrType) → type_eq a b ≡ true → a ≡ b
 type_so (Int w) (Int other) e = ap Int ((unsigned_Decides w other).0 e)
 type_so Ptr Ptr e = refl
@@ -72,11 +75,13 @@ type_so _ _ e = absurd (true≢false (sym e))
 pub types_decide : (a b : IrType) → Decides (type_eq a b) (a ≡ b)
 types_decide a b = (type_so a b, λ p. ap (type_eq a) (sym p) ∙ type_same a)
 
+-- a body is equal to itself
 body_same : (a : StructBody) → body_eq a a ≡ true
 body_same Opaque = refl
 body_same (Plain parts) = (bytes_decides parts parts).1 refl
 body_same (Packed parts) = (bytes_decides parts parts).1 refl
 
+-- bodies that test equal are equal
 body_so : (a b : StructBody) → body_eq a b ≡ true → a ≡ b
 body_so Opaque Opaque e = refl
 body_so (Plain parts) (Plain others) e = ap Plain ((bytes_decides parts others).0 e)

@@ -14,6 +14,7 @@ abbrev mutual
   has_layout (array_of n s) = has_layout s
   has_layout (struct_of label packed ss) = have_layouts ss
 
+  -- the same of several shapes
   pub have_layouts : Shapes → Bool
   have_layouts no_shapes = true
   have_layouts (more_shapes s ss) = has_layout s && have_layouts ss
@@ -24,6 +25,7 @@ int_align w =
     if nat_le w 8 then 1 else (if nat_le w 16 then 2 else (if nat_le w 32 then 4 else (if nat_le w 64 then 8 else 16)))
 
 abbrev mutual
+  -- the alignment of a shape in bytes
   pub align : Shape → ℕ
   align (int_leaf w) = int_align w
   align ptr_leaf = 8
@@ -46,6 +48,7 @@ abbrev pub int_size : ℕ → ℕ
 int_size w = next_multiple_of ((w + 7) / 8) (int_align w)
 
 abbrev mutual
+  -- the size of a shape in bytes
   pub size : Shape → ℕ
   size (int_leaf w) = int_size w
   size ptr_leaf = 8
@@ -69,10 +72,12 @@ abbrev mutual
   leaves (array_of n s) = n * leaves s
   leaves (struct_of label packed ss) = all_leaves ss
 
+  -- the same of several shapes together
   pub all_leaves : Shapes → ℕ
   all_leaves no_shapes = 0
   all_leaves (more_shapes s ss) = leaves s + all_leaves ss
 
+-- the layout of a shape, where it has one
 abbrev pub layout : Shape → Option Layout
 layout s = if has_layout s then Some (record { size = size s; align = align s; leaves = leaves s }) else None
 

@@ -35,6 +35,7 @@ pub record Fits (s : Shape) : Type 0 where
   pub length_fits : array_length s ≤ 2 ^ 40
   pub size_fits : has_layout s ≡ true → size s ≤ 2 ^ 40
 
+-- there is a shape, and it is within the limits
 abbrev pub IsWithinLimits : Option Shape → Type 0
 IsWithinLimits None = ⊥
 IsWithinLimits (Some s) = Fits s

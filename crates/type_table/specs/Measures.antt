@@ -17,12 +17,15 @@ use Rattle.type_table.specs.Tree.{Tree, int, ptr, void, array, struct, named, Tr
 abbrev pub capped_nesting : ℕ → ℕ
 capped_nesting n = min 255 n
 
+-- a count of parts, kept up to one past its limit
 abbrev pub capped_parts : ℕ → ℕ
 capped_parts n = min (2 ^ 20 + 1) n
 
+-- a size, kept up to one past its limit
 abbrev pub capped : ℕ → ℕ
 capped n = min (2 ^ 40 + 1) n
 
+-- a layout, kept up to one past the limit on sizes
 abbrev pub capped_layout : Layout → Layout
 capped_layout l = record { size = capped l.size; align = l.align; leaves = capped l.leaves }
 
@@ -30,9 +33,11 @@ capped_layout l = record { size = capped l.size; align = l.align; leaves = cappe
 abbrev pub measure : Shape → Measure
 measure s = record { nesting = capped_nesting (nesting s); parts = capped_parts (parts s); layout = option_map capped_layout (layout s) }
 
+-- a struct without a body
 abbrev pub opaque_measure : Measure
 opaque_measure = record { nesting = 1; parts = 1; layout = None }
 
+-- an array of n parts
 abbrev pub array_measure : ℕ → Measure → Measure
 array_measure n part = record {
   nesting = capped_nesting (part.nesting + 1);
@@ -54,6 +59,7 @@ with_field_layout packed (Some l) (Some field) = Some (record {
   leaves = capped (l.leaves + field.leaves);
 })
 
+-- a struct with one field more
 abbrev pub with_field : Bool → Measure → Measure → Measure
 with_field packed sofar field = record {
   nesting = max sofar.nesting (capped_nesting (field.nesting + 1));
@@ -65,6 +71,7 @@ with_field packed sofar field = record {
 abbrev pub rounded : Layout → Layout
 rounded l = record l { size = capped (next_multiple_of (capped l.size) (max 1 l.align)) }
 
+-- a struct whose fields are all there: its size is rounded up
 abbrev pub closed : Measure → Measure
 closed m = record m { layout = option_map rounded m.layout }
 
@@ -92,6 +99,7 @@ body_measure types had (Some Opaque) = had
 body_measure types had (Some (Plain parts)) = struct_measure false (measures_at types parts)
 body_measure types had (Some (Packed parts)) = struct_measure true (measures_at types parts)
 
+-- the measures of types with that of one type more
 abbrev pub push_measure : List Measure → List Measure → IrType → List Measure
 push_measure structs done ty = done ++ type_measure structs done ty ∷ []
 
@@ -130,10 +138,12 @@ module _ (look : List ℕ → Measure) where
     tree_measure (struct packed ts) = struct_measure packed (tree_measures ts)
     tree_measure (named n) = look n
 
+    -- the same of several trees
     pub tree_measures : Trees → List Measure
     tree_measures no_trees = []
     tree_measures (more_trees t ts) = tree_measure t ∷ tree_measures ts
 
+  -- the measure of the body of a struct
   abbrev pub tree_body_measure : TreeBody → Measure
   tree_body_measure opaque_body = opaque_measure
   tree_body_measure (fields packed ts) = struct_measure packed (tree_measures ts)

@@ -1,4 +1,5 @@
--- How the code reads: what a type is but for its parts, and the ids of its parts, where a struct's name stands for its body.
+-- Says how the code reads: what a type is but for its parts, and the ids of its parts, where a struct's name stands for
+-- its body.
 use Rattle.std.specs.Prelude.{ℕ, zero, suc, max, Bool, true, false, List, [], ◌∷◌, slice_index_or, Option, Some, None}
 use Rattle.std.specs.Option.{option_map_or}
 use Rattle.type_table.specs.declared.ir_type.IrType.{IrType}
@@ -14,18 +15,21 @@ use Rattle.type_table.specs.Measures.{capped, with_field}
 use Rattle.type_table.specs.Shape.{nesting}
 use Rattle.type_table.specs.Types.{Types, bodies, shape}
 
+-- what the body of a struct is but for its parts
 abbrev pub body_head : Option StructBody → Head
 body_head None = heads.Opaque
 body_head (Some Opaque) = heads.Opaque
 body_head (Some (Plain parts)) = heads.Struct false
 body_head (Some (Packed parts)) = heads.Struct true
 
+-- the ids of the parts of a body
 abbrev pub body_parts : Option StructBody → List ℕ
 body_parts None = []
 body_parts (Some Opaque) = []
 body_parts (Some (Plain parts)) = parts
 body_parts (Some (Packed parts)) = parts
 
+-- what a type is but for its parts
 abbrev pub type_head : List (Option StructBody) → IrType → Head
 type_head bs (Int w) = heads.Int w
 type_head bs Ptr = heads.Ptr
@@ -34,6 +38,7 @@ type_head bs (Array n part) = heads.Array n
 type_head bs (Struct packed parts) = heads.Struct packed
 type_head bs (Named id) = body_head (slice_index_or bs id None)
 
+-- the ids of the parts of a type
 abbrev pub type_parts : List (Option StructBody) → IrType → List ℕ
 type_parts bs (Int w) = []
 type_parts bs Ptr = []
@@ -42,9 +47,11 @@ type_parts bs (Array n part) = part ∷ []
 type_parts bs (Struct packed parts) = parts
 type_parts bs (Named id) = body_parts (slice_index_or bs id None)
 
+-- what the type with this id is but for its parts
 abbrev pub head_of : Types → ℕ → Head
 head_of t ty = type_head (bodies t) (slice_index_or t.types ty Void)
 
+-- the ids of the parts of the type with this id
 abbrev pub parts_of : Types → ℕ → List ℕ
 parts_of t ty = type_parts (bodies t) (slice_index_or t.types ty Void)
 

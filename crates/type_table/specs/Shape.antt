@@ -17,6 +17,7 @@ mutual
     array_of : ℕ → Shape → Shape
     struct_of : Label → Bool → Shapes → Shape
 
+  -- shapes, one after another
   pub data Shapes : Type 0 where
     no_shapes : Shapes
     more_shapes : Shape → Shapes → Shapes
@@ -38,10 +39,12 @@ module _ (look : List ℕ → Option Shape) where
     expanded (struct packed ts) = option_map (struct_of None packed) (all_expanded ts)
     expanded (named n) = look n
 
+    -- the shapes of several trees, where each has one
     pub all_expanded : Trees → Option Shapes
     all_expanded no_trees = Some no_shapes
     all_expanded (more_trees t ts) = with_first (expanded t) (all_expanded ts)
 
+  -- the shape of a struct with that body, under a label
   abbrev pub body_shape : Label → TreeBody → Option Shape
   body_shape label opaque_body = Some (opaque_leaf label)
   body_shape label (fields packed ts) = option_map (struct_of label packed) (all_expanded ts)
@@ -70,6 +73,7 @@ abbrev mutual
   nesting (array_of n s) = nesting s + 1
   nesting (struct_of label packed ss) = deepest ss + 1
 
+  -- how deep the deepest of some shapes nests
   pub deepest : Shapes → ℕ
   deepest no_shapes = 0
   deepest (more_shapes s ss) = max (nesting s) (deepest ss)
@@ -84,6 +88,7 @@ abbrev mutual
   parts (array_of n s) = 1 + parts s
   parts (struct_of label packed ss) = 1 + all_parts ss
 
+  -- how many nodes some shapes have together
   pub all_parts : Shapes → ℕ
   all_parts no_shapes = 0
   all_parts (more_shapes s ss) = parts s + all_parts ss

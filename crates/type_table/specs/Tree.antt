@@ -11,6 +11,7 @@ mutual
     struct : Bool → Trees → Tree
     named : List ℕ → Tree
 
+  -- types, one after another
   pub data Trees : Type 0 where
     no_trees : Trees
     more_trees : Tree → Trees → Trees

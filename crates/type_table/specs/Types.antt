@@ -14,6 +14,7 @@ pub record Types : Type 0 where
   pub types : List IrType
   pub structs : List (List ℕ × Option StructBody)
 
+-- the empty table
 abbrev pub no_types : Types
 no_types = record { types = []; structs = [] }
 
@@ -25,6 +26,7 @@ names t = map (λ s. s.0) t.structs
 abbrev pub bodies : Types → List (Option StructBody)
 bodies t = map (λ s. s.1) t.structs
 
+-- a table with one type more
 abbrev pub with_type : Types → IrType → Types
 with_type t ty = record t { types = t.types ++ ty ∷ [] }
 
@@ -32,6 +34,7 @@ with_type t ty = record t { types = t.types ++ ty ∷ [] }
 abbrev pub with_struct : Types → List ℕ → Types
 with_struct t name = record t { structs = t.structs ++ (name, None) ∷ [] }
 
+-- a table in which a struct gets its body
 abbrev pub with_body : Types → ℕ → StructBody → Types
 with_body t id body = record t { structs = set t.structs id (slice_index_or (names t) id [], Some body) }
 
@@ -49,6 +52,7 @@ tree_of ns done (Array n part) = array n (slice_index_or done part void)
 tree_of ns done (Struct packed parts) = struct packed (trees_at done parts)
 tree_of ns done (Named id) = named (slice_index_or ns id [])
 
+-- the trees of types with that of one type more
 abbrev pub grow : List (List ℕ) → List Tree → IrType → List Tree
 grow ns done ty = done ++ tree_of ns done ty ∷ []
 
@@ -56,6 +60,7 @@ grow ns done ty = done ++ tree_of ns done ty ∷ []
 abbrev pub trees : Types → List Tree
 trees t = fold (grow (names t)) [] t.types
 
+-- the body of a struct as a tree
 abbrev pub tree_body : List Tree → Option StructBody → TreeBody
 tree_body done None = opaque_body
 tree_body done (Some Opaque) = opaque_body
@@ -96,6 +101,7 @@ abbrev pub AllKnown : ℕ → ℕ → List IrType → Type 0
 AllKnown count known [] = ⊤
 AllKnown count known (ty ∷ types) = Knows count known ty × AllKnown (count + 1) known types
 
+-- the ids in a body are below the count
 abbrev pub KnowsBody : ℕ → Option StructBody → Type 0
 KnowsBody count None = ⊤
 KnowsBody count (Some Opaque) = ⊤

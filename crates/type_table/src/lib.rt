@@ -4,6 +4,18 @@
 //! those of the types written out through the bodies of their structs, that no type of a table is past the limits
 //! on nesting, parts and size, and that a change is refused exactly where it would make one so.
 //! Definitions: `specs/Tree`, `Shape`, `Layout`, `Contains`, `Limits`, `Types`, `Measures` and `Keys`.
+//!
+//! ```
+//! let mut table = TypeTable::new(alloc);
+//! let byte = table.add(IrType::Int(8))?;
+//! let word = table.add(IrType::Int(32))?;
+//! let mut fields = TypeList::new(alloc);
+//! fields.push(byte)?;
+//! fields.push(word)?;
+//! let pair = table.add(IrType::Struct(false, fields))?; // { i8, i32 }
+//! table.layout(pair) // Some(Layout { size: 8, align: 4, leaves: 2 })
+//! table.offset(pair, 1) // Some(4)
+//! ```
 #![tactic(auto)]
 
 mod fault;

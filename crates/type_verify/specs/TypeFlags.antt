@@ -18,6 +18,7 @@ abbrev mutual
   is_free v n (struct packed ts) = are_free v n ts
   is_free v n (named name) = n
 
+  -- the same of several types
   pub are_free : (void_passes name_passes : Bool) → Trees → Bool
   are_free v n no_trees = true
   are_free v n (more_trees t ts) = is_free v n t && are_free v n ts
