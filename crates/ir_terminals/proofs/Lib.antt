@@ -4,7 +4,6 @@ pub mod NumberTokens
 pub mod Fronts
 pub mod NumberNames
 pub mod WordLists
-pub mod OpcodeClasses
 pub mod Taking
 pub mod Machines
 pub mod Stacks

@@ -7,9 +7,9 @@ use Rattle.phrase_rows.proofs.Machine.{reads_machine}
 use Rattle.phrase_rows.proofs.Plain.{reads_one}
 use Rattle.ir_terminals.specs.Brackets.{begun_step, brace_step, braced_row, matched_row}
 use Rattle.ir_terminals.specs.Role.{class, terminal}
-use Rattle.ir_terminals.specs.Terminal.{code, linkage_class, flag_class, predicate_class, integer_type_class, opcode_classes}
-use Rattle.ir_terminals.specs.Tokens.{word, integer_row, global_name_row, local_row, named_local_row, label_row, quoted_row, byte_string_row, linkage_row, flag_row, predicate_row, opcode_row, integer_width_row}
-use Rattle.ir_terminals.specs.Values.{place_of_token, integer_of, name_of_global, local_of, named_local_of, label_of, text_of, bytes_of, linkage_of, flag_of, predicate_of, opcode_of, width_of}
+use Rattle.ir_terminals.specs.Terminal.{code, linkage_class, flag_class, predicate_class}
+use Rattle.ir_terminals.specs.Tokens.{word, integer_row, global_name_row, local_row, named_local_row, label_row, quoted_row, byte_string_row, linkage_row, flag_row, predicate_row}
+use Rattle.ir_terminals.specs.Values.{place_of_token, integer_of, name_of_global, local_of, named_local_of, label_of, text_of, bytes_of, linkage_of, flag_of, predicate_of}
 use Rattle.ir_terminals.specs.declared.limits.Limits.{Limits}
 use Rattle.ir_terminals.specs.declared.terminal.Terminal.{Terminal}
 use Rattle.ir_terminals.specs.declared.terminal.Terminal.TheVariants as terminals
@@ -46,12 +46,6 @@ reads_flag = reads_one class (flag_class ∷ []) flag_of
 
 pub reads_predicate : Reads class predicate_row predicate_row.shape
 reads_predicate = reads_one class (predicate_class ∷ []) predicate_of
-
-pub reads_opcode : Reads class opcode_row opcode_row.shape
-reads_opcode = reads_one class opcode_classes opcode_of
-
-pub reads_integer_width : Reads class integer_width_row integer_width_row.shape
-reads_integer_width = reads_one class (integer_type_class ∷ []) width_of
 
 another_first : (opening x : Terminal) → among (code x) (code opening ∷ []) ≡ false → begun_step opening [] x ≡ Stops
 another_first opening x h = elim (bool_cases (code x == code opening)) [

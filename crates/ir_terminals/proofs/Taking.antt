@@ -73,11 +73,6 @@ took_place ks v p next b f n = go (left p) refl b f
     go [] e b f = absurd cc
     go (t ∷ more) e b f = took ks place_of_token v p next t more e n b (ap Some (sym f))
 
--- whether the token that is next is of one of the classes
-pub class_next : (ts : List Located) (x : Terminal) (ks : List ℕ) → Some x ≡ first_terminal ts → among (code x) ks ≡ begins class ks ts
-class_next [] x ks h = absurd cc
-class_next (t ∷ ts) x ks h = rw (same_terminal x (terminal t.token) h) refl
-
 -- the token that is next is spelled as its kind is
 pub first_is_token : (ts : List Located) (kind : TokenKind) (s : List ℕ) → Some kind ≡ first_kind ts → IsFirstToken ts → s ≡ first_spelling ts → IsToken kind s
 first_is_token [] kind s h i e = absurd cc

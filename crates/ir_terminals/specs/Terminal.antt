@@ -1,6 +1,6 @@
 -- For `code` of `Terminal`, and `is_class_next` of `Cursor`: the classes of the terminals.
-use Rattle.std.specs.Prelude.{ℕ, ◌+◌, List, map}
-use Rattle.ir_tables.specs.Opcode.{opcode_code, opcodes}
+use Rattle.std.specs.Prelude.{ℕ, ◌+◌}
+use Rattle.ir_tables.specs.Opcode.{opcode_code}
 use Rattle.ir_terminals.specs.declared.terminal.Terminal.{Terminal}
 use Rattle.ir_terminals.specs.declared.terminal.Terminal.TheVariants as terminals
 
@@ -85,7 +85,3 @@ code (terminals.Flag _) = flag_class
 code (terminals.Predicate _) = predicate_class
 code terminals.Alias = 61
 code (terminals.Opcode opcode) = 100 + opcode_code opcode
-
--- the classes of the opcodes
-abbrev pub opcode_classes : List ℕ
-opcode_classes = map (λ opcode. 100 + opcode_code opcode) opcodes

@@ -1,15 +1,14 @@
 -- For the calls of `Cursor` that read one token, as `integer`: the rows of one token.
-use Rattle.std.specs.Prelude.{ℕ, [], ◌∷◌}
+use Rattle.std.specs.Prelude.{[], ◌∷◌}
 use Rattle.ir_base.specs.declared.place.Place.{Place}
 use Rattle.ir_lexer.specs.Ahead.{Located}
 use Rattle.ir_tables.specs.declared.flag.Flag.{Flag}
 use Rattle.ir_tables.specs.declared.linkage.Linkage.{Linkage}
-use Rattle.ir_tables.specs.declared.opcode.Opcode.{Opcode}
 use Rattle.ir_tables.specs.declared.predicate.Predicate.{Predicate}
 use Rattle.phrase_rows.specs.Row.{Row, one}
 use Rattle.ir_terminals.specs.Role.{class}
-use Rattle.ir_terminals.specs.Values.{place_of_token, integer_of, name_of_global, local_of, named_local_of, label_of, text_of, bytes_of, linkage_of, flag_of, predicate_of, opcode_of, width_of}
-use Rattle.ir_terminals.specs.Terminal.{code, linkage_class, flag_class, predicate_class, integer_type_class, opcode_classes}
+use Rattle.ir_terminals.specs.Values.{place_of_token, integer_of, name_of_global, local_of, named_local_of, label_of, text_of, bytes_of, linkage_of, flag_of, predicate_of}
+use Rattle.ir_terminals.specs.Terminal.{code, linkage_class, flag_class, predicate_class}
 use Rattle.ir_terminals.specs.declared.limits.Limits.{Limits}
 use Rattle.ir_terminals.specs.declared.terminal.Terminal.{Terminal}
 use Rattle.ir_terminals.specs.declared.terminal.Terminal.TheVariants as terminals
@@ -61,11 +60,3 @@ flag_row = one class (flag_class ∷ []) flag_of
 -- a predicate
 abbrev pub predicate_row : Row Located Predicate
 predicate_row = one class (predicate_class ∷ []) predicate_of
-
--- an opcode
-abbrev pub opcode_row : Row Located Opcode
-opcode_row = one class opcode_classes opcode_of
-
--- iN, for its width
-abbrev pub integer_width_row : Row Located ℕ
-integer_width_row = one class (integer_type_class ∷ []) width_of

@@ -169,7 +169,3 @@ opcode_of t = opcode_in (terminal t.token)
 abbrev pub width_of_type : Terminal → Option ℕ
 width_of_type (terminals.IntegerType width) = Some width
 width_of_type _ = None
-
--- the width of an integer type
-abbrev pub width_of : Located → Option ℕ
-width_of t = width_of_type (terminal t.token)

@@ -6,7 +6,7 @@ ghost use Rattle.ir_terminals.specs.Position.{text_tokens, left, first_kind, fir
 ghost use Rattle.ir_terminals.specs.Front.{IsFrontOf, front_less};
 ghost use Rattle.ir_terminals.specs.Role.{class};
 ghost use Rattle.ir_terminals.specs.Terminal.{code};
-ghost use Rattle.phrase_rows.specs.Row.{among, begins};
+ghost use Rattle.phrase_rows.specs.Row.{begins};
 
 use crate::limits::Limits;
 use crate::role::terminal_of;
@@ -190,16 +190,6 @@ impl<'t> Cursor<'t> {
         }
     }
 
-    /// Whether a token of one of these classes is next.
-    pub fn begins(&self, classes: &[u8]) -> bool
-        ensures { result ≡ begins class classes.now (left self.now) }
-    {
-        match self.terminal() {
-            Some(terminal) => is_among(terminal.code(), classes),
-            None => false,
-        }
-    }
-
     /// Goes over the next token.
     pub(crate) fn advance(&mut self)
         requires { 0 < length (left self.old) }
@@ -219,16 +209,4 @@ fn is_less(front: Front) -> bool
         Front::Token(_, Terminal::Less) => true,
         _ => false,
     }
-}
-
-/// Whether the class is one of these.
-fn is_among(class: u8, classes: &[u8]) -> bool
-    ensures { result ≡ among class classes.now }
-{
-    for other in classes {
-        if class == *other {
-            return true;
-        }
-    }
-    false
 }

@@ -4,12 +4,9 @@ ghost use Rattle.ir_lexer.specs.Names.{has_name, name_in, unquoted, IsQuoted};
 ghost use Rattle.ir_lexer.specs.Table.{IsToken};
 ghost use Rattle.ir_lexer.specs.declared.token.TokenKind.TheVariants.{Label, UnnamedLocal};
 ghost use Rattle.ir_terminals.specs.Follows.{Follows};
-ghost use Rattle.ir_terminals.specs.Tokens.{word, integer_row, global_name_row, local_row, named_local_row, label_row, quoted_row, byte_string_row, linkage_row, flag_row, predicate_row, opcode_row, integer_width_row};
+ghost use Rattle.ir_terminals.specs.Tokens.{word, integer_row, global_name_row, local_row, named_local_row, label_row, quoted_row, byte_string_row, linkage_row, flag_row, predicate_row};
 ghost use Rattle.ir_terminals.specs.Digits.{decimal};
 ghost use Rattle.ir_terminals.specs.Position.{left, first_kind, first_spelling};
-ghost use Rattle.ir_terminals.specs.Role.{class};
-ghost use Rattle.ir_terminals.specs.Terminal.{code, opcode_classes};
-ghost use Rattle.phrase_rows.specs.Row.{among, begins};
 ghost use Rattle.ir_terminals.specs.Values.{integer_at, is_negative, label_at};
 
 use crate::compact::{CompactName, CompactText};
@@ -20,7 +17,7 @@ use crate::terminal::Terminal;
 use crate::values::{Integer, Local, PlacedName, PlacedText};
 use ir_base::Place;
 use ir_lexer::{TokenKind, is_number, name_of, unquote};
-use ir_tables::{Flag, Linkage, Opcode, Predicate};
+use ir_tables::{Flag, Linkage, Predicate};
 use std::alloc::{AllocError, Global};
 
 /// The integer that is spelled so.
@@ -94,13 +91,6 @@ fn label_at(alloc: Global, place: Place, spelling: &[u8]) -> Result<Local, Alloc
     }
     let name = name_at(alloc, TokenKind::Label, spelling)?;
     Ok(Local::Named(PlacedName { name, place }))
-}
-
-/// Whether this is an opcode's word.
-fn is_opcode(terminal: Terminal) -> bool
-    ensures { result ≡ among (code terminal) opcode_classes }
-{
-    terminal.code() > 100
 }
 
 impl<'t> Cursor<'t> {
@@ -259,37 +249,5 @@ impl<'t> Cursor<'t> {
         };
         self.advance();
         Ok(predicate)
-    }
-
-    /// Takes the word of an opcode.
-    pub fn opcode(&mut self) -> Result<Opcode, Fault>
-        ensures { Follows (λ _. opcode_row) (λ opcode. opcode) self.old result self.new }
-    {
-        let Some(Terminal::Opcode(opcode)) = self.terminal() else {
-            return Err(Fault::Refused);
-        };
-        self.advance();
-        Ok(opcode)
-    }
-
-    /// Takes an integer type, and gives its width.
-    pub fn integer_width(&mut self) -> Result<u8, Fault>
-        ensures { Follows (λ _. integer_width_row) (λ width. width) self.old result self.new }
-    {
-        let Some(Terminal::IntegerType(width)) = self.terminal() else {
-            return Err(Fault::Refused);
-        };
-        self.advance();
-        Ok(width)
-    }
-
-    /// Whether the word of an opcode is next.
-    pub fn is_opcode_next(&self) -> bool
-        ensures { result ≡ begins class opcode_classes (left self.now) }
-    {
-        match self.terminal() {
-            Some(terminal) => is_opcode(terminal),
-            None => false,
-        }
     }
 }

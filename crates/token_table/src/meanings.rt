@@ -72,18 +72,35 @@ pub fn tell_meaning(rt: &HostRuntime, cursor: &mut Cursor) -> io::Result<()> {
         Some(Terminal::Label) => tell_local(rt, cursor.label()),
         Some(Terminal::Quoted) => tell_text(rt, cursor.quoted()),
         Some(Terminal::ByteString) => tell_text(rt, cursor.byte_string()),
-        Some(Terminal::IntegerType(_)) => tell_code(rt, cursor.integer_width().map(u16::from)),
+        Some(Terminal::IntegerType(width)) => {
+            tell_held(rt, cursor, Terminal::IntegerType(width), u16::from(width))
+        }
         Some(Terminal::Linkage(_)) => tell_code(rt, cursor.linkage().map(|linkage| linkage.code())),
         Some(Terminal::Flag(_)) => tell_code(rt, cursor.flag().map(|flag| flag.code())),
         Some(Terminal::Predicate(_)) => {
             tell_code(rt, cursor.predicate().map(|predicate| predicate.code()))
         }
-        Some(Terminal::Opcode(_)) => tell_code(rt, cursor.opcode().map(|opcode| opcode.code())),
+        Some(Terminal::Opcode(opcode)) => {
+            tell_held(rt, cursor, Terminal::Opcode(opcode), opcode.code())
+        }
         Some(terminal) => {
             let _ = cursor.take_class(terminal);
             Ok(())
         }
         None => Ok(()),
+    }
+}
+
+/// Takes the next token, which is this terminal, and prints what the terminal holds.
+fn tell_held(
+    rt: &HostRuntime,
+    cursor: &mut Cursor,
+    terminal: Terminal,
+    code: u16,
+) -> io::Result<()> {
+    match cursor.take_class(terminal) {
+        Ok(_) => print!(rt; " = {code}"),
+        Err(_) => print!(rt; " refused"),
     }
 }
 
