@@ -153,7 +153,7 @@ fn function_alignment(cursor: &mut Cursor) -> Result<(), Fault>
 }
 
 /// `section STRING`
-fn section(cursor: &mut Cursor) -> Result<(), Fault>
+pub fn section(cursor: &mut Cursor) -> Result<(), Fault>
     ensures { Follows (λ _. section_row) (λ x. x) cursor.old result cursor.new }
 {
     cursor.take_class(Terminal::Section)?;

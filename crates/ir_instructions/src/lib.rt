@@ -26,7 +26,7 @@ mod operations;
 mod parts;
 mod tails;
 
-pub use attributes::{convention, function_attributes, parameter_attributes};
+pub use attributes::{convention, function_attributes, parameter_attributes, section};
 pub use block::{Block, Branch, Case, Ending, Instruction, Switch};
 pub use blocks::blocks_of;
 pub use calls::signature;

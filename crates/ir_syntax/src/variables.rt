@@ -2,7 +2,6 @@
 ghost use Rattle.std.specs.Prelude.{option_map};
 ghost use Rattle.phrase_rows.specs.Row.{labelled};
 ghost use Rattle.ir_constants.specs.View.{constant_view};
-ghost use Rattle.ir_instructions.specs.Dropped.{section_row};
 ghost use Rattle.ir_syntax.specs.Variables.{plain_body_row, packed_body_row, body_row, struct_row, constant_word_row, initialiser_row, tail_row, tail_shape, tails_row, variable_rest_row, variable_row};
 ghost use Rattle.ir_syntax.specs.View.{body_view, global_view, variable_rest_view, item_view};
 ghost use Rattle.ir_terminals.specs.Follows.{Follows};
@@ -10,7 +9,7 @@ ghost use Rattle.ir_terminals.specs.Follows.{Follows};
 use crate::heads::GlobalHead;
 use crate::item::{Item, StructBody, Variable};
 use ir_constants::{Constant, constant_of, fields_of, type_of};
-use ir_instructions::attachment;
+use ir_instructions::{attachment, section};
 use ir_tables::Linkage;
 use ir_terminals::{Cursor, Fault, Integer, Terminal};
 
@@ -85,15 +84,6 @@ fn initialiser(cursor: &mut Cursor, linkage: Option<Linkage>) -> Result<Option<C
             Ok(Some(constant))
         }
     }
-}
-
-/// `section STRING`
-fn section(cursor: &mut Cursor) -> Result<(), Fault>
-    ensures { Follows (λ _. section_row) (λ x. x) cursor.old result cursor.new }
-{
-    cursor.take_class(Terminal::Section)?;
-    cursor.take_class(Terminal::Quoted)?;
-    Ok(())
 }
 
 /// `align INT`, where no alignment is written yet, `section STRING`, or `MD`: the alignment behind it.
