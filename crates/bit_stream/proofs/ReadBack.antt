@@ -158,17 +158,18 @@ record_back s code ns block small operands at rest =
     let values = unabbreviated_reads code ns small operands (at + length (bits_of w 3)) rest in
     rw (append_assoc, item_inside s (record { at = at; rest = bits_of w 3 ++ (bits ++ rest) }) _ 3 block.inside id, inside_record s at _ _ _ block.plain values, place) refl
 
--- a record by an abbreviation
-
-all_take : (P : ℕ → Type 0) (k : ℕ) (ns : List ℕ) → AllByRecursion P ns → AllByRecursion P (take k ns)
-all_take P zero ns h = tt
+-- what holds of each of a list holds of each in a front of it, and behind the front
+pub all_take : {X : Type 0} (P : X → Type 0) (k : ℕ) (xs : List X) → AllByRecursion P xs → AllByRecursion P (take k xs)
+all_take P zero xs h = tt
 all_take P (suc k) [] h = tt
-all_take P (suc k) (n ∷ ns) h = (h.0, all_take P k ns h.1)
+all_take P (suc k) (x ∷ xs) h = (h.0, all_take P k xs h.1)
 
-all_drop : (P : ℕ → Type 0) (k : ℕ) (ns : List ℕ) → AllByRecursion P ns → AllByRecursion P (drop k ns)
-all_drop P zero ns h = h
+pub all_drop : {X : Type 0} (P : X → Type 0) (k : ℕ) (xs : List X) → AllByRecursion P xs → AllByRecursion P (drop k xs)
+all_drop P zero xs h = h
 all_drop P (suc k) [] h = tt
-all_drop P (suc k) (n ∷ ns) h = all_drop P k ns h.1
+all_drop P (suc k) (x ∷ xs) h = all_drop P k xs h.1
+
+-- a record by an abbreviation
 
 each_reads : (ss : List Scalar) (ns front : List ℕ) → list_all is_sound ss ≡ true → each_fit ss ns ≡ true → AllByRecursion (λ n. n < 2 ^ 64) ns → ReadsAs (each false ss front) (each_bits ss ns) (front ++ ns)
 unfolding each each_fit each_bits

@@ -1,5 +1,5 @@
 -- What an item leaves: which blocks are unclosed behind it, and fewer bits.
-use Rattle.std.proofs.Common.{◌≡◌, ℕ, zero, suc, ◌+◌, ◌-◌, ◌<◌, ◌≤◌, ◌==◌, ◌&&◌, ◌||◌, Bool, true, false, List, [], ◌∷◌, ◌++◌, length, take, Option, Some, None, Result, Ok, Err, IfOk, if◌then◌else◌, refl, arith, inl, inr, length-append}
+use Rattle.std.proofs.Common.{◌≡◌, ℕ, zero, suc, ◌+◌, ◌-◌, ◌<◌, ◌≤◌, ◌==◌, ◌&&◌, ◌||◌, Bool, true, false, List, [], ◌∷◌, ◌++◌, length, Option, Some, None, Result, Ok, Err, IfOk, if◌then◌else◌, refl, arith, inl, inr, length-append}
 use Rattle.std.specs.Prelude.{nat_lt, nat_le, slice_index_or, ◌^◌, ◌⊎◌}
 use Rattle.std.specs.List.{AllByRecursion}
 use Rattle.std.proofs.lemmas.Bool.{ltb-false, eqb-true, eqb-false, cases_Bool, and_parts}
@@ -17,6 +17,7 @@ use Rattle.bit_stream.specs.Record.{Read, unabbreviated}
 use Rattle.bit_stream.specs.Scope.{Scope, Frame, top_level, template_of}
 use Rattle.bit_stream.specs.Entry.{Item, plain, is_top, is_blockinfo, came, entered, left, defined, given_for, enter_sized, enter_wide, enter_named, enter_block, words_since, end_block, define_for, define, named, recorded, by_template, record_by, inside, item, defined_at}
 use Rattle.bit_stream.specs.Writer.{in_force}
+use Rattle.bit_stream.proofs.ReadBack.{all_take}
 use Rattle.bit_tree.proofs.Numbered.{in_force_given, in_force_defined}
 use Rattle.bit_stream.proofs.Forward.{Forward, forward_none, fixed_forward_any, fixed_forward, vbr_forward, template_forward}
 use Rattle.bit_tree.proofs.Ahead.{align_forward, unabbreviated_forward, abbreviated_forward}
@@ -32,11 +33,6 @@ top_wide = record { own = omega arith; around = tt }
 all_with : {X : Type 0} (P : X → Type 0) (xs : List X) (x : X) → AllByRecursion P xs → P x → AllByRecursion P (xs ++ x ∷ [])
 all_with P [] x h p = (p, tt)
 all_with P (y ∷ ys) x h p = (h.0, all_with P ys x h.1 p)
-
-all_take : {X : Type 0} (P : X → Type 0) (k : ℕ) (xs : List X) → AllByRecursion P xs → AllByRecursion P (take k xs)
-all_take P zero xs h = tt
-all_take P (suc k) [] h = tt
-all_take P (suc k) (x ∷ xs) h = (h.0, all_take P k xs h.1)
 
 all_at : {X : Type 0} (P : X → Type 0) (xs : List X) (k : ℕ) (d : X) → AllByRecursion P xs → P d → P (slice_index_or xs k d)
 all_at P [] k d h p = p

@@ -14,7 +14,7 @@ use Rattle.bit_stream.specs.Abbreviation.{Template}
 use Rattle.bit_stream.specs.Record.{code_by, operand, elements, each, counted, tail_by, names_block, Read, unabbreviated, abbreviated}
 use Rattle.bit_stream.specs.Spelling.{chunks, fits, value_bits, all_fit, all_bits, record_bits, each_fit, each_bits, tail_fits, with_tail, record_fits, with_record}
 use Rattle.bit_stream.specs.Law.{ReadsAs, AreOperands, is_sound}
-use Rattle.bit_stream.proofs.ReadBack.{vbr_reads, value_reads, then_reads}
+use Rattle.bit_stream.proofs.ReadBack.{vbr_reads, value_reads, then_reads, all_take, all_drop}
 use Rattle.bits.specs.Writing.{pad_bits}
 use Rattle.bit_tree.specs.Written.{front_of, back_of, operands_by, blob_by}
 use Rattle.bit_tree.proofs.From.{ReadsFrom, anywhere, then_from, done_from, blob_bits, blob_reads}
@@ -58,16 +58,6 @@ fine_drop : (b : Bool) (k : ℕ) (ns : List ℕ) → Fine b [] ns → Fine b (ta
 fine_drop b zero ns h = h
 fine_drop b (suc k) [] h = tt
 fine_drop b (suc k) (n ∷ ns) h = fine_later b (n ∷ take k ns) (drop k ns) (omega arith)
-
-all_take : (P : ℕ → Type 0) (k : ℕ) (ns : List ℕ) → AllByRecursion P ns → AllByRecursion P (take k ns)
-all_take P zero ns h = tt
-all_take P (suc k) [] h = tt
-all_take P (suc k) (n ∷ ns) h = (h.0, all_take P k ns h.1)
-
-all_drop : (P : ℕ → Type 0) (k : ℕ) (ns : List ℕ) → AllByRecursion P ns → AllByRecursion P (drop k ns)
-all_drop P zero ns h = h
-all_drop P (suc k) [] h = tt
-all_drop P (suc k) (n ∷ ns) h = all_drop P k ns h.1
 
 pub code_reads : (s : Scalar) (n : ℕ) → is_sound s ≡ true → fits s n ≡ true → n < 2 ^ 32 → ReadsAs (code_by s) (value_bits s n) n
 unfolding code_by
