@@ -4,4 +4,4 @@ pub mod Opening
 pub mod Progress
 pub mod ReadBack
 pub mod Spelled
-pub mod Turns
+pub mod DefinitionsInFront

@@ -13,7 +13,7 @@ use Rattle.bit_stream.specs.Spelling.{chunks, aligned}
 use Rattle.bit_stream.specs.Writer.{Writer, begun, id_bits, enter, ended, end_block}
 use Rattle.bit_tree.specs.Stream.{opening}
 use Rattle.bit_tree.specs.Written.{Written, no_more, a_block, a_definition, a_record, a_short_record, written, Allowed, WrittenIsRead}
-use Rattle.bit_tree.proofs.From.{pad_size}
+use Rattle.bit_tree.proofs.Places.{pad_size}
 use Rattle.bit_tree.proofs.Sound.{top_sound}
 use Rattle.bit_tree.proofs.Alike.{alike_self, left_is}
 use Rattle.bit_tree.proofs.Step.{Ready}

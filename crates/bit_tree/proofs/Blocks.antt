@@ -17,7 +17,7 @@ use Rattle.bit_stream.specs.Writer.{Writer, id_bits, enter, ended, end_block, de
 use Rattle.bit_tree.specs.Stream.{Tree, block, values, Stands, Holds, none, of_block}
 use Rattle.bit_stream.proofs.ReadBack.{fixed_reads, vbr_reads}
 use Rattle.bit_tree.specs.Written.{Written, no_more, a_block, a_definition, a_record, a_short_record, written, tree_of, with_definition, with_values, MayEnter, MayEnd, Allowed}
-use Rattle.bit_tree.proofs.From.{align_from, pad_size}
+use Rattle.bit_tree.proofs.Places.{align_from, pad_size}
 use Rattle.bit_tree.proofs.Alike.{Alike, SameBlocks, same_blocks, same_on, alike_blockinfo, alike_entered, left_is, alike_left}
 use Rattle.bit_tree.proofs.Step.{Ready, After, Stepped, item_inside, id_small, id_read, define_step, put_step, abbreviated_step}
 

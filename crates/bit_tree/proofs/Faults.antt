@@ -13,7 +13,7 @@ use Rattle.bit_stream.specs.Scope.{Scope, top_level}
 use Rattle.bit_stream.specs.Entry.{Item, item, is_top, plain, id_at, has_blob_by}
 use Rattle.bit_stream.specs.Reader.{begins}
 use Rattle.bit_tree.specs.Stream.{Tree, next_id, opening, Stream, is_end, fault_from, stream_fault, entries}
-use Rattle.bit_tree.proofs.Facts.{IsWide, IsEnd, Goes, what_stands, top_wide}
+use Rattle.bit_tree.proofs.Leaving.{IsWide, IsEnd, Goes, what_stands, top_wide}
 use Rattle.bit_tree.specs.Pieces.{Piece, begun, ended, defines, holds, flat}
 use Rattle.bit_tree.proofs.Path.{Step, Path, stop, step, all_shown, flat_shown, from_tree, to_tree, stands, no_end, way_size}
 

@@ -3,12 +3,12 @@ pub mod Alike
 pub mod Back
 pub mod Blocks
 pub mod Defined
-pub mod Facts
-pub mod From
+pub mod Leaving
+pub mod Places
 pub mod Fronts
 pub mod Faults
 pub mod Numbered
-pub mod One
+pub mod OneTree
 pub mod Path
 pub mod Reading
 pub mod Sound

@@ -8,7 +8,7 @@ use Rattle.bit_stream.specs.Scope.{Scope}
 use Rattle.bit_stream.specs.Entry.{Item, id_at, has_blob_by, defined_at}
 use Rattle.bit_tree.specs.Stream.{Tree, nothing, block, definition, values, next_id, Stands, Holds, none, of_block, of_definition, of_record, Shown, bare, entries, is_end}
 use Rattle.bit_tree.specs.Pieces.{Piece, begun, ended, defines, holds, flat}
-use Rattle.bit_tree.proofs.Facts.{IsWide, Goes, depths, what_stands}
+use Rattle.bit_tree.proofs.Leaving.{IsWide, Goes, depths, what_stands}
 
 -- a record, by its abbreviation id, and what it holds
 pub record IsRecord (s : Scope) (c : Cursor) (i : Item) (n : ℕ) (ns : List ℕ) (ends : Bool) (bytes : List ℕ) : Type 0 where

@@ -14,7 +14,7 @@ use Rattle.bit_stream.specs.declared.fault.StreamFault.{StreamFault}
 use Rattle.bit_stream.specs.declared.fault.StreamFault.TheVariants.{Bit, Memory}
 use Rattle.bit_tree.specs.Read.{AllRead}
 use Rattle.bit_tree.specs.Stream.{Tree, next_id, Stream, Shown, Stands, is_end, opening, stream_fault, entries}
-use Rattle.bit_tree.proofs.Facts.{IsWide, IsEnd, Goes, is_record, what_stands, top_wide}
+use Rattle.bit_tree.proofs.Leaving.{IsWide, IsEnd, Goes, is_record, what_stands, top_wide}
 use Rattle.bit_tree.specs.Pieces.{Piece, begun, ended, defines, holds}
 use Rattle.bit_tree.proofs.Path.{Step, Path, stop, step, join, then, shown, all_shown, shown_join, way_wide, way_size, goes}
 use Rattle.bit_tree.proofs.Faults.{fault_on, fault_here, to_stream, opening_size, piece_by}

@@ -17,7 +17,7 @@ use Rattle.bit_stream.specs.Law.{ReadsAs, AreOperands, is_sound}
 use Rattle.bit_stream.proofs.ReadBack.{vbr_reads, value_reads, then_reads, all_take, all_drop}
 use Rattle.bits.specs.Writing.{pad_bits}
 use Rattle.bit_tree.specs.Written.{front_of, back_of, operands_by, blob_by}
-use Rattle.bit_tree.proofs.From.{ReadsFrom, anywhere, then_from, done_from, blob_bits, blob_reads}
+use Rattle.bit_tree.proofs.Places.{ReadsFrom, anywhere, then_from, done_from, blob_bits, blob_reads}
 
 -- chunks have at least two bits
 abbrev pub sound_tail : Tail → Bool

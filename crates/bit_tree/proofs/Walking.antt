@@ -18,7 +18,7 @@ use Rattle.bit_stream.specs.Reader.{Reader, begins, untold, opened, told_of, Arr
 use Rattle.bit_tree.specs.Read.{Judged}
 use Rattle.bit_tree.specs.Stream.{Tree, Stream, Stands, next_id, is_end, opening, stream_fault}
 use Rattle.bit_tree.specs.Pieces.{Piece, begun, ended, defines, holds, flat}
-use Rattle.bit_tree.proofs.Facts.{IsWide, IsEnd, Goes, what_stands, top_wide}
+use Rattle.bit_tree.proofs.Leaving.{IsWide, IsEnd, Goes, what_stands, top_wide}
 use Rattle.bit_tree.proofs.Path.{Step, Path, stop, step, join, then, way_wide, way_size, goes}
 use Rattle.bit_tree.proofs.Faults.{fault_on, fault_here, to_stream_of, opening_size}
 use Rattle.bit_tree.proofs.Reading.{Ahead, reached, given, ends_at}

@@ -16,7 +16,7 @@ use Rattle.bit_stream.specs.Entry.{Item, item}
 use Rattle.bit_tree.specs.Read.{IsStream, Judged}
 use Rattle.bit_tree.specs.Stream.{is_end, opening, stream_fault}
 use Rattle.bit_tree.specs.Pieces.{Piece}
-use Rattle.bit_tree.proofs.Facts.{top_wide, what_stands}
+use Rattle.bit_tree.proofs.Leaving.{top_wide, what_stands}
 use Rattle.bit_tree.proofs.Path.{Path, stop, step, join, way_wide, way_size, goes}
 use Rattle.bit_tree.proofs.Faults.{fault_on, fault_here, to_stream_of, opening_size, piece_by}
 use Rattle.bit_tree.proofs.Reading.{ends_at}

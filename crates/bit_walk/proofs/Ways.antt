@@ -7,7 +7,7 @@ use Rattle.bit_stream.specs.Scope.{Scope, top_level}
 use Rattle.bit_stream.specs.Entry.{Item, item, is_top, plain}
 use Rattle.bit_tree.specs.Stream.{Tree, Stream, is_end, opening}
 use Rattle.bit_tree.specs.Pieces.{Piece, begun, ended, defines, holds, flat}
-use Rattle.bit_tree.proofs.Facts.{IsWide, top_wide}
+use Rattle.bit_tree.proofs.Leaving.{IsWide, top_wide}
 use Rattle.bit_tree.proofs.Path.{Step, Path, stop, step, from_tree, stands, no_end, goes}
 use Rattle.bit_tree.proofs.Faults.{end_stands}
 use Rattle.bit_walk.specs.Left.{piece_at, pieces_from, pieces_left, Ahead, at_end, before}

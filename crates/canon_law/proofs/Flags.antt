@@ -12,7 +12,7 @@ use Rattle.ir_tables.specs.declared.flag.Flag.TheVariants as flag
 use Rattle.ir_tables.specs.declared.opcode.Opcode.{Opcode}
 use Rattle.ir_tables.specs.declared.opcode.Opcode.TheVariants as op
 use Rattle.phrase_rows.specs.Row.{among, Steps}
-use Rattle.phrase_rows.proofs.Tools.{bool_cases}
+use Rattle.phrase_rows.proofs.ListParts.{bool_cases}
 use Rattle.ir_terminals.specs.Role.{terminal}
 use Rattle.ir_terminals.specs.Words.{word_terminal, words_by_role}
 use Rattle.ir_terminals.specs.declared.terminal.Terminal.TheVariants as terminals

@@ -15,7 +15,7 @@ use Rattle.ir_lexer.specs.declared.quoted.Escape.TheVariants.{Plain}
 use Rattle.ir_lexer.specs.declared.token.TokenKind.TheVariants as kind
 use Rattle.ir_lexer.proofs.Rows.{name_digit}
 use Rattle.ir_lexer.proofs.Runs.{each_first}
-use Rattle.phrase_rows.proofs.Tools.{bool_cases}
+use Rattle.phrase_rows.proofs.ListParts.{bool_cases}
 use Rattle.ir_terminals.specs.Role.{terminal}
 use Rattle.ir_terminals.specs.Terminal.{code}
 use Rattle.ir_terminals.specs.Tokens.{label_row, quoted_row, byte_string_row}

@@ -1,7 +1,7 @@
 -- Numbers in decimal are spelled as the tokens of numbers are, and stand for themselves.
 use Rattle.std.proofs.Common.{◌≡◌, ℕ, zero, suc, ◌+◌, ◌-◌, ◌*◌, ◌/◌, ◌%◌, ◌<◌, ◌==◌, ◌&&◌, nat_le, nat_lt, Bool, true, false, cond, List, [], ◌∷◌, ◌++◌, length, refl, sym, ◌∙◌, inl, inr, arith, subst, length-append, append_assoc, append-nil}
 use Rattle.std.proofs.lemmas.Bool.{cases_order, eqb-true, ltb-true, ltb-false}
-use Rattle.phrase_rows.proofs.Tools.{bool_cases}
+use Rattle.phrase_rows.proofs.ListParts.{bool_cases}
 use Rattle.std.specs.List.{list_all}
 use Rattle.ir_lexer.specs.Class.{byte_class, is_digit}
 use Rattle.ir_lexer.specs.Form.{each}

@@ -1,7 +1,7 @@
 -- What is written in quotes stands for its bytes.
 use Rattle.std.proofs.Common.{◌&&◌, ◌||◌, not, ◌≡◌, ℕ, ◌+◌, ◌*◌, ◌/◌, ◌%◌, ◌<◌, ◌==◌, Bool, true, false, cond, List, [], ◌∷◌, ◌++◌, take, Some, refl, ap, ◌∙◌, inl, inr, arith}
 use Rattle.std.specs.List.{flat_map}
-use Rattle.phrase_rows.proofs.Tools.{bool_cases}
+use Rattle.phrase_rows.proofs.ListParts.{bool_cases}
 use Rattle.ir_lexer.specs.Class.{byte_class, no_quote}
 use Rattle.ir_lexer.specs.Form.{each, run}
 use Rattle.ir_lexer.specs.Names.{behind_quote, between_quotes}

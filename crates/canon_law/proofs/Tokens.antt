@@ -13,7 +13,7 @@ use Rattle.ir_lexer.specs.Table as table
 use Rattle.ir_lexer.specs.declared.class.Class.{Class}
 use Rattle.ir_lexer.specs.declared.quoted.Escape.TheVariants.{Plain}
 use Rattle.ir_lexer.specs.declared.token.TokenKind.TheVariants as kind
-use Rattle.phrase_rows.proofs.Tools.{bool_cases}
+use Rattle.phrase_rows.proofs.ListParts.{bool_cases}
 use Rattle.ir_terminals.specs.Digits as read
 use Rattle.ir_terminals.specs.Role.{terminal}
 use Rattle.ir_terminals.specs.Terminal.{code, integer_type_class}

@@ -8,7 +8,7 @@ use Rattle.ir_lexer.proofs.AheadSteps.{ahead_is}
 use Rattle.ir_lexer.proofs.Lexed.{pieces_are}
 use Rattle.ir_lexer.proofs.TokenLists.{one_list, list_or_bad_not_both}
 use Rattle.phrase_rows.proofs.Answer.{answered_whole}
-use Rattle.phrase_rows.proofs.Tools.{bool_cases}
+use Rattle.phrase_rows.proofs.ListParts.{bool_cases}
 use Rattle.ir_terminals.specs.Position.{text_tokens, is_cut_off}
 use Rattle.ir_terminals.specs.Role.{class}
 use Rattle.ir_syntax.specs.Items.{items_row, language}

@@ -1,4 +1,4 @@
 pub mod Numbers
-pub mod Turns
+pub mod Scanning
 pub mod Judged
 pub mod WholeLine

@@ -2,7 +2,7 @@
 use Rattle.std.proofs.Common.{◌≡◌, ℕ, zero, suc, List, [], ◌∷◌, ◌++◌, length, Bool, true, false, ◌⊎◌, inl, inr, refl, sym, ap, subst, cond, Option, Some, None}
 use Rattle.phrase_rows.specs.Row.{Reading, Done, Bad, bind, Shape, Row, among, begins, nothing, fail, one, run_one, chain, mapped, both, second, before, pair, alt, optional, many, run_many, separated, loop, run_loop, labelled}
 use Rattle.phrase_rows.specs.Reads.{Takes, Reads}
-use Rattle.phrase_rows.proofs.Tools.{bool_cases}
+use Rattle.phrase_rows.proofs.ListParts.{bool_cases}
 
 -- the two readings are the same, or the first is refused at a token for which this holds
 abbrev pub IsKept : {T A : Type 0} → (T → Bool) → Reading T A → Reading T A → Type 0

@@ -5,7 +5,7 @@ use Rattle.ir_base.specs.declared.place.Place.{Place}
 use Rattle.ir_tables.specs.declared.opcode.Opcode.{Opcode}
 use Rattle.ir_tables.specs.declared.opcode.Opcode.TheVariants as op
 use Rattle.phrase_rows.specs.Row.{Row, among, fail, mapped}
-use Rattle.phrase_rows.proofs.Tools.{among_left}
+use Rattle.phrase_rows.proofs.ListParts.{among_left}
 use Rattle.ir_terminals.specs.declared.limits.Limits.{Limits}
 use Rattle.ir_terminals.specs.declared.terminal.Terminal.{Terminal}
 use Rattle.ir_terminals.specs.declared.terminal.Terminal.TheVariants as terminal

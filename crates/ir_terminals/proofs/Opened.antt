@@ -1,6 +1,6 @@
 -- Brackets that begin with a given one: behind it, nothing asks which one that was.
 use Rattle.std.proofs.Common.{◌≡◌, ◌==◌, true, false, List, [], ◌∷◌, refl, ap, ◌∙◌, inl, inr}
-use Rattle.phrase_rows.proofs.Tools.{bool_cases}
+use Rattle.phrase_rows.proofs.ListParts.{bool_cases}
 use Rattle.ir_lexer.specs.Ahead.{Located}
 use Rattle.phrase_rows.specs.Row.{Reading, Done, Bad, Move, On, Ends, Stops, begins, run_machine}
 use Rattle.ir_terminals.specs.Brackets.{is_same, closed, step_by, role, begun_step, matched_row, any_matched_row}

@@ -1,6 +1,6 @@
 -- The rows of one token and of brackets are read.
 use Rattle.std.proofs.Common.{◌≡◌, [], ◌∷◌, true, false, refl, inl, inr, ◌==◌}
-use Rattle.phrase_rows.proofs.Tools.{bool_cases}
+use Rattle.phrase_rows.proofs.ListParts.{bool_cases}
 use Rattle.phrase_rows.specs.Reads.{Reads}
 use Rattle.phrase_rows.specs.Row.{Stops, On, among}
 use Rattle.phrase_rows.proofs.Machine.{reads_machine}

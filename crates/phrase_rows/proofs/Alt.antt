@@ -2,7 +2,7 @@
 use Rattle.std.proofs.Common.{◌≡◌, ℕ, ◌≤◌, List, [], ◌∷◌, ◌++◌, length, Bool, true, false, ◌⊎◌, inl, inr, refl, ◌∙◌, cond, Some, None}
 use Rattle.phrase_rows.specs.Row.{Reading, Done, Bad, Row, apart, begins, alt, optional}
 use Rattle.phrase_rows.specs.Reads.{Stops, Front, Takes, left, Reads}
-use Rattle.phrase_rows.proofs.Tools.{apart_out, takes_left, stops_left, stops_right, begins_left, begins_right}
+use Rattle.phrase_rows.proofs.ListParts.{apart_out, takes_left, stops_left, stops_right, begins_left, begins_right}
 use Rattle.phrase_rows.proofs.Plain.{reads_nothing, reads_mapped}
 
 module _ {T A : Type 0} (class : T → ℕ) (p q : Row T A) (hp : Reads class p p.shape) (hq : Reads class q q.shape) (ok : apart p.shape.first q.shape.first ≡ true) (some : p.shape.empty ≡ false) where

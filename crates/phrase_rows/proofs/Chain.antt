@@ -2,7 +2,7 @@
 use Rattle.std.proofs.Common.{◌≡◌, ℕ, ◌≤◌, List, [], ◌∷◌, ◌++◌, length, true, ◌⊎◌, inl, inr, refl, sym, ap, subst, ◌∙◌, append_assoc, append-nil, arith, ◌&&◌}
 use Rattle.phrase_rows.specs.Row.{Reading, Done, Bad, bind, Shape, Row, apart, chain, both, second, before, pair, mapped}
 use Rattle.phrase_rows.specs.Reads.{Stops, Begins, Front, Takes, left, Reads}
-use Rattle.phrase_rows.proofs.Tools.{split, nil_parts, apart_out, takes_left, bind_left, stops_if, stops_and, begins_if, begins_and}
+use Rattle.phrase_rows.proofs.ListParts.{split, nil_parts, apart_out, takes_left, bind_left, stops_if, stops_and, begins_if, begins_and}
 use Rattle.phrase_rows.proofs.Plain.{reads_mapped}
 
 module _ {T A B : Type 0} (class : T → ℕ) (p : Row T A) (s : Shape) (q : A → Row T B) (hp : Reads class p p.shape) (hq : (a : A) → Reads class (q a) s) (ok : apart p.shape.more s.first ≡ true) where

@@ -1,4 +1,4 @@
-pub mod Tools
+pub mod ListParts
 pub mod Plain
 pub mod Chain
 pub mod Alt

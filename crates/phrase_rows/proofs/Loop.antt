@@ -2,7 +2,7 @@
 use Rattle.std.proofs.Common.{◌≡◌, ℕ, zero, suc, ◌≤◌, ◌<◌, List, [], ◌∷◌, ◌++◌, length, Bool, true, false, ◌⊎◌, inl, inr, refl, sym, ap, subst, ◌∙◌, append_assoc, append-nil, arith, length-append, cond}
 use Rattle.phrase_rows.specs.Row.{Reading, Done, Bad, bind, Shape, Row, among, apart, begins, loop, run_loop, Steps}
 use Rattle.phrase_rows.specs.Reads.{Stops, Begins, Front, Takes, left, Reads}
-use Rattle.phrase_rows.proofs.Tools.{split, nil_parts, apart_out, takes_left, bind_left, stops_left, stops_right}
+use Rattle.phrase_rows.proofs.ListParts.{split, nil_parts, apart_out, takes_left, bind_left, stops_left, stops_right}
 
 module _ {T S : Type 0} (class : T → ℕ) (form : Shape) (q : S → Row T S) (hq : (s : S) → Reads class (q s) form) (ok : apart form.more form.first ≡ true) (some : form.empty ≡ false) where
   loop_takes_rest : (s m : S) (ts us mid : List T) (x : Reading T S) → ts ≡ us ++ mid → (q s).whole us m → Takes (loop class form q m) mid x → Takes (loop class form q s) ts x

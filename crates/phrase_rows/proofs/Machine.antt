@@ -2,7 +2,7 @@
 use Rattle.std.proofs.Common.{◌≡◌, ℕ, ◌≤◌, List, [], ◌∷◌, ◌++◌, length, false, inl, inr, refl, ap, arith}
 use Rattle.phrase_rows.specs.Row.{Reading, Done, Bad, among, Move, On, Ends, Stops, EndsWith, GoesOn, machine, run_machine}
 use Rattle.phrase_rows.specs.Reads.{Begins, Front, Takes, left, Reads}
-use Rattle.phrase_rows.proofs.Tools.{nil_parts, bool_cases, takes_left}
+use Rattle.phrase_rows.proofs.ListParts.{nil_parts, bool_cases, takes_left}
 
 module _ {T S A : Type 0} (class : T → ℕ) (first : List ℕ) (step : S → T → Move S A) where
   cons_takes : (s m : S) (t : T) (ts : List T) (x : Reading T A) → step s t ≡ On m → Takes (machine first step m) ts x → Takes (machine first step s) (t ∷ ts) x

@@ -2,7 +2,7 @@
 use Rattle.std.proofs.Common.{◌≡◌, ℕ, zero, suc, ◌≤◌, ◌<◌, List, [], ◌∷◌, ◌++◌, length, Bool, true, false, ◌⊎◌, inl, inr, refl, sym, ap, subst, ◌∙◌, append_assoc, append-nil, arith, length-append, cond}
 use Rattle.phrase_rows.specs.Row.{Reading, Done, Bad, bind, Row, among, apart, begins, second, many, run_many, Each, separated}
 use Rattle.phrase_rows.specs.Reads.{Stops, Begins, Front, Takes, left, Reads}
-use Rattle.phrase_rows.proofs.Tools.{split, nil_parts, apart_out, takes_left, bind_left, stops_left, stops_right}
+use Rattle.phrase_rows.proofs.ListParts.{split, nil_parts, apart_out, takes_left, bind_left, stops_left, stops_right}
 use Rattle.phrase_rows.proofs.Plain.{mapped_left, reads_nothing}
 use Rattle.phrase_rows.proofs.Chain.{reads_both, reads_second}
 use Rattle.phrase_rows.proofs.Alt.{reads_alt, apart_nil}

@@ -3,7 +3,7 @@ use Rattle.std.proofs.Common.{◌≡◌, ℕ, zero, suc, List, [], ◌∷◌, �
 use Rattle.std.proofs.lemmas.Bool.{eqb-true}
 use Rattle.phrase_rows.specs.Row.{Reading, Done, Bad, bind, Shape, Row, among, within, nothing, fail, one, run_one, mapped, deep, labelled}
 use Rattle.phrase_rows.specs.Reads.{Stops, Begins, Front, Takes, left, Reads}
-use Rattle.phrase_rows.proofs.Tools.{nil_parts, bool_cases, takes_left}
+use Rattle.phrase_rows.proofs.ListParts.{nil_parts, bool_cases, takes_left}
 
 pub reads_nothing : {T A : Type 0} (class : T → ℕ) (a : A) → Reads class (nothing a) (record { first = []; more = []; empty = true })
 reads_nothing class a = record {

@@ -2,7 +2,7 @@
 use Rattle.std.proofs.Common.{◌≡◌, ℕ, ◌≤◌, ◌<◌, List, [], ◌∷◌, length, false, sym, ap, subst, ◌∙◌, arith, length-append}
 use Rattle.phrase_rows.specs.Row.{Reading, Done, Bad, Shape, Row}
 use Rattle.phrase_rows.specs.Reads.{Takes, Reads}
-use Rattle.phrase_rows.proofs.Tools.{takes_left}
+use Rattle.phrase_rows.proofs.ListParts.{takes_left}
 
 done_value : {T A : Type 0} (a b : A) (ts : List T) → Done a ts ≡ Done b ts → a ≡ b
 done_value a b ts e = cc

@@ -1,7 +1,7 @@
 pub mod Grows
 pub mod Reached
 pub mod BeforeReads
-pub mod Turns
+pub mod RunsInSteps
 pub mod SameConstants
 pub mod SameOperations
 pub mod SameBlocks

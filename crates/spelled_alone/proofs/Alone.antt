@@ -2,7 +2,7 @@
 use Rattle.std.proofs.Common.{◌≡◌, ℕ, ◌<◌, ◌/◌, ◌^◌, List, length, sym, subst}
 use Rattle.bit_stream.specs.Writer.{begun}
 use Rattle.bit_tree.specs.Written.{tree_of}
-use Rattle.bit_tree.proofs.One.{one_tree}
+use Rattle.bit_tree.proofs.OneTree.{one_tree}
 use Rattle.bit_tree.proofs.Back.{written_is_read}
 use Rattle.module_arena.specs.Module.{Module}
 use Rattle.module_arena.specs.Valid.{IsValid}

@@ -1,6 +1,6 @@
 use Rattle.std.proofs.Common.{sym, ◌∙◌, arith}
 use Rattle.std.proofs.lemmas.Result.{err_from_is_err_and}
-use Rattle.command_line.proofs.Turns.{turn_stands, turn_moves, turn_refuses, no_file, all_read}
+use Rattle.command_line.proofs.Scanning.{turn_stands, turn_moves, turn_refuses, no_file, all_read}
 use Rattle.command_line.proofs.words.given_by.Goals as goal
 
 pub overflow_add-at-in-reading : goal.overflow_add-at-in-reading

@@ -1,5 +1,5 @@
 use Rattle.std.proofs.Common.{◌-◌, ◌≤◌, length}
-use Rattle.command_line.proofs.Turns.{Stands}
+use Rattle.command_line.proofs.Scanning.{Stands}
 use Rattle.command_line.proofs.words.given_by.Given as goal
 
 -- the scan goes on from here

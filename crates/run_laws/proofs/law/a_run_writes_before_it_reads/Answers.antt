@@ -1,4 +1,4 @@
-use Rattle.run_laws.proofs.Turns.{writes_first}
+use Rattle.run_laws.proofs.RunsInSteps.{writes_first}
 use Rattle.run_laws.proofs.law.a_run_writes_before_it_reads.Goals as goal
 
 pub returns : goal.returns

@@ -1,4 +1,4 @@
-use Rattle.run_laws.proofs.Turns.{steps_make_up_a_run}
+use Rattle.run_laws.proofs.RunsInSteps.{steps_make_up_a_run}
 use Rattle.run_laws.proofs.law.steps_make_up_a_run.Goals as goal
 
 pub returns : goal.returns

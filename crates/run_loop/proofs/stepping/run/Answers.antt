@@ -6,7 +6,7 @@ use Rattle.run_rules.specs.Clauses.{Outside, StepIs}
 use Rattle.run_rules.specs.Machine.{Machine}
 use Rattle.run_rules.specs.RunClauses.{RunAnswers, RunEnds}
 use Rattle.run_laws.specs.Laws.{IsWithin}
-use Rattle.run_laws.proofs.Turns.{steps_make_up_a_run}
+use Rattle.run_laws.proofs.RunsInSteps.{steps_make_up_a_run}
 use Rattle.run_loop.specs.Halts.{Finishes}
 use Rattle.run_loop.proofs.stepping.run.Goals as goal
 

@@ -4,7 +4,7 @@ use Rattle.bit_stream.specs.declared.told.Told.{Told}
 use Rattle.bit_stream.specs.Entry.{start, more, id_at, has_blob_by}
 use Rattle.bit_stream.specs.Reader.{Reader, told_of}
 use Rattle.bit_stream.proofs.Progress.{fewer_left}
-use Rattle.bit_stream.proofs.Turns.{came_here, came_behind, reached_none, told_there}
+use Rattle.bit_stream.proofs.DefinitionsInFront.{came_here, came_behind, reached_none, told_there}
 use Rattle.bit_stream.proofs.reader.BitReader.read_entry.Goals as goal
 
 pub loop-item-init : goal.loop-item-init
