@@ -16,6 +16,9 @@ use crate::token::{BadByte, Token, TokenKind};
 use ir_base::Place;
 use std::marker::Model;
 
+/// The most bytes of a text: 16 MiB.
+pub const LARGEST: usize = 16_777_216;
+
 /// Goes over a text, token by token. It copies none of the text, and takes no memory.
 #[derive(Drop)]
 pub struct Lexer<'t> {
@@ -31,18 +34,19 @@ impl<'t> Model for Lexer<'t> {
     ghost use Rattle.ir_lexer.specs.Label.{KnownRun};
     ghost use Rattle.ir_lexer.specs.Lexer.{Lexing};
     ghost use Rattle.ir_lexer.specs.Place.{place_of};
+    ghost use Rattle.ir_lexer.specs.declared.lexer.TheConstants.{LARGEST};
 
     ghost Value = { Lexing };
 
     ghost view = { λ x. record { text = x.text.now; at = x.at } };
 
-    ghost invariant = { λ x. (x.at ≤ length x.text.now) × (length x.text.now ≤ 16777216) × (x.place ≡ place_of x.text.now x.at) × (x.known ≤ length x.text.now) × KnownRun (x.known - x.at) (drop x.at x.text.now) };
+    ghost invariant = { λ x. (x.at ≤ length x.text.now) × (length x.text.now ≤ LARGEST) × (x.place ≡ place_of x.text.now x.at) × (x.known ≤ length x.text.now) × KnownRun (x.known - x.at) (drop x.at x.text.now) };
 }
 
 impl<'t> Lexer<'t> {
     /// A lexer at the first byte of the text.
     pub fn new(text: &'t [u8]) -> Lexer<'t>
-        requires { length text.now ≤ 16777216 }
+        requires { length text.now ≤ LARGEST }
         ensures { result ≡ at_start text.now }
     {
         Lexer {

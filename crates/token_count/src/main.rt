@@ -7,13 +7,13 @@
 ghost use Rattle.std.specs.Prelude.{◌≤◌, length};
 ghost use Rattle.token_count.specs.Counted.{Counted};
 
-use ir_lexer::{BadByte, Lexer};
+use ir_lexer::{BadByte, LARGEST, Lexer};
 use std::io;
 use std::io::Read;
 
 /// How many tokens the text has, or the place of the first byte where none begins.
 fn token_count(text: &[u8]) -> Result<usize, BadByte>
-    requires { length text.now ≤ 16777216 }
+    requires { length text.now ≤ LARGEST }
     ensures { Counted text.now result }
 {
     let mut lexer = Lexer::new(text);
@@ -27,7 +27,7 @@ fn token_count(text: &[u8]) -> Result<usize, BadByte>
 fn main(rt: HostRuntime) -> io::Result<()> {
     let mut text = Vec::new(rt.alloc());
     rt.reader().read_to_end(&mut text)?;
-    if text.len() > 16_777_216 {
+    if text.len() > LARGEST {
         return println!(rt; "too large");
     }
     match token_count(text.as_slice()) {

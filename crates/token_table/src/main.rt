@@ -10,16 +10,13 @@ mod meanings;
 
 ghost use Rattle.std.specs.Prelude.{◌≤◌, length};
 
-use ir_lexer::Token;
+use ir_lexer::{LARGEST, Token};
 use ir_terminals::{Cursor, Integer, Limits, Local, Number, PlacedName, PlacedText, Terminal};
 use kinds::kind_word;
 use meanings::tell_meaning;
 use std::io;
 use std::io::Read;
 use std::mem::size_of;
-
-/// The most bytes of a text: 16 MiB.
-const LARGEST: usize = 16_777_216;
 
 /// The most tokens of a text that are printed one by one; of a longer one the last is.
 const FEW: usize = 40;
@@ -48,7 +45,7 @@ fn tell_end(rt: &HostRuntime, cursor: &Cursor) -> io::Result<()> {
 
 /// How many tokens the text has.
 fn count_of(rt: &HostRuntime, text: &[u8]) -> usize
-    requires { length text.now ≤ 16777216 }
+    requires { length text.now ≤ LARGEST }
 {
     let mut cursor = Cursor::new(rt.alloc(), text, LIMITS);
     for _ in 0..text.len() {
@@ -62,7 +59,7 @@ fn count_of(rt: &HostRuntime, text: &[u8]) -> usize
 
 /// Prints the tokens of a text.
 fn tell_tokens(rt: &HostRuntime, text: &[u8]) -> io::Result<()>
-    requires { length text.now ≤ 16777216 }
+    requires { length text.now ≤ LARGEST }
 {
     let count = count_of(rt, text);
     let mut cursor = Cursor::new(rt.alloc(), text, LIMITS);
