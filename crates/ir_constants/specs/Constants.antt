@@ -120,19 +120,19 @@ operands_row typed = labelled operands_shape (operands_core typed)
 -- FLAG* ( TYPE , TYPE CONST (, TYPE CONST)* ), behind `getelementptr`
 abbrev pub element_address_row : Limits → Row Located TypedConstantTree → Place → Row Located ConstantTree
 element_address_row limits typed place =
-    mapped (λ v. ElementAddress place v.0 v.1.0 (constants v.1.1))
+    mapped (λ (flags, (source, operands)). ElementAddress place flags source (constants operands))
     (pair (flags_row op.GetElementPtr) (second (word terminal.OpenParenthesis) (pair (before (type_row limits) (word terminal.Comma)) (before (operands_row typed) (word terminal.CloseParenthesis)))))
 
 -- ( TYPE CONST to TYPE ), behind `ptrtoint`, `inttoptr` or `trunc`
 abbrev pub conversion_row : Limits → Row Located TypedConstantTree → Place → Opcode → Row Located ConstantTree
 conversion_row limits typed place opcode =
-    mapped (λ v. Conversion place opcode v.0.0 v.0.1 v.1)
+    mapped (λ ((from, value), to). Conversion place opcode from value to)
     (second (word terminal.OpenParenthesis) (pair (before typed (word terminal.To)) (before (type_row limits) (word terminal.CloseParenthesis))))
 
 -- FLAG* ( TYPE CONST , TYPE CONST ), behind `add`, `sub` or `xor`, the last of which has no flags
 abbrev pub arithmetic_row : Row Located TypedConstantTree → Place → Opcode → Row Located ConstantTree
 arithmetic_row typed place opcode =
-    mapped (λ v. Arithmetic place opcode v.0 v.1.0.0 v.1.0.1 v.1.1.0 v.1.1.1)
+    mapped (λ (flags, ((left_type, left), (right_type, right))). Arithmetic place opcode flags left_type left right_type right)
     (pair (flags_row opcode) (second (word terminal.OpenParenthesis) (pair (before typed (word terminal.Comma)) (before typed (word terminal.CloseParenthesis)))))
 
 -- how an expression goes on behind its opcode

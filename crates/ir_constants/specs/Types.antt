@@ -41,7 +41,7 @@ named_row limits = mapped NamedType (named_local_row limits)
 
 -- [ INT x TYPE ]
 abbrev pub array_row : Row Located TypeTree → Row Located TypeTree
-array_row t = mapped (λ v. ArrayType v.0 v.1.0 v.1.1) (pair (word terminal.OpenBracket) (pair integer_row (second (word terminal.X) (before t (word terminal.CloseBracket)))))
+array_row t = mapped (λ (place, (count, element)). ArrayType place count element) (pair (word terminal.OpenBracket) (pair integer_row (second (word terminal.X) (before t (word terminal.CloseBracket)))))
 
 -- a list with commas, of what begins as types do
 abbrev pub list_shape : Shape

@@ -103,7 +103,7 @@ called_row limits = labelled called_shape (called_core limits)
 
 -- a call of its parts
 abbrev pub call_of : TypeTree × (Option SignatureTree × (ValueTree × List TypedValueTree)) → OperationTree
-call_of v = Call (record { returns = v.0; signature = v.1.0; callee = v.1.1.0; arguments = v.1.1.1 })
+call_of (returns, (signature, (callee, arguments))) = Call (record { returns = returns; signature = signature; callee = callee; arguments = arguments })
 
 -- how a call goes on behind its opcode
 abbrev pub call_shape : Shape

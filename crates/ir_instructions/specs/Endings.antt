@@ -62,7 +62,7 @@ return_row limits = labelled return_shape (return_core limits)
 
 -- TYPE VALUE , label LOCAL , label LOCAL
 abbrev pub condition_row : Limits → Row Located EndingTree
-condition_row limits = mapped (λ v. Branch v.0 v.1.0 v.1.1) (pair (typed_value_row limits) (pair next_target_row next_target_row))
+condition_row limits = mapped (λ (condition, (then_to, else_to)). Branch condition then_to else_to) (pair (typed_value_row limits) (pair next_target_row next_target_row))
 
 -- how the targets of a branch begin
 abbrev pub branch_target_shape : Shape
@@ -126,7 +126,7 @@ switch_shape = record { first = code (terminal.Opcode op.Switch) ∷ []; more = 
 
 -- switch TYPE VALUE , label LOCAL [ (TYPE CONST , label LOCAL)* ], by its parts
 unfoldable pub switch_core : Limits → Row Located EndingTree
-switch_core limits = second (word (terminal.Opcode op.Switch)) (mapped (λ v. Switch v.0 v.1.0 v.1.1) (pair (typed_value_row limits) (switch_targets_row limits)))
+switch_core limits = second (word (terminal.Opcode op.Switch)) (mapped (λ (value, (otherwise, cases)). Switch value otherwise cases) (pair (typed_value_row limits) (switch_targets_row limits)))
 
 -- switch TYPE VALUE , label LOCAL [ (TYPE CONST , label LOCAL)* ]
 abbrev pub switch_row : Limits → Row Located EndingTree

@@ -125,7 +125,7 @@ operation_shape = record {
 
 -- FLAG* TYPE VALUE , VALUE (, MD)*, by its parts
 unfoldable pub binary_core : Opcode → Limits → Row Located OperationTree
-binary_core opcode limits = mapped (λ v. Binary opcode v.0 v.1.0 v.1.1) (pair (flags_row opcode) (operands_row limits))
+binary_core opcode limits = mapped (λ (flags, (left, right)). Binary opcode flags left right) (pair (flags_row opcode) (operands_row limits))
 
 -- FLAG* TYPE VALUE , VALUE (, MD)*
 abbrev pub binary_row : Opcode → Limits → Row Located OperationTree
@@ -133,7 +133,7 @@ binary_row opcode limits = labelled operation_shape (binary_core opcode limits)
 
 -- FLAG* PREDICATE TYPE VALUE , VALUE (, MD)*, by its parts
 unfoldable pub compare_core : Limits → Row Located OperationTree
-compare_core limits = mapped (λ v. Compare v.0 v.1.0 v.1.1.0 v.1.1.1) (pair (flags_row op.ICmp) (pair predicate_row (operands_row limits)))
+compare_core limits = mapped (λ (flags, (predicate, (left, right))). Compare flags predicate left right) (pair (flags_row op.ICmp) (pair predicate_row (operands_row limits)))
 
 -- FLAG* PREDICATE TYPE VALUE , VALUE (, MD)*
 abbrev pub compare_row : Limits → Row Located OperationTree
@@ -141,7 +141,7 @@ compare_row limits = labelled operation_shape (compare_core limits)
 
 -- FLAG* TYPE VALUE to TYPE (, MD)*, by its parts
 unfoldable pub cast_core : Opcode → Limits → Row Located OperationTree
-cast_core opcode limits = mapped (λ v. Cast opcode v.0 v.1.0 v.1.1) (pair (flags_row opcode) (pair (typed_value_row limits) (cast_type_row limits)))
+cast_core opcode limits = mapped (λ (flags, (value, to)). Cast opcode flags value to) (pair (flags_row opcode) (pair (typed_value_row limits) (cast_type_row limits)))
 
 -- FLAG* TYPE VALUE to TYPE (, MD)*
 abbrev pub cast_row : Opcode → Limits → Row Located OperationTree
@@ -149,7 +149,7 @@ cast_row opcode limits = labelled operation_shape (cast_core opcode limits)
 
 -- TYPE VALUE , TYPE VALUE , TYPE VALUE (, MD)*, by its parts
 unfoldable pub select_core : Limits → Row Located OperationTree
-select_core limits = mapped (λ v. Select v.0 v.1.0 v.1.1) (pair (typed_value_row limits) (arms_row limits))
+select_core limits = mapped (λ (condition, (chosen, other)). Select condition chosen other) (pair (typed_value_row limits) (arms_row limits))
 
 -- TYPE VALUE , TYPE VALUE , TYPE VALUE (, MD)*
 abbrev pub select_row : Limits → Row Located OperationTree
@@ -173,7 +173,7 @@ phi_row limits = labelled operation_shape (phi_core limits)
 
 -- FLAG* TYPE , TYPE VALUE (, align INT)? (, MD)*, by its parts
 unfoldable pub load_core : Limits → Row Located OperationTree
-load_core limits = mapped (λ v. Load v.0 v.1.0 v.1.1.0 v.1.1.1) (pair (flags_row op.Load) (pair (type_row limits) (address_row limits)))
+load_core limits = mapped (λ (flags, (ty, (address, alignment))). Load flags ty address alignment) (pair (flags_row op.Load) (pair (type_row limits) (address_row limits)))
 
 -- FLAG* TYPE , TYPE VALUE (, align INT)? (, MD)*
 abbrev pub load_row : Limits → Row Located OperationTree
@@ -181,7 +181,7 @@ load_row limits = labelled operation_shape (load_core limits)
 
 -- FLAG* TYPE VALUE , TYPE VALUE (, align INT)? (, MD)*, by its parts
 unfoldable pub store_core : Limits → Row Located OperationTree
-store_core limits = mapped (λ v. Store v.0 v.1.0 v.1.1.0 v.1.1.1) (pair (flags_row op.Store) (pair (typed_value_row limits) (address_row limits)))
+store_core limits = mapped (λ (flags, (value, (address, alignment))). Store flags value address alignment) (pair (flags_row op.Store) (pair (typed_value_row limits) (address_row limits)))
 
 -- FLAG* TYPE VALUE , TYPE VALUE (, align INT)? (, MD)*
 abbrev pub store_row : Limits → Row Located OperationTree
@@ -189,7 +189,7 @@ store_row limits = labelled operation_shape (store_core limits)
 
 -- TYPE (, TYPE VALUE)? (, align INT)? (, MD)*, by its parts
 unfoldable pub alloca_core : Limits → Row Located OperationTree
-alloca_core limits = mapped (λ v. Alloca v.0 v.1.0 v.1.1) (pair (type_row limits) (count_row limits))
+alloca_core limits = mapped (λ (ty, (count, alignment)). Alloca ty count alignment) (pair (type_row limits) (count_row limits))
 
 -- TYPE (, TYPE VALUE)? (, align INT)? (, MD)*
 abbrev pub alloca_row : Limits → Row Located OperationTree
@@ -197,7 +197,7 @@ alloca_row limits = labelled operation_shape (alloca_core limits)
 
 -- FLAG* TYPE , TYPE VALUE (, TYPE VALUE)* (, MD)*, by its parts
 unfoldable pub element_address_core : Limits → Row Located OperationTree
-element_address_core limits = mapped (λ v. GetElementPtr v.0 v.1.0 v.1.1) (pair (flags_row op.GetElementPtr) (pair (type_row limits) (operand_list_row limits)))
+element_address_core limits = mapped (λ (flags, (source, operands)). GetElementPtr flags source operands) (pair (flags_row op.GetElementPtr) (pair (type_row limits) (operand_list_row limits)))
 
 -- FLAG* TYPE , TYPE VALUE (, TYPE VALUE)* (, MD)*
 abbrev pub element_address_row : Limits → Row Located OperationTree
@@ -213,7 +213,7 @@ extract_row limits = labelled operation_shape (extract_core limits)
 
 -- TYPE VALUE , TYPE VALUE (, INT)+ (, MD)*, by its parts
 unfoldable pub insert_core : Limits → Row Located OperationTree
-insert_core limits = mapped (λ v. InsertValue v.0 v.1.0 v.1.1) (pair (typed_value_row limits) (pair (next_typed_value_row limits) indices_row))
+insert_core limits = mapped (λ (whole, (part, indices)). InsertValue whole part indices) (pair (typed_value_row limits) (pair (next_typed_value_row limits) indices_row))
 
 -- TYPE VALUE , TYPE VALUE (, INT)+ (, MD)*
 abbrev pub insert_row : Limits → Row Located OperationTree

@@ -78,7 +78,7 @@ head_shape = record {
 -- LINKAGE? GDROP* CC? PDROP* TYPE GLOBAL
 unfoldable pub head_core : Limits → Row Located HeadTree
 head_core limits =
-    mapped (λ v. record { linkage = v.0; returns = v.1.0; name = v.1.1 })
+    mapped (λ (linkage, (returns, name)). record { linkage = linkage; returns = returns; name = name })
     (pair optional_linkage_row (second global_words_row (second convention_row (second parameter_attributes_row (pair (type_row limits) global_name_row)))))
 
 -- the head of a function: its linkage, its result's type and its name
@@ -111,7 +111,7 @@ declared_row limits = labelled declared_shape (declared_core limits)
 
 -- declare MD* LINKAGE? GDROP* CC? PDROP* TYPE GLOBAL ( PARAM,* ) FDROP*
 abbrev pub declaration_row : Limits → Row Located ItemTree
-declaration_row limits = mapped (λ v. Declaration v.0 v.1.0 v.1.1.0 v.1.1.1) (pair (word terminal.Declare) (second metadata_row (pair (head_row limits) (declared_row limits))))
+declaration_row limits = mapped (λ (place, (head, (parameters, variadic))). Declaration place head parameters variadic) (pair (word terminal.Declare) (second metadata_row (pair (head_row limits) (declared_row limits))))
 
 -- how what stands behind the parameters of a definition begins
 abbrev pub body_shape : Shape
@@ -135,4 +135,4 @@ defined_row limits = labelled parameters_shape (defined_core limits)
 
 -- define LINKAGE? GDROP* CC? PDROP* TYPE GLOBAL ( PARAM,* ) FDROP* MD* { BLOCK+ }
 abbrev pub definition_row : Limits → Row Located ItemTree
-definition_row limits = mapped (λ v. Definition v.0 v.1.0 v.1.1.0.0 v.1.1.1) (pair (word terminal.Define) (pair (head_row limits) (defined_row limits)))
+definition_row limits = mapped (λ (place, (head, ((parameters, variadic), blocks))). Definition place head parameters blocks) (pair (word terminal.Define) (pair (head_row limits) (defined_row limits)))

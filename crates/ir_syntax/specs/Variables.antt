@@ -86,7 +86,8 @@ variable_rest_row limits written = labelled variable_rest_shape (variable_rest_c
 
 -- a variable of its parts
 abbrev pub variable_of : GlobalHead → Bool × (TypeTree × (Option ConstantTree × Option Integer)) → ItemTree
-variable_of h v = Variable (record { name = h.0; linkage = h.1; constant = v.0; ty = v.1.0; initialiser = v.1.1.0; alignment = v.1.1.1 })
+variable_of (name, written) (constant, (ty, (initialiser, alignment))) =
+    Variable (record { name = name; linkage = written; constant = constant; ty = ty; initialiser = initialiser; alignment = alignment })
 
 -- how a variable goes on behind its head
 abbrev pub variable_shape : Shape
