@@ -73,7 +73,7 @@ kept_switch (v, (b, cs)) = kept.Switch v b cs
 
 -- a condition and two blocks, behind the number that says that they follow
 abbrev pub condition : Numbering → Walk → m.Ending × Walk
-condition k w = let x = (value k (int 1) & block k & block k).read w in (m.Branch (operand (int 1) x.0.0) x.0.1.0 x.0.1.1, x.1)
+condition k w = let ((c, (then_to, else_to)), behind) = (value k (int 1) & block k & block k).read w in (m.Branch (operand (int 1) c) then_to else_to, behind)
 
 -- An end was read by the layout of its opcode, and all that it names is there. There is none exactly where a rule is broken.
 pub record ReadsEnding (opcode : Opcode) (old new : ModuleReader) (found : Option the_ending.Ending) : Type 0 where

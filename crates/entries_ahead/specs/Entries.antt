@@ -23,7 +23,7 @@ use Rattle.record_table.specs.Walk.{Walk, going}
 use Rattle.record_read.specs.Reader.{IsBroken}
 use Rattle.body_ahead.specs.declared.ahead.BodyAhead.{BodyAhead}
 use Rattle.entries_ahead.specs.Bodies.{names_given}
-use Rattle.head_read.specs.Fronts.{VariableFields, FunctionFields, AliasFields, variable_front, function_front, alias_front, kept_alias_type}
+use Rattle.head_read.specs.Fronts.{VariableFields, FunctionFields, AliasFields, variable_front, function_front, alias_front, kept_alias_type, function_defined}
 
 -- ---- entries, of which nothing is known but what their records begin with
 
@@ -91,8 +91,8 @@ module _ (texts : Texts) (types : ℕ) (final : Lists) where
       let front = front_of (variable_front texts types) operands in let after = with_variable a (variable_entry front.0) in
       IsRefused a after final front.0.0 front.1 ⊎ behind names after
   DeclaresOne names a operands behind a_function =
-      let front = front_of (function_front texts types) operands in let after = with_function a (function_entry (names_for front.0.1.1.0 names) front.0) in
-      IsRefused a after final front.0.0 front.1 ⊎ behind (names_behind front.0.1.1.0 names) after
+      let front = front_of (function_front texts types) operands in let after = with_function a (function_entry (names_for (function_defined front.0) names) front.0) in
+      IsRefused a after final front.0.0 front.1 ⊎ behind (names_behind (function_defined front.0) names) after
   DeclaresOne names a operands behind an_alias =
       let front = front_of (alias_front texts types) operands in let after = with_alias a (alias_entry front.0) in
       IsRefused a after final front.0.0 front.1 ⊎ behind names after
@@ -162,7 +162,7 @@ module _ (texts : Texts) (all : List (List the_local.LocalName)) (used : ℕ) (o
   abbrev pub DeclaresFunction : Option ℕ → Lists → Type 0
   DeclaresFunction now new =
       let front = front_of (function_front texts (length old.table.types)) operands in let names = drop used all in
-      StepsOn all (names_behind front.0.1.1.0 names) (with_function old (function_entry (names_for front.0.1.1.0 names) front.0)) old front.0.0 front.1 now new
+      StepsOn all (names_behind (function_defined front.0) names) (with_function old (function_entry (names_for (function_defined front.0) names) front.0)) old front.0.0 front.1 now new
 
   -- an entry that uses no names
   abbrev pub StepsBy : (Bool → Lists → Type 0) → Option ℕ → Lists → Type 0

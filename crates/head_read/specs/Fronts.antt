@@ -18,7 +18,7 @@ use Rattle.head_read.specs.declared.fronts.VariableFront.{VariableFront}
 use Rattle.head_read.specs.declared.fronts.FunctionFront.{FunctionFront}
 use Rattle.head_read.specs.declared.fronts.AliasFront.{AliasFront}
 
--- ---- layouts: those of `Records`, up to what an entry holds, and with indices in place of types
+-- ---- what stands in records: as in `Records`, up to what an entry holds, and with indices in place of types
 
 -- name, linkage, whether it is a constant, type, alignment
 abbrev pub VariableFields : Type 0
@@ -35,6 +35,54 @@ AliasTypeFields = ℕ ⊎ (ℕ × (Bool × List ℕ))
 -- name, linkage, type
 abbrev pub AliasFields : Type 0
 AliasFields = Bytes × (Linkage × AliasTypeFields)
+
+-- ---- the parts of these, by their names
+
+-- of a variable: its linkage
+abbrev pub variable_linkage : VariableFields → Linkage
+variable_linkage (name, (linkage, (constant, (ty, alignment)))) = linkage
+
+-- whether it is a constant
+abbrev pub variable_constant : VariableFields → Bool
+variable_constant (name, (linkage, (constant, (ty, alignment)))) = constant
+
+-- its type
+abbrev pub variable_ty : VariableFields → ℕ
+variable_ty (name, (linkage, (constant, (ty, alignment)))) = ty
+
+-- its alignment
+abbrev pub variable_alignment : VariableFields → Option ℕ
+variable_alignment (name, (linkage, (constant, (ty, alignment)))) = alignment
+
+-- of a function: its linkage
+abbrev pub function_linkage : FunctionFields → Linkage
+function_linkage (name, (linkage, (defined, (returns, (variadic, parameters))))) = linkage
+
+-- whether it is defined
+abbrev pub function_defined : FunctionFields → Bool
+function_defined (name, (linkage, (defined, (returns, (variadic, parameters))))) = defined
+
+-- what it returns
+abbrev pub function_returns : FunctionFields → ℕ
+function_returns (name, (linkage, (defined, (returns, (variadic, parameters))))) = returns
+
+-- whether it is variadic
+abbrev pub function_variadic : FunctionFields → Bool
+function_variadic (name, (linkage, (defined, (returns, (variadic, parameters))))) = variadic
+
+-- its parameters
+abbrev pub function_parameters : FunctionFields → List ℕ
+function_parameters (name, (linkage, (defined, (returns, (variadic, parameters))))) = parameters
+
+-- of an alias: its linkage
+abbrev pub alias_linkage : AliasFields → Linkage
+alias_linkage (name, (linkage, ty)) = linkage
+
+-- its type
+abbrev pub alias_ty : AliasFields → AliasTypeFields
+alias_ty (name, (linkage, ty)) = ty
+
+-- ---- how they are laid out
 
 -- a variable up to its alignment, where there are so many types
 abbrev pub variable_front : Texts → ℕ → Layout VariableFields
@@ -89,26 +137,26 @@ pub record ReadsVariable (texts : Texts) (types : ℕ) (old new : Reader) (front
   pub reader : new ≡ record old { walk = ((variable_front texts types).read old.walk).1 }
   pub name : IsNameOf front.name ((variable_front texts types).read old.walk).0.0
   pub named : front.name ≡ None → IsBroken new.walk
-  pub linkage : front.linkage ≡ ((variable_front texts types).read old.walk).0.1.0
-  pub constant : front.constant ≡ ((variable_front texts types).read old.walk).0.1.1.0
-  pub ty : IsKept (IsBelow types) front.ty ((variable_front texts types).read old.walk).0.1.1.1.0 new.walk
-  pub alignment : front.alignment ≡ ((variable_front texts types).read old.walk).0.1.1.1.1
+  pub linkage : front.linkage ≡ variable_linkage ((variable_front texts types).read old.walk).0
+  pub constant : front.constant ≡ variable_constant ((variable_front texts types).read old.walk).0
+  pub ty : IsKept (IsBelow types) front.ty (variable_ty ((variable_front texts types).read old.walk).0) new.walk
+  pub alignment : front.alignment ≡ variable_alignment ((variable_front texts types).read old.walk).0
 
 -- the same of a function
 pub record ReadsFunction (texts : Texts) (types : ℕ) (old new : Reader) (front : FunctionFront) : Type 0 where
   pub reader : new ≡ record old { walk = ((function_front texts types).read old.walk).1 }
   pub name : IsNameOf front.name ((function_front texts types).read old.walk).0.0
   pub named : front.name ≡ None → IsBroken new.walk
-  pub linkage : front.linkage ≡ ((function_front texts types).read old.walk).0.1.0
-  pub defined : front.defined ≡ ((function_front texts types).read old.walk).0.1.1.0
-  pub returns : IsKept (IsBelow types) front.returns ((function_front texts types).read old.walk).0.1.1.1.0 new.walk
-  pub variadic : front.variadic ≡ ((function_front texts types).read old.walk).0.1.1.1.1.0
-  pub parameters : IsKept (AreBelow types) front.parameters ((function_front texts types).read old.walk).0.1.1.1.1.1 new.walk
+  pub linkage : front.linkage ≡ function_linkage ((function_front texts types).read old.walk).0
+  pub defined : front.defined ≡ function_defined ((function_front texts types).read old.walk).0
+  pub returns : IsKept (IsBelow types) front.returns (function_returns ((function_front texts types).read old.walk).0) new.walk
+  pub variadic : front.variadic ≡ function_variadic ((function_front texts types).read old.walk).0
+  pub parameters : IsKept (AreBelow types) front.parameters (function_parameters ((function_front texts types).read old.walk).0) new.walk
 
 -- the same of an alias
 pub record ReadsAlias (texts : Texts) (types : ℕ) (old new : Reader) (front : AliasFront) : Type 0 where
   pub reader : new ≡ record old { walk = ((alias_front texts types).read old.walk).1 }
   pub name : IsNameOf front.name ((alias_front texts types).read old.walk).0.0
   pub named : front.name ≡ None → IsBroken new.walk
-  pub linkage : front.linkage ≡ ((alias_front texts types).read old.walk).0.1.0
-  pub ty : IsKept (IsListedType types) front.ty ((alias_front texts types).read old.walk).0.1.1 new.walk
+  pub linkage : front.linkage ≡ alias_linkage ((alias_front texts types).read old.walk).0
+  pub ty : IsKept (IsListedType types) front.ty (alias_ty ((alias_front texts types).read old.walk).0) new.walk
