@@ -48,26 +48,26 @@ class Bits:
         return bytes(sum(bit << k for k, bit in enumerate(self.bits[at:at + 8])) for at in range(0, len(self.bits), 8))
 
 
-def put_block(out, outer, number, entries):
-    """A block with ids of three bits, in a block whose ids have so many."""
+def put_block(out, outer, number, entries, width=3):
+    """A block with ids of so many bits, three unless it is said, in a block whose ids have so many as `outer`."""
     out.fixed(1, outer)
     out.vbr(number, 8)
-    out.vbr(3, 4)
+    out.vbr(width, 4)
     out.align()
     count_at = len(out.bits)
     out.fixed(0, 32)
     for put in entries:
         put(out)
-    out.fixed(0, 3)
+    out.fixed(0, width)
     out.align()
     words = (len(out.bits) - count_at) // 32 - 1
     out.bits[count_at:count_at + 32] = [words >> k & 1 for k in range(32)]
 
 
-def record(code, *operands):
-    """A record without an abbreviation."""
+def record(code, *operands, width=3):
+    """A record without an abbreviation, in a block whose ids have so many bits."""
     def put(out):
-        out.fixed(3, 3)
+        out.fixed(3, width)
         for number in [code, len(operands), *operands]:
             out.vbr(number, 6)
     return put
@@ -95,15 +95,32 @@ def byte_record(bytes_):
     return put
 
 
-def bitcode(table, *entries):
-    """The producer, the string table, and the module: VERSION and these entries."""
+def top(*blocks, width=3):
+    """The magic number, and these blocks, each with its number and entries; their ids have so many bits."""
     out = Bits()
     for byte in [0x42, 0x43, 0xC0, 0xDE]:
         out.fixed(byte, 8)
-    put_block(out, 2, 13, [byte_record(b"integer profile 1")])
-    put_block(out, 2, 23, [byte_record(table)])
-    put_block(out, 2, 8, [record(1, 2), *entries])
+    for number, entries in blocks:
+        put_block(out, 2, number, entries, width)
     return out.bytes()
+
+
+PRODUCER = (13, [byte_record(b"integer profile 1")])
+
+
+def bitcode(table, *entries):
+    """Version 2: the producer, the string table, and the module: VERSION and these entries."""
+    return top(PRODUCER, (23, [byte_record(table)]), (8, [record(1, 2), *entries]))
+
+
+def first_version(*entries):
+    """Version 1: the producer and the module, with no string table."""
+    return top(PRODUCER, (8, [record(1, 1), *entries]))
+
+
+def in_line(name):
+    """A name in version 1: its size and its bytes."""
+    return [len(name), *name]
 
 
 # ---- records of a module, version 2 of the table: a text is an offset and a size, and so is a name
@@ -174,6 +191,82 @@ SUM_CODE = bitcode(
     b"main", types(int_type(32)), record(FUNCTION, 0, 4, EXTERNAL, 1, 0, 0, 0),
     body(record(PARAMS), record(BLOCK, 0), record(ADD, 0, 0, 0, *integer(40), *integer(2)), record(RET, 1, 0, *value(0))))
 
+# A sum loop as clang prints it, and its bitcode: each block, its instructions, and an alignment of 4 as 3.
+LOOP = """; ModuleID = 'sum.c'
+source_filename = "sum.c"
+target datalayout = "e-m:e-p270:32:32-p271:32:32-p272:64:64-i64:64-i128:128-f80:128-n8:16:32:64-S128"
+target triple = "x86_64-unknown-linux-gnu"
+
+; Function Attrs: noinline nounwind optnone uwtable
+define dso_local i32 @main() #0 {
+  %1 = alloca i32, align 4
+  %2 = alloca i32, align 4
+  %3 = alloca i32, align 4
+  store i32 0, ptr %1, align 4
+  store i32 0, ptr %2, align 4
+  store i32 0, ptr %3, align 4
+  br label %4
+
+4:                                    ; preds = %11, %0
+  %5 = load i32, ptr %3, align 4
+  %6 = icmp slt i32 %5, 5
+  br i1 %6, label %7, label %14
+
+7:
+  %8 = load i32, ptr %3, align 4
+  %9 = load i32, ptr %2, align 4
+  %10 = add nsw i32 %9, %8
+  store i32 %10, ptr %2, align 4
+  br label %11
+
+11:
+  %12 = load i32, ptr %3, align 4
+  %13 = add nsw i32 %12, 1
+  store i32 %13, ptr %3, align 4
+  br label %4, !llvm.loop !2
+
+14:
+  %15 = load i32, ptr %2, align 4
+  ret i32 %15
+}
+
+attributes #0 = { noinline nounwind optnone uwtable "frame-pointer"="all" }
+
+!llvm.module.flags = !{!0}
+!llvm.ident = !{!1}
+
+!0 = !{i32 1, !"wchar_size", i32 4}
+!1 = !{!"clang version 18.1.3"}
+!2 = distinct !{!2, !3}
+!3 = !{!"llvm.loop.mustprogress"}
+"""
+LOOP_LAYOUT = b"e-m:e-p270:32:32-p271:32:32-p272:64:64-i64:64-i128:128-f80:128-n8:16:32:64-S128"
+LOOP_TRIPLE = b"x86_64-unknown-linux-gnu"
+
+
+def alloca():
+    return record(35, 0, 0, 0, 3)
+
+
+def load(address):
+    return record(33, 0, 0, 0, *value(address), 3)
+
+
+def store(number, address):
+    return record(34, 0, 0, *number, *value(address), 3)
+
+
+LOOP_TABLE = b"sum.c" + LOOP_LAYOUT + LOOP_TRIPLE + b"main"
+LOOP_CODE = bitcode(
+    LOOP_TABLE, record(SOURCE, 0, 5), record(LAYOUT, 5, len(LOOP_LAYOUT)), record(TRIPLE, 5 + len(LOOP_LAYOUT), 24),
+    types(int_type(32), PTR, int_type(1)), record(FUNCTION, 5 + len(LOOP_LAYOUT) + 24, 4, EXTERNAL, 1, 0, 0, 0),
+    body(record(PARAMS),
+         record(BLOCK, 0), alloca(), alloca(), alloca(), store(integer(0), 0), store(integer(0), 1), store(integer(0), 2), record(BR, 0, 1),
+         record(BLOCK, 0), load(2), record(24, 0, 0, 9, 0, *value(3), *integer(5)), record(BR, 1, *value(4), 2, 4),
+         record(BLOCK, 0), load(2), load(1), record(ADD, 0, 2, 0, *value(6), *value(5)), store(value(7), 1), record(BR, 0, 3),
+         record(BLOCK, 0), load(2), record(ADD, 0, 2, 0, *value(8), *integer(1)), store(value(9), 2), record(BR, 0, 1),
+         record(BLOCK, 0), load(1), record(RET, 1, 0, *value(10))))
+
 # Each text, and its bitcode.
 MODULES = [
     ("", EMPTY),
@@ -228,6 +321,7 @@ MODULES = [
     # A name of any bytes, but a zero byte.
     ('@"\\FF\\0A" = weak global i1 true',
      bitcode(b"\xff\n", types(int_type(1)), record(VARIABLE, 0, 2, WEAK, 0, 0, 0, 1, *integer(1)))),
+    (LOOP, LOOP_CODE),
 ]
 
 

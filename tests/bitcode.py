@@ -1,6 +1,7 @@
 #!/usr/bin/env python3
 """Writes the rows of bitcode that is read among crates/tool_table's stored input and output: by `llvm-dis`, and as an input of `llvm-link`,
-`llvm-extract` and `lli`.
+`llvm-extract` and `lli`. Modules that are spelled otherwise, and fronts of streams, are those of tests/record_spellings.py; one record that breaks
+each rule in each kind of block is in tests/record_faults.py.
 
 The bitcode is made by the encoder of tests/assemble.py from records that are written by hand from docs/bitcode.md, or written out byte for
 byte; so are canonical texts (docs/language.md), refusals, and what is told of runs (docs/commands.md, docs/running.md). Nothing is taken from
@@ -15,9 +16,11 @@ import sys
 
 sys.dont_write_bytecode = True
 from assemble import (
-    ADD, BLOCK, BR, BYTE, BYTE_CODE, CALL, CRATE, EMPTY, EXTERNAL, FUNCTION, INTERNAL, LAYOUT, MODULES, PARAMS, PTR, RET, SOURCE, SUM_CODE,
-    TRIPLE, VARIABLE, Bits, bitcode, block, body, byte_record, content, file_of, integer, int_type, line, of_global, placed, printed,
-    put_block, record, string, types, value)
+    ADD, BLOCK, BR, BYTE, BYTE_CODE, CALL, CRATE, EMPTY, EXTERNAL, FUNCTION, INTERNAL, LAYOUT, LOOP_LAYOUT, MODULES, PARAMS, PRODUCER, PTR,
+    RET, SOURCE, SUM_CODE, VARIABLE, bitcode, block, body, byte_record, content, file_of, integer, int_type, line, of_global, placed, printed,
+    record, string, top, types, value)
+from record_faults import TAKEN, refused as faults
+from record_spellings import FIRST_EMPTY, OTHERWISE, SAME, X_LINES, cut
 from streams import GREAT_COUNT, LONG_VBR, SEVENTEEN
 
 MARK = b"# Bitcode read: written by tests/bitcode.py.\n"
@@ -55,39 +58,18 @@ def stream(text, name="output"):
     return f"{name}\n{printed(text.encode())}" if text else ""
 
 
-# ---- streams
-
-def top(*blocks):
-    """The magic number, and these blocks, each with its number and entries."""
-    out = Bits()
-    for byte in [0x42, 0x43, 0xC0, 0xDE]:
-        out.fixed(byte, 8)
-    for number, entries in blocks:
-        put_block(out, 2, number, entries)
-    return out.bytes()
-
-
-PRODUCER = (13, [byte_record(b"integer profile 1")])
-
-
-def first_version(*entries):
-    """Version 1: the producer and the module, with no string table."""
-    return top(PRODUCER, (8, [record(1, 1), *entries]))
-
-
-def in_line(name):
-    """A name in version 1: its size and its bytes."""
-    return [len(name), *name]
-
-
-# The module of an empty text in version 1, byte for byte: 36 bytes of the producer, and 32 of an empty module.
-FIRST_EMPTY = bytes.fromhex(
-    "42 43 C0 DE 35 0C 00 00 06 00 00 00 1A 64 4C 10 83 28 CD 8D AE EC AC 4C 0E 04 4E EE CD 2C 8D AD 0C 24 06 00"
-    "21 0C 00 00 06 00 00 00 1A 64 4C D0 82 20 48 C4 00 00 00 00 01 00 00 00 00 00 00 00 00 00 00 00")
-
 # ---- modules and their canonical texts
 
 SUM_LINES = ["define i32 @main() {", "0:", "  %1 = add i32 40, 2", "  ret i32 %1", "}"]
+
+LOOP_LINES = [
+    'source_filename = "sum.c"', f'target datalayout = "{LOOP_LAYOUT.decode()}"', 'target triple = "x86_64-unknown-linux-gnu"', "define i32 @main() {",
+    "0:", "  %1 = alloca i32, align 4", "  %2 = alloca i32, align 4", "  %3 = alloca i32, align 4", "  store i32 0, ptr %1, align 4",
+    "  store i32 0, ptr %2, align 4", "  store i32 0, ptr %3, align 4", "  br label %4",
+    "4:", "  %5 = load i32, ptr %3, align 4", "  %6 = icmp slt i32 %5, 5", "  br i1 %6, label %7, label %14",
+    "7:", "  %8 = load i32, ptr %3, align 4", "  %9 = load i32, ptr %2, align 4", "  %10 = add nsw i32 %9, %8", "  store i32 %10, ptr %2, align 4", "  br label %11",
+    "11:", "  %12 = load i32, ptr %3, align 4", "  %13 = add nsw i32 %12, 1", "  store i32 %13, ptr %3, align 4", "  br label %4",
+    "14:", "  %15 = load i32, ptr %2, align 4", "  ret i32 %15", "}"]
 
 # The canonical texts of the modules of tests/assemble.py, in their order.
 TEXTS = [
@@ -105,45 +87,8 @@ TEXTS = [
     ["declare i32 @putchar(i32)", "declare void @v(...)", "define void @main() {", "0:", "  %1 = call i32 @putchar(i32 65)", "  call void (...) @v(i32 %1)",
      "  ret void", "}"],
     ['@"\\FF\\0A" = weak global i1 true'],
+    LOOP_LINES,
 ]
-
-# Modules that are spelled otherwise than they are written, and their canonical texts.
-OTHERWISE = [
-    (FIRST_EMPTY, []),
-    # Version 1: texts to the end of their records, names with their sizes, the name of a struct at the end.
-    (first_version(record(SOURCE, *b"a"), record(LAYOUT, *b"e"), record(TRIPLE), types(int_type(8), record(6, 0), record(7, 0, 1, 0, *b"T")),
-                   record(VARIABLE, *in_line(b"x"), EXTERNAL, 0, 1, 0, 1, 7, 1, *integer(255))),
-     ['source_filename = "a"', 'target datalayout = "e"', 'target triple = ""', "%T = type { i8 }", "@x = global %T { i8 -1 }"]),
-    (first_version(types(int_type(32)), record(FUNCTION, *in_line(b"main"), EXTERNAL, 1, 0, 0, 0),
-                   body(record(PARAMS), record(BLOCK, 2, *b"b"), record(ADD, 2, *b"s", 0, 0, *integer(40), *integer(2)), record(RET, 1, 0, *value(0)))),
-     ["define i32 @main() {", "b:", "  %s = add i32 40, 2", "  ret i32 %s", "}"]),
-    # A text stands anywhere in the table, and types that nothing mentions, or twice, are none of the module.
-    (bitcode(b"yxz", types(int_type(7), int_type(8), int_type(8), PTR), record(VARIABLE, 1, 1, EXTERNAL, 0, 2, 0, 1, *integer(255))), ["@x = global i8 -1"]),
-    # BLOCKINFO is passed over wherever it stands.
-    (top((0, [record(1, 8)]), PRODUCER, (0, []), (23, [byte_record(b"x")]),
-         (8, [record(1, 2), block(0, record(1, 8)), types(int_type(8)), record(VARIABLE, 0, 1, EXTERNAL, 0, 0, 0, 1, *integer(255))]), (0, [])),
-     ["@x = global i8 -1"]),
-]
-
-
-def abbreviated(code, *operands):
-    """A definition of VBR 6, Array and VBR 6, and a record by it."""
-    def put(out):
-        out.fixed(2, 3)
-        out.vbr(3, 5)
-        for encoding, width in [(2, 6), (3, None), (2, 6)]:
-            out.fixed(0, 1)
-            out.fixed(encoding, 3)
-            if width is not None:
-                out.vbr(width, 5)
-        out.fixed(4, 3)
-        for number in [code, len(operands), *operands]:
-            out.vbr(number, 6)
-    return put
-
-
-OTHERWISE.append((bitcode(b"x", types(int_type(8)), abbreviated(VARIABLE, 0, 1, EXTERNAL, 0, 0, 0, 1, *integer(255))), ["@x = global i8 -1"]))
-
 
 def with_byte(code, at, byte):
     return code[:at] + bytes([byte]) + code[at + 1:]
@@ -211,17 +156,9 @@ REFUSED = [
     (bitcode(b"f", types(int_type(32)), record(FUNCTION, 0, 1, INTERNAL, 1, 0, 0, 0), body(record(PARAMS), record(BLOCK, 0), record(BR, 0, 0))), "invalid V8 at %0 of @f"),
 ]
 
-# By the length to which the module of an empty text in version 1 is cut, in bytes.
-CUT = {
-    0: "bit 0: bad magic", 4: "foreign producer", 8: "bit 64: truncated", 12: "bit 96: truncated", 16: "bit 126: truncated", 20: "bit 157: truncated",
-    24: "bit 189: truncated", 28: "bit 221: truncated", 32: "bit 253: truncated", 36: "bad record 1 in block 8, rule 5", 40: "bit 320: truncated",
-    44: "bit 352: truncated", 48: "bit 382: truncated", 52: "bit 414: truncated", 56: "bit 448: truncated", 60: "bit 480: truncated", 64: "bit 512: truncated",
-}
-
-
 def disassembled():
     """Modules by `llvm-dis`: spelled otherwise, and as `llvm-as` writes them."""
-    for code, text in OTHERWISE:
+    for code, text in OTHERWISE + [(code, X_LINES) for code in SAME] + TAKEN:
         run("clear\n" + stored(code), "llvm-dis -o - spelled.bc", f"status 0\nfiles spelled.bc\n{stream(lines(*text))}")
     for (given, code), text in zip(MODULES, TEXTS, strict=True):
         run(file_of(given), "llvm-as -o spelled.bc assembled.ll", f"status 0\nfiles assembled.ll\nwrote spelled.bc\n{printed(code)}")
@@ -254,8 +191,8 @@ def places():
 
 def refused():
     """Bytes that are refused: nothing is written, and the file of the output stays as it was."""
-    for size, told in CUT.items():
-        run(given_by(FIRST_EMPTY[:size]), "llvm-dis -", f"status 1\ninput {size}\n{line(f'llvm-dis: -: {told}')}")
+    for code, told in cut() + faults():
+        run(given_by(code), "llvm-dis -", f"status 1\ninput {len(code)}\n{line(f'llvm-dis: -: {told}')}")
     for code, told in REFUSED:
         run("clear\n" + stored(code) + "file spelled.ll\n+ ; kept\n", "llvm-dis spelled.bc", f"status 1\nfiles spelled.bc\n{line(f'llvm-dis: spelled.bc: {told}')}")
     run("", "llvm-as -o - spelled.ll", f"status 0\nfiles spelled.ll\noutput\n{printed(EMPTY)}")
@@ -343,9 +280,9 @@ def linked():
     run("", "llvm-link a.bc", f"status 0\nfiles a.bc\noutput\n{printed(CALLS_CODE)}")
     # From standard input; and what is spelled otherwise is written as one spelling.
     run(f"input\n= {CALLS_CODE.hex(' ')}\n", "llvm-link -S - b.ll", f"status 0\nfiles b.ll\ninput {len(CALLS_CODE)}\n{both}")
-    for code, text in OTHERWISE[1:2] + OTHERWISE[3:]:
+    for code, text in OTHERWISE[1:2] + [(code, X_LINES) for code in SAME]:
         run("clear\n" + stored(code), "llvm-link -S spelled.bc", f"status 0\nfiles spelled.bc\n{stream(lines(*text))}")
-    for code, _ in OTHERWISE[3:]:
+    for code in SAME:
         run("clear\n" + stored(code), "llvm-link spelled.bc", f"status 0\nfiles spelled.bc\noutput\n{printed(BYTE_CODE)}")
     # What is linked runs as its parts do, as bitcode and as the text of that.
     for (one, other), code, text, status in [(RINGS, RING_CODE, RING_LINES, 7), (OWN, OWN_CODE, OWN_LINES, 3)]:
