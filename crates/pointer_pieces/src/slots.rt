@@ -111,7 +111,7 @@ fn make_slot(slots: &mut BTreeMap<u64, Slot>, address: u64) -> Result<(), AllocE
 }
 
 /// Makes sure that there is a slot for each of the found pieces in a range. What is seen stays the same, also where memory is refused.
-pub fn make_room(
+fn add_slots(
     slots: &mut BTreeMap<u64, Slot>,
     found: &BTreeMap<u64, Piece>,
     from: u64,
@@ -127,6 +127,40 @@ pub fn make_room(
         next = met.0 + 1;
     }
     Ok(())
+}
+
+/// Takes away the slots of a range of addresses that have no piece, which takes no memory. What is seen stays the same.
+fn sweep(slots: &mut BTreeMap<u64, Slot>, from: u64, to: u64)
+    requires { from ≤ to }
+    ensures { (q : ℕ) → at_slots (tree.get nat_cmp slots.new) q ≡ at_slots (tree.get nat_cmp slots.old) q }
+{
+    let end = end_of(from, to);
+    let mut next = from / 8;
+    'slots: while let Some(met) = first_slot(slots, next, end) {
+        leave(slots, met.0, met.1);
+        next = met.0 + 1;
+    }
+}
+
+/// Makes sure that there is a slot for each of the found pieces in a range. What is seen stays the same, also where memory is refused;
+/// then no slot without a piece stays there.
+pub fn make_room(
+    slots: &mut BTreeMap<u64, Slot>,
+    found: &BTreeMap<u64, Piece>,
+    from: u64,
+    to: u64,
+) -> Result<(), AllocError>
+    requires { from ≤ to }
+    ensures room { OnOk result ((q : ℕ) → from ≤ q → q < to → IsSome (tree.get nat_cmp found.now q) → IsSome (tree.get nat_cmp slots.new (q / 8))) }
+    ensures same { (q : ℕ) → at_slots (tree.get nat_cmp slots.new) q ≡ at_slots (tree.get nat_cmp slots.old) q }
+{
+    match add_slots(slots, found, from, to) {
+        Ok(()) => Ok(()),
+        Err(fault) => {
+            sweep(slots, from, to);
+            Err(fault)
+        }
+    }
 }
 
 /// Makes a range have the found pieces and no others. There is a slot for each, so it takes no memory.
