@@ -500,6 +500,12 @@ def over_integers():
             rows = list(intrinsics.some(stem, width))
             for operands in dict.fromkeys([rows[(7 * turn + 3) % len(rows)], rows[(11 * turn + len(stem)) % len(rows)]]):
                 intrinsic(stem, width, operands)
+    # By hand: 100 and 100 are 200, more than the 127 of eight bits with a sign.
+    added = "%v = call {{ i8, i1 }} @llvm.sadd.with.overflow.i8(i8 100, i8 100) %a = extractvalue {{ i8, i1 }} %v, {0} %r = zext {1} %a to i32 ret i32 %r"
+    for place, ty, result in [(0, "i8", 200), (1, "i1", 1)]:
+        ends(main_of(added.format(place, ty), "declare { i8, i1 } @llvm.sadd.with.overflow.i8(i8, i8)"), result)
+    # 1000 0001 1000 0000 shifted up by one has 0000 0011 above.
+    ends(main_of("%a = call i8 @llvm.fshl.i8(i8 -127, i8 -128, i8 1) %r = zext i8 %a to i32 ret i32 %r", "declare i8 @llvm.fshl.i8(i8, i8, i8)"), 3)
 
 
 def intrinsic(stem, width, operands):
@@ -567,6 +573,8 @@ def printing():
     writes("100% 1", "100%% %i", ("i32", 1))
     writes("005||     00a|010     |", "%.3d|%.0d|%8.3x|%-8.3o|", ("i32", 5), ("i32", 0), ("i32", 10), ("i32", 8))
     writes("", "")
+    # Nineteen bytes, of four kinds of conversion.
+    writes("  -42|7   |00ff|ab\n", "%5d|%-4u|%04x|%s\n", ("i32", -42), ("i32", 7), ("i32", 255), ("ptr", "ab"))
     # Arguments that no conversion takes are passed over.
     writes("x", "x", ("i32", 1), ("i64", "poison"))
     # A precision reads no further byte.
@@ -626,6 +634,14 @@ def limits():
     # f weighs 5 and main 2: 838,860 frames of f weigh 4,194,300.
     ends(deep.format(838859), 7)
     stops(deep.format(838860), "stack limit")
+    # With two values more main weighs 4, so that all weigh 4,194,304; with three it weighs 5.
+    full = deep.format(838859).replace("@main() { ", "@main() { %a = add i32 0, 0 %b = add i32 0, 0 ")
+    ends(full, 7)
+    stops(full.replace("%b = ", "%b = add i32 0, 0 %d = "), "stack limit")
+    # g weighs 60,004 and main 1: 69 frames of g weigh 4,140,276.
+    array = "define void @g(i32 %n, [60000 x i8] %x) {{ %c = icmp eq i32 %n, 0 br i1 %c, label %z, label %s z: ret void s: %m = sub i32 %n, 1 call void @g(i32 %m, [60000 x i8] %x) ret void }} define i32 @main() {{ call void @g(i32 {}, [60000 x i8] zeroinitializer) ret i32 8 }}"
+    ends(array.format(68), 8)
+    stops(array.format(69), "stack limit")
     wide = "define [60000 x i8] @f() { ret [60000 x i8] zeroinitializer } "
     ends(wide + main_of("%r = call [60000 x i8] @f() ret i32 1"), 1)
     # Live bytes at opening.
@@ -652,6 +668,12 @@ def opening():
     ends(main_of("%a = load ptr, ptr @a %b = load ptr, ptr %a %r = icmp eq ptr %b, @a " + tests("i1", 1), "@a = global ptr @b", "@b = global ptr @a"), 1)
     ends(main_of("%p = load ptr, ptr @p %r = load i32, ptr %p ret i32 %r", "@t = constant [3 x i32] [i32 1, i32 2, i32 3]", "@p = global ptr getelementptr ([3 x i32], ptr @t, i64 0, i64 2)"), 3)
     ends(main_of("%r = load i32, ptr @v ret i32 %r", "@v = global i32 ptrtoint (ptr @v to i32)"), 0)
+    # With inbounds a constant address before its variable's start or after its end is poison. @t has 16 bytes.
+    far = lambda words, offset: ["%q = load ptr, ptr @p %r = ptrtoint ptr %q to i64 " + tests("i64", 65536 + offset), "@t = global [4 x i32] zeroinitializer", f"@p = global ptr getelementptr {words}(i8, ptr @t, i64 {offset})"]
+    ends(main_of(*far("inbounds ", 16)), 1)
+    undefined(main_of(*far("inbounds ", 17)), POISON_BRANCH)
+    undefined(main_of(*far("inbounds ", -1)), POISON_BRANCH)
+    ends(main_of(*far("", 17)), 1)
     ends(main_of("%p = getelementptr { i8, i32 }, ptr @v, i64 0, i32 1 %r = load i32, ptr %p ret i32 %r", "@v = global { i8, i32 } { i8 1, i32 70 }"), 70)
     undefined(main_of("%r = load i32, ptr @v ret i32 %r", "@v = global i32 poison"), "poison argument")
     ends(main_of("%r = load i32, ptr @v ret i32 %r", "@v = global i32 undef"), 0)

@@ -56,112 +56,112 @@ module _ (pages : List (List KeptBlock)) where
   page_read p rows lt is = is ∙ get_or_default pages p rows [] lt
 
   -- a number whose page is there
-  pub page_there : (count i : ℕ) → IsPaged count pages → i < count → i / 16 < length pages
+  pub page_there : (count i : ℕ) → IsPaged count pages → i < count → i / 64 < length pages
   page_there count i h lt = omega (arith, h.enough, lt)
 
   -- where one row of a page changes, one number has another block
-  pub kept_here : (i : ℕ) (rows : List KeptBlock) → i / 16 < length pages → kept_in (set pages (i / 16) rows) i ≡ row rows (i % 16)
-  kept_here i rows lt = ap (λ (x : List KeptBlock). row x (i % 16)) (get_or-set_same pages (i / 16) rows [] lt)
+  pub kept_here : (i : ℕ) (rows : List KeptBlock) → i / 64 < length pages → kept_in (set pages (i / 64) rows) i ≡ row rows (i % 64)
+  kept_here i rows lt = ap (λ (x : List KeptBlock). row x (i % 64)) (get_or-set_same pages (i / 64) rows [] lt)
 
-  pub kept_others : (i : ℕ) (rows : List KeptBlock) → i / 16 < length pages → ((j : ℕ) → j ≢ i % 16 → row rows j ≡ row (page pages (i / 16)) j) → (k : ℕ) → k ≢ i → kept_in (set pages (i / 16) rows) k ≡ kept_in pages k
-  kept_others i rows lt same k n = elim (cases_eq (k / 16) (i / 16)) [
+  pub kept_others : (i : ℕ) (rows : List KeptBlock) → i / 64 < length pages → ((j : ℕ) → j ≢ i % 64 → row rows j ≡ row (page pages (i / 64)) j) → (k : ℕ) → k ≢ i → kept_in (set pages (i / 64) rows) k ≡ kept_in pages k
+  kept_others i rows lt same k n = elim (cases_eq (k / 64) (i / 64)) [
     | inl e ↦
-        ap (λ (q : ℕ). row (page (set pages (i / 16) rows) q) (k % 16)) e
-        ∙ ap (λ (x : List KeptBlock). row x (k % 16)) (get_or-set_same pages (i / 16) rows [] lt)
-        ∙ same (k % 16) (λ m. n (omega (arith, m, e)))
-        ∙ ap (λ (q : ℕ). row (page pages q) (k % 16)) (sym e)
-    | inr m ↦ ap (λ (x : List KeptBlock). row x (k % 16)) (get_or-set_other pages (i / 16) (k / 16) rows [] m)
+        ap (λ (q : ℕ). row (page (set pages (i / 64) rows) q) (k % 64)) e
+        ∙ ap (λ (x : List KeptBlock). row x (k % 64)) (get_or-set_same pages (i / 64) rows [] lt)
+        ∙ same (k % 64) (λ m. n (omega (arith, m, e)))
+        ∙ ap (λ (q : ℕ). row (page pages q) (k % 64)) (sym e)
+    | inr m ↦ ap (λ (x : List KeptBlock). row x (k % 64)) (get_or-set_other pages (i / 64) (k / 64) rows [] m)
   ]
 
   -- a page with as many rows as before
-  pub paged_set : (count p : ℕ) (rows : List KeptBlock) → IsPaged count pages → p < length pages → (p ≡ count / 16 → length rows ≡ length (page pages p)) → IsPaged count (set pages p rows)
+  pub paged_set : (count p : ℕ) (rows : List KeptBlock) → IsPaged count pages → p < length pages → (p ≡ count / 64 → length rows ≡ length (page pages p)) → IsPaged count (set pages p rows)
   paged_set count p rows h lt long =
       record {
         enough = omega (arith, h.enough, length-set pages p rows);
         few = omega (arith, h.few, length-set pages p rows);
-        last = elim (cases_eq (count / 16) p) [
+        last = elim (cases_eq (count / 64) p) [
           | inl e ↦
               ap (λ (q : ℕ). length (page (set pages p rows) q)) e
               ∙ ap length (get_or-set_same pages p rows [] lt)
               ∙ long (sym e)
               ∙ ap (λ (q : ℕ). length (page pages q)) (sym e)
               ∙ h.last
-          | inr m ↦ ap length (get_or-set_other pages p (count / 16) rows [] m) ∙ h.last
+          | inr m ↦ ap length (get_or-set_other pages p (count / 64) rows [] m) ∙ h.last
         ];
       }
 
   -- ---- one block more
 
   -- in a page of its own
-  pub page_new : (count : ℕ) → IsPaged count pages → count % 16 ≡ 0 → length pages ≡ count / 16
+  pub page_new : (count : ℕ) → IsPaged count pages → count % 64 ≡ 0 → length pages ≡ count / 64
   page_new count h z = omega (arith, h.enough, h.few, z)
 
-  pub new_paged : (count : ℕ) (b : KeptBlock) → IsPaged count pages → count % 16 ≡ 0 → IsPaged (count + 1) (pages ++ (b ∷ []) ∷ [])
+  pub new_paged : (count : ℕ) (b : KeptBlock) → IsPaged count pages → count % 64 ≡ 0 → IsPaged (count + 1) (pages ++ (b ∷ []) ∷ [])
   new_paged count b h z =
       let many = length_push pages (b ∷ []) in
-      let next : length pages ≡ (count + 1) / 16 = omega (arith, h.enough, h.few, z) in
+      let next : length pages ≡ (count + 1) / 64 = omega (arith, h.enough, h.few, z) in
       let one : length (b ∷ []) ≡ 1 = refl in
       record {
         enough = omega (arith, h.enough, h.few, z, many);
         few = omega (arith, h.enough, h.few, z, many);
-        last = ap length (get_or_push pages (b ∷ []) [] ((count + 1) / 16) next) ∙ omega (arith, one, z);
+        last = ap length (get_or_push pages (b ∷ []) [] ((count + 1) / 64) next) ∙ omega (arith, one, z);
       }
 
-  pub new_here : (count : ℕ) (b : KeptBlock) → IsPaged count pages → count % 16 ≡ 0 → kept_in (pages ++ (b ∷ []) ∷ []) count ≡ b
+  pub new_here : (count : ℕ) (b : KeptBlock) → IsPaged count pages → count % 64 ≡ 0 → kept_in (pages ++ (b ∷ []) ∷ []) count ≡ b
   new_here count b h z =
-      ap (λ (x : List KeptBlock). row x (count % 16)) (get_or_push pages (b ∷ []) [] (count / 16) (page_new count h z))
+      ap (λ (x : List KeptBlock). row x (count % 64)) (get_or_push pages (b ∷ []) [] (count / 64) (page_new count h z))
       ∙ ap (λ (r : ℕ). row (b ∷ []) r) z
 
-  pub new_others : (count : ℕ) (b : KeptBlock) → IsPaged count pages → count % 16 ≡ 0 → (k : ℕ) → k ≢ count → kept_in (pages ++ (b ∷ []) ∷ []) k ≡ kept_in pages k
-  new_others count b h z k n = go (cases_order (k / 16) (length pages))
+  pub new_others : (count : ℕ) (b : KeptBlock) → IsPaged count pages → count % 64 ≡ 0 → (k : ℕ) → k ≢ count → kept_in (pages ++ (b ∷ []) ∷ []) k ≡ kept_in pages k
+  new_others count b h z k n = go (cases_order (k / 64) (length pages))
     where
       one : length (b ∷ []) ≡ 1
       one = refl
 
-      go : (k / 16 ≡ length pages) ⊎ ((k / 16 < length pages) ⊎ (length pages < k / 16)) → kept_in (pages ++ (b ∷ []) ∷ []) k ≡ kept_in pages k
+      go : (k / 64 ≡ length pages) ⊎ ((k / 64 < length pages) ⊎ (length pages < k / 64)) → kept_in (pages ++ (b ∷ []) ∷ []) k ≡ kept_in pages k
       go (inl e) =
-          ap (λ (x : List KeptBlock). row x (k % 16)) (get_or_push pages (b ∷ []) [] (k / 16) (sym e))
-          ∙ row_past (b ∷ []) (k % 16) (omega (arith, one, e, n, z, page_new count h z))
-          ∙ sym (no_row (k % 16))
-          ∙ ap (λ (x : List KeptBlock). row x (k % 16)) (sym (page_past (k / 16) (omega (arith, e))))
-      go (inr (inl lt)) = ap (λ (x : List KeptBlock). row x (k % 16)) (get_or_append_left pages ((b ∷ []) ∷ []) [] (k / 16) lt)
+          ap (λ (x : List KeptBlock). row x (k % 64)) (get_or_push pages (b ∷ []) [] (k / 64) (sym e))
+          ∙ row_past (b ∷ []) (k % 64) (omega (arith, one, e, n, z, page_new count h z))
+          ∙ sym (no_row (k % 64))
+          ∙ ap (λ (x : List KeptBlock). row x (k % 64)) (sym (page_past (k / 64) (omega (arith, e))))
+      go (inr (inl lt)) = ap (λ (x : List KeptBlock). row x (k % 64)) (get_or_append_left pages ((b ∷ []) ∷ []) [] (k / 64) lt)
       go (inr (inr gt)) =
-          ap (λ (x : List KeptBlock). row x (k % 16)) (get_or_past (pages ++ (b ∷ []) ∷ []) (k / 16) [] (omega (arith, gt, length_push pages (b ∷ []))))
-          ∙ ap (λ (x : List KeptBlock). row x (k % 16)) (sym (page_past (k / 16) (omega (arith, gt))))
+          ap (λ (x : List KeptBlock). row x (k % 64)) (get_or_past (pages ++ (b ∷ []) ∷ []) (k / 64) [] (omega (arith, gt, length_push pages (b ∷ []))))
+          ∙ ap (λ (x : List KeptBlock). row x (k % 64)) (sym (page_past (k / 64) (omega (arith, gt))))
 
   -- behind the rows of the last page
-  pub last_there : (count : ℕ) → IsPaged count pages → count % 16 ≢ 0 → count / 16 < length pages
+  pub last_there : (count : ℕ) → IsPaged count pages → count % 64 ≢ 0 → count / 64 < length pages
   last_there count h z = omega (arith, h.enough, z)
 
-  pub more_paged : (count : ℕ) (b : KeptBlock) → IsPaged count pages → count % 16 ≢ 0 → IsPaged (count + 1) (set pages (count / 16) (page pages (count / 16) ++ b ∷ []))
+  pub more_paged : (count : ℕ) (b : KeptBlock) → IsPaged count pages → count % 64 ≢ 0 → IsPaged (count + 1) (set pages (count / 64) (page pages (count / 64) ++ b ∷ []))
   more_paged count b h z =
-      let p = count / 16 in
+      let p = count / 64 in
       let rows = page pages p ++ b ∷ [] in
       let long = length_push (page pages p) b in
       record {
         enough = omega (arith, h.enough, z, length-set pages p rows);
         few = omega (arith, h.few, length-set pages p rows);
-        last = elim (cases_eq ((count + 1) / 16) p) [
+        last = elim (cases_eq ((count + 1) / 64) p) [
           | inl e ↦
               ap (λ (q : ℕ). length (page (set pages p rows) q)) e
               ∙ ap length (get_or-set_same pages p rows [] (last_there count h z))
               ∙ omega (arith, long, h.last, e)
           | inr m ↦
-              ap length (get_or-set_other pages p ((count + 1) / 16) rows [] m ∙ page_past ((count + 1) / 16) (omega (arith, m, h.few)))
+              ap length (get_or-set_other pages p ((count + 1) / 64) rows [] m ∙ page_past ((count + 1) / 64) (omega (arith, m, h.few)))
               ∙ omega (arith, m)
         ];
       }
 
-  pub more_here : (count : ℕ) (b : KeptBlock) → IsPaged count pages → count % 16 ≢ 0 → kept_in (set pages (count / 16) (page pages (count / 16) ++ b ∷ [])) count ≡ b
-  more_here count b h z = kept_here count (page pages (count / 16) ++ b ∷ []) (last_there count h z) ∙ pushed_here (page pages (count / 16)) b (count % 16) h.last
+  pub more_here : (count : ℕ) (b : KeptBlock) → IsPaged count pages → count % 64 ≢ 0 → kept_in (set pages (count / 64) (page pages (count / 64) ++ b ∷ [])) count ≡ b
+  more_here count b h z = kept_here count (page pages (count / 64) ++ b ∷ []) (last_there count h z) ∙ pushed_here (page pages (count / 64)) b (count % 64) h.last
 
-  pub more_others : (count : ℕ) (b : KeptBlock) → IsPaged count pages → count % 16 ≢ 0 → (k : ℕ) → k ≢ count → kept_in (set pages (count / 16) (page pages (count / 16) ++ b ∷ [])) k ≡ kept_in pages k
-  more_others count b h z = kept_others count (page pages (count / 16) ++ b ∷ []) (last_there count h z) (pushed_others (page pages (count / 16)) b (count % 16) h.last)
+  pub more_others : (count : ℕ) (b : KeptBlock) → IsPaged count pages → count % 64 ≢ 0 → (k : ℕ) → k ≢ count → kept_in (set pages (count / 64) (page pages (count / 64) ++ b ∷ [])) k ≡ kept_in pages k
+  more_others count b h z = kept_others count (page pages (count / 64) ++ b ∷ []) (last_there count h z) (pushed_others (page pages (count / 64)) b (count % 64) h.last)
 
 -- ---- the table
 
 -- a live block is read of a row that is there
-pub live_row : (count : ℕ) (pages : List (List KeptBlock)) (i : ℕ) (d : KeptBlock) → i < length (numbered count (kept_in pages)) → (get_or (numbered count (kept_in pages)) i d).live ≡ true → i % 16 < length (page pages (i / 16))
+pub live_row : (count : ℕ) (pages : List (List KeptBlock)) (i : ℕ) (d : KeptBlock) → i < length (numbered count (kept_in pages)) → (get_or (numbered count (kept_in pages)) i d).live ≡ true → i % 64 < length (page pages (i / 64))
 live_row count pages i d h live =
-    row_there (page pages (i / 16)) (i % 16)
+    row_there (page pages (i / 64)) (i % 64)
     (ap (λ (b : KeptBlock). b.live) (sym (read-numbered count (kept_in pages) i d (omega (arith, h, length-numbered count (kept_in pages))))) ∙ live)

@@ -12,6 +12,7 @@ use Rattle.ir_memory.specs.declared.cell.Cell.TheVariants.{Byte}
 use Rattle.ir_memory.specs.declared.access.Place.{Place}
 use Rattle.ir_memory.specs.Cell.{size, read, spelled}
 use Rattle.ir_memory.specs.Block.{is_constant, Block, new_block, gone, holds, starts, written}
+use Rattle.ir_memory.specs.declared.memory.TheConstants.{BYTE_LIMIT}
 
 -- all blocks, and what is left of those that have ended; where the next one may start; whether constants are sealed
 pub record Blocks : Type 0 where
@@ -25,7 +26,7 @@ no_blocks = record { list = []; next = 65536; sealed = false }
 
 -- how many bytes live blocks may have together
 abbrev pub byte_limit : ℕ
-byte_limit = 268435456
+byte_limit = BYTE_LIMIT
 
 -- how many bytes the live blocks have together
 abbrev pub live_bytes : List Block → ℕ

@@ -1,4 +1,4 @@
--- How the table keeps blocks: a row for each number, in pages of 16 rows each; a row that is not there is one of a block that has ended.
+-- How the table keeps blocks: a row for each number, in pages of 64 rows each; a row that is not there is one of a block that has ended.
 use Rattle.std.specs.Prelude.{◌≡◌, ℕ, ◌+◌, ◌*◌, ◌/◌, ◌%◌, ◌<◌, ◌≤◌, List, [], length, map, slice_index_or}
 use Rattle.std.specs.List.{range_with_len}
 use Rattle.ir_memory.specs.declared.kept.KeptBlock.{KeptBlock}
@@ -14,7 +14,7 @@ page pages p = slice_index_or pages p []
 
 -- the block of a number
 abbrev pub kept_in : List (List KeptBlock) → ℕ → KeptBlock
-kept_in pages n = row (page pages (n / 16)) (n % 16)
+kept_in pages n = row (page pages (n / 64)) (n % 64)
 
 -- the blocks of the first so many numbers
 abbrev pub numbered : ℕ → (ℕ → KeptBlock) → List KeptBlock
@@ -22,6 +22,6 @@ numbered count kept = map kept (range_with_len 0 count)
 
 -- there are as many pages as so many numbers ask for, and where the last one is not full, it has a row for each of its numbers
 pub record IsPaged (count : ℕ) (pages : List (List KeptBlock)) : Type 0 where
-  pub enough : count ≤ 16 * length pages
-  pub few : 16 * length pages < count + 16
-  pub last : length (page pages (count / 16)) ≡ count % 16
+  pub enough : count ≤ 64 * length pages
+  pub few : 64 * length pages < count + 64
+  pub last : length (page pages (count / 64)) ≡ count % 64

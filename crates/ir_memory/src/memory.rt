@@ -26,7 +26,7 @@ use std::collections::BTreeMap;
 use std::marker::Model;
 
 /// How many bytes live blocks may have together.
-const BYTE_LIMIT: u64 = 268_435_456;
+pub const BYTE_LIMIT: u64 = 268_435_456;
 
 /// The first address that a block may have.
 const FIRST_ADDRESS: u64 = 65_536;

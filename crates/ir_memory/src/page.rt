@@ -10,10 +10,10 @@ use std::alloc::{AllocError, Global};
 use std::marker::Model;
 
 /// For how many numbers a page is.
-pub const ROWS: usize = 16;
+pub const ROWS: usize = 64;
 
-/// The blocks of up to 16 numbers that follow one another, a row for each. The row of a block that has ended keeps nothing of it, and
-/// once all 16 have ended there is no row.
+/// The blocks of up to 64 numbers that follow one another, a row for each. The row of a block that has ended keeps nothing of it, and
+/// once all 64 have ended there is no row.
 #[derive(Drop)]
 pub struct Page {
     rows: Vec<KeptBlock>,
@@ -30,7 +30,7 @@ impl Model for Page {
 
 /// Whether a page is full, and all its blocks have ended.
 fn is_spent(rows: &[KeptBlock]) -> bool
-    ensures full { result ≡ true → 16 ≤ length rows.now }
+    ensures full { result ≡ true → 64 ≤ length rows.now }
     ensures ended { result ≡ true → (k : ℕ) → row rows.now k ≡ ended_block }
 {
     if rows.len() < ROWS {
@@ -94,7 +94,7 @@ impl Page {
     pub fn end(&mut self, alloc: Global, place: usize)
         ensures here { row self.new place ≡ ended_block }
         ensures others { (k : ℕ) → k ≢ place → row self.new k ≡ row self.old k }
-        ensures long { length self.old < 16 → length self.new ≡ length self.old }
+        ensures long { length self.old < 64 → length self.new ≡ length self.old }
     {
         if place >= self.rows.len() {
             return;

@@ -11,7 +11,7 @@ use crate::page::{Page, ROWS};
 use std::alloc::{AllocError, Global};
 use std::marker::Model;
 
-/// The blocks of a run by their numbers, counted from 0, in pages of 16 numbers each. Of those that have ended nothing is kept: one
+/// The blocks of a run by their numbers, counted from 0, in pages of 64 numbers each. Of those that have ended nothing is kept: one
 /// row stands for each of them, and for all of a page together none.
 #[derive(Drop)]
 pub struct Table {

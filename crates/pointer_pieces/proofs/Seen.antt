@@ -121,6 +121,23 @@ changed_here now new number old slot to_be was is each q e =
     ∙ ap (λ (n : ℕ). to_be n (get_or old.pieces (q % 8) None)) whole
     ∙ ap (to_be q) (sym (at_here now q number (Some old) e was))
 
+-- what is left of a slot of which a part becomes another
+pub shown_here : (now : ℕ → Option Slot) (number : ℕ) (old left : Slot) (to_be : ℕ → Option Piece → Option Piece) → now number ≡ Some old
+    → ((k : ℕ) → k < 8 → get_or left.pieces k None ≡ to_be (8 * number + k) (get_or old.pieces k None)) → (q : ℕ) → q / 8 ≡ number → get_or left.pieces (q % 8) None ≡ to_be q (at_slots now q)
+shown_here now number old left to_be was each q e =
+    let whole : 8 * number + q % 8 ≡ q = omega (arith, e) in
+    each (q % 8) (omega arith)
+    ∙ ap (λ (n : ℕ). to_be n (get_or old.pieces (q % 8) None)) whole
+    ∙ ap (to_be q) (sym (at_here now q number (Some old) e was))
+
+-- a slot that stays what it is, or is gone where it shows nothing
+pub left_same : (now new : ℕ → Option Slot) (number : ℕ) (slot : Slot) → now number ≡ Some slot → ((q : ℕ) → q / 8 ≡ number → at_slots new q ≡ get_or slot.pieces (q % 8) None) → ((s : ℕ) → s ≢ number → new s ≡ now s)
+    → (q : ℕ) → at_slots new q ≡ at_slots now q
+left_same now new number slot is here others q = elim (cases_eq (q / 8) number) [
+  | inl e ↦ here q e ∙ sym (at_here now q number (Some slot) e is)
+  | inr n ↦ at_same now new q (q / 8) refl (others (q / 8) n)
+]
+
 -- an empty slot shows nothing
 pub empty_put : (now new : ℕ → Option Slot) (number : ℕ) (slot : Slot) → now number ≡ None → new number ≡ Some slot → ((k : ℕ) → get_or slot.pieces k None ≡ None) → ((s : ℕ) → s ≢ number → new s ≡ now s) → (q : ℕ) → at_slots new q ≡ at_slots now q
 empty_put now new number slot was is none others q = elim (cases_eq (q / 8) number) [

@@ -71,6 +71,16 @@ fn is_piece(piece: Option<Piece>, pointer: Pointer, place: u8) -> bool
     }
 }
 
+/// Whether there is no piece.
+fn is_absent(piece: Option<Piece>) -> bool
+    ensures { result ≡ true → piece ≡ None }
+{
+    match piece {
+        Some(_) => false,
+        None => true,
+    }
+}
+
 impl Slot {
     /// No piece.
     pub fn none() -> Slot
@@ -105,6 +115,18 @@ impl Slot {
             }
         }
         Some(pointer)
+    }
+
+    /// Whether no piece stands there.
+    pub fn is_clear(&self) -> bool
+        ensures { result ≡ true → (k : ℕ) → k < 8 → slice_index_or self.now.pieces k None ≡ None }
+    {
+        'places: for k in 0..8 {
+            if !is_absent(self.pieces[k]) {
+                return false;
+            }
+        }
+        true
     }
 
     /// The slot of that number without the pieces of a range of addresses.

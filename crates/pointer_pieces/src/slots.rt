@@ -1,5 +1,5 @@
 //! Slots by their numbers: that of an address is an eighth of it.
-ghost use Rattle.std.specs.Prelude.{◌≡◌, ◌≢◌, ℕ, ◌/◌, ◌<◌, ◌≤◌, ◌^◌, ◌==◌, IfSome, IfNone, IsSome, OnOk, OnErr, Some, None, if◌then◌else◌};
+ghost use Rattle.std.specs.Prelude.{◌≡◌, ◌≢◌, ℕ, ◌/◌, ◌%◌, ◌<◌, ◌≤◌, ◌^◌, ◌==◌, IfSome, IfNone, IsSome, OnOk, OnErr, Some, None, slice_index_or, if◌then◌else◌};
 ghost use Rattle.std.specs.Ordering.{nat_cmp};
 ghost use Rattle.std.specs.BTreeMap as tree;
 ghost use Rattle.pointer_pieces.specs.Pieces.{at_slots, within_or, without};
@@ -48,7 +48,20 @@ fn take(slots: &mut BTreeMap<u64, Slot>, number: u64)
     let _slot = slots.remove(&number);
 }
 
-/// Takes the pieces of a range out of a slot that is there. One that lies all in the range is taken away.
+/// Puts a slot in the place of one that is there, which takes no memory. Where it has no piece there is no slot then.
+fn leave(slots: &mut BTreeMap<u64, Slot>, number: u64, left: Slot)
+    requires { IsSome (tree.get nat_cmp slots.old number) }
+    ensures here { (q : ℕ) → q / 8 ≡ number → at_slots (tree.get nat_cmp slots.new) q ≡ slice_index_or left.pieces (q % 8) None }
+    ensures others { (s : ℕ) → s ≢ number → tree.get nat_cmp slots.new s ≡ tree.get nat_cmp slots.old s }
+{
+    if left.is_clear() {
+        take(slots, number);
+        return;
+    }
+    change(slots, number, left);
+}
+
+/// Takes the pieces of a range out of a slot that is there. One that has none behind that is taken away.
 fn hide(slots: &mut BTreeMap<u64, Slot>, number: u64, slot: Slot, from: u64, to: u64)
     requires small { number < 2 ^ 61 }
     requires there { tree.get nat_cmp slots.old number ≡ Some slot }
@@ -59,7 +72,7 @@ fn hide(slots: &mut BTreeMap<u64, Slot>, number: u64, slot: Slot, from: u64, to:
         take(slots, number);
         return;
     }
-    change(slots, number, slot.without(number, from, to));
+    leave(slots, number, slot.without(number, from, to));
 }
 
 /// The number behind those of all slots that a range of addresses meets.
@@ -98,7 +111,7 @@ fn make_slot(slots: &mut BTreeMap<u64, Slot>, address: u64) -> Result<(), AllocE
 }
 
 /// Makes sure that there is a slot for each of the found pieces in a range. What is seen stays the same, also where memory is refused.
-pub fn make_room(
+fn add_slots(
     slots: &mut BTreeMap<u64, Slot>,
     found: &BTreeMap<u64, Piece>,
     from: u64,
@@ -114,6 +127,40 @@ pub fn make_room(
         next = met.0 + 1;
     }
     Ok(())
+}
+
+/// Takes away the slots of a range of addresses that have no piece, which takes no memory. What is seen stays the same.
+fn sweep(slots: &mut BTreeMap<u64, Slot>, from: u64, to: u64)
+    requires { from ≤ to }
+    ensures { (q : ℕ) → at_slots (tree.get nat_cmp slots.new) q ≡ at_slots (tree.get nat_cmp slots.old) q }
+{
+    let end = end_of(from, to);
+    let mut next = from / 8;
+    'slots: while let Some(met) = first_slot(slots, next, end) {
+        leave(slots, met.0, met.1);
+        next = met.0 + 1;
+    }
+}
+
+/// Makes sure that there is a slot for each of the found pieces in a range. What is seen stays the same, also where memory is refused;
+/// then no slot without a piece stays there.
+pub fn make_room(
+    slots: &mut BTreeMap<u64, Slot>,
+    found: &BTreeMap<u64, Piece>,
+    from: u64,
+    to: u64,
+) -> Result<(), AllocError>
+    requires { from ≤ to }
+    ensures room { OnOk result ((q : ℕ) → from ≤ q → q < to → IsSome (tree.get nat_cmp found.now q) → IsSome (tree.get nat_cmp slots.new (q / 8))) }
+    ensures same { (q : ℕ) → at_slots (tree.get nat_cmp slots.new) q ≡ at_slots (tree.get nat_cmp slots.old) q }
+{
+    match add_slots(slots, found, from, to) {
+        Ok(()) => Ok(()),
+        Err(fault) => {
+            sweep(slots, from, to);
+            Err(fault)
+        }
+    }
 }
 
 /// Makes a range have the found pieces and no others. There is a slot for each, so it takes no memory.

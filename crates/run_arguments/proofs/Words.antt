@@ -1,11 +1,10 @@
 -- Strings in memory.
-use Rattle.std.proofs.Common.{◌≡◌, ℕ, zero, suc, ◌+◌, ◌-◌, ◌*◌, ◌/◌, ◌^◌, ◌<◌, ◌≤◌, List, [], ◌∷◌, ◌++◌, length, map, zip, drop, get_or, Bool, true, false, not, cond, Result, Ok, Err, Some, append-nil, append_assoc, refl, sym, ap, ◌∙◌, subst, arith}
-use Rattle.std.specs.Prelude.{All, IfOk, slice_get, if◌then◌else◌}
+use Rattle.std.proofs.Common.{◌≡◌, ℕ, zero, suc, ◌+◌, ◌-◌, ◌*◌, ◌/◌, ◌^◌, ◌<◌, ◌≤◌, List, [], ◌∷◌, ◌++◌, length, map, zip, drop, get_or, false, not, cond, Result, Ok, Err, Some, append-nil, append_assoc, refl, sym, ap, ◌∙◌, subst, arith}
+use Rattle.std.specs.Prelude.{All, IfOk, IsOk, slice_get, if◌then◌else◌}
 use Rattle.std.specs.List.{range_with_len}
 use Rattle.std.proofs.lemmas.List.{at_drop_all, at_drop_more, length-append}
 use Rattle.std.proofs.lemmas.List.Elements.{All-head, All-tail, All-push}
 use Rattle.ir_eval.specs.declared.value.Pointer.{Pointer}
-use Rattle.ir_eval.specs.declared.value.Scalar.{Scalar}
 use Rattle.ir_eval.specs.declared.value.Scalar.TheVariants as scalar
 use Rattle.ir_memory.specs.declared.kind.BlockKind.TheVariants as kind
 use Rattle.ir_memory.specs.declared.leaf.Leaf.TheVariants as leaf
@@ -19,7 +18,7 @@ use Rattle.run_rules.specs.Opening.{block_with, made, row_of, with_string, with_
 use Rattle.run_rules.specs.Plan.{Contents}
 use Rattle.typed_runs.specs.States.{AreStored}
 use Rattle.typed_runs.proofs.Lives.{strings_live}
-use Rattle.run_initial.proofs.Fresh.{IsFresh, same_stored}
+use Rattle.run_initial.proofs.Fresh.{IsFresh, all_put, same_stored}
 use Rattle.run_initial.proofs.Ordered.{AreInOrder}
 use Rattle.run_initial.specs.Constants.{bytes_at}
 use Rattle.run_initial.specs.Fresh.{Puts, is_fresh, put, to_store}
@@ -45,7 +44,7 @@ bytes_stored count k [] h = tt
 bytes_stored count k (b ∷ bs) h = (All-head (λ b. b < 256) b bs h, bytes_stored count (k + 1) bs (All-tail (λ b. b < 256) b bs h))
 
 -- a block that was added is fresh, where the next address is not too far
-added_fresh : (size align : ℕ) (m : Blocks) → m.sealed ≡ false → round_up m.next align + size < 2 ^ 64 → IsFresh (added size align (kind.Variable false) m) (next_block align m) (length m.list) [] size
+pub added_fresh : (size align : ℕ) (m : Blocks) → m.sealed ≡ false → round_up m.next align + size < 2 ^ 64 → IsFresh (added size align (kind.Variable false) m) (next_block align m) (length m.list) [] size
 added_fresh size align m unsealed near = record {
   block = new_block (round_up m.next align) size (kind.Variable false);
   of_block = refl;
@@ -78,6 +77,17 @@ string_made bytes m n are unsealed near has stored =
     ap (λ r. and_then r (λ x. Ok (or_as_before x (stored_slots p 1 (row_of 1 (leaf.Int 8) (map scalar.Int all)) x), p))) has
     ∙ ap (λ (l : Contents). Ok (or_as_before o (stored_slots p 1 l o), p)) (row_bytes 0 all)
     ∙ ap (λ r. Ok (or_as_before o r, p)) same
+
+-- every store of a string into a new block goes well
+pub string_stored : (bytes : List ℕ) (size : ℕ) (m o : Blocks) (p : Pointer) → All (λ b. b < 256) bytes → m.sealed ≡ false → m.next ≤ 2 ^ 61 → size ≡ length bytes + 1 → made size 1 (kind.Variable false) m ≡ Ok o → p ≡ next_block 1 m → IsOk (put p (bytes_at 0 bytes) o)
+string_stored bytes size m o p are unsealed near long e is =
+    let same : o ≡ added size 1 (kind.Variable false) m = made_is size 1 (kind.Variable false) m o e in
+    let room = made_within size 1 (kind.Variable false) m o e in
+    let up : round_up m.next 1 ≡ m.next = omega arith in
+    let there : IsFresh o (next_block 1 m) (length m.list) [] size =
+    subst (λ (x : Blocks). IsFresh x (next_block 1 m) (length m.list) [] size) (sym same) (added_fresh size 1 m unsealed (omega (arith, up, near, room))) in
+    let here : IsFresh o p (length m.list) [] size = subst (λ (q : Pointer). IsFresh o q (length m.list) [] size) (sym is) there in
+    all_put (bytes_at 0 bytes) o p (length m.list) [] size size 0 (omega arith) here (bytes_order 0 size bytes (omega (arith, long))) (bytes_stored 0 0 bytes are)
 
 -- memory, and a pointer
 abbrev pub with_pointer : Blocks → Pointer → Result (Blocks × Pointer) End

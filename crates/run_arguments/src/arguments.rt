@@ -1,22 +1,24 @@
 //! The arguments of main.
-ghost use Rattle.std.specs.Prelude.{◌≡◌, ◌∷◌, ◌++◌, [], ◌+◌, ◌*◌, ◌^◌, ◌≤◌, All, Err, IfOk, MatchOption, OnOk, false, length};
+ghost use Rattle.std.specs.Prelude.{◌≡◌, ◌∷◌, ◌++◌, [], ◌+◌, ◌*◌, ◌^◌, ◌≤◌, All, Err, IfOk, IsOk, MatchOption, OnOk, false, length};
 ghost use Rattle.ir_eval.specs.Cast.{pointer_at};
 ghost use Rattle.ir_eval.specs.declared.value.Scalar.TheVariants as scalar;
 ghost use Rattle.ir_memory.specs.Answer.{Keeps};
 ghost use Rattle.ir_memory.specs.declared.leaf.Leaf.TheVariants as leaf;
 ghost use Rattle.ir_memory.specs.Given.{IsAlignment, IsKnown};
 ghost use Rattle.run_entry.specs.Mains.{main_seen};
-ghost use Rattle.run_initial.specs.Fresh.{Puts};
+ghost use Rattle.run_initial.specs.Constants.{bytes_at};
+ghost use Rattle.run_initial.specs.Fresh.{Puts, put};
 ghost use Rattle.run_arguments.specs.Arguments.{MakesBlock, MakesMain, MakesWith, PlacesAll, pointers_at};
 ghost use Rattle.run_rules.specs.declared.end.End.TheVariants as ends;
 ghost use Rattle.run_rules.specs.Opening.{with_main, with_pointers, with_string, with_strings};
+ghost use Rattle.run_values.specs.Answer.{Stores};
 
 use ir_base::{Text, TextList};
 use ir_eval::{Pointer, Scalar};
 use ir_memory::{BlockKind, Leaf, Memory, MemoryFault};
 use run_calls::DueCall;
 use run_entry::MainFunction;
-use run_initial::{Target, put_bytes, put_leaf};
+use run_initial::{Target, put_bytes, put_leaf, wanting_memory};
 use std::alloc::{AllocError, Global};
 
 /// The address 0, which has no block.
@@ -36,8 +38,20 @@ fn add_block(memory: &mut Memory, size: u64, align: u32) -> Result<Option<Pointe
         Ok(block) => Ok(Some(block)),
         Err(MemoryFault::MemoryLimit) => Ok(None),
         Err(MemoryFault::Memory) => Err(AllocError),
-        Err(MemoryFault::Undefined(_)) => Err(AllocError),
+        // A block that is added is never undefined.
+        Err(MemoryFault::Undefined(_)) => unreachable!(),
     }
+}
+
+/// Puts bytes into a block from its start on, where no store of them is undefined: only memory may be wanting.
+fn fill_string(memory: &mut Memory, block: Pointer, bytes: &[u8]) -> Result<(), AllocError>
+    requires ends { length bytes.now ≤ 2 ^ 40 }
+    requires block { IsKnown memory.old.list block }
+    requires well { IsOk (put block (bytes_at 0 bytes.now) memory.old) }
+    ensures put { OnOk result (Puts block (bytes_at 0 bytes.now) memory.old memory.new) }
+    ensures kept { Keeps memory.old memory.new }
+{
+    wanting_memory(put_bytes(memory, Target { block, offset: 0 }, bytes))
 }
 
 /// A block with a string in it, followed by a zero byte, which fresh memory has; None where too many bytes would live.
@@ -51,7 +65,8 @@ fn place_string(memory: &mut Memory, bytes: &[u8]) -> Result<Option<Pointer>, Al
     let Some(block) = add_block(memory, size, 1)? else {
         return Ok(None);
     };
-    put_bytes(memory, Target { block, offset: 0 }, bytes)?;
+    // The block is fresh and long enough.
+    fill_string(memory, block, bytes)?;
     Ok(Some(block))
 }
 
@@ -82,11 +97,11 @@ fn put_pointer(
     block: Pointer,
     place: usize,
     pointer: Pointer,
-) -> Result<(), AllocError>
+) -> Result<(), MemoryFault>
     requires within { place ≤ 2 ^ 28 }
     requires block { IsKnown memory.old.list block }
     requires pointer { IsKnown memory.old.list pointer }
-    ensures put { OnOk result (Puts block ((record { offset = place * 8; leaf = leaf.Ptr }, scalar.Ptr pointer) ∷ []) memory.old memory.new) }
+    ensures put { Stores (put block ((record { offset = place * 8; leaf = leaf.Ptr }, scalar.Ptr pointer) ∷ []) memory.old) memory.new result }
     ensures kept { Keeps memory.old memory.new }
 {
     let target = Target {
@@ -97,11 +112,15 @@ fn put_pointer(
 }
 
 /// Stores pointers one behind the other from the start of a block on, and a null behind them.
-fn put_pointers(memory: &mut Memory, block: Pointer, pointers: &[Pointer]) -> Result<(), AllocError>
+fn put_pointers(
+    memory: &mut Memory,
+    block: Pointer,
+    pointers: &[Pointer],
+) -> Result<(), MemoryFault>
     requires few { length pointers.now ≤ 2 ^ 28 }
     requires block { IsKnown memory.old.list block }
     requires known { All (IsKnown memory.old.list) pointers.now }
-    ensures put { OnOk result (Puts block (pointers_at 0 (pointers.now ++ pointer_at 0 ∷ [])) memory.old memory.new) }
+    ensures put { Stores (put block (pointers_at 0 (pointers.now ++ pointer_at 0 ∷ [])) memory.old) memory.new result }
     ensures kept { Keeps memory.old memory.new }
 {
     'pointers: for place in 0..pointers.len() {
@@ -110,8 +129,21 @@ fn put_pointers(memory: &mut Memory, block: Pointer, pointers: &[Pointer]) -> Re
     put_pointer(memory, block, pointers.len(), NULL)
 }
 
+/// Stores pointers so, where no store of them is undefined: only memory may be wanting.
+fn fill_row(memory: &mut Memory, block: Pointer, pointers: &[Pointer]) -> Result<(), AllocError>
+    requires few { length pointers.now ≤ 2 ^ 28 }
+    requires block { IsKnown memory.old.list block }
+    requires known { All (IsKnown memory.old.list) pointers.now }
+    requires well { IsOk (put block (pointers_at 0 (pointers.now ++ pointer_at 0 ∷ [])) memory.old) }
+    ensures put { OnOk result (Puts block (pointers_at 0 (pointers.now ++ pointer_at 0 ∷ [])) memory.old memory.new) }
+    ensures kept { Keeps memory.old memory.new }
+{
+    wanting_memory(put_pointers(memory, block, pointers))
+}
+
 /// A block with pointers in it, followed by a null; None where too many bytes would live.
 fn place_pointers(memory: &mut Memory, pointers: &[Pointer]) -> Result<Option<Pointer>, AllocError>
+    requires unsealed { memory.old.sealed ≡ false }
     requires next { memory.old.next ≤ 2 ^ 61 }
     requires few { length pointers.now ≤ 2 ^ 28 }
     requires known { All (IsKnown memory.old.list) pointers.now }
@@ -121,7 +153,8 @@ fn place_pointers(memory: &mut Memory, pointers: &[Pointer]) -> Result<Option<Po
     let Some(block) = add_block(memory, size, 8)? else {
         return Ok(None);
     };
-    put_pointers(memory, block, pointers)?;
+    // The block is fresh and long enough.
+    fill_row(memory, block, pointers)?;
     Ok(Some(block))
 }
 

@@ -1,7 +1,6 @@
 //! The cases of `switch` in the pools of a body (LangRef, "switch Instruction").
 ghost use Rattle.std.specs.Prelude.{◌≡◌, All, IfOk, OnOk, map};
 ghost use Rattle.run_actions.specs.Edges.{case_way};
-ghost use Rattle.run_rules.specs.Displace.{number_of};
 ghost use Rattle.run_scopes.specs.Scopes.{HasBlock};
 ghost use Rattle.run_scopes.specs.Ways.{AllPhisSuit};
 ghost use Rattle.run_flat.specs.Flat.{HasItsMoves};
@@ -9,24 +8,13 @@ ghost use Rattle.run_flat.specs.Grown.{Adds, AreCases};
 ghost use Rattle.run_arms.specs.Endings.{AreMeant, case_from};
 ghost use Rattle.run_arms.specs.Suits.{HasCase};
 
-use ir_eval::Scalar;
 use module_arena::{BlockId, Case};
 use run_actions as actions;
-use run_constants::leaf_of;
+use run_constants::{leaf_of, number_of};
 use run_flat::{Pools, Span};
 use run_operands::put_way;
 use run_scopes::Scope;
 use std::alloc::AllocError;
-
-/// The number of a leaf that is an integer, and 0 of another.
-fn number_of(leaf: Scalar) -> u128
-    ensures { result ≡ number_of leaf }
-{
-    match leaf {
-        Scalar::Int(number) => number,
-        Scalar::Ptr(_) | Scalar::Poison => 0,
-    }
-}
 
 /// A case of a `switch` that ends a block: its number, and its way, with the moves among the moves.
 fn put_case(
@@ -68,7 +56,8 @@ fn cases_of(
     Ok(done)
 }
 
-/// Puts the cases of a `switch` that ends a block among the cases, in order. It is refused for want of memory alone.
+/// Puts the cases of a `switch` that ends a block among the cases, in order. It is refused for want of memory alone; then pools may have
+/// grown.
 pub fn put_cases(
     scope: &Scope<'_, '_>,
     pools: &mut Pools,

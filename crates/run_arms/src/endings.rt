@@ -95,7 +95,8 @@ fn put_switch(
     })
 }
 
-/// The action of the end of a block, with what it points to in the pools. It is refused for want of memory alone.
+/// The action of the end of a block, with what it points to in the pools. It is refused for want of memory alone; then pools may have
+/// grown.
 pub fn put_ending(
     scope: &Scope<'_, '_>,
     pools: &mut Pools,

@@ -33,7 +33,7 @@ fn arms_of(alloc: Global, first: &[Origin], second: &[Origin]) -> Result<Vec<Arm
 }
 
 /// Puts the leaves of both operands of a `select` among the arms, a leaf of one beside that of the other. It is refused for want of memory
-/// alone.
+/// alone; then pools may have grown.
 pub fn put_arms(
     scope: &Scope<'_, '_>,
     pools: &mut Pools,
@@ -78,7 +78,7 @@ fn parts_of(alloc: Global, slots: &[Slot], leaves: &[Origin]) -> Result<Vec<Part
 }
 
 /// Puts the leaves of the operand of a `freeze` among the parts, beside each whether it is a pointer. It is refused for want of memory
-/// alone.
+/// alone; then pools may have grown.
 pub fn put_parts(
     scope: &Scope<'_, '_>,
     pools: &mut Pools,

@@ -1,4 +1,4 @@
--- For `call_address`, `return_value` and `call_due`: what their answers mean in the words of a run.
+-- For `call_address`, `return_value`, `call_due` and `Stop::end`: what their answers mean in the words of a run.
 use Rattle.std.specs.Prelude.{◌≡◌, ℕ, true, false, Bool, List, [], ◌∷◌}
 use Rattle.ir_eval.specs.declared.value.Pointer.{Pointer}
 use Rattle.ir_eval.specs.declared.value.Scalar.{Scalar}
@@ -19,7 +19,6 @@ use Rattle.run_calls.specs.declared.next.Stop.TheVariants as stops
 abbrev pub end_of : Stop → End
 end_of (stops.Exit status) = ends.Exit status
 end_of (stops.Undefined kind) = ends.Undefined kind
-end_of stops.StepsUsed = ends.StepsUsed
 end_of stops.StackLimit = ends.StackLimit
 end_of stops.MemoryLimit = ends.MemoryLimit
 

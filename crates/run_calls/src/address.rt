@@ -103,7 +103,8 @@ fn call_row(
 /// A call of a pointer, whose address alone counts, by the newest frame, which stands behind the call already (LangRef, "call
 /// Instruction"). What is written is put into `written`, in which nothing is.
 ///
-/// It is refused for want of memory alone.
+/// It is refused for want of memory alone. Where it is refused, or the run stops, frames and memory may be half changed: no instruction
+/// may follow.
 pub fn call_address(
     program: &mut Program<'_>,
     stack: &mut Stack,

@@ -87,6 +87,7 @@ pub fn return_value(
     ensures ready { OnOk result ((p : Loaded) → StaysReady p stack.old p stack.new) }
     ensures kept { Keeps memory.old memory.new }
     ensures wide { OnErr result (is_wide value.now ≡ true) }
+    ensures err { OnErr result ((stack.new ≡ stack.old) × (memory.new ≡ memory.old)) }
 {
     if value.is_empty() {
         return Ok(leave_with(stack, memory, &[], is_last));

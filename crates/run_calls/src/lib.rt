@@ -2,8 +2,8 @@
 //!
 //! It stands on the functions of `run_program`, the frames of `run_stack`, the calls of host functions of `host_calls`, and `run_types`.
 //! It promises that each call answers as the definitions of calls say, whatever is due: the frames, memory and the bytes that are
-//! written included. Want of memory leaves frames from which no run goes on. Definitions: `specs/Said`, `specs/Made`, `specs/Dues`;
-//! `Calls` and `Due` of `run_rules`.
+//! written included. Want of memory in `call_address` leaves frames from which no run goes on; in `call_due` and `return_value` they are
+//! as they were. Definitions: `specs/Said`, `specs/Made`, `specs/Dues`; `Calls` and `Due` of `run_rules`.
 #![tactic(auto)]
 
 mod address;

@@ -5,15 +5,13 @@ ghost use Rattle.run_calls.specs.Said.{end_of};
 use ir_tables::UndefinedKind;
 use run_rules::End;
 
-/// How a run ends that has begun. `End` has the other ends, too, those of opening.
+/// How a call or an instruction ends a run. `End` has the other ends, too: those of opening, and that all steps are made.
 #[derive(Clone, Copy)]
 pub enum Stop {
     /// The program ended with this status.
     Exit(u8),
     /// What it did is undefined.
     Undefined(UndefinedKind),
-    /// The steps are used up.
-    StepsUsed,
     /// The frames would weigh more than they may.
     StackLimit,
     /// The live blocks would have more bytes than they may.
@@ -28,7 +26,6 @@ impl Stop {
         match self {
             Stop::Exit(status) => End::Exit(status),
             Stop::Undefined(kind) => End::Undefined(kind),
-            Stop::StepsUsed => End::StepsUsed,
             Stop::StackLimit => End::StackLimit,
             Stop::MemoryLimit => End::MemoryLimit,
         }

@@ -14,14 +14,14 @@ use run_shapes::{Form, form_of};
 use type_table::{TypeId, TypeTable};
 
 /// The types of the module.
-pub(crate) fn types_of<'n>(names: &'n Names<'_>) -> &'n TypeTable
+pub fn types_of<'n>(names: &'n Names<'_>) -> &'n TypeTable
     ensures { result.now ≡ names.now.table }
 {
     names.program().arena().types()
 }
 
 /// The constant with that id.
-pub(crate) fn constant<'n>(names: &'n Names<'_>, id: ConstId) -> &'n Const
+pub fn constant_at<'n>(names: &'n Names<'_>, id: ConstId) -> &'n Const
     requires { id < length names.now.constants }
     ensures here { constant_of names.now id ≡ constant_in names.now result.now }
     ensures known { KnowsConst (length names.now.table.types) (counts names.now) id result.now }
@@ -33,7 +33,7 @@ pub(crate) fn constant<'n>(names: &'n Names<'_>, id: ConstId) -> &'n Const
 }
 
 /// What leaf a type of integers or pointers has.
-pub(crate) fn kind_of(names: &Names<'_>, ty: TypeId) -> Leaf
+pub fn kind_of(names: &Names<'_>, ty: TypeId) -> Leaf
     requires known { ty < length names.now.table.types }
     requires scalar { is_scalar (tree names.now.table ty) ≡ true }
     ensures tree { tree names.now.table ty ≡ leaf_tree result }

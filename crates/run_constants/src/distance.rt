@@ -49,11 +49,11 @@ pub(crate) fn before_all(types: &TypeTable, ty: TypeId) -> Reached
     }
 }
 
-/// The number of an index that is an integer, and 0 of another.
-fn number_of(index: Scalar) -> u128
-    ensures { result ≡ rules.number_of index }
+/// The number of a leaf that is an integer, and 0 of another.
+pub fn number_of(leaf: Scalar) -> u128
+    ensures { result ≡ rules.number_of leaf }
 {
-    match index {
+    match leaf {
         Scalar::Int(number) => number,
         Scalar::Ptr(_) | Scalar::Poison => 0,
     }

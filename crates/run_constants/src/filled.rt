@@ -12,7 +12,7 @@ use type_table::{TypeId, TypeTable};
 
 /// What stands in each leaf of a value.
 #[derive(Clone, Copy)]
-pub(crate) enum Fill {
+pub enum Fill {
     /// The number 0, or null.
     Zero,
     Poison,
@@ -32,7 +32,7 @@ pub(crate) fn zero(kind: Leaf) -> Scalar
 }
 
 /// What stands in a leaf.
-fn leaf_in(fill: Fill, kind: Leaf) -> Scalar
+pub fn leaf_in(fill: Fill, kind: Leaf) -> Scalar
     ensures { result ≡ leaf_in fill kind }
 {
     match fill {

@@ -19,7 +19,7 @@ ghost use Rattle.run_constants.specs.Places.{IsPlace, index_of, shape_at, term_r
 ghost use Rattle.run_shapes.specs.Shapes.{shape_in};
 ghost use Rattle.run_constants.specs.Sound.{HasType, IsOfKind, IsPart, IsSound, constant_of, constants_with_types, is_scalar, leaf_tree, names_of};
 
-use crate::arena::{constant, kind_of, types_of, width_of};
+use crate::arena::{constant_at, kind_of, types_of, width_of};
 use crate::distance::{Reached, before_all, moved, reached_by};
 use crate::filled::zero;
 use ir_eval::{Scalar, binary, cast};
@@ -141,7 +141,7 @@ fn leaf_at(names: &Names<'_>, kind: Leaf, id: ConstId) -> Scalar
     ensures value { result ≡ rules.one_leaf (rules.constant_value (names_of names.now) (leaf_tree kind) (constant_of names.now id)) }
     ensures kind { IsOfKind kind result }
 {
-    let known = constant(names, id);
+    let known = constant_at(names, id);
     match known {
         Const::Integer(number) => Scalar::Int(*number),
         Const::Truth(truth) => bit(*truth),

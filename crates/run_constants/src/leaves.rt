@@ -6,7 +6,7 @@ ghost use Rattle.type_table.specs.Types.{tree};
 ghost use Rattle.run_rules.specs.Constant.{constant_value, constant_values};
 ghost use Rattle.run_constants.specs.Sound.{IsPart, IsSound, constant_of, constants_with_types, is_single, names_of};
 
-use crate::arena::{constant, types_of};
+use crate::arena::{constant_at, types_of};
 use crate::filled::{Fill, push_filled, push_leaf};
 use crate::leaf::leaf_of;
 use ir_eval::Scalar;
@@ -78,7 +78,7 @@ pub fn push_leaves(
     requires sound { IsSound (module_of names.now) (tree names.now.table ty) (constant_of names.now id) }
     ensures { OnOk result (into.new.items ≡ into.old.items ++ constant_value (names_of names.now) (tree names.now.table ty) (constant_of names.now id)) }
 {
-    let known = constant(names, id);
+    let known = constant_at(names, id);
     match known {
         Const::Undef => push_filled(types_of(names), Fill::Zero, ty, into),
         Const::ZeroInitializer => push_filled(types_of(names), Fill::Zero, ty, into),

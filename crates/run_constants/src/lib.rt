@@ -13,6 +13,9 @@ mod law;
 mod leaf;
 mod leaves;
 
+pub use arena::{constant_at, kind_of, types_of};
+pub use distance::number_of;
+pub use filled::{Fill, leaf_in};
 pub use law::constants_of_a_checked_module_can_stand;
 pub use leaf::{leaf_of, pointer_leaf};
 pub use leaves::push_leaves;

@@ -1,10 +1,14 @@
 -- What is known of a defined variable of a sound arena, and of an arena's constants.
-use Rattle.std.proofs.Common.{◌≡◌, ℕ, ◌+◌, ◌^◌, ◌<◌, ◌≤◌, All, List, length, option_to_list, Bool, true, false, Option, Some, None, is_some, refl, sym, ap, ◌∙◌, subst, arith}
-use Rattle.std.specs.Prelude.{slice_get, Result, Ok, Err, IfOk}
+use Rattle.std.proofs.Common.{◌≡◌, ℕ, ◌+◌, ◌^◌, ◌<◌, ◌≤◌, All, List, [], length, option_to_list, Bool, true, false, not, ◌&&◌, Option, Some, None, is_some, refl, sym, ap, ◌∙◌, subst, arith}
+use Rattle.std.specs.Prelude.{slice_get, Result, Ok, Err, IfOk, IsOk, if◌then◌else◌}
 use Rattle.std.specs.Option.{option_map_or}
-use Rattle.std.proofs.lemmas.Bool.{and_parts}
-use Rattle.std.proofs.lemmas.Option.{slice_get_within}
+use Rattle.std.proofs.lemmas.Bool.{and_parts, false≢true}
+use Rattle.std.proofs.lemmas.Option.{same_Some, slice_get_within}
+use Rattle.ir_eval.specs.declared.value.Pointer.{Pointer}
+use Rattle.ir_memory.specs.declared.kind.BlockKind.TheVariants as kind
+use Rattle.ir_memory.specs.Block.{new_block}
 use Rattle.ir_memory.specs.Memory.{Blocks, no_blocks}
+use Rattle.linkage_rules.specs.Linkages.{is_appending}
 use Rattle.type_table.specs.Limits.{Fits, IsWithin}
 use Rattle.type_table.specs.Layout.{size}
 use Rattle.type_table.specs.Types.{Types, structs, tree}
@@ -19,17 +23,45 @@ use Rattle.module_arena.specs.Valid.{IsValid}
 use Rattle.module_arena.specs.View.{module_of}
 use Rattle.module_arena.specs.WellFormed.{IsWellFormed}
 use Rattle.module_arena.proofs.ConstantsTold.{constant_here}
-use Rattle.run_constants.specs.Sound.{IsPart, constant_of}
+use Rattle.run_constants.specs.Sound.{IsPart, constant_of, names_of}
 use Rattle.run_names.proofs.Bounded as bounded
 use Rattle.run_names.proofs.Listed.{all_get}
-use Rattle.run_names.specs.Spots.{defines, is_defined}
+use Rattle.run_names.specs.Spots.{defines, is_defined, size_of}
 use Rattle.run_rules.specs.Opening.{with_variables}
 use Rattle.run_rules.specs.Plan as plans
+use Rattle.run_rules.specs.Plan.{Contents}
 use Rattle.run_shapes.specs.Shapes.{shape_in}
 use Rattle.run_shapes.proofs.Outlines.{laid_is, shape_fits}
-use Rattle.run_contents.specs.Held.{is_list}
-use Rattle.run_contents.specs.Placed.{ArePlaced, Fills}
-use Rattle.run_contents.proofs.Holdings.{sound}
+use Rattle.run_initial.specs.Constants.{value_at}
+use Rattle.run_initial.specs.Fresh.{put}
+use Rattle.run_initial.proofs.Fresh.{IsFresh, all_put}
+use Rattle.run_initial.proofs.Sounds.{blocks}
+use Rattle.run_contents.specs.Held.{held, held_by, is_list}
+use Rattle.run_contents.specs.Placed.{ArePlaced, Fills, IsNewBlock}
+use Rattle.run_contents.proofs.Holdings.{held_order, held_stored, sound}
+
+-- a block that is as it was made is fresh
+new_fresh : (m : Blocks) (p : Pointer) (size : ℕ) → (b : IsNewBlock m p size) → IsFresh m p b.index [] size
+new_fresh m p size b = record {
+  block = new_block p.address size (kind.Variable b.constant);
+  of_block = b.of_block;
+  address = refl;
+  there = b.there;
+  live = refl;
+  long = omega arith;
+  near = b.near;
+  cells = refl;
+  unsealed = b.unsealed;
+}
+
+-- a list is put whatever the linkage, and anything where it is not appending
+pub of_list : (appending list : Bool) → list ≡ true → (appending && not list) ≡ false
+of_list true list e = ap not e
+of_list false list e = refl
+
+pub of_others : (appending list : Bool) → appending ≡ false → (appending && not list) ≡ false
+of_others true list e = absurd (false≢true (sym e))
+of_others false list e = refl
 
 -- ---- a constant of a form
 
@@ -80,6 +112,23 @@ module _ (a b : Lists) (same : b ≡ a) (good : IsGood b) (well_formed : IsWellF
       let fits : Fits (shape_in a.table v.ty) = subst (λ (x : Types). Fits (shape_in x v.ty)) e (shape_fits t typed within v.ty lt) in
       let most = fits.size_fits (laid_is a.table v.ty laid) in
       omega (arith, most)
+
+  -- what is stored is what the variable holds, and every store of it goes well
+  module _ (plain : (is_appending v.linkage && not (is_list (constant_of a id))) ≡ false) where
+    its_value : value_at (names_of a) (tree a.table v.ty) (constant_of a id) 0 ≡ held a v
+    its_value =
+        sym (ap (λ (b : Bool). if b then [] else value_at (names_of a) (tree a.table v.ty) (constant_of a id) 0) plain)
+        ∙ sym (ap (λ (o : Option ℕ). option_map_or (held_by a v) o []) has)
+
+    pub value_held : (w : Variable) → slice_get a.variables number ≡ Some w → value_at (names_of a) (tree a.table v.ty) (constant_of a id) 0 ≡ held a w
+    value_held w its = its_value ∙ ap (held a) (same_Some v w (sym at ∙ its))
+
+    pub goes_well : (m : Blocks) (p : Pointer) → ((w : Variable) → slice_get a.variables number ≡ Some w → IsNewBlock m p (size_of a w)) → IsOk (put p (value_at (names_of a) (tree a.table v.ty) (constant_of a id) 0) m)
+    goes_well m p new =
+        let block = new v at in
+        subst (λ (xs : Contents). IsOk (put p xs m)) (sym its_value)
+        (all_put (held a v) m p block.index [] (size_of a v) (size_of a v) (blocks a) (omega arith) (new_fresh m p (size_of a v) block)
+        (held_order a well_formed valid number v at is id has) (held_stored a well_formed valid number v at is id has))
 
 -- ---- blocks that were made
 

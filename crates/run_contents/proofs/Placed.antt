@@ -1,9 +1,11 @@
 -- The blocks of variables lie where look-up has them.
-use Rattle.std.proofs.Common.{◌≡◌, ℕ, ◌+◌, ◌≤◌, List, [], ◌∷◌, ◌++◌, map, filter, Some, Ok, true, refl, sym, ap, ◌∙◌, subst, arith, unwrap_or}
+use Rattle.std.proofs.Common.{◌≡◌, ℕ, ◌+◌, ◌≤◌, List, [], ◌∷◌, ◌++◌, length, map, filter, Some, Ok, true, false, refl, sym, ap, ◌∙◌, subst, arith, unwrap_or}
 use Rattle.std.specs.Prelude.{slice_get}
 use Rattle.std.specs.Int.{next_multiple_of}
 use Rattle.std.specs.List.{AllByRecursion}
 use Rattle.std.proofs.lemmas.List.{length-map}
+use Rattle.ir_memory.specs.declared.kind.BlockKind.TheVariants as kind
+use Rattle.ir_memory.specs.Block.{new_block}
 use Rattle.ir_memory.specs.Memory.{Blocks, no_blocks}
 use Rattle.linkage_rules.specs.Bind as bind
 use Rattle.linkage_rules.specs.declared.symbol.Symbol.{Symbol}
@@ -23,12 +25,34 @@ use Rattle.run_names.proofs.Roomed.{row_of, rooms_are}
 use Rattle.run_names.proofs.Listed.{all_from_places, mapped_at}
 use Rattle.run_names.proofs.Put.{Row, all_kept_have, found_starts, same_maps}
 use Rattle.run_names.specs.declared.spot.Spot.{Spot}
-use Rattle.run_names.specs.Spots.{is_defined, needs}
+use Rattle.run_names.specs.Spots.{AreSpots, is_defined, needs}
 use Rattle.run_rules.specs.Opening.{with_variables}
 use Rattle.run_rules.specs.Plan as plans
-use Rattle.run_contents.specs.Placed.{ArePlaced}
+use Rattle.run_names.specs.Told.{alone}
+use Rattle.run_contents.specs.Placed.{ArePlaced, IsNewBlock}
 use Rattle.run_contents.proofs.Made.{rounded_same, starts_from, variables_made}
 use Rattle.run_contents.proofs.Rooms.{rooms_unlike}
+
+-- each variable has a block; from the k-th on it is as it was made, where the variable lies, and nothing is sealed
+pub record ArePlacedFrom (a : Lists) (k : ℕ) (m : Blocks) : Type 0 where
+  pub unsealed : m.sealed ≡ false
+  pub many : length (rooms (alone (module_of a))) ≤ length m.list
+  pub fresh : (spots : List Spot) → AreSpots a spots → (j : ℕ) (s : Spot) → k ≤ j → slice_get spots j ≡ Some s → slice_get m.list j ≡ Some (new_block s.start s.size (kind.Variable s.constant))
+
+-- from the first on
+pub placed_from_start : (a : Lists) (m : Blocks) → ArePlaced a m → ArePlacedFrom a 0 m
+placed_from_start a m placed = record { unsealed = placed.unsealed; many = placed.many; fresh = λ spots are j s le at. placed.fresh spots are j s at }
+
+-- a variable's block is new
+pub new_there : (a : Lists) (k : ℕ) (m : Blocks) (spots : List Spot) → AreSpots a spots → (s : Spot) → slice_get spots k ≡ Some s → ArePlacedFrom a k m → (size : ℕ) → s.size ≡ size → IsNewBlock m (record { block = Some k; address = s.start }) size
+new_there a k m spots are s at placed size same = record {
+  index = k;
+  constant = s.constant;
+  of_block = refl;
+  there = placed.fresh spots are k s (omega arith) at ∙ ap (λ (n : ℕ). Some (new_block s.start n (kind.Variable s.constant))) same;
+  near = let ends = are.within k s at in omega (arith, ends, same);
+  unsealed = placed.unsealed;
+}
 
 -- rows of which each alignment is some
 same_starts : (parts : List Module) (next : ℕ) (rows : List Row) → AllByRecursion (λ (r : Row). 1 ≤ r.1.alignment) rows
@@ -81,7 +105,7 @@ module _ (a : Lists) (well_formed : IsWellFormed (module_of a)) (valid : IsValid
       record {
         unsealed = made.sealed;
         many = omega (arith, long, many);
-        fresh = λ spots are j s le at.
+        fresh = λ spots are j s at.
             let here : 0 + j ≡ j = omega arith in
             let v = ap (λ l. slice_get l j) (sym are.variables) ∙ mapped_at needs spots j s at in
             let start = ap (λ l. slice_get l j) (same_starts parts 65536 (rooms parts) some ∙ sym row_starts ∙ sym are.starts) ∙ mapped_at (λ (x : Spot). x.start) spots j s at in

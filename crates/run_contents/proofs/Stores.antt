@@ -26,9 +26,9 @@ use Rattle.run_initial.proofs.Fresh.{IsFresh, same_stored}
 use Rattle.run_initial.specs.Fresh.{Puts, to_store}
 use Rattle.run_initial.proofs.Sounds as sounds
 use Rattle.run_contents.specs.Held.{held}
-use Rattle.run_contents.specs.Placed.{ArePlacedFrom}
 use Rattle.run_contents.proofs.Holdings.{held_is, held_order, held_stored}
 use Rattle.run_contents.proofs.Others.{KeepsOthers, stored_others}
+use Rattle.run_contents.proofs.Placed.{ArePlacedFrom}
 use Rattle.run_contents.proofs.Rooms.{IsOf, pointer_is, row, row_at, row_symbol, size_is}
 
 module _ (a : Lists) (well_formed : IsWellFormed (module_of a)) (valid : IsValid (module_of a)) (spots : List Spot) (are : AreSpots a spots) (k : ℕ) (s : Spot) (there : slice_get spots k ≡ Some s) (v : Variable) (of : IsOf a well_formed valid s v)

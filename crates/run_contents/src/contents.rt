@@ -8,9 +8,9 @@ ghost use Rattle.module_arena.specs.declared.entry.Variable.{Variable};
 ghost use Rattle.module_arena.specs.View.{module_of};
 ghost use Rattle.run_constants.specs.Sound.{constant_of};
 ghost use Rattle.run_contents.specs.Held.{held, is_list};
-ghost use Rattle.run_contents.specs.Placed.{ArePlaced};
+ghost use Rattle.run_contents.specs.Placed.{ArePlaced, IsNewBlock};
 ghost use Rattle.run_initial.specs.Fresh.{Puts};
-ghost use Rattle.run_names.specs.Spots.{defines};
+ghost use Rattle.run_names.specs.Spots.{defines, size_of};
 ghost use Rattle.run_names.specs.Told.{alone};
 ghost use Rattle.run_rules.specs.Opening.{with_contents};
 ghost use Rattle.run_rules.specs.Plan.{plan};
@@ -19,7 +19,7 @@ use ir_eval::Pointer;
 use ir_memory::Memory;
 use ir_tables::Linkage;
 use module_arena::{Const, ConstId, TypedConst, VariableId};
-use run_initial::{Target, put_constant};
+use run_initial::{Target, put_constant, wanting_memory};
 use run_names::Names;
 use std::alloc::AllocError;
 
@@ -65,6 +65,7 @@ fn put_variable(
     requires defined { defines names.now id ≡ true }
     requires block { IsKnown memory.old.list block }
     requires variables { length (rooms (alone (module_of names.now))) ≤ length memory.old.list }
+    requires fresh { (v : Variable) → slice_get names.now.variables id ≡ Some v → IsNewBlock memory.old block (size_of names.now v) }
     ensures put { OnOk result ((v : Variable) → slice_get names.now.variables id ≡ Some v → Puts block (held names.now v) memory.old memory.new) }
     ensures kept { Keeps memory.old memory.new }
 {
@@ -87,13 +88,15 @@ fn put_variable(
         ty: variable.ty,
         value,
     };
-    put_constant(names, memory, target, constant)
+    // The block is fresh and long enough, so that no store is undefined.
+    wanting_memory(put_constant(names, memory, target, constant))
 }
 
-/// Puts what each variable holds at first into its block, in order. It is refused for want of memory alone.
+/// Puts what each variable holds at first into its block, in order. It is refused for want of memory alone; then a part may be there.
 pub fn put_contents(names: &Names<'_>, memory: &mut Memory) -> Result<(), AllocError>
     requires { ArePlaced names.now memory.old }
-    ensures { OnOk result (memory.new ≡ with_contents (plan (alone (module_of names.now))).stores memory.old) }
+    ensures stored { OnOk result (memory.new ≡ with_contents (plan (alone (module_of names.now))).stores memory.old) }
+    ensures kept { Keeps memory.old memory.new }
 {
     let program = names.program();
     // A checked module is valid.

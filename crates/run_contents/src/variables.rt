@@ -26,7 +26,7 @@ fn add_variable(memory: &mut Memory, spot: Spot) -> Result<bool, AllocError>
         Ok(_) => Ok(true),
         Err(MemoryFault::MemoryLimit) => Ok(false),
         Err(MemoryFault::Memory) => Err(AllocError),
-        Err(MemoryFault::Undefined(_)) => Err(AllocError),
+        Err(MemoryFault::Undefined(_)) => unreachable!(),
     }
 }
 
@@ -47,7 +47,7 @@ fn add_variables(memory: &mut Memory, spots: &[Spot]) -> Result<bool, AllocError
 }
 
 /// Gives the variables of a module their blocks, in order; false exactly where too many bytes would live. It is refused for want of
-/// memory alone.
+/// memory alone. Where it is refused or false, some blocks may be there.
 pub fn place_variables(memory: &mut Memory, names: &Names<'_>) -> Result<bool, AllocError>
     requires { memory.old ≡ no_blocks }
     ensures placed { IfOk result (λ all. Fills all (with_variables (plan (alone (module_of names.now))).variables no_blocks) memory.new) }

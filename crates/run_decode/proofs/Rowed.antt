@@ -11,6 +11,7 @@ use Rattle.std.proofs.lemmas.Slice.Zip.{all_zipped_more}
 use Rattle.module_arena.specs.declared.entry.Block as the_block
 use Rattle.module_arena.specs.declared.entry.Function as the_function
 use Rattle.module_arena.specs.declared.instruction.Inst.{Inst}
+use Rattle.module_arena.specs.Known.{IsGood}
 use Rattle.module_arena.specs.Lists.{Lists, function_blocks}
 use Rattle.module_arena.specs.Module as m
 use Rattle.module_arena.specs.Valid.{IsValid}
@@ -37,6 +38,7 @@ use Rattle.run_scopes.specs.Scopes.{Framed, block_of, instruction_of, label_of, 
 use Rattle.run_scopes.proofs.Viewed.{blocks_all}
 use Rattle.run_arms.specs.Endings.{ending_from}
 use Rattle.run_arms.specs.Suits.{AllSuit, BlockSuits}
+use Rattle.run_suits.specs.Laws.{FunctionsSuit}
 use Rattle.run_decode.specs.Operations.{action_from}
 use Rattle.run_decode.specs.Rows.{AddsActions, AreRows, IsRow, actions_in}
 use Rattle.run_decode.proofs.Meant.{mapped_twice}
@@ -212,3 +214,9 @@ code_there a n f g at at' code = subst (λ (x : the_function.Function). has_code
 
 pub suits_there : (s : Framed) (a : Lists) (n : ℕ) → s.lists ≡ a → slice_get a.functions n ≡ Some s.function → ((f : the_function.Function) (places : List ℕ) → slice_get a.functions n ≡ Some f → AllSuit (record { lists = a; function = f; places = places })) → AllSuit s
 suits_there s a n same at h = subst (λ (x : Lists). AllSuit (record { lists = x; function = s.function; places = s.places })) (sym same) (h s.function s.places at)
+
+-- a function of a checked module suits
+pub function_suits : (a b p : Lists) (n : ℕ) (f : the_function.Function) (places : List ℕ) → b ≡ a → p ≡ a → FunctionsSuit → IsGood b → IsWellFormed (module_of p) → IsValid (module_of p) → slice_get a.functions n ≡ Some f
+    → AllSuit (record { lists = a; function = f; places = places })
+function_suits a b p n f places same same' law good well_formed valid at =
+    law a (subst IsGood same good) (subst (λ (x : Lists). IsWellFormed (module_of x)) same' well_formed) (subst (λ (x : Lists). IsValid (module_of x)) same' valid) n f at places

@@ -1,7 +1,6 @@
 //! The bodies of functions as actions.
-ghost use Rattle.std.specs.Prelude.{◌≡◌, ℕ, All, IfOk, List, OnOk, Some, map, slice_get};
+ghost use Rattle.std.specs.Prelude.{◌≡◌, ℕ, All, IfOk, OnOk, Some, map, slice_get};
 ghost use Rattle.module_arena.specs.declared.entry.Block as the_block;
-ghost use Rattle.module_arena.specs.declared.entry.Function as the_function;
 ghost use Rattle.module_arena.specs.Lists.{function_blocks};
 ghost use Rattle.module_arena.specs.View.{module_of};
 ghost use Rattle.run_names.specs.declared.callee.CalleeRef.TheVariants as callees;
@@ -25,6 +24,7 @@ use run_flat::{Action, Pool, Pools, Span, numbered};
 use run_names::Names;
 use run_scopes::Scope;
 use run_signatures::Signatures;
+use run_suits::functions_of_a_checked_module_suit;
 use std::alloc::{AllocError, Global};
 
 /// Puts the actions of instructions behind those that are there, in order.
@@ -118,7 +118,6 @@ pub fn decode<'m>(
 ) -> Result<Body<'m>, AllocError>
     requires code { HasCode names.now (callees.Code id) }
     requires lists { signatures.old.lists ≡ names.now }
-    requires suits { (f : the_function.Function) (places : List ℕ) → slice_get names.now.functions id ≡ Some f → AllSuit (record { lists = names.now; function = f; places = places }) }
     ensures lists { IfOk result (λ body. body.lists ≡ names.now) }
     ensures look { IfOk result (λ body. (block position : ℕ) → look_of body block position ≡ look (alone (module_of names.now)) id block position) }
     ensures narrow { IfOk result (λ body. AreNarrow body.pools body.widest) }
@@ -126,8 +125,10 @@ pub fn decode<'m>(
     ensures numbers { Numbers signatures.old signatures.new }
 {
     let program = names.program();
-    // A checked module is well formed and valid.
-    let _arena = program.arena();
+    // A checked module is well formed and valid, and so each of its functions suits.
+    let arena = program.arena();
+    let _count = arena.variable_count();
+    functions_of_a_checked_module_suit();
     let scope = Scope::new(alloc, names, id)?;
     let mut pools = Pools::new(alloc);
     let mut actions = Pool::new(alloc);

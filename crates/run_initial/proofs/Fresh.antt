@@ -1,6 +1,6 @@
 -- What is stored into a block that is fresh from some place on.
 use Rattle.std.proofs.Common.{◌≡◌, ℕ, zero, suc, ◌+◌, ◌-◌, ◌%◌, ◌^◌, ◌<◌, ◌≤◌, List, [], ◌∷◌, ◌++◌, length, take, drop, map, replicate, Option, Some, None, Result, Ok, Err, Bool, true, false, not, cond, ◌&&◌, nat_eq, nat_le, eqb-true, append_assoc, refl, sym, ap, ◌∙◌, subst, arith}
-use Rattle.std.specs.Prelude.{slice_get, is_none, if◌then◌else◌}
+use Rattle.std.specs.Prelude.{slice_get, is_none, IsOk, if◌then◌else◌}
 use Rattle.std.specs.List.{range_with_len}
 use Rattle.std.proofs.lemmas.Bool.{cond-true, le-leb}
 use Rattle.std.proofs.lemmas.List.{take-replicate, drop-replicate, replicate-append-replicate, length-append, length-replicate}
@@ -22,7 +22,7 @@ use Rattle.run_rules.specs.Access.{and_then, behind, stored_slots}
 use Rattle.run_rules.specs.Plan.{Contents}
 use Rattle.typed_runs.specs.Kinds.{IsOf}
 use Rattle.typed_runs.specs.States.{AreStored}
-use Rattle.run_initial.specs.Fresh.{is_fresh, to_store}
+use Rattle.run_initial.specs.Fresh.{is_fresh, put, to_store}
 use Rattle.run_initial.proofs.Ordered.{AreInOrder, from_earlier}
 
 -- ---- one block of many is changed
@@ -237,12 +237,12 @@ fresh_zero (scalar.Int n) h = ap scalar.Int (eqb-true n 0 h)
 fresh_zero (scalar.Ptr p) h = cc
 fresh_zero scalar.Poison h = cc
 
--- into a block that is fresh from there on it is enough to store what fresh memory does not read as
-pub same_stored : (xs : Contents) (m : Blocks) (p : Pointer) (i : ℕ) (front : List Cell) (rest to count : ℕ) → to ≡ length front + rest → IsFresh m p i front rest → AreInOrder (length front) to xs → AreStored count xs
-    → stored_slots p 1 xs m ≡ stored_slots p 1 (to_store xs) m
-same_stored [] m p i front rest to count whole f order are = refl
-same_stored (x ∷ xs) m p i front rest to count whole f order are =
-    go (is_fresh x.1) refl (λ n l k e g o. same_stored xs n p i l k to count e g o are.1)
+-- into a block that is fresh from there on all is stored, and it is enough to store what fresh memory does not read as
+both_stored : (xs : Contents) (m : Blocks) (p : Pointer) (i : ℕ) (front : List Cell) (rest to count : ℕ) → to ≡ length front + rest → IsFresh m p i front rest → AreInOrder (length front) to xs → AreStored count xs
+    → IsOk (stored_slots p 1 xs m) × (stored_slots p 1 xs m ≡ stored_slots p 1 (to_store xs) m)
+both_stored [] m p i front rest to count whole f order are = (refl, refl)
+both_stored (x ∷ xs) m p i front rest to count whole f order are =
+    go (is_fresh x.1) refl (λ n l k e g o. both_stored xs n p i l k to count e g o are.1)
   where
     cells : List Cell
     cells = spelled x.0.leaf x.1
@@ -270,16 +270,36 @@ same_stored (x ∷ xs) m p i front rest to count whole f order are =
         let now = longer_length m p i front rest f x.0.offset cells low cells_inside in
         subst (λ (n : ℕ). AreInOrder n to xs) (let same : x.0.offset + size x.0.leaf ≡ length (longer m p i front rest f x.0.offset cells low cells_inside) = omega (arith, now, many) in same) order.2
 
+    all : Result Blocks UndefinedKind
+    all = and_then (stored (scalar.Ptr (behind p x.0.offset)) x.0.leaf 1 x.1 m) (λ n. stored_slots p 1 xs n)
+
     go : (b : Bool) → is_fresh x.1 ≡ b
-        → ((n : Blocks) (l : List Cell) (k : ℕ) → to ≡ length l + k → IsFresh n p i l k → AreInOrder (length l) to xs → stored_slots p 1 xs n ≡ stored_slots p 1 (to_store xs) n)
-        → and_then (stored (scalar.Ptr (behind p x.0.offset)) x.0.leaf 1 x.1 m) (λ n. stored_slots p 1 xs n) ≡ stored_slots p 1 (cond (not b) (x ∷ to_store xs) (to_store xs)) m
+        → ((n : Blocks) (l : List Cell) (k : ℕ) → to ≡ length l + k → IsFresh n p i l k → AreInOrder (length l) to xs → IsOk (stored_slots p 1 xs n) × (stored_slots p 1 xs n ≡ stored_slots p 1 (to_store xs) n))
+        → IsOk all × (all ≡ stored_slots p 1 (cond (not b) (x ∷ to_store xs) (to_store xs)) m)
     go true e more =
         let is : cells ≡ zeros (size x.0.leaf) = ap (spelled x.0.leaf) (fresh_zero x.1 e) ∙ bytes_zero 0 (size x.0.leaf) in
         let same : with_cells m i x.0.offset cells ≡ m = zeros_same m p i front rest f x.0.offset cells low cells_inside (size x.0.leaf) is many in
-        ap (λ (r : Result Blocks UndefinedKind). and_then r (λ n. stored_slots p 1 xs n)) (here ∙ ap (λ (n : Blocks). Ok n) same)
-        ∙ more m front rest whole f (from_earlier (length front) (x.0.offset + size x.0.leaf) to xs (omega (arith, low)) order.2)
+        let first : all ≡ stored_slots p 1 xs m = ap (λ (r : Result Blocks UndefinedKind). and_then r (λ n. stored_slots p 1 xs n)) (here ∙ ap (λ (n : Blocks). Ok n) same) in
+        let others = more m front rest whole f (from_earlier (length front) (x.0.offset + size x.0.leaf) to xs (omega (arith, low)) order.2) in
+        (subst (λ (r : Result Blocks UndefinedKind). IsOk r) (sym first) others.0, first ∙ others.1)
     go false e more =
-        ap (λ (r : Result Blocks UndefinedKind). and_then r (λ n. stored_slots p 1 xs n)) here
-        ∙ more (with_cells m i x.0.offset cells) (longer m p i front rest f x.0.offset cells low cells_inside) (left m p i front rest f x.0.offset cells low cells_inside) longest
-        (fresh_still m p i front rest f x.0.offset cells low cells_inside) later
-        ∙ sym (ap (λ (r : Result Blocks UndefinedKind). and_then r (λ n. stored_slots p 1 (to_store xs) n)) here)
+        let first : all ≡ stored_slots p 1 xs (with_cells m i x.0.offset cells) = ap (λ (r : Result Blocks UndefinedKind). and_then r (λ n. stored_slots p 1 xs n)) here in
+        let others =
+        more (with_cells m i x.0.offset cells) (longer m p i front rest f x.0.offset cells low cells_inside) (left m p i front rest f x.0.offset cells low cells_inside) longest
+        (fresh_still m p i front rest f x.0.offset cells low cells_inside) later in (
+          subst (λ (r : Result Blocks UndefinedKind). IsOk r) (sym first) others.0,
+          first ∙ others.1 ∙ sym (ap (λ (r : Result Blocks UndefinedKind). and_then r (λ n. stored_slots p 1 (to_store xs) n)) here),
+        )
+
+module _ (xs : Contents) (m : Blocks) (p : Pointer) (i : ℕ) (front : List Cell) (rest to count : ℕ) (whole : to ≡ length front + rest) (f : IsFresh m p i front rest) (order : AreInOrder (length front) to xs) (are : AreStored count xs) where
+  -- it is enough to store what fresh memory does not read as
+  pub same_stored : stored_slots p 1 xs m ≡ stored_slots p 1 (to_store xs) m
+  same_stored = (both_stored xs m p i front rest to count whole f order are).1
+
+  -- every store goes well
+  pub all_stored : IsOk (stored_slots p 1 xs m)
+  all_stored = (both_stored xs m p i front rest to count whole f order are).0
+
+  -- and so does every store that is needed
+  pub all_put : IsOk (put p xs m)
+  all_put = subst (λ (r : Result Blocks UndefinedKind). IsOk r) same_stored all_stored

@@ -14,8 +14,10 @@ use Rattle.run_rules.specs.Leaves.{Slot, field_slots, repeated, slots_at}
 use Rattle.run_rules.specs.Plan.{Contents}
 use Rattle.run_shapes.specs.Shapes.{shape_in}
 use Rattle.run_slots.proofs.Slotted.{no_slots}
-use Rattle.run_initial.specs.declared.filled.Fill.TheVariants.{Zero, Poison}
-use Rattle.run_initial.specs.Fresh.{HasNothing, filled, has_pointer, have_pointers, leaf_in, to_store}
+use Rattle.run_constants.specs.declared.filled.Fill.{Fill}
+use Rattle.run_constants.specs.declared.filled.Fill.TheVariants.{Zero, Poison}
+use Rattle.run_constants.specs.Filled.{leaf_in}
+use Rattle.run_initial.specs.Fresh.{filled, has_pointer, have_pointers, needed_of, to_store}
 use Rattle.run_initial.proofs.Puts.{to_store_both}
 
 -- ---- integers of a table
@@ -90,15 +92,14 @@ mutual
       filled_none (slots_at s (at + placed packed end (align s))) (field_slots ss packed at (placed packed end (align s) + size s))
       (zeros_fresh s both.0 (at + placed packed end (align s))) (fields_fresh ss both.1 packed at (placed packed end (align s) + size s))
 
-pub zeros_none : (s : Shape) (needed : Bool) → needed ≡ has_pointer s → HasNothing Zero s needed
-zeros_none s needed is none at = zeros_fresh s (sym is ∙ none) at
-
-pub poison_none : (s : Shape) (needed : Bool) → (needed ≡ false → leaves s ≡ 0) → HasNothing Poison s needed
-poison_none s needed few none at = ap (λ (ss : List Slot). to_store (filled Poison ss)) (no_slots s at (few none))
-
-pub few_leaves : (n : ℕ) → not (nat_eq n 0) ≡ false → n ≡ 0
+few_leaves : (n : ℕ) → not (nat_eq n 0) ≡ false → n ≡ 0
 few_leaves n h = go (nat_eq n 0) refl h
   where
     go : (b : Bool) → nat_eq n 0 ≡ b → not b ≡ false → n ≡ 0
     go true e k = eqb-true n 0 e
     go false e k = cc
+
+-- nothing is to be stored of a value of which nothing is needed, wherever it lies
+pub nothing_needed : (fill : Fill) (s : Shape) → needed_of fill s ≡ false → (at : ℕ) → to_store (filled fill (slots_at s at)) ≡ []
+nothing_needed Zero s none at = zeros_fresh s none at
+nothing_needed Poison s none at = ap (λ (ss : List Slot). to_store (filled Poison ss)) (no_slots s at (few_leaves (leaves s) none))

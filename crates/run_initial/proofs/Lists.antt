@@ -27,9 +27,11 @@ use Rattle.typed_look.proofs.Opened.{opened_shape}
 use Rattle.typed_runs.specs.Kinds.{IsOf, kinds_of}
 use Rattle.typed_runs.proofs.Leaves.{same_lengths}
 use Rattle.run_initial.specs.Constants.{bytes_at, parts_at, shapes_with, value_at}
-use Rattle.run_initial.specs.declared.filled.Fill.{Fill}
-use Rattle.run_initial.specs.declared.filled.Fill.TheVariants as fill
-use Rattle.run_initial.specs.Fresh.{filled, is_packed, leaf_in, leaf_shape}
+use Rattle.run_constants.specs.declared.filled.Fill.{Fill}
+use Rattle.run_constants.specs.declared.filled.Fill.TheVariants as fill
+use Rattle.run_constants.specs.Filled.{leaf_in}
+use Rattle.run_constants.specs.Sound.{leaf_tree}
+use Rattle.run_initial.specs.Fresh.{filled, is_packed, leaf_shape}
 
 -- ---- wherever a value lies its leaves are of the same kinds
 
@@ -87,6 +89,14 @@ kinds_filled f (s ∷ ss) = ap (λ (l : List Scalar). leaf_in f s.leaf ∷ l) (k
 filled_is : (f : Fill) (s : Shape) (at : ℕ) → zip (slots_at s at) (map (λ (x : Slot). leaf_in f x.leaf) (slots s)) ≡ filled f (slots_at s at)
 filled_is f s at =
     ap (zip (slots_at s at)) (kinds_filled f (slots s)) ∙ ap (λ (ks : List Leaf). zip (slots_at s at) (with_kinds f ks)) (same_kinds s 0 at) ∙ zipped f (slots_at s at)
+
+-- the shape of a type of one leaf
+pub leaf_shaped : (names : Names) (t : Tree) (k : Leaf) → t ≡ leaf_tree k → shape_of names t ≡ leaf_shape k
+leaf_shaped names t k is = ap (shape_of names) is ∙ one k
+  where
+    one : (k : Leaf) → shape_of names (leaf_tree k) ≡ leaf_shape k
+    one (leaf.Int w) = refl
+    one leaf.Ptr = refl
 
 module _ (names : Names) (t : Tree) (at : ℕ) where
   pub undef_is : filled fill.Zero (slots_at (shape_of names t) at) ≡ value_at names t Undef at

@@ -1,11 +1,17 @@
 -- What is stored part by part.
-use Rattle.std.proofs.Common.{◌≡◌, ℕ, zero, suc, ◌+◌, ◌-◌, ◌*◌, ◌<◌, ◌≤◌, List, [], ◌∷◌, ◌++◌, length, drop, get_or, Bool, true, false, not, cond, Result, Ok, Err, OnOk, refl, sym, ap, ◌∙◌, arith}
+use Rattle.std.proofs.Common.{◌≡◌, ℕ, zero, suc, ◌+◌, ◌-◌, ◌*◌, ◌<◌, ◌≤◌, List, [], ◌∷◌, ◌++◌, length, drop, get_or, Bool, true, false, not, cond, Result, Ok, Err, refl, sym, ap, ◌∙◌, subst, arith}
+use Rattle.std.specs.Prelude.{IsOk, IfErr, OnOk, is_ok}
+use Rattle.std.specs.Result.{IsErr, IsErrAnd}
+use Rattle.std.proofs.lemmas.Bool.{false≢true}
 use Rattle.std.proofs.lemmas.List.{at_drop_more, at_drop_all, map-append}
 use Rattle.ir_tables.specs.declared.undefined_kind.UndefinedKind.{UndefinedKind}
 use Rattle.ir_eval.specs.declared.value.Pointer.{Pointer}
+use Rattle.ir_eval.specs.declared.value.Scalar.{Scalar}
 use Rattle.ir_eval.specs.declared.value.Scalar.TheVariants.{Int, Ptr}
 use Rattle.ir_memory.specs.declared.leaf.Leaf.TheVariants as leaf
-use Rattle.ir_memory.specs.Answer.{Keeps}
+use Rattle.ir_memory.specs.Answer.{Answers, Keeps}
+use Rattle.ir_memory.specs.declared.fault.MemoryFault.{MemoryFault}
+use Rattle.ir_memory.specs.declared.fault.MemoryFault.TheVariants.{Undefined, MemoryLimit, Memory}
 use Rattle.ir_memory.specs.Memory.{Blocks, stored}
 use Rattle.module_arena.specs.Module.{Constant, Constants, more_constants}
 use Rattle.type_table.specs.Layout.{align, placed, size}
@@ -15,9 +21,11 @@ use Rattle.run_rules.specs.Access.{and_then, behind, stored_slots}
 use Rattle.run_rules.specs.Constant.{Names, shape_of}
 use Rattle.run_rules.specs.Leaves.{Slot, field_slots, repeated, slots_at}
 use Rattle.run_rules.specs.Plan.{Contents}
+use Rattle.run_values.specs.Answer.{Stores}
 use Rattle.run_initial.specs.Constants.{bytes_at, parts_at, value_at}
-use Rattle.run_initial.specs.declared.filled.Fill.{Fill}
-use Rattle.run_initial.specs.Fresh.{filled, is_fresh, leaf_in, put, to_store}
+use Rattle.run_constants.specs.declared.filled.Fill.{Fill}
+use Rattle.run_constants.specs.Filled.{leaf_in}
+use Rattle.run_initial.specs.Fresh.{filled, is_fresh, put, to_store}
 
 -- what adds no block twice adds none
 pub kept_on : (m n o : Blocks) → Keeps m n → Keeps n o → Keeps m o
@@ -62,9 +70,69 @@ pub none_put : (p : Pointer) (xs : Contents) (m : Blocks) → to_store xs ≡ []
 none_put p xs m e = ap (λ (l : Contents). stored_slots p 1 l m) e
 
 -- the same in other words
-pub reworded : {E : Type 0} (r : Result (Unit {0}) E) (p : Pointer) (xs ys : Contents) (m n : Blocks) → OnOk r (put p xs m ≡ Ok n) → xs ≡ ys → OnOk r (put p ys m ≡ Ok n)
-reworded (Ok u) p xs ys m n e same = ap (λ (l : Contents). put p l m) (sym same) ∙ e
-reworded (Err e) p xs ys m n h same = tt
+pub reworded : (r : Result (Unit {0}) MemoryFault) (p : Pointer) (xs ys : Contents) (m n : Blocks) → Stores {T = Unit {0}} (put p xs m) n r → xs ≡ ys → Stores {T = Unit {0}} (put p ys m) n r
+reworded r p xs ys m n h same = subst (λ (l : Contents). Stores {T = Unit {0}} (put p l m) n r) same h
+
+-- ---- a store that is refused
+
+-- a leaf that fresh memory does not read as is stored
+pub one_put : (p : Pointer) (s : Slot) (v : Scalar) (m n : Blocks) (r : Result (Unit {0}) MemoryFault) → is_fresh v ≡ false → Answers {T = Unit {0}} (stored_slots p 1 ((s, v) ∷ []) m) m n r → Stores {T = Unit {0}} (put p ((s, v) ∷ []) m) n r
+one_put p s v m n r old h = go r h
+  where
+    same : put p ((s, v) ∷ []) m ≡ stored_slots p 1 ((s, v) ∷ []) m
+    same = ap (λ (b : Bool). stored_slots p 1 (cond (not b) ((s, v) ∷ []) []) m) old
+
+    go : (r : Result (Unit {0}) MemoryFault) → Answers {T = Unit {0}} (stored_slots p 1 ((s, v) ∷ []) m) m n r → Stores {T = Unit {0}} (put p ((s, v) ∷ []) m) n r
+    go (Ok u) h = same ∙ h
+    go (Err (Undefined kind)) h = same ∙ h.0
+    go (Err Memory) h = tt
+    go (Err MemoryLimit) h = h
+
+-- where a part is undefined, the whole is so alike
+pub part_refused : (p : Pointer) (xs ys whole : Contents) (m : Blocks) (all : Result Blocks UndefinedKind) → whole ≡ xs ++ ys → put p whole m ≡ all → (kind : UndefinedKind) → put p xs m ≡ Err kind → all ≡ Err kind
+part_refused p xs ys whole m all is before kind e =
+    sym before
+    ∙ ap (λ (l : Contents). put p l m) is
+    ∙ ap (λ (l : Contents). stored_slots p 1 l m) (to_store_both xs ys)
+    ∙ stored_both p (to_store xs) (to_store ys) m
+    ∙ ap (λ (r : Result Blocks UndefinedKind). and_then r (λ o. stored_slots p 1 (to_store ys) o)) e
+
+told_on : (all one : Result Blocks UndefinedKind) (now new : Blocks) (fault : MemoryFault) → Stores {T = Unit {0}} one now (Err fault) → ((kind : UndefinedKind) → one ≡ Err kind → all ≡ Err kind) → Stores {T = Unit {0}} all new (Err fault)
+told_on all one now new (Undefined kind) h more = more kind h
+told_on all one now new Memory h more = tt
+told_on all one now new MemoryLimit h more = h
+
+-- what a part is refused for, the whole is refused for
+pub refused_on : (all one : Result Blocks UndefinedKind) (now new : Blocks) (r : Result (Unit {0}) MemoryFault) (fault : MemoryFault) → IsErr r → IsErrAnd r (λ t. t ≡ fault)
+    → Stores {T = Unit {0}} one now (Err fault) → ((kind : UndefinedKind) → one ≡ Err kind → all ≡ Err kind) → Stores {T = Unit {0}} all new r
+refused_on all one now new (Ok u) fault is gives h more = cc
+refused_on all one now new (Err t) fault is gives h more = subst (λ t. Stores {T = Unit {0}} all new (Err t)) (sym gives) (told_on all one now new fault h more)
+
+-- where every store goes well, memory alone can be wanted
+pub wants_memory : (all : Result Blocks UndefinedKind) (new : Blocks) (r : Result (Unit {0}) MemoryFault) → IsOk all → Stores {T = Unit {0}} all new r → IfErr r (λ fault. fault ≡ Memory)
+wants_memory all new (Ok u) well h = tt
+wants_memory all new (Err (Undefined kind)) well h = absurd (false≢true (subst (λ (x : Result Blocks UndefinedKind). IsOk x) h well))
+wants_memory all new (Err Memory) well h = refl
+wants_memory all new (Err MemoryLimit) well h = absurd h
+
+-- where the whole goes well, its front does
+pub front_put : (p : Pointer) (xs ys : Contents) (m : Blocks) → IsOk (put p (xs ++ ys) m) → IsOk (put p xs m)
+front_put p xs ys m h = go (put p xs m) refl
+  where
+    go : (r : Result Blocks UndefinedKind) → put p xs m ≡ r → IsOk r
+    go (Ok n) e = refl
+    go (Err kind) e = subst (λ (r : Result Blocks UndefinedKind). IsOk r) (part_refused p xs ys (xs ++ ys) m (put p (xs ++ ys) m) refl refl kind e) h
+
+-- what follows where a call went well
+pub on_ok : {E : Type 0} (r : Result (Unit {0}) E) (P Q : Type 0) → (P → Q) → OnOk r P → OnOk r Q
+on_ok (Ok u) P Q f h = f h
+on_ok (Err e) P Q f h = tt
+
+-- what was answered well was stored
+pub stored_then : {E : Type 0} (all : Result Blocks UndefinedKind) (new : Blocks) (r : Result (Unit {0}) MemoryFault) (told : Result (Unit {0}) E) → is_ok told ≡ is_ok r → Stores {T = Unit {0}} all new r → OnOk told (all ≡ Ok new)
+stored_then all new (Ok u) (Ok v) e h = h
+stored_then all new (Err fault) (Ok v) e h = cc
+stored_then all new r (Err x) e h = tt
 
 -- ---- elements and fields that are filled alike
 

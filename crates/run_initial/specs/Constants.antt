@@ -1,4 +1,4 @@
--- For `put_constant`: where the leaves of a constant lie, and what they are.
+-- For `put_bytes` and `put_constant`: where the leaves of a constant lie, and what they are.
 use Rattle.std.specs.Prelude.{ℕ, ◌+◌, Bool, List, [], ◌∷◌, ◌++◌, zip}
 use Rattle.ir_eval.specs.declared.value.Scalar.TheVariants.{Int}
 use Rattle.ir_memory.specs.declared.leaf.Leaf.TheVariants as leaf

@@ -1,5 +1,5 @@
--- For `put_constant`: what is to be stored into memory that is fresh, and values of which each leaf is filled alike.
-use Rattle.std.specs.Prelude.{◌≡◌, ℕ, Bool, true, false, not, ◌&&◌, ◌||◌, nat_eq, List, [], map, filter, Result, Ok}
+-- For `put_leaf`, `put_bytes` and `put_constant`: what is to be stored into memory that is fresh, and values of which each leaf is filled alike.
+use Rattle.std.specs.Prelude.{◌≡◌, Bool, true, false, not, ◌&&◌, ◌||◌, nat_eq, List, map, filter, Result, Ok}
 use Rattle.ir_tables.specs.declared.undefined_kind.UndefinedKind.{UndefinedKind}
 use Rattle.ir_eval.specs.declared.value.Pointer.{Pointer}
 use Rattle.ir_eval.specs.declared.value.Scalar.{Scalar}
@@ -7,12 +7,14 @@ use Rattle.ir_eval.specs.declared.value.Scalar.TheVariants as scalar
 use Rattle.ir_memory.specs.declared.leaf.Leaf.{Leaf}
 use Rattle.ir_memory.specs.declared.leaf.Leaf.TheVariants as leaf
 use Rattle.ir_memory.specs.Memory.{Blocks}
+use Rattle.type_table.specs.Layout.{leaves}
 use Rattle.type_table.specs.Shape.{Shape, int_leaf, ptr_leaf, void_leaf, opaque_leaf, array_of, struct_of, Shapes, no_shapes, more_shapes}
 use Rattle.run_rules.specs.Access.{stored_slots}
-use Rattle.run_rules.specs.Leaves.{Slot, slots_at, zero_leaf}
+use Rattle.run_rules.specs.Leaves.{Slot}
 use Rattle.run_rules.specs.Plan.{Contents}
-use Rattle.run_initial.specs.declared.filled.Fill.{Fill}
-use Rattle.run_initial.specs.declared.filled.Fill.TheVariants.{Zero, Poison}
+use Rattle.run_constants.specs.declared.filled.Fill.{Fill}
+use Rattle.run_constants.specs.declared.filled.Fill.TheVariants.{Zero, Poison}
+use Rattle.run_constants.specs.Filled.{leaf_in}
 
 -- fresh memory reads as this: its bytes are 0. A null that is stored is a pointer still, and no bytes
 abbrev pub is_fresh : Scalar → Bool
@@ -32,18 +34,9 @@ put p xs m = stored_slots p 1 (to_store xs) m
 abbrev pub Puts : Pointer → Contents → Blocks → Blocks → Type 0
 Puts p xs old new = put p xs old ≡ Ok new
 
--- what stands in a leaf
-abbrev pub leaf_in : Fill → Leaf → Scalar
-leaf_in Zero kind = zero_leaf kind
-leaf_in Poison kind = scalar.Poison
-
 -- a value that is filled so
 abbrev pub filled : Fill → List Slot → Contents
 filled fill slots = map (λ s. (s, leaf_in fill s.leaf)) slots
-
--- where the answer is no, nothing is to be stored of a value that is filled so, wherever it lies
-abbrev pub HasNothing : Fill → Shape → Bool → Type 0
-HasNothing fill s needed = needed ≡ false → (at : ℕ) → to_store (filled fill (slots_at s at)) ≡ []
 
 abbrev mutual
   -- a value has a pointer among its leaves
@@ -59,6 +52,11 @@ abbrev mutual
   pub have_pointers : Shapes → Bool
   have_pointers no_shapes = false
   have_pointers (more_shapes s ss) = has_pointer s || have_pointers ss
+
+-- something is to be stored of a value that is filled so: of zeros the pointers, of poison each leaf
+abbrev pub needed_of : Fill → Shape → Bool
+needed_of Zero s = has_pointer s
+needed_of Poison s = not (nat_eq (leaves s) 0)
 
 -- the shape of a leaf
 abbrev pub leaf_shape : Leaf → Shape

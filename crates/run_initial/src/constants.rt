@@ -1,67 +1,47 @@
 //! Constants that are put leaf by leaf.
-ghost use Rattle.std.specs.Prelude.{◌≡◌, ◌+◌, ◌^◌, ◌<◌, ◌≤◌, ◌∷◌, [], All, OnOk, length, true};
+ghost use Rattle.std.specs.Prelude.{◌≡◌, ◌+◌, ◌^◌, ◌<◌, ◌≤◌, ◌∷◌, [], All, length, true};
 ghost use Rattle.ir_eval.specs.declared.value.Scalar.TheVariants as scalar;
 ghost use Rattle.ir_memory.specs.declared.leaf.Leaf.TheVariants as leaf;
 ghost use Rattle.ir_memory.specs.Answer.{Keeps};
 ghost use Rattle.ir_memory.specs.Given.{IsKnown};
 ghost use Rattle.linkage_rules.specs.Place.{rooms};
-ghost use Rattle.module_arena.specs.Changes.{constant_in};
-ghost use Rattle.module_arena.specs.Known.{KnowsConst, counts};
 ghost use Rattle.module_arena.specs.TypeTests.{lies_in_memory};
 ghost use Rattle.module_arena.specs.View.{module_of};
 ghost use Rattle.run_constants.specs.Sound.{IsPart, constant_of, constants_with_types, is_single, names_of};
 ghost use Rattle.run_initial.specs.Constants.{bytes_at, parts_at, shapes_with, value_at};
-ghost use Rattle.run_initial.specs.Fresh.{Puts};
+ghost use Rattle.run_initial.specs.Fresh.{put};
 ghost use Rattle.run_names.specs.Told.{alone};
 ghost use Rattle.run_shapes.specs.Shapes.{shape_in};
+ghost use Rattle.run_values.specs.Answer.{Stores};
 ghost use Rattle.type_table.specs.Layout.{end_after, have_layouts, size};
 ghost use Rattle.type_table.specs.Types.{structs, tree};
 
-use crate::filled::{Fill, put_filled, start_of};
-use crate::kind::{is_packed, kind_of};
+use crate::filled::put_filled;
 use crate::leaf::{Target, further, put_leaf};
+use crate::packed::is_packed;
 use ir_eval::Scalar;
-use ir_memory::{Leaf, Memory};
-use module_arena::{Const, ConstId, TypedConst};
-use run_constants::leaf_of;
+use ir_memory::{Leaf, Memory, MemoryFault};
+use module_arena::{Const, TypedConst};
+use run_constants::{Fill, constant_at, kind_of, leaf_of, types_of};
 use run_names::Names;
 use run_shapes::layout_of;
-use std::alloc::AllocError;
-use type_table::TypeTable;
-
-/// The types of the module.
-fn types_of<'n>(names: &'n Names<'_>) -> &'n TypeTable
-    ensures { result.now ≡ names.now.table }
-{
-    names.program().arena().types()
-}
-
-/// The constant with that id.
-fn constant_at<'n>(names: &'n Names<'_>, id: ConstId) -> &'n Const
-    requires { id < length names.now.constants }
-    ensures here { constant_of names.now id ≡ constant_in names.now result.now }
-    ensures known { KnowsConst (length names.now.table.types) (counts names.now) id result.now }
-{
-    let arena = names.program().arena();
-    // What holds of each arena.
-    let _count = arena.variable_count();
-    arena.constant(id)
-}
+use run_slots::start_of;
 
 /// Stores a byte.
-fn put_byte(memory: &mut Memory, target: Target, byte: u8) -> Result<(), AllocError>
+fn put_byte(memory: &mut Memory, target: Target, byte: u8) -> Result<(), MemoryFault>
     requires { IsKnown memory.old.list target.block }
-    ensures put { OnOk result (Puts target.block ((record { offset = target.offset; leaf = leaf.Int 8 }, scalar.Int byte) ∷ []) memory.old memory.new) }
+    ensures put { Stores (put target.block ((record { offset = target.offset; leaf = leaf.Int 8 }, scalar.Int byte) ∷ []) memory.old) memory.new result }
     ensures kept { Keeps memory.old memory.new }
 {
     put_leaf(memory, target, Leaf::Int(8), Scalar::Int(u128::from(byte)))
 }
 
-/// Stores bytes one behind the other, in memory that is fresh: a byte that is 0 is there already. It is refused for want of memory alone.
-pub fn put_bytes(memory: &mut Memory, target: Target, bytes: &[u8]) -> Result<(), AllocError>
+/// Stores bytes one behind the other, in memory that is fresh: a byte that is 0 is there already. It is refused exactly where a store is
+/// undefined, or for want of memory; then a part may be there.
+pub fn put_bytes(memory: &mut Memory, target: Target, bytes: &[u8]) -> Result<(), MemoryFault>
     requires ends { target.offset + length bytes.now ≤ 2 ^ 40 }
     requires block { IsKnown memory.old.list target.block }
-    ensures put { OnOk result (Puts target.block (bytes_at target.offset bytes.now) memory.old memory.new) }
+    ensures put { Stores (put target.block (bytes_at target.offset bytes.now) memory.old) memory.new result }
     ensures kept { Keeps memory.old memory.new }
 {
     'bytes: for place in 0..bytes.len() {
@@ -76,34 +56,34 @@ fn put_single(
     memory: &mut Memory,
     target: Target,
     constant: TypedConst,
-) -> Result<(), AllocError>
+) -> Result<(), MemoryFault>
     requires part { IsPart names.now constant }
     requires single { is_single (constant_of names.now constant.value) ≡ true }
     requires block { IsKnown memory.old.list target.block }
     requires variables { length (rooms (alone (module_of names.now))) ≤ length memory.old.list }
-    ensures put { OnOk result (Puts target.block (value_at (names_of names.now) (tree names.now.table constant.ty) (constant_of names.now constant.value) target.offset) memory.old memory.new) }
+    ensures put { Stores (put target.block (value_at (names_of names.now) (tree names.now.table constant.ty) (constant_of names.now constant.value) target.offset) memory.old) memory.new result }
     ensures kept { Keeps memory.old memory.new }
 {
     let value = leaf_of(names, constant.ty, constant.value);
-    let kind = kind_of(types_of(names), constant.ty);
+    let kind = kind_of(names, constant.ty);
     put_leaf(memory, target, kind, value)
 }
 
-/// Stores a constant of that type, in memory that is fresh: what this reads as already is not stored. It is refused for want of memory
-/// alone.
+/// Stores a constant of that type, in memory that is fresh: what this reads as already is not stored. It is refused exactly where a
+/// store is undefined, or for want of memory; then a part may be there.
 #[cycle(constants)]
 pub fn put_constant(
     names: &Names<'_>,
     memory: &mut Memory,
     target: Target,
     constant: TypedConst,
-) -> Result<(), AllocError>
+) -> Result<(), MemoryFault>
     requires part { IsPart names.now constant }
     requires laid { lies_in_memory (structs names.now.table) (tree names.now.table constant.ty) ≡ true }
     requires ends { target.offset + size (shape_in names.now.table constant.ty) ≤ 2 ^ 40 }
     requires block { IsKnown memory.old.list target.block }
     requires variables { length (rooms (alone (module_of names.now))) ≤ length memory.old.list }
-    ensures put { OnOk result (Puts target.block (value_at (names_of names.now) (tree names.now.table constant.ty) (constant_of names.now constant.value) target.offset) memory.old memory.new) }
+    ensures put { Stores (put target.block (value_at (names_of names.now) (tree names.now.table constant.ty) (constant_of names.now constant.value) target.offset) memory.old) memory.new result }
     ensures kept { Keeps memory.old memory.new }
 {
     let ty = constant.ty;
@@ -141,13 +121,13 @@ fn put_constants(
     target: Target,
     packed: bool,
     parts: &[TypedConst],
-) -> Result<(), AllocError>
+) -> Result<(), MemoryFault>
     requires parts { All (IsPart names.now) parts.now }
     requires laid { have_layouts (shapes_with (names_of names.now) (constants_with_types names.now parts.now)) ≡ true }
     requires ends { target.offset + end_after packed 0 (shapes_with (names_of names.now) (constants_with_types names.now parts.now)) ≤ 2 ^ 40 }
     requires block { IsKnown memory.old.list target.block }
     requires variables { length (rooms (alone (module_of names.now))) ≤ length memory.old.list }
-    ensures put { OnOk result (Puts target.block (parts_at (names_of names.now) packed target.offset 0 (constants_with_types names.now parts.now)) memory.old memory.new) }
+    ensures put { Stores (put target.block (parts_at (names_of names.now) packed target.offset 0 (constants_with_types names.now parts.now)) memory.old) memory.new result }
     ensures kept { Keeps memory.old memory.new }
 {
     let types = types_of(names);

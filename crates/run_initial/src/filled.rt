@@ -1,52 +1,28 @@
 //! Values of which each leaf is filled alike: zeros and poison (LangRef, "Simple Constants", "Undefined Values", "Poison Values").
-ghost use Rattle.std.specs.Prelude.{◌≡◌, ◌+◌, ◌*◌, ◌^◌, ◌≤◌, ◌<◌, ◌∷◌, [], All, OnOk, length, true};
+ghost use Rattle.std.specs.Prelude.{◌≡◌, ◌+◌, ◌*◌, ◌^◌, ◌≤◌, ◌<◌, ◌∷◌, [], All, length, true};
 ghost use Rattle.ir_memory.specs.Answer.{Keeps};
 ghost use Rattle.ir_memory.specs.Given.{IsKnown, IsLeaf};
 ghost use Rattle.module_arena.specs.TypeTests.{lies_in_memory};
-ghost use Rattle.run_initial.specs.Fresh.{HasNothing, Puts, filled, leaf_in};
+ghost use Rattle.run_initial.specs.Fresh.{filled, needed_of, put};
 ghost use Rattle.run_rules.specs.Leaves.{field_slots, repeated, slots_at};
 ghost use Rattle.run_shapes.specs.Shapes.{shape_in, shapes_in};
-ghost use Rattle.type_table.specs.Layout as layouts;
 ghost use Rattle.type_table.specs.Layout.{end_after, have_layouts, size};
 ghost use Rattle.type_table.specs.Types.{structs, tree};
+ghost use Rattle.run_values.specs.Answer.{Stores};
 
 use crate::leaf::{Target, further, put_leaf};
 use crate::pointers::has_pointer;
-use ir_eval::{Pointer, Scalar};
-use ir_memory::{Leaf, Memory};
+use ir_memory::{Leaf, Memory, MemoryFault};
+use run_constants::{Fill, leaf_in};
 use run_shapes::{Form, form_of, layout_of, parts};
-use std::alloc::AllocError;
+use run_slots::start_of;
 use type_table::{TypeId, TypeTable};
-
-/// What stands in each leaf of a value.
-#[derive(Clone, Copy)]
-pub(crate) enum Fill {
-    /// The number 0, or null.
-    Zero,
-    Poison,
-}
-
-/// What stands in a leaf.
-fn leaf_in(fill: Fill, kind: Leaf) -> Scalar
-    ensures { result ≡ leaf_in fill kind }
-{
-    match fill {
-        Fill::Poison => Scalar::Poison,
-        Fill::Zero => match kind {
-            Leaf::Int(_) => Scalar::Int(0),
-            Leaf::Ptr => Scalar::Ptr(Pointer {
-                block: None,
-                address: 0,
-            }),
-        },
-    }
-}
 
 /// Whether something is to be stored of a value that is filled so.
 fn is_needed(types: &TypeTable, fill: Fill, ty: TypeId) -> bool
     requires known { ty < length types.now.types }
     requires laid { lies_in_memory (structs types.now) (tree types.now ty) ≡ true }
-    ensures { HasNothing fill (shape_in types.now ty) result }
+    ensures { result ≡ needed_of fill (shape_in types.now ty) }
 {
     match fill {
         Fill::Zero => has_pointer(types, ty),
@@ -62,12 +38,12 @@ pub(crate) fn put_filled(
     target: Target,
     fill: Fill,
     ty: TypeId,
-) -> Result<(), AllocError>
+) -> Result<(), MemoryFault>
     requires known { ty < length types.now.types }
     requires laid { lies_in_memory (structs types.now) (tree types.now ty) ≡ true }
     requires ends { target.offset + size (shape_in types.now ty) ≤ 2 ^ 40 }
     requires block { IsKnown memory.old.list target.block }
-    ensures put { OnOk result (Puts target.block (filled fill (slots_at (shape_in types.now ty) target.offset)) memory.old memory.new) }
+    ensures put { Stores (put target.block (filled fill (slots_at (shape_in types.now ty) target.offset)) memory.old) memory.new result }
     ensures kept { Keeps memory.old memory.new }
 {
     // What holds of each table of types.
@@ -92,10 +68,10 @@ fn put_filled_leaf(
     target: Target,
     fill: Fill,
     kind: Leaf,
-) -> Result<(), AllocError>
+) -> Result<(), MemoryFault>
     requires block { IsKnown memory.old.list target.block }
     requires kind { IsLeaf kind }
-    ensures put { OnOk result (Puts target.block (filled fill (record { offset = target.offset; leaf = kind } ∷ [])) memory.old memory.new) }
+    ensures put { Stores (put target.block (filled fill (record { offset = target.offset; leaf = kind } ∷ [])) memory.old) memory.new result }
     ensures kept { Keeps memory.old memory.new }
 {
     put_leaf(memory, target, kind, leaf_in(fill, kind))
@@ -110,12 +86,12 @@ fn put_filled_elements(
     fill: Fill,
     element: TypeId,
     count: u64,
-) -> Result<(), AllocError>
+) -> Result<(), MemoryFault>
     requires known { element < length types.now.types }
     requires laid { lies_in_memory (structs types.now) (tree types.now element) ≡ true }
     requires ends { target.offset + count * size (shape_in types.now element) ≤ 2 ^ 40 }
     requires block { IsKnown memory.old.list target.block }
-    ensures put { OnOk result (Puts target.block (filled fill (repeated count (slots_at (shape_in types.now element)) target.offset (size (shape_in types.now element)))) memory.old memory.new) }
+    ensures put { Stores (put target.block (filled fill (repeated count (slots_at (shape_in types.now element)) target.offset (size (shape_in types.now element)))) memory.old) memory.new result }
     ensures kept { Keeps memory.old memory.new }
 {
     let size = layout_of(types, element).size;
@@ -134,12 +110,12 @@ fn put_filled_fields(
     fill: Fill,
     packed: bool,
     fields: &[TypeId],
-) -> Result<(), AllocError>
+) -> Result<(), MemoryFault>
     requires known { All (λ ty. ty < length types.now.types) fields.now }
     requires laid { have_layouts (shapes_in types.now fields.now) ≡ true }
     requires ends { target.offset + end_after packed 0 (shapes_in types.now fields.now) ≤ 2 ^ 40 }
     requires block { IsKnown memory.old.list target.block }
-    ensures put { OnOk result (Puts target.block (filled fill (field_slots (shapes_in types.now fields.now) packed target.offset 0)) memory.old memory.new) }
+    ensures put { Stores (put target.block (filled fill (field_slots (shapes_in types.now fields.now) packed target.offset 0)) memory.old) memory.new result }
     ensures kept { Keeps memory.old memory.new }
 {
     // What holds of each table of types.
@@ -152,16 +128,4 @@ fn put_filled_fields(
         end = start + layout.size;
     }
     Ok(())
-}
-
-/// Where a part of that alignment begins behind parts that end there: where they are packed there are no gaps.
-pub(crate) fn start_of(packed: bool, end: u64, align: u32) -> u64
-    requires some { 1 ≤ align }
-    requires room { layouts.placed packed end align < 2 ^ 64 }
-    ensures { result ≡ layouts.placed packed end align }
-{
-    if packed {
-        return end;
-    }
-    end.next_multiple_of(u64::from(align))
 }

@@ -1,12 +1,13 @@
 //! Where a value is put, and one leaf of it.
-ghost use Rattle.std.specs.Prelude.{◌≡◌, ◌+◌, ◌<◌, ◌^◌, ◌∷◌, [], OnOk, length};
+ghost use Rattle.std.specs.Prelude.{◌≡◌, ◌+◌, ◌<◌, ◌^◌, ◌∷◌, [], IfErr, is_ok, length};
 ghost use Rattle.ir_memory.specs.Answer.{Keeps};
 ghost use Rattle.ir_memory.specs.Given.{IsKnown, IsLeaf};
 ghost use Rattle.typed_runs.specs.Kinds.{IsOf};
-ghost use Rattle.run_initial.specs.Fresh.{Puts, is_fresh};
+ghost use Rattle.run_values.specs.Answer.{Stores};
+ghost use Rattle.run_initial.specs.Fresh.{is_fresh, put};
 
 use ir_eval::{Pointer, Scalar};
-use ir_memory::{Leaf, Memory};
+use ir_memory::{Leaf, Memory, MemoryFault};
 use run_values::{Slot, store_leaf};
 use std::alloc::AllocError;
 
@@ -39,25 +40,36 @@ fn is_fresh(value: Scalar) -> bool
     }
 }
 
-/// Stores a leaf, unless fresh memory reads as it; it is aligned to a byte. It is refused for want of memory alone.
+/// Stores a leaf, unless fresh memory reads as it; it is aligned to a byte. It is refused exactly where the store is undefined, or for
+/// want of memory.
 pub fn put_leaf(
     memory: &mut Memory,
     target: Target,
     kind: Leaf,
     value: Scalar,
-) -> Result<(), AllocError>
+) -> Result<(), MemoryFault>
     requires block { IsKnown memory.old.list target.block }
     requires kind { IsLeaf kind }
     requires value { IsOf (length memory.old.list) kind value }
-    ensures put { OnOk result (Puts target.block ((record { offset = target.offset; leaf = kind }, value) ∷ []) memory.old memory.new) }
+    ensures put { Stores (put target.block ((record { offset = target.offset; leaf = kind }, value) ∷ []) memory.old) memory.new result }
     ensures kept { Keeps memory.old memory.new }
 {
     if is_fresh(value) {
         return Ok(());
     }
     let slot = Slot::new(target.offset, kind);
-    match store_leaf(memory, Scalar::Ptr(target.block), 1, slot, value) {
+    store_leaf(memory, Scalar::Ptr(target.block), 1, slot, value)
+}
+
+/// What is told of stores of which none is undefined: they are refused for want of memory alone.
+pub fn wanting_memory(stored: Result<(), MemoryFault>) -> Result<(), AllocError>
+    requires { IfErr stored (λ fault. fault ≡ MemoryFault.Memory) }
+    ensures { is_ok result ≡ is_ok stored }
+{
+    match stored {
         Ok(()) => Ok(()),
-        Err(_) => Err(AllocError),
+        Err(MemoryFault::Memory) => Err(AllocError),
+        Err(MemoryFault::Undefined(_)) => unreachable!(),
+        Err(MemoryFault::MemoryLimit) => unreachable!(),
     }
 }

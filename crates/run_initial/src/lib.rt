@@ -2,14 +2,15 @@
 //!
 //! It stands on the constants of `run_constants`, the shapes of `run_shapes`, and on `ir_memory`. It promises that what is stored of a
 //! constant is what the definition of constants gives, leaf by leaf, but for integers that are 0: as those fresh memory reads already, so
-//! a value of zeros costs nothing. Definitions: `specs/Fresh`, `specs/Constants`; `Leaves`, `Constant` and `Access` of `run_rules`.
+//! a value of zeros costs nothing. A store that is undefined is told as that; into a fresh block that is long enough there is none
+//! (`proofs/Fresh`). Definitions: `specs/Fresh`, `specs/Constants`; `Leaves`, `Constant` and `Access` of `run_rules`.
 #![tactic(auto)]
 
 mod constants;
 mod filled;
-mod kind;
 mod leaf;
+mod packed;
 mod pointers;
 
 pub use constants::{put_bytes, put_constant};
-pub use leaf::{Target, put_leaf};
+pub use leaf::{Target, put_leaf, wanting_memory};

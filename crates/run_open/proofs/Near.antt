@@ -64,7 +64,7 @@ module _ (a : Lists) (spots : List Spot) (are : AreSpots a spots) where
           let many = as_many_spots in
           let within = slice_get_within m.list j b at in
           let s = get_within spots j (omega (arith, long, many, within)) in
-          let same = same_Some (new_block s.0.start s.0.size (kind.Variable s.0.constant)) b (sym (placed.fresh spots are j s.0 (omega arith) s.1) ∙ at) in
+          let same = same_Some (new_block s.0.start s.0.size (kind.Variable s.0.constant)) b (sym (placed.fresh spots are j s.0 s.1) ∙ at) in
           let last = are.within j s.0 s.1 in
           subst (λ (x : Block). x.start + x.size ≤ 2 ^ 60) same last
 
@@ -82,8 +82,8 @@ placed_later a m n placed kept =
     record {
       unsealed = kept.sealed ∙ placed.unsealed;
       many = omega (arith, many, more);
-      fresh = λ spots' are' j s le at.
+      fresh = λ spots' are' j s at.
           let few = sym (length-map spots' needs) ∙ ap length are'.variables ∙ length-map (rooms (alone (module_of a))) (plans.variable_of (alone (module_of a))) in
           let within = slice_get_within spots' j s at in
-          kept.same j (omega (arith, few, within, many)) ∙ placed.fresh spots' are' j s le at;
+          kept.same j (omega (arith, few, within, many)) ∙ placed.fresh spots' are' j s at;
     }

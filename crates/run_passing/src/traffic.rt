@@ -1,5 +1,5 @@
 //! The bytes of a step on their way out and in.
-ghost use Rattle.std.specs.Prelude.{◌≡◌, ◌^◌, ◌<◌};
+ghost use Rattle.std.specs.Prelude.{◌≡◌, ◌^◌, ◌<◌, OnErr};
 ghost use Rattle.run_rules.specs.Clauses.{outside};
 ghost use Rattle.run_passing.specs.Traffic.{Finishes, Flushes, Gets, MakesWay, number_got, Puts, TakesByte};
 
@@ -9,7 +9,7 @@ use run_rules::{End, RunFault};
 use run_stack::Stack;
 use run_traffic::{Input, Output};
 
-// What `getchar` gives at the end of the input: -1 as an i32.
+/// What `getchar` gives at the end of the input: -1 as an i32.
 const END_OF_INPUT: u128 = 0xFFFF_FFFF;
 
 /// Writes all that was put out. A fault tells that a write failed; then a front of it is written, and all of it is held still.
@@ -44,7 +44,7 @@ pub fn finish<O: Sink>(end: End, held: &mut Output, sink: &mut O) -> Result<End,
     Ok(end)
 }
 
-// Before input is read all that was put out is written.
+/// Before input is read all that was put out is written.
 fn make_way<O: Sink>(waiting: &Input, held: &mut Output, sink: &mut O) -> Result<(), RunFault>
     ensures { MakesWay waiting.now result held.old held.new (O.taken sink.old) (O.faults sink.old) (O.taken sink.new) (O.faults sink.new) }
 {
@@ -55,7 +55,7 @@ fn make_way<O: Sink>(waiting: &Input, held: &mut Output, sink: &mut O) -> Result
     }
 }
 
-// What `getchar` gives.
+/// What `getchar` gives.
 fn number_of(byte: Option<u8>) -> u128
     ensures value { result ≡ number_got byte }
     ensures few { result < 2 ^ 32 }
@@ -67,7 +67,7 @@ fn number_of(byte: Option<u8>) -> u128
 }
 
 /// The newest frame gets the next byte of the input at that place, or -1 at its end. Before input is read all that was put out is
-/// written. A fault tells that a read or that write failed.
+/// written. A fault tells that a read or that write failed; then the frames are as they were.
 pub fn get<I: Source, O: Sink>(
     stack: &mut Stack,
     to: u32,
@@ -77,7 +77,8 @@ pub fn get<I: Source, O: Sink>(
     sink: &mut O,
 ) -> Result<(), RunFault>
     requires { TakesByte stack.old to }
-    ensures { Gets to result stack.old stack.new waiting.old waiting.new held.old held.new (outside (I.left source.old) (I.faults source.old) (O.taken sink.old) (O.faults sink.old)) (outside (I.left source.new) (I.faults source.new) (O.taken sink.new) (O.faults sink.new)) }
+    ensures got { Gets to result stack.old stack.new waiting.old waiting.new held.old held.new (outside (I.left source.old) (I.faults source.old) (O.taken sink.old) (O.faults sink.old)) (outside (I.left source.new) (I.faults source.new) (O.taken sink.new) (O.faults sink.new)) }
+    ensures frames { OnErr result (stack.new ≡ stack.old) }
 {
     make_way(waiting, held, sink)?;
     let byte = match waiting.take(source) {

@@ -80,6 +80,12 @@ module _ (p : Loaded) (a : Lists) (met : Met) (told : List (Option Head)) (decod
   pub body_absent : (id : ℕ) (o : Option Decoded) → id < length decoded → o ≡ get_or decoded id o → o ≡ None → slice_get decoded id ≡ Some None
   body_absent id o lt here same = slice_get-get_or decoded id o lt ∙ ap Some (sym here ∙ same)
 
+  -- and where none is there, none is ready
+  pub none_ready : (id : ℕ) → slice_get decoded id ≡ Some None → (b : Decoded) → IsReady p id b → ⊥
+  none_ready id none b ready =
+      let there : slice_get decoded id ≡ Some (Some b) = subst (λ (x : Loaded). slice_get x.bodies id ≡ Some (Some b)) (sym is) ready in
+      cc
+
   -- a body is put in its place
   pub loaded_prepared : (new : Met) → Numbers met new → (id : ℕ) (b : Decoded) → IsBodyOf a new id b → IsLoaded a new told (set decoded id (Some b))
   loaded_prepared new numbers id b made = loaded_body a new told decoded (loaded_grown a met new numbers told decoded loaded) id b made

@@ -1,5 +1,5 @@
 //! A module that is run.
-ghost use Rattle.std.specs.Prelude.{◌≡◌, ◌<◌, IfOk, None, Some, length, replicate, slice_get};
+ghost use Rattle.std.specs.Prelude.{◌≡◌, ◌<◌, IfOk, IsOk, None, Some, length, replicate, slice_get};
 ghost use Rattle.module_arena.specs.View.{module_of};
 ghost use Rattle.run_names.specs.declared.callee.CalleeRef.TheVariants as callees;
 ghost use Rattle.run_names.specs.Told.{HasCode, alone, callee_seen};
@@ -119,7 +119,7 @@ impl<'m> Program<'m> {
         self.signatures.is_same(signature, used)
     }
 
-    /// What a call asks of a function that has a body. It is refused for want of memory alone, and wants none the second time.
+    /// What a call asks of a function that has a body. It is refused for want of memory alone.
     pub fn head(&mut self, id: FunctionId) -> Result<Head, AllocError>
         requires { HasCode self.old.lists (callees.Code id) }
         ensures head { IfOk result (HasHead self.new id) }
@@ -140,6 +140,7 @@ impl<'m> Program<'m> {
         requires code { HasCode self.old.lists (callees.Code id) }
         ensures ready { IfOk result (λ widest. (body : Decoded) × (IsReady self.new id body × (body.widest ≡ widest))) }
         ensures keeps { Keeps self.old self.new }
+        ensures again { (body : Decoded) → IsReady self.old id body → IsOk result }
     {
         let place = id.number() as usize;
         if let Some(body) = &self.bodies[place] {

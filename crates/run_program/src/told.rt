@@ -12,7 +12,7 @@ use run_body::Body;
 use run_decode::decode;
 use run_names::Names;
 use run_signatures::Signatures;
-use run_suits::{functions_of_a_checked_module_have_values, functions_of_a_checked_module_suit};
+use run_suits::functions_of_a_checked_module_have_values;
 use std::alloc::{AllocError, Global};
 use type_table::TypeId;
 
@@ -62,9 +62,5 @@ pub(crate) fn body_of<'m>(
     ensures body { IfOk result (IsBodyOf names.now signatures.new id) }
     ensures numbers { Numbers signatures.old signatures.new }
 {
-    let arena = names.program().arena();
-    // The ids in an arena are those of the arena, and in a checked one each function is what decoding asks for.
-    let _count = arena.variable_count();
-    functions_of_a_checked_module_suit();
     decode(alloc, names, signatures, id)
 }

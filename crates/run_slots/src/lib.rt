@@ -6,4 +6,4 @@
 
 mod slots;
 
-pub use slots::push_slots;
+pub use slots::{push_slots, start_of};

@@ -98,8 +98,9 @@ fn push_fields(
     Ok(())
 }
 
-/// Where a field of that alignment begins behind fields that end there: a packed struct has no gaps.
-fn start_of(packed: bool, end: u64, align: u32) -> u64
+/// Where a part of that alignment begins behind parts that end there, in bytes: where they are packed there are no gaps (LangRef,
+/// "Structure Type").
+pub fn start_of(packed: bool, end: u64, align: u32) -> u64
     requires some { 1 ≤ align }
     requires room { layouts.placed packed end align < 2 ^ 64 }
     ensures { result ≡ layouts.placed packed end align }

@@ -42,23 +42,13 @@ enum Place {
     Nowhere,
 }
 
-/// The number of a leaf that is an integer, and 0 of another.
-fn number_in(leaf: Scalar) -> u128
-    ensures { result ≡ number_of leaf }
-{
-    match leaf {
-        Scalar::Int(number) => number,
-        Scalar::Ptr(_) | Scalar::Poison => 0,
-    }
-}
-
 /// The number of an index that is known, and 0 of another.
 fn number_of(index: Origin) -> u128
     ensures { result ≡ number_of (known (origin_of index)) }
 {
     match index {
         Origin::Held(_) => 0,
-        Origin::Known(leaf) => number_in(leaf),
+        Origin::Known(leaf) => run_constants::number_of(leaf),
     }
 }
 

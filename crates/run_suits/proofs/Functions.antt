@@ -22,7 +22,7 @@ use Rattle.std.proofs.Common.{subst}
 use Rattle.run_scopes.specs.Places.{GivesValue, HasValues, Returns}
 use Rattle.run_scopes.specs.Scopes.{function_of}
 use Rattle.run_scopes.specs.Ways.{AllPhisSuit, PhiSuits}
-use Rattle.run_suits.specs.Laws.{FunctionsHaveValues, PhisSuit}
+use Rattle.run_suits.specs.Laws.{FunctionsHaveValues}
 use Rattle.run_suits.proofs.Checked.{demanded, function_known, instruction_checked}
 use Rattle.run_suits.proofs.Had.{framed}
 use Rattle.run_suits.proofs.Listed.{all_of}
@@ -66,6 +66,3 @@ module _ (a : Lists) where
 
 pub functions_have_values : FunctionsHaveValues
 functions_have_values a good well_formed valid id f at places = values_are a good well_formed valid id f at
-
-pub all_phis_suit : PhisSuit
-all_phis_suit a good well_formed valid id f at places = phis_are a good well_formed valid id f at places

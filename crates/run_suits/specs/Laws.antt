@@ -1,4 +1,4 @@
--- For `functions_of_a_checked_module_suit` and the laws beside it: what holds of each function of a checked module.
+-- For `functions_of_a_checked_module_suit` and `functions_of_a_checked_module_have_values`: what holds of each function of a checked module.
 use Rattle.std.specs.Prelude.{◌≡◌, ℕ, List, Some, slice_get}
 use Rattle.module_arena.specs.declared.entry.Function.{Function}
 use Rattle.module_arena.specs.Known.{IsGood}
@@ -8,7 +8,6 @@ use Rattle.module_arena.specs.View.{module_of}
 use Rattle.module_arena.specs.WellFormed.{IsWellFormed}
 use Rattle.run_scopes.specs.Places.{HasValues}
 use Rattle.run_scopes.specs.Scopes.{Framed}
-use Rattle.run_scopes.specs.Ways.{AllPhisSuit}
 use Rattle.run_arms.specs.Suits.{AllSuit}
 
 -- a fact that holds of each function of a checked module, wherever the leaves of its parameters and results begin in a frame
@@ -20,10 +19,6 @@ OfEachFunction fact =
 -- the parameters and results of each function are values
 abbrev pub FunctionsHaveValues : Type 0
 FunctionsHaveValues = OfEachFunction (λ s. HasValues s.lists s.function)
-
--- the phis of each function are of the function
-abbrev pub PhisSuit : Type 0
-PhisSuit = OfEachFunction AllPhisSuit
 
 -- each function is what decoding asks for
 abbrev pub FunctionsSuit : Type 0

@@ -1,5 +1,5 @@
 //! What holds of the functions of a checked module.
-ghost use Rattle.run_suits.specs.Laws.{FunctionsHaveValues, FunctionsSuit, PhisSuit};
+ghost use Rattle.run_suits.specs.Laws.{FunctionsHaveValues, FunctionsSuit};
 
 /// The parameters and results of each function of a well-formed, valid module are values: their types lie in memory and have few leaves,
 /// or are `void`, and indices lead to a part.
@@ -7,13 +7,8 @@ pub fn functions_of_a_checked_module_have_values()
     ensures { FunctionsHaveValues }
 {}
 
-/// Each phi of a function of a well-formed, valid module is a result of the function, and its entries are values and blocks of it.
-pub fn phis_of_a_checked_module_suit()
-    ensures { PhisSuit }
-{}
-
 /// Each function of a well-formed, valid module is what decoding asks for: the ids in its blocks are of the function and its module, and
-/// what they name can stand where it stands.
+/// what they name can stand where it stands; each phi is a result of the function, and its entries are values and blocks of it.
 pub fn functions_of_a_checked_module_suit()
     ensures { FunctionsSuit }
 {}

@@ -8,7 +8,4 @@
 
 mod law;
 
-pub use law::{
-    functions_of_a_checked_module_have_values, functions_of_a_checked_module_suit,
-    phis_of_a_checked_module_suit,
-};
+pub use law::{functions_of_a_checked_module_have_values, functions_of_a_checked_module_suit};

@@ -3,10 +3,7 @@ ghost use Rattle.std.specs.Prelude.{◌≡◌, ℕ, ◌*◌, ◌≤◌, nat_le, 
 ghost use Rattle.ir_memory.specs.Memory.{byte_limit};
 ghost use Rattle.run_rules.specs.Access as access;
 
-use ir_memory::Memory;
-
-/// How many bytes live blocks may have together.
-const BYTE_LIMIT: u64 = 268_435_456;
+use ir_memory::{BYTE_LIMIT, Memory};
 
 /// How many bytes more may live.
 fn room_left(memory: &Memory) -> u64

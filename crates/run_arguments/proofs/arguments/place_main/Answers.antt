@@ -1,9 +1,9 @@
-use Rattle.std.proofs.Common.{◌≡◌, ℕ, ◌+◌, ◌*◌, ◌^◌, ◌<◌, ◌≤◌, All, List, length, Some, Ok, Err, refl, sym, ap, ◌∙◌, subst, arith}
+use Rattle.std.proofs.Common.{◌≡◌, ℕ, ◌+◌, ◌*◌, ◌^◌, ◌<◌, ◌≤◌, All, List, length, sym, ap, ◌∙◌, subst, arith}
 use Rattle.ir_eval.specs.declared.value.Pointer.{Pointer}
 use Rattle.ir_memory.specs.Given.{IsKnown}
 use Rattle.run_entry.specs.Mains.{main_seen}
 use Rattle.run_rules.specs.Opening.{with_pointers, with_strings}
-use Rattle.run_arguments.specs.Arguments.{MakesWith, Places, PlacesAll}
+use Rattle.run_arguments.specs.Arguments.{Places, PlacesAll}
 use Rattle.run_arguments.proofs.Blocks.{none_kept, then_kept}
 use Rattle.run_arguments.proofs.Mains.{array_full, false_if, main_made, plain_made, true_if, words_full}
 use Rattle.run_arguments.proofs.arguments.place_main.Goals as goal
@@ -24,6 +24,7 @@ place_pointers-requires c =
     let few = told.few in
     let near = told.near in
     record {
+      unsealed = told.kept.sealed ∙ c.requires.unsealed;
       next = omega (arith, few, near, c.requires.next);
       few = subst (λ (ps : List Pointer). length ps ≤ 2 ^ 28) (sym c.deref.ensures.value) few;
       known = subst (λ (ps : List Pointer). All (IsKnown n.list) ps) (sym c.deref.ensures.value) told.known;

@@ -1,10 +1,9 @@
-use Rattle.std.proofs.Common.{◌≡◌, ℕ, length, get_or, refl, sym, ap, ◌∙◌, subst, arith}
-use Rattle.ir_eval.specs.declared.value.Pointer.{Pointer}
+use Rattle.std.proofs.Common.{◌≡◌, ℕ, length, refl, sym, subst, arith}
 use Rattle.ir_memory.specs.Given.{IsBlock}
 use Rattle.run_initial.specs.Fresh.{put}
 use Rattle.run_initial.proofs.Puts.{kept_on}
 use Rattle.run_arguments.proofs.Blocks.{known_at}
-use Rattle.run_arguments.proofs.Rows.{ended, pointer_read, row_from}
+use Rattle.run_arguments.proofs.Rows.{null_stored, pointer_read, pointer_refused, row_from}
 use Rattle.run_arguments.proofs.arguments.put_pointers.Goals as goal
 
 pub pointers-init : goal.pointers-init
@@ -27,6 +26,11 @@ pointers-preserved c =
       kept = kept_on c.args.memory.now c.pointers.memory c.put_pointer.new.memory i.kept c.in_ok-put_pointer.ensures.kept;
     }
 
+pub returns-in_err-put_pointer-clause-put : goal.returns-in_err-put_pointer-clause-put
+returns-in_err-put_pointer-clause-put c =
+    pointer_refused c.args.block c.args.pointers.now c.pointers.place c.pointers.memory c.put_pointer.new.memory (put c.args.block (row_from 0 c.args.pointers.now) c.args.memory.now) _ c.from_residual.result _ c.pointers.invariant.put c.pointers-test.true
+    c.from_residual.ensures.0 c.from_residual.ensures.1 c.in_err-put_pointer.ensures.put
+
 pub put_pointer-requires-2 : goal.put_pointer-requires-2
 put_pointer-requires-2 c =
     let count = c.pointers.invariant.kept.0 in
@@ -40,4 +44,4 @@ pub returns-clause-put : goal.returns-clause-put
 returns-clause-put c =
     let ps = c.args.pointers.now in
     let e : c.pointers.place ≡ length ps = omega (arith, c.pointers-test.false, c.pointers.auto.place-end) in
-    ended c.put_pointer-2.result c.args.block ps c.pointers.place c.pointers.memory c.put_pointer-2.new.memory (put c.args.block (row_from 0 ps) c.args.memory.now) c.pointers.invariant.put e c.put_pointer-2.ensures.put
+    null_stored c.args.block ps c.pointers.place c.pointers.memory c.put_pointer-2.new.memory (put c.args.block (row_from 0 ps) c.args.memory.now) c.pointers.invariant.put e c.put_pointer-2.result c.put_pointer-2.ensures.put

@@ -271,37 +271,37 @@ pub leaf_at-cast_leaf-requires : goal.leaf_at-cast_leaf-requires
 leaf_at-cast_leaf-requires t c =
     let a = c.args.names.now in
     let part = c.in-Cast.operand in
-    let known = rw c.in-Cast.is at c.constant-known.ensures.known in
+    let known = rw c.in-Cast.is at c.constant_at-known.ensures.known in
     let inner = known.typed_known 0 part (omega arith) in
     let deep = inner.1 in
     let lt = c.requires.constant in
-    let s = cast_sound (module_of a) _ _ _ _ _ (sound_as a c.args.id c.constant-known.result.now (const.Cast c.in-Cast.opcode part c.in-Cast.to) c.constant-known.ensures.here c.in-Cast.is (leaf_tree c.args.kind) c.requires.sound) in (
+    let s = cast_sound (module_of a) _ _ _ _ _ (sound_as a c.args.id c.constant_at-known.result.now (const.Cast c.in-Cast.opcode part c.in-Cast.to) c.constant_at-known.ensures.here c.in-Cast.is (leaf_tree c.args.kind) c.requires.sound) in (
       omega (arith, deep, c.decreases),
       (record { ty = inner.0; value = omega (arith, deep, lt); sound = s.sound }, (known.types_known 0 c.in-Cast.to (omega arith), s.between)),
     )
 
 pub leaf_at-returns-in-Cast-clause-value : goal.leaf_at-returns-in-Cast-clause-value
 leaf_at-returns-in-Cast-clause-value t c =
-    leaf_as c.args.names.now c.args.id c.constant-known.result.now (const.Cast c.in-Cast.opcode c.in-Cast.operand c.in-Cast.to) c.constant-known.ensures.here c.in-Cast.is (leaf_tree c.args.kind) c.cast_leaf.result c.cast_leaf.ensures.value
+    leaf_as c.args.names.now c.args.id c.constant_at-known.result.now (const.Cast c.in-Cast.opcode c.in-Cast.operand c.in-Cast.to) c.constant_at-known.ensures.here c.in-Cast.is (leaf_tree c.args.kind) c.cast_leaf.result c.cast_leaf.ensures.value
 
 pub leaf_at-returns-in-Cast-clause-kind : goal.leaf_at-returns-in-Cast-clause-kind
 leaf_at-returns-in-Cast-clause-kind t c =
     let a = c.args.names.now in
-    let s = cast_sound (module_of a) _ _ _ _ _ (sound_as a c.args.id c.constant-known.result.now (const.Cast c.in-Cast.opcode c.in-Cast.operand c.in-Cast.to) c.constant-known.ensures.here c.in-Cast.is (leaf_tree c.args.kind) c.requires.sound) in
+    let s = cast_sound (module_of a) _ _ _ _ _ (sound_as a c.args.id c.constant_at-known.result.now (const.Cast c.in-Cast.opcode c.in-Cast.operand c.in-Cast.to) c.constant_at-known.ensures.here c.in-Cast.is (leaf_tree c.args.kind) c.requires.sound) in
     kind_is c.args.kind c.cast_leaf.result (subst (λ (x : Tree). HasType x c.cast_leaf.result) (sym s.same) c.cast_leaf.ensures.kind)
 
 pub leaf_at-binary_leaf-requires : goal.leaf_at-binary_leaf-requires
 leaf_at-binary_leaf-requires t c =
     let a = c.args.names.now in
     let lt = c.requires.constant in
-    let known = rw c.in-Binary.is at c.constant-known.ensures.known in
+    let known = rw c.in-Binary.is at c.constant_at-known.ensures.known in
     let left = known.typed_known 0 c.in-Binary.pair.left (omega arith) in
     let right = known.typed_known 1 c.in-Binary.pair.left (omega arith) in
     let left_deep = left.1 in
     let right_deep = right.1 in
     let same_left = ap (λ (p : ConstPair). p.left.value) c.get-in-Binary.ensures in
     let same_right = ap (λ (p : ConstPair). p.right.value) c.get-in-Binary.ensures in
-    let s = binary_sound (module_of a) _ _ _ _ _ _ _ (sound_as a c.args.id c.constant-known.result.now (const.Binary c.in-Binary.opcode c.in-Binary.flags c.in-Binary.pair) c.constant-known.ensures.here c.in-Binary.is (leaf_tree c.args.kind) c.requires.sound) in
+    let s = binary_sound (module_of a) _ _ _ _ _ _ _ (sound_as a c.args.id c.constant_at-known.result.now (const.Binary c.in-Binary.opcode c.in-Binary.flags c.in-Binary.pair) c.constant_at-known.ensures.here c.in-Binary.is (leaf_tree c.args.kind) c.requires.sound) in
     let first : IsPart a c.in-Binary.pair.left = record { ty = left.0; value = omega (arith, left_deep, lt); sound = s.left_sound } in
     let second : IsPart a c.in-Binary.pair.right = record { ty = right.0; value = omega (arith, right_deep, lt); sound = s.right_sound } in (
       omega (arith, left_deep, right_deep, c.decreases, same_left, same_right),
@@ -316,22 +316,22 @@ leaf_at-binary_leaf-requires t c =
 
 pub leaf_at-returns-in-Binary-clause-value : goal.leaf_at-returns-in-Binary-clause-value
 leaf_at-returns-in-Binary-clause-value t c =
-    leaf_as c.args.names.now c.args.id c.constant-known.result.now (const.Binary c.in-Binary.opcode c.in-Binary.flags c.in-Binary.pair) c.constant-known.ensures.here c.in-Binary.is (leaf_tree c.args.kind) c.binary_leaf.result
+    leaf_as c.args.names.now c.args.id c.constant_at-known.result.now (const.Binary c.in-Binary.opcode c.in-Binary.flags c.in-Binary.pair) c.constant_at-known.ensures.here c.in-Binary.is (leaf_tree c.args.kind) c.binary_leaf.result
     (rw c.get-in-Binary.ensures at c.binary_leaf.ensures.value)
 
 pub leaf_at-returns-in-Binary-clause-kind : goal.leaf_at-returns-in-Binary-clause-kind
 leaf_at-returns-in-Binary-clause-kind t c =
     let a = c.args.names.now in
-    let s = binary_sound (module_of a) _ _ _ _ _ _ _ (sound_as a c.args.id c.constant-known.result.now (const.Binary c.in-Binary.opcode c.in-Binary.flags c.in-Binary.pair) c.constant-known.ensures.here c.in-Binary.is (leaf_tree c.args.kind) c.requires.sound) in
+    let s = binary_sound (module_of a) _ _ _ _ _ _ _ (sound_as a c.args.id c.constant_at-known.result.now (const.Binary c.in-Binary.opcode c.in-Binary.flags c.in-Binary.pair) c.constant_at-known.ensures.here c.in-Binary.is (leaf_tree c.args.kind) c.requires.sound) in
     kind_is c.args.kind c.binary_leaf.result (subst (λ (x : Tree). HasType x c.binary_leaf.result) (sym s.first) (rw c.get-in-Binary.ensures at c.binary_leaf.ensures.kind))
 
 pub leaf_at-address_leaf-requires : goal.leaf_at-address_leaf-requires
 leaf_at-address_leaf-requires t c =
     let a = c.args.names.now in
-    let known = rw c.in-ElementAddress.is at c.constant-known.ensures.known in
+    let known = rw c.in-ElementAddress.is at c.constant_at-known.ensures.known in
     let high = top_within _ _ c.args.id known.typed_known in
     let same = ap (λ (x : ConstAddress). top x.operands) c.get.ensures in
-    let s = address_sound (module_of a) _ _ _ _ (sound_as a c.args.id c.constant-known.result.now (const.ElementAddress c.in-ElementAddress.flags c.in-ElementAddress.address) c.constant-known.ensures.here c.in-ElementAddress.is (leaf_tree c.args.kind) c.requires.sound) in
+    let s = address_sound (module_of a) _ _ _ _ (sound_as a c.args.id c.constant_at-known.result.now (const.ElementAddress c.in-ElementAddress.flags c.in-ElementAddress.address) c.constant_at-known.ensures.here c.in-ElementAddress.is (leaf_tree c.args.kind) c.requires.sound) in
     let address = c.in-ElementAddress.address in
     let laid = subst (λ (ss : Structs). lies_in_memory ss (tree a.table address.source) ≡ true) (structs_are a) s.laid in
     let fit = subst (λ (ss : Structs). element_operands_fit ss (tree a.table address.source) (constants_with_types a address.operands) ≡ true) (structs_are a) s.fit in (
@@ -346,62 +346,62 @@ pub leaf_at-returns-in-ElementAddress-clause-value : goal.leaf_at-returns-in-Ele
 leaf_at-returns-in-ElementAddress-clause-value t c =
     let a = c.args.names.now in
     let address = c.in-ElementAddress.address in
-    leaf_as a c.args.id c.constant-known.result.now (const.ElementAddress c.in-ElementAddress.flags address) c.constant-known.ensures.here c.in-ElementAddress.is (leaf_tree c.args.kind) c.address_leaf.result
+    leaf_as a c.args.id c.constant_at-known.result.now (const.ElementAddress c.in-ElementAddress.flags address) c.constant_at-known.ensures.here c.in-ElementAddress.is (leaf_tree c.args.kind) c.address_leaf.result
     ((rw c.get.ensures at c.address_leaf.ensures) ∙ ap (λ (x : Shape). rules.element_address (names_of a) (has_flag c.in-ElementAddress.flags Inbounds) x (indices_of a address.operands)) (sym (shape_is a address.source)))
 
 pub leaf_at-returns-in-ElementAddress-clause-kind : goal.leaf_at-returns-in-ElementAddress-clause-kind
 leaf_at-returns-in-ElementAddress-clause-kind t c =
     let a = c.args.names.now in
-    let s = address_sound (module_of a) _ _ _ _ (sound_as a c.args.id c.constant-known.result.now (const.ElementAddress c.in-ElementAddress.flags c.in-ElementAddress.address) c.constant-known.ensures.here c.in-ElementAddress.is (leaf_tree c.args.kind) c.requires.sound) in
+    let s = address_sound (module_of a) _ _ _ _ (sound_as a c.args.id c.constant_at-known.result.now (const.ElementAddress c.in-ElementAddress.flags c.in-ElementAddress.address) c.constant_at-known.ensures.here c.in-ElementAddress.is (leaf_tree c.args.kind) c.requires.sound) in
     pointer_of c.args.kind c.address_leaf.result s.pointer (subst IsPointer (sym c.address_leaf.ensures) (moved_pointer (names_of a) (has_flag c.in-ElementAddress.flags Inbounds) (shape_in a.table c.get.result.now.source) (indices_of a c.get.result.now.operands)))
 
 pub leaf_at-address-requires : goal.leaf_at-address-requires
 leaf_at-address-requires t c =
-    let known = rw c.in-Address.is at c.constant-known.ensures.known in
+    let known = rw c.in-Address.is at c.constant_at-known.ensures.known in
     known.globals_known 0 c.in-Address.global (omega arith)
 
 pub leaf_at-returns-in-Address-clause-value : goal.leaf_at-returns-in-Address-clause-value
 leaf_at-returns-in-Address-clause-value t c =
-    leaf_as c.args.names.now c.args.id c.constant-known.result.now (const.Address c.in-Address.global) c.constant-known.ensures.here c.in-Address.is (leaf_tree c.args.kind) c.address.result c.address.ensures
+    leaf_as c.args.names.now c.args.id c.constant_at-known.result.now (const.Address c.in-Address.global) c.constant_at-known.ensures.here c.in-Address.is (leaf_tree c.args.kind) c.address.result c.address.ensures
 
 pub leaf_at-returns-in-Address-clause-kind : goal.leaf_at-returns-in-Address-clause-kind
 leaf_at-returns-in-Address-clause-kind t c =
     let a = c.args.names.now in
-    let s = sound_as a c.args.id c.constant-known.result.now (const.Address c.in-Address.global) c.constant-known.ensures.here c.in-Address.is (leaf_tree c.args.kind) c.requires.sound in
+    let s = sound_as a c.args.id c.constant_at-known.result.now (const.Address c.in-Address.global) c.constant_at-known.ensures.here c.in-Address.is (leaf_tree c.args.kind) c.requires.sound in
     pointer_of c.args.kind c.address.result s.fits (subst IsPointer (sym c.address.ensures) (address_kind a (name_at a c.in-Address.global)))
 
 pub leaf_at-returns-in-Integer-clause-value : goal.leaf_at-returns-in-Integer-clause-value
 leaf_at-returns-in-Integer-clause-value t c =
-    leaf_as c.args.names.now c.args.id c.constant-known.result.now (const.Integer c.in-Integer.number) c.constant-known.ensures.here c.in-Integer.is (leaf_tree c.args.kind) (scalar.Int c.in-Integer.number) refl
+    leaf_as c.args.names.now c.args.id c.constant_at-known.result.now (const.Integer c.in-Integer.number) c.constant_at-known.ensures.here c.in-Integer.is (leaf_tree c.args.kind) (scalar.Int c.in-Integer.number) refl
 
 pub leaf_at-returns-in-Integer-clause-kind : goal.leaf_at-returns-in-Integer-clause-kind
 leaf_at-returns-in-Integer-clause-kind t c =
     let a = c.args.names.now in
-    number_kind (module_of a) c.args.kind c.in-Integer.number (sound_as a c.args.id c.constant-known.result.now (const.Integer c.in-Integer.number) c.constant-known.ensures.here c.in-Integer.is (leaf_tree c.args.kind) c.requires.sound)
+    number_kind (module_of a) c.args.kind c.in-Integer.number (sound_as a c.args.id c.constant_at-known.result.now (const.Integer c.in-Integer.number) c.constant_at-known.ensures.here c.in-Integer.is (leaf_tree c.args.kind) c.requires.sound)
 
 pub leaf_at-returns-in-Truth-clause-value : goal.leaf_at-returns-in-Truth-clause-value
 leaf_at-returns-in-Truth-clause-value t c =
     let a = c.args.names.now in
-    leaf_as a c.args.id c.constant-known.result.now (const.Truth c.in-Truth.truth) c.constant-known.ensures.here c.in-Truth.is (leaf_tree c.args.kind) c.bit.result (c.bit.ensures ∙ truth_leaf (names_of a) (leaf_tree c.args.kind) c.in-Truth.truth)
+    leaf_as a c.args.id c.constant_at-known.result.now (const.Truth c.in-Truth.truth) c.constant_at-known.ensures.here c.in-Truth.is (leaf_tree c.args.kind) c.bit.result (c.bit.ensures ∙ truth_leaf (names_of a) (leaf_tree c.args.kind) c.in-Truth.truth)
 
 pub leaf_at-returns-in-Truth-clause-kind : goal.leaf_at-returns-in-Truth-clause-kind
 leaf_at-returns-in-Truth-clause-kind t c =
     let a = c.args.names.now in
-    subst (IsOfKind c.args.kind) (sym c.bit.ensures) (truth_kind (module_of a) c.args.kind c.in-Truth.truth (sound_as a c.args.id c.constant-known.result.now (const.Truth c.in-Truth.truth) c.constant-known.ensures.here c.in-Truth.is (leaf_tree c.args.kind) c.requires.sound))
+    subst (IsOfKind c.args.kind) (sym c.bit.ensures) (truth_kind (module_of a) c.args.kind c.in-Truth.truth (sound_as a c.args.id c.constant_at-known.result.now (const.Truth c.in-Truth.truth) c.constant_at-known.ensures.here c.in-Truth.is (leaf_tree c.args.kind) c.requires.sound))
 
 pub leaf_at-returns-in-Null-clause-value : goal.leaf_at-returns-in-Null-clause-value
 leaf_at-returns-in-Null-clause-value t c =
-    leaf_as c.args.names.now c.args.id c.constant-known.result.now const.Null c.constant-known.ensures.here c.in-Null.is (leaf_tree c.args.kind) c.zero.result c.zero.ensures
+    leaf_as c.args.names.now c.args.id c.constant_at-known.result.now const.Null c.constant_at-known.ensures.here c.in-Null.is (leaf_tree c.args.kind) c.zero.result c.zero.ensures
 
 pub leaf_at-returns-in-Null-clause-kind : goal.leaf_at-returns-in-Null-clause-kind
 leaf_at-returns-in-Null-clause-kind t c =
     let a = c.args.names.now in
-    subst (IsOfKind c.args.kind) (sym c.zero.ensures) (null_kind (module_of a) c.args.kind (sound_as a c.args.id c.constant-known.result.now const.Null c.constant-known.ensures.here c.in-Null.is (leaf_tree c.args.kind) c.requires.sound))
+    subst (IsOfKind c.args.kind) (sym c.zero.ensures) (null_kind (module_of a) c.args.kind (sound_as a c.args.id c.constant_at-known.result.now const.Null c.constant_at-known.ensures.here c.in-Null.is (leaf_tree c.args.kind) c.requires.sound))
 
 pub leaf_at-returns-in-Undef-clause-value : goal.leaf_at-returns-in-Undef-clause-value
 leaf_at-returns-in-Undef-clause-value t c =
     let a = c.args.names.now in
-    leaf_as a c.args.id c.constant-known.result.now const.Undef c.constant-known.ensures.here c.in-Undef.is (leaf_tree c.args.kind) c.zero-in-Undef.result (c.zero-in-Undef.ensures ∙ zero_value (names_of a) c.args.kind)
+    leaf_as a c.args.id c.constant_at-known.result.now const.Undef c.constant_at-known.ensures.here c.in-Undef.is (leaf_tree c.args.kind) c.zero-in-Undef.result (c.zero-in-Undef.ensures ∙ zero_value (names_of a) c.args.kind)
 
 pub leaf_at-returns-in-Undef-clause-kind : goal.leaf_at-returns-in-Undef-clause-kind
 leaf_at-returns-in-Undef-clause-kind t c = subst (IsOfKind c.args.kind) (sym c.zero-in-Undef.ensures) (zero_kind c.args.kind)
@@ -409,7 +409,7 @@ leaf_at-returns-in-Undef-clause-kind t c = subst (IsOfKind c.args.kind) (sym c.z
 pub leaf_at-returns-in-ZeroInitializer-clause-value : goal.leaf_at-returns-in-ZeroInitializer-clause-value
 leaf_at-returns-in-ZeroInitializer-clause-value t c =
     let a = c.args.names.now in
-    leaf_as a c.args.id c.constant-known.result.now const.ZeroInitializer c.constant-known.ensures.here c.in-ZeroInitializer.is (leaf_tree c.args.kind) c.zero-in-ZeroInitializer.result (c.zero-in-ZeroInitializer.ensures ∙ zero_value (names_of a) c.args.kind)
+    leaf_as a c.args.id c.constant_at-known.result.now const.ZeroInitializer c.constant_at-known.ensures.here c.in-ZeroInitializer.is (leaf_tree c.args.kind) c.zero-in-ZeroInitializer.result (c.zero-in-ZeroInitializer.ensures ∙ zero_value (names_of a) c.args.kind)
 
 pub leaf_at-returns-in-ZeroInitializer-clause-kind : goal.leaf_at-returns-in-ZeroInitializer-clause-kind
 leaf_at-returns-in-ZeroInitializer-clause-kind t c = subst (IsOfKind c.args.kind) (sym c.zero-in-ZeroInitializer.ensures) (zero_kind c.args.kind)
@@ -417,7 +417,7 @@ leaf_at-returns-in-ZeroInitializer-clause-kind t c = subst (IsOfKind c.args.kind
 pub leaf_at-returns-in-Poison-clause-value : goal.leaf_at-returns-in-Poison-clause-value
 leaf_at-returns-in-Poison-clause-value t c =
     let a = c.args.names.now in
-    leaf_as a c.args.id c.constant-known.result.now const.Poison c.constant-known.ensures.here c.in-Poison.is (leaf_tree c.args.kind) scalar.Poison (poison_value (names_of a) c.args.kind)
+    leaf_as a c.args.id c.constant_at-known.result.now const.Poison c.constant_at-known.ensures.here c.in-Poison.is (leaf_tree c.args.kind) scalar.Poison (poison_value (names_of a) c.args.kind)
 
 pub leaf_at-returns-in-Poison-clause-kind : goal.leaf_at-returns-in-Poison-clause-kind
 leaf_at-returns-in-Poison-clause-kind t c = poison_kind c.args.kind
@@ -425,9 +425,9 @@ leaf_at-returns-in-Poison-clause-kind t c = poison_kind c.args.kind
 pub leaf_at-returns-in-ByteString : goal.leaf_at-returns-in-ByteString
 leaf_at-returns-in-ByteString t c =
     let a = c.args.names.now in
-    absurd (no_bytes (module_of a) c.args.kind c.in-ByteString.field-0 (sound_as a c.args.id c.constant-known.result.now (const.ByteString c.in-ByteString.field-0) c.constant-known.ensures.here c.in-ByteString.is (leaf_tree c.args.kind) c.requires.sound))
+    absurd (no_bytes (module_of a) c.args.kind c.in-ByteString.field-0 (sound_as a c.args.id c.constant_at-known.result.now (const.ByteString c.in-ByteString.field-0) c.constant_at-known.ensures.here c.in-ByteString.is (leaf_tree c.args.kind) c.requires.sound))
 
 pub leaf_at-returns-in-Aggregate : goal.leaf_at-returns-in-Aggregate
 leaf_at-returns-in-Aggregate t c =
     let a = c.args.names.now in
-    absurd (no_list (module_of a) c.args.kind _ _ (sound_as a c.args.id c.constant-known.result.now (const.Aggregate c.in-Aggregate.field-0 c.in-Aggregate.field-1) c.constant-known.ensures.here c.in-Aggregate.is (leaf_tree c.args.kind) c.requires.sound))
+    absurd (no_list (module_of a) c.args.kind _ _ (sound_as a c.args.id c.constant_at-known.result.now (const.Aggregate c.in-Aggregate.field-0 c.in-Aggregate.field-1) c.constant_at-known.ensures.here c.in-Aggregate.is (leaf_tree c.args.kind) c.requires.sound))

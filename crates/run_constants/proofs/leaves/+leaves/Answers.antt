@@ -49,7 +49,7 @@ push_leaves-returns-in-Undef t c =
     (ap (λ (x : Types). filled fill.Zero (shape_in x c.args.ty)) c.types_of.ensures
     ∙ sym (filled_is fill.Zero (shape_in a.table c.args.ty))
     ∙ ap zeros (sym (shape_is a c.args.ty))
-    ∙ value_as a c.args.id c.constant-known.result.now const.Undef c.constant-known.ensures.here c.in-Undef.is (tree a.table c.args.ty))
+    ∙ value_as a c.args.id c.constant_at-known.result.now const.Undef c.constant_at-known.ensures.here c.in-Undef.is (tree a.table c.args.ty))
 
 pub push_leaves-returns-in-ZeroInitializer : goal.push_leaves-returns-in-ZeroInitializer
 push_leaves-returns-in-ZeroInitializer t c =
@@ -58,7 +58,7 @@ push_leaves-returns-in-ZeroInitializer t c =
     (ap (λ (x : Types). filled fill.Zero (shape_in x c.args.ty)) c.types_of-in-ZeroInitializer.ensures
     ∙ sym (filled_is fill.Zero (shape_in a.table c.args.ty))
     ∙ ap zeros (sym (shape_is a c.args.ty))
-    ∙ value_as a c.args.id c.constant-known.result.now const.ZeroInitializer c.constant-known.ensures.here c.in-ZeroInitializer.is (tree a.table c.args.ty))
+    ∙ value_as a c.args.id c.constant_at-known.result.now const.ZeroInitializer c.constant_at-known.ensures.here c.in-ZeroInitializer.is (tree a.table c.args.ty))
 
 pub push_leaves-returns-in-Poison : goal.push_leaves-returns-in-Poison
 push_leaves-returns-in-Poison t c =
@@ -67,7 +67,7 @@ push_leaves-returns-in-Poison t c =
     (ap (λ (x : Types). filled fill.Poison (shape_in x c.args.ty)) c.types_of-in-Poison.ensures
     ∙ sym (filled_is fill.Poison (shape_in a.table c.args.ty))
     ∙ ap poisons (sym (shape_is a c.args.ty))
-    ∙ value_as a c.args.id c.constant-known.result.now const.Poison c.constant-known.ensures.here c.in-Poison.is (tree a.table c.args.ty))
+    ∙ value_as a c.args.id c.constant_at-known.result.now const.Poison c.constant_at-known.ensures.here c.in-Poison.is (tree a.table c.args.ty))
 
 -- ---- lists
 
@@ -75,16 +75,16 @@ pub push_leaves-returns-in-ByteString : goal.push_leaves-returns-in-ByteString
 push_leaves-returns-in-ByteString t c =
     let a = c.args.names.now in
     reworded _ _ _ _ _ c.push_bytes.ensures
-    (ap (map scalar.Int) c.bytes.ensures ∙ value_as a c.args.id c.constant-known.result.now (const.ByteString c.in-ByteString.bytes) c.constant-known.ensures.here c.in-ByteString.is (tree a.table c.args.ty))
+    (ap (map scalar.Int) c.bytes.ensures ∙ value_as a c.args.id c.constant_at-known.result.now (const.ByteString c.in-ByteString.bytes) c.constant_at-known.ensures.here c.in-ByteString.is (tree a.table c.args.ty))
 
 pub push_leaves-push_parts-requires : goal.push_leaves-push_parts-requires
 push_leaves-push_parts-requires t c =
     let a = c.args.names.now in
     let elements = c.in-Aggregate.elements in
-    let known = rw c.in-Aggregate.is at c.constant-known.ensures.known in
+    let known = rw c.in-Aggregate.is at c.constant_at-known.ensures.known in
     let high = top_within _ _ c.args.id known.typed_known in
     let same = ap top c.as_slice.ensures in
-    let s = list_sound (module_of a) _ _ _ (sound_as a c.args.id c.constant-known.result.now (const.Aggregate c.in-Aggregate.field-0 elements) c.constant-known.ensures.here c.in-Aggregate.is (tree a.table c.args.ty) c.requires.sound) in
+    let s = list_sound (module_of a) _ _ _ (sound_as a c.args.id c.constant_at-known.result.now (const.Aggregate c.in-Aggregate.field-0 elements) c.constant_at-known.ensures.here c.in-Aggregate.is (tree a.table c.args.ty) c.requires.sound) in
     (omega (arith, high, c.decreases, same), rw c.as_slice.ensures (all_parts a c.args.id elements c.requires.constant known.typed_known s))
 
 pub push_leaves-returns-in-Aggregate : goal.push_leaves-returns-in-Aggregate
@@ -92,4 +92,4 @@ push_leaves-returns-in-Aggregate t c =
     let a = c.args.names.now in
     reworded _ _ _ _ _ c.push_parts.ensures
     (ap (values_of a) c.as_slice.ensures
-    ∙ value_as a c.args.id c.constant-known.result.now (const.Aggregate c.in-Aggregate.field-0 c.in-Aggregate.elements) c.constant-known.ensures.here c.in-Aggregate.is (tree a.table c.args.ty))
+    ∙ value_as a c.args.id c.constant_at-known.result.now (const.Aggregate c.in-Aggregate.field-0 c.in-Aggregate.elements) c.constant_at-known.ensures.here c.in-Aggregate.is (tree a.table c.args.ty))

@@ -1,14 +1,35 @@
-use Rattle.std.proofs.Common.{Some, ap, sym, ◌∙◌, subst}
-use Rattle.std.proofs.lemmas.Option.{slice_get-get_or}
+use Rattle.std.proofs.Common.{Some, refl, ap, sym, ◌∙◌, subst}
+use Rattle.std.proofs.lemmas.Option.{same_Some, slice_get-get_or}
 use Rattle.module_arena.specs.Lists.{Lists}
 use Rattle.module_arena.specs.Valid.{IsValid}
 use Rattle.module_arena.specs.View.{module_of}
 use Rattle.module_arena.specs.WellFormed.{IsWellFormed}
 use Rattle.run_names.specs.declared.spot.Spot.{Spot}
 use Rattle.run_contents.proofs.Known.{defines_within, initialised}
-use Rattle.run_contents.proofs.Rooms.{its_variable}
+use Rattle.run_names.specs.Spots.{size_of}
+use Rattle.run_initial.proofs.Puts.{kept_on}
+use Rattle.run_contents.proofs.Placed.{new_there, placed_from_start}
+use Rattle.run_contents.proofs.Rooms.{its_variable, size_is}
 use Rattle.run_contents.proofs.Stores.{one_stored, others_placed}
 use Rattle.run_contents.proofs.contents.put_contents.Goals as goal
+
+pub spots-init : goal.spots-init
+spots-init c = record { stored = refl; placed = placed_from_start c.args.names.now c.args.memory.now c.requires; kept = (refl, refl) }
+
+pub put_variable-requires-clause-fresh : goal.put_variable-requires-clause-fresh
+put_variable-requires-clause-fresh c = λ v at.
+    let a = c.args.names.now in
+    let well_formed : IsWellFormed (module_of a) = subst (λ (b : Lists). IsWellFormed (module_of b)) c.program-program.ensures c.arena-arena.ensures.well_formed in
+    let valid : IsValid (module_of a) = subst (λ (b : Lists). IsValid (module_of b)) c.program-program.ensures c.arena-arena.ensures.valid in
+    let spots = c.spots-spots.result.now in
+    let are = c.spots-spots.ensures in
+    let k = c.spots.block in
+    let s = c.index-spots-block.result in
+    let there = slice_get-get_or spots k s c.spots-test.true ∙ ap (λ (x : Spot). Some x) (sym c.index-spots-block.is) in
+    let its = its_variable a well_formed valid spots are k s there in
+    let same = same_Some its.0 v (sym its.1.at ∙ at) in
+    let size = size_is a well_formed valid spots are k s there its.0 its.1 ∙ ap (size_of a) same in
+    new_there a k c.spots.memory spots are s there c.spots.invariant.placed (size_of a v) size
 
 pub put_variable-requires-clause-defined : goal.put_variable-requires-clause-defined
 put_variable-requires-clause-defined c =
@@ -40,4 +61,8 @@ spots-preserved c =
     record {
       stored = one_stored a well_formed valid spots are k s there its.0 its.1 has.0 has.1 m n c.spots.invariant.placed put ∙ c.spots.invariant.stored;
       placed = others_placed a well_formed valid spots are k s there its.0 its.1 has.0 has.1 m n c.spots.invariant.placed put c.in_ok-put_variable.ensures.kept;
+      kept = kept_on c.args.memory.now m n c.spots.invariant.kept c.in_ok-put_variable.ensures.kept;
     }
+
+pub returns-in_err-put_variable-clause-kept : goal.returns-in_err-put_variable-clause-kept
+returns-in_err-put_variable-clause-kept c = kept_on c.args.memory.now c.spots.memory c.put_variable.new.memory c.spots.invariant.kept c.in_err-put_variable.ensures.kept

@@ -9,14 +9,14 @@ use Rattle.run_flat.specs.declared.action.Action.{Action}
 use Rattle.run_flat.specs.Flat.{IsWithin}
 use Rattle.run_flat.specs.Grown.{no_pools}
 use Rattle.run_signatures.specs.Numbers.{AreNumbered, IsNumbered}
-use Rattle.run_decode.proofs.Rowed.{all_rows_in, body_is, code_there, suits_there}
+use Rattle.run_decode.proofs.Rowed.{all_rows_in, body_is, code_there, function_suits, suits_there}
 use Rattle.run_decode.proofs.bodies.decode.Goals as goal
 
 pub new-requires-clause-id : goal.new-requires-clause-id
 new-requires-clause-id c = slice_get_within c.args.names.now.functions c.args.id c.requires.code.0 c.requires.code.1
 
 pub new-requires-clause-values : goal.new-requires-clause-values
-new-requires-clause-values c = λ f at. let suits = c.requires.suits f [] at in suits.values
+new-requires-clause-values c = λ f at. let suits = function_suits c.args.names.now _ _ c.args.id f [] (c.arena-arena.ensures.arena ∙ c.program-program.ensures) c.program-program.ensures c.functions_of_a_checked_module_suit.ensures c.variable_count-count.ensures.good c.arena-arena.ensures.well_formed c.arena-arena.ensures.valid at in suits.values
 
 pub put_blocks-requires-clause-lists : goal.put_blocks-requires-clause-lists
 put_blocks-requires-clause-lists c = c.requires.lists ∙ sym c.in_ok-scope.ensures.lists
@@ -30,7 +30,9 @@ pub put_blocks-requires-clause-within : goal.put_blocks-requires-clause-within
 put_blocks-requires-clause-within c = subst (λ (xs : List Action). All (IsWithin c.new-pools.result) xs) (sym c.new-actions.ensures) (All-nil (IsWithin c.new-pools.result))
 
 pub put_blocks-requires-clause-suits : goal.put_blocks-requires-clause-suits
-put_blocks-requires-clause-suits c = suits_there c.in_ok-scope.scope c.args.names.now c.args.id c.in_ok-scope.ensures.lists c.in_ok-scope.ensures.function c.requires.suits
+put_blocks-requires-clause-suits c =
+    suits_there c.in_ok-scope.scope c.args.names.now c.args.id c.in_ok-scope.ensures.lists c.in_ok-scope.ensures.function
+    (λ f places at. function_suits c.args.names.now _ _ c.args.id f places (c.arena-arena.ensures.arena ∙ c.program-program.ensures) c.program-program.ensures c.functions_of_a_checked_module_suit.ensures c.variable_count-count.ensures.good c.arena-arena.ensures.well_formed c.arena-arena.ensures.valid at)
 
 pub new-requires-2-clause-rows : goal.new-requires-2-clause-rows
 new-requires-2-clause-rows c = all_rows_in c.in_ok-scope.scope c.put_blocks.new.pools c.put_blocks.new.actions c.in_ok-rows.rows c.in_ok-rows.ensures.rows

@@ -15,15 +15,16 @@ use Rattle.run_constants.proofs.Within.{below_top, item_has, top, top_within}
 use Rattle.run_constants.specs.Sound.{IsPart, constant_of, constants_with_types, names_of}
 use Rattle.run_rules.specs.Constant.{constant_values, shape_of}
 use Rattle.run_rules.specs.Leaves.{Slot, slots_at}
+use Rattle.run_rules.specs.Plan.{Contents}
 use Rattle.run_shapes.specs.Shapes.{shape_in}
 use Rattle.run_shapes.proofs.Outlines.{laid_is}
 use Rattle.run_initial.specs.Constants.{bytes_at, parts_at, shapes_with, value_at}
-use Rattle.run_initial.specs.declared.filled.Fill.TheVariants as fill
+use Rattle.run_constants.specs.declared.filled.Fill.TheVariants as fill
 use Rattle.run_initial.specs.declared.leaf.Target.{Target}
 use Rattle.run_initial.specs.Fresh.{filled, is_packed, put}
 use Rattle.run_initial.proofs.Lists.{bytes_is, bytes_size, bytes_type, list_made, parts_are, poison_is, undef_is, zero_is}
 use Rattle.run_initial.proofs.Parts.{its_align, its_size, it_ends, lies, next, none_left, others_end, others_laid, room, some_align}
-use Rattle.run_initial.proofs.Puts.{kept_on, part_end, part_more, parts_next, reworded}
+use Rattle.run_initial.proofs.Puts.{kept_on, part_end, part_more, part_refused, parts_next, refused_on, reworded}
 use Rattle.run_initial.proofs.Sounds.{blocks, list_shape, values_typed}
 use Rattle.run_initial.proofs.constants.+constants.Goals as goal
 
@@ -268,6 +269,27 @@ put_constants-returns-clause-put t c =
     part_end c.args.target.block (parts_at (names_of a) c.args.packed c.args.target.offset c.parts.end (constants_with_types a (drop c.parts.part-index c.args.parts.now))) c.parts.memory
     (put c.args.target.block (parts_at (names_of a) c.args.packed c.args.target.offset 0 (constants_with_types a c.args.parts.now)) c.args.memory.now)
     (ap (parts_at (names_of a) c.args.packed c.args.target.offset c.parts.end) (none_left a c.args.parts.now c.parts.part-index c.parts-test.false)) c.parts.invariant.put
+
+pub put_constants-returns-in_err-put_constant-clause-put : goal.put_constants-returns-in_err-put_constant-clause-put
+put_constants-returns-in_err-put_constant-clause-put t c =
+    let a = c.args.names.now in
+    let item = c.part-item.result in
+    let at = c.args.target.offset in
+    let m = c.parts.memory in
+    let n = next a c.types_of-types.result.now c.types_of-types.ensures c.args.packed c.args.parts.now c.parts.part-index c.parts.end _ item c.parts-test.true c.part-item.is c.parts.invariant.laid c.parts.invariant.end in
+    let align = its_align a c.types_of-types.result.now c.types_of-types.ensures c.args.packed c.args.parts.now c.parts.part-index c.parts.end _ item c.parts-test.true c.part-item.is c.parts.invariant.laid c.parts.invariant.end
+    c.layout_of-layout.result c.layout_of-layout.ensures in
+    let start = c.start_of-start.ensures ∙ ap (placed c.args.packed c.parts.end) align in
+    let others = constants_with_types a (drop (c.parts.part-index + 1) c.args.parts.now) in
+    let its : ℕ → Contents = value_at (names_of a) (tree a.table item.ty) (constant_of a item.value) in
+    let all = put c.args.target.block (parts_at (names_of a) c.args.packed at 0 (constants_with_types a c.args.parts.now)) c.args.memory.now in
+    refused_on all (put c.further.result.block (its c.further.result.offset) m) c.put_constant.new.memory c.put_constant.new.memory c.from_residual.result _ c.from_residual.ensures.0 c.from_residual.ensures.1 c.in_err-put_constant.ensures.put
+    (λ kind e.
+    part_refused c.args.target.block (its (at + c.start_of-start.result))
+    (parts_at (names_of a) c.args.packed at (c.start_of-start.result + size (shape_of (names_of a) (tree a.table item.ty))) others)
+    (parts_at (names_of a) c.args.packed at c.parts.end (constants_with_types a (drop c.parts.part-index c.args.parts.now))) m all
+    (parts_next (names_of a) (tree a.table item.ty) (constant_of a item.value) others (constants_with_types a (drop c.parts.part-index c.args.parts.now)) c.args.packed at c.parts.end c.start_of-start.result n start) c.parts.invariant.put kind
+    (ap (λ (x : Target). put x.block (its x.offset) m) (sym c.further.ensures) ∙ e))
 
 pub put_constants-returns-in_err-put_constant-clause-kept : goal.put_constants-returns-in_err-put_constant-clause-kept
 put_constants-returns-in_err-put_constant-clause-kept t c = kept_on c.args.memory.now c.parts.memory c.put_constant.new.memory c.parts.invariant.kept c.in_err-put_constant.ensures.kept

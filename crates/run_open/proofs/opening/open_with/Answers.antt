@@ -49,4 +49,4 @@ returns c =
     let o = c.put_contents.new.memory in
     let made = subst (λ b. Fills b (with_variables p.variables no_blocks) m) c.if-not-all.false c.in_ok-all.ensures.placed in
     let has : (with_main (main_seen c.args.main) c.args.words.now m ≡ Ok (n, due_of c.in-Some.call)) × KeepsBlocks m n = subst (λ o. MakesMain (with_main (main_seen c.args.main) c.args.words.now m) o m n) c.in-Some.is c.in_ok-call.ensures in
-    all_placed p (main_seen c.args.main) c.args.words.now m made n o c.seal_constants.new.self (due_of c.in-Some.call) c.in_ok-due.due has.0 c.in_ok-put_contents.ensures c.seal_constants.ensures c.in_ok-due.ensures
+    all_placed p (main_seen c.args.main) c.args.words.now m made n o c.seal_constants.new.self (due_of c.in-Some.call) c.in_ok-due.due has.0 c.in_ok-put_contents.ensures.stored c.seal_constants.ensures c.in_ok-due.ensures

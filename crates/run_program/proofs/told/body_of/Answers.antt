@@ -1,9 +1,6 @@
-use Rattle.std.proofs.Common.{◌≡◌, ℕ, Result, Ok, Err, IfOk, ◌∙◌, subst}
-use Rattle.module_arena.specs.Known.{IsGood}
+use Rattle.std.proofs.Common.{◌≡◌, ℕ, Result, Ok, Err, IfOk}
 use Rattle.module_arena.specs.Lists.{Lists}
-use Rattle.module_arena.specs.Valid.{IsValid}
 use Rattle.module_arena.specs.View.{module_of}
-use Rattle.module_arena.specs.WellFormed.{IsWellFormed}
 use Rattle.run_body.specs.Bodies.{AreNarrow, Decoded, look_of}
 use Rattle.run_names.specs.Told.{alone}
 use Rattle.run_rules.specs.Look.{look}
@@ -11,14 +8,6 @@ use Rattle.run_signatures.specs.Met.{Met}
 use Rattle.run_signatures.specs.Numbers.{AreNumbered}
 use Rattle.run_program.specs.Loaded.{IsBodyOf}
 use Rattle.run_program.proofs.told.body_of.Goals as goal
-
-pub decode-requires-clause-suits : goal.decode-requires-clause-suits
-decode-requires-clause-suits c = λ f places at.
-    c.functions_of_a_checked_module_suit.ensures c.args.names.now
-    (subst IsGood (c.arena-arena.ensures.arena ∙ c.program.ensures) c.variable_count-count.ensures.good)
-    (subst (λ (a : Lists). IsWellFormed (module_of a)) c.program.ensures c.arena-arena.ensures.well_formed)
-    (subst (λ (a : Lists). IsValid (module_of a)) c.program.ensures c.arena-arena.ensures.valid)
-    c.args.id f at places
 
 -- what is told of a body that was made
 body_told : {E : Type 0} (a : Lists) (met : Met) (id : ℕ) (r : Result Decoded E) → IfOk r (λ b. b.lists ≡ a) → IfOk r (λ b. (block position : ℕ) → look_of b block position ≡ look (alone (module_of a)) id block position)

@@ -17,9 +17,9 @@ invariant_of-self c =
     let i = c.args.index in
     let lt : i < length (numbered u.count (kept_in u.pages.items)) = rw (← c.self.view_is) at c.requires in
     let there = page_there u.pages.items u.count i c.self.invariant.1 (omega (arith, lt, length-numbered u.count (kept_in u.pages.items))) in
-    let is = page_read u.pages.items (i / 16) c.index_mut.result.now there c.index_mut.ensures.value in (
+    let is = page_read u.pages.items (i / 64) c.index_mut.result.now there c.index_mut.ensures.value in (
       c.self.invariant.0,
-      paged_set u.pages.items u.count (i / 16) c.end.new.self c.self.invariant.1 there
+      paged_set u.pages.items u.count (i / 64) c.end.new.self c.self.invariant.1 there
           (λ e. c.end.ensures.long (omega (arith, e, ap length is, c.self.invariant.1.last, ap (λ q. length (page u.pages.items q)) e)) ∙ ap length is),
     )
 
@@ -29,7 +29,7 @@ returns c =
     let i = c.args.index in
     let lt : i < length (numbered u.count (kept_in u.pages.items)) = rw (← c.self.view_is) at c.requires in
     let there = page_there u.pages.items u.count i c.self.invariant.1 (omega (arith, lt, length-numbered u.count (kept_in u.pages.items))) in
-    let is = page_read u.pages.items (i / 16) c.index_mut.result.now there c.index_mut.ensures.value in
+    let is = page_read u.pages.items (i / 64) c.index_mut.result.now there c.index_mut.ensures.value in
     rw (← c.self.view_is)
     (numbered-set u.count (kept_in u.pages.items) _ i _
     (kept_here u.pages.items i c.end.new.self there ∙ c.end.ensures.here)

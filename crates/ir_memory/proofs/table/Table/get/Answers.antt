@@ -18,11 +18,11 @@ returns-then-place-len c =
     let lt : i < length (numbered u.count (kept_in u.pages.items)) = rw (← c.self.view_is) at c.requires in
     let there = page_there u.pages.items u.count i c.self.invariant.1 (omega (arith, lt, length-numbered u.count (kept_in u.pages.items))) in
     let rows = c.index-page.result.now in
-    let is = page_read u.pages.items (i / 16) rows there c.index-page.ensures in
+    let is = page_read u.pages.items (i / 64) rows there c.index-page.ensures in
     let b = c.at.result.now in
-    let short : i % 16 < length rows = omega arith in
+    let short : i % 64 < length rows = omega arith in
     rw (← c.self.view_is)
-    (read-kept u.count (kept_in u.pages.items) i b b lt (row_read rows (i % 16) b short c.at.ensures ∙ ap (λ x. row x (i % 16)) is))
+    (read-kept u.count (kept_in u.pages.items) i b b lt (row_read rows (i % 64) b short c.at.ensures ∙ ap (λ x. row x (i % 64)) is))
 
 pub returns : goal.returns
 returns c =
@@ -31,6 +31,6 @@ returns c =
     let lt : i < length (numbered u.count (kept_in u.pages.items)) = rw (← c.self.view_is) at c.requires in
     let there = page_there u.pages.items u.count i c.self.invariant.1 (omega (arith, lt, length-numbered u.count (kept_in u.pages.items))) in
     let rows = c.index-page.result.now in
-    let is = page_read u.pages.items (i / 16) rows there c.index-page.ensures in
+    let is = page_read u.pages.items (i / 64) rows there c.index-page.ensures in
     rw (← c.self.view_is)
-    (read-kept u.count (kept_in u.pages.items) i u.ended u.ended lt (c.self.invariant.0 ∙ sym (row_past rows (i % 16) (omega arith)) ∙ ap (λ x. row x (i % 16)) is))
+    (read-kept u.count (kept_in u.pages.items) i u.ended u.ended lt (c.self.invariant.0 ∙ sym (row_past rows (i % 64) (omega arith)) ∙ ap (λ x. row x (i % 64)) is))

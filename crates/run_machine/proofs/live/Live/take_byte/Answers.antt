@@ -17,7 +17,7 @@ returns-clause-gets g c =
     subst
     (λ (l : Living). Gets a.to c.get.result l.stack n.stack a.waiting.now n.waiting a.held.now n.held
     (outside (g.I.Source.left a.input.now) (g.I.Source.faults a.input.now) (g.O.Sink.taken a.output.now) (g.O.Sink.faults a.output.now))
-    (outside (g.I.Source.left n.source) (g.I.Source.faults n.source) (g.O.Sink.taken n.sink) (g.O.Sink.faults n.sink))) c.self.view_is c.get.ensures
+    (outside (g.I.Source.left n.source) (g.I.Source.faults n.source) (g.O.Sink.taken n.sink) (g.O.Sink.faults n.sink))) c.self.view_is c.get.ensures.got
 
 pub returns-clause-others : goal.returns-clause-others
 returns-clause-others g c = ap (λ (l : Living). record l { stack = c.get.new.stack }) c.self.view_is
@@ -29,4 +29,4 @@ returns-clause-live g c =
     let n = c.get.new in
     byte_seen a.to (record { program = u.program; stack = u.stack; memory = u.memory; due = u.due; written = u.room.written.items }) a.self.now n.stack c.get.result a.waiting.now n.waiting a.held.now n.held
     (outside (g.I.Source.left a.input.now) (g.I.Source.faults a.input.now) (g.O.Sink.taken a.output.now) (g.O.Sink.faults a.output.now))
-    (outside (g.I.Source.left n.source) (g.I.Source.faults n.source) (g.O.Sink.taken n.sink) (g.O.Sink.faults n.sink)) c.self.view_is c.get.ensures
+    (outside (g.I.Source.left n.source) (g.I.Source.faults n.source) (g.O.Sink.taken n.sink) (g.O.Sink.faults n.sink)) c.self.view_is c.get.ensures.got

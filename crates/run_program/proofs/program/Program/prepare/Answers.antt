@@ -1,9 +1,9 @@
 use Rattle.std.proofs.Common.{◌≡◌, ℕ, ◌<◌, Option, Some, None, length, set, refl, sym, subst, arith}
 use Rattle.std.specs.Prelude.{slice_get}
 use Rattle.run_body.specs.Bodies.{Decoded}
-use Rattle.run_program.specs.Loaded.{IsBodyOf}
+use Rattle.run_program.specs.Loaded.{IsBodyOf, IsReady}
 use Rattle.run_program.proofs.Growing.{loaded_grown}
-use Rattle.run_program.proofs.Made.{body_absent, body_place, keeps_prepared, loaded_prepared, set_there}
+use Rattle.run_program.proofs.Made.{body_absent, body_place, keeps_prepared, loaded_prepared, none_ready, set_there}
 use Rattle.run_program.proofs.program.Program.prepare.Goals as goal
 
 absent_by : (o : Option Decoded) → ((b : Decoded) → o ≡ Some b → ⊥) → o ≡ None
@@ -49,3 +49,14 @@ returns-clause-keeps c =
     keeps_prepared c.args.self.now s.names s.signatures s.heads.items s.bodies.items c.self.view_is c.self.invariant c.body_of.new.signatures c.body_of.ensures.numbers c.number-place.result c.in_ok-body.body
     (body_absent c.args.self.now s.names s.signatures s.heads.items s.bodies.items c.self.view_is c.self.invariant c.number-place.result c.index.result.now here c.index.ensures
     (absent_by c.index.result.now (λ b is. c.in_default.not-Some b is)))
+
+pub returns-in_err-body-clause-again : goal.returns-in_err-body-clause-again
+returns-in_err-body-clause-again c = λ b ready.
+    let s = c.self.inside in
+    let lt = body_place c.args.self.now s.names s.signatures s.heads.items s.bodies.items c.self.view_is c.self.invariant c.args.id c.requires.code in
+    let here : c.number-place.result < length s.bodies.items = omega (arith, lt, c.number-place.ensures) in
+    let none = body_absent c.args.self.now s.names s.signatures s.heads.items s.bodies.items c.self.view_is c.self.invariant c.number-place.result c.index.result.now here c.index.ensures
+    (absent_by c.index.result.now (λ b is. c.in_default.not-Some b is)) in
+    absurd
+    (none_ready c.args.self.now s.names s.signatures s.heads.items s.bodies.items c.self.view_is c.self.invariant c.number-place.result none b
+    (subst (λ (n : ℕ). IsReady c.args.self.now n b) (sym c.number-place.ensures) ready))

@@ -4,7 +4,7 @@ use Rattle.module_arena.specs.Known.{KnowsConst, counts}
 use Rattle.module_arena.specs.Lists.{Lists}
 use Rattle.module_arena.proofs.ConstantsTold.{const_known, constant_here}
 use Rattle.run_constants.specs.Sound.{constant_of}
-use Rattle.run_initial.proofs.constants.constant_at.Goals as goal
+use Rattle.run_constants.proofs.arena.constant_at.Goals as goal
 
 pub constant-requires : goal.constant-requires
 constant-requires c = subst (λ (x : Lists). c.args.id < length x.constants) (sym (c.arena-arena.ensures.arena ∙ c.program.ensures)) c.requires

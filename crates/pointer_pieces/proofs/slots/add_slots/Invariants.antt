@@ -3,7 +3,7 @@ use Rattle.std.specs.Prelude.{IsSome}
 use Rattle.std.specs.Ordering.{nat_cmp}
 use Rattle.std.specs.BTreeMap as tree
 use Rattle.pointer_pieces.specs.Pieces.{at_slots}
-use Rattle.pointer_pieces.proofs.slots.make_room.Given as goal
+use Rattle.pointer_pieces.proofs.slots.add_slots.Given as goal
 
 abbrev pub invariant-found : goal.invariant-found
 invariant-found l = record {
