@@ -4,7 +4,7 @@ use Rattle.std.specs.Bool.{MatchBool}
 use Rattle.std.specs.List.{AllByRecursion}
 use Rattle.std.specs.Option.{option_map}
 use Rattle.bit_tree.proofs.Faults.{tree_no_fault}
-use Rattle.bit_tree.proofs.One.{one_tree}
+use Rattle.bit_tree.proofs.OneTree.{one_tree}
 use Rattle.ir_base.specs.Files.{Named}
 use Rattle.ir_syntax.proofs.Refusals.{refused_bad}
 use Rattle.ir_syntax.proofs.Results.{items_not_bad, one_items}

@@ -1,7 +1,7 @@
 -- Bitcode, judged: what is told of it is its refusal, and what is accepted is no other module.
 use Rattle.std.proofs.Common.{◌≡◌, ◌⊎◌, inl, inr, ℕ, List, [], ◌∷◌, Some, Ok, Err, refl, sym, subst}
 use Rattle.bit_tree.specs.Stream as stream
-use Rattle.bit_tree.proofs.One.{one_tree}
+use Rattle.bit_tree.proofs.OneTree.{one_tree}
 use Rattle.bitcode_read.specs.Answers.{IsReadFault}
 use Rattle.command_line.specs.declared.command.Command.{Command}
 use Rattle.command_line.specs.declared.command.Command.TheVariants.{Disassemble}

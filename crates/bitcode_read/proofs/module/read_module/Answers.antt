@@ -1,7 +1,7 @@
 use Rattle.std.proofs.Common.{ap, subst, length, arith}
 use Rattle.std.proofs.lemmas.Result.{err_from_is_err_and}
 use Rattle.bit_tree.specs.Stream.{Tree}
-use Rattle.bit_tree.proofs.One.{one_tree}
+use Rattle.bit_tree.proofs.OneTree.{one_tree}
 use Rattle.record_table.specs.Faults.{records}
 use Rattle.record_read.specs.Fields.{texts_of}
 use Rattle.head_read.specs.Ahead.{IsAhead, first_module}
