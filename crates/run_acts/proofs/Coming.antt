@@ -12,9 +12,9 @@ use Rattle.run_rules.specs.Wants.{wants_memory}
 use Rattle.run_stack.specs.UnderWay.{UnderWay}
 use Rattle.run_actions.specs.Carried.{Acts, core_of, IsCarriedOut}
 use Rattle.run_accesses.specs.Done.{Accesses}
-use Rattle.run_calls.specs.declared.next.Next.{Next}
-use Rattle.run_calls.specs.declared.next.Next.TheVariants.{Goes}
-use Rattle.run_calls.specs.Said.{next_of}
+use Rattle.run_acts.specs.declared.next.Next.{Next}
+use Rattle.run_acts.specs.declared.next.Next.TheVariants.{Goes}
+use Rattle.run_acts.specs.Said.{next_of}
 use Rattle.run_acts.specs.Acting.{AnswersMemory, AnswersWith, ComesTo}
 
 module _ (action : Action) (old new : UnderWay) where

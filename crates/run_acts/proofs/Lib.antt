@@ -1,3 +1,11 @@
+pub mod Answered
+pub mod Leaving
+pub mod Entering
+pub mod Readiness
+pub mod AsCallee
+pub mod FirstCalls
+pub mod Listed
+pub mod Hosts
 pub mod Staying
 pub mod Coming
-pub mod Calling
+pub mod AskedCalls

@@ -27,8 +27,8 @@ use Rattle.run_flat.specs.Flat.{action_of}
 use Rattle.run_classes.specs.Ends.{FramesStay}
 use Rattle.run_classes.proofs.Going.{All-unmap}
 use Rattle.run_program.specs.Loaded.{Loaded}
-use Rattle.run_calls.specs.declared.next.Next as code
-use Rattle.run_calls.specs.Made.{AreReady, IsFunctionReady}
+use Rattle.run_acts.specs.declared.next.Next as code
+use Rattle.run_acts.specs.Made.{AreReady, IsFunctionReady}
 use Rattle.run_acts.specs.Acting.{AnswersMemory, FunctionsStay, is_inner}
 
 -- the functions of frames

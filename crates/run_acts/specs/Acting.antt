@@ -24,11 +24,11 @@ use Rattle.run_program.specs.Loaded.{Loaded, IsBody, IsReady}
 use Rattle.typed_look.specs.Typings.{IsTypedLook, typing_of}
 use Rattle.typed_runs.specs.Actions.{Typing}
 use Rattle.typed_runs.specs.States.{AreTypedFrames, IsTypedMemory}
-use Rattle.run_calls.specs.declared.next.Next.{Next}
-use Rattle.run_calls.specs.declared.next.Next.TheVariants.{Goes, Stops}
-use Rattle.run_calls.specs.declared.next.Stop.TheVariants as stops
-use Rattle.run_calls.specs.Made.{AreReady}
-use Rattle.run_calls.specs.Said.{next_of}
+use Rattle.run_acts.specs.declared.next.Next.{Next}
+use Rattle.run_acts.specs.declared.next.Next.TheVariants.{Goes, Stops}
+use Rattle.run_acts.specs.declared.next.Stop.TheVariants as stops
+use Rattle.run_acts.specs.Made.{AreReady}
+use Rattle.run_acts.specs.Said.{next_of}
 
 -- ---- a module that is run alone
 

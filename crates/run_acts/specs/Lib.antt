@@ -1,1 +1,4 @@
+pub mod Said
+pub mod Made
+pub mod Dues
 pub mod Acting

@@ -6,13 +6,15 @@ ghost use Rattle.run_rules.specs.Wants.{wants_memory};
 ghost use Rattle.run_flat.specs.Flat.{action_of};
 ghost use Rattle.run_flat.specs.declared.action.Action.TheVariants as flat;
 ghost use Rattle.run_program.specs.Loaded.{Keeps};
-ghost use Rattle.run_calls.specs.Made.{StaysReady};
-ghost use Rattle.run_calls.specs.Said.{IsLast};
+ghost use Rattle.run_acts.specs.Made.{StaysReady};
+ghost use Rattle.run_acts.specs.Said.{IsLast};
 ghost use Rattle.run_acts.specs.Acting.{CameTo, MayActIn};
 
+use crate::address::{Call, call_address};
+use crate::leave::return_value;
+use crate::next::Next;
 use crate::room::Room;
 use ir_memory::Memory;
-use run_calls::{Call, Next, call_address, return_value};
 use run_classes::origin;
 use run_flat::{LeafAt, Span};
 use run_program::Program;

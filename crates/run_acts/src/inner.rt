@@ -6,10 +6,10 @@ ghost use Rattle.run_flat.specs.Flat.{action_of};
 ghost use Rattle.run_classes.specs.May.{MayAct};
 ghost use Rattle.run_acts.specs.Acting.{AnswersMemory, AnswersWith, ComesTo, FunctionsStay, is_inner};
 
+use crate::next::{Next, Stop};
 use ir_eval::Scalar;
 use ir_memory::{Memory, MemoryFault};
 use ir_tables::UndefinedKind;
-use run_calls::{Next, Stop};
 use run_classes::{act_on_memory, act_on_scalars, act_on_values, act_on_ways};
 use run_flat::{Action, Pools};
 use run_stack::Stack;

@@ -2,15 +2,15 @@
 ghost use Rattle.std.specs.Prelude.{◌≡◌, [], IfOk, List, OnErr, OnOk};
 ghost use Rattle.run_rules.specs.State.{Due};
 ghost use Rattle.run_program.specs.Loaded.{Keeps};
-ghost use Rattle.run_calls.specs.Made.{StaysReady};
-ghost use Rattle.run_calls.specs.Said.{IsLast};
+ghost use Rattle.run_acts.specs.Made.{StaysReady};
+ghost use Rattle.run_acts.specs.Said.{IsLast};
 ghost use Rattle.run_acts.specs.Acting.{ActsFor, MayActHere, WantsHere};
 
 use crate::calls::{act_on_call, act_on_return};
 use crate::inner::act_within;
+use crate::next::Next;
 use crate::room::Room;
 use ir_memory::Memory;
-use run_calls::Next;
 use run_flat::Action;
 use run_program::Program;
 use run_stack::Stack;

@@ -1,14 +1,26 @@
-//! One instruction of a decoded body, carried out.
+//! One instruction of a decoded body carried out, calls and returns included, over what the groups of `run_classes` do.
 //!
-//! It stands on the groups of instructions of `run_classes`, the functions of `run_program` and the calls of `run_calls`. It promises that an
-//! instruction makes of frames and memory what the definition of its action says, whatever is due, and that memory is wanted by none but
-//! the actions that may. Definitions: `specs/Acting`; `Act` and `Wants` of `run_rules`.
+//! It stands on the flat actions of `run_flat`, the functions of `run_program`, frames and output (`run_stack`), what instructions do to them
+//! (`run_actions`, `run_classes`) and host functions (`host_calls`). It promises that functions are entered and left, host functions called and
+//! what is due begun as the definitions of calls say; that an instruction makes of frames, memory and the bytes that are written what the definition
+//! of its action says, whatever is due; and that memory is wanted by none but the actions that may. Definitions: `specs/Made`, `specs/Said`,
+//! `specs/Dues` of one instruction; `Act`, `Wants`, `Calls`, `Due` of `run_rules`.
 #![tactic(auto)]
 
+mod address;
 mod calls;
+mod due;
+mod enter;
+mod host;
 mod inner;
 mod instruction;
+mod leave;
+mod next;
 mod room;
 
+pub use address::{Call, call_address};
+pub use due::{DueCall, DueCalls, call_due};
 pub use instruction::act;
+pub use leave::return_value;
+pub use next::{Next, Stop};
 pub use room::Room;

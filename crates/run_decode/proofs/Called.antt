@@ -33,7 +33,7 @@ use Rattle.run_scopes.specs.Scopes.{Framed, operand_of, scope_in, to_of, value_o
 use Rattle.run_signatures.specs.Met.{Met, known, written_as}
 use Rattle.run_signatures.specs.Numbers.{AreNumbered, IsNumbered, Numbers}
 use Rattle.run_signatures.proofs.Numbered.{call_numbered, calls_numbered, numbers_none}
-use Rattle.run_arms.specs.Suits.{HasCall}
+use Rattle.run_operands.specs.Suits.{HasCall}
 use Rattle.run_decode.specs.Calls.{IsCallOf}
 use Rattle.run_decode.specs.Operations.{Meant}
 use Rattle.run_decode.proofs.Meant.{mapped_twice, shapes_same}

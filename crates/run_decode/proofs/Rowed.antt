@@ -35,8 +35,8 @@ use Rattle.run_body.specs.Bodies.{Decoded, look_of}
 use Rattle.run_body.proofs.Looked.{body_looked}
 use Rattle.run_scopes.specs.Scopes.{Framed, block_of, instruction_of, label_of, labels_in, scope_in}
 use Rattle.run_scopes.proofs.Viewed.{blocks_all}
-use Rattle.run_arms.specs.Endings.{ending_from}
-use Rattle.run_arms.specs.Suits.{AllSuit, BlockSuits}
+use Rattle.run_operands.specs.Endings.{ending_from}
+use Rattle.run_operands.specs.Suits.{AllSuit, BlockSuits}
 use Rattle.run_decode.specs.Operations.{action_from}
 use Rattle.run_decode.specs.Rows.{AddsActions, AreRows, IsRow, actions_in}
 use Rattle.run_decode.proofs.Meant.{mapped_twice}

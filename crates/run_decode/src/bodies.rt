@@ -13,16 +13,16 @@ ghost use Rattle.run_flat.specs.Spans.{IsLonger};
 ghost use Rattle.run_body.specs.Bodies.{AreNarrow, look_of};
 ghost use Rattle.run_signatures.specs.Numbers.{AreNumbered, Numbers};
 ghost use Rattle.run_scopes.specs.Scopes.{HasBlock};
-ghost use Rattle.run_arms.specs.Suits.{AllSuit, Suits};
+ghost use Rattle.run_operands.specs.Suits.{AllSuit, Suits};
 ghost use Rattle.run_decode.specs.Operations.{action_from};
 ghost use Rattle.run_decode.specs.Rows.{AddsActions, AreRows, IsRow};
 
 use crate::instructions::put_instruction;
 use module_arena::{BlockId, FunctionId, Inst};
-use run_arms::put_ending;
 use run_body::Body;
 use run_flat::{Action, Pool, Pools, Span, numbered};
 use run_names::Names;
+use run_operands::put_ending;
 use run_scopes::Scope;
 use run_signatures::Signatures;
 use std::alloc::{AllocError, Global};

@@ -4,7 +4,7 @@ ghost use Rattle.module_arena.specs.declared.instruction.Inst.TheVariants as ins
 ghost use Rattle.run_flat.specs.Grown.{Adds, Grows};
 ghost use Rattle.run_flat.specs.Spans.{IsSpanIn, spanned};
 ghost use Rattle.run_signatures.specs.Numbers.{AreNumbered, Numbers};
-ghost use Rattle.run_arms.specs.Suits.{HasCall};
+ghost use Rattle.run_operands.specs.Suits.{HasCall};
 ghost use Rattle.run_decode.specs.Calls.{IsCallOf};
 ghost use Rattle.run_decode.specs.Operations.{Meant};
 

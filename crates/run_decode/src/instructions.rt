@@ -2,7 +2,7 @@
 ghost use Rattle.std.specs.Prelude.{◌≡◌, IfOk, OnOk, false};
 ghost use Rattle.run_flat.specs.Grown.{Adds, Grows};
 ghost use Rattle.run_signatures.specs.Numbers.{AreNumbered, Numbers};
-ghost use Rattle.run_arms.specs.Suits.{Suits};
+ghost use Rattle.run_operands.specs.Suits.{Suits};
 ghost use Rattle.run_decode.specs.Operations.{Meant, is_call};
 
 use crate::calls::put_call;

@@ -5,17 +5,16 @@ ghost use Rattle.type_table.specs.Layout as layouts;
 ghost use Rattle.run_shapes.specs.Shapes.{shape_in};
 ghost use Rattle.run_flat.specs.Grown.{Adds, IsLeaf};
 ghost use Rattle.run_scopes.specs.Scopes.{HasScalar};
-ghost use Rattle.run_arms.specs.Suits.{HasLoad, HasSteps, HasStore, IsResult, Lies};
+ghost use Rattle.run_operands.specs.Suits.{HasLoad, HasSteps, HasStore, IsResult, Lies};
 ghost use Rattle.run_decode.specs.Operations.{Meant, count_in};
 
 use ir_eval::Scalar;
 use ir_tables::{Flag, Flags};
 use module_arena::{Operand, ValueId};
 use run_flat::{Action, LeafAt, Pools};
-use run_operands::{put_known, put_operand, put_scalar, put_slots};
+use run_operands::{put_known, put_operand, put_scalar, put_slots, put_steps};
 use run_scopes::Scope;
 use run_shapes::layout_of;
-use run_steps::put_steps;
 use std::alloc::AllocError;
 use type_table::TypeId;
 

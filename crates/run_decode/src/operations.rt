@@ -5,14 +5,13 @@ ghost use Rattle.run_flat.specs.Grown.{Adds, IsLeaf};
 ghost use Rattle.run_scopes.specs.Scopes.{HasScalarAt, scope_in, value_of};
 ghost use Rattle.run_rules.specs.Scope.{scalar_of};
 ghost use Rattle.type_table.specs.Types.{tree};
-ghost use Rattle.run_arms.specs.Suits.{HasCast, HasChoice, HasExtraction, HasInsertion, HasPair, HasStored, IsResult};
+ghost use Rattle.run_operands.specs.Suits.{HasCast, HasChoice, HasExtraction, HasInsertion, HasPair, HasStored, IsResult};
 ghost use Rattle.run_decode.specs.Operations.{Meant};
 
 use ir_tables::{Flag, Flags, Opcode, Predicate};
 use module_arena::{Choice, Insertion, Operand, Value, ValueId};
-use run_arms::{put_arms, put_parts};
 use run_flat::{Action, LeafAt, Pools};
-use run_operands::{put_extracted, put_inserted, put_scalar};
+use run_operands::{put_arms, put_extracted, put_inserted, put_parts, put_scalar};
 use run_scopes::Scope;
 use run_shapes::width;
 use std::alloc::AllocError;

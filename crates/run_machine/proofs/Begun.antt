@@ -14,10 +14,10 @@ use Rattle.run_rules.specs.Side.{begun}
 use Rattle.run_rules.specs.State.{Core, Frame}
 use Rattle.run_program.specs.Loaded.{Loaded, nothing_ready}
 use Rattle.run_stack.specs.UnderWay.{UnderWay}
-use Rattle.run_calls.specs.Made.{IsFunctionReady}
+use Rattle.run_acts.specs.Made.{IsFunctionReady}
 use Rattle.run_acts.specs.Acting.{look_in, table_in}
-use Rattle.run_open.specs.declared.opening.OpenRun.{OpenRun}
-use Rattle.run_open.specs.Opens.{Opens, core_opened}
+use Rattle.run_machine.specs.declared.beginning.OpenRun.{OpenRun}
+use Rattle.run_machine.specs.Opens.{Opens, core_opened}
 use Rattle.typed_look.specs.Typings.{IsTypedLook, typing_of}
 use Rattle.typed_runs.specs.Plans.{AreWords, IsTypedPlan}
 use Rattle.typed_runs.specs.States.{IsTypedCore, IsTypedState}

@@ -28,10 +28,10 @@ use Rattle.typed_runs.proofs.Acts.{act_typed}
 use Rattle.typed_runs.proofs.Calls.{parts_of, whole, parts_handed}
 use Rattle.typed_runs.proofs.Leaves.{same_lengths}
 use Rattle.typed_runs.proofs.Steps.{entered_ready}
-use Rattle.run_calls.specs.declared.next.Next.{Next}
-use Rattle.run_calls.specs.declared.next.Next.TheVariants.{Goes, Gets, Stops}
-use Rattle.run_calls.specs.Made.{AreReady, IsFunctionReady, StaysReady}
-use Rattle.run_calls.specs.Said as said
+use Rattle.run_acts.specs.declared.next.Next.{Next}
+use Rattle.run_acts.specs.declared.next.Next.TheVariants.{Goes, Gets, Stops}
+use Rattle.run_acts.specs.Made.{AreReady, IsFunctionReady, StaysReady}
+use Rattle.run_acts.specs.Said as said
 use Rattle.run_acts.specs.Acting.{ActsFor, MayActHere, look_in, table_in, typing_in}
 use Rattle.run_passing.specs.Traffic.{FlushesFirst, Gets as GetsByte, TakesByte, number_got}
 use Rattle.run_machine.specs.Living.{Acts, HasFrames, IsEntered, IsLive, Living, StaysLive, TakesNumber, core_of_living}

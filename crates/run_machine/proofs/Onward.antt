@@ -13,9 +13,9 @@ use Rattle.run_rules.specs.Step.{GoesOn}
 use Rattle.run_loop.specs.Halts as halts
 use Rattle.run_stack.specs.UnderWay.{UnderWay}
 use Rattle.run_traffic.specs.Input.{Waiting}
-use Rattle.run_calls.specs.declared.next.Next.TheVariants.{Goes, Gets, Stops}
-use Rattle.run_calls.specs.declared.next.Stop.{Stop}
-use Rattle.run_calls.specs.Said.{end_of}
+use Rattle.run_acts.specs.declared.next.Next.TheVariants.{Goes, Gets, Stops}
+use Rattle.run_acts.specs.declared.next.Stop.{Stop}
+use Rattle.run_acts.specs.Said.{end_of}
 use Rattle.run_passing.specs.Traffic as traffic
 use Rattle.run_passing.specs.Traffic.{CouldNotFlush, CouldNotGet, CouldNotPut, Got, IsFlushed, IsPut, number_got}
 use Rattle.run_machine.specs.Living.{Comes, EndsThere, IsEntered, Living, core_of_living, going, inside_seen}

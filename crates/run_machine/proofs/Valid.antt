@@ -9,8 +9,8 @@ use Rattle.run_rules.specs.declared.end.End.{End}
 use Rattle.run_rules.specs.Opening.{opened}
 use Rattle.run_rules.specs.Plan.{plan}
 use Rattle.run_program.specs.Loaded.{Loaded, nothing_ready}
-use Rattle.run_open.specs.declared.opening.OpenRun.{OpenRun}
-use Rattle.run_open.specs.Opens.{Opens}
+use Rattle.run_machine.specs.declared.beginning.OpenRun.{OpenRun}
+use Rattle.run_machine.specs.Opens.{Opens}
 use Rattle.typed_runs.specs.Plans.{AreWords}
 use Rattle.typed_module.proofs.Program.{valid_is_typed}
 use Rattle.run_machine.specs.Fresh.{IsOpenRun}

@@ -4,8 +4,8 @@ use Rattle.module_arena.specs.View.{module_of}
 use Rattle.run_names.specs.Told.{alone}
 use Rattle.run_program.specs.Loaded.{Loaded, nothing_ready}
 use Rattle.run_acts.specs.Acting.{look_in, table_in, typing_in}
-use Rattle.run_open.specs.declared.opening.OpenRun.{OpenRun}
-use Rattle.run_open.specs.Opens.{core_opened}
+use Rattle.run_machine.specs.declared.beginning.OpenRun.{OpenRun}
+use Rattle.run_machine.specs.Opens.{core_opened}
 use Rattle.typed_look.specs.Typings.{IsTypedLook}
 use Rattle.typed_runs.specs.States.{IsTypedCore}
 

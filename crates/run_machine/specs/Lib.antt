@@ -1,3 +1,6 @@
+pub mod Constructors
+pub mod Arguments
+pub mod Opens
 pub mod Seen
 pub mod Living
 pub mod Fresh

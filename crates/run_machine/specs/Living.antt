@@ -12,12 +12,12 @@ use Rattle.run_rules.specs.Wants.{may_want_memory}
 use Rattle.run_program.specs.Loaded.{Loaded}
 use Rattle.run_stack.specs.UnderWay.{UnderWay, IsRunning}
 use Rattle.run_traffic.specs.Input.{Waiting}
-use Rattle.run_calls.specs.declared.next.Next.{Next}
-use Rattle.run_calls.specs.declared.next.Next.TheVariants.{Goes, Gets, Stops}
-use Rattle.run_calls.specs.declared.next.Stop.{Stop}
-use Rattle.run_calls.specs.Made.{AreReady}
-use Rattle.run_calls.specs.Said.{end_of}
-use Rattle.run_calls.specs.Said as said
+use Rattle.run_acts.specs.declared.next.Next.{Next}
+use Rattle.run_acts.specs.declared.next.Next.TheVariants.{Goes, Gets, Stops}
+use Rattle.run_acts.specs.declared.next.Stop.{Stop}
+use Rattle.run_acts.specs.Made.{AreReady}
+use Rattle.run_acts.specs.Said.{end_of}
+use Rattle.run_acts.specs.Said as said
 use Rattle.run_acts.specs.Acting.{look_in, table_in, typing_in}
 use Rattle.run_machine.specs.Seen.{Going, the_machine}
 use Rattle.run_machine.specs.declared.live.Turn.{Turn}

@@ -4,7 +4,7 @@ ghost use Rattle.run_machine.specs.Seen.{the_machine};
 use crate::live::{Live, Turn};
 use ir_base::{Sink, Source};
 use ir_tables::UndefinedKind;
-use run_calls::Next;
+use run_acts::Next;
 use run_loop::Stepping;
 use run_passing::{finish, put};
 use run_rules::{End, RunFault};

@@ -1,16 +1,28 @@
-//! The machine that runs a module: opened, then run step by step, or to an end.
+//! The machine that runs a module: opened, then run step by step, or to an end (the tool `lli`).
 //!
-//! It stands on every crate of runs below: what an instruction does (`run_acts`), what is due (`run_calls`), opening (`run_open`), the
-//! bytes on their way (`run_passing`), and the loop of a run (`run_loop`). It promises the clauses of a machine: that opening, each step
-//! and each run are those of the definitions, with input and output on the objects that are handed in.
-//! Definitions: `Machine`, `Clauses` and `RunClauses` of `run_rules`; `specs/Seen`, how a clause sees a machine; `specs/Opened`, what opening
-//! gives; `specs/Living`, what holds of a run that is not over; `specs/Fresh`, what holds of one that was just opened.
+//! It stands on every crate of runs below: the functions of `run_program`, frames and the bytes on their way (`run_stack`, `run_passing`), one
+//! instruction (`run_acts`), host functions (`host_calls`), names and contents of variables (`run_names`, `run_initial`, `run_contents`), the run
+//! of whatever makes steps (`run_loop`), and the laws of runs. It promises that a run opens, for a checked module alone, exactly as opening is defined, its constructors, its main
+//! with its arguments and its order of refusals included; and the clauses of a machine: that opening, each step and each run are those of the
+//! definitions, with input and output on the objects that are handed in, so that what is answered, printed and read is what the program does:
+//! `Plays` of `run_played`. Definitions: `specs/Constructors`, `Arguments` and `Opens` of opening; `specs/Seen`, how a clause sees a machine,
+//! `Opened`, what opening gives, `Living`, what holds of a run that is not over, `Fresh`, what holds of one that was just opened; `Machine`,
+//! `Clauses`, `RunClauses`, `Opening` and `Plan` of `run_rules`.
 #![tactic(auto)]
 
+mod arguments;
+mod beginning;
 mod inside;
+mod list;
 mod live;
 mod machine;
 mod opening;
+mod order;
+mod running;
 
+pub use arguments::place_main;
+pub use beginning::{OpenRun, open_run};
 pub use machine::Machine;
 pub use opening::Opened;
+pub use order::{Constructor, constructors};
+pub use running::run_module;

@@ -6,8 +6,7 @@ ghost use Rattle.run_rules.specs.Clauses.{outside};
 
 use ir_base::{Sink, Source};
 use ir_memory::Memory;
-use run_acts::{Room, act};
-use run_calls::{DueCalls, Next, Stop, call_due};
+use run_acts::{DueCalls, Next, Room, Stop, act, call_due};
 use run_passing::get;
 use run_program::Program;
 use run_rules::RunFault;

@@ -2,12 +2,13 @@
 ghost use Rattle.std.specs.Prelude.{◌≡◌, ◌<◌, All, IfOk};
 ghost use Rattle.module_arena.specs.View.{module_of};
 ghost use Rattle.run_rules.specs.Machine.{new_machine};
-ghost use Rattle.run_open.specs.Opens.{core_opened};
+ghost use Rattle.run_machine.specs.Opens.{core_opened};
 ghost use Rattle.typed_runs.specs.Plans.{AreWords};
 ghost use Rattle.run_machine.specs.Fresh.{IsOpenRun};
 ghost use Rattle.run_machine.specs.Opened.{IsOpened};
 ghost use Rattle.run_machine.specs.Seen.{the_machine};
 
+use crate::beginning::{OpenRun, open_run};
 use crate::inside::Inside;
 use crate::live::Live;
 use crate::machine::Machine;
@@ -15,7 +16,6 @@ use ir_base::TextList;
 use module_arena::Checked;
 use run_acts::Room;
 use run_names::names_of;
-use run_open::{OpenRun, open_run};
 use run_program::Program;
 use run_rules::End;
 use run_stack::Stack;

@@ -1,1 +1,6 @@
 mod Stands
+mod Stepped
+mod Summed
+mod Paired
+mod Placed
+mod Ended

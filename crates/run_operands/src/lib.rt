@@ -1,16 +1,27 @@
-//! What the actions of a function's body point to: leaves that are known, where leaves are had from, slots, and ways into blocks.
+//! What the actions of a function's body point to: leaves that are known, where leaves are had from, slots, ways into blocks, the terms of
+//! `getelementptr`, what `select` and `freeze` choose from, and the ends of blocks.
 //!
-//! It stands on the pools of `run_flat`, the scopes of `run_scopes` and the slots of `run_slots`. It promises that each operand, callee, part
-//! and way that is put into the pools of a body is exactly what look-up makes of it in a run of the module alone, and that pools only
-//! grow. Definitions: `Grown`, `Flat` of `run_flat`; `Scopes`, `Ways` of `run_scopes`; `Scope`, `Resolve` of `run_rules`.
+//! It stands on the pools of `run_flat`, the scopes of `run_scopes`, the slots of `run_slots` and the shapes of `run_shapes`. It promises that each operand, callee,
+//! part, way, term, arm, case and end that is put into the pools of a body is exactly what look-up makes of it in a run of the module alone, and that
+//! pools only grow. Definitions: `specs/Steps`, what one index leads over; `specs/Open`; `specs/Suits`, what the ids of a function name;
+//! `specs/Endings`; `Grown`, `Flat` of `run_flat`; `Scopes`, `Ways` of `run_scopes`; `Scope`, `Resolve`, `Displace` of `run_rules`.
 #![tactic(auto)]
 
+mod cases;
+mod endings;
+mod leaves;
 mod operands;
-mod pools;
+mod pooled;
+mod steps;
+mod terms;
 mod ways;
 
+pub use cases::put_cases;
+pub use endings::put_ending;
+pub use leaves::{put_arms, put_parts};
 pub use operands::{
     put_callee, put_extracted, put_inserted, put_operand, put_operands, put_scalar,
 };
-pub use pools::{put_known, put_slots};
+pub use pooled::{put_known, put_slots};
+pub use terms::put_steps;
 pub use ways::{put_edge, put_way};

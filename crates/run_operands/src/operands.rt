@@ -7,7 +7,7 @@ ghost use Rattle.run_scopes.specs.Places.{HasPart};
 ghost use Rattle.run_scopes.specs.Scopes.{HasOperand, HasScalar, HasValue, StandsAt, operand_of, scope_in, value_of};
 ghost use Rattle.run_flat.specs.Grown.{Adds, AreLeaves, IsLeaf};
 
-use crate::pools::{put_leaf, put_leaves};
+use crate::pooled::{put_leaf, put_leaves};
 use module_arena::{Operand, Value};
 use run_flat::{LeafAt, Pools, Span};
 use run_scopes::{

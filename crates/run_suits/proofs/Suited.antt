@@ -30,7 +30,7 @@ use Rattle.module_arena.proofs.SameValues.{type_is}
 use Rattle.run_constants.specs.Sound.{is_scalar}
 use Rattle.run_constants.proofs.OneLeaf.{cast_scalars, integer_scalar, pointer_scalar}
 use Rattle.run_scopes.specs.Scopes.{Framed, HasOperand, HasScalar, operand_of}
-use Rattle.run_arms.specs.Suits.{BlockSuits, EndSuits, HasCall, HasCase, IsResult, Lies, Suits}
+use Rattle.run_operands.specs.Suits.{BlockSuits, EndSuits, HasCall, HasCase, IsResult, Lies, Suits}
 use Rattle.run_suits.specs.Laws.{FunctionsSuit}
 use Rattle.run_suits.proofs.Checked.{IsEnd, end_checked, instruction_checked}
 use Rattle.run_suits.proofs.Functions.{phis_are, values_are}

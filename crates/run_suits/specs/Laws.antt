@@ -9,7 +9,7 @@ use Rattle.module_arena.specs.WellFormed.{IsWellFormed}
 use Rattle.run_scopes.specs.Places.{HasValues}
 use Rattle.run_scopes.specs.Scopes.{Framed}
 use Rattle.run_scopes.specs.Ways.{AllPhisSuit}
-use Rattle.run_arms.specs.Suits.{AllSuit}
+use Rattle.run_operands.specs.Suits.{AllSuit}
 
 -- a fact that holds of each function of a checked module, wherever the leaves of its parameters and results begin in a frame
 abbrev pub OfEachFunction : (Framed → Type 0) → Type 0

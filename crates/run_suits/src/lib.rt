@@ -1,9 +1,9 @@
 //! What is asked of a function of a module before it is run holds in a checked module: laws alone.
 //!
-//! It stands on the validity of `module_arena`, the constants of `run_constants`, the scopes of `run_scopes` and what `run_arms` asks of a
+//! It stands on the validity of `module_arena`, the constants of `run_constants`, the scopes of `run_scopes` and what `run_operands` asks of a
 //! body. It promises that in a well-formed, valid module each function's parameters and results are values, that the entries of its phis
 //! are its own, and that its instructions and ends are what decoding asks for.
-//! Definitions: `specs/Laws`; `Places` and `Ways` of `run_scopes`, `Suits` of `run_arms`.
+//! Definitions: `specs/Laws`; `Places` and `Ways` of `run_scopes`, `Suits` of `run_operands`.
 #![tactic(auto)]
 
 mod law;

@@ -7,11 +7,11 @@ use Rattle.run_flat.specs.Flat.{action_of}
 use Rattle.run_flat.specs.Spans.{IsSpanIn}
 use Rattle.run_body.specs.Bodies.{Decoded}
 use Rattle.run_program.specs.Loaded.{IsReady}
-use Rattle.run_calls.specs.declared.next.Next.{Next}
-use Rattle.run_calls.specs.Said.{IsLast}
+use Rattle.run_acts.specs.declared.next.Next.{Next}
+use Rattle.run_acts.specs.Said.{IsLast}
 use Rattle.run_classes.proofs.Placed.{on_err}
 use Rattle.run_acts.specs.Acting.{CameTo, MayActIn}
-use Rattle.run_acts.proofs.Calling.{allocas_known, given_fit, given_there, if_ok, pools_of, ready_returned, return_is, return_wants, spanned_by}
+use Rattle.run_acts.proofs.AskedCalls.{allocas_known, given_fit, given_there, if_ok, pools_of, ready_returned, return_is, return_wants, spanned_by}
 use Rattle.run_acts.proofs.calls.act_on_return.Goals as goal
 
 pub body-decoded-requires : goal.body-decoded-requires

@@ -1,6 +1,6 @@
 use Rattle.std.proofs.Common.{◌≡◌, true, length}
 use Rattle.module_arena.specs.Lists.{Lists}
-use Rattle.run_calls.specs.declared.next.Next.{Next}
+use Rattle.run_acts.specs.declared.next.Next.{Next}
 use Rattle.run_rules.specs.Wants.{wants_memory}
 use Rattle.run_flat.specs.Flat.{action_of}
 use Rattle.run_acts.specs.Acting.{ComesTo}

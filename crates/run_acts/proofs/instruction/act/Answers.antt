@@ -5,13 +5,13 @@ use Rattle.run_flat.specs.declared.action.Action.{Action}
 use Rattle.run_flat.specs.declared.action.Action.TheVariants as flat
 use Rattle.run_flat.specs.declared.pools.Pools.{Pools}
 use Rattle.run_flat.specs.Flat.{action_of}
-use Rattle.run_calls.specs.declared.next.Next.{Next}
-use Rattle.run_calls.specs.Made.{StaysReady}
-use Rattle.run_calls.specs.Said.{IsLast}
+use Rattle.run_acts.specs.declared.next.Next.{Next}
+use Rattle.run_acts.specs.Made.{StaysReady}
+use Rattle.run_acts.specs.Said.{IsLast}
 use Rattle.run_classes.specs.May.{MayAct}
 use Rattle.run_classes.proofs.Placed.{on_err, on_ok}
 use Rattle.run_acts.specs.Acting.{ActsFor, ComesTo, FunctionsStay, MayActIn, WantsHere}
-use Rattle.run_acts.proofs.Calling.{acts_for, comes_for, if_ok, is_inner_else, keeps_itself, may_act, may_act_in, some_body, stands, wanted, wants_for, written_none}
+use Rattle.run_acts.proofs.AskedCalls.{acts_for, comes_for, if_ok, is_inner_else, keeps_itself, may_act, may_act_in, some_body, stands, wanted, wants_for, written_none}
 use Rattle.run_acts.proofs.Staying.{ready_still}
 use Rattle.run_acts.proofs.instruction.act.Goals as goal
 

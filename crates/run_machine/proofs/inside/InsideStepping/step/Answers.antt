@@ -2,7 +2,7 @@ use Rattle.std.proofs.Common.{◌+◌, ℕ, List, false, true, None, Ok, Err, su
 use Rattle.run_rules.specs.Clauses.{StepAnswers, outside}
 use Rattle.run_rules.specs.declared.end.End.{End}
 use Rattle.run_rules.specs.declared.fault.RunFault.TheVariants.{Memory}
-use Rattle.run_calls.specs.declared.next.Next.{Next}
+use Rattle.run_acts.specs.declared.next.Next.{Next}
 use Rattle.run_passing.specs.Traffic as traffic
 use Rattle.run_machine.specs.Living.{Comes, StaysIn, StaysLive, Turns, going}
 use Rattle.run_machine.specs.Seen.{Going, the_machine}

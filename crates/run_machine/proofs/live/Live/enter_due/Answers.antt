@@ -1,5 +1,5 @@
 use Rattle.std.proofs.Common.{refl}
-use Rattle.run_machine.proofs.Entering.{all_entered, none_entered, some_frames}
+use Rattle.run_machine.proofs.EnteringDue.{all_entered, none_entered, some_frames}
 use Rattle.run_machine.proofs.live.Live.enter_due.Goals as goal
 
 pub returns-clause-entered : goal.returns-clause-entered

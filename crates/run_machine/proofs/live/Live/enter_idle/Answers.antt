@@ -1,6 +1,6 @@
 use Rattle.std.proofs.Common.{subst}
 use Rattle.run_stack.specs.UnderWay.{IsRunning}
-use Rattle.run_machine.proofs.Entering.{all_entered, no_frames, nothing_due, some_frames}
+use Rattle.run_machine.proofs.EnteringDue.{all_entered, no_frames, nothing_due, some_frames}
 use Rattle.run_machine.proofs.Lived.{entered_live}
 use Rattle.run_machine.proofs.live.Live.enter_idle.Goals as goal
 

@@ -1,5 +1,5 @@
 use Rattle.std.proofs.Common.{length}
-use Rattle.run_machine.proofs.Entering.{Entering}
+use Rattle.run_machine.proofs.EnteringDue.{Entering}
 use Rattle.run_machine.proofs.live.Live.enter_idle.Given as goal
 
 abbrev pub invariant-idle : goal.invariant-idle

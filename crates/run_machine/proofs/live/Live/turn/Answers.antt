@@ -1,7 +1,7 @@
 use Rattle.std.proofs.Common.{subst}
 use Rattle.ir_base.proofs.Pieces.{OnErr-anyway}
 use Rattle.run_machine.specs.Living.{Enters, StaysEntered}
-use Rattle.run_machine.proofs.Entering.{comes_from, wants_before}
+use Rattle.run_machine.proofs.EnteringDue.{comes_from, wants_before}
 use Rattle.run_machine.proofs.live.Live.turn.Goals as goal
 
 pub act-requires-clause-frames : goal.act-requires-clause-frames

@@ -1,4 +1,0 @@
-pub mod Blocks
-pub mod Words
-pub mod Rows
-pub mod Mains

@@ -1,3 +1,0 @@
-mod Paired
-mod Placed
-mod Ended

@@ -1,3 +1,0 @@
-pub mod Suits
-pub mod Pairs
-pub mod Endings

@@ -1,8 +1,0 @@
-pub mod Answered
-pub mod Leaving
-pub mod Entering
-pub mod Readiness
-pub mod Calling
-pub mod FirstCalls
-pub mod Listed
-pub mod Hosts

@@ -1,0 +1,46 @@
+use Rattle.std.proofs.Common.{◌^◌, ◌≤◌, ◌++◌, [], ◌∷◌, All, List, length, map, pos, sym, ap, ◌∙◌, subst, arith}
+use Rattle.std.proofs.lemmas.List.{length-map}
+use Rattle.std.proofs.lemmas.List.Elements.{All-nil}
+use Rattle.module_arena.specs.declared.instruction.Operand.{Operand}
+use Rattle.run_rules.specs.Displace.{terms_of}
+use Rattle.run_rules.specs.Resolve.{index_in}
+use Rattle.run_shapes.specs.Shapes.{shape_in}
+use Rattle.run_scopes.specs.Scopes.{operand_of, scope_in}
+use Rattle.run_operands.specs.declared.steps.Step.{Step}
+use Rattle.run_operands.specs.Steps.{term_of}
+use Rattle.run_flat.specs.declared.action.Term.{Term}
+use Rattle.run_flat.specs.Flat as flat
+use Rattle.run_flat.proofs.Growth.{adds_then, sums_add, terms_add}
+use Rattle.run_operands.proofs.Summed.{terms_put}
+use Rattle.run_operands.proofs.terms.put_steps.Goals as goal
+
+pub push_steps-requires-clause-small : goal.push_steps-requires-clause-small
+push_steps-requires-clause-small c = subst (All (λ (s : Step). s.size ≤ 2 ^ 40)) (sym c.new-steps.ensures.items) (All-nil (λ (s : Step). s.size ≤ 2 ^ 40))
+
+pub put_terms-requires : goal.put_terms-requires
+put_terms-requires c = subst (All (λ (s : Step). s.size ≤ 2 ^ 40)) (sym c.deref.ensures.value) c.in_ok-push_steps.ensures.small
+
+pub returns-clause-grows : goal.returns-clause-grows
+returns-clause-grows c =
+    let p = c.put_terms.new.pools in
+    adds_then c.args.pools.now p _ c.in_ok-terms.ensures.grows
+    (adds_then p (record p { terms = c.append.new.self }) _ (terms_add p c.append.new.self (c.deref-2.result.now, c.in_ok-span.ensures.items)) (sums_add (record p { terms = c.append.new.self }) c.push.new.self (pos 0 ∷ [], c.in_ok-sum.ensures.items)))
+
+pub returns-clause-terms : goal.returns-clause-terms
+returns-clause-terms c =
+    let s = c.args.scope.now in
+    let p = c.put_terms.new.pools in
+    let ss = c.deref.result.now in
+    let ts = c.in_ok-terms.terms.items in
+    let open_terms = c.in_ok-terms.ensures.terms in
+    let one = length-map ts (flat.term_of p) in
+    let two = length-map ss term_of in
+    let same = ap length open_terms.means in
+    let read = ap length c.deref.ensures.value in
+    let few : length ts ≤ 2 ^ 20 = omega (arith, one, two, same, read, c.len.ensures) in
+    let meant =
+    ap (map term_of) c.deref.ensures.value
+    ∙ c.in_ok-push_steps.ensures.terms
+    ∙ ap (λ (l : List Step). map term_of l ++ terms_of (shape_in s.lists.table c.args.source) (map (λ (o : Operand). index_in (scope_in s.lists s.function) (operand_of s.lists s.function o)) c.args.indices.now)) c.new-steps.ensures.items in
+    terms_put p c.append.new.self c.push.new.self ss ts c.in_ok-span.span c.in_ok-sum.sum _ open_terms
+    (c.in_ok-span.ensures.items ∙ ap (λ (l : List Term). p.terms ++ l) c.deref-2.ensures.value) c.in_ok-span.ensures.span c.in_ok-sum.ensures.items c.in_ok-sum.ensures.place few meant

@@ -1,0 +1,86 @@
+//! The cases of `switch` in the pools of a body (LangRef, "switch Instruction").
+ghost use Rattle.std.specs.Prelude.{◌≡◌, All, IfOk, OnOk, map};
+ghost use Rattle.run_actions.specs.Edges.{case_way};
+ghost use Rattle.run_rules.specs.Displace.{number_of};
+ghost use Rattle.run_scopes.specs.Scopes.{HasBlock};
+ghost use Rattle.run_scopes.specs.Ways.{AllPhisSuit};
+ghost use Rattle.run_flat.specs.Flat.{HasItsMoves};
+ghost use Rattle.run_flat.specs.Grown.{Adds, AreCases};
+ghost use Rattle.run_operands.specs.Endings.{AreMeant, case_from};
+ghost use Rattle.run_operands.specs.Suits.{HasCase};
+
+use crate::ways::put_way;
+use ir_eval::Scalar;
+use module_arena::{BlockId, Case};
+use run_actions as actions;
+use run_constants::leaf_of;
+use run_flat::{Pools, Span};
+use run_scopes::Scope;
+use std::alloc::AllocError;
+
+/// The number of a leaf that is an integer, and 0 of another.
+fn number_of(leaf: Scalar) -> u128
+    ensures { result ≡ number_of leaf }
+{
+    match leaf {
+        Scalar::Int(number) => number,
+        Scalar::Ptr(_) | Scalar::Poison => 0,
+    }
+}
+
+/// A case of a `switch` that ends a block: its number, and its way, with the moves among the moves.
+fn put_case(
+    scope: &Scope<'_, '_>,
+    pools: &mut Pools,
+    from: BlockId,
+    case: Case,
+) -> Result<actions::Case, AllocError>
+    requires from { HasBlock scope.now from }
+    requires case { HasCase scope.now case }
+    requires suits { AllPhisSuit scope.now }
+    ensures grows { OnOk result (Adds pools.old pools.new) }
+    ensures moves { IfOk result (λ c. HasItsMoves pools.new c.edge) }
+    ensures case { IfOk result (λ c. case_way pools.new.moves c ≡ case_from scope.now from case) }
+{
+    let number = number_of(leaf_of(scope.names(), case.ty, case.value));
+    let edge = put_way(scope, pools, from, case.target)?;
+    Ok(actions::Case { number, edge })
+}
+
+/// The cases of a `switch` that ends a block, with the moves of their ways among the moves.
+fn cases_of(
+    scope: &Scope<'_, '_>,
+    pools: &mut Pools,
+    from: BlockId,
+    cases: &[Case],
+) -> Result<Vec<actions::Case>, AllocError>
+    requires from { HasBlock scope.now from }
+    requires cases { All (HasCase scope.now) cases.now }
+    requires suits { AllPhisSuit scope.now }
+    ensures grows { OnOk result (Adds pools.old pools.new) }
+    ensures cases { IfOk result (λ done. AreMeant pools.new done.items (map (case_from scope.now from) cases.now)) }
+{
+    let mut done = Vec::new(scope.alloc());
+    'cases: for case in cases {
+        let one = put_case(scope, pools, from, *case)?;
+        done.push(one)?;
+    }
+    Ok(done)
+}
+
+/// Puts the cases of a `switch` that ends a block among the cases, in order. It is refused for want of memory alone.
+pub fn put_cases(
+    scope: &Scope<'_, '_>,
+    pools: &mut Pools,
+    from: BlockId,
+    cases: &[Case],
+) -> Result<Span, AllocError>
+    requires from { HasBlock scope.now from }
+    requires cases { All (HasCase scope.now) cases.now }
+    requires suits { AllPhisSuit scope.now }
+    ensures grows { OnOk result (Adds pools.old pools.new) }
+    ensures cases { IfOk result (λ span. AreCases pools.new span (map (case_from scope.now from) cases.now)) }
+{
+    let done = cases_of(scope, pools, from, cases)?;
+    pools.cases.append(&done)
+}

@@ -1,2 +1,0 @@
-mod Stepped
-mod Summed
