@@ -46,6 +46,9 @@ joined v c p h small low = rw (shl_whole v 64 c 128 small (omega arith), or_shif
 pub joined-lt : (v w c p : ℕ) → v < 2 ^ w → p < 2 ^ c → v * 2 ^ c + p < 2 ^ (c + w)
 joined-lt v w c p small low = omega (arith, pow-add 2 w c, ap (λ (k : ℕ). 2 ^ k) (add_comm w c), digits_lt small low)
 
+pub joined_in_word : (v c p : ℕ) → c < 32 → v < 2 ^ 32 → p < 2 ^ c → bit_or (v * 2 ^ c % 2 ^ 64) p ≡ v * 2 ^ c + p
+joined_in_word v c p h small low = rw (shl_whole v 32 c 64 small (omega arith), or_shifted v c p low) refl
+
 pub append_field : (out : List ℕ) (c p w v : ℕ) → p < 2 ^ c → c < 32 → w ≤ 64
     → stream_bits (out ++ take (4 * ((c + w) / 32)) (to_le_bytes w128 (v * 2 ^ c + p))) ++ bits_of ((c + w) % 32) ((v * 2 ^ c + p) / 2 ^ (32 * ((c + w) / 32)))
     ≡ (stream_bits out ++ bits_of c p) ++ bits_of w v
@@ -72,6 +75,11 @@ pub words_length : (out : List ℕ) (k n : ℕ) → length out % 4 ≡ 0 → k �
 words_length out k n h small =
     let size : length (take (4 * k) (to_le_bytes w128 n)) ≡ 4 * k = length-take-le (4 * k) (to_le_bytes w128 n) (omega arith) in
     omega (arith, length-append out (take (4 * k) (to_le_bytes w128 n)))
+
+pub word_length : (out : List ℕ) (n : ℕ) → length out % 4 ≡ 0 → length (out ++ take 4 (to_le_bytes w64 n)) % 4 ≡ 0
+word_length out n h =
+    let size : length (take 4 (to_le_bytes w64 n)) ≡ 4 = length-take-le 4 (to_le_bytes w64 n) (omega arith) in
+    omega (arith, length-append out (take 4 (to_le_bytes w64 n)))
 
 -- a chunk that another one follows
 pub chunk_more : (j n : ℕ) → j < 64 → n < 2 ^ 64 → 2 ^ j ≤ n → bits_of (j + 1) (bit_or (bit_and n (1 * 2 ^ j % 2 ^ 64 - 1)) (1 * 2 ^ j % 2 ^ 64)) ≡ bits_of j n ++ true ∷ []
@@ -157,6 +165,16 @@ padded out c p k old short words pad is =
 
 le_bits_8 : (n : ℕ) → stream_bits (to_le_bytes w64 n) ≡ bits_of 64 n
 le_bits_8 n = le_bits 0 8 n ∙ ap (bits_of 64) (omega arith)
+
+-- a field that ends the word which waits
+pub append_narrow : (out : List ℕ) (c p w v : ℕ) → p < 2 ^ c → c < 32 → w ≤ 32 → 32 ≤ c + w
+    → stream_bits (out ++ take 4 (to_le_bytes w64 (v * 2 ^ c + p))) ++ bits_of (c + w - 32) ((v * 2 ^ c + p) / 2 ^ 32)
+    ≡ (stream_bits out ++ bits_of c p) ++ bits_of w v
+append_narrow out c p w v low short narrow full =
+    let n = v * 2 ^ c + p in
+    let front : take (8 * 4) (bits_of 64 n) ≡ bits_of 32 n = take_bits 32 32 n in
+    let size : 32 + (c + w - 32) ≡ c + w = omega arith in
+    rw (stream_bits-append, stream_bits-take, le_bits_8, front, append_assoc, ← bits_of-add 32 (c + w - 32) n, size, bits_of-cat c w p v low) (sym (append_assoc (stream_bits out) (bits_of c p) (bits_of w v)))
 
 -- pending bits as whole bytes, with zeros at the end
 pub byte_ended : (out : List ℕ) (c p k : ℕ) → c < 32 → p < 2 ^ c → k ≡ (c + 7) / 8

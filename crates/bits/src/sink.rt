@@ -47,6 +47,44 @@ impl BitSink {
         ensures ok { OnOk result (self.new ≡ self.old ++ bits_of width value) }
         ensures err { OnErr result (self.new ≡ self.old) }
     {
+        if width <= 32 {
+            self.narrow(value, width)
+        } else {
+            self.wide(value, width)
+        }
+    }
+
+    /// Adds the number in at most 32 bits, which with those that wait are at most one whole word and a rest.
+    #[inline]
+    fn narrow(&mut self, value: u64, width: u32) -> Result<(), AllocError>
+        requires width_in { width ≤ 32 }
+        requires fits { value < 2 ^ width }
+        ensures ok { OnOk result (self.new ≡ self.old ++ bits_of width value) }
+        ensures err { OnErr result (self.new ≡ self.old) }
+    {
+        let pending = value << self.count | self.pending;
+        let count = self.count + width;
+        if count < 32 {
+            self.pending = pending;
+            self.count = count;
+            return Ok(());
+        }
+        self.out.reserve(8)?;
+        let bytes = pending.to_le_bytes();
+        self.out.extend_from_slice(&bytes[..4])?;
+        self.pending = pending >> 32;
+        self.count = count - 32;
+        Ok(())
+    }
+
+    /// Adds the number in at most 64 bits, which with those that wait are at most two whole words and a rest.
+    #[inline(never)]
+    fn wide(&mut self, value: u64, width: u32) -> Result<(), AllocError>
+        requires width_in { width ≤ 64 }
+        requires fits { value < 2 ^ width }
+        ensures ok { OnOk result (self.new ≡ self.old ++ bits_of width value) }
+        ensures err { OnErr result (self.new ≡ self.old) }
+    {
         self.out.reserve(12)?;
         let pending = u128::from(value) << self.count | u128::from(self.pending);
         let count = self.count + width;
@@ -67,10 +105,10 @@ impl BitSink {
         let next = 1 << (width - 1);
         let mut rest = value;
         while rest >= next {
-            self.fixed(rest & (next - 1) | next, width)?;
+            self.narrow(rest & (next - 1) | next, width)?;
             rest >>= width - 1;
         }
-        self.fixed(rest, width)
+        self.narrow(rest, width)
     }
 
     /// Adds bits of zero up to a whole word of 32.

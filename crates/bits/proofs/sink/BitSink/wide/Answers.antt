@@ -2,7 +2,7 @@ use Rattle.std.proofs.Common.{ℕ, ◌+◌, ◌*◌, ◌/◌, ◌%◌, ◌^◌, 
 use Rattle.std.proofs.Math.Pow.{pow_mono}
 use Rattle.std.proofs.lemmas.Nat.{shr_below}
 use Rattle.bits.proofs.Appends.{joined, joined-lt, append_field, words_length}
-use Rattle.bits.proofs.sink.BitSink.fixed.Goals as goal
+use Rattle.bits.proofs.sink.BitSink.wide.Goals as goal
 
 -- the bits that a field and the pending ones make together
 joined_is : (v value c p inside w : ℕ) → v ≡ value → inside ≡ p → c < 32 → w ≤ 64 → value < 2 ^ w → value < 2 ^ 64 → p < 2 ^ c
