@@ -33,6 +33,7 @@ fn letter(number: u64) -> u64
 
 /// One value.
 #[tactic(auto, unfolding(crate::specs::Record::value_by))]
+#[inline(always)]
 pub fn value_by(cursor: &mut BitCursor, scalar: Scalar) -> Result<u64, BitFault>
     ensures { found (λ number. number) result cursor.new ≡ value_by scalar cursor.old }
 {

@@ -46,6 +46,7 @@ fn is_none(first: Option<u64>) -> bool
 
 /// One more operand. Where the record names a block, the first operand is its id.
 #[tactic(auto, unfolding(crate::specs::Passing::pass_operand))]
+#[inline(always)]
 fn pass_operand(
     cursor: &mut BitCursor,
     scalar: Scalar,
@@ -63,6 +64,7 @@ fn pass_operand(
 }
 
 /// So many operands of one spelling.
+#[inline(always)]
 fn pass_elements(
     cursor: &mut BitCursor,
     scalar: &Scalar,
@@ -107,6 +109,7 @@ fn pass_fields(
 
 /// A count of operands and so many of them.
 #[tactic(auto, unfolding(crate::specs::Passing::pass_counted))]
+#[inline(always)]
 fn pass_counted(
     cursor: &mut BitCursor,
     scalar: Scalar,

@@ -23,6 +23,7 @@ pub enum Stage {
 }
 
 /// A value that is not refused.
+#[inline(always)]
 fn value(cursor: &mut BitCursor, scalar: Scalar) -> u64
     requires { (n : ℕ) × (d : Cursor) × (value_by scalar cursor.old ≡ Ok (n, d)) }
     ensures { value_by scalar cursor.old ≡ Ok (result, cursor.new) }
@@ -45,6 +46,7 @@ fn count(cursor: &mut BitCursor) -> u64
 }
 
 /// The next of so many values of one spelling.
+#[inline(always)]
 fn next_repeated(
     cursor: &mut BitCursor,
     stage: &mut Stage,
@@ -128,6 +130,7 @@ pub struct Start {
 }
 
 /// A field that is not refused.
+#[inline(always)]
 fn field(cursor: &mut BitCursor, width: NarrowWidth) -> u64
     requires { (n : ℕ) × (d : Cursor) × (fixed width cursor.old ≡ Ok (n, d)) }
     ensures read { fixed width cursor.old ≡ Ok (result, cursor.new) }
@@ -140,6 +143,7 @@ fn field(cursor: &mut BitCursor, width: NarrowWidth) -> u64
 }
 
 /// Goes past a code that is not refused.
+#[inline(always)]
 fn pass_code(cursor: &mut BitCursor, scalar: Scalar)
     requires { (n : ℕ) × (d : Cursor) × (code_by scalar cursor.old ≡ Ok (n, d)) }
     ensures { (n : ℕ) × (code_by scalar cursor.old ≡ Ok (n, cursor.new)) }

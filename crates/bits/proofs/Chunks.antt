@@ -5,6 +5,7 @@ use Rattle.bits.specs.declared.fault.BitFaultKind.TheVariants.{Truncated, VbrToo
 use Rattle.std.proofs.lemmas.Bool.{lt-ltb, le-ltb, ltb-false, lt-leb, le-leb}
 use Rattle.std.proofs.lemmas.List.{take_more, length-take-le}
 use Rattle.std.proofs.Math.Nat.{mul_comm}
+use Rattle.std.proofs.Math.Pow.{pow_mono}
 use Rattle.std.proofs.lemmas.Nat.{pow_pos, pow-add, shr_high, mod_low, and_mask, one_shl, shl_whole}
 use Rattle.std.proofs.lemmas.Nat.Bits.{ones_shr}
 use Rattle.std.specs.Int.Bits.{or_shifted_r}
@@ -141,6 +142,23 @@ unfolding vbr_from
 step_none w k v taken n bits h =
     let fuel : 65 - n ≡ 0 = omega arith in
     rw fuel refl
+
+-- where no bit is set above a chunk's data, the chunk is its data
+only_data : (b : Bool) (p d : ℕ) → bit b ≡ 0 → bit b * p + d ≡ d
+only_data true p d h = absurd (omega arith)
+only_data false p d h = omega arith
+
+-- a number in one chunk
+pub one_chunk : (w chunk : ℕ) (bits : List Bool) → 2 ≤ w → w ≤ 32 → w ≤ length bits → chunk ≡ value (take w bits) → chunk / 2 ^ (w - 1) ≡ 0
+    → Ok (chunk, w) ≡ vbr_at w bits
+one_chunk w chunk bits low high whole is last =
+    let clear : bit (more_of w bits) ≡ 0 = sym (top_is w chunk bits low whole is) ∙ last in
+    let number : chunk ≡ data_of w bits = is ∙ chunk_parts w bits (omega arith) whole ∙ only_data (more_of w bits) (2 ^ (w - 1)) (data_of w bits) clear in
+    let size : w - 1 ≤ 31 = omega arith in
+    let bound : 2 ^ (w - 1) ≤ 2 ^ 31 = pow_mono size in
+    let small : data_of w bits < 2 ^ (w - 1) = omega (arith, value-take (w - 1) bits, pow_pos (w - 1)) in
+    let fits : data_of w bits < 2 ^ (64 - 0) = omega arith in
+    rw number (sym (vbr_last 64 w 0 bits whole (omega arith) fits (bit_clear _ clear)))
 
 -- how many bits a reading takes, which is none at a fault
 pub record Within (size : ℕ) (read : Read) : Type 0 where

@@ -71,6 +71,7 @@ impl<'b> BitCursor<'b> {
     }
 
     /// The number of `width` bits in front.
+    #[inline(always)]
     pub fn fixed(&mut self, width: u32) -> Result<u64, BitFault>
         requires { width ≤ 64 }
         ensures read { found (λ n. n) result self.new ≡ fixed width self.old }
@@ -85,6 +86,7 @@ impl<'b> BitCursor<'b> {
     }
 
     /// The number in chunks of `width` bits in front.
+    #[inline(always)]
     pub fn vbr(&mut self, width: u32) -> Result<u64, BitFault>
         requires width_low { 2 ≤ width }
         requires width_high { width ≤ 32 }

@@ -1,13 +1,6 @@
-use Rattle.std.proofs.Common.{refl, ◌∙◌, arith}
-use Rattle.std.proofs.Math.Seq.{drop-length}
-use Rattle.bits.proofs.Words.{word_more, value-nil, word_eight}
+use Rattle.std.proofs.Common.{◌∙◌, arith}
+use Rattle.bits.proofs.Words.{word_eight}
 use Rattle.bits.proofs.field.word_of.Goals as goal
 
 pub returns-then-bytes-eq8 : goal.returns-then-bytes-eq8
 returns-then-bytes-eq8 c = c.from_le_bytes.ensures ∙ word_eight c.args.bytes.now c.if-bytes-eq8.true (λ i. omega (arith, c.type_inv.bytes i))
-
-pub loop-at-init : goal.loop-at-init
-loop-at-init c = record { within = omega arith; short = omega arith; so_far = rw (drop-length, value-nil) refl }
-
-pub loop-at-preserved : goal.loop-at-preserved
-loop-at-preserved c = record { within = omega arith; short = omega arith; so_far = word_more c.args.bytes.now c.loop-at.at c.loop-at.word _ (omega arith) (omega arith) (omega arith) (omega arith) c.from.ensures c.loop-at.invariant.so_far }

@@ -4,8 +4,8 @@ use Rattle.std.proofs.lemmas.Nat.{pow_pos}
 use Rattle.bits.specs.Bits.{stream_bits}
 use Rattle.bits.proofs.BitsLaws.{length-stream_bits, value-take}
 use Rattle.bits.proofs.Chunks.{data_of, data_is, top_is, fits_above, over_above, or_data, data-lt, step_short, step_late, step_wide, step_last, step_next, step_none}
-use Rattle.bits.proofs.field.vbr_in.Goals.{then-shift-ge64-via-then-shift-ge64, then-shift-ge64-via-else-shift-ge64+then-data-shift}
-use Rattle.bits.proofs.field.vbr_in.Goals as goal
+use Rattle.bits.proofs.field.in_chunks.Goals.{then-shift-ge64-via-then-shift-ge64, then-shift-ge64-via-else-shift-ge64+then-data-shift}
+use Rattle.bits.proofs.field.in_chunks.Goals as goal
 
 pub returns-then-end-at : goal.returns-then-end-at
 returns-then-end-at c =

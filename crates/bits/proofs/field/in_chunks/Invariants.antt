@@ -2,7 +2,7 @@ use Rattle.std.proofs.Common.{◌-◌, ◌≡◌, ◌*◌, ◌^◌, ◌<◌, ◌
 use Rattle.bits.specs.Bits.{stream_bits}
 use Rattle.bits.specs.Reading.{vbr_from, vbr_at}
 use Rattle.bits.proofs.Chunks.{with_front}
-use Rattle.bits.proofs.field.vbr_in.Given as goal
+use Rattle.bits.proofs.field.in_chunks.Given as goal
 
 abbrev pub invariant-loop : goal.invariant-loop
 invariant-loop l = record {
