@@ -43,6 +43,11 @@ def invalid(text, told):
     CASES.append((text, f" invalid {told}"))
 
 
+def too_large(parts, name, product):
+    """A module of which one function has more than 2^31 blocks times values."""
+    CASES.append((parts, f" function too large: {name}, {product}"))
+
+
 def again(text):
     refused(text, f"duplicate, first at {place_before(FIRST, text)}")
 
@@ -369,6 +374,8 @@ def modules():
     # Modules that are not valid.
     invalid("target datalayout = \"E\" define void @f() { br label %0 }", "V1 at module")
     invalid("@a = alias i32, ptr @b @b = external global i32", "V19 at @a")
+    # 46,341 blocks with one value each, told before any rule: the layout is foreign too.
+    too_large(["target datalayout = \"E\"\ndefine void @f() {\n%v=add i1 0,0\n", (46340, "br label %b# b#:%v#=add i1 0,0\n"), "ret void\n}\n"], "@f", 46341 * 46341)
 
 
 TABLES = [worked, duplicates, aliases, unknowns, numbers, ranges, loops, sizes, orders, towers, counts, modules]
