@@ -74,8 +74,8 @@ def rows_of(table):
     return [(names, parts, text) for names, parts, text, _ in links.ROWS if text and "@main()" in text]
 
 
-def again():
-    """What tests/links.py links, run."""
+def worked():
+    """What tests/links.py links, run: names of the parts, the parts, what they are linked to, and runs of that."""
     told = [
         # Two variables that name each other across parts.
         [ends(7)],
@@ -95,14 +95,19 @@ def again():
         [ends(9)],
         # A name inside another variable's initialiser, and a name that would be an intrinsic's.
         [ends(2)], [ends(2)],
+        # Aliases: of a function before and behind a weak one of the name, of a variable that is written by its alias, and one that is renamed.
+        [ends(2)], [ends(2)], [ends(6)], [ends(2)],
+        # What was cut in two.
+        [ends(7)],
     ]
-    for (names, parts, text), runs in zip(rows_of(links.worked), told, strict=True):
+    rows = [row for table in (links.worked, links.aliases, links.ends) for row in rows_of(table)]
+    return [(*row, runs) for row, runs in zip(rows, told, strict=True)]
+
+
+def again():
+    """What tests/links.py links, and what is not linked."""
+    for names, parts, text, runs in worked():
         linked(parts, text, *runs, names=names)
-    # Aliases: of a function before and behind a weak one of the name, of a variable that is written by its alias, and one that is renamed;
-    # and what was cut in two.
-    for table, statuses in [(links.aliases, [2, 2, 6, 2]), (links.ends, [7])]:
-        for (names, parts, text), status in zip(rows_of(table), statuses, strict=True):
-            linked(parts, text, ends(status), names=names)
     # Where there is a conflict no file is written, so none can be run.
     RUNS.append(("clear\nfile x.ll\n+ @x = global i32 1\nfile y.ll\n+ @x = global i32 2\nrun llvm-link x.ll y.ll -o z.bc\n",
                  "> llvm-link x.ll y.ll -o z.bc\nstatus 1\nfiles x.ll y.ll\nerrors\n| llvm-link: conflict: two strong: @x in x.ll and y.ll\n"))
