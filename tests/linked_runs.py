@@ -163,6 +163,16 @@ def own():
            ["@n = internal global i32 10", "@n.1 = internal global i32 20", "@next = internal global i32 5",
             step("next.1", "n", 1), main.replace("@next", "@next.1"), gives("other", "next.2"), third, step("next.2", "n.1", 2)],
            ends(89))
+    # Three parts with a function of one name, and others that have the first new names.
+    main = ("define i32 @main() { 0: %1 = call i32 @f() / %2 = call i32 @g() / %3 = call i32 @h() / %4 = mul i32 %2, 10 / %5 = mul i32 %3, 100 / "
+            "%6 = add i32 %1, %4 / %7 = add i32 %6, %5 / ret i32 %7 }")
+
+    def gives_number(name, n, linkage="internal "):
+        return f"define {linkage}i32 @{name}() {{ 0: ret i32 {n} }}"
+
+    first, second = gives_number("f.1", 40, ""), gives_number("f.2", 41, "")
+    linked([[gives_number("f", 3), main, "declare i32 @g()", "declare i32 @h()"], [gives_number("f", 5), gives("g", "f"), first], [second, gives_number("f", 1), gives("h", "f")]],
+           [gives_number("f", 3), main, gives("g", "f.3"), gives("h", "f.4"), gives_number("f.3", 5), first, second, gives_number("f.4", 1)], ends(153))
     # Texts of one name, and printf from both parts.
     one, two, short, long = ('private constant [4 x i8] c"one\\00"', 'private constant [4 x i8] c"two\\00"',
                              'private constant [7 x i8] c"%s %d\\0A\\00"', 'private constant [8 x i8] c"[%s|%d]\\00"')
