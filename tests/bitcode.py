@@ -10,7 +10,7 @@ the program.
     tests/bitcode.py            writes the rows
     tests/bitcode.py --check    tells whether they are what it would write
 
-The rows stand behind those of tests/assemble.py, and before those of tests/names.py, which takes all that is behind its own mark.
+The rows stand behind those of tests/assemble.py, and before those of tests/linked_bitcode.py.
 """
 import sys
 
@@ -24,11 +24,11 @@ from record_spellings import FIRST_EMPTY, OTHERWISE, SAME, X_LINES, cut
 from streams import GREAT_COUNT, LONG_VBR, SEVENTEEN
 
 MARK = b"# Bitcode read: written by tests/bitcode.py.\n"
-MARK_BEHIND = b"# Names and numbers: written by tests/names.py.\n"
+MARK_BEHIND = b"# Linked bitcode that runs: written by tests/linked_bitcode.py.\n"
 RUN = b"> llvm-dis -o - spelled.bc\n"
-RUN_BEHIND = b"> llvm-as names.ll\n"
+RUN_BEHIND = b"> llvm-link -o linked.bc a.ll b.ll\n"
 
-ICMP, SELECT, LOAD = 24, 30, 33
+LOAD = 33
 
 # What the script says of each run, and what is told of it.
 RUNS = []
@@ -216,44 +216,6 @@ BOTH_CODE = bitcode(
 BOTH_LINES = ["define i32 @g() {", "0:", "  ret i32 7", "}", "define i32 @main() {", "0:", "  %1 = call i32 @g()", "  ret i32 %1", "}"]
 
 
-# Two parts that point at each other, and two that have a function of one name each for itself.
-RINGS = [
-    "@b = external global ptr @a = global ptr @b define i32 @main() { %1 = load ptr, ptr @a %2 = load ptr, ptr %1 %3 = icmp eq ptr %2, @a"
-    " %4 = select i1 %3, i32 7, i32 9 ret i32 %4 }",
-    "@a = external global ptr @b = global ptr @a"]
-RING_CODE = bitcode(
-    b"bamain", types(PTR, int_type(32), int_type(1)), record(VARIABLE, 0, 1, EXTERNAL, 0, 0, 0, 1, *of_global(1)), record(VARIABLE, 1, 1, EXTERNAL, 0, 0, 0, 1, *of_global(0)),
-    record(FUNCTION, 2, 4, EXTERNAL, 1, 1, 0, 0),
-    body(record(PARAMS), record(BLOCK, 0), record(LOAD, 0, 0, 0, *of_global(1), 0), record(LOAD, 0, 0, 0, *value(0), 0),
-         record(ICMP, 0, 0, 1, 0, *value(1), *of_global(1)), record(SELECT, 0, 1, *value(2), *integer(7), *integer(9)), record(RET, 1, 1, *value(3))))
-RING_LINES = ["@b = global ptr @a", "@a = global ptr @b", "define i32 @main() {", "0:", "  %1 = load ptr, ptr @a", "  %2 = load ptr, ptr %1",
-              "  %3 = icmp eq ptr %2, @a", "  %4 = select i1 %3, i32 7, i32 9", "  ret i32 %4", "}"]
-OWN = [
-    "define internal i32 @f() { ret i32 1 } define i32 @main() { %1 = call i32 @f() %2 = call i32 @g() %3 = add i32 %1, %2 ret i32 %3 } declare i32 @g()",
-    "define internal i32 @f() { ret i32 2 } define i32 @g() { %1 = call i32 @f() ret i32 %1 } define i32 @f.1() { ret i32 40 }"]
-
-
-def function(offset, size, linkage):
-    return record(FUNCTION, offset, size, linkage, 1, 0, 0, 0)
-
-
-def call_of(number):
-    return record(CALL, 0, 0, 0, 0, *of_global(number), 0)
-
-
-def gives(number):
-    return body(record(PARAMS), record(BLOCK, 0), record(RET, 1, 0, *integer(number)))
-
-
-OWN_CODE = bitcode(
-    b"fmaingf.2f.1", types(int_type(32)), function(0, 1, INTERNAL), function(1, 4, EXTERNAL), function(5, 1, EXTERNAL), function(6, 3, INTERNAL), function(9, 3, EXTERNAL),
-    gives(1), body(record(PARAMS), record(BLOCK, 0), call_of(0), call_of(2), record(ADD, 0, 0, 0, *value(0), *value(1)), record(RET, 1, 0, *value(2))),
-    body(record(PARAMS), record(BLOCK, 0), call_of(3), record(RET, 1, 0, *value(0))), gives(2), gives(40))
-OWN_LINES = ["define internal i32 @f() {", "0:", "  ret i32 1", "}", "define i32 @main() {", "0:", "  %1 = call i32 @f()", "  %2 = call i32 @g()",
-             "  %3 = add i32 %1, %2", "  ret i32 %3", "}", "define i32 @g() {", "0:", "  %1 = call i32 @f.2()", "  ret i32 %1", "}",
-             "define internal i32 @f.2() {", "0:", "  ret i32 2", "}", "define i32 @f.1() {", "0:", "  ret i32 40", "}"]
-
-
 def written(text, name):
     return f"file {name}\n{content(text)}"
 
@@ -284,12 +246,6 @@ def linked():
         run("clear\n" + stored(code), "llvm-link -S spelled.bc", f"status 0\nfiles spelled.bc\n{stream(lines(*text))}")
     for code in SAME:
         run("clear\n" + stored(code), "llvm-link spelled.bc", f"status 0\nfiles spelled.bc\noutput\n{printed(BYTE_CODE)}")
-    # What is linked runs as its parts do, as bitcode and as the text of that.
-    for (one, other), code, text, status in [(RINGS, RING_CODE, RING_LINES, 7), (OWN, OWN_CODE, OWN_LINES, 3)]:
-        run("clear\n" + written(one, "a.ll") + written(other, "b.ll"), "llvm-link -o z.bc a.ll b.ll", f"status 0\nfiles a.ll b.ll\nwrote z.bc\n{printed(code)}")
-        run("", "lli z.bc", f"status {status}\nfiles z.bc\n")
-        run("", "llvm-dis z.bc", f"status 0\nfiles z.bc\nwrote z.ll\n{printed(lines(*text).encode())}")
-        run("", "lli z.ll", f"status {status}\nfiles z.ll\n")
     # A weak definition of bitcode gives way to a strong one of a text.
     weak = bitcode(b"x", types(int_type(8)), record(VARIABLE, 0, 1, 6, 0, 0, 0, 1, *integer(1)))
     run("clear\n" + stored(weak, "w.bc") + written(BYTE, "x.ll"), "llvm-link w.bc x.ll", f"status 0\nfiles w.bc x.ll\noutput\n{printed(BYTE_CODE)}")

@@ -146,6 +146,11 @@ def linkages():
     part("--glob=e --glob=a", "@a = global i8 1, align 4", "@e = linkonce_odr constant i8 3")
     missing("--glob=a --glob=d", "@d")
     missing("--glob=c", "@c")
+    # A function that may be nowhere stays so where a kept one calls it, and goes where none does.
+    of("declare extern_weak i8 @w(i8 %n) define internal i8 @f() { %1 = call i8 @w(i8 1) ret i8 %1 } define void @g() { ret void }")
+    part("--func=f", "declare extern_weak i8 @w(i8)", "define i8 @f() {", "0:", "  %1 = call i8 @w(i8 1)", "  ret i8 %1", "}")
+    part("--func=g", "define void @g() {", "0:", "  ret void", "}")
+    missing("--func=w", "@w")
     # An entry with a body or an initialiser is a definition, whatever its linkage.
     of("@x = available_externally global i8 1 define available_externally i8 @f(i8 %n, i8 %0) { ret i8 %n } define weak_odr i8 @g(i8 %n) { %1 = call i8 @f(i8 %n, i8 2) ret i8 %1 }")
     part("--glob=x --func=f", "@x = available_externally global i8 1", "define available_externally i8 @f(i8 %n, i8 %0) {", "1:", "  ret i8 %n", "}")

@@ -74,8 +74,8 @@ def rows_of(table):
     return [(names, parts, text) for names, parts, text, _ in links.ROWS if text and "@main()" in text]
 
 
-def again():
-    """What tests/links.py links, run."""
+def worked():
+    """What tests/links.py links, run: names of the parts, the parts, what they are linked to, and runs of that."""
     told = [
         # Two variables that name each other across parts.
         [ends(7)],
@@ -95,14 +95,19 @@ def again():
         [ends(9)],
         # A name inside another variable's initialiser, and a name that would be an intrinsic's.
         [ends(2)], [ends(2)],
+        # Aliases: of a function before and behind a weak one of the name, of a variable that is written by its alias, and one that is renamed.
+        [ends(2)], [ends(2)], [ends(6)], [ends(2)],
+        # What was cut in two.
+        [ends(7)],
     ]
-    for (names, parts, text), runs in zip(rows_of(links.worked), told, strict=True):
+    rows = [row for table in (links.worked, links.aliases, links.ends) for row in rows_of(table)]
+    return [(*row, runs) for row, runs in zip(rows, told, strict=True)]
+
+
+def again():
+    """What tests/links.py links, and what is not linked."""
+    for names, parts, text, runs in worked():
         linked(parts, text, *runs, names=names)
-    # Aliases: of a function before and behind a weak one of the name, of a variable that is written by its alias, and one that is renamed;
-    # and what was cut in two.
-    for table, statuses in [(links.aliases, [2, 2, 6, 2]), (links.ends, [7])]:
-        for (names, parts, text), status in zip(rows_of(table), statuses, strict=True):
-            linked(parts, text, ends(status), names=names)
     # Where there is a conflict no file is written, so none can be run.
     RUNS.append(("clear\nfile x.ll\n+ @x = global i32 1\nfile y.ll\n+ @x = global i32 2\nrun llvm-link x.ll y.ll -o z.bc\n",
                  "> llvm-link x.ll y.ll -o z.bc\nstatus 1\nfiles x.ll y.ll\nerrors\n| llvm-link: conflict: two strong: @x in x.ll and y.ll\n"))
@@ -158,6 +163,16 @@ def own():
            ["@n = internal global i32 10", "@n.1 = internal global i32 20", "@next = internal global i32 5",
             step("next.1", "n", 1), main.replace("@next", "@next.1"), gives("other", "next.2"), third, step("next.2", "n.1", 2)],
            ends(89))
+    # Three parts with a function of one name, and others that have the first new names.
+    main = ("define i32 @main() { 0: %1 = call i32 @f() / %2 = call i32 @g() / %3 = call i32 @h() / %4 = mul i32 %2, 10 / %5 = mul i32 %3, 100 / "
+            "%6 = add i32 %1, %4 / %7 = add i32 %6, %5 / ret i32 %7 }")
+
+    def gives_number(name, n, linkage="internal "):
+        return f"define {linkage}i32 @{name}() {{ 0: ret i32 {n} }}"
+
+    first, second = gives_number("f.1", 40, ""), gives_number("f.2", 41, "")
+    linked([[gives_number("f", 3), main, "declare i32 @g()", "declare i32 @h()"], [gives_number("f", 5), gives("g", "f"), first], [second, gives_number("f", 1), gives("h", "f")]],
+           [gives_number("f", 3), main, gives("g", "f.3"), gives("h", "f.4"), gives_number("f.3", 5), first, second, gives_number("f.4", 1)], ends(153))
     # Texts of one name, and printf from both parts.
     one, two, short, long = ('private constant [4 x i8] c"one\\00"', 'private constant [4 x i8] c"two\\00"',
                              'private constant [7 x i8] c"%s %d\\0A\\00"', 'private constant [8 x i8] c"[%s|%d]\\00"')

@@ -5,9 +5,10 @@
     tests/programs.py --check       each program has its texts and its line of results.txt, and they are of this very source
     tests/programs.py --run TOOL    runs each text by the ir-tools program of this name, and compares output and status
     tests/programs.py --link TOOL   the same of linked texts alone, run by lli-19
+    tests/programs.py --cut TOOL    as --run, of what llvm-extract-19 cuts in two and this links
 
 tests/programs has forty programs of one part, NAME.c, which are also cut in two by `llvm-extract` and linked again; tests/linked has programs
-of several parts, NAME.1.c, NAME.2.c and so on, which `llvm-link` makes one, in their order. A program is run three times: as made at -O0, at -O2, and at -O1 with a trap at whatever is undefined. The
+of several parts, NAME.1.c, NAME.2.c and so on, which `llvm-link` makes one, in their order: as text, and for `lli` as bitcode too. A program is run three times: as made at -O0, at -O2, and at -O1 with a trap at whatever is undefined. The
 three must agree. Each line of results.txt has the name, the sources' checksum, the status, and the output as a Python literal.
 """
 import ast
@@ -27,6 +28,8 @@ FLAGS = ["-fno-pie", "-Wl,-no-pie", "-fno-vectorize", "-fno-slp-vectorize", "-fn
 PLAIN = {"bits", "fibonacci", "list", "machine", "matrix", "queens", "setup", "sieve", "sort", "text"}
 # The parts of this one have tentative definitions, which are one variable.
 COMMON = {"common": ["-fcommon"]}
+# Of this one llvm-extract-19 writes an alias of a function that it leaves out, which llvm-as-19 refuses too.
+UNCUT = {"setup"}
 # The arguments of those that are given some, and the inputs of those that read.
 ARGUMENTS = {"echo": ["one", "-22", "three", "400", "", "-"]}
 INPUTS = {
@@ -77,27 +80,29 @@ class Program:
                 if not re.search(rf'^source_filename = "{re.escape(source.name)}"$', text, re.M):
                     yield f"{path.name}: no text of {source.name}"
 
-    def runs(self, tool, runner):
-        """What runs of its texts give, each with a word on which it is; of the linked ones alone where another tool runs them."""
-        words = ARGUMENTS.get(self.name, [])
-        for level in LEVELS:
+    def runs(self, tool, cutter, runner):
+        """What runs of its texts give, each with a word on which it is: of what is linked alone where another tool runs it, of what is cut alone where another cuts it."""
+        words, ours = ARGUMENTS.get(self.name, []), runner[0] == tool
+        uncut = cutter[0] != tool and (self.name in UNCUT or len(self.sources) > 1)
+        for level in [] if uncut else LEVELS:
             texts = self.texts(level)
             with tempfile.TemporaryDirectory() as room:
                 if len(texts) == 1:
-                    if runner[0] == tool:
+                    if ours and cutter[0] == tool:
                         yield f"O{level}", told([*runner, *texts, *words], self.name)
-                    texts = cut(tool, texts[0], room)
-                subprocess.run([tool, "llvm-link", "-S", "-o", f"{room}/linked.ll", *texts], check=True)
-                yield f"O{level}, linked", told([*runner, f"{room}/linked.ll", *words], self.name)
+                    texts = cut(cutter, texts[0], room)
+                for name, text in [("linked.ll", ["-S"]), ("linked.bc", [])][:2 if ours else 1]:
+                    subprocess.run([tool, "llvm-link", *text, "-o", f"{room}/{name}", *texts], check=True)
+                    yield f"O{level}, {name}", told([*runner, f"{room}/{name}", *words], self.name)
 
 
-def cut(tool, text, room):
+def cut(cutter, text, room):
     """Two parts of a text: every second function that it defines, and all else."""
     names = re.findall(r"^define [^@]*@([\w.$-]+)\(", text.read_text(), re.M)[::2]
     chosen = [f"--func={name}" for name in names]
     parts = [f"{room}/chosen.ll", f"{room}/others.ll"]
     for part, more in zip(parts, [[], ["--delete"]], strict=True):
-        subprocess.run([tool, "llvm-extract", "-S", *chosen, *more, "-o", part, text], check=True)
+        subprocess.run([*cutter, "-S", *chosen, *more, "-o", part, text], check=True)
     return parts
 
 
@@ -139,12 +144,12 @@ def check():
             yield from program.wrong(found)
 
 
-def run(tool, runner):
+def run(tool, cutter, runner):
     """What is otherwise than with the native programs."""
     for folder in FOLDERS:
         found = results(folder)
         for program in programs(folder):
-            for which, told_here in program.runs(tool, runner):
+            for which, told_here in program.runs(tool, cutter, runner):
                 if told_here != found[program.name][1:]:
                     yield f"{program.name}, {which}: {told_here}, and natively {found[program.name][1:]}"
 
@@ -153,9 +158,10 @@ def main():
     if sys.argv[1:] == ["--make"]:
         make()
         return
-    runners = {"--run": [*sys.argv[2:], "lli"], "--link": ["lli-19"]}
-    runner = runners.get(sys.argv[1])
-    wrong = list(run(sys.argv[2], runner) if runner else check())
+    tool = sys.argv[2] if len(sys.argv) > 2 else None
+    ours = [tool, "llvm-extract"], [tool, "lli"]
+    tools = {"--run": ours, "--link": (ours[0], ["lli-19"]), "--cut": (["llvm-extract-19"], ours[1])}.get(sys.argv[1])
+    wrong = list(run(tool, *tools) if tools else check())
     for it in wrong:
         print(f"tests/programs.py: {it}")
     sys.exit(1 if wrong else 0)

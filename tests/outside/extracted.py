@@ -5,7 +5,7 @@ llvm-extract-19 which symbols are left of it, defined or declared.
     tests/outside/extracted.py TOOL    by the ir-tools program of this name
 
 A line for each function of which LLVM's tools say otherwise, and how many were compared. Two are otherwise, the same function at two
-levels: llvm-extract-19 keeps an alias of what is chosen, which `llvm-extract` here does where it is chosen by `--alias`.
+levels: `llvm-extract` here keeps a definition's aliases with it, and llvm-extract-19 leaves the alias out.
 """
 import pathlib
 import re

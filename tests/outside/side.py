@@ -13,6 +13,7 @@ docs/language.md; nothing is taken from the program.
 | `random` | COUNT sets of two to six parts at random, of few names, so that linkages of each kind meet |
 | `links` | the rows of tests/links.py: those with a main, and those without it with a further part, which tells what lies in memory or calls a function |
 | `linked_runs` | the rows of tests/linked_runs.py, with their words, inputs and bounds |
+| `again` | those of them that are rows of tests/links.py too; the gate runs these, and `linked_runs` has them |
 | `running` | the programs of tests/running.py, of one part each |
 | `linked` | the programs of tests/linked: parts that clang-19 printed at -O0 and at -O2, in both orders, and some at one level beside others at the other |
 | `programs` | the programs of tests/programs at -O0 and at -O2, cut in two by `llvm-extract` |
@@ -231,6 +232,11 @@ def of_linked_runs(_):
     return collected(linked_runs.TABLES)
 
 
+def of_again(_):
+    """Those of them that are rows of tests/links.py too."""
+    return collected([linked_runs.again])
+
+
 def of_running(_):
     """The rows of tests/running.py."""
     return collected(running.TABLES)
@@ -443,11 +449,11 @@ def of_programs(tool):
     for program in programs.programs(programs.FOLDERS[0]):
         for level in programs.LEVELS:
             with tempfile.TemporaryDirectory() as room:
-                texts = [read(path) for path in programs.cut(tool, program.texts(level)[0], room)]
+                texts = [read(path) for path in programs.cut([tool, "llvm-extract"], program.texts(level)[0], room)]
             yield Case(f"programs, {program.name} at O{level}", texts, given_to(program))
 
 
-SETS = {"own": of_own, "random": of_random, "links": of_links, "linked_runs": of_linked_runs, "running": of_running, "linked": of_linked, "programs": of_programs}
+SETS = {"own": of_own, "random": of_random, "links": of_links, "linked_runs": of_linked_runs, "again": of_again, "running": of_running, "linked": of_linked, "programs": of_programs}
 
 
 def main(words):
@@ -455,7 +461,7 @@ def main(words):
     if words[:1] == ["--tool"]:
         tool, words = str(pathlib.Path(words[1]).resolve()), words[2:]
     differs = False
-    for name in words or SETS:
+    for name in words or [name for name in SETS if name != "again"]:
         compared = Compared(tool)
         for case in SETS[name](tool):
             compared.compare(case)
