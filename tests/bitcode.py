@@ -8,22 +8,16 @@ the program.
 
     tests/bitcode.py            writes the rows
     tests/bitcode.py --check    tells whether they are what it would write
-
-The rows stand behind those of tests/assemble.py, and before those of tests/names.py, which takes all that is behind its own mark.
 """
 import sys
 
 sys.dont_write_bytecode = True
 from assemble import (
-    ADD, BLOCK, BR, BYTE, BYTE_CODE, CALL, CRATE, EMPTY, EXTERNAL, FUNCTION, INTERNAL, LAYOUT, MODULES, PARAMS, PTR, RET, SOURCE, SUM_CODE,
-    TRIPLE, VARIABLE, Bits, bitcode, block, body, byte_record, content, file_of, integer, int_type, line, of_global, placed, printed,
-    put_block, record, string, types, value)
+    ADD, BLOCK, BR, BYTE, BYTE_CODE, CALL, EMPTY, EXTERNAL, FUNCTION, INTERNAL, LAYOUT, MODULES, PARAMS, PTR, RET, SOURCE, SUM_CODE,
+    TRIPLE, VARIABLE, Bits, bitcode, block, body, byte_record, file_of, integer, int_type, line, of_global, put_block, record, string,
+    types, value)
+from stored import content, printed, store_part
 from streams import GREAT_COUNT, LONG_VBR, SEVENTEEN
-
-MARK = b"# Bitcode read: written by tests/bitcode.py.\n"
-MARK_BEHIND = b"# Names and numbers: written by tests/names.py.\n"
-RUN = b"> llvm-dis -o - spelled.bc\n"
-RUN_BEHIND = b"> llvm-as names.ll\n"
 
 ICMP, SELECT, LOAD = 24, 30, 33
 
@@ -434,15 +428,7 @@ def main():
         sys.exit("the encoder does not make the module of an empty text")
     for table in TABLES:
         table()
-    given = "".join(given for given, _ in RUNS).encode()
-    told = "".join(told for _, told in RUNS).encode()
-    old_stdin, old_stdout = (CRATE / "stdin").read_bytes(), (CRATE / "stdout").read_bytes()
-    stdin = placed(old_stdin, MARK, MARK_BEHIND, MARK + given)
-    stdout = placed(old_stdout, RUN, RUN_BEHIND, told)
-    if "--check" in sys.argv[1:]:
-        sys.exit(0 if (old_stdin, old_stdout) == (stdin, stdout) else 1)
-    (CRATE / "stdin").write_bytes(stdin)
-    (CRATE / "stdout").write_bytes(stdout)
+    store_part("bitcode", RUNS)
 
 
 if __name__ == "__main__":
