@@ -7,19 +7,11 @@ docs/commands.md. Nothing is taken from the program.
 
     tests/assemble.py            writes the rows
     tests/assemble.py --check    tells whether they are what it would write
-
-The rows stand behind those of tests/link_text.py, and before those of tests/bitcode.py.
 """
-import pathlib
 import sys
 
 sys.dont_write_bytecode = True
-
-CRATE = pathlib.Path(__file__).resolve().parent.parent / "crates" / "tool_table"
-MARK = b"# Texts assembled: written by tests/assemble.py.\n"
-MARK_BEHIND = b"# Bitcode read: written by tests/bitcode.py.\n"
-RUN = b"> llvm-as -o - assembled.ll\n"
-RUN_BEHIND = b"> llvm-dis -o - spelled.bc\n"
+from stored import content, printed, store_part
 
 # What the script says of each run, and what is told of it.
 RUNS = []
@@ -328,28 +320,6 @@ MODULES = [
 # ---- the rows
 
 
-def escaped(bytes_):
-    """A line of the script that stands for these bytes."""
-    return "".join(chr(b) if 32 <= b <= 126 and b != 92 else f"\\x{b:02x}" for b in bytes_)
-
-
-def told_as(bytes_):
-    """What the test program prints of these bytes, of a line."""
-    return "".join("\\\\" if b == 92 else chr(b) if 32 <= b <= 126 else f"\\x{b:02x}" for b in bytes_)
-
-
-def content(text):
-    """The lines of the script that give a file or standard input this text."""
-    lines = text.encode().split(b"\n")
-    return "".join(f"| {escaped(line)}\n" for line in lines[:-1]) + (f"+ {escaped(lines[-1])}\n" if lines[-1] else "")
-
-
-def printed(bytes_):
-    """What the test program prints of bytes: a line for each line, and one for what no line feed ends."""
-    lines = bytes_.split(b"\n")
-    return "".join(f"| {told_as(line)}\n" for line in lines[:-1]) + (f"+ {told_as(lines[-1])}\n" if lines[-1] else "")
-
-
 def run(given, words, told):
     """A run of which the script says this, and what is told of it behind its words."""
     RUNS.append((f"{given}run {words}\n", f"> {words}\n{told}"))
@@ -453,27 +423,12 @@ def files():
     run(kept + "fails files 2\n", "llvm-as -o - assembled.ll", f"status 0\nfiles assembled.ll\noutput\n{printed(BYTE_CODE)}")
 
 
-def placed(stored, first, behind, rows):
-    """The stored bytes with these rows in place of the old ones, before what is behind."""
-    end = stored.index(behind) if behind in stored else len(stored)
-    begin = min(stored.index(first), end) if first in stored else end
-    return stored[:begin] + rows + stored[end:]
-
-
 def main():
     if bitcode(b"", types()) != EMPTY:
         sys.exit("the encoder does not make the module of an empty text")
     for table in [modules, names, refusals, sinks, files]:
         table()
-    given = "".join(given for given, _ in RUNS).encode()
-    told = "".join(told for _, told in RUNS).encode()
-    old_stdin, old_stdout = (CRATE / "stdin").read_bytes(), (CRATE / "stdout").read_bytes()
-    stdin = placed(old_stdin, MARK, MARK_BEHIND, MARK + given)
-    stdout = placed(old_stdout, RUN, RUN_BEHIND, told)
-    if "--check" in sys.argv[1:]:
-        sys.exit(0 if (old_stdin, old_stdout) == (stdin, stdout) else 1)
-    (CRATE / "stdin").write_bytes(stdin)
-    (CRATE / "stdout").write_bytes(stdout)
+    store_part("assemble", RUNS)
 
 
 if __name__ == "__main__":

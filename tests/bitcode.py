@@ -9,24 +9,18 @@ the program.
 
     tests/bitcode.py            writes the rows
     tests/bitcode.py --check    tells whether they are what it would write
-
-The rows stand behind those of tests/assemble.py, and before those of tests/linked_bitcode.py.
 """
 import sys
 
 sys.dont_write_bytecode = True
 from assemble import (
-    ADD, BLOCK, BR, BYTE, BYTE_CODE, CALL, CRATE, EMPTY, EXTERNAL, FUNCTION, INTERNAL, LAYOUT, LOOP_LAYOUT, MODULES, PARAMS, PRODUCER, PTR,
-    RET, SOURCE, SUM_CODE, VARIABLE, bitcode, block, body, byte_record, content, file_of, integer, int_type, line, of_global, placed, printed,
-    record, string, top, types, value)
+    ADD, BLOCK, BR, BYTE, BYTE_CODE, CALL, EMPTY, EXTERNAL, FUNCTION, INTERNAL, LAYOUT, LOOP_LAYOUT, MODULES, PARAMS, PRODUCER, PTR,
+    RET, SOURCE, SUM_CODE, VARIABLE, bitcode, block, body, byte_record, file_of, integer, int_type, line, of_global, record, string, top,
+    types, value)
 from record_faults import TAKEN, refused as faults
 from record_spellings import FIRST_EMPTY, OTHERWISE, SAME, X_LINES, cut
+from stored import content, printed, store_part
 from streams import GREAT_COUNT, LONG_VBR, SEVENTEEN
-
-MARK = b"# Bitcode read: written by tests/bitcode.py.\n"
-MARK_BEHIND = b"# Linked bitcode that runs: written by tests/linked_bitcode.py.\n"
-RUN = b"> llvm-dis -o - spelled.bc\n"
-RUN_BEHIND = b"> llvm-link -o linked.bc a.ll b.ll\n"
 
 LOAD = 33
 
@@ -327,15 +321,7 @@ def main():
         sys.exit("the encoder does not make the module of an empty text")
     for table in TABLES:
         table()
-    given = "".join(given for given, _ in RUNS).encode()
-    told = "".join(told for _, told in RUNS).encode()
-    old_stdin, old_stdout = (CRATE / "stdin").read_bytes(), (CRATE / "stdout").read_bytes()
-    stdin = placed(old_stdin, MARK, MARK_BEHIND, MARK + given)
-    stdout = placed(old_stdout, RUN, RUN_BEHIND, told)
-    if "--check" in sys.argv[1:]:
-        sys.exit(0 if (old_stdin, old_stdout) == (stdin, stdout) else 1)
-    (CRATE / "stdin").write_bytes(stdin)
-    (CRATE / "stdout").write_bytes(stdout)
+    store_part("bitcode", RUNS)
 
 
 if __name__ == "__main__":

@@ -7,19 +7,13 @@ docs/commands.md. Nothing is taken from the program.
 
     tests/extracting.py            writes the rows
     tests/extracting.py --check    tells whether they are what it would write
-
-The rows stand before those of tests/running.py.
 """
 import sys
 
 sys.dont_write_bytecode = True
-from assemble import (ALIAS, BLOCK, CALL, CRATE, EMPTY, EXTERNAL, FUNCTION, PARAMS, RET, VARIABLE, VOID,
-                      bitcode, body, content, input_of, int_type, integer, line, of_global, placed, printed, record, types)
-
-MARK = b"# Parts of texts: written by tests/extracting.py.\n"
-MARK_BEHIND = b"# Programs that run: written by tests/running.py.\n"
-RUN = b"> llvm-extract -S extracted.ll\n"
-RUN_BEHIND = b"> lli run.ll\n"
+from assemble import (ALIAS, BLOCK, CALL, EMPTY, EXTERNAL, FUNCTION, PARAMS, RET, VARIABLE, VOID,
+                      bitcode, body, input_of, int_type, integer, line, of_global, record, types)
+from stored import content, printed, store_part
 
 # What the script says of each run, and what is told of it.
 RUNS = []
@@ -302,15 +296,7 @@ def codes():
 def main():
     for table in [example, recursion, both_ways, linkages, appending, aliases, texts, symbols, streams, refusals, codes]:
         table()
-    given = "".join(given for given, _ in RUNS).encode()
-    told = "".join(told for _, told in RUNS).encode()
-    old_stdin, old_stdout = (CRATE / "stdin").read_bytes(), (CRATE / "stdout").read_bytes()
-    stdin = placed(old_stdin, MARK, MARK_BEHIND, MARK + given)
-    stdout = placed(old_stdout, RUN, RUN_BEHIND, told)
-    if "--check" in sys.argv[1:]:
-        sys.exit(0 if (old_stdin, old_stdout) == (stdin, stdout) else 1)
-    (CRATE / "stdin").write_bytes(stdin)
-    (CRATE / "stdout").write_bytes(stdout)
+    store_part("extracting", RUNS)
 
 
 if __name__ == "__main__":

@@ -1,17 +1,18 @@
 #!/usr/bin/env python3
 """The integer intrinsics over Python's whole numbers, written from the LLVM Language Reference.
 
-intrinsics.py stdin      what crates/intrinsic_table reads: a line for each intrinsic and width, and rows
-intrinsics.py stdout     what it must write
-intrinsics.py --check    whether both files of the crate are those
+    tests/intrinsics.py            writes crates/intrinsic_table/stdin and stdout
+    tests/intrinsics.py --check    tells whether they are what it would write
 
-A line is `all NAME`: all operands of the width, which is small, poison last, the first operand varying slowest. A row
+A line of stdin is `all NAME`: all operands of the width, which is small, poison last, the first operand varying slowest. A row
 is `row NAME OPERAND..`, an operand being a number without sign or `p` for poison. Answers are hexadecimal, with `p` for
 poison, and two leaves stand as `first,second`.
 """
 import itertools
-import pathlib
 import sys
+
+sys.dont_write_bytecode = True
+from stored import store
 
 POISON = None
 UNARY = ["ctpop", "bswap", "bitreverse"]
@@ -169,16 +170,7 @@ def files():
 
 
 def main():
-    stdin, stdout = files()
-    if sys.argv[1] == "stdin":
-        print(stdin, end="")
-    elif sys.argv[1] == "stdout":
-        print(stdout, end="")
-    else:
-        crate = pathlib.Path(__file__).resolve().parent.parent / "crates" / "intrinsic_table"
-        same = (crate / "stdin").read_text() == stdin and (crate / "stdout").read_text() == stdout
-        print("the rows of intrinsic_table are those" if same else "the rows of intrinsic_table are others")
-        sys.exit(0 if same else 1)
+    store("intrinsic_table", *(text.encode() for text in files()))
 
 
 if __name__ == "__main__":

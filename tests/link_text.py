@@ -6,46 +6,21 @@ are full, and over files. What is told is written here by hand from docs/command
 
     tests/link_text.py            writes the rows
     tests/link_text.py --check    tells whether they are what it would write
-
-The rows stand before those of tests/assemble.py.
 """
-import pathlib
 import sys
 
 sys.dont_write_bytecode = True
 import canonical
 from assemble import EXTERNAL, VARIABLE, bitcode, int_type, record, types
-from assemble import printed as printed_bytes
-
-CRATE = pathlib.Path(__file__).resolve().parent.parent / "crates" / "tool_table"
-MARK = b"# One text, linked and printed: written by tests/link_text.py.\n"
-MARK_BEHIND = b"# Texts assembled: written by tests/assemble.py.\n"
-RUN = b"> llvm-link -S -o - canonical.ll\n"
-RUN_BEHIND = b"> llvm-as -o - assembled.ll\n"
+from canonical import bytes_of
+from stored import content, printed, store_part
 
 # What the script says of each run, and what is told of it.
 RUNS = []
 
 
-def escaped(text):
-    """A line of the script that stands for this text."""
-    return "".join(chr(b) if 32 <= b <= 126 and b != 92 else f"\\x{b:02x}" for b in canonical.bytes_of(text))
-
-
-def content(text):
-    """The lines of the script that give a file or standard input this text."""
-    lines = text.split("\n")
-    return "".join(f"| {escaped(line)}\n" for line in lines[:-1]) + (f"+ {escaped(lines[-1])}\n" if lines[-1] else "")
-
-
-def printed(text):
-    """What the test program prints of what a stream took: a line for each line, and a backslash twice."""
-    lines = text.replace("\\", "\\\\").split("\n")
-    return "".join(f"| {line}\n" for line in lines[:-1]) + (f"+ {lines[-1]}\n" if lines[-1] else "")
-
-
 def stream(name, text):
-    return f"{name}\n{printed(text)}" if text else ""
+    return f"{name}\n{printed(bytes_of(text))}" if text else ""
 
 
 def run(given, words, told):
@@ -54,7 +29,7 @@ def run(given, words, told):
 
 
 def file_of(text):
-    return f"clear\nfile canonical.ll\n{content(text)}"
+    return f"clear\nfile canonical.ll\n{content(bytes_of(text))}"
 
 
 def row(text, told):
@@ -64,7 +39,7 @@ def row(text, told):
 
 def piped(text, *lines):
     """The same from standard input."""
-    run(f"clear\ninput\n{content(text)}", "llvm-link -S -", f"status 0\ninput {len(canonical.bytes_of(text))}\n{stream('output', canonical.text_of(lines))}")
+    run(f"clear\ninput\n{content(bytes_of(text))}", "llvm-link -S -", f"status 0\ninput {len(bytes_of(text))}\n{stream('output', canonical.text_of(lines))}")
 
 
 def streams():
@@ -129,19 +104,12 @@ def changed():
     run(file_of("@x = global i8 255"), "llvm-link canonical.ll canonical.ll", f"status 1\nfiles canonical.ll canonical.ll\n{twice}")
     run("", "llvm-link -S canonical.ll canonical.ll -o out.ll", f"status 1\nfiles canonical.ll canonical.ll\n{twice}")
     row("@x = available_externally global i8 255", "@x = external global i8\n")
-    run("", "llvm-link canonical.ll", "status 0\nfiles canonical.ll\noutput\n" + printed_bytes(bitcode(b"x", types(int_type(8)), record(VARIABLE, 0, 1, EXTERNAL, 0, 0, 0, 0))))
+    run("", "llvm-link canonical.ll", "status 0\nfiles canonical.ll\noutput\n" + printed(bitcode(b"x", types(int_type(8)), record(VARIABLE, 0, 1, EXTERNAL, 0, 0, 0, 0))))
     row("define available_externally void @f() { ret void }", "declare void @f()\n")
     row("@x = appending global [0 x i8] zeroinitializer", "@x = appending global [0 x i8] []\n")
     run("clear\nfile canonical.ll\n= 4243c0de\n", "llvm-link -S canonical.ll", "status 1\nfiles canonical.ll\nerrors\n| llvm-link: canonical.ll: foreign producer\n")
     # An appending list, empty or not, is what it is.
     row("@x = appending global [0 x i8] [] @y = appending global [1 x i8] [i8 255]", "@x = appending global [0 x i8] []\n@y = appending global [1 x i8] [i8 -1]\n")
-
-
-def placed(stored, first, behind, rows):
-    """The stored bytes with these rows in place of the old ones, before what is behind."""
-    end = stored.index(behind) if behind in stored else len(stored)
-    begin = min(stored.index(first), end) if first in stored else end
-    return stored[:begin] + rows + stored[end:]
 
 
 def main():
@@ -151,15 +119,7 @@ def main():
         row(text, told)
     for table in [streams, sinks, files, refusals, changed]:
         table()
-    given = canonical.bytes_of("".join(given for given, _ in RUNS))
-    told = canonical.bytes_of("".join(told for _, told in RUNS))
-    old_stdin, old_stdout = (CRATE / "stdin").read_bytes(), (CRATE / "stdout").read_bytes()
-    stdin = placed(old_stdin, MARK, MARK_BEHIND, MARK + given)
-    stdout = placed(old_stdout, RUN, RUN_BEHIND, told)
-    if "--check" in sys.argv[1:]:
-        sys.exit(0 if (old_stdin, old_stdout) == (stdin, stdout) else 1)
-    (CRATE / "stdin").write_bytes(stdin)
-    (CRATE / "stdout").write_bytes(stdout)
+    store_part("link_text", RUNS)
 
 
 if __name__ == "__main__":

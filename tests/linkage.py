@@ -35,6 +35,7 @@ that conflict.
 import sys
 
 sys.dont_write_bytecode = True
+from stored import content
 
 HEAD = "==== linked\n"
 
@@ -836,17 +837,6 @@ def places():
 
 
 TABLES = [table, strong, kinds, appended, two_symbols, two_kinds, pairs, three, orders, declarations, own_names, commons, seen_elsewhere, null, hosts, aliases, places]
-
-
-def escaped(text):
-    """A line of the input that stands for this text."""
-    return "".join(chr(b) if 32 <= b <= 126 and b != 92 else f"\\x{b:02x}" for b in text.encode())
-
-
-def content(text):
-    """The lines of the input that give a part this text."""
-    lines = text.split("\n")
-    return "".join(f"| {escaped(line)}\n" for line in lines[:-1]) + (f"+ {escaped(lines[-1])}\n" if lines[-1] else "")
 
 
 def written():

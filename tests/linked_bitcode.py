@@ -9,7 +9,7 @@ are written here by hand from docs/bitcode.md. Nothing is taken from the program
     tests/linked_bitcode.py            writes the rows
     tests/linked_bitcode.py --check    tells whether they are what it would write
 
-The rows stand behind those of tests/bitcode.py, and before those of tests/names.py, which takes all that is behind its own mark.
+The rows stand where tests/stored.py says.
 """
 import sys
 
@@ -17,13 +17,9 @@ sys.dont_write_bytecode = True
 import linked_runs
 import running
 from assemble import (
-    ADD, ALIAS, BLOCK, BR, CALL, EXTERNAL, EXTERN_WEAK, FUNCTION, INTERNAL, NULL, PARAMS, PTR, RET, UNDEF, VARIABLE, VOID, bitcode, body, content,
-    int_type, integer, listed, of_global, printed, record, types, value)
-
-MARK = b"# Linked bitcode that runs: written by tests/linked_bitcode.py.\n"
-MARK_BEHIND = b"# Names and numbers: written by tests/names.py.\n"
-RUN = b"> llvm-link -o linked.bc a.ll b.ll\n"
-RUN_BEHIND = b"> llvm-as names.ll\n"
+    ADD, ALIAS, BLOCK, BR, CALL, EXTERNAL, EXTERN_WEAK, FUNCTION, INTERNAL, NULL, PARAMS, PTR, RET, UNDEF, VARIABLE, VOID, bitcode, body, int_type,
+    integer, listed, of_global, record, types, value)
+from stored import content, printed, store_part
 
 # What the script says of each run, and what is told of it.
 RUNS = running.RUNS
@@ -181,7 +177,7 @@ def linked(names, parts, text, runs, code):
 def main():
     for row, code in zip(linked_runs.worked(), CODES, strict=True):
         linked(*row, code)
-    running.store(MARK, MARK_BEHIND, RUN, RUN_BEHIND)
+    store_part("linked_bitcode", RUNS)
 
 
 if __name__ == "__main__":

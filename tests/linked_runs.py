@@ -7,8 +7,6 @@ that of the parts side by side, by hand from docs/running.md. Nothing is taken f
 
     tests/linked_runs.py            writes the rows
     tests/linked_runs.py --check    tells whether they are what it would write
-
-The rows stand behind those of tests/running.py, and before those of tests/link_text.py.
 """
 import re
 import sys
@@ -16,13 +14,8 @@ import sys
 sys.dont_write_bytecode = True
 import links
 import running
-from assemble import content, printed
 from running import GETCHAR, MALLOC, PRINTF, PUTCHAR, PUTS, main_of
-
-MARK = b"# Linked programs that run: written by tests/linked_runs.py.\n"
-MARK_BEHIND = b"# One text, linked and printed: written by tests/link_text.py.\n"
-RUN = b"> llvm-link -S -o linked.ll a.ll b.ll\n"
-RUN_BEHIND = b"> llvm-link -S -o - canonical.ll\n"
+from stored import content, printed, store_part
 
 # What the script says of each run, and what is told of it. Runs of one text, `run.ll`, are put there by tests/running.py.
 RUNS = running.RUNS
@@ -514,7 +507,7 @@ TABLES = [again, winners, commons, own, constructors, aliases, maybe, elsewhere,
 def main():
     for table in TABLES:
         table()
-    running.store(MARK, MARK_BEHIND, RUN, RUN_BEHIND)
+    store_part("linked_runs", RUNS)
 
 
 if __name__ == "__main__":

@@ -7,20 +7,12 @@ from the program. The parts are named a.ll, b.ll and so on where no names are gi
 
     tests/links.py            writes the rows
     tests/links.py --check    tells whether they are what it would write
-
-The rows stand before those of tests/extracting.py.
 """
-import pathlib
 import sys
 
 sys.dont_write_bytecode = True
-from assemble import BYTE_CODE, printed as printed_bytes
-
-CRATE = pathlib.Path(__file__).resolve().parent.parent / "crates" / "tool_table"
-MARK = b"# Linked modules: written by tests/links.py.\n"
-MARKS_BEHIND = [b"# Parts of texts: written by tests/extracting.py.\n"]
-RUN = b"> llvm-link -S -o - a.ll b.ll\n"
-RUNS_BEHIND = [b"> llvm-extract -S extracted.ll\n"]
+from assemble import BYTE_CODE
+from stored import content, printed, store_part
 
 # Names and texts of parts, the linked text or None, and what stands on standard error behind the tool's name.
 ROWS = []
@@ -35,22 +27,9 @@ def whole(text):
     return "".join(part if isinstance(part, str) else "".join(part[1].replace("#", str(n)) for n in range(part[0])) for part in text)
 
 
-def escaped(text):
-    """A line of the script that stands for this text."""
-    return "".join(chr(b) if 32 <= b <= 126 and b != 92 else f"\\x{b:02x}" for b in text.encode())
-
-
-def content(text):
-    """The lines of the script that give a file this text, or its parts."""
-    if not isinstance(text, str):
-        return "".join(content(part) if isinstance(part, str) else f"each 0 {part[0]} {escaped(part[1])}\n" for part in text)
-    lines = text.split("\n")
-    return "".join(f"| {escaped(line)}\n" for line in lines[:-1]) + (f"+ {escaped(lines[-1])}\n" if lines[-1] else "")
-
-
-def printed(name, text):
-    """What the test program prints of what a stream took: a line for each line, and a backslash twice."""
-    return f"{name}\n" + "".join(f"| {line}\n" for line in text.replace("\\", "\\\\").split("\n")[:-1]) if text else ""
+def stream(name, text):
+    """What the test program prints of what a stream took."""
+    return f"{name}\n{printed(text.encode())}" if text else ""
 
 
 def run(names, texts, words, result):
@@ -70,14 +49,14 @@ def linked(text, *texts, names=None):
     """Texts, and the text of their linked module, which begins behind a line feed."""
     names = names or names_of(texts)
     ROWS.append((names, list(map(whole, texts)), text[1:], ""))
-    run(names, texts, "-S -o - " + " ".join(names), printed("output", text[1:]))
+    run(names, texts, "-S -o - " + " ".join(names), stream("output", text[1:]))
 
 
 def refused(line, *texts, names=None, words="-S -o - "):
     """Texts of which no module is made: nothing is written."""
     names = names or names_of(texts)
     ROWS.append((names, list(map(whole, texts)), None, line))
-    run(names, texts, words + " ".join(names), printed("errors", f"llvm-link: {line}\n"))
+    run(names, texts, words + " ".join(names), stream("errors", f"llvm-link: {line}\n"))
 
 
 def worked():
@@ -974,8 +953,8 @@ def ends():
     """What is judged first, where a result goes, and what is at a limit."""
     # The bitcode of what two texts come to.
     parts = "file a.ll\n+ @x = external global i8\nfile b.ll\n+ @x = global i8 255\n"
-    told(parts, "llvm-link a.ll b.ll", f"status 0\nfiles a.ll b.ll\noutput\n{printed_bytes(BYTE_CODE)}")
-    told(parts, "llvm-link a.ll b.ll -o z.bc", f"status 0\nfiles a.ll b.ll\nwrote z.bc\n{printed_bytes(BYTE_CODE)}")
+    told(parts, "llvm-link a.ll b.ll", f"status 0\nfiles a.ll b.ll\noutput\n{printed(BYTE_CODE)}")
+    told(parts, "llvm-link a.ll b.ll -o z.bc", f"status 0\nfiles a.ll b.ll\nwrote z.bc\n{printed(BYTE_CODE)}")
     # An input that is refused, bitcode or text, is told before any conflict.
     clash = "file x.ll\n+ @x = global i32 1\nfile y.ll\n+ @x = global i32 2\n"
     told(clash + "file c.bc\n= 42 43 c0 de\n", "llvm-link x.ll c.bc y.ll", "status 1\nfiles x.ll c.bc y.ll\nerrors\n| llvm-link: c.bc: foreign producer\n")
@@ -1018,30 +997,10 @@ define i32 @main() {
 TABLES = [worked, conflicts, counts, renamed, structs, commons, appended, declared, kept, texts, aliases, together, ends]
 
 
-def first_of(marks, stored):
-    """Where the first of the marks stands, or the end."""
-    return min([stored.index(mark) for mark in marks if mark in stored], default=len(stored))
-
-
-def placed(stored, first, behind, rows):
-    """The stored bytes with these rows in place of the old ones, before what is behind."""
-    end = first_of(behind, stored)
-    begin = min(first_of([first], stored), end)
-    return stored[:begin] + rows + stored[end:]
-
-
 def main():
     for table in TABLES:
         table()
-    given = "".join(given for given, _ in RUNS).encode()
-    told = "".join(told for _, told in RUNS).encode()
-    old_stdin, old_stdout = (CRATE / "stdin").read_bytes(), (CRATE / "stdout").read_bytes()
-    stdin = placed(old_stdin, MARK, MARKS_BEHIND, MARK + given)
-    stdout = placed(old_stdout, RUN, RUNS_BEHIND, told)
-    if "--check" in sys.argv[1:]:
-        sys.exit(0 if (old_stdin, old_stdout) == (stdin, stdout) else 1)
-    (CRATE / "stdin").write_bytes(stdin)
-    (CRATE / "stdout").write_bytes(stdout)
+    store_part("links", RUNS)
 
 
 if __name__ == "__main__":

@@ -9,12 +9,10 @@ before the place that is told, `›` before the first place of a duplicate; a pl
     tests/names.py            writes the rows
     tests/names.py --check    tells whether they are what it would write
 """
-import pathlib
 import sys
 
-CRATE = pathlib.Path(__file__).resolve().parent.parent / "crates" / "tool_table"
-MARK = b"# Names and numbers: written by tests/names.py.\n"
-RUN = b"> llvm-as names.ll\n"
+sys.dont_write_bytecode = True
+from stored import content, store_part
 
 OPEN, FIRST = "‹", "›"
 CASES = []
@@ -381,31 +379,6 @@ def modules():
 TABLES = [worked, duplicates, aliases, unknowns, numbers, ranges, loops, sizes, orders, towers, counts, modules]
 
 
-def escaped(text):
-    """A line of the script that stands for this text."""
-    plain = "".join(chr(b) if 32 <= b <= 126 and b != 92 else f"\\x{b:02x}" for b in text.encode())
-    return plain
-
-
-def content(text):
-    """The lines of the script that give the file this text."""
-    lines = text.split("\n")
-    return [f"| {escaped(line)}\n" for line in lines[:-1]] + ([f"+ {escaped(lines[-1])}\n"] if lines[-1] else [])
-
-
-def script(text):
-    """The lines of the script that give the file a text, or its parts."""
-    if isinstance(text, str):
-        return content(text)
-    lines = []
-    for part in text:
-        if isinstance(part, str):
-            lines += content(part)
-        else:
-            lines.append(f"each 0 {part[0]} {escaped(part[1])}\n")
-    return lines
-
-
 def words(answer):
     """A module is taken by a tool that judges it and then looks for a function that no text here has, so that nothing is written."""
     return "llvm-extract --func=absent names.ll" if answer == "module" else "llvm-as names.ll"
@@ -427,15 +400,8 @@ def told(text, answer):
 def main():
     for table in TABLES:
         table()
-    given = b"".join(("clear\nfile names.ll\n" + "".join(script(text)) + f"run {words(answer)}\n").encode() for text, answer in CASES)
-    wanted = "".join(told(text, answer) for text, answer in CASES).encode()
-    stdin, stdout = (CRATE / "stdin").read_bytes(), (CRATE / "stdout").read_bytes()
-    stdin = stdin.split(MARK)[0] + MARK + given
-    stdout = stdout.split(RUN)[0] + wanted
-    if "--check" in sys.argv[1:]:
-        sys.exit(0 if (CRATE / "stdin").read_bytes() == stdin and (CRATE / "stdout").read_bytes() == stdout else 1)
-    (CRATE / "stdin").write_bytes(stdin)
-    (CRATE / "stdout").write_bytes(stdout)
+    store_part("names", [(f"clear\nfile names.ll\n{content(text)}run {words(answer)}\n", told(text, answer)) for text, answer in CASES])
 
 
-main()
+if __name__ == "__main__":
+    main()

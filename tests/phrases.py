@@ -11,8 +11,10 @@ import pathlib
 import re
 import sys
 
+sys.dont_write_bytecode = True
+from stored import store
+
 HERE = pathlib.Path(__file__).resolve().parent
-CRATE = HERE.parent / "crates" / "syntax_table"
 
 CASES = []
 
@@ -695,10 +697,8 @@ def main():
         clang(path)
     stdin = "\n====\n".join(text for text, _ in CASES).encode()
     stdout = "".join(line + "\n" for _, line in CASES).encode()
-    if "--check" in sys.argv[1:]:
-        sys.exit(0 if (CRATE / "stdin").read_bytes() == stdin and (CRATE / "stdout").read_bytes() == stdout else 1)
-    (CRATE / "stdin").write_bytes(stdin)
-    (CRATE / "stdout").write_bytes(stdout)
+    store("syntax_table", stdin, stdout)
 
 
-main()
+if __name__ == "__main__":
+    main()

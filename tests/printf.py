@@ -11,9 +11,10 @@ A line of stdin is a pattern and its arguments, separated by tabs; the line of s
 import ctypes
 import itertools
 import sys
-from pathlib import Path
 
-FOLDER = Path(__file__).resolve().parent.parent / "crates" / "printf_table"
+sys.dont_write_bytecode = True
+from stored import store
+
 BITS = {"hh": 8, "h": 16, "": 32, "l": 64, "ll": 64, "j": 64, "z": 64, "t": 64}
 DIGITS = {"d": "d", "i": "d", "u": "d", "x": "x", "X": "X", "o": "o"}
 FLAG_SETS = ["".join(chosen) for count in range(5) for chosen in itertools.combinations("-0+ ", count)]
@@ -128,16 +129,10 @@ def libc():
 
 
 def main():
-    stdin, stdout = lines()
     if "--libc" in sys.argv[1:]:
-        return libc()
-    if "--check" in sys.argv[1:]:
-        stored = (FOLDER / "stdin").read_text(), (FOLDER / "stdout").read_text()
-        if stored != (stdin, stdout):
-            sys.exit("crates/printf_table: stdin or stdout is not what tests/printf.py writes")
-        return None
-    (FOLDER / "stdin").write_text(stdin)
-    (FOLDER / "stdout").write_text(stdout)
+        libc()
+    else:
+        store("printf_table", *(text.encode() for text in lines()))
 
 
 if __name__ == "__main__":

@@ -8,8 +8,6 @@ Nothing is taken from the program.
 
     tests/running.py            writes the rows
     tests/running.py --check    tells whether they are what it would write
-
-The rows stand before those of tests/linked_runs.py.
 """
 import sys
 
@@ -17,27 +15,10 @@ sys.dont_write_bytecode = True
 import intrinsics
 import printf
 import scalars
-from assemble import CRATE, content, placed
-
-MARK = b"# Programs that run: written by tests/running.py.\n"
-MARK_BEHIND = b"# Linked programs that run: written by tests/linked_runs.py.\n"
-RUN = b"> lli run.ll\n"
-RUN_BEHIND = b"> llvm-link -S -o linked.ll a.ll b.ll\n"
+from stored import content, printed, store_part
 
 # What the script says of each run, and what is told of it.
 RUNS = []
-
-
-def escaped(data):
-    """Bytes as the test program prints them: one of a line, without its line feed."""
-    return "".join(chr(byte) if 32 <= byte <= 126 and byte != 92 else "\\\\" if byte == 92 else f"\\x{byte:02x}" for byte in data)
-
-
-def shown(name, data):
-    """What a stream took, with a mark before each line."""
-    lines = data.split(b"\n")
-    told = "".join(f"| {escaped(line)}\n" for line in lines[:-1]) + (f"+ {escaped(lines[-1])}\n" if lines[-1] else "")
-    return f"{name}\n{told}" if data else ""
 
 
 def run_of(name, before, status, line, out, words, given, took, said):
@@ -46,7 +27,7 @@ def run_of(name, before, status, line, out, words, given, took, said):
     RUNS.append((
         f"{before}{stdin}{said}run lli {words}\n",
         f"> lli {words}\nstatus {status}\nfiles {name}\n" + ("" if took is None else f"input {took}\n")
-        + shown("output", out.encode("latin-1")) + (f"errors\n| lli: {line}\n" if line else "")))
+        + (f"output\n{printed(out.encode('latin-1'))}" if out else "") + (f"errors\n| lli: {line}\n" if line else "")))
 
 
 def run(text, *told):
@@ -754,23 +735,10 @@ def orders():
 TABLES = [arithmetic, pointers, choices, steps_of_addresses, memory, parts, calls, streams, host, over_integers, printing, limits, opening, orders]
 
 
-def store(mark, mark_behind, run_line, run_behind):
-    """Puts the rows in their place, before what is behind; with --check tells whether they stand there."""
-    given = "".join(given for given, _ in RUNS).encode()
-    told = "".join(told for _, told in RUNS).encode()
-    old_stdin, old_stdout = (CRATE / "stdin").read_bytes(), (CRATE / "stdout").read_bytes()
-    stdin = placed(old_stdin, mark, mark_behind, mark + given)
-    stdout = placed(old_stdout, run_line, run_behind, told)
-    if "--check" in sys.argv[1:]:
-        sys.exit(0 if (old_stdin, old_stdout) == (stdin, stdout) else 1)
-    (CRATE / "stdin").write_bytes(stdin)
-    (CRATE / "stdout").write_bytes(stdout)
-
-
 def main():
     for table in TABLES:
         table()
-    store(MARK, MARK_BEHIND, RUN, RUN_BEHIND)
+    store_part("running", RUNS)
 
 
 if __name__ == "__main__":

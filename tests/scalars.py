@@ -1,16 +1,18 @@
 #!/usr/bin/env python3
 """The scalar instructions over Python's whole numbers, written from the LLVM Language Reference.
 
-scalars.py stdin    what crates/scalar_table reads: an instruction a line, then rows with operands of their own
-scalars.py stdout   what it must write: the results on all operands of 4 bits, and those of the rows
-scalars.py --check  whether both files of the crate are those
-scalars.py module   the rows as LLVM constants to fold, to compare with opt outside the gate
+    tests/scalars.py             writes crates/scalar_table/stdin and stdout
+    tests/scalars.py --check     tells whether they are what it would write
+    tests/scalars.py --module    prints the rows as LLVM constants to fold, to compare with opt outside the gate
 
+A line of stdin is an instruction, whose line of stdout has the results on all operands of 4 bits, or a row with operands of its own.
 Integers are numbers from 0 to 2**width - 1. POISON is poison, and an undefined result is an exception.
 """
 import itertools
 import sys
-from pathlib import Path
+
+sys.dont_write_bytecode = True
+from stored import store
 
 POISON = "poison"
 
@@ -287,17 +289,10 @@ def stdout():
 
 
 def main():
-    verb = sys.argv[1]
-    if verb == "stdin":
-        print(stdin(), end="")
-    elif verb == "stdout":
-        print(stdout(), end="")
-    elif verb == "module":
+    if "--module" in sys.argv[1:]:
         print(module())
-    elif verb == "--check":
-        folder = Path(__file__).resolve().parent.parent / "crates" / "scalar_table"
-        if ((folder / "stdin").read_text(), (folder / "stdout").read_text()) != (stdin(), stdout()):
-            sys.exit("crates/scalar_table: stdin or stdout is not what tests/scalars.py writes")
+    else:
+        store("scalar_table", stdin().encode(), stdout().encode())
 
 
 if __name__ == "__main__":

@@ -9,11 +9,11 @@ stands beside them in ANALYZER.
     tests/streams.py            writes the stored input and output
     tests/streams.py --check    tells whether they are what it would write
 """
-import pathlib
 import sys
 
-HERE = pathlib.Path(__file__).resolve().parent
-CRATES = HERE.parent / "crates"
+sys.dont_write_bytecode = True
+from stored import store
+
 MAGIC = bytes.fromhex("4243c0de")
 LETTERS = "abcdefghijklmnopqrstuvwxyzABCDEFGHIJKLMNOPQRSTUVWXYZ0123456789._"
 
@@ -639,19 +639,11 @@ def dump_rows():
     return rows
 
 
-FILES = {
-    CRATES / "stream_table" / "stdin": lambda: "".join(line + "\n" for line, _ in stream_rows() + dump_rows()),
-    CRATES / "stream_table" / "stdout": lambda: "".join([answer + "\n" for _, answer in stream_rows()] + [answer for _, answer in dump_rows()]),
-}
-
-
 def main():
-    files = {path: text for path, text in FILES.items() if path.parent.is_dir()}
-    stale = [path for path, text in files.items() if not path.exists() or path.read_text() != text()]
-    if "--check" in sys.argv:
-        sys.exit(f"stale: {stale}" if stale else 0)
-    for path, text in files.items():
-        path.write_text(text())
+    streams, dumps = stream_rows(), dump_rows()
+    stdin = "".join(line + "\n" for line, _ in streams + dumps)
+    stdout = "".join([answer + "\n" for _, answer in streams] + [answer for _, answer in dumps])
+    store("stream_table", stdin.encode(), stdout.encode())
 
 
 if __name__ == "__main__":

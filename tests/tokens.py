@@ -2,12 +2,14 @@
 """Writes what crates/token_table prints of its stdin, from the rules of tokens, words and numbers as they are told in
 docs/language.md, in an implementation of its own.
 
-    tests/tokens.py < crates/token_table/stdin > crates/token_table/stdout
-    tests/tokens.py --check     whether the stored stdout is that
+    tests/tokens.py            writes crates/token_table/stdout
+    tests/tokens.py --check    tells whether it is what it would write
 """
 import re
 import sys
-from pathlib import Path
+
+sys.dont_write_bytecode = True
+from stored import CRATES, store
 
 NAME = rb"[-a-zA-Z$._][-a-zA-Z$._0-9]*"
 STRING = rb'"((?:[^"\\]|\\[0-9a-fA-F]{2}|\\\\)*)"'
@@ -199,12 +201,9 @@ def told(stdin):
 
 
 def main():
-    if "--check" in sys.argv[1:]:
-        folder = Path(__file__).resolve().parent.parent / "crates" / "token_table"
-        if told((folder / "stdin").read_bytes()) != (folder / "stdout").read_bytes():
-            sys.exit("crates/token_table: stdout is not what tests/tokens.py writes of stdin")
-    else:
-        sys.stdout.buffer.write(told(sys.stdin.buffer.read()))
+    stdin = (CRATES / "token_table" / "stdin").read_bytes()
+    store("token_table", stdin, told(stdin))
 
 
-main()
+if __name__ == "__main__":
+    main()

@@ -57,7 +57,7 @@ class Compared:
     """Counts of what was compared, and what differed."""
 
     def __init__(self, tool):
-        self.tool, self.cases, self.conflicts, self.runs, self.long, self.differing, self.reads_bitcode = tool, 0, 0, 0, 0, [], True
+        self.tool, self.cases, self.conflicts, self.runs, self.long, self.differing = tool, 0, 0, 0, 0, []
 
     def told(self, room, *words, given=b""):
         """The status, standard output and standard error of the program."""
@@ -85,15 +85,13 @@ class Compared:
                 self.same(case, "the conflict", (1, b"", line.encode("latin-1")), told)
                 return
             self.same(case, "linking", (0, b"", b""), told)
-            if self.reads_bitcode:
-                self.told(room, "llvm-link", "-o", "linked.bc", *names)
-                self.reads_bitcode = self.told(room, "lli", "--max-steps=0", "linked.bc")[2] != b"lli: not built\n"
+            self.same(case, "linking to bitcode", (0, b"", b""), self.told(room, "llvm-link", "-o", "linked.bc", *names))
             for words, given in case.given:
                 self.compare_runs(case, side, room, list(words), given)
 
     def compare_runs(self, case, side, room, words, given):
         """Runs with these words and this input, at several bounds, and a short program with OTHERS too."""
-        for module in ["linked.ll", "linked.bc"] if self.reads_bitcode else ["linked.ll"]:
+        for module in ["linked.ll", "linked.bc"]:
             steps = self.compare_run(case, side, room, module, words, given, lambda steps: {0, steps // 2, steps - 1, steps, steps + 1})
             if steps <= FEW and (words, given) != OTHERS:
                 self.compare_run(case, side, room, module, *OTHERS, lambda steps: {steps - 1})
@@ -466,7 +464,7 @@ def main(words):
         for case in SETS[name](tool):
             compared.compare(case)
         print(f"{name}: {compared.cases} sets of parts, {compared.conflicts} of them in conflict, {compared.runs} runs compared, {compared.long} programs that take more than {MOST} steps, "
-              f"{len(compared.differing)} differences{'' if compared.reads_bitcode else '; bitcode is not run yet'}", flush=True)
+              f"{len(compared.differing)} differences", flush=True)
         differs = differs or bool(compared.differing)
     sys.exit(1 if differs else 0)
 
