@@ -300,6 +300,36 @@ def orders():
     unknown("define void @f() { call void (‹%T) @g(i32 %x) ret void }", "%T")
 
 
+def places():
+    """Each place where an integer, a type, a value or a block stands."""
+    past = "340282366920938463463374607431768211456"
+    for text in ["%1 = add i8 ‹256, %x", "%1 = icmp eq i8 0, ‹-129", "%1 = trunc i8 ‹256 to i1", f"%1 = ptrtoint ptr ‹{past} to i8",
+                 "%1 = select i1 ‹2, i8 %x, i8 %x", "%1 = select i1 1, i8 ‹256, i8 %x", "%1 = select i1 1, i8 0, i8 ‹256", "%1 = freeze i8 ‹-129",
+                 f"%1 = load i8, ptr ‹{past}, align -1", "store i8 ‹256, ptr %x", f"store i8 0, ptr ‹{past}, align -1",
+                 "%1 = alloca i8, i8 ‹256, align -1", f"%1 = getelementptr i8, ptr ‹{past}, i8 256", "call void @g(i8 0, i8 ‹256)",
+                 "%1 = extractvalue [1 x i8] [i8 ‹256], 4294967296", "%1 = insertvalue { i8 } { i8 ‹256 }, i8 256, 0",
+                 "%1 = insertvalue { i8 } undef, i8 ‹256, 4294967296", "%1 = alloca [‹-1 x i8], i8 256", "%1 = freeze <{ [‹-1 x i8] }> %x"]:
+        outside(f"declare void @g(i8, i8) define void @f() {{ {text} ret void }}")
+    for end in ["br i1 ‹2, label %x, label %y", "switch i8 ‹256, label %x [ ]", "ret { i8 } { i8 ‹256 }"]:
+        outside(f"define void @f() {{ {end} }}")
+    for constant in ["trunc (i8 ‹256 to i1)", "inttoptr (i8 ‹256 to ptr)", f"ptrtoint (ptr ‹{past} to %T)", "sub (i8 ‹256, i8 256)", "xor (i8 0, i8 ‹-129)",
+                     f"getelementptr (i8, ptr ‹{past}, i8 256)", "getelementptr ([‹-1 x %T], ptr null)", "<{ i8 ‹256, i8 256 }>"]:
+        outside(f"@x = global ptr {constant}")
+    for text in ["%1 = add ‹%T %x, %y", "%1 = icmp eq ‹%T %x, %y", "%1 = zext i8 0 to ‹%T", "%1 = select i1 0, ‹%T %x, i8 0", "%1 = phi ‹%T [ %x, %y ]",
+                 "%1 = load ‹%T, ptr %x", "store ‹%T %x, ptr %y", "%1 = alloca ‹%T, i8 256", "%1 = alloca i8, ‹%T %x", "%1 = getelementptr ‹%T, ptr %x",
+                 "%1 = call ‹%T @g()", "call void null(i8 0, ‹%T %x)", "%1 = extractvalue ‹%T %x, -1", "%1 = insertvalue { i8 } undef, ‹%T %x, -1"]:
+        unknown(f"define void @f() {{ {text} ret void }}", "%T")
+    for end in ["ret ‹%T %x", "br ‹%T %x, label %y, label %z", "switch ‹%T %x, label %y [ ]", "switch i8 0, label %0 [ ‹%T 0, label %y ]"]:
+        unknown(f"define void @f() {{ {end} }}", "%T")
+    for text in ["%1 = add i8 ‹%x, 256", "%1 = add i8 0, ‹%x", "%1 = icmp eq i8 0, ‹%x", "%1 = trunc i8 ‹%x to %T", "%1 = select i1 ‹%x, %T 0, i8 0",
+                 "%1 = select i1 0, i8 0, i8 ‹%x", "%1 = freeze i8 ‹%x", "%1 = load i8, ptr ‹%x, align -1", "store i8 ‹%x, ptr %y", "store i8 0, ptr ‹%x, align -1",
+                 "%1 = alloca i8, i8 ‹%x, align -1", "%1 = getelementptr i8, ptr ‹%x, i8 256", "%1 = getelementptr i8, ptr null, i8 ‹%x", "call void ‹%x(i8 256)",
+                 "call void null(i8 0, i8 ‹%x)", "%1 = extractvalue [1 x i8] ‹%x, -1", "%1 = insertvalue { i8 } undef, i8 ‹%x, -1"]:
+        unknown(f"define void @f() {{ {text} ret void }}", "%x")
+    for end in ["ret i8 ‹%x", "br i1 0, label ‹%x, label %y", "br i1 0, label %0, label ‹%x", "switch i8 ‹%x, label %y [ ]"]:
+        unknown(f"define void @f() {{ {end} }}", "%x")
+
+
 def tower(times, base, count):
     """`%T0 = type { BASE }`, each further struct that of the line before, so many times."""
     lines = [f"%T0 = type {{{' ' + base + ' ' if base else ''}}}"]
@@ -322,6 +352,8 @@ def towers():
     # The array nests 65 deep, and so does the struct that holds it, which stands first.
     deep("@x = global ‹{ ptr, [1 x %T63] } zeroinitializer\n" + "\n".join(tower(1, "i32", 64)))
     module("@x = global [1 x %T62] zeroinitializer\n" + "\n".join(tower(1, "i32", 64)))
+    # Too deep and too large at one place.
+    deep("@x = global ‹[1099511627777 x %T63] zeroinitializer\n" + "\n".join(tower(1, "i32", 64)))
     deep("define void @f() { %1 = alloca ‹[1 x %T63] ret void }\n" + "\n".join(tower(1, "i32", 64)))
     deep("declare void @f(ptr, ‹{ i8, %T63 })\n" + "\n".join(tower(1, "i32", 64)))
     deep("‹%U = type { [1 x %T63] }\n" + "\n".join(tower(1, "i32", 64)))
@@ -376,7 +408,7 @@ def modules():
     too_large(["target datalayout = \"E\"\ndefine void @f() {\n%v=add i1 0,0\n", (46340, "br label %b# b#:%v#=add i1 0,0\n"), "ret void\n}\n"], "@f", 46341 * 46341)
 
 
-TABLES = [worked, duplicates, aliases, unknowns, numbers, ranges, loops, sizes, orders, towers, counts, modules]
+TABLES = [worked, duplicates, aliases, unknowns, numbers, ranges, loops, sizes, orders, places, towers, counts, modules]
 
 
 def words(answer):
