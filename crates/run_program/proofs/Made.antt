@@ -19,7 +19,7 @@ use Rattle.run_scopes.specs.Scopes.{function_of}
 use Rattle.run_signatures.specs.Met.{Met, known, written_as}
 use Rattle.run_signatures.specs.Numbers.{Numbers}
 use Rattle.run_program.specs.declared.program.Head.{Head}
-use Rattle.run_program.specs.Loaded.{IsBodyOf, IsHead, IsLoaded, Keeps, Loaded}
+use Rattle.run_program.specs.Loaded.{IsBodyOf, IsHead, IsLoaded, Keeps, Loaded, IsReady}
 use Rattle.run_program.proofs.Growing.{loaded_body, loaded_grown, loaded_head}
 use Rattle.run_program.proofs.Heads.{head_is}
 
