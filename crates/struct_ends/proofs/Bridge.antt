@@ -65,10 +65,10 @@ module _ (structs : Structs) (table : List (Bytes × ℕ)) (are : AreNumbers tab
         let back = z.1.1 0 (ap (λ b. b || holds structs x 0 z.0) here) in
         enough structs x back.0 x back.1
 
-    module _ (start : ℕ) (marks : List Bool) (e : value_of table x ≡ Some start) (reached : AreReached (lists_from table 0 structs) start marks) (out : get_or marks start false ≡ false) where
-      -- these names are of structs that were reached, or of none
+    module _ (start : ℕ) (IsIn : ℕ → Type 0) (e : value_of table x ≡ Some start) (first : (number : ℕ) → HasNumber number (mentioned (lists_from table 0 structs) start) → IsIn number) (closed : (last number : ℕ) → IsIn last → HasNumber number (mentioned (lists_from table 0 structs) last) → IsIn number) (out : IsIn start → ⊥) where
+      -- these names are of structs among those numbers, or of none
       abbrev AreFound : List Bytes → Type 0
-      AreFound names = (z : Bytes) → HasName z names → (number : ℕ) → value_of table z ≡ Some number → get_or marks number false ≡ true
+      AreFound names = (z : Bytes) → HasName z names → (number : ℕ) → value_of table z ≡ Some number → IsIn number
 
       nothing_holds : (room : ℕ) (names : List Bytes) → AreFound names → hold_within structs x room names ≡ false
       nothing_holds zero names are_found = hold_zero structs x names
@@ -77,7 +77,7 @@ module _ (structs : Structs) (table : List (Bytes × ℕ)) (are : AreNumbers tab
           inside : ((ns : List Bytes) → AreFound ns → hold_within structs x room ns ≡ false) → (z : Bytes) → HasName z names → (o : Option ℕ) → value_of table z ≡ o → holds structs x room z ≡ false
           inside again z h (Some number) q =
               again (body_names (body_of structs z))
-              (λ w k other p. reached.closed number other (are_found z h number q) (mentions_it z w number other q k p))
+              (λ w k other p. closed number other (are_found z h number q) (mentions_it z w number other q k p))
           inside again z h None q = ap (λ (b : TreeBody). hold_within structs x room (body_names b)) (opaque (named_or_opaque structs z)) ∙ hold_none structs x room
             where
               opaque : HasName z (names_of structs) ⊎ (body_of structs z ≡ opaque_body) → body_of structs z ≡ opaque_body
@@ -91,15 +91,14 @@ module _ (structs : Structs) (table : List (Bytes × ℕ)) (are : AreNumbers tab
               by false q = refl
               by true q =
                   let same = (bytes_eq-Decides z x).0 q in
-                  let there = are_found z h start (ap (value_of table) same ∙ e) in
-                  absurd cc
+                  absurd (out (are_found z h start (ap (value_of table) same ∙ e)))
 
           none : ((ns : List Bytes) → AreFound ns → hold_within structs x room ns ≡ false) → (z : Bytes) → HasName z names → finds structs x room z ≡ false
           none again z h = or_of (other z h) (inside again z h (value_of table z) refl)
 
-      -- a number that was not reached is that of a struct that does not contain itself
+      -- where what a struct mentions, and all that this mentions, has numbers among which its own is not, it does not contain itself
       pub leads_not : contains_itself structs x ≡ false
-      leads_not = nothing_holds (length structs) (body_names (body_of structs x)) (λ z h number q. reached.first number (mentions_it x z start number e h q))
+      leads_not = nothing_holds (length structs) (body_names (body_of structs x)) (λ z h number q. first number (mentions_it x z start number e h q))
 
   -- a name without a number is that of no struct
   pub not_there : (x : Bytes) → value_of table x ≡ None → contains_itself structs x ≡ false
@@ -115,4 +114,7 @@ module _ (structs : Structs) (table : List (Bytes × ℕ)) (are : AreNumbers tab
     where
       by : (b : Bool) → get_or marks start false ≡ b → b ≡ contains_itself structs x
       by true q = sym (leads_back x start e (reached.sound start q))
-      by false q = sym (leads_not x start marks e reached q)
+      by false q = sym (leads_not x start (λ k. get_or marks k false ≡ true) e reached.first reached.closed (out q))
+        where
+          out : get_or marks start false ≡ false → get_or marks start false ≡ true → ⊥
+          out off on = absurd cc

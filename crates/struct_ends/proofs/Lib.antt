@@ -1,3 +1,4 @@
 mod Searching
 mod Holding
 mod Bridge
+mod Rising

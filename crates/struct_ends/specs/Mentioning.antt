@@ -5,16 +5,18 @@ use Rattle.type_table.specs.Tree.{Structs}
 use Rattle.name_rules.specs.ModuleOf.{structs_in}
 use Rattle.struct_order.specs.Mentions.{AreNumbers, lists_from}
 use Rattle.struct_order.specs.Order.{mention_lists}
+use Rattle.struct_ends.specs.Reach.{IsRising}
 use Rattle.struct_ends.specs.declared.mentions.StructMentions.{StructMentions}
 
 -- the structs whose mentions these are
 abbrev pub structs_of : StructMentions → Structs
 structs_of all = structs_in (items_view all.items.now)
 
--- the numbers of these structs, and the numbers of those that each of them holds
+-- the numbers of these structs, the numbers of those that each of them holds, and ranks of them
 pub record MentionFacts (all : StructMentions) : Type 0 where
   pub numbers : AreNumbers all.numbers (structs_of all)
   pub lists : mention_lists all.lists.items ≡ lists_from all.numbers 0 (structs_of all)
+  pub ranks : IsRising (mention_lists all.lists.items) all.ranks.items
 
 -- the same, in which no search looks
 unfoldable pub AreMentions : StructMentions → Type 0

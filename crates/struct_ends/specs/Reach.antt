@@ -1,5 +1,5 @@
 -- Says how the code reads: which numbers a number leads to, through lists of what each number mentions.
-use Rattle.std.specs.Prelude.{◌≡◌, ◌⊎◌, ℕ, zero, suc, ◌<◌, Bool, true, false, List, ◌++◌, length, slice_index_or, nat_eq}
+use Rattle.std.specs.Prelude.{◌≡◌, ◌⊎◌, ℕ, zero, suc, ◌<◌, ◌≤◌, Bool, true, false, List, ◌++◌, length, slice_index_or, nat_eq}
 use Rattle.std.specs.List.{IsDistinct}
 use Rattle.struct_order.specs.Order.{mentioned, HasNumber, stands_in}
 
@@ -35,3 +35,15 @@ pub record AreReached (lists : List (List ℕ)) (start : ℕ) (marks : List Bool
   pub sound : (number : ℕ) → slice_index_or marks number false ≡ true → LeadsTo lists start number
   pub first : (number : ℕ) → HasNumber number (mentioned lists start) → slice_index_or marks number false ≡ true
   pub closed : (last number : ℕ) → slice_index_or marks last false ≡ true → HasNumber number (mentioned lists last) → slice_index_or marks number false ≡ true
+
+-- each of these numbers has that rank or a higher one; a number without a rank has 0
+abbrev pub AreFrom : List ℕ → ℕ → List ℕ → Type 0
+AreFrom ranks low numbers = (number : ℕ) → HasNumber number numbers → low ≤ slice_index_or ranks number 0
+
+-- each of these numbers has a higher rank
+abbrev pub AreAbove : List ℕ → ℕ → List ℕ → Type 0
+AreAbove ranks low numbers = (number : ℕ) → HasNumber number numbers → low < slice_index_or ranks number 0
+
+-- no number mentions one of a lower rank
+abbrev pub IsRising : List (List ℕ) → List ℕ → Type 0
+IsRising lists ranks = (last : ℕ) → AreFrom ranks (slice_index_or ranks last 0) (mentioned lists last)

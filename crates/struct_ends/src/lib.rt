@@ -2,7 +2,7 @@
 //!
 //! It stands on the mentions of `struct_order` and the rules of `name_rules`. It promises that a struct is told to contain
 //! itself exactly where a field holds it by value, through however many other structs. Definitions: `specs/Mentioning`, and
-//! `specs/Reach` for the search.
+//! `specs/Reach` for the search and the ranks that mostly spare it.
 //!
 //! ```
 //! let items = read_items(alloc, b"%a = type { [2 x %b] }\n%b = type { %a }")?;
@@ -12,6 +12,8 @@
 #![tactic(auto)]
 
 mod mentions;
+mod ranks;
 mod search;
+mod walk;
 
 pub use mentions::StructMentions;
