@@ -171,7 +171,7 @@ module _ (texts : Texts) (all : Records) (known : ModuleAhead) (old new : Module
             (variable_late old new b b2 s operands behind o t l may few new_name v more)
 
     pub function_sofar : (defined : Bool) → IsSofar texts all known old b s (a_record 6 operands behind) → records.function_record s (judged (records.function s.texts s.k) operands) ≡ Ok t → ReadsFunction s.texts s.k operands old new defined t
-        → b2.defined.items ≡ b.defined.items ++ defined ∷ [] → 7 ≡ b2.last → b2 ≡ record b { defined = b2.defined; last = b2.last } → IsSofar texts all known new b2 t behind × IsPast old new t
+        → b2.defined.items ≡ b.defined.items ++ defined ∷ [] → 7 ≡ b2.last → b2 ≡ record b { defined = b2.defined; numbers = b2.numbers; last = b2.last } → IsSofar texts all known new b2 t behind × IsPast old new t
     function_sofar defined h e v more last same =
         let x = judged (records.function s.texts s.k) operands in
         let few = nat_lt (length s.functions) 0x4_0000 in

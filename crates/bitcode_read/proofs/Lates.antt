@@ -213,7 +213,7 @@ module _ (old new : ModuleReader) (b b2 : Sofar) (s : records.Sofar) (operands :
         by true h e = ap (λ n. n ∷ []) e
         by false h e = refl
 
-    pub function_late : IsLate new (record b { defined = b2.defined; last = b2.last }) (record s { functions = s.functions ++ f_read ∷ []; at = suc s.at; last = 7 }) behind
+    pub function_late : IsLate new (record b { defined = b2.defined; numbers = b2.numbers; last = b2.last }) (record s { functions = s.functions ++ f_read ∷ []; at = suc s.at; last = 7 }) behind
     function_late =
         let D = AreDeclared l.base old.globals s.k in
         let globals : new.globals ≡ old.globals = ap (λ (x : ModuleReader). x.globals) v.passes.rest in

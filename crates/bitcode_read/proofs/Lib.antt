@@ -4,6 +4,7 @@ pub mod Verdicts
 pub mod Opened
 pub mod Judged
 pub mod Setting
+pub mod Numbers
 pub mod Growing
 pub mod Values
 pub mod Functions

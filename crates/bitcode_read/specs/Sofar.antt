@@ -1,5 +1,5 @@
 -- For `read`: the block of a module in the making.
-use Rattle.std.specs.Prelude.{◌≡◌, ◌⊎◌, ◌≤◌, ◌<◌, ℕ, suc, Bool, true, false, List, [], ◌∷◌, map, length, drop, slice_get, slice_index_or, nat_eq, All, Option, Some, None, Result, Ok, Err, ⊤}
+use Rattle.std.specs.Prelude.{◌≡◌, ◌⊎◌, ◌≤◌, ◌<◌, ℕ, suc, Bool, true, false, List, [], ◌∷◌, ◌++◌, map, length, drop, slice_get, slice_index_or, nat_eq, All, Option, Some, None, Result, Ok, Err, ⊤}
 use Rattle.bit_tree.specs.Pieces.{Piece, ended}
 use Rattle.bit_tree.specs.Stream.{Tree, Stream}
 use Rattle.type_table.specs.Types.{structs, trees}
@@ -178,11 +178,23 @@ pub record IsSofar (texts : Texts) (all : Records) (known : ModuleAhead) (m : Mo
   pub good : AreGood s
   pub part : IsEarly texts all known m b s rest ⊎ IsLate m b s rest
 
--- so few entries were read that one more can be counted
+-- the numbers of the functions that are defined, where the first has that number
+abbrev pub numbers_from : ℕ → List Bool → List ℕ
+numbers_from first [] = []
+numbers_from first (false ∷ defined) = numbers_from (suc first) defined
+numbers_from first (true ∷ defined) = first ∷ numbers_from (suc first) defined
+
+-- these, and that of one function more, where it is defined
+abbrev pub with_number : Bool → ℕ → List ℕ → List ℕ
+with_number false number numbers = numbers
+with_number true number numbers = numbers ++ number ∷ []
+
+-- So few entries were read that one more can be counted, and the numbers of the functions that are defined are known.
 pub record HasRoom (b : Sofar) : Type 0 where
   pub variables : length b.initialisers.items ≤ 262144
   pub functions : length b.defined.items ≤ 262144
   pub aliases : length b.targets.items ≤ 262144
+  pub numbers : b.numbers.items ≡ numbers_from 0 b.defined.items
 
 -- ---- records and blocks
 

@@ -21,7 +21,7 @@ use body_read::read_body;
 use entries_ahead::declare_entries;
 use head_read::ModuleAhead;
 use module_arena::{Arena, FunctionId};
-use module_order::{Part, next_due};
+use module_order::Part;
 use record_read::{BitcodeFault, Texts, misplaced};
 use record_table::{BODY_BLOCK, TYPES_BLOCK};
 use std::mem;
@@ -117,6 +117,16 @@ fn read_next_body(
     Ok(())
 }
 
+/// The number at that place, where there is one.
+fn number_at(numbers: &[u32], place: usize) -> Option<u32>
+    ensures { result ≡ slice_get numbers.now place }
+{
+    match numbers.get(place) {
+        Some(number) => Some(*number),
+        None => None,
+    }
+}
+
 /// Reads the body that was begun, of the first function whose body is due.
 fn read_body_block(
     m: &mut ModuleReader<'_>,
@@ -129,7 +139,7 @@ fn read_body_block(
     ensures room { OnOk result (HasRoom sofar.new) }
     ensures reads { (all : Records) (known : the_ahead.ModuleAhead) → records.may_follow sofar.old.last 9 ≡ true → ReadsBlock (texts_of texts.now) all m.old sofar.old known 12 result m.new sofar.new known }
 {
-    match next_due(&sofar.defined, sofar.bodies.len()) {
+    match number_at(&sofar.numbers, sofar.bodies.len()) {
         Some(number) => read_next_body(m, texts, sofar, number),
         None => Err(misplaced(BODY_BLOCK, m.reader.at())),
     }

@@ -66,6 +66,7 @@ fn finished(m: ModuleReader<'_>, sofar: Sofar) -> Arena
         triple,
         initialisers,
         defined,
+        numbers: _numbers,
         targets,
         bodies,
         ahead: _ahead,

@@ -1,7 +1,7 @@
 //! The records of a module's block.
 ghost use Rattle.std.specs.Prelude.{◌≡◌, ◌<◌, ◌≤◌, length, max, OnOk};
 ghost use Rattle.record_read.specs.Fields.{texts_of};
-ghost use Rattle.bitcode_read.specs.Sofar.{HasRoom, ReadsPart};
+ghost use Rattle.bitcode_read.specs.Sofar.{HasRoom, ReadsPart, with_number};
 
 use crate::sofar::Sofar;
 use arena_read::ModuleReader;
@@ -9,6 +9,7 @@ use entry_read::{read_alias, read_function, read_variable};
 use module_order::{Part, read_module_text, read_version};
 use record_read::{BitcodeFault, Texts};
 use record_table::{ALIAS, FUNCTION, LAYOUT, MODULE_BLOCK, SOURCE, TRIPLE, VARIABLE, VERSION};
+use std::alloc::AllocError;
 
 /// Reads the version.
 fn read_version_part(
@@ -108,6 +109,17 @@ fn read_variable_part(
     Ok(())
 }
 
+/// The number of one function more, where it is defined.
+fn add_defined(numbers: &mut Vec<u32>, number: u32, is_defined: bool) -> Result<(), AllocError>
+    ensures { OnOk result (numbers.new.items ≡ with_number is_defined number numbers.old.items) }
+{
+    if is_defined {
+        numbers.push(number)?;
+        return Ok(());
+    }
+    Ok(())
+}
+
 /// Reads a function.
 fn read_function_part(
     m: &mut ModuleReader<'_>,
@@ -122,6 +134,7 @@ fn read_function_part(
     let in_order = Part::Function.may_follow(sofar.last);
     let number = count_of(&sofar.defined);
     let is_defined = read_function(m, texts, number, in_order)?;
+    add_defined(&mut sofar.numbers, number, is_defined)?;
     sofar.defined.push(is_defined)?;
     sofar.last = Part::Function.place();
     Ok(())

@@ -19,6 +19,8 @@ pub(crate) struct Sofar {
     pub(crate) initialisers: Vec<Option<ConstId>>,
     /// Of each function that was read whether it is defined.
     pub(crate) defined: Vec<bool>,
+    /// The numbers of the functions that are defined, in order.
+    pub(crate) numbers: Vec<u32>,
     /// Of each alias that was read what it is of.
     pub(crate) targets: Vec<Option<GlobalId>>,
     /// Of the functions that are defined the bodies, as far as they came.
@@ -33,6 +35,7 @@ impl Sofar {
         ensures last { result.last ≡ 0 }
         ensures texts { (result.source ≡ None) × (result.layout ≡ None) × (result.triple ≡ None) }
         ensures entries { (result.initialisers.items ≡ []) × (result.defined.items ≡ []) × (result.targets.items ≡ []) }
+        ensures numbers { result.numbers.items ≡ [] }
         ensures bodies { result.bodies.items ≡ [] }
     {
         Sofar {
@@ -42,6 +45,7 @@ impl Sofar {
             triple: None,
             initialisers: Vec::new(alloc),
             defined: Vec::new(alloc),
+            numbers: Vec::new(alloc),
             targets: Vec::new(alloc),
             bodies: Vec::new(alloc),
             ahead: Vec::new(alloc),

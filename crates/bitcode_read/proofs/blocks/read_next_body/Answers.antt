@@ -7,7 +7,7 @@ use Rattle.bitcode_read.proofs.BodyAnswers.{body_answers, body_refused, count_he
 use Rattle.bitcode_read.proofs.blocks.read_next_body.Goals as goal
 
 pub returns-clause-room : goal.returns-clause-room
-returns-clause-room c = record { variables = c.requires.room.variables; functions = c.requires.room.functions; aliases = c.requires.room.aliases }
+returns-clause-room c = record { variables = c.requires.room.variables; functions = c.requires.room.functions; aliases = c.requires.room.aliases; numbers = c.requires.room.numbers }
 
 pub returns-in_err-parameters-clause-reads : goal.returns-in_err-parameters-clause-reads
 returns-in_err-parameters-clause-reads c = λ all known may s inside behind others h before at.

@@ -23,7 +23,7 @@ read_types-requires-clause-begun c =
     }
 
 pub returns-clause-room : goal.returns-clause-room
-returns-clause-room c = record { variables = c.requires.room.variables; functions = c.requires.room.functions; aliases = c.requires.room.aliases }
+returns-clause-room c = record { variables = c.requires.room.variables; functions = c.requires.room.functions; aliases = c.requires.room.aliases; numbers = c.requires.room.numbers }
 
 pub returns-in_err-arena-clause-reads : goal.returns-in_err-arena-clause-reads
 returns-in_err-arena-clause-reads c = λ tree stream may s inside behind others h before at.

@@ -1,10 +1,11 @@
-use Rattle.std.proofs.Common.{ap, subst, length, arith}
+use Rattle.std.proofs.Common.{sym, ap, ◌∙◌, subst, length, arith}
 use Rattle.std.proofs.lemmas.Result.{err_from_is_err_and}
 use Rattle.bit_tree.specs.Stream.{Tree}
 use Rattle.bit_tree.proofs.OneTree.{one_tree}
 use Rattle.record_table.specs.Faults.{records}
 use Rattle.record_read.specs.Fields.{texts_of}
 use Rattle.head_read.specs.Ahead.{IsAhead, first_module}
+use Rattle.bitcode_read.specs.Sofar.{numbers_from}
 use Rattle.bitcode_read.proofs.Loop.{goes_begin, goes_refused, when_ok}
 use Rattle.bitcode_read.proofs.module.read_module.Goals as goal
 
@@ -13,6 +14,7 @@ read_entries-requires-clause-room c = record {
   variables = let none = ap (λ xs. length xs) c.new-sofar.ensures.entries.0 in omega (arith, none);
   functions = let none = ap (λ xs. length xs) c.new-sofar.ensures.entries.1 in omega (arith, none);
   aliases = let none = ap (λ xs. length xs) c.new-sofar.ensures.entries.2 in omega (arith, none);
+  numbers = c.new-sofar.ensures.numbers ∙ sym (ap (λ ds. numbers_from 0 ds) c.new-sofar.ensures.entries.1);
 }
 
 pub read_entries-requires-clause-going : goal.read_entries-requires-clause-going

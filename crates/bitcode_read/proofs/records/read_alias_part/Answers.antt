@@ -28,7 +28,7 @@ returns-clause-room c =
     let few = c.in_ok-target.ensures.few in
     let items = ap (λ xs. length xs) c.in_ok-push.ensures.items in
     let more = length-append c.args.sofar.now.targets.items (c.in_ok-target.target ∷ []) in
-    record { variables = c.requires.room.variables; functions = c.requires.room.functions; aliases = omega (arith, few, items, more, c.count_of-number.ensures) }
+    record { variables = c.requires.room.variables; functions = c.requires.room.functions; aliases = omega (arith, few, items, more, c.count_of-number.ensures); numbers = c.requires.room.numbers }
 
 pub returns-clause-reads : goal.returns-clause-reads
 returns-clause-reads c = λ all known s operands behind h walk at.

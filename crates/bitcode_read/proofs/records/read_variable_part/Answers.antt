@@ -22,7 +22,7 @@ returns-clause-room c =
     let few = c.in_ok-initialiser.ensures.few in
     let items = ap (λ xs. length xs) c.in_ok-push.ensures.items in
     let more = length-append c.args.sofar.now.initialisers.items (c.in_ok-initialiser.initialiser ∷ []) in
-    record { variables = omega (arith, few, items, more, c.count_of-number.ensures); functions = c.requires.room.functions; aliases = c.requires.room.aliases }
+    record { variables = omega (arith, few, items, more, c.count_of-number.ensures); functions = c.requires.room.functions; aliases = c.requires.room.aliases; numbers = c.requires.room.numbers }
 
 pub returns-clause-reads : goal.returns-clause-reads
 returns-clause-reads c = λ all known s operands behind h walk at.

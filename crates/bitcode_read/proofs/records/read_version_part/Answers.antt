@@ -5,7 +5,7 @@ use Rattle.bitcode_read.proofs.Opened.{refused_so}
 use Rattle.bitcode_read.proofs.records.read_version_part.Goals as goal
 
 pub returns-clause-room : goal.returns-clause-room
-returns-clause-room c = record { variables = c.requires.room.variables; functions = c.requires.room.functions; aliases = c.requires.room.aliases }
+returns-clause-room c = record { variables = c.requires.room.variables; functions = c.requires.room.functions; aliases = c.requires.room.aliases; numbers = c.requires.room.numbers }
 
 pub returns-clause-reads : goal.returns-clause-reads
 returns-clause-reads c = λ all known s operands behind h walk at.
