@@ -149,7 +149,7 @@ record_alias texts all used code operands a new false now here count d = subst (
 pub record_function : (texts : Texts) (all : List (List LocalName)) (used code : ℕ) (operands : List ℕ) (a new : Lists) (now : Option ℕ) → code ≡ 6 → DeclaresFunction texts all used operands a now new → DeclaresBy texts all used operands a (declaring code) now new
 record_function texts all used code operands a new now here d = subst (λ c. DeclaresBy texts all used operands a (declaring c) now new) (sym here) d
 
-not_code : (code k : ℕ) → (code ≡ k → ⊥) → nat_eq code k ≡ false
+pub not_code : (code k : ℕ) → (code ≡ k → ⊥) → nat_eq code k ≡ false
 not_code code k other = false_from_ne_true (nat_eq code k) (λ e. other (eqb-true code k e))
 
 is_nothing : (code : ℕ) → (code ≡ 5 → ⊥) → (code ≡ 6 → ⊥) → (code ≡ 7 → ⊥) → declaring code ≡ nothing

@@ -6,4 +6,5 @@ pub mod VoidTypes
 pub mod Told
 pub mod Complete
 pub mod FrontsDeclared
+pub mod Counting
 pub mod Called

@@ -1,5 +1,5 @@
 -- For `declare_entries`: the entries that the records of a module's block declare.
-use Rattle.std.specs.Prelude.{◌≡◌, ◌⊎◌, ℕ, suc, nat_eq, nat_lt, Bool, true, false, List, [], ◌∷◌, length, drop, slice_get, Option, Some, None, slice_index_or, if◌then◌else◌}
+use Rattle.std.specs.Prelude.{◌≡◌, ◌⊎◌, ◌+◌, ℕ, suc, nat_eq, nat_lt, Bool, true, false, List, [], ◌∷◌, length, drop, slice_get, Option, Some, None, slice_index_or, if◌then◌else◌}
 use Rattle.std.specs.Option.{option_map_or}
 use Rattle.ir_tables.specs.declared.linkage.Linkage.{Linkage}
 use Rattle.module_arena.specs.declared.entry.Alias.{Alias}
@@ -23,6 +23,7 @@ use Rattle.record_table.specs.Walk.{Walk, going}
 use Rattle.record_read.specs.Reader.{IsBroken}
 use Rattle.body_ahead.specs.declared.ahead.BodyAhead.{BodyAhead}
 use Rattle.entries_ahead.specs.Bodies.{names_given}
+use Rattle.head_read.specs.Ahead.{one_where}
 use Rattle.head_read.specs.Fronts.{VariableFields, FunctionFields, AliasFields, variable_front, function_front, alias_front, kept_alias_type, function_defined}
 
 -- ---- entries, of which nothing is known but what their records begin with
@@ -79,6 +80,19 @@ pub data Declaring : Type 0 where
 -- by its code
 abbrev pub declaring : ℕ → Declaring
 declaring code = if nat_eq code 5 then a_variable else (if nat_eq code 6 then a_function else (if nat_eq code 7 then an_alias else nothing))
+
+-- whether it is an entry
+abbrev pub is_entry : Declaring → Bool
+is_entry a_variable = true
+is_entry a_function = true
+is_entry an_alias = true
+is_entry nothing = false
+
+-- how many of these records declare entries
+abbrev pub entry_count : Records → ℕ
+entry_count no_more = 0
+entry_count (a_block id inside behind) = entry_count behind
+entry_count (a_record code operands behind) = one_where (is_entry (declaring code)) + entry_count behind
 
 -- what stands in front in a record, and the walk behind it
 abbrev pub front_of : {A : Type 0} → Layout A → List ℕ → A × Walk

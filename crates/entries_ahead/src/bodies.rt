@@ -1,5 +1,5 @@
 //! What is known ahead of the bodies of a module's block.
-ghost use Rattle.std.specs.Prelude.{◌≡◌, ◌≤◌, ◌^◌, ◌∷◌, ◌++◌, ℕ, List, [], false, true, length, slice_get, None, IfOk, OnOk, option_to_list};
+ghost use Rattle.std.specs.Prelude.{◌≡◌, ◌+◌, ◌≤◌, ◌^◌, ◌∷◌, ◌++◌, ℕ, List, [], false, true, length, slice_get, None, IfOk, OnOk, option_to_list};
 ghost use Rattle.bit_tree.specs.Pieces.{Piece, ended};
 ghost use Rattle.bit_tree.specs.Read.{IsStream};
 ghost use Rattle.bit_tree.specs.Stream.{Tree, Stream};
@@ -10,16 +10,57 @@ ghost use Rattle.record_table.specs.Walk.{going};
 ghost use Rattle.record_read.specs.Entries.{IsBefore};
 ghost use Rattle.record_read.specs.Fields.{texts_of};
 ghost use Rattle.body_ahead.specs.Ahead.{AreVoids};
-ghost use Rattle.head_read.specs.Ahead.{IsInBlock, first_module};
+ghost use Rattle.head_read.specs.Ahead.{IsInBlock, first_module, one_where};
 ghost use Rattle.head_read.specs.Fronts.{function_front};
 ghost use Rattle.entries_ahead.specs.Bodies.{AddsBody, AddsDue, AddsIf, AddsIfBody, Foresees, count_due};
+ghost use Rattle.entries_ahead.specs.Entries.{declaring, entry_count, is_entry};
 
 use body_ahead::{BodyAhead, gather_body};
 use head_read::{FunctionFront, find_module, read_function_front};
 use record_read::{Entry, RecordReader, Texts};
-use record_table::{BODY_BLOCK, FUNCTION};
+use record_table::{ALIAS, BODY_BLOCK, FUNCTION, VARIABLE};
 use std::alloc::{AllocError, Global};
 use type_table::TypeList;
+
+/// What is known ahead of a module's block: its bodies that are due, in their order, and how many of its records declare
+/// entries.
+#[derive(Drop)]
+pub(crate) struct BlockAhead {
+    pub(crate) bodies: Vec<BodyAhead>,
+    pub(crate) entries: u64,
+}
+
+/// Whether a record of that code declares an entry.
+pub(crate) fn is_entry(code: u32) -> bool
+    ensures { result ≡ is_entry (declaring code) }
+{
+    if code == VARIABLE {
+        return true;
+    }
+    if code == FUNCTION {
+        return true;
+    }
+    code == ALIAS
+}
+
+/// One more. More than 64 bits hold are more than memory holds.
+fn more(count: u64) -> Result<u64, AllocError>
+    ensures { IfOk result (λ next. next ≡ count + 1) }
+{
+    count.checked_add(1).ok_or(AllocError)
+}
+
+/// How many records declare entries, with one of that code.
+fn counted(count: u64, code: u32) -> Result<u64, AllocError>
+    ensures { IfOk result (λ now. now ≡ count + one_where (is_entry (declaring code))) }
+{
+    let is_one = is_entry(code);
+    if is_one {
+        let now = more(count)?;
+        return Ok(now);
+    }
+    Ok(count)
+}
 
 /// How many types there are. More than 32 bits hold are more than memory holds.
 fn count_of(types: &TypeList) -> Result<u32, AllocError>
@@ -88,19 +129,23 @@ fn gather_function(
     Ok(())
 }
 
-/// Reads a record of that code, if it is that of a function.
+/// Counts a record of that code, and reads it if it is that of a function.
 fn gather_record(
     reader: &mut RecordReader<'_>,
     alloc: Global,
     texts: &Texts,
     types: u64,
     due: &mut Vec<u32>,
+    count: &mut u64,
     code: u32,
 ) -> Result<(), AllocError>
     ensures spent { OnOk result (reader.new.spent ≡ reader.old.spent) }
     ensures left { OnOk result (reader.new.left ≡ reader.old.left) }
     ensures gathers { (operands : List ℕ) → reader.old.walk ≡ going operands None → OnOk result (AddsIf code (judged (function_front (texts_of texts.now) types) operands) due.old.items due.new.items) }
+    ensures counts { OnOk result (count.new ≡ count.old + one_where (is_entry (declaring code))) }
 {
+    let now = counted(*count, code)?;
+    *count = now;
     if code == FUNCTION {
         gather_function(reader, alloc, texts, types, due)?;
         return Ok(());
@@ -170,33 +215,42 @@ fn gather_block(
     Ok(())
 }
 
-/// What is known ahead of the bodies of the module's block that was begun.
+/// What is known ahead of the module's block that was begun.
 fn gather_bodies(
     reader: &mut RecordReader<'_>,
     alloc: Global,
     texts: &Texts,
     types: u64,
     voids: &[bool],
-) -> Result<Vec<BodyAhead>, AllocError>
+) -> Result<BlockAhead, AllocError>
     requires unspent { reader.old.spent ≡ false }
     requires begun { IsInBlock reader.old.left }
-    ensures { (inside : Records) (others : List Piece) → IsBefore reader.old.left inside (ended ∷ others)
-        → IfOk result (λ bodies. (k : Numbering) → AreVoids voids.now k → Foresees (texts_of texts.now) k types [] bodies.items inside) }
+    ensures foresees { (inside : Records) (others : List Piece) → IsBefore reader.old.left inside (ended ∷ others)
+        → IfOk result (λ found. (k : Numbering) → AreVoids voids.now k → Foresees (texts_of texts.now) k types [] found.bodies.items inside) }
+    ensures counted { (inside : Records) (others : List Piece) → IsBefore reader.old.left inside (ended ∷ others) → IfOk result (λ found. found.entries ≡ entry_count inside) }
 {
     let mut due = Vec::new(alloc);
     let mut bodies = Vec::new(alloc);
+    let mut count: u64 = 0;
     'entries: loop {
         match reader.next()? {
-            Entry::Record(code) => gather_record(reader, alloc, texts, types, &mut due, code)?,
+            Entry::Record(code) => {
+                gather_record(reader, alloc, texts, types, &mut due, &mut count, code)?;
+            }
             Entry::Block(id) => {
                 gather_block(reader, alloc, texts, voids, due.as_slice(), &mut bodies, id)?;
             }
-            Entry::End => return Ok(bodies),
+            Entry::End => {
+                return Ok(BlockAhead {
+                    bodies,
+                    entries: count,
+                });
+            }
         }
     }
 }
 
-/// What is known ahead of the bodies of a judged stream's module, whose types are so many. `voids` says of each whether it is
+/// What is known ahead of the block of a judged stream's module, whose types are so many. `voids` says of each whether it is
 /// `void`.
 pub(crate) fn look_at_bodies(
     alloc: Global,
@@ -204,16 +258,21 @@ pub(crate) fn look_at_bodies(
     texts: &Texts,
     types: u64,
     voids: &[bool],
-) -> Result<Vec<BodyAhead>, AllocError>
+) -> Result<BlockAhead, AllocError>
     requires short { length bytes.now ≤ 2 ^ 24 }
     requires judged { IsStream bytes.now }
-    ensures { (tree : Tree) (k : Numbering) → Stream bytes.now tree → AreVoids voids.now k → IfOk result (λ bodies. Foresees (texts_of texts.now) k types [] bodies.items (first_module (records tree))) }
+    ensures foresees { (tree : Tree) (k : Numbering) → Stream bytes.now tree → AreVoids voids.now k → IfOk result (λ found. Foresees (texts_of texts.now) k types [] found.bodies.items (first_module (records tree))) }
+    ensures counted { (tree : Tree) → Stream bytes.now tree → IfOk result (λ found. found.entries ≡ entry_count (first_module (records tree))) }
 {
     let mut reader = RecordReader::new(alloc, bytes);
     let is_there = find_module(&mut reader)?;
     if is_there {
-        let bodies = gather_bodies(&mut reader, alloc, texts, types, voids)?;
-        return Ok(bodies);
+        let found = gather_bodies(&mut reader, alloc, texts, types, voids)?;
+        return Ok(found);
     }
-    Ok(Vec::new(alloc))
+    let none = Vec::new(alloc);
+    Ok(BlockAhead {
+        bodies: none,
+        entries: 0,
+    })
 }

@@ -1,5 +1,5 @@
 //! The entries of a module's block, declared in their order.
-ghost use Rattle.std.specs.Prelude.{◌≡◌, ◌≤◌, ◌∷◌, ◌^◌, ℕ, List, [], false, length, map, drop, None, Some, IfOk, IfSome, OnOk, if◌then◌else◌};
+ghost use Rattle.std.specs.Prelude.{◌≡◌, ◌+◌, ◌<◌, ◌≤◌, ◌∷◌, ◌^◌, ℕ, List, [], false, length, map, drop, None, Some, IfOk, IfSome, OnOk, if◌then◌else◌};
 ghost use Rattle.bit_tree.specs.Pieces.{Piece, ended};
 ghost use Rattle.bit_tree.specs.Read.{IsStream};
 ghost use Rattle.bit_tree.specs.Stream.{Tree, Stream};
@@ -9,12 +9,12 @@ ghost use Rattle.record_table.specs.Fields.{Numbering};
 ghost use Rattle.record_table.specs.Walk.{going};
 ghost use Rattle.record_read.specs.Entries.{IsBefore};
 ghost use Rattle.record_read.specs.Fields.{texts_of};
-ghost use Rattle.head_read.specs.Ahead.{IsInBlock, first_module};
-ghost use Rattle.entries_ahead.specs.Entries.{Declares, DeclaresAlias, DeclaresBy, DeclaresFunction, DeclaresVariable, declaring, names_for, names_of_place, used_with, whole_function};
+ghost use Rattle.head_read.specs.Ahead.{IsInBlock, first_module, one_where};
+ghost use Rattle.entries_ahead.specs.Entries.{Declares, DeclaresAlias, DeclaresBy, DeclaresFunction, DeclaresVariable, declaring, entry_count, is_entry, names_for, names_of_place, used_with, whole_function};
 ghost use Rattle.entries_ahead.specs.Bodies.{Foresees, names_given};
 
 use crate::adding::{add_alias, add_function, add_variable};
-use crate::bodies::look_at_bodies;
+use crate::bodies::{BlockAhead, is_entry, look_at_bodies};
 use crate::entries::{alias_of, function_of, variable_of};
 use crate::voids::voids_of;
 use body_ahead::BodyAhead;
@@ -201,25 +201,47 @@ fn declare_record(
     Ok(Some(used))
 }
 
-/// Declares what the records of the module's block that was begun declare, up to one that is refused.
+/// How many entries are to come behind a record of that code, in front of which so many are.
+fn due_behind(due: u64, code: u32) -> u64
+    requires { 0 < due }
+    ensures { result + one_where (is_entry (declaring code)) ≡ due }
+{
+    let is_one = is_entry(code);
+    if is_one {
+        return due - 1;
+    }
+    due
+}
+
+/// Declares what the records of the module's block that was begun declare, up to one that is refused. So many of them declare
+/// entries, behind the last of which nothing is looked at.
 fn declare_block(
     reader: &mut RecordReader<'_>,
     alloc: Global,
     texts: &Texts,
     arena: &mut Arena,
     bodies: &[BodyAhead],
+    count: u64,
 ) -> Result<(), AllocError>
     requires { reader.old.spent ≡ false }
-    ensures { (inside : Records) (others : List Piece) → IsBefore reader.old.left inside (ended ∷ others)
+    ensures { (inside : Records) (others : List Piece) → IsBefore reader.old.left inside (ended ∷ others) → count ≡ entry_count inside
         → OnOk result (Declares (texts_of texts.now) (length arena.old.table.types) arena.new (map names_given bodies.now) arena.old inside) }
 {
     let mut used: usize = 0;
+    let mut due = count;
     'entries: loop {
+        if due == 0 {
+            return Ok(());
+        }
         match reader.next()? {
             Entry::Record(code) => {
+                let left = due_behind(due, code);
                 let now = declare_record(reader, alloc, texts, arena, bodies, used, code)?;
                 match now {
-                    Some(now) => used = now,
+                    Some(now) => {
+                        used = now;
+                        due = left;
+                    }
                     None => return Ok(()),
                 }
             }
@@ -229,23 +251,25 @@ fn declare_block(
     }
 }
 
-/// Declares what the records of the module's block of a judged stream declare, up to one that is refused.
+/// Declares what the records of the module's block of a judged stream declare, up to one that is refused. So many of them
+/// declare entries.
 fn declare_all(
     alloc: Global,
     bytes: &[u8],
     texts: &Texts,
     arena: &mut Arena,
     bodies: &[BodyAhead],
+    count: u64,
 ) -> Result<(), AllocError>
     requires short { length bytes.now ≤ 2 ^ 24 }
     requires judged { IsStream bytes.now }
-    ensures { (tree : Tree) → Stream bytes.now tree
+    ensures { (tree : Tree) → Stream bytes.now tree → count ≡ entry_count (first_module (records tree))
         → OnOk result (Declares (texts_of texts.now) (length arena.old.table.types) arena.new (map names_given bodies.now) arena.old (first_module (records tree))) }
 {
     let mut reader = RecordReader::new(alloc, bytes);
     let is_there = find_module(&mut reader)?;
     if is_there {
-        declare_block(&mut reader, alloc, texts, arena, bodies)?;
+        declare_block(&mut reader, alloc, texts, arena, bodies, count)?;
         return Ok(());
     }
     Ok(())
@@ -268,7 +292,8 @@ pub fn declare_entries(
 {
     let types = arena.types().type_count();
     let voids = voids_of(alloc, arena.types())?;
-    let bodies = look_at_bodies(alloc, bytes, texts, types, voids.as_slice())?;
-    declare_all(alloc, bytes, texts, arena, bodies.as_slice())?;
+    let found = look_at_bodies(alloc, bytes, texts, types, voids.as_slice())?;
+    let BlockAhead { bodies, entries } = found;
+    declare_all(alloc, bytes, texts, arena, bodies.as_slice(), entries)?;
     Ok(bodies)
 }

@@ -1,4 +1,4 @@
-use Rattle.std.proofs.Common.{◌≡◌, ◌∷◌, List, length, ap, subst, ◌∙◌, arith}
+use Rattle.std.proofs.Common.{◌≡◌, ◌∷◌, List, length, refl, ap, subst, ◌∙◌, arith}
 use Rattle.bit_tree.specs.Pieces.{Piece, ended}
 use Rattle.record_table.specs.Faults.{Records}
 use Rattle.record_read.specs.Entries.{IsBefore}
@@ -8,10 +8,15 @@ use Rattle.head_read.proofs.Finding.{gone}
 use Rattle.head_read.proofs.Gathering.{left_fewer}
 use Rattle.entries_ahead.specs.Bodies.{AddsIfBody}
 use Rattle.entries_ahead.proofs.Due.{gathers_none, gathered_record, gathered_block, gathers_all}
+use Rattle.entries_ahead.proofs.Counting.{counted_block, counted_record, counts_all, counts_none}
 use Rattle.entries_ahead.proofs.bodies.gather_bodies.Goals as goal
 
 pub entries-init : goal.entries-init
-entries-init c = (c.requires.unspent, λ inside others before. gathers_none _ c.args.types c.args.voids.now inside others _ _ _ c.new-due.ensures.items c.new-bodies.ensures.items before)
+entries-init c = (
+  c.requires.unspent,
+  λ inside others before. gathers_none _ c.args.types c.args.voids.now inside others _ _ _ c.new-due.ensures.items c.new-bodies.ensures.items before,
+  λ inside others before. counts_none inside others 0 _ refl before,
+)
 
 pub entries-preserved-in-Continue-branch-3 : goal.entries-preserved-in-Continue-branch-3
 entries-preserved-in-Continue-branch-3 c =
@@ -20,6 +25,7 @@ entries-preserved-in-Continue-branch-3 c =
       one.spent ∙ next.0,
       λ inside others before.
           gathered_record _ c.args.types c.args.voids.now inside others c.entries.due.items c.entries.bodies.items c.entries.reader (c.entries.invariant.1 inside others before) _ c.next.new.self _ c.in-Record.code next.2 one.gathers one.left,
+      λ inside others before. counted_record inside others c.entries.count c.entries.reader (c.entries.invariant.2 inside others before) _ c.next.new.self _ c.in-Record.code next.2 one.counts one.left,
     )
 
 pub entries-preserved : goal.entries-preserved
@@ -32,6 +38,7 @@ entries-preserved c =
           (subst (λ d. (held : Records) (rest : List Piece) → IsBefore c.next.new.self.left held (ended ∷ rest)
           → AddsIfBody c.in-Block.id (texts_of c.args.texts.now) c.args.voids.now d held c.entries.bodies.items c.gather_block.new.bodies.items × (c.gather_block.new.reader.left ≡ rest))
           c.as_slice.ensures.value block.gathers),
+      λ inside others before. counted_block inside others c.entries.count c.entries.reader (c.entries.invariant.2 inside others before) c.next.new.self _ c.in-Block.id next.2 (λ held later h. (block.gathers held later h).1),
     )
 
 pub entries-smaller : goal.entries-smaller
@@ -42,10 +49,15 @@ entries-smaller c =
     let h = c.entries.invariant.1 b.inside b.others b.before in
     left_fewer c.entries.reader c.next.new.self c.gather_block.new.reader c.in-Block.id h.rest (ended ∷ b.others) h.before next.1 next.2 (λ held later before. (block.gathers held later before).1)
 
-pub returns-in-End : goal.returns-in-End
-returns-in-End c =
+pub returns-in-End-clause-foresees : goal.returns-in-End-clause-foresees
+returns-in-End-clause-foresees c =
     let next = gone c.entries.reader c.next.new.self c.in_ok-code.field-0 End c.in_ok-code.ensures c.in-End.is in
     λ inside others before k are. gathers_all _ c.args.types c.args.voids.now inside others c.entries.due.items c.entries.bodies.items c.entries.reader (c.entries.invariant.1 inside others before) _ next.2 k are
+
+pub returns-in-End-clause-counted : goal.returns-in-End-clause-counted
+returns-in-End-clause-counted c =
+    let next = gone c.entries.reader c.next.new.self c.in_ok-code.field-0 End c.in_ok-code.ensures c.in-End.is in
+    λ inside others before. counts_all inside others c.entries.count c.entries.reader (c.entries.invariant.2 inside others before) _ next.2
 
 pub entries-smaller-in-Continue-branch-3 : goal.entries-smaller-in-Continue-branch-3
 entries-smaller-in-Continue-branch-3 c =

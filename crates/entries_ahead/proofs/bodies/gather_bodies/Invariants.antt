@@ -4,11 +4,13 @@ use Rattle.record_table.specs.Faults.{Records}
 use Rattle.record_read.specs.Entries.{IsBefore}
 use Rattle.record_read.specs.Fields.{texts_of}
 use Rattle.entries_ahead.proofs.Due.{IsGathering}
+use Rattle.entries_ahead.proofs.Counting.{IsCounting}
 use Rattle.entries_ahead.proofs.bodies.gather_bodies.Given as goal
 
 abbrev pub invariant-entries : goal.invariant-entries
 invariant-entries l = (l.reader.spent ≡ false)
     × ((inside : Records) (others : List Piece) → IsBefore l.initial.reader.left inside (ended ∷ others) → IsGathering (texts_of l.texts) l.types l.voids inside others l.due.items l.bodies.items l.reader)
+    × ((inside : Records) (others : List Piece) → IsBefore l.initial.reader.left inside (ended ∷ others) → IsCounting inside others l.count l.reader)
 
 abbrev pub decreases-entries : goal.decreases-entries
 decreases-entries l = length l.reader.left

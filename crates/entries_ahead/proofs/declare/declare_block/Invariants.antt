@@ -4,12 +4,13 @@ use Rattle.record_table.specs.Faults.{Records}
 use Rattle.record_read.specs.Entries.{IsBefore}
 use Rattle.record_read.specs.Fields.{texts_of}
 use Rattle.entries_ahead.specs.Bodies.{names_given}
+use Rattle.entries_ahead.specs.Entries.{entry_count}
 use Rattle.entries_ahead.proofs.Declaring.{IsDeclaring}
 use Rattle.entries_ahead.proofs.declare.declare_block.Given as goal
 
 abbrev pub invariant-entries : goal.invariant-entries
 invariant-entries l = (l.reader.spent ≡ false) × (l.used ≤ length l.bodies)
-    × ((inside : Records) (others : List Piece) → IsBefore l.initial.reader.left inside (ended ∷ others) → IsDeclaring (texts_of l.texts) (map names_given l.bodies) l.initial.arena inside others l.used l.arena l.reader)
+    × ((inside : Records) (others : List Piece) → IsBefore l.initial.reader.left inside (ended ∷ others) → l.count ≡ entry_count inside → IsDeclaring (texts_of l.texts) (map names_given l.bodies) l.initial.arena inside others l.used l.arena l.due l.reader)
 
 abbrev pub decreases-entries : goal.decreases-entries
 decreases-entries l = length l.reader.left

@@ -10,10 +10,10 @@ use Rattle.entries_ahead.proofs.declare.declare_entries.Goals as goal
 
 pub returns-clause-declares : goal.returns-clause-declares
 returns-clause-declares c = λ tree stream.
-    subst (λ l. Declares (texts_of c.args.texts.now) (length c.args.arena.now.table.types) c.declare_all.new.arena (map names_given l) c.args.arena.now (first_module (records tree))) c.as_slice-2.ensures.value (c.in_ok-declare_all.ensures tree stream)
+    subst (λ l. Declares (texts_of c.args.texts.now) (length c.args.arena.now.table.types) c.declare_all.new.arena (map names_given l) c.args.arena.now (first_module (records tree))) c.as_slice-2.ensures.value (c.in_ok-declare_all.ensures tree stream (c.in_ok-found.ensures.counted tree stream))
 
 pub returns-clause-foresees : goal.returns-clause-foresees
 returns-clause-foresees c = λ tree k stream types.
-    subst (λ n. Foresees (texts_of c.args.texts.now) k n [] c.in_ok-bodies.bodies.items (first_module (records tree))) (c.type_count-types.ensures.count ∙ ap (λ (t : Types). length t.types) c.types.ensures)
-    (c.in_ok-bodies.ensures tree k stream
+    subst (λ n. Foresees (texts_of c.args.texts.now) k n [] c.in_ok-found.found.bodies.items (first_module (records tree))) (c.type_count-types.ensures.count ∙ ap (λ (t : Types). length t.types) c.types.ensures)
+    (c.in_ok-found.ensures.foresees tree k stream
     (ap (λ l. map is_void l) types ∙ (ap (λ (t : Types). map is_void (trees t)) (sym c.types-2.ensures) ∙ (sym c.in_ok-voids.ensures ∙ sym c.as_slice.ensures.value))))
