@@ -26,8 +26,10 @@ LEVELS = (0, 2)
 FLAGS = ["-fno-pie", "-Wl,-no-pie", "-fno-vectorize", "-fno-slp-vectorize", "-fno-builtin-calloc", "-U__OPTIMIZE__"]
 # These are compiled with no flag but the level.
 PLAIN = {"bits", "fibonacci", "list", "machine", "matrix", "queens", "setup", "sieve", "sort", "text"}
-# The parts of this one have tentative definitions, which are one variable.
-COMMON = {"common": ["-fcommon"]}
+# Some parts have tentative definitions, which are one variable; others are C++, of which the language has no exceptions and no guards.
+MORE = {"common": ["-fcommon"], "odr": ["-x", "c++", "-fno-exceptions", "-fno-rtti", "-fno-threadsafe-statics"]}
+# The texts of these are made for a target without comdats, and before any pass drops what is available elsewhere.
+TEXTS = {"odr": ["-target", "x86_64-apple-macosx10.15", "-Xclang", "-disable-llvm-passes"]}
 # Of this one llvm-extract-19 writes an alias of a function that it leaves out, which llvm-as-19 refuses too.
 UNCUT = {"setup"}
 # The arguments of those that are given some, and the inputs of those that read.
@@ -44,7 +46,7 @@ class Program:
 
     def __init__(self, folder, name, sources):
         self.folder, self.name, self.sources = folder, name, sources
-        self.flags = [] if name in PLAIN and len(sources) == 1 else FLAGS + (COMMON.get(name, []) if len(sources) > 1 else [])
+        self.flags = [] if name in PLAIN and len(sources) == 1 else FLAGS + (MORE.get(name, []) if len(sources) > 1 else [])
 
     def checksum(self):
         return hashlib.sha256(b"".join(path.read_bytes() for path in self.sources)).hexdigest()[:16]
@@ -63,9 +65,9 @@ class Program:
         """Writes its texts, and gives its line of results.txt."""
         for level in LEVELS:
             for source, text in zip(self.sources, self.texts(level), strict=True):
-                subprocess.run(["clang-19", "-w", f"-O{level}", *self.flags, "-S", "-emit-llvm", "-o", text.name, source.name], cwd=self.folder, check=True)
+                subprocess.run(["clang-19", "-w", f"-O{level}", *self.flags, *TEXTS.get(self.name, []), "-S", "-emit-llvm", "-o", text.name, source.name], cwd=self.folder, check=True)
         runs = [self.ran(f"-O{level}", *self.flags) for level in LEVELS]
-        runs.append(self.ran("-O1", *COMMON.get(self.name, []), "-fsanitize=undefined", "-fsanitize-trap=undefined"))
+        runs.append(self.ran("-O1", *MORE.get(self.name, []), "-fsanitize=undefined", "-fsanitize-trap=undefined"))
         if len(set(runs)) != 1 or runs[0][0] < 0:
             sys.exit(f"{self.name}: the runs differ: {runs}")
         return f"{self.name} {self.checksum()} {runs[0][0]} {runs[0][1]!r}\n"
