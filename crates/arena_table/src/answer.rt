@@ -9,7 +9,9 @@ use type_table::TypeFault;
 pub enum Answer {
     /// What was added or found, by its kind and number.
     Made(&'static str, u64),
+    /// A word of its own: `done`, `none`, `fits` or `does not fit`.
     Said(&'static str),
+    /// What was asked for, as it is printed.
     Shown(String),
 }
 
@@ -26,7 +28,9 @@ impl Answer {
 pub enum Refusal {
     /// The line is no call, names what is not there, or sets what is set.
     NoCall,
+    /// The table of types refused.
     Types(TypeFault),
+    /// The arena refused.
     Arena(ArenaFault),
 }
 

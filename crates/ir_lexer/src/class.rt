@@ -7,23 +7,41 @@ use crate::class_table::CLASSES;
 /// What a byte may do in a token.
 #[derive(Clone, Copy)]
 pub enum Class {
+    /// `c`, which stands apart from the other letters since it begins a byte string.
     LetterC,
+    /// Any other letter of ASCII, small or capital.
     Letter,
+    /// `_`, which a word may begin with.
     Underscore,
+    /// A digit, from `0` to `9`.
     Digit,
+    /// `-`, which stands in names and before numbers.
     Minus,
+    /// `$`, which stands in names.
     Dollar,
+    /// `.`, which stands in names and, three times, as a mark of its own.
     Dot,
+    /// `"`, which begins and ends what is quoted.
     Quote,
+    /// `@`, which begins the name of a variable, a function or an alias.
     At,
+    /// `%`, which begins the name of a value, a block or a struct.
     Percent,
+    /// `!`, which begins a name or a number of metadata.
     Bang,
+    /// `#`, which begins the number of an attribute group.
     Hash,
+    /// `:`, which ends a label.
     Colon,
+    /// A mark of one byte: `=`, `,`, `*`, `|`, or a round, square, curly or angle bracket.
     Mark,
+    /// `;`, which begins a comment.
     Semicolon,
+    /// The line feed, which ends a comment.
     LineFeed,
+    /// A space, a tab or a carriage return.
     Blank,
+    /// A byte that begins no token.
     Other,
 }
 
@@ -38,14 +56,23 @@ pub fn class_of(byte: u8) -> Class
 /// A set of classes.
 #[derive(Clone, Copy)]
 pub enum ClassSet {
+    /// What goes on with an identifier or a label: letters, `_`, digits, `-`, `$` and `.`.
     InName,
+    /// What goes on with a word: letters, `_` and digits.
     InWord,
+    /// What an identifier begins with: letters, `_`, `-`, `$` and `.`.
     StartsName,
+    /// The digits.
     Digits,
+    /// The letters, `c` among them.
     Letters,
+    /// The dot.
     Dots,
+    /// Every byte but a quote.
     NoQuote,
+    /// The quote.
     Quotes,
+    /// The colon.
     Colons,
 }
 

@@ -11,8 +11,11 @@ use ir_eval::{Pointer, Scalar};
 /// byte.
 #[derive(Clone, Copy, PartialEq, Eq, Debug)]
 pub enum Cell {
+    /// A byte that is known.
     Byte(u8),
+    /// No value: an integer or a pointer that is read with it is poison.
     Poison,
+    /// The byte with that number, from 0 to 7, of a pointer's address.
     Piece(Pointer, u8),
 }
 

@@ -7,10 +7,13 @@ use thiserror::Error;
 /// interpreter itself has no memory left.
 #[derive(Clone, Copy, PartialEq, Eq, Debug, Error)]
 pub enum MemoryFault {
+    /// The call is undefined, for that reason.
     #[error("undefined behaviour: {}", .0.word())]
     Undefined(UndefinedKind),
+    /// The live bytes would pass their limit, 268,435,456.
     #[error("too many live bytes")]
     MemoryLimit,
+    /// The interpreter itself has no memory left.
     #[error("out of memory")]
     Memory,
 }

@@ -6,7 +6,9 @@ ghost use Rattle.ir_memory.specs.Given.{IsLeaf};
 /// What a load or a store moves: an integer of a width in bits, or a pointer.
 #[derive(Clone, Copy, PartialEq, Eq, Debug)]
 pub enum Leaf {
+    /// An integer of a width in bits, from 1 to 128.
     Int(u8),
+    /// A pointer, which takes 8 bytes.
     Ptr,
 }
 

@@ -11,14 +11,24 @@ use std::marker::Model;
 /// A flag of an instruction. Its code is a power of two, so that a set of flags is the sum of its codes.
 #[derive(Clone, Copy, Debug, PartialEq, Eq)]
 pub enum Flag {
+    /// No unsigned wrap: what is computed, read without sign, fits its width.
     Nuw,
+    /// No signed wrap: what is computed, read with sign, fits its width.
     Nsw,
+    /// Nothing is lost: a division has no remainder, and a shift to the right drops no set bit.
     Exact,
+    /// The operands of an `or` have no set bit in common.
     Disjoint,
+    /// The operand of a `zext` is not negative, read with sign.
     Nneg,
+    /// The operands of an `icmp` have the same sign.
     Samesign,
+    /// The address of a `getelementptr` stays in the block that it is based on, or at that block's end.
     Inbounds,
+    /// No unsigned-signed wrap: at a `getelementptr` no offset wraps, read with sign, and no address wraps, read without
+    /// sign, to which an offset with sign is added.
     Nusw,
+    /// How many such loads and stores run, and in which order among themselves, may not be changed.
     Volatile,
 }
 

@@ -9,27 +9,49 @@ use crate::{Row, Table};
 /// with Overflow Intrinsics", "Saturation Arithmetic Intrinsics"). Its word is its name between `llvm.` and its width.
 #[derive(Clone, Copy, Debug, PartialEq, Eq)]
 pub enum Intrinsic {
+    /// How many bits are set.
     Ctpop,
+    /// The bytes in reverse order.
     Bswap,
+    /// The bits in reverse order.
     Bitreverse,
+    /// How many zeros stand above the highest set bit: of 0 the width, or poison where the second operand is 1.
     Ctlz,
+    /// How many zeros stand below the lowest set bit: of 0 the width, or poison where the second operand is 1.
     Cttz,
+    /// The distance from 0, with sign: of the least number that number itself, or poison where the second operand is 1.
     Abs,
+    /// The less of two numbers with sign.
     Smin,
+    /// The greater of two numbers with sign.
     Smax,
+    /// The less of two numbers without sign.
     Umin,
+    /// The greater of two numbers without sign.
     Umax,
+    /// The sum with sign, clamped to the width's least and greatest numbers.
     SaddSat,
+    /// The sum without sign, clamped to the width's greatest number.
     UaddSat,
+    /// The difference with sign, clamped to the width's least and greatest numbers.
     SsubSat,
+    /// The difference without sign, and 0 where it would be negative.
     UsubSat,
+    /// The sum modulo 2^width, and an `i1`: whether the sum with sign does not fit the width.
     SaddWithOverflow,
+    /// The sum modulo 2^width, and an `i1`: whether the sum without sign does not fit the width.
     UaddWithOverflow,
+    /// The difference modulo 2^width, and an `i1`: whether the difference with sign does not fit the width.
     SsubWithOverflow,
+    /// The difference modulo 2^width, and an `i1`: whether the difference without sign is negative.
     UsubWithOverflow,
+    /// The product modulo 2^width, and an `i1`: whether the product with sign does not fit the width.
     SmulWithOverflow,
+    /// The product modulo 2^width, and an `i1`: whether the product without sign does not fit the width.
     UmulWithOverflow,
+    /// The high half of the first operand above the second, both together shifted left by the third modulo the width.
     Fshl,
+    /// The low half of the first operand above the second, both together shifted right by the third modulo the width.
     Fshr,
 }
 

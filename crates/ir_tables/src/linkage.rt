@@ -8,16 +8,27 @@ use crate::{Row, Table};
 /// The linkage of a variable or a function (LangRef, "Linkage Types").
 #[derive(Clone, Copy, Debug, PartialEq, Eq)]
 pub enum Linkage {
+    /// Visible outside its module, and resolves references of other modules.
     External,
+    /// Seen in its module alone, and without an entry in the symbol table of an object file.
     Private,
+    /// Seen in its module alone, with a local symbol in an object file.
     Internal,
+    /// For inlining alone, and never emitted: for a linker it is a declaration of what is defined elsewhere.
     AvailableExternally,
+    /// Merged with others of its name, of which one stays; it may be dropped where nothing refers to it.
     Linkonce,
+    /// As `Linkonce`, where all definitions of the name are equivalent.
     LinkonceOdr,
+    /// Merged as `Linkonce`, but it may not be dropped where nothing refers to it.
     Weak,
+    /// As `Weak`, where all definitions of the name are equivalent.
     WeakOdr,
+    /// A tentative definition of C: merged as `Weak`, zero at the start, no constant and no function.
     Common,
+    /// An array that is joined with the other arrays of its name when modules are linked.
     Appending,
+    /// A declaration that is null, and no undefined reference, where nothing defines the name.
     ExternWeak,
 }
 

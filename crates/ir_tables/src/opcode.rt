@@ -9,38 +9,71 @@ use crate::{Flag, Row, Table};
 /// The opcode of an instruction (LangRef, "Instruction Reference").
 #[derive(Clone, Copy, Debug, PartialEq, Eq)]
 pub enum Opcode {
+    /// The sum.
     Add,
+    /// The difference.
     Sub,
+    /// The product.
     Mul,
+    /// The quotient without sign, rounded toward zero.
     UDiv,
+    /// The quotient with sign, rounded toward zero.
     SDiv,
+    /// The remainder of the division without sign.
     URem,
+    /// The remainder of the division with sign: where it is not zero it has the sign of the dividend.
     SRem,
+    /// Shifts left, and fills with zeros.
     Shl,
+    /// Shifts right, and fills with zeros.
     LShr,
+    /// Shifts right, and fills with the sign bit.
     AShr,
+    /// Bit by bit: 1 where both are 1.
     And,
+    /// Bit by bit: 1 where one is 1, or both.
     Or,
+    /// Bit by bit: 1 where just one is 1.
     Xor,
+    /// Compares two integers or two pointers, as a predicate says, and gives an `i1`.
     ICmp,
+    /// Keeps the low bits.
     Trunc,
+    /// Widens with zeros.
     ZExt,
+    /// Widens with copies of the sign bit.
     SExt,
+    /// A pointer's address as an integer, which is cut or widened with zeros to its type.
     PtrToInt,
+    /// An integer as a pointer's address, cut or widened with zeros to the width of an address.
     IntToPtr,
+    /// The one or the other of two values, as an `i1` says.
     Select,
+    /// Its operand, and where that is poison some value that stays the same.
     Freeze,
+    /// The value that is listed for the block that control came from.
     Phi,
+    /// Reads from memory.
     Load,
+    /// Writes to memory.
     Store,
+    /// Makes memory on the stack, which ends when its function returns.
     Alloca,
+    /// The address of an element or a field, by indices; it does not touch memory.
     GetElementPtr,
+    /// Calls a function.
     Call,
+    /// A member of a struct or an array, by indices.
     ExtractValue,
+    /// A struct or an array with one member changed, by indices.
     InsertValue,
+    /// Returns from the function, with a value or without one.
     Ret,
+    /// Goes on with one block, or with one of two, as an `i1` says.
     Br,
+    /// Goes on with the block of the case that an integer equals, or else with the default block.
     Switch,
+    /// Says that control does not come here: what happens if it does is undefined.
     Unreachable,
 }
 

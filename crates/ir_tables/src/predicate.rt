@@ -8,15 +8,25 @@ use crate::{Row, Table};
 /// How `icmp` compares (LangRef, "icmp Instruction"): `u` reads without sign, `s` with sign.
 #[derive(Clone, Copy, Debug, PartialEq, Eq)]
 pub enum Predicate {
+    /// Equal.
     Eq,
+    /// Not equal.
     Ne,
+    /// Greater, without sign.
     Ugt,
+    /// Greater or equal, without sign.
     Uge,
+    /// Less, without sign.
     Ult,
+    /// Less or equal, without sign.
     Ule,
+    /// Greater, with sign.
     Sgt,
+    /// Greater or equal, with sign.
     Sge,
+    /// Less, with sign.
     Slt,
+    /// Less or equal, with sign.
     Sle,
 }
 

@@ -8,12 +8,17 @@ use type_table::{Layout, Measure, TypeFault};
 pub enum Answer {
     /// The number of a type, a struct or a measure.
     Number(u64),
+    /// The change was made.
     Done,
     /// There is no such thing.
     Nothing,
+    /// How a type lies in memory.
     Lies(Layout),
+    /// Whether it is so.
     Is(bool),
+    /// The measure of a type.
     Measured(Measure),
+    /// How many types there are, how many of them are distinct, and how many structs.
     Counts(u64, u64, u32),
 }
 
@@ -22,6 +27,7 @@ pub enum Answer {
 pub enum Refusal {
     /// The line is no call, or names what is not there.
     NoCall,
+    /// The table refused the change.
     Fault(TypeFault),
 }
 

@@ -7,49 +7,67 @@ pub enum Verb {
     New,
     /// `copy`: goes on with an equal table. The table so far is the one before.
     Copy,
-    /// `int WIDTH`, `ptr`, `void`, `array LENGTH TYPE`, `plain TYPE..`, `packed TYPE..`, `named STRUCT`: adds that type.
+    /// `int WIDTH`: adds the integers of that width in bits.
     Int,
+    /// `ptr`: adds the pointers.
     Ptr,
+    /// `void`: adds the type without values.
     Void,
+    /// `array LENGTH TYPE`: adds the array of so many elements of a type.
     Array,
+    /// `plain TYPE..`: adds the struct without a name that has those fields.
     Plain,
+    /// `packed TYPE..`: adds the packed struct without a name that has those fields.
     Packed,
+    /// `named STRUCT`: adds the name of a struct.
     Named,
-    /// `nest COUNT`, `double COUNT`: so many structs, each with the type before it as its only field, or only two.
+    /// `nest COUNT`: so many structs, each with the type before it as its only field.
     Nest,
+    /// `double COUNT`: so many structs, each with the type before it as its only two fields.
     Double,
-    /// `name NAME`: a struct without a body. `find NAME`: the struct with that name.
+    /// `name NAME`: a struct without a body.
     Name,
+    /// `find NAME`: the struct with that name.
     Find,
-    /// `opaque STRUCT`, `body STRUCT TYPE..`, `tight STRUCT TYPE..`: gives the struct a body.
+    /// `opaque STRUCT`: gives the struct an opaque body.
     Opaque,
+    /// `body STRUCT TYPE..`: gives the struct a body with those fields.
     Body,
+    /// `tight STRUCT TYPE..`: gives the struct a packed body with those fields.
     Tight,
     /// `row COUNT`: so many structs, all named before any is defined.
     Row,
-    /// `layout TYPE`, `offset TYPE FIELD`
+    /// `layout TYPE`: how the type lies in memory.
     Layout,
+    /// `offset TYPE FIELD`: where a field of the struct begins, in bytes.
     Offset,
-    /// `same TYPE OTHER`: whether a type of the table before and one of this table have one shape. `alike TYPE OTHER`:
-    /// the same in this table. `equal TYPE OTHER`: whether they are equal by the ids of their parts.
+    /// `same TYPE OTHER`: whether a type of the table before and one of this table have one shape.
     Same,
+    /// `alike TYPE OTHER`: whether two types of this table have one shape.
     Alike,
+    /// `equal TYPE OTHER`: whether two types of this table are equal by the ids of their parts.
     Equal,
     /// `counts`: how many types there are, how many of them are distinct, and how many structs.
     Counts,
-    /// `holds STRUCT`: whether it has a body. `refind STRUCT`: what its name finds. `is TYPE STRUCT`: whether the type is
-    /// its name.
+    /// `holds STRUCT`: whether it has a body.
     Holds,
+    /// `refind STRUCT`: what its name finds.
     Refind,
+    /// `is TYPE STRUCT`: whether the type is its name.
     Is,
-    /// `int? WIDTH`, `ptr?`, `void?`, `opaque?`, `array? LENGTH MEASURE`, `plain? MEASURE..`, `packed? MEASURE..`:
-    /// measures such a type, or says what is wrong with it.
+    /// `int? WIDTH`: measures an integer, or says what is wrong with it.
     MeasureInt,
+    /// `ptr?`: measures a pointer.
     MeasurePtr,
+    /// `void?`: measures the type without values.
     MeasureVoid,
+    /// `opaque?`: measures an opaque struct.
     MeasureOpaque,
+    /// `array? LENGTH MEASURE`: measures an array of so many elements, or says what is wrong with it.
     MeasureArray,
+    /// `plain? MEASURE..`: measures a struct of such fields, or says what is wrong with it.
     MeasurePlain,
+    /// `packed? MEASURE..`: measures a packed struct of such fields, or says what is wrong with it.
     MeasurePacked,
 }
 

@@ -3,10 +3,15 @@
 /// Loads or stores of a width in bits, one copy or fill of bytes, or blocks that are made and ended.
 #[derive(Clone, Copy)]
 pub enum Task {
+    /// `load WIDTH COUNT`: so many loads of an integer of that width in bits.
     Load(u8, u64),
+    /// `store WIDTH COUNT`: so many stores of an integer of that width in bits.
     Store(u8, u64),
+    /// `copy COUNT`: one copy of so many bytes.
     Copy(u64),
+    /// `fill COUNT`: one fill of so many bytes.
     Fill(u64),
+    /// `blocks COUNT`: so many blocks of 4 bytes, made and, but for the last 1,000, ended.
     Blocks(u64),
 }
 

@@ -7,12 +7,19 @@ use std::fmt;
 /// bytes. Barred: the call's own conditions do not hold.
 #[derive(Clone, Copy)]
 pub enum Answer {
+    /// The pointer of a new block.
     Made(Pointer),
+    /// Nothing but that the call was made.
     Done,
+    /// What was read.
     Value(Scalar),
+    /// Why memory refused.
     Refused(MemoryFault),
+    /// The addresses of a block's first byte and of the byte after its last, where the pointer has a live block.
     Span(Option<(u64, u64)>),
+    /// How many bytes live.
     Bytes(u64),
+    /// The call was not made, since its own conditions do not hold.
     Barred,
 }
 

@@ -6,14 +6,23 @@ use std::str::SplitWhitespace;
 /// A call on memory.
 #[derive(Clone, Copy)]
 pub enum Call {
+    /// `add SIZE ALIGN KIND`: makes a block, of a size and an alignment in bytes.
     Add(u64, u32, BlockKind),
+    /// `end POINTER KIND`: ends the block of that kind that starts at the pointer.
     End(Scalar, BlockKind),
+    /// `bounds POINTER`: where the pointer's block starts and ends.
     Bounds(Pointer),
+    /// `seal`: from now on constants refuse to be written.
     Seal,
+    /// `load POINTER LEAF ALIGN`: reads an integer or a pointer.
     Load(Scalar, Leaf, u32),
+    /// `store POINTER LEAF ALIGN VALUE`: writes an integer or a pointer.
     Store(Scalar, Leaf, u32, Scalar),
+    /// `copy TO FROM COUNT MAY`: copies so many bytes; the two places may overlap where the last word is `may`.
     Copy(Scalar, Scalar, u64, bool),
+    /// `fill POINTER BYTE COUNT`: writes the byte so many times.
     Fill(Scalar, u8, u64),
+    /// `live`: how many bytes live.
     Live,
 }
 

@@ -17,25 +17,45 @@ use type_table::{IrType, TypeId, TypeTable};
 /// counts of bytes of that width.
 #[derive(Clone, Copy)]
 pub enum HostRow {
+    /// `putchar`: writes a byte.
     Putchar,
+    /// `puts`: writes a string and a line feed.
     Puts,
+    /// `getchar`: the next byte of the input, or -1 at its end.
     Getchar,
+    /// `exit`: ends the run with the low byte of an `i32`.
     Exit,
+    /// `abort`: ends the run with status 134.
     Abort,
+    /// `malloc`: makes a block of the heap.
     Malloc,
+    /// `free`: ends a block of the heap.
     Free,
+    /// `memcpy`: copies bytes from a place to another, which do not overlap.
     Memcpy,
+    /// `memmove`: copies bytes from a place to another, which may overlap.
     Memmove,
+    /// `memset`: fills with the low byte of an `i32`.
     Memset,
+    /// `strlen`: how many bytes stand before the first zero.
     Strlen,
+    /// `llvm.memcpy.p0.p0.i64`: copies as `memcpy` does, and gives nothing.
     MemcpyI64,
+    /// `llvm.memmove.p0.p0.i64`: copies as `memmove` does, and gives nothing.
     MemmoveI64,
+    /// `llvm.memset.p0.i64`: fills with an `i8`, and gives nothing.
     MemsetI64,
+    /// `llvm.memcpy.p0.p0.i32`: copies as `memcpy` does, and gives nothing.
     MemcpyI32,
+    /// `llvm.memmove.p0.p0.i32`: copies as `memmove` does, and gives nothing.
     MemmoveI32,
+    /// `llvm.memset.p0.i32`: fills with an `i8`, and gives nothing.
     MemsetI32,
+    /// `llvm.lifetime.start.p0`: nothing happens.
     LifetimeStart,
+    /// `llvm.lifetime.end.p0`: nothing happens.
     LifetimeEnd,
+    /// `printf`: writes the text of a pattern and its arguments.
     Printf,
     /// An intrinsic over integers, at a width in bits.
     Integer(Intrinsic, u8),
@@ -122,8 +142,11 @@ pub fn host_row(name: &[u8]) -> Option<HostRow>
 /// A type that a host function is declared with.
 #[derive(Clone, Copy)]
 pub(crate) enum HostType {
+    /// An integer of a width in bits.
     Int(u8),
+    /// A pointer.
     Ptr,
+    /// No value.
     Void,
     /// A struct of an integer of that width and an i1.
     Pair(u8),

@@ -8,6 +8,7 @@ use std::alloc::{AllocError, Global};
 
 /// What a line comes to.
 pub enum Written {
+    /// What the pattern and its arguments write.
     Text(Text),
     /// The place of a `%` that begins no conversion.
     BadFormat(usize),

@@ -4,8 +4,11 @@ use ir_tables::{Flag, Flags, Opcode, Predicate};
 /// An instruction over integers of 4 bits. A cast goes to another width.
 #[derive(Clone, Copy, Debug, PartialEq, Eq)]
 pub enum Instruction {
+    /// An operation on two integers, and its flags.
     Binary(Opcode, Flags),
+    /// A comparison, and whether it has `samesign`.
     Compare(Predicate, bool),
+    /// A cast, its flags, and the width in bits that it goes to.
     Cast(Opcode, Flags, u8),
 }
 

@@ -7,11 +7,17 @@ use crate::{StructBody, TypeId};
 /// What a type is but for its parts, where a struct's name stands for its body.
 #[derive(Clone, Copy)]
 pub(crate) enum Head {
+    /// An integer, by its width in bits.
     Int(u8),
+    /// A pointer.
     Ptr,
+    /// No value.
     Void,
+    /// A struct whose fields are not known: it has no body, or an opaque one.
     Opaque,
+    /// An array, by how many elements it has.
     Array(u64),
+    /// A struct with fields, and whether it is packed.
     Struct(bool),
 }
 
