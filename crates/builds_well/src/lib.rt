@@ -2,6 +2,11 @@
 //!
 //! It stands on the rules of names and numbers of `name_rules`, and on what building asks for (`buildable`). It promises the one
 //! law that its call names. Definitions: `specs/Laws`, `AreBuildable` and `AreItemsNarrow` of `buildable`.
+//!
+//! ```
+//! first_break items -- of "@a = global ptr @a": None, so that the items are buildable, and an entry is called `a`
+//! first_break items -- of "@a = global ptr @b": a fault, since nothing is called `b`; the law says nothing of them
+//! ```
 #![tactic(auto)]
 
 mod laws;

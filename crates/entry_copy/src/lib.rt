@@ -3,6 +3,15 @@
 //! It stands on `module_arena` and the builder of `type_build`. It promises that each copy is the old one under the other
 //! names, that nothing else of the new module changes, and that only memory may be wanting. Definitions: `specs/Tables`,
 //! `specs/Copies`, `specs/Moved`, and `Renamed` of `module_arena`.
+//!
+//! ```
+//! let mut copier = Copier::new(alloc, Vec::new(alloc)); // each struct keeps its id
+//! copier.copy_types(alloc, &old, &mut builder, old.types().type_count())?;
+//! copier.new_type(TypeId::new(0)) // the id in `builder.arena` of the type that is the first of `old`
+//! copier.copy_constants(alloc, &old, &mut builder)?;
+//! copier.new_constant(ConstId::new(0)) // the same of the first constant
+//! copier.copy_body(alloc, &body)? // a function's body, of the new ids
+//! ```
 #![tactic(auto)]
 
 mod bodies;

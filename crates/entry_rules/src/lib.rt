@@ -3,6 +3,14 @@
 //! It stands on `ir_base`, `ir_tables`, `type_table`, `module_arena`, `type_verify` and `constant_verify`. It promises that each test
 //! is that of the definitions on the module that the arena stands for. The tests stand in `module_arena`, `specs/EntryRules`; how they
 //! are read by ids, in `specs/Readings` and `Constructors`.
+//!
+//! ```
+//! linkage_suits(false, Linkage::Internal) // false: a declaration is external or extern_weak
+//! linkage_suits(true, Linkage::Internal) // true
+//! alignment_suits(Some(24)) // false: no power of two
+//! alignment_suits(Some(65_536)) // true
+//! is_lasting(Linkage::Weak) // false: no alias is weak, nor of what is weak
+//! ```
 #![tactic(auto)]
 
 mod initialisers;

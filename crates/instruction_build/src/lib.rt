@@ -2,6 +2,16 @@
 //!
 //! It stands on `type_build`, and on the names of a function that it gathers. It promises that an instruction and an end of the
 //! arena are the ones that are written. Definitions: `specs/Meant`, `specs/Named`, `specs/Made`, and `Locals` of `name_rules`.
+//!
+//! ```
+//! // `block` is `entry: %x = add i32 1, 2 ret i32 %x`, as `ir_instructions` has it.
+//! let mut values = LocalIds::new(alloc);
+//! let mut blocks = LocalIds::new(alloc);
+//! add_block(&mut values, &mut blocks, alloc, 0, &block)? // 0: no number is taken, since both have names
+//! let locals = Locals { values, blocks };
+//! build_instruction(&mut builder, alloc, &locals, ValueId::new(0), &block.instructions[0])? // an Inst::Binary
+//! build_ending(&mut builder, alloc, &locals, &block.ending)? // an Ending::Return, of the value 0
+//! ```
 #![tactic(auto)]
 
 ghost use Rattle.std.specs.Prelude.{◌≡◌, ◌<◌, ◌^◌, length, OnOk, IfOk, true};

@@ -3,6 +3,13 @@
 //! It stands on `ir_base`, `ir_tables`, `type_table`, `module_arena`, `type_verify`, `constant_verify`, `entry_rules` and `indexmap`.
 //! It promises that an answer on an instruction or an end names the first of what it is asked that does not hold: before the rules on
 //! phis and paths, and of the types that it works on. What is asked stands in `module_arena`, `specs/Valid`; its parts, in `specs/Parts`.
+//!
+//! ```
+//! let judge = Judge::new(alloc, &arena)?;
+//! part_at(judge.types(), pair, &[1]) // Some, of the `i32` of `{ i8, i32 }`
+//! part_at(judge.types(), pair, &[2]) // None
+//! judge_instruction_types(alloc, &judge, &name, 0, &inst) // of `zext i32 %x to i8`: rule 13 does not hold
+//! ```
 #![tactic(auto)]
 
 mod callees;

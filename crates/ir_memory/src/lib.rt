@@ -4,6 +4,17 @@
 //! `pointer_pieces`. Its promise: each call changes memory and answers as the definition over plain lists of
 //! blocks and cells says, and a call that refuses leaves memory as it was. Definitions: `specs/Cell`,
 //! `specs/Block`, `specs/Memory`; what may be handed in: `specs/Given`; what an answer says: `specs/Answer`.
+//!
+//! ```
+//! let mut memory = Memory::new(alloc);
+//! let block = memory.add_block(8, 4, BlockKind::Stack)?; // eight zeros at 65,536
+//! let address = Scalar::Ptr(block);
+//! memory.store(address, Leaf::Int(32), 4, Scalar::Int(513))?;
+//! memory.load(address, Leaf::Int(8), 1) // Ok(Scalar::Int(1)): the lowest byte stands first
+//! memory.load(address, Leaf::Int(128), 1) // Err(UndefinedKind::OutsideBlock)
+//! memory.end_block(address, BlockKind::Stack)?;
+//! memory.load(address, Leaf::Int(32), 4) // Err(UndefinedKind::EndedBlock)
+//! ```
 #![tactic(auto)]
 
 mod access;

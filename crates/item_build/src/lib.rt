@@ -4,6 +4,14 @@
 //! that the text writes, that each entry is the one that its item writes, that nothing else of the module changes, and that only
 //! memory may be wanting: structs of which some have no body yet are never deeper or larger than the whole. Definitions:
 //! `specs/Partly`, `specs/Named`, `specs/Places`, `specs/Declaring`, `specs/Completing`, `specs/Texts`.
+//!
+//! ```
+//! let items = read_items(alloc, b"%pair = type { i8, i32 }\n@a = global %pair zeroinitializer")?;
+//! let mut builder = Builder::new(alloc);
+//! build_structs(&mut builder, alloc, items.as_slice(), &[0])?; // the struct `%pair`, with its body
+//! declare_items(&mut builder, alloc, items.as_slice())?; // the variable `@a`, without its initialiser
+//! initialise_items(&mut builder, alloc, items.as_slice())?; // `@a` starts as `zeroinitializer`
+//! ```
 #![tactic(auto)]
 
 mod along;

@@ -4,6 +4,14 @@
 //! `instruction_verify` and `indexmap`. It promises that an answer names the first of the rules 11 to 18
 //! that does not hold. What is asked stands in `module_arena`, `specs/Valid`; its parts, in `specs/Last` and in `instruction_verify`,
 //! `specs/Parts`.
+//!
+//! ```
+//! // `function` is `define i32 @f(i32 %a) { %x = icmp eq i32 %a, 1 ret i32 %x }`.
+//! let types = local_types(alloc, &judge, function)?; // of `%a` the `i32`, of `%x` LocalType::Truth
+//! let mut operands = Vec::new(alloc);
+//! gather_ending(&mut operands, &ending)?;
+//! judge_ending_last(alloc, &judge, &types, function, 1, &ending, &operands) // rule 11 does not hold: `%x` is no `i32`
+//! ```
 #![tactic(auto)]
 
 mod callees;

@@ -3,6 +3,12 @@
 //! It stands on the judges of types and constants of `type_judge` and on the rules of `name_rules`. It promises that an
 //! answer is Ok exactly where each demand holds, and else the refusal of the first that does not. Definitions:
 //! `specs/Names`, `specs/Calling`; the demands are those of `name_rules`, `specs/FunctionDemands`.
+//!
+//! ```
+//! // `definition` is the one item of the text `define i32 @f(i32 %x) { ret i32 %y }`.
+//! let known = Known::of_items(alloc, &items)?;
+//! check_definition(alloc, &known, &definition.parameters, &definition.blocks) // an unknown name, `%y`, at 1:33
+//! ```
 #![tactic(auto)]
 
 mod called;

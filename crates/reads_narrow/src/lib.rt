@@ -2,6 +2,11 @@
 //!
 //! It stands on the phrases of `ir_syntax`, and on the widths that words stand for, of `reads_well`. It promises the one law
 //! that its call names, over the items of any text. Definitions: `HasItems` of `ir_syntax`, `AreItemsNarrow` of `buildable`.
+//!
+//! ```
+//! HasItems "@a = global i128 0" items -- of one variable, and `IsNarrow` holds of its type
+//! HasItems "@a = global i129 0" items -- of no items: `i129` is no type of the language
+//! ```
 #![tactic(auto)]
 
 mod laws;

@@ -4,6 +4,14 @@
 //! It stands on the rules of `name_rules`, on the measures of structs of `struct_order` and the tables of `name_table`. It
 //! promises that an answer is Ok exactly where each demand holds, and else the refusal of the first that does not.
 //! Definitions: `specs/Judging`; the demands are those of `name_rules`, `specs/TypeDemands`.
+//!
+//! ```
+//! let items = read_items(alloc, b"@a = global ptr @b")?;
+//! let known = Known::of_items(alloc, &items)?;
+//! known.has_global(b"a") // true
+//! known.has_global(b"b") // false
+//! check_global(alloc, &known, &name) // where that is the `@b` of the text: an unknown name, `@b`, at 1:17
+//! ```
 #![tactic(auto)]
 
 mod asking;

@@ -5,6 +5,14 @@
 //! It promises that an answer on an instruction, an end or a first block names the rule on it that does not hold. What is asked
 //! stands in `module_arena`, `specs/Valid`; what it is by ids, in `specs/Uses`, `specs/Edges` and `specs/Agreeing`; which constants
 //! are the same, in `specs/Classes`.
+//!
+//! ```
+//! judge_entry_block(alloc, function) // of `define void @f() { a: br label %a }`: rule 8 does not hold of `%a`
+//!
+//! // `function` is `define void @f() { %x = add i32 %x, 1 ret void }`.
+//! let site = Site { number: 0, block: BlockId::new(0), before: 0 };
+//! judge_uses(alloc, &rows, function, site, &inst, &operands) // rule 10 does not hold at instruction 0
+//! ```
 #![tactic(auto)]
 
 mod agreeing;
