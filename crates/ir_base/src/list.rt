@@ -6,6 +6,14 @@ use std::alloc::{AllocError, Global};
 use std::marker::Model;
 
 /// Some items, in order. A type whose name ends in `List` is one of these.
+///
+/// ```
+/// let mut list = ItemList::new(alloc);
+/// list.push(7)?;
+/// list.push(8)?;
+/// list.at(1) // 8
+/// list.len() // 2
+/// ```
 #[derive(Debug, Drop)]
 pub struct ItemList<T> {
     items: Vec<T>,

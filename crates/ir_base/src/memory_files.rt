@@ -13,6 +13,12 @@ use std::collections::HashMap;
 use std::marker::Model;
 
 /// Files by name, which fail at the calls that they were told.
+///
+/// ```
+/// let mut files = MemoryFiles::new(alloc, NumberList::new(alloc));
+/// files.put(Text::from_slice(alloc, b"a.ll")?, Text::from_slice(alloc, b"ret")?)?;
+/// files.get(&name) // Some, of `ret`, where the name is `a.ll`
+/// ```
 #[derive(Drop)]
 pub struct MemoryFiles {
     files: HashMap<Text, Text>,

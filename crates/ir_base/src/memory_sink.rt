@@ -11,6 +11,14 @@ use std::marker::Model;
 
 /// A sink that keeps the bytes it has taken, has room for so many, and fails where it is full and at the calls that
 /// it was told.
+///
+/// ```
+/// let mut sink = MemorySink::new(alloc, 4, NumberList::new(alloc))?;
+/// sink.write(b"ret") // Ok(3)
+/// sink.write(b" void") // Ok(1): there is room for one byte more
+/// sink.write(b"void") // Err(Failed): it is full
+/// sink.taken() // `ret `
+/// ```
 #[derive(Debug, Drop)]
 pub struct MemorySink {
     taken: Text,

@@ -9,6 +9,16 @@ use crate::{Failed, NumberList, Source, Text};
 use std::marker::Model;
 
 /// A source that gives the bytes it was made of, and fails at the calls that it was told.
+///
+/// ```
+/// let mut fails = NumberList::new(alloc);
+/// fails.push(2)?;
+/// let mut source = MemorySource::new(Text::from_slice(alloc, b"ret")?, fails);
+/// source.read(&mut two_bytes) // Ok(2): `re`
+/// source.read(&mut two_bytes) // Err(Failed): the second call was told to fail
+/// source.read(&mut two_bytes) // Ok(1): `t`
+/// source.read(&mut two_bytes) // Ok(0): the end
+/// ```
 #[derive(Debug, Drop)]
 pub struct MemorySource {
     bytes: Text,

@@ -12,6 +12,11 @@ use std::hash::{Hash, Hasher};
 use std::marker::Model;
 
 /// A name: at least one byte, and none of them zero (LangRef, "Identifiers").
+///
+/// ```
+/// Name::from_text(Text::from_slice(alloc, b"main")?) // Ok, of the name `main`
+/// Name::from_text(Text::new(alloc)) // Err, of the text again: it has no byte
+/// ```
 #[derive(Debug, Drop)]
 pub struct Name {
     text: Text,

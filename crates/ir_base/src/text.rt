@@ -9,6 +9,13 @@ use std::hash::{Hash, Hasher};
 use std::marker::Model;
 
 /// Bytes of any values, not necessarily UTF-8.
+///
+/// ```
+/// let mut text = Text::from_slice(alloc, b"ret")?;
+/// text.push(b' ')?;
+/// text.extend(b"void")?;
+/// text.bytes() // `ret void`
+/// ```
 #[derive(Debug, Drop)]
 pub struct Text {
     bytes: Vec<u8>,

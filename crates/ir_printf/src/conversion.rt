@@ -35,6 +35,20 @@ pub enum Length {
 }
 
 /// A conversion of a pattern (C, "The fprintf function").
+///
+/// ```
+/// // `%-5ld`
+/// Conversion {
+///     kind: ConversionKind::Signed,
+///     left: true,
+///     zero: false,
+///     plus: false,
+///     space: false,
+///     width: 5,
+///     precision: None,
+///     length: Length::Long,
+/// }
+/// ```
 #[derive(Clone, Copy)]
 pub struct Conversion {
     pub kind: ConversionKind,

@@ -95,6 +95,13 @@ impl Flag {
 }
 
 /// A set of flags. Contracts see it as the sum of the codes of its flags.
+///
+/// ```
+/// let flags = Flags::empty().with(Flag::Nuw).with(Flag::Nsw);
+/// flags.has(Flag::Nsw) // true
+/// flags.has(Flag::Exact) // false
+/// flags.code() // 3
+/// ```
 #[derive(Clone, Copy, Debug, PartialEq, Eq)]
 pub struct Flags {
     code: u16,

@@ -12,6 +12,14 @@ pub struct Row {
 }
 
 /// Exactly `N` rows, no two of which have the same word or the same code.
+///
+/// ```
+/// static ROWS: [Row; 2] = [Row { word: "eq", code: 1 }, Row { word: "ne", code: 2 }];
+///
+/// let table: Table<2> = Table::new(&ROWS);
+/// table.word_of(b"ne") // Some(1)
+/// table.code_of(3) // None
+/// ```
 #[derive(Drop)]
 pub struct Table<'t, const N: usize> {
     rows: &'t [Row],

@@ -69,6 +69,11 @@ impl CompactText {
 }
 
 /// A name that does not change, in 16 bytes: up to 7 bytes stand in it, more stand behind a box.
+///
+/// ```
+/// let name = CompactName::from_slice(alloc, b"main")?;
+/// name.bytes() // `main`
+/// ```
 #[derive(Drop)]
 pub struct CompactName {
     text: CompactText,

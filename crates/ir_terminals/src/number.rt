@@ -16,6 +16,13 @@ enum Magnitude {
 
 /// A natural number that digits write, of any size, in 16 bytes: one that fits a word stands in it, a larger one behind
 /// a box.
+///
+/// ```
+/// let number = Number::of_digits(alloc, b"0042")?;
+/// number.to_u64() // Some(42)
+/// number.digits(alloc)? // `42`
+/// Number::of_digits(alloc, b"18446744073709551616")?.to_u64() // None: it is 2^64
+/// ```
 #[derive(Drop)]
 pub struct Number {
     magnitude: Magnitude,

@@ -4,6 +4,12 @@ use crate::number::Number;
 use ir_base::Place;
 
 /// An integer as it is written: its sign, its magnitude, and the place of its first byte.
+///
+/// ```
+/// // `-5`, written at 1:17.
+/// let place = Place { line: 1, column: 17 };
+/// Integer { negative: true, magnitude: Number::of_digits(alloc, b"5")?, place }
+/// ```
 #[derive(Drop)]
 pub struct Integer {
     pub negative: bool,

@@ -5,6 +5,11 @@ use std::alloc::{AllocError, Global};
 use std::marker::Model;
 
 /// A value of its own place on the heap, so that what holds it stays narrow.
+///
+/// ```
+/// let pair = Boxed::new(alloc, ConstPair { left, right })?;
+/// pair.get().left // `left`
+/// ```
 #[derive(Drop)]
 pub struct Boxed<T> {
     inner: Box<T>,

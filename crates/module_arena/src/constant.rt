@@ -43,6 +43,12 @@ pub struct ConstPair {
 }
 
 /// A constant (LangRef, "Constants" and "Constant Expressions"), one variant a form. It takes 32 bytes.
+///
+/// ```
+/// Const::Integer(255) // of `i8 255` and of `i8 -1`
+/// Const::Address(GlobalId::Variable(id)) // of `ptr @a`, where that is the id of the variable `a`
+/// Const::ByteString(Text::from_slice(alloc, b"ret")?) // of `[3 x i8] c"ret"`
+/// ```
 #[derive(Drop)]
 pub enum Const {
     /// At iN the number modulo 2^N, at any other type modulo 2^128. At i1 `true` is 1 and `false` is 0.

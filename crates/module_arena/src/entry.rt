@@ -87,6 +87,14 @@ pub type BlockList = ItemList<Block>;
 
 /// What a function does. The names of the results are in their order: the one of the value with id v is the
 /// name at v less the count of parameters.
+///
+/// ```
+/// // Of `define i32 @f(i32 %x) { ret i32 %x }`: one block, which is called 0, and no results.
+/// let operand = Operand { ty, value: Value::Local(ValueId::new(0)) };
+/// let name = LocalName::Numbered(0);
+/// blocks.push(Block { name, instructions: InstList::new(alloc), end: Ending::Return(operand) })?;
+/// let body = Body { blocks, results: LocalNameList::new(alloc) };
+/// ```
 #[derive(Drop)]
 pub struct Body {
     pub blocks: BlockList,
@@ -94,6 +102,12 @@ pub struct Body {
 }
 
 /// A function (LangRef, "Functions").
+///
+/// ```
+/// // Of `declare i32 @printf(ptr, ...)`. A definition is declared so too, and `define` gives it its body.
+/// parameters.push(Parameter { ty: pointer, name: LocalName::Numbered(0) })?;
+/// Function { name, linkage: Linkage::External, result: word, parameters, variadic: true, body: None }
+/// ```
 #[derive(Drop)]
 pub struct Function {
     pub name: Name,

@@ -15,6 +15,11 @@ pub enum Value {
 }
 
 /// A value, and the type that is written before it.
+///
+/// ```
+/// Operand { ty, value: Value::Local(ValueId::new(0)) } // `i32 %x`, where that is the first parameter
+/// Operand { ty, value: Value::Known(seven) } // `i32 7`
+/// ```
 #[derive(Clone, Copy)]
 pub struct Operand {
     pub ty: TypeId,

@@ -13,6 +13,12 @@ use std::hash::{Hash, Hasher};
 pub type TypeList = ItemList<TypeId>;
 
 /// A type, by the ids of its parts (LangRef, "Type System").
+///
+/// ```
+/// IrType::Int(32) // `i32`
+/// IrType::Array(4, byte) // `[4 x i8]`, where `byte` is the id of `i8`
+/// IrType::Struct(true, fields) // `<{ i8, i32 }>`, where those are the fields
+/// ```
 #[derive(Drop)]
 pub enum IrType {
     /// An integer, by its width in bits: 1 to 128.
@@ -30,6 +36,11 @@ pub enum IrType {
 }
 
 /// What a named struct holds.
+///
+/// ```
+/// StructBody::Plain(fields) // of `%pair = type { i8, i32 }`, where those are the fields
+/// StructBody::Opaque // of `%pair = type opaque`
+/// ```
 #[derive(Drop)]
 pub enum StructBody {
     /// Nothing that is known.

@@ -20,6 +20,13 @@ pub const SIZE_LIMIT: u64 = 1 << 40;
 
 /// How deep a type nests, how many parts it has and how it lies in memory, each cut where it is too large for good: a
 /// measure is found from those of the type's parts, and the type need be in no table.
+///
+/// ```
+/// let pair = Measure::of_struct(false, &[Measure::int(8), Measure::int(32)]); // of `{ i8, i32 }`
+/// pair.nesting // 1
+/// pair.parts // 3
+/// pair.layout // Some(Layout { size: 8, align: 4, leaves: 2 })
+/// ```
 #[derive(Clone, Copy)]
 pub struct Measure {
     /// 0 for an integer, a pointer and `void`; for an array and a struct one more than the deepest part. 255 stands

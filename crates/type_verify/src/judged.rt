@@ -10,6 +10,11 @@ use module_arena::Entity;
 use std::alloc::Global;
 
 /// What a rule asks of an entity: its number, and whether it holds.
+///
+/// ```
+/// judge_module(&[asked(1, true), asked(2, true)]) // Ok(())
+/// judge_module(&[asked(1, true), asked(2, false)]) // a fault: rule 2 does not hold of the module
+/// ```
 #[derive(Clone, Copy)]
 pub struct Check {
     pub rule: u8,
