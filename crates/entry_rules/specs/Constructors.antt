@@ -1,4 +1,4 @@
--- For lists of constructors: what is asked of one, by its parts.
+-- Says how the code reads: what `variable_name_suits` asks of a list of constructors, and of each of them by its parts.
 use Rattle.std.specs.Prelude.{Bool, true, false, ◌&&◌, ◌||◌, List, [], ◌∷◌, codes, is_some}
 use Rattle.constant_verify.specs.ConstantFacts.{typed_at}
 use Rattle.module_arena.specs.Constants.{Typed, written_number}

@@ -1,4 +1,4 @@
--- For all of this crate: types, constants and values as plain trees.
+-- For `type_of`, `constant_of`, `value_of` and the calls beside them: types, constants and values as plain trees.
 use Rattle.std.specs.Prelude.{ℕ, Bool, List, [], ◌∷◌}
 use Rattle.ir_base.specs.declared.place.Place.{Place}
 use Rattle.ir_tables.specs.declared.opcode.Opcode.{Opcode}

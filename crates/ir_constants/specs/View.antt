@@ -1,4 +1,5 @@
--- For all of this crate, and how the code reads: the plain tree of a type, a constant or a value as it lies in memory.
+-- For `type_of`, `constant_of`, `value_of` and the calls beside them: the plain tree of a type, a constant or a value as it
+-- lies in memory.
 use Rattle.ir_terminals.specs.declared.values.Integer.{Integer}
 use Rattle.ir_constants.specs.declared.ty.Type as the_type
 use Rattle.ir_constants.specs.declared.ty.Type.TheOpen as open_type

@@ -1,5 +1,5 @@
--- For all of this crate: leaves of values, and integers of a width as whole numbers (LangRef, "Integer Type", "Poison
--- Values").
+-- For `binary`, `compare`, `cast`, `select` and `freeze`: leaves of values, and integers of a width as whole numbers (LangRef,
+-- "Integer Type", "Poison Values").
 use Rattle.std.specs.Prelude.{ℕ, ◌-◌, ◌<◌, ◌≤◌, ◌^◌, ℤ, pos, negsuc, ◌-ℤ◌, Bool, true, false, ◌≡◌, None, nat_lt, nat_le, ⊤, unsigned_abs, if◌then◌else◌}
 use Rattle.std.specs.Int.{int_rem_euclid}
 use Rattle.ir_eval.specs.declared.value.Scalar.{Scalar}

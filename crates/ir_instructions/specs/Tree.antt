@@ -1,4 +1,4 @@
--- For all of this crate: instructions and blocks as plain trees.
+-- For `blocks_of` and `signature`: instructions and blocks as plain trees.
 use Rattle.std.specs.Prelude.{ℕ, Bool, List, Option}
 use Rattle.ir_tables.specs.declared.opcode.Opcode.{Opcode}
 use Rattle.ir_tables.specs.declared.predicate.Predicate.{Predicate}

@@ -1,4 +1,5 @@
--- How the table keeps blocks: a row for each number, in pages of 64 rows each; a row that is not there is one of a block that has ended.
+-- Says how the code reads: the table keeps a row for each number of a block, in pages of 64 rows each; a row that is not
+-- there is one of a block that has ended.
 use Rattle.std.specs.Prelude.{◌≡◌, ℕ, ◌+◌, ◌*◌, ◌/◌, ◌%◌, ◌<◌, ◌≤◌, List, [], length, map, slice_index_or}
 use Rattle.std.specs.List.{range_with_len}
 use Rattle.ir_memory.specs.declared.kept.KeptBlock.{KeptBlock}

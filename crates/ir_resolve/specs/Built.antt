@@ -1,4 +1,4 @@
--- For the parts of `build_body`: what is built over the names of a function's values and blocks.
+-- Says how the code reads: what is built over the names of a function's values and blocks.
 use Rattle.std.specs.Prelude.{◌≡◌, ℕ, ◌+◌, cond, List, [], ◌∷◌, map, length, All}
 use Rattle.std.specs.List.{sum_by}
 use Rattle.ir_instructions.specs.Tree.{InstructionTree, BlockTree}

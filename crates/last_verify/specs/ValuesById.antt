@@ -1,4 +1,5 @@
--- For `have_types_written`, `operands_fit`, `callee_fits` and `is_pointer_value`: values by the ids of an arena. What a local value is called plays no part but for its type.
+-- For `local_types`, `judge_last` and `judge_ending_last`: values by the ids of an arena. What a local value is called plays no part
+-- but for its type.
 use Rattle.std.specs.Prelude.{◌≡◌, ℕ, ◌<◌, ◌&&◌, Bool, true, false, List, [], ◌∷◌, All, ⊤, length, slice_index_or, Option, Some, None}
 use Rattle.type_table.specs.Tree.{Tree, int, ptr}
 use Rattle.type_table.specs.Types.{Types, tree, trees, structs}

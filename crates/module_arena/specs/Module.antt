@@ -1,4 +1,5 @@
--- For all of this crate: a module as plain data (LangRef, "Module Structure"): names as bytes, types and constants as trees, no ids.
+-- For all calls of `Arena` and `Checked`: a module as plain data (LangRef, "Module Structure"): names as bytes, types and constants as
+-- trees, no ids.
 -- Everything meets here: a text and a bitcode stand for a module, an arena holds one, validity is a property of
 -- one, linking and extraction give one, and a run is of some.
 use Rattle.std.specs.Prelude.{ℕ, Bool, List, [], Option}

@@ -1,4 +1,4 @@
--- For the text of a layout: how long its first piece is.
+-- Says how the code reads: how long the first piece of the text of a layout is.
 use Rattle.std.specs.Prelude.{ℕ, suc, ◌==◌, List, [], ◌∷◌, if◌then◌else◌}
 
 -- how long the text is up to the next separator, or to its end

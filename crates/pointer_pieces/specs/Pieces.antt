@@ -1,4 +1,5 @@
--- The pieces of pointers as a function from addresses, how slots keep them, and what each call makes of it.
+-- For all calls of `Pieces`: the pieces of pointers as a function from addresses, how slots keep them, and what each call
+-- makes of it.
 use Rattle.std.specs.Prelude.{ℕ, ◌+◌, ◌-◌, ◌/◌, ◌%◌, Bool, ◌&&◌, nat_le, nat_lt, Option, Some, None, slice_index_or, if◌then◌else◌}
 use Rattle.ir_eval.specs.declared.value.Pointer.{Pointer}
 use Rattle.pointer_pieces.specs.declared.piece.Piece.{Piece}

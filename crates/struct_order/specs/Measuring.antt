@@ -1,4 +1,4 @@
--- For the calls that measure structs one by one.
+-- For `StructMeasures::of_items`, `has` and `measure_of`: the measures of structs, found one by one.
 use Rattle.std.specs.Prelude.{◌≡◌, ℕ, ◌^◌, ◌-◌, min, List, [], ◌∷◌, map, slice_index_or, slice_set, Option, Some, None}
 use Rattle.std.specs.Borrow.{Bor}
 use Rattle.type_table.specs.declared.measure.Measure.{Measure}

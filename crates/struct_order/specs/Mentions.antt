@@ -1,4 +1,4 @@
--- For the gathering of structs: their numbers, and the numbers of those that each mentions.
+-- For `struct_numbers` and `all_mentions`: the numbers of structs, and the numbers of those that each mentions.
 use Rattle.std.specs.Prelude.{◌≡◌, ℕ, suc, List, [], ◌∷◌, filter_map, nat_eq, bytes_eq, cond, Bool, false, Option, Some, None}
 use Rattle.type_table.specs.Tree.{TreeBody, Structs}
 use Rattle.module_arena.specs.Module.{Bytes}

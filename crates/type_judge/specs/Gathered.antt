@@ -1,4 +1,4 @@
--- For the gathering of what a text defines.
+-- For `Known::of_items`, and all calls that are handed a `Known`: what a text defines, as it is gathered.
 use Rattle.std.specs.Prelude.{◌≡◌, List, map, filter_map, is_some}
 use Rattle.ir_base.specs.declared.place.Place.{Place}
 use Rattle.ir_terminals.specs.declared.values.PlacedName.{PlacedName}

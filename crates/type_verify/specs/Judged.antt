@@ -1,4 +1,4 @@
--- For the judges of a module: what an answer says of a list of demands.
+-- For `judge_module`, `judge_global` and `judge_instruction`: what an answer says of a list of demands.
 use Rattle.std.specs.Prelude.{ℕ, not, List, [], ◌∷◌, find, ⊤, Option, Result, Ok, Err}
 use Rattle.std.specs.Option.{option_map}
 use Rattle.module_arena.specs.EntityView.{entity_view}
