@@ -1,4 +1,4 @@
--- For `Page`: a row of a page that is lent to be changed.
+-- Says how the code reads: a row of a page that is lent to be changed.
 use Rattle.std.specs.Prelude.{ℕ, List, slice_set}
 use Rattle.std.specs.Borrow.{Lends, MutBor, Fml}
 use Rattle.ir_memory.specs.declared.kept.KeptBlock.{KeptBlock}

@@ -12,25 +12,35 @@ use crate::terminal::Terminal;
 /// A kind of brackets.
 #[derive(Clone, Copy, PartialEq, Eq)]
 enum Bracket {
+    /// `(` and `)`.
     Parenthesis,
+    /// `[` and `]`.
     Square,
+    /// `{` and `}`.
     Brace,
+    /// `<` and `>`.
     Angle,
 }
 
 /// What a token does to the brackets that are open.
 #[derive(Clone, Copy)]
 enum Role {
+    /// It opens a bracket of that kind.
     Opens(Bracket),
+    /// It closes a bracket of that kind.
     Closes(Bracket),
+    /// It is no bracket.
     Neither,
 }
 
 /// Whether all brackets are closed behind a token, or some are open, or it closes none that is open.
 #[derive(Clone, Copy)]
 enum Turn {
+    /// Some are open behind the token.
     On,
+    /// All are closed behind it.
     Ends,
+    /// It closes none that is open.
     Stops,
 }
 

@@ -13,7 +13,9 @@ const SHORT: usize = 7;
 /// A count of bytes that stand here, and the bytes with room behind them; or bytes behind a box.
 #[derive(Drop)]
 enum Stored {
+    /// How many bytes there are, and the bytes, with room behind them.
     Short(u8, [u8; 7]),
+    /// More bytes than have room here.
     Long(Box<Text>),
 }
 

@@ -10,7 +10,9 @@ use std::marker::Model;
 /// A number, or its digits where it is 2^64 or more.
 #[derive(Drop)]
 enum Magnitude {
+    /// A number below 2^64.
     Small(u64),
+    /// The digits of a greater one, as they are written.
     Large(Box<Text>),
 }
 

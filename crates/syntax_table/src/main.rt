@@ -21,7 +21,9 @@ const LARGEST: usize = 16_777_216;
 /// What is told of a text.
 #[derive(Clone, Copy)]
 enum Asked {
+    /// How many items of each kind it has.
     Counts,
+    /// The parts of its items.
     Parts,
 }
 
