@@ -4,6 +4,11 @@ ghost use Rattle.ir_memory.specs.Cell as of;
 ghost use Rattle.ir_memory.specs.Given.{IsLeaf};
 
 /// What a load or a store moves: an integer of a width in bits, or a pointer.
+///
+/// ```
+/// Leaf::Int(17).size() // 3
+/// Leaf::Ptr.size() // 8
+/// ```
 #[derive(Clone, Copy, PartialEq, Eq, Debug)]
 pub enum Leaf {
     /// An integer of a width in bits, from 1 to 128.

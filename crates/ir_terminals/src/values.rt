@@ -18,6 +18,12 @@ pub struct Integer {
 }
 
 /// A name, and the place of the token that spells it.
+///
+/// ```
+/// // `@a`, where a text begins with it.
+/// let place = Place { line: 1, column: 1 };
+/// PlacedName { name: CompactName::from_slice(alloc, b"a")?, place }
+/// ```
 #[derive(Drop)]
 pub struct PlacedName {
     pub name: CompactName,

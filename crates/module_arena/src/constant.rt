@@ -17,6 +17,10 @@ pub enum Brackets {
 }
 
 /// A constant, and the type that is written before it.
+///
+/// ```
+/// TypedConst { ty: word, value: seven } // `i32 7`, by the ids of the two
+/// ```
 #[derive(Clone, Copy)]
 pub struct TypedConst {
     pub ty: TypeId,

@@ -53,6 +53,12 @@ pub enum AliasType {
 }
 
 /// A further name of a variable or function (LangRef, "Aliases").
+///
+/// ```
+/// // `@b = alias i32, ptr @a`, where `a` is the id of that variable.
+/// let target = Some(GlobalId::Variable(a));
+/// Alias { name, linkage: Linkage::External, ty: AliasType::Plain(word), target }
+/// ```
 #[derive(Drop)]
 pub struct Alias {
     pub name: Name,

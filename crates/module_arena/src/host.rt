@@ -127,6 +127,12 @@ fn fixed_row(name: &[u8]) -> Option<HostRow>
 }
 
 /// The row with that name, and None exactly where no row has the name.
+///
+/// ```
+/// host_row(b"puts") // Some(HostRow::Puts)
+/// host_row(b"llvm.ctpop.i32") // Some(HostRow::Integer(Intrinsic::Ctpop, 32))
+/// host_row(b"open") // None
+/// ```
 pub fn host_row(name: &[u8]) -> Option<HostRow>
     ensures { result ≡ host_row name.now }
 {

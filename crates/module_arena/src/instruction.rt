@@ -30,6 +30,10 @@ pub struct Operand {
 pub type OperandList = ItemList<Operand>;
 
 /// A value of a phi, and the block that it comes from.
+///
+/// ```
+/// Incoming { value: Value::Known(seven), block: BlockId::new(0) } // `[ 7, %entry ]`
+/// ```
 #[derive(Clone, Copy)]
 pub struct Incoming {
     pub value: Value,
@@ -67,6 +71,12 @@ pub struct Signature {
 }
 
 /// The parts of a `call`.
+///
+/// ```
+/// // `call void @free(ptr %p)`, where `free` is the id of that address as a constant.
+/// let signature = Signature { returns: void, parameters, variadic: false };
+/// Call { result: None, signature, callee: Value::Known(free), arguments }
+/// ```
 #[derive(Drop)]
 pub struct Call {
     /// There where the call has a name or number.
@@ -78,6 +88,13 @@ pub struct Call {
 
 /// An instruction that does not end a block (LangRef, "Instruction Reference"), one variant a phrase, with the
 /// parts of the phrase in their order. `result` is the value that it defines. It takes at most 64 bytes.
+///
+/// ```
+/// // `%1 = add nsw i32 %0, 7`, where `word` is the id of `i32` and `seven` that of the constant 7.
+/// let left = Operand { ty: word, value: Value::Local(ValueId::new(0)) };
+/// let flags = Flags::empty().with(Flag::Nsw);
+/// Inst::Binary(Opcode::Add, flags, ValueId::new(1), left, Value::Known(seven))
+/// ```
 #[derive(Drop)]
 pub enum Inst {
     /// An operation on two operands of one type.
@@ -109,6 +126,10 @@ pub enum Inst {
 }
 
 /// A case of a `switch`, and where it goes.
+///
+/// ```
+/// Case { ty: word, value: seven, target: BlockId::new(1) } // `i32 7, label %b`, where that is the second block
+/// ```
 #[derive(Clone, Copy)]
 pub struct Case {
     pub ty: TypeId,
@@ -120,6 +141,11 @@ pub struct Case {
 pub type CaseList = ItemList<Case>;
 
 /// How a block ends (LangRef, "Terminator Instructions"), one variant a phrase.
+///
+/// ```
+/// Ending::Return(operand) // `ret i32 %x`, where that is the operand
+/// Ending::Branch(condition, BlockId::new(1), BlockId::new(2)) // `br i1 %c, label %yes, label %no`
+/// ```
 #[derive(Drop)]
 pub enum Ending {
     /// `ret void`

@@ -8,6 +8,11 @@ use std::hash::{Hash, Hasher};
 use std::marker::Model;
 
 /// The number of a type in its table, counted from 0 in the order of making.
+///
+/// ```
+/// let first = TypeId::new(0); // the type that was added first
+/// first.number() // 0
+/// ```
 #[derive(Clone, Copy)]
 pub struct TypeId {
     number: u64,
