@@ -29,7 +29,7 @@ pub enum HostRow {
     Abort,
     /// `malloc`: makes a block of the heap.
     Malloc,
-    /// `free`: ends a block of the heap.
+    /// `free`: ends a block that `malloc` gave, and does nothing at the address 0.
     Free,
     /// `memcpy`: copies bytes from a place to another, which do not overlap.
     Memcpy,
