@@ -5,6 +5,15 @@
 //! constant that is kept is the one that is read, and that the least rule that is broken is kept. Constants that are used
 //! again soon are kept once, so that short operands take no room of their own. Definitions: `Fields` and `Constants` of
 //! `record_table`, and `specs/`.
+//!
+//! ```
+//! has_parts(types, Some(pair), 2) // true, where `pair` is `{ i32, ptr }`
+//! part_at(types, Some(pair), 1) // Some(id) of `ptr`
+//! part_at(types, Some(pair), 2) // None
+//!
+//! // where the types are `i32` and `ptr`, and the operand in front is 1
+//! read_type(&mut m) // Some(id) of `ptr`; behind an operand of 2 it would be None, and rule 2 broken
+//! ```
 #![tactic(auto)]
 
 mod counts;

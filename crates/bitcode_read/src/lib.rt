@@ -4,6 +4,12 @@
 //! module that the bytes spell, which is well formed, or why they spell none: the container is judged whole first, and then
 //! the records in order, each by the least rule that it breaks. It holds no tree and no list of operands. Definitions:
 //! `Records` of `record_table`.
+//!
+//! ```
+//! // of the bytes that `bitcode_write` writes of `define void @f() { ret void }`
+//! read(alloc, bytes)? // an arena with that function
+//! // of no bytes it is refused, since they do not begin as a stream of bitcode does
+//! ```
 #![tactic(auto)]
 
 mod blocks;

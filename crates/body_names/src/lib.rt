@@ -3,6 +3,12 @@
 //! It stands on `record_read`. It promises that each name that is read is new exactly where the rule on names holds, and that
 //! a name that passes the end of the string table is told apart from others. Definitions: `Bodies` of `record_table`, and
 //! `specs/Called`.
+//!
+//! ```
+//! let mut names = Names::new(alloc);
+//! names.call(alloc, Some(&name))? // true
+//! names.call(alloc, Some(&name))? // false: something is called so already
+//! ```
 #![tactic(auto)]
 
 mod called;

@@ -1,4 +1,4 @@
--- For the records of a body: a body in the making, and what each record adds to it.
+-- For `read_parameters`, `read_block`, `read_line` and `read_end`: a body in the making, and what each record of a body adds to it.
 use Rattle.std.specs.Prelude.{◌≡◌, ◌+◌, ℕ, suc, true, false, List, [], ◌∷◌, ◌++◌, length, map, flat_map, All, Option, Some, None, Result, slice_index_or, option_to_list, OnOk, Bool}
 use Rattle.ir_tables.specs.declared.opcode.Opcode.{Opcode}
 use Rattle.type_table.specs.Types.{trees}

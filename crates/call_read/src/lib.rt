@@ -3,6 +3,13 @@
 //! It stands on `line_read` and `operand_read`. It promises that an instruction is the one that is read by the layout of its
 //! opcode, that its result is called as its record says, and that the least rule that is broken is kept. Definitions: `Lines`
 //! of `record_table`, and `specs/`.
+//!
+//! ```
+//! // where the operands are 0, 0, 1 and 7, and the first type is `i32`
+//! let line = read_instruction(&mut m, &texts, Opcode::Freeze, defined, 3)?;
+//! line.name // Some(LocalName::Numbered(3)): a label of 0 tells that there is no name
+//! line.instruction // Some(Inst::Freeze(defined, operand)): `freeze i32 7`
+//! ```
 #![tactic(auto)]
 
 mod arguments;

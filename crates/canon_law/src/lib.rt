@@ -3,6 +3,13 @@
 //! It stands on the canonical text of `canonical`, on its items, which are `canon_items`, and on the tokens and the phrases
 //! of `ir_lexer` and `ir_syntax`. It promises the laws that its calls name, of modules that canonical text can write.
 //! Definitions: `specs/Written` and `specs/Texts` say which modules those are, `specs/Laws` what the laws are.
+//!
+//! ```
+//! -- of the module m of `@x = global i8 7`
+//! canon m -- codes "@x = global i8 7\n"
+//! tokens_of (canon_pieces m) -- `@x`, `=`, `global`, `i8` and `7`: the tokens of that text
+//! canon_items m -- one Variable: the item that these tokens are, but for their places
+//! ```
 #![tactic(auto)]
 
 mod laws;

@@ -3,6 +3,13 @@
 //! It stands on the laws of `canon_law`, on the items of `canon_items` and on the module of items of `name_rules`. It
 //! promises the laws that its calls name. Definitions: `specs/Exact` says what a module keeps so that its canonical items
 //! stand for it, `specs/Laws` what the laws are.
+//!
+//! ```
+//! IsExact (int 8) (Integer 255) -- holds, since 255 < 2 ^ 8
+//! IsExact (int 8) (Integer 256) -- does not hold
+//! -- of the module m of `@x = global i8 7`, which is an IsExactModule
+//! module_of_items (canon_items m) -- m
+//! ```
 #![tactic(auto)]
 
 mod laws;

@@ -3,6 +3,12 @@
 //! It stands on the laws of `canon_law` and `canon_module`, on what items ask for in `name_rules`, and on `IsWellFormed` and
 //! `IsValid` of `module_arena`. It promises the laws that its calls name. Definitions: `specs/Laws`. `proofs/Rows` has a worked
 //! example.
+//!
+//! ```
+//! -- of the module m of `@x = global i8 7`
+//! canon m -- codes "@x = global i8 7\n"
+//! Reads (canon m) n -- holds of m, and of no other n
+//! ```
 #![tactic(auto)]
 
 mod laws;

@@ -8,19 +8,28 @@ use crate::Tool;
 /// An option without a value.
 #[derive(Clone, Copy)]
 pub(crate) enum Flag {
+    /// `-S`: text is written in the place of bitcode.
     Text,
+    /// `--delete`: what is selected is left out, and all else kept.
     Delete,
+    /// `--recursive`: what is selected is kept, and the functions that it calls.
     Recursive,
+    /// `--dump`: blocks, definitions and records are told, and not only counted.
     Dump,
 }
 
 /// An option with a value.
 #[derive(Clone, Copy)]
 pub(crate) enum Setting {
+    /// `-o`: where the output goes.
     Output,
+    /// `--func`: a function that is selected.
     Function,
+    /// `--glob`: a variable that is selected.
     Variable,
+    /// `--alias`: an alias that is selected.
     Alias,
+    /// `--max-steps`: how many steps a run may make.
     MaxSteps,
 }
 
@@ -35,7 +44,9 @@ pub(crate) enum Spelling<'w> {
     Full(Setting, &'w [u8]),
     /// An option whose value is the next word.
     Open(Setting),
+    /// A word behind dashes that is no option of the tool, or an option with a value that takes none.
     Unknown,
+    /// The name of an input, or the dash of standard input.
     Input,
 }
 

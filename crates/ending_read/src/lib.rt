@@ -3,6 +3,13 @@
 //! It stands on `operand_read`. It promises that an end is the one that is read by the layout of its opcode, that it stays so
 //! while constants are added, and that the least rule that is broken is kept. Definitions: `Lines` of `record_table`, and
 //! `specs/Ends`.
+//!
+//! ```
+//! is_end(Opcode::Ret) // true
+//! is_end(Opcode::Add) // false
+//! // where the one operand is 0
+//! read_ending(&mut m, Opcode::Ret)? // Some(Ending::ReturnVoid)
+//! ```
 #![tactic(auto)]
 
 mod branch;

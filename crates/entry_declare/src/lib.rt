@@ -3,6 +3,12 @@
 //! It stands on `entry_fates`, on `entry_copy`, by whose new ids types are known, and on `type_build`. It promises that exactly
 //! what the variables become is declared, in their order, none of it initialised yet, and which ids they have. Definitions:
 //! `specs/Stages`, the module as far as it is made, and `specs/Declaring`, what is known of names and of new ids.
+//!
+//! ```
+//! // of `@a = global i32 7`, which is kept, and `@b = global i32 8`, which is not and which nothing kept names
+//! let ids = declare_variables(&copier, alloc, arena, &mut into, &fates.variables)?;
+//! // Some(id) and None: the new arena has `@a`, a variable of the type `i32` without an initialiser so far
+//! ```
 #![tactic(auto)]
 
 mod adding;

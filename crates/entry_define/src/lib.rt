@@ -4,6 +4,12 @@
 //! entries are known, and on `type_build`. It promises that exactly the initialisers and bodies of what the entries become are
 //! set, and that what is copied stays so. Definitions: `specs/Filling`, the module as far as it is made, and `specs/Naming`, what
 //! definitions name.
+//!
+//! ```
+//! // where `@a = global i32 7` and `define void @g() { ret void }` are kept, and declared in the new arena
+//! initialise_variables(&copier, alloc, arena, &mut into, &fates.variables)?; // now it has `@a = global i32 7`
+//! define_functions(&copier, alloc, arena, &mut into, &fates.functions)?; // and `define void @g() { ret void }`
+//! ```
 #![tactic(auto)]
 
 mod defining;

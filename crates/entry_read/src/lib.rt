@@ -2,6 +2,12 @@
 //!
 //! It stands on `head_read` and `constant_read`. It promises for each record what the entry holds that it stands for, or the
 //! least rule that it breaks. Definitions: `Records` of `record_table`, and `specs/Entries`.
+//!
+//! ```
+//! // of the bitcode of `@a = global i32 7` and `declare void @f()`, in an arena that has both
+//! read_variable(&mut m, &texts, 0, true)? // Some(id): the constant 7
+//! read_function(&mut m, &texts, 0, true)? // false: it has no body
+//! ```
 #![tactic(auto)]
 
 mod ending;

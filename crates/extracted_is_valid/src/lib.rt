@@ -2,6 +2,11 @@
 //!
 //! It stands on `module_arena` and on the definitions of `extract_core`. It promises that laws of extraction hold for every
 //! module and every selection: well-formedness, validity and the sizes of functions are kept. Definitions: `specs/Laws`.
+//!
+//! ```
+//! -- of `define void @f() { ret void }` and `define void @g() { call void @f() ret void }`, where `@g` is selected
+//! Extracted m s -- `declare void @f()` and `define void @g() { call void @f() ret void }`, well formed and valid
+//! ```
 #![tactic(auto)]
 
 ghost use Rattle.extracted_is_valid.specs.Laws.{ExtractedIsWellFormed, ExtractedIsValid, ExtractedIsSmall};

@@ -3,6 +3,13 @@
 //! It stands on `record_read` and `type_read`. It promises that what stands in front in such a record is read by its layout,
 //! with the least rule that it breaks, and how many entries and which structs a module's block has. Definitions: `Records` of
 //! `record_table`, and `specs/`.
+//!
+//! ```
+//! find_module(&mut reader)? // true: the reader stands in the module's block now; of a stream without one false
+//!
+//! // of the bitcode of `@a = global i32 7` and `define void @f() { ret void }`
+//! let ahead = look_ahead(alloc, bytes, &texts)?; // ahead.counts: one variable, one function and no alias
+//! ```
 #![tactic(auto)]
 
 mod ahead;

@@ -1,4 +1,4 @@
--- For `put_piece`: how far a pattern is written.
+-- Says how the code reads: how far a pattern of `printf` is written.
 use Rattle.std.specs.Prelude.{◌≡◌, ℕ, ◌<◌, ◌≤◌, List, drop, length, map, Option, Some, None, Result, Ok}
 use Rattle.ir_eval.specs.declared.value.Scalar.{Scalar}
 use Rattle.ir_memory.specs.Memory.{Blocks}

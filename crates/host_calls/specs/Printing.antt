@@ -1,4 +1,4 @@
--- For `put_argument`, `put_conversion` and `print`: the arguments of `printf`, by their leaves.
+-- Says how the code reads: the arguments of `printf`, by their leaves.
 use Rattle.std.specs.Prelude.{◌≡◌, ℕ, ◌≤◌, ⊤, Bool, true, false, List, [], ◌∷◌, drop, length, map, Option, Some, None, Result, Ok}
 use Rattle.std.specs.Result.{IsErr}
 use Rattle.ir_eval.specs.declared.value.Scalar.{Scalar}

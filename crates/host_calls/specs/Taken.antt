@@ -1,4 +1,4 @@
--- For `carry_out`, `copy_bytes` and `fill_bytes`: the arguments that a host function looks at, and what copies and fills give.
+-- Says how the code reads: the arguments that a host function looks at, and what copies and fills give.
 use Rattle.std.specs.Prelude.{ℕ, ◌^◌, ◌<◌, ⊤, List, [], ◌∷◌, None}
 use Rattle.std.specs.List.{AllZip}
 use Rattle.ir_eval.specs.declared.value.Pointer.{Pointer}

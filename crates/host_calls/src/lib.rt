@@ -3,6 +3,12 @@
 //! It stands on `run_host`, which has the host functions one by one, on `ir_printf`, and on the definitions of `run_rules`. It promises
 //! that a call by one of the row's types answers as `host` says: the result, memory, the bytes that are written, the byte that is
 //! asked for, and how the run ends. Definitions: `specs/Made`, `Taken`, `Printing`; `Host`, `Printing` of `run_rules`.
+//!
+//! ```
+//! let kinds = [Some(Leaf::Int(32))];
+//! call(alloc, HostRow::Putchar, &kinds, &[Scalar::Int(353)], &mut memory, &mut written)?
+//! // Answer::Gives(Some(outcome)): outcome.first is Scalar::Int(97), and `a` was added to `written`
+//! ```
 #![tactic(auto)]
 
 mod argument;

@@ -3,6 +3,13 @@
 //! It stands on the phrases of `phrase_printer`. It promises that what is put is the phrase of the instruction or end, and nothing else.
 //! Nothing takes memory. Definitions: `canonical/specs/Instructions`; `specs/Named` (operands), `specs/Parts` (what instructions do)
 //! and `specs/Lines`.
+//!
+//! ```
+//! let mut out = Gathered::new();
+//! put_instruction(&mut out, &mut sink, arena, function, inst, Separator::Indented); // `%b = add i32 %a, 7`
+//! put_ending(&mut out, &mut sink, arena, function, ending, Separator::Line); // `ret i32 %b`
+//! out.finish(&mut sink)?; // now the sink has both: a line feed and two spaces between them, and a line feed behind
+//! ```
 #![tactic(auto)]
 
 mod alignment;

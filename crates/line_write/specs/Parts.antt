@@ -1,4 +1,4 @@
--- For the functions that put parts of instructions: the operands of those parts, as the layouts of the opcodes spell them.
+-- Says how the code reads: the operands of the parts of instructions and ends, as the layouts of the opcodes spell them.
 use Rattle.std.specs.Prelude.{ℕ, List, [], ◌∷◌, ◌++◌, map, Option, Some, None}
 use Rattle.std.specs.Option.{option_map}
 use Rattle.ir_tables.specs.Predicate.{predicate_code}

@@ -2,6 +2,11 @@
 //!
 //! It stands on the operands of `operand_write`. It promises that what is appended is what the layout of the line's opcode spells; only want of memory
 //! refuses it. Definitions: `Lines` and `Standing` of `record_table`, and `specs/Ids`, `specs/Lines`, `specs/Parts`.
+//!
+//! ```
+//! ending_opcode(&Ending::ReturnVoid) // Opcode::Ret
+//! put_ending(&mut operands, &numbering, &Ending::ReturnVoid)?; // adds 0: no value is returned
+//! ```
 #![tactic(auto)]
 
 mod call;

@@ -4,6 +4,13 @@
 //! It stands on the definitions of `module_linker` and the symbols and extents of `linkage_rules` and `linked_symbols`. It
 //! promises that exactly the first count past its limit is told, in the order structs, variables, functions, aliases, appended
 //! bytes. It takes no memory. Definitions: `Counts` of `module_linker`, and `specs/Told`.
+//!
+//! ```
+//! // of the parts `declare void @f()` and `define void @f() { ret void }`
+//! let counts = count_symbols(parts, &bindings); // SymbolCounts { variables: 0, functions: 1, aliases: 0 }
+//! too_many(parts, &bindings, 0) // None
+//! too_many_entries(262_145, counts) // Some(Count { kind: CountKind::Structs, number: 262_145 })
+//! ```
 #![tactic(auto)]
 
 mod appended;

@@ -5,6 +5,12 @@
 //! `linkage_rules`. It promises that exactly the entries of the linked module are declared, and which ids they have. Definitions:
 //! `specs/Definitions`, what is declared of a symbol, `specs/Room` and `specs/Step`, that there is room for it and that it is
 //! there; the module while it is made: `specs/Declared` of `link_stages`.
+//!
+//! ```
+//! // of the parts `declare void @f()` and `define void @f() { ret void }`
+//! let ids = declare_symbols(&copiers, alloc, parts, &bindings, &mut into, &names)?;
+//! // one id: that of `declare void @f()`, which is all that is there so far
+//! ```
 #![tactic(auto)]
 
 mod adding;

@@ -5,6 +5,12 @@
 //! exactly the texts and the structs of the linked one, that each type of each part is copied under the new names, and that
 //! only memory may be wanting. Definitions: `specs/Making`, `Ground` and `Parts` of `link_stages`, and `Linked` of
 //! `module_linker`.
+//!
+//! ```
+//! let rows = struct_rows(alloc, parts)?;
+//! let mut into = Builder::new(alloc);
+//! let copiers = copy_ground(alloc, parts, &rows, &mut into)?; // one a part, which knows the new ids of the part's types
+//! ```
 #![tactic(auto)]
 
 mod ground;

@@ -3,6 +3,13 @@
 //! It stands on the definitions of `module_linker` and on the builder of `type_build`. It promises that in an arena in which
 //! nothing was the module has then exactly the texts and the struct names of the linked one, and nothing else.
 //! Definitions: `specs/Head`, and `Linked` and `Structs` of `module_linker`.
+//!
+//! ```
+//! // of two parts with `%T = type { i32 }` each
+//! let rows = struct_rows(alloc, parts)?;
+//! let mut into = Builder::new(alloc);
+//! set_head(alloc, parts, &rows.names, &mut into)?; // one struct, `%T`, which has no body yet; the texts of the first that has them
+//! ```
 #![tactic(auto)]
 
 mod head;

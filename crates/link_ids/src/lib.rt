@@ -3,6 +3,12 @@
 //! It stands on the symbols of `linkage_rules`, on the copiers of `entry_copy`, one a part, and on the stages of `link_stages`. It
 //! promises that each entry of each part gets as its new id that of its symbol's entry, and that all constants of all parts are
 //! copied then. Definitions: `specs/Others`, `NewIds` and `Copied` of `link_stages`; for the code `specs/Filing`, `specs/Constants`.
+//!
+//! ```
+//! // of the parts `declare void @f()` and `define void @f() { ret void }`, whose one symbol has the id `ids.at(0)`
+//! set_new_ids(&mut copiers, alloc, parts, &bindings, &ids)?; // each part's `@f` is that entry now
+//! copy_constants(&mut copiers, alloc, parts, &mut into)?; // so constants that name it can be copied
+//! ```
 #![tactic(auto)]
 
 mod constants;

@@ -5,6 +5,11 @@
 //! the part is copied under the new names, that each of its structs has then the body of the linked module, that what was copied
 //! before stays copied, and that only memory may be wanting. Definitions: `specs/Bodies`, `specs/Named`, and `Linked` and
 //! `Structs` of `module_linker`.
+//!
+//! ```
+//! // of the first part with `%T = type { i32 }`, where the new arena has a struct `%T.1` for it, without a body so far
+//! copy_part(&mut copier, alloc, part.arena(), &mut into)?; // now it has the type `i32`, and `%T.1 = type { i32 }`
+//! ```
 #![tactic(auto)]
 
 mod part;

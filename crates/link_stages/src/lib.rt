@@ -4,4 +4,12 @@
 //! It stands on the linked module of `module_linker` and on the copiers of `entry_copy`, one a part. It has definitions alone: `specs/Parts` says
 //! which parts can be linked, `specs/Ground` what stands before the entries, `specs/Declared` and `specs/NewIds` what the entries
 //! are, `specs/Copied` and `specs/Filled` what defines them.
+//!
+//! ```
+//! -- of the parts `declare void @f()` and `define void @f() { ret void }`
+//! ground parts -- a module without entries
+//! declared parts -- `declare void @f()`
+//! ids_of parts -- Function 0 ∷ []
+//! filled_to 1 parts -- `define void @f() { ret void }`, which is `link_result parts`
+//! ```
 #![tactic(auto)]

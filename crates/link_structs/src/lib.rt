@@ -5,6 +5,15 @@
 //! of its own shape, with its name and those of the structs in it, so structs of any parts are one in the linked module
 //! exactly where their numbers are equal. Each type and each struct of a part is looked at once.
 //! Definitions: `specs/Shapes`, `specs/Walked`, and `Shape` of `type_table`.
+//!
+//! ```
+//! // of two parts with `%T = type { i32 }` each
+//! let mut shapes = ShapeSet::new(alloc);
+//! let mut walk = Walk::new(alloc, first)?;
+//! let mut other_walk = Walk::new(alloc, second)?;
+//! walk.struct_number(alloc, first, &mut shapes, id)? // the number of that shape in the set
+//! other_walk.struct_number(alloc, second, &mut shapes, other_id)? // the same: these are one struct of the linked module
+//! ```
 #![tactic(auto)]
 
 mod walk;

@@ -1,4 +1,4 @@
--- For conflicts of appended arrays: the types of their elements.
+-- For `element_of`: the types of the elements of appended arrays, by which they conflict.
 use Rattle.std.specs.Prelude.{◌≡◌, ℕ, ◌<◌, length, slice_get, Some}
 use Rattle.type_table.specs.declared.ir_type.IrType.{IrType}
 use Rattle.type_table.specs.declared.ir_type.IrType.TheVariants.{Int, Ptr, Void, Array, Struct, Named}

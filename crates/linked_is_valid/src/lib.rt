@@ -2,6 +2,13 @@
 //!
 //! It stands on `module_arena` and on the definitions of `module_linker`. It promises that laws of linking hold for all parts that can
 //! be linked: validity is kept, where no count is passed well-formedness, and the sizes of functions. Definitions: `specs/Laws`.
+//!
+//! ```
+//! -- of the parts `declare void @f()` and `define void @f() { ret void }`, which can be linked (`AreLinkable`)
+//! first_conflict parts -- None
+//! link_result parts -- `define void @f() { ret void }`, which is well formed and valid
+//! -- where both parts define `@f` they have a conflict, and nothing is promised
+//! ```
 #![tactic(auto)]
 
 mod law;

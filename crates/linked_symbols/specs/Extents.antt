@@ -1,4 +1,4 @@
--- For the private functions: the types of definitions in numbers.
+-- Says how the code reads: the types of definitions in numbers.
 use Rattle.std.specs.Prelude.{ℕ, ◌&&◌, List, Option, Some, None, if◌then◌else◌}
 use Rattle.type_table.specs.declared.ir_type.IrType.{IrType}
 use Rattle.type_table.specs.declared.ir_type.IrType.TheVariants.{Int, Ptr, Void, Array, Struct, Named}

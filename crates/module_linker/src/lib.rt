@@ -5,6 +5,14 @@
 //! parts without a conflict is carried over with its definition and its meaning, and that such a part alone stays as it is if it has
 //! no `available_externally` definition and no appending `zeroinitializer`.
 //! Definitions: `specs/Rename`, `Structs`, `Linked`, `Counts`; of what is promised `Carried`, `Known`, `Merges`, `Alone`, `Laws`.
+//!
+//! ```
+//! fresh (codes "v" ∷ codes "v.1" ∷ []) (codes "v") -- `v.2`
+//! -- of two parts, `@v = internal global i32 1` and `@v = internal global i32 2`
+//! new_name_of parts (Local 0 (codes "v")) -- `v`
+//! new_name_of parts (Local 1 (codes "v")) -- `v.1`
+//! link_result parts -- `@v = internal global i32 1` and `@v.1 = internal global i32 2`
+//! ```
 #![tactic(auto)]
 
 mod law;

@@ -3,6 +3,13 @@
 //!
 //! It stands on `record_read`. It promises for each of these records what it stands for, or the least rule that it breaks, and
 //! that a block is over exactly where nothing of it is missing. Definitions: `Records` of `record_table`, and `specs/`.
+//!
+//! ```
+//! Part::Version.place() // 1
+//! Part::Version.may_follow(0) // true: it stands first
+//! Part::Source.may_follow(0) // false
+//! next_due(&[true, false, true], 1) // Some(2): the body of function 0 came, and function 1 has none
+//! ```
 #![tactic(auto)]
 
 mod due;

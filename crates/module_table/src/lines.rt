@@ -35,9 +35,13 @@ fn byte_of(high: u8, low: u8) -> u8 {
 // How far an escape has been read.
 #[derive(Clone, Copy)]
 enum Escape {
+    /// None has begun.
     Outside,
+    /// Its backslash.
     Begun,
+    /// Its backslash and the `x` before two digits.
     Digits,
+    /// All but its last digit; the first is this.
     LastDigit(u8),
 }
 

@@ -51,8 +51,11 @@ use validity::print_validity;
 /// What is asked of a case.
 #[derive(Clone, Copy)]
 enum Question {
+    /// The canonical text of a module.
     Canonical,
+    /// Whether a module is valid.
     Valid,
+    /// The answers about modules that are linked.
     Linked,
 }
 

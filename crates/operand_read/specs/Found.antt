@@ -1,4 +1,4 @@
--- For all calls that read operands of lines: what is found, that the arena has it, and what it is.
+-- For `read_value`, `read_operand`, `read_operands` and `read_types`: what is found, that the arena has it, and what it is.
 use Rattle.std.specs.Prelude.{◌≡◌, ◌<◌, ℕ, false, List, length, map, All, ⊤, Option, Some, None}
 use Rattle.std.specs.Option.{option_map}
 use Rattle.type_table.specs.Tree.{Tree}

@@ -3,6 +3,13 @@
 //! It stands on `constant_read`. It promises that what is found is what the operands in front stand for, that it stays so
 //! while constants are added, and that the least rule that is broken is kept. Definitions: `Lines` of `record_table`, and
 //! `specs/Found`.
+//!
+//! ```
+//! // where the operands in front are 0, 1 and 7, and the first type is `i32`
+//! read_operand(&mut m)? // Some(operand): `i32 7`
+//! // where they are 2, 0, 1, 7, 0, 1 and 8
+//! read_operands(&mut m)? // Some(operands): `i32 7` and `i32 8`
+//! ```
 #![tactic(auto)]
 
 mod operands;

@@ -2,6 +2,13 @@
 //!
 //! It stands on `record_table` (layouts) and `record_order` (indices). It promises that what is appended is what the layout spells; only want of memory
 //! refuses it. Definitions: `Fields`, `Constants` and `Standing` of `record_table`, and `specs/Numbered`, `specs/Wide`.
+//!
+//! ```
+//! let mut operands = Vec::new(alloc);
+//! put_number(&mut operands, 7)?; // adds 7
+//! put_alignment(&mut operands, Some(8))?; // adds 4: 8 is the third power of two, and 0 tells that none is stated
+//! put_indices(&mut operands, &[5, 6])?; // adds 2, 5 and 6
+//! ```
 #![tactic(auto)]
 
 mod constants;

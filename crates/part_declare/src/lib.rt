@@ -4,6 +4,12 @@
 //! It stands on `entry_declare`, which declares the variables, on `entry_copy`, by whose new ids types are known, and on
 //! `type_build`. It promises that exactly what the entries become is declared, in their order, none of it defined yet, and which
 //! ids they have. Definitions: `specs/FunctionsThere` and `specs/AliasesThere`, the module as far as it is made.
+//!
+//! ```
+//! // of `define void @f() { ret void }` and `define void @g() { call void @f() ret void }`, of which `@g` is kept
+//! let ids = declare_functions(&copier, alloc, arena, &mut into, &fates.functions)?;
+//! // two ids: the new arena has `declare void @f()`, and `declare void @g()`, whose body is not set yet
+//! ```
 #![tactic(auto)]
 
 mod adding;

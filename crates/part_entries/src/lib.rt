@@ -4,6 +4,12 @@
 //! It stands on `entry_declare` and `part_declare`, which declare entries, on `entry_copy` and `struct_copy`, by whose new ids
 //! types and structs are known, and on `type_build`. It promises that exactly what the entries become is declared, none of it
 //! defined yet, and which ids they have. Definitions: `specs/Stages`, the module as far as it is made, and `specs/NewIds`.
+//!
+//! ```
+//! let mut into = Builder::new(alloc);
+//! copy_ground(&mut copier, alloc, arena, &mut into)?; // the texts, the structs and the types
+//! declare_entries(&mut copier, alloc, arena, &mut into, &fates)?; // the entries, whose new ids the copier knows now
+//! ```
 #![tactic(auto)]
 
 mod declaring;

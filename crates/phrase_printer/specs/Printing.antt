@@ -1,4 +1,5 @@
--- For the printer: what it is to put pieces of canonical text, and the pieces that stand round the parts of a list.
+-- For `put_type`, `put_global` and the other calls that put phrases: what it is to put pieces of canonical text, and the pieces that
+-- stand round the parts of a list.
 use Rattle.std.specs.Prelude.{List, [], ◌++◌, ℕ, zero, suc, Bool, true, false, codes}
 use Rattle.gathered.specs.Told.{State, Tells}
 use Rattle.ir_lexer.specs.Pieces.{Piece, Separator, Nothing, Space, Line, Indented, pieces_text}

@@ -2,6 +2,12 @@
 //!
 //! It stands on the laws of `record_types` and `record_law`. It promises that such a module fits, and so is what the tree that is written of it
 //! stands for. Definitions: `ModuleFits` of `record_law`, and `specs/Laws` what the laws are.
+//!
+//! ```
+//! -- of `define void @f() { ret void }`, as of each module that is well formed and valid
+//! ModuleFits m -- holds
+//! StandFor (tree_of begun (written_module m)) m -- and so this does
+//! ```
 #![tactic(auto)]
 
 mod laws;

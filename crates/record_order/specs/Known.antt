@@ -1,4 +1,4 @@
--- For the functions that go through a module: when the ids of an instruction are those of the arena.
+-- Says how the code reads: when the ids of an instruction are those of the arena.
 use Rattle.std.specs.Prelude.{All, ⊤, Option, Some, None}
 use Rattle.module_arena.specs.declared.entry.Block.{Block}
 use Rattle.module_arena.specs.declared.instruction.Call.{Call}

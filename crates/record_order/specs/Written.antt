@@ -1,4 +1,4 @@
--- For the functions that go through a module: the types that its parts write, by the ids of an arena.
+-- Says how the code reads: the types that the parts of a module write, by the ids of an arena.
 use Rattle.std.specs.Prelude.{◌≡◌, ℕ, ◌<◌, true, false, List, [], ◌∷◌, ◌++◌, length, map, flat_map, ⊤, Option, Some, None, slice_index_or}
 use Rattle.std.specs.List.{fold}
 use Rattle.type_table.specs.Tree.{Tree}

@@ -1,5 +1,5 @@
--- For each function of the crate: what the definition says of an action of the newest frame, whatever addresses have, whatever is due
--- and whatever memory holds.
+-- For `compute`, `compare`, `convert`, `select`, `freeze`, `gather` and the ways (`jump`, `branch`, `switch`, `unreachable`): what the
+-- definition says of an action of the newest frame, whatever addresses have, whatever is due and whatever memory holds.
 use Rattle.std.specs.Prelude.{◌≡◌, ℕ, List, [], Result, Ok, Err}
 use Rattle.ir_tables.specs.declared.undefined_kind.UndefinedKind.{UndefinedKind}
 use Rattle.ir_memory.specs.Memory.{Blocks}

@@ -6,6 +6,11 @@
 //! of its action says, whatever is due; and that memory is wanted by none but the actions that may. Want of memory in `call_address` leaves
 //! frames from which no run goes on; in `call_due` and `return_value` they are as they were. Definitions: `specs/Acting`, `specs/Made`,
 //! `specs/Said`, `specs/Dues`; `Act`, `Wants`, `Calls`, `Due` of `run_rules`.
+//!
+//! ```
+//! // where the newest frame, the only one, is that of main, and stands at `ret i32 3`
+//! act(&mut program, &mut stack, &mut memory, true, &mut room)? // Next::Stops(Stop::Exit(3))
+//! ```
 #![tactic(auto)]
 
 mod address;

@@ -2,6 +2,13 @@
 //!
 //! It stands on the pools of `run_flat`. It promises that the action at each place of a block is the one that was put there, that all it
 //! points to is there, and that no edge sets more leaves than is told. Definitions: `specs/Bodies`; `Flat` of `run_flat`.
+//!
+//! ```
+//! // of `define void @f() { ret void }`
+//! let body = Body::new(program, pools, actions, rows);
+//! body.action(0, 0) // Action::Return { value }, with an empty span
+//! body.widest() // 0: there is no edge
+//! ```
 #![tactic(auto)]
 
 mod body;

@@ -15,6 +15,7 @@ use type_table::{TypeId, TypeTable};
 pub enum Fill {
     /// The number 0, or null.
     Zero,
+    /// Poison, of integers and pointers alike.
     Poison,
 }
 

@@ -4,6 +4,12 @@
 //! promises, for each constant that stands as those of a checked module do, exactly the leaves that the definition of constants gives:
 //! a constant of one leaf without memory, and no other answer than those leaves but want of memory; and that each constant of a checked
 //! module stands so. Definitions: `specs/Sound`, `Laws`, `Filled`, `Places`; `Constant`, `Displace` of `run_rules`.
+//!
+//! ```
+//! leaf_of(&names, ty, id) // of `i32 7` Scalar::Int(7), of `i32 undef` Scalar::Int(0)
+//! push_leaves(&names, ty, id, &mut leaves)?; // of `[2 x i8] c"ab"` Scalar::Int(97) and Scalar::Int(98)
+//! leaf_in(Fill::Poison, Leaf::Ptr) // Scalar::Poison
+//! ```
 #![tactic(auto)]
 
 mod arena;

@@ -3,6 +3,14 @@
 //! It stands on the names of `run_names`, the constants that `run_initial` puts, and `ir_memory`. It promises, for a checked module run
 //! alone, exactly the blocks and the contents that the definition of opening gives; it is refused for want of memory alone. Definitions:
 //! `specs/Placed`, `specs/Held`; `Opening` and `Plan` of `run_rules`.
+//!
+//! ```
+//! // of `@a = global i32 7`
+//! let names = names_of(alloc, &checked)?;
+//! let mut memory = Memory::new(alloc);
+//! place_variables(&mut memory, &names)? // true: `@a` has a block of 4 bytes
+//! put_contents(&names, &mut memory)?; // and 7 stands in it
+//! ```
 #![tactic(auto)]
 
 mod contents;

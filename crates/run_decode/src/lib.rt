@@ -4,6 +4,14 @@
 //! on the laws of `run_suits`. It promises that the action at each place of a function is exactly what look-up finds there in a run of the
 //! module alone, and that each call has the number of its function type. Definitions: `specs/Operations`, `specs/Calls`, `specs/Rows`;
 //! `Look`, `Resolve` of `run_rules`.
+//!
+//! ```
+//! // of `define void @f() { ret void }`
+//! let names = names_of(alloc, &checked)?;
+//! let mut signatures = Signatures::new(alloc, &checked);
+//! let body = decode(alloc, &names, &mut signatures, id)?;
+//! body.action(0, 0) // Action::Return { value }, with an empty span
+//! ```
 #![tactic(auto)]
 
 mod bodies;

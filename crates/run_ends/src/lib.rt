@@ -2,6 +2,11 @@
 //!
 //! It stands on the definitions of `run_rules`. It promises that no step of a run ends it for a name that is missing or for want of main:
 //! these are ends of opening alone. Definitions: `specs/Ends`, `specs/Laws`.
+//!
+//! ```
+//! IsOfRuns (Exit 3) -- holds, as it does of Undefined, StepsUsed, StackLimit and MemoryLimit
+//! IsOfRuns NoMain -- does not hold, and nor does it of Unresolved: with these a run ends on opening alone
+//! ```
 #![tactic(auto)]
 
 mod law;

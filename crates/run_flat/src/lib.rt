@@ -4,6 +4,13 @@
 //! It stands on the origins and moves of `run_stack`, the slots of `run_values`, and the ways, arms and parts of `run_actions`. It promises
 //! that pools only grow, so that what stands in them stands there still, and that an action takes at most 40 bytes. Definitions: `specs/Flat`,
 //! what a flat action is; `specs/Grown`, what stands where; `specs/Spans`.
+//!
+//! ```
+//! let mut pool = Pool::new(alloc);
+//! pool.push(Scalar::Int(7))? // 0
+//! let span = pool.append(&[Scalar::Int(8), Scalar::Poison])?; // Span { first: 1, count: 2 }
+//! pool.in_span(span) // Scalar::Int(8) and Scalar::Poison
+//! ```
 #![tactic(auto)]
 
 mod action;

@@ -4,6 +4,12 @@
 //! constant is what the definition of constants gives, leaf by leaf, but for integers that are 0: as those fresh memory reads already, so
 //! a value of zeros costs nothing. A store that is undefined is told as that; into a fresh block that is long enough there is none
 //! (`proofs/Fresh`). Definitions: `specs/Fresh`, `specs/Constants`; `Leaves`, `Constant` and `Access` of `run_rules`.
+//!
+//! ```
+//! // into a block of eight zeros
+//! let target = Target { block, offset: 4 };
+//! put_leaf(&mut memory, target, Leaf::Int(32), Scalar::Int(7))?; // now its bytes are 0, 0, 0, 0, 7, 0, 0 and 0
+//! ```
 #![tactic(auto)]
 
 mod constants;

@@ -3,6 +3,12 @@
 //! It stands on the clauses of `run_rules` and on the laws of `run_laws`. It promises that steps, each as the clause of `step` says,
 //! and a halt behind the last make a run as the clause of `run` says: its end, its output, and output before input.
 //! Definitions: `specs/Halts`, and `Clauses` and `RunClauses` of `run_rules`.
+//!
+//! ```
+//! // of a machine that has made no step, and whose tenth step is a call of `exit(3)`
+//! run(&mut machine, 100, &mut input, &mut output)? // End::Exit(3), which that step gives
+//! // with the bound 5 it would be End::StepsUsed, which `halt` gives
+//! ```
 #![tactic(auto)]
 
 mod stepping;

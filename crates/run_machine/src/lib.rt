@@ -8,6 +8,15 @@
 //! `Plays` of `run_played`. Definitions: `specs/Constructors`, `Arguments` and `Opens` of opening; `specs/Seen`, how a clause sees a machine,
 //! `Opened`, what opening gives, `Living`, what holds of a run that is not over, `Fresh`, what holds of one that was just opened; `Machine`,
 //! `Clauses`, `RunClauses`, `Opening` and `Plan` of `run_rules`.
+//!
+//! ```
+//! // of `define i32 @main() { ret i32 3 }`
+//! run_module(alloc, &checked, &words, 100, &mut input, &mut output)? // End::Exit(3)
+//!
+//! if let Opened::Ready(mut machine) = Machine::open(alloc, &checked, &words)? {
+//!     machine.step(&mut input, &mut output)? // Some(End::Exit(3))
+//! }
+//! ```
 #![tactic(auto)]
 
 mod arguments;

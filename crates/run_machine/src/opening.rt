@@ -25,7 +25,9 @@ use std::alloc::{AllocError, Global};
 /// A machine, or how the run ends before it has begun.
 #[derive(Drop)]
 pub enum Opened<'m> {
+    /// A machine before its first step, with its constructors and main due.
     Ready(Machine<'m>),
+    /// The run is over: a name is missing, there is no main, or too many bytes would live.
     Ended(End),
 }
 

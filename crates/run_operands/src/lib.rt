@@ -5,6 +5,12 @@
 //! part, way, term, arm, case and end that is put into the pools of a body is exactly what look-up makes of it in a run of the module alone, and that
 //! pools only grow. Definitions: `specs/Steps`, what one index leads over; `specs/Open`; `specs/Suits`, what the ids of a function name;
 //! `specs/Endings`; `Grown`, `Flat` of `run_flat`; `Scopes`, `Ways` of `run_scopes`; `Scope`, `Resolve`, `Displace` of `run_rules`.
+//!
+//! ```
+//! put_known(&mut pools, Scalar::Int(7))? // LeafAt::Known(0), where nothing was known before
+//! put_scalar(&scope, &mut pools, operand)? // of `i32 %a`, whose leaf stands at place 1 of a frame, LeafAt::Held(1)
+//! put_ending(&scope, &mut pools, from, &end)? // of `ret i32 %a` an Action::Return { value }: a span of one origin
+//! ```
 #![tactic(auto)]
 
 mod cases;

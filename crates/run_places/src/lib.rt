@@ -3,6 +3,12 @@
 //! It stands on the runs of `run_rules`, and on the validity of `module_arena`. It promises that a well-formed, valid module never
 //! gets stuck.
 //! Definitions: `specs/Places`, `specs/Bodies`; what is promised is `NeverStuck` of `run_rules`.
+//!
+//! ```
+//! -- of `define void @f() { ret void }`
+//! look (m ∷ []) 0 0 0 -- Return [], the instruction at the front of its block
+//! look (m ∷ []) 0 0 1 -- Stuck: a place to which no run comes
+//! ```
 #![tactic(auto)]
 
 mod law;

@@ -5,6 +5,14 @@
 //! bodies that `run_decode` makes. It promises that a call is told exactly the function type and the leaves that a function has, that a body
 //! that is there is what look-up finds in a run of the module alone, and stays there, and that function types are told apart as the
 //! definitions tell them apart. Definitions: `specs/Loaded`; `Look` and `Scope` of `run_rules`.
+//!
+//! ```
+//! // of a module whose one function is `define i32 @f(i32 %a) { ret i32 %a }`
+//! let mut program = Program::new(alloc, names)?;
+//! program.head(id)? // Head { signature: 0, leaves: 1 }
+//! program.prepare(id)? // 0: no edge sets a leaf
+//! program.body(0).action(0, 0) // an Action::Return
+//! ```
 #![tactic(auto)]
 
 mod leaves;

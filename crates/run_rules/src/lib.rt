@@ -3,6 +3,12 @@
 //! It stands on the symbols of `linkage_rules`, on the values of `ir_eval`, on the blocks of `ir_memory`, and for host functions on
 //! `ir_intrinsics` and `ir_printf`. It promises that a run depends on nothing but what look-up, table and opening find.
 //! Definitions: `specs/State`, `Action`, `Act`, `Look`, `Opening`, `Step`, `Side`; of a machine `Machine`, `Clauses`, `RunClauses`.
+//!
+//! ```
+//! -- of `define i32 @main() { ret i32 300 }`, without arguments and without input
+//! Side parts [] [] 1 -- record { output = []; end = Exit 44 }: the status is modulo 256
+//! Side parts [] [] 0 -- record { output = []; end = StepsUsed }
+//! ```
 #![tactic(auto)]
 
 mod end;

@@ -3,6 +3,16 @@
 //! It stands on the frames of `run_rules` and the leaves of `ir_eval`. It promises that each call makes of the newest frame what the
 //! definition of frames says, and that want of memory, which only a call or an alloca may have, leaves all frames as they were.
 //! Definitions: `specs/UnderWay`, what a clause sees; `specs/Origins`, the leaves of an action; `specs/Pool`, how frames lie.
+//!
+//! ```
+//! let mut stack = Stack::new(alloc);
+//! stack.enter(0, 2, &[Scalar::Int(7)], 5, 0)? // true: a frame of two leaves begins, the first of which is the argument
+//! stack.read(&Origin::Held(0)) // Scalar::Int(7)
+//! stack.read(&Origin::Held(1)) // Scalar::Poison
+//! stack.set(1, Scalar::Int(8));
+//! stack.read(&Origin::Held(1)) // Scalar::Int(8)
+//! stack.leave() // 5: where the frame below wants the result
+//! ```
 #![tactic(auto)]
 
 mod mark;

@@ -4,6 +4,12 @@
 //! body. It promises that in a well-formed, valid module each function's parameters and results are values, that the entries of its phis
 //! are its own, and that its instructions and ends are what decoding asks for.
 //! Definitions: `specs/Laws`; `Places` and `Ways` of `run_scopes`, `Suits` of `run_operands`.
+//!
+//! ```
+//! -- of `define i32 @f(i32 %a) { ret i32 %a }` in a well-formed, valid module
+//! HasValues lists function -- `%a` is a value of one leaf, and so can be placed in a frame
+//! AllSuit s -- `%a` of its end is a value of the function, so the end can be decoded
+//! ```
 #![tactic(auto)]
 
 mod law;

@@ -4,6 +4,12 @@
 //! It stands on the forms of types of `run_shapes` and the rows of `module_arena`. It promises the answers of the definitions of
 //! `run_rules`, where the name of a struct stands for its body. Definitions: `specs/Wanted`; `Calls`, `Leaves`,
 //! `Look` of `run_rules`.
+//!
+//! ```
+//! part_of(types, whole, &[1]) // of `{ i8, [2 x i32] }` the part `[2 x i32]`, with one leaf before it
+//! only_leaf(types, ty) // of `ptr` Some(Leaf::Ptr), of `[2 x i32]` None
+//! fits_row(types, HostRow::Putchar, word, &[word], false) // true, where `word` is `i32`
+//! ```
 #![tactic(auto)]
 
 mod part;

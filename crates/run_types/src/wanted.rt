@@ -15,7 +15,9 @@ use type_table::{TypeId, TypeTable};
 pub(crate) enum Wanted {
     /// An integer, by its width in bits.
     Int(u8),
+    /// A pointer.
     Ptr,
+    /// The type of what gives nothing.
     Void,
     /// A struct of an integer of that width and an i1.
     Pair(u8),

@@ -3,6 +3,14 @@
 //! It stands on `ir_memory`, `ir_eval` and the definitions of `run_rules` and `typed_runs`. It promises that a value is loaded and
 //! stored leaf by leaf as a run's load and store are defined, that the bytes of a string are those before its first zero, and that
 //! no want of memory is told where there was room. Definitions: `specs/Answer`, `specs/Strings`; `Access` and `Printing` of `run_rules`.
+//!
+//! ```
+//! block_size(&memory, 3, 8) // Some(24), where so many more bytes may live
+//!
+//! let slots = [Slot::new(0, Leaf::Int(8)), Slot::new(4, Leaf::Int(32))]; // those of `{ i8, i32 }`
+//! store_value(&mut memory, address, 4, &slots, &[Scalar::Int(1), Scalar::Int(2)])?;
+//! load_value(&memory, address, 4, &slots, &mut leaves)?; // adds Scalar::Int(1) and Scalar::Int(2)
+//! ```
 #![tactic(auto)]
 
 mod alloca;

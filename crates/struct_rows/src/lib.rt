@@ -4,6 +4,13 @@
 //! the structs get exactly the names that the definition of a linked module gives them, and that of each struct of each part it
 //! is told which of them it is. Each type and each struct of a part is looked at once. Definitions: `specs/Numbers`,
 //! `specs/Rows`, and `Structs` of `module_linker`.
+//!
+//! ```
+//! // of two parts with `%T = type { i32 }` each, and a third with `%T = type { i64 }`
+//! let rows = struct_rows(alloc, parts)?;
+//! rows.names // `T` and `T.1`
+//! rows.numbers // [0], [0] and [1]: the first two parts have one struct
+//! ```
 #![tactic(auto)]
 
 mod avoided;

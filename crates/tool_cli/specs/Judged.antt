@@ -1,4 +1,4 @@
--- Whether inputs are texts of modules, or bitcode that spells them, judged in the order of the words.
+-- For `run_tool`: whether inputs are texts of modules, or bitcode that spells them, judged in the order of the words.
 use Rattle.std.specs.Prelude.{◌≡◌, ◌⊎◌, ◌==◌, ◌≤◌, ℕ, Bool, List, [], ◌∷◌, ◌++◌, codes, length, Some, None, Err}
 use Rattle.std.specs.Bool.{MatchBool}
 use Rattle.std.specs.Fmt.{decimal}

@@ -4,6 +4,13 @@
 //! process's own streams: what is answered, what is read and what is written, for any source and sink.
 //! Definitions: `specs/Told` for the meaning of an answer, `specs/Made` and `specs/Output` for what is written, `specs/Running` for programs that are
 //! run, `specs/Headline` for what linking promises, `specs/Laws` for inputs, `specs/Ended` of `tool_ends` for the line and the status.
+//!
+//! ```
+//! // of the words `llvm-as`, `a.ll`, where the file `a.ll` has `define i32 @main() { ret i32 3 }`
+//! let report = run_tool(alloc, &words, &mut files, &mut input, &mut output, &mut errors);
+//! report.status // 0, and the file `a.bc` has the bitcode of that module
+//! // of the words `lli` and `a.ll` it would be 3, what the program ends with
+//! ```
 #![tactic(auto)]
 
 mod analysis;

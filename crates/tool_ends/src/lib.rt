@@ -4,6 +4,12 @@
 //! kinds of what is undefined of `ir_tables`. It promises the status
 //! of each end, and that its line, or a front of it where a write failed, is added to standard error; the line takes no memory.
 //! Definitions: `specs/Ended`.
+//!
+//! ```
+//! status_of(&Ended::Memory) // 120
+//! tell(&mut errors, words, &Ended::Memory); // adds `llvm-as: out of memory` and a line feed, where the first word is `llvm-as`
+//! Digits::of(1_024).bytes() // `1024`
+//! ```
 #![tactic(auto)]
 
 mod clash;

@@ -63,9 +63,13 @@ pub fn hex_of(alloc: Global, digits: &[u8]) -> Result<Vec<u8>, AllocError> {
 // How far an escape has been read.
 #[derive(Clone, Copy)]
 enum Escape {
+    /// None has begun.
     Outside,
+    /// Its backslash.
     Begun,
+    /// Its backslash and the `x` before two digits.
     Digits,
+    /// All but its last digit; the first is this.
     LastDigit(u8),
 }
 

@@ -3,6 +3,12 @@
 //! It stands on the validity of `module_arena`, the constants and locals of `typed_look`, and what `typed_actions` and `typed_edges` ask. It
 //! promises that in a function of a well-formed, valid module each value has the leaves of its type, each result has its place, and each
 //! instruction and end passes what is asked of it. What is promised is in `specs/Laws`.
+//!
+//! ```
+//! -- of `define i32 @f(i32 %a) { ret i32 %a }`
+//! operand_in sc value -- of `i32 %a`: Held 0 ∷ [], and the kinds of the function's frame are leaf.Int 32 ∷ []
+//! ending_suits f ending -- true: the type of the value is that of the function
+//! ```
 #![tactic(auto)]
 
 mod law;

@@ -4,6 +4,12 @@
 //! well-formed, valid module has a typed callee. Its `proofs` have constants, locals and operands, on which `typed_bodies`
 //! stands.
 //! Definitions: `specs/Typings`; what is promised is in `specs/Laws`.
+//!
+//! ```
+//! -- of `define i32 @f(ptr %p) { %1 = load i32, ptr %p ret i32 %1 }`, the one function symbol
+//! (typing_of (m ∷ [])).kinds 0 -- leaf.Ptr ∷ leaf.Int 32 ∷ []: the leaves of its frame, the parameter's and the result's
+//! (typing_of (m ∷ [])).gives 0 -- leaf.Int 32 ∷ []
+//! ```
 #![tactic(auto)]
 
 mod law;

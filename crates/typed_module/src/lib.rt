@@ -3,6 +3,12 @@
 //! It stands on the callees of `typed_look`, the bodies of `typed_bodies` and the plan of `typed_plan`. It promises that each action and each callee
 //! of a well-formed, valid module is typed, and its plan too. So each state of its runs is typed: what a machine hands to `ir_eval` and
 //! `ir_memory` is what they ask for. What is promised is in `specs/Laws`.
+//!
+//! ```
+//! -- of `define i32 @main() { ret i32 3 }`
+//! look (m ∷ []) 0 0 0 -- Return (Known (Int 3) ∷ [])
+//! (typing_of (m ∷ [])).gives 0 -- leaf.Int 32 ∷ [], and 3 < 2 ^ 32
+//! ```
 #![tactic(auto)]
 
 mod law;

@@ -3,6 +3,12 @@
 //! It stands on the typed look-up of `typed_look` and the types of `module_arena`. It promises that a good type has a shape whose leaves
 //! are integers of 1 to 128 bits and pointers, and whose alignment is a power of two. Its `proofs` have the parts of a shape too.
 //! What is promised is in `specs/Laws`.
+//!
+//! ```
+//! -- of the shape s of `{ i8, ptr }`
+//! slots s -- record { offset = 0; leaf = leaf.Int 8 } ∷ record { offset = 8; leaf = leaf.Ptr } ∷ []
+//! align s -- 8
+//! ```
 #![tactic(auto)]
 
 mod law;

@@ -1,4 +1,4 @@
--- For a writer of bitcode: the law of small wholes.
+-- For `wholes_may_be_written`, `wholes_are_short` and `records_take_bits`: the laws of small wholes.
 use Rattle.std.specs.Prelude.{◌<◌, ◌≤◌, ◌^◌, length}
 use Rattle.bit_stream.specs.Writer.{begun}
 use Rattle.bit_tree.specs.Written.{Written, written, Allowed}

@@ -1,4 +1,4 @@
--- For a writer of bitcode: what is asked of blocks that are written where the whole is small. Nothing is asked of their lengths, nor
+-- For `wholes_may_be_written`: what is asked of blocks that are written where the whole is small. Nothing is asked of their lengths, nor
 -- of how many operands a record has.
 use Rattle.std.specs.Prelude.{◌≡◌, ℕ, zero, suc, ◌+◌, ◌<◌, ◌≤◌, ◌^◌, ◌==◌, ◌⊎◌, false, List, [], ◌∷◌, length, ⊤}
 use Rattle.std.specs.List.{AllByRecursion}
