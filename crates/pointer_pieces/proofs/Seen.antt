@@ -37,6 +37,10 @@ none_else (Some piece) never = absurd (never refl)
 never : false ≡ true → ⊥
 never e = cc
 
+none_somewhere : (o : Option Piece) → o ≡ None → IsSome o → ⊥
+none_somewhere None e some = never some
+none_somewhere (Some x) e some = cc
+
 none_is_some : (o : Option Slot) → o ≡ None → IsSome o → ⊥
 none_is_some None e some = never some
 none_is_some (Some s) e some = cc
@@ -178,6 +182,20 @@ pointer_there slots address slot (Some p) whole is each = λ k h.
     let place : (address + k) % 8 ≡ k = omega (arith, h, whole) in
     at_here slots (address + k) (address / 8) (Some slot) e is ∙ ap (λ (n : ℕ). get_or slot.pieces n None) place ∙ each k h
 
+-- a slot that has no pointer whole
+pub no_pointer_there : (slots : ℕ → Option Slot) (address : ℕ) (slot : Slot) (r : Option Pointer) → address % 8 ≡ 0 → slots (address / 8) ≡ Some slot → IfNone r ((p : Pointer) → ¬ ((k : ℕ) → k < 8 → get_or slot.pieces k None ≡ Some (record { pointer = p; place = k })))
+    → IfNone r ((p : Pointer) → ¬ ((k : ℕ) → k < 8 → at_slots slots (address + k) ≡ Some (record { pointer = p; place = k })))
+no_pointer_there slots address slot (Some p) whole is unlike = tt
+no_pointer_there slots address slot None whole is unlike = λ p each. unlike p (λ k h.
+    let e : (address + k) / 8 ≡ address / 8 = omega (arith, h, whole) in
+    let place : (address + k) % 8 ≡ k = omega (arith, h, whole) in
+    ap (λ (n : ℕ). get_or slot.pieces n None) (sym place) ∙ sym (at_here slots (address + k) (address / 8) (Some slot) e is) ∙ each k h)
+
+-- an address without a slot begins no pointer
+pub no_slot_no_pointer : (slots : ℕ → Option Slot) (address : ℕ) (p : Pointer) → slots (address / 8) ≡ None → ¬ ((k : ℕ) → k < 8 → at_slots slots (address + k) ≡ Some (record { pointer = p; place = k }))
+no_slot_no_pointer slots address p none each =
+    none_somewhere None refl (ap is_some (sym (sym (each 0 (omega arith)) ∙ at_none slots (address + 0) (address / 8) (omega arith) none)))
+
 -- ---- the first piece that is seen
 
 -- what is first in a slot
@@ -212,10 +230,6 @@ if_none None p e = p
 if_none (Some met) p e = absurd (never (sym e))
 
 -- ---- room for what was found
-
-none_somewhere : (o : Option Piece) → o ≡ None → IsSome o → ⊥
-none_somewhere None e some = never some
-none_somewhere (Some x) e some = cc
 
 pub room_more : (found : ℕ → Option Piece) (now new : ℕ → Option Slot) (from next met : ℕ) → ((q : ℕ) → from ≤ q → q < next → IsSome (found q) → IsSome (now (q / 8))) → ((q : ℕ) → next ≤ q → q < met → found q ≡ None) → IsSome (new (met / 8)) → ((s : ℕ) → IsSome (now s) → IsSome (new s))
     → (q : ℕ) → from ≤ q → q < met + 1 → IsSome (found q) → IsSome (new (q / 8))

@@ -1,7 +1,8 @@
 //! The pieces of pointers by their addresses.
-ghost use Rattle.std.specs.Prelude.{◌≡◌, ℕ, ◌+◌, ◌-◌, ◌<◌, ◌≤◌, ◌^◌, IfOk, IfSome, IsSome, OnOk, OnErr, Some, true, false, None};
+ghost use Rattle.std.specs.Prelude.{◌≡◌, ℕ, ◌+◌, ◌-◌, ◌<◌, ◌≤◌, ◌^◌, ◌%◌, IfOk, IfNone, IfSome, IsSome, OnOk, OnErr, Some, true, false, None};
 ghost use Rattle.std.specs.Ordering.{nat_cmp};
 ghost use Rattle.std.specs.BTreeMap as tree;
+ghost use Rattle.ir_eval.specs.declared.value.Pointer.{Pointer};
 ghost use Rattle.pointer_pieces.specs.Pieces.{at_slots, without, with_pointer, with_moved};
 
 use crate::moved::moved;
@@ -60,7 +61,8 @@ impl Pieces {
 
     /// The pointer whose eight pieces stand from an address on, in order. None tells nothing where that is no multiple of 8.
     pub fn pointer(&self, address: u64) -> Option<Pointer>
-        ensures { IfSome result (λ p. (k : ℕ) → k < 8 → at_slots (tree.get nat_cmp self.now.slots) (address + k) ≡ Some (record { pointer = p; place = k })) }
+        ensures some { IfSome result (λ p. (k : ℕ) → k < 8 → at_slots (tree.get nat_cmp self.now.slots) (address + k) ≡ Some (record { pointer = p; place = k })) }
+        ensures none { address % 8 ≡ 0 → IfNone result ((p : Pointer) → ¬ ((k : ℕ) → k < 8 → at_slots (tree.get nat_cmp self.now.slots) (address + k) ≡ Some (record { pointer = p; place = k }))) }
     {
         if address % 8 != 0 {
             return None;

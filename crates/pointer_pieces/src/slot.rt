@@ -1,7 +1,8 @@
 //! The pieces at eight addresses that follow one another.
-ghost use Rattle.std.specs.Prelude.{◌≡◌, ℕ, ◌+◌, ◌*◌, ◌/◌, ◌%◌, ◌<◌, ◌≤◌, ◌^◌, Some, None, IfSome, IfNone, slice_index_or, true, if◌then◌else◌};
+ghost use Rattle.std.specs.Prelude.{◌≡◌, ℕ, ◌+◌, ◌*◌, ◌/◌, ◌%◌, ◌<◌, ◌≤◌, ◌^◌, ◌≢◌, Some, None, IfSome, IfNone, IsSome, slice_index_or, true, false, if◌then◌else◌};
 ghost use Rattle.std.specs.Ordering.{nat_cmp};
 ghost use Rattle.std.specs.BTreeMap as tree;
+ghost use Rattle.ir_eval.specs.declared.value.Pointer.{Pointer};
 ghost use Rattle.pointer_pieces.specs.Pieces.{is_within};
 
 use crate::piece::Piece;
@@ -63,7 +64,8 @@ fn found_within(
 
 /// Whether a piece is that of a pointer, counted from the lowest.
 fn is_piece(piece: Option<Piece>, pointer: Pointer, place: u8) -> bool
-    ensures { result ≡ true → piece ≡ Some (record { pointer = pointer; place = place }) }
+    ensures same { result ≡ true → piece ≡ Some (record { pointer = pointer; place = place }) }
+    ensures other { result ≡ false → piece ≢ Some (record { pointer = pointer; place = place }) }
 {
     match piece {
         Some(piece) => piece == Piece { pointer, place },
@@ -73,7 +75,8 @@ fn is_piece(piece: Option<Piece>, pointer: Pointer, place: u8) -> bool
 
 /// Whether there is no piece.
 fn is_absent(piece: Option<Piece>) -> bool
-    ensures { result ≡ true → piece ≡ None }
+    ensures none { result ≡ true → piece ≡ None }
+    ensures some { result ≡ false → IsSome piece }
 {
     match piece {
         Some(_) => false,
@@ -105,7 +108,8 @@ impl Slot {
 
     /// The pointer all of whose pieces these are, in order; None where there is no such pointer.
     pub fn pointer(&self) -> Option<Pointer>
-        ensures { IfSome result (λ p. (k : ℕ) → k < 8 → slice_index_or self.now.pieces k None ≡ Some (record { pointer = p; place = k })) }
+        ensures some { IfSome result (λ p. (k : ℕ) → k < 8 → slice_index_or self.now.pieces k None ≡ Some (record { pointer = p; place = k })) }
+        ensures none { IfNone result ((p : Pointer) → ¬ ((k : ℕ) → k < 8 → slice_index_or self.now.pieces k None ≡ Some (record { pointer = p; place = k }))) }
     {
         let first = self.pieces[0]?;
         let pointer = first.pointer;
@@ -119,7 +123,8 @@ impl Slot {
 
     /// Whether no piece stands there.
     pub fn is_clear(&self) -> bool
-        ensures { result ≡ true → (k : ℕ) → k < 8 → slice_index_or self.now.pieces k None ≡ None }
+        ensures none { result ≡ true → (k : ℕ) → k < 8 → slice_index_or self.now.pieces k None ≡ None }
+        ensures some { result ≡ false → (k : ℕ) × (k < 8) × IsSome (slice_index_or self.now.pieces k None) }
     {
         'places: for k in 0..8 {
             if !is_absent(self.pieces[k]) {

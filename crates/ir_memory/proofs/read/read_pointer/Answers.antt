@@ -9,4 +9,4 @@ use Rattle.ir_memory.proofs.read.read_pointer.Goals as goal
 pub returns-in-Some : goal.returns-in-Some
 returns-in-Some c =
     whole_read c.in-Some.pointer
-    ∙ ap (read leaf.Ptr) (pointer_gathered (at c.args.pieces.now) c.args.block.now c.args.offset c.in-Some.pointer c.requires.within c.in-Some.ensures)
+    ∙ ap (read leaf.Ptr) (pointer_gathered (at c.args.pieces.now) c.args.block.now c.args.offset c.in-Some.pointer c.requires.within c.in-Some.ensures.some)

@@ -8,7 +8,7 @@ pub returns-then-is_clear-clause-here : goal.returns-then-is_clear-clause-here
 returns-then-is_clear-clause-here c = λ q e.
     let a = c.args in
     at_none (tree.get nat_cmp c.take.new.slots) q a.number e (c.take.ensures a.number ∙ chosen a.number a.number None (tree.get nat_cmp a.slots.now a.number) refl)
-    ∙ sym (c.is_clear.ensures c.if-is_clear.true (q % 8) (omega arith))
+    ∙ sym (c.is_clear.ensures.none c.if-is_clear.true (q % 8) (omega arith))
 
 pub returns-clause-here : goal.returns-clause-here
 returns-clause-here c = λ q e.
