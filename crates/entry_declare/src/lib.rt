@@ -5,7 +5,6 @@
 //! `specs/Stages`, the module as far as it is made, and `specs/Declaring`, what is known of names and of new ids.
 #![tactic(auto)]
 
-mod adding;
 mod emptied;
 mod variables;
 

@@ -7,7 +7,6 @@
 //! there; the module while it is made: `specs/Declared` of `link_stages`.
 #![tactic(auto)]
 
-mod adding;
 mod copiers;
 mod declarations;
 mod declaring;

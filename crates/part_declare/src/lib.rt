@@ -6,7 +6,6 @@
 //! ids they have. Definitions: `specs/FunctionsThere` and `specs/AliasesThere`, the module as far as it is made.
 #![tactic(auto)]
 
-mod adding;
 mod aliases;
 mod functions;
 
