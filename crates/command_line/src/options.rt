@@ -50,8 +50,8 @@ pub(crate) enum Spelling<'w> {
     Input,
 }
 
-// The word for a standard stream.
-pub(crate) fn is_dash(word: &[u8]) -> bool
+/// Whether this is the word `-`, which names standard input or standard output.
+pub fn is_dash(word: &[u8]) -> bool
     ensures { result ≡ is_dash word.now }
 {
     matches!(word, b"-")

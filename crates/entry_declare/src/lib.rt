@@ -11,7 +11,6 @@
 //! ```
 #![tactic(auto)]
 
-mod adding;
 mod emptied;
 mod variables;
 

@@ -10,9 +10,8 @@ ghost use Rattle.entry_declare.specs.Declaring.{variables_through, IsDeclaring, 
 ghost use Rattle.entry_fates.specs.Fates.{variable_as, made};
 ghost use Rattle.entry_declare.specs.Stages.{HasTypes, with_variables};
 
-use crate::adding::add_variable;
 use crate::emptied::variable_type;
-use entry_copy::Copier;
+use entry_copy::{Copier, add_variable};
 use entry_fates::{Fate, FateList, is_emptied, variable_linkage};
 use module_arena::{Arena, GlobalId, Variable, VariableId};
 use std::alloc::{AllocError, Global};

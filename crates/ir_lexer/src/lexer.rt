@@ -57,18 +57,6 @@ impl<'t> Lexer<'t> {
         }
     }
 
-    /// A second lexer that stands where this one does.
-    pub fn another(&self) -> Lexer<'t>
-        ensures { result ≡ self.now }
-    {
-        Lexer {
-            text: self.text,
-            at: self.at,
-            place: self.place,
-            known: self.known,
-        }
-    }
-
     /// Goes over bytes of the rest.
     fn advance(&mut self, n: usize)
         requires { n ≤ length (rest self.old) }

@@ -4,7 +4,7 @@ use Rattle.std.specs.List.{All}
 use Rattle.ir_memory.specs.declared.cell.Cell.{Cell}
 use Rattle.ir_memory.specs.declared.cell.Cell.TheVariants as cell
 use Rattle.ir_memory.specs.Block.{Block}
-use Rattle.ir_memory.specs.Memory.{live_bytes, byte_limit}
+use Rattle.ir_memory.specs.Memory.{live_bytes, byte_limit, first_address}
 use Rattle.ir_memory.specs.Given.{IsBlock}
 
 -- where the next live block may start: 16 addresses behind a live one
@@ -28,4 +28,4 @@ AreKnown count blocks = All (λ b. All (IsKnownCell count) b.cells) blocks
 
 -- blocks are placed, so many bytes are live, and each piece is of a pointer whose block was made
 abbrev pub IsKept : List Block → ℕ → ℕ → Type 0
-IsKept blocks next live = IsPlaced 65536 blocks next × (live ≡ live_bytes blocks) × (live ≤ byte_limit) × (next < 2 ^ 62) × AreKnown (length blocks) blocks
+IsKept blocks next live = IsPlaced first_address blocks next × (live ≡ live_bytes blocks) × (live ≤ byte_limit) × (next < 2 ^ 62) × AreKnown (length blocks) blocks

@@ -12,7 +12,7 @@ use Rattle.ir_memory.specs.declared.cell.Cell.TheVariants.{Byte}
 use Rattle.ir_memory.specs.declared.access.Place.{Place}
 use Rattle.ir_memory.specs.Cell.{size, read, spelled}
 use Rattle.ir_memory.specs.Block.{is_constant, Block, new_block, gone, holds, starts, written}
-use Rattle.ir_memory.specs.declared.memory.TheConstants.{BYTE_LIMIT}
+use Rattle.ir_memory.specs.declared.memory.TheConstants.{BYTE_LIMIT, FIRST_ADDRESS}
 
 -- all blocks, and what is left of those that have ended; where the next one may start; whether constants are sealed
 pub record Blocks : Type 0 where
@@ -20,9 +20,13 @@ pub record Blocks : Type 0 where
   pub next : ℕ
   pub sealed : Bool
 
+-- the first address that a block may have
+abbrev pub first_address : ℕ
+first_address = FIRST_ADDRESS
+
 -- memory before any block is made
 abbrev pub no_blocks : Blocks
-no_blocks = record { list = []; next = 65536; sealed = false }
+no_blocks = record { list = []; next = first_address; sealed = false }
 
 -- how many bytes live blocks may have together
 abbrev pub byte_limit : ℕ

@@ -19,6 +19,7 @@ use Rattle.ir_memory.specs.Cell.{integer, pointer}
 use Rattle.ir_memory.specs.declared.access.Place.{Place}
 use Rattle.ir_memory.specs.Block.{Block}
 use Rattle.ir_memory.specs.Kept.{IsPlaced}
+use Rattle.ir_memory.specs.Memory.{first_address}
 
 -- the piece at an address
 abbrev pub at : Pieces → ℕ → Option Piece
@@ -72,7 +73,7 @@ pub record IsRoom (kept : List KeptBlock) (place : Place) (count : ℕ) : Type 0
 -- blocks are placed, each has as many bytes as its size, no piece stands from the next address on, and none where
 -- a block is not marked as mixed
 pub record IsSound (pieces : ℕ → Option Piece) (kept : List KeptBlock) (next : ℕ) : Type 0 where
-  pub placed : IsPlaced 65536 (all_seen pieces kept) next
+  pub placed : IsPlaced first_address (all_seen pieces kept) next
   pub small : next < 2 ^ 62
   pub whole : (k : ℕ) (d : KeptBlock) → k < length kept → length (slice_index_or kept k d).bytes ≡ (slice_index_or kept k d).size
   pub gone : (k : ℕ) (d : KeptBlock) → k < length kept → (slice_index_or kept k d).live ≡ false → (slice_index_or kept k d).bytes ≡ []

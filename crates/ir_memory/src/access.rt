@@ -44,7 +44,7 @@ pub fn started(
 ) -> Option<usize>
     requires starts { AreStarts (tree.get nat_cmp starts.now) (all_seen (at _pieces.now) kept.now) }
     requires known { IsAddress (all_seen (at _pieces.now) kept.now) pointer }
-    requires placed { (next : ℕ) × IsPlaced 65536 (all_seen (at _pieces.now) kept.now) next }
+    requires placed { (next : ℕ) × IsPlaced of.first_address (all_seen (at _pieces.now) kept.now) next }
     ensures value { result ≡ of.started (all_seen (at _pieces.now) kept.now) pointer kind }
     ensures live { IfSome result (λ i. (d : Kept) → (slice_index_or kept.now i d).live ≡ true) }
     ensures within { IfSome result (λ i. i < length kept.now) }
@@ -70,7 +70,7 @@ fn candidate(
 ) -> Option<usize>
     requires starts { AreStarts (tree.get nat_cmp starts.now) (all_seen (at _pieces.now) _kept.now) }
     requires known { IsKnown (all_seen (at _pieces.now) _kept.now) pointer }
-    requires placed { (next : ℕ) × IsPlaced 65536 (all_seen (at _pieces.now) _kept.now) next }
+    requires placed { (next : ℕ) × IsPlaced of.first_address (all_seen (at _pieces.now) _kept.now) next }
     ensures within { IfSome result (λ i. i < length _kept.now) }
     ensures only { IsOnly (all_seen (at _pieces.now) _kept.now) pointer.block pointer.address result }
 {
@@ -116,7 +116,7 @@ pub fn access(
 ) -> Result<Place, UndefinedKind>
     requires starts { AreStarts (tree.get nat_cmp starts.now) (all_seen (at _pieces.now) kept.now) }
     requires known { IsAddress (all_seen (at _pieces.now) kept.now) address }
-    requires placed { (next : ℕ) × IsPlaced 65536 (all_seen (at _pieces.now) kept.now) next }
+    requires placed { (next : ℕ) × IsPlaced of.first_address (all_seen (at _pieces.now) kept.now) next }
     requires some { 1 ≤ asked.count }
     requires align { IsAlignment asked.align }
     ensures value { (next : ℕ) → of.access (record { list = all_seen (at _pieces.now) kept.now; next = next; sealed = sealed }) asked.count asked.align asked.writes address ≡ placed result }

@@ -34,4 +34,4 @@ mod write;
 pub use fault::MemoryFault;
 pub use kind::BlockKind;
 pub use leaf::Leaf;
-pub use memory::{BYTE_LIMIT, Memory};
+pub use memory::{BYTE_LIMIT, FIRST_ADDRESS, Memory};

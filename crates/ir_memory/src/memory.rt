@@ -29,7 +29,7 @@ use std::marker::Model;
 pub const BYTE_LIMIT: u64 = 268_435_456;
 
 /// The first address that a block may have.
-const FIRST_ADDRESS: u64 = 65_536;
+pub const FIRST_ADDRESS: u64 = 65_536;
 
 /// How many addresses are left free behind a block.
 const GAP: u64 = 16;
@@ -82,7 +82,7 @@ impl Memory {
     pub fn live_bytes(&self) -> u64
         ensures value { result ≡ live_bytes self.now.list }
         ensures limit { result ≤ of.byte_limit }
-        ensures placed { IsPlaced 65536 self.now.list self.now.next }
+        ensures placed { IsPlaced of.first_address self.now.list self.now.next }
         ensures known { AreKnown (length self.now.list) self.now.list }
         ensures next { self.now.next < 2 ^ 62 }
     {
@@ -112,7 +112,7 @@ impl Memory {
         ensures defined { (kind : UndefinedKind) → result ≢ Err (MemoryFault.Undefined kind) }
         ensures err { OnErr result (self.new ≡ self.old) }
         ensures grows { self.old.next ≤ self.new.next }
-        ensures growth { self.new.next ≤ self.old.next + (2 ^ 28 + 2 ^ 17) }
+        ensures growth { self.new.next ≤ self.old.next + (of.byte_limit + 2 ^ 17) }
     {
         if size > BYTE_LIMIT - self.live {
             return Err(MemoryFault::MemoryLimit);
@@ -158,7 +158,7 @@ impl Memory {
     pub fn bounds(&self, pointer: Pointer) -> Option<(u64, u64)>
         requires { IsKnown self.now.list pointer }
         ensures value { result ≡ of.bounds_at self.now.list pointer.block }
-        ensures order { IfSome result (λ p. (65536 ≤ p.0) × (p.0 ≤ p.1) × (p.1 ≤ self.now.next)) }
+        ensures order { IfSome result (λ p. (of.first_address ≤ p.0) × (p.0 ≤ p.1) × (p.1 ≤ self.now.next)) }
     {
         let index = pointer.block?;
         let block = self.kept.get(index as usize);

@@ -81,20 +81,6 @@ impl<'t> Cursor<'t> {
         }
     }
 
-    /// A second cursor at the same token, within other limits.
-    pub fn with_limits(&self, limits: Limits) -> Cursor<'t>
-        ensures { result ≡ record { limits = limits; text = self.now.text; taken = self.now.taken } }
-    {
-        Cursor {
-            alloc: self.alloc,
-            limits,
-            lexer: self.lexer.another(),
-            front: self.front,
-            taken: self.taken,
-            behind_less: self.behind_less,
-        }
-    }
-
     /// The allocator.
     pub fn alloc(&self) -> Global {
         self.alloc

@@ -13,7 +13,6 @@
 //! ```
 #![tactic(auto)]
 
-mod adding;
 mod copiers;
 mod declarations;
 mod declaring;

@@ -12,6 +12,7 @@
 //! ```
 #![tactic(auto)]
 
+mod address;
 mod bindings;
 mod clash;
 mod conflict;
@@ -23,6 +24,7 @@ mod linkage;
 mod order;
 mod symbol;
 
+pub use address::FIRST_ADDRESS;
 pub use bindings::{Bindings, resolve_symbols};
 pub use clash::element_of;
 pub use conflict::{ConflictKind, SymbolFault};

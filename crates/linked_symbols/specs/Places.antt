@@ -2,6 +2,7 @@
 use Rattle.std.specs.Prelude.{◌≡◌, ℕ, List, map, ◌-◌, ◌^◌, max, min, Option, Some, None, filter_map, if◌then◌else◌}
 use Rattle.std.specs.Option.{option_map}
 use Rattle.module_arena.specs.Module.{Module}
+use Rattle.linkage_rules.specs.declared.address.TheConstants.{FIRST_ADDRESS}
 use Rattle.linkage_rules.specs.declared.symbol.Symbol.{Symbol}
 use Rattle.linkage_rules.specs.declared.symbol.SymbolKind.TheVariants as kind
 use Rattle.linkage_rules.specs.Grouped.{kind_of, same_kind}
@@ -40,10 +41,10 @@ pub record PlacesTold : Type 0 where
   pub variables : List Placed
   pub functions : List Symbol
 
--- exactly those symbols with their rooms, where they lie from address 65,536 on
+-- exactly those symbols with their rooms, where they lie from the first address on
 pub record ArePlaced (rows : List (Symbol × Room)) (variables : List Placed) : Type 0 where
   pub rooms : map {B = Symbol × the_room.Room} (λ (v : Placed). (v.symbol, v.room)) variables ≡ map {B = Symbol × the_room.Room} (λ (r : Symbol × Room). (r.0, room_told r.1)) rows
-  pub addresses : map {B = Symbol × ℕ} (λ (v : Placed). (v.symbol, v.address)) variables ≡ map {B = Symbol × ℕ} (λ (r : Symbol × ℕ). (r.0, clamped r.1)) (placed_from 65536 rows)
+  pub addresses : map {B = Symbol × ℕ} (λ (v : Placed). (v.symbol, v.address)) variables ≡ map {B = Symbol × ℕ} (λ (r : Symbol × ℕ). (r.0, clamped r.1)) (placed_from FIRST_ADDRESS rows)
 
 -- exactly where the variables and functions of the parts stand, in the order of symbols
 pub record ArePlaces (parts : List Module) (p : PlacesTold) : Type 0 where

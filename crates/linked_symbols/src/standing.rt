@@ -11,7 +11,7 @@ ghost use Rattle.linked_symbols.specs.Places.{ArePlaced, ArePlaces, clamped, roo
 use crate::Room;
 use crate::room::room_of;
 use ir_base::ItemList;
-use linkage_rules::{Bindings, Symbol, SymbolKind, SymbolList};
+use linkage_rules::{Bindings, FIRST_ADDRESS, Symbol, SymbolKind, SymbolList};
 use module_arena::Checked;
 use std::alloc::{AllocError, Global};
 use std::marker::Model;
@@ -114,7 +114,7 @@ fn placed_variables(
     ensures { IfOk result (ArePlaced (rows_among (modules parts.now) symbols.now)) }
 {
     let mut variables = ItemList::new(alloc);
-    let mut next = 65_536;
+    let mut next = FIRST_ADDRESS;
     for symbol in symbols {
         if let Some(room) = variable_room(parts, bindings, symbol) {
             let address = rounded(next, room.alignment);

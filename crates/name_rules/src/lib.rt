@@ -17,4 +17,4 @@ mod spelled;
 
 pub use fault::ResolveFault;
 pub use laws::{numbers_are_told_as_written, one_module};
-pub use spelled::{spell_global, spell_local, spell_number, spell_struct};
+pub use spelled::{is_identifier, spell_global, spell_local, spell_number, spell_struct};

@@ -42,8 +42,8 @@ fn all_go_on(bytes: &[u8]) -> bool
     true
 }
 
-/// Whether the name stands bare, with no quotes.
-fn is_identifier(name: &[u8]) -> bool
+/// Whether the name stands bare, with no quotes (LangRef, "Identifiers").
+pub fn is_identifier(name: &[u8]) -> bool
     ensures { result ≡ is_identifier name.now }
 {
     match name.first() {

@@ -11,9 +11,8 @@ ghost use Rattle.entry_declare.specs.Declaring.{IsDeclaring};
 ghost use Rattle.entry_declare.specs.Stages.{HasTypes};
 ghost use Rattle.part_declare.specs.AliasesThere.{WithAlias, WithAliases, aliases_through};
 
-use crate::adding::{add_alias, add_function, add_variable};
 use crate::functions::numbered_parameters;
-use entry_copy::Copier;
+use entry_copy::{Copier, add_alias, add_function, add_variable};
 use entry_fates::{Fate, FateList, kept_linkage};
 use ir_tables::Linkage;
 use module_arena::{Alias, AliasId, AliasType, Arena, Function, GlobalId, Variable};

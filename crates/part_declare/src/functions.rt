@@ -13,8 +13,7 @@ ghost use Rattle.entry_declare.specs.Stages.{HasTypes};
 ghost use Rattle.part_declare.specs.FunctionsThere.{functions_through, with_functions};
 ghost use Rattle.entry_fates.specs.Fates.{function_as, parameters_as, made};
 
-use crate::adding::add_function;
-use entry_copy::Copier;
+use entry_copy::{Copier, add_function};
 use entry_fates::{Fate, FateList, function_linkage};
 use ir_base::ItemList;
 use module_arena::{Arena, Function, FunctionId, GlobalId, LocalName, Parameter, ParameterList};

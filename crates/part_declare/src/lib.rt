@@ -12,7 +12,6 @@
 //! ```
 #![tactic(auto)]
 
-mod adding;
 mod aliases;
 mod functions;
 

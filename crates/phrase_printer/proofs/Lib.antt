@@ -1,5 +1,4 @@
 pub mod Printing
-pub mod Identifiers
 pub mod Numerals
 pub mod Quoting
 pub mod TypeParts

@@ -2,8 +2,6 @@
 ghost use Rattle.std.specs.Prelude.{◌≡◌, ◌<◌};
 ghost use Rattle.gathered.specs.Told.{state, Tells};
 ghost use Rattle.canonical.specs.Names.{quoted, global, named_local, local, label_spelling, label, text, byte_string};
-ghost use Rattle.ir_lexer.specs.Class.{byte_class, starts_name, in_name};
-ghost use Rattle.ir_lexer.specs.Form.{each};
 ghost use Rattle.module_arena.specs.Module.{Numbered};
 ghost use Rattle.module_arena.specs.View.{local_view};
 ghost use Rattle.name_rules.specs.Spelled.{hexadecimal, is_plain, quoted_byte, is_identifier, spelled};
@@ -14,49 +12,7 @@ use crate::separator::Separator;
 use gathered::Gathered;
 use ir_base::{Name, Sink};
 use module_arena::LocalName;
-
-/// Whether an identifier may begin with the byte.
-#[tactic(auto, using(crate::proofs::Identifiers::is_starting))]
-fn starts_identifier(byte: u8) -> bool
-    ensures { result ≡ starts_name (byte_class byte) }
-{
-    ((b'a' <= byte) & (byte <= b'z'))
-        | ((b'A' <= byte) & (byte <= b'Z'))
-        | (byte == b'_')
-        | (byte == b'-')
-        | (byte == b'$')
-        | (byte == b'.')
-}
-
-/// Whether an identifier may go on with the byte.
-#[tactic(auto, using(crate::proofs::Identifiers::is_going_on))]
-fn goes_on_identifier(byte: u8) -> bool
-    ensures { result ≡ in_name (byte_class byte) }
-{
-    starts_identifier(byte) | ((b'0' <= byte) & (byte <= b'9'))
-}
-
-/// Whether an identifier may go on with each of the bytes.
-fn all_go_on(bytes: &[u8]) -> bool
-    ensures { result ≡ each in_name bytes.now }
-{
-    for byte in bytes {
-        if !goes_on_identifier(*byte) {
-            return false;
-        }
-    }
-    true
-}
-
-/// Whether the name stands bare, with no quotes.
-fn is_identifier(name: &[u8]) -> bool
-    ensures { result ≡ is_identifier name.now }
-{
-    match name.first() {
-        Some(first) => starts_identifier(*first) && all_go_on(name),
-        None => false,
-    }
-}
+use name_rules::is_identifier;
 
 /// An upper case hexadecimal digit.
 fn hexadecimal(digit: u8) -> u8

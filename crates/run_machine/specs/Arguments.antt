@@ -6,7 +6,7 @@ use Rattle.ir_eval.specs.declared.value.Scalar.TheVariants as scalar
 use Rattle.ir_memory.specs.declared.kind.BlockKind.TheVariants as kind
 use Rattle.ir_memory.specs.declared.leaf.Leaf.TheVariants as leaf
 use Rattle.ir_memory.specs.Given.{IsKnown}
-use Rattle.ir_memory.specs.Memory.{Blocks}
+use Rattle.ir_memory.specs.Memory.{Blocks, byte_limit}
 use Rattle.run_rules.specs.Access.{next_block}
 use Rattle.run_rules.specs.Opening.{made}
 use Rattle.run_rules.specs.Plan.{Contents}
@@ -42,8 +42,8 @@ MakesWith expected None old new = expected ≡ Err MemoryLimit
 pub record PlacesAll (expected : Result (Blocks × List Pointer) End) (ps : List Pointer) (old new : Blocks) : Type 0 where
   pub made : expected ≡ Ok (new, ps)
   pub known : All (IsKnown new.list) ps
-  pub few : length ps ≤ 2 ^ 28
-  pub near : new.next ≤ old.next + length ps * (2 ^ 28 + 2 ^ 17)
+  pub few : length ps ≤ byte_limit
+  pub near : new.next ≤ old.next + length ps * (byte_limit + 2 ^ 17)
   pub kept : KeepsBlocks old new
 
 -- pointers in a row, from that place on

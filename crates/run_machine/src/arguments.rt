@@ -5,6 +5,7 @@ ghost use Rattle.ir_eval.specs.declared.value.Scalar.TheVariants as scalar;
 ghost use Rattle.ir_memory.specs.Answer.{Keeps};
 ghost use Rattle.ir_memory.specs.declared.leaf.Leaf.TheVariants as leaf;
 ghost use Rattle.ir_memory.specs.Given.{IsAlignment, IsKnown};
+ghost use Rattle.ir_memory.specs.Memory.{byte_limit};
 ghost use Rattle.run_entry.specs.Mains.{main_seen};
 ghost use Rattle.run_initial.specs.Constants.{bytes_at};
 ghost use Rattle.run_initial.specs.Fresh.{Puts, put};
@@ -32,7 +33,7 @@ fn add_block(memory: &mut Memory, size: u64, align: u32) -> Result<Option<Pointe
     requires align { IsAlignment align }
     requires next { memory.old.next ≤ 2 ^ 61 }
     ensures made { IfOk result (λ block. MakesBlock size align block memory.old memory.new) }
-    ensures growth { memory.new.next ≤ memory.old.next + (2 ^ 28 + 2 ^ 17) }
+    ensures growth { memory.new.next ≤ memory.old.next + (byte_limit + 2 ^ 17) }
 {
     match memory.add_block(size, align, BlockKind::Variable(false)) {
         Ok(block) => Ok(Some(block)),
@@ -59,7 +60,7 @@ fn place_string(memory: &mut Memory, bytes: &[u8]) -> Result<Option<Pointer>, Al
     requires unsealed { memory.old.sealed ≡ false }
     requires next { memory.old.next ≤ 2 ^ 61 }
     ensures made { IfOk result (λ block. MakesWith (with_string bytes.now memory.old) block memory.old memory.new) }
-    ensures growth { memory.new.next ≤ memory.old.next + (2 ^ 28 + 2 ^ 17) }
+    ensures growth { memory.new.next ≤ memory.old.next + (byte_limit + 2 ^ 17) }
 {
     let size = bytes.len() as u64 + 1;
     let Some(block) = add_block(memory, size, 1)? else {
@@ -98,7 +99,7 @@ fn put_pointer(
     place: usize,
     pointer: Pointer,
 ) -> Result<(), MemoryFault>
-    requires within { place ≤ 2 ^ 28 }
+    requires within { place ≤ byte_limit }
     requires block { IsKnown memory.old.list block }
     requires pointer { IsKnown memory.old.list pointer }
     ensures put { Stores (put block ((record { offset = place * 8; leaf = leaf.Ptr }, scalar.Ptr pointer) ∷ []) memory.old) memory.new result }
@@ -117,7 +118,7 @@ fn put_pointers(
     block: Pointer,
     pointers: &[Pointer],
 ) -> Result<(), MemoryFault>
-    requires few { length pointers.now ≤ 2 ^ 28 }
+    requires few { length pointers.now ≤ byte_limit }
     requires block { IsKnown memory.old.list block }
     requires known { All (IsKnown memory.old.list) pointers.now }
     ensures put { Stores (put block (pointers_at 0 (pointers.now ++ pointer_at 0 ∷ [])) memory.old) memory.new result }
@@ -131,7 +132,7 @@ fn put_pointers(
 
 /// Stores pointers so, where no store of them is undefined: only memory may be wanting.
 fn fill_row(memory: &mut Memory, block: Pointer, pointers: &[Pointer]) -> Result<(), AllocError>
-    requires few { length pointers.now ≤ 2 ^ 28 }
+    requires few { length pointers.now ≤ byte_limit }
     requires block { IsKnown memory.old.list block }
     requires known { All (IsKnown memory.old.list) pointers.now }
     requires well { IsOk (put block (pointers_at 0 (pointers.now ++ pointer_at 0 ∷ [])) memory.old) }
@@ -145,7 +146,7 @@ fn fill_row(memory: &mut Memory, block: Pointer, pointers: &[Pointer]) -> Result
 fn place_pointers(memory: &mut Memory, pointers: &[Pointer]) -> Result<Option<Pointer>, AllocError>
     requires unsealed { memory.old.sealed ≡ false }
     requires next { memory.old.next ≤ 2 ^ 61 }
-    requires few { length pointers.now ≤ 2 ^ 28 }
+    requires few { length pointers.now ≤ byte_limit }
     requires known { All (IsKnown memory.old.list) pointers.now }
     ensures { IfOk result (λ block. MakesWith (with_pointers pointers.now memory.old) block memory.old memory.new) }
 {

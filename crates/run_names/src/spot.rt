@@ -5,11 +5,9 @@ ghost use Rattle.run_names.specs.Spots.{AreAddresses, AreSpots, absent_leaf, def
 use crate::standing::is_definition;
 use ir_eval::{Pointer, Scalar};
 use ir_tables::Linkage;
+use linkage_rules::FIRST_ADDRESS;
 use module_arena::{Arena, Checked, VariableId};
 use std::alloc::{AllocError, Global};
-
-/// The first address that a variable may have.
-const FIRST_ADDRESS: u64 = 65_536;
 
 /// How many addresses are left free behind a variable.
 const GAP: u64 = 16;

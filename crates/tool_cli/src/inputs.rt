@@ -9,7 +9,7 @@ ghost use Rattle.tool_cli.specs.Reads.{LeavesInput, LeavesFiles};
 ghost use Rattle.tool_cli.specs.Order.{has_file, HasFineFront, IsInTurn, KeepsOrder, KeepsTurn};
 ghost use Rattle.tool_cli.specs.Causes.{IsEmptied, HasRead, GaveUp, RefusesStdin, RefusesFile, Refuses, RefusesOne, IsStdinOrMemory, IsUnreadOrMemory};
 
-use command_line::Command;
+use command_line::{Command, is_dash};
 use ir_base::{FileFault, Files, ReadFault, Source, Text, TextList, read_all};
 use std::alloc::Global;
 use std::slice;
@@ -33,13 +33,6 @@ pub fn inputs_of(command: &Command) -> &[Text]
         | Command::Analyze { input, .. } => slice::from_ref(input),
         Command::Link { inputs, .. } => inputs.as_slice(),
     }
-}
-
-/// Whether this is the name of standard input.
-pub(crate) fn is_dash(name: &[u8]) -> bool
-    ensures { result ≡ is_dash name.now }
-{
-    matches!(name, b"-")
 }
 
 fn cannot_read(alloc: Global, name: &[u8]) -> Ended

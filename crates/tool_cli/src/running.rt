@@ -7,8 +7,8 @@ ghost use Rattle.run_rules.specs.Clauses.{outside};
 ghost use Rattle.tool_cli.specs.Judged.{IsShort};
 ghost use Rattle.tool_cli.specs.Running.{end_told, program_of, AnswerTold, IsRunTo, IsRan, IsBeforeRun};
 
-use crate::inputs::is_dash;
 use crate::parts::accepted_part;
+use command_line::is_dash;
 use ir_base::{Failed, Name, Sink, Source, Text, TextList};
 use module_arena::Checked;
 use name_rules::spell_global;

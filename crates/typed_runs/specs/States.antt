@@ -6,7 +6,7 @@ use Rattle.ir_memory.specs.declared.leaf.Leaf.{Leaf}
 use Rattle.ir_memory.specs.declared.leaf.Leaf.TheVariants as leaf
 use Rattle.ir_memory.specs.Given.{IsBlock}
 use Rattle.ir_memory.specs.Kept.{IsPlaced, AreKnown}
-use Rattle.ir_memory.specs.Memory.{Blocks, live_bytes, byte_limit}
+use Rattle.ir_memory.specs.Memory.{Blocks, live_bytes, byte_limit, first_address}
 use Rattle.ir_tables.specs.IntrinsicName.{has_width}
 use Rattle.ir_eval.specs.Value.{IsWidth}
 use Rattle.module_arena.specs.declared.host.HostRow.{HostRow}
@@ -25,7 +25,7 @@ use Rattle.typed_runs.specs.Kinds.{IsOf, AreAt, kinds_of, kinds_of_all}
 
 -- memory: blocks in order below the next address, however far that is, no more bytes live than may, and each block known
 pub record IsTypedMemory (m : Blocks) : Type 0 where
-  pub placed : IsPlaced 65536 m.list m.next
+  pub placed : IsPlaced first_address m.list m.next
   pub limit : live_bytes m.list ≤ byte_limit
   pub known : AreKnown (length m.list) m.list
 
@@ -41,7 +41,7 @@ AreStored count (x ∷ xs) = IsOf count x.0.leaf x.1 × AreStored count xs
 
 -- so far the next address may be moved at once: a block of all bytes, the greatest alignment and the gap
 abbrev pub reach : ℕ
-reach = 2 ^ 28 + 2 ^ 17
+reach = byte_limit + 2 ^ 17
 
 -- memory after something was done to it: no block is lost, and the next address is not far
 pub record IsLater (m n : Blocks) : Type 0 where

@@ -2,7 +2,7 @@ use Rattle.module_arena.specs.Changes.{with_variable}
 use Rattle.module_arena.specs.Known.{counts}
 use Rattle.type_build.proofs.Declaring.{memory_alone, few_still}
 use Rattle.type_build.proofs.Growing.{grows_not}
-use Rattle.entry_declare.proofs.adding.add_variable.Goals as goal
+use Rattle.entry_copy.proofs.adding.add_variable.Goals as goal
 
 pub out_of_memory-requires : goal.out_of_memory-requires
 out_of_memory-requires c =

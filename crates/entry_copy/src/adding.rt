@@ -18,7 +18,7 @@ fn out_of_memory(_fault: ArenaFault) -> AllocError
 }
 
 /// Adds a variable without an initialiser, and gives its id.
-pub(crate) fn add_variable(into: &mut Builder, variable: Variable) -> Result<GlobalId, AllocError>
+pub fn add_variable(into: &mut Builder, variable: Variable) -> Result<GlobalId, AllocError>
     requires known { KnowsVariable (length into.old.arena.table.types) (length into.old.arena.constants) variable }
     requires undefined { variable.initialiser ≡ None }
     requires free { IsFree into.old.arena variable.name }
@@ -34,7 +34,7 @@ pub(crate) fn add_variable(into: &mut Builder, variable: Variable) -> Result<Glo
 }
 
 /// Adds a function without a body, and gives its id.
-pub(crate) fn add_function(into: &mut Builder, function: Function) -> Result<GlobalId, AllocError>
+pub fn add_function(into: &mut Builder, function: Function) -> Result<GlobalId, AllocError>
     requires known { KnowsFunction (length into.old.arena.table.types) (length into.old.arena.constants) function }
     requires undefined { function.body ≡ None }
     requires free { IsFree into.old.arena function.name }
@@ -50,7 +50,7 @@ pub(crate) fn add_function(into: &mut Builder, function: Function) -> Result<Glo
 }
 
 /// Adds an alias without a target, and gives its id.
-pub(crate) fn add_alias(into: &mut Builder, alias: Alias) -> Result<GlobalId, AllocError>
+pub fn add_alias(into: &mut Builder, alias: Alias) -> Result<GlobalId, AllocError>
     requires known { KnowsAlias (length into.old.arena.table.types) (counts into.old.arena) alias }
     requires untargeted { alias.target ≡ None }
     requires free { IsFree into.old.arena alias.name }
