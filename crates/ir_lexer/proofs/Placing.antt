@@ -1,5 +1,5 @@
 -- The places of a lexer are those of the bytes of its text.
-use Rattle.std.proofs.Common.{◌≡◌, ℕ, ◌+◌, ◌≤◌, List, [], ◌∷◌, ◌++◌, length, take, drop, Bool, true, false, refl, ap, ◌∙◌, arith, Option, Some, None, length-drop, length-append, ◌==◌, if◌then◌else◌}
+use Rattle.std.proofs.Common.{◌≡◌, ℕ, ◌+◌, ◌<◌, ◌≤◌, ◌^◌, get_or, drop-cons, List, [], ◌∷◌, ◌++◌, length, take, drop, Bool, true, false, refl, ap, ◌∙◌, arith, Option, Some, None, length-drop, length-append, ◌==◌, if◌then◌else◌}
 use Rattle.std.proofs.Math.Seq.{take-add}
 use Rattle.std.proofs.lemmas.List.{length-take-le}
 use Rattle.ir_base.specs.declared.place.Place.{Place}
@@ -15,6 +15,14 @@ place_append : (p : Place) (a b : List ℕ) → place_after p (a ++ b) ≡ place
 unfolding place_after
 place_append p [] b = refl
 place_append p (x ∷ a) b = place_append (next_place p x) a b
+
+one_on : (p : Place) (text : List ℕ) (at : ℕ) → at < length text → place_after p (take 1 (drop at text)) ≡ next_place p (get_or text at 0)
+unfolding place_after
+one_on p text at h = rw (drop-cons text at 0) refl
+
+-- one byte further on
+pub place_next : (p : Place) (text : List ℕ) (at : ℕ) → at < length text → place_after p (take (at + 1) text) ≡ next_place (place_after p (take at text)) (get_or text at 0)
+place_next p text at h = ap (place_after p) (take-add at 1 text) ∙ place_append p (take at text) (take 1 (drop at text)) ∙ one_on (place_after p (take at text)) text at h
 
 -- further on
 pub place_on : (at n : ℕ) (text : List ℕ) → place_of text (at + n) ≡ place_after (place_of text at) (take n (drop at text))
@@ -49,6 +57,15 @@ near p (b ∷ s) h = go (b == 10) (near (record { line = p.line + 1; column = 1 
 -- a place is no further than its byte
 pub place_near : (text : List ℕ) (at : ℕ) → at ≤ length text → IsNear first_place (place_of text at) at
 place_near text at h = let n : length (take at text) ≡ at = length-take-le at text h in rw n at (near first_place (take at text) (omega arith))
+
+-- there is room for the places of the bytes that follow one in a text of at most 16 MiB
+pub record HasRoom (p : Place) (n : ℕ) : Type 0 where
+  pub line : p.line + n < 2 ^ 32
+  pub column : p.column + n < 2 ^ 32
+  pub first : 1 ≤ p.column
+
+pub room : (text : List ℕ) (at n : ℕ) (p : Place) → p ≡ place_of text at → at + n ≤ length text → length text ≤ 16777216 → HasRoom p n
+room text at n p e h l = let near = place_near text at (omega arith) in rw e (record { line = omega (arith, near.line); column = omega (arith, near.column); first = near.first })
 
 gap_fits : (t : List ℕ) → gap_length false t ≤ length t
 gap_fits t = go (ends t false)
