@@ -15,3 +15,4 @@ pub mod QuotedTokens
 pub mod Examples
 pub mod KnownRuns
 pub mod Placing
+pub mod Lines

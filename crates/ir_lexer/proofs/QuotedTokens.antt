@@ -98,7 +98,7 @@ zero_clean (b ∷ s) h = elim (bool_cases (b == 0)) [
 clean_name : (b : ℕ) (s : List ℕ) → list_all (λ b. not (b == 0)) (b ∷ s) ≡ true → base.IsName (b ∷ s)
 clean_name b s h = rw (ne_eqb (suc (length s)) 0 (λ e. omega (arith, e))) h
 
-or_true : (a b : Bool) → b ≡ true → cond a true b ≡ true
+pub or_true : (a b : Bool) → b ≡ true → cond a true b ≡ true
 or_true true b h = refl
 or_true false b h = h
 

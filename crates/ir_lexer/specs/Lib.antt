@@ -4,6 +4,7 @@ pub mod Quoted
 pub mod Table
 pub mod Tokens
 pub mod Names
+pub mod Lines
 pub mod Gap
 pub mod Front
 pub mod Label

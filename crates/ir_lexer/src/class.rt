@@ -74,6 +74,7 @@ pub enum ClassSet {
     Quotes,
     /// The colon.
     Colons,
+    InLine,
 }
 
 impl ClassSet {
@@ -112,6 +113,7 @@ impl ClassSet {
             ClassSet::NoQuote => !matches!(class, Class::Quote),
             ClassSet::Quotes => matches!(class, Class::Quote),
             ClassSet::Colons => matches!(class, Class::Colon),
+            ClassSet::InLine => !matches!(class, Class::LineFeed),
         }
     }
 }

@@ -1,10 +1,10 @@
 //! The token at the front of a text, by its first byte.
-ghost use Rattle.std.specs.Prelude.{◌≡◌, ◌+◌, ◌≤◌, length, IfSome};
+ghost use Rattle.std.specs.Prelude.{◌≡◌, ◌+◌, ◌≤◌, length, take, IfSome};
 ghost use Rattle.ir_lexer.specs.Class.{in_word};
 ghost use Rattle.ir_lexer.specs.Form.{longest, run};
 ghost use Rattle.ir_lexer.specs.Front.{next_token, token_from};
 ghost use Rattle.ir_lexer.specs.Label.{KnownRun};
-ghost use Rattle.ir_lexer.specs.Table.{Label, tail_of};
+ghost use Rattle.ir_lexer.specs.Table.{IsToken, Label, tail_of};
 ghost use Rattle.ir_lexer.specs.declared.class.Class.TheVariants.{Quote, LetterC, Letter, Digit, Minus, Dollar, Dot, At, Percent, Bang, Hash};
 
 use crate::class::{Class, ClassSet, class_of};
@@ -182,13 +182,14 @@ fn token_of(known: usize, word: usize, text: &[u8]) -> Option<(TokenKind, usize)
     }
 }
 
-/// The kind and the length of the token at the front, which is no longer than the text. So many bytes of a word stand
-/// there.
+/// The kind and the length of the token at the front, which is no longer than the text and spelled as its kind is. So
+/// many bytes of a word stand there.
 pub fn fitting_token_of(known: usize, word: usize, text: &[u8]) -> Option<(TokenKind, usize)>
     requires known { KnownRun known text.now }
     requires word { word ≡ run in_word text.now }
     ensures token { result ≡ next_token text.now }
     ensures in_text { IfSome result (λ found. found.1 ≤ length text.now) }
+    ensures spelled { IfSome result (λ found. IsToken found.0 (take found.1 text.now)) }
 {
     token_of(known, word, text)
 }

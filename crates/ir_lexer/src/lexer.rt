@@ -1,17 +1,18 @@
 //! A lexer: it goes over a text that it borrows, token by token.
-ghost use Rattle.std.specs.Prelude.{◌≡◌, ◌≤◌, length, IfSome};
+ghost use Rattle.std.specs.Prelude.{◌≡◌, ◌≤◌, length, take, IfSome};
 ghost use Rattle.ir_lexer.specs.Class.{in_word};
 ghost use Rattle.ir_lexer.specs.Form.{run};
 ghost use Rattle.ir_lexer.specs.Front.{next_token};
-ghost use Rattle.ir_lexer.specs.Place.{place_of};
+ghost use Rattle.ir_lexer.specs.Place.{place_of, place_after};
+ghost use Rattle.ir_lexer.specs.Table.{IsToken};
 ghost use Rattle.ir_lexer.specs.Lexer.{at_start, rest, spelled, Says, IsPlaced, Stays, answer, after, advanced, skipped, token_at, is_nil};
 
 use crate::class::ClassSet;
 use crate::front::fitting_token_of;
 use crate::gap::gap_of;
 use crate::label::run_without_label;
-use crate::place::place_behind;
-use crate::run::run_of;
+use crate::place::place_behind_token;
+use crate::run::{begins, run_of};
 use crate::token::{BadByte, Token, TokenKind};
 use ir_base::Place;
 use std::marker::Model;
@@ -57,14 +58,14 @@ impl<'t> Lexer<'t> {
         }
     }
 
-    /// Goes over bytes of the rest.
-    fn advance(&mut self, n: usize)
-        requires { n ≤ length (rest self.old) }
+    /// Goes over bytes of the rest, behind which the place is this one.
+    fn advance(&mut self, n: usize, place: Place)
+        requires within { n ≤ length (rest self.old) }
+        requires place { place ≡ place_after (place_of self.old.text self.old.at) (take n (rest self.old)) }
         ensures { self.new ≡ advanced self.old n }
     {
-        let end = self.at + n;
-        self.place = place_behind(self.place, &self.text[self.at..end]);
-        self.at = end;
+        self.place = place;
+        self.at += n;
     }
 
     /// Goes over separators and comments.
@@ -73,8 +74,8 @@ impl<'t> Lexer<'t> {
         ensures skipped { self.new ≡ skipped self.old }
         ensures within { self.old.at ≤ length self.old.text }
     {
-        let gap = gap_of(&self.text[self.at..]);
-        self.advance(gap);
+        let (gap, place) = gap_of(self.place, &self.text[self.at..]);
+        self.advance(gap, place);
     }
 
     /// Whether nothing is left.
@@ -101,11 +102,25 @@ impl<'t> Lexer<'t> {
         }
     }
 
+    /// How many bytes of a word stand here. Where bytes of names stand here, the end of their run is looked for once.
+    fn survey(&mut self) -> usize
+        ensures word { result ≡ run in_word (rest self.old) }
+        ensures same { self.new ≡ self.old }
+    {
+        if !begins(ClassSet::InName, &self.text[self.at..]) {
+            return 0;
+        }
+        let word = self.word();
+        self.scout(word);
+        word
+    }
+
     /// The kind and the length of the token here, where so many bytes of a word stand.
     fn front(&self, word: usize) -> Option<(TokenKind, usize)>
         requires { word ≡ run in_word (rest self.now) }
         ensures token { result ≡ next_token (rest self.now) }
         ensures in_rest { IfSome result (λ found. found.1 ≤ length (rest self.now)) }
+        ensures spelled { IfSome result (λ found. IsToken found.0 (take found.1 (rest self.now))) }
     {
         let known = self.known.saturating_sub(self.at);
         fitting_token_of(known, word, &self.text[self.at..])
@@ -120,13 +135,15 @@ impl<'t> Lexer<'t> {
 
     /// The token of this kind and length, which it goes over.
     fn take(&mut self, kind: TokenKind, count: usize) -> Token
-        requires { count ≤ length (rest self.old) }
+        requires within { count ≤ length (rest self.old) }
+        requires spelled { IsToken kind (take count (rest self.old)) }
         ensures token { result ≡ token_at self.old kind count }
         ensures after { self.new ≡ advanced self.old count }
     {
         let place = self.place;
         let start = self.at;
-        self.advance(count);
+        let behind = place_behind_token(place, kind, &self.text[start..start + count]);
+        self.advance(count, behind);
         Token {
             kind,
             place,
@@ -146,8 +163,7 @@ impl<'t> Lexer<'t> {
         if self.is_at_end() {
             return Ok(None);
         }
-        let word = self.word();
-        self.scout(word);
+        let word = self.survey();
         match self.front(word) {
             Some((kind, count)) => Ok(Some(self.take(kind, count))),
             None => Err(BadByte {
