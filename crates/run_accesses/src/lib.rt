@@ -13,6 +13,7 @@ mod displaced;
 mod distance;
 mod loads;
 mod result;
+mod slot;
 mod stores;
 
 pub use address::displace;

@@ -1,6 +1,6 @@
 //! The result of an instruction.
 ghost use Rattle.std.specs.Prelude.{◌≡◌, ◌∷◌, [], length};
-ghost use Rattle.run_rules.specs.Frame.{with_result};
+ghost use Rattle.run_rules.specs.Frame.{with_result, with_value};
 ghost use Rattle.run_stack.specs.UnderWay.{changed};
 ghost use Rattle.run_actions.specs.Operands.{HasPlaces, IsPlace, MayGoOn};
 
@@ -16,14 +16,27 @@ pub(crate) fn only<T: Copy>(items: &[T]) -> T
     items[0]
 }
 
+/// Sets a leaf of the newest frame. A leaf of each kind is written as one of that kind, so that none is copied by way of memory.
+#[inline(always)]
+fn put(stack: &mut Stack, to: u32, leaf: Scalar)
+    requires { IsPlace stack.old to }
+    ensures { stack.new ≡ changed (λ f. with_value f to (leaf ∷ [])) stack.old }
+{
+    match leaf {
+        Scalar::Int(number) => stack.set(to, Scalar::Int(number)),
+        Scalar::Ptr(pointer) => stack.set(to, Scalar::Ptr(pointer)),
+        Scalar::Poison => stack.set(to, Scalar::Poison),
+    }
+}
+
 /// The result is this leaf, and the next instruction is due.
-#[inline]
+#[inline(always)]
 pub(crate) fn give(stack: &mut Stack, to: u32, leaf: Scalar)
     requires on { MayGoOn stack.old }
     requires place { IsPlace stack.old to }
     ensures { stack.new ≡ changed (λ f. with_result f to (leaf ∷ [])) stack.old }
 {
-    stack.set(to, leaf);
+    put(stack, to, leaf);
     stack.move_on();
 }
 

@@ -1,7 +1,4 @@
-use Rattle.std.proofs.Common.{map, sym, ap, ◌∙◌}
-use Rattle.std.specs.Prelude.{zip}
-use Rattle.ir_eval.specs.declared.value.Scalar.{Scalar}
-use Rattle.run_rules.specs.Access.{stored_value}
+use Rattle.std.proofs.Common.{refl}
 use Rattle.run_actions.specs.Operands.{leaf_of}
 use Rattle.run_accesses.proofs.Storing.{store_refused, stored}
 use Rattle.run_accesses.proofs.stores.store.Goals as goal
@@ -9,11 +6,9 @@ use Rattle.run_accesses.proofs.stores.store.Goals as goal
 pub returns-in-Ok-clause-stores : goal.returns-in-Ok-clause-stores
 returns-in-Ok-clause-stores c =
     let a = c.args in
-    let old = a.stack.now in
-    stored a.align a.address.now a.slots.now a.value.now old a.memory.now c.move_on.new.self c.put_value.new.memory c.requires.on.running c.move_on.ensures
-    (ap (λ (v : Scalar). stored_value v a.align (zip a.slots.now (map (leaf_of old) a.value.now)) a.memory.now) (sym c.read-address.ensures) ∙ c.in-Ok.ensures.stored)
+    stored a.align a.address.now a.slots.now a.value.now a.stack.now a.memory.now c.move_on.new.self c.put_value.new.memory c.requires.on.running c.move_on.ensures c.in-Ok.ensures.stored
 
 pub returns-in-Err-clause-stores : goal.returns-in-Err-clause-stores
 returns-in-Err-clause-stores c =
     let a = c.args in
-    store_refused a.align a.address.now a.slots.now a.value.now a.stack.now a.memory.now c.read-address.result c.put_value.new.memory c.in-Err.fault c.read-address.ensures c.in-Err.ensures.stored
+    store_refused a.align a.address.now a.slots.now a.value.now a.stack.now a.memory.now (leaf_of a.stack.now a.address.now) c.put_value.new.memory c.in-Err.fault refl c.in-Err.ensures.stored
