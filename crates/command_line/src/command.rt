@@ -46,8 +46,8 @@ impl UsageKind {
 #[derive(Clone, Copy, Debug, Error)]
 pub enum WordsFault {
     /// What is wrong, and the number of the word.
-    #[error("usage: {kind} at word {word}", kind = .0.words(), word = .1)]
-    Usage(UsageKind, u64),
+    #[error("usage: {} at word {word}", .kind.words())]
+    Usage { kind: UsageKind, word: u64 },
     /// Memory ran out.
     #[error("out of memory")]
     Memory,

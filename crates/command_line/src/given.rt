@@ -38,7 +38,10 @@ fn name_of(alloc: Global, value: &[u8], at: u64) -> Result<Name, WordsFault>
 {
     match Name::from_text(Text::from_slice(alloc, value)?) {
         Ok(name) => Ok(name),
-        Err(_) => Err(WordsFault::Usage(UsageKind::MissingValue, at)),
+        Err(_) => Err(WordsFault::Usage {
+            kind: UsageKind::MissingValue,
+            word: at,
+        }),
     }
 }
 
@@ -80,7 +83,10 @@ impl Given {
         ensures { Gives result self.new (with_output self.old value.now at) }
     {
         if self.output.is_some() {
-            return Err(WordsFault::Usage(UsageKind::Repeated, at));
+            return Err(WordsFault::Usage {
+                kind: UsageKind::Repeated,
+                word: at,
+            });
         }
         self.output = Some(output_name(alloc, value)?);
         Ok(())
@@ -93,13 +99,22 @@ impl Given {
     {
         let number = number_of(value);
         if number.is_none() && value_at == at {
-            return Err(WordsFault::Usage(UsageKind::BadNumber, at));
+            return Err(WordsFault::Usage {
+                kind: UsageKind::BadNumber,
+                word: at,
+            });
         }
         if self.max_steps.is_some() {
-            return Err(WordsFault::Usage(UsageKind::Repeated, at));
+            return Err(WordsFault::Usage {
+                kind: UsageKind::Repeated,
+                word: at,
+            });
         }
         if number.is_none() {
-            return Err(WordsFault::Usage(UsageKind::BadNumber, value_at));
+            return Err(WordsFault::Usage {
+                kind: UsageKind::BadNumber,
+                word: value_at,
+            });
         }
         self.max_steps = number;
         Ok(())
@@ -142,10 +157,16 @@ impl Given {
     {
         let dash = is_dash(word);
         if dash && self.dash {
-            return Err(WordsFault::Usage(UsageKind::Repeated, at));
+            return Err(WordsFault::Usage {
+                kind: UsageKind::Repeated,
+                word: at,
+            });
         }
         if self.tool.takes_one() && !self.others.is_empty() {
-            return Err(WordsFault::Usage(UsageKind::TooManyFiles, at));
+            return Err(WordsFault::Usage {
+                kind: UsageKind::TooManyFiles,
+                word: at,
+            });
         }
         self.others.push(Text::from_slice(alloc, word)?)?;
         self.dash = dash || self.dash;
@@ -192,12 +213,18 @@ impl Given {
             }
             Spelling::Open(setting) => {
                 let Some(value) = next else {
-                    return Err(WordsFault::Usage(UsageKind::MissingValue, at));
+                    return Err(WordsFault::Usage {
+                        kind: UsageKind::MissingValue,
+                        word: at,
+                    });
                 };
                 self.give(alloc, setting, value.bytes(), at, at + 1)?;
                 Ok(2)
             }
-            Spelling::Unknown => Err(WordsFault::Usage(UsageKind::UnknownOption, at)),
+            Spelling::Unknown => Err(WordsFault::Usage {
+                kind: UsageKind::UnknownOption,
+                word: at,
+            }),
             Spelling::Input => {
                 self.add_input(alloc, word, at)?;
                 Ok(1)

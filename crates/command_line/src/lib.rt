@@ -8,8 +8,8 @@
 //! ```
 //! read_words(alloc, words)
 //! // of `llvm-as a.ll`: Ok(Command::Assemble { input, output }): `a.ll`, and OutputName::File(name), which is `a.bc`
-//! // of `llvm-link`: Err(WordsFault::Usage(UsageKind::NoFile, 1))
-//! // of `llvm-as -x`: Err(WordsFault::Usage(UsageKind::UnknownOption, 1))
+//! // of `llvm-link`: Err(WordsFault::Usage { kind: UsageKind::NoFile, word: 1 })
+//! // of `llvm-as -x`: Err(WordsFault::Usage { kind: UsageKind::UnknownOption, word: 1 })
 //! ```
 #![tactic(auto)]
 

@@ -28,7 +28,10 @@ fn given_by(alloc: Global, tool: Tool, words: &[Text]) -> Result<Given, WordsFau
         at += given.take(alloc, &words[at], word_at(words, at + 1), at as u64)?;
     }
     if given.lacks_file() {
-        return Err(WordsFault::Usage(UsageKind::NoFile, words.len() as u64));
+        return Err(WordsFault::Usage {
+            kind: UsageKind::NoFile,
+            word: words.len() as u64,
+        });
     }
     Ok(given)
 }
@@ -38,7 +41,10 @@ fn read(alloc: Global, words: &[Text]) -> Result<Command, WordsFault>
     ensures { Answers result (reading words.now) }
 {
     let Some(tool) = tool_of(words) else {
-        return Err(WordsFault::Usage(UsageKind::NoTool, 0));
+        return Err(WordsFault::Usage {
+            kind: UsageKind::NoTool,
+            word: 0,
+        });
     };
     let given = given_by(alloc, tool, words)?;
     Ok(given.command(alloc)?)
