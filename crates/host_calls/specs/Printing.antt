@@ -1,10 +1,7 @@
 -- Says how the code reads: the arguments of `printf`, by their leaves.
-use Rattle.std.specs.Prelude.{◌≡◌, ℕ, ◌≤◌, ⊤, Bool, true, false, List, [], ◌∷◌, drop, length, map, Option, Some, None, Result, Ok}
-use Rattle.std.specs.Result.{IsErr}
+use Rattle.std.specs.Prelude.{◌≡◌, ℕ, ◌≤◌, ⊤, Bool, true, false, List, [], ◌∷◌, drop, length, map, Option, Some, None, Ok}
 use Rattle.ir_eval.specs.declared.value.Scalar.{Scalar}
 use Rattle.ir_memory.specs.Memory.{Blocks}
-use Rattle.ir_memory.specs.declared.fault.MemoryFault.{MemoryFault}
-use Rattle.ir_memory.specs.declared.fault.MemoryFault.TheVariants as faults
 use Rattle.ir_memory.specs.declared.leaf.Leaf.{Leaf}
 use Rattle.ir_memory.specs.declared.leaf.Leaf.TheVariants as leaf
 use Rattle.ir_printf.specs.declared.conversion.Conversion.{Conversion}
@@ -12,8 +9,6 @@ use Rattle.ir_printf.specs.declared.conversion.ConversionKind.{ConversionKind}
 use Rattle.ir_printf.specs.declared.conversion.ConversionKind.TheVariants as kind
 use Rattle.ir_printf.specs.declared.conversion.Length.{Length}
 use Rattle.ir_printf.specs.declared.conversion.Length.TheVariants as size
-use Rattle.run_host.specs.declared.answer.Answer.{Answer}
-use Rattle.run_host.specs.declared.answer.Answer.TheVariants.{Fails, MemoryLimit}
 use Rattle.run_rules.specs.Printing.{Rest, then_bytes, written_conversion}
 use Rattle.type_table.specs.Shape.{Shape, int_leaf, ptr_leaf, void_leaf}
 use Rattle.typed_runs.specs.Kinds.{IsOf}
@@ -54,9 +49,3 @@ pub record IsConversion (m : Blocks) (c : Conversion) (kinds : List (Option Leaf
   pub arguments_there : taken ≤ length arguments
   pub others : AreOf (length m.list) (drop taken kinds) (drop taken arguments)
   pub wrote : (rest : Rest) (to at : ℕ) → written_conversion m rest c c.kind to at (map shape_from kinds) arguments ≡ then_bytes (Ok bytes) (rest to (map shape_from (drop taken kinds)) (drop taken arguments))
-
--- what is answered where memory refused
-abbrev pub Refuses : {E : Type 0} → MemoryFault → Result Answer E → Type 0
-Refuses (faults.Undefined kind) answer = answer ≡ Ok (Fails kind)
-Refuses faults.MemoryLimit answer = answer ≡ Ok MemoryLimit
-Refuses faults.Memory answer = IsErr answer

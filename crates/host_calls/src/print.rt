@@ -2,27 +2,16 @@
 ghost use Rattle.std.specs.Prelude.{◌+◌, length, map};
 ghost use Rattle.run_host.specs.Answers.{Writes};
 ghost use Rattle.run_rules.specs.Printing.{printed, prints, written_from};
-ghost use Rattle.host_calls.specs.Printing.{AreOf, ArePrinted, Refuses, shape_from};
+ghost use Rattle.host_calls.specs.Printing.{AreOf, ArePrinted, shape_from};
 
 use crate::argument::one;
 use crate::pattern::{Format, put_pieces};
 use ir_eval::Scalar;
-use ir_memory::{Leaf, Memory, MemoryFault};
+use ir_memory::{Leaf, Memory};
 use ir_tables::UndefinedKind;
-use run_host::Answer;
+use run_host::{Answer, refused};
 use run_values::push_string;
 use std::alloc::{AllocError, Global};
-
-/// What is answered where memory refused.
-fn refused(fault: MemoryFault) -> Result<Answer, AllocError>
-    ensures { Refuses fault result }
-{
-    match fault {
-        MemoryFault::Undefined(kind) => Ok(Answer::Fails(kind)),
-        MemoryFault::MemoryLimit => Ok(Answer::MemoryLimit),
-        MemoryFault::Memory => Err(AllocError),
-    }
-}
 
 /// Writes a pattern that was read, whose arguments are there: the result is the count of bytes modulo 2^32. Nothing is written where
 /// anything is undefined.

@@ -1,7 +1,6 @@
 //! The names of symbols in the module that is made of their parts.
 ghost use Rattle.std.specs.Prelude.{◌≡◌, ◌∷◌, [], map, All, IfOk, OnOk};
 ghost use Rattle.linkage_rules.specs.Globals.{name_of};
-ghost use Rattle.linkage_rules.specs.Grouped.{AreIds};
 ghost use Rattle.linkage_rules.specs.Ids.{IsEntryId, modules, seen};
 ghost use Rattle.linkage_rules.specs.Symbols.{symbols as all_symbols};
 ghost use Rattle.module_linker.specs.Rename.{all_names, renaming, shared_names};
@@ -10,20 +9,9 @@ ghost use Rattle.link_names.specs.Naming.{HasMore, GivesName};
 use crate::Naming;
 use crate::numbered::base_of;
 use ir_base::{Name, NameList};
-use linkage_rules::{EntryId, Symbol, arena_of, name, push_part};
+use linkage_rules::{EntryId, Symbol, all_ids, name};
 use module_arena::Checked;
 use std::alloc::{AllocError, Global};
-
-/// The ids of all entries, part by part.
-fn all_ids(alloc: Global, parts: &[Checked]) -> Result<Vec<EntryId>, AllocError>
-    ensures { IfOk result (λ ids. AreIds parts.now ids.items) }
-{
-    let mut ids = Vec::new(alloc);
-    for part in 0..parts.len() {
-        push_part(&mut ids, part as u64, arena_of(parts, part as u64))?;
-    }
-    Ok(ids)
-}
 
 /// Avoids the names of some entries.
 fn avoid_names(

@@ -7,7 +7,7 @@ ghost use Rattle.linkage_rules.specs.Resolved.{IsFault};
 ghost use Rattle.linkage_rules.specs.Symbols.{symbols};
 
 use crate::clash::refuse_conflict;
-use crate::gather::gathered;
+use crate::gather::all_ids;
 use crate::groups::{Groups, aliases_among, filed, group};
 use crate::homes::{home_of, homes};
 use crate::order::{kind_of, ordered};
@@ -78,7 +78,7 @@ pub fn resolve_symbols(alloc: Global, parts: &[Checked]) -> Result<Bindings, Sym
     ensures homes { IfOk result (λ b. AreHomes parts.now (map (λ r. r.0) b.groups) b.homes) }
     ensures fault { IfErr result (IsFault (modules parts.now)) }
 {
-    let ids = gathered(alloc, parts)?;
+    let ids = all_ids(alloc, parts)?;
     let groups = filed(alloc, parts, &ids)?;
     let homes = homes(alloc, parts, &groups)?;
     let found = aliases_among(alloc, parts, &ids)?;

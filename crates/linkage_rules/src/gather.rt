@@ -34,7 +34,7 @@ pub fn push_part(ids: &mut Vec<EntryId>, part: u64, arena: &Arena) -> Result<(),
 }
 
 /// The ids of all entries, part by part.
-pub(crate) fn gathered(alloc: Global, parts: &[Checked]) -> Result<Vec<EntryId>, AllocError>
+pub fn all_ids(alloc: Global, parts: &[Checked]) -> Result<Vec<EntryId>, AllocError>
     ensures ids { IfOk result (λ ids. AreIds parts.now ids.items) }
     ensures sound { IfOk result (λ _. All IsSound parts.now) }
 {

@@ -35,7 +35,7 @@ pub(crate) fn one(first: Scalar) -> Option<Outcome>
 }
 
 /// What is answered where memory refused.
-pub(crate) fn refused(fault: MemoryFault) -> Result<Answer, AllocError>
+pub fn refused(fault: MemoryFault) -> Result<Answer, AllocError>
     ensures { Refuses fault result }
 {
     match fault {

@@ -16,7 +16,7 @@ mod integer;
 mod range;
 mod written;
 
-pub use answer::Answer;
+pub use answer::{Answer, refused};
 pub use block::{allocate, free};
 pub use counted::string_length;
 pub use integer::evaluate;

@@ -3,7 +3,7 @@ use Rattle.module_arena.specs.Sound.{IsSound}
 use Rattle.linkage_rules.specs.Grouped.{AreIds, ids_of, ids_from}
 use Rattle.linkage_rules.proofs.Gathered.{are_ids}
 use Rattle.linkage_rules.proofs.Steps.{take_more, drop_more, take_whole, drop_whole, all_more}
-use Rattle.linkage_rules.proofs.gather.gathered.Goals as goal
+use Rattle.linkage_rules.proofs.gather.all_ids.Goals as goal
 
 pub loop-part-preserved : goal.loop-part-preserved
 loop-part-preserved c =

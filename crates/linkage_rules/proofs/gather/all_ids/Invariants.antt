@@ -1,7 +1,7 @@
 use Rattle.std.proofs.Common.{◌≡◌, ◌++◌, take, drop, All}
 use Rattle.module_arena.specs.Sound.{IsSound}
 use Rattle.linkage_rules.specs.Grouped.{ids_from}
-use Rattle.linkage_rules.proofs.gather.gathered.Given as goal
+use Rattle.linkage_rules.proofs.gather.all_ids.Given as goal
 
 abbrev pub invariant-loop-part : goal.invariant-loop-part
 invariant-loop-part l = record {
