@@ -1,5 +1,5 @@
 //! One block as memory keeps it.
-ghost use Rattle.std.specs.Prelude.{◌≡◌, ◌+◌, ◌&&◌, nat_le, IfOk, ℕ, Option, true};
+ghost use Rattle.std.specs.Prelude.{◌≡◌, ◌≢◌, ◌+◌, ◌&&◌, nat_le, IfOk, ℕ, Option, true, false};
 ghost use Rattle.ir_memory.specs.Block as block;
 ghost use Rattle.ir_memory.specs.Seen.{fresh, ended_block, seen};
 ghost use Rattle.pointer_pieces.specs.declared.piece.Piece.{Piece};
@@ -56,7 +56,8 @@ impl KeptBlock {
 
     /// Whether nothing of it is kept.
     pub fn is_gone(&self) -> bool
-        ensures { result ≡ true → self.now ≡ ended_block }
+        ensures gone { result ≡ true → self.now ≡ ended_block }
+        ensures kept { result ≡ false → self.now ≢ ended_block }
     {
         if self.live {
             return false;

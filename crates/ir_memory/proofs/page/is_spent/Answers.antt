@@ -11,7 +11,7 @@ blocks-2-preserved c =
     let i = c.blocks-2.block-index in
     let b = c.block-item.result in
     let lt : i < length rows = omega arith in
-    below_more _ _ c.blocks-2.invariant (get_or_default rows i ended_block b lt ∙ sym c.block-item.is ∙ c.if-not-is_gone.ensures refl)
+    below_more _ _ c.blocks-2.invariant (get_or_default rows i ended_block b lt ∙ sym c.block-item.is ∙ c.if-not-is_gone.ensures.gone refl)
 
 pub returns-clause-ended : goal.returns-clause-ended
 returns-clause-ended c = λ _ k. elim (cases_lt k (length c.args.rows.now)) [
