@@ -92,7 +92,7 @@ pub struct Definition {
 /// An item, with the place of its first token where no name has it.
 #[derive(Drop)]
 pub enum Item {
-    /// `source_filename`: what the module was made from.
+    /// `source_filename`: the name of the source that the module was made from.
     SourceFilename {
         place: Place,
         text: PlacedText,
