@@ -48,6 +48,13 @@ pub enum DueCall {
 }
 
 /// The calls that are due, in order. A clause sees those that are not made yet.
+///
+/// ```
+/// let mut due = DueCalls::new(calls); // DueCall::Constructor(first) and DueCall::Main(main)
+/// due.next() // Some(DueCall::Constructor(first))
+/// due.next() // Some(DueCall::Main(main))
+/// due.is_empty() // true
+/// ```
 #[derive(Drop)]
 pub struct DueCalls {
     calls: Vec<DueCall>,

@@ -5,6 +5,11 @@ use ir_tables::{Flags, Opcode, Predicate};
 use type_table::TypeId;
 
 /// A term of a `getelementptr`: so many elements of a size, or so many bytes up to a field.
+///
+/// ```
+/// // of `getelementptr i32, ptr %p, i64 %n`, where `%n` stands at place 1 of the frame
+/// Term { index: LeafAt::Held(1), width: 64, size: 4, gathered: false }
+/// ```
 #[derive(Clone, Copy)]
 pub struct Term {
     pub index: LeafAt,

@@ -11,6 +11,10 @@ pub enum LeafAt {
 }
 
 /// Some items of a pool that follow one another: the place of the first, counted from 0, and how many they are.
+///
+/// ```
+/// Span { first: 1, count: 2 } // the second item and the third
+/// ```
 #[derive(Clone, Copy, Debug, PartialEq, Eq)]
 pub struct Span {
     pub first: u32,

@@ -15,6 +15,10 @@ const FIRST_ADDRESS: u64 = 65_536;
 const GAP: u64 = 16;
 
 /// Where a variable lies. Its block has the number of its spot, counted from 0.
+///
+/// ```
+/// Spot { variable, start: 65_536, size: 4, align: 4 } // of `@a = global i32 7`, the one variable of its module
+/// ```
 #[derive(Clone, Copy)]
 pub struct Spot {
     /// Which one.
