@@ -157,6 +157,15 @@ impl Tail {
 }
 
 /// An abbreviation that the format admits: the spelling of the code, of each operand, and of what follows.
+///
+/// ```
+/// // that of AbbrevOp::Vbr(6), AbbrevOp::Fixed(8) and AbbrevOp::Blob
+/// Template {
+///     code: Scalar::Chunks(NarrowWidth::new(6)),
+///     operands, // Scalar::Field of 8 bits
+///     tail: Tail::Bytes,
+/// }
+/// ```
 #[derive(Drop)]
 pub struct Template {
     pub code: Scalar,

@@ -21,6 +21,10 @@ const COUNT_LIMIT: u64 = 262_144;
 pub(crate) const APPENDED_LIMIT: u64 = 1 << 40;
 
 /// What there are too many of, and how many; 2^64 - 1 where there are more.
+///
+/// ```
+/// Count { kind: CountKind::Structs, number: 262_145 } // one struct too many
+/// ```
 #[derive(Clone, Copy)]
 pub struct Count {
     pub kind: CountKind,

@@ -37,6 +37,11 @@ const ABORTED: u8 = 134;
 
 /// A function that is yet to be entered, by its address: a constructor; or main, with the count of its arguments and their array where
 /// it takes them.
+///
+/// ```
+/// DueCall::Main(address) // of `define i32 @main()`
+/// DueCall::MainWith(address, 1, array) // of `define i32 @main(i32 %argc, ptr %argv)`, and one word
+/// ```
 #[derive(Clone, Copy)]
 pub enum DueCall {
     /// A constructor.
