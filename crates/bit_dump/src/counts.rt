@@ -6,6 +6,10 @@ ghost use Rattle.bit_dump.specs.Halves.{no_half, whole};
 use std::alloc::AllocError;
 
 /// How many blocks, records, and definitions of abbreviations.
+///
+/// ```
+/// Counts { blocks: 4, records: 3, abbreviations: 2 } // of the bitcode of the empty module
+/// ```
 #[derive(Clone, Copy)]
 pub struct Counts {
     pub blocks: u32,

@@ -7,6 +7,11 @@ use std::alloc::{AllocError, Global};
 use std::marker::Model;
 
 /// An operand of an abbreviation, as it is defined. Widths are in bits.
+///
+/// ```
+/// // of records of bytes, whose code takes 6 bits or more: the code, a count, and 8 bits a byte
+/// [AbbrevOp::Vbr(6), AbbrevOp::Array, AbbrevOp::Fixed(8)]
+/// ```
 #[derive(Clone, Copy)]
 pub enum AbbrevOp {
     /// The value itself; a record spells nothing.
@@ -82,6 +87,7 @@ impl Model for NarrowWidth {
 }
 
 impl NarrowWidth {
+    /// The width of so many bits.
     pub fn new(bits: u32) -> Self
         requires low { 2 ≤ bits }
         requires high { bits ≤ 32 }
@@ -90,6 +96,7 @@ impl NarrowWidth {
         NarrowWidth { bits }
     }
 
+    /// The bits, from 2 to 32.
     pub fn bits(self) -> u32
         ensures value { result ≡ self }
         ensures low { 2 ≤ result }
@@ -150,6 +157,15 @@ impl Tail {
 }
 
 /// An abbreviation that the format admits: the spelling of the code, of each operand, and of what follows.
+///
+/// ```
+/// // that of AbbrevOp::Vbr(6), AbbrevOp::Fixed(8) and AbbrevOp::Blob
+/// Template {
+///     code: Scalar::Chunks(NarrowWidth::new(6)),
+///     operands, // Scalar::Field of 8 bits
+///     tail: Tail::Bytes,
+/// }
+/// ```
 #[derive(Drop)]
 pub struct Template {
     pub code: Scalar,

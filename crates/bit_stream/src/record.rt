@@ -15,6 +15,10 @@ use bits::{BitCursor, BitFault};
 const LETTERS: [u8; 64] = *b"abcdefghijklmnopqrstuvwxyzABCDEFGHIJKLMNOPQRSTUVWXYZ0123456789._";
 
 /// A record but for its operands, which are held apart.
+///
+/// ```
+/// Head { code: 1, blob: &[], has_blob: false } // of a record of that code, by no abbreviation that ends in a blob
+/// ```
 #[derive(Drop)]
 pub struct Head<'b> {
     pub code: u32,

@@ -26,6 +26,10 @@ pub enum BitFaultKind {
 }
 
 /// A fault, and the first bit of the field that is refused, counted from 0.
+///
+/// ```
+/// BitFault { kind: BitFaultKind::BadMagic, bit: 0 } // of bytes that do not begin with 42 43 C0 DE
+/// ```
 #[derive(Clone, Copy, Debug, PartialEq, Eq, Error)]
 #[error("bit {bit}: {kind}")]
 pub struct BitFault {

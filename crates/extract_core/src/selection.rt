@@ -5,6 +5,16 @@ use thiserror::Error;
 
 /// Which definitions of a module are to be kept: those of these names with their aliases, with `recursive` also the
 /// functions that chosen functions call, and with `delete` all others in their place.
+///
+/// ```
+/// Selection {
+///     functions, // `main`
+///     variables: NameList::new(alloc),
+///     aliases: NameList::new(alloc),
+///     delete: false,
+///     recursive: true,
+/// } // `main`, the functions that it calls, those that these call, and so on
+/// ```
 #[derive(Drop)]
 pub struct Selection {
     pub functions: NameList,

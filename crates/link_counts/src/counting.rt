@@ -9,6 +9,10 @@ use linkage_rules::{Bindings, Symbol, SymbolKind};
 use module_arena::Checked;
 
 /// How many symbols of some parts are variables, functions and aliases.
+///
+/// ```
+/// SymbolCounts { variables: 1, functions: 1, aliases: 0 } // of `@a = global i32 7` and `declare void @f()`
+/// ```
 #[derive(Clone, Copy)]
 pub struct SymbolCounts {
     pub variables: u64,

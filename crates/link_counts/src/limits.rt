@@ -18,6 +18,10 @@ use module_arena::{COUNT_LIMIT, Checked, CountKind};
 pub(crate) const APPENDED_LIMIT: u64 = 1 << 40;
 
 /// What there are too many of, and how many; 2^64 - 1 where there are more.
+///
+/// ```
+/// Count { kind: CountKind::Structs, number: 262_145 } // one struct too many
+/// ```
 #[derive(Clone, Copy)]
 pub struct Count {
     pub kind: CountKind,

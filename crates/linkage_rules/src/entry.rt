@@ -19,6 +19,11 @@ use module_arena::{
 use std::alloc::{AllocError, Global};
 
 /// Which entry of which part. Parts are counted from 0, and entries of one kind in the order of their making.
+///
+/// ```
+/// EntryId { part: 1, kind: SymbolKind::Function, number: 0 } // the first function of the second part
+/// EntryId::of(1, GlobalId::Function(id)) // the same, where the number of `id` is 0
+/// ```
 #[derive(Clone, Copy)]
 pub struct EntryId {
     pub part: u64,

@@ -16,6 +16,10 @@ use linkage_rules::{Bindings, EntryId, Symbol, head_of, is_definition};
 use module_arena::Checked;
 
 /// What a variable needs in memory.
+///
+/// ```
+/// Room { size: 4, alignment: 4 } // of `@a = global i32 7`
+/// ```
 #[derive(Clone, Copy)]
 pub struct Room {
     /// Its bytes; 2^64 - 1 where there are more.

@@ -25,6 +25,13 @@ use type_table::{IrType, TypeId};
 const OPERAND_BITS: u8 = 64;
 
 /// An arena, with the places of its types and texts among those of its module's records.
+///
+/// ```
+/// let numbering = Numbering::new(alloc, arena)?; // of `@a = global [2 x i32] zeroinitializer`
+/// numbering.types() // `i32` and `[2 x i32]`
+/// numbering.table() // [97]: the name `a`
+/// numbering.global_index(GlobalId::Variable(id)) // 0
+/// ```
 #[derive(Drop)]
 pub struct Numbering<'a> {
     arena: &'a Arena,

@@ -16,6 +16,11 @@ use run_stack::{Origin, Stack};
 use std::alloc::AllocError;
 
 /// A leaf of each of the two operands of a select.
+///
+/// ```
+/// // of `select i1 %c, i32 %a, i32 7`, where `%a` stands at place 1
+/// Arm { first: Origin::Held(1), second: Origin::Known(Scalar::Int(7)) }
+/// ```
 #[derive(Clone, Copy, Debug, PartialEq, Eq)]
 pub struct Arm {
     pub first: Origin,
@@ -23,6 +28,10 @@ pub struct Arm {
 }
 
 /// A leaf of a value that is frozen, and whether it is a pointer.
+///
+/// ```
+/// Part { pointer: false, value: Origin::Held(1) } // of `freeze i32 %a`, where `%a` stands at place 1
+/// ```
 #[derive(Clone, Copy, Debug, PartialEq, Eq)]
 pub struct Part {
     pub pointer: bool,

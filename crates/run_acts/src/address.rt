@@ -33,6 +33,10 @@ use std::alloc::AllocError;
 
 /// A call as the newest frame makes it: the callee, its parts in the body of the frame's function, the leaves of its arguments one after
 /// another, and the place of its result's first leaf.
+///
+/// ```
+/// Call { callee, parts, arguments: &[Scalar::Int(7)], to: 2 } // `call i32 @f(i32 7)`, whose result goes to place 2
+/// ```
 #[derive(Clone, Copy)]
 pub struct Call<'c> {
     pub callee: Scalar,

@@ -37,6 +37,11 @@ const ABORTED: u8 = 134;
 
 /// A function that is yet to be entered, by its address: a constructor; or main, with the count of its arguments and their array where
 /// it takes them.
+///
+/// ```
+/// DueCall::Main(address) // of `define i32 @main()`
+/// DueCall::MainWith(address, 1, array) // of `define i32 @main(i32 %argc, ptr %argv)`, and one word
+/// ```
 #[derive(Clone, Copy)]
 pub enum DueCall {
     /// A constructor.
@@ -48,6 +53,13 @@ pub enum DueCall {
 }
 
 /// The calls that are due, in order. A clause sees those that are not made yet.
+///
+/// ```
+/// let mut due = DueCalls::new(calls); // DueCall::Constructor(first) and DueCall::Main(main)
+/// due.next() // Some(DueCall::Constructor(first))
+/// due.next() // Some(DueCall::Main(main))
+/// due.is_empty() // true
+/// ```
 #[derive(Drop)]
 pub struct DueCalls {
     calls: Vec<DueCall>,

@@ -2,6 +2,10 @@
 use ir_eval::Scalar;
 
 /// Room that instructions use again and again: for the leaves of a value, and for the bytes that one writes.
+///
+/// ```
+/// let mut room = Room { leaves: Vec::new(alloc), written: Vec::new(alloc) };
+/// ```
 #[derive(Drop)]
 pub struct Room {
     pub leaves: Vec<Scalar>,

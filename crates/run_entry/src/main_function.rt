@@ -19,6 +19,10 @@ use std::alloc::{AllocError, Global};
 use type_table::{IrType, TypeId, TypeTable};
 
 /// The function that a run begins with.
+///
+/// ```
+/// MainFunction { address, takes_arguments: true } // of `define i32 @main(i32 %argc, ptr %argv)`
+/// ```
 #[derive(Clone, Copy)]
 pub struct MainFunction {
     /// Its address.

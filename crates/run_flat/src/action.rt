@@ -5,6 +5,11 @@ use ir_tables::{Flags, Opcode, Predicate};
 use type_table::TypeId;
 
 /// A term of a `getelementptr`: so many elements of a size, or so many bytes up to a field.
+///
+/// ```
+/// // of `getelementptr i32, ptr %p, i64 %n`, where `%n` stands at place 1 of the frame
+/// Term { index: LeafAt::Held(1), width: 64, size: 4, gathered: false }
+/// ```
 #[derive(Clone, Copy)]
 pub struct Term {
     pub index: LeafAt,
@@ -17,6 +22,18 @@ pub struct Term {
 }
 
 /// The parts of a `call` but for its result and its callee.
+///
+/// ```
+/// // of `call i32 @f(i32 %a)`, the first call of a run, where no types were in the pools before
+/// CallParts {
+///     signature: 0,
+///     returns, // `i32`
+///     parameters: Span { first: 0, count: 1 },
+///     variadic: false,
+///     shapes: Span { first: 1, count: 1 },
+///     arguments, // a span of one origin, that of `%a`
+/// }
+/// ```
 #[derive(Clone, Copy)]
 pub struct CallParts {
     /// The number of the function type among those that a run of the module has met.

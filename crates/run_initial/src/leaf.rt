@@ -12,6 +12,10 @@ use run_values::{Slot, store_leaf};
 use std::alloc::AllocError;
 
 /// Where a value is put: its block, and how far behind the block's start, in bytes.
+///
+/// ```
+/// Target { block, offset: 4 } // from the fifth byte of the block on
+/// ```
 #[derive(Clone, Copy)]
 pub struct Target {
     pub block: Pointer,

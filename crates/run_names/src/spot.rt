@@ -13,6 +13,11 @@ use std::alloc::{AllocError, Global};
 const GAP: u64 = 16;
 
 /// Where a variable lies. Its block has the number of its spot, counted from 0.
+///
+/// ```
+/// // of `@a = global i32 7`, the one variable of its module
+/// Spot { variable, start: 65_536, size: 4, align: 4, constant: false }
+/// ```
 #[derive(Clone, Copy)]
 pub struct Spot {
     /// Which one.

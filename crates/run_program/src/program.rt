@@ -20,6 +20,10 @@ use std::marker::Model;
 use type_table::TypeTable;
 
 /// What a call asks of a function: the number of its function type among those that the run has met, and how many leaves its frame has.
+///
+/// ```
+/// Head { signature: 0, leaves: 2 } // of the first function type that was met, and two leaves in a frame
+/// ```
 #[derive(Clone, Copy)]
 pub struct Head {
     pub signature: u32,

@@ -5,6 +5,12 @@ use ir_memory::Leaf;
 use std::marker::Model;
 
 /// A leaf of a value, and how far it lies behind the value's first byte, in bytes (LangRef, "Aggregate Types").
+///
+/// ```
+/// let slots = [Slot::new(0, Leaf::Int(8)), Slot::new(8, Leaf::Ptr)]; // those of `{ i8, ptr }`
+/// slots[1].offset() // 8
+/// slots[1].leaf() // Leaf::Ptr
+/// ```
 #[derive(Clone, Copy, Debug, PartialEq, Eq)]
 pub struct Slot {
     offset: u64,

@@ -23,6 +23,7 @@ impl Model for Digits {
 }
 
 impl Digits {
+    /// The digits of a number: no zeros in front, and one digit of 0.
     pub fn of(number: u64) -> Digits
         ensures { result ≡ decimal number }
     {
@@ -39,6 +40,7 @@ impl Digits {
         Digits { room, start }
     }
 
+    /// The digits as bytes, the first in front.
     pub fn bytes(&self) -> &[u8]
         ensures { result.now ≡ self.now }
     {

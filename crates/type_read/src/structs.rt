@@ -21,6 +21,11 @@ use type_table::TypeFault;
 
 /// The structs of a block: how many there are, and the first, counted from 0, that is called as no struct may be: by no name,
 /// or by that of one before it.
+///
+/// ```
+/// StructNames { count: 2, first_bad: None } // of `%T = type opaque` and `%U = type { i32 }`
+/// StructNames { count: 2, first_bad: Some(1) } // of two structs of one name
+/// ```
 #[derive(Clone, Copy)]
 pub struct StructNames {
     pub count: u32,
