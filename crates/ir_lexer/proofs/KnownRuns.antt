@@ -60,6 +60,14 @@ word_is_name c.LetterC h = refl
 word_is_name c.Underscore h = refl
 word_is_name _ h = absurd cc
 
+-- where no byte of a name stands in front, no word does
+pub no_word : (s : List ℕ) → starts_with in_name s ≡ false → 0 ≡ run in_word s
+no_word [] h = omega (arith, run_none in_word)
+no_word (b ∷ s) h = elim (bool_cases (in_word (byte_class b))) [
+  | inl e ↦ absurd (let k = word_is_name (byte_class b) e in cc)
+  | inr e ↦ omega (arith, run_stops in_word b s e)
+]
+
 -- the bytes of a word at the front, and those of a name behind them
 pub run_in_two : (word n : ℕ) (s : List ℕ) → word ≡ run in_word s → n ≡ run in_name (take (length s - word) (drop word s)) → run in_name s ≡ word + n
 run_in_two word n s w e =

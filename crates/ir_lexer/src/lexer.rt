@@ -12,7 +12,7 @@ use crate::front::fitting_token_of;
 use crate::gap::gap_of;
 use crate::label::run_without_label;
 use crate::place::place_behind_token;
-use crate::run::run_of;
+use crate::run::{begins, run_of};
 use crate::token::{BadByte, Token, TokenKind};
 use ir_base::Place;
 use std::marker::Model;
@@ -114,6 +114,19 @@ impl<'t> Lexer<'t> {
         }
     }
 
+    /// How many bytes of a word stand here. Where bytes of names stand here, the end of their run is looked for once.
+    fn survey(&mut self) -> usize
+        ensures word { result ≡ run in_word (rest self.old) }
+        ensures same { self.new ≡ self.old }
+    {
+        if !begins(ClassSet::InName, &self.text[self.at..]) {
+            return 0;
+        }
+        let word = self.word();
+        self.scout(word);
+        word
+    }
+
     /// The kind and the length of the token here, where so many bytes of a word stand.
     fn front(&self, word: usize) -> Option<(TokenKind, usize)>
         requires { word ≡ run in_word (rest self.now) }
@@ -162,8 +175,7 @@ impl<'t> Lexer<'t> {
         if self.is_at_end() {
             return Ok(None);
         }
-        let word = self.word();
-        self.scout(word);
+        let word = self.survey();
         match self.front(word) {
             Some((kind, count)) => Ok(Some(self.take(kind, count))),
             None => Err(BadByte {
