@@ -1,10 +1,11 @@
 -- A token without a string stands in one line.
+use Rattle.std.proofs.lemmas.List.{length-take-le}
 use Rattle.std.proofs.lemmas.Map.Views.{exact_unsigned_eq}
-use Rattle.std.proofs.Common.{◌≡◌, ℕ, suc, ◌+◌, ◌==◌, ◌&&◌, List, [], ◌∷◌, ◌++◌, length, Bool, true, false, inl, inr, refl, ap, ◌∙◌, arith}
+use Rattle.std.proofs.Common.{◌≡◌, ℕ, suc, ◌+◌, ◌==◌, ◌&&◌, List, [], ◌∷◌, ◌++◌, ◌≤◌, ◌<◌, length, take, drop, get_or, drop-cons, Bool, true, false, inl, inr, refl, sym, ap, ◌∙◌, arith}
 use Rattle.ir_base.specs.declared.place.Place.{Place}
 use Rattle.ir_lexer.specs.Class.{byte_class, in_line, is_quote}
 use Rattle.ir_lexer.specs.Form.{each, Form, Done, One, Run, Upto, Spells}
-use Rattle.ir_lexer.specs.Lines.{may_have_string, has_string_in}
+use Rattle.ir_lexer.specs.Lines.{further_in_line, may_have_string, has_string_in}
 use Rattle.ir_lexer.specs.Names.{has_string, is_quoted}
 use Rattle.ir_lexer.specs.Place.{place_after}
 use Rattle.ir_lexer.specs.Table as r
@@ -30,13 +31,23 @@ abbrev at_column : Place → ℕ → Place
 at_column p n = record { line = p.line; column = n }
 
 -- behind bytes without a line feed
-pub after_in_line : (p : Place) (s : List ℕ) → each in_line s ≡ true → place_after p s ≡ record { line = p.line; column = p.column + length s }
+pub after_in_line : (p : Place) (s : List ℕ) → each in_line s ≡ true → place_after p s ≡ further_in_line p (length s)
 unfolding place_after
 after_in_line p [] h = ap (at_column p) (let same : p.column ≡ p.column + 0 = omega arith in same)
 after_in_line p (b ∷ s) h =
     let f = each_first in_line b s h in
     let on : p.column + 1 + length s ≡ p.column + suc (length s) = omega arith in
     rw (no_line_feed b f.0) (after_in_line (at_column p (p.column + 1)) s f.1 ∙ ap (at_column p) on)
+
+pub front_in_line : (p next : Place) (s : List ℕ) (n : ℕ) → n ≤ length s → each in_line (take n s) ≡ true → next ≡ further_in_line p n → next ≡ place_after p (take n s)
+front_in_line p next s n fits e is =
+    let size : length (take n s) ≡ n = length-take-le n s fits in
+    let same : p.column + n ≡ p.column + length (take n s) = omega (arith, size) in
+    is ∙ ap (at_column p) same ∙ sym (after_in_line p (take n s) e)
+
+-- one byte that is no line feed
+pub one_in_line : (s : List ℕ) (n : ℕ) → n < length s → in_line (byte_class (get_or s n 0)) ≡ true → each in_line (take 1 (drop n s)) ≡ true
+one_in_line s n h e = rw (drop-cons s n 0, e) refl
 
 -- no byte of the form is a line feed
 abbrev InLine : Form → Type 0

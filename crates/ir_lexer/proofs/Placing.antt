@@ -1,5 +1,5 @@
 -- The places of a lexer are those of the bytes of its text.
-use Rattle.std.proofs.Common.{◌≡◌, ℕ, ◌+◌, ◌<◌, ◌≤◌, ◌^◌, get_or, drop-cons, List, [], ◌∷◌, ◌++◌, length, take, drop, Bool, true, false, refl, ap, ◌∙◌, arith, Option, Some, None, length-drop, length-append, ◌==◌, if◌then◌else◌}
+use Rattle.std.proofs.Common.{◌≡◌, ℕ, ◌+◌, ◌<◌, ◌≤◌, ◌^◌, get_or, drop-cons, List, [], ◌∷◌, ◌++◌, length, take, drop, Bool, true, false, refl, sym, ap, ◌∙◌, arith, Option, Some, None, length-drop, length-append, ◌==◌, if◌then◌else◌}
 use Rattle.std.proofs.Math.Seq.{take-add}
 use Rattle.std.proofs.lemmas.List.{length-take-le}
 use Rattle.ir_base.specs.declared.place.Place.{Place}
@@ -16,17 +16,17 @@ unfolding place_after
 place_append p [] b = refl
 place_append p (x ∷ a) b = place_append (next_place p x) a b
 
-one_on : (p : Place) (text : List ℕ) (at : ℕ) → at < length text → place_after p (take 1 (drop at text)) ≡ next_place p (get_or text at 0)
+pub one_on : (p : Place) (text : List ℕ) (at : ℕ) → at < length text → place_after p (take 1 (drop at text)) ≡ next_place p (get_or text at 0)
 unfolding place_after
 one_on p text at h = rw (drop-cons text at 0) refl
 
--- one byte further on
-pub place_next : (p : Place) (text : List ℕ) (at : ℕ) → at < length text → place_after p (take (at + 1) text) ≡ next_place (place_after p (take at text)) (get_or text at 0)
-place_next p text at h = ap (place_after p) (take-add at 1 text) ∙ place_append p (take at text) (take 1 (drop at text)) ∙ one_on (place_after p (take at text)) text at h
+-- further on from a place
+pub place_further : (p : Place) (at n : ℕ) (text : List ℕ) → place_after p (take (at + n) text) ≡ place_after (place_after p (take at text)) (take n (drop at text))
+place_further p at n text = ap (place_after p) (take-add at n text) ∙ place_append p (take at text) (take n (drop at text))
 
 -- further on
 pub place_on : (at n : ℕ) (text : List ℕ) → place_of text (at + n) ≡ place_after (place_of text at) (take n (drop at text))
-place_on at n text = ap (place_after first_place) (take-add at n text) ∙ place_append first_place (take at text) (take n (drop at text))
+place_on at n text = place_further first_place at n text
 
 pub place_at_start : (text : List ℕ) → first_place ≡ place_of text 0
 unfolding place_after
@@ -57,6 +57,20 @@ near p (b ∷ s) h = go (b == 10) (near (record { line = p.line + 1; column = 1 
 -- a place is no further than its byte
 pub place_near : (text : List ℕ) (at : ℕ) → at ≤ length text → IsNear first_place (place_of text at) at
 place_near text at h = let n : length (take at text) ≡ at = length-take-le at text h in rw n at (near first_place (take at text) (omega arith))
+
+-- the place behind the first bytes
+pub record IsBehind (p here : Place) (s : List ℕ) (n : ℕ) : Type 0 where
+  pub line_in : here.line ≤ p.line + n
+  pub column_in : here.column ≤ p.column + n
+  pub first : 1 ≤ here.column
+  pub place : here ≡ place_after p (take n s)
+
+pub behind_more : (p here next : Place) (s : List ℕ) (n m : ℕ) → 1 ≤ p.column → n + m ≤ length s → here ≡ place_after p (take n s) → next ≡ place_after here (take m (drop n s)) → IsBehind p next s (n + m)
+behind_more p here next s n m first fits h e =
+    let on : next ≡ place_after p (take (n + m) s) = e ∙ ap (λ (q : Place). place_after q (take m (drop n s))) h ∙ sym (place_further p n m s) in
+    let size : length (take (n + m) s) ≡ n + m = length-take-le (n + m) s fits in
+    let k = near p (take (n + m) s) first in
+    rw on (record { line_in = omega (arith, k.line, size); column_in = omega (arith, k.column, size); first = k.first; place = refl })
 
 -- there is room for the places of the bytes that follow one in a text of at most 16 MiB
 pub record HasRoom (p : Place) (n : ℕ) : Type 0 where

@@ -1,18 +1,20 @@
 -- Steps of the loops.
 use Rattle.std.proofs.Common.{◌≡◌, ℕ, suc, ◌+◌, ◌≤◌, ◌<◌, List, [], ◌∷◌, ◌++◌, length, drop, get_or, Bool, true, false, not, inl, inr, refl, sym, ap, ◌∙◌, arith, cond, Option, Some, None, add-one, drop-cons, length-drop, ◌==◌, ◌||◌, append_assoc, append-nil}
 use Rattle.std.proofs.Math.ListN.{drop_of_length-le}
+use Rattle.std.proofs.lemmas.List.{drop-drop}
 use Rattle.ir_lexer.specs.declared.quoted.Unescaped.{Unescaped}
 use Rattle.ir_lexer.specs.declared.quoted.Unescaped.TheVariants.{More, Byte, Bad}
 use Rattle.ir_lexer.specs.declared.class.Class.{Class}
 use Rattle.ir_lexer.specs.declared.quoted.Escape.{Escape}
 use Rattle.ir_lexer.specs.declared.quoted.Escape.TheVariants.{Plain, Slash, High}
-use Rattle.ir_lexer.specs.Class.{byte_class, is_line_feed, is_blank, is_semicolon}
+use Rattle.ir_lexer.specs.Class.{byte_class, in_line, is_line_feed, is_blank, is_semicolon}
+use Rattle.ir_lexer.specs.declared.class.Class.TheVariants.{Semicolon, LineFeed, Blank}
 use Rattle.ir_lexer.specs.Form.{run}
 use Rattle.ir_lexer.specs.Quoted.{decode, zero_in, has_zero, with_byte, unescaped, decoded, at_end, is_whole}
-use Rattle.ir_lexer.specs.Gap.{gap_length, stepped}
+use Rattle.ir_lexer.specs.Gap.{gap_length}
 use Rattle.ir_lexer.specs.Place.{next_place, place_after}
 use Rattle.ir_base.specs.declared.place.Place.{Place}
-use Rattle.ir_lexer.proofs.Runs.{bool_cases, run_first, run_stops, run_le}
+use Rattle.ir_lexer.proofs.Runs.{bool_cases, run_none, run_first, run_stops, run_le}
 
 pub run_on : (p : Class → Bool) (s : List ℕ) (n : ℕ) → n < length s → p (byte_class (get_or s n 0)) ≡ true → run p (drop n s) ≡ suc (run p (drop (n + 1) s))
 run_on p s n h e = rw (add-one, drop-cons s n 0) (run_first p (get_or s n 0) (drop (suc n) s) e)
@@ -59,38 +61,49 @@ zeros_cut z Slash s n h e = rw (zeros_end z Slash s n h) refl
 zeros_cut z (High k) s n h e = rw (zeros_end z (High k) s n h) refl
 
 -- Gaps.
-gap_first : (w v : Bool) (b : ℕ) (s : List ℕ) → stepped w (byte_class b) ≡ Some v → gap_length w (b ∷ s) ≡ suc (gap_length v s)
+pub gap_blank : (s : List ℕ) (n : ℕ) → n < length s → is_blank (byte_class (get_or s n 0)) ≡ true → gap_length false (drop n s) ≡ suc (gap_length false (drop (n + 1) s))
 unfolding gap_length
-gap_first true v b s h = let e : not (is_line_feed (byte_class b)) ≡ v = cc in rw e refl
-gap_first false v b s h = elim (bool_cases (is_blank (byte_class b))) [
-  | inl e ↦ (let k : Some false ≡ Some v = rw e at h in let f : false ≡ v = cc in rw (e, ← f) refl)
-  | inr e ↦ elim (bool_cases (is_semicolon (byte_class b))) [
-    | inl f ↦ (let k : Some true ≡ Some v = rw (e, f) at h in let g : true ≡ v = cc in rw (e, f, ← g) refl)
-    | inr f ↦ absurd (let k : None ≡ Some v = rw (e, f) at h in cc)
-  ]
+gap_blank s n h e = rw (add-one, drop-cons s n 0, e) refl
+
+pub gap_off : (s : List ℕ) (n : ℕ) → n < length s → is_blank (byte_class (get_or s n 0)) ≡ false → is_semicolon (byte_class (get_or s n 0)) ≡ false → gap_length false (drop n s) ≡ 0
+unfolding gap_length
+gap_off s n h e f = rw (drop-cons s n 0, e, f) refl
+
+pub not_in_gap : (x : Class) → (x ≡ Semicolon → ⊥) → (x ≡ LineFeed → ⊥) → (x ≡ Blank → ⊥) → (is_blank x ≡ false) × (is_semicolon x ≡ false)
+not_in_gap Semicolon s l b = absurd (s refl)
+not_in_gap LineFeed s l b = absurd (l refl)
+not_in_gap Blank s l b = absurd (b refl)
+not_in_gap _ s l b = (refl, refl)
+
+line_ends : (x : Class) → in_line x ≡ false → (is_line_feed x ≡ true) × (is_blank x ≡ true)
+line_ends LineFeed h = (refl, refl)
+line_ends _ h = absurd cc
+
+line_goes_on : (x : Class) → in_line x ≡ true → is_line_feed x ≡ false
+line_goes_on LineFeed h = absurd cc
+line_goes_on _ h = refl
+
+in_comment : (s : List ℕ) → gap_length true s ≡ run in_line s + gap_length false (drop (run in_line s) s)
+unfolding gap_length
+in_comment [] = rw run_none refl
+in_comment (b ∷ s) = elim (bool_cases (in_line (byte_class b))) [
+  | inl e ↦ rw (run_first in_line b s e, line_goes_on (byte_class b) e) (omega (arith, in_comment s))
+  | inr e ↦ rw (run_stops in_line b s e, (line_ends (byte_class b) e).0, (line_ends (byte_class b) e).1) (omega arith)
 ]
 
-gap_over : (w : Bool) (b : ℕ) (s : List ℕ) → stepped w (byte_class b) ≡ None → gap_length w (b ∷ s) ≡ 0
+begins_comment : (b : ℕ) (s : List ℕ) → byte_class b ≡ Semicolon → gap_length false (b ∷ s) ≡ gap_length true (b ∷ s)
 unfolding gap_length
-gap_over true b s h = absurd cc
-gap_over false b s h = elim (bool_cases (is_blank (byte_class b))) [
-  | inl e ↦ absurd (let k : Some false ≡ None = rw e at h in cc)
-  | inr e ↦ elim (bool_cases (is_semicolon (byte_class b))) [
-    | inl f ↦ absurd (let k : Some true ≡ None = rw (e, f) at h in cc)
-    | inr f ↦ rw (e, f) refl
-  ]
-]
+begins_comment b s e = rw e refl
 
-pub gap_on : (w v : Bool) (s : List ℕ) (n : ℕ) → n < length s → stepped w (byte_class (get_or s n 0)) ≡ Some v → gap_length w (drop n s) ≡ suc (gap_length v (drop (n + 1) s))
-gap_on w v s n h e = rw (add-one, drop-cons s n 0) (gap_first w v (get_or s n 0) (drop (suc n) s) e)
+-- a comment to the end of its line
+pub gap_comment : (s : List ℕ) (n : ℕ) → n < length s → byte_class (get_or s n 0) ≡ Semicolon → gap_length false (drop n s) ≡ run in_line (drop n s) + gap_length false (drop (n + run in_line (drop n s)) s)
+gap_comment s n h e =
+    let same : gap_length false (drop n s) ≡ gap_length true (drop n s) = rw (drop-cons s n 0) (begins_comment (get_or s n 0) (drop (suc n) s) e) in
+    rw (← drop-drop (run in_line (drop n s)) n s) (same ∙ in_comment (drop n s))
 
-pub gap_off : (w : Bool) (s : List ℕ) (n : ℕ) → n < length s → stepped w (byte_class (get_or s n 0)) ≡ None → gap_length w (drop n s) ≡ 0
-gap_off w s n h e = rw (drop-cons s n 0) (gap_over w (get_or s n 0) (drop (suc n) s) e)
-
-pub gap_at_end : (w : Bool) (s : List ℕ) (n : ℕ) → length s ≤ n → gap_length w (drop n s) ≡ 0
+pub gap_at_end : (s : List ℕ) (n : ℕ) → length s ≤ n → gap_length false (drop n s) ≡ 0
 unfolding gap_length
-gap_at_end true s n h = rw (drop_of_length-le s h) refl
-gap_at_end false s n h = rw (drop_of_length-le s h) refl
+gap_at_end s n h = rw (drop_of_length-le s h) refl
 
 -- Places.
 pub place_step : (p : Place) (s : List ℕ) (n : ℕ) → n < length s → place_after p (drop n s) ≡ place_after (next_place p (get_or s n 0)) (drop (n + 1) s)

@@ -162,3 +162,4 @@ set_of sets.Dots = is_dot
 set_of sets.NoQuote = no_quote
 set_of sets.Quotes = is_quote
 set_of sets.Colons = is_colon
+set_of sets.InLine = in_line

@@ -8,8 +8,3 @@ unfoldable pub gap_length : Bool → List ℕ → ℕ
 gap_length within [] = 0
 gap_length true (b ∷ bs) = suc (gap_length (not (is_line_feed (byte_class b))) bs)
 gap_length false (b ∷ bs) = cond (is_blank (byte_class b)) (suc (gap_length false bs)) (cond (is_semicolon (byte_class b)) (suc (gap_length true bs)) 0)
-
--- whether a comment is open behind a byte, and was before it
-abbrev pub stepped : Bool → Class → Option Bool
-stepped true x = Some (not (is_line_feed x))
-stepped false x = cond (is_blank x) (Some false) (cond (is_semicolon x) (Some true) None)

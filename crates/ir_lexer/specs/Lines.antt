@@ -1,8 +1,13 @@
--- Says how the code reads: which tokens may go over several lines: those with a string in them.
-use Rattle.std.specs.Prelude.{ℕ, Bool, true, false, ◌&&◌, List}
+-- Says how the code reads: places in one line, and which tokens may go over several: those with a string in them.
+use Rattle.std.specs.Prelude.{ℕ, ◌+◌, Bool, true, false, ◌&&◌, List}
+use Rattle.ir_base.specs.declared.place.Place.{Place}
 use Rattle.ir_lexer.specs.Names.{is_quoted}
 use Rattle.ir_lexer.specs.declared.token.TokenKind.{TokenKind}
 use Rattle.ir_lexer.specs.declared.token.TokenKind.TheVariants as k
+
+-- so many bytes further on in the same line
+abbrev pub further_in_line : Place → ℕ → Place
+further_in_line p n = record { line = p.line; column = p.column + n }
 
 -- some tokens of the kind have a string in them
 abbrev pub may_have_string : TokenKind → Bool

@@ -47,6 +47,7 @@ pub enum ClassSet {
     NoQuote,
     Quotes,
     Colons,
+    InLine,
 }
 
 impl ClassSet {
@@ -85,6 +86,7 @@ impl ClassSet {
             ClassSet::NoQuote => !matches!(class, Class::Quote),
             ClassSet::Quotes => matches!(class, Class::Quote),
             ClassSet::Colons => matches!(class, Class::Colon),
+            ClassSet::InLine => !matches!(class, Class::LineFeed),
         }
     }
 }

@@ -1,8 +1,6 @@
 //! Places further on in a text.
-ghost use Rattle.std.specs.Prelude.{◌≡◌, ◌+◌, ◌^◌, ◌<◌, ◌≤◌, length, true};
-ghost use Rattle.ir_lexer.specs.Class.{in_line};
-ghost use Rattle.ir_lexer.specs.Form.{each};
-ghost use Rattle.ir_lexer.specs.Lines.{may_have_string, has_string_in};
+ghost use Rattle.std.specs.Prelude.{◌≡◌, ◌+◌, ◌^◌, ◌<◌, ◌≤◌, length};
+ghost use Rattle.ir_lexer.specs.Lines.{further_in_line, may_have_string, has_string_in};
 ghost use Rattle.ir_lexer.specs.Place.{next_place, place_after};
 ghost use Rattle.ir_lexer.specs.Table.{IsToken};
 
@@ -43,15 +41,14 @@ fn place_behind(place: Place, bytes: &[u8]) -> Place
     here
 }
 
-/// The place behind bytes without a line feed.
-fn place_in_line(place: Place, bytes: &[u8]) -> Place
-    requires column { place.column + length bytes.now < 2 ^ 32 }
-    requires line { each in_line bytes.now ≡ true }
-    ensures { result ≡ place_after place bytes.now }
+/// The place so many bytes further on in the same line.
+pub fn place_in_line(place: Place, count: usize) -> Place
+    requires { place.column + count < 2 ^ 32 }
+    ensures { result ≡ further_in_line place count }
 {
     Place {
         line: place.line,
-        column: place.column + bytes.len() as u32,
+        column: place.column + count as u32,
     }
 }
 
@@ -87,6 +84,6 @@ pub fn place_behind_token(place: Place, kind: TokenKind, spelling: &[u8]) -> Pla
     if has_string(kind, spelling) {
         place_behind(place, spelling)
     } else {
-        place_in_line(place, spelling)
+        place_in_line(place, spelling.len())
     }
 }

@@ -6,7 +6,7 @@ use Rattle.ir_lexer.proofs.gap.gap_of.Given as goal
 abbrev pub invariant-gap : goal.invariant-gap
 invariant-gap l = record {
   within : l.n ≤ length l.bytes;
-  count : gap_length false l.bytes ≡ l.n + gap_length l.comment (drop l.n l.bytes);
+  count : gap_length false l.bytes ≡ l.n + gap_length false (drop l.n l.bytes);
   line_in : l.here.line ≤ l.fn.place.line + l.n;
   column_in : l.here.column ≤ l.fn.place.column + l.n;
   first : 1 ≤ l.here.column;
