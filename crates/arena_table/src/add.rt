@@ -6,12 +6,9 @@ ghost use Rattle.module_arena.specs.Known.{counts, KnowsConst};
 use crate::answer::{Answer, Refusal};
 use crate::known::{entry_id, struct_id, type_id, type_ids};
 use crate::line::{name, word};
-use module_arena::{Arena, Const};
+use module_arena::{Arena, COUNT_LIMIT, Const};
 use std::alloc::Global;
 use type_table::{IrType, StructBody};
-
-/// How many structs there may be.
-const STRUCT_LIMIT: u32 = 262_144;
 
 fn add_type(arena: &mut Arena, ty: IrType) -> Result<Answer, Refusal>
     requires { IsKnown arena.old.table ty }
@@ -28,7 +25,7 @@ fn add_const(arena: &mut Arena, constant: Const) -> Result<Answer, Refusal>
 }
 
 fn name_struct(alloc: Global, arena: &mut Arena, word: &str) -> Result<Answer, Refusal> {
-    if arena.types().struct_count() >= STRUCT_LIMIT {
+    if arena.types().struct_count() >= COUNT_LIMIT {
         return Err(Refusal::NoCall);
     }
     let id = arena.name_struct(name(alloc, word)?)?;

@@ -4,6 +4,7 @@ use Rattle.bit_tree.specs.Pieces.{Piece, ended}
 use Rattle.bit_tree.specs.Stream.{Tree, Stream}
 use Rattle.type_table.specs.Types.{structs, trees}
 use Rattle.type_table.specs.Types as tables
+use Rattle.module_arena.specs.declared.arena.TheConstants.{COUNT_LIMIT}
 use Rattle.module_arena.specs.declared.entry.Alias as the_alias
 use Rattle.module_arena.specs.declared.entry.Body as the_body
 use Rattle.module_arena.specs.declared.entry.Function as the_function
@@ -191,9 +192,9 @@ with_number true number numbers = numbers ++ number ∷ []
 
 -- So few entries were read that one more can be counted, and the numbers of the functions that are defined are known.
 pub record HasRoom (b : Sofar) : Type 0 where
-  pub variables : length b.initialisers.items ≤ 262144
-  pub functions : length b.defined.items ≤ 262144
-  pub aliases : length b.targets.items ≤ 262144
+  pub variables : length b.initialisers.items ≤ COUNT_LIMIT
+  pub functions : length b.defined.items ≤ COUNT_LIMIT
+  pub aliases : length b.targets.items ≤ COUNT_LIMIT
   pub numbers : b.numbers.items ≡ numbers_from 0 b.defined.items
 
 -- ---- records and blocks

@@ -1,5 +1,6 @@
 //! The records of a module's block.
 ghost use Rattle.std.specs.Prelude.{◌≡◌, ◌<◌, ◌≤◌, length, max, OnOk};
+ghost use Rattle.module_arena.specs.declared.arena.TheConstants.{COUNT_LIMIT};
 ghost use Rattle.record_read.specs.Fields.{texts_of};
 ghost use Rattle.bitcode_read.specs.Sofar.{HasRoom, ReadsPart, with_number};
 
@@ -77,7 +78,7 @@ fn read_triple(
 
 /// A count of what was read. There are at most 262,144 of each.
 fn count_of<T>(items: &Vec<T>) -> u32
-    requires { length items.now.items ≤ 262144 }
+    requires { length items.now.items ≤ COUNT_LIMIT }
     ensures { result ≡ length items.now.items }
 {
     items.len() as u32

@@ -4,6 +4,7 @@ use Rattle.std.specs.Prelude.{◌≡◌, ◌≤◌, true, List, map, filter_map,
 use Rattle.ir_tables.specs.Table.{is_distinct}
 use Rattle.ir_terminals.specs.declared.values.PlacedName.{PlacedName}
 use Rattle.ir_syntax.specs.Tree.{ItemTree}
+use Rattle.module_arena.specs.declared.arena.TheConstants.{COUNT_LIMIT}
 use Rattle.module_arena.specs.Lists.{Lists}
 use Rattle.module_arena.specs.Module.{Bytes}
 use Rattle.name_rules.specs.Breaks.{global_name}
@@ -23,8 +24,8 @@ HasEntries entries names = (name : Bytes) → Contains names name → HasEntry e
 pub record AreBuildable (items : List ItemTree) : Type 0 where
   pub structs : is_distinct bytes_eq (map (λ (s : Bytes × _). s.0) (structs_in items)) ≡ true
   pub globals : is_distinct bytes_eq (global_names items) ≡ true
-  pub few_structs : length (structs_in items) ≤ 262144
-  pub few_variables : length (filter_map variable_in items) ≤ 262144
-  pub few_functions : length (filter_map function_in items) ≤ 262144
+  pub few_structs : length (structs_in items) ≤ COUNT_LIMIT
+  pub few_variables : length (filter_map variable_in items) ≤ COUNT_LIMIT
+  pub few_functions : length (filter_map function_in items) ≤ COUNT_LIMIT
   pub declared : All (CanDeclare (structs_in items)) items
   pub completed : (entries : Lists) → HasEntries entries (global_names items) → All (CanComplete (structs_in items) entries) items

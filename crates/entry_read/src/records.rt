@@ -12,11 +12,8 @@ use crate::ending::end_record;
 use crate::holding::read_fields;
 use arena_read::{ModuleReader, read_target};
 use head_read::{read_alias_front, read_function_front};
-use module_arena::{AliasId, ConstId, FunctionId, GlobalId, VariableId};
+use module_arena::{AliasId, COUNT_LIMIT, ConstId, FunctionId, GlobalId, VariableId};
 use record_read::{BitcodeFault, Texts};
-
-/// How many variables, functions or aliases there are at most.
-const COUNT_LIMIT: u32 = 262_144;
 
 /// What is written, where it is known.
 fn known(initialiser: Option<Option<ConstId>>) -> Option<ConstId>
@@ -34,7 +31,7 @@ pub fn read_variable(
     in_order: bool,
 ) -> Result<Option<ConstId>, BitcodeFault>
     requires { 0 < m.old.reader.at }
-    ensures few { OnOk result (number < 262144) }
+    ensures few { OnOk result (number < COUNT_LIMIT) }
     ensures reads { (s : records.Sofar) (operands : List ℕ) → IsInFront (texts_of texts.now) m.old s operands → number ≡ length s.variables → in_order ≡ records.may_follow s.last 6
         → (let read = judged (records.variable s.texts s.k) operands in IsToldNew m.old.growing.arena (entry.Variable number) s read.0.name
         → Answers (ReadsVariable s.texts s.k operands m.old m.new) (records.variable_record s read) result) }
@@ -54,7 +51,7 @@ pub fn read_function(
     in_order: bool,
 ) -> Result<bool, BitcodeFault>
     requires { 0 < m.old.reader.at }
-    ensures few { OnOk result (number < 262144) }
+    ensures few { OnOk result (number < COUNT_LIMIT) }
     ensures reads { (s : records.Sofar) (operands : List ℕ) → IsInFront (texts_of texts.now) m.old s operands → number ≡ length s.functions → in_order ≡ records.may_follow s.last 7
         → (let read = judged (records.function s.texts s.k) operands in IsToldNew m.old.growing.arena (entry.Function number) s read.0.1.name
         → Answers (ReadsFunction s.texts s.k operands m.old m.new) (records.function_record s read) result) }
@@ -68,7 +65,7 @@ pub fn read_function(
 
 /// Whether there may be so many aliases and one more, behind so many others.
 fn are_few(number: u32, others: u32) -> bool
-    ensures { result ≡ nat_le (suc number + others) 262144 }
+    ensures { result ≡ nat_le (suc number + others) COUNT_LIMIT }
 {
     (number as u64) + (others as u64) < COUNT_LIMIT as u64
 }
@@ -84,7 +81,7 @@ pub fn read_alias(
     in_order: bool,
 ) -> Result<Option<GlobalId>, BitcodeFault>
     requires { 0 < m.old.reader.at }
-    ensures few { OnOk result (number < 262144) }
+    ensures few { OnOk result (number < COUNT_LIMIT) }
     ensures reads { (s : records.Sofar) (operands : List ℕ) → IsInFront (texts_of texts.now) m.old s operands → number ≡ length s.aliases → others ≡ max (length s.variables) (length s.functions)
         → in_order ≡ records.may_follow s.last 8
         → (let read = judged (records.alias s.texts s.k) operands in IsToldNew m.old.growing.arena (entry.Alias number) s read.0.name

@@ -12,6 +12,7 @@ use Rattle.linkage_rules.specs.declared.symbol.Symbol.{Symbol}
 use Rattle.linkage_rules.specs.declared.symbol.SymbolKind.{SymbolKind}
 use Rattle.linked_symbols.specs.Places.{clamped}
 use Rattle.module_arena.specs.Module.{Module}
+use Rattle.module_arena.specs.declared.arena.TheConstants.{COUNT_LIMIT}
 use Rattle.module_arena.specs.declared.fault.CountKind.{CountKind}
 use Rattle.module_arena.specs.declared.fault.CountKind.TheVariants.{Structs, Variables, Functions, Aliases, AppendedBytes}
 use Rattle.module_linker.specs.Counts as linking
@@ -38,7 +39,7 @@ told c = record { kind = c.kind; number = c.number }
 
 -- a count of structs or entries that is past the limit
 abbrev pub past : CountKind → ℕ → Option Count
-past kind number = if nat_lt 262144 number then Some (record { kind = kind; number = number }) else None
+past kind number = if nat_lt COUNT_LIMIT number then Some (record { kind = kind; number = number }) else None
 
 -- the first of them, as the code reads
 abbrev pub first_entry_count : ℕ → SymbolCounts → Option Count

@@ -12,10 +12,7 @@ ghost use Rattle.link_counts.specs.Told.{count_of_bytes, entry_counts, past, tol
 use crate::appended::first_appended;
 use crate::counting::{SymbolCounts, count_symbols};
 use linkage_rules::Bindings;
-use module_arena::{Checked, CountKind};
-
-/// How many structs, variables, functions or aliases there are at most.
-const COUNT_LIMIT: u64 = 262_144;
+use module_arena::{COUNT_LIMIT, Checked, CountKind};
 
 /// How long an appended array is at most, in elements and in bytes.
 pub(crate) const APPENDED_LIMIT: u64 = 1 << 40;
@@ -31,7 +28,7 @@ pub struct Count {
 fn past(kind: CountKind, number: u64) -> Option<Count>
     ensures { result ≡ past kind number }
 {
-    if number > COUNT_LIMIT {
+    if number > COUNT_LIMIT as u64 {
         Some(Count { kind, number })
     } else {
         None

@@ -1,6 +1,7 @@
 //! The texts and the names of structs.
 ghost use Rattle.std.specs.Prelude.{◌≡◌, ◌≤◌, map, length, OnOk};
 ghost use Rattle.type_table.specs.Types.{structs};
+ghost use Rattle.module_arena.specs.declared.arena.TheConstants.{COUNT_LIMIT};
 ghost use Rattle.module_arena.specs.Lists.{no_lists};
 ghost use Rattle.module_arena.specs.View.{module_of};
 ghost use Rattle.linkage_rules.specs.Ids.{modules};
@@ -27,7 +28,7 @@ pub fn set_head(
 ) -> Result<(), AllocError>
     requires empty { into.old.arena ≡ no_lists }
     requires names { names.now ≡ map (λ row. row.1) (struct_map (modules parts.now)) }
-    requires few { length names.now ≤ 262144 }
+    requires few { length names.now ≤ COUNT_LIMIT }
     ensures table { OnOk result (into.new.arena.table ≡ only_named names.now) }
     ensures module { OnOk result (module_of into.new.arena ≡ with_structs (texts_of (modules parts.now)) (structs into.new.arena.table)) }
     ensures entries { OnOk result (entries into.new.arena ≡ no_lists) }

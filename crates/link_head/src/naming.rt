@@ -3,6 +3,7 @@ ghost use Rattle.std.specs.Prelude.{◌≡◌, ◌≤◌, length, Contains, byte
 ghost use Rattle.ir_tables.specs.Table.{is_distinct};
 ghost use Rattle.type_table.specs.Types.{structs, no_types, names, with_struct};
 ghost use Rattle.type_table.specs.declared.fault.TypeFault.{TypeFault};
+ghost use Rattle.module_arena.specs.declared.arena.TheConstants.{COUNT_LIMIT};
 ghost use Rattle.module_arena.specs.View.{module_of};
 ghost use Rattle.type_build.specs.Holding.{entries};
 ghost use Rattle.item_build.specs.Partly.{with_structs};
@@ -22,7 +23,7 @@ fn out_of_memory(_fault: TypeFault) -> AllocError
 
 /// Names the next struct, where no struct has the name.
 fn name_struct(alloc: Global, into: &mut Builder, name: &Name) -> Result<(), AllocError>
-    requires few { length into.old.arena.table.structs ≤ 262144 }
+    requires few { length into.old.arena.table.structs ≤ COUNT_LIMIT }
     requires free { Contains (names into.old.arena.table) name.now → ⊥ }
     ensures table { OnOk result (into.new.arena.table ≡ with_struct into.old.arena.table name.now) }
     ensures module { OnOk result (module_of into.new.arena ≡ with_structs (module_of into.old.arena) (structs into.new.arena.table)) }
@@ -42,7 +43,7 @@ pub(crate) fn name_structs(
     names: &NameList,
 ) -> Result<(), AllocError>
     requires empty { into.old.arena.table ≡ no_types }
-    requires few { length names.now ≤ 262144 }
+    requires few { length names.now ≤ COUNT_LIMIT }
     requires apart { is_distinct bytes_eq names.now ≡ true }
     ensures table { OnOk result (into.new.arena.table ≡ only_named names.now) }
     ensures module { OnOk result (module_of into.new.arena ≡ with_structs (module_of into.old.arena) (structs into.new.arena.table)) }

@@ -1,6 +1,7 @@
 -- For the calls of `Arena`: when ids are those of the arena, and what holds of the lists of every arena.
 use Rattle.std.specs.Prelude.{◌≡◌, ℕ, zero, suc, ◌+◌, ◌^◌, ◌<◌, ◌↔◌, max, nat_lt, bytes_eq, List, [], ◌∷◌, length, flat_map, All, ⊤, Option, Some, None, option_to_list, if◌then◌else◌}
 use Rattle.std.specs.Map.{lookup}
+use Rattle.module_arena.specs.declared.arena.TheConstants.{COUNT_LIMIT}
 use Rattle.module_arena.specs.declared.constant.Const.{Const}
 use Rattle.module_arena.specs.declared.entry.GlobalId.{GlobalId}
 use Rattle.module_arena.specs.declared.entry.GlobalId.TheVariants as global
@@ -114,9 +115,9 @@ counted_aliases (suc aliases) variables functions = suc aliases + max variables 
 -- the first list that is too long, and how long it is
 abbrev pub first_excess : Counts → Option (CountKind × ℕ)
 first_excess n =
-    if nat_lt 262144 n.variables then Some (kind.Variables, n.variables)
-    else (if nat_lt 262144 n.functions then Some (kind.Functions, n.functions)
-    else (if nat_lt 262144 (counted_aliases n.aliases n.variables n.functions) then Some (kind.Aliases, counted_aliases n.aliases n.variables n.functions)
+    if nat_lt COUNT_LIMIT n.variables then Some (kind.Variables, n.variables)
+    else (if nat_lt COUNT_LIMIT n.functions then Some (kind.Functions, n.functions)
+    else (if nat_lt COUNT_LIMIT (counted_aliases n.aliases n.variables n.functions) then Some (kind.Aliases, counted_aliases n.aliases n.variables n.functions)
     else None))
 
 -- ---- every arena

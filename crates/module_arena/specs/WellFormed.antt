@@ -8,6 +8,7 @@ use Rattle.type_table.specs.Layout.{has_layout, size}
 use Rattle.type_table.specs.Limits.{array_length}
 use Rattle.type_table.specs.Shape.{Shape, shape, nesting, parts}
 use Rattle.type_table.specs.Tree.{Tree, int, ptr, void, array, struct, named, Trees, no_trees, more_trees, TreeBody, opaque_body, fields, Structs}
+use Rattle.module_arena.specs.declared.arena.TheConstants.{COUNT_LIMIT}
 use Rattle.module_arena.specs.Module.{Bytes, Constant, Constants, Value, Operand, Operation, Block, Variable, AliasType, Alias, Function, Module}
 use Rattle.module_arena.specs.Module.Constant.{Integer, Truth, Address, ByteString, Aggregate, ElementAddress, Cast, Binary}
 use Rattle.module_arena.specs.Module.Constants.{no_constants, more_constants}
@@ -195,11 +196,11 @@ count_for_aliases (a ∷ as_) vs fs = length (a ∷ as_) + max (length vs) (leng
 abbrev pub alias_count : Module → ℕ
 alias_count m = count_for_aliases m.aliases m.variables m.functions
 
--- at most 262,144 of each
+-- no more than the limit of each
 abbrev pub has_few_entries : Module → Bool
 has_few_entries m =
-    nat_le (length m.structs) 262144
-    && (nat_le (length m.variables) 262144 && (nat_le (length m.functions) 262144 && nat_le (alias_count m) 262144))
+    nat_le (length m.structs) COUNT_LIMIT
+    && (nat_le (length m.variables) COUNT_LIMIT && (nat_le (length m.functions) COUNT_LIMIT && nat_le (alias_count m) COUNT_LIMIT))
 
 -- the module is well formed
 pub record IsWellFormed (m : Module) : Type 0 where

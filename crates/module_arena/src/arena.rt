@@ -20,8 +20,8 @@ use std::alloc::{AllocError, Global};
 use std::marker::Model;
 use type_table::{IrType, StructBody, StructId, TypeFault, TypeId, TypeTable};
 
-/// How many variables, aliases or functions there are at most.
-const COUNT_LIMIT: usize = 262_144;
+/// How many structs, variables, aliases or functions a module has at most.
+pub const COUNT_LIMIT: u32 = 262_144;
 
 /// A module: its texts, and its types, constants, variables, aliases and functions under typed ids.
 #[derive(Drop)]
@@ -55,17 +55,17 @@ fn excess(variables: usize, functions: usize, aliases: usize) -> Option<(CountKi
     requires few { variables + functions + aliases < 2 ^ 63 }
     ensures { result ≡ first_excess (record { variables = variables; aliases = aliases; functions = functions }) }
 {
-    if variables > COUNT_LIMIT {
+    if variables > COUNT_LIMIT as usize {
         return Some((CountKind::Variables, variables as u64));
     }
-    if functions > COUNT_LIMIT {
+    if functions > COUNT_LIMIT as usize {
         return Some((CountKind::Functions, functions as u64));
     }
     if aliases == 0 {
         return None;
     }
     let counted = aliases + variables.max(functions);
-    if counted > COUNT_LIMIT {
+    if counted > COUNT_LIMIT as usize {
         Some((CountKind::Aliases, counted as u64))
     } else {
         None

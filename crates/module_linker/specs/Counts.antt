@@ -11,6 +11,7 @@ use Rattle.linkage_rules.specs.Symbols.{variable_symbols, function_symbols, alia
 use Rattle.linkage_rules.specs.Winner.{definitions, size_in, home}
 use Rattle.linkage_rules.specs.Place.{joined_length}
 use Rattle.module_linker.specs.Structs.{struct_map}
+use Rattle.module_arena.specs.declared.arena.TheConstants.{COUNT_LIMIT}
 use Rattle.module_arena.specs.declared.fault.CountKind.{CountKind}
 use Rattle.module_arena.specs.declared.fault.CountKind.TheVariants.{Structs, Variables, Functions, Aliases, AppendedBytes}
 
@@ -45,10 +46,10 @@ counts parts =
 
 -- the greatest count of a kind
 abbrev pub limit : CountKind → ℕ
-limit Structs = 262144
-limit Variables = 262144
-limit Functions = 262144
-limit Aliases = 262144
+limit Structs = COUNT_LIMIT
+limit Variables = COUNT_LIMIT
+limit Functions = COUNT_LIMIT
+limit Aliases = COUNT_LIMIT
 limit AppendedBytes = 2 ^ 40
 
 -- the first count that is past its limit, told as at most 2^64 - 1

@@ -1,5 +1,6 @@
 //! Functions whose bodies are due.
 ghost use Rattle.std.specs.Prelude.{◌≡◌, ◌≤◌, ◌&&◌, nat_eq, length, false, slice_index_or, if◌then◌else◌};
+ghost use Rattle.module_arena.specs.declared.arena.TheConstants.{COUNT_LIMIT};
 ghost use Rattle.module_order.specs.Due.{due_at};
 
 /// Whether the function at that place is defined.
@@ -29,7 +30,7 @@ fn one_where(holds: bool) -> usize
 
 /// The number at that place.
 fn number_of(place: usize) -> u32
-    requires { place ≤ 262144 }
+    requires { place ≤ COUNT_LIMIT }
     ensures { result ≡ place }
 {
     place as u32
@@ -38,7 +39,7 @@ fn number_of(place: usize) -> u32
 /// The number of the function whose body is the next, where so many bodies came: the first that is defined and has none.
 /// Functions are numbered from 0, and at most 262,144.
 pub fn next_due(defined: &[bool], came: usize) -> Option<u32>
-    requires { length defined.now ≤ 262144 }
+    requires { length defined.now ≤ COUNT_LIMIT }
     ensures { result ≡ due_at defined.now came 0 }
 {
     let count = defined.len();

@@ -9,11 +9,11 @@ ghost use Rattle.name_rules.specs.ModuleOf.{struct_in, variable_in, alias_in, fu
 ghost use Rattle.name_judge.specs.Counting.{AreCounts};
 
 use ir_syntax::{Item, Items};
-use module_arena::CountKind;
+use module_arena::{COUNT_LIMIT, CountKind};
 use name_rules::ResolveFault;
 
 /// How many there are at most of each kind.
-const MOST: u64 = 262_144;
+const MOST: u64 = COUNT_LIMIT as u64;
 
 /// How many there are of each kind.
 #[derive(Clone, Copy)]

@@ -4,6 +4,7 @@ use Rattle.ir_base.specs.declared.place.Place.{Place}
 use Rattle.ir_terminals.specs.declared.values.PlacedName.{PlacedName}
 use Rattle.ir_constants.specs.Tree.{TypeTree, ConstantTree}
 use Rattle.ir_syntax.specs.Tree.{ItemTree, VariableTree, AliasTypeTree, PlainAlias, FunctionAlias, AliasTree, HeadTree, SourceFilename, DataLayout, TargetTriple, Struct, Variable, Alias, Declaration, Definition, Attributes, Metadata}
+use Rattle.module_arena.specs.declared.arena.TheConstants.{COUNT_LIMIT}
 use Rattle.module_arena.specs.declared.fault.CountKind.{CountKind}
 use Rattle.module_arena.specs.declared.fault.CountKind.TheVariants as kinds
 use Rattle.module_arena.specs.Known.{counted_aliases}
@@ -103,7 +104,7 @@ demands items = demands_behind (known_in items) [] items
 
 -- how many structs, variables, functions or aliases a module has at most
 abbrev pub most : ℕ
-most = 262144
+most = COUNT_LIMIT
 
 -- there are no more than that, and what further counts say
 abbrev pub no_more : CountKind → ℕ → Option ResolveFault → Option ResolveFault

@@ -1,6 +1,7 @@
 -- For `write` of bitcode: what a module must be so that its records are read back.
 use Rattle.std.specs.Prelude.{◌≡◌, ℕ, suc, ◌+◌, max, nat_lt, nat_le, Bool, true, false, List, [], ◌∷◌, ◌++◌, length, zip, is_some, Option, Some, None, Ok, ⊤}
 use Rattle.std.specs.List.{AllByRecursion, fold}
+use Rattle.module_arena.specs.declared.arena.TheConstants.{COUNT_LIMIT}
 use Rattle.module_arena.specs.Module.{Bytes, Block, Variable, Function, Alias, Module}
 use Rattle.record_table.specs.Fields.{Texts, Numbering}
 use Rattle.record_table.specs.Listed.{IsType, IsName, AreBytes}
@@ -73,18 +74,18 @@ behind_aliases vs fs all at = fold after_alias (behind_functions vs fs at) all
 module _ (s : Sofar) where
   -- a variable that fits, has a new name and is not one too many
   abbrev pub VariableFollows : Globals → Variable → Type 0
-  VariableFollows g v = VariableFits s.texts s.k v × (may_follow g.last 6 ≡ true) × (nat_lt (length g.variables) 0x4_0000 ≡ true) × (is_new (with_globals s g) v.name ≡ true)
+  VariableFollows g v = VariableFits s.texts s.k v × (may_follow g.last 6 ≡ true) × (nat_lt (length g.variables) COUNT_LIMIT ≡ true) × (is_new (with_globals s g) v.name ≡ true)
 
   -- a function whose record fits, with a new name, and not one too many
   abbrev pub FunctionFollows : Globals → Function → Type 0
   FunctionFollows g f =
       (IsName s.texts f.name × IsType s.k f.returns × AllByRecursion (IsType s.k) (types_of f))
-      × (may_follow g.last 7 ≡ true) × (nat_lt (length g.functions) 0x4_0000 ≡ true) × (is_new (with_globals s g) f.name ≡ true)
+      × (may_follow g.last 7 ≡ true) × (nat_lt (length g.functions) COUNT_LIMIT ≡ true) × (is_new (with_globals s g) f.name ≡ true)
 
   -- an alias that fits
   abbrev pub AliasFollows : Globals → Alias → Type 0
   AliasFollows g a = AliasFits s.texts s.k a × (may_follow g.last 8 ≡ true)
-      × (nat_le (suc (length g.aliases) + max (length g.variables) (length g.functions)) 0x4_0000 ≡ true) × (is_new (with_globals s g) a.name ≡ true)
+      × (nat_le (suc (length g.aliases) + max (length g.variables) (length g.functions)) COUNT_LIMIT ≡ true) × (is_new (with_globals s g) a.name ≡ true)
 
 -- a declaration is what its record says; a body fits
 abbrev pub PartsFit : Texts → Numbering → Function → Option (List Block) → Type 0

@@ -4,6 +4,7 @@ use Rattle.std.specs.List.{list_any}
 use mathlib.Core.Logic.{inl, inr}
 use Rattle.type_table.specs.Tree.{Tree}
 use Rattle.type_table.specs.Types.{trees, structs}
+use Rattle.module_arena.specs.declared.arena.TheConstants.{COUNT_LIMIT}
 use Rattle.module_arena.specs.Module.{Bytes, LocalName, Variable, AliasType, PlainType, FunctionType, Alias, Function, Parameter, Module}
 use Rattle.bit_tree.specs.Stream as stream
 use Rattle.record_table.specs.Layout.{Layout, number, mapped, asking, ◌&◌, ◌&>◌, counted, to_end, option, either, times, judged}
@@ -131,16 +132,16 @@ is_new s n =
 
 -- VARIABLE
 abbrev pub variable_record : Sofar → Variable × Option ℕ → Answer Sofar
-variable_record s x = placed s 6 (also 7 (nat_lt (length s.variables) 0x4_0000) (also 4 (is_new s x.0.name) x.1)) (record s { variables = s.variables ++ x.0 ∷ [] })
+variable_record s x = placed s 6 (also 7 (nat_lt (length s.variables) COUNT_LIMIT) (also 4 (is_new s x.0.name) x.1)) (record s { variables = s.variables ++ x.0 ∷ [] })
 
 -- FUNCTION
 abbrev pub function_record : Sofar → (Bool × Function) × Option ℕ → Answer Sofar
-function_record s x = placed s 7 (also 7 (nat_lt (length s.functions) 0x4_0000) (also 4 (is_new s x.0.1.name) x.1)) (record s { functions = s.functions ++ x.0 ∷ [] })
+function_record s x = placed s 7 (also 7 (nat_lt (length s.functions) COUNT_LIMIT) (also 4 (is_new s x.0.1.name) x.1)) (record s { functions = s.functions ++ x.0 ∷ [] })
 
 -- the count for aliases is theirs and the greater of those of variables and functions
 abbrev pub alias_record : Sofar → Alias × Option ℕ → Answer Sofar
 alias_record s x =
-    placed s 8 (also 7 (nat_le (suc (length s.aliases) + max (length s.variables) (length s.functions)) 0x4_0000) (also 4 (is_new s x.0.name) x.1))
+    placed s 8 (also 7 (nat_le (suc (length s.aliases) + max (length s.variables) (length s.functions)) COUNT_LIMIT) (also 4 (is_new s x.0.name) x.1))
     (record s { aliases = s.aliases ++ x.0 ∷ [] })
 
 -- SOURCE, LAYOUT or TRIPLE

@@ -9,6 +9,7 @@ use Rattle.type_table.specs.Types.{Types, with_type, with_body}
 use Rattle.type_table.specs.Limits.{all_shapes, array_length}
 use Rattle.type_table.specs.Layout.{has_layout, size}
 use Rattle.type_table.specs.Shape.{Shape, nesting, parts}
+use Rattle.module_arena.specs.declared.arena.TheConstants.{COUNT_LIMIT}
 use Rattle.module_arena.specs.Module.{Bytes}
 use Rattle.module_arena.specs.WellFormed.{is_within_limits}
 use Rattle.record_table.specs.Layout.{Layout, number, nothing, mapped, asking, ◌&◌, counted, to_end, judged}
@@ -161,7 +162,7 @@ type_record s x = let after = with_type s.types x.0 in
 -- a struct
 abbrev pub struct_record : Listed → (StructBody × Bytes) × Option ℕ → Answer Listed
 struct_record s x = let after = with_body s.types (length s.names) x.0.0 in
-    unless_broken types_id s.at (also 7 (all_fit after && nat_lt (length s.names) 0x4_0000) (also 4 (not (list_any (bytes_eq x.0.1) s.names)) x.1))
+    unless_broken types_id s.at (also 7 (all_fit after && nat_lt (length s.names) COUNT_LIMIT) (also 4 (not (list_any (bytes_eq x.0.1) s.names)) x.1))
     (record s { at = suc s.at; types = after; names = s.names ++ x.0.1 ∷ [] })
 
 -- the kind that has this code

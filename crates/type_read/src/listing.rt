@@ -15,14 +15,11 @@ ghost use Rattle.type_read.specs.Listed.{AddsType, AreNames, AreSoFar, IsBegun, 
 use crate::definition::{Definition, read_definition};
 use crate::records::read_type;
 use crate::structs::StructNames;
-use module_arena::Arena;
+use module_arena::{Arena, COUNT_LIMIT};
 use record_read::{BitcodeFault, Entry, RecordReader, Texts, misplaced};
 use record_table::{DEFINE, Kind, TYPES_BLOCK};
 use std::alloc::Global;
 use type_table::{IrType, StructBody, StructId, TypeFault};
-
-/// How many structs there are at most.
-const STRUCT_LIMIT: u32 = 262_144;
 
 /// What holds of the types of every arena.
 fn are_within(arena: &Arena)
@@ -147,7 +144,7 @@ fn read_struct_record(
     let definition = read_definition(reader, alloc, texts, count)?;
     let Definition { body, name } = definition;
     ask_new(reader, names, number, name.is_some());
-    reader.also(7, number < STRUCT_LIMIT);
+    reader.also(7, number < COUNT_LIMIT);
     are_within(arena);
     match body {
         Some(body) => {

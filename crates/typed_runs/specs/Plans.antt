@@ -1,6 +1,7 @@
 -- For `opening_is_typed`: when opening gives a typed state.
-use Rattle.std.specs.Prelude.{◌≡◌, ℕ, ◌^◌, ◌<◌, ◌≤◌, Bool, true, false, List, length, Some}
+use Rattle.std.specs.Prelude.{◌≡◌, ℕ, ◌<◌, ◌≤◌, Bool, true, false, List, length, Some}
 use Rattle.std.specs.List.{All}
+use Rattle.module_arena.specs.declared.arena.TheConstants.{COUNT_LIMIT}
 use Rattle.ir_memory.specs.Given.{IsAlignment}
 use Rattle.run_rules.specs.Action.{Action}
 use Rattle.run_rules.specs.Calls.{Callee}
@@ -20,7 +21,7 @@ IsTypedMain t look table address false = IsFunctionOf look table plain_main (tab
 -- alignments are alignments, leaves fit, and there is a main of its type
 pub record IsTypedPlan (t : Typing) (look : ℕ → ℕ → ℕ → Action) (table : ℕ → Callee) (p : Plan) : Type 0 where
   pub variables : All (λ (v : plans.Variable). IsAlignment v.align) p.variables
-  pub few : length p.variables ≤ 2 ^ 18
+  pub few : length p.variables ≤ COUNT_LIMIT
   pub fixed : t.fixed ≤ length p.variables
   pub stores : All (λ x. AreStored (length p.variables) x.1) p.stores
   pub main : (m : plans.Main) → p.main ≡ Some m → IsTypedMain t look table m.address m.takes_arguments
