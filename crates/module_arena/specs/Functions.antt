@@ -1,6 +1,7 @@
 -- For `Checked::seal`: what a function has: blocks, values with their types, edges, and how large it is.
-use Rattle.std.specs.Prelude.{ℕ, ◌+◌, ◌*◌, ◌^◌, Bool, nat_lt, List, [], ◌++◌, map, length, find, flat_map, sum_by, count_by, Option, Some, None, is_some, option_to_list}
+use Rattle.std.specs.Prelude.{ℕ, ◌+◌, ◌*◌, Bool, nat_lt, List, [], ◌++◌, map, length, find, flat_map, sum_by, count_by, Option, Some, None, is_some, option_to_list}
 use Rattle.type_table.specs.Tree.{Tree, Structs}
+use Rattle.module_arena.specs.declared.entry.TheConstants.{LARGEST_PRODUCT}
 use Rattle.module_arena.specs.Module.{Bytes, LocalName, Instruction, Block, Parameter, Function, Module}
 use Rattle.module_arena.specs.Same.{same_local}
 use Rattle.module_arena.specs.Operations.{result_type}
@@ -49,7 +50,7 @@ value_count f = length f.parameters + sum_by (λ block. count_by (λ i. is_some 
 
 -- the greatest product of blocks and values of a function
 abbrev pub largest_product : ℕ
-largest_product = 2 ^ 31
+largest_product = LARGEST_PRODUCT
 
 -- blocks times values
 abbrev pub product : Function → ℕ

@@ -93,6 +93,9 @@ pub struct Body {
     pub results: LocalNameList,
 }
 
+/// The greatest product of the blocks and the values of a function.
+pub const LARGEST_PRODUCT: u64 = 2_147_483_648;
+
 /// A function (LangRef, "Functions").
 #[derive(Drop)]
 pub struct Function {

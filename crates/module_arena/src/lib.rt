@@ -42,8 +42,8 @@ pub use checked::Checked;
 pub use constant::{Brackets, Const, ConstAddress, ConstPair, TypedConst, TypedConstList};
 pub use entity::Entity;
 pub use entry::{
-    Alias, AliasType, Block, BlockList, Body, Function, GlobalId, InstList, LocalName,
-    LocalNameList, Parameter, ParameterList, Variable,
+    Alias, AliasType, Block, BlockList, Body, Function, GlobalId, InstList, LARGEST_PRODUCT,
+    LocalName, LocalNameList, Parameter, ParameterList, Variable,
 };
 pub use fault::{ArenaFault, CountKind};
 pub use host::{HostRow, host_row, host_row_fits};

@@ -6,12 +6,9 @@ ghost use Rattle.module_arena.specs.Known.{KnowsFunction};
 ghost use Rattle.module_arena.specs.View.{module_of};
 ghost use Rattle.path_verify.specs.Verified.{Sized};
 
-use module_arena::{Arena, Function, FunctionId};
+use module_arena::{Arena, Function, FunctionId, LARGEST_PRODUCT};
 use std::alloc::Global;
 use type_verify::VerifyFault;
-
-// The greatest product of blocks and values of a function.
-const LARGEST_PRODUCT: u64 = 2_147_483_648;
 
 /// Blocks times values of a function.
 fn product_of(arena: &Arena, function: &Function) -> u64
