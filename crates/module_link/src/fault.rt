@@ -35,7 +35,12 @@ impl From<SymbolFault> for LinkFault {
 
     fn from(fault: SymbolFault) -> LinkFault {
         match fault {
-            SymbolFault::Conflict(kind, name, one, other) => LinkFault::Conflict {
+            SymbolFault::Conflict {
+                kind,
+                name,
+                one,
+                other,
+            } => LinkFault::Conflict {
                 kind,
                 name,
                 one,
