@@ -98,8 +98,10 @@ pub(crate) fn verdict_told(alloc: Global, name: &Text, fault: VerifyFault) -> En
         return Ended::Memory;
     };
     let told = match &fault {
-        VerifyFault::FunctionTooLarge(function, size) => size_told(alloc, name, function, *size),
-        VerifyFault::Invalid(rule, entity) => rule_told(alloc, name, *rule, entity),
+        VerifyFault::FunctionTooLarge { function, size } => {
+            size_told(alloc, name, function, *size)
+        }
+        VerifyFault::Invalid { rule, entity } => rule_told(alloc, name, *rule, entity),
         VerifyFault::Memory => return Ended::Memory,
     };
     match told {
