@@ -196,5 +196,8 @@ pub(crate) fn read_record(
     if code == ALIAS {
         return read_alias_part(m, texts, sofar);
     }
-    Err(BitcodeFault::UnknownRecord(MODULE_BLOCK, code))
+    Err(BitcodeFault::UnknownRecord {
+        block: MODULE_BLOCK,
+        code,
+    })
 }

@@ -42,7 +42,11 @@ fn closed(body: Begun, at: u64) -> Result<Body, BitcodeFault>
     if may_end(body.due) {
         Ok(body.finish())
     } else {
-        Err(BitcodeFault::BadRecord(BODY_BLOCK, at, 5))
+        Err(BitcodeFault::BadRecord {
+            block: BODY_BLOCK,
+            index: at,
+            rule: 5,
+        })
     }
 }
 

@@ -51,6 +51,9 @@ pub(crate) fn read_record(
     let found = opcode_of(code);
     match found {
         Some(opcode) => read_opcode(m, texts, body, opcode),
-        None => Err(BitcodeFault::UnknownRecord(BODY_BLOCK, code)),
+        None => Err(BitcodeFault::UnknownRecord {
+            block: BODY_BLOCK,
+            code,
+        }),
     }
 }

@@ -9,7 +9,7 @@
 //! let arena = resolve(alloc, &items)?; // one variable
 //!
 //! let items = read_items(alloc, b"@a = global ptr @b")?;
-//! resolve(alloc, &items) // Err(ResolveFault::UnknownName(place, name)): `@b`, at 1:17
+//! resolve(alloc, &items) // Err(ResolveFault::UnknownName { place, spelled }): `@b`, at 1:17
 //! ```
 #![tactic(auto)]
 

@@ -242,7 +242,12 @@ pub(crate) fn refuse_conflict(
     for symbol in symbols {
         if let Some(clash) = conflict_of(parts, groups, symbol) {
             let name = symbol.name().copy(alloc)?;
-            return Err(SymbolFault::Conflict(clash.kind, name, clash.one, clash.other));
+            return Err(SymbolFault::Conflict {
+                kind: clash.kind,
+                name,
+                one: clash.one,
+                other: clash.other,
+            });
         }
     }
     Ok(())

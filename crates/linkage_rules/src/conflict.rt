@@ -23,7 +23,12 @@ pub enum ConflictKind {
 pub enum SymbolFault {
     /// Two entries of that name are in conflict, of an earlier and of a later part, which are counted from 0.
     #[error("two parts are in conflict")]
-    Conflict(ConflictKind, Name, u64, u64),
+    Conflict {
+        kind: ConflictKind,
+        name: Name,
+        one: u64,
+        other: u64,
+    },
     /// There is no memory left.
     #[error("out of memory")]
     Memory,

@@ -48,7 +48,10 @@ impl<'a> CalledNames<'a> {
         ensures { Goes self.old self.new (λ before. is_new before.names name.now) (λ before. called_with before (false, Some (locals.Named name.now))) result }
     {
         if let Some(earlier) = self.names.get(name.name.bytes()) {
-            return Err(ResolveFault::Duplicate(name.place, earlier));
+            return Err(ResolveFault::Duplicate {
+                place: name.place,
+                first: earlier,
+            });
         }
         self.names.put(name.name.bytes(), name.place)?;
         Ok(())
@@ -73,7 +76,11 @@ impl<'a> CalledNames<'a> {
             return Ok(());
         }
         let digits = spell_number(alloc, number)?;
-        Err(ResolveFault::WrongNumber(place, self.next, digits))
+        Err(ResolveFault::WrongNumber {
+            place,
+            next: self.next,
+            found: digits,
+        })
     }
 
     /// Calls a parameter, a block or a result so, or by the next number where no name is written.

@@ -43,7 +43,10 @@ pub(crate) fn check_local(
         return Ok(());
     }
     let spelled = spell_local(alloc, written)?;
-    Err(ResolveFault::UnknownName(place_of(written), spelled))
+    Err(ResolveFault::UnknownName {
+        place: place_of(written),
+        spelled,
+    })
 }
 
 /// A value, where it stands at that type.

@@ -10,10 +10,18 @@ use thiserror::Error;
 pub enum LinkFault {
     /// Two entries of that name are in conflict, of an earlier and of a later part, which are counted from 0.
     #[error("two parts are in conflict")]
-    Conflict(ConflictKind, Name, u64, u64),
+    Conflict {
+        kind: ConflictKind,
+        name: Name,
+        one: u64,
+        other: u64,
+    },
     /// The linked module would have so many, which is past the limit; 2^64 - 1 where there are more.
     #[error("the linked module would be too large")]
-    TooMany(CountKind, u64),
+    TooMany {
+        kind: CountKind,
+        count: u64,
+    },
     /// There is no memory left.
     #[error("out of memory")]
     Memory,
@@ -27,9 +35,17 @@ impl From<SymbolFault> for LinkFault {
 
     fn from(fault: SymbolFault) -> LinkFault {
         match fault {
-            SymbolFault::Conflict(kind, name, one, other) => {
-                LinkFault::Conflict(kind, name, one, other)
-            }
+            SymbolFault::Conflict {
+                kind,
+                name,
+                one,
+                other,
+            } => LinkFault::Conflict {
+                kind,
+                name,
+                one,
+                other,
+            },
             SymbolFault::Memory => LinkFault::Memory,
         }
     }

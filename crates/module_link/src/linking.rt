@@ -32,7 +32,10 @@ fn link_all(alloc: Global, parts: &[Checked]) -> Result<Checked, LinkFault>
     let bindings = resolve_symbols(alloc, parts)?;
     let rows = struct_rows(alloc, parts)?;
     match too_many(parts, &bindings, rows.names.len() as u64) {
-        Some(count) => return Err(LinkFault::TooMany(count.kind, count.number)),
+        Some(count) => return Err(LinkFault::TooMany {
+            kind: count.kind,
+            count: count.number,
+        }),
         None => {}
     }
     // What is made of parts that have no conflict and pass no count is well formed and valid, and runs as they do.

@@ -26,13 +26,25 @@ pub fn expect_whole(last: u8, is_due: bool, at: u64) -> Result<(), BitcodeFault>
     ensures { (s : records.Sofar) → s.last ≡ last → is_some (records.first_due s.functions) ≡ is_due → s.at ≡ at → Answers (λ done t. t ≡ s) (records.ended s) result }
 {
     if is_bare(last) {
-        return Err(BitcodeFault::BadRecord(MODULE_BLOCK, at, 5));
+        return Err(BitcodeFault::BadRecord {
+            block: MODULE_BLOCK,
+            index: at,
+            rule: 5,
+        });
     }
     if is_untyped(last) {
-        return Err(BitcodeFault::BadRecord(TYPES_BLOCK, at, 5));
+        return Err(BitcodeFault::BadRecord {
+            block: TYPES_BLOCK,
+            index: at,
+            rule: 5,
+        });
     }
     if is_due {
-        return Err(BitcodeFault::BadRecord(BODY_BLOCK, at, 5));
+        return Err(BitcodeFault::BadRecord {
+            block: BODY_BLOCK,
+            index: at,
+            rule: 5,
+        });
     }
     Ok(())
 }

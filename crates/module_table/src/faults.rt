@@ -44,12 +44,12 @@ fn print_entity(rt: &HostRuntime, entity: &Entity) -> io::Result<()> {
 /// Prints why a module is refused.
 pub(crate) fn print_fault(rt: &HostRuntime, fault: &VerifyFault) -> io::Result<()> {
     match fault {
-        VerifyFault::FunctionTooLarge(name, product) => {
+        VerifyFault::FunctionTooLarge { function, size } => {
             print!(rt; "function too large: ")?;
-            print_global(rt, name)?;
-            println!(rt; ", {product}")
+            print_global(rt, function)?;
+            println!(rt; ", {size}")
         }
-        VerifyFault::Invalid(rule, entity) => {
+        VerifyFault::Invalid { rule, entity } => {
             print!(rt; "invalid V{rule} at ")?;
             print_entity(rt, entity)?;
             println!(rt; "")

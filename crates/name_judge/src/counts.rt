@@ -87,17 +87,29 @@ pub(crate) fn check_counts(items: &Items) -> Result<(), ResolveFault>
 {
     let counts = counts_of(items);
     if counts.structs > MOST {
-        return Err(ResolveFault::TooMany(CountKind::Structs, counts.structs));
+        return Err(ResolveFault::TooMany {
+            kind: CountKind::Structs,
+            count: counts.structs,
+        });
     }
     if counts.variables > MOST {
-        return Err(ResolveFault::TooMany(CountKind::Variables, counts.variables));
+        return Err(ResolveFault::TooMany {
+            kind: CountKind::Variables,
+            count: counts.variables,
+        });
     }
     if counts.functions > MOST {
-        return Err(ResolveFault::TooMany(CountKind::Functions, counts.functions));
+        return Err(ResolveFault::TooMany {
+            kind: CountKind::Functions,
+            count: counts.functions,
+        });
     }
     let aliases = counted_aliases(counts.aliases, counts.variables, counts.functions);
     if aliases > MOST {
-        return Err(ResolveFault::TooMany(CountKind::Aliases, aliases));
+        return Err(ResolveFault::TooMany {
+            kind: CountKind::Aliases,
+            count: aliases,
+        });
     }
     Ok(())
 }

@@ -7,7 +7,7 @@
 //!
 //! ```
 //! let items = read_items(alloc, b"@a = global i32 7\n@a = global i32 8")?;
-//! judge(alloc, &items) // Err(ResolveFault::Duplicate(here, first)): here is 2:1, first is 1:1
+//! judge(alloc, &items) // Err(ResolveFault::Duplicate { place, first }): place is 2:1, first is 1:1
 //! ```
 #![tactic(auto)]
 

@@ -40,8 +40,8 @@ pub(crate) fn check_first(seen: &mut Option<Place>, place: Place) -> Result<(), 
     ensures seen { OnOk result (seen.old ≡ None) }
     ensures new { OnOk result (seen.new ≡ Some place) }
 {
-    if let Some(earlier) = *seen {
-        return Err(ResolveFault::Duplicate(place, earlier));
+    if let Some(first) = *seen {
+        return Err(ResolveFault::Duplicate { place, first });
     }
     *seen = Some(place);
     Ok(())
@@ -56,7 +56,10 @@ pub(crate) fn check_new<'a>(
     ensures seen { (before : List PlacedName) → AreFirst seen.old before → OnOk result (AreFirst seen.new (before ++ name.now ∷ [])) }
 {
     match seen.get(name.name.bytes()) {
-        Some(earlier) => Err(ResolveFault::Duplicate(name.place, earlier)),
+        Some(earlier) => Err(ResolveFault::Duplicate {
+            place: name.place,
+            first: earlier,
+        }),
         None => {
             seen.put(name.name.bytes(), name.place)?;
             Ok(())

@@ -9,17 +9,30 @@ use thiserror::Error;
 pub enum ResolveFault {
     /// More structs, variables, functions or aliases than a module may have, and how many there are.
     #[error("too many entries")]
-    TooMany(CountKind, u64),
-    /// What the token there names is named already, first at the second place.
+    TooMany {
+        kind: CountKind,
+        count: u64,
+    },
+    /// What the token there names is named already, first at the place `first`.
     #[error("named twice")]
-    Duplicate(Place, Place),
+    Duplicate {
+        place: Place,
+        first: Place,
+    },
     /// The name there, as it is spelled, is that of nothing, or of a value where a block stands, or of a block where a value
     /// does.
     #[error("unknown name")]
-    UnknownName(Place, Text),
+    UnknownName {
+        place: Place,
+        spelled: Text,
+    },
     /// The number there is not the next one: the place, the next one, and the digits of the one that is written.
     #[error("wrong number")]
-    WrongNumber(Place, u64, Text),
+    WrongNumber {
+        place: Place,
+        next: u64,
+        found: Text,
+    },
     /// The integer there does not fit its place.
     #[error("constant out of range")]
     ConstantRange(Place),

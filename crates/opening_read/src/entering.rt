@@ -34,8 +34,16 @@ fn enter_module(entry: Entry, at: u64) -> Result<(), BitcodeFault>
                 Err(misplaced(id, at))
             }
         }
-        Entry::Record(_) => Err(BitcodeFault::BadRecord(MODULE_BLOCK, at, 5)),
-        Entry::End => Err(BitcodeFault::BadRecord(MODULE_BLOCK, at, 5)),
+        Entry::Record(_) => Err(BitcodeFault::BadRecord {
+            block: MODULE_BLOCK,
+            index: at,
+            rule: 5,
+        }),
+        Entry::End => Err(BitcodeFault::BadRecord {
+            block: MODULE_BLOCK,
+            index: at,
+            rule: 5,
+        }),
     }
 }
 
@@ -69,6 +77,10 @@ pub fn expect_end(reader: &mut RecordReader<'_>) -> Result<(), BitcodeFault>
     match reader.next()? {
         Entry::End => Ok(()),
         Entry::Block(id) => Err(misplaced(id, at)),
-        Entry::Record(_) => Err(BitcodeFault::BadRecord(MODULE_BLOCK, at, 5)),
+        Entry::Record(_) => Err(BitcodeFault::BadRecord {
+            block: MODULE_BLOCK,
+            index: at,
+            rule: 5,
+        }),
     }
 }

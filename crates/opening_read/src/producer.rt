@@ -124,7 +124,10 @@ fn refuse_more(reader: &mut RecordReader<'_>, code: u32) -> Result<(), BitcodeFa
     ensures { (operands : List ℕ) → reader.old.walk ≡ going operands None → Answers (λ done more. ⊥) (another code operands) result }
 {
     if code != TEXT {
-        return Err(BitcodeFault::UnknownRecord(PRODUCER_BLOCK, code));
+        return Err(BitcodeFault::UnknownRecord {
+            block: PRODUCER_BLOCK,
+            code,
+        });
     }
     read_name_bytes(reader);
     reader.also(5, false);

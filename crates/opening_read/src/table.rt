@@ -21,7 +21,10 @@ fn refuse_more(reader: &mut RecordReader<'_>, alloc: Global, code: u32) -> Resul
         → Answers (λ done more. ⊥) (records.table_ended t (a_record code operands no_more)) result }
 {
     if code != TEXT {
-        return Err(BitcodeFault::UnknownRecord(TABLE_BLOCK, code));
+        return Err(BitcodeFault::UnknownRecord {
+            block: TABLE_BLOCK,
+            code,
+        });
     }
     let _bytes = read_rest(reader, alloc)?;
     reader.also(5, false);
@@ -38,7 +41,10 @@ fn read_bytes(reader: &mut RecordReader<'_>, alloc: Global, code: u32) -> Result
         → Answers (HasBytes (suc at)) (records.table at (a_record code operands no_more)) result }
 {
     if code != TEXT {
-        return Err(BitcodeFault::UnknownRecord(TABLE_BLOCK, code));
+        return Err(BitcodeFault::UnknownRecord {
+            block: TABLE_BLOCK,
+            code,
+        });
     }
     let bytes = read_rest(reader, alloc)?;
     reader.finish(TABLE_BLOCK)?;
@@ -79,6 +85,10 @@ pub fn read_table(reader: &mut RecordReader<'_>, alloc: Global) -> Result<Text, 
             Ok(bytes)
         }
         Entry::Block(id) => Err(misplaced(id, reader.at())),
-        Entry::End => Err(BitcodeFault::BadRecord(TABLE_BLOCK, reader.at(), 5)),
+        Entry::End => Err(BitcodeFault::BadRecord {
+            block: TABLE_BLOCK,
+            index: reader.at(),
+            rule: 5,
+        }),
     }
 }

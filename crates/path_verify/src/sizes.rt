@@ -32,7 +32,10 @@ pub(crate) fn judge_sizes(alloc: Global, arena: &Arena) -> Result<(), VerifyFaul
         let product = product_of(arena, function);
         if product > LARGEST_PRODUCT {
             let name = function.name.copy(alloc)?;
-            return Err(VerifyFault::FunctionTooLarge(name, product));
+            return Err(VerifyFault::FunctionTooLarge {
+                function: name,
+                size: product,
+            });
         }
     }
     Ok(())

@@ -21,11 +21,11 @@ pub enum BitcodeFault {
     #[error("bad version {0}")]
     BadVersion(u64),
     /// In this block a record of this code, which the block does not have; the code is 0 where there is no such block.
-    #[error("unknown record {1} in block {0}")]
-    UnknownRecord(u32, u32),
+    #[error("unknown record {code} in block {block}")]
+    UnknownRecord { block: u32, code: u32 },
     /// In this block the record of this index over the stream, counted from 0, and the least rule that it breaks.
-    #[error("bad record {1} in block {0}, rule {2}")]
-    BadRecord(u32, u64, u8),
+    #[error("bad record {index} in block {block}, rule {rule}")]
+    BadRecord { block: u32, index: u64, rule: u8 },
     /// Memory ran out.
     #[error("out of memory")]
     Memory,
@@ -63,8 +63,12 @@ pub fn misplaced(id: u32, at: u64) -> BitcodeFault
     ensures { IsMisplaced id at result }
 {
     if is_block_id(id) {
-        BitcodeFault::BadRecord(id, at, 5)
+        BitcodeFault::BadRecord {
+            block: id,
+            index: at,
+            rule: 5,
+        }
     } else {
-        BitcodeFault::UnknownRecord(id, 0)
+        BitcodeFault::UnknownRecord { block: id, code: 0 }
     }
 }

@@ -247,7 +247,11 @@ impl<'b> RecordReader<'b> {
         ensures at { self.new.at ≡ self.old.at }
     {
         match self.told() {
-            Some(rule) => Err(BitcodeFault::BadRecord(block, self.at - 1, rule)),
+            Some(rule) => Err(BitcodeFault::BadRecord {
+                block,
+                index: self.at - 1,
+                rule,
+            }),
             None => Ok(()),
         }
     }

@@ -26,8 +26,8 @@ fn bitcode_told(alloc: Global, name: &Text, fault: BitcodeFault) -> Ended
         BitcodeFault::Bit(fault) => Ended::BitFault(name, fault),
         BitcodeFault::ForeignProducer => Ended::ForeignProducer(name),
         BitcodeFault::BadVersion(version) => Ended::BadVersion(name, version),
-        BitcodeFault::UnknownRecord(block, code) => Ended::UnknownRecord(name, block, code),
-        BitcodeFault::BadRecord(block, index, rule) => Ended::BadRecord(name, block, index, rule),
+        BitcodeFault::UnknownRecord { block, code } => Ended::UnknownRecord(name, block, code),
+        BitcodeFault::BadRecord { block, index, rule } => Ended::BadRecord(name, block, index, rule),
         BitcodeFault::Memory => Ended::Memory,
     }
 }

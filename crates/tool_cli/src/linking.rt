@@ -61,13 +61,18 @@ fn link_refusal(alloc: Global, names: &[Text], fault: LinkFault) -> Ended
     ensures of_texts { IsOfTexts result }
 {
     match fault {
-        LinkFault::Conflict(kind, symbol, one, other) => {
+        LinkFault::Conflict {
+            kind,
+            name: symbol,
+            one,
+            other,
+        } => {
             match clash_told(alloc, names, kind, &symbol, one, other) {
                 Ok(clash) => Ended::Conflict(clash),
                 Err(_) => Ended::Memory,
             }
         }
-        LinkFault::TooMany(kind, count) => Ended::TooMany(None, kind, count),
+        LinkFault::TooMany { kind, count } => Ended::TooMany(None, kind, count),
         LinkFault::Memory => Ended::Memory,
     }
 }

@@ -59,10 +59,10 @@ fn break_told(alloc: Global, name: &Text, fault: ResolveFault) -> Ended
         return Ended::Memory;
     };
     match fault {
-        ResolveFault::TooMany(kind, count) => Ended::TooMany(Some(name), kind, count),
-        ResolveFault::Duplicate(place, first) => Ended::Duplicate(name, place, first),
-        ResolveFault::UnknownName(place, spelled) => Ended::UnknownName(name, place, spelled),
-        ResolveFault::WrongNumber(place, next, found) => {
+        ResolveFault::TooMany { kind, count } => Ended::TooMany(Some(name), kind, count),
+        ResolveFault::Duplicate { place, first } => Ended::Duplicate(name, place, first),
+        ResolveFault::UnknownName { place, spelled } => Ended::UnknownName(name, place, spelled),
+        ResolveFault::WrongNumber { place, next, found } => {
             Ended::WrongNumber(name, place, next, found)
         }
         ResolveFault::ConstantRange(place) => Ended::ConstantRange(name, place),
@@ -98,8 +98,10 @@ pub(crate) fn verdict_told(alloc: Global, name: &Text, fault: VerifyFault) -> En
         return Ended::Memory;
     };
     let told = match &fault {
-        VerifyFault::FunctionTooLarge(function, size) => size_told(alloc, name, function, *size),
-        VerifyFault::Invalid(rule, entity) => rule_told(alloc, name, *rule, entity),
+        VerifyFault::FunctionTooLarge { function, size } => {
+            size_told(alloc, name, function, *size)
+        }
+        VerifyFault::Invalid { rule, entity } => rule_told(alloc, name, *rule, entity),
         VerifyFault::Memory => return Ended::Memory,
     };
     match told {

@@ -20,5 +20,8 @@ pub fn check_global(alloc: Global, known: &Known, name: &PlacedName) -> Result<(
         return Ok(());
     }
     let spelled = spell_global(alloc, name.name.bytes())?;
-    Err(ResolveFault::UnknownName(name.place, spelled))
+    Err(ResolveFault::UnknownName {
+        place: name.place,
+        spelled,
+    })
 }

@@ -162,7 +162,10 @@ fn check_struct_name(alloc: Global, known: &Known, name: &PlacedName) -> Result<
         return Ok(());
     }
     let spelled = spell_struct(alloc, name.name.bytes())?;
-    Err(ResolveFault::UnknownName(name.place, spelled))
+    Err(ResolveFault::UnknownName {
+        place: name.place,
+        spelled,
+    })
 }
 
 /// A type, and the types that are written inside it.

@@ -182,7 +182,10 @@ fn read_record(
             read_type_record(reader, alloc, arena, kind, defined)?;
             Ok(defined)
         }
-        None => Err(BitcodeFault::UnknownRecord(TYPES_BLOCK, code)),
+        None => Err(BitcodeFault::UnknownRecord {
+            block: TYPES_BLOCK,
+            code,
+        }),
     }
 }
 

@@ -7,9 +7,9 @@ use std::alloc::AllocError;
 #[derive(Drop)]
 pub enum VerifyFault {
     /// Blocks times values of the function of that name pass 2^31: the product.
-    FunctionTooLarge(Name, u64),
+    FunctionTooLarge { function: Name, size: u64 },
     /// The rule of that number does not hold of the entity.
-    Invalid(u8, Entity),
+    Invalid { rule: u8, entity: Entity },
     /// There is no memory left.
     Memory,
 }

@@ -43,7 +43,10 @@ pub fn judge_module(checks: &[Check]) -> Result<(), VerifyFault>
     ensures { Judged (asks valid.TheModule checks.now) result }
 {
     match failed_in(checks) {
-        Some(rule) => Err(VerifyFault::Invalid(rule, Entity::Module)),
+        Some(rule) => Err(VerifyFault::Invalid {
+            rule,
+            entity: Entity::Module,
+        }),
         None => Ok(()),
     }
 }
@@ -55,7 +58,10 @@ pub fn judge_global(alloc: Global, name: &Name, checks: &[Check]) -> Result<(), 
     match failed_in(checks) {
         Some(rule) => {
             let own = name.copy(alloc)?;
-            Err(VerifyFault::Invalid(rule, Entity::Global(own)))
+            Err(VerifyFault::Invalid {
+                rule,
+                entity: Entity::Global(own),
+            })
         }
         None => Ok(()),
     }
@@ -73,7 +79,10 @@ pub fn judge_instruction(
     match failed_in(checks) {
         Some(rule) => {
             let own = function.copy(alloc)?;
-            Err(VerifyFault::Invalid(rule, Entity::Instruction(number, own)))
+            Err(VerifyFault::Invalid {
+                rule,
+                entity: Entity::Instruction(number, own),
+            })
         }
         None => Ok(()),
     }

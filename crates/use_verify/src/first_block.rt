@@ -88,7 +88,10 @@ fn judge_block(
     if entered {
         let block = copied(alloc, block)?;
         let function = function.copy(alloc)?;
-        return Err(VerifyFault::Invalid(8, Entity::Block(block, function)));
+        return Err(VerifyFault::Invalid {
+            rule: 8,
+            entity: Entity::Block(block, function),
+        });
     }
     Ok(())
 }
