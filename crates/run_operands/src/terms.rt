@@ -8,10 +8,11 @@ ghost use Rattle.run_shapes.specs.Shapes.{shape_in};
 ghost use Rattle.run_stack.specs.Origins.{origin_of};
 ghost use Rattle.run_scopes.specs.Scopes.{HasScalar, operand_of, scope_in};
 ghost use Rattle.run_flat.specs.Grown.{Adds, AreTerms, IsLeaf};
-ghost use Rattle.run_operands.specs.Open.{AreOpen, IsOpen};
+ghost use Rattle.run_operands.specs.Open.{AreOpen, IsOpen, is_still, is_zero};
 
 use crate::pooled::put_known;
 use crate::steps::{Step, push_steps};
+use ir_eval::Scalar;
 use module_arena::Operand;
 use run_flat::{LeafAt, Pools, Span, Term};
 use run_scopes::Scope;
@@ -33,7 +34,24 @@ fn put_index(pools: &mut Pools, index: Origin) -> Result<LeafAt, AllocError>
     }
 }
 
-/// A term, with its index among the leaves. It is not gathered.
+/// Whether a leaf is the number 0.
+fn is_zero(leaf: Scalar) -> bool
+    ensures { result ≡ is_zero leaf }
+{
+    matches!(leaf, Scalar::Int(0))
+}
+
+/// Whether an index is known to be 0, so that whatever it counts it leads nowhere.
+fn is_still(index: Origin) -> bool
+    ensures { result ≡ is_still index }
+{
+    match index {
+        Origin::Held(_) => false,
+        Origin::Known(leaf) => is_zero(leaf),
+    }
+}
+
+/// A term, with its index among the leaves. It is gathered where it leads nowhere: then the sum has it without it being counted.
 fn put_term(pools: &mut Pools, step: Step) -> Result<Term, AllocError>
     requires { step.size ≤ 2 ^ 40 }
     ensures grows { OnOk result (Adds pools.old pools.new) }
@@ -44,7 +62,7 @@ fn put_term(pools: &mut Pools, step: Step) -> Result<Term, AllocError>
         index,
         width: step.width,
         size: step.size,
-        gathered: false,
+        gathered: is_still(step.index),
     })
 }
 
@@ -83,6 +101,7 @@ pub fn put_steps(
     }
     let terms = put_terms(scope.alloc(), pools, &steps)?;
     let span = pools.terms.append(&terms)?;
+    // Those that are gathered lead nowhere.
     let sum = pools.sums.push(0)?;
     Ok((span, sum))
 }
