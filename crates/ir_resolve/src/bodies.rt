@@ -56,11 +56,11 @@ fn define_item(
     ensures next { IfOk result (λ next. next ≡ function_behind number (item_view item.now)) }
 {
     match item {
-        Item::Definition(_, written) => {
-            define_function(builder, alloc, number, written)?;
+        Item::Definition { definition, .. } => {
+            define_function(builder, alloc, number, definition)?;
             Ok(number + 1)
         }
-        Item::Declaration(_, _) => Ok(number + 1),
+        Item::Declaration { .. } => Ok(number + 1),
         _ => Ok(number),
     }
 }

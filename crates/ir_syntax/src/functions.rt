@@ -174,7 +174,7 @@ pub fn declaration(cursor: &mut Cursor) -> Result<Item, Fault>
     let head = head(cursor)?;
     let formal = declared_behind(cursor)?;
     let declaration = Box::new(cursor.alloc(), Declaration { head, formal })?;
-    Ok(Item::Declaration(place, declaration))
+    Ok(Item::Declaration { place, declaration })
 }
 
 /// `FDROP* MD* { BLOCK+ }`
@@ -217,5 +217,6 @@ pub fn definition(cursor: &mut Cursor) -> Result<Item, Fault>
         parameters,
         blocks,
     };
-    Ok(Item::Definition(place, Box::new(cursor.alloc(), definition)?))
+    let definition = Box::new(cursor.alloc(), definition)?;
+    Ok(Item::Definition { place, definition })
 }

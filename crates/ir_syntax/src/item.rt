@@ -92,22 +92,40 @@ pub struct Definition {
 /// An item, with the place of its first token where no name has it.
 #[derive(Drop)]
 pub enum Item {
-    /// `source_filename`
-    SourceFilename(Place, PlacedText),
+    /// `source_filename`: the name of the source that the module was made from.
+    SourceFilename {
+        place: Place,
+        text: PlacedText,
+    },
     /// `target datalayout`; the place is that of `datalayout`.
-    DataLayout(Place, PlacedText),
+    DataLayout {
+        place: Place,
+        text: PlacedText,
+    },
     /// `target triple`; the place is that of `triple`.
-    TargetTriple(Place, PlacedText),
+    TargetTriple {
+        place: Place,
+        text: PlacedText,
+    },
     /// A struct that has a name.
-    Struct(PlacedName, StructBody),
-    /// `global` or `constant`
+    Struct {
+        name: PlacedName,
+        body: StructBody,
+    },
+    /// `global` or `constant`: a variable.
     Variable(Box<Variable>),
-    /// `alias`
+    /// `alias`: a further name of a variable or a function.
     Alias(Box<Alias>),
-    /// `declare`
-    Declaration(Place, Box<Declaration>),
-    /// `define`
-    Definition(Place, Box<Definition>),
+    /// `declare`: a function without its body.
+    Declaration {
+        place: Place,
+        declaration: Box<Declaration>,
+    },
+    /// `define`: a function with its body.
+    Definition {
+        place: Place,
+        definition: Box<Definition>,
+    },
     /// An attribute group, which is dropped.
     Attributes(Place),
     /// Metadata, which is dropped.

@@ -24,7 +24,7 @@ fn source(cursor: &mut Cursor) -> Result<Item, Fault>
     let place = cursor.take_class(Terminal::SourceFilename)?;
     cursor.take_class(Terminal::Equals)?;
     let text = cursor.quoted()?;
-    Ok(Item::SourceFilename(place, text))
+    Ok(Item::SourceFilename { place, text })
 }
 
 /// `datalayout = STRING`, or `triple = STRING`, behind `target`.
@@ -35,12 +35,12 @@ fn target_behind(cursor: &mut Cursor) -> Result<Item, Fault>
         let place = cursor.take_class(Terminal::DataLayout)?;
         cursor.take_class(Terminal::Equals)?;
         let text = cursor.quoted()?;
-        return Ok(Item::DataLayout(place, text));
+        return Ok(Item::DataLayout { place, text });
     }
     let place = cursor.take_class(Terminal::Triple)?;
     cursor.take_class(Terminal::Equals)?;
     let text = cursor.quoted()?;
-    Ok(Item::TargetTriple(place, text))
+    Ok(Item::TargetTriple { place, text })
 }
 
 /// `target datalayout = STRING`, or `target triple = STRING`.

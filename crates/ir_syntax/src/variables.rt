@@ -57,7 +57,7 @@ pub fn structure(cursor: &mut Cursor) -> Result<Item, Fault>
     cursor.take_class(Terminal::Equals)?;
     cursor.take_class(Terminal::Type)?;
     let body = body(cursor)?;
-    Ok(Item::Struct(name, body))
+    Ok(Item::Struct { name, body })
 }
 
 /// `global` or `constant`.

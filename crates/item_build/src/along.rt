@@ -19,7 +19,7 @@ fn add_place(places: &mut Vec<usize>, place: usize, item: &Item) -> Result<(), A
     ensures { OnOk result (places.new.items ≡ places.old.items ++ map (λ s. place) (option_to_list (struct_in (item_view item.now)))) }
 {
     match item {
-        Item::Struct(_, _) => {
+        Item::Struct { .. } => {
             places.push(place)?;
             Ok(())
         }

@@ -34,7 +34,7 @@ pub(crate) fn define_item(
     ensures done { (whole : Structs) → CanDefineItem whole builder.old.arena number (item_view item.now) → AreDone whole builder.old.arena number → IfOk result (λ next. AreDone whole builder.new.arena next) }
 {
     match item {
-        Item::Struct(_, body) => {
+        Item::Struct { body, .. } => {
             define_struct(builder, alloc, number, body)?;
             Ok(number + 1)
         }

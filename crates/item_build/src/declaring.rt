@@ -33,16 +33,16 @@ fn declare_item(builder: &mut Builder, alloc: Global, item: &Item) -> Result<(),
         Item::Alias(alias) => {
             declare_alias(builder, alloc, alias)?;
         }
-        Item::Declaration(_, declaration) => {
+        Item::Declaration { declaration, .. } => {
             declare_function(builder, alloc, declaration)?;
         }
-        Item::Definition(_, definition) => {
+        Item::Definition { definition, .. } => {
             declare_definition(builder, alloc, definition)?;
         }
-        Item::SourceFilename(_, _)
-        | Item::DataLayout(_, _)
-        | Item::TargetTriple(_, _)
-        | Item::Struct(_, _)
+        Item::SourceFilename { .. }
+        | Item::DataLayout { .. }
+        | Item::TargetTriple { .. }
+        | Item::Struct { .. }
         | Item::Attributes(_)
         | Item::Metadata(_) => {}
     }

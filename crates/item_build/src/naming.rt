@@ -24,7 +24,7 @@ fn name_item(builder: &mut Builder, alloc: Global, item: &Item) -> Result<(), Al
     ensures entries { OnOk result (entries builder.new.arena ≡ entries builder.old.arena) }
 {
     match item {
-        Item::Struct(name, _) => {
+        Item::Struct { name, .. } => {
             let name = name.name.to_name(alloc)?;
             match builder.arena.name_struct(name) {
                 Ok(_) => Ok(()),

@@ -18,7 +18,7 @@ fn source_of(item: &Item) -> Option<&PlacedText>
     ensures { option_copied result ≡ source_in (item_view item.now) }
 {
     match item {
-        Item::SourceFilename(_, written) => Some(written),
+        Item::SourceFilename { text, .. } => Some(text),
         _ => None,
     }
 }
@@ -28,7 +28,7 @@ fn layout_of(item: &Item) -> Option<&PlacedText>
     ensures { option_copied result ≡ layout_in (item_view item.now) }
 {
     match item {
-        Item::DataLayout(_, written) => Some(written),
+        Item::DataLayout { text, .. } => Some(text),
         _ => None,
     }
 }
@@ -38,7 +38,7 @@ fn triple_of(item: &Item) -> Option<&PlacedText>
     ensures { option_copied result ≡ triple_in (item_view item.now) }
 {
     match item {
-        Item::TargetTriple(_, written) => Some(written),
+        Item::TargetTriple { text, .. } => Some(text),
         _ => None,
     }
 }

@@ -37,13 +37,13 @@ fn with_item(counts: Counts, item: &Item) -> Counts
 {
     let mut counts = counts;
     match item {
-        Item::Struct(_, _) => counts.structs += 1,
+        Item::Struct { .. } => counts.structs += 1,
         Item::Variable(_) => counts.variables += 1,
         Item::Alias(_) => counts.aliases += 1,
-        Item::Declaration(_, _) | Item::Definition(_, _) => counts.functions += 1,
-        Item::SourceFilename(_, _)
-        | Item::DataLayout(_, _)
-        | Item::TargetTriple(_, _)
+        Item::Declaration { .. } | Item::Definition { .. } => counts.functions += 1,
+        Item::SourceFilename { .. }
+        | Item::DataLayout { .. }
+        | Item::TargetTriple { .. }
         | Item::Attributes(_)
         | Item::Metadata(_) => {}
     }

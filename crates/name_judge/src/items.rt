@@ -34,18 +34,18 @@ fn check_item<'a>(
     ensures seen { (before : List ItemTree) → IsSeen seen.old before → OnOk result (IsSeen seen.new (before ++ item_view item.now ∷ [])) }
 {
     match item {
-        Item::SourceFilename(place, _) => check_first(&mut seen.source, *place),
-        Item::DataLayout(place, _) => check_first(&mut seen.layout, *place),
-        Item::TargetTriple(place, _) => check_first(&mut seen.triple, *place),
-        Item::Struct(name, body) => {
+        Item::SourceFilename { place, .. } => check_first(&mut seen.source, *place),
+        Item::DataLayout { place, .. } => check_first(&mut seen.layout, *place),
+        Item::TargetTriple { place, .. } => check_first(&mut seen.triple, *place),
+        Item::Struct { name, body } => {
             check_struct(alloc, known, mentions, &mut seen.structs, name, body)
         }
         Item::Variable(variable) => check_variable(alloc, known, &mut seen.globals, variable),
         Item::Alias(alias) => check_alias(alloc, known, &mut seen.globals, alias),
-        Item::Declaration(_, declaration) => {
+        Item::Declaration { declaration, .. } => {
             check_declaration(alloc, known, &mut seen.globals, declaration)
         }
-        Item::Definition(_, definition) => {
+        Item::Definition { definition, .. } => {
             check_function(alloc, known, &mut seen.globals, definition)
         }
         Item::Attributes(_) => Ok(()),

@@ -115,7 +115,7 @@ fn add_body<'a>(item: &'a Item, bodies: &mut Vec<&'a StructBody>) -> Result<(), 
     ensures { OnOk result (bodies_in bodies.new.items ≡ bodies_in bodies.old.items ++ bodies_of (structs_in (item_view item.now ∷ []))) }
 {
     match item {
-        Item::Struct(_, body) => {
+        Item::Struct { body, .. } => {
             bodies.push(body)?;
             Ok(())
         }

@@ -41,7 +41,7 @@ fn number_item<'a>(
     ensures next { IfOk result (λ next. next ≡ count + length (structs_in (item_view item.now ∷ []))) }
 {
     match item {
-        Item::Struct(name, _) => {
+        Item::Struct { name, .. } => {
             add_number(numbers, name, count)?;
             Ok(count + 1)
         }
@@ -159,7 +159,7 @@ fn add_mentions(
     ensures { OnOk result (mention_lists all.new.items ≡ mention_lists all.old.items ++ lists_from numbers.now (length all.old.items) (structs_in (item_view item.now ∷ []))) }
 {
     match item {
-        Item::Struct(name, body) => {
+        Item::Struct { name, body } => {
             let found = struct_mentions(alloc, numbers, all.len() as u32, name, body)?;
             all.push(found)?;
             Ok(())

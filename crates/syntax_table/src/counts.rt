@@ -31,11 +31,11 @@ impl Counts {
     /// Counts an item.
     fn add(&mut self, item: &Item) {
         match item {
-            Item::Struct(_, _) => self.structs = self.structs.saturating_add(1),
+            Item::Struct { .. } => self.structs = self.structs.saturating_add(1),
             Item::Variable(_) => self.variables = self.variables.saturating_add(1),
             Item::Alias(_) => self.aliases = self.aliases.saturating_add(1),
-            Item::Declaration(_, _) => self.declarations = self.declarations.saturating_add(1),
-            Item::Definition(_, definition) => self.add_blocks(definition.blocks.as_slice()),
+            Item::Declaration { .. } => self.declarations = self.declarations.saturating_add(1),
+            Item::Definition { definition, .. } => self.add_blocks(definition.blocks.as_slice()),
             _ => self.others = self.others.saturating_add(1),
         }
     }

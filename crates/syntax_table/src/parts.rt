@@ -188,14 +188,14 @@ fn print_definition(rt: &HostRuntime, definition: &Definition) -> io::Result<()>
 
 fn print_item(rt: &HostRuntime, item: &Item) -> io::Result<()> {
     match item {
-        Item::SourceFilename(place, _) => print_place(rt, "file", *place),
-        Item::DataLayout(place, _) => print_place(rt, "layout", *place),
-        Item::TargetTriple(place, _) => print_place(rt, "triple", *place),
-        Item::Struct(name, body) => print_struct(rt, name, body),
+        Item::SourceFilename { place, .. } => print_place(rt, "file", *place),
+        Item::DataLayout { place, .. } => print_place(rt, "layout", *place),
+        Item::TargetTriple { place, .. } => print_place(rt, "triple", *place),
+        Item::Struct { name, body } => print_struct(rt, name, body),
         Item::Variable(variable) => print_variable(rt, variable),
         Item::Alias(alias) => print_alias(rt, alias),
-        Item::Declaration(place, declaration) => print_declaration(rt, *place, declaration),
-        Item::Definition(_, definition) => print_definition(rt, definition),
+        Item::Declaration { place, declaration } => print_declaration(rt, *place, declaration),
+        Item::Definition { definition, .. } => print_definition(rt, definition),
         Item::Attributes(place) => print_place(rt, "attributes", *place),
         Item::Metadata(place) => print_place(rt, "metadata", *place),
     }

@@ -36,12 +36,12 @@ pub fn global_name(item: &Item) -> Option<&PlacedName>
     match item {
         Item::Variable(variable) => Some(&variable.name),
         Item::Alias(alias) => Some(&alias.name),
-        Item::Declaration(_, declaration) => Some(&declaration.head.name),
-        Item::Definition(_, definition) => Some(&definition.head.name),
-        Item::SourceFilename(_, _)
-        | Item::DataLayout(_, _)
-        | Item::TargetTriple(_, _)
-        | Item::Struct(_, _)
+        Item::Declaration { declaration, .. } => Some(&declaration.head.name),
+        Item::Definition { definition, .. } => Some(&definition.head.name),
+        Item::SourceFilename { .. }
+        | Item::DataLayout { .. }
+        | Item::TargetTriple { .. }
+        | Item::Struct { .. }
         | Item::Attributes(_)
         | Item::Metadata(_) => None,
     }

@@ -14,19 +14,19 @@ use Rattle.name_judge.proofs.items.check_item.Goals as goal
 pub returns-in-SourceFilename-clause-seen : goal.returns-in-SourceFilename-clause-seen
 returns-in-SourceFilename-clause-seen c before are =
     on_ok_two c.check_first.result
-    (λ none new. source_seen c.args.seen.now c.check_first.new.seen before (item_view c.args.item.now) c.in-SourceFilename.place c.in-SourceFilename.field-1 (ap item_view c.in-SourceFilename.is) are none new)
+    (λ none new. source_seen c.args.seen.now c.check_first.new.seen before (item_view c.args.item.now) c.in-SourceFilename.place c.in-SourceFilename.text (ap item_view c.in-SourceFilename.is) are none new)
     c.check_first.ensures.seen c.check_first.ensures.new
 
 pub returns-in-DataLayout-clause-seen : goal.returns-in-DataLayout-clause-seen
 returns-in-DataLayout-clause-seen c before are =
     on_ok_two c.check_first-in-DataLayout.result
-    (λ none new. layout_seen c.args.seen.now c.check_first-in-DataLayout.new.seen before (item_view c.args.item.now) c.in-DataLayout.place c.in-DataLayout.field-1 (ap item_view c.in-DataLayout.is) are none new)
+    (λ none new. layout_seen c.args.seen.now c.check_first-in-DataLayout.new.seen before (item_view c.args.item.now) c.in-DataLayout.place c.in-DataLayout.text (ap item_view c.in-DataLayout.is) are none new)
     c.check_first-in-DataLayout.ensures.seen c.check_first-in-DataLayout.ensures.new
 
 pub returns-in-TargetTriple-clause-seen : goal.returns-in-TargetTriple-clause-seen
 returns-in-TargetTriple-clause-seen c before are =
     on_ok_two c.check_first-in-TargetTriple.result
-    (λ none new. triple_seen c.args.seen.now c.check_first-in-TargetTriple.new.seen before (item_view c.args.item.now) c.in-TargetTriple.place c.in-TargetTriple.field-1 (ap item_view c.in-TargetTriple.is) are none new)
+    (λ none new. triple_seen c.args.seen.now c.check_first-in-TargetTriple.new.seen before (item_view c.args.item.now) c.in-TargetTriple.place c.in-TargetTriple.text (ap item_view c.in-TargetTriple.is) are none new)
     c.check_first-in-TargetTriple.ensures.seen c.check_first-in-TargetTriple.ensures.new
 
 pub returns-in-Struct-clause-seen : goal.returns-in-Struct-clause-seen

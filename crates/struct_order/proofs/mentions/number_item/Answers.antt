@@ -10,4 +10,4 @@ use Rattle.struct_order.proofs.mentions.number_item.Goals as goal
 pub returns-in_ok-add_number-in-Struct-clause-numbers : goal.returns-in_ok-add_number-in-Struct-clause-numbers
 returns-in_ok-add_number-in-Struct-clause-numbers c structs e are =
     subst (λ (i : Item). AreNumbers c.add_number.new.numbers (structs ++ structs_in (item_view i ∷ []))) (sym c.in-Struct.is)
-    (numbers_more c.args.numbers.now c.add_number.new.numbers structs (c.in-Struct.name.name, body_in (body_view c.in-Struct.field-1)) c.args.count e are c.in_ok-add_number-in-Struct.ensures)
+    (numbers_more c.args.numbers.now c.add_number.new.numbers structs (c.in-Struct.name.name, body_in (body_view c.in-Struct.body)) c.args.count e are c.in_ok-add_number-in-Struct.ensures)
