@@ -17,7 +17,10 @@ fn alias_type(cursor: &mut Cursor) -> Result<AliasType, Fault>
 {
     let ty = type_of(cursor)?;
     match signature(cursor)? {
-        Some(signature) => Ok(AliasType::Function(ty, signature)),
+        Some(signature) => Ok(AliasType::Function {
+            returns: ty,
+            signature,
+        }),
         None => Ok(AliasType::Plain(ty)),
     }
 }

@@ -37,7 +37,7 @@ pub enum AliasType {
     /// A variable of this type.
     Plain(Type),
     /// A function: its return type and its parameters.
-    Function(Type, Signature),
+    Function { returns: Type, signature: Signature },
 }
 
 /// An alias (LangRef, "Aliases").

@@ -68,7 +68,7 @@ fn check_alias_type(alloc: Global, known: &Known, ty: &AliasType) -> Result<(), 
 {
     match ty {
         AliasType::Plain(ty) => check_type(alloc, known, ty),
-        AliasType::Function(returns, signature) => {
+        AliasType::Function { returns, signature } => {
             check_type(alloc, known, returns)?;
             check_types(alloc, known, &signature.parameters)
         }

@@ -65,7 +65,7 @@ fn print_alias(rt: &HostRuntime, alias: &Alias) -> io::Result<()> {
     print_name(rt, &alias.target)?;
     match &alias.ty {
         AliasType::Plain(_) => Ok(()),
-        AliasType::Function(_, signature) => print_parameters(
+        AliasType::Function { signature, .. } => print_parameters(
             rt,
             signature.parameters.len(),
             signature.variadic,

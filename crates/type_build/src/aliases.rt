@@ -32,7 +32,7 @@ fn add_alias_type(
 {
     match written {
         AliasType::Plain(ty) => Ok(module_arena::AliasType::Plain(builder.add_type(alloc, ty)?)),
-        AliasType::Function(returns, signature) => {
+        AliasType::Function { returns, signature } => {
             let returns = builder.add_type(alloc, returns)?;
             let parameters = builder.add_types(alloc, &signature.parameters)?;
             Ok(module_arena::AliasType::Function(returns, parameters, signature.variadic))
