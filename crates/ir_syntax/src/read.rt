@@ -36,7 +36,7 @@ pub enum SyntaxFault {
     NoItemHere(Place),
     /// The language leaves out what the token there begins or is.
     #[error("left out")]
-    LeftOutWord(Place, Text),
+    LeftOutWord { place: Place, word: Text },
     /// The token there opens a type or a constant 65 deep.
     #[error("too deep")]
     TooDeep(Place),
@@ -181,7 +181,7 @@ fn left_out(alloc: Global, place: Place, spelling: &[u8]) -> SyntaxFault
     ensures { (result ≡ SyntaxFault.LeftOutWord place spelling.now) ⊎ (result ≡ SyntaxFault.Memory) }
 {
     match Text::from_slice(alloc, spelling) {
-        Ok(word) => SyntaxFault::LeftOutWord(place, word),
+        Ok(word) => SyntaxFault::LeftOutWord { place, word },
         Err(_) => SyntaxFault::Memory,
     }
 }

@@ -32,7 +32,7 @@ fn print_fault(rt: &HostRuntime, fault: SyntaxFault) -> io::Result<()> {
         SyntaxFault::NoItemHere(place) => {
             println!(rt; "{}:{}: no item here", place.line, place.column)
         }
-        SyntaxFault::LeftOutWord(place, word) => {
+        SyntaxFault::LeftOutWord { place, word } => {
             print!(rt; "{}:{}: left out: ", place.line, place.column)?;
             rt.stdout().write_all(word.bytes())?;
             println!(rt; "")

@@ -44,7 +44,7 @@ fn refusal_told(alloc: Global, name: &Text, fault: SyntaxFault) -> Ended
     match fault {
         SyntaxFault::BadByte(place) => Ended::BadByte(name, place),
         SyntaxFault::NoItemHere(place) => Ended::NoItemHere(name, place),
-        SyntaxFault::LeftOutWord(place, word) => Ended::LeftOutWord(name, place, word),
+        SyntaxFault::LeftOutWord { place, word } => Ended::LeftOutWord(name, place, word),
         SyntaxFault::TooDeep(place) => Ended::TooDeep(name, place),
         SyntaxFault::Memory => Ended::Memory,
     }
