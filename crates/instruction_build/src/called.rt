@@ -60,17 +60,17 @@ pub fn gives_result(instruction: &Instruction) -> bool
         return true;
     }
     match &instruction.operation {
-        Operation::Store(_, _) => false,
+        Operation::Store { .. } => false,
         Operation::Call(call) => !matches!(&call.returns, Type::Void(_)),
-        Operation::Binary(_, _, _)
-        | Operation::Compare(_, _, _)
-        | Operation::Cast(_, _, _)
+        Operation::Binary { .. }
+        | Operation::Compare { .. }
+        | Operation::Cast { .. }
         | Operation::Select(_)
         | Operation::Freeze(_)
         | Operation::Phi(_)
-        | Operation::Load(_, _)
+        | Operation::Load { .. }
         | Operation::Alloca(_)
-        | Operation::GetElementPtr(_, _)
+        | Operation::GetElementPtr { .. }
         | Operation::ExtractValue(_)
         | Operation::InsertValue(_) => true,
     }

@@ -42,22 +42,28 @@ pub(crate) fn build_operation(
     ensures is { IfOk result (λ i. Makes (value_names locals.now) (block_names locals.now) builder.new.arena (defined_by has_result next (operation_view written.now)) i (operation_in (operation_view written.now))) }
 {
     match written {
-        Operation::Binary(opcode, flags, sides) => {
-            build_binary(builder, alloc, locals, next, *opcode, *flags, sides)
-        }
-        Operation::Compare(flags, predicate, sides) => {
-            build_compare(builder, alloc, locals, next, *flags, *predicate, sides)
-        }
-        Operation::Cast(opcode, flags, conversion) => {
-            build_cast(builder, alloc, locals, next, *opcode, *flags, conversion)
-        }
+        Operation::Binary {
+            opcode,
+            flags,
+            operands,
+        } => build_binary(builder, alloc, locals, next, *opcode, *flags, operands),
+        Operation::Compare {
+            flags,
+            predicate,
+            operands,
+        } => build_compare(builder, alloc, locals, next, *flags, *predicate, operands),
+        Operation::Cast {
+            opcode,
+            flags,
+            conversion,
+        } => build_cast(builder, alloc, locals, next, *opcode, *flags, conversion),
         Operation::Select(choice) => build_select(builder, alloc, locals, next, choice),
         Operation::Freeze(value) => build_freeze(builder, alloc, locals, next, value),
         Operation::Phi(phi) => build_phi(builder, alloc, locals, next, phi),
-        Operation::Load(flags, load) => build_load(builder, alloc, locals, next, *flags, load),
-        Operation::Store(flags, store) => build_store(builder, alloc, locals, *flags, store),
+        Operation::Load { flags, load } => build_load(builder, alloc, locals, next, *flags, load),
+        Operation::Store { flags, store } => build_store(builder, alloc, locals, *flags, store),
         Operation::Alloca(alloca) => build_alloca(builder, alloc, locals, next, alloca),
-        Operation::GetElementPtr(flags, address) => {
+        Operation::GetElementPtr { flags, address } => {
             build_element_address(builder, alloc, locals, next, *flags, address)
         }
         Operation::Call(call) => {

@@ -108,29 +108,50 @@ pub struct Insertion {
 #[derive(Drop)]
 pub enum Operation {
     /// An operation on two operands.
-    Binary(Opcode, Flags, Box<Operands>),
-    /// `icmp`
-    Compare(Flags, Predicate, Box<Operands>),
+    Binary {
+        opcode: Opcode,
+        flags: Flags,
+        operands: Box<Operands>,
+    },
+    /// `icmp`: compares two integers or pointers.
+    Compare {
+        flags: Flags,
+        predicate: Predicate,
+        operands: Box<Operands>,
+    },
     /// A cast.
-    Cast(Opcode, Flags, Box<Conversion>),
-    /// `select`
+    Cast {
+        opcode: Opcode,
+        flags: Flags,
+        conversion: Box<Conversion>,
+    },
+    /// `select`: a condition chooses one of two values.
     Select(Box<Choice>),
-    /// `freeze`
+    /// `freeze`: the value, or an arbitrary but fixed one where it is undefined or poison.
     Freeze(Box<TypedValue>),
-    /// `phi`
+    /// `phi`: a value for each block that control may come from.
     Phi(Box<Phi>),
-    /// `load`
-    Load(Flags, Box<Load>),
-    /// `store`
-    Store(Flags, Box<Store>),
-    /// `alloca`
+    /// `load`: reads a value from memory.
+    Load {
+        flags: Flags,
+        load: Box<Load>,
+    },
+    /// `store`: writes a value to memory.
+    Store {
+        flags: Flags,
+        store: Box<Store>,
+    },
+    /// `alloca`: makes room in memory until the function returns.
     Alloca(Box<Alloca>),
-    /// `getelementptr`
-    GetElementPtr(Flags, Box<Address>),
-    /// `call`
+    /// `getelementptr`: the address of a part, from a base and indices.
+    GetElementPtr {
+        flags: Flags,
+        address: Box<Address>,
+    },
+    /// `call`: calls a function.
     Call(Box<Call>),
-    /// `extractvalue`
+    /// `extractvalue`: takes a part from a whole.
     ExtractValue(Box<Extraction>),
-    /// `insertvalue`
+    /// `insertvalue`: puts a part into a whole.
     InsertValue(Box<Insertion>),
 }

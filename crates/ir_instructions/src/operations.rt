@@ -23,7 +23,11 @@ fn binary(cursor: &mut Cursor, opcode: Opcode) -> Result<Operation, Fault>
 {
     let flags = flags_of(cursor, opcode)?;
     let operands = operands(cursor)?;
-    Ok(Operation::Binary(opcode, flags, operands))
+    Ok(Operation::Binary {
+        opcode,
+        flags,
+        operands,
+    })
 }
 
 /// `FLAG* PREDICATE TYPE VALUE , VALUE (, MD)*`
@@ -34,7 +38,11 @@ fn compare(cursor: &mut Cursor) -> Result<Operation, Fault>
     let flags = flags_of(cursor, Opcode::ICmp)?;
     let predicate = cursor.predicate()?;
     let operands = operands(cursor)?;
-    Ok(Operation::Compare(flags, predicate, operands))
+    Ok(Operation::Compare {
+        flags,
+        predicate,
+        operands,
+    })
 }
 
 /// `FLAG* TYPE VALUE to TYPE (, MD)*`
@@ -46,7 +54,11 @@ fn cast(cursor: &mut Cursor, opcode: Opcode) -> Result<Operation, Fault>
     let value = typed_value_of(cursor)?;
     let to = cast_type(cursor)?;
     let conversion = Box::new(cursor.alloc(), Conversion { value, to })?;
-    Ok(Operation::Cast(opcode, flags, conversion))
+    Ok(Operation::Cast {
+        opcode,
+        flags,
+        conversion,
+    })
 }
 
 /// `TYPE VALUE , TYPE VALUE , TYPE VALUE (, MD)*`
@@ -98,7 +110,8 @@ fn load(cursor: &mut Cursor) -> Result<Operation, Fault>
         address,
         alignment,
     };
-    Ok(Operation::Load(flags, Box::new(cursor.alloc(), load)?))
+    let load = Box::new(cursor.alloc(), load)?;
+    Ok(Operation::Load { flags, load })
 }
 
 /// `FLAG* TYPE VALUE , TYPE VALUE (, align INT)? (, MD)*`
@@ -114,7 +127,8 @@ fn store(cursor: &mut Cursor) -> Result<Operation, Fault>
         address,
         alignment,
     };
-    Ok(Operation::Store(flags, Box::new(cursor.alloc(), store)?))
+    let store = Box::new(cursor.alloc(), store)?;
+    Ok(Operation::Store { flags, store })
 }
 
 /// `TYPE (, TYPE VALUE)? (, align INT)? (, MD)*`
@@ -141,7 +155,7 @@ fn element_address(cursor: &mut Cursor) -> Result<Operation, Fault>
     let source = type_of(cursor)?;
     let operands = operand_list(cursor)?;
     let address = Box::new(cursor.alloc(), Address { source, operands })?;
-    Ok(Operation::GetElementPtr(flags, address))
+    Ok(Operation::GetElementPtr { flags, address })
 }
 
 /// `TYPE VALUE (, INT)+ (, MD)*`

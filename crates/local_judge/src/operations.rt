@@ -274,16 +274,16 @@ pub(crate) fn check_operation(
     ensures { IsJudged (operation_demands (known_of known.now) (locals_of locals.now) (operation_view operation.now)) result }
 {
     match operation {
-        Operation::Binary(_, _, operands) => check_pair(alloc, known, locals, operands),
-        Operation::Compare(_, _, operands) => check_pair(alloc, known, locals, operands),
-        Operation::Cast(_, _, conversion) => check_conversion(alloc, known, locals, conversion),
+        Operation::Binary { operands, .. } => check_pair(alloc, known, locals, operands),
+        Operation::Compare { operands, .. } => check_pair(alloc, known, locals, operands),
+        Operation::Cast { conversion, .. } => check_conversion(alloc, known, locals, conversion),
         Operation::Select(choice) => check_choice(alloc, known, locals, choice),
         Operation::Freeze(value) => check_operand(alloc, known, locals, value),
         Operation::Phi(phi) => check_phi(alloc, known, locals, phi),
-        Operation::Load(_, load) => check_load(alloc, known, locals, load),
-        Operation::Store(_, store) => check_store(alloc, known, locals, store),
+        Operation::Load { load, .. } => check_load(alloc, known, locals, load),
+        Operation::Store { store, .. } => check_store(alloc, known, locals, store),
         Operation::Alloca(alloca) => check_alloca(alloc, known, locals, alloca),
-        Operation::GetElementPtr(_, address) => check_address(alloc, known, locals, address),
+        Operation::GetElementPtr { address, .. } => check_address(alloc, known, locals, address),
         Operation::Call(call) => check_call(alloc, known, locals, call),
         Operation::ExtractValue(extraction) => check_extraction(alloc, known, locals, extraction),
         Operation::InsertValue(insertion) => check_insertion(alloc, known, locals, insertion),

@@ -21,7 +21,7 @@ fn gives(operation: &Operation) -> bool
     ensures { result ≡ gives (operation_view operation.now) }
 {
     match operation {
-        Operation::Store(_, _) => false,
+        Operation::Store { .. } => false,
         Operation::Call(call) => !is_void(&call.returns),
         _ => true,
     }

@@ -134,19 +134,23 @@ fn print_call(rt: &HostRuntime, call: &Call) -> io::Result<()> {
 
 fn print_operation(rt: &HostRuntime, operation: &Operation) -> io::Result<()> {
     match operation {
-        Operation::Binary(opcode, flags, _) => print_flagged(rt, opcode.word(), *flags, &None),
-        Operation::Compare(flags, predicate, _) => {
+        Operation::Binary { opcode, flags, .. } => print_flagged(rt, opcode.word(), *flags, &None),
+        Operation::Compare {
+            flags,
+            predicate,
+            ..
+        } => {
             print_flagged(rt, "icmp", *flags, &None)?;
             print!(rt; " {}", predicate.word())
         }
-        Operation::Cast(opcode, flags, _) => print_flagged(rt, opcode.word(), *flags, &None),
+        Operation::Cast { opcode, flags, .. } => print_flagged(rt, opcode.word(), *flags, &None),
         Operation::Select(_) => print!(rt; "select"),
         Operation::Freeze(_) => print!(rt; "freeze"),
         Operation::Phi(phi) => print!(rt; "phi of {}", phi.incoming.len()),
-        Operation::Load(flags, load) => print_flagged(rt, "load", *flags, &load.alignment),
-        Operation::Store(flags, store) => print_flagged(rt, "store", *flags, &store.alignment),
+        Operation::Load { flags, load } => print_flagged(rt, "load", *flags, &load.alignment),
+        Operation::Store { flags, store } => print_flagged(rt, "store", *flags, &store.alignment),
         Operation::Alloca(alloca) => print_alloca(rt, alloca),
-        Operation::GetElementPtr(flags, address) => {
+        Operation::GetElementPtr { flags, address } => {
             print_flagged(rt, "getelementptr", *flags, &None)?;
             print!(rt; " of {}", address.operands.len())
         }
