@@ -135,12 +135,14 @@ pub(crate) fn add_answer(
 ) -> Result<(), AllocError> {
     match resolve_symbols(alloc, parts) {
         Ok(bindings) => add_told(told, alloc, parts, &bindings, question),
-        Err(SymbolFault::Conflict {
-            kind,
-            name,
-            one,
-            other,
-        }) => add_conflict(told, alloc, kind, &name, (one, other)),
+        Err(
+            SymbolFault::Conflict {
+                kind,
+                name,
+                one,
+                other,
+            },
+        ) => add_conflict(told, alloc, kind, &name, (one, other)),
         Err(SymbolFault::Memory) => add(told, "out of memory\n"),
     }
 }

@@ -18,7 +18,7 @@ fn bit_fault(alloc: Global, name: &Text, fault: BitFault) -> Ended
     ensures { (result ≡ Ended.BitFault name.now fault) ⊎ (result ≡ Ended.Memory) }
 {
     match Text::from_slice(alloc, name.bytes()) {
-        Ok(name) => Ended::BitFault(name, fault),
+        Ok(input) => Ended::BitFault { input, fault },
         Err(_) => Ended::Memory,
     }
 }

@@ -19,15 +19,20 @@ fn bitcode_told(alloc: Global, name: &Text, fault: BitcodeFault) -> Ended
     ensures told { (result ≡ bitcode_told name.now fault) ⊎ (result ≡ Ended.Memory) }
     ensures of_texts { IsOfTexts result }
 {
-    let Ok(name) = Text::from_slice(alloc, name.bytes()) else {
+    let Ok(input) = Text::from_slice(alloc, name.bytes()) else {
         return Ended::Memory;
     };
     match fault {
-        BitcodeFault::Bit(fault) => Ended::BitFault(name, fault),
-        BitcodeFault::ForeignProducer => Ended::ForeignProducer(name),
-        BitcodeFault::BadVersion(version) => Ended::BadVersion(name, version),
-        BitcodeFault::UnknownRecord { block, code } => Ended::UnknownRecord(name, block, code),
-        BitcodeFault::BadRecord { block, index, rule } => Ended::BadRecord(name, block, index, rule),
+        BitcodeFault::Bit(fault) => Ended::BitFault { input, fault },
+        BitcodeFault::ForeignProducer => Ended::ForeignProducer(input),
+        BitcodeFault::BadVersion(version) => Ended::BadVersion { input, version },
+        BitcodeFault::UnknownRecord { block, code } => Ended::UnknownRecord { input, block, code },
+        BitcodeFault::BadRecord { block, index, rule } => Ended::BadRecord {
+            input,
+            block,
+            index,
+            rule,
+        },
         BitcodeFault::Memory => Ended::Memory,
     }
 }

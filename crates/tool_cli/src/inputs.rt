@@ -48,7 +48,7 @@ fn too_large(alloc: Global, name: &[u8], limit: u64) -> Ended
     ensures { (result ≡ Ended.InputTooLarge name.now limit) ⊎ (result ≡ Ended.Memory) }
 {
     match Text::from_slice(alloc, name) {
-        Ok(name) => Ended::InputTooLarge(name, limit),
+        Ok(input) => Ended::InputTooLarge { input, limit },
         Err(_) => Ended::Memory,
     }
 }

@@ -72,7 +72,11 @@ fn link_refusal(alloc: Global, names: &[Text], fault: LinkFault) -> Ended
                 Err(_) => Ended::Memory,
             }
         }
-        LinkFault::TooMany { kind, count } => Ended::TooMany(None, kind, count),
+        LinkFault::TooMany { kind, count } => Ended::TooMany {
+            input: None,
+            kind,
+            count,
+        },
         LinkFault::Memory => Ended::Memory,
     }
 }

@@ -38,14 +38,14 @@ fn refusal_told(alloc: Global, name: &Text, fault: SyntaxFault) -> Ended
     ensures told { (result ≡ refusal_told name.now fault) ⊎ (result ≡ Ended.Memory) }
     ensures of_texts { IsOfTexts result }
 {
-    let Ok(name) = Text::from_slice(alloc, name.bytes()) else {
+    let Ok(input) = Text::from_slice(alloc, name.bytes()) else {
         return Ended::Memory;
     };
     match fault {
-        SyntaxFault::BadByte(place) => Ended::BadByte(name, place),
-        SyntaxFault::NoItemHere(place) => Ended::NoItemHere(name, place),
-        SyntaxFault::LeftOutWord { place, word } => Ended::LeftOutWord(name, place, word),
-        SyntaxFault::TooDeep(place) => Ended::TooDeep(name, place),
+        SyntaxFault::BadByte(place) => Ended::BadByte { input, place },
+        SyntaxFault::NoItemHere(place) => Ended::NoItemHere { input, place },
+        SyntaxFault::LeftOutWord { place, word } => Ended::LeftOutWord { input, place, word },
+        SyntaxFault::TooDeep(place) => Ended::TooDeep { input, place },
         SyntaxFault::Memory => Ended::Memory,
     }
 }
@@ -55,38 +55,61 @@ fn break_told(alloc: Global, name: &Text, fault: ResolveFault) -> Ended
     ensures told { (result ≡ break_told name.now fault) ⊎ (result ≡ Ended.Memory) }
     ensures of_texts { IsOfTexts result }
 {
-    let Ok(name) = Text::from_slice(alloc, name.bytes()) else {
+    let Ok(input) = Text::from_slice(alloc, name.bytes()) else {
         return Ended::Memory;
     };
     match fault {
-        ResolveFault::TooMany { kind, count } => Ended::TooMany(Some(name), kind, count),
-        ResolveFault::Duplicate { place, first } => Ended::Duplicate(name, place, first),
-        ResolveFault::UnknownName { place, spelled } => Ended::UnknownName(name, place, spelled),
-        ResolveFault::WrongNumber { place, next, found } => {
-            Ended::WrongNumber(name, place, next, found)
-        }
-        ResolveFault::ConstantRange(place) => Ended::ConstantRange(name, place),
-        ResolveFault::TooDeep(place) => Ended::TooDeep(name, place),
-        ResolveFault::SelfContaining(place) => Ended::SelfContaining(name, place),
-        ResolveFault::TooLarge(place) => Ended::TooLarge(name, place),
+        ResolveFault::TooMany { kind, count } => Ended::TooMany {
+            input: Some(input),
+            kind,
+            count,
+        },
+        ResolveFault::Duplicate { place, first } => Ended::Duplicate {
+            input,
+            place,
+            first,
+        },
+        ResolveFault::UnknownName { place, spelled } => Ended::UnknownName {
+            input,
+            place,
+            spelled,
+        },
+        ResolveFault::WrongNumber { place, next, found } => Ended::WrongNumber {
+            input,
+            place,
+            next,
+            found,
+        },
+        ResolveFault::ConstantRange(place) => Ended::ConstantRange { input, place },
+        ResolveFault::TooDeep(place) => Ended::TooDeep { input, place },
+        ResolveFault::SelfContaining(place) => Ended::SelfContaining { input, place },
+        ResolveFault::TooLarge(place) => Ended::TooLarge { input, place },
         ResolveFault::Memory => Ended::Memory,
     }
 }
 
 // The function that is too large, told with the name of its input.
-fn size_told(alloc: Global, name: Text, function: &Name, size: u64) -> Result<Ended, AllocError>
-    ensures { IfOk result (λ ended. ended ≡ Ended.FunctionTooLarge name (spelled_global function.now) size) }
+fn size_told(alloc: Global, input: Text, function: &Name, size: u64) -> Result<Ended, AllocError>
+    ensures { IfOk result (λ ended. ended ≡ Ended.FunctionTooLarge input (spelled_global function.now) size) }
 {
     let function = spell_global(alloc, function.text().bytes())?;
-    Ok(Ended::FunctionTooLarge(name, function, size))
+    Ok(Ended::FunctionTooLarge {
+        input,
+        function,
+        size,
+    })
 }
 
 // The rule that does not hold, told with the name of its input.
-fn rule_told(alloc: Global, name: Text, rule: u8, entity: &Entity) -> Result<Ended, AllocError>
-    ensures { IfOk result (λ ended. ended ≡ Ended.Invalid name rule (entity_words (entity_view entity.now))) }
+fn rule_told(alloc: Global, input: Text, rule: u8, entity: &Entity) -> Result<Ended, AllocError>
+    ensures { IfOk result (λ ended. ended ≡ Ended.Invalid input rule (entity_words (entity_view entity.now))) }
 {
-    let words = entity_words(alloc, entity)?;
-    Ok(Ended::Invalid(name, rule, words))
+    let entity = entity_words(alloc, entity)?;
+    Ok(Ended::Invalid {
+        input,
+        rule,
+        entity,
+    })
 }
 
 /// The refusal of a module, told with the name of its input.
@@ -94,14 +117,14 @@ pub(crate) fn verdict_told(alloc: Global, name: &Text, fault: VerifyFault) -> En
     ensures told { (result ≡ verdict_told name.now fault) ⊎ (result ≡ Ended.Memory) }
     ensures of_texts { IsOfTexts result }
 {
-    let Ok(name) = Text::from_slice(alloc, name.bytes()) else {
+    let Ok(input) = Text::from_slice(alloc, name.bytes()) else {
         return Ended::Memory;
     };
     let told = match &fault {
         VerifyFault::FunctionTooLarge { function, size } => {
-            size_told(alloc, name, function, *size)
+            size_told(alloc, input, function, *size)
         }
-        VerifyFault::Invalid { rule, entity } => rule_told(alloc, name, *rule, entity),
+        VerifyFault::Invalid { rule, entity } => rule_told(alloc, input, *rule, entity),
         VerifyFault::Memory => return Ended::Memory,
     };
     match told {

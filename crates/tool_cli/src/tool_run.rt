@@ -80,7 +80,7 @@ fn ended_of<F: Files, I: Source, O: Sink>(
 {
     let command = match read_words(alloc, words) {
         Ok(command) => command,
-        Err(WordsFault::Usage { kind, word }) => return Ended::Usage(kind, word),
+        Err(WordsFault::Usage { kind, word }) => return Ended::Usage { kind, word },
         Err(WordsFault::Memory) => return Ended::Memory,
     };
     match read_inputs(alloc, files, input, inputs_of(&command)) {

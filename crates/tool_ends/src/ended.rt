@@ -30,54 +30,122 @@ pub enum Ended {
     /// The program has no function `main` that can be entered.
     NoMain,
     /// The words have this fault, at the word with this number, counted from 0.
-    Usage(UsageKind, u64),
+    Usage {
+        kind: UsageKind,
+        word: u64,
+    },
     /// The input of this name could not be read.
     CannotRead(Text),
     /// The output of this name could not be written.
     CannotWrite(Text),
     /// The input of this name, or all up to it together, passes this many bytes.
-    InputTooLarge(Text, u64),
+    InputTooLarge {
+        input: Text,
+        limit: u64,
+    },
     /// In the input of this name no token begins at this place.
-    BadByte(Text, Place),
+    BadByte {
+        input: Text,
+        place: Place,
+    },
     /// In the input of this name no item goes on, or begins, with the token at this place.
-    NoItemHere(Text, Place),
+    NoItemHere {
+        input: Text,
+        place: Place,
+    },
     /// In the input of this name the token at this place, spelled so, begins or is what the language leaves out.
-    LeftOutWord(Text, Place, Text),
+    LeftOutWord {
+        input: Text,
+        place: Place,
+        word: Text,
+    },
     /// In the input of this name the token at this place, spelled so in canonical text, names nothing, a value where a
     /// block is asked, or a block where a value is.
-    UnknownName(Text, Place, Text),
-    /// In the input of this name what the token at the first place names is named already, first at the second.
-    Duplicate(Text, Place, Place),
+    UnknownName {
+        input: Text,
+        place: Place,
+        spelled: Text,
+    },
+    /// In the input of this name what the token at this place names is named already, first at the place `first`.
+    Duplicate {
+        input: Text,
+        place: Place,
+        first: Place,
+    },
     /// In the input of this name the token at this place is not the next number, which this is; its digits are these.
-    WrongNumber(Text, Place, u64, Text),
+    WrongNumber {
+        input: Text,
+        place: Place,
+        next: u64,
+        found: Text,
+    },
     /// In the input of this name the integer at this place is out of the range of its place.
-    ConstantRange(Text, Place),
+    ConstantRange {
+        input: Text,
+        place: Place,
+    },
     /// In the input of this name the token at this place opens a type or a constant 65 deep, or names such a type.
-    TooDeep(Text, Place),
+    TooDeep {
+        input: Text,
+        place: Place,
+    },
     /// In the input of this name the type at this place is too large.
-    TooLarge(Text, Place),
+    TooLarge {
+        input: Text,
+        place: Place,
+    },
     /// In the input of this name the struct at this place holds itself by value.
-    SelfContaining(Text, Place),
+    SelfContaining {
+        input: Text,
+        place: Place,
+    },
     /// There are so many of these, which is past the limit; in the input of this name, where it is about one.
-    TooMany(Option<Text>, CountKind, u64),
+    TooMany {
+        input: Option<Text>,
+        kind: CountKind,
+        count: u64,
+    },
     /// Two inputs have entries of one name that do not go together.
     Conflict(Clash),
     /// In the module of the input of this name the function spelled so is too large: its blocks times its values are these.
-    FunctionTooLarge(Text, Text, u64),
+    FunctionTooLarge {
+        input: Text,
+        function: Text,
+        size: u64,
+    },
     /// In the module of the input of this name the rule of validity of this number does not hold first, at what these words
     /// tell.
-    Invalid(Text, u8, Text),
+    Invalid {
+        input: Text,
+        rule: u8,
+        entity: Text,
+    },
     /// The bits of the input of this name are no stream: this field is refused.
-    BitFault(Text, BitFault),
+    BitFault {
+        input: Text,
+        fault: BitFault,
+    },
     /// The stream that is the input of this name does not begin with the name of this producer.
     ForeignProducer(Text),
     /// The bitcode that is the input of this name has a version that is not read: this.
-    BadVersion(Text, u64),
+    BadVersion {
+        input: Text,
+        version: u64,
+    },
     /// In the bitcode that is the input of this name a block with this id has no record of this code; the code is 0 where no block with that id may stand there.
-    UnknownRecord(Text, u32, u32),
+    UnknownRecord {
+        input: Text,
+        block: u32,
+        code: u32,
+    },
     /// In the bitcode that is the input of this name, in a block with this id, the record with this index over the stream, counted from 0, breaks the rule of this
     /// number, and none before it.
-    BadRecord(Text, u32, u64, u8),
+    BadRecord {
+        input: Text,
+        block: u32,
+        index: u64,
+        rule: u8,
+    },
     /// No definition of its kind has the selected name that is spelled so in canonical text.
     NoSuchSymbol(Text),
     /// Memory ran out.
@@ -113,29 +181,29 @@ pub fn status_of(ended: &Ended) -> u8
         Ended::Unresolved(_) | Ended::NoMain => 123,
         Ended::StepsUsed => 124,
         Ended::Undefined(_) => 125,
-        Ended::Usage(_, _)
+        Ended::Usage { .. }
         | Ended::CannotRead(_)
         | Ended::CannotWrite(_)
-        | Ended::InputTooLarge(_, _)
-        | Ended::BadByte(_, _)
-        | Ended::NoItemHere(_, _)
-        | Ended::LeftOutWord(_, _, _)
-        | Ended::UnknownName(_, _, _)
-        | Ended::Duplicate(_, _, _)
-        | Ended::WrongNumber(_, _, _, _)
-        | Ended::ConstantRange(_, _)
-        | Ended::TooDeep(_, _)
-        | Ended::TooLarge(_, _)
-        | Ended::SelfContaining(_, _)
-        | Ended::TooMany(_, _, _)
+        | Ended::InputTooLarge { .. }
+        | Ended::BadByte { .. }
+        | Ended::NoItemHere { .. }
+        | Ended::LeftOutWord { .. }
+        | Ended::UnknownName { .. }
+        | Ended::Duplicate { .. }
+        | Ended::WrongNumber { .. }
+        | Ended::ConstantRange { .. }
+        | Ended::TooDeep { .. }
+        | Ended::TooLarge { .. }
+        | Ended::SelfContaining { .. }
+        | Ended::TooMany { .. }
         | Ended::Conflict(_)
-        | Ended::FunctionTooLarge(_, _, _)
-        | Ended::Invalid(_, _, _)
-        | Ended::BitFault(_, _)
+        | Ended::FunctionTooLarge { .. }
+        | Ended::Invalid { .. }
+        | Ended::BitFault { .. }
         | Ended::ForeignProducer(_)
-        | Ended::BadVersion(_, _)
-        | Ended::UnknownRecord(_, _, _)
-        | Ended::BadRecord(_, _, _, _)
+        | Ended::BadVersion { .. }
+        | Ended::UnknownRecord { .. }
+        | Ended::BadRecord { .. }
         | Ended::NoSuchSymbol(_) => 1,
         Ended::Memory => 120,
     }

@@ -253,52 +253,60 @@ pub fn tell<E: Sink>(errors: &mut E, words: &[Text], ended: &Ended)
         Ended::MemoryLimit => tell_text(errors, words, b"memory limit", b""),
         Ended::Unresolved(name) => tell_text(errors, words, b"unresolved ", name.bytes()),
         Ended::NoMain => tell_text(errors, words, b"no main", b""),
-        Ended::Usage(kind, word) => {
+        Ended::Usage { kind, word } => {
             let digits = Digits::of(*word);
             tell_usage(errors, words, kind.words().as_bytes(), digits.bytes())
         }
         Ended::CannotRead(name) => tell_text(errors, words, b"cannot read ", name.bytes()),
         Ended::CannotWrite(name) => tell_text(errors, words, b"cannot write ", name.bytes()),
-        Ended::InputTooLarge(name, limit) => {
+        Ended::InputTooLarge { input, limit } => {
             let digits = Digits::of(*limit);
-            tell_limit(errors, words, name.bytes(), digits.bytes())
+            tell_limit(errors, words, input.bytes(), digits.bytes())
         }
-        Ended::TooMany(name, kind, count) => { tell_too_many(errors, words, name, *kind, *count) }
+        Ended::TooMany { input, kind, count } => tell_too_many(errors, words, input, *kind, *count),
         Ended::Conflict(clash) => tell_clash(errors, words, clash),
-        Ended::FunctionTooLarge(name, function, size) => {
+        Ended::FunctionTooLarge {
+            input,
+            function,
+            size,
+        } => {
             let digits = Digits::of(*size);
             tell_function(
                 errors,
                 words,
-                name.bytes(),
+                input.bytes(),
                 function.bytes(),
                 digits.bytes(),
             )
         }
-        Ended::Invalid(name, rule, entity) => {
+        Ended::Invalid {
+            input,
+            rule,
+            entity,
+        } => {
             let digits = Digits::of(u64::from(*rule));
-            tell_rule(errors, words, name.bytes(), digits.bytes(), entity.bytes())
+            tell_rule(errors, words, input.bytes(), digits.bytes(), entity.bytes())
         }
-        Ended::BitFault(name, fault) => {
+        Ended::BitFault { input, fault } => {
             let digits = Digits::of(fault.bit);
             let kind = fault_words(fault.kind).as_bytes();
-            tell_bit(errors, words, name.bytes(), digits.bytes(), kind)
+            tell_bit(errors, words, input.bytes(), digits.bytes(), kind)
         }
         Ended::ForeignProducer(_)
-        | Ended::BadVersion(_, _)
-        | Ended::UnknownRecord(_, _, _)
-        | Ended::BadRecord(_, _, _, _) => tell_record(errors, words, ended),
+        | Ended::BadVersion { .. }
+        | Ended::UnknownRecord { .. }
+        | Ended::BadRecord { .. } => tell_record(errors, words, ended),
         Ended::NoSuchSymbol(symbol) => tell_text(errors, words, b"no symbol ", symbol.bytes()),
         Ended::Memory => tell_text(errors, words, b"out of memory", b""),
-        Ended::BadByte(_, _)
-        | Ended::NoItemHere(_, _)
-        | Ended::LeftOutWord(_, _, _)
-        | Ended::UnknownName(_, _, _)
-        | Ended::Duplicate(_, _, _)
-        | Ended::WrongNumber(_, _, _, _)
-        | Ended::ConstantRange(_, _)
-        | Ended::TooDeep(_, _)
-        | Ended::TooLarge(_, _)
-        | Ended::SelfContaining(_, _) => tell_placed(errors, words, ended),
+        Ended::BadByte { .. }
+        | Ended::NoItemHere { .. }
+        | Ended::LeftOutWord { .. }
+        | Ended::UnknownName { .. }
+        | Ended::Duplicate { .. }
+        | Ended::WrongNumber { .. }
+        | Ended::ConstantRange { .. }
+        | Ended::TooDeep { .. }
+        | Ended::TooLarge { .. }
+        | Ended::SelfContaining { .. } => tell_placed(errors, words, ended),
     };
 }

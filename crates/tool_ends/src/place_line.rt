@@ -188,34 +188,51 @@ pub(crate) fn tell_placed<E: Sink>(
     ensures { Wrote (E.taken errors.old) (E.taken errors.new) (E.faults errors.old) (E.faults errors.new) (placed_line words.now ended.now) }
 {
     match ended {
-        Ended::BadByte(name, place) => tell_place(errors, words, name, *place, b"bad byte", b""),
-        Ended::NoItemHere(name, place) => {
-            tell_place(errors, words, name, *place, b"no item here", b"")
+        Ended::BadByte { input, place } => {
+            tell_place(errors, words, input, *place, b"bad byte", b"")
         }
-        Ended::LeftOutWord(name, place, word) => {
-            tell_place(errors, words, name, *place, b"left out: ", word.bytes())
+        Ended::NoItemHere { input, place } => {
+            tell_place(errors, words, input, *place, b"no item here", b"")
         }
-        Ended::UnknownName(name, place, spelled) => {
+        Ended::LeftOutWord { input, place, word } => {
+            tell_place(errors, words, input, *place, b"left out: ", word.bytes())
+        }
+        Ended::UnknownName {
+            input,
+            place,
+            spelled,
+        } => {
             tell_place(
                 errors,
                 words,
-                name,
+                input,
                 *place,
                 b"unknown name ",
                 spelled.bytes(),
             )
         }
-        Ended::Duplicate(name, place, first) => tell_duplicate(errors, words, name, *place, *first),
-        Ended::WrongNumber(name, place, next, found) => {
-            tell_number(errors, words, name, *place, *next, found)
+        Ended::Duplicate {
+            input,
+            place,
+            first,
+        } => tell_duplicate(errors, words, input, *place, *first),
+        Ended::WrongNumber {
+            input,
+            place,
+            next,
+            found,
+        } => tell_number(errors, words, input, *place, *next, found),
+        Ended::ConstantRange { input, place } => {
+            tell_place(errors, words, input, *place, b"constant out of range", b"")
         }
-        Ended::ConstantRange(name, place) => {
-            tell_place(errors, words, name, *place, b"constant out of range", b"")
+        Ended::TooDeep { input, place } => {
+            tell_place(errors, words, input, *place, b"too deep", b"")
         }
-        Ended::TooDeep(name, place) => tell_place(errors, words, name, *place, b"too deep", b""),
-        Ended::TooLarge(name, place) => tell_place(errors, words, name, *place, b"too large", b""),
-        Ended::SelfContaining(name, place) => {
-            tell_place(errors, words, name, *place, b"contains itself", b"")
+        Ended::TooLarge { input, place } => {
+            tell_place(errors, words, input, *place, b"too large", b"")
+        }
+        Ended::SelfContaining { input, place } => {
+            tell_place(errors, words, input, *place, b"contains itself", b"")
         }
         _ => Ok(()),
     }

@@ -91,23 +91,28 @@ pub(crate) fn tell_record<E: Sink>(
         Ended::ForeignProducer(name) => {
             tell_text(errors, words, name.bytes(), b": foreign producer")
         }
-        Ended::BadVersion(name, version) => {
+        Ended::BadVersion { input, version } => {
             let digits = Digits::of(*version);
-            tell_version(errors, words, name.bytes(), digits.bytes())
+            tell_version(errors, words, input.bytes(), digits.bytes())
         }
-        Ended::UnknownRecord(name, block, code) => {
+        Ended::UnknownRecord { input, block, code } => {
             let code = Digits::of(u64::from(*code));
             let block = Digits::of(u64::from(*block));
-            tell_unknown(errors, words, name.bytes(), code.bytes(), block.bytes())
+            tell_unknown(errors, words, input.bytes(), code.bytes(), block.bytes())
         }
-        Ended::BadRecord(name, block, index, rule) => {
+        Ended::BadRecord {
+            input,
+            block,
+            index,
+            rule,
+        } => {
             let index = Digits::of(*index);
             let block = Digits::of(u64::from(*block));
             let rule = Digits::of(u64::from(*rule));
             tell_bad(
                 errors,
                 words,
-                name.bytes(),
+                input.bytes(),
                 index.bytes(),
                 block.bytes(),
                 rule.bytes(),
