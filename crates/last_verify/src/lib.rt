@@ -7,7 +7,8 @@
 //!
 //! ```
 //! // `function` is `define i32 @f(i32 %a) { %x = icmp eq i32 %a, 1 ret i32 %x }`.
-//! let types = local_types(alloc, &judge, function)?; // of `%a` the `i32`, of `%x` LocalType::Truth
+//! let mut types = Vec::new(alloc);
+//! local_types(&mut types, &judge, function)?; // of `%a` the `i32`, of `%x` LocalType::Truth
 //! let mut operands = Vec::new(alloc);
 //! gather_ending(&mut operands, &ending)?;
 //! judge_ending_last(alloc, &judge, &types, function, 1, &ending, &operands) // rule 11 does not hold: `%x` is no `i32`

@@ -1,5 +1,5 @@
 //! The list of types, in the order of the values.
-ghost use Rattle.std.specs.Prelude.{◌≡◌, ◌<◌, List, All, IfOk, OnOk, flat_map, length, map, Some, true};
+ghost use Rattle.std.specs.Prelude.{◌≡◌, ◌<◌, List, All, OnOk, flat_map, length, map, Some, true};
 ghost use Rattle.type_table.specs.Types.{tree};
 ghost use Rattle.module_arena.specs.Changes.{function_in};
 ghost use Rattle.module_arena.specs.Known.{KnowsFunction};
@@ -12,7 +12,7 @@ use crate::local_type::LocalType;
 use crate::results::result_type;
 use constant_verify::Judge;
 use module_arena::{Block, Function, Inst, Parameter};
-use std::alloc::{AllocError, Global};
+use std::alloc::AllocError;
 use type_verify::TypeJudge;
 
 /// Adds the types of parameters.
@@ -93,19 +93,19 @@ fn add_body(
     }
 }
 
-/// The type of each parameter and result of the function, by its number: in a module that is well-formed, that of the value's name.
-/// It is refused for want of memory alone.
+/// Makes the list that of the types of the parameters and results of the function, each by its number: in a module that is
+/// well-formed, that of the value's name. What the list has before does not matter. It is refused for want of memory alone.
 pub fn local_types(
-    alloc: Global,
+    list: &mut Vec<LocalType>,
     judge: &Judge<'_>,
     function: &Function,
-) -> Result<Vec<LocalType>, AllocError>
+) -> Result<(), AllocError>
     requires { KnowsFunction (length judge.now.table.types) (length judge.now.constants) function.now }
-    ensures { IfOk result (λ types. AreTypes judge.now.table types.items × (length types.items ≡ length (value_names function.now)) × (has_good_names (function_in judge.now function.now) ≡ true → AreLocalTypes judge.now (function_in judge.now function.now) (names_of function.now) types.items)) }
+    ensures { OnOk result (AreTypes judge.now.table list.new.items × (length list.new.items ≡ length (value_names function.now)) × (has_good_names (function_in judge.now function.now) ≡ true → AreLocalTypes judge.now (function_in judge.now function.now) (names_of function.now) list.new.items)) }
 {
     let types = judge.types();
-    let mut list = Vec::new(alloc);
-    add_parameters(&mut list, types, function.parameters.as_slice())?;
-    add_body(&mut list, types, function)?;
-    Ok(list)
+    list.clear();
+    add_parameters(list, types, function.parameters.as_slice())?;
+    add_body(list, types, function)?;
+    Ok(())
 }

@@ -4,7 +4,7 @@ ghost use Rattle.module_arena.specs.Changes.{function_in};
 ghost use Rattle.module_arena.specs.Lists.{function_blocks};
 ghost use Rattle.module_arena.specs.Valid.{blocks_demands, instructions_demands};
 ghost use Rattle.module_arena.specs.View.{module_of};
-ghost use Rattle.use_verify.specs.Edges.{IsSourced};
+ghost use Rattle.use_verify.specs.Edges.{MayBeSourced};
 ghost use Rattle.type_verify.specs.Judged.{Judged};
 ghost use Rattle.path_verify.specs.Ready.{IsReady, block_in, blocks_in};
 
@@ -25,11 +25,11 @@ fn judge_block(
     first: u64,
     block: &Block,
 ) -> Result<(), VerifyFault>
-    requires ready { IsReady facts.now.judge.now facts.now.function.now facts.now.classes.now facts.now.value_types.items facts.now.rows }
-    requires sourced { IsSourced facts.now.function.now phis.old }
+    requires ready { IsReady facts.now.judge.now facts.now.function.now facts.now.classes.now facts.now.value_types.now.items facts.now.rows }
+    requires sourced { MayBeSourced facts.now.function.now phis.old }
     requires block { slice_get (function_blocks facts.now.function.now) id ≡ Some block.now }
     requires few { first + length block.now.instructions < 2 ^ 64 }
-    ensures same { phis.new ≡ phis.old }
+    ensures sourced { MayBeSourced facts.now.function.now phis.new }
     ensures judged { Judged (instructions_demands (module_of facts.now.judge.now) (function_in facts.now.judge.now facts.now.function.now) (block_in facts.now.judge.now facts.now.function.now block.now) 0 first (block_in facts.now.judge.now facts.now.function.now block.now).instructions) result }
 {
     let count = block.instructions.len();
@@ -78,8 +78,8 @@ pub(crate) fn judge_blocks(
     phis: &mut PhiJudge,
     operands: &mut Vec<Operand>,
 ) -> Result<(), VerifyFault>
-    requires ready { IsReady facts.now.judge.now facts.now.function.now facts.now.classes.now facts.now.value_types.items facts.now.rows }
-    requires sourced { IsSourced facts.now.function.now phis.old }
+    requires ready { IsReady facts.now.judge.now facts.now.function.now facts.now.classes.now facts.now.value_types.now.items facts.now.rows }
+    requires sourced { MayBeSourced facts.now.function.now phis.old }
     ensures { Judged (blocks_demands (module_of facts.now.judge.now) (function_in facts.now.judge.now facts.now.function.now) 0 (blocks_in facts.now.judge.now facts.now.function.now)) result }
 {
     let function = facts.function;

@@ -13,7 +13,7 @@ pub(crate) struct FunctionFacts<'a> {
     // A number for each constant of the module, one for two exactly where they are the same.
     pub(crate) classes: &'a [u64],
     // The type of each parameter and result, by its number.
-    pub(crate) value_types: Vec<LocalType>,
+    pub(crate) value_types: &'a Vec<LocalType>,
     // Where values are defined on every path, with nothing left to spread.
     pub(crate) rows: Rows,
 }

@@ -13,18 +13,21 @@ ghost use Rattle.path_verify.specs.Verified.{all_turns};
 use crate::bodies::judge_body;
 use crate::entries::judge_function;
 use constant_verify::Judge;
-use module_arena::FunctionId;
+use last_verify::LocalType;
+use module_arena::{FunctionId, Operand};
 use path_rows::Steps;
 use std::alloc::Global;
 use std::sync::ledger::Ledger;
 use type_verify::VerifyFault;
 
 /// What the rules say of a function and all in it. `classes` has a number for each constant of the module, one for two exactly where
-/// they are the same.
+/// they are the same; what `value_types` and `operands` have does not matter.
 fn judge_one<L: Ledger>(
     alloc: Global,
     judge: &Judge<'_>,
     classes: &[u64],
+    value_types: &mut Vec<LocalType>,
+    operands: &mut Vec<Operand>,
     id: FunctionId,
     turns: &mut Steps<L>,
 ) -> Result<(), VerifyFault>
@@ -36,7 +39,7 @@ fn judge_one<L: Ledger>(
     ensures turns { (f : the_function.Function) → slice_get judge.now.functions id ≡ Some f → turns.new ≤ turns.old + turns_of (function_in judge.now f) }
 {
     judge_function(alloc, judge, id)?;
-    judge_body(alloc, judge, classes, id, turns)
+    judge_body(alloc, judge, classes, value_types, operands, id, turns)
 }
 
 /// What the rules say of all functions, in their order; `classes` are those of the constants.
@@ -52,9 +55,20 @@ pub(crate) fn judge_functions<L: Ledger>(
     ensures judged { Judged (flat_map (function_demands (module_of judge.now)) (module_of judge.now).functions) result }
     ensures turns { turns.new ≤ turns.old + all_turns (module_of judge.now) }
 {
+    // Each function fills them anew, in the room that those before it have left.
+    let mut value_types = Vec::new(alloc);
+    let mut operands = Vec::new(alloc);
     let count = judge.arena().function_count();
     'functions: for number in 0..count {
-        judge_one(alloc, judge, classes, FunctionId::new(number), turns)?;
+        judge_one(
+            alloc,
+            judge,
+            classes,
+            &mut value_types,
+            &mut operands,
+            FunctionId::new(number),
+            turns,
+        )?;
     }
     Ok(())
 }

@@ -7,7 +7,7 @@ ghost use Rattle.module_arena.specs.Lists.{function_blocks};
 ghost use Rattle.module_arena.specs.Module as modules;
 ghost use Rattle.module_arena.specs.Valid.{ending_demands, instruction_demands};
 ghost use Rattle.module_arena.specs.View.{module_of};
-ghost use Rattle.use_verify.specs.Edges.{IsSourced};
+ghost use Rattle.use_verify.specs.Edges.{MayBeSourced};
 ghost use Rattle.type_verify.specs.Judged.{Judged};
 ghost use Rattle.use_verify.specs.Uses.{block_named, ending_in, instruction_in};
 ghost use Rattle.path_verify.specs.Ready.{IsReady, KnowsEnding, KnowsInstruction};
@@ -32,11 +32,11 @@ pub(crate) fn judge_instruction(
     behind_phis: bool,
     instruction: &Inst,
 ) -> Result<(), VerifyFault>
-    requires ready { IsReady facts.now.judge.now facts.now.function.now facts.now.classes.now facts.now.value_types.items facts.now.rows }
-    requires sourced { IsSourced facts.now.function.now phis.old }
+    requires ready { IsReady facts.now.judge.now facts.now.function.now facts.now.classes.now facts.now.value_types.now.items facts.now.rows }
+    requires sourced { MayBeSourced facts.now.function.now phis.old }
     requires block { site.now.block < length (function_blocks facts.now.function.now) }
     requires known { KnowsInstruction facts.now.judge.now facts.now.function.now instruction.now }
-    ensures same { phis.new ≡ phis.old }
+    ensures sourced { MayBeSourced facts.now.function.now phis.new }
     ensures judged { (block : modules.Block) → block.name ≡ block_named facts.now.function.now site.now.block → behind_phis ≡ list_all is_phi (take site.now.before block.instructions)
         → Judged (instruction_demands (module_of facts.now.judge.now) (function_in facts.now.judge.now facts.now.function.now) block site.now.before site.now.number (instruction_in facts.now.judge.now facts.now.function.now instruction.now)) result }
 {
@@ -57,7 +57,7 @@ pub(crate) fn judge_instruction(
     judge_last(
         alloc,
         facts.judge,
-        &facts.value_types,
+        facts.value_types,
         function,
         number,
         instruction,
@@ -73,7 +73,7 @@ pub(crate) fn judge_ending(
     site: &Site,
     ending: &Ending,
 ) -> Result<(), VerifyFault>
-    requires ready { IsReady facts.now.judge.now facts.now.function.now facts.now.classes.now facts.now.value_types.items facts.now.rows }
+    requires ready { IsReady facts.now.judge.now facts.now.function.now facts.now.classes.now facts.now.value_types.now.items facts.now.rows }
     requires block { site.now.block < length (function_blocks facts.now.function.now) }
     requires known { KnowsEnding facts.now.judge.now facts.now.function.now ending.now }
     ensures { (block : modules.Block) → block.name ≡ block_named facts.now.function.now site.now.block → block.ending ≡ ending_in facts.now.judge.now facts.now.function.now ending.now → site.now.before ≡ length block.instructions
@@ -88,7 +88,7 @@ pub(crate) fn judge_ending(
     judge_ending_last(
         alloc,
         facts.judge,
-        &facts.value_types,
+        facts.value_types,
         function,
         number,
         ending,

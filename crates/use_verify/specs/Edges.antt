@@ -1,5 +1,5 @@
 -- For `PhiJudge::new` and `PhiJudge::judge_phi`: the edges to a block, by numbers, and lists with the same numbers.
-use Rattle.std.specs.Prelude.{◌≡◌, ℕ, ◌+◌, ◌<◌, Bool, true, ◌&&◌, ◌==◌, List, [], ◌∷◌, ◌++◌, map, filter, length, count_by, slice_index_or}
+use Rattle.std.specs.Prelude.{◌≡◌, ◌⊎◌, ℕ, ◌+◌, ◌<◌, Bool, true, ◌&&◌, ◌==◌, List, [], ◌∷◌, ◌++◌, map, filter, length, count_by, slice_index_or}
 use Rattle.std.specs.List.{list_all}
 use Rattle.module_arena.specs.declared.entry.Block.{Block}
 use Rattle.module_arena.specs.declared.entry.Function.{Function}
@@ -34,6 +34,10 @@ source_of sources b = slice_index_or sources b []
 -- the lists of the blocks of a function
 abbrev pub IsSourced : Function → List (List ℕ) → Type 0
 IsSourced f sources = (length sources ≡ length (function_blocks f)) × ((b : ℕ) → b < length (function_blocks f) → source_of sources b ≡ sources_from 0 (function_blocks f) b)
+
+-- there are no lists yet, or they are those of the blocks of a function
+abbrev pub MayBeSourced : Function → List (List ℕ) → Type 0
+MayBeSourced f sources = (sources ≡ []) ⊎ IsSourced f sources
 
 -- nothing is counted, and there is a place for each block
 pub record IsScratch (sources : List (List ℕ)) (entries edges last : List ℕ) : Type 0 where

@@ -20,9 +20,10 @@ fn classes_of(alloc: Global, arena: &Arena, types: &[TypeId]) -> Result<Vec<u64>
 {
     // The parts of each constant of an arena are earlier constants, and no two entries have one name.
     let _count = arena.variable_count();
-    let mut keys = IndexSet::new(alloc);
-    let mut classes = Vec::new(alloc);
-    for number in 0..arena.const_count() {
+    let count = arena.const_count();
+    let mut keys = IndexSet::with_capacity(alloc, count as usize)?;
+    let mut classes = Vec::with_capacity(alloc, count as usize)?;
+    for number in 0..count {
         let key = key_of(alloc, types, &classes, arena.constant(ConstId::new(number)))?;
         let (class, _is_new) = keys.insert_full(key)?;
         classes.push(class as u64)?;

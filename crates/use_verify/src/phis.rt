@@ -1,5 +1,5 @@
 //! Whether phis suit their places and their edges: rule 9.
-ghost use Rattle.std.specs.Prelude.{◌≡◌, ◌<◌, ◌^◌, ◌&&◌, [], ◌∷◌, ℕ, All, IfOk, List, length, map, take, slice_index_or};
+ghost use Rattle.std.specs.Prelude.{◌≡◌, ◌<◌, ◌^◌, ◌&&◌, [], ◌∷◌, ℕ, All, IfOk, List, OnOk, length, map, take, slice_index_or};
 ghost use Rattle.std.specs.List.{list_all};
 ghost use Rattle.module_arena.proofs.Numbered.{IsApart};
 ghost use Rattle.module_arena.specs.Changes.{function_in};
@@ -17,7 +17,7 @@ ghost use Rattle.path_rows.specs.Reflects.{Reflects};
 ghost use Rattle.type_verify.specs.Judged.{Judged};
 ghost use Rattle.use_verify.specs.Uses.{HasUses, ask, block_named, flow_in, instruction_in};
 ghost use Rattle.use_verify.specs.Classes.{AreClasses, HasClass};
-ghost use Rattle.use_verify.specs.Edges.{IsSourced, entries_suit_by, suits_by};
+ghost use Rattle.use_verify.specs.Edges.{IsSourced, MayBeSourced, entries_suit_by, sources_from, suits_by};
 
 use crate::agreeing::do_entries_agree;
 use crate::counts::are_same_numbers;
@@ -28,7 +28,8 @@ use std::alloc::{AllocError, Global};
 use std::marker::Model;
 use type_verify::{VerifyFault, asked, judge_instruction};
 
-/// What the phis of a function are judged by: for each block, the blocks that lead to it. It is made once a function.
+/// What the phis of a function are judged by: for each block, the blocks that lead to it. It is made once a function, and has none of
+/// them before the first phi.
 #[derive(Drop)]
 pub struct PhiJudge {
     sources: Vec<Sources>,
@@ -83,8 +84,20 @@ fn function_sources(alloc: Global, function: &Function) -> Result<Vec<Sources>, 
 }
 
 impl PhiJudge {
-    /// A judge of the phis of a function. It is refused for want of memory alone.
-    pub fn new(alloc: Global, function: &Function) -> Result<PhiJudge, AllocError>
+    /// A judge of the phis of a function, before it has met one.
+    pub fn new(alloc: Global) -> PhiJudge
+        ensures { result ≡ [] }
+    {
+        PhiJudge {
+            sources: Vec::new(alloc),
+            entries: Vec::new(alloc),
+            edges: Vec::new(alloc),
+            last: Vec::new(alloc),
+        }
+    }
+
+    /// A judge that has the blocks that lead to each block of a function.
+    fn of_function(alloc: Global, function: &Function) -> Result<PhiJudge, AllocError>
         requires few { length (function_blocks function.now) < 2 ^ 32 }
         requires known { All (λ b. All (λ t. t < length (function_blocks function.now)) (targets_of b.end)) (function_blocks function.now) }
         ensures { IfOk result (λ judge. IsSourced function.now judge) }
@@ -100,6 +113,20 @@ impl PhiJudge {
             edges,
             last,
         })
+    }
+
+    /// Sees to it that the judge has the blocks that lead to each block of the function.
+    fn make_ready(&mut self, alloc: Global, function: &Function) -> Result<(), AllocError>
+        requires judge { MayBeSourced function.now self.old }
+        requires few { length (function_blocks function.now) < 2 ^ 32 }
+        requires targets { All (λ b. All (λ t. t < length (function_blocks function.now)) (targets_of b.end)) (function_blocks function.now) }
+        ensures judge { MayBeSourced function.now self.new }
+        ensures ready { OnOk result (IsSourced function.now self.new) }
+    {
+        if self.sources.is_empty() {
+            *self = PhiJudge::of_function(alloc, function)?;
+        }
+        Ok(())
     }
 
     /// Whether there is one entry for each edge to the block, and entries for one block are equal.
@@ -133,19 +160,23 @@ impl PhiJudge {
         &mut self,
         alloc: Global,
         classes: &[u64],
+        function: &Function,
         block: BlockId,
         behind_phis: bool,
         instruction: &Inst,
     ) -> Result<bool, AllocError>
-        requires block { block < length self.old }
-        requires sources { All (λ b. b < length self.old) (slice_index_or self.old block []) }
-        requires blocks { All (λ id. id < length self.old) (mentions.blocks_of instruction.now) }
+        requires judge { MayBeSourced function.now self.old }
+        requires few { length (function_blocks function.now) < 2 ^ 32 }
+        requires targets { All (λ b. All (λ t. t < length (function_blocks function.now)) (targets_of b.end)) (function_blocks function.now) }
+        requires block { block < length (function_blocks function.now) }
+        requires blocks { All (λ id. id < length (function_blocks function.now)) (mentions.blocks_of instruction.now) }
         requires known { All (HasClass (length classes.now)) (mentions.bare_values_of instruction.now) }
-        ensures same { self.new ≡ self.old }
-        ensures suits { IfOk result (λ suits. suits ≡ suits_by classes.now (slice_index_or self.old block []) behind_phis instruction.now) }
+        ensures judge { MayBeSourced function.now self.new }
+        ensures suits { IfOk result (λ suits. suits ≡ suits_by classes.now (sources_from 0 (function_blocks function.now) block) behind_phis instruction.now) }
     {
         match instruction {
             Inst::Phi(_, _, incoming) => {
+                self.make_ready(alloc, function)?;
                 let suits = self.entries_suit(alloc, classes, block, incoming.as_slice())?;
                 Ok(behind_phis & suits)
             }
@@ -157,7 +188,8 @@ impl PhiJudge {
     /// not one entry for each edge to its block, or two entries for one block that are not equal.
     ///
     /// `classes` has a number for each constant of the arena, by its id: one for two exactly where they are the same. `behind_phis` tells
-    /// whether all instructions before it in its block are phis.
+    /// whether all instructions before it in its block are phis. At the first phi the judge looks at the function, which is that of all
+    /// instructions that it judges.
     pub fn judge_phi(
         &mut self,
         alloc: Global,
@@ -167,18 +199,26 @@ impl PhiJudge {
         behind_phis: bool,
         instruction: &Inst,
     ) -> Result<(), VerifyFault>
-        requires judge { IsSourced function.now self.old }
+        requires judge { MayBeSourced function.now self.old }
+        requires few { length (function_blocks function.now) < 2 ^ 32 }
         requires targets { All (λ b. All (λ t. t < length (function_blocks function.now)) (targets_of b.end)) (function_blocks function.now) }
         requires block { site.block < length (function_blocks function.now) }
         requires known { HasUses (length (value_names function.now)) (length (function_blocks function.now)) instruction.now }
         requires classes { All (HasClass (length classes.now)) (mentions.bare_values_of instruction.now) }
-        ensures same { self.new ≡ self.old }
+        ensures judge { MayBeSourced function.now self.new }
         ensures judged { (a : Lists) (g : Graph) (block : modules.Block) → Reflects (flow_in a function.now) (names_of function.now) g → IsApart (names_of function.now)
             → AreClasses (constants_of a) classes.now → block.name ≡ block_named function.now site.block → behind_phis ≡ list_all is_phi (take site.before block.instructions)
             → Judged (ask (InstructionOf site.number function.now.name) 9 (operation_phi_suits (function_in a function.now) block site.before (instruction_in a function.now instruction.now).operation) ∷ []) result }
     {
         let number = site.number;
-        let suits = self.phi_suits(alloc, classes, site.block, behind_phis, instruction)?;
+        let suits = self.phi_suits(
+            alloc,
+            classes,
+            function,
+            site.block,
+            behind_phis,
+            instruction,
+        )?;
         judge_instruction(alloc, number, &function.name, &[asked(9, suits)])
     }
 }

@@ -23,4 +23,4 @@ pub returns : goal.returns
 returns c =
     let t = c.types-types.result.now in
     let parameters = grows_told t (ap (λ (ps : List Parameter). map (λ (p : Parameter). Some (tree t p.ty)) ps) c.as_slice.ensures) c.in_ok-add_parameters.ensures in
-    all_typed c.args.judge.now c.args.function.now c.requires t c.types-types.ensures (grows_from t c.new-list.ensures.items (grows_both t parameters c.in_ok-add_body.ensures))
+    all_typed c.args.judge.now c.args.function.now c.requires t c.types-types.ensures (grows_from t c.clear.ensures.items (grows_both t parameters c.in_ok-add_body.ensures))

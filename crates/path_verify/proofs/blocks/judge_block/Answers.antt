@@ -1,4 +1,4 @@
-use Rattle.std.proofs.Common.{◌≡◌, ◌&&◌, ℕ, List, length, refl, sym, ◌∙◌, subst}
+use Rattle.std.proofs.Common.{◌≡◌, ◌&&◌, length, refl, sym, ◌∙◌}
 use Rattle.std.proofs.lemmas.List.{length-map}
 use Rattle.std.proofs.lemmas.Option.{slice_get_within}
 use Rattle.std.proofs.lemmas.Result.{err_from_is_err_and}
@@ -7,7 +7,6 @@ use Rattle.module_arena.specs.InstructionRules.{is_phi}
 use Rattle.module_arena.specs.Lists.{function_blocks}
 use Rattle.module_arena.specs.View.{module_of}
 use Rattle.use_verify.specs.Uses.{instruction_in}
-use Rattle.use_verify.specs.Edges.{IsSourced}
 use Rattle.path_verify.specs.Ready.{block_in}
 use Rattle.path_verify.proofs.InModule.{instruction_at, name_told}
 use Rattle.path_verify.proofs.Ordered.{all_then, end_judged, instruction_fails, instruction_holds, instructions_begin}
@@ -19,10 +18,10 @@ instructions-init c =
     let a = c.args.facts.now.judge.now in
     let f = c.args.facts.now.function.now in
     let b = block_in a f c.args.block.now in
-    record { same = refl; behind = refl; leads = instructions_begin (module_of a) (function_in a f) b c.args.first b.instructions }
+    record { sourced = c.requires.sourced; behind = refl; leads = instructions_begin (module_of a) (function_in a f) b c.args.first b.instructions }
 
 pub judge_instruction-requires-clause-sourced : goal.judge_instruction-requires-clause-sourced
-judge_instruction-requires-clause-sourced c = subst (λ (s : List (List ℕ)). IsSourced c.args.facts.now.function.now s) (sym c.instructions.invariant.same) c.requires.sourced
+judge_instruction-requires-clause-sourced c = c.instructions.invariant.sourced
 
 pub judge_instruction-requires-clause-block : goal.judge_instruction-requires-clause-block
 judge_instruction-requires-clause-block c = slice_get_within (function_blocks c.args.facts.now.function.now) c.args.id c.args.block.now c.requires.block
@@ -40,7 +39,7 @@ instructions-preserved c =
     let here = instruction_at a f c.args.block.now c.instructions.before c.at-instruction.result.now c.at-instruction.ensures in
     let named = name_told a f c.args.id c.args.block.now c.requires.block in
     record {
-      same = c.judge_instruction.ensures.same ∙ c.instructions.invariant.same;
+      sourced = c.judge_instruction.ensures.sourced;
       behind = (λ j. c.instructions.invariant.behind j && c.is_phi-behind_phis.ensures a f j) ∙ all_then is_phi b.instructions c.instructions.before i here;
       leads = instruction_holds (module_of a) (function_in a f) b c.args.first b.instructions c.instructions.before i _ here (c.in_ok-judge_instruction.ensures.judged b named c.instructions.invariant.behind) c.instructions.invariant.leads;
     }

@@ -5,6 +5,7 @@ use Rattle.module_arena.specs.InstructionRules.{is_phi}
 use Rattle.module_arena.specs.Valid.{instructions_demands}
 use Rattle.module_arena.specs.View.{module_of}
 use Rattle.type_verify.specs.Judged.{Leads}
+use Rattle.use_verify.specs.Edges.{MayBeSourced}
 use Rattle.path_verify.specs.Ready.{block_in}
 use Rattle.path_verify.proofs.Ordered.{asked_from}
 use Rattle.path_verify.proofs.blocks.judge_block.Given as goal
@@ -16,7 +17,7 @@ invariant-instructions l =
     let f = l.facts.function.now in
     let b = block_in a f l.block in
     record {
-      same : l.phis ≡ l.fn.phis;
+      sourced : MayBeSourced f l.phis;
       behind : l.behind_phis ≡ list_all is_phi (take l.before b.instructions);
       leads : Leads (asked_from (module_of a) (function_in a f) b l.first b.instructions l.before) (instructions_demands (module_of a) (function_in a f) b 0 l.first b.instructions);
     }

@@ -1,10 +1,9 @@
-use Rattle.std.proofs.Common.{◌+◌, ℕ, List, refl, sym, ap, ◌∙◌, subst, arith}
+use Rattle.std.proofs.Common.{◌+◌, ℕ, sym, ap, ◌∙◌, arith}
 use Rattle.std.proofs.lemmas.List.{length-map}
 use Rattle.std.proofs.lemmas.Result.{err_from_is_err_and}
 use Rattle.module_arena.specs.Changes.{function_in}
 use Rattle.module_arena.specs.Lists.{function_blocks}
 use Rattle.module_arena.specs.View.{module_of}
-use Rattle.use_verify.specs.Edges.{IsSourced}
 use Rattle.use_verify.specs.Uses.{instruction_in}
 use Rattle.path_verify.specs.Ready.{block_in, blocks_in}
 use Rattle.path_verify.proofs.InModule.{block_at}
@@ -13,13 +12,13 @@ use Rattle.path_verify.proofs.Ready.{few_blocks}
 use Rattle.path_verify.proofs.blocks.judge_blocks.Goals as goal
 
 pub in_order-init : goal.in_order-init
-in_order-init c = record { same = refl; leads = λ r j. j }
+in_order-init c = record { sourced = c.requires.sourced; leads = λ r j. j }
 
 pub overflow_cast-index : goal.overflow_cast-index
 overflow_cast-index c = omega (arith, few_blocks c.args.facts.now.judge.now c.args.facts.now.function.now c.requires.ready.known, c.in_order-test.true, c.block_count-index-end.ensures)
 
 pub judge_block-requires-clause-sourced : goal.judge_block-requires-clause-sourced
-judge_block-requires-clause-sourced c = subst (λ (s : List (List ℕ)). IsSourced c.args.facts.now.function.now s) (sym c.in_order.invariant.same) c.requires.sourced
+judge_block-requires-clause-sourced c = c.in_order.invariant.sourced
 
 pub in_order-preserved : goal.in_order-preserved
 in_order-preserved c =
@@ -29,7 +28,7 @@ in_order-preserved c =
     let at = block_at a f c.in_order.index b (rw c.new-id.ensures at c.block-block.ensures) in
     let behind = ap (λ (n : ℕ). c.in_order.number + n + 1) (sym (length-map b.instructions (instruction_in a f))) in
     record {
-      same = c.judge_block.ensures.same ∙ c.in_order.invariant.same;
+      sourced = c.judge_block.ensures.sourced;
       leads = block_holds (module_of a) (function_in a f) (blocks_in a f) c.in_order.index c.in_order.number _ (block_in a f b) _ at (c.in_ok-next.ensures ∙ behind) c.in_ok-judge_block.ensures.judged c.in_order.invariant.leads;
     }
 

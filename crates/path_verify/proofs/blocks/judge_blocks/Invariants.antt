@@ -1,8 +1,9 @@
-use Rattle.std.proofs.Common.{◌≡◌, drop}
+use Rattle.std.proofs.Common.{drop}
 use Rattle.module_arena.specs.Changes.{function_in}
 use Rattle.module_arena.specs.Valid.{blocks_demands}
 use Rattle.module_arena.specs.View.{module_of}
 use Rattle.type_verify.specs.Judged.{Leads}
+use Rattle.use_verify.specs.Edges.{MayBeSourced}
 use Rattle.path_verify.specs.Ready.{blocks_in}
 use Rattle.path_verify.proofs.blocks.judge_blocks.Given as goal
 
@@ -12,6 +13,6 @@ invariant-in_order l =
     let a = l.facts.judge.now in
     let f = l.facts.function.now in
     record {
-      same : l.phis ≡ l.fn.phis;
+      sourced : MayBeSourced f l.phis;
       leads : Leads (blocks_demands (module_of a) (function_in a f) l.number (drop l.index (blocks_in a f))) (blocks_demands (module_of a) (function_in a f) 0 (blocks_in a f));
     }

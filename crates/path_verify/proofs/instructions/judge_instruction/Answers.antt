@@ -9,7 +9,7 @@ use Rattle.last_verify.specs.declared.local_type.LocalType.{LocalType}
 use Rattle.last_verify.specs.ValuesById.{AreLocalTypes}
 use Rattle.path_verify.proofs.Joined.{first_fails, last_judges, paths_fail, phi_fails}
 use Rattle.path_verify.proofs.Listed.{classes_known, inst_within, uses_known}
-use Rattle.path_verify.proofs.Ready.{targets_known}
+use Rattle.path_verify.proofs.Ready.{few_blocks, targets_known}
 use Rattle.path_verify.proofs.instructions.judge_instruction.Goals as goal
 
 pub judge_instruction_first-requires : goal.judge_instruction_first-requires
@@ -20,6 +20,9 @@ judge_instruction_first-requires c =
 
 pub judge_phi-requires-clause-targets : goal.judge_phi-requires-clause-targets
 judge_phi-requires-clause-targets c = targets_known c.args.facts.now.judge.now c.args.facts.now.function.now c.requires.ready.known
+
+pub judge_phi-requires-clause-few : goal.judge_phi-requires-clause-few
+judge_phi-requires-clause-few c = few_blocks c.args.facts.now.judge.now c.args.facts.now.function.now c.requires.ready.known
 
 pub judge_phi-requires-clause-known : goal.judge_phi-requires-clause-known
 judge_phi-requires-clause-known c =

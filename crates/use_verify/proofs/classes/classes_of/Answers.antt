@@ -20,6 +20,6 @@ pub returns-clause-classes : goal.returns-clause-classes
 returns-clause-classes c =
     let a = c.args.arena.now in
     let types = c.args.types.now in
-    let whole : c.loop-number.number ≡ length a.constants = omega (arith, c.const_count-number-end.ensures) in
+    let whole : c.loop-number.number ≡ length a.constants = omega (arith, c.const_count-count.ensures) in
     classes_told a c.variable_count-count.ensures.good c.variable_count-count.ensures.distinct types c.loop-number.classes.items c.loop-number.keys.keys c.requires
     (subst (λ (n : ℕ). AreSlots a types c.loop-number.classes.items c.loop-number.keys.keys n) whole c.loop-number.invariant)
