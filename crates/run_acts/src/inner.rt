@@ -10,7 +10,10 @@ use crate::next::{Next, Stop};
 use ir_eval::Scalar;
 use ir_memory::{Memory, MemoryFault};
 use ir_tables::UndefinedKind;
-use run_classes::{act_on_memory, act_on_scalars, act_on_values, act_on_ways};
+use run_classes::{
+    act_on_address, act_on_alloca, act_on_binary, act_on_cast, act_on_comparison, act_on_load,
+    act_on_store, act_on_values, act_on_ways,
+};
 use run_flat::{Action, Pools};
 use run_stack::Stack;
 use std::alloc::AllocError;
@@ -47,30 +50,89 @@ pub(crate) fn act_within(
     stack: &mut Stack,
     memory: &mut Memory,
     pools: &Pools,
-    action: Action,
+    action: &Action,
     room: &mut Vec<Scalar>,
 ) -> Result<Next, AllocError>
-    requires inner { is_inner action ≡ true }
-    requires may { MayAct (length memory.old.list) pools.now action stack.old }
+    requires inner { is_inner action.now ≡ true }
+    requires may { MayAct (length memory.old.list) pools.now action.now stack.old }
     requires next { memory.old.next ≤ 2 ^ 61 }
-    ensures comes { IfOk result (λ next. (a : Lists) → ComesTo (action_of pools.now a action) next stack.old stack.new memory.old memory.new) }
+    ensures comes { IfOk result (λ next. (a : Lists) → ComesTo (action_of pools.now a action.now) next stack.old stack.new memory.old memory.new) }
     ensures stays { OnOk result (FunctionsStay stack.old stack.new) }
-    ensures wants { OnErr result ((a : Lists) → wants_memory (action_of pools.now a action) ≡ true) }
+    ensures wants { OnErr result ((a : Lists) → wants_memory (action_of pools.now a action.now) ≡ true) }
 {
-    match action {
-        Action::Compute { .. } | Action::Compare { .. } | Action::Convert { .. } => {
-            Ok(next_of(act_on_scalars(stack, pools, action)))
+    match *action {
+        Action::Load {
+            to,
+            align,
+            address,
+            slots,
+        } => next_of_access(act_on_load(
+            stack, memory, pools, action, to, align, address, slots, room,
+        )),
+        Action::Store {
+            align,
+            address,
+            slots,
+            value,
+        } => next_of_access(act_on_store(
+            stack, memory, pools, action, align, address, slots, value, room,
+        )),
+        Action::Allocate {
+            to,
+            align,
+            size,
+            count,
+        } => next_of_access(act_on_alloca(stack, memory, pools, action, to, align, size, count)),
+        Action::Displace {
+            to,
+            inbounds,
+            base,
+            terms,
+            sum,
+        } => {
+            act_on_address(stack, memory, pools, action, to, inbounds, base, terms, sum);
+            Ok(Next::Goes)
+        }
+        Action::Compute {
+            to,
+            opcode,
+            flags,
+            width,
+            left,
+            right,
+        } => Ok(next_of(act_on_binary(
+            stack, pools, action, to, opcode, flags, width, left, right,
+        ))),
+        Action::Compare {
+            to,
+            predicate,
+            samesign,
+            width,
+            left,
+            right,
+        } => {
+            act_on_comparison(
+                stack, pools, action, to, predicate, samesign, width, left, right,
+            );
+            Ok(Next::Goes)
+        }
+        Action::Convert {
+            to,
+            opcode,
+            flags,
+            from_width,
+            to_width,
+            value,
+        } => {
+            act_on_cast(
+                stack, pools, action, to, opcode, flags, from_width, to_width, value,
+            );
+            Ok(Next::Goes)
         }
         Action::Jump { .. } | Action::Branch { .. } | Action::Switch { .. } | Action::Unreachable =>
-            { Ok(next_of(act_on_ways(stack, pools, action))) }
-        Action::Load { .. }
-        | Action::Store { .. }
-        | Action::Allocate { .. }
-        | Action::Displace { .. } => {
-            next_of_access(act_on_memory(stack, memory, pools, action, room))
-        }
+            { Ok(next_of(act_on_ways(stack, pools, *action))) }
         Action::Select { .. } | Action::Freeze { .. } | Action::Gather { .. } => {
-            act_on_values(stack, pools, action, room)?;
+            act_on_values(stack, pools, *action, room)?;
             Ok(Next::Goes)
         }
         Action::Call { .. } | Action::Return { .. } | Action::Passed => unreachable!(),

@@ -37,8 +37,8 @@ pub fn act(
 {
     let decoded = program.body(stack.function());
     let pools = decoded.pools();
-    let flat = *decoded.action(stack.block(), stack.position());
-    match flat {
+    let flat = decoded.action(stack.block(), stack.position());
+    match *flat {
         Action::Call { to, callee, call } => {
             act_on_call(program, stack, memory, to, callee, call, room)
         }

@@ -1,7 +1,6 @@
 -- Instructions that see memory: what they are asked for, and that what was carried out is what was meant.
-use Rattle.std.proofs.Common.{◌≡◌, ℕ, Bool, true, All, List, length, map, refl, sym, ap, ◌∙◌, subst, Result, Ok, Err}
+use Rattle.std.proofs.Common.{◌≡◌, ℕ, Bool, All, List, length, map, refl, sym, ap, ◌∙◌, subst, Result, Ok, Err}
 use Rattle.std.specs.Prelude.{OnErr, zip}
-use Rattle.std.proofs.lemmas.Bool.{false≢true}
 use Rattle.std.proofs.lemmas.List.{length-map}
 use Rattle.std.proofs.lemmas.List.Elements.{All-weaker}
 use Rattle.ir_eval.specs.declared.value.Scalar.{Scalar}
@@ -37,7 +36,6 @@ use Rattle.typed_runs.specs.Kinds.{IsOf}
 use Rattle.typed_runs.proofs.Leaves.{read_typed}
 use Rattle.typed_runs.proofs.Values.{integer_from}
 use Rattle.run_classes.specs.Ends.{FramesStay}
-use Rattle.run_classes.specs.Groups.{is_access}
 use Rattle.run_classes.specs.May.{HasPlace, IsIndexed, IsStorable, MayAct}
 use Rattle.run_classes.proofs.Going.{All-unmap}
 use Rattle.run_classes.proofs.Paired.{zip_mapped}
@@ -175,15 +173,6 @@ module _ (p : Pools) (a : Lists) (action : Action) where
   pub displaced_so : (to : ℕ) (inbounds : Bool) (base : LeafAt) (terms : Span) (sum : ℕ) (place : Origin) → action ≡ Displace to inbounds base terms sum → origin_of place ≡ leaf_of p base
       → actions.Displace to inbounds (origin_of place) (terms_of p terms) ≡ action_of p a action
   displaced_so to inbounds base terms sum place is one = (λ i. actions.Displace to inbounds (one i) (terms_of p terms)) ∙ ap (action_of p a) (sym is)
-
--- there is no other
-pub no_other_access : (action : Action) → is_access action ≡ true → ((to align : ℕ) (address : LeafAt) (slots : Span) → action ≡ Load to align address slots → ⊥) → ((align : ℕ) (address : LeafAt) (slots value : Span) → action ≡ Store align address slots value → ⊥)
-    → ((to align size : ℕ) (counted : LeafAt) → action ≡ Allocate to align size counted → ⊥) → ((to : ℕ) (inbounds : Bool) (base : LeafAt) (terms : Span) (sum : ℕ) → action ≡ Displace to inbounds base terms sum → ⊥) → ⊥
-no_other_access (Load to align address slots) h one two three four = one to align address slots refl
-no_other_access (Store align address slots value) h one two three four = two align address slots value refl
-no_other_access (Allocate to align size counted) h one two three four = three to align size counted refl
-no_other_access (Displace to inbounds base terms sum) h one two three four = four to inbounds base terms sum refl
-no_other_access _ h one two three four = absurd (false≢true h)
 
 -- ---- where the program ends
 

@@ -1,7 +1,6 @@
 -- Instructions whose result is one leaf: what they are asked for, and that what was carried out is what was meant.
-use Rattle.std.proofs.Common.{◌≡◌, ℕ, Bool, true, refl, sym, ap, ◌∙◌}
+use Rattle.std.proofs.Common.{◌≡◌, ℕ, Bool, refl, sym, ap, ◌∙◌}
 use Rattle.std.specs.Prelude.{IsTrue}
-use Rattle.std.proofs.lemmas.Bool.{false≢true}
 use Rattle.ir_eval.specs.Cast.{IsCast}
 use Rattle.ir_eval.specs.Compare.{AreComparable}
 use Rattle.ir_eval.specs.Scalar.{is_binary}
@@ -23,7 +22,6 @@ use Rattle.run_flat.specs.declared.pools.Pools.{Pools}
 use Rattle.run_flat.specs.Flat.{action_of, leaf_of}
 use Rattle.typed_runs.specs.Actions.{cast_from, cast_to}
 use Rattle.typed_runs.proofs.Values.{castable, comparable, integer_from}
-use Rattle.run_classes.specs.Groups.{is_scalar}
 use Rattle.run_classes.specs.May.{MayAct}
 use Rattle.run_classes.proofs.Placed.{had, may_go_on, place_there}
 
@@ -123,12 +121,3 @@ module _ (p : Pools) (a : Lists) (action : Action) where
   pub converted_so : (to : ℕ) (opcode : Opcode) (flags from_width to_width : ℕ) (value : LeafAt) (operand : Origin) → action ≡ Convert to opcode flags from_width to_width value → origin_of operand ≡ leaf_of p value
       → actions.Convert to opcode flags from_width to_width (origin_of operand) ≡ action_of p a action
   converted_so to opcode flags from_width to_width value operand is one = ap (actions.Convert to opcode flags from_width to_width) one ∙ ap (action_of p a) (sym is)
-
--- there is no other
-pub no_other_scalar : (action : Action) → is_scalar action ≡ true → ((to : ℕ) (opcode : Opcode) (flags width : ℕ) (left right : LeafAt) → action ≡ Compute to opcode flags width left right → ⊥)
-    → ((to : ℕ) (predicate : Predicate) (samesign : Bool) (width : ℕ) (left right : LeafAt) → action ≡ Compare to predicate samesign width left right → ⊥)
-    → ((to : ℕ) (opcode : Opcode) (flags from_width to_width : ℕ) (value : LeafAt) → action ≡ Convert to opcode flags from_width to_width value → ⊥) → ⊥
-no_other_scalar (Compute to opcode flags width left right) h one two three = one to opcode flags width left right refl
-no_other_scalar (Compare to predicate samesign width left right) h one two three = two to predicate samesign width left right refl
-no_other_scalar (Convert to opcode flags from_width to_width value) h one two three = three to opcode flags from_width to_width value refl
-no_other_scalar _ h one two three = absurd (false≢true h)

@@ -20,8 +20,8 @@ mod scalars;
 mod values;
 mod ways;
 
-pub use memory::act_on_memory;
+pub use memory::{act_on_address, act_on_alloca, act_on_load, act_on_store};
 pub use operand::origin;
-pub use scalars::act_on_scalars;
+pub use scalars::{act_on_binary, act_on_cast, act_on_comparison};
 pub use values::act_on_values;
 pub use ways::act_on_ways;

@@ -1,14 +1,14 @@
 //! Instructions that see memory.
-ghost use Rattle.std.specs.Prelude.{◌≡◌, ◌≤◌, ◌^◌, All, OnErr, length, map, take, true, zip};
+ghost use Rattle.std.specs.Prelude.{◌≡◌, ◌≤◌, ◌^◌, All, OnErr, length, map, take, zip};
 ghost use Rattle.ir_memory.specs.Given.{IsAddress, IsAlignment};
 ghost use Rattle.module_arena.specs.Lists.{Lists};
 ghost use Rattle.run_rules.specs.Action.{Store};
 ghost use Rattle.run_stack.specs.Origins.{origin_of};
 ghost use Rattle.run_actions.specs.Operands.{IsThere, MayGoOn, leaf_of};
-ghost use Rattle.run_accesses.specs.Done.{Accesses};
+ghost use Rattle.run_accesses.specs.Done.{Accesses, IsDone};
+ghost use Rattle.run_flat.specs.declared.action.Action.TheVariants as flat;
 ghost use Rattle.run_flat.specs.Flat.{action_of};
 ghost use Rattle.run_classes.specs.Ends.{FramesStay};
-ghost use Rattle.run_classes.specs.Groups.{is_access};
 ghost use Rattle.run_classes.specs.May.{IsStorable, MayAct};
 
 use crate::distance::reach_of_terms;
@@ -16,7 +16,7 @@ use crate::operand::origin;
 use ir_eval::Scalar;
 use ir_memory::{Memory, MemoryFault};
 use run_accesses::{allocate, displace, load, store};
-use run_flat::{Action, Pools};
+use run_flat::{Action, LeafAt, Pools, Span};
 use run_stack::{Origin, Stack};
 use run_values::Slot;
 
@@ -54,66 +54,99 @@ fn store_pairs(
     store(stack, memory, align, address, kinds, leaves, room)
 }
 
-/// A load, a store, an alloca, or an address that is moved. What `room` has is lost.
+/// A load. The action serves the clauses. What `room` has is lost.
 ///
-/// Refused where the instruction is undefined, or the limit on live bytes would be passed; then the frames are as they were.
+/// Refused where the load is undefined; then the frames are as they were.
 #[inline]
-pub fn act_on_memory(
+pub fn act_on_load(
+    stack: &mut Stack,
+    memory: &Memory,
+    pools: &Pools,
+    _action: &Action,
+    to: u32,
+    align: u32,
+    address: LeafAt,
+    slots: Span,
+    room: &mut Vec<Scalar>,
+) -> Result<(), MemoryFault>
+    requires is { _action.now ≡ flat.Load to align address slots }
+    requires may { MayAct (length memory.now.list) pools.now _action.now stack.old }
+    ensures accesses { (a : Lists) → Accesses (action_of pools.now a _action.now) result stack.old stack.new memory.now memory.now }
+    ensures frames { FramesStay result stack.old stack.new }
+{
+    let place = origin(pools, address);
+    let kinds = pools.slots.in_span(slots);
+    load(stack, memory, to, align, &place, kinds, room)
+}
+
+/// A store. The action serves the clauses. What `room` has is lost.
+///
+/// Refused where the store is undefined; then the frames are as they were.
+#[inline]
+pub fn act_on_store(
     stack: &mut Stack,
     memory: &mut Memory,
     pools: &Pools,
-    action: Action,
+    _action: &Action,
+    align: u32,
+    address: LeafAt,
+    slots: Span,
+    value: Span,
     room: &mut Vec<Scalar>,
 ) -> Result<(), MemoryFault>
-    requires group { is_access action ≡ true }
-    requires may { MayAct (length memory.old.list) pools.now action stack.old }
-    requires next { memory.old.next ≤ 2 ^ 61 }
-    ensures accesses { (a : Lists) → Accesses (action_of pools.now a action) result stack.old stack.new memory.old memory.new }
+    requires is { _action.now ≡ flat.Store align address slots value }
+    requires may { MayAct (length memory.old.list) pools.now _action.now stack.old }
+    ensures accesses { (a : Lists) → Accesses (action_of pools.now a _action.now) result stack.old stack.new memory.old memory.new }
     ensures frames { FramesStay result stack.old stack.new }
 {
-    match action {
-        Action::Load {
-            to,
-            align,
-            address,
-            slots,
-        } => {
-            let place = origin(pools, address);
-            let kinds = pools.slots.in_span(slots);
-            load(stack, memory, to, align, &place, kinds, room)
-        }
-        Action::Store {
-            align,
-            address,
-            slots,
-            value,
-        } => {
-            let place = origin(pools, address);
-            let kinds = pools.slots.in_span(slots);
-            let leaves = pools.origins.in_span(value);
-            store_pairs(stack, memory, align, &place, kinds, leaves, room)
-        }
-        Action::Allocate {
-            to,
-            align,
-            size,
-            count,
-        } => {
-            let number = origin(pools, count);
-            allocate(stack, memory, to, size, align, &number)
-        }
-        Action::Displace {
-            to,
-            inbounds,
-            base,
-            terms,
-            sum,
-        } => {
-            let distance = reach_of_terms(stack, pools, terms, sum);
-            let place = origin(pools, base);
-            displace(stack, memory, to, inbounds, &place, distance);
-            Ok(())
-        }
-        _ => unreachable!(),
-    }
+    let place = origin(pools, address);
+    let kinds = pools.slots.in_span(slots);
+    let leaves = pools.origins.in_span(value);
+    store_pairs(stack, memory, align, &place, kinds, leaves, room)
+}
+
+/// An alloca. The action serves the clauses.
+///
+/// Refused where the count is poison, or the limit on live bytes would be passed; then the frames are as they were.
+#[inline]
+pub fn act_on_alloca(
+    stack: &mut Stack,
+    memory: &mut Memory,
+    pools: &Pools,
+    _action: &Action,
+    to: u32,
+    align: u32,
+    size: u64,
+    count: LeafAt,
+) -> Result<(), MemoryFault>
+    requires is { _action.now ≡ flat.Allocate to align size count }
+    requires may { MayAct (length memory.old.list) pools.now _action.now stack.old }
+    requires next { memory.old.next ≤ 2 ^ 61 }
+    ensures accesses { (a : Lists) → Accesses (action_of pools.now a _action.now) result stack.old stack.new memory.old memory.new }
+    ensures frames { FramesStay result stack.old stack.new }
+{
+    let number = origin(pools, count);
+    allocate(stack, memory, to, size, align, &number)
+}
+
+/// An address that is moved. The action serves the clauses.
+#[inline]
+pub fn act_on_address(
+    stack: &mut Stack,
+    memory: &Memory,
+    pools: &Pools,
+    _action: &Action,
+    to: u32,
+    inbounds: bool,
+    base: LeafAt,
+    terms: Span,
+    sum: u32,
+)
+    requires is { _action.now ≡ flat.Displace to inbounds base terms sum }
+    requires may { MayAct (length memory.now.list) pools.now _action.now stack.old }
+    ensures { (a : Lists) → IsDone (action_of pools.now a _action.now) stack.old stack.new memory.now memory.now }
+{
+    let distance = reach_of_terms(stack, pools, terms, sum);
+    let place = origin(pools, base);
+    displace(stack, memory, to, inbounds, &place, distance);
 }

@@ -1,64 +1,80 @@
 //! Instructions whose result is one leaf.
-ghost use Rattle.std.specs.Prelude.{◌≡◌, ℕ, true};
+ghost use Rattle.std.specs.Prelude.{◌≡◌, ℕ};
 ghost use Rattle.module_arena.specs.Lists.{Lists};
-ghost use Rattle.run_actions.specs.Carried.{Acts};
+ghost use Rattle.run_actions.specs.Carried.{Acts, IsCarriedOut};
+ghost use Rattle.run_flat.specs.declared.action.Action.TheVariants as flat;
 ghost use Rattle.run_flat.specs.Flat.{action_of};
-ghost use Rattle.run_classes.specs.Groups.{is_scalar};
 ghost use Rattle.run_classes.specs.May.{MayAct};
 
 use crate::operand::origin;
-use ir_tables::UndefinedKind;
+use ir_tables::{Flags, Opcode, Predicate, UndefinedKind};
 use run_actions::{compare, compute, convert};
-use run_flat::{Action, Pools};
+use run_flat::{Action, LeafAt, Pools};
 use run_stack::Stack;
 
-/// A binary instruction, a comparison or a cast.
+/// A binary instruction. The action serves the clauses.
 ///
 /// Refused where the instruction is undefined.
 #[inline]
-pub fn act_on_scalars(stack: &mut Stack, pools: &Pools, action: Action) -> Result<(), UndefinedKind>
-    requires group { is_scalar action ≡ true }
-    requires may { (count : ℕ) × MayAct count pools.now action stack.old }
-    ensures { (a : Lists) → Acts (action_of pools.now a action) result stack.old stack.new }
+pub fn act_on_binary(
+    stack: &mut Stack,
+    pools: &Pools,
+    _action: &Action,
+    to: u32,
+    opcode: Opcode,
+    flags: Flags,
+    width: u8,
+    left: LeafAt,
+    right: LeafAt,
+) -> Result<(), UndefinedKind>
+    requires is { _action.now ≡ flat.Compute to opcode flags width left right }
+    requires may { (count : ℕ) × MayAct count pools.now _action.now stack.old }
+    ensures { (a : Lists) → Acts (action_of pools.now a _action.now) result stack.old stack.new }
 {
-    match action {
-        Action::Compute {
-            to,
-            opcode,
-            flags,
-            width,
-            left,
-            right,
-        } => {
-            let first = origin(pools, left);
-            let second = origin(pools, right);
-            compute(stack, to, opcode, flags, width, &first, &second)
-        }
-        Action::Compare {
-            to,
-            predicate,
-            samesign,
-            width,
-            left,
-            right,
-        } => {
-            let first = origin(pools, left);
-            let second = origin(pools, right);
-            compare(stack, to, predicate, samesign, width, &first, &second);
-            Ok(())
-        }
-        Action::Convert {
-            to,
-            opcode,
-            flags,
-            from_width,
-            to_width,
-            value,
-        } => {
-            let operand = origin(pools, value);
-            convert(stack, to, opcode, flags, from_width, to_width, &operand);
-            Ok(())
-        }
-        _ => unreachable!(),
-    }
+    let first = origin(pools, left);
+    let second = origin(pools, right);
+    compute(stack, to, opcode, flags, width, &first, &second)
+}
+
+/// A comparison. The action serves the clauses.
+#[inline]
+pub fn act_on_comparison(
+    stack: &mut Stack,
+    pools: &Pools,
+    _action: &Action,
+    to: u32,
+    predicate: Predicate,
+    samesign: bool,
+    width: u8,
+    left: LeafAt,
+    right: LeafAt,
+)
+    requires is { _action.now ≡ flat.Compare to predicate samesign width left right }
+    requires may { (count : ℕ) × MayAct count pools.now _action.now stack.old }
+    ensures { (a : Lists) → IsCarriedOut (action_of pools.now a _action.now) stack.old stack.new }
+{
+    let first = origin(pools, left);
+    let second = origin(pools, right);
+    compare(stack, to, predicate, samesign, width, &first, &second);
+}
+
+/// A cast. The action serves the clauses.
+#[inline]
+pub fn act_on_cast(
+    stack: &mut Stack,
+    pools: &Pools,
+    _action: &Action,
+    to: u32,
+    opcode: Opcode,
+    flags: Flags,
+    from_width: u8,
+    to_width: u8,
+    value: LeafAt,
+)
+    requires is { _action.now ≡ flat.Convert to opcode flags from_width to_width value }
+    requires may { (count : ℕ) × MayAct count pools.now _action.now stack.old }
+    ensures { (a : Lists) → IsCarriedOut (action_of pools.now a _action.now) stack.old stack.new }
+{
+    let operand = origin(pools, value);
+    convert(stack, to, opcode, flags, from_width, to_width, &operand);
 }

@@ -5,22 +5,44 @@ use Rattle.run_rules.specs.Wants.{wants_memory}
 use Rattle.run_flat.specs.Flat.{action_of}
 use Rattle.run_acts.specs.Acting.{ComesTo}
 use Rattle.run_acts.proofs.Coming.{accesses_come, accesses_want, acts_come, carried_comes, if_ok_all, on_err_all}
-use Rattle.run_acts.proofs.Staying.{accesses_stay, acts_stay, carried_stays}
+use Rattle.run_acts.proofs.Staying.{accesses_stay, acts_stay, carried_stays, done_stays}
 use Rattle.run_acts.proofs.inner.act_within.Goals as goal
 
 -- ---- one leaf
 
-pub act_on_scalars-requires-clause-may : goal.act_on_scalars-requires-clause-may
-act_on_scalars-requires-clause-may c = (length c.args.memory.now.list, c.requires.may)
+pub act_on_binary-requires-clause-may : goal.act_on_binary-requires-clause-may
+act_on_binary-requires-clause-may c = (length c.args.memory.now.list, c.requires.may)
 
 pub returns-in-Compute-clause-comes : goal.returns-in-Compute-clause-comes
 returns-in-Compute-clause-comes c = λ lists.
-    acts_come (action_of c.args.pools.now lists c.args.action) c.args.stack.now c.act_on_scalars.new.stack c.args.memory.now c.act_on_scalars.result c.next_of.result c.next_of.ensures (c.act_on_scalars.ensures lists)
+    acts_come (action_of c.args.pools.now lists c.args.action.now) c.args.stack.now c.act_on_binary.new.stack c.args.memory.now c.act_on_binary.result c.next_of.result c.next_of.ensures (c.act_on_binary.ensures lists)
 
 pub returns-in-Compute-clause-stays : goal.returns-in-Compute-clause-stays
 returns-in-Compute-clause-stays c =
     let may = c.requires.may in
-    acts_stay c.args.pools.now may.lists c.args.action c.requires.inner c.args.stack.now c.act_on_scalars.new.stack may.running c.args.memory.now c.act_on_scalars.result (c.act_on_scalars.ensures may.lists)
+    acts_stay c.args.pools.now may.lists c.args.action.now c.requires.inner c.args.stack.now c.act_on_binary.new.stack may.running c.args.memory.now c.act_on_binary.result (c.act_on_binary.ensures may.lists)
+
+pub act_on_comparison-requires-clause-may : goal.act_on_comparison-requires-clause-may
+act_on_comparison-requires-clause-may c = (length c.args.memory.now.list, c.requires.may)
+
+pub returns-in-Compare-clause-comes : goal.returns-in-Compare-clause-comes
+returns-in-Compare-clause-comes c = λ lists. carried_comes (action_of c.args.pools.now lists c.args.action.now) c.args.stack.now c.act_on_comparison.new.stack c.args.memory.now (c.act_on_comparison.ensures lists)
+
+pub returns-in-Compare-clause-stays : goal.returns-in-Compare-clause-stays
+returns-in-Compare-clause-stays c =
+    let may = c.requires.may in
+    carried_stays c.args.pools.now may.lists c.args.action.now c.requires.inner c.args.stack.now c.act_on_comparison.new.stack may.running c.args.memory.now (c.act_on_comparison.ensures may.lists)
+
+pub act_on_cast-requires-clause-may : goal.act_on_cast-requires-clause-may
+act_on_cast-requires-clause-may c = (length c.args.memory.now.list, c.requires.may)
+
+pub returns-in-Convert-clause-comes : goal.returns-in-Convert-clause-comes
+returns-in-Convert-clause-comes c = λ lists. carried_comes (action_of c.args.pools.now lists c.args.action.now) c.args.stack.now c.act_on_cast.new.stack c.args.memory.now (c.act_on_cast.ensures lists)
+
+pub returns-in-Convert-clause-stays : goal.returns-in-Convert-clause-stays
+returns-in-Convert-clause-stays c =
+    let may = c.requires.may in
+    carried_stays c.args.pools.now may.lists c.args.action.now c.requires.inner c.args.stack.now c.act_on_cast.new.stack may.running c.args.memory.now (c.act_on_cast.ensures may.lists)
 
 -- ---- ways
 
@@ -29,12 +51,12 @@ act_on_ways-requires-clause-may c = (length c.args.memory.now.list, c.requires.m
 
 pub returns-in-Jump-clause-comes : goal.returns-in-Jump-clause-comes
 returns-in-Jump-clause-comes c = λ lists.
-    acts_come (action_of c.args.pools.now lists c.args.action) c.args.stack.now c.act_on_ways.new.stack c.args.memory.now c.act_on_ways.result c.next_of-in-Jump.result c.next_of-in-Jump.ensures (c.act_on_ways.ensures lists)
+    acts_come (action_of c.args.pools.now lists c.args.action.now) c.args.stack.now c.act_on_ways.new.stack c.args.memory.now c.act_on_ways.result c.next_of-in-Jump.result c.next_of-in-Jump.ensures (c.act_on_ways.ensures lists)
 
 pub returns-in-Jump-clause-stays : goal.returns-in-Jump-clause-stays
 returns-in-Jump-clause-stays c =
     let may = c.requires.may in
-    acts_stay c.args.pools.now may.lists c.args.action c.requires.inner c.args.stack.now c.act_on_ways.new.stack may.running c.args.memory.now c.act_on_ways.result (c.act_on_ways.ensures may.lists)
+    acts_stay c.args.pools.now may.lists c.args.action.now c.requires.inner c.args.stack.now c.act_on_ways.new.stack may.running c.args.memory.now c.act_on_ways.result (c.act_on_ways.ensures may.lists)
 
 -- ---- memory
 
@@ -42,24 +64,79 @@ pub returns-in-Load-clause-comes : goal.returns-in-Load-clause-comes
 returns-in-Load-clause-comes c =
     let s = c.args.stack.now in
     let m = c.args.memory.now in
-    let new = c.act_on_memory.new in
-    if_ok_all c.next_of_access.result (λ (lists : Lists) (x : Next). ComesTo (action_of c.args.pools.now lists c.args.action) x s new.stack m new.memory)
-    (λ lists. accesses_come (action_of c.args.pools.now lists c.args.action) s new.stack m new.memory c.act_on_memory.result c.next_of_access.result c.next_of_access.ensures (c.act_on_memory.ensures.accesses lists))
+    let new = c.act_on_load.new in
+    if_ok_all c.next_of_access.result (λ (lists : Lists) (x : Next). ComesTo (action_of c.args.pools.now lists c.args.action.now) x s new.stack m m)
+    (λ lists. accesses_come (action_of c.args.pools.now lists c.args.action.now) s new.stack m m c.act_on_load.result c.next_of_access.result c.next_of_access.ensures (c.act_on_load.ensures.accesses lists))
 
 pub returns-in-Load-clause-stays : goal.returns-in-Load-clause-stays
 returns-in-Load-clause-stays c =
     let may = c.requires.may in
-    let new = c.act_on_memory.new in
-    accesses_stay c.args.pools.now may.lists c.args.action c.requires.inner c.args.stack.now new.stack may.running c.args.memory.now new.memory c.act_on_memory.result c.next_of_access.result c.next_of_access.ensures
-    (c.act_on_memory.ensures.accesses may.lists) c.act_on_memory.ensures.frames
+    let m = c.args.memory.now in
+    let new = c.act_on_load.new in
+    accesses_stay c.args.pools.now may.lists c.args.action.now c.requires.inner c.args.stack.now new.stack may.running m m c.act_on_load.result c.next_of_access.result c.next_of_access.ensures (c.act_on_load.ensures.accesses may.lists) c.act_on_load.ensures.frames
 
 pub returns-in-Load-clause-wants : goal.returns-in-Load-clause-wants
 returns-in-Load-clause-wants c =
     let s = c.args.stack.now in
     let m = c.args.memory.now in
-    let new = c.act_on_memory.new in
-    on_err_all c.next_of_access.result (λ (lists : Lists). wants_memory (action_of c.args.pools.now lists c.args.action) ≡ true)
-    (λ lists. accesses_want (action_of c.args.pools.now lists c.args.action) s new.stack m new.memory c.act_on_memory.result c.next_of_access.result c.next_of_access.ensures (c.act_on_memory.ensures.accesses lists))
+    let new = c.act_on_load.new in
+    on_err_all c.next_of_access.result (λ (lists : Lists). wants_memory (action_of c.args.pools.now lists c.args.action.now) ≡ true)
+    (λ lists. accesses_want (action_of c.args.pools.now lists c.args.action.now) s new.stack m m c.act_on_load.result c.next_of_access.result c.next_of_access.ensures (c.act_on_load.ensures.accesses lists))
+
+pub returns-in-Store-clause-comes : goal.returns-in-Store-clause-comes
+returns-in-Store-clause-comes c =
+    let s = c.args.stack.now in
+    let m = c.args.memory.now in
+    let new = c.act_on_store.new in
+    if_ok_all c.next_of_access-in-Store.result (λ (lists : Lists) (x : Next). ComesTo (action_of c.args.pools.now lists c.args.action.now) x s new.stack m new.memory)
+    (λ lists. accesses_come (action_of c.args.pools.now lists c.args.action.now) s new.stack m new.memory c.act_on_store.result c.next_of_access-in-Store.result c.next_of_access-in-Store.ensures (c.act_on_store.ensures.accesses lists))
+
+pub returns-in-Store-clause-stays : goal.returns-in-Store-clause-stays
+returns-in-Store-clause-stays c =
+    let may = c.requires.may in
+    let m = c.args.memory.now in
+    let new = c.act_on_store.new in
+    accesses_stay c.args.pools.now may.lists c.args.action.now c.requires.inner c.args.stack.now new.stack may.running m new.memory c.act_on_store.result c.next_of_access-in-Store.result c.next_of_access-in-Store.ensures (c.act_on_store.ensures.accesses may.lists) c.act_on_store.ensures.frames
+
+pub returns-in-Store-clause-wants : goal.returns-in-Store-clause-wants
+returns-in-Store-clause-wants c =
+    let s = c.args.stack.now in
+    let m = c.args.memory.now in
+    let new = c.act_on_store.new in
+    on_err_all c.next_of_access-in-Store.result (λ (lists : Lists). wants_memory (action_of c.args.pools.now lists c.args.action.now) ≡ true)
+    (λ lists. accesses_want (action_of c.args.pools.now lists c.args.action.now) s new.stack m new.memory c.act_on_store.result c.next_of_access-in-Store.result c.next_of_access-in-Store.ensures (c.act_on_store.ensures.accesses lists))
+
+pub returns-in-Allocate-clause-comes : goal.returns-in-Allocate-clause-comes
+returns-in-Allocate-clause-comes c =
+    let s = c.args.stack.now in
+    let m = c.args.memory.now in
+    let new = c.act_on_alloca.new in
+    if_ok_all c.next_of_access-in-Allocate.result (λ (lists : Lists) (x : Next). ComesTo (action_of c.args.pools.now lists c.args.action.now) x s new.stack m new.memory)
+    (λ lists. accesses_come (action_of c.args.pools.now lists c.args.action.now) s new.stack m new.memory c.act_on_alloca.result c.next_of_access-in-Allocate.result c.next_of_access-in-Allocate.ensures (c.act_on_alloca.ensures.accesses lists))
+
+pub returns-in-Allocate-clause-stays : goal.returns-in-Allocate-clause-stays
+returns-in-Allocate-clause-stays c =
+    let may = c.requires.may in
+    let m = c.args.memory.now in
+    let new = c.act_on_alloca.new in
+    accesses_stay c.args.pools.now may.lists c.args.action.now c.requires.inner c.args.stack.now new.stack may.running m new.memory c.act_on_alloca.result c.next_of_access-in-Allocate.result c.next_of_access-in-Allocate.ensures (c.act_on_alloca.ensures.accesses may.lists) c.act_on_alloca.ensures.frames
+
+pub returns-in-Allocate-clause-wants : goal.returns-in-Allocate-clause-wants
+returns-in-Allocate-clause-wants c =
+    let s = c.args.stack.now in
+    let m = c.args.memory.now in
+    let new = c.act_on_alloca.new in
+    on_err_all c.next_of_access-in-Allocate.result (λ (lists : Lists). wants_memory (action_of c.args.pools.now lists c.args.action.now) ≡ true)
+    (λ lists. accesses_want (action_of c.args.pools.now lists c.args.action.now) s new.stack m new.memory c.act_on_alloca.result c.next_of_access-in-Allocate.result c.next_of_access-in-Allocate.ensures (c.act_on_alloca.ensures.accesses lists))
+
+pub returns-in-Displace-clause-comes : goal.returns-in-Displace-clause-comes
+returns-in-Displace-clause-comes c = λ lists table due. (c.act_on_address.ensures lists).goes table due
+
+pub returns-in-Displace-clause-stays : goal.returns-in-Displace-clause-stays
+returns-in-Displace-clause-stays c =
+    let may = c.requires.may in
+    let m = c.args.memory.now in
+    done_stays c.args.pools.now may.lists c.args.action.now c.requires.inner c.args.stack.now c.act_on_address.new.stack may.running m m (c.act_on_address.ensures may.lists)
 
 -- ---- many leaves
 
@@ -68,9 +145,9 @@ act_on_values-requires-clause-may c = (length c.args.memory.now.list, c.requires
 
 pub returns-in_ok-act_on_values-in-Select-clause-comes : goal.returns-in_ok-act_on_values-in-Select-clause-comes
 returns-in_ok-act_on_values-in-Select-clause-comes c = λ lists.
-    carried_comes (action_of c.args.pools.now lists c.args.action) c.args.stack.now c.act_on_values.new.stack c.args.memory.now (c.in_ok-act_on_values-in-Select.ensures.ok lists)
+    carried_comes (action_of c.args.pools.now lists c.args.action.now) c.args.stack.now c.act_on_values.new.stack c.args.memory.now (c.in_ok-act_on_values-in-Select.ensures.ok lists)
 
 pub returns-in_ok-act_on_values-in-Select-clause-stays : goal.returns-in_ok-act_on_values-in-Select-clause-stays
 returns-in_ok-act_on_values-in-Select-clause-stays c =
     let may = c.requires.may in
-    carried_stays c.args.pools.now may.lists c.args.action c.requires.inner c.args.stack.now c.act_on_values.new.stack may.running c.args.memory.now (c.in_ok-act_on_values-in-Select.ensures.ok may.lists)
+    carried_stays c.args.pools.now may.lists c.args.action.now c.requires.inner c.args.stack.now c.act_on_values.new.stack may.running c.args.memory.now (c.in_ok-act_on_values-in-Select.ensures.ok may.lists)
