@@ -7,8 +7,8 @@
 //!
 //! ```
 //! // of `%b = add i8 %a, 7`, where the newest frame stands at it, and %a, at place 0, is 250
-//! let action = *body.action(stack.block(), stack.position()); // an Action::Compute, to place 1
-//! act_on_scalars(&mut stack, body.pools(), action)?;
+//! let action = *body.action(stack.block(), stack.position()); // Action::Compute { to: 1, opcode, flags, width: 8, left, right }
+//! act_on_binary(&mut stack, body.pools(), &action, 1, opcode, flags, 8, left, right)?;
 //! stack.read(&Origin::Held(1)) // Scalar::Int(1)
 //! ```
 #![tactic(auto)]
