@@ -1,4 +1,5 @@
--- For `GrowingArena`: an arena in the making, and what it keeps while constants are added.
+-- For `over`, `pointer`, `bit` and `keep` of `GrowingArena`: an arena in the making, and what it keeps while constants
+-- are added.
 use Rattle.std.specs.Prelude.{◌≡◌, ℕ, ◌+◌, ◌<◌, length}
 use Rattle.type_table.specs.declared.ir_type.IrType.TheVariants as type
 use Rattle.type_table.specs.Tree.{Tree, ptr, int}

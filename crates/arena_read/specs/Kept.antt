@@ -1,4 +1,5 @@
--- For all that reads by `ModuleReader` into its arena: what is kept, and how it is meant.
+-- For `read_integer`, `read_address` and all that reads by `ModuleReader` into its arena: what is kept, and how it is
+-- meant.
 use Rattle.std.specs.Prelude.{◌≡◌, ℕ, ◌<◌, true, false, length, Option, Some, None}
 use Rattle.type_table.specs.Tree.{Tree, int, void}
 use Rattle.type_table.specs.Types.{Types, tree}

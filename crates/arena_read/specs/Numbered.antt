@@ -1,4 +1,5 @@
--- For all that reads by `ModuleReader`: what indices stand for while a module is read, by the ids of the arena in the making.
+-- For `read_global`, `read_target`, `read_local` and all that reads by `ModuleReader`: what indices stand for while a
+-- module is read, by the ids of the arena in the making.
 use Rattle.std.specs.Prelude.{◌≡◌, ℕ, ◌+◌, ◌-◌, ◌<◌, nat_lt, [], length, take, slice_index_or, Option, if◌then◌else◌}
 use Rattle.type_table.specs.Types.{trees, structs}
 use Rattle.module_arena.specs.declared.entry.GlobalId.{GlobalId}

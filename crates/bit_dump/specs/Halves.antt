@@ -1,4 +1,5 @@
--- For `Tally`, and how the code reads: counts of 32 bits in two halves, of which the upper ones are mostly none.
+-- For `halves` and `of_halves` of `Counts`, and how the code of `Tally` reads: counts of 32 bits in two halves, of
+-- which the upper ones are mostly none.
 use Rattle.std.specs.Prelude.{ℕ, ◌+◌, ◌*◌, List, map, unwrap_or}
 use Rattle.std.specs.Ordering.{nat_cmp}
 use Rattle.std.specs.Map.{lookup}

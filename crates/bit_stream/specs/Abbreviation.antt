@@ -1,4 +1,5 @@
--- For `Template`: an abbreviation that the format admits, and the operands that define it.
+-- For `abbreviation` of `Template` and `is_blob` of `Tail`: an abbreviation that the format admits, and the operands
+-- that define it.
 use Rattle.std.specs.Prelude.{Bool, true, false, List, [], ◌∷◌, ◌++◌, Option, Some, None, map}
 use Rattle.bit_stream.specs.declared.abbreviation.AbbrevOp.{AbbrevOp}
 use Rattle.bit_stream.specs.declared.abbreviation.AbbrevOp.TheVariants.{Literal, Fixed, Vbr, Array, Char6, Blob}

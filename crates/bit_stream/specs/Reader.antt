@@ -1,4 +1,4 @@
--- For `BitReader`: a reader of a stream, and what its calls answer.
+-- For `next_entry`, `fixed`, `vbr` and the other calls of `BitReader`: a reader of a stream, and what its calls answer.
 use Rattle.std.specs.Prelude.{◌≡◌, ℕ, Bool, false, List, [], length, take, drop, Option, Some, None, Result, Ok, Err, if◌then◌else◌, ◌==◌, ◌&&◌, not, nat_lt}
 use Rattle.bits.specs.Bits.{value, stream_bits}
 use Rattle.bits.specs.Cursor.{Cursor, Found}

@@ -1,5 +1,5 @@
--- For `BitReader` and `BitWriter`: the blocks that are open at a place of a stream, and the abbreviations that are in
--- force there.
+-- For `new` and `template` of `Scope`, and all calls of `BitReader` and `BitWriter`: the blocks that are open at a
+-- place of a stream, and the abbreviations that are in force there.
 use Rattle.std.specs.Prelude.{ℕ, ◌-◌, List, [], ◌∷◌, ◌++◌, Option, Some, None, if◌then◌else◌, nat_lt, slice_get, unwrap_or}
 use Rattle.std.specs.Ordering.{nat_cmp}
 use Rattle.std.specs.Map.{lookup, remove_entry}

@@ -1,5 +1,5 @@
--- For `BitWriter`: how entries are spelled (LLVM Bitcode File Format, "Abbreviation IDs", "DEFINE_ABBREV Encoding",
--- "Data Records").
+-- For `define_abbreviation`, `put_record` and `abbreviated` of `BitWriter`: how entries are spelled (LLVM Bitcode File
+-- Format, "Abbreviation IDs", "DEFINE_ABBREV Encoding", "Data Records").
 use Rattle.std.specs.Prelude.{ℕ, suc, ◌+◌, ◌-◌, ◌^◌, Bool, true, false, List, [], ◌∷◌, ◌++◌, length, take, drop, Option, Some, None, option_map, if◌then◌else◌, ◌==◌, ◌&&◌, ◌||◌, nat_lt, nat_le}
 use Rattle.std.specs.List.{flat_map, list_all}
 use Rattle.bits.specs.Bits.{bits_of}

@@ -1,4 +1,5 @@
--- For `BitWriter`: a writer of a stream, and what its calls add.
+-- For `enter`, `put_record`, `end_block` and the other calls of `BitWriter`: a writer of a stream, and what its calls
+-- add.
 use Rattle.std.specs.Prelude.{◌≡◌, ℕ, ◌+◌, ◌-◌, ◌/◌, ◌%◌, ◌^◌, Bool, true, false, List, [], ◌∷◌, ◌++◌, length, take, Option, Some, None, Result, Ok, Err, IsErr, if◌then◌else◌, ◌==◌, ◌&&◌, slice_index_or}
 use Rattle.bits.specs.Bits.{bits_of}
 use Rattle.bit_stream.specs.declared.abbreviation.AbbrevOp.{AbbrevOp}

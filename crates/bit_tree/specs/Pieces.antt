@@ -1,4 +1,4 @@
--- For `Walker` of `bit_walk`: what a tree is one piece after another, as a stream gives it.
+-- For `next` of `Walker` in `bit_walk`: what a tree is one piece after another, as a stream gives it.
 use Rattle.std.specs.Prelude.{ℕ, Bool, List, [], ◌∷◌, ◌++◌}
 use Rattle.bit_stream.specs.Abbreviation.{Template}
 use Rattle.bit_tree.specs.Stream.{Tree, nothing, block, definition, values}

@@ -1,4 +1,5 @@
--- For `Walker`: a walker over a judged stream, what is left of it, and what its calls give.
+-- For `next` and `next_operand` of `Walker`: a walker over a judged stream, what is left of it, and what its calls
+-- give.
 use Rattle.std.specs.Prelude.{◌≡◌, ℕ, Bool, true, false, List, [], ◌∷◌, Option, Some, None, Result, Ok, Err, IsErr}
 use Rattle.bit_stream.specs.Abbreviation.{Template}
 use Rattle.bit_tree.specs.Pieces.{Piece, begun, ended, defines, holds}

@@ -1,5 +1,5 @@
--- For `BitCursor` and `BitSink`: the bits of a stream, least significant first, and the numbers that runs of them stand
--- for.
+-- For all calls of `BitCursor` and `BitSink`: the bits of a stream, least significant first, and the numbers that runs
+-- of them stand for.
 use Rattle.std.specs.Prelude.{ℕ, zero, suc, ◌+◌, ◌*◌, ◌/◌, ◌%◌, Bool, true, false, List, [], ◌∷◌, ◌++◌, ◌==◌}
 
 -- a bit as a number

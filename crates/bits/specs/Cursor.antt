@@ -1,4 +1,4 @@
--- For `BitCursor`: a place in a stream, and what reading from it finds.
+-- For `fixed`, `vbr` and the other calls of `BitCursor`: a place in a stream, and what reading from it finds.
 use Rattle.std.specs.Prelude.{ℕ, Bool, List, Result, Ok, Err}
 use Rattle.bits.specs.declared.fault.BitFault.{BitFault}
 

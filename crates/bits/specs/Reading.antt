@@ -1,4 +1,5 @@
--- For `BitCursor`: what stands at the front of a run of bits: a fixed field, a number in chunks, bytes, or a fault.
+-- For `fixed`, `vbr` and the other calls of `BitCursor`: what stands at the front of a run of bits: a fixed field, a
+-- number in chunks, bytes, or a fault.
 use Rattle.std.specs.Prelude.{ℕ, zero, suc, ◌+◌, ◌-◌, ◌*◌, ◌%◌, ◌^◌, Bool, false, List, [], ◌∷◌, length, take, drop, Result, Ok, Err, if◌then◌else◌, nat_lt, nat_le, ◌||◌, slice_index_or}
 use Rattle.bits.specs.declared.fault.BitFaultKind.{BitFaultKind}
 use Rattle.bits.specs.declared.fault.BitFaultKind.TheVariants.{Truncated, VbrTooLong}

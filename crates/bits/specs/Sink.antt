@@ -1,4 +1,4 @@
--- For `BitSink`: what every sink of bits keeps.
+-- For all calls of `BitSink`: what every sink of bits keeps.
 use Rattle.std.specs.Prelude.{◌≡◌, ◌+◌, ◌%◌, ◌^◌, ◌<◌, ◌≤◌, length, vec_len}
 use Rattle.std.specs.Vec.{vec_capacity}
 use Rattle.bits.specs.declared.sink.BitSink.TheInside.{Inside}

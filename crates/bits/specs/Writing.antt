@@ -1,4 +1,4 @@
--- For `BitSink`: how a number is written in chunks, and how a stream ends.
+-- For `vbr`, `align` and `finish` of `BitSink`: how a number is written in chunks, and how a stream ends.
 use Rattle.std.specs.Prelude.{ℕ, zero, suc, ◌-◌, ◌/◌, ◌%◌, ◌^◌, Bool, true, false, List, [], ◌∷◌, ◌++◌, if◌then◌else◌, nat_lt, replicate}
 use Rattle.bits.specs.Bits.{bits_of}
 

@@ -1,4 +1,4 @@
--- For `Judge`: what it keeps beside the arena.
+-- For all calls of `Judge`: what it keeps beside the arena.
 use Rattle.std.specs.Prelude.{◌≡◌, List, map}
 use Rattle.type_table.specs.Types.{Types}
 use Rattle.module_arena.specs.Known.{IsGood}

@@ -1,5 +1,5 @@
--- For `Copier`: when the new ids of one arena stand in another for what the old ones stand for, under other names of
--- structs and of globals.
+-- For `copy_types`, `copy_constants` and `copy_body` of `Copier`: when the new ids of one arena stand in another for
+-- what the old ones stand for, under other names of structs and of globals.
 use Rattle.std.specs.Prelude.{◌≡◌, ℕ, ◌<◌, ◌≤◌, List, [], length, slice_get, slice_index_or, All, Some, IsSome}
 use Rattle.type_table.specs.Limits.{IsWithinLimits}
 use Rattle.type_table.specs.Shape.{shape}

@@ -1,4 +1,5 @@
--- For `Copier`, and how the code reads: types, constants and bodies with new ids in place of the old ones.
+-- For `copy_struct_body`, `copy_parameters` and `copy_body` of `Copier`, and how the code reads: types, constants and
+-- bodies with new ids in place of the old ones.
 use Rattle.std.specs.Prelude.{map, Option, Some, None}
 use Rattle.std.specs.Option.{option_map}
 use Rattle.type_table.specs.declared.ir_type.IrType.{IrType}

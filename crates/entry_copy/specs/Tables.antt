@@ -1,4 +1,5 @@
--- For all of `Copier`: what a contract sees of one: the new ids of structs, types, constants and entries, by their old ids.
+-- For all calls of `Copier`: what a contract sees of one: the new ids of structs, types, constants and entries, by
+-- their old ids.
 use Rattle.std.specs.Prelude.{ℕ, List, [], Option, None, slice_index_or}
 use Rattle.module_arena.specs.declared.entry.GlobalId.{GlobalId}
 use Rattle.module_arena.specs.declared.entry.GlobalId.TheVariants as global

@@ -1,4 +1,5 @@
--- For `Gathered`: what a sink was told, with what is still held before it.
+-- For `put` and `finish` of `Gathered`, and all that puts by it: what a sink was told, with what is still held before
+-- it.
 use Rattle.std.specs.Prelude.{◌≡◌, ◌⊎◌, ℕ, ◌≤◌, Bool, true, false, List, ◌++◌, take, length, Option}
 use Rattle.std.specs.Bool.{MatchBool}
 use Rattle.ir_base.specs.Outside.{Added, Rose}

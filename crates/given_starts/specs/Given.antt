@@ -1,4 +1,5 @@
--- For `Given`: the ids that were given definitions, ascending, each with the bits where they start.
+-- For `give`, `get` and `count` of `Given`: the ids that were given definitions, ascending, each with the bits where
+-- they start.
 use Rattle.std.specs.Prelude.{ℕ, List, [], ◌∷◌, ◌++◌, unwrap_or}
 use Rattle.std.specs.Ordering.{nat_cmp}
 use Rattle.std.specs.Map.{lookup, remove_entry}

@@ -1,4 +1,5 @@
--- For `MemoryFiles`, `MemorySink` and `MemorySource`: calls by number, counted from 1, some of which are told to fail.
+-- For all calls of `MemoryFiles`, `MemorySink` and `MemorySource`: calls by number, counted from 1, some of which are
+-- told to fail.
 use Rattle.std.specs.Prelude.{ℕ, zero, suc, ◌+◌, ◌-◌, ◌^◌, min, Bool, ◌&&◌, ◌==◌, nat_lt, List, if◌then◌else◌}
 use Rattle.std.specs.List.{list_any}
 

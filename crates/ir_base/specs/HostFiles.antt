@@ -1,4 +1,4 @@
--- For `HostFiles`: the host's files.
+-- For all calls of `HostFiles`: the host's files.
 use Rattle.std.specs.Prelude.{ℕ, not, ◌==◌, List, IsTrue}
 use Rattle.std.specs.List.{list_all}
 use Rattle.std.specs.Str.{IsUtf8}

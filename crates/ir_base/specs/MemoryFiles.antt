@@ -1,4 +1,4 @@
--- For `MemoryFiles`: files in memory.
+-- For `put`, `get` and the other calls of `MemoryFiles`: files in memory.
 use Rattle.std.specs.Prelude.{ℕ, Bool, nat_le, List, length, Option, Some, None, Result, Ok, Err, bytes_eq, if◌then◌else◌}
 use Rattle.std.specs.Map.{lookup}
 use Rattle.ir_base.specs.Calls.{next_count, next_fails}

@@ -1,4 +1,4 @@
--- For `MemorySink`: a sink in memory.
+-- For all calls of `MemorySink`: a sink in memory.
 use Rattle.std.specs.Prelude.{◌≡◌, ℕ, ◌+◌, Bool, not, ◌&&◌, List, length, if◌then◌else◌}
 use Rattle.ir_base.specs.Calls.{named_calls, next_count, next_fails}
 

@@ -1,4 +1,4 @@
--- For `MemorySource`: a source in memory.
+-- For all calls of `MemorySource`: a source in memory.
 use Rattle.std.specs.Prelude.{ℕ, List}
 use Rattle.ir_base.specs.Calls.{named_calls}
 

@@ -1,4 +1,4 @@
--- For `Name`: which bytes are a name.
+-- For `from_text` and `text` of `Name`: which bytes are a name.
 use Rattle.std.specs.Prelude.{ℕ, Bool, not, ◌&&◌, ◌==◌, List, length, IsTrue}
 use Rattle.std.specs.List.{list_all}
 

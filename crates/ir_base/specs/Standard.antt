@@ -1,4 +1,4 @@
--- For `StdSource` and `StdSink`: a reader or a writer of std behind a count of faults.
+-- For all calls of `StdSource` and `StdSink`: a reader or a writer of std behind a count of faults.
 use Rattle.std.specs.Prelude.{ℕ}
 
 -- the reader or the writer, and how many calls have failed, in a counter that stands at its type's end

@@ -74,6 +74,7 @@ pub enum ClassSet {
     Quotes,
     /// The colon.
     Colons,
+    /// Every byte but a line feed.
     InLine,
 }
 

@@ -1,4 +1,4 @@
--- For `Flags`: sets of flags, as the sums of the codes of their flags.
+-- For `with` and `has` of `Flags`: sets of flags, as the sums of the codes of their flags.
 use Rattle.std.specs.Prelude.{ℕ, ◌+◌, ◌/◌, ◌%◌, ◌==◌, Bool, if◌then◌else◌}
 use Rattle.ir_tables.specs.declared.flag.Flag.{Flag}
 use Rattle.ir_tables.specs.Flag.{flag_code}

@@ -1,4 +1,5 @@
--- For `Intrinsic`: the intrinsics over integers, in the order of their table.
+-- For `word`, `code`, `of_word` and `of_code` of `Intrinsic`: the intrinsics over integers, in the order of their
+-- table.
 use Rattle.std.specs.Prelude.{ℕ, List, [], ◌∷◌, map, find, Option, codes, bytes_eq, nat_eq}
 use Rattle.ir_tables.specs.Table.{Entry}
 use Rattle.ir_tables.specs.declared.intrinsic.Intrinsic.{Intrinsic}

@@ -1,4 +1,4 @@
--- For `Predicate`: the predicates of `icmp`, their words and their codes.
+-- For `word`, `code`, `of_word` and `of_code` of `Predicate`: the predicates of `icmp`, their words and their codes.
 use Rattle.std.specs.Prelude.{ℕ, List, [], ◌∷◌, map, find, Option, codes, bytes_eq, nat_eq}
 use Rattle.ir_tables.specs.Table.{Entry}
 use Rattle.ir_tables.specs.declared.predicate.Predicate.{Predicate}

@@ -1,4 +1,4 @@
--- For `Table`: tables of words and codes.
+-- For `word_of` and `code_of` of `Table`: tables of words and codes.
 use Rattle.std.specs.Prelude.{◌≡◌, ℕ, Bool, true, not, ◌&&◌, List, [], ◌∷◌, map, length, Some, slice_get, ◌==◌, bytes_eq, nat_eq}
 use Rattle.std.specs.List.{list_any}
 use Rattle.ir_tables.specs.declared.table.Row.{Row}

@@ -1,4 +1,4 @@
--- For `Number`: numbers in decimal.
+-- For `of_digits`, `to_u64`, `to_u128` and `digits` of `Number`: numbers in decimal.
 use Rattle.std.specs.Prelude.{◌≡◌, ℕ, ◌+◌, ◌-◌, ◌*◌, ◌==◌, ◌&&◌, nat_lt, nat_le, Bool, true, false, not, List, [], ◌∷◌, length, Option, Some, None, if◌then◌else◌}
 use Rattle.std.specs.List.{list_all}
 

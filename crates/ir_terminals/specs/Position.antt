@@ -1,4 +1,5 @@
--- For `Cursor`: where a cursor stands in a text, and what it has left.
+-- For `kind`, `place`, `spelling` and the other calls of `Cursor`: where a cursor stands in a text, and what it has
+-- left.
 use Rattle.std.specs.Prelude.{ℕ, zero, suc, ◌+◌, Bool, true, false, List, [], ◌∷◌, drop, Option, Some, None}
 use Rattle.ir_base.specs.declared.place.Place.{Place}
 use Rattle.ir_lexer.specs.Ahead.{Located, ahead}

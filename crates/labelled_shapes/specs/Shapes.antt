@@ -1,4 +1,4 @@
--- For `ShapeSet`: shapes under numbers, each with earlier ones as its parts.
+-- For `keep` and `count` of `ShapeSet`: shapes under numbers, each with earlier ones as its parts.
 use Rattle.std.specs.Prelude.{◌≡◌, ℕ, ◌+◌, ◌<◌, List, [], ◌∷◌, ◌++◌, All, Some, None, slice_get, slice_index_or, ⊤}
 use Rattle.std.specs.List.{fold}
 use Rattle.type_table.specs.Shape.{Label, Shape, int_leaf, ptr_leaf, void_leaf, opaque_leaf, array_of, struct_of, Shapes, no_shapes, more_shapes}

@@ -1,4 +1,5 @@
--- For `Naming`: names that are given one after another, whatever the order in which they are kept.
+-- For `avoid`, `give` and `name_for` of `Naming`: names that are given one after another, whatever the order in which
+-- they are kept.
 use Rattle.std.specs.Prelude.{◌≡◌, ℕ, ◌<◌, ◌≤◌, true, List, ◌∷◌, ◌++◌, bytes_eq, Some}
 use Rattle.std.specs.Map.{lookup}
 use Rattle.module_arena.specs.Module.{Bytes}

@@ -1,4 +1,5 @@
--- For `Walk`: what is remembered of the types and structs of one part, and what a look at one of them finds.
+-- For `new` and `struct_number` of `Walk`: what is remembered of the types and structs of one part, and what a look at
+-- one of them finds.
 use Rattle.std.specs.Prelude.{◌≡◌, ℕ, List, length, slice_get, Some, Option}
 use Rattle.type_table.specs.Limits.{IsWithin}
 use Rattle.type_table.specs.Shape.{Shape}

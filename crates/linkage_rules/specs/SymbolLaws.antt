@@ -1,4 +1,4 @@
--- For `Symbol` as a key: its equality finds exactly equal symbols, and what a hasher is fed of one.
+-- For `eq` and `hash` of `Symbol` as a key: its equality finds exactly equal symbols, and what a hasher is fed of one.
 use Rattle.std.proofs.Common.{◌≡◌, true, ◌++◌, sym, ap, ap₂, subst, nat_eq, bytes_eq}
 use Rattle.std.specs.Bool.{Decides}
 use Rattle.std.specs.Cmp.Lexicographic.{same_text}

@@ -1,4 +1,4 @@
--- For `MaskedBytes`: bytes of which some are poison, as a plain list; and how a mask keeps them.
+-- For all calls of `MaskedBytes`: bytes of which some are poison, as a plain list; and how a mask keeps them.
 use Rattle.std.specs.Prelude.{ℕ, ◌+◌, ◌*◌, ◌/◌, ◌%◌, ◌^◌, Bool, true, false, ◌&&◌, nat_eq, nat_le, nat_lt, List, [], ◌∷◌, ◌++◌, take, drop, length, map, Option, Some, None, slice_index_or}
 use Rattle.std.specs.Int.{bit_at}
 use Rattle.std.specs.List.{range_with_len}

@@ -1,4 +1,4 @@
--- For `Entity`: what it names of a module.
+-- For `verify`: what an `Entity` of its failure names of a module.
 use Rattle.module_arena.specs.declared.entity.Entity as the_entity
 use Rattle.module_arena.specs.declared.entity.Entity.TheVariants as entity
 use Rattle.module_arena.specs.Valid.{Entity}

@@ -1,4 +1,4 @@
--- For `Arena`: what a contract sees of one: the lists of a module, with ids in place of names.
+-- For all calls of `Arena`: what a contract sees of one: the lists of a module, with ids in place of names.
 use Rattle.std.specs.Prelude.{ℕ, List, [], ◌++◌, Option, None, map, slice_get, slice_index_or}
 use Rattle.std.specs.Option.{option_map, option_map_or}
 use Rattle.type_table.specs.Types.{Types, no_types}

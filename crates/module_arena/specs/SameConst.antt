@@ -1,4 +1,5 @@
--- For `Const` as a key: when two constants of the code are the same, and what a hasher is fed of one.
+-- For `eq` and `hash` of `Const` as a key: when two constants of the code are the same, and what a hasher is fed of
+-- one.
 use Rattle.std.specs.Prelude.{ℕ, Bool, true, false, ◌&&◌, ◌==◌, bytes_eq, List, ◌++◌}
 use Rattle.std.specs.Bool.{beq}
 use Rattle.std.specs.Cmp.Lexicographic.{pointwise}

@@ -1,4 +1,4 @@
--- For `Const` as a key: its equality finds exactly equal constants.
+-- For `eq` of `Const` as a key: its equality finds exactly equal constants.
 use Rattle.std.proofs.Common.{◌≡◌, ℕ, Bool, true, ◌&&◌, ◌==◌, unwrap_or, List, Some, refl, sym, ap, ◌∙◌, subst}
 use Rattle.std.specs.Bool.{Decides}
 use Rattle.std.specs.Cmp.{booleans_Decides}

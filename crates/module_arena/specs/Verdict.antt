@@ -1,4 +1,4 @@
--- For the judges of a module: first whether a function is too large, then its first failure.
+-- For `verify` and `verify_counted`: first whether a function is too large, then its first failure.
 use Rattle.std.specs.Prelude.{ℕ, Option, Some, None}
 use Rattle.module_arena.specs.Module.{Bytes, Function, Module}
 use Rattle.module_arena.specs.Functions.{product, first_too_large}

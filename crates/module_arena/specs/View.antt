@@ -1,4 +1,4 @@
--- For `Arena`: the module that the lists of an arena stand for.
+-- For all calls of `Arena`: the module that the lists of an arena stand for.
 use Rattle.std.specs.Prelude.{ℕ, List, [], ◌∷◌, ◌++◌, map, Some, None, slice_index_or}
 use Rattle.std.specs.List.{fold}
 use Rattle.std.specs.Option.{option_map, option_map_or}

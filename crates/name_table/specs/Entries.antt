@@ -1,4 +1,4 @@
--- For `NameTable`: what a table has for a name.
+-- For `get` and `put` of `NameTable`: what a table has for a name.
 use Rattle.std.specs.Prelude.{ℕ, List, [], ◌∷◌, map, Option, Some, None, bytes_eq, cond}
 use Rattle.std.specs.Borrow.{Bor}
 

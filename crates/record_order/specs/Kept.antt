@@ -1,4 +1,4 @@
--- For `TypeOrder`: how it keeps the places of the types that are listed.
+-- For `note` and `place` of `TypeOrder`: how it keeps the places of the types that are listed.
 use Rattle.std.specs.Prelude.{◌≡◌, ℕ, ◌<◌, List, length, map, All, slice_index_or, Option, None}
 use Rattle.type_table.specs.Types.{Types, tree}
 use Rattle.type_verify.specs.Classes.{AreClasses}

@@ -1,4 +1,4 @@
--- For `TypeOrder`: the types that a module mentions, in the making.
+-- For `type_order`, and `note`, `note_all` and `place` of `TypeOrder`: the types that a module mentions, in the making.
 use Rattle.std.specs.Prelude.{◌≡◌, ℕ, Bool, true, List, [], ◌∷◌, map, ⊤, Option, Some, None, if◌then◌else◌}
 use Rattle.std.specs.List.{fold, list_any}
 use Rattle.type_table.specs.Tree.{Tree, int, ptr, void, array, struct, named, Trees, no_trees, more_trees}

@@ -1,4 +1,4 @@
--- For `TextTable`: a table of texts in the making, and what it holds.
+-- For `text_table`, and `new` and `add` of `TextTable`: a table of texts in the making, and what it holds.
 use Rattle.std.specs.Prelude.{◌≡◌, ℕ, true, List, [], Some}
 use Rattle.std.specs.List.{fold}
 use Rattle.name_table.specs.Entries.{value_of}

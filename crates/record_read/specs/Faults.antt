@@ -1,4 +1,4 @@
--- For `BitcodeFault`: what refuses, and when a call answers as the records say.
+-- For all calls that answer a `BitcodeFault`: what refuses, and when a call answers as the records say.
 use Rattle.std.specs.Prelude.{◌≡◌, ℕ, ◌-◌, Result, Ok, Err, MatchResult}
 use Rattle.bit_stream.specs.declared.fault.StreamFault as stream
 use Rattle.bit_stream.specs.declared.fault.StreamFault.TheVariants as stream_fault

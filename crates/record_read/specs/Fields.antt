@@ -1,4 +1,4 @@
--- For `Texts`, and for fields that are kept: what they are.
+-- For `read_text`, `read_last` and `read_label`: what texts are, and fields that are kept.
 use Rattle.std.specs.Prelude.{◌≡◌, ℕ, ◌<◌, ◌++◌, ◌∷◌, [], nat_lt, Bool, true, false, List, Option, Some, None}
 use Rattle.std.specs.List.{list_all}
 use Rattle.module_arena.specs.declared.entry.LocalName as the_local

@@ -1,4 +1,4 @@
--- For `RecordReader`: a reader over a judged stream, and what its calls on operands give.
+-- For all calls of `RecordReader`: a reader over a judged stream, and what its calls on operands give.
 use Rattle.std.specs.Prelude.{◌≡◌, ◌≤◌, ℕ, Bool, true, false, List, [], ◌∷◌, Option, Some, None, Result, Ok, Err, is_some}
 use Rattle.bit_tree.specs.Pieces.{Piece}
 use Rattle.record_table.specs.Walk.{Walk, going, stopped, least}

@@ -1,4 +1,4 @@
--- For `Form` and `Kind`: the forms and kinds of the record table that are meant.
+-- For `code` and `of_code` of `Form` and of `Kind`: the forms and kinds of the record table that are meant.
 use Rattle.record_table.specs.declared.form.Form as the_form
 use Rattle.record_table.specs.declared.form.Form.TheVariants as form
 use Rattle.record_table.specs.declared.kind.Kind as the_kind

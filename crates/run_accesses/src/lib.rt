@@ -5,6 +5,12 @@
 //! call makes of the newest frame and of memory what the definition of actions says, whatever addresses have and whatever is due; that
 //! an undefined instruction and a passed limit are told exactly where they are so; and that memory is wanted by none but the actions
 //! that may. How far indices reach is told exactly. Definitions: `specs/Done`; `Displace` of `run_rules`.
+//!
+//! ```
+//! // of `%v = getelementptr i8, ptr %p, i8 -1`, where %p stands at place 0 of the newest frame, and %v at place 1
+//! let distance = reach(Scalar::Int(255), 8, 1); // Some(-1)
+//! displace(&mut stack, &memory, 1, false, &Origin::Held(0), distance);
+//! ```
 #![tactic(auto)]
 
 mod address;

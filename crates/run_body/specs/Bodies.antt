@@ -1,4 +1,4 @@
--- For `Body`: the actions of a function by their places.
+-- For `new`, `action` and `widest` of `Body`: the actions of a function by their places.
 use Rattle.std.specs.Prelude.{ℕ, ◌-◌, ◌≤◌, List, slice_get}
 use Rattle.std.specs.List.{All}
 use Rattle.std.specs.Option.{option_map_or}

@@ -1,4 +1,4 @@
--- For `Pools` and the functions that put parts of instructions into them: that pools only grow, and what was put where.
+-- For all calls that put parts of instructions into `Pools`: that pools only grow, and what was put where.
 use Rattle.std.specs.Prelude.{◌≡◌, ℕ, Bool, List, [], ◌++◌, map}
 use Rattle.module_arena.specs.Lists.{Lists}
 use Rattle.run_rules.specs.Action as actions

@@ -1,4 +1,4 @@
--- For `Pool`: items of a list that follow one another.
+-- For `append`, `since` and `in_span` of `Pool`: items of a list that follow one another.
 use Rattle.std.specs.Prelude.{◌≡◌, ℕ, ◌+◌, ◌^◌, ◌<◌, ◌≤◌, List, ◌++◌, length, take, drop}
 use Rattle.run_flat.specs.declared.leaf.Span.{Span}
 

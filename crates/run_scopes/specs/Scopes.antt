@@ -1,4 +1,5 @@
--- For `Scope`: what the ids in a function of an arena stand for in a run of its module alone.
+-- For `new`, `bounds`, `to` and the other calls of `Scope`: what the ids in a function of an arena stand for in a run
+-- of its module alone.
 use Rattle.std.specs.Prelude.{◌≡◌, ℕ, ◌+◌, ◌<◌, ⊤, true, List, [], ◌∷◌, map, length, Option, Some, slice_get}
 use Rattle.std.specs.List.{IsDistinct}
 use Rattle.std.specs.Option.{option_map}

@@ -1,4 +1,4 @@
--- For `Signatures`: the function types that a run has met, by the ids of their types.
+-- For `new`, `number` and `is_same` of `Signatures`: the function types that a run has met, by the ids of their types.
 use Rattle.std.specs.Prelude.{◌≡◌, ℕ, ◌<◌, ◌≢◌, Bool, List, [], map, length, slice_get, Option, Some, None, AllPairs}
 use Rattle.std.specs.List.{All}
 use Rattle.module_arena.specs.Lists.{Lists}

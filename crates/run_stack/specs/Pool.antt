@@ -1,4 +1,5 @@
--- For `Stack`: how its frames lie in one pool. Their marks stand the newest first, and behind the oldest stands one that is no frame's.
+-- For all calls of `Stack`: how its frames lie in one pool. Their marks stand the newest first, and behind the oldest
+-- stands one that is no frame's.
 use Rattle.std.specs.Prelude.{◌≡◌, ℕ, ◌+◌, ◌≤◌, List, [], ◌∷◌, length, take, drop, reverse}
 use Rattle.ir_eval.specs.declared.value.Pointer.{Pointer}
 use Rattle.ir_eval.specs.declared.value.Scalar.{Scalar}

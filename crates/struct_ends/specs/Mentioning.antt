@@ -1,4 +1,4 @@
--- For `StructMentions`: what the structs of a text hold by value.
+-- For `of_items` and `contains_itself` of `StructMentions`: what the structs of a text hold by value.
 use Rattle.std.specs.Prelude.{◌≡◌}
 use Rattle.ir_syntax.specs.View.{items_view}
 use Rattle.type_table.specs.Tree.{Structs}

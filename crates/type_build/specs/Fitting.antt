@@ -1,4 +1,5 @@
--- For `Builder`: which types an arena can take: each is within the limits, and so is each that is written in it.
+-- For `keep_type`, `add_type` and `add_types` of `Builder`: which types an arena can take: each is within the limits,
+-- and so is each that is written in it.
 use Rattle.std.specs.Prelude.{◌≤◌, All, Contains, map}
 use Rattle.type_table.specs.Limits.{IsWithinLimits}
 use Rattle.type_table.specs.Shape.{shape}

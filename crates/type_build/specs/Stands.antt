@@ -1,4 +1,5 @@
--- For `Builder`: what the ids of an arena stand for, and that they go on to do so while more is added.
+-- For `add_type`, `add_constant` and the other calls of `Builder`: what the ids of an arena stand for, and that they go
+-- on to do so while more is added.
 use Rattle.std.specs.Prelude.{◌≡◌, ℕ, ◌<◌, List, map, length, All}
 use Rattle.type_table.specs.Tree.{Tree}
 use Rattle.type_table.specs.Types.{trees}

@@ -1,4 +1,5 @@
--- For all of `TypeTable`: a type as a plain tree that keeps the names of structs, and the bodies that these names stand for.
+-- For all calls of `TypeTable`: a type as a plain tree that keeps the names of structs, and the bodies that these names
+-- stand for.
 use Rattle.std.specs.Prelude.{ℕ, suc, Bool, List, [], ◌∷◌, map, bytes_eq, slice_index_or, if◌then◌else◌}
 
 mutual

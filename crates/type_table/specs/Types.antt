@@ -1,4 +1,4 @@
--- For all of `TypeTable`: what a contract sees of a table: its types and its structs, under their ids.
+-- For all calls of `TypeTable`: what a contract sees of a table: its types and its structs, under their ids.
 use Rattle.std.specs.Prelude.{ℕ, ◌+◌, ◌^◌, ◌<◌, ◌≤◌, ◌≢◌, List, [], ◌∷◌, ◌++◌, length, map, set, All, AllPairs, ⊤, true, false, slice_index_or, Option, Some, None}
 use Rattle.std.specs.List.{fold}
 use Rattle.type_table.specs.declared.ir_type.IrType.{IrType}

@@ -1,4 +1,4 @@
--- For `TypeJudge`: what is told of each type of a table, from what is told of its parts.
+-- For all calls of `TypeJudge`: what is told of each type of a table, from what is told of its parts.
 use Rattle.std.specs.Prelude.{◌≡◌, ℕ, Bool, true, ◌&&◌, List, map, slice_index_or}
 use Rattle.std.specs.List.{list_all}
 use Rattle.type_table.specs.declared.ir_type.IrType.{IrType}
