@@ -9,7 +9,7 @@ use Rattle.std.specs.Ordering.{match_ordering, is_eq}
 use Rattle.std.specs.BTreeMap.{is_at, insert_entry}
 use Rattle.std.proofs.lemmas.Bool.{cases_lt}
 use Rattle.std.proofs.lemmas.Cmp.{ranked}
-use Rattle.bit_dump.specs.declared.counts.Counts.{Counts}
+use Rattle.bit_dump.specs.declared.counts.StreamCounts.{StreamCounts}
 use Rattle.bit_dump.specs.declared.counts.Half.{Half}
 use Rattle.bit_dump.specs.Halves.{whole, upper_of, joined}
 use Rattle.bit_dump.specs.Tally.{counts_of, no_counts}
@@ -47,10 +47,10 @@ above : (id first : ℕ) (ks : List ℕ) → id ≤ first → AllByRecursion (λ
 above id first [] low later = tt
 above id first (k ∷ ks) low later = let higher : first < k = ranked first k Less (sym later.0) in ((λ same. omega arith), above id first ks low later.1)
 
-pub changed : (up now rows : List (ℕ × Half)) (id : ℕ) (low : Half) (counts : Counts) → IsStrictlySortedBy nat_cmp (keys_of rows) → ((k : ℕ) → IsOther id k → upper_of now k ≡ upper_of up k) → whole low (upper_of now id) ≡ counts
+pub changed : (up now rows : List (ℕ × Half)) (id : ℕ) (low : Half) (counts : StreamCounts) → IsStrictlySortedBy nat_cmp (keys_of rows) → ((k : ℕ) → IsOther id k → upper_of now k ≡ upper_of up k) → whole low (upper_of now id) ≡ counts
     → joined now (insert_entry nat_cmp rows id low) ≡ insert_entry nat_cmp (joined up rows) id counts
 unfolding IsStrictlySortedBy
-changed up now [] id low counts sorted same is = ap (λ (c : Counts). (id, c) ∷ []) is
+changed up now [] id low counts sorted same is = ap (λ (c : StreamCounts). (id, c) ∷ []) is
 changed up now (row ∷ rows) id low counts sorted same is = by (changed up now rows id low counts sorted.1 same is) (nat_cmp id row.0) refl where
   by : joined now (insert_entry nat_cmp rows id low) ≡ insert_entry nat_cmp (joined up rows) id counts → (o : Ordering) → nat_cmp id row.0 ≡ o → joined now (match_ordering o ((id, low) ∷ row ∷ rows) ((row.0, low) ∷ rows) (row ∷ insert_entry nat_cmp rows id low))
       ≡ match_ordering o ((id, counts) ∷ joined up (row ∷ rows)) ((row.0, counts) ∷ joined up rows) ((row.0, whole row.1 (upper_of up row.0)) ∷ insert_entry nat_cmp (joined up rows) id counts)

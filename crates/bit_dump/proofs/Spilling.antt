@@ -6,7 +6,7 @@ use Rattle.std.proofs.lemmas.List.{append-nil}
 use Rattle.ir_base.specs.Outside.{Added, Wrote}
 use Rattle.bit_dump.specs.declared.fault.DumpFault.{DumpFault}
 use Rattle.bit_dump.specs.declared.fault.DumpFault.TheVariants.{Bit, WriteFault, Memory}
-use Rattle.bit_dump.specs.declared.counts.Counts.{Counts}
+use Rattle.bit_dump.specs.declared.counts.StreamCounts.{StreamCounts}
 use Rattle.bit_dump.specs.Tally.{Tally}
 use Rattle.bit_dump.specs.Text.{row_line, counts_line, summary}
 use Rattle.bit_dump.specs.Telling.{TookFront, WroteFirst, Spilled}
@@ -67,22 +67,22 @@ last_failed before between now all rest faults_before faults_now h k =
 
 -- the rows of a summary, of which these are left
 
-abbrev pub Rows : Option (List ℕ) → Option (List ℕ) → List ℕ → List ℕ → (all left : List (ℕ × Counts)) → Type 0
+abbrev pub Rows : Option (List ℕ) → Option (List ℕ) → List ℕ → List ℕ → (all left : List (ℕ × StreamCounts)) → Type 0
 Rows before now old new all left = (done : List ℕ) × (done ++ flat_map row_line left ≡ flat_map row_line all) × WroteFirst before now (old ++ done) new
 
-pub no_rows : (before : Option (List ℕ)) (old : List ℕ) (all left : List (ℕ × Counts)) → left ≡ all → Rows before before old old all left
-no_rows before old all left is = ([], ap (λ (l : List (ℕ × Counts)). flat_map row_line l) is, rw append-nil (gathers before old))
+pub no_rows : (before : Option (List ℕ)) (old : List ℕ) (all left : List (ℕ × StreamCounts)) → left ≡ all → Rows before before old old all left
+no_rows before old all left is = ([], ap (λ (l : List (ℕ × StreamCounts)). flat_map row_line l) is, rw append-nil (gathers before old))
 
-pub row_more : (before between now : Option (List ℕ)) (old rest new : List ℕ) (all left later : List (ℕ × Counts)) (row : ℕ × Counts) → left ≡ row ∷ later → Rows before between old rest all left → WroteFirst between now (rest ++ row_line row) new → Rows before now old new all later
+pub row_more : (before between now : Option (List ℕ)) (old rest new : List ℕ) (all left later : List (ℕ × StreamCounts)) (row : ℕ × StreamCounts) → left ≡ row ∷ later → Rows before between old rest all left → WroteFirst between now (rest ++ row_line row) new → Rows before now old new all later
 row_more before between now old rest new all left later row is h k =
     let step : (h.0 ++ row_line row) ++ flat_map row_line later ≡ flat_map row_line all =
-    append_assoc h.0 (row_line row) (flat_map row_line later) ∙ (ap (λ (l : List (ℕ × Counts)). h.0 ++ flat_map row_line l) (sym is) ∙ h.1) in
+    append_assoc h.0 (row_line row) (flat_map row_line later) ∙ (ap (λ (l : List (ℕ × StreamCounts)). h.0 ++ flat_map row_line l) (sym is) ∙ h.1) in
     (h.0 ++ row_line row, step, both_spilled before between now old rest new h.0 (row_line row) (Ok tt) h.2 k)
 
-pub row_stops : (before between now : Option (List ℕ)) (old rest new last : List ℕ) (all left later : List (ℕ × Counts)) (row : ℕ × Counts) (fault : DumpFault) → left ≡ row ∷ later → Rows before between old rest all left → Spilled (row_line row) between rest now new (Err fault) → Spilled (flat_map row_line all) before old now last (Err fault)
+pub row_stops : (before between now : Option (List ℕ)) (old rest new last : List ℕ) (all left later : List (ℕ × StreamCounts)) (row : ℕ × StreamCounts) (fault : DumpFault) → left ≡ row ∷ later → Rows before between old rest all left → Spilled (row_line row) between rest now new (Err fault) → Spilled (flat_map row_line all) before old now last (Err fault)
 row_stops before between now old rest new last all left later row fault is h k =
     let step : (h.0 ++ row_line row) ++ flat_map row_line later ≡ flat_map row_line all =
-    append_assoc h.0 (row_line row) (flat_map row_line later) ∙ (ap (λ (l : List (ℕ × Counts)). h.0 ++ flat_map row_line l) (sym is) ∙ h.1) in
+    append_assoc h.0 (row_line row) (flat_map row_line later) ∙ (ap (λ (l : List (ℕ × StreamCounts)). h.0 ++ flat_map row_line l) (sym is) ∙ h.1) in
     let P : List ℕ → Type 0 = λ text. Spilled text before old now last (Err fault) in
     subst P step (spilled_longer before now old new last (h.0 ++ row_line row) (flat_map row_line later) fault (both_spilled before between now old rest new h.0 (row_line row) (Err fault) h.2 k))
 

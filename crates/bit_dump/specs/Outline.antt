@@ -4,7 +4,7 @@ use Rattle.std.specs.Fmt.{decimal}
 use Rattle.bit_stream.specs.declared.abbreviation.AbbrevOp.{AbbrevOp}
 use Rattle.bit_stream.specs.Abbreviation.{ops_of}
 use Rattle.bit_tree.specs.Pieces.{Piece, begun, ended, defines, holds}
-use Rattle.bit_dump.specs.declared.counts.Kind.TheVariants.{Blocks, Records, Abbreviations}
+use Rattle.bit_dump.specs.declared.counts.CountedKind.TheVariants.{Blocks, Records, Abbreviations}
 use Rattle.bit_dump.specs.Tally.{Tally, no_tally, counted}
 use Rattle.bit_dump.specs.Text.{indent, operand_text, blob_text, block_line, end_line, definition_line, record_line, summary}
 

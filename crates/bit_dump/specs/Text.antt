@@ -6,7 +6,7 @@ use Rattle.bit_stream.specs.declared.abbreviation.AbbrevOp.{AbbrevOp}
 use Rattle.bit_stream.specs.declared.abbreviation.AbbrevOp.TheVariants.{Literal, Fixed, Vbr, Array, Char6, Blob}
 use Rattle.bit_stream.specs.Abbreviation.{ops_of}
 use Rattle.bit_tree.specs.Stream.{Tree, nothing, block, definition, values}
-use Rattle.bit_dump.specs.declared.counts.Counts.{Counts}
+use Rattle.bit_dump.specs.declared.counts.StreamCounts.{StreamCounts}
 use Rattle.bit_dump.specs.Tally.{Tally, no_tally, tally}
 
 -- two spaces for each block that is open
@@ -70,11 +70,11 @@ lines depth (definition id t behind) = definition_line depth id (ops_of t) ++ li
 lines depth (values id code operands has_blob blob behind) = record_line depth id code operands has_blob (length blob) ++ lines depth behind
 
 -- `B blocks, R records, A abbreviations`
-unfoldable pub counts_line : Counts → List ℕ
+unfoldable pub counts_line : StreamCounts → List ℕ
 counts_line c = decimal c.blocks ++ codes " blocks, " ++ decimal c.records ++ codes " records, " ++ decimal c.abbreviations ++ codes " abbreviations\n"
 
 -- `block ID: ` and the counts of that id
-unfoldable pub row_line : ℕ × Counts → List ℕ
+unfoldable pub row_line : ℕ × StreamCounts → List ℕ
 row_line (id, counts) = codes "block " ++ decimal id ++ codes ": " ++ counts_line counts
 
 -- a line for each block id, the ids ascending, and one for all

@@ -8,10 +8,10 @@ use std::alloc::AllocError;
 /// How many blocks, records, and definitions of abbreviations.
 ///
 /// ```
-/// Counts { blocks: 4, records: 3, abbreviations: 2 } // of the bitcode of the empty module
+/// StreamCounts { blocks: 4, records: 3, abbreviations: 2 } // of the bitcode of the empty module
 /// ```
 #[derive(Clone, Copy)]
-pub struct Counts {
+pub struct StreamCounts {
     pub blocks: u32,
     pub records: u32,
     pub abbreviations: u32,
@@ -19,7 +19,7 @@ pub struct Counts {
 
 /// What is counted.
 #[derive(Clone, Copy)]
-pub enum Kind {
+pub enum CountedKind {
     /// Blocks.
     Blocks,
     /// Records.
@@ -35,12 +35,12 @@ fn next(count: u32) -> Result<u32, AllocError>
     count.checked_add(1).ok_or(AllocError)
 }
 
-impl Counts {
+impl StreamCounts {
     /// None of them.
     pub fn none() -> Self
         ensures { result ≡ no_counts }
     {
-        Counts {
+        StreamCounts {
             blocks: 0,
             records: 0,
             abbreviations: 0,
@@ -48,14 +48,14 @@ impl Counts {
     }
 
     /// One more of a kind.
-    pub fn with(self, kind: Kind) -> Result<Self, AllocError>
+    pub fn with(self, kind: CountedKind) -> Result<Self, AllocError>
         ensures { IfOk result (λ counts. counts ≡ one_more kind self) }
     {
         let mut counts = self;
         match kind {
-            Kind::Blocks => counts.blocks = next(counts.blocks)?,
-            Kind::Records => counts.records = next(counts.records)?,
-            Kind::Abbreviations => counts.abbreviations = next(counts.abbreviations)?,
+            CountedKind::Blocks => counts.blocks = next(counts.blocks)?,
+            CountedKind::Records => counts.records = next(counts.records)?,
+            CountedKind::Abbreviations => counts.abbreviations = next(counts.abbreviations)?,
         }
         Ok(counts)
     }
@@ -89,7 +89,7 @@ impl Half {
     }
 }
 
-impl Counts {
+impl StreamCounts {
     /// The lower and the upper half of the counts.
     pub fn halves(self) -> (Half, Half)
         ensures { whole result.0 result.1 ≡ self }
@@ -114,7 +114,7 @@ impl Counts {
     pub fn of_halves(lower: Half, upper: Half) -> Self
         ensures { result ≡ whole lower upper }
     {
-        Counts {
+        StreamCounts {
             blocks: u32::from(lower.blocks) + 65536 * u32::from(upper.blocks),
             records: u32::from(lower.records) + 65536 * u32::from(upper.records),
             abbreviations: u32::from(lower.abbreviations) + 65536 * u32::from(upper.abbreviations),

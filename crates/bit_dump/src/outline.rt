@@ -7,7 +7,7 @@ ghost use Rattle.bit_dump.specs.Telling.{Spilled};
 ghost use Rattle.bit_dump.specs.Text.{summary};
 
 use crate::DumpFault;
-use crate::counts::Kind;
+use crate::counts::CountedKind;
 use crate::summary::ROOM;
 use crate::tally::Tally;
 use crate::text::{
@@ -97,7 +97,7 @@ impl Outline {
                 head.words,
             )?;
         }
-        self.tally.add(Kind::Blocks, Some(head.id))?;
+        self.tally.add(CountedKind::Blocks, Some(head.id))?;
         self.unclosed.push(head.id)?;
         Ok(())
     }
@@ -121,7 +121,7 @@ impl Outline {
             put_definition(&mut self.text, self.unclosed.len(), id, operands.as_slice())?;
         }
         let here = self.here();
-        self.tally.add(Kind::Abbreviations, here)
+        self.tally.add(CountedKind::Abbreviations, here)
     }
 
     /// A record begins.
@@ -132,7 +132,7 @@ impl Outline {
             put_record_head(&mut self.text, self.unclosed.len(), head.id, head.code)?;
         }
         let here = self.here();
-        self.tally.add(Kind::Records, here)
+        self.tally.add(CountedKind::Records, here)
     }
 
     /// One more operand of a record.

@@ -5,7 +5,7 @@ ghost use Rattle.bit_dump.specs.Telling.{Spilled};
 ghost use Rattle.bit_dump.specs.Text.{row_line};
 
 use crate::DumpFault;
-use crate::counts::Counts;
+use crate::counts::StreamCounts;
 use crate::text::put_row;
 use ir_base::{Sink, write_all};
 
@@ -28,7 +28,7 @@ fn spill_text<S: Sink>(text: &mut String, sink: &mut S) -> Result<(), DumpFault>
 /// The line of a block id.
 pub fn tell_row<S: Sink>(
     id: u32,
-    counts: Counts,
+    counts: StreamCounts,
     text: &mut String,
     sink: &mut S,
 ) -> Result<(), DumpFault>

@@ -8,7 +8,7 @@ ghost use Rattle.bit_dump.specs.Halves.{joined, upper_of};
 ghost use Rattle.bit_dump.specs.Tally.{no_tally, counts_of, counted, with_one};
 
 use crate::DumpFault;
-use crate::counts::{Counts, Half, Kind};
+use crate::counts::{CountedKind, Half, StreamCounts};
 use crate::summary::tell_row;
 use crate::text::put_total;
 use ir_base::Sink;
@@ -22,7 +22,7 @@ use std::marker::Model;
 pub struct Tally {
     lower: BTreeMap<u32, Half>,
     upper: BTreeMap<u32, Half>,
-    total: Counts,
+    total: StreamCounts,
 }
 
 impl Model for Tally {
@@ -45,12 +45,12 @@ fn upper_at(upper: &BTreeMap<u32, Half>, id: u32) -> Half
 }
 
 /// The counts of a block id.
-fn counts_at(lower: &BTreeMap<u32, Half>, upper: &BTreeMap<u32, Half>, id: u32) -> Counts
+fn counts_at(lower: &BTreeMap<u32, Half>, upper: &BTreeMap<u32, Half>, id: u32) -> StreamCounts
     ensures { result ≡ counts_of (joined upper.now.entries lower.now.entries) id }
 {
     match lower.get(&id) {
-        Some(half) => Counts::of_halves(*half, upper_at(upper, id)),
-        None => Counts::none(),
+        Some(half) => StreamCounts::of_halves(*half, upper_at(upper, id)),
+        None => StreamCounts::none(),
     }
 }
 
@@ -70,7 +70,7 @@ fn set_upper(upper: &mut BTreeMap<u32, Half>, id: u32, half: Half) -> Result<(),
 fn add_to(
     lower: &mut BTreeMap<u32, Half>,
     upper: &mut BTreeMap<u32, Half>,
-    kind: Kind,
+    kind: CountedKind,
     id: u32,
 ) -> Result<(), AllocError>
     ensures { OnOk result (joined upper.new.entries lower.new.entries ≡ with_one kind (joined upper.old.entries lower.old.entries) (Some id)) }
@@ -92,7 +92,7 @@ fn tell_rows<S: Sink>(
     ensures counted { Counted (S.faults sink.old) (S.faults sink.new) result }
 {
     for (id, half) in lower {
-        let counts = Counts::of_halves(*half, upper_at(upper, *id));
+        let counts = StreamCounts::of_halves(*half, upper_at(upper, *id));
         tell_row(*id, counts, text, sink)?;
     }
     Ok(())
@@ -106,12 +106,12 @@ impl Tally {
         Tally {
             lower: BTreeMap::new(alloc),
             upper: BTreeMap::new(alloc),
-            total: Counts::none(),
+            total: StreamCounts::none(),
         }
     }
 
     /// One more of a kind, for this block and in all.
-    pub fn add(&mut self, kind: Kind, here: Option<u32>) -> Result<(), AllocError>
+    pub fn add(&mut self, kind: CountedKind, here: Option<u32>) -> Result<(), AllocError>
         ensures { OnOk result (self.new ≡ counted kind self.old here) }
     {
         if let Some(id) = here {

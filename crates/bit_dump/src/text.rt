@@ -4,7 +4,7 @@ ghost use Rattle.std.specs.List.{flat_map};
 ghost use Rattle.bit_dump.specs.Text.{indent, op_text, later_op, ops_text, operand_text, block_line, end_line, definition_head, definition_line, counts_line, row_line};
 ghost use Rattle.bit_dump.specs.Outline.{record_head, record_end};
 
-use crate::counts::Counts;
+use crate::counts::StreamCounts;
 use bit_stream::AbbrevOp;
 use std::alloc::AllocError;
 
@@ -136,7 +136,7 @@ pub fn put_record_end(out: &mut String, has_blob: bool, size: usize) -> Result<(
 
 /// `B blocks, R records, A abbreviations`.
 #[tactic(auto, unfolding(crate::specs::Text::counts_line))]
-fn put_counts(out: &mut String, counts: Counts) -> Result<(), AllocError>
+fn put_counts(out: &mut String, counts: StreamCounts) -> Result<(), AllocError>
     ensures { OnOk result (string_bytes out.new ≡ string_bytes out.old ++ counts_line counts) }
 {
     let blocks = counts.blocks;
@@ -150,7 +150,7 @@ fn put_counts(out: &mut String, counts: Counts) -> Result<(), AllocError>
 
 /// The counts of a block id.
 #[tactic(auto, unfolding(crate::specs::Text::row_line))]
-pub fn put_row(out: &mut String, id: u32, counts: Counts) -> Result<(), AllocError>
+pub fn put_row(out: &mut String, id: u32, counts: StreamCounts) -> Result<(), AllocError>
     ensures { OnOk result (string_bytes out.new ≡ string_bytes out.old ++ row_line (id, counts)) }
 {
     write!(out, "block {id}: ")?;
@@ -158,7 +158,7 @@ pub fn put_row(out: &mut String, id: u32, counts: Counts) -> Result<(), AllocErr
 }
 
 /// The counts of all.
-pub fn put_total(out: &mut String, counts: Counts) -> Result<(), AllocError>
+pub fn put_total(out: &mut String, counts: StreamCounts) -> Result<(), AllocError>
     ensures { OnOk result (string_bytes out.new ≡ string_bytes out.old ++ codes "total: " ++ counts_line counts) }
 {
     out.push_str("total: ")?;

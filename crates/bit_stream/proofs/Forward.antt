@@ -7,13 +7,13 @@ use Rattle.std.proofs.lemmas.Bool.{cases_lt}
 use Rattle.bits.proofs.Chunks.{vbr_takes}
 use Rattle.bits.proofs.ReaderSteps.{fixed_short, fixed_whole}
 use Rattle.std.specs.Prelude.{◌==◌}
-use Rattle.bit_stream.specs.declared.abbreviation.Scalar.{Scalar}
-use Rattle.bit_stream.specs.declared.abbreviation.Scalar.TheVariants.{Known, Field, Chunks, Letter}
+use Rattle.bit_stream.specs.declared.abbreviation.ValueSpelling.{ValueSpelling}
+use Rattle.bit_stream.specs.declared.abbreviation.ValueSpelling.TheVariants.{Known, Field, Chunks, Letter}
 use Rattle.bit_stream.specs.declared.abbreviation.Tail.{Tail}
 use Rattle.bit_stream.specs.declared.definition.Encoding.{Encoding}
 use Rattle.bit_stream.specs.declared.definition.Encoding.TheVariants.{AsField, AsChunks, AsArray, AsLetter, AsBlob}
-use Rattle.bit_stream.specs.declared.definition.Part.{Part}
-use Rattle.bit_stream.specs.declared.definition.Part.TheVariants.{Value, End}
+use Rattle.bit_stream.specs.declared.definition.DefinitionPart.{DefinitionPart}
+use Rattle.bit_stream.specs.declared.definition.DefinitionPart.TheVariants.{Value, End}
 use Rattle.bit_stream.specs.Definition.{field_width, chunk_width, encoding_of, encoding, scalar_by, literal, first_operand, element, element_of, part_by, part, parts, by_part, template}
 
 -- where something was read, at least n bits fewer are left
@@ -118,7 +118,7 @@ unfolding first_operand
 first_operand_forward c = bind_first 1 c (fixed 1 c) _ (fixed_forward 1 c) (λ flag d.
     forward_if 0 d _ _ _ (literal_forward d) (bind_first 0 d (encoding d) _ (encoding_forward d) (λ e f. scalar_by_forward e d.at f)))
 
-element_of_forward : (bit : ℕ) (s : Scalar) (c : Cursor) → Forward 0 c (element_of bit s c)
+element_of_forward : (bit : ℕ) (s : ValueSpelling) (c : Cursor) → Forward 0 c (element_of bit s c)
 element_of_forward bit (Known n) c = forward_none 0 c _
 element_of_forward bit (Field w) c = forward_here _ c
 element_of_forward bit (Chunks w) c = forward_here _ c
@@ -147,11 +147,11 @@ part_forward left c = bind_first 0 c (fixed 1 c) _ (fixed_forward_any 1 c) (λ f
     forward_if 0 d _ _ _ (bind_first 0 d (literal d) _ (literal_forward d) (λ s e. forward_here _ e))
     (bind_first 0 d (encoding d) _ (encoding_forward d) (λ e f. part_by_forward e left d.at f)))
 
-by_part_forward : {A : Type 0} (c : Cursor) (p : Part) (more : Scalar → Found A) (done : Tail → Found A) → ((s : Scalar) → Forward 0 c (more s)) → ((t : Tail) → Forward 0 c (done t)) → Forward 0 c (by_part p more done)
+by_part_forward : {A : Type 0} (c : Cursor) (p : DefinitionPart) (more : ValueSpelling → Found A) (done : Tail → Found A) → ((s : ValueSpelling) → Forward 0 c (more s)) → ((t : Tail) → Forward 0 c (done t)) → Forward 0 c (by_part p more done)
 by_part_forward c (Value s) more done h k = h s
 by_part_forward c (End t) more done h k = k t
 
-parts_forward : (n : ℕ) (front : List Scalar) (c : Cursor) → Forward 0 c (parts n front c)
+parts_forward : (n : ℕ) (front : List ValueSpelling) (c : Cursor) → Forward 0 c (parts n front c)
 unfolding parts
 parts_forward zero front c = forward_here _ c
 parts_forward (suc n) front c = bind_first 0 c (part (suc n) c) _ (part_forward (suc n) c) (λ p d.

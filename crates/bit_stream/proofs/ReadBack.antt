@@ -11,12 +11,12 @@ use Rattle.bits.specs.Cursor.{Cursor, Found, ◌>>=◌}
 use Rattle.bits.specs.Reading.{fixed, vbr}
 use Rattle.bits.proofs.RoundTrip.{fixed_back, vbr_back}
 use Rattle.bit_stream.specs.declared.entry.Entry.TheVariants.{Record}
-use Rattle.bit_stream.specs.declared.abbreviation.Scalar.{Scalar}
-use Rattle.bit_stream.specs.declared.abbreviation.Scalar.TheVariants.{Known, Field, Chunks, Letter}
+use Rattle.bit_stream.specs.declared.abbreviation.ValueSpelling.{ValueSpelling}
+use Rattle.bit_stream.specs.declared.abbreviation.ValueSpelling.TheVariants.{Known, Field, Chunks, Letter}
 use Rattle.bit_stream.specs.Scope.{Scope, template_of}
 use Rattle.bit_stream.specs.declared.abbreviation.Tail.{Tail}
 use Rattle.bit_stream.specs.declared.abbreviation.Tail.TheVariants.{NoTail, Elements, Bytes}
-use Rattle.bit_stream.specs.Abbreviation.{Template}
+use Rattle.bit_stream.specs.Abbreviation.{AdmittedAbbreviation}
 use Rattle.bit_stream.specs.Record.{letters, value_by, code_by, operand, elements, each, counted, tail_by, Read, unabbreviated, abbreviated}
 use Rattle.bit_stream.specs.Entry.{item, inside, by_template, record_by, recorded, is_top, is_blockinfo}
 use Rattle.bit_stream.specs.Spelling.{chunks, is_letter, letter_number, fits, value_bits, all_fit, all_bits, record_bits, each_fit, each_bits, tail_fits, with_tail, record_fits, with_record}
@@ -90,7 +90,7 @@ letter_back n h = ok_is n h (ok_below 128 n letters_ok (letter_small n h))
 
 -- values
 
-pub value_reads : (s : Scalar) (n : ℕ) → is_sound s ≡ true → fits s n ≡ true → n < 2 ^ 64 → ReadsAs (value_by s) (value_bits s n) n
+pub value_reads : (s : ValueSpelling) (n : ℕ) → is_sound s ≡ true → fits s n ≡ true → n < 2 ^ 64 → ReadsAs (value_by s) (value_bits s n) n
 unfolding value_by value_bits
 value_reads (Known v) n sound fit small at rest = let same : n ≡ v = eqb-true n v fit in let place : at ≡ at + 0 = omega arith in rw (same, ← place) refl
 value_reads (Field w) n sound fit small at rest = fixed_reads w n (ltb-true n (2 ^ w) fit) at rest
@@ -98,15 +98,15 @@ value_reads (Chunks w) n sound fit small at rest = vbr_reads w n (leb-true 2 w s
 value_reads Letter n sound fit small at rest =
     rw (fixed_reads 6 (letter_number n) (letter_back n fit).1 at rest, (letter_back n fit).0) refl
 
-code_reads : (s : Scalar) (n : ℕ) → is_sound s ≡ true → fits s n ≡ true → n < 2 ^ 32 → ReadsAs (code_by s) (value_bits s n) n
+code_reads : (s : ValueSpelling) (n : ℕ) → is_sound s ≡ true → fits s n ≡ true → n < 2 ^ 32 → ReadsAs (code_by s) (value_bits s n) n
 unfolding code_by
 code_reads s n sound fit small at rest = rw (value_reads s n sound fit (omega arith) at rest, lt-leb (2 ^ 32) n small) refl
 
-operand_reads : (s : Scalar) (n : ℕ) (front : List ℕ) → is_sound s ≡ true → fits s n ≡ true → n < 2 ^ 64 → ReadsAs (operand false front s) (value_bits s n) (front ++ n ∷ [])
+operand_reads : (s : ValueSpelling) (n : ℕ) (front : List ℕ) → is_sound s ≡ true → fits s n ≡ true → n < 2 ^ 64 → ReadsAs (operand false front s) (value_bits s n) (front ++ n ∷ [])
 unfolding operand
 operand_reads s n front sound fit small at rest = rw (value_reads s n sound fit small at rest) refl
 
-elements_reads : (s : Scalar) (ns front : List ℕ) → is_sound s ≡ true → all_fit s ns ≡ true → AllByRecursion (λ n. n < 2 ^ 64) ns → ReadsAs (elements false s (length ns) front) (all_bits s ns) (front ++ ns)
+elements_reads : (s : ValueSpelling) (ns front : List ℕ) → is_sound s ≡ true → all_fit s ns ≡ true → AllByRecursion (λ n. n < 2 ^ 64) ns → ReadsAs (elements false s (length ns) front) (all_bits s ns) (front ++ ns)
 unfolding elements
 elements_reads s [] front sound fit small at rest = let place : at + 0 ≡ at = omega arith in rw (append-nil, place) refl
 elements_reads s (n ∷ ns) front sound fit small at rest =
@@ -115,7 +115,7 @@ elements_reads s (n ∷ ns) front sound fit small at rest =
     let more = elements_reads s ns (front ++ n ∷ []) sound fits_here.1 small.1 (at + length (value_bits s n)) rest in
     rw (append_assoc, operand_reads s n front sound fits_here.0 small.0 at (all_bits s ns ++ rest), more, place, append_assoc) refl
 
-counted_reads : (s : Scalar) (ns front : List ℕ) → is_sound s ≡ true → all_fit s ns ≡ true → AreOperands ns → ReadsAs (counted false s front) (chunks 6 (length ns) ++ all_bits s ns) (front ++ ns)
+counted_reads : (s : ValueSpelling) (ns front : List ℕ) → is_sound s ≡ true → all_fit s ns ≡ true → AreOperands ns → ReadsAs (counted false s front) (chunks 6 (length ns) ++ all_bits s ns) (front ++ ns)
 unfolding counted
 counted_reads s ns front sound fit operands = then_reads (vbr 6) (λ count d. elements false s count front d) _ _ (length ns) (front ++ ns) (vbr_reads 6 (length ns) (omega arith) operands.few) (elements_reads s ns front sound fit operands.small)
 
@@ -171,7 +171,7 @@ all_drop P (suc k) (x ∷ xs) h = all_drop P k xs h.1
 
 -- a record by an abbreviation
 
-each_reads : (ss : List Scalar) (ns front : List ℕ) → list_all is_sound ss ≡ true → each_fit ss ns ≡ true → AllByRecursion (λ n. n < 2 ^ 64) ns → ReadsAs (each false ss front) (each_bits ss ns) (front ++ ns)
+each_reads : (ss : List ValueSpelling) (ns front : List ℕ) → list_all is_sound ss ≡ true → each_fit ss ns ≡ true → AllByRecursion (λ n. n < 2 ^ 64) ns → ReadsAs (each false ss front) (each_bits ss ns) (front ++ ns)
 unfolding each each_fit each_bits
 each_reads [] [] front sound fit small at rest = let place : at + 0 ≡ at = omega arith in rw (append-nil, place) refl
 each_reads [] (n ∷ ns) front sound fit small at rest = absurd (cc)
@@ -207,7 +207,7 @@ tail_reads NoTail ns front sound fit operands at rest =
 tail_reads (Elements s) ns front sound fit operands at rest = rw (counted_reads s ns front sound fit operands at rest) refl
 tail_reads Bytes ns front sound fit operands at rest = absurd (cc)
 
-abbreviated_reads : (t : Template) (code : ℕ) (ns : List ℕ) → IsSound t → record_fits (Some t) code ns ≡ true → code < 2 ^ 32 → AreOperands ns
+abbreviated_reads : (t : AdmittedAbbreviation) (code : ℕ) (ns : List ℕ) → IsSound t → record_fits (Some t) code ns ≡ true → code < 2 ^ 32 → AreOperands ns
     → ReadsAs (abbreviated false t) (value_bits t.code code ++ (each_bits t.operands (take (length t.operands) ns) ++ tail_bits t.tail (drop (length t.operands) ns))) (record { code = code; operands = ns; blob = [] })
 unfolding abbreviated record_fits
 abbreviated_reads t code ns sound fit small operands at rest =
@@ -226,7 +226,7 @@ abbreviated_reads t code ns sound fit small operands at rest =
     let whole : (code_bits ++ (front_bits ++ rest_bits)) ++ rest ≡ code_bits ++ (front_bits ++ (rest_bits ++ rest)) = simp append_assoc in
     rw (whole, one, two, three, take-append-drop k ns, place) refl
 
-inside_abbreviated : (s : Scope) (id bit : ℕ) (t : Template) (c d : Cursor) (r : Read) → 4 ≤ id → template_of s id ≡ Some t → is_blockinfo s ≡ false → abbreviated false t c ≡ Ok (r, d)
+inside_abbreviated : (s : Scope) (id bit : ℕ) (t : AdmittedAbbreviation) (c d : Cursor) (r : Read) → 4 ≤ id → template_of s id ≡ Some t → is_blockinfo s ≡ false → abbreviated false t c ≡ Ok (r, d)
     → inside id bit s c ≡ Ok (record { entry = Some (Record r.code); scope = s; operands = r.operands; blob = r.blob }, d)
 unfolding inside record_by by_template recorded
 inside_abbreviated s id bit t c d r low there plain h =
@@ -236,7 +236,7 @@ inside_abbreviated s id bit t c d r low there plain h =
     let d' : (id == 3) ≡ false = ne_eqb id 3 (λ e. omega arith) in
     rw (a, b, c', d', there, plain, h) refl
 
-written_is : (t : Template) (code : ℕ) (ns : List ℕ) (bits : List Bool) → IsSound t → with_record (Some t) code ns bits ≡ bits ++ (value_bits t.code code ++ (each_bits t.operands (take (length t.operands) ns) ++ tail_bits t.tail (drop (length t.operands) ns)))
+written_is : (t : AdmittedAbbreviation) (code : ℕ) (ns : List ℕ) (bits : List Bool) → IsSound t → with_record (Some t) code ns bits ≡ bits ++ (value_bits t.code code ++ (each_bits t.operands (take (length t.operands) ns) ++ tail_bits t.tail (drop (length t.operands) ns)))
 unfolding with_record
 written_is t code ns bits sound = rw (with_tail_is t.tail (drop (length t.operands) ns) _ sound.tail) (simp append_assoc)
 

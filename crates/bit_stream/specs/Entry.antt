@@ -7,7 +7,7 @@ use Rattle.bits.specs.declared.fault.BitFaultKind.TheVariants.{BadAbbreviation, 
 use Rattle.bit_stream.specs.declared.entry.Entry.{Entry}
 use Rattle.bit_stream.specs.declared.entry.Entry.TheVariants.{Block, EndBlock, Record, End}
 use Rattle.bit_stream.specs.declared.abbreviation.AbbrevOp.{AbbrevOp}
-use Rattle.bit_stream.specs.Abbreviation.{Template, ops_of, ends_in_blob}
+use Rattle.bit_stream.specs.Abbreviation.{AdmittedAbbreviation, ops_of, ends_in_blob}
 use Rattle.bit_stream.specs.Answers.{refuse}
 use Rattle.bit_stream.specs.Definition.{template}
 use Rattle.bit_stream.specs.Record.{Read, unabbreviated, abbreviated}
@@ -15,14 +15,14 @@ use Rattle.bit_stream.specs.Scope.{Scope, given_to, give, template_of}
 
 -- what stands at a place: an entry, or none where it is a definition; the blocks that are open behind it; and the
 -- operands and the blob, where it is a record
-pub record Item : Type 0 where
+pub record StreamItem : Type 0 where
   pub entry : Option Entry
   pub scope : Scope
   pub operands : List ℕ
   pub blob : List ℕ
 
 -- an entry without operands, and the blocks that are open behind it
-abbrev pub plain : Option Entry → Scope → Item
+abbrev pub plain : Option Entry → Scope → StreamItem
 plain entry s = record { entry = entry; scope = s; operands = []; blob = [] }
 
 -- no block is open
@@ -47,19 +47,19 @@ entered s id width bit words = record {
 }
 
 -- The block is left for the one around it.
-abbrev pub left : Scope → Scope
-left s = record {
+abbrev pub block_left : Scope → Scope
+block_left s = record {
   block = slice_index_or s.around (length s.around - 1) s.block;
   around = take (length s.around - 1) s.around;
   given = s.given;
 }
 
 -- a definition of the block's own
-abbrev pub defined : Scope → Template → Scope
+abbrev pub defined : Scope → AdmittedAbbreviation → Scope
 defined s t = record s { block = record s.block { own = s.block.own ++ t ∷ [] } }
 
 -- a definition in BLOCKINFO, for another block
-abbrev pub given_for : Scope → ℕ → Template → Scope
+abbrev pub given_for : Scope → ℕ → AdmittedAbbreviation → Scope
 given_for s id t = record s { given = give s.given id t }
 
 -- the definitions of this BLOCKINFO are for this block from now on
@@ -67,22 +67,22 @@ abbrev pub targeting : Scope → ℕ → Scope
 targeting s id = record s { block = record s.block { target = Some id } }
 
 -- what follows the width of a block: alignment, and the count of words
-abbrev pub enter_sized : Scope → ℕ → ℕ → Cursor → Found Item
+abbrev pub enter_sized : Scope → ℕ → ℕ → Cursor → Found StreamItem
 enter_sized s id width c = align c >>= λ _ d. fixed 32 d >>= λ words e. Ok (plain (Some (Block id)) (entered s id width d.at words), e)
 
 -- a width, which stands at this bit, is from 2 to 32
-abbrev pub enter_wide : Scope → ℕ → ℕ → ℕ → Cursor → Found Item
+abbrev pub enter_wide : Scope → ℕ → ℕ → ℕ → Cursor → Found StreamItem
 enter_wide s id bit width c = if nat_lt width 2 || nat_lt 32 width then refuse bit else enter_sized s id width c
 
 -- a block id, which stands at this bit, is below 2 ^ 32, and at most 16 blocks are open at once
-abbrev pub enter_named : Scope → ℕ → ℕ → Cursor → Found Item
+abbrev pub enter_named : Scope → ℕ → ℕ → Cursor → Found StreamItem
 enter_named s bit id c =
     if nat_le (2 ^ 32) id then refuse bit
     else (if length s.around == 16 then Err (record { kind = NestedTooDeep; bit = bit })
     else (vbr 4 c >>= λ width d. enter_wide s id c.at width d))
 
 -- ENTER_SUBBLOCK behind its id
-unfoldable pub enter_block : Scope → Cursor → Found Item
+unfoldable pub enter_block : Scope → Cursor → Found StreamItem
 enter_block s c = vbr 8 c >>= λ id d. enter_named s c.at id d
 
 -- how many words there are from behind a count, which begins at a bit, to another bit; both begin words
@@ -90,50 +90,50 @@ abbrev pub words_since : ℕ → ℕ → ℕ
 words_since count_bit at = at / 32 - (count_bit / 32 + 1)
 
 -- END_BLOCK behind its id
-unfoldable pub end_block : Scope → Cursor → Found Item
+unfoldable pub end_block : Scope → Cursor → Found StreamItem
 end_block s c = align c >>= λ _ d.
-    if words_since s.block.count_bit d.at == s.block.words then Ok (plain (Some EndBlock) (left s), d)
+    if words_since s.block.count_bit d.at == s.block.words then Ok (plain (Some EndBlock) (block_left s), d)
     else Err (record { kind = BadBlockLength; bit = s.block.count_bit })
 
 -- DEFINE_ABBREV behind its id, which stands at this bit
-unfoldable pub define_for : Option ℕ → ℕ → Scope → Cursor → Found Item
+unfoldable pub define_for : Option ℕ → ℕ → Scope → Cursor → Found StreamItem
 define_for None bit s c = refuse bit
 define_for (Some id) bit s c = template c >>= λ t d. Ok (plain None (given_for s id t), d)
 
 -- a definition: in BLOCKINFO for the block id that its record names, else for the block in which it stands
-unfoldable pub define : ℕ → Scope → Cursor → Found Item
+unfoldable pub define : ℕ → Scope → Cursor → Found StreamItem
 define bit s c =
     if is_blockinfo s then define_for s.block.target bit s c
     else (template c >>= λ t d. Ok (plain None (defined s t), d))
 
 -- A record of code 1 in BLOCKINFO names by its first operand the block that definitions are for from then on. Without
 -- an operand it is refused, at its abbreviation id, which stands at this bit.
-abbrev pub named : ℕ → Scope → List ℕ → Result Scope BitFault
-named bit s [] = Err (record { kind = BadAbbreviation; bit = bit })
-named bit s (id ∷ others) = Ok (targeting s id)
+abbrev pub with_target : ℕ → Scope → List ℕ → Result Scope BitFault
+with_target bit s [] = Err (record { kind = BadAbbreviation; bit = bit })
+with_target bit s (id ∷ others) = Ok (targeting s id)
 
 -- what a record makes of the open blocks: in BLOCKINFO the one of code 1 names a block id
 unfoldable pub recorded : ℕ → Scope → ℕ → List ℕ → Result Scope BitFault
-recorded bit s code operands = if is_blockinfo s && (code == 1) then named bit s operands else Ok s
+recorded bit s code operands = if is_blockinfo s && (code == 1) then with_target bit s operands else Ok s
 
 -- a record was read, and left these blocks open
-abbrev pub came : Read → Cursor → Result Scope BitFault → Found Item
+abbrev pub came : Read → Cursor → Result Scope BitFault → Found StreamItem
 came r c (Ok s) = Ok (record { entry = Some (Record r.code); scope = s; operands = r.operands; blob = r.blob }, c)
 came r c (Err fault) = Err fault
 
 -- the values of a record by an abbreviation, whose id stands at this bit
-unfoldable pub by_template : Option Template → ℕ → Bool → Cursor → Found Read
+unfoldable pub by_template : Option AdmittedAbbreviation → ℕ → Bool → Cursor → Found Read
 by_template None bit in_blockinfo c = refuse bit
 by_template (Some t) bit in_blockinfo c = abbreviated in_blockinfo t c
 
 -- a record behind its abbreviation id, which stands at this bit: 3 is UNABBREV_RECORD
-unfoldable pub record_by : ℕ → ℕ → Scope → Cursor → Found Item
+unfoldable pub record_by : ℕ → ℕ → Scope → Cursor → Found StreamItem
 record_by id bit s c =
     if id == 3 then (unabbreviated (is_blockinfo s) c >>= λ r d. came r d (recorded bit s r.code r.operands))
     else (by_template (template_of s id) bit (is_blockinfo s) c >>= λ r d. came r d (recorded bit s r.code r.operands))
 
 -- what stands behind an abbreviation id in a block; the id stands at this bit
-unfoldable pub inside : ℕ → ℕ → Scope → Cursor → Found Item
+unfoldable pub inside : ℕ → ℕ → Scope → Cursor → Found StreamItem
 inside id bit s c =
     if id == 0 then end_block s c
     else (if id == 1 then (if is_blockinfo s then refuse bit else enter_block s c)
@@ -141,7 +141,7 @@ inside id bit s c =
     else record_by id bit s c))
 
 -- what stands at a place
-unfoldable pub item : Scope → Cursor → Found Item
+unfoldable pub item : Scope → Cursor → Found StreamItem
 item s c =
     if is_top s && (length c.rest == 0) then Ok (plain (Some End) s, c)
     else (fixed s.block.width c >>= λ id d.
@@ -154,10 +154,10 @@ settled (Ok x) s = Ok s
 settled (Err fault) s = Err fault
 
 -- what stands at a place behind the definitions in front
-pub data Next : Scope → Cursor → Found Item → Type 0 where
-  here : {s : Scope} {c d : Cursor} {i : Item} {e : Entry} → item s c ≡ Ok (i, d) → i.entry ≡ Some e → Next s c (Ok (i, d))
+pub data Next : Scope → Cursor → Found StreamItem → Type 0 where
+  here : {s : Scope} {c d : Cursor} {i : StreamItem} {e : Entry} → item s c ≡ Ok (i, d) → i.entry ≡ Some e → Next s c (Ok (i, d))
   refused : {s : Scope} {c : Cursor} {x : BitFault} → item s c ≡ Err x → Next s c (Err x)
-  behind : {s : Scope} {c d : Cursor} {i : Item} {r : Found Item} → item s c ≡ Ok (i, d) → i.entry ≡ None → Next i.scope d r → Next s c r
+  behind : {s : Scope} {c d : Cursor} {i : StreamItem} {r : Found StreamItem} → item s c ≡ Ok (i, d) → i.entry ≡ None → Next i.scope d r → Next s c r
 
 -- the number that was found, or 0
 abbrev pub number_of : Found ℕ → ℕ
@@ -173,16 +173,16 @@ abbrev pub has_blob_by : Scope → ℕ → Bool
 has_blob_by s id = nat_le 4 id && ends_in_blob (template_of s id)
 
 -- the abbreviation that is defined behind an abbreviation id
-unfoldable pub defined_at : Scope → Cursor → Found Template
+unfoldable pub defined_at : Scope → Cursor → Found AdmittedAbbreviation
 defined_at s c = fixed s.block.width c >>= λ _ d. template d
 
 -- the operands of a definition that was found, behind those of others
-abbrev pub with_definition : List (List AbbrevOp) → Found Template → List (List AbbrevOp)
+abbrev pub with_definition : List (List AbbrevOp) → Found AdmittedAbbreviation → List (List AbbrevOp)
 with_definition front (Ok x) = front ++ ops_of x.0 ∷ []
 with_definition front (Err fault) = front
 
 -- the definitions behind what stands at a place, where that may be one
-abbrev pub with_item : List (List AbbrevOp) → Option Entry → Found Template → List (List AbbrevOp)
+abbrev pub with_item : List (List AbbrevOp) → Option Entry → Found AdmittedAbbreviation → List (List AbbrevOp)
 with_item front None found = with_definition front found
 with_item front (Some entry) found = front
 
@@ -197,5 +197,5 @@ IsRecordBy (Some End) id blob s found = Unit {0}
 -- from one place to another stand only definitions, with these operands
 pub data Passed : Scope → Cursor → List (List AbbrevOp) → Scope → Cursor → Type 0 where
   start : {s : Scope} {c : Cursor} → Passed s c [] s c
-  more : {s t : Scope} {c d e : Cursor} {i : Item} {front : List (List AbbrevOp)}
+  more : {s t : Scope} {c d e : Cursor} {i : StreamItem} {front : List (List AbbrevOp)}
       → Passed s c front t d → item t d ≡ Ok (i, e) → i.entry ≡ None → Passed s c (with_definition front (defined_at t d)) i.scope e

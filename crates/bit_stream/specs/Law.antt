@@ -4,13 +4,13 @@ use Rattle.std.specs.List.{AllByRecursion, list_all}
 use Rattle.bits.specs.Bits.{bits_of}
 use Rattle.bits.specs.Cursor.{Cursor, Found}
 use Rattle.bit_stream.specs.declared.entry.Entry.TheVariants.{Record}
-use Rattle.bit_stream.specs.declared.abbreviation.Scalar.{Scalar}
-use Rattle.bit_stream.specs.declared.abbreviation.Scalar.TheVariants.{Known, Field, Chunks, Letter}
+use Rattle.bit_stream.specs.declared.abbreviation.ValueSpelling.{ValueSpelling}
+use Rattle.bit_stream.specs.declared.abbreviation.ValueSpelling.TheVariants.{Known, Field, Chunks, Letter}
 use Rattle.bit_stream.specs.declared.abbreviation.Tail.{Tail}
 use Rattle.bit_stream.specs.declared.abbreviation.Tail.TheVariants.{NoTail, Elements, Bytes}
-use Rattle.bit_stream.specs.Abbreviation.{Template}
+use Rattle.bit_stream.specs.Abbreviation.{AdmittedAbbreviation}
 use Rattle.bit_stream.specs.Scope.{Scope, template_of}
-use Rattle.bit_stream.specs.Entry.{Item, item, is_top, is_blockinfo}
+use Rattle.bit_stream.specs.Entry.{StreamItem, item, is_top, is_blockinfo}
 use Rattle.bit_stream.specs.Spelling.{record_bits, record_fits, with_record}
 
 -- wherever these bits stand, reading finds this value and goes on behind them
@@ -29,7 +29,7 @@ pub record IsInBlock (s : Scope) : Type 0 where
   pub wide : 2 ≤ s.block.width
 
 -- a record by itself
-abbrev pub record_item : Scope → ℕ → List ℕ → Item
+abbrev pub record_item : Scope → ℕ → List ℕ → StreamItem
 record_item s code ns = record { entry = Some (Record code); scope = s; operands = ns; blob = [] }
 
 -- a record without an abbreviation
@@ -38,7 +38,7 @@ RecordIsReadBack = (s : Scope) (code : ℕ) (ns : List ℕ) → IsInBlock s → 
     → ReadsAs (item s) (bits_of s.block.width 3 ++ record_bits code ns) (record_item s code ns)
 
 -- chunks have at least two bits, as in every abbreviation that the format admits
-abbrev pub is_sound : Scalar → Bool
+abbrev pub is_sound : ValueSpelling → Bool
 is_sound (Known n) = true
 is_sound (Field w) = true
 is_sound (Chunks w) = nat_le 2 w
@@ -51,13 +51,13 @@ is_sound_tail (Elements s) = is_sound s
 is_sound_tail Bytes = false
 
 -- each encoding of the abbreviation can be read back
-pub record IsSound (t : Template) : Type 0 where
+pub record IsSound (t : AdmittedAbbreviation) : Type 0 where
   pub code : is_sound t.code ≡ true
   pub operands : list_all is_sound t.operands ≡ true
   pub tail : is_sound_tail t.tail ≡ true
 
 -- a record by an abbreviation without a blob
 abbrev pub AbbreviatedIsReadBack : Type 0
-AbbreviatedIsReadBack = (s : Scope) (id : ℕ) (t : Template) (code : ℕ) (ns : List ℕ) → IsInBlock s → 4 ≤ id → id < 2 ^ s.block.width → template_of s id ≡ Some t → IsSound t
+AbbreviatedIsReadBack = (s : Scope) (id : ℕ) (t : AdmittedAbbreviation) (code : ℕ) (ns : List ℕ) → IsInBlock s → 4 ≤ id → id < 2 ^ s.block.width → template_of s id ≡ Some t → IsSound t
     → record_fits (Some t) code ns ≡ true → code < 2 ^ 32 → AreOperands ns
     → ReadsAs (item s) (with_record (Some t) code ns (bits_of s.block.width id)) (record_item s code ns)

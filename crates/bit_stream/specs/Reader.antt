@@ -9,7 +9,7 @@ use Rattle.bit_stream.specs.declared.fault.StreamFault.{StreamFault}
 use Rattle.bit_stream.specs.declared.fault.StreamFault.TheVariants.{Bit, Memory}
 use Rattle.bit_stream.specs.declared.abbreviation.AbbrevOp.{AbbrevOp}
 use Rattle.bit_stream.specs.declared.entry.Entry.TheVariants.{Block, EndBlock, Record, End}
-use Rattle.bit_stream.specs.declared.told.Told.{Told}
+use Rattle.bit_stream.specs.declared.told.LastSeen.{LastSeen}
 use Rattle.bit_stream.specs.Scope.{Scope, top_level}
 use Rattle.bit_stream.specs.Entry.{item, Next, Passed, id_at, has_blob_by}
 
@@ -22,7 +22,7 @@ pub record Reader : Type 0 where
   pub stopped : Option StreamFault
   pub operands : List ℕ
   pub blob : List ℕ
-  pub told : Told
+  pub told : LastSeen
   pub definitions : List (List AbbrevOp)
 
 -- a stream begins with the bytes 42 43 C0 DE
@@ -30,7 +30,7 @@ abbrev pub begins : List ℕ → Bool
 begins bytes = not (nat_lt (length bytes) 4) && (value (take 32 (stream_bits bytes)) == 0xdec0_4342)
 
 -- before the first block and the first record
-abbrev pub untold : Told
+abbrev pub untold : LastSeen
 untold = record { width = 0; words = 0; abbreviation = 0; has_blob = false }
 
 -- a reader behind the magic number, or the fault where the bytes do not begin with it
@@ -59,7 +59,7 @@ Numbered (Some Memory) old reading answer new = Unit {0}
 
 -- what is told behind an entry: of a block that it begins, by the blocks that are open behind it; of a record, its
 -- abbreviation id and whether it ended in a blob
-abbrev pub told_of : Told → Entry → Scope → ℕ → Bool → Told
+abbrev pub told_of : LastSeen → Entry → Scope → ℕ → Bool → LastSeen
 told_of old (Block block) new id blob = record { width = new.block.width; words = new.block.words; abbreviation = old.abbreviation; has_blob = old.has_blob }
 told_of old EndBlock new id blob = old
 told_of old (Record code) new id blob = record { width = old.width; words = old.words; abbreviation = id; has_blob = blob }

@@ -3,9 +3,9 @@
 use Rattle.std.specs.Prelude.{◌≡◌, ℕ, ◌+◌, ◌-◌, ◌/◌, ◌%◌, ◌^◌, Bool, true, false, List, [], ◌∷◌, ◌++◌, length, take, Option, Some, None, Result, Ok, Err, IsErr, if◌then◌else◌, ◌==◌, ◌&&◌, slice_index_or}
 use Rattle.bits.specs.Bits.{bits_of}
 use Rattle.bit_stream.specs.declared.abbreviation.AbbrevOp.{AbbrevOp}
-use Rattle.bit_stream.specs.Abbreviation.{Template}
+use Rattle.bit_stream.specs.Abbreviation.{AdmittedAbbreviation}
 use Rattle.bit_stream.specs.Scope.{Scope, top_level, given_to, template_of}
-use Rattle.bit_stream.specs.Entry.{is_blockinfo, entered, left, defined, given_for, targeting}
+use Rattle.bit_stream.specs.Entry.{is_blockinfo, entered, block_left, defined, given_for, targeting}
 use Rattle.bit_stream.specs.Spelling.{chunks, definition_bits, template_for, record_bits, with_record, aligned}
 
 -- The bits behind the count of words of the innermost open block, or of the whole stream where none is open; the bits
@@ -47,17 +47,17 @@ abbrev pub end_block : Writer → Writer
 end_block w = record {
   bits = slice_index_or w.around (length w.around - 1) [] ++ bits_of 32 (length (ended w) / 32 % 2 ^ 32) ++ ended w;
   around = take (length w.around - 1) w.around;
-  scope = left w.scope;
+  scope = block_left w.scope;
   spent = w.spent;
 }
 
 -- a definition, which is the block's own, or, in BLOCKINFO, for the block that it names
-abbrev pub defined_in : Scope → Option ℕ → Template → Scope
+abbrev pub defined_in : Scope → Option ℕ → AdmittedAbbreviation → Scope
 defined_in s None t = s
 defined_in s (Some id) t = given_for s id t
 
 -- an abbreviation is defined, where the definition is one: in BLOCKINFO for its target, else for the innermost block
-abbrev pub with_template : Scope → Option Template → Scope
+abbrev pub with_template : Scope → Option AdmittedAbbreviation → Scope
 with_template s None = s
 with_template s (Some t) = if is_blockinfo s then defined_in s s.block.target t else defined s t
 

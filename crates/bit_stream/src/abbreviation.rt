@@ -70,11 +70,11 @@ impl FieldWidth {
 
 /// The width of the chunks of a number or of the abbreviation ids of a block, in bits: from 2 to 32.
 #[derive(Clone, Copy)]
-pub struct NarrowWidth {
+pub struct ChunkWidth {
     bits: u32,
 }
 
-impl Model for NarrowWidth {
+impl Model for ChunkWidth {
     ghost use Rattle.std.specs.Prelude.{ℕ, ◌≤◌};
 
     ghost Value = { ℕ };
@@ -86,14 +86,14 @@ impl Model for NarrowWidth {
     ghost inverse = { λ bits. record { bits = bits } };
 }
 
-impl NarrowWidth {
+impl ChunkWidth {
     /// The width of so many bits.
     pub fn new(bits: u32) -> Self
         requires low { 2 ≤ bits }
         requires high { bits ≤ 32 }
         ensures { result ≡ bits }
     {
-        NarrowWidth { bits }
+        ChunkWidth { bits }
     }
 
     /// The bits, from 2 to 32.
@@ -108,27 +108,27 @@ impl NarrowWidth {
 
 /// How one value is spelled.
 #[derive(Clone, Copy)]
-pub enum Scalar {
+pub enum ValueSpelling {
     /// Not at all: it is this value.
     Known(u64),
     /// As a field.
     Field(FieldWidth),
     /// In chunks.
-    Chunks(NarrowWidth),
+    Chunks(ChunkWidth),
     /// As one of the 64 characters.
     Letter,
 }
 
-impl Scalar {
+impl ValueSpelling {
     /// The operand that defines it.
     fn op(self) -> AbbrevOp
         ensures { result ≡ op_of self }
     {
         match self {
-            Scalar::Known(number) => AbbrevOp::Literal(number),
-            Scalar::Field(width) => AbbrevOp::Fixed(width.bits()),
-            Scalar::Chunks(width) => AbbrevOp::Vbr(width.bits()),
-            Scalar::Letter => AbbrevOp::Char6,
+            ValueSpelling::Known(number) => AbbrevOp::Literal(number),
+            ValueSpelling::Field(width) => AbbrevOp::Fixed(width.bits()),
+            ValueSpelling::Chunks(width) => AbbrevOp::Vbr(width.bits()),
+            ValueSpelling::Letter => AbbrevOp::Char6,
         }
     }
 }
@@ -139,7 +139,7 @@ pub enum Tail {
     /// Nothing.
     NoTail,
     /// A count, and so many values that are spelled so.
-    Elements(Scalar),
+    Elements(ValueSpelling),
     /// A count, and so many bytes.
     Bytes,
 }
@@ -160,28 +160,28 @@ impl Tail {
 ///
 /// ```
 /// // that of AbbrevOp::Vbr(6), AbbrevOp::Fixed(8) and AbbrevOp::Blob
-/// Template {
-///     code: Scalar::Chunks(NarrowWidth::new(6)),
-///     operands, // Scalar::Field of 8 bits
+/// AdmittedAbbreviation {
+///     code: ValueSpelling::Chunks(ChunkWidth::new(6)),
+///     operands, // ValueSpelling::Field of 8 bits
 ///     tail: Tail::Bytes,
 /// }
 /// ```
 #[derive(Drop)]
-pub struct Template {
-    pub code: Scalar,
-    pub operands: Vec<Scalar>,
+pub struct AdmittedAbbreviation {
+    pub code: ValueSpelling,
+    pub operands: Vec<ValueSpelling>,
     pub tail: Tail,
 }
 
-impl Model for Template {
-    ghost use Rattle.bit_stream.specs.Abbreviation.{Template};
+impl Model for AdmittedAbbreviation {
+    ghost use Rattle.bit_stream.specs.Abbreviation.{AdmittedAbbreviation};
 
-    ghost Value = { Template };
+    ghost Value = { AdmittedAbbreviation };
 
     ghost view = { λ t. record { code = t.code; operands = t.operands.items; tail = t.tail } };
 }
 
-impl Template {
+impl AdmittedAbbreviation {
     /// The operands that define it.
     pub fn abbreviation(&self, alloc: Global) -> Result<Abbreviation, AllocError>
         ensures { IfOk result (λ list. list ≡ ops_of self.now) }
@@ -195,7 +195,7 @@ impl Template {
 }
 
 /// The operands that define some values.
-fn add_ops(ops: &mut Abbreviation, scalars: &[Scalar]) -> Result<(), AllocError>
+fn add_ops(ops: &mut Abbreviation, scalars: &[ValueSpelling]) -> Result<(), AllocError>
     ensures { OnOk result (ops.new ≡ ops.old ++ map op_of scalars.now) }
 {
     for scalar in scalars {

@@ -1,11 +1,11 @@
 //! The definition of an abbreviation (LLVM Bitcode File Format, "DEFINE_ABBREV Encoding").
 ghost use Rattle.std.specs.Prelude.{◌≡◌, ℕ, ◌≤◌};
-ghost use Rattle.bits.specs.Cursor.{found};
+ghost use Rattle.bits.specs.Cursor.{found_at};
 ghost use Rattle.bit_stream.specs.Answers.{Ran};
 ghost use Rattle.bit_stream.specs.Definition.{field_width, chunk_width, encoding, scalar_by, literal, first_operand, element, part_by, part, parts, template};
 
 use crate::StreamFault;
-use crate::abbreviation::{FieldWidth, NarrowWidth, Scalar, Tail, Template};
+use crate::abbreviation::{AdmittedAbbreviation, ChunkWidth, FieldWidth, Tail, ValueSpelling};
 use crate::fault::bad_abbreviation;
 use bits::{BitCursor, BitFault};
 use std::alloc::Global;
@@ -27,46 +27,46 @@ pub enum Encoding {
 
 /// A later operand of a definition: a value, or what ends the list.
 #[derive(Clone, Copy)]
-pub enum Part {
+pub enum DefinitionPart {
     /// One value more.
-    Value(Scalar),
+    Value(ValueSpelling),
     /// What ends the list.
     End(Tail),
 }
 
 #[tactic(auto, unfolding(crate::specs::Definition::field_width))]
-fn field_width(cursor: &mut BitCursor) -> Result<Scalar, BitFault>
-    ensures { found (λ scalar. scalar) result cursor.new ≡ field_width cursor.old }
+fn field_width(cursor: &mut BitCursor) -> Result<ValueSpelling, BitFault>
+    ensures { found_at (λ scalar. scalar) result cursor.new ≡ field_width cursor.old }
 {
     let bit = cursor.at();
     let width = cursor.vbr(5)?;
     if width == 0 {
-        Ok(Scalar::Known(0))
+        Ok(ValueSpelling::Known(0))
     } else if width > 64 {
         Err(bad_abbreviation(bit))
     } else {
-        Ok(Scalar::Field(FieldWidth::new(width as u32)))
+        Ok(ValueSpelling::Field(FieldWidth::new(width as u32)))
     }
 }
 
 #[tactic(auto, unfolding(crate::specs::Definition::chunk_width))]
-fn chunk_width(cursor: &mut BitCursor) -> Result<Scalar, BitFault>
-    ensures { found (λ scalar. scalar) result cursor.new ≡ chunk_width cursor.old }
+fn chunk_width(cursor: &mut BitCursor) -> Result<ValueSpelling, BitFault>
+    ensures { found_at (λ scalar. scalar) result cursor.new ≡ chunk_width cursor.old }
 {
     let bit = cursor.at();
     let width = cursor.vbr(5)?;
     if width == 0 {
-        Ok(Scalar::Known(0))
+        Ok(ValueSpelling::Known(0))
     } else if width == 1 || width > 32 {
         Err(bad_abbreviation(bit))
     } else {
-        Ok(Scalar::Chunks(NarrowWidth::new(width as u32)))
+        Ok(ValueSpelling::Chunks(ChunkWidth::new(width as u32)))
     }
 }
 
 #[tactic(auto, unfolding(crate::specs::Definition::encoding))]
 fn next_encoding(cursor: &mut BitCursor) -> Result<Encoding, BitFault>
-    ensures { found (λ encoding. encoding) result cursor.new ≡ encoding cursor.old }
+    ensures { found_at (λ encoding. encoding) result cursor.new ≡ encoding cursor.old }
 {
     let bit = cursor.at();
     match cursor.fixed(3)? {
@@ -81,28 +81,32 @@ fn next_encoding(cursor: &mut BitCursor) -> Result<Encoding, BitFault>
 
 /// One value by its encoding, which stands at this bit. An array and a blob are none.
 #[tactic(auto, unfolding(crate::specs::Definition::scalar_by))]
-fn scalar_by(cursor: &mut BitCursor, encoding: Encoding, bit: u64) -> Result<Scalar, BitFault>
-    ensures { found (λ scalar. scalar) result cursor.new ≡ scalar_by encoding bit cursor.old }
+fn scalar_by(
+    cursor: &mut BitCursor,
+    encoding: Encoding,
+    bit: u64,
+) -> Result<ValueSpelling, BitFault>
+    ensures { found_at (λ scalar. scalar) result cursor.new ≡ scalar_by encoding bit cursor.old }
 {
     match encoding {
         Encoding::AsField => field_width(cursor),
         Encoding::AsChunks => chunk_width(cursor),
-        Encoding::AsLetter => Ok(Scalar::Letter),
+        Encoding::AsLetter => Ok(ValueSpelling::Letter),
         Encoding::AsArray | Encoding::AsBlob => Err(bad_abbreviation(bit)),
     }
 }
 
 #[tactic(auto, unfolding(crate::specs::Definition::literal))]
-fn literal(cursor: &mut BitCursor) -> Result<Scalar, BitFault>
-    ensures { found (λ scalar. scalar) result cursor.new ≡ literal cursor.old }
+fn literal(cursor: &mut BitCursor) -> Result<ValueSpelling, BitFault>
+    ensures { found_at (λ scalar. scalar) result cursor.new ≡ literal cursor.old }
 {
-    Ok(Scalar::Known(cursor.vbr(8)?))
+    Ok(ValueSpelling::Known(cursor.vbr(8)?))
 }
 
 /// The first operand, which spells the code.
 #[tactic(auto, unfolding(crate::specs::Definition::first_operand))]
-fn first_operand(cursor: &mut BitCursor) -> Result<Scalar, BitFault>
-    ensures { found (λ scalar. scalar) result cursor.new ≡ first_operand cursor.old }
+fn first_operand(cursor: &mut BitCursor) -> Result<ValueSpelling, BitFault>
+    ensures { found_at (λ scalar. scalar) result cursor.new ≡ first_operand cursor.old }
 {
     if cursor.fixed(1)? == 1 {
         return literal(cursor);
@@ -114,8 +118,8 @@ fn first_operand(cursor: &mut BitCursor) -> Result<Scalar, BitFault>
 
 /// An array's element, which spells at least one bit.
 #[tactic(auto, unfolding(crate::specs::Definition::element))]
-fn element(cursor: &mut BitCursor) -> Result<Scalar, BitFault>
-    ensures { found (λ scalar. scalar) result cursor.new ≡ element cursor.old }
+fn element(cursor: &mut BitCursor) -> Result<ValueSpelling, BitFault>
+    ensures { found_at (λ scalar. scalar) result cursor.new ≡ element cursor.old }
 {
     let flag_bit = cursor.at();
     if cursor.fixed(1)? == 1 {
@@ -125,10 +129,10 @@ fn element(cursor: &mut BitCursor) -> Result<Scalar, BitFault>
     let encoding = next_encoding(cursor)?;
     let width_bit = cursor.at();
     match scalar_by(cursor, encoding, encoding_bit)? {
-        Scalar::Known(_) => Err(bad_abbreviation(width_bit)),
-        Scalar::Field(width) => Ok(Scalar::Field(width)),
-        Scalar::Chunks(width) => Ok(Scalar::Chunks(width)),
-        Scalar::Letter => Ok(Scalar::Letter),
+        ValueSpelling::Known(_) => Err(bad_abbreviation(width_bit)),
+        ValueSpelling::Field(width) => Ok(ValueSpelling::Field(width)),
+        ValueSpelling::Chunks(width) => Ok(ValueSpelling::Chunks(width)),
+        ValueSpelling::Letter => Ok(ValueSpelling::Letter),
     }
 }
 
@@ -139,26 +143,26 @@ fn part_by(
     encoding: Encoding,
     left: u64,
     bit: u64,
-) -> Result<Part, BitFault>
-    ensures { found (λ part. part) result cursor.new ≡ part_by encoding left bit cursor.old }
+) -> Result<DefinitionPart, BitFault>
+    ensures { found_at (λ part. part) result cursor.new ≡ part_by encoding left bit cursor.old }
 {
     match encoding {
-        Encoding::AsArray if left == 2 => Ok(Part::End(Tail::Elements(element(cursor)?))),
-        Encoding::AsBlob if left == 1 => Ok(Part::End(Tail::Bytes)),
+        Encoding::AsArray if left == 2 => Ok(DefinitionPart::End(Tail::Elements(element(cursor)?))),
+        Encoding::AsBlob if left == 1 => Ok(DefinitionPart::End(Tail::Bytes)),
         Encoding::AsArray | Encoding::AsBlob => Err(bad_abbreviation(bit)),
         Encoding::AsField | Encoding::AsChunks | Encoding::AsLetter => {
-            Ok(Part::Value(scalar_by(cursor, encoding, bit)?))
+            Ok(DefinitionPart::Value(scalar_by(cursor, encoding, bit)?))
         }
     }
 }
 
 /// A later operand, where so many are left with it.
 #[tactic(auto, unfolding(crate::specs::Definition::part))]
-fn next_part(cursor: &mut BitCursor, left: u64) -> Result<Part, BitFault>
-    ensures { found (λ part. part) result cursor.new ≡ part left cursor.old }
+fn next_part(cursor: &mut BitCursor, left: u64) -> Result<DefinitionPart, BitFault>
+    ensures { found_at (λ part. part) result cursor.new ≡ part left cursor.old }
 {
     if cursor.fixed(1)? == 1 {
-        return Ok(Part::Value(literal(cursor)?));
+        return Ok(DefinitionPart::Value(literal(cursor)?));
     }
     let bit = cursor.at();
     let encoding = next_encoding(cursor)?;
@@ -168,7 +172,7 @@ fn next_part(cursor: &mut BitCursor, left: u64) -> Result<Part, BitFault>
 /// So many operands, which are added to those that are there.
 fn parts(
     cursor: &mut BitCursor,
-    operands: &mut Vec<Scalar>,
+    operands: &mut Vec<ValueSpelling>,
     count: u64,
 ) -> Result<Tail, StreamFault>
     ensures { Ran (λ tail. (operands.new.items, tail)) cursor.new result (parts count operands.old.items cursor.old) }
@@ -176,8 +180,8 @@ fn parts(
     let mut left = count;
     while left > 0 {
         match next_part(cursor, left)? {
-            Part::Value(scalar) => operands.push(scalar)?,
-            Part::End(tail) => return Ok(tail),
+            DefinitionPart::Value(scalar) => operands.push(scalar)?,
+            DefinitionPart::End(tail) => return Ok(tail),
         }
         left -= 1;
     }
@@ -186,7 +190,7 @@ fn parts(
 
 /// The definition in front.
 #[tactic(auto, unfolding(crate::specs::Definition::template))]
-pub fn template(cursor: &mut BitCursor, alloc: Global) -> Result<Template, StreamFault>
+pub fn template(cursor: &mut BitCursor, alloc: Global) -> Result<AdmittedAbbreviation, StreamFault>
     ensures { Ran (λ template. template) cursor.new result (template cursor.old) }
 {
     let bit = cursor.at();
@@ -197,7 +201,7 @@ pub fn template(cursor: &mut BitCursor, alloc: Global) -> Result<Template, Strea
     let code = first_operand(cursor)?;
     let mut operands = Vec::new(alloc);
     let tail = parts(cursor, &mut operands, count - 1)?;
-    Ok(Template {
+    Ok(AdmittedAbbreviation {
         code,
         operands,
         tail,

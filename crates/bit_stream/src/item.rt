@@ -3,17 +3,17 @@ ghost use Rattle.std.specs.Prelude.{◌≡◌, ℕ, ◌<◌, ◌≤◌, ◌^◌,
 ghost use Rattle.bit_stream.specs.Answers.{Ran};
 ghost use Rattle.bit_stream.specs.Scope.{template_of};
 ghost use Rattle.bit_stream.specs.Record.{Read};
-ghost use Rattle.bit_stream.specs.Entry.{is_blockinfo, Item, plain, enter_block, end_block, define_for, define, recorded, settled, by_template, record_by, inside, item, id_at, has_blob_by, defined_at, with_definition, with_item, IsRecordBy};
+ghost use Rattle.bit_stream.specs.Entry.{is_blockinfo, StreamItem, plain, enter_block, end_block, define_for, define, recorded, settled, by_template, record_by, inside, item, id_at, has_blob_by, defined_at, with_definition, with_item, IsRecordBy};
 ghost use Rattle.bit_stream.specs.Abbreviation.{ends_in_blob, ops_of};
 ghost use Rattle.bit_stream.specs.Definition.{template};
 ghost use Rattle.bit_stream.specs.declared.entry.Entry.TheVariants.{Block, EndBlock, Record};
 
 use crate::StreamFault;
-use crate::abbreviation::{AbbreviationList, NarrowWidth, Template};
+use crate::abbreviation::{AbbreviationList, AdmittedAbbreviation, ChunkWidth};
 use crate::definition::template;
 use crate::entry::Entry;
 use crate::fault::{bad_abbreviation, bad_block_length, nested_too_deep};
-use crate::record::{Head, abbreviated, unabbreviated};
+use crate::record::{RecordOpening, abbreviated, unabbreviated};
 use crate::scope::Scope;
 use bits::{BitCursor, BitFault};
 use std::alloc::Global;
@@ -24,20 +24,20 @@ const MAX_OPEN: usize = 16;
 /// What stands at a place: an entry, or none where it is a definition; and of a record its abbreviation id, its blob, and
 /// whether it ended in one.
 #[derive(Drop)]
-pub struct Item<'b> {
+pub struct StreamItem<'b> {
     pub entry: Option<Entry>,
     pub id: u32,
     pub blob: &'b [u8],
     pub has_blob: bool,
 }
 
-impl<'b> Item<'b> {
+impl<'b> StreamItem<'b> {
     /// What is no record.
     fn plain(entry: Option<Entry>) -> Self
         ensures entry { result.entry ≡ entry }
         ensures blob { result.blob.now ≡ [] }
     {
-        Item {
+        StreamItem {
             entry,
             id: 0,
             blob: &[],
@@ -69,7 +69,7 @@ fn enter_block(cursor: &mut BitCursor, scope: &mut Scope) -> Result<u32, StreamF
     let words = cursor.fixed(32)?;
     scope.enter(
         id as u32,
-        NarrowWidth::new(width as u32),
+        ChunkWidth::new(width as u32),
         count_bit,
         words as u32,
     )?;
@@ -95,7 +95,7 @@ fn next_template(
     cursor: &mut BitCursor,
     definitions: &mut AbbreviationList,
     alloc: Global,
-) -> Result<Template, StreamFault>
+) -> Result<AdmittedAbbreviation, StreamFault>
     ensures read { Ran (λ template. template) cursor.new result (template cursor.old) }
     ensures told { IfOk result (λ template. definitions.new ≡ definitions.old ++ ops_of template ∷ []) }
 {
@@ -149,7 +149,7 @@ fn by_template<'b>(
     operands: &mut Vec<u64>,
     id: u64,
     bit: u64,
-) -> Result<Head<'b>, StreamFault>
+) -> Result<RecordOpening<'b>, StreamFault>
     requires id_in { 4 ≤ id }
     requires none { operands.old.items ≡ [] }
     ensures read { Ran (λ head. record { code = head.code; operands = operands.new.items; blob = head.blob.now }) cursor.new result (by_template (template_of scope.now id) bit (is_blockinfo scope.now) cursor.old) }
@@ -169,7 +169,7 @@ fn record<'b>(
     operands: &mut Vec<u64>,
     id: u64,
     bit: u64,
-) -> Result<Head<'b>, StreamFault>
+) -> Result<RecordOpening<'b>, StreamFault>
     requires id_in { 3 ≤ id }
     requires none { operands.old.items ≡ [] }
     ensures read { Ran (λ head. record { entry = Some (Record head.code); scope = scope.new; operands = operands.new.items; blob = head.blob.now }) cursor.new result (record_by id bit scope.old cursor.old) }
@@ -194,7 +194,7 @@ fn inside<'b>(
     alloc: Global,
     id: u64,
     bit: u64,
-) -> Result<Item<'b>, StreamFault>
+) -> Result<StreamItem<'b>, StreamFault>
     requires small { id < 2 ^ 32 }
     requires none { operands.old.items ≡ [] }
     ensures read { Ran (λ item. record { entry = item.entry; scope = scope.new; operands = operands.new.items; blob = item.blob.now }) cursor.new result (inside id bit scope.old cursor.old) }
@@ -204,17 +204,17 @@ fn inside<'b>(
     match id {
         0 => {
             end_block(cursor, scope)?;
-            Ok(Item::plain(Some(Entry::EndBlock)))
+            Ok(StreamItem::plain(Some(Entry::EndBlock)))
         }
         1 if scope.is_blockinfo() => Err(bad_abbreviation(bit).into()),
-        1 => Ok(Item::plain(Some(Entry::Block(enter_block(cursor, scope)?)))),
+        1 => Ok(StreamItem::plain(Some(Entry::Block(enter_block(cursor, scope)?)))),
         2 => {
             define(cursor, scope, definitions, alloc, bit)?;
-            Ok(Item::plain(None))
+            Ok(StreamItem::plain(None))
         }
         _ => {
             let head = record(cursor, scope, operands, id, bit)?;
-            Ok(Item {
+            Ok(StreamItem {
                 entry: Some(Entry::Record(head.code)),
                 id: id as u32,
                 blob: head.blob,
@@ -232,7 +232,7 @@ pub fn next_item<'b>(
     operands: &mut Vec<u64>,
     definitions: &mut AbbreviationList,
     alloc: Global,
-) -> Result<Item<'b>, StreamFault>
+) -> Result<StreamItem<'b>, StreamFault>
     requires { operands.old.items ≡ [] }
     ensures read { Ran (λ item. record { entry = item.entry; scope = scope.new; operands = operands.new.items; blob = item.blob.now }) cursor.new result (item scope.old cursor.old) }
     ensures told { IfOk result (λ item. IsRecordBy item.entry item.id item.has_blob scope.old (id_at scope.old cursor.old)) }
@@ -244,10 +244,10 @@ pub fn next_item<'b>(
         return inside(cursor, scope, operands, definitions, alloc, id, bit);
     }
     if cursor.is_at_end() {
-        return Ok(Item::plain(Some(Entry::End)));
+        return Ok(StreamItem::plain(Some(Entry::End)));
     }
     if cursor.fixed(scope.width().bits())? != 1 {
         return Err(bad_abbreviation(bit).into());
     }
-    Ok(Item::plain(Some(Entry::Block(enter_block(cursor, scope)?))))
+    Ok(StreamItem::plain(Some(Entry::Block(enter_block(cursor, scope)?))))
 }

@@ -34,7 +34,7 @@ mod told;
 mod writer;
 
 pub use abbreviation::{
-    AbbrevOp, Abbreviation, AbbreviationList, NarrowWidth, Scalar, Tail, Template,
+    AbbrevOp, Abbreviation, AbbreviationList, AdmittedAbbreviation, ChunkWidth, Tail, ValueSpelling,
 };
 pub use bits::{BitFault, BitFaultKind};
 pub use definition::template;

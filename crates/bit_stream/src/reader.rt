@@ -10,7 +10,7 @@ use crate::abbreviation::AbbreviationList;
 use crate::entry::Entry;
 use crate::item::next_item;
 use crate::scope::Scope;
-use crate::told::Told;
+use crate::told::LastSeen;
 use bits::{BitCursor, BitFault, BitFaultKind};
 use std::alloc::Global;
 use std::marker::Model;
@@ -28,7 +28,7 @@ pub struct BitReader<'b> {
     stopped: Option<StreamFault>,
     operands: Vec<u64>,
     blob: &'b [u8],
-    told: Told,
+    told: LastSeen,
     definitions: AbbreviationList,
     alloc: Global,
 }
@@ -64,7 +64,7 @@ impl<'b> BitReader<'b> {
             stopped: None,
             operands: Vec::new(alloc),
             blob: &[],
-            told: Told::nothing(),
+            told: LastSeen::nothing(),
             definitions: AbbreviationList::new(alloc),
             alloc,
         })

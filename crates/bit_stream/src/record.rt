@@ -1,13 +1,13 @@
 //! The values of a record (LLVM Bitcode File Format, "Data Records").
 ghost use Rattle.std.specs.Prelude.{◌≡◌, ℕ, ◌<◌, ◌^◌, [], ◌&&◌, ◌==◌, slice_index, false, IfOk};
-ghost use Rattle.bits.specs.Cursor.{found};
+ghost use Rattle.bits.specs.Cursor.{found_at};
 ghost use Rattle.bit_stream.specs.Abbreviation.{is_blob};
 ghost use Rattle.bit_stream.specs.Answers.{Ran};
 ghost use Rattle.bit_stream.specs.Record.{letters, value_by, code_by, operand, elements, each, counted, tail_by, Read, names_block, unabbreviated, abbreviated};
-ghost use Rattle.bit_stream.specs.declared.abbreviation.Scalar.TheVariants.{Chunks};
+ghost use Rattle.bit_stream.specs.declared.abbreviation.ValueSpelling.TheVariants.{Chunks};
 
 use crate::StreamFault;
-use crate::abbreviation::{NarrowWidth, Scalar, Tail, Template};
+use crate::abbreviation::{AdmittedAbbreviation, ChunkWidth, Tail, ValueSpelling};
 use crate::fault::bad_abbreviation;
 use bits::{BitCursor, BitFault};
 
@@ -17,10 +17,10 @@ const LETTERS: [u8; 64] = *b"abcdefghijklmnopqrstuvwxyzABCDEFGHIJKLMNOPQRSTUVWXY
 /// A record but for its operands, which are held apart.
 ///
 /// ```
-/// Head { code: 1, blob: &[], has_blob: false } // of a record of that code, by no abbreviation that ends in a blob
+/// RecordOpening { code: 1, blob: &[], has_blob: false } // of a record of that code, by no abbreviation that ends in a blob
 /// ```
 #[derive(Drop)]
-pub struct Head<'b> {
+pub struct RecordOpening<'b> {
     pub code: u32,
     pub blob: &'b [u8],
     /// Whether it ended in a blob, which may be empty.
@@ -38,21 +38,21 @@ fn letter(number: u64) -> u64
 /// One value.
 #[tactic(auto, unfolding(crate::specs::Record::value_by))]
 #[inline(always)]
-pub fn value_by(cursor: &mut BitCursor, scalar: Scalar) -> Result<u64, BitFault>
-    ensures { found (λ number. number) result cursor.new ≡ value_by scalar cursor.old }
+pub fn value_by(cursor: &mut BitCursor, scalar: ValueSpelling) -> Result<u64, BitFault>
+    ensures { found_at (λ number. number) result cursor.new ≡ value_by scalar cursor.old }
 {
     match scalar {
-        Scalar::Known(number) => Ok(number),
-        Scalar::Field(width) => cursor.fixed(width.bits()),
-        Scalar::Chunks(width) => cursor.vbr(width.bits()),
-        Scalar::Letter => Ok(letter(cursor.fixed(6)?)),
+        ValueSpelling::Known(number) => Ok(number),
+        ValueSpelling::Field(width) => cursor.fixed(width.bits()),
+        ValueSpelling::Chunks(width) => cursor.vbr(width.bits()),
+        ValueSpelling::Letter => Ok(letter(cursor.fixed(6)?)),
     }
 }
 
 /// The code of a record.
 #[tactic(auto, unfolding(crate::specs::Record::code_by))]
-pub fn code_by(cursor: &mut BitCursor, scalar: Scalar) -> Result<u32, BitFault>
-    ensures { found (λ code. code) result cursor.new ≡ code_by scalar cursor.old }
+pub fn code_by(cursor: &mut BitCursor, scalar: ValueSpelling) -> Result<u32, BitFault>
+    ensures { found_at (λ code. code) result cursor.new ≡ code_by scalar cursor.old }
 {
     let bit = cursor.at();
     let number = value_by(cursor, scalar)?;
@@ -67,7 +67,7 @@ pub fn code_by(cursor: &mut BitCursor, scalar: Scalar) -> Result<u32, BitFault>
 fn add_operand(
     cursor: &mut BitCursor,
     operands: &mut Vec<u64>,
-    scalar: Scalar,
+    scalar: ValueSpelling,
     names_block: bool,
 ) -> Result<(), StreamFault>
     ensures { Ran (λ _. operands.new.items) cursor.new result (operand names_block operands.old.items scalar cursor.old) }
@@ -85,7 +85,7 @@ fn add_operand(
 fn add_elements(
     cursor: &mut BitCursor,
     operands: &mut Vec<u64>,
-    scalar: &Scalar,
+    scalar: &ValueSpelling,
     count: u64,
     names_block: bool,
 ) -> Result<(), StreamFault>
@@ -101,7 +101,7 @@ fn add_elements(
 fn add_each(
     cursor: &mut BitCursor,
     operands: &mut Vec<u64>,
-    scalars: &[Scalar],
+    scalars: &[ValueSpelling],
     names_block: bool,
 ) -> Result<(), StreamFault>
     ensures { Ran (λ _. operands.new.items) cursor.new result (each names_block scalars.now operands.old.items cursor.old) }
@@ -117,7 +117,7 @@ fn add_each(
 fn add_counted(
     cursor: &mut BitCursor,
     operands: &mut Vec<u64>,
-    scalar: Scalar,
+    scalar: ValueSpelling,
     names_block: bool,
 ) -> Result<(), StreamFault>
     ensures { Ran (λ _. operands.new.items) cursor.new result (counted names_block scalar operands.old.items cursor.old) }
@@ -152,15 +152,15 @@ pub fn unabbreviated<'b>(
     cursor: &mut BitCursor<'b>,
     operands: &mut Vec<u64>,
     in_blockinfo: bool,
-) -> Result<Head<'b>, StreamFault>
+) -> Result<RecordOpening<'b>, StreamFault>
     requires { operands.old.items ≡ [] }
     ensures read { Ran (λ head. record { code = head.code; operands = operands.new.items; blob = head.blob.now }) cursor.new result (unabbreviated in_blockinfo cursor.old) }
     ensures no_blob { IfOk result (λ head. head.has_blob ≡ false) }
 {
-    let spelling = Scalar::Chunks(NarrowWidth::new(6));
+    let spelling = ValueSpelling::Chunks(ChunkWidth::new(6));
     let code = code_by(cursor, spelling)?;
     add_counted(cursor, operands, spelling, in_blockinfo && code == 1)?;
-    Ok(Head {
+    Ok(RecordOpening {
         code,
         blob: &[],
         has_blob: false,
@@ -172,9 +172,9 @@ pub fn unabbreviated<'b>(
 pub fn abbreviated<'b>(
     cursor: &mut BitCursor<'b>,
     operands: &mut Vec<u64>,
-    template: &Template,
+    template: &AdmittedAbbreviation,
     in_blockinfo: bool,
-) -> Result<Head<'b>, StreamFault>
+) -> Result<RecordOpening<'b>, StreamFault>
     requires { operands.old.items ≡ [] }
     ensures read { Ran (λ head. record { code = head.code; operands = operands.new.items; blob = head.blob.now }) cursor.new result (abbreviated in_blockinfo template.now cursor.old) }
     ensures has_blob { IfOk result (λ head. head.has_blob ≡ is_blob template.now.tail) }
@@ -183,7 +183,7 @@ pub fn abbreviated<'b>(
     let names_block = in_blockinfo && code == 1;
     add_each(cursor, operands, &template.operands, names_block)?;
     let blob = add_tail(cursor, operands, template.tail, names_block)?;
-    Ok(Head {
+    Ok(RecordOpening {
         code,
         blob,
         has_blob: template.tail.is_blob(),

@@ -2,9 +2,9 @@
 ghost use Rattle.std.specs.Prelude.{◌≡◌, ℕ, ◌<◌, ◌≤◌, ◌^◌, [], ◌++◌, ◌∷◌, length, Some, None, OnOk, option_copied, ◌==◌};
 ghost use Rattle.bit_stream.specs.Scope.{Scope, top_level, template_of};
 ghost use Rattle.bit_stream.specs.Writer.{in_force};
-ghost use Rattle.bit_stream.specs.Entry.{is_top, is_blockinfo, entered, left, defined, given_for, targeting};
+ghost use Rattle.bit_stream.specs.Entry.{is_top, is_blockinfo, entered, block_left, defined, given_for, targeting};
 
-use crate::abbreviation::{NarrowWidth, Template};
+use crate::abbreviation::{AdmittedAbbreviation, ChunkWidth};
 use crate::templates::TemplateList;
 use std::alloc::{AllocError, Global};
 use std::collections::BTreeMap;
@@ -16,7 +16,7 @@ use std::mem;
 struct Frame {
     /// None at the top level.
     id: Option<u32>,
-    width: NarrowWidth,
+    width: ChunkWidth,
     /// The first bit of the count of words.
     count_bit: u64,
     words: u32,
@@ -60,7 +60,7 @@ impl Scope {
         Scope {
             block: Frame {
                 id: None,
-                width: NarrowWidth::new(2),
+                width: ChunkWidth::new(2),
                 count_bit: 0,
                 words: 0,
                 given: 0,
@@ -74,7 +74,7 @@ impl Scope {
     }
 
     /// How many bits an abbreviation id has.
-    pub fn width(&self) -> NarrowWidth
+    pub fn width(&self) -> ChunkWidth
         ensures { result ≡ self.now.block.width }
     {
         let block = &self.block;
@@ -127,7 +127,7 @@ impl Scope {
     pub fn enter(
         &mut self,
         id: u32,
-        width: NarrowWidth,
+        width: ChunkWidth,
         count_bit: u64,
         words: u32,
     ) -> Result<(), AllocError>
@@ -153,7 +153,7 @@ impl Scope {
 
     /// Leaves the block for the one around it.
     pub fn leave(&mut self)
-        ensures { self.new ≡ left self.old }
+        ensures { self.new ≡ block_left self.old }
     {
         if let Some(outer) = self.around.pop() {
             self.block = outer;
@@ -161,7 +161,7 @@ impl Scope {
     }
 
     /// Adds a definition of the block's own.
-    pub fn define(&mut self, template: Template) -> Result<(), AllocError>
+    pub fn define(&mut self, template: AdmittedAbbreviation) -> Result<(), AllocError>
         ensures { OnOk result (self.new ≡ defined self.old template) }
     {
         let block = &mut self.block;
@@ -169,7 +169,7 @@ impl Scope {
     }
 
     /// Adds a definition for a block id.
-    pub fn give(&mut self, id: u64, template: Template) -> Result<(), AllocError>
+    pub fn give(&mut self, id: u64, template: AdmittedAbbreviation) -> Result<(), AllocError>
         ensures { OnOk result (self.new ≡ given_for self.old id template) }
     {
         let mut list = match self.given.remove(&id) {
@@ -208,7 +208,7 @@ impl Scope {
     }
 
     /// The abbreviation of an id from 4 on.
-    pub fn template(&self, id: u64) -> Option<&Template>
+    pub fn template(&self, id: u64) -> Option<&AdmittedAbbreviation>
         requires { 4 ≤ id }
         ensures { option_copied result ≡ template_of self.now id }
     {

@@ -5,7 +5,7 @@ ghost use Rattle.std.specs.List.{flat_map};
 ghost use Rattle.bit_stream.specs.Spelling.{chunks, operand_bits, definition_bits, scalar_of, element_scalar, rest_of, template_for, is_letter, letter_number, fits, value_bits, all_fit, all_bits, record_bits, each_fit, each_bits, tail_fits, with_tail, record_fits, with_record};
 
 use crate::AbbrevOp;
-use crate::abbreviation::{FieldWidth, NarrowWidth, Scalar, Tail, Template};
+use crate::abbreviation::{AdmittedAbbreviation, ChunkWidth, FieldWidth, Tail, ValueSpelling};
 use bits::BitSink;
 use std::alloc::{AllocError, Global};
 
@@ -60,30 +60,30 @@ pub fn put_definition(sink: &mut BitSink, operands: &[AbbrevOp]) -> Result<(), A
 }
 
 /// The spelling of one value, where the operand is one that the format admits.
-fn scalar_of(operand: AbbrevOp) -> Option<Scalar>
+fn scalar_of(operand: AbbrevOp) -> Option<ValueSpelling>
     ensures { result ≡ scalar_of operand }
 {
     match operand {
-        AbbrevOp::Literal(number) => Some(Scalar::Known(number)),
+        AbbrevOp::Literal(number) => Some(ValueSpelling::Known(number)),
         AbbrevOp::Fixed(width) => {
             if width == 0 {
-                Some(Scalar::Known(0))
+                Some(ValueSpelling::Known(0))
             } else if width > 64 {
                 None
             } else {
-                Some(Scalar::Field(FieldWidth::new(width)))
+                Some(ValueSpelling::Field(FieldWidth::new(width)))
             }
         }
         AbbrevOp::Vbr(width) => {
             if width == 0 {
-                Some(Scalar::Known(0))
+                Some(ValueSpelling::Known(0))
             } else if width == 1 || width > 32 {
                 None
             } else {
-                Some(Scalar::Chunks(NarrowWidth::new(width)))
+                Some(ValueSpelling::Chunks(ChunkWidth::new(width)))
             }
         }
-        AbbrevOp::Char6 => Some(Scalar::Letter),
+        AbbrevOp::Char6 => Some(ValueSpelling::Letter),
         AbbrevOp::Array | AbbrevOp::Blob => None,
     }
 }
@@ -93,16 +93,16 @@ fn elements_of(operand: AbbrevOp) -> Option<Tail>
     ensures { result ≡ element_scalar (scalar_of operand) }
 {
     match scalar_of(operand)? {
-        Scalar::Known(_) => None,
-        Scalar::Field(width) => Some(Tail::Elements(Scalar::Field(width))),
-        Scalar::Chunks(width) => Some(Tail::Elements(Scalar::Chunks(width))),
-        Scalar::Letter => Some(Tail::Elements(Scalar::Letter)),
+        ValueSpelling::Known(_) => None,
+        ValueSpelling::Field(width) => Some(Tail::Elements(ValueSpelling::Field(width))),
+        ValueSpelling::Chunks(width) => Some(Tail::Elements(ValueSpelling::Chunks(width))),
+        ValueSpelling::Letter => Some(Tail::Elements(ValueSpelling::Letter)),
     }
 }
 
 /// The operands behind the first: spellings, which are added, and what ends them.
 #[tactic(auto, unfolding(crate::specs::Spelling::rest_of))]
-fn rest_of(operands: &mut Vec<Scalar>, rest: &[AbbrevOp]) -> Result<Option<Tail>, AllocError>
+fn rest_of(operands: &mut Vec<ValueSpelling>, rest: &[AbbrevOp]) -> Result<Option<Tail>, AllocError>
     ensures { IfOk result (λ tail. option_map (λ t. (operands.new.items, t)) tail ≡ rest_of operands.old.items rest.now) }
 {
     match rest {
@@ -121,7 +121,10 @@ fn rest_of(operands: &mut Vec<Scalar>, rest: &[AbbrevOp]) -> Result<Option<Tail>
 
 /// The abbreviation that these operands define, where the format admits them.
 #[tactic(auto, unfolding(crate::specs::Spelling::template_for))]
-pub fn template_for(alloc: Global, operands: &[AbbrevOp]) -> Result<Option<Template>, AllocError>
+pub fn template_for(
+    alloc: Global,
+    operands: &[AbbrevOp],
+) -> Result<Option<AdmittedAbbreviation>, AllocError>
     ensures { IfOk result (λ template. template ≡ template_for operands.now) }
 {
     let [first, more @ ..] = operands else {
@@ -137,7 +140,7 @@ pub fn template_for(alloc: Global, operands: &[AbbrevOp]) -> Result<Option<Templ
     let Some(tail) = rest_of(&mut spellings, more)? else {
         return Ok(None);
     };
-    Ok(Some(Template {
+    Ok(Some(AdmittedAbbreviation {
         code,
         operands: spellings,
         tail,
@@ -161,20 +164,20 @@ fn letter_number(letter: u64) -> u64
 
 /// One value, which fits its spelling.
 #[tactic(auto, unfolding(crate::specs::Spelling::value_bits))]
-fn put_value(sink: &mut BitSink, scalar: &Scalar, number: u64) -> Result<(), AllocError>
+fn put_value(sink: &mut BitSink, scalar: &ValueSpelling, number: u64) -> Result<(), AllocError>
     requires { fits scalar.now number ≡ true }
     ensures { OnOk result (sink.new ≡ sink.old ++ value_bits scalar.now number) }
 {
     match scalar {
-        Scalar::Known(_) => Ok(()),
-        Scalar::Field(width) => sink.fixed(number, width.bits()),
-        Scalar::Chunks(width) => sink.vbr(number, width.bits()),
-        Scalar::Letter => sink.fixed(letter_number(number), 6),
+        ValueSpelling::Known(_) => Ok(()),
+        ValueSpelling::Field(width) => sink.fixed(number, width.bits()),
+        ValueSpelling::Chunks(width) => sink.vbr(number, width.bits()),
+        ValueSpelling::Letter => sink.fixed(letter_number(number), 6),
     }
 }
 
 /// Values of one spelling.
-fn put_all(sink: &mut BitSink, scalar: &Scalar, numbers: &[u64]) -> Result<(), AllocError>
+fn put_all(sink: &mut BitSink, scalar: &ValueSpelling, numbers: &[u64]) -> Result<(), AllocError>
     requires { all_fit scalar.now numbers.now ≡ true }
     ensures { OnOk result (sink.new ≡ sink.old ++ all_bits scalar.now numbers.now) }
 {
@@ -185,7 +188,11 @@ fn put_all(sink: &mut BitSink, scalar: &Scalar, numbers: &[u64]) -> Result<(), A
 }
 
 /// As many values as there are spellings.
-fn put_each(sink: &mut BitSink, scalars: &[Scalar], numbers: &[u64]) -> Result<(), AllocError>
+fn put_each(
+    sink: &mut BitSink,
+    scalars: &[ValueSpelling],
+    numbers: &[u64],
+) -> Result<(), AllocError>
     requires { each_fit scalars.now numbers.now ≡ true }
     ensures { OnOk result (sink.new ≡ sink.old ++ each_bits scalars.now numbers.now) }
 {
@@ -202,7 +209,7 @@ pub fn put_record(sink: &mut BitSink, code: u32, operands: &[u64]) -> Result<(),
 {
     sink.vbr(u64::from(code), 6)?;
     sink.vbr(operands.len() as u64, 6)?;
-    put_all(sink, &Scalar::Chunks(NarrowWidth::new(6)), operands)
+    put_all(sink, &ValueSpelling::Chunks(ChunkWidth::new(6)), operands)
 }
 
 /// What follows the values that are spelled one by one.
@@ -220,7 +227,7 @@ fn put_tail(sink: &mut BitSink, tail: &Tail, numbers: &[u64]) -> Result<(), Allo
         Tail::Bytes => {
             sink.vbr(numbers.len() as u64, 6)?;
             sink.align()?;
-            put_all(sink, &Scalar::Field(FieldWidth::new(8)), numbers)?;
+            put_all(sink, &ValueSpelling::Field(FieldWidth::new(8)), numbers)?;
             sink.align()
         }
     }
@@ -230,7 +237,7 @@ fn put_tail(sink: &mut BitSink, tail: &Tail, numbers: &[u64]) -> Result<(), Allo
 #[tactic(auto, unfolding(crate::specs::Spelling::record_fits, crate::specs::Spelling::with_record))]
 pub fn put_abbreviated(
     sink: &mut BitSink,
-    template: &Template,
+    template: &AdmittedAbbreviation,
     code: u32,
     operands: &[u64],
 ) -> Result<(), AllocError>

@@ -1,7 +1,7 @@
 //! Abbreviations that are in force.
 ghost use Rattle.std.specs.Prelude.{◌≡◌, ◌≤◌, ◌^◌, [], ◌++◌, ◌∷◌, length, OnOk, option_copied, slice_get};
 
-use crate::abbreviation::Template;
+use crate::abbreviation::AdmittedAbbreviation;
 use std::alloc::{AllocError, Global};
 use std::marker::Model;
 
@@ -11,14 +11,14 @@ const MOST: usize = 1 << 30;
 /// Some abbreviations, in order.
 #[derive(Drop)]
 pub struct TemplateList {
-    items: Vec<Template>,
+    items: Vec<AdmittedAbbreviation>,
 }
 
 impl Model for TemplateList {
     ghost use Rattle.std.specs.Prelude.{List, ◌≤◌, ◌^◌, length};
-    ghost use Rattle.bit_stream.specs.Abbreviation.{Template};
+    ghost use Rattle.bit_stream.specs.Abbreviation.{AdmittedAbbreviation};
 
-    ghost Value = { List Template };
+    ghost Value = { List AdmittedAbbreviation };
 
     ghost view = { λ list. list.items.items };
 
@@ -44,14 +44,14 @@ impl TemplateList {
     }
 
     /// The one with this index.
-    pub fn get(&self, index: usize) -> Option<&Template>
+    pub fn get(&self, index: usize) -> Option<&AdmittedAbbreviation>
         ensures { option_copied result ≡ slice_get self.now index }
     {
         self.items.as_slice().get(index)
     }
 
     /// Adds one at the end. Where the list is full there is no memory for it.
-    pub fn push(&mut self, template: Template) -> Result<(), AllocError>
+    pub fn push(&mut self, template: AdmittedAbbreviation) -> Result<(), AllocError>
         ensures { OnOk result (self.new ≡ self.old ++ template ∷ []) }
     {
         if self.items.len() >= MOST {

@@ -7,7 +7,7 @@ ghost use Rattle.bit_stream.specs.Spelling.{template_for, record_fits};
 ghost use Rattle.bit_stream.specs.Writer.{begun, write, enter, end_block, define, in_force, with_template, after_record, abbreviated as with_abbreviated, put_record, Writes};
 
 use crate::Abbreviation;
-use crate::abbreviation::{NarrowWidth, Template};
+use crate::abbreviation::{AdmittedAbbreviation, ChunkWidth};
 use crate::scope::Scope;
 use crate::spelling::{put_abbreviated, put_definition, put_record, template_for};
 use bits::{BitSink, WholeWords};
@@ -112,7 +112,7 @@ impl BitWriter {
         let inside = BitSink::new(self.alloc)?;
         let around = mem::replace(&mut self.bits, inside);
         self.around.push(WholeWords::new(around))?;
-        self.scope.enter(block, NarrowWidth::new(width), 0, 0)?;
+        self.scope.enter(block, ChunkWidth::new(width), 0, 0)?;
         self.spent = false;
         Ok(())
     }
@@ -224,7 +224,7 @@ fn after_record(scope: &mut Scope, code: u32, operands: &[u64])
 }
 
 /// A definition of the block's own or, in BLOCKINFO, for the block that it names.
-fn add_definition(scope: &mut Scope, template: Template) -> Result<(), AllocError>
+fn add_definition(scope: &mut Scope, template: AdmittedAbbreviation) -> Result<(), AllocError>
     ensures { OnOk result (scope.new ≡ with_template scope.old (Some template)) }
 {
     if !scope.is_blockinfo() {
@@ -237,7 +237,7 @@ fn add_definition(scope: &mut Scope, template: Template) -> Result<(), AllocErro
 }
 
 /// One of the ids that every block has.
-fn put_id(sink: &mut BitSink, width: NarrowWidth, id: u64) -> Result<(), AllocError>
+fn put_id(sink: &mut BitSink, width: ChunkWidth, id: u64) -> Result<(), AllocError>
     requires { id < 4 }
     ensures { OnOk result (sink.new ≡ sink.old ++ bits_of width id) }
 {

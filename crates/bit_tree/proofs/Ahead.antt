@@ -2,40 +2,40 @@
 use Rattle.std.proofs.Common.{ℕ, zero, suc, ◌+◌, ◌*◌, Bool, List, [], ◌∷◌, drop, Ok, arith, length-drop}
 use Rattle.bits.specs.Cursor.{Cursor, Found}
 use Rattle.bits.specs.Reading.{fixed, vbr, gap, align, bytes, bytes_of, blob}
-use Rattle.bit_stream.specs.declared.abbreviation.Scalar.{Scalar}
-use Rattle.bit_stream.specs.declared.abbreviation.Scalar.TheVariants.{Known, Field, Chunks, Letter}
+use Rattle.bit_stream.specs.declared.abbreviation.ValueSpelling.{ValueSpelling}
+use Rattle.bit_stream.specs.declared.abbreviation.ValueSpelling.TheVariants.{Known, Field, Chunks, Letter}
 use Rattle.bit_stream.specs.declared.abbreviation.Tail.{Tail}
 use Rattle.bit_stream.specs.declared.abbreviation.Tail.TheVariants.{NoTail, Elements, Bytes}
-use Rattle.bit_stream.specs.Abbreviation.{Template}
+use Rattle.bit_stream.specs.Abbreviation.{AdmittedAbbreviation}
 use Rattle.bit_stream.specs.Record.{value_by, code_by, operand, elements, each, counted, tail_by, names_block, unabbreviated, abbreviated}
 use Rattle.bit_stream.proofs.Forward.{Forward, forward_none, forward_here, forward_if, bind_first, fixed_forward_any, vbr_forward}
 
-value_by_forward : (s : Scalar) (c : Cursor) → Forward 0 c (value_by s c)
+value_by_forward : (s : ValueSpelling) (c : Cursor) → Forward 0 c (value_by s c)
 unfolding value_by
 value_by_forward (Known n) c = forward_here _ c
 value_by_forward (Field w) c = fixed_forward_any w c
 value_by_forward (Chunks w) c = vbr_forward w c
 value_by_forward Letter c = bind_first 0 c (fixed 6 c) _ (fixed_forward_any 6 c) (λ n d. forward_here _ d)
 
-code_by_forward : (s : Scalar) (c : Cursor) → Forward 0 c (code_by s c)
+code_by_forward : (s : ValueSpelling) (c : Cursor) → Forward 0 c (code_by s c)
 unfolding code_by
 code_by_forward s c = bind_first 0 c (value_by s c) _ (value_by_forward s c) (λ n d. forward_if 0 d _ _ _ (forward_none 0 d _) (forward_here _ d))
 
-operand_forward : (b : Bool) (front : List ℕ) (s : Scalar) (c : Cursor) → Forward 0 c (operand b front s c)
+operand_forward : (b : Bool) (front : List ℕ) (s : ValueSpelling) (c : Cursor) → Forward 0 c (operand b front s c)
 unfolding operand
 operand_forward b front s c = bind_first 0 c (value_by s c) _ (value_by_forward s c) (λ n d. forward_if 0 d _ _ _ (forward_none 0 d _) (forward_here _ d))
 
-elements_forward : (b : Bool) (s : Scalar) (n : ℕ) (front : List ℕ) (c : Cursor) → Forward 0 c (elements b s n front c)
+elements_forward : (b : Bool) (s : ValueSpelling) (n : ℕ) (front : List ℕ) (c : Cursor) → Forward 0 c (elements b s n front c)
 unfolding elements
 elements_forward b s zero front c = forward_here _ c
 elements_forward b s (suc n) front c = bind_first 0 c (operand b front s c) _ (operand_forward b front s c) (λ more d. elements_forward b s n more d)
 
-each_forward : (b : Bool) (ss : List Scalar) (front : List ℕ) (c : Cursor) → Forward 0 c (each b ss front c)
+each_forward : (b : Bool) (ss : List ValueSpelling) (front : List ℕ) (c : Cursor) → Forward 0 c (each b ss front c)
 unfolding each
 each_forward b [] front c = forward_here _ c
 each_forward b (s ∷ ss) front c = bind_first 0 c (operand b front s c) _ (operand_forward b front s c) (λ more d. each_forward b ss more d)
 
-counted_forward : (b : Bool) (s : Scalar) (front : List ℕ) (c : Cursor) → Forward 0 c (counted b s front c)
+counted_forward : (b : Bool) (s : ValueSpelling) (front : List ℕ) (c : Cursor) → Forward 0 c (counted b s front c)
 unfolding counted
 counted_forward b s front c = bind_first 0 c (vbr 6 c) _ (vbr_forward 6 c) (λ n d. elements_forward b s n front d)
 
@@ -66,7 +66,7 @@ unfolding unabbreviated
 unabbreviated_forward b c = bind_first 0 c (code_by (Chunks 6) c) _ (code_by_forward (Chunks 6) c) (λ code d.
     bind_first 0 d (counted (names_block b code) (Chunks 6) [] d) _ (counted_forward (names_block b code) (Chunks 6) [] d) (λ all e. forward_here _ e))
 
-pub abbreviated_forward : (b : Bool) (t : Template) (c : Cursor) → Forward 0 c (abbreviated b t c)
+pub abbreviated_forward : (b : Bool) (t : AdmittedAbbreviation) (c : Cursor) → Forward 0 c (abbreviated b t c)
 unfolding abbreviated
 abbreviated_forward b t c = bind_first 0 c (code_by t.code c) _ (code_by_forward t.code c) (λ code d.
     bind_first 0 d (each (names_block b code) t.operands [] d) _ (each_forward (names_block b code) t.operands [] d) (λ front e.

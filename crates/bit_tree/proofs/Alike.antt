@@ -4,10 +4,10 @@ use Rattle.std.specs.Prelude.{slice_index_or}
 use Rattle.std.proofs.lemmas.Bool.{lt-leb}
 use Rattle.std.proofs.lemmas.List.{take_at, get_or_at}
 use Rattle.bits.specs.declared.fault.BitFault.{BitFault}
-use Rattle.bit_stream.specs.Abbreviation.{Template}
+use Rattle.bit_stream.specs.Abbreviation.{AdmittedAbbreviation}
 use Rattle.bit_stream.specs.Scope.{Scope, template_of}
 use Rattle.bit_stream.specs.Record.{names_block}
-use Rattle.bit_stream.specs.Entry.{is_top, is_blockinfo, entered, left, named, recorded}
+use Rattle.bit_stream.specs.Entry.{is_top, is_blockinfo, entered, block_left, with_target, recorded}
 use Rattle.bit_stream.specs.Writer.{with_template, given_count, in_force, naming, after_record}
 use Rattle.bit_stream.specs.declared.abbreviation.Tail.{Tail}
 use Rattle.bit_stream.specs.declared.abbreviation.Tail.TheVariants.{NoTail, Elements, Bytes}
@@ -56,7 +56,7 @@ alike_in_force s v h = rw (alike_blockinfo s v h, h.target, alike_count s v v.bl
 
 -- definitions
 
-pub alike_defined : (s v : Scope) (t : Template) → Alike s v → Alike (with_template s (Some t)) (with_template v (Some t))
+pub alike_defined : (s v : Scope) (t : AdmittedAbbreviation) → Alike s v → Alike (with_template s (Some t)) (with_template v (Some t))
 alike_defined s v t h = by_block (is_blockinfo v) refl where
   by_target : (o : Option ℕ) → v.block.target ≡ o → is_blockinfo v ≡ true → Alike (with_template s (Some t)) (with_template v (Some t))
   by_target None none info = rw (alike_blockinfo s v h, info, h.target, none) (record { id = h.id; width = h.width; given = h.given; own = h.own; target = refl; table = h.table; depth = h.depth })
@@ -66,7 +66,7 @@ alike_defined s v t h = by_block (is_blockinfo v) refl where
   by_block true info = by_target v.block.target refl info
   by_block false plain = rw (alike_blockinfo s v h, plain) (record { id = h.id; width = h.width; given = h.given; own = rw h.own refl; target = h.target; table = h.table; depth = h.depth })
 
-pub same_defined : (s : Scope) (t : Template) → SameBlocks s (with_template s (Some t))
+pub same_defined : (s : Scope) (t : AdmittedAbbreviation) → SameBlocks s (with_template s (Some t))
 same_defined s t = by_block (is_blockinfo s) refl where
   by_target : (o : Option ℕ) → s.block.target ≡ o → is_blockinfo s ≡ true → SameBlocks s (with_template s (Some t))
   by_target None none info = rw (info, none) (record { around = refl; count_bit = refl; words = refl })
@@ -106,14 +106,14 @@ naming_front s Bytes zero ns h = absurd h
 naming_front s Bytes (suc k) [] h = absurd h
 naming_front s Bytes (suc k) (n ∷ ns) h = refl
 
-named_is : (bit : ℕ) (s : Scope) (ns : List ℕ) → NamesFirst ns → named bit s ns ≡ Ok (naming s ns)
+named_is : (bit : ℕ) (s : Scope) (ns : List ℕ) → NamesFirst ns → with_target bit s ns ≡ Ok (naming s ns)
 named_is bit s [] h = absurd h
 named_is bit s (n ∷ ns) h = refl
 
 pub recorded_is : (bit : ℕ) (s : Scope) (code : ℕ) (t : Tail) (k : ℕ) (ns : List ℕ) → (names_block (is_blockinfo s) code ≡ true → NamesFirst (front_of t k ns)) → recorded bit s code (front_of t k ns) ≡ Ok (after_record s code ns)
 unfolding recorded
 recorded_is bit s code t k ns names = by_test (is_blockinfo s && (code == 1)) names where
-  by_test : (b : Bool) → (b ≡ true → NamesFirst (front_of t k ns)) → (if b then named bit s (front_of t k ns) else Ok s) ≡ (let all : Result Scope BitFault = Ok (if b then naming s ns else s) in all)
+  by_test : (b : Bool) → (b ≡ true → NamesFirst (front_of t k ns)) → (if b then with_target bit s (front_of t k ns) else Ok s) ≡ (let all : Result Scope BitFault = Ok (if b then naming s ns else s) in all)
   by_test true h = named_is bit s (front_of t k ns) (h refl) ∙ ap (λ (x : Scope). Ok x) (naming_front s t k ns (h refl))
   by_test false h = refl
 
@@ -128,12 +128,12 @@ pub alike_entered : (s v : Scope) (id width bit words : ℕ) → Alike s v → A
 alike_entered s v id width bit words h = record { id = refl; width = refl; given = rw h.table refl; own = refl; target = refl; table = h.table; depth = omega (arith, h.depth, length-append s.around (s.block ∷ []), length-append v.around (v.block ∷ [])) }
 
 -- a block is left for the one that it was entered from
-pub left_is : (s t : Scope) → t.around ≡ s.around ++ s.block ∷ [] → left t ≡ record { block = s.block; around = s.around; given = t.given }
+pub left_is : (s t : Scope) → t.around ≡ s.around ++ s.block ∷ [] → block_left t ≡ record { block = s.block; around = s.around; given = t.given }
 left_is s t h =
     let size : length t.around - 1 ≡ length s.around = omega (arith, ap length h, length-append s.around (s.block ∷ [])) in
     let block : slice_index_or t.around (length t.around - 1) t.block ≡ s.block = rw (size, h) (get_or_at s.around s.block [] t.block (length s.around) refl) in
     let around : take (length t.around - 1) t.around ≡ s.around = rw (size, h) (take_at s.around (s.block ∷ []) (length s.around) refl) in
     rw (block, around) refl
 
-pub alike_left : (s v t u : Scope) → Alike s v → Alike t u → t.around ≡ s.around ++ s.block ∷ [] → u.around ≡ v.around ++ v.block ∷ [] → Alike (left t) (left u)
+pub alike_left : (s v t u : Scope) → Alike s v → Alike t u → t.around ≡ s.around ++ s.block ∷ [] → u.around ≡ v.around ++ v.block ∷ [] → Alike (block_left t) (block_left u)
 alike_left s v t u h k a b = rw (left_is s t a, left_is v u b) (record { id = h.id; width = h.width; given = h.given; own = h.own; target = h.target; table = k.table; depth = h.depth })

@@ -7,7 +7,7 @@ use Rattle.bits.specs.Bits.{value, bits_of, stream_bits}
 use Rattle.bits.specs.Writing.{pad_bits, byte_pad}
 use Rattle.bits.proofs.BitsLaws.{length-bits_of, value-bits_of, length-stream_bits}
 use Rattle.bit_stream.specs.Scope.{Scope, top_level}
-use Rattle.bit_stream.specs.Entry.{is_top, left}
+use Rattle.bit_stream.specs.Entry.{is_top, block_left}
 use Rattle.bit_stream.specs.Reader.{begins}
 use Rattle.bit_stream.specs.Spelling.{chunks, aligned}
 use Rattle.bit_stream.specs.Writer.{Writer, begun, id_bits, enter, ended, end_block}
@@ -46,7 +46,7 @@ top_whole no_more w ready top whole all = whole
 top_whole (a_block id width inside behind) w ready top whole all =
     let inner = comes inside (enter w id width) (ready_entered w id width ready all.0.low) all.1 in
     let step = block_step w id width inside ready all.0 inner all.2 in
-    let still : is_top (left (written (enter w id width) inside).scope) ≡ true = ap (λ (s : Scope). is_top s) (left_is w.scope (written (enter w id width) inside).scope inner.scopes) ∙ top in
+    let still : is_top (block_left (written (enter w id width) inside).scope) ≡ true = ap (λ (s : Scope). is_top s) (left_is w.scope (written (enter w id width) inside).scope inner.scopes) ∙ top in
     top_whole behind (end_block (written (enter w id width) inside)) step.ready still (block_whole w id width (written (enter w id width) inside) inner.around) all.3
 top_whole (a_definition ops behind) w ready top whole all = never (is_top w.scope) top all.0.inside
 top_whole (a_record code ns behind) w ready top whole all = never (is_top w.scope) top all.0.inside

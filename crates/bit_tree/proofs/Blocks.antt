@@ -11,7 +11,7 @@ use Rattle.bits.specs.Reading.{fixed}
 use Rattle.bits.proofs.BitsLaws.{length-bits_of}
 use Rattle.bit_stream.specs.declared.entry.Entry.TheVariants.{Block, EndBlock}
 use Rattle.bit_stream.specs.Scope.{Scope, template_of}
-use Rattle.bit_stream.specs.Entry.{Item, item, plain, is_top, is_blockinfo, entered, left, inside, enter_block, words_since, end_block as read_end}
+use Rattle.bit_stream.specs.Entry.{StreamItem, item, plain, is_top, is_blockinfo, entered, block_left, inside, enter_block, words_since, end_block as read_end}
 use Rattle.bit_stream.specs.Spelling.{chunks, aligned, template_for}
 use Rattle.bit_stream.specs.Writer.{Writer, id_bits, enter, ended, end_block, define, in_force, put_record, abbreviated}
 use Rattle.bit_tree.specs.Stream.{Tree, block, values, Stands, Holds, none, of_block}
@@ -86,23 +86,23 @@ item_enters s c d ordinary some id = by_top (is_top s) refl where
 -- END_BLOCK
 
 end_read : (s : Scope) (n at words : ℕ) (rest : List Bool) → at % 32 ≡ n % 32 → words_since s.block.count_bit (at + length (pad_bits n)) ≡ s.block.words
-    → read_end s (record { at = at; rest = pad_bits n ++ rest }) ≡ Ok (plain (Some EndBlock) (left s), record { at = at + length (pad_bits n); rest = rest })
+    → read_end s (record { at = at; rest = pad_bits n ++ rest }) ≡ Ok (plain (Some EndBlock) (block_left s), record { at = at + length (pad_bits n); rest = rest })
 unfolding read_end
 end_read s n at words rest same count = rw (align_from n at rest same, eq-eqb _ _ count) refl
 
-item_ends : (s : Scope) (c d e : Cursor) (i : Item) → is_top s ≡ false → fixed s.block.width c ≡ Ok (0, d) → read_end s d ≡ Ok (i, e) → item s c ≡ Ok (i, e)
+item_ends : (s : Scope) (c d e : Cursor) (i : StreamItem) → is_top s ≡ false → fixed s.block.width c ≡ Ok (0, d) → read_end s d ≡ Ok (i, e) → item s c ≡ Ok (i, e)
 unfolding inside
 item_ends s c d e i within id h = item_inside s c d 0 within id ∙ h
 
-ready_left : (v u : Scope) → Ready v → Ready u → u.around ≡ v.around ++ v.block ∷ [] → Ready (left u)
+ready_left : (v u : Scope) → Ready v → Ready u → u.around ≡ v.around ++ v.block ∷ [] → Ready (block_left u)
 ready_left v u h k is = rw (left_is v u is) (record { sound = record { own = h.sound.own; table = k.sound.table }; wide = h.wide })
 
-same_left : (s t : Scope) → t.around ≡ s.around ++ s.block ∷ [] → SameBlocks s (left t)
+same_left : (s t : Scope) → t.around ≡ s.around ++ s.block ∷ [] → SameBlocks s (block_left t)
 same_left s t is = rw (left_is s t is) (record { around = refl; count_bit = refl; words = refl })
 
 -- the end of the block's inside
 inside_end : (x : Writer) (s : Scope) (bit at : ℕ) (rest : List Bool) → Alike s x.scope → Ready x.scope → is_top s ≡ false → s.block.count_bit ≡ bit → s.block.words ≡ length (ended x) / 32 → bit % 32 ≡ 0 → at ≡ bit + 32 + length x.bits
-    → item s (record { at = at; rest = id_bits x 0 ++ (pad_bits (length (x.bits ++ id_bits x 0)) ++ rest) }) ≡ Ok (plain (Some EndBlock) (left s), record { at = bit + 32 + length (ended x); rest = rest })
+    → item s (record { at = at; rest = id_bits x 0 ++ (pad_bits (length (x.bits ++ id_bits x 0)) ++ rest) }) ≡ Ok (plain (Some EndBlock) (block_left s), record { at = bit + 32 + length (ended x); rest = rest })
 inside_end x s bit at rest alike ready within count words word place =
     let z = id_bits x 0 in
     let n = length (x.bits ++ z) in
@@ -138,7 +138,7 @@ block_reads : (s v : Scope) (x : Writer) (n at id width : ℕ) (m rest : List Bo
     → ((t : Scope) → Alike t (entered v id width 0 0) → (at : ℕ) (rest : List Bool) → at % 32 ≡ 0 → Arrives t x.scope (record { at = at; rest = m ++ rest }) (record { at = at + length m; rest = rest }) tree)
     → (let a = bits_of v.block.width 1 in
     let bits = (a ++ enter_bits (n + length a) id width (length (ended x) / 32)) ++ ended x in
-    After s (left x.scope) (record { at = at; rest = bits ++ rest }) (record { at = at + length bits; rest = rest }) (λ y. block id width (length (ended x) / 32) tree y))
+    After s (block_left x.scope) (record { at = at; rest = bits ++ rest }) (record { at = at + length bits; rest = rest }) (λ y. block id width (length (ended x) / 32) tree y))
 block_reads s v x n at id width m rest tree alike ready ready_x same small shallow ordinary low high few bits_are scopes inner =
     let a = bits_of v.block.width 1 in
     let words = length (ended x) / 32 in
@@ -164,7 +164,7 @@ block_reads s v x n at id width m rest tree alike ready ready_x same small shall
     let place : bit + 32 + length m ≡ bit + 32 + length x.bits = ap (λ (l : List Bool). bit + 32 + length l) (sym bits_are) in
     let end = inside_end x inside.scope bit (bit + 32 + length m) rest inside.alike ready_x deep inside.same.count_bit inside.same.words word place in
     record {
-      scope = left inside.scope;
+      scope = block_left inside.scope;
       alike = alike_left s v inside.scope x.scope alike inside.alike around scopes;
       same = same_left s inside.scope around;
       way = λ behind u g h. (

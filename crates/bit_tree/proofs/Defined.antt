@@ -10,14 +10,14 @@ use Rattle.bits.specs.Reading.{fixed, vbr}
 use Rattle.bit_stream.specs.Answers.{refuse}
 use Rattle.bit_stream.specs.declared.abbreviation.AbbrevOp.{AbbrevOp}
 use Rattle.bit_stream.specs.declared.abbreviation.AbbrevOp.TheVariants.{Literal, Fixed, Vbr, Array, Char6, Blob}
-use Rattle.bit_stream.specs.declared.abbreviation.Scalar.{Scalar}
-use Rattle.bit_stream.specs.declared.abbreviation.Scalar.TheVariants.{Known, Field, Chunks, Letter}
+use Rattle.bit_stream.specs.declared.abbreviation.ValueSpelling.{ValueSpelling}
+use Rattle.bit_stream.specs.declared.abbreviation.ValueSpelling.TheVariants.{Known, Field, Chunks, Letter}
 use Rattle.bit_stream.specs.declared.abbreviation.Tail.{Tail}
 use Rattle.bit_stream.specs.declared.abbreviation.Tail.TheVariants.{NoTail, Elements, Bytes}
 use Rattle.bit_stream.specs.declared.definition.Encoding.{Encoding}
 use Rattle.bit_stream.specs.declared.definition.Encoding.TheVariants.{AsField, AsChunks, AsArray, AsLetter, AsBlob}
-use Rattle.bit_stream.specs.declared.definition.Part.TheVariants.{Value, End}
-use Rattle.bit_stream.specs.Abbreviation.{Template}
+use Rattle.bit_stream.specs.declared.definition.DefinitionPart.TheVariants.{Value, End}
+use Rattle.bit_stream.specs.Abbreviation.{AdmittedAbbreviation}
 use Rattle.bit_stream.specs.Definition.{field_width, chunk_width, encoding_of, encoding, scalar_by, literal, first_operand, element_of, element, part_by, part, parts, template}
 use Rattle.bit_stream.specs.Spelling.{chunks, operand_bits, definition_bits, scalar_of, element_scalar, rest_of, template_for}
 use Rattle.bit_stream.specs.Law.{ReadsAs, is_sound}
@@ -27,7 +27,7 @@ use Rattle.bit_stream.proofs.ReadBack.{fixed_reads, vbr_reads, then_done}
 
 -- the width of a field or of chunks
 
-field_reads : (w : ℕ) (s : Scalar) → scalar_of (Fixed w) ≡ Some s → ReadsAs field_width (chunks 5 w) s
+field_reads : (w : ℕ) (s : ValueSpelling) → scalar_of (Fixed w) ≡ Some s → ReadsAs field_width (chunks 5 w) s
 unfolding field_width
 field_reads w s is at rest = by_zero (w == 0) refl where
   by_wide : (b : Bool) → nat_lt 64 w ≡ b → (w == 0) ≡ false → field_width (record { at = at; rest = chunks 5 w ++ rest }) ≡ Ok (s, record { at = at + length (chunks 5 w); rest = rest })
@@ -42,7 +42,7 @@ field_reads w s is at rest = by_zero (w == 0) refl where
       rw (vbr_reads 5 w (omega arith) (omega (arith, eqb-true w 0 none)) at rest, none, s_is) refl
   by_zero false some = by_wide (nat_lt 64 w) refl some
 
-chunk_reads : (w : ℕ) (s : Scalar) → scalar_of (Vbr w) ≡ Some s → ReadsAs chunk_width (chunks 5 w) s
+chunk_reads : (w : ℕ) (s : ValueSpelling) → scalar_of (Vbr w) ≡ Some s → ReadsAs chunk_width (chunks 5 w) s
 unfolding chunk_width
 chunk_reads w s is at rest = by_zero (w == 0) refl where
   by_wide : (b : Bool) → (w == 1) || nat_lt 32 w ≡ b → (w == 0) ≡ false → chunk_width (record { at = at; rest = chunks 5 w ++ rest }) ≡ Ok (s, record { at = at + length (chunks 5 w); rest = rest })
@@ -94,7 +94,7 @@ letter_reads x at rest = let place : at ≡ at + 0 = omega arith in rw (← plac
 no_bits : {A : Type 0} (f : Cursor → Found A) (bits : List Bool) (x : A) → ReadsAs f (bits ++ []) x → ReadsAs f bits x
 no_bits f bits x h = rw append-nil at h
 
-first_reads : (op : AbbrevOp) (s : Scalar) → is_number op ≡ true → scalar_of op ≡ Some s → ReadsAs first_operand (operand_bits op) s
+first_reads : (op : AbbrevOp) (s : ValueSpelling) → is_number op ≡ true → scalar_of op ≡ Some s → ReadsAs first_operand (operand_bits op) s
 unfolding first_operand scalar_by
 first_reads (Literal n) s small is =
     let s_is : Known n ≡ s = cc is in
@@ -108,10 +108,10 @@ first_reads Char6 s small is =
 first_reads Blob s small is = absurd (cc)
 
 -- a value by its encoding, as a part of a definition
-as_value : (f : Cursor → Found Scalar) (bits : List Bool) (s : Scalar) → ReadsAs f bits s → ReadsAs (λ c. f c >>= λ s d. Ok (Value s, d)) bits (Value s)
+as_value : (f : Cursor → Found ValueSpelling) (bits : List Bool) (s : ValueSpelling) → ReadsAs f bits s → ReadsAs (λ c. f c >>= λ s d. Ok (Value s, d)) bits (Value s)
 as_value f bits s h = then_done f (λ x. Value x) bits s h
 
-part_reads : (left : ℕ) (op : AbbrevOp) (s : Scalar) → is_number op ≡ true → scalar_of op ≡ Some s → ReadsAs (part left) (operand_bits op) (Value s)
+part_reads : (left : ℕ) (op : AbbrevOp) (s : ValueSpelling) → is_number op ≡ true → scalar_of op ≡ Some s → ReadsAs (part left) (operand_bits op) (Value s)
 unfolding part part_by scalar_by
 part_reads left (Literal n) s small is =
     let s_is : Known n ≡ s = cc is in
@@ -126,15 +126,15 @@ part_reads left Blob s small is = absurd (cc)
 
 -- an array's element
 record Element (e : AbbrevOp) (tail : Tail) : Type 0 where
-  scalar : Scalar
+  scalar : ValueSpelling
   is : Elements scalar ≡ tail
   sound : is_sound scalar ≡ true
   reads : ReadsAs element (operand_bits e) scalar
 
-plain_reads : (f : Cursor → Found Scalar) (bits : List Bool) (s : Scalar) → ((bit : ℕ) (d : Cursor) → element_of bit s d ≡ Ok (s, d)) → ReadsAs f bits s → ReadsAs (λ c. f c >>= λ s g. element_of c.at s g) bits s
+plain_reads : (f : Cursor → Found ValueSpelling) (bits : List Bool) (s : ValueSpelling) → ((bit : ℕ) (d : Cursor) → element_of bit s d ≡ Ok (s, d)) → ReadsAs f bits s → ReadsAs (λ c. f c >>= λ s g. element_of c.at s g) bits s
 plain_reads f bits s plain h at rest = rw (h at rest, plain) refl
 
-vbr_sound : (w : ℕ) (s : Scalar) → scalar_of (Vbr w) ≡ Some s → is_sound s ≡ true
+vbr_sound : (w : ℕ) (s : ValueSpelling) → scalar_of (Vbr w) ≡ Some s → is_sound s ≡ true
 vbr_sound w s is = by_zero (w == 0) refl where
   by_wide : (b : Bool) → (w == 1) || nat_lt 32 w ≡ b → (w == 0) ≡ false → is_sound s ≡ true
   by_wide true wide some = let never = rw (some, wide) at is in absurd (cc)
@@ -150,7 +150,7 @@ vbr_sound w s is = by_zero (w == 0) refl where
   by_zero true none = let s_is : Known 0 ≡ s = cc (rw none at is) in rw (← s_is) refl
   by_zero false some = by_wide ((w == 1) || nat_lt 32 w) refl some
 
-field_sound : (w : ℕ) (s : Scalar) → scalar_of (Fixed w) ≡ Some s → is_sound s ≡ true
+field_sound : (w : ℕ) (s : ValueSpelling) → scalar_of (Fixed w) ≡ Some s → is_sound s ≡ true
 field_sound w s is = by_zero (w == 0) refl where
   by_wide : (b : Bool) → nat_lt 64 w ≡ b → (w == 0) ≡ false → is_sound s ≡ true
   by_wide true wide some = let never = rw (some, wide) at is in absurd (cc)
@@ -160,7 +160,7 @@ field_sound w s is = by_zero (w == 0) refl where
   by_zero true none = let s_is : Known 0 ≡ s = cc (rw none at is) in rw (← s_is) refl
   by_zero false some = by_wide (nat_lt 64 w) refl some
 
-scalar_sound : (op : AbbrevOp) (s : Scalar) → scalar_of op ≡ Some s → is_sound s ≡ true
+scalar_sound : (op : AbbrevOp) (s : ValueSpelling) → scalar_of op ≡ Some s → is_sound s ≡ true
 scalar_sound (Literal n) s is = let s_is : Known n ≡ s = cc in rw (← s_is) refl
 scalar_sound (Fixed w) s is = field_sound w s is
 scalar_sound (Vbr w) s is = vbr_sound w s is
@@ -168,15 +168,15 @@ scalar_sound Array s is = absurd (cc)
 scalar_sound Char6 s is = let s_is : Letter ≡ s = cc in rw (← s_is) refl
 scalar_sound Blob s is = absurd (cc)
 
-abbrev element_by : ℕ → Encoding → ℕ → Cursor → Found Scalar
+abbrev element_by : ℕ → Encoding → ℕ → Cursor → Found ValueSpelling
 element_by left e bit f = scalar_by e bit f >>= λ s g. element_of f.at s g
 
-element_from : (op : AbbrevOp) (k : ℕ) (e : Encoding) (bits : List Bool) (s : Scalar) (tail : Tail) → k < 8 → ((bit : ℕ) (d : Cursor) → encoding_of bit k d ≡ Ok (e, d)) → ((bit : ℕ) → ReadsAs (scalar_by e bit) bits s)
+element_from : (op : AbbrevOp) (k : ℕ) (e : Encoding) (bits : List Bool) (s : ValueSpelling) (tail : Tail) → k < 8 → ((bit : ℕ) (d : Cursor) → encoding_of bit k d ≡ Ok (e, d)) → ((bit : ℕ) → ReadsAs (scalar_by e bit) bits s)
     → bits_of 1 0 ++ bits_of 3 k ++ bits ≡ operand_bits op → is_sound s ≡ true → ((bit : ℕ) (d : Cursor) → element_of bit s d ≡ Ok (s, d)) → Elements s ≡ tail → Element op tail
 unfolding element
 element_from op k e bits s tail small code reads spelled sound plain is = record { scalar = s; is = is; sound = sound; reads = rw spelled at (flagged (λ bit d. refuse bit) (λ e bit f. scalar_by e bit f >>= λ s g. element_of f.at s g) k e bits s small code (λ bit. plain_reads (scalar_by e bit) bits s plain (reads bit))) }
 
-element_width : (op : AbbrevOp) (k : ℕ) (e : Encoding) (bits : List Bool) (s : Scalar) (tail : Tail) → k < 8 → ((bit : ℕ) (d : Cursor) → encoding_of bit k d ≡ Ok (e, d)) → ((bit : ℕ) → ReadsAs (scalar_by e bit) bits s)
+element_width : (op : AbbrevOp) (k : ℕ) (e : Encoding) (bits : List Bool) (s : ValueSpelling) (tail : Tail) → k < 8 → ((bit : ℕ) (d : Cursor) → encoding_of bit k d ≡ Ok (e, d)) → ((bit : ℕ) → ReadsAs (scalar_by e bit) bits s)
     → bits_of 1 0 ++ bits_of 3 k ++ bits ≡ operand_bits op → is_sound s ≡ true → element_scalar (Some s) ≡ Some tail → Element op tail
 element_width op k e bits (Known n) tail small code reads spelled sound is = absurd (cc)
 element_width op k e bits (Field w) tail small code reads spelled sound is = element_from op k e bits (Field w) tail small code reads spelled sound (λ bit d. refl) (cc)
@@ -187,11 +187,11 @@ element_at : (op : AbbrevOp) (tail : Tail) → element_scalar (scalar_of op) ≡
 unfolding scalar_by
 element_at (Literal n) tail is = absurd (cc)
 element_at (Fixed w) tail is = of_scalar (scalar_of (Fixed w)) refl (λ s has. element_width (Fixed w) 1 AsField (chunks 5 w) s tail (omega arith) (λ bit d. refl) (λ bit. field_reads w s has) refl (field_sound w s has) (rw has at is)) where
-  of_scalar : (o : Option Scalar) → scalar_of (Fixed w) ≡ o → ((s : Scalar) → scalar_of (Fixed w) ≡ Some s → Element (Fixed w) tail) → Element (Fixed w) tail
+  of_scalar : (o : Option ValueSpelling) → scalar_of (Fixed w) ≡ o → ((s : ValueSpelling) → scalar_of (Fixed w) ≡ Some s → Element (Fixed w) tail) → Element (Fixed w) tail
   of_scalar None has f = let never = rw has at is in absurd (cc)
   of_scalar (Some s) has f = f s has
 element_at (Vbr w) tail is = of_scalar (scalar_of (Vbr w)) refl (λ s has. element_width (Vbr w) 2 AsChunks (chunks 5 w) s tail (omega arith) (λ bit d. refl) (λ bit. chunk_reads w s has) refl (vbr_sound w s has) (rw has at is)) where
-  of_scalar : (o : Option Scalar) → scalar_of (Vbr w) ≡ o → ((s : Scalar) → scalar_of (Vbr w) ≡ Some s → Element (Vbr w) tail) → Element (Vbr w) tail
+  of_scalar : (o : Option ValueSpelling) → scalar_of (Vbr w) ≡ o → ((s : ValueSpelling) → scalar_of (Vbr w) ≡ Some s → Element (Vbr w) tail) → Element (Vbr w) tail
   of_scalar None has f = let never = rw has at is in absurd (cc)
   of_scalar (Some s) has f = f s has
 element_at Array tail is = absurd (cc)
@@ -199,20 +199,20 @@ element_at Char6 tail is = element_width Char6 4 AsLetter [] Letter tail (omega 
 element_at Blob tail is = absurd (cc)
 
 -- the operands behind the first
-record Rest (front : List Scalar) (ops : List AbbrevOp) (rest : List Scalar × Tail) : Type 0 where
+record Rest (front : List ValueSpelling) (ops : List AbbrevOp) (rest : List ValueSpelling × Tail) : Type 0 where
   sound : list_all is_sound front ≡ true → list_all is_sound rest.0 ≡ true
   tail : sound_tail rest.1 ≡ true
   reads : ReadsAs (parts (length ops) front) (flat_map operand_bits ops) rest
 
-sound_with : (front : List Scalar) (s : Scalar) → list_all is_sound front ≡ true → is_sound s ≡ true → list_all is_sound (front ++ s ∷ []) ≡ true
+sound_with : (front : List ValueSpelling) (s : ValueSpelling) → list_all is_sound front ≡ true → is_sound s ≡ true → list_all is_sound (front ++ s ∷ []) ≡ true
 sound_with [] s h k = rw k refl
 sound_with (x ∷ xs) s h k = let both = and_parts (is_sound x) (list_all is_sound xs) h in rw (both.0, sound_with xs s both.1 k) refl
 
-rest_none : (front : List Scalar) (rest : List Scalar × Tail) → let one : List Scalar × Tail = (front, NoTail) in one ≡ rest → Rest front [] rest
+rest_none : (front : List ValueSpelling) (rest : List ValueSpelling × Tail) → let one : List ValueSpelling × Tail = (front, NoTail) in one ≡ rest → Rest front [] rest
 unfolding parts
 rest_none front rest is = rw (← is) (record { sound = λ h. h; tail = refl; reads = λ at bits. (let place : at ≡ at + 0 = omega arith in rw (← place) refl) })
 
-rest_more : (front : List Scalar) (op : AbbrevOp) (ops : List AbbrevOp) (rest : List Scalar × Tail) (s : Scalar) → is_number op ≡ true → scalar_of op ≡ Some s → Rest (front ++ s ∷ []) ops rest → Rest front (op ∷ ops) rest
+rest_more : (front : List ValueSpelling) (op : AbbrevOp) (ops : List AbbrevOp) (rest : List ValueSpelling × Tail) (s : ValueSpelling) → is_number op ≡ true → scalar_of op ≡ Some s → Rest (front ++ s ∷ []) ops rest → Rest front (op ∷ ops) rest
 unfolding parts
 rest_more front op ops rest s small is more = record {
   sound = λ h. more.sound (sound_with front s h (scalar_sound op s is));
@@ -225,7 +225,7 @@ rest_more front op ops rest s small is more = record {
 }
 
 -- an array, and its element behind it
-rest_array : (front : List Scalar) (e : AbbrevOp) (rest : List Scalar × Tail) (tail : Tail) → Element e tail → (let one : List Scalar × Tail = (front, tail) in one ≡ rest) → Rest front (Array ∷ e ∷ []) rest
+rest_array : (front : List ValueSpelling) (e : AbbrevOp) (rest : List ValueSpelling × Tail) (tail : Tail) → Element e tail → (let one : List ValueSpelling × Tail = (front, tail) in one ≡ rest) → Rest front (Array ∷ e ∷ []) rest
 unfolding parts part part_by
 rest_array front e rest tail inside is = rw (← is, ← inside.is) (record {
   sound = λ h. h;
@@ -238,7 +238,7 @@ rest_array front e rest tail inside is = rw (← is, ← inside.is) (record {
       rw (all, way at bits) refl);
 })
 
-rest_blob : (front : List Scalar) (rest : List Scalar × Tail) → (let one : List Scalar × Tail = (front, Bytes) in one ≡ rest) → Rest front (Blob ∷ []) rest
+rest_blob : (front : List ValueSpelling) (rest : List ValueSpelling × Tail) → (let one : List ValueSpelling × Tail = (front, Bytes) in one ≡ rest) → Rest front (Blob ∷ []) rest
 unfolding parts part part_by
 rest_blob front rest is = rw (← is) (record {
   sound = λ h. h;
@@ -253,7 +253,7 @@ rest_blob front rest is = rw (← is) (record {
 pair_of : {A : Type 0} (x y : A) → Some x ≡ Some y → x ≡ y
 pair_of x y h = cc
 
-rest_at : (front : List Scalar) (ops : List AbbrevOp) (rest : List Scalar × Tail) → list_all is_number ops ≡ true → rest_of front ops ≡ Some rest → Rest front ops rest
+rest_at : (front : List ValueSpelling) (ops : List AbbrevOp) (rest : List ValueSpelling × Tail) → list_all is_number ops ≡ true → rest_of front ops ≡ Some rest → Rest front ops rest
 unfolding rest_of
 rest_at front [] rest small is = rest_none front rest (pair_of _ _ is)
 rest_at front (Array ∷ []) rest small is = absurd (cc)
@@ -268,21 +268,21 @@ rest_at front (Literal n ∷ ops) rest small is =
     let both = and_parts (is_number (Literal n)) (list_all is_number ops) small in
     rest_more front (Literal n) ops rest (Known n) both.0 refl (rest_at (front ++ Known n ∷ []) ops rest both.1 is)
 rest_at front (Fixed w ∷ ops) rest small is = by_scalar (scalar_of (Fixed w)) refl (λ s more. rest_at (front ++ s ∷ []) ops rest small more) where
-  by_scalar : (o : Option Scalar) → scalar_of (Fixed w) ≡ o → ((s : Scalar) → rest_of (front ++ s ∷ []) ops ≡ Some rest → Rest (front ++ s ∷ []) ops rest) → Rest front (Fixed w ∷ ops) rest
+  by_scalar : (o : Option ValueSpelling) → scalar_of (Fixed w) ≡ o → ((s : ValueSpelling) → rest_of (front ++ s ∷ []) ops ≡ Some rest → Rest (front ++ s ∷ []) ops rest) → Rest front (Fixed w ∷ ops) rest
   by_scalar None none f = let never = rw none at is in absurd (cc)
   by_scalar (Some s) some f = rest_more front (Fixed w) ops rest s refl some (f s (rw some at is))
 rest_at front (Vbr w ∷ ops) rest small is = by_scalar (scalar_of (Vbr w)) refl (λ s more. rest_at (front ++ s ∷ []) ops rest small more) where
-  by_scalar : (o : Option Scalar) → scalar_of (Vbr w) ≡ o → ((s : Scalar) → rest_of (front ++ s ∷ []) ops ≡ Some rest → Rest (front ++ s ∷ []) ops rest) → Rest front (Vbr w ∷ ops) rest
+  by_scalar : (o : Option ValueSpelling) → scalar_of (Vbr w) ≡ o → ((s : ValueSpelling) → rest_of (front ++ s ∷ []) ops ≡ Some rest → Rest (front ++ s ∷ []) ops rest) → Rest front (Vbr w ∷ ops) rest
   by_scalar None none f = let never = rw none at is in absurd (cc)
   by_scalar (Some s) some f = rest_more front (Vbr w) ops rest s refl some (f s (rw some at is))
 rest_at front (Char6 ∷ ops) rest small is = rest_more front Char6 ops rest Letter refl refl (rest_at (front ++ Letter ∷ []) ops rest small is)
 
 -- the whole definition
-pub record Admitted (ops : List AbbrevOp) (t : Template) : Type 0 where
+pub record Admitted (ops : List AbbrevOp) (t : AdmittedAbbreviation) : Type 0 where
   pub sound : Sound t
   pub reads : ReadsAs template (definition_bits ops) t
 
-admitted_by : (op : AbbrevOp) (ops : List AbbrevOp) (code : Scalar) (rest : List Scalar × Tail) → length ops < 64 → is_number op ≡ true → scalar_of op ≡ Some code → Rest [] ops rest
+admitted_by : (op : AbbrevOp) (ops : List AbbrevOp) (code : ValueSpelling) (rest : List ValueSpelling × Tail) → length ops < 64 → is_number op ≡ true → scalar_of op ≡ Some code → Rest [] ops rest
     → Admitted (op ∷ ops) (record { code = code; operands = rest.0; tail = rest.1 })
 unfolding template definition_bits
 admitted_by op ops code rest few small is behind = record {
@@ -300,18 +300,18 @@ admitted_by op ops code rest few small is behind = record {
       rw (whole, vbr_reads 5 k (omega arith) (omega arith) at (here ++ (more ++ bits)), some, within, first_reads op code small is (at + length count) (more ++ bits), less, behind.reads (at + length count + length here) bits, place) refl);
 }
 
-pub admitted : (ops : List AbbrevOp) (t : Template) → list_all is_number ops ≡ true → template_for ops ≡ Some t → Admitted ops t
+pub admitted : (ops : List AbbrevOp) (t : AdmittedAbbreviation) → list_all is_number ops ≡ true → template_for ops ≡ Some t → Admitted ops t
 unfolding template_for
 admitted [] t small is = absurd (cc)
 admitted (op ∷ ops) t small is = by_count (nat_lt 64 (suc (length ops))) refl where
-  by_rest : (code : Scalar) (o : Option (List Scalar × Tail)) → scalar_of op ≡ Some code → rest_of [] ops ≡ o → length ops < 64 → (option_map (λ rest. record { code = code; operands = rest.0; tail = rest.1 }) (rest_of [] ops) ≡ Some t) → Admitted (op ∷ ops) t
+  by_rest : (code : ValueSpelling) (o : Option (List ValueSpelling × Tail)) → scalar_of op ≡ Some code → rest_of [] ops ≡ o → length ops < 64 → (option_map (λ rest. record { code = code; operands = rest.0; tail = rest.1 }) (rest_of [] ops) ≡ Some t) → Admitted (op ∷ ops) t
   by_rest code None has none few all = let never = rw none at all in absurd (cc)
   by_rest code (Some rest) has some few all =
       let both = and_parts (is_number op) (list_all is_number ops) small in
       let t_is : record { code = code; operands = rest.0; tail = rest.1 } ≡ t = pair_of _ _ (rw some at all) in
       rw t_is at (admitted_by op ops code rest few both.0 has (rest_at [] ops rest both.1 some))
 
-  by_code : (o : Option Scalar) → scalar_of op ≡ o → nat_lt 64 (suc (length ops)) ≡ false → Admitted (op ∷ ops) t
+  by_code : (o : Option ValueSpelling) → scalar_of op ≡ o → nat_lt 64 (suc (length ops)) ≡ false → Admitted (op ∷ ops) t
   by_code None none few = let never = rw (few, none) at is in absurd (cc)
   by_code (Some code) has few = by_rest code (rest_of [] ops) has refl (omega (arith, ltb-false 64 (suc (length ops)) few)) (rw (few, has) at is)
 

@@ -10,7 +10,7 @@ use Rattle.bits.proofs.BitsLaws.{length-stream_bits}
 use Rattle.bit_stream.specs.declared.entry.Entry.{Entry}
 use Rattle.bit_stream.specs.declared.entry.Entry.TheVariants.{Block, EndBlock, Record, End}
 use Rattle.bit_stream.specs.Scope.{Scope, top_level}
-use Rattle.bit_stream.specs.Entry.{Item, item, is_top, plain, id_at, has_blob_by}
+use Rattle.bit_stream.specs.Entry.{StreamItem, item, is_top, plain, id_at, has_blob_by}
 use Rattle.bit_stream.specs.Reader.{begins}
 use Rattle.bit_tree.specs.Stream.{Tree, next_id, opening, Stream, is_end, fault_from, stream_fault, entries}
 use Rattle.bit_tree.proofs.Leaving.{IsWide, IsEnd, Goes, what_stands, top_wide}
@@ -32,7 +32,7 @@ unfolding fault_from
 fault_here zero s c x some h = absurd (omega arith)
 fault_here (suc n) s c x some h = rw h refl
 
-pub no_fault_here : (n : ℕ) (s : Scope) (c d : Cursor) (i : Item) → item s c ≡ Ok (i, d) → i.entry ≡ Some End → fault_from n s c ≡ None
+pub no_fault_here : (n : ℕ) (s : Scope) (c d : Cursor) (i : StreamItem) → item s c ≡ Ok (i, d) → i.entry ≡ Some End → fault_from n s c ≡ None
 unfolding fault_from
 no_fault_here zero s c d i h is = refl
 no_fault_here (suc n) s c d i h is = rw (h, is) refl
@@ -50,14 +50,14 @@ no_items : (bits : List Bool) → length bits ≡ 0 → bits ≡ []
 no_items [] h = refl
 no_items (b ∷ bits) h = absurd (omega arith)
 
-ends_here : (s : Scope) (c d : Cursor) (i : Item) → IsEnd s c i d → Ends s c
+ends_here : (s : Scope) (c d : Cursor) (i : StreamItem) → IsEnd s c i d → Ends s c
 ends_here s c d i end = record { pieces = []; scope = s; cursor = c; way = stop; top = end.top; none = no_items c.rest end.none }
 
-ends_behind : (s : Scope) (c d : Cursor) (i : Item) (p : Piece) → Step s c p i d → Ends i.scope d → Ends s c
+ends_behind : (s : Scope) (c d : Cursor) (i : StreamItem) (p : Piece) → Step s c p i d → Ends i.scope d → Ends s c
 ends_behind s c d i p first on = record { pieces = p ∷ on.pieces; scope = on.scope; cursor = on.cursor; way = step i first on.way; top = on.top; none = on.none }
 
 -- the piece that stands here
-pub piece_by : (s : Scope) (c d : Cursor) (i : Item) (e : Option Entry) → item s c ≡ Ok (i, d) → i.entry ≡ e → Goes s c i d → (p : Piece) × Step s c p i d
+pub piece_by : (s : Scope) (c d : Cursor) (i : StreamItem) (e : Option Entry) → item s c ≡ Ok (i, d) → i.entry ≡ e → Goes s c i d → (p : Piece) × Step s c p i d
 piece_by s c d i None h is on = let def = on.template is in (defines (next_id s) def.0, (record { reads = h; is = is }, def.1, refl))
 piece_by s c d i (Some (Block id)) h is on = (begun id i.scope.block.width i.scope.block.words, (record { reads = h; is = is }, refl, refl))
 piece_by s c d i (Some EndBlock) h is on = (ended, record { reads = h; is = is })
@@ -68,13 +68,13 @@ pub either_way : (n : ℕ) (s : Scope) (c : Cursor) → IsWide s → length c.re
 unfolding fault_from
 either_way zero s c wide few = absurd (omega arith)
 either_way (suc n) s c wide few = by_item (λ t d wider fewer. either_way n t d wider fewer) (item s c) refl where
-  behind : (d : Cursor) (i : Item) (p : Piece) → Step s c p i d → item s c ≡ Ok (i, d) → Ends i.scope d ⊎ ((x : BitFault) × (fault_from n i.scope d ≡ Some x)) → Ends s c ⊎ ((x : BitFault) × (fault_from (suc n) s c ≡ Some x))
+  behind : (d : Cursor) (i : StreamItem) (p : Piece) → Step s c p i d → item s c ≡ Ok (i, d) → Ends i.scope d ⊎ ((x : BitFault) × (fault_from n i.scope d ≡ Some x)) → Ends s c ⊎ ((x : BitFault) × (fault_from (suc n) s c ≡ Some x))
   behind d i p first h (inl on) = inl (ends_behind s c d i p first on)
   behind d i p first h (inr on) =
       let goes_on : is_end i.entry ≡ false = rw (stands p i first).is (no_end p) in
       inr (on.0, rw (h, goes_on) on.1)
 
-  by_item : ((t : Scope) (d : Cursor) → IsWide t → length d.rest < n → Ends t d ⊎ ((x : BitFault) × (fault_from n t d ≡ Some x))) → (f : Found Item) → item s c ≡ f → Ends s c ⊎ ((x : BitFault) × (fault_from (suc n) s c ≡ Some x))
+  by_item : ((t : Scope) (d : Cursor) → IsWide t → length d.rest < n → Ends t d ⊎ ((x : BitFault) × (fault_from n t d ≡ Some x))) → (f : Found StreamItem) → item s c ≡ f → Ends s c ⊎ ((x : BitFault) × (fault_from (suc n) s c ≡ Some x))
   by_item more (Err x) h = inr (x, rw h refl)
   by_item more (Ok x) h = elim (what_stands s c x.1 x.0 wide h) [
     | inl end ↦ inl (ends_here s c x.1 x.0 end)

@@ -11,11 +11,11 @@ use Rattle.bits.specs.declared.fault.BitFaultKind.TheVariants.{BadBlockLength, N
 use Rattle.bit_stream.specs.Answers.{refuse}
 use Rattle.bit_stream.specs.declared.entry.Entry.{Entry}
 use Rattle.bit_stream.specs.declared.entry.Entry.TheVariants.{Block, EndBlock, Record, End}
-use Rattle.bit_stream.specs.Abbreviation.{Template}
+use Rattle.bit_stream.specs.Abbreviation.{AdmittedAbbreviation}
 use Rattle.bit_stream.specs.Definition.{template}
 use Rattle.bit_stream.specs.Record.{Read, unabbreviated}
 use Rattle.bit_stream.specs.Scope.{Scope, Frame, top_level, template_of}
-use Rattle.bit_stream.specs.Entry.{Item, plain, is_top, is_blockinfo, came, entered, left, defined, given_for, enter_sized, enter_wide, enter_named, enter_block, words_since, end_block, define_for, define, named, recorded, by_template, record_by, inside, item, defined_at}
+use Rattle.bit_stream.specs.Entry.{StreamItem, plain, is_top, is_blockinfo, came, entered, block_left, defined, given_for, enter_sized, enter_wide, enter_named, enter_block, words_since, end_block, define_for, define, with_target, recorded, by_template, record_by, inside, item, defined_at}
 use Rattle.bit_stream.specs.Writer.{in_force}
 use Rattle.bit_stream.proofs.ReadBack.{all_take}
 use Rattle.bit_tree.proofs.Numbered.{in_force_given, in_force_defined}
@@ -56,33 +56,33 @@ is_record (Some (Record code)) = true
 is_record (Some End) = false
 
 -- what was found behind an abbreviation id, and, where it is a definition, its abbreviation
-pub record Leaves (s : Scope) (c : Cursor) (defined : Found Template) (i : Item) (d : Cursor) : Type 0 where
+pub record Leaves (s : Scope) (c : Cursor) (defined : Found AdmittedAbbreviation) (i : StreamItem) (d : Cursor) : Type 0 where
   pub depth : depths (length s.around) i.entry (length i.scope.around)
   pub wide : IsWide i.scope
   pub ahead : length d.rest ≤ length c.rest
-  pub template : i.entry ≡ None → (t : Template) × (defined ≡ Ok (t, d))
+  pub template : i.entry ≡ None → (t : AdmittedAbbreviation) × (defined ≡ Ok (t, d))
   pub next : i.entry ≡ None → in_force i.scope ≡ in_force s + 1
   pub bare : is_record i.entry ≡ false → (i.operands ≡ []) × (i.blob ≡ [])
 
-record Leads (s : Scope) (c : Cursor) (t : Found Template) (f : Found Item) : Type 0 where
+record Leads (s : Scope) (c : Cursor) (t : Found AdmittedAbbreviation) (f : Found StreamItem) : Type 0 where
   is : IfOk f (λ x. Leaves s c t x.0 x.1)
 
-refused : (s : Scope) (c : Cursor) (t : Found Template) (e : BitFault) → Leads s c t (Err e)
+refused : (s : Scope) (c : Cursor) (t : Found AdmittedAbbreviation) (e : BitFault) → Leads s c t (Err e)
 refused s c t e = record { is = tt }
 
-on_test : (s : Scope) (c : Cursor) (t : Found Template) (b : Bool) (x y : Found Item) → (b ≡ true → Leads s c t x) → (b ≡ false → Leads s c t y) → Leads s c t (if b then x else y)
+on_test : (s : Scope) (c : Cursor) (t : Found AdmittedAbbreviation) (b : Bool) (x y : Found StreamItem) → (b ≡ true → Leads s c t x) → (b ≡ false → Leads s c t y) → Leads s c t (if b then x else y)
 on_test s c t true x y h k = h refl
 on_test s c t false x y h k = k refl
 
-nearer : (s : Scope) (c d : Cursor) (t : Found Template) (f : Found Item) → length d.rest ≤ length c.rest → Leads s d t f → Leads s c t f
+nearer : (s : Scope) (c d : Cursor) (t : Found AdmittedAbbreviation) (f : Found StreamItem) → length d.rest ≤ length c.rest → Leads s d t f → Leads s c t f
 nearer s c d t (Ok x) le h = let all : Leaves s d t x.0 x.1 = h.is in record { is = record { depth = all.depth; wide = all.wide; ahead = omega (arith, all.ahead); template = all.template; next = all.next; bare = all.bare } }
 nearer s c d t (Err e) le h = refused s c t e
 
-behind : {A : Type 0} (s : Scope) (c : Cursor) (t : Found Template) (f : Found A) (g : A → Cursor → Found Item) → Forward 0 c f → ((x : A) (d : Cursor) → Leads s d t (g x d)) → Leads s c t (f >>= g)
+behind : {A : Type 0} (s : Scope) (c : Cursor) (t : Found AdmittedAbbreviation) (f : Found A) (g : A → Cursor → Found StreamItem) → Forward 0 c f → ((x : A) (d : Cursor) → Leads s d t (g x d)) → Leads s c t (f >>= g)
 behind s c t (Ok x) g h k = let ahead : length x.1.rest + 0 ≤ length c.rest = h.is in nearer s c x.1 t (g x.0 x.1) (omega arith) (k x.0 x.1)
 behind s c t (Err e) g h k = refused s c t e
 
-entered_leaves : (s : Scope) (c : Cursor) (t : Found Template) (id width bit words : ℕ) → IsWide s → 1 ≤ width → Leaves s c t (plain (Some (Block id)) (entered s id width bit words)) c
+entered_leaves : (s : Scope) (c : Cursor) (t : Found AdmittedAbbreviation) (id width bit words : ℕ) → IsWide s → 1 ≤ width → Leaves s c t (plain (Some (Block id)) (entered s id width bit words)) c
 entered_leaves s c t id width bit words wide low = record {
   depth = omega (arith, length-append s.around (s.block ∷ []));
   wide = record { own = low; around = all_with (λ (f : Frame). 1 ≤ f.width) s.around s.block wide.around wide.own };
@@ -92,7 +92,7 @@ entered_leaves s c t id width bit words wide low = record {
   bare = λ _. (refl, refl);
 }
 
-enter_sized_leaves : (s : Scope) (t : Found Template) (id width : ℕ) (c : Cursor) → IsWide s → 1 ≤ width → Leads s c t (enter_sized s id width c)
+enter_sized_leaves : (s : Scope) (t : Found AdmittedAbbreviation) (id width : ℕ) (c : Cursor) → IsWide s → 1 ≤ width → Leads s c t (enter_sized s id width c)
 enter_sized_leaves s t id width c wide low = behind s c t (align c) (λ _ d. fixed 32 d >>= λ words e. Ok (plain (Some (Block id)) (entered s id width d.at words), e)) (align_forward c) (λ _ d.
     behind s d t (fixed 32 d) (λ words e. Ok (plain (Some (Block id)) (entered s id width d.at words), e)) (fixed_forward_any 32 d) (λ words e. record { is = entered_leaves s e t id width d.at words wide low }))
 
@@ -102,21 +102,21 @@ not_low width h = elim (cases_Bool (nat_lt width 2)) [
   | inr high ↦ omega (arith, ltb-false width 2 high)
 ]
 
-enter_wide_leaves : (s : Scope) (t : Found Template) (id bit width : ℕ) (c : Cursor) → IsWide s → Leads s c t (enter_wide s id bit width c)
+enter_wide_leaves : (s : Scope) (t : Found AdmittedAbbreviation) (id bit width : ℕ) (c : Cursor) → IsWide s → Leads s c t (enter_wide s id bit width c)
 enter_wide_leaves s t id bit width c wide = on_test s c t (nat_lt width 2 || nat_lt 32 width) (refuse bit) (enter_sized s id width c) (λ _. refused s c t _) (λ ok. enter_sized_leaves s t id width c wide (not_low width ok))
 
-enter_named_leaves : (s : Scope) (t : Found Template) (bit id : ℕ) (c : Cursor) → IsWide s → Leads s c t (enter_named s bit id c)
+enter_named_leaves : (s : Scope) (t : Found AdmittedAbbreviation) (bit id : ℕ) (c : Cursor) → IsWide s → Leads s c t (enter_named s bit id c)
 enter_named_leaves s t bit id c wide =
-    let deep : Found Item = if length s.around == 16 then Err (record { kind = NestedTooDeep; bit = bit }) else (vbr 4 c >>= λ width d. enter_wide s id c.at width d) in
+    let deep : Found StreamItem = if length s.around == 16 then Err (record { kind = NestedTooDeep; bit = bit }) else (vbr 4 c >>= λ width d. enter_wide s id c.at width d) in
     on_test s c t (nat_le (2 ^ 32) id) (refuse bit) deep (λ _. refused s c t _) (λ _.
     on_test s c t (length s.around == 16) (Err (record { kind = NestedTooDeep; bit = bit })) (vbr 4 c >>= λ width d. enter_wide s id c.at width d) (λ _. refused s c t _) (λ _.
     behind s c t (vbr 4 c) (λ width d. enter_wide s id c.at width d) (vbr_forward 4 c) (λ width d. enter_wide_leaves s t id c.at width d wide)))
 
-enter_block_leaves : (s : Scope) (t : Found Template) (c : Cursor) → IsWide s → Leads s c t (enter_block s c)
+enter_block_leaves : (s : Scope) (t : Found AdmittedAbbreviation) (c : Cursor) → IsWide s → Leads s c t (enter_block s c)
 unfolding enter_block
 enter_block_leaves s t c wide = behind s c t (vbr 8 c) (λ id d. enter_named s c.at id d) (vbr_forward 8 c) (λ id d. enter_named_leaves s t c.at id d wide)
 
-left_leaves : (s : Scope) (c : Cursor) (t : Found Template) → IsWide s → is_top s ≡ false → Leaves s c t (plain (Some EndBlock) (left s)) c
+left_leaves : (s : Scope) (c : Cursor) (t : Found AdmittedAbbreviation) → IsWide s → is_top s ≡ false → Leaves s c t (plain (Some EndBlock) (block_left s)) c
 left_leaves s c t wide unclosed =
     let some : length s.around ≡ 0 → ⊥ = eqb-false (length s.around) 0 unclosed in
     let most : length s.around - 1 ≤ length s.around = omega arith in
@@ -129,15 +129,15 @@ left_leaves s c t wide unclosed =
       bare = λ _. (refl, refl);
     }
 
-end_block_leaves : (s : Scope) (t : Found Template) (c : Cursor) → IsWide s → is_top s ≡ false → Leads s c t (end_block s c)
+end_block_leaves : (s : Scope) (t : Found AdmittedAbbreviation) (c : Cursor) → IsWide s → is_top s ≡ false → Leads s c t (end_block s c)
 unfolding end_block
 end_block_leaves s t c wide unclosed =
     let bad : BitFault = record { kind = BadBlockLength; bit = s.block.count_bit } in
-    behind s c t (align c) (λ _ d. if words_since s.block.count_bit d.at == s.block.words then Ok (plain (Some EndBlock) (left s), d) else Err (record { kind = BadBlockLength; bit = s.block.count_bit })) (align_forward c) (λ _ d.
-    on_test s d t (words_since s.block.count_bit d.at == s.block.words) (Ok (plain (Some EndBlock) (left s), d)) (Err (record { kind = BadBlockLength; bit = s.block.count_bit })) (λ _. record { is = left_leaves s d t wide unclosed }) (λ _. refused s d t bad))
+    behind s c t (align c) (λ _ d. if words_since s.block.count_bit d.at == s.block.words then Ok (plain (Some EndBlock) (block_left s), d) else Err (record { kind = BadBlockLength; bit = s.block.count_bit })) (align_forward c) (λ _ d.
+    on_test s d t (words_since s.block.count_bit d.at == s.block.words) (Ok (plain (Some EndBlock) (block_left s), d)) (Err (record { kind = BadBlockLength; bit = s.block.count_bit })) (λ _. record { is = left_leaves s d t wide unclosed }) (λ _. refused s d t bad))
 
 -- a definition
-definition_leaves : (s : Scope) (c : Cursor) (to : Template → Scope) → ((x : Template) → (length (to x).around ≡ length s.around) × IsWide (to x) × (in_force (to x) ≡ in_force s + 1)) → (f : Found Template) → Forward 1 c f → Leads s c f (f >>= λ x d. Ok (plain None (to x), d))
+definition_leaves : (s : Scope) (c : Cursor) (to : AdmittedAbbreviation → Scope) → ((x : AdmittedAbbreviation) → (length (to x).around ≡ length s.around) × IsWide (to x) × (in_force (to x) ≡ in_force s + 1)) → (f : Found AdmittedAbbreviation) → Forward 1 c f → Leads s c f (f >>= λ x d. Ok (plain None (to x), d))
 definition_leaves s c to kept (Ok x) h = let ahead : length x.1.rest + 1 ≤ length c.rest = h.is in record { is = record { depth = (kept x.0).0; wide = (kept x.0).1; ahead = omega arith; template = λ _. (x.0, refl); next = λ _. (kept x.0).2; bare = λ _. (refl, refl) } }
 definition_leaves s c to kept (Err e) h = refused s c (Err e) e
 
@@ -155,7 +155,7 @@ define_leaves bit s c wide = on_test s c (template c) (is_blockinfo s) _ _ (λ i
 abbrev Kept : Scope → Result Scope BitFault → Type 0
 Kept s r = IfOk r (λ t. (length t.around ≡ length s.around) × IsWide t)
 
-named_keeps : (bit : ℕ) (s : Scope) (operands : List ℕ) → IsWide s → Kept s (named bit s operands)
+named_keeps : (bit : ℕ) (s : Scope) (operands : List ℕ) → IsWide s → Kept s (with_target bit s operands)
 named_keeps bit s [] wide = tt
 named_keeps bit s (id ∷ others) wide = (refl, record { own = wide.own; around = wide.around })
 
@@ -165,18 +165,18 @@ kept_if s false x y h k = k
 
 recorded_keeps : (bit : ℕ) (s : Scope) (code : ℕ) (operands : List ℕ) → IsWide s → Kept s (recorded bit s code operands)
 unfolding recorded
-recorded_keeps bit s code operands wide = kept_if s _ (named bit s operands) (Ok s) (named_keeps bit s operands wide) (refl, wide)
+recorded_keeps bit s code operands wide = kept_if s _ (with_target bit s operands) (Ok s) (named_keeps bit s operands wide) (refl, wide)
 
-came_leaves : (s : Scope) (r : Read) (c : Cursor) (t : Found Template) (u : Result Scope BitFault) → Kept s u → Leads s c t (came r c u)
+came_leaves : (s : Scope) (r : Read) (c : Cursor) (t : Found AdmittedAbbreviation) (u : Result Scope BitFault) → Kept s u → Leads s c t (came r c u)
 came_leaves s r c t (Ok u) kept = record { is = record { depth = kept.0; wide = kept.1; ahead = omega arith; template = λ no. absurd (cc); next = λ no. absurd (cc); bare = λ no. absurd (cc) } }
 came_leaves s r c t (Err e) kept = refused s c t e
 
-by_template_forward : (u : Option Template) (bit : ℕ) (b : Bool) (c : Cursor) → Forward 0 c (by_template u bit b c)
+by_template_forward : (u : Option AdmittedAbbreviation) (bit : ℕ) (b : Bool) (c : Cursor) → Forward 0 c (by_template u bit b c)
 unfolding by_template
 by_template_forward None bit b c = forward_none 0 c _
 by_template_forward (Some u) bit b c = abbreviated_forward b u c
 
-record_by_leaves : (id bit : ℕ) (s : Scope) (t : Found Template) (c : Cursor) → IsWide s → Leads s c t (record_by id bit s c)
+record_by_leaves : (id bit : ℕ) (s : Scope) (t : Found AdmittedAbbreviation) (c : Cursor) → IsWide s → Leads s c t (record_by id bit s c)
 unfolding record_by
 record_by_leaves id bit s t c wide = on_test s c t (id == 3) _ _
     (λ _. behind s c t (unabbreviated (is_blockinfo s) c) (λ r d. came r d (recorded bit s r.code r.operands)) (unabbreviated_forward (is_blockinfo s) c) (λ r d. came_leaves s r d t _ (recorded_keeps bit s r.code r.operands wide)))
@@ -190,34 +190,34 @@ inside_leaves id bit s c wide unclosed =
     on_test s c (template c) (id == 2) (define bit s c) (record_by id bit s c) (λ _. define_leaves bit s c wide) (λ _. record_by_leaves id bit s (template c) c wide)))
 
 -- the end of the stream
-pub record IsEnd (s : Scope) (c : Cursor) (i : Item) (d : Cursor) : Type 0 where
+pub record IsEnd (s : Scope) (c : Cursor) (i : StreamItem) (d : Cursor) : Type 0 where
   pub top : is_top s ≡ true
   pub none : length c.rest ≡ 0
   pub entry : i.entry ≡ Some End
 
 -- anything else
-pub record Goes (s : Scope) (c : Cursor) (i : Item) (d : Cursor) : Type 0 where
+pub record Goes (s : Scope) (c : Cursor) (i : StreamItem) (d : Cursor) : Type 0 where
   pub depth : depths (length s.around) i.entry (length i.scope.around)
   pub wide : IsWide i.scope
   pub fewer : length d.rest < length c.rest
-  pub template : i.entry ≡ None → (t : Template) × (defined_at s c ≡ Ok (t, d))
+  pub template : i.entry ≡ None → (t : AdmittedAbbreviation) × (defined_at s c ≡ Ok (t, d))
   pub next : i.entry ≡ None → in_force i.scope ≡ in_force s + 1
   pub bare : is_record i.entry ≡ false → (i.operands ≡ []) × (i.blob ≡ [])
 
-record Facts (s : Scope) (c : Cursor) (f : Found Item) : Type 0 where
+record Facts (s : Scope) (c : Cursor) (f : Found StreamItem) : Type 0 where
   is : IfOk f (λ x. IsEnd s c x.0 x.1 ⊎ Goes s c x.0 x.1)
 
-goes_from : (s : Scope) (c d : Cursor) (f : Found Item) → defined_at s c ≡ template d → length d.rest < length c.rest → Leads s d (template d) f → Facts s c f
+goes_from : (s : Scope) (c d : Cursor) (f : Found StreamItem) → defined_at s c ≡ template d → length d.rest < length c.rest → Leads s d (template d) f → Facts s c f
 goes_from s c d (Ok x) same less h = let all : Leaves s d (template d) x.0 x.1 = h.is in
     record { is = inr (record { depth = all.depth; wide = all.wide; fewer = omega (arith, all.ahead); template = λ no. let t = all.template no in (t.0, rw same t.1); next = all.next; bare = all.bare }) }
 goes_from s c d (Err e) same less h = record { is = tt }
 
-behind_id : (s : Scope) (c : Cursor) (f : Found ℕ) (g : ℕ → Cursor → Found Item) → fixed s.block.width c ≡ f → IsWide s → Forward s.block.width c f → ((id : ℕ) (d : Cursor) → Leads s d (template d) (g id d)) → Facts s c (f >>= g)
+behind_id : (s : Scope) (c : Cursor) (f : Found ℕ) (g : ℕ → Cursor → Found StreamItem) → fixed s.block.width c ≡ f → IsWide s → Forward s.block.width c f → ((id : ℕ) (d : Cursor) → Leads s d (template d) (g id d)) → Facts s c (f >>= g)
 unfolding defined_at
 behind_id s c (Ok x) g is wide h k = let ahead : length x.1.rest + s.block.width ≤ length c.rest = h.is in goes_from s c x.1 (g x.0 x.1) (rw is refl) (omega (arith, wide.own)) (k x.0 x.1)
 behind_id s c (Err e) g is wide h k = record { is = tt }
 
-facts_if : (s : Scope) (c : Cursor) (b : Bool) (x y : Found Item) → (b ≡ true → Facts s c x) → Facts s c y → Facts s c (if b then x else y)
+facts_if : (s : Scope) (c : Cursor) (b : Bool) (x y : Found StreamItem) → (b ≡ true → Facts s c x) → Facts s c y → Facts s c (if b then x else y)
 facts_if s c true x y h k = h refl
 facts_if s c false x y h k = k
 
@@ -225,7 +225,7 @@ item_facts : (s : Scope) (c : Cursor) → IsWide s → Facts s c (item s c)
 unfolding item
 item_facts s c wide =
     let more = λ (id : ℕ) (d : Cursor). if is_top s then (if id == 1 then enter_block s d else refuse c.at) else inside id c.at s d in
-    let first : Found Item = Ok (plain (Some End) s, c) in
+    let first : Found StreamItem = Ok (plain (Some End) s, c) in
     facts_if s c (is_top s && (length c.rest == 0)) first (fixed s.block.width c >>= more)
     (λ both. let parts = and_parts (is_top s) (length c.rest == 0) both in record { is = inl (record { top = parts.0; none = eqb-true (length c.rest) 0 parts.1; entry = refl }) })
     (behind_id s c (fixed s.block.width c) more refl wide (fixed_forward s.block.width c) (λ id d.
@@ -233,5 +233,5 @@ item_facts s c wide =
     (λ _. on_test s d (template d) (id == 1) (enter_block s d) (refuse c.at) (λ _. enter_block_leaves s (template d) d wide) (λ _. refused s d (template d) _))
     (λ unclosed. inside_leaves id c.at s d wide unclosed)))
 
-pub what_stands : (s : Scope) (c d : Cursor) (i : Item) → IsWide s → item s c ≡ Ok (i, d) → IsEnd s c i d ⊎ Goes s c i d
+pub what_stands : (s : Scope) (c d : Cursor) (i : StreamItem) → IsWide s → item s c ≡ Ok (i, d) → IsEnd s c i d ⊎ Goes s c i d
 what_stands s c d i wide h = let all = rw h at (item_facts s c wide) in all.is

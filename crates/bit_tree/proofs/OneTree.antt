@@ -3,25 +3,25 @@ use Rattle.std.proofs.Common.{◌≡◌, ℕ, Bool, true, false, List, Option, S
 use Rattle.bits.specs.Cursor.{Cursor}
 use Rattle.bit_stream.specs.declared.entry.Entry.{Entry}
 use Rattle.bit_stream.specs.declared.entry.Entry.TheVariants.{Block, EndBlock, Record, End}
-use Rattle.bit_stream.specs.Abbreviation.{Template}
+use Rattle.bit_stream.specs.Abbreviation.{AdmittedAbbreviation}
 use Rattle.bit_stream.specs.Scope.{Scope}
-use Rattle.bit_stream.specs.Entry.{Item, defined_at}
+use Rattle.bit_stream.specs.Entry.{StreamItem, defined_at}
 use Rattle.bit_tree.specs.Stream.{Tree, Stands, Holds, none, of_block, of_definition, of_record, Stream}
 use Rattle.bit_tree.proofs.Faults.{end_stands}
 
 -- one thing stands at a place
-record Agree (e f : Option Entry) (i j : Item) (c d : Cursor) : Type 0 where
+record Agree (e f : Option Entry) (i j : StreamItem) (c d : Cursor) : Type 0 where
   entry : e ≡ f
   it : i ≡ j
   place : c ≡ d
 
-agree : (s : Scope) (c d f : Cursor) (x y : Option Entry) (i j : Item) → Stands s c x i d → Stands s c y j f → Agree x y i j d f
+agree : (s : Scope) (c d f : Cursor) (x y : Option Entry) (i j : StreamItem) → Stands s c x i d → Stands s c y j f → Agree x y i j d f
 agree s c d f x y i j h k =
-    let one : Item × Cursor = (i, d) in
-    let other : Item × Cursor = (j, f) in
+    let one : StreamItem × Cursor = (i, d) in
+    let other : StreamItem × Cursor = (j, f) in
     let both : one ≡ other = cc (h.reads, k.reads) in
-    let it : i ≡ j = ap (λ (p : Item × Cursor). p.0) both in
-    record { entry = sym h.is ∙ (ap (λ (x : Item). x.entry) it ∙ k.is); it = it; place = ap (λ (p : Item × Cursor). p.1) both }
+    let it : i ≡ j = ap (λ (p : StreamItem × Cursor). p.0) both in
+    record { entry = sym h.is ∙ (ap (λ (x : StreamItem). x.entry) it ∙ k.is); it = it; place = ap (λ (p : StreamItem × Cursor). p.1) both }
 
 -- a block ends here, or the stream
 abbrev closes : Option Entry → Bool
@@ -33,7 +33,7 @@ closes (Some End) = true
 
 record Closed (s : Scope) (c : Cursor) : Type 0 where
   entry : Option Entry
-  item : Item
+  item : StreamItem
   behind : Cursor
   stands : Stands s c entry item behind
   closes : closes entry ≡ true
@@ -44,17 +44,17 @@ record Same (t u : Tree) (s v : Scope) (c d : Cursor) : Type 0 where
   scope : s ≡ v
   cursor : c ≡ d
 
-not_both : {T : Type 0} (s : Scope) (c d : Cursor) (e : Option Entry) (i : Item) → Stands s c e i d → Closed s c → closes e ≡ false → T
+not_both : {T : Type 0} (s : Scope) (c d : Cursor) (e : Option Entry) (i : StreamItem) → Stands s c e i d → Closed s c → closes e ≡ false → T
 not_both s c d e i h k never = let same = (agree s c d k.behind e k.entry i k.item h k.stands).entry in let two = rw same at never in absurd (cc (two, k.closes))
 
-defined_same : (s : Scope) (c d f : Cursor) (t u : Template) → defined_at s c ≡ Ok (t, d) → defined_at s c ≡ Ok (u, f) → t ≡ u
+defined_same : (s : Scope) (c d f : Cursor) (t u : AdmittedAbbreviation) → defined_at s c ≡ Ok (t, d) → defined_at s c ≡ Ok (u, f) → t ≡ u
 defined_same s c d f t u h k =
-    let one : Template × Cursor = (t, d) in
-    let other : Template × Cursor = (u, f) in
+    let one : AdmittedAbbreviation × Cursor = (t, d) in
+    let other : AdmittedAbbreviation × Cursor = (u, f) in
     let both : one ≡ other = cc (h, k) in
-    ap (λ (p : Template × Cursor). p.0) both
+    ap (λ (p : AdmittedAbbreviation × Cursor). p.0) both
 
-closed_by : {s : Scope} {c d : Cursor} (i : Item) → Stands s c (Some EndBlock) i d → Closed s c
+closed_by : {s : Scope} {c d : Cursor} (i : StreamItem) → Stands s c (Some EndBlock) i d → Closed s c
 closed_by i h = record { entry = Some EndBlock; item = i; behind = _; stands = h; closes = refl }
 
 same_tree : (one : Tree) (s t u : Scope) (c d e : Cursor) (other : Tree) → Holds s c one t d → Closed t d → Holds s c other u e → Closed u e → Same one other t u d e

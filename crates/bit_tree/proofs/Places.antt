@@ -9,7 +9,7 @@ use Rattle.bits.specs.Cursor.{Cursor, Found, ◌>>=◌}
 use Rattle.bits.specs.Reading.{vbr, gap, align, bytes, bytes_of, blob}
 use Rattle.bits.proofs.BitsLaws.{length-bits_of, value-bits_of}
 use Rattle.bits.proofs.ReaderSteps.{align_whole, bytes_whole}
-use Rattle.bit_stream.specs.declared.abbreviation.Scalar.TheVariants.{Field}
+use Rattle.bit_stream.specs.declared.abbreviation.ValueSpelling.TheVariants.{Field}
 use Rattle.bit_stream.specs.Spelling.{chunks, value_bits, all_fit, all_bits}
 use Rattle.bit_stream.specs.Law.{ReadsAs}
 use Rattle.bit_stream.proofs.ReadBack.{vbr_reads}

@@ -8,7 +8,7 @@ use Rattle.bits.specs.declared.fault.BitFault.{BitFault}
 use Rattle.bit_stream.specs.declared.entry.Entry.{Entry}
 use Rattle.bit_stream.specs.declared.entry.Entry.TheVariants.{Block, EndBlock, Record, End}
 use Rattle.bit_stream.specs.Scope.{Scope, top_level}
-use Rattle.bit_stream.specs.Entry.{Item, item, is_top, Next, here, refused, behind}
+use Rattle.bit_stream.specs.Entry.{StreamItem, item, is_top, Next, here, refused, behind}
 use Rattle.bit_stream.specs.Reader.{Reader, begins, untold, opened, Arrived, Entered}
 use Rattle.bit_stream.specs.declared.fault.StreamFault.{StreamFault}
 use Rattle.bit_stream.specs.declared.fault.StreamFault.TheVariants.{Bit, Memory}
@@ -20,7 +20,7 @@ use Rattle.bit_tree.proofs.Path.{Step, Path, stop, step, join, then, shown, all_
 use Rattle.bit_tree.proofs.Faults.{fault_on, fault_here, to_stream, opening_size, piece_by}
 
 -- the definitions in front of what stands there, and that
-pub record Ahead (s : Scope) (c : Cursor) (r : Found Item) : Type 0 where
+pub record Ahead (s : Scope) (c : Cursor) (r : Found StreamItem) : Type 0 where
   pub pieces : List Piece
   pub scope : Scope
   pub cursor : Cursor
@@ -28,7 +28,7 @@ pub record Ahead (s : Scope) (c : Cursor) (r : Found Item) : Type 0 where
   pub silent : all_shown pieces ≡ []
   pub stands : item scope cursor ≡ r
 
-pub reached : {s : Scope} {c : Cursor} {r : Found Item} → Next s c r → IsWide s → Ahead s c r
+pub reached : {s : Scope} {c : Cursor} {r : Found StreamItem} → Next s c r → IsWide s → Ahead s c r
 unfolding all_shown
 reached (here h is) wide = record { pieces = []; scope = _; cursor = _; way = stop; silent = refl; stands = h }
 reached (refused h) wide = record { pieces = []; scope = _; cursor = _; way = stop; silent = refl; stands = h }
@@ -74,11 +74,11 @@ no_bits [] h = refl
 no_bits (b ∷ bits) h = absurd (omega arith)
 
 -- where the end stands no block is open and no bit is left
-pub ends_at : (s : Scope) (c d : Cursor) (i : Item) → IsEnd s c i d ⊎ Goes s c i d → i.entry ≡ Some End → (is_top s ≡ true) × (c.rest ≡ [])
+pub ends_at : (s : Scope) (c d : Cursor) (i : StreamItem) → IsEnd s c i d ⊎ Goes s c i d → i.entry ≡ Some End → (is_top s ≡ true) × (c.rest ≡ [])
 ends_at s c d i (inl end) is = (end.top, no_bits c.rest end.none)
 ends_at s c d i (inr on) is = let never = rw is at on.depth in absurd never
 
-pub at_end : (bytes : List ℕ) (r : Reader) (all : List Shown) (i : Item) (d : Cursor) → CameBy bytes r all → Next r.scope r.cursor (Ok (i, d)) → i.entry ≡ Some End → (tree : Tree) × Stream bytes tree × (entries tree ≡ all)
+pub at_end : (bytes : List ℕ) (r : Reader) (all : List Shown) (i : StreamItem) (d : Cursor) → CameBy bytes r all → Next r.scope r.cursor (Ok (i, d)) → i.entry ≡ Some End → (tree : Tree) × Stream bytes tree × (entries tree ≡ all)
 at_end bytes r all i d h next is =
     let on = reached next (came_wide bytes r all h) in
     let way = join h.way on.way in
@@ -86,7 +86,7 @@ at_end bytes r all i d h next is =
     let tree = to_stream bytes _ on.scope on.cursor h.magic way end.0 end.1 in
     (tree.0, tree.1, tree.2 ∙ (shown_join h.pieces on.pieces ∙ rw (on.silent, h.shows) (append-nil all)))
 
-shown_is : (s : Scope) (c d : Cursor) (p : Piece) (i : Item) (entry : Entry) → Step s c p i d → i.entry ≡ Some entry → (is_record i.entry ≡ false → (i.operands ≡ []) × (i.blob ≡ []))
+shown_is : (s : Scope) (c d : Cursor) (p : Piece) (i : StreamItem) (entry : Entry) → Step s c p i d → i.entry ≡ Some entry → (is_record i.entry ≡ false → (i.operands ≡ []) × (i.blob ≡ []))
     → shown p ≡ record { entry = entry; operands = i.operands; blob = i.blob } ∷ []
 shown_is s c d (begun id width words) i entry h is bare =
     let e : entry ≡ Block id = cc (h.0.is, is) in
@@ -103,7 +103,7 @@ shown_is s c d (holds id code operands has_blob blob) i entry h is bare =
     rw (e, all.operands, all.blob) refl
 
 -- the item of an entry that a reader gave
-abbrev pub given : Entry → Reader → Item
+abbrev pub given : Entry → Reader → StreamItem
 given entry r = record { entry = Some entry; scope = r.scope; operands = r.operands; blob = r.blob }
 
 pub goes_on : (bytes : List ℕ) (r new : Reader) (all : List Shown) (entry : Entry) → CameBy bytes r all → new.stopped ≡ None → Next r.scope r.cursor (Ok (given entry new, new.cursor)) → is_end (Some entry) ≡ false

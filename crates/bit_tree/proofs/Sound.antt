@@ -5,31 +5,31 @@ use Rattle.std.specs.List.{AllByRecursion}
 use Rattle.std.specs.Ordering.{nat_cmp, match_ordering}
 use Rattle.std.specs.Map.{lookup, remove_entry}
 use Rattle.std.specs.BTreeMap.{is_at, insert_entry}
-use Rattle.bit_stream.specs.Abbreviation.{Template}
+use Rattle.bit_stream.specs.Abbreviation.{AdmittedAbbreviation}
 use Rattle.bit_stream.specs.Scope.{Scope, top_level, given_to, given_here, template_of}
 use Rattle.bit_stream.specs.Entry.{defined, given_for}
 use Rattle.bit_tree.proofs.Values.{Sound}
 
-abbrev pub AllSound : List Template → Type 0
+abbrev pub AllSound : List AdmittedAbbreviation → Type 0
 AllSound ts = AllByRecursion Sound ts
 
 -- those in force in the block, and those that BLOCKINFO gave to others
 pub record IsSound (s : Scope) : Type 0 where
   pub own : AllSound s.block.own
-  pub table : AllByRecursion (λ (p : ℕ × List Template). AllSound p.1) s.given
+  pub table : AllByRecursion (λ (p : ℕ × List AdmittedAbbreviation). AllSound p.1) s.given
 
-at_of : (ts : List Template) (k : ℕ) (t : Template) → AllSound ts → slice_get ts k ≡ Some t → Sound t
+at_of : (ts : List AdmittedAbbreviation) (k : ℕ) (t : AdmittedAbbreviation) → AllSound ts → slice_get ts k ≡ Some t → Sound t
 at_of [] k t all is = absurd (cc)
 at_of (x ∷ xs) zero t all is = let x_is : x ≡ t = cc in rw x_is at all.0
 at_of (x ∷ xs) (suc k) t all is = at_of xs k t all.1 is
 
 abbrev Table : Type 0
-Table = List (ℕ × List Template)
+Table = List (ℕ × List AdmittedAbbreviation)
 
 abbrev AllIn : Table → Type 0
-AllIn table = AllByRecursion (λ (p : ℕ × List Template). AllSound p.1) table
+AllIn table = AllByRecursion (λ (p : ℕ × List AdmittedAbbreviation). AllSound p.1) table
 
-found_in : (b : Bool) (ts : List Template) (o : Option (List Template)) → AllSound ts → AllSound (unwrap_or o []) → AllSound (unwrap_or (cond b (Some ts) o) [])
+found_in : (b : Bool) (ts : List AdmittedAbbreviation) (o : Option (List AdmittedAbbreviation)) → AllSound ts → AllSound (unwrap_or o []) → AllSound (unwrap_or (cond b (Some ts) o) [])
 found_in true ts o h k = h
 found_in false ts o h k = k
 
@@ -50,11 +50,11 @@ by_order Less x y z h k l = h
 by_order Equal x y z h k l = k
 by_order Greater x y z h k l = l
 
-inserted : (table : Table) (id : ℕ) (ts : List Template) → AllIn table → AllSound ts → AllIn (insert_entry nat_cmp table id ts)
+inserted : (table : Table) (id : ℕ) (ts : List AdmittedAbbreviation) → AllIn table → AllSound ts → AllIn (insert_entry nat_cmp table id ts)
 inserted [] id ts all new = (new, tt)
 inserted (e ∷ es) id ts all new = by_order (nat_cmp id e.0) ((id, ts) ∷ e ∷ es) ((e.0, ts) ∷ es) (e ∷ insert_entry nat_cmp es id ts) (new, (all.0, all.1)) (new, all.1) (all.0, inserted es id ts all.1 new)
 
-all_with : (ts : List Template) (t : Template) → AllSound ts → Sound t → AllSound (ts ++ t ∷ [])
+all_with : (ts : List AdmittedAbbreviation) (t : AdmittedAbbreviation) → AllSound ts → Sound t → AllSound (ts ++ t ∷ [])
 all_with [] t all new = (new, tt)
 all_with (x ∷ xs) t all new = (all.0, all_with xs t all.1 new)
 
@@ -62,20 +62,20 @@ here_sound : (s : Scope) (o : Option ℕ) → s.block.id ≡ o → AllIn s.given
 here_sound s None is all = rw is tt
 here_sound s (Some id) is all = rw is (given_of s.given id all)
 
-either : (b : Bool) (x y : Option Template) (t : Template) → (if b then x else y) ≡ Some t → (x ≡ Some t → Sound t) → (y ≡ Some t → Sound t) → Sound t
+either : (b : Bool) (x y : Option AdmittedAbbreviation) (t : AdmittedAbbreviation) → (if b then x else y) ≡ Some t → (x ≡ Some t → Sound t) → (y ≡ Some t → Sound t) → Sound t
 either true x y t is h k = h is
 either false x y t is h k = k is
 
 -- the abbreviation of an id
-pub template_sound : (s : Scope) (id : ℕ) (t : Template) → IsSound s → template_of s id ≡ Some t → Sound t
+pub template_sound : (s : Scope) (id : ℕ) (t : AdmittedAbbreviation) → IsSound s → template_of s id ≡ Some t → Sound t
 template_sound s id t sound is = either (nat_lt (id - 4) s.block.given) (slice_get (given_here s) (id - 4)) (slice_get s.block.own (id - 4 - s.block.given)) t is
     (at_of (given_here s) (id - 4) t (here_sound s s.block.id refl sound.table))
     (at_of s.block.own (id - 4 - s.block.given) t sound.own)
 
-pub defined_sound : (s : Scope) (t : Template) → IsSound s → Sound t → IsSound (defined s t)
+pub defined_sound : (s : Scope) (t : AdmittedAbbreviation) → IsSound s → Sound t → IsSound (defined s t)
 defined_sound s t sound new = record { own = all_with s.block.own t sound.own new; table = sound.table }
 
-pub given_sound : (s : Scope) (id : ℕ) (t : Template) → IsSound s → Sound t → IsSound (given_for s id t)
+pub given_sound : (s : Scope) (id : ℕ) (t : AdmittedAbbreviation) → IsSound s → Sound t → IsSound (given_for s id t)
 given_sound s id t sound new = record { own = sound.own; table = inserted _ id _ (removed (is_at (nat_cmp id)) s.given sound.table) (all_with (given_to s.given id) t (given_of s.given id sound.table) new) }
 
 pub top_sound : IsSound top_level

@@ -9,11 +9,11 @@ use Rattle.bits.specs.Reading.{fixed}
 use Rattle.bit_stream.specs.declared.entry.Entry.TheVariants.{Record}
 use Rattle.bit_stream.specs.declared.abbreviation.AbbrevOp.{AbbrevOp}
 use Rattle.bit_stream.specs.declared.abbreviation.Tail.TheVariants.{NoTail}
-use Rattle.bit_stream.specs.Abbreviation.{Template, is_blob}
+use Rattle.bit_stream.specs.Abbreviation.{AdmittedAbbreviation, is_blob}
 use Rattle.bit_stream.specs.Definition.{template}
 use Rattle.bit_stream.specs.Record.{Read, names_block, unabbreviated, abbreviated as read_abbreviated}
 use Rattle.bit_stream.specs.Scope.{Scope, template_of}
-use Rattle.bit_stream.specs.Entry.{Item, item, plain, is_top, is_blockinfo, inside, define as read_definition, define_for, record_by, by_template, recorded, id_at, has_blob_by, defined_at}
+use Rattle.bit_stream.specs.Entry.{StreamItem, item, plain, is_top, is_blockinfo, inside, define as read_definition, define_for, record_by, by_template, recorded, id_at, has_blob_by, defined_at}
 use Rattle.bit_stream.specs.Spelling.{definition_bits, template_for, record_bits, record_fits}
 use Rattle.bit_stream.specs.Writer.{Writer, id_bits, with_template, define, in_force, naming, after_record, put_record, abbreviated}
 use Rattle.bit_tree.specs.Stream.{Tree, definition, values, next_id, Stands, Holds, of_definition, of_record}
@@ -50,10 +50,10 @@ pub item_inside : (s : Scope) (c d : Cursor) (id : ℕ) → is_top s ≡ false �
 unfolding item
 item_inside s c d id top h = rw (top, h) refl
 
-definition_way : {s u : Scope} {c d g : Cursor} {i : Item} {t : Template} (n : ℕ) (behind : Tree) → Stands s c None i d → defined_at s c ≡ Ok (t, d) → next_id s ≡ n → Holds i.scope d behind u g → Holds s c (definition n t behind) u g
+definition_way : {s u : Scope} {c d g : Cursor} {i : StreamItem} {t : AdmittedAbbreviation} (n : ℕ) (behind : Tree) → Stands s c None i d → defined_at s c ≡ Ok (t, d) → next_id s ≡ n → Holds i.scope d behind u g → Holds s c (definition n t behind) u g
 definition_way n behind first def is h = rw (← is) (of_definition first def h)
 
-record_way : {s u : Scope} {c d g : Cursor} {i : Item} {code : ℕ} (n : ℕ) (b : Bool) (behind : Tree) → Stands s c (Some (Record code)) i d → id_at s c ≡ n → has_blob_by s n ≡ b → Holds i.scope d behind u g → Holds s c (values n code i.operands b i.blob behind) u g
+record_way : {s u : Scope} {c d g : Cursor} {i : StreamItem} {code : ℕ} (n : ℕ) (b : Bool) (behind : Tree) → Stands s c (Some (Record code)) i d → id_at s c ≡ n → has_blob_by s n ≡ b → Holds i.scope d behind u g → Holds s c (values n code i.operands b i.blob behind) u g
 record_way n b behind first is ends h = rw (← ends, ← is) (of_record first h)
 
 id_is : (s : Scope) (c d : Cursor) (n : ℕ) → fixed s.block.width c ≡ Ok (n, d) → id_at s c ≡ n
@@ -74,14 +74,14 @@ some_is : {A : Type 0} (o : Option A) → IsSome o → (x : A) × (o ≡ Some x)
 some_is None h = absurd (cc)
 some_is (Some x) h = (x, refl)
 
-definition_read : (bit : ℕ) (s : Scope) (c d : Cursor) (t : Template) → (is_blockinfo s ≡ true → IsSome s.block.target) → template c ≡ Ok (t, d) → read_definition bit s c ≡ Ok (plain None (with_template s (Some t)), d)
+definition_read : (bit : ℕ) (s : Scope) (c d : Cursor) (t : AdmittedAbbreviation) → (is_blockinfo s ≡ true → IsSome s.block.target) → template c ≡ Ok (t, d) → read_definition bit s c ≡ Ok (plain None (with_template s (Some t)), d)
 unfolding read_definition define_for
 definition_read bit s c d t named h = by_block (is_blockinfo s) refl where
   by_block : (b : Bool) → is_blockinfo s ≡ b → read_definition bit s c ≡ Ok (plain None (with_template s (Some t)), d)
   by_block true info = let target = some_is s.block.target (named info) in rw (info, target.1, h) refl
   by_block false other = rw (other, h) refl
 
-ready_defined : (v : Scope) (t : Template) → Ready v → Sound t → Ready (with_template v (Some t))
+ready_defined : (v : Scope) (t : AdmittedAbbreviation) → Ready v → Sound t → Ready (with_template v (Some t))
 ready_defined v t ready sound = by_block (is_blockinfo v) refl where
   by_target : (o : Option ℕ) → v.block.target ≡ o → is_blockinfo v ≡ true → Ready (with_template v (Some t))
   by_target None absent info = rw (info, absent) (record { sound = record { own = ready.sound.own; table = ready.sound.table }; wide = ready.wide })
@@ -91,13 +91,13 @@ ready_defined v t ready sound = by_block (is_blockinfo v) refl where
   by_block true info = by_target v.block.target refl info
   by_block false other = rw other (record { sound = defined_sound v t ready.sound sound; wide = ready.wide })
 
-scopes_defined : (v : Scope) (t : Template) → (with_template v (Some t)).around ≡ v.around
+scopes_defined : (v : Scope) (t : AdmittedAbbreviation) → (with_template v (Some t)).around ≡ v.around
 scopes_defined v t = (same_defined v t).around
 
 pub define_step : (w : Writer) (ops : List AbbrevOp) → Ready w.scope → MayDefine w ops → Stepped w (define w ops) (λ x. with_definition (in_force w.scope + 4) (template_for ops) x)
 unfolding inside defined_at
 define_step w ops ready may = by_template (some_is (template_for ops) may.admitted) where
-  by_template : (t : Template) × (template_for ops ≡ Some t) → Stepped w (define w ops) (λ x. with_definition (in_force w.scope + 4) (template_for ops) x)
+  by_template : (t : AdmittedAbbreviation) × (template_for ops ≡ Some t) → Stepped w (define w ops) (λ x. with_definition (in_force w.scope + 4) (template_for ops) x)
   by_template t =
       let ok = admitted ops t.0 may.numbers t.1 in
       let more = id_bits w 2 ++ definition_bits ops in
@@ -166,7 +166,7 @@ put_step w code ns ready may =
           });
     }
 
-abbreviated_item : (id bit : ℕ) (s : Scope) (c d : Cursor) (t : Template) (r : Read) (u : Scope) → 4 ≤ id → template_of s id ≡ Some t → read_abbreviated (is_blockinfo s) t c ≡ Ok (r, d) → recorded bit s r.code r.operands ≡ Ok u
+abbreviated_item : (id bit : ℕ) (s : Scope) (c d : Cursor) (t : AdmittedAbbreviation) (r : Read) (u : Scope) → 4 ≤ id → template_of s id ≡ Some t → read_abbreviated (is_blockinfo s) t c ≡ Ok (r, d) → recorded bit s r.code r.operands ≡ Ok u
     → inside id bit s c ≡ Ok (record { entry = Some (Record r.code); scope = u; operands = r.operands; blob = r.blob }, d)
 unfolding inside record_by by_template
 abbreviated_item id bit s c d t r u low there h k =
@@ -181,7 +181,7 @@ unfolding record_fits
 no_fit code ns h = cc
 
 -- a record by this abbreviation
-short_step : (w : Writer) (id code : ℕ) (ns : List ℕ) (t : Template) → template_of w.scope id ≡ Some t → Ready w.scope → MayPut w code ns (operands_by t ns) → 4 ≤ id → id < 2 ^ w.scope.block.width → record_fits (Some t) code ns ≡ true
+short_step : (w : Writer) (id code : ℕ) (ns : List ℕ) (t : AdmittedAbbreviation) → template_of w.scope id ≡ Some t → Ready w.scope → MayPut w code ns (operands_by t ns) → 4 ≤ id → id < 2 ^ w.scope.block.width → record_fits (Some t) code ns ≡ true
     → Stepped w (abbreviated w id code ns) (λ x. values id code (operands_by t ns) (is_blob t.tail) (blob_by t ns) x)
 short_step w id code ns t there ready may low narrow fits =
     let n = length (w.bits ++ id_bits w id) in
@@ -217,9 +217,9 @@ short_step w id code ns t there ready may low narrow fits =
 
 pub abbreviated_step : (w : Writer) (id code : ℕ) (ns : List ℕ) → Ready w.scope → MayAbbreviate w id code ns → Stepped w (abbreviated w id code ns) (λ x. with_values id (template_of w.scope id) code ns x)
 abbreviated_step w id code ns ready may = by_template (template_of w.scope id) refl where
-  by_template : (o : Option Template) → template_of w.scope id ≡ o → Stepped w (abbreviated w id code ns) (λ x. with_values id (template_of w.scope id) code ns x)
+  by_template : (o : Option AdmittedAbbreviation) → template_of w.scope id ≡ o → Stepped w (abbreviated w id code ns) (λ x. with_values id (template_of w.scope id) code ns x)
   by_template None absent = absurd (no_fit code ns (rw absent at may.fits))
   by_template (Some t) there =
       let put = rw there at may.put in
       let fits = rw there at may.fits in
-      subst (λ (o : Option Template). Stepped w (abbreviated w id code ns) (λ x. with_values id o code ns x)) (sym there) (short_step w id code ns t there ready put may.low may.narrow fits)
+      subst (λ (o : Option AdmittedAbbreviation). Stepped w (abbreviated w id code ns) (λ x. with_values id o code ns x)) (sym there) (short_step w id code ns t there ready put may.low may.narrow fits)

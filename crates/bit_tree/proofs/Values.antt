@@ -6,11 +6,11 @@ use Rattle.std.proofs.lemmas.List.{append-nil, take-append-drop}
 use Rattle.std.proofs.lemmas.Bool.{eqb-true, lt-leb, ne_eqb, and_parts}
 use Rattle.bits.specs.Cursor.{◌>>=◌}
 use Rattle.bits.specs.Reading.{vbr}
-use Rattle.bit_stream.specs.declared.abbreviation.Scalar.{Scalar}
-use Rattle.bit_stream.specs.declared.abbreviation.Scalar.TheVariants.{Field, Chunks}
+use Rattle.bit_stream.specs.declared.abbreviation.ValueSpelling.{ValueSpelling}
+use Rattle.bit_stream.specs.declared.abbreviation.ValueSpelling.TheVariants.{Field, Chunks}
 use Rattle.bit_stream.specs.declared.abbreviation.Tail.{Tail}
 use Rattle.bit_stream.specs.declared.abbreviation.Tail.TheVariants.{NoTail, Elements, Bytes}
-use Rattle.bit_stream.specs.Abbreviation.{Template}
+use Rattle.bit_stream.specs.Abbreviation.{AdmittedAbbreviation}
 use Rattle.bit_stream.specs.Record.{code_by, operand, elements, each, counted, tail_by, names_block, Read, unabbreviated, abbreviated}
 use Rattle.bit_stream.specs.Spelling.{chunks, fits, value_bits, all_fit, all_bits, record_bits, each_fit, each_bits, tail_fits, with_tail, record_fits, with_record}
 use Rattle.bit_stream.specs.Law.{ReadsAs, AreOperands, is_sound}
@@ -25,7 +25,7 @@ sound_tail NoTail = true
 sound_tail (Elements s) = is_sound s
 sound_tail Bytes = true
 
-pub record Sound (t : Template) : Type 0 where
+pub record Sound (t : AdmittedAbbreviation) : Type 0 where
   pub code : is_sound t.code ≡ true
   pub operands : list_all is_sound t.operands ≡ true
   pub tail : sound_tail t.tail ≡ true
@@ -59,15 +59,15 @@ fine_drop b zero ns h = h
 fine_drop b (suc k) [] h = tt
 fine_drop b (suc k) (n ∷ ns) h = fine_later b (n ∷ take k ns) (drop k ns) (omega arith)
 
-pub code_reads : (s : Scalar) (n : ℕ) → is_sound s ≡ true → fits s n ≡ true → n < 2 ^ 32 → ReadsAs (code_by s) (value_bits s n) n
+pub code_reads : (s : ValueSpelling) (n : ℕ) → is_sound s ≡ true → fits s n ≡ true → n < 2 ^ 32 → ReadsAs (code_by s) (value_bits s n) n
 unfolding code_by
 code_reads s n sound fit small at rest = rw (value_reads s n sound fit (omega arith) at rest, lt-leb (2 ^ 32) n small) refl
 
-operand_reads : (b : Bool) (s : Scalar) (n : ℕ) (front : List ℕ) → is_sound s ≡ true → fits s n ≡ true → n < 2 ^ 64 → misnames b front n ≡ false → ReadsAs (operand b front s) (value_bits s n) (front ++ n ∷ [])
+operand_reads : (b : Bool) (s : ValueSpelling) (n : ℕ) (front : List ℕ) → is_sound s ≡ true → fits s n ≡ true → n < 2 ^ 64 → misnames b front n ≡ false → ReadsAs (operand b front s) (value_bits s n) (front ++ n ∷ [])
 unfolding operand
 operand_reads b s n front sound fit small fine at rest = rw (value_reads s n sound fit small at rest, fine) refl
 
-elements_reads : (b : Bool) (s : Scalar) (ns front : List ℕ) → is_sound s ≡ true → all_fit s ns ≡ true → AllByRecursion (λ n. n < 2 ^ 64) ns → Fine b front ns → ReadsAs (elements b s (length ns) front) (all_bits s ns) (front ++ ns)
+elements_reads : (b : Bool) (s : ValueSpelling) (ns front : List ℕ) → is_sound s ≡ true → all_fit s ns ≡ true → AllByRecursion (λ n. n < 2 ^ 64) ns → Fine b front ns → ReadsAs (elements b s (length ns) front) (all_bits s ns) (front ++ ns)
 unfolding elements
 elements_reads b s [] front sound fit small fine at rest = let place : at + 0 ≡ at = omega arith in rw (append-nil, place) refl
 elements_reads b s (n ∷ ns) front sound fit small fine at rest =
@@ -76,7 +76,7 @@ elements_reads b s (n ∷ ns) front sound fit small fine at rest =
     let more = elements_reads b s ns (front ++ n ∷ []) sound here.1 small.1 (fine_later b _ ns (one_more front n)) (at + length (value_bits s n)) rest in
     rw (append_assoc, operand_reads b s n front sound here.0 small.0 fine at (all_bits s ns ++ rest), more, place, append_assoc) refl
 
-each_reads : (b : Bool) (ss : List Scalar) (ns front : List ℕ) → list_all is_sound ss ≡ true → each_fit ss ns ≡ true → AllByRecursion (λ n. n < 2 ^ 64) ns → Fine b front ns → ReadsAs (each b ss front) (each_bits ss ns) (front ++ ns)
+each_reads : (b : Bool) (ss : List ValueSpelling) (ns front : List ℕ) → list_all is_sound ss ≡ true → each_fit ss ns ≡ true → AllByRecursion (λ n. n < 2 ^ 64) ns → Fine b front ns → ReadsAs (each b ss front) (each_bits ss ns) (front ++ ns)
 unfolding each each_fit each_bits
 each_reads b [] [] front sound fit small fine at rest = let place : at + 0 ≡ at = omega arith in rw (append-nil, place) refl
 each_reads b [] (n ∷ ns) front sound fit small fine at rest = absurd (cc)
@@ -88,7 +88,7 @@ each_reads b (s ∷ ss) (n ∷ ns) front sound fit small fine at rest =
     let more = each_reads b ss ns (front ++ n ∷ []) sounds.1 here.1 small.1 (fine_later b _ ns (one_more front n)) (at + length (value_bits s n)) rest in
     rw (append_assoc, operand_reads b s n front sounds.0 here.0 small.0 fine at (each_bits ss ns ++ rest), more, place, append_assoc) refl
 
-counted_reads : (b : Bool) (s : Scalar) (ns front : List ℕ) → is_sound s ≡ true → all_fit s ns ≡ true → AreOperands ns → Fine b front ns → ReadsAs (counted b s front) (chunks 6 (length ns) ++ all_bits s ns) (front ++ ns)
+counted_reads : (b : Bool) (s : ValueSpelling) (ns front : List ℕ) → is_sound s ≡ true → all_fit s ns ≡ true → AreOperands ns → Fine b front ns → ReadsAs (counted b s front) (chunks 6 (length ns) ++ all_bits s ns) (front ++ ns)
 unfolding counted
 counted_reads b s ns front sound fit operands fine = then_reads (vbr 6) (λ count d. elements b s count front d) _ _ (length ns) (front ++ ns) (vbr_reads 6 (length ns) (omega arith) operands.few) (elements_reads b s ns front sound fit operands.small fine)
 
@@ -147,7 +147,7 @@ tail_reads n b (Elements s) ns front sound fit operands fine at rest same = rw (
 tail_reads n b Bytes ns front sound fit operands fine at rest same = rw (blob_reads n ns fit operands.few at rest same) refl
 
 -- a record by an abbreviation, behind its id
-abbrev pub values_bits : ℕ → Template → ℕ → List ℕ → List Bool
+abbrev pub values_bits : ℕ → AdmittedAbbreviation → ℕ → List ℕ → List Bool
 values_bits n t code ns =
     let k = length t.operands in
     let front = value_bits t.code code in
@@ -167,7 +167,7 @@ with_tail_is Bytes ns bits =
     = omega (arith, length-append ((bits ++ count) ++ before) inside, length-append (bits ++ count) before, first) in
     rw (first, second) (simp append_assoc)
 
-pub written_is : (t : Template) (code : ℕ) (ns : List ℕ) (bits : List Bool) → with_record (Some t) code ns bits ≡ bits ++ values_bits (length bits) t code ns
+pub written_is : (t : AdmittedAbbreviation) (code : ℕ) (ns : List ℕ) (bits : List Bool) → with_record (Some t) code ns bits ≡ bits ++ values_bits (length bits) t code ns
 unfolding with_record
 written_is t code ns bits =
     let k = length t.operands in
@@ -185,7 +185,7 @@ ends_as code (Elements s) k ns = rw (take-append-drop k ns) refl
 ends_as code Bytes k ns = refl
 
 -- the operands and the blob of a record by an abbreviation
-pub abbreviated_reads : (n : ℕ) (b : Bool) (t : Template) (code : ℕ) (ns : List ℕ) → Sound t → record_fits (Some t) code ns ≡ true → code < 2 ^ 32 → AreOperands ns → Fine (names_block b code) [] (operands_by t ns)
+pub abbreviated_reads : (n : ℕ) (b : Bool) (t : AdmittedAbbreviation) (code : ℕ) (ns : List ℕ) → Sound t → record_fits (Some t) code ns ≡ true → code < 2 ^ 32 → AreOperands ns → Fine (names_block b code) [] (operands_by t ns)
     → ReadsFrom n (abbreviated b t) (values_bits n t code ns) (record { code = code; operands = operands_by t ns; blob = blob_by t ns })
 unfolding abbreviated record_fits
 abbreviated_reads n b t code ns sound fit small operands fine at rest same =

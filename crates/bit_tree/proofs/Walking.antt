@@ -10,10 +10,10 @@ use Rattle.bit_stream.specs.declared.entry.Entry.{Entry}
 use Rattle.bit_stream.specs.declared.entry.Entry.TheVariants.{Block, EndBlock, Record, End}
 use Rattle.bit_stream.specs.declared.fault.StreamFault.{StreamFault}
 use Rattle.bit_stream.specs.declared.fault.StreamFault.TheVariants.{Bit, Memory}
-use Rattle.bit_stream.specs.Abbreviation.{Template, ops_of}
+use Rattle.bit_stream.specs.Abbreviation.{AdmittedAbbreviation, ops_of}
 use Rattle.bit_stream.specs.Scope.{Scope, top_level}
-use Rattle.bit_stream.specs.declared.told.Told.{Told}
-use Rattle.bit_stream.specs.Entry.{Item, item, is_top, id_at, has_blob_by, defined_at, with_definition, Next, Passed, start, more}
+use Rattle.bit_stream.specs.declared.told.LastSeen.{LastSeen}
+use Rattle.bit_stream.specs.Entry.{StreamItem, item, is_top, id_at, has_blob_by, defined_at, with_definition, Next, Passed, start, more}
 use Rattle.bit_stream.specs.Reader.{Reader, begins, untold, opened, told_of, Arrived, Entered}
 use Rattle.bit_tree.specs.Read.{Judged}
 use Rattle.bit_tree.specs.Stream.{Tree, Stream, Stands, next_id, is_end, opening, stream_fault}
@@ -24,27 +24,27 @@ use Rattle.bit_tree.proofs.Faults.{fault_on, fault_here, to_stream_of, opening_s
 use Rattle.bit_tree.proofs.Reading.{Ahead, reached, given, ends_at}
 
 -- definitions one behind another, the first for this abbreviation id
-unfoldable pub defining : ℕ → List Template → List Piece
+unfoldable pub defining : ℕ → List AdmittedAbbreviation → List Piece
 defining id [] = []
 defining id (t ∷ ts) = defines id t ∷ defining (id + 1) ts
 
-defining_one_more : (id : ℕ) (ts : List Template) (t : Template) → defining id (ts ++ t ∷ []) ≡ defining id ts ++ defines (id + length ts) t ∷ []
+defining_one_more : (id : ℕ) (ts : List AdmittedAbbreviation) (t : AdmittedAbbreviation) → defining id (ts ++ t ∷ []) ≡ defining id ts ++ defines (id + length ts) t ∷ []
 unfolding defining
 defining_one_more id [] t = let same : id + 0 ≡ id = omega arith in rw same refl
 defining_one_more id (x ∷ ts) t =
     let same : id + 1 + length ts ≡ id + length (x ∷ ts) = omega arith in
     rw (defining_one_more (id + 1) ts t, same) refl
 
-map_one_more : (ts : List Template) (t : Template) → map ops_of (ts ++ t ∷ []) ≡ map ops_of ts ++ ops_of t ∷ []
+map_one_more : (ts : List AdmittedAbbreviation) (t : AdmittedAbbreviation) → map ops_of (ts ++ t ∷ []) ≡ map ops_of ts ++ ops_of t ∷ []
 map_one_more [] t = refl
 map_one_more (x ∷ ts) t = rw (map_one_more ts t) refl
 
-with_one : (front : List (List AbbrevOp)) (f : Found Template) (ts : List Template) (t : Template) (d : Cursor) → f ≡ Ok (t, d) → front ≡ map ops_of ts → with_definition front f ≡ map ops_of (ts ++ t ∷ [])
+with_one : (front : List (List AbbrevOp)) (f : Found AdmittedAbbreviation) (ts : List AdmittedAbbreviation) (t : AdmittedAbbreviation) (d : Cursor) → f ≡ Ok (t, d) → front ≡ map ops_of ts → with_definition front f ≡ map ops_of (ts ++ t ∷ [])
 with_one front f ts t d is are = rw (is, are, map_one_more ts t) refl
 
 -- the way over definitions alone
 pub record Defining (s : Scope) (c : Cursor) (definitions : List (List AbbrevOp)) (t : Scope) (d : Cursor) : Type 0 where
-  pub templates : List Template
+  pub templates : List AdmittedAbbreviation
   pub are : definitions ≡ map ops_of templates
   pub way : Path s c (defining (next_id s) templates) t d
   pub next : next_id t ≡ next_id s + length templates
@@ -58,7 +58,7 @@ over {s} (more {i = i} before h is) wide =
     let on = goes None i here refl (way_wide so_far.way wide) in
     let def = on.template is in
     let count = on.next is in
-    let one : List Template = def.0 ∷ [] in
+    let one : List AdmittedAbbreviation = def.0 ∷ [] in
     record {
       templates = so_far.templates ++ one;
       are = with_one _ _ _ _ _ def.1 so_far.are;
@@ -94,17 +94,17 @@ pub arrived : {bytes : List ℕ} {r new : Reader} {entry : Entry} {ps : List Pie
 arrived {r = r} {new = new} {entry = entry} h e = subst (λ (x : Option StreamFault). Entered x r (Ok entry) new) h.running e
 
 step_of : (s : Scope) (c : Cursor) (r new : Reader) (entry : Entry) → Stands s c (Some entry) (given entry new) new.cursor → new.told ≡ told_of r.told entry new.scope (id_at s c) (has_blob_by s (id_at s c)) → is_end (Some entry) ≡ false → Path s c (entry_piece entry new) new.scope new.cursor
-step_of s c r new (Block id) h told further = step (given (Block id) new) (h, sym (ap (λ (t : Told). t.width) told), sym (ap (λ (t : Told). t.words) told)) stop
+step_of s c r new (Block id) h told further = step (given (Block id) new) (h, sym (ap (λ (t : LastSeen). t.width) told), sym (ap (λ (t : LastSeen). t.words) told)) stop
 step_of s c r new EndBlock h told further = step (given EndBlock new) h stop
 step_of s c r new (Record code) h told further =
-    let id = sym (ap (λ (t : Told). t.abbreviation) told) in
-    let blob = sym (ap (λ (t : Told). t.has_blob) told) in
+    let id = sym (ap (λ (t : LastSeen). t.abbreviation) told) in
+    let blob = sym (ap (λ (t : LastSeen). t.has_blob) told) in
     step (given (Record code) new) (h, record { id = id; operands = refl; has_blob = blob; blob = refl }) stop
 step_of s c r new End h told further = absurd (cc)
 
 -- a reader gave an entry: it came over the definitions in front of it, and over that
 pub record On (bytes : List ℕ) (r : Reader) (entry : Entry) (new : Reader) (ps : List Piece) : Type 0 where
-  pub templates : List Template
+  pub templates : List AdmittedAbbreviation
   pub are : new.definitions ≡ map ops_of templates
   pub came : Came bytes new (ps ++ (defining (next_id r.scope) templates ++ entry_piece entry new))
 
@@ -139,7 +139,7 @@ comes_to_fault bytes r ps x h next =
 -- the end of the stream: it is a tree, whose pieces are those that were passed
 pub record Whole (bytes : List ℕ) (r new : Reader) (entry : Entry) (ps : List Piece) : Type 0 where
   pub last : entry ≡ End
-  pub templates : List Template
+  pub templates : List AdmittedAbbreviation
   pub are : new.definitions ≡ map ops_of templates
   pub tree : Tree
   pub stream : Stream bytes tree

@@ -1,13 +1,13 @@
 -- For `next` of `Walker` in `bit_walk`: what a tree is one piece after another, as a stream gives it.
 use Rattle.std.specs.Prelude.{ℕ, Bool, List, [], ◌∷◌, ◌++◌}
-use Rattle.bit_stream.specs.Abbreviation.{Template}
+use Rattle.bit_stream.specs.Abbreviation.{AdmittedAbbreviation}
 use Rattle.bit_tree.specs.Stream.{Tree, nothing, block, definition, values}
 
 -- a block begins or ends, or a definition or a record stands there
 pub data Piece : Type 0 where
   begun : (id width words : ℕ) → Piece
   ended : Piece
-  defines : (id : ℕ) → Template → Piece
+  defines : (id : ℕ) → AdmittedAbbreviation → Piece
   holds : (id code : ℕ) → (operands : List ℕ) → (has_blob : Bool) → (blob : List ℕ) → Piece
 
 -- what a tree is, piece by piece

@@ -7,9 +7,9 @@ use Rattle.bits.specs.declared.fault.BitFault.{BitFault}
 use Rattle.bits.specs.declared.fault.BitFaultKind.TheVariants.{BadMagic}
 use Rattle.bit_stream.specs.declared.entry.Entry.{Entry}
 use Rattle.bit_stream.specs.declared.entry.Entry.TheVariants.{Block, EndBlock, Record, End}
-use Rattle.bit_stream.specs.Abbreviation.{Template}
+use Rattle.bit_stream.specs.Abbreviation.{AdmittedAbbreviation}
 use Rattle.bit_stream.specs.Scope.{Scope, top_level}
-use Rattle.bit_stream.specs.Entry.{Item, item, is_top, id_at, has_blob_by, defined_at}
+use Rattle.bit_stream.specs.Entry.{StreamItem, item, is_top, id_at, has_blob_by, defined_at}
 use Rattle.bit_stream.specs.Reader.{begins}
 use Rattle.bit_stream.specs.Writer.{in_force}
 
@@ -19,11 +19,11 @@ use Rattle.bit_stream.specs.Writer.{in_force}
 pub data Tree : Type 0 where
   nothing : Tree
   block : (id width words : ℕ) → (inside behind : Tree) → Tree
-  definition : (id : ℕ) → Template → (behind : Tree) → Tree
+  definition : (id : ℕ) → AdmittedAbbreviation → (behind : Tree) → Tree
   values : (id code : ℕ) → (operands : List ℕ) → (has_blob : Bool) → (blob : List ℕ) → (behind : Tree) → Tree
 
 -- at a place stands such an entry, or a definition where it is none
-pub record Stands (s : Scope) (c : Cursor) (entry : Option Entry) (i : Item) (d : Cursor) : Type 0 where
+pub record Stands (s : Scope) (c : Cursor) (entry : Option Entry) (i : StreamItem) (d : Cursor) : Type 0 where
   pub reads : item s c ≡ Ok (i, d)
   pub is : i.entry ≡ entry
 
@@ -34,11 +34,11 @@ next_id s = in_force s + 4
 -- from one place to another, with the blocks and abbreviations in force at each, stands a tree
 pub data Holds : Scope → Cursor → Tree → Scope → Cursor → Type 0 where
   none : {s : Scope} {c : Cursor} → Holds s c nothing s c
-  of_block : {s t u : Scope} {c d e f g : Cursor} {i j : Item} {id : ℕ} {inside behind : Tree}
+  of_block : {s t u : Scope} {c d e f g : Cursor} {i j : StreamItem} {id : ℕ} {inside behind : Tree}
       → Stands s c (Some (Block id)) i d → Holds i.scope d inside t e → Stands t e (Some EndBlock) j f → Holds j.scope f behind u g → Holds s c (block id i.scope.block.width i.scope.block.words inside behind) u g
-  of_definition : {s u : Scope} {c d g : Cursor} {i : Item} {t : Template} {behind : Tree}
+  of_definition : {s u : Scope} {c d g : Cursor} {i : StreamItem} {t : AdmittedAbbreviation} {behind : Tree}
       → Stands s c None i d → defined_at s c ≡ Ok (t, d) → Holds i.scope d behind u g → Holds s c (definition (next_id s) t behind) u g
-  of_record : {s u : Scope} {c d g : Cursor} {i : Item} {code : ℕ} {behind : Tree}
+  of_record : {s u : Scope} {c d g : Cursor} {i : StreamItem} {code : ℕ} {behind : Tree}
       → Stands s c (Some (Record code)) i d → Holds i.scope d behind u g → Holds s c (values (id_at s c) code i.operands (has_blob_by s (id_at s c)) i.blob behind) u g
 
 -- the place behind the bytes that a stream begins with
@@ -63,7 +63,7 @@ is_end (Some (Record code)) = false
 is_end (Some End) = true
 
 -- the field that is refused at a place, or else the first one behind it
-abbrev pub fault_or : Found Item → (Scope → Cursor → Option BitFault) → Option BitFault
+abbrev pub fault_or : Found StreamItem → (Scope → Cursor → Option BitFault) → Option BitFault
 fault_or (Ok x) later = if is_end x.0.entry then None else later x.0.scope x.1
 fault_or (Err fault) later = Some fault
 

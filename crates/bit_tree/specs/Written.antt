@@ -8,7 +8,7 @@ use Rattle.bit_stream.specs.declared.abbreviation.AbbrevOp.{AbbrevOp}
 use Rattle.bit_stream.specs.declared.abbreviation.AbbrevOp.TheVariants.{Literal, Fixed, Vbr, Array, Char6, Blob}
 use Rattle.bit_stream.specs.declared.abbreviation.Tail.{Tail}
 use Rattle.bit_stream.specs.declared.abbreviation.Tail.TheVariants.{NoTail, Elements, Bytes}
-use Rattle.bit_stream.specs.Abbreviation.{Template, is_blob}
+use Rattle.bit_stream.specs.Abbreviation.{AdmittedAbbreviation, is_blob}
 use Rattle.bit_stream.specs.Scope.{template_of}
 use Rattle.bit_stream.specs.Record.{names_block}
 use Rattle.bit_stream.specs.Entry.{is_top, is_blockinfo}
@@ -48,20 +48,20 @@ back_of (Elements s) k ns = []
 back_of Bytes k ns = drop k ns
 
 -- the operands of a record that is written by an abbreviation
-abbrev pub operands_by : Template → List ℕ → List ℕ
+abbrev pub operands_by : AdmittedAbbreviation → List ℕ → List ℕ
 operands_by t ns = front_of t.tail (length t.operands) ns
 
 -- the blob of a record that is written by an abbreviation
-abbrev pub blob_by : Template → List ℕ → List ℕ
+abbrev pub blob_by : AdmittedAbbreviation → List ℕ → List ℕ
 blob_by t ns = back_of t.tail (length t.operands) ns
 
 -- a definition stands in front, where it is one
-abbrev pub with_definition : ℕ → Option Template → Tree → Tree
+abbrev pub with_definition : ℕ → Option AdmittedAbbreviation → Tree → Tree
 with_definition id None behind = behind
 with_definition id (Some t) behind = definition id t behind
 
 -- a record stands in front
-abbrev pub with_values : ℕ → Option Template → ℕ → List ℕ → Tree → Tree
+abbrev pub with_values : ℕ → Option AdmittedAbbreviation → ℕ → List ℕ → Tree → Tree
 with_values id None code ns behind = values id code ns false [] behind
 with_values id (Some t) code ns behind = values id code (operands_by t ns) (is_blob t.tail) (blob_by t ns) behind
 
@@ -115,7 +115,7 @@ pub record MayPut (w : Writer) (code : ℕ) (ns operands : List ℕ) : Type 0 wh
   pub names : names_block (is_blockinfo w.scope) code ≡ true → NamesFirst operands
 
 -- the operands of a record that is written by an abbreviation or without one
-abbrev pub operands_of : Option Template → List ℕ → List ℕ
+abbrev pub operands_of : Option AdmittedAbbreviation → List ℕ → List ℕ
 operands_of None ns = ns
 operands_of (Some t) ns = operands_by t ns
 

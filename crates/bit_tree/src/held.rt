@@ -24,7 +24,7 @@ impl Model for HeldEntry {
 }
 
 /// Some entries, in order.
-pub type EntryList = ItemList<HeldEntry>;
+pub type HeldEntryList = ItemList<HeldEntry>;
 
 impl HeldEntry {
     /// The entry that a reader answered last, with what it holds.

@@ -21,7 +21,7 @@ mod law;
 mod read;
 mod verdict;
 
-pub use held::{EntryList, HeldEntry};
+pub use held::{HeldEntry, HeldEntryList};
 pub use law::{
     a_stream_has_one_tree, a_stream_is_a_tree_or_refused, a_tree_is_not_refused,
     what_was_written_is_read,

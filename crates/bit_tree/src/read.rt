@@ -3,7 +3,7 @@ ghost use Rattle.std.specs.Prelude.{◌≡◌, ◌≤◌, ◌^◌, length, Some}
 ghost use Rattle.bit_tree.specs.Stream.{is_end};
 ghost use Rattle.bit_tree.specs.Read.{AllRead};
 
-use crate::held::{EntryList, HeldEntry};
+use crate::held::{HeldEntry, HeldEntryList};
 use bit_stream::{BitReader, Entry, StreamFault};
 use std::alloc::Global;
 
@@ -18,12 +18,12 @@ pub fn is_end(entry: Entry) -> bool
 }
 
 /// The entries of the stream's tree, in order and without the end, or the first field of it that is refused.
-pub fn read_stream(alloc: Global, bytes: &[u8]) -> Result<EntryList, StreamFault>
+pub fn read_stream(alloc: Global, bytes: &[u8]) -> Result<HeldEntryList, StreamFault>
     requires { length bytes.now ≤ 2 ^ 24 }
     ensures { AllRead bytes.now result }
 {
     let mut reader = BitReader::new(alloc, bytes)?;
-    let mut entries = EntryList::new(alloc);
+    let mut entries = HeldEntryList::new(alloc);
     loop {
         let entry = reader.next_entry()?;
         if is_end(entry) {

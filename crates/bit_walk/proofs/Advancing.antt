@@ -7,9 +7,9 @@ use Rattle.bits.specs.Reading.{fixed}
 use Rattle.bits.specs.declared.fault.BitFault.{BitFault}
 use Rattle.bit_stream.specs.declared.entry.Entry.{Entry}
 use Rattle.bit_stream.specs.declared.entry.Entry.TheVariants.{Block, EndBlock, Record, End}
-use Rattle.bit_stream.specs.Abbreviation.{Template, is_blob}
+use Rattle.bit_stream.specs.Abbreviation.{AdmittedAbbreviation, is_blob}
 use Rattle.bit_stream.specs.Scope.{Scope, template_of}
-use Rattle.bit_stream.specs.Entry.{Item, item, id_at, number_of, has_blob_by, defined_at}
+use Rattle.bit_stream.specs.Entry.{StreamItem, item, id_at, number_of, has_blob_by, defined_at}
 use Rattle.bit_tree.specs.Stream.{next_id}
 use Rattle.bit_tree.specs.Pieces.{Piece, holds}
 use Rattle.bit_walk.specs.declared.event.Event.TheVariants.{Begun, Ended, Defined, Held}
@@ -25,7 +25,7 @@ use Rattle.bit_walk.proofs.Ways.{next_is, no_fault, end_is}
 
 -- what was passed, and what is left behind it
 record There (s n : Scope) (c d : Cursor) (e : Option Entry) (b : List ℕ) (ps : List Piece) : Type 0 where
-  it : Item
+  it : StreamItem
   reads : item s c ≡ Ok (it, d)
   entry : it.entry ≡ e
   scope : it.scope ≡ n
@@ -41,14 +41,14 @@ there : (s n : Scope) (c d : Cursor) (e : Option Entry) (b : List ℕ) (ps : Lis
 there s n c d e b ps left h =
     let x = passes s c d _ h in
     let next = next_is x.0 left x.1 in
-    let entry : x.0.entry ≡ e = ap (λ (i : Item). i.entry) x.2 in
-    let scope : x.0.scope ≡ n = ap (λ (i : Item). i.scope) x.2 in
+    let entry : x.0.entry ≡ e = ap (λ (i : StreamItem). i.entry) x.2 in
+    let scope : x.0.scope ≡ n = ap (λ (i : StreamItem). i.scope) x.2 in
     record {
       it = x.0;
       reads = x.1;
       entry = entry;
       scope = scope;
-      blob = ap (λ (i : Item). i.blob) x.2;
+      blob = ap (λ (i : StreamItem). i.blob) x.2;
       others = next.others;
       are = rw entry at next.are;
       ahead = rw scope at next.ahead;
@@ -72,26 +72,26 @@ step_defined s n c d b ps w left h def =
 pub step_over : (s n : Scope) (c d : Cursor) (b : List ℕ) (ps : List Piece) (w : Walker) → Ahead s c ps → Passes s n c d (Some End) b → Steps ps None w n d
 step_over s n c d b ps w left h =
     let x = passes s c d _ h in
-    let end = end_is x.0 left x.1 (ap (λ (i : Item). i.entry) x.2) in
-    let scope : x.0.scope ≡ n = ap (λ (i : Item). i.scope) x.2 in
+    let end = end_is x.0 left x.1 (ap (λ (i : StreamItem). i.entry) x.2) in
+    let scope : x.0.scope ≡ n = ap (λ (i : StreamItem). i.scope) x.2 in
     (end.0, rw scope at end.1)
 
 -- a record by this abbreviation, or without one
-blob_is : (s : Scope) (id : ℕ) (t : Template) → (4 ≤ id → template_of s id ≡ Some t) → (nat_le 4 id && is_blob t.tail) ≡ has_blob_by s id
+blob_is : (s : Scope) (id : ℕ) (t : AdmittedAbbreviation) → (4 ≤ id → template_of s id ≡ Some t) → (nat_le 4 id && is_blob t.tail) ≡ has_blob_by s id
 blob_is s id t by = elim (cases_Bool (nat_le 4 id)) [
   | inl far ↦ rw (far, by (leb-true 4 id far)) refl
   | inr near ↦ rw near refl
 ]
 
-pub operands_there : (s n : Scope) (c d : Cursor) (code : ℕ) (b : List ℕ) (t : Template) → Passes s n c d (Some (Record code)) b → (4 ≤ id_at s c → template_of s (id_at s c) ≡ Some t) → (ns : List ℕ) × Leaves (operands_at s.block.width t c) ns
+pub operands_there : (s n : Scope) (c d : Cursor) (code : ℕ) (b : List ℕ) (t : AdmittedAbbreviation) → Passes s n c d (Some (Record code)) b → (4 ≤ id_at s c → template_of s (id_at s c) ≡ Some t) → (ns : List ℕ) × Leaves (operands_at s.block.width t c) ns
 operands_there s n c d code b t h by =
     let x = passes s c d _ h in
-    (x.0.operands, operands_left s c d x.0 code t x.1 (ap (λ (i : Item). i.entry) x.2) by)
+    (x.0.operands, operands_left s c d x.0 code t x.1 (ap (λ (i : StreamItem). i.entry) x.2) by)
 
 same_holds : (id code : ℕ) (ns ms : List ℕ) (b e : Bool) (k l : List ℕ) → ns ≡ ms → b ≡ e → k ≡ l → holds id code ns b k ≡ holds id code ms e l
 same_holds id code ns ms b e k l h g f = rw (h, g, f) refl
 
-pub step_held : (s n : Scope) (c d : Cursor) (code : ℕ) (b : List ℕ) (t : Template) (ps : List Piece) (w : Walker) → Ahead s c ps → Passes s n c d (Some (Record code)) b → (4 ≤ id_at s c → template_of s (id_at s c) ≡ Some t)
+pub step_held : (s n : Scope) (c d : Cursor) (code : ℕ) (b : List ℕ) (t : AdmittedAbbreviation) (ps : List Piece) (w : Walker) → Ahead s c ps → Passes s n c d (Some (Record code)) b → (4 ≤ id_at s c → template_of s (id_at s c) ≡ Some t)
     → ((ns : List ℕ) → Leaves (operands_at s.block.width t c) ns → w.operands ≡ ns) → w.has_blob ≡ (nat_le 4 (number_of (fixed s.block.width c)) && is_blob t.tail) → w.blob ≡ b
     → Steps ps (Some (Held (record { id = number_of (fixed s.block.width c); code = code }))) w n d
 unfolding id_at
@@ -104,7 +104,7 @@ step_held s n c d code b t ps w left h by operands has_blob blob =
 
 -- the place behind what was passed
 
-pub place_behind : (o n : Opened) (c d : Cursor) (e : Option Entry) (b : List ℕ) (start later : Option ℕ) (t u : Template) → IsPlace o c start t → Passes o.scope n.scope c d e b → n.bits ≡ o.bits → IsKept o.bits later u → IsPlace n d later u
+pub place_behind : (o n : Opened) (c d : Cursor) (e : Option Entry) (b : List ℕ) (start later : Option ℕ) (t u : AdmittedAbbreviation) → IsPlace o c start t → Passes o.scope n.scope c d e b → n.bits ≡ o.bits → IsKept o.bits later u → IsPlace n d later u
 place_behind o n c d e b start later t u h passed bits kept =
     let x = there o.scope n.scope c d e b h.ahead.0 h.ahead.1 passed in
     record {
@@ -113,5 +113,5 @@ place_behind o n c d e b start later t u h passed bits kept =
       kept = rw bits kept;
     }
 
-pub never_refused : (o : Opened) (c : Cursor) (start : Option ℕ) (t : Template) (fault : BitFault) → IsPlace o c start t → pass_item o.scope c ≡ Err fault → ⊥
+pub never_refused : (o : Opened) (c : Cursor) (start : Option ℕ) (t : AdmittedAbbreviation) (fault : BitFault) → IsPlace o c start t → pass_item o.scope c ≡ Err fault → ⊥
 never_refused o c start t fault h refused = no_fault fault h.ahead.1 (fails o.scope c fault refused)

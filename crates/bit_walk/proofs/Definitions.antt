@@ -11,7 +11,7 @@ use Rattle.bits.specs.Bits.{stream_bits}
 use Rattle.bits.specs.Cursor.{Cursor}
 use Rattle.bits.specs.Reading.{vbr, vbr_from}
 use Rattle.bits.proofs.BitsLaws.{length-stream_bits}
-use Rattle.bit_stream.specs.Abbreviation.{Template}
+use Rattle.bit_stream.specs.Abbreviation.{AdmittedAbbreviation}
 use Rattle.bit_stream.specs.Definition.{template}
 use Rattle.bit_stream.specs.Scope.{given_to}
 use Rattle.bit_walk.specs.Starts.{at_bit, IsOn, no_template, or_none, template_at, row_at}
@@ -27,7 +27,7 @@ beyond bytes bit far =
     rw none (no_definition bit)
 
 -- what was read at a place is the definition that starts there
-pub template_here : (bits : List Bool) (c d : Cursor) (t : Template) (start : ℕ) → IsOn bits c → template c ≡ Ok (t, d) → start ≡ c.at → template_at bits start ≡ t
+pub template_here : (bits : List Bool) (c d : Cursor) (t : AdmittedAbbreviation) (start : ℕ) → IsOn bits c → template c ≡ Ok (t, d) → start ≡ c.at → template_at bits start ≡ t
 template_here bits c d t start on h same =
     let here : at_bit bits c.at ≡ c = λ i. record { at = c.at; rest = sym on i } in
     rw (same, here, h) refl

@@ -7,20 +7,20 @@ use Rattle.bits.specs.Reading.{Read, read_at, fixed_at, vbr_at, fixed, vbr, gap,
 use Rattle.bits.specs.declared.fault.BitFault.{BitFault}
 use Rattle.bits.specs.declared.fault.BitFaultKind.TheVariants.{Truncated, NestedTooDeep}
 use Rattle.bit_stream.specs.declared.entry.Entry.TheVariants.{Block, End}
-use Rattle.bit_stream.specs.declared.abbreviation.Scalar.{Scalar}
-use Rattle.bit_stream.specs.declared.abbreviation.Scalar.TheVariants.{Known, Field, Chunks, Letter}
+use Rattle.bit_stream.specs.declared.abbreviation.ValueSpelling.{ValueSpelling}
+use Rattle.bit_stream.specs.declared.abbreviation.ValueSpelling.TheVariants.{Known, Field, Chunks, Letter}
 use Rattle.bit_stream.specs.declared.abbreviation.Tail.{Tail}
 use Rattle.bit_stream.specs.declared.abbreviation.Tail.TheVariants.{NoTail, Elements, Bytes}
 use Rattle.bit_stream.specs.declared.definition.Encoding.{Encoding}
 use Rattle.bit_stream.specs.declared.definition.Encoding.TheVariants.{AsField, AsChunks, AsArray, AsLetter, AsBlob}
-use Rattle.bit_stream.specs.declared.definition.Part.{Part}
-use Rattle.bit_stream.specs.declared.definition.Part.TheVariants.{Value, End as Last}
-use Rattle.bit_stream.specs.Abbreviation.{Template}
+use Rattle.bit_stream.specs.declared.definition.DefinitionPart.{DefinitionPart}
+use Rattle.bit_stream.specs.declared.definition.DefinitionPart.TheVariants.{Value, End as Last}
+use Rattle.bit_stream.specs.Abbreviation.{AdmittedAbbreviation}
 use Rattle.bit_stream.specs.Answers.{refuse}
 use Rattle.bit_stream.specs.Definition.{field_width, chunk_width, encoding_of, encoding, scalar_by, literal, first_operand, element, element_of, part_by, part, parts, by_part, template}
 use Rattle.bit_stream.specs.Record.{Read as Values, value_by, code_by, operand, elements, each, counted, tail_by, names_block, unabbreviated, abbreviated}
 use Rattle.bit_stream.specs.Scope.{Scope, template_of}
-use Rattle.bit_stream.specs.Entry.{Item, plain, is_top, is_blockinfo, came, entered, left, enter_sized, enter_wide, enter_named, enter_block, end_block, define_for, define, by_template, record_by, inside, item}
+use Rattle.bit_stream.specs.Entry.{StreamItem, plain, is_top, is_blockinfo, came, entered, block_left, enter_sized, enter_wide, enter_named, enter_block, end_block, define_for, define, by_template, record_by, inside, item}
 use Rattle.bit_walk.specs.Starts.{IsOn}
 
 -- reading from a place in these bits stays in them
@@ -106,7 +106,7 @@ unfolding first_operand
 first_operand_on bits c = bind bits c (fixed 1 c) _ (fixed_on bits 1 c) (λ flag d.
     on_if bits d _ _ _ (literal_on bits d) (bind bits d (encoding d) _ (encoding_on bits d) (λ e f. scalar_by_on bits e d.at f)))
 
-element_of_on : (bits : List Bool) (bit : ℕ) (s : Scalar) (c : Cursor) → On bits c (element_of bit s c)
+element_of_on : (bits : List Bool) (bit : ℕ) (s : ValueSpelling) (c : Cursor) → On bits c (element_of bit s c)
 element_of_on bits bit (Known n) c = none bits c _
 element_of_on bits bit (Field w) c = here bits _ c
 element_of_on bits bit (Chunks w) c = here bits _ c
@@ -135,11 +135,11 @@ part_on bits left c = bind bits c (fixed 1 c) _ (fixed_on bits 1 c) (λ flag d.
     on_if bits d _ _ _ (bind bits d (literal d) _ (literal_on bits d) (λ s e. here bits _ e))
     (bind bits d (encoding d) _ (encoding_on bits d) (λ e f. part_by_on bits e left d.at f)))
 
-by_part_on : {A : Type 0} (bits : List Bool) (c : Cursor) (p : Part) (more : Scalar → Found A) (done : Tail → Found A) → ((s : Scalar) → On bits c (more s)) → ((t : Tail) → On bits c (done t)) → On bits c (by_part p more done)
+by_part_on : {A : Type 0} (bits : List Bool) (c : Cursor) (p : DefinitionPart) (more : ValueSpelling → Found A) (done : Tail → Found A) → ((s : ValueSpelling) → On bits c (more s)) → ((t : Tail) → On bits c (done t)) → On bits c (by_part p more done)
 by_part_on bits c (Value s) more done h k = h s
 by_part_on bits c (Last t) more done h k = k t
 
-parts_on : (bits : List Bool) (n : ℕ) (front : List Scalar) (c : Cursor) → On bits c (parts n front c)
+parts_on : (bits : List Bool) (n : ℕ) (front : List ValueSpelling) (c : Cursor) → On bits c (parts n front c)
 unfolding parts
 parts_on bits zero front c = here bits _ c
 parts_on bits (suc n) front c = bind bits c (part (suc n) c) _ (part_on bits (suc n) c) (λ p d.
@@ -153,32 +153,32 @@ template_on bits c = bind bits c (vbr 5 c) _ (vbr_on bits 5 c) (λ count d.
 
 -- the values of a record
 
-value_by_on : (bits : List Bool) (s : Scalar) (c : Cursor) → On bits c (value_by s c)
+value_by_on : (bits : List Bool) (s : ValueSpelling) (c : Cursor) → On bits c (value_by s c)
 unfolding value_by
 value_by_on bits (Known n) c = here bits _ c
 value_by_on bits (Field w) c = fixed_on bits w c
 value_by_on bits (Chunks w) c = vbr_on bits w c
 value_by_on bits Letter c = bind bits c (fixed 6 c) _ (fixed_on bits 6 c) (λ n d. here bits _ d)
 
-code_by_on : (bits : List Bool) (s : Scalar) (c : Cursor) → On bits c (code_by s c)
+code_by_on : (bits : List Bool) (s : ValueSpelling) (c : Cursor) → On bits c (code_by s c)
 unfolding code_by
 code_by_on bits s c = bind bits c (value_by s c) _ (value_by_on bits s c) (λ n d. on_if bits d _ _ _ (none bits d _) (here bits _ d))
 
-operand_on : (bits : List Bool) (b : Bool) (front : List ℕ) (s : Scalar) (c : Cursor) → On bits c (operand b front s c)
+operand_on : (bits : List Bool) (b : Bool) (front : List ℕ) (s : ValueSpelling) (c : Cursor) → On bits c (operand b front s c)
 unfolding operand
 operand_on bits b front s c = bind bits c (value_by s c) _ (value_by_on bits s c) (λ n d. on_if bits d _ _ _ (none bits d _) (here bits _ d))
 
-elements_on : (bits : List Bool) (b : Bool) (s : Scalar) (n : ℕ) (front : List ℕ) (c : Cursor) → On bits c (elements b s n front c)
+elements_on : (bits : List Bool) (b : Bool) (s : ValueSpelling) (n : ℕ) (front : List ℕ) (c : Cursor) → On bits c (elements b s n front c)
 unfolding elements
 elements_on bits b s zero front c = here bits _ c
 elements_on bits b s (suc n) front c = bind bits c (operand b front s c) _ (operand_on bits b front s c) (λ more d. elements_on bits b s n more d)
 
-each_on : (bits : List Bool) (b : Bool) (ss : List Scalar) (front : List ℕ) (c : Cursor) → On bits c (each b ss front c)
+each_on : (bits : List Bool) (b : Bool) (ss : List ValueSpelling) (front : List ℕ) (c : Cursor) → On bits c (each b ss front c)
 unfolding each
 each_on bits b [] front c = here bits _ c
 each_on bits b (s ∷ ss) front c = bind bits c (operand b front s c) _ (operand_on bits b front s c) (λ more d. each_on bits b ss more d)
 
-counted_on : (bits : List Bool) (b : Bool) (s : Scalar) (front : List ℕ) (c : Cursor) → On bits c (counted b s front c)
+counted_on : (bits : List Bool) (b : Bool) (s : ValueSpelling) (front : List ℕ) (c : Cursor) → On bits c (counted b s front c)
 unfolding counted
 counted_on bits b s front c = bind bits c (vbr 6 c) _ (vbr_on bits 6 c) (λ n d. elements_on bits b s n front d)
 
@@ -193,7 +193,7 @@ unfolding unabbreviated
 unabbreviated_on bits b c = bind bits c (code_by (Chunks 6) c) _ (code_by_on bits (Chunks 6) c) (λ code d.
     bind bits d (counted (names_block b code) (Chunks 6) [] d) _ (counted_on bits (names_block b code) (Chunks 6) [] d) (λ all e. here bits _ e))
 
-abbreviated_on : (bits : List Bool) (b : Bool) (t : Template) (c : Cursor) → On bits c (abbreviated b t c)
+abbreviated_on : (bits : List Bool) (b : Bool) (t : AdmittedAbbreviation) (c : Cursor) → On bits c (abbreviated b t c)
 unfolding abbreviated
 abbreviated_on bits b t c = bind bits c (code_by t.code c) _ (code_by_on bits t.code c) (λ code d.
     bind bits d (each (names_block b code) t.operands [] d) _ (each_on bits (names_block b code) t.operands [] d) (λ front e.
@@ -210,7 +210,7 @@ enter_wide_on bits s id bit width c = on_if bits c (nat_lt width 2 || nat_lt 32 
 
 enter_named_on : (bits : List Bool) (s : Scope) (bit id : ℕ) (c : Cursor) → On bits c (enter_named s bit id c)
 enter_named_on bits s bit id c =
-    let deep : Found Item = if length s.around == 16 then Err (record { kind = NestedTooDeep; bit = bit }) else (vbr 4 c >>= λ width d. enter_wide s id c.at width d) in
+    let deep : Found StreamItem = if length s.around == 16 then Err (record { kind = NestedTooDeep; bit = bit }) else (vbr 4 c >>= λ width d. enter_wide s id c.at width d) in
     on_if bits c (nat_le (2 ^ 32) id) (refuse bit) deep (none bits c _)
     (on_if bits c (length s.around == 16) (Err (record { kind = NestedTooDeep; bit = bit })) (vbr 4 c >>= λ width d. enter_wide s id c.at width d) (none bits c _)
     (bind bits c (vbr 4 c) (λ width d. enter_wide s id c.at width d) (vbr_on bits 4 c) (λ width d. enter_wide_on bits s id c.at width d)))
@@ -236,7 +236,7 @@ came_on : (bits : List Bool) (r : Values) (c : Cursor) (s : Result Scope BitFaul
 came_on bits r c (Ok s) = here bits _ c
 came_on bits r c (Err e) = none bits c e
 
-by_template_on : (bits : List Bool) (o : Option Template) (bit : ℕ) (b : Bool) (c : Cursor) → On bits c (by_template o bit b c)
+by_template_on : (bits : List Bool) (o : Option AdmittedAbbreviation) (bit : ℕ) (b : Bool) (c : Cursor) → On bits c (by_template o bit b c)
 unfolding by_template
 by_template_on bits None bit b c = none bits c _
 by_template_on bits (Some t) bit b c = abbreviated_on bits b t c
@@ -258,13 +258,13 @@ item_on : (bits : List Bool) (s : Scope) (c : Cursor) → On bits c (item s c)
 unfolding item
 item_on bits s c =
     let behind = λ (id : ℕ) (d : Cursor). if is_top s then (if id == 1 then enter_block s d else refuse c.at) else inside id c.at s d in
-    let first : Found Item = Ok (plain (Some End) s, c) in
+    let first : Found StreamItem = Ok (plain (Some End) s, c) in
     on_if bits c (is_top s && (length c.rest == 0)) first (fixed s.block.width c >>= behind) (here bits (plain (Some End) s) c) (bind bits c (fixed s.block.width c) behind (fixed_on bits s.block.width c) (λ id d.
     on_if bits d (is_top s) (if id == 1 then enter_block s d else refuse c.at) (inside id c.at s d) (on_if bits d (id == 1) (enter_block s d) (refuse c.at) (enter_block_on bits s d) (none bits d _)) (inside_on bits id c.at s d)))
 
 -- behind what stands there, and behind an abbreviation id
 
-pub is_on : (bits : List Bool) (s : Scope) (c d : Cursor) (i : Item) → IsOn bits c → item s c ≡ Ok (i, d) → IsOn bits d
+pub is_on : (bits : List Bool) (s : Scope) (c d : Cursor) (i : StreamItem) → IsOn bits c → item s c ≡ Ok (i, d) → IsOn bits d
 is_on bits s c d i on h = (rw h at (item_on bits s c)).is on
 
 pub id_is_on : (bits : List Bool) (w n : ℕ) (c d : Cursor) → IsOn bits c → fixed w c ≡ Ok (n, d) → IsOn bits d

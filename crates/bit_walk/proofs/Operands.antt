@@ -6,15 +6,15 @@ use Rattle.std.proofs.lemmas.List.{append-nil, drop_more, drop_all}
 use Rattle.bits.specs.Cursor.{Cursor, Found, ◌>>=◌}
 use Rattle.bits.specs.Reading.{fixed, vbr, blob}
 use Rattle.bits.specs.declared.fault.BitFault.{BitFault}
-use Rattle.bit_stream.specs.declared.abbreviation.Scalar.{Scalar}
-use Rattle.bit_stream.specs.declared.abbreviation.Scalar.TheVariants.{Chunks}
+use Rattle.bit_stream.specs.declared.abbreviation.ValueSpelling.{ValueSpelling}
+use Rattle.bit_stream.specs.declared.abbreviation.ValueSpelling.TheVariants.{Chunks}
 use Rattle.bit_stream.specs.declared.abbreviation.Tail.{Tail}
 use Rattle.bit_stream.specs.declared.abbreviation.Tail.TheVariants.{NoTail, Elements, Bytes}
-use Rattle.bit_stream.specs.Abbreviation.{Template}
+use Rattle.bit_stream.specs.Abbreviation.{AdmittedAbbreviation}
 use Rattle.bit_stream.specs.Record.{Read, value_by, code_by, operand, elements, each, counted, tail_by, names_block, unabbreviated, abbreviated}
 use Rattle.bit_stream.specs.Scope.{Scope, template_of}
-use Rattle.bit_stream.specs.Entry.{Item, is_blockinfo, came, by_template, record_by}
-use Rattle.bit_walk.specs.declared.values.Stage.TheVariants.{Fields, Repeats, Over}
+use Rattle.bit_stream.specs.Entry.{StreamItem, is_blockinfo, came, by_template, record_by}
+use Rattle.bit_walk.specs.declared.values.OperandStage.TheVariants.{Fields, Repeats, Over}
 use Rattle.bit_walk.specs.Values.{repeated, listed, left_by, operands_at, Leaves, IsRead, Gave}
 
 -- where two readings in a row find something, the first does, and the second behind it
@@ -35,7 +35,7 @@ not_refused true fault x y d e h = absurd (cc)
 not_refused false fault x y d e h = found_parts x y d e h
 
 -- one value, and those behind it
-record Next (s : Scalar) (c : Cursor) (ns : List ℕ) (later : Cursor → Found (List ℕ)) : Type 0 where
+record Next (s : ValueSpelling) (c : Cursor) (ns : List ℕ) (later : Cursor → Found (List ℕ)) : Type 0 where
   number : ℕ
   place : Cursor
   others : List ℕ
@@ -43,7 +43,7 @@ record Next (s : Scalar) (c : Cursor) (ns : List ℕ) (later : Cursor → Found 
   are : ns ≡ number ∷ others
   behind : Leaves (later place) others
 
-next_of : (s : Scalar) (c : Cursor) (ns : List ℕ) (later : Cursor → Found (List ℕ)) → Leaves (value_by s c >>= λ v d. later d >>= λ vs e. Ok (v ∷ vs, e)) ns → Next s c ns later
+next_of : (s : ValueSpelling) (c : Cursor) (ns : List ℕ) (later : Cursor → Found (List ℕ)) → Leaves (value_by s c >>= λ v d. later d >>= λ vs e. Ok (v ∷ vs, e)) ns → Next s c ns later
 next_of s c ns later h =
     let first = bound (value_by s c) (λ v d. later d >>= λ vs e. Ok (v ∷ vs, e)) ns h.0 h.1 in
     let rest = bound (later first.1) (λ vs e. Ok (first.0 ∷ vs, e)) ns h.0 first.3 in
@@ -51,7 +51,7 @@ next_of s c ns later h =
     record { number = first.0; place = first.1; others = rest.0; reads = first.2; are = sym last.0; behind = (rest.1, rest.2) }
 
 -- a value that was read is the next, and the others are left
-gives_next : (s : Scalar) (c : Cursor) (ns : List ℕ) (later : Cursor → Found (List ℕ)) (v : ℕ) (d : Cursor) → Leaves (value_by s c >>= λ v d. later d >>= λ vs e. Ok (v ∷ vs, e)) ns → value_by s c ≡ Ok (v, d) → Gave ns (Some v) (later d)
+gives_next : (s : ValueSpelling) (c : Cursor) (ns : List ℕ) (later : Cursor → Found (List ℕ)) (v : ℕ) (d : Cursor) → Leaves (value_by s c >>= λ v d. later d >>= λ vs e. Ok (v ∷ vs, e)) ns → value_by s c ≡ Ok (v, d) → Gave ns (Some v) (later d)
 gives_next s c ns later v d h read =
     let next = next_of s c ns later h in
     let same = found_parts next.number v next.place d (sym next.reads ∙ read) in
@@ -59,74 +59,74 @@ gives_next s c ns later v d h read =
 
 -- so many values of one spelling
 
-repeated_next : (s : Scalar) (k : ℕ) (c : Cursor) → 0 < k → repeated s k c ≡ (value_by s c >>= λ v d. repeated s (k - 1) d >>= λ vs e. Ok (v ∷ vs, e))
+repeated_next : (s : ValueSpelling) (k : ℕ) (c : Cursor) → 0 < k → repeated s k c ≡ (value_by s c >>= λ v d. repeated s (k - 1) d >>= λ vs e. Ok (v ∷ vs, e))
 unfolding repeated
 repeated_next s zero c some = absurd (omega arith)
 repeated_next s (suc k) c some = let less : suc k - 1 ≡ k = omega arith in rw less refl
 
-pub repeated_value : (s : Scalar) (k : ℕ) (c : Cursor) → 0 < k → IsRead (repeated s k c) → (n : ℕ) × (d : Cursor) × (value_by s c ≡ Ok (n, d))
+pub repeated_value : (s : ValueSpelling) (k : ℕ) (c : Cursor) → 0 < k → IsRead (repeated s k c) → (n : ℕ) × (d : Cursor) × (value_by s c ≡ Ok (n, d))
 repeated_value s k c some h =
     let next = next_of s c h.0 (λ d. repeated s (k - 1) d) (rw (repeated_next s k c some) at h.1) in
     (next.number, next.place, next.reads)
 
-pub repeated_gives : (s : Scalar) (k : ℕ) (c d : Cursor) (t : Template) (v : ℕ) (ns : List ℕ) → 0 < k → value_by s c ≡ Ok (v, d) → Leaves (repeated s k c) ns → Gave ns (Some v) (left_by (Repeats s (k - 1)) t d)
+pub repeated_gives : (s : ValueSpelling) (k : ℕ) (c d : Cursor) (t : AdmittedAbbreviation) (v : ℕ) (ns : List ℕ) → 0 < k → value_by s c ≡ Ok (v, d) → Leaves (repeated s k c) ns → Gave ns (Some v) (left_by (Repeats s (k - 1)) t d)
 unfolding left_by
 repeated_gives s k c d t v ns some read h = gives_next s c ns (λ e. repeated s (k - 1) e) v d (rw (repeated_next s k c some) at h) read
 
-pub over : (t : Template) (c : Cursor) → Leaves (left_by Over t c) []
+pub over : (t : AdmittedAbbreviation) (c : Cursor) → Leaves (left_by Over t c) []
 unfolding left_by
 over t c = (c, refl)
 
-pub repeated_over : (s : Scalar) (k : ℕ) (c : Cursor) (t : Template) (ns : List ℕ) → k ≡ 0 → Leaves (repeated s k c) ns → Gave ns None (left_by Over t c)
+pub repeated_over : (s : ValueSpelling) (k : ℕ) (c : Cursor) (t : AdmittedAbbreviation) (ns : List ℕ) → k ≡ 0 → Leaves (repeated s k c) ns → Gave ns None (left_by Over t c)
 unfolding repeated
 repeated_over s k c t ns none h = let last = found_parts [] ns c h.0 (rw none at h.1) in (sym last.0, over t c)
 
 -- what the end of an abbreviation gives
 
-pub none_over : (c : Cursor) (t : Template) (ns : List ℕ) → Leaves (listed [] NoTail c) ns → Gave ns None (left_by Over t c)
+pub none_over : (c : Cursor) (t : AdmittedAbbreviation) (ns : List ℕ) → Leaves (listed [] NoTail c) ns → Gave ns None (left_by Over t c)
 unfolding listed
 none_over c t ns h = let last = found_parts [] ns c h.0 h.1 in (sym last.0, over t c)
 
-pub bytes_over : (c : Cursor) (t : Template) (ns : List ℕ) → Leaves (listed [] Bytes c) ns → Gave ns None (left_by Over t c)
+pub bytes_over : (c : Cursor) (t : AdmittedAbbreviation) (ns : List ℕ) → Leaves (listed [] Bytes c) ns → Gave ns None (left_by Over t c)
 unfolding listed
 bytes_over c t ns h = let last = found_parts [] ns c h.0 h.1 in (sym last.0, over t c)
 
-pub elements_count : (s : Scalar) (c : Cursor) → IsRead (listed [] (Elements s) c) → (n : ℕ) × (d : Cursor) × (vbr 6 c ≡ Ok (n, d))
+pub elements_count : (s : ValueSpelling) (c : Cursor) → IsRead (listed [] (Elements s) c) → (n : ℕ) × (d : Cursor) × (vbr 6 c ≡ Ok (n, d))
 unfolding listed
 elements_count s c h = let first = bound (vbr 6 c) (λ n d. repeated s n d) h.0 h.1.0 h.1.1 in (first.0, first.1, first.2)
 
-pub elements_behind : (s : Scalar) (c d : Cursor) (n : ℕ) (ns : List ℕ) → vbr 6 c ≡ Ok (n, d) → Leaves (listed [] (Elements s) c) ns → Leaves (repeated s n d) ns
+pub elements_behind : (s : ValueSpelling) (c d : Cursor) (n : ℕ) (ns : List ℕ) → vbr 6 c ≡ Ok (n, d) → Leaves (listed [] (Elements s) c) ns → Leaves (repeated s n d) ns
 unfolding listed
 elements_behind s c d n ns count h = (h.0, rw count at h.1)
 
 -- values of these spellings
 
-got_more : (ss : List Scalar) (k : ℕ) (s : Scalar) → k < length ss → s ≡ get_or ss k s → drop k ss ≡ s ∷ drop (k + 1) ss
-got_more ss k s near is = drop_more ss k s near ∙ ap (λ (y : Scalar). y ∷ drop (k + 1) ss) (sym is)
+got_more : (ss : List ValueSpelling) (k : ℕ) (s : ValueSpelling) → k < length ss → s ≡ get_or ss k s → drop k ss ≡ s ∷ drop (k + 1) ss
+got_more ss k s near is = drop_more ss k s near ∙ ap (λ (y : ValueSpelling). y ∷ drop (k + 1) ss) (sym is)
 
-listed_next : (ss : List Scalar) (t : Tail) (k : ℕ) (s : Scalar) (c : Cursor) → k < length ss → s ≡ get_or ss k s → listed (drop k ss) t c ≡ (value_by s c >>= λ v d. listed (drop (k + 1) ss) t d >>= λ vs e. Ok (v ∷ vs, e))
+listed_next : (ss : List ValueSpelling) (t : Tail) (k : ℕ) (s : ValueSpelling) (c : Cursor) → k < length ss → s ≡ get_or ss k s → listed (drop k ss) t c ≡ (value_by s c >>= λ v d. listed (drop (k + 1) ss) t d >>= λ vs e. Ok (v ∷ vs, e))
 unfolding listed
 listed_next ss t k s c near is = rw (got_more ss k s near is) refl
 
-pub field_value : (t : Template) (k : ℕ) (s : Scalar) (c : Cursor) → k < length t.operands → s ≡ get_or t.operands k s → IsRead (left_by (Fields k) t c) → (n : ℕ) × (d : Cursor) × (value_by s c ≡ Ok (n, d))
+pub field_value : (t : AdmittedAbbreviation) (k : ℕ) (s : ValueSpelling) (c : Cursor) → k < length t.operands → s ≡ get_or t.operands k s → IsRead (left_by (Fields k) t c) → (n : ℕ) × (d : Cursor) × (value_by s c ≡ Ok (n, d))
 unfolding left_by
 field_value t k s c near is h =
     let next = next_of s c h.0 (λ d. listed (drop (k + 1) t.operands) t.tail d) (h.1.0, sym (listed_next t.operands t.tail k s c near is) ∙ h.1.1) in
     (next.number, next.place, next.reads)
 
-pub field_gives : (t : Template) (k : ℕ) (s : Scalar) (c d : Cursor) (v : ℕ) (ns : List ℕ) → k < length t.operands → s ≡ get_or t.operands k s → value_by s c ≡ Ok (v, d) → Leaves (left_by (Fields k) t c) ns → Gave ns (Some v) (left_by (Fields (k + 1)) t d)
+pub field_gives : (t : AdmittedAbbreviation) (k : ℕ) (s : ValueSpelling) (c d : Cursor) (v : ℕ) (ns : List ℕ) → k < length t.operands → s ≡ get_or t.operands k s → value_by s c ≡ Ok (v, d) → Leaves (left_by (Fields k) t c) ns → Gave ns (Some v) (left_by (Fields (k + 1)) t d)
 unfolding left_by
 field_gives t k s c d v ns near is read h = gives_next s c ns (λ e. listed (drop (k + 1) t.operands) t.tail e) v d (h.0, sym (listed_next t.operands t.tail k s c near is) ∙ h.1) read
 
-pub fields_over : (t : Template) (k : ℕ) (c : Cursor) (ns : List ℕ) → length t.operands ≤ k → Leaves (left_by (Fields k) t c) ns → Leaves (listed [] t.tail c) ns
+pub fields_over : (t : AdmittedAbbreviation) (k : ℕ) (c : Cursor) (ns : List ℕ) → length t.operands ≤ k → Leaves (left_by (Fields k) t c) ns → Leaves (listed [] t.tail c) ns
 unfolding left_by
-fields_over t k c ns far h = (h.0, ap (λ (l : List Scalar). listed l t.tail c) (sym (drop_all k t.operands far)) ∙ h.1)
+fields_over t k c ns far h = (h.0, ap (λ (l : List ValueSpelling). listed l t.tail c) (sym (drop_all k t.operands far)) ∙ h.1)
 
-pub repeats_left : (s : Scalar) (k : ℕ) (t : Template) (c : Cursor) (ns : List ℕ) → Leaves (left_by (Repeats s k) t c) ns → Leaves (repeated s k c) ns
+pub repeats_left : (s : ValueSpelling) (k : ℕ) (t : AdmittedAbbreviation) (c : Cursor) (ns : List ℕ) → Leaves (left_by (Repeats s k) t c) ns → Leaves (repeated s k c) ns
 unfolding left_by
 repeats_left s k t c ns h = h
 
-pub over_gives : (t : Template) (c : Cursor) (ns : List ℕ) → Leaves (left_by Over t c) ns → Gave ns None (left_by Over t c)
+pub over_gives : (t : AdmittedAbbreviation) (c : Cursor) (ns : List ℕ) → Leaves (left_by Over t c) ns → Gave ns None (left_by Over t c)
 unfolding left_by
 over_gives t c ns h = let last = found_parts [] ns c h.0 h.1 in (sym last.0, (c, refl))
 
@@ -147,14 +147,14 @@ more_listed front more all v vs h k = k ∙ (ap (λ (l : List ℕ). l ++ vs) h �
 at_place : {A : Type 0} (f : Found A) (x : A) (d e : Cursor) → f ≡ Ok (x, d) → d ≡ e → f ≡ Ok (x, e)
 at_place f x d e h same = rw same at h
 
-operand_value : (b : Bool) (front more : List ℕ) (s : Scalar) (c d : Cursor) → operand b front s c ≡ Ok (more, d) → (v : ℕ) × (value_by s c ≡ Ok (v, d)) × (more ≡ front ++ v ∷ [])
+operand_value : (b : Bool) (front more : List ℕ) (s : ValueSpelling) (c d : Cursor) → operand b front s c ≡ Ok (more, d) → (v : ℕ) × (value_by s c ≡ Ok (v, d)) × (more ≡ front ++ v ∷ [])
 unfolding operand
 operand_value b front more s c d h =
     let first = bound (value_by s c) _ more d h in
     let last = not_refused _ _ (front ++ first.0 ∷ []) more first.1 d first.3 in
     (first.0, at_place (value_by s c) first.0 first.1 d first.2 last.1, sym last.0)
 
-elements_repeated : (b : Bool) (s : Scalar) (n : ℕ) (front all : List ℕ) (c d : Cursor) → elements b s n front c ≡ Ok (all, d) → (ns : List ℕ) × (repeated s n c ≡ Ok (ns, d)) × (all ≡ front ++ ns)
+elements_repeated : (b : Bool) (s : ValueSpelling) (n : ℕ) (front all : List ℕ) (c d : Cursor) → elements b s n front c ≡ Ok (all, d) → (ns : List ℕ) × (repeated s n c ≡ Ok (ns, d)) × (all ≡ front ++ ns)
 unfolding elements repeated
 elements_repeated b s zero front all c d h = let last = found_parts front all c d h in ([], rw last.1 refl, sym last.0 ∙ sym (append-nil front))
 elements_repeated b s (suc n) front all c d h =
@@ -163,7 +163,7 @@ elements_repeated b s (suc n) front all c d h =
     let rest = elements_repeated b s n first.0 all first.1 d first.3 in
     (one.0 ∷ rest.0, cons_found (value_by s c) (λ e. repeated s n e) one.0 rest.0 first.1 d one.1 rest.1, more_listed front first.0 all one.0 rest.0 one.2 rest.2)
 
-counted_listed : (b : Bool) (s : Scalar) (front all : List ℕ) (c d : Cursor) → counted b s front c ≡ Ok (all, d) → (ns : List ℕ) × Leaves (vbr 6 c >>= λ n e. repeated s n e) ns × (all ≡ front ++ ns)
+counted_listed : (b : Bool) (s : ValueSpelling) (front all : List ℕ) (c d : Cursor) → counted b s front c ≡ Ok (all, d) → (ns : List ℕ) × Leaves (vbr 6 c >>= λ n e. repeated s n e) ns × (all ≡ front ++ ns)
 unfolding counted
 counted_listed b s front all c d h =
     let count = bound (vbr 6 c) (λ n e. elements b s n front e) all d h in
@@ -185,7 +185,7 @@ tail_listed b Bytes front all c d h =
     let last = found_parts (front, first.0) all first.1 d first.3 in
     ([], (c, refl), ap (λ (p : List ℕ × List ℕ). p.0) (sym last.0) ∙ sym (append-nil front))
 
-each_listed : (b : Bool) (ss : List Scalar) (t : Tail) (front middle : List ℕ) (all : List ℕ × List ℕ) (c d e : Cursor) → each b ss front c ≡ Ok (middle, d) → tail_by b t middle d ≡ Ok (all, e) → (ns : List ℕ) × Leaves (listed ss t c) ns × (all.0 ≡ front ++ ns)
+each_listed : (b : Bool) (ss : List ValueSpelling) (t : Tail) (front middle : List ℕ) (all : List ℕ × List ℕ) (c d e : Cursor) → each b ss front c ≡ Ok (middle, d) → tail_by b t middle d ≡ Ok (all, e) → (ns : List ℕ) × Leaves (listed ss t c) ns × (all.0 ≡ front ++ ns)
 unfolding each listed
 each_listed b [] t front middle all c d e h k =
     let same = found_parts front middle c d h in
@@ -197,7 +197,7 @@ each_listed b (s ∷ ss) t front middle all c d e h k =
     (one.0 ∷ rest.0, (rest.1.0, cons_found (value_by s c) (λ f. listed ss t f) one.0 rest.0 first.1 rest.1.0 one.1 rest.1.1), more_listed front first.0 all.0 one.0 rest.0 one.2 rest.2)
 
 -- behind its abbreviation id, a record by an abbreviation and one without
-abbrev behind_id : ℕ → Template → Cursor → Found (List ℕ)
+abbrev behind_id : ℕ → AdmittedAbbreviation → Cursor → Found (List ℕ)
 behind_id id t d =
     if id == 3 then (code_by (Chunks 6) d >>= λ _ e. vbr 6 e >>= λ n f. repeated (Chunks 6) n f)
     else (code_by t.code d >>= λ _ e. listed t.operands t.tail e)
@@ -214,7 +214,7 @@ unabbreviated_left b c d r h =
     let values = same_list (repeated (Chunks 6) count.0 count.1) rest.0 r.operands all.1 rest.1 same in
     (all.1, behind_found (code_by (Chunks 6) c) _ code.0 code.1 r.operands all.1 code.2 (behind_found (vbr 6 code.1) (λ n f. repeated (Chunks 6) n f) count.0 count.1 r.operands all.1 count.2 values))
 
-abbreviated_left : (b : Bool) (t : Template) (c d : Cursor) (r : Read) → abbreviated b t c ≡ Ok (r, d) → Leaves (code_by t.code c >>= λ _ e. listed t.operands t.tail e) r.operands
+abbreviated_left : (b : Bool) (t : AdmittedAbbreviation) (c d : Cursor) (r : Read) → abbreviated b t c ≡ Ok (r, d) → Leaves (code_by t.code c >>= λ _ e. listed t.operands t.tail e) r.operands
 unfolding abbreviated
 abbreviated_left b t c d r h =
     let code = bound (code_by t.code c) _ r d h in
@@ -226,16 +226,16 @@ abbreviated_left b t c d r h =
     let values = same_list (listed t.operands t.tail code.1) rest.0 r.operands rest.1.0 rest.1.1 same in
     (rest.1.0, behind_found (code_by t.code c) (λ _ e. listed t.operands t.tail e) code.0 code.1 r.operands rest.1.0 code.2 values)
 
-came_operands : (r : Read) (c d : Cursor) (u : Result Scope BitFault) (i : Item) → came r c u ≡ Ok (i, d) → i.operands ≡ r.operands
-came_operands r c d (Ok s) i h = let last = found_parts _ i c d h in ap (λ (x : Item). x.operands) (sym last.0)
+came_operands : (r : Read) (c d : Cursor) (u : Result Scope BitFault) (i : StreamItem) → came r c u ≡ Ok (i, d) → i.operands ≡ r.operands
+came_operands r c d (Ok s) i h = let last = found_parts _ i c d h in ap (λ (x : StreamItem). x.operands) (sym last.0)
 came_operands r c d (Err e) i h = absurd (cc)
 
-by_template_left : (o : Option Template) (bit : ℕ) (b : Bool) (t : Template) (c d : Cursor) (r : Read) → o ≡ Some t → by_template o bit b c ≡ Ok (r, d) → Leaves (code_by t.code c >>= λ _ e. listed t.operands t.tail e) r.operands
+by_template_left : (o : Option AdmittedAbbreviation) (bit : ℕ) (b : Bool) (t : AdmittedAbbreviation) (c d : Cursor) (r : Read) → o ≡ Some t → by_template o bit b c ≡ Ok (r, d) → Leaves (code_by t.code c >>= λ _ e. listed t.operands t.tail e) r.operands
 unfolding by_template
 by_template_left None bit b t c d r is h = absurd (cc)
 by_template_left (Some u) bit b t c d r is h = let same : u ≡ t = cc in rw same at (abbreviated_left b u c d r h)
 
-pub record_left : (id bit : ℕ) (s : Scope) (t : Template) (c d : Cursor) (i : Item) → 3 ≤ id → (4 ≤ id → template_of s id ≡ Some t) → record_by id bit s c ≡ Ok (i, d) → Leaves (behind_id id t c) i.operands
+pub record_left : (id bit : ℕ) (s : Scope) (t : AdmittedAbbreviation) (c d : Cursor) (i : StreamItem) → 3 ≤ id → (4 ≤ id → template_of s id ≡ Some t) → record_by id bit s c ≡ Ok (i, d) → Leaves (behind_id id t c) i.operands
 unfolding record_by
 record_left id bit s t c d i low by h = elim (cases_Bool (id == 3)) [
   | inl is ↦
@@ -251,42 +251,42 @@ record_left id bit s t c d i low by h = elim (cases_Bool (id == 3)) [
 
 -- where its operands begin
 
-pub starts_id : (w : ℕ) (t : Template) (c : Cursor) → IsRead (operands_at w t c) → (n : ℕ) × (d : Cursor) × (fixed w c ≡ Ok (n, d))
+pub starts_id : (w : ℕ) (t : AdmittedAbbreviation) (c : Cursor) → IsRead (operands_at w t c) → (n : ℕ) × (d : Cursor) × (fixed w c ≡ Ok (n, d))
 unfolding operands_at
 starts_id w t c h = let first = bound (fixed w c) _ h.0 h.1.0 h.1.1 in (first.0, first.1, first.2)
 
-behind_start : (w id : ℕ) (t : Template) (c d : Cursor) (ns : List ℕ) → fixed w c ≡ Ok (id, d) → Leaves (operands_at w t c) ns → Leaves (behind_id id t d) ns
+behind_start : (w id : ℕ) (t : AdmittedAbbreviation) (c d : Cursor) (ns : List ℕ) → fixed w c ≡ Ok (id, d) → Leaves (operands_at w t c) ns → Leaves (behind_id id t d) ns
 unfolding operands_at
 behind_start w id t c d ns read h = (h.0, rw read at h.1)
 
-plain_start : (w id : ℕ) (t : Template) (c d : Cursor) (ns : List ℕ) → fixed w c ≡ Ok (id, d) → id ≡ 3 → Leaves (operands_at w t c) ns → Leaves (code_by (Chunks 6) d >>= λ _ e. vbr 6 e >>= λ n f. repeated (Chunks 6) n f) ns
+plain_start : (w id : ℕ) (t : AdmittedAbbreviation) (c d : Cursor) (ns : List ℕ) → fixed w c ≡ Ok (id, d) → id ≡ 3 → Leaves (operands_at w t c) ns → Leaves (code_by (Chunks 6) d >>= λ _ e. vbr 6 e >>= λ n f. repeated (Chunks 6) n f) ns
 plain_start w id t c d ns read is h = rw is at (behind_start w id t c d ns read h)
 
-other_start : (w id : ℕ) (t : Template) (c d : Cursor) (ns : List ℕ) → fixed w c ≡ Ok (id, d) → (id ≡ 3 → ⊥) → Leaves (operands_at w t c) ns → Leaves (code_by t.code d >>= λ _ e. listed t.operands t.tail e) ns
+other_start : (w id : ℕ) (t : AdmittedAbbreviation) (c d : Cursor) (ns : List ℕ) → fixed w c ≡ Ok (id, d) → (id ≡ 3 → ⊥) → Leaves (operands_at w t c) ns → Leaves (code_by t.code d >>= λ _ e. listed t.operands t.tail e) ns
 other_start w id t c d ns read is h = let differs = ne_eqb id 3 is in rw differs at (behind_start w id t c d ns read h)
 
-pub starts_plain : (w id : ℕ) (t : Template) (c d : Cursor) → fixed w c ≡ Ok (id, d) → id ≡ 3 → IsRead (operands_at w t c) → (n : ℕ) × (e : Cursor) × (code_by (Chunks 6) d ≡ Ok (n, e))
+pub starts_plain : (w id : ℕ) (t : AdmittedAbbreviation) (c d : Cursor) → fixed w c ≡ Ok (id, d) → id ≡ 3 → IsRead (operands_at w t c) → (n : ℕ) × (e : Cursor) × (code_by (Chunks 6) d ≡ Ok (n, e))
 starts_plain w id t c d read is h =
     let all = plain_start w id t c d h.0 read is h.1 in
     let code = bound (code_by (Chunks 6) d) _ h.0 all.0 all.1 in
     (code.0, code.1, code.2)
 
-pub starts_count : (w id n : ℕ) (t : Template) (c d e : Cursor) → fixed w c ≡ Ok (id, d) → id ≡ 3 → code_by (Chunks 6) d ≡ Ok (n, e) → IsRead (operands_at w t c) → (k : ℕ) × (f : Cursor) × (vbr 6 e ≡ Ok (k, f))
+pub starts_count : (w id n : ℕ) (t : AdmittedAbbreviation) (c d e : Cursor) → fixed w c ≡ Ok (id, d) → id ≡ 3 → code_by (Chunks 6) d ≡ Ok (n, e) → IsRead (operands_at w t c) → (k : ℕ) × (f : Cursor) × (vbr 6 e ≡ Ok (k, f))
 starts_count w id n t c d e read is code h =
     let all = plain_start w id t c d h.0 read is h.1 in
     let count = bound (vbr 6 e) (λ n f. repeated (Chunks 6) n f) h.0 all.0 (rw code at all.1) in
     (count.0, count.1, count.2)
 
-pub plain_left : (w id n k : ℕ) (t : Template) (c d e f : Cursor) (ns : List ℕ) → fixed w c ≡ Ok (id, d) → id ≡ 3 → code_by (Chunks 6) d ≡ Ok (n, e) → vbr 6 e ≡ Ok (k, f) → Leaves (operands_at w t c) ns → Leaves (left_by (Repeats (Chunks 6) k) t f) ns
+pub plain_left : (w id n k : ℕ) (t : AdmittedAbbreviation) (c d e f : Cursor) (ns : List ℕ) → fixed w c ≡ Ok (id, d) → id ≡ 3 → code_by (Chunks 6) d ≡ Ok (n, e) → vbr 6 e ≡ Ok (k, f) → Leaves (operands_at w t c) ns → Leaves (left_by (Repeats (Chunks 6) k) t f) ns
 unfolding left_by
 plain_left w id n k t c d e f ns read is code count h = let all = plain_start w id t c d ns read is h in (all.0, rw (code, count) at all.1)
 
-pub starts_code : (w id : ℕ) (t : Template) (c d : Cursor) → fixed w c ≡ Ok (id, d) → (id ≡ 3 → ⊥) → IsRead (operands_at w t c) → (n : ℕ) × (e : Cursor) × (code_by t.code d ≡ Ok (n, e))
+pub starts_code : (w id : ℕ) (t : AdmittedAbbreviation) (c d : Cursor) → fixed w c ≡ Ok (id, d) → (id ≡ 3 → ⊥) → IsRead (operands_at w t c) → (n : ℕ) × (e : Cursor) × (code_by t.code d ≡ Ok (n, e))
 starts_code w id t c d read is h =
     let all = other_start w id t c d h.0 read is h.1 in
     let code = bound (code_by t.code d) _ h.0 all.0 all.1 in
     (code.0, code.1, code.2)
 
-pub code_left : (w id n : ℕ) (t : Template) (c d e : Cursor) (ns : List ℕ) → fixed w c ≡ Ok (id, d) → (id ≡ 3 → ⊥) → code_by t.code d ≡ Ok (n, e) → Leaves (operands_at w t c) ns → Leaves (left_by (Fields 0) t e) ns
+pub code_left : (w id n : ℕ) (t : AdmittedAbbreviation) (c d e : Cursor) (ns : List ℕ) → fixed w c ≡ Ok (id, d) → (id ≡ 3 → ⊥) → code_by t.code d ≡ Ok (n, e) → Leaves (operands_at w t c) ns → Leaves (left_by (Fields 0) t e) ns
 unfolding left_by
 code_left w id n t c d e ns read is code h = let all = other_start w id t c d ns read is h in (all.0, rw code at all.1)

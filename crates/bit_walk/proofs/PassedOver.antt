@@ -7,16 +7,16 @@ use Rattle.bits.specs.Reading.{fixed, vbr, align, blob}
 use Rattle.bits.specs.declared.fault.BitFault.{BitFault}
 use Rattle.bits.specs.declared.fault.BitFaultKind.TheVariants.{BadBlockLength, NestedTooDeep}
 use Rattle.bit_stream.specs.declared.entry.Entry.TheVariants.{Block, EndBlock, End}
-use Rattle.bit_stream.specs.declared.abbreviation.Scalar.{Scalar}
-use Rattle.bit_stream.specs.declared.abbreviation.Scalar.TheVariants.{Chunks}
+use Rattle.bit_stream.specs.declared.abbreviation.ValueSpelling.{ValueSpelling}
+use Rattle.bit_stream.specs.declared.abbreviation.ValueSpelling.TheVariants.{Chunks}
 use Rattle.bit_stream.specs.declared.abbreviation.Tail.{Tail}
 use Rattle.bit_stream.specs.declared.abbreviation.Tail.TheVariants.{NoTail, Elements, Bytes}
-use Rattle.bit_stream.specs.Abbreviation.{Template}
+use Rattle.bit_stream.specs.Abbreviation.{AdmittedAbbreviation}
 use Rattle.bit_stream.specs.Answers.{refuse}
 use Rattle.bit_stream.specs.Definition.{template}
 use Rattle.bit_stream.specs.Record.{Read, value_by, code_by, operand, elements, each, counted, tail_by, names_block, unabbreviated, abbreviated}
 use Rattle.bit_stream.specs.Scope.{Scope, template_of}
-use Rattle.bit_stream.specs.Entry.{Item, plain, is_top, is_blockinfo, came, entered, left, defined, given_for, enter_sized, enter_wide, enter_named, enter_block, words_since, end_block, define_for, define, recorded, by_template, record_by, inside, item}
+use Rattle.bit_stream.specs.Entry.{StreamItem, plain, is_top, is_blockinfo, came, entered, block_left, defined, given_for, enter_sized, enter_wide, enter_named, enter_block, words_since, end_block, define_for, define, recorded, by_template, record_by, inside, item}
 use Rattle.bit_walk.specs.Passing as passing
 use Rattle.bit_walk.specs.Passing.{Passed, first_of, with_first, is_none, pass_operand, pass_elements, pass_each, pass_counted, pass_tail, pass_unabbreviated, pass_abbreviated, pass_by_template, pass_record, pass_inside, pass_item}
 
@@ -40,24 +40,24 @@ either k false x y u v h e = e
 
 -- the values of a record
 
-operand_is : (b : Bool) (front : List ℕ) (s : Scalar) (c : Cursor) → kept first_of (operand b front s c) ≡ pass_operand b (first_of front) s c
+operand_is : (b : Bool) (front : List ℕ) (s : ValueSpelling) (c : Cursor) → kept first_of (operand b front s c) ≡ pass_operand b (first_of front) s c
 unfolding operand pass_operand
 operand_is b [] s c = behind first_of (value_by s c) _ _ (λ n d. either first_of _ _ _ _ _ refl refl)
 operand_is b (m ∷ ms) s c =
     let more : (length (m ∷ ms) == 0) ≡ false = ne_eqb (length (m ∷ ms)) 0 (λ e. omega arith) in
     behind first_of (value_by s c) _ _ (λ n d. rw more (either first_of _ _ _ _ _ refl refl))
 
-elements_is : (b : Bool) (s : Scalar) (n : ℕ) (front : List ℕ) (c : Cursor) → kept first_of (elements b s n front c) ≡ pass_elements b s n (first_of front) c
+elements_is : (b : Bool) (s : ValueSpelling) (n : ℕ) (front : List ℕ) (c : Cursor) → kept first_of (elements b s n front c) ≡ pass_elements b s n (first_of front) c
 unfolding elements pass_elements
 elements_is b s zero front c = refl
 elements_is b s (suc n) front c = along first_of first_of (operand b front s c) _ _ _ (operand_is b front s c) (λ more d. elements_is b s n more d)
 
-each_is : (b : Bool) (ss : List Scalar) (front : List ℕ) (c : Cursor) → kept first_of (each b ss front c) ≡ pass_each b ss (first_of front) c
+each_is : (b : Bool) (ss : List ValueSpelling) (front : List ℕ) (c : Cursor) → kept first_of (each b ss front c) ≡ pass_each b ss (first_of front) c
 unfolding each pass_each
 each_is b [] front c = refl
 each_is b (s ∷ ss) front c = along first_of first_of (operand b front s c) _ _ _ (operand_is b front s c) (λ more d. each_is b ss more d)
 
-counted_is : (b : Bool) (s : Scalar) (front : List ℕ) (c : Cursor) → kept first_of (counted b s front c) ≡ pass_counted b s (first_of front) c
+counted_is : (b : Bool) (s : ValueSpelling) (front : List ℕ) (c : Cursor) → kept first_of (counted b s front c) ≡ pass_counted b s (first_of front) c
 unfolding counted pass_counted
 counted_is b s front c = behind first_of (vbr 6 c) _ _ (λ n d. elements_is b s n front d)
 
@@ -78,20 +78,20 @@ unfolding unabbreviated pass_unabbreviated
 unabbreviated_is b c = behind passed_of (code_by (Chunks 6) c) _ _ (λ code d.
     along first_of passed_of (counted (names_block b code) (Chunks 6) [] d) _ _ _ (counted_is (names_block b code) (Chunks 6) [] d) (λ all e. refl))
 
-abbreviated_is : (b : Bool) (t : Template) (c : Cursor) → kept passed_of (abbreviated b t c) ≡ pass_abbreviated b t c
+abbreviated_is : (b : Bool) (t : AdmittedAbbreviation) (c : Cursor) → kept passed_of (abbreviated b t c) ≡ pass_abbreviated b t c
 unfolding abbreviated pass_abbreviated
 abbreviated_is b t c = behind passed_of (code_by t.code c) _ _ (λ code d.
     along first_of passed_of (each (names_block b code) t.operands [] d) _ _ _ (each_is (names_block b code) t.operands [] d) (λ front e.
     along first_and passed_of (tail_by (names_block b code) t.tail front e) _ _ _ (tail_is (names_block b code) t.tail front e) (λ all f. refl)))
 
-by_template_is : (o : Option Template) (bit : ℕ) (b : Bool) (c : Cursor) → kept passed_of (by_template o bit b c) ≡ pass_by_template o bit b c
+by_template_is : (o : Option AdmittedAbbreviation) (bit : ℕ) (b : Bool) (c : Cursor) → kept passed_of (by_template o bit b c) ≡ pass_by_template o bit b c
 unfolding by_template pass_by_template
 by_template_is None bit b c = refl
 by_template_is (Some t) bit b c = abbreviated_is b t c
 
 -- what stands at a place
 
-abbrev pub bare : Item → Item
+abbrev pub bare : StreamItem → StreamItem
 bare i = record { entry = i.entry; scope = i.scope; operands = []; blob = i.blob }
 
 recorded_is : (bit : ℕ) (s : Scope) (code : ℕ) (operands : List ℕ) → recorded bit s code operands ≡ passing.recorded bit s code (first_of operands)
@@ -121,8 +121,8 @@ enter_wide_is s id bit width c = either bare (nat_lt width 2 || nat_lt 32 width)
 
 enter_named_is : (s : Scope) (bit id : ℕ) (c : Cursor) → kept bare (enter_named s bit id c) ≡ enter_named s bit id c
 enter_named_is s bit id c =
-    let wide : Found Item = vbr 4 c >>= λ width d. enter_wide s id c.at width d in
-    let deep : Found Item = if length s.around == 16 then Err (record { kind = NestedTooDeep; bit = bit }) else wide in
+    let wide : Found StreamItem = vbr 4 c >>= λ width d. enter_wide s id c.at width d in
+    let deep : Found StreamItem = if length s.around == 16 then Err (record { kind = NestedTooDeep; bit = bit }) else wide in
     either bare (nat_le (2 ^ 32) id) (refuse bit) deep (refuse bit) deep refl
     (either bare (length s.around == 16) (Err (record { kind = NestedTooDeep; bit = bit })) wide (Err (record { kind = NestedTooDeep; bit = bit })) wide refl
     (behind bare (vbr 4 c) (λ width d. enter_wide s id c.at width d) (λ width d. enter_wide s id c.at width d) (λ width d. enter_wide_is s id c.at width d)))
@@ -134,11 +134,11 @@ enter_block_is s c = behind bare (vbr 8 c) (λ id d. enter_named s c.at id d) (�
 end_block_is : (s : Scope) (c : Cursor) → kept bare (end_block s c) ≡ end_block s c
 unfolding end_block
 end_block_is s c =
-    let ended = λ (d : Cursor). if words_since s.block.count_bit d.at == s.block.words then Ok (plain (Some EndBlock) (left s), d) else Err (record { kind = BadBlockLength; bit = s.block.count_bit }) in
+    let ended = λ (d : Cursor). if words_since s.block.count_bit d.at == s.block.words then Ok (plain (Some EndBlock) (block_left s), d) else Err (record { kind = BadBlockLength; bit = s.block.count_bit }) in
     behind bare (align c) (λ _ d. ended d) (λ _ d. ended d) (λ _ d.
-    either bare (words_since s.block.count_bit d.at == s.block.words) (Ok (plain (Some EndBlock) (left s), d)) (Err (record { kind = BadBlockLength; bit = s.block.count_bit })) (Ok (plain (Some EndBlock) (left s), d)) (Err (record { kind = BadBlockLength; bit = s.block.count_bit })) refl refl)
+    either bare (words_since s.block.count_bit d.at == s.block.words) (Ok (plain (Some EndBlock) (block_left s), d)) (Err (record { kind = BadBlockLength; bit = s.block.count_bit })) (Ok (plain (Some EndBlock) (block_left s), d)) (Err (record { kind = BadBlockLength; bit = s.block.count_bit })) refl refl)
 
-defined_is : (c : Cursor) (to : Template → Scope) → kept bare (template c >>= λ t d. Ok (plain None (to t), d)) ≡ (template c >>= λ t d. Ok (plain None (to t), d))
+defined_is : (c : Cursor) (to : AdmittedAbbreviation → Scope) → kept bare (template c >>= λ t d. Ok (plain None (to t), d)) ≡ (template c >>= λ t d. Ok (plain None (to t), d))
 defined_is c to = behind bare (template c) (λ t d. Ok (plain None (to t), d)) (λ t d. Ok (plain None (to t), d)) (λ t d. refl)
 
 define_for_is : (id : Option ℕ) (bit : ℕ) (s : Scope) (c : Cursor) → kept bare (define_for id bit s c) ≡ define_for id bit s c
@@ -161,26 +161,26 @@ item_is : (s : Scope) (c : Cursor) → kept bare (item s c) ≡ pass_item s c
 unfolding item pass_item
 item_is s c =
     let entering = λ (id : ℕ) (d : Cursor). if id == 1 then enter_block s d else refuse c.at in
-    let first : Found Item = Ok (plain (Some End) s, c) in
+    let first : Found StreamItem = Ok (plain (Some End) s, c) in
     either bare (is_top s && (length c.rest == 0)) first _ first _ refl
     (behind bare (fixed s.block.width c) (λ id d. if is_top s then entering id d else inside id c.at s d) (λ id d. if is_top s then entering id d else pass_inside id c.at s d) (λ id d.
     either bare (is_top s) (entering id d) (inside id c.at s d) (entering id d) (pass_inside id c.at s d) (either bare (id == 1) (enter_block s d) (refuse c.at) (enter_block s d) (refuse c.at) (enter_block_is s d) refl) (inside_is id c.at s d)))
 
 -- what was passed stands there
-pub passes : (s : Scope) (c d : Cursor) (j : Item) → pass_item s c ≡ Ok (j, d) → (i : Item) × (item s c ≡ Ok (i, d)) × (bare i ≡ j)
+pub passes : (s : Scope) (c d : Cursor) (j : StreamItem) → pass_item s c ≡ Ok (j, d) → (i : StreamItem) × (item s c ≡ Ok (i, d)) × (bare i ≡ j)
 passes s c d j h = by_found (item s c) refl (item_is s c ∙ h) where
-  by_found : (f : Found Item) → item s c ≡ f → kept bare f ≡ Ok (j, d) → (i : Item) × (item s c ≡ Ok (i, d)) × (bare i ≡ j)
+  by_found : (f : Found StreamItem) → item s c ≡ f → kept bare f ≡ Ok (j, d) → (i : StreamItem) × (item s c ≡ Ok (i, d)) × (bare i ≡ j)
   by_found (Ok x) is same =
-      let one : Item × Cursor = (bare x.0, x.1) in
-      let other : Item × Cursor = (j, d) in
+      let one : StreamItem × Cursor = (bare x.0, x.1) in
+      let other : StreamItem × Cursor = (j, d) in
       let both : one ≡ other = cc in
-      let place : x.1 ≡ d = ap (λ (p : Item × Cursor). p.1) both in
-      (x.0, rw (← place) is, ap (λ (p : Item × Cursor). p.0) both)
+      let place : x.1 ≡ d = ap (λ (p : StreamItem × Cursor). p.1) both in
+      (x.0, rw (← place) is, ap (λ (p : StreamItem × Cursor). p.0) both)
   by_found (Err e) is same = absurd (cc)
 
 -- and what is refused in passing is refused
 pub fails : (s : Scope) (c : Cursor) (e : BitFault) → pass_item s c ≡ Err e → item s c ≡ Err e
 fails s c e h = by_found (item s c) refl (item_is s c ∙ h) where
-  by_found : (f : Found Item) → item s c ≡ f → kept bare f ≡ Err e → item s c ≡ Err e
+  by_found : (f : Found StreamItem) → item s c ≡ f → kept bare f ≡ Err e → item s c ≡ Err e
   by_found (Ok x) is same = absurd (cc)
   by_found (Err x) is same = let one : x ≡ e = cc in rw (← one) is

@@ -5,7 +5,7 @@ use Rattle.std.specs.Ordering.{nat_cmp}
 use Rattle.std.specs.Map.{remove_entry}
 use Rattle.std.specs.BTreeMap.{is_at, insert_entry}
 use Rattle.std.proofs.lemmas.Bool.{lt-ltb, le-ltb}
-use Rattle.bit_stream.specs.Abbreviation.{Template}
+use Rattle.bit_stream.specs.Abbreviation.{AdmittedAbbreviation}
 use Rattle.bit_stream.specs.Scope.{given_to, given_here, template_of}
 use Rattle.bit_stream.specs.Entry.{given_for}
 use Rattle.given_starts.specs.Given.{starts_of, with_start}
@@ -22,11 +22,11 @@ pub give_is : (o : Opened) (bits : List Bool) (block : StartFrame) (around : Lis
 give_is o bits block around rows later id start is more =
     let t = template_at bits start in
     let list : map (template_at bits) (starts_of rows id ++ start ∷ []) ≡ given_to (map (row_at bits) rows) id ++ t ∷ [] =
-    map_more (template_at bits) (starts_of rows id) start ∙ ap (λ (l : List Template). l ++ t ∷ []) (sym (given_at bits rows id)) in
+    map_more (template_at bits) (starts_of rows id) start ∙ ap (λ (l : List AdmittedAbbreviation). l ++ t ∷ []) (sym (given_at bits rows id)) in
     let others = remove_at bits (is_at (nat_cmp id)) rows in
     let table : map (row_at bits) later ≡ insert_entry nat_cmp (remove_entry (is_at (nat_cmp id)) (map (row_at bits) rows)) id (given_to (map (row_at bits) rows) id ++ t ∷ []) =
     ap (map (row_at bits)) more ∙ (insert_at bits (remove_entry (is_at (nat_cmp id)) rows) id (starts_of rows id ++ start ∷ []) ∙ (λ i. insert_entry nat_cmp (others i) id (list i))) in
-    rw (← is) (ap (λ (t : List (ℕ × List Template)). with_scope (opened_at bits block around rows) (record { block = frame_at bits block; around = map (frame_at bits) around; given = t })) table)
+    rw (← is) (ap (λ (t : List (ℕ × List AdmittedAbbreviation)). with_scope (opened_at bits block around rows) (record { block = frame_at bits block; around = map (frame_at bits) around; given = t })) table)
 
 -- an abbreviation that was given to a block id
 pub given_there : (o : Opened) (bits : List Bool) (block : StartFrame) (around : List StartFrame) (rows : List (ℕ × List ℕ)) (id index : ℕ) → opened_at bits block around rows ≡ o → block.id ≡ Some id

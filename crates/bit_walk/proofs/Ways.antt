@@ -4,7 +4,7 @@ use Rattle.bits.specs.Cursor.{Cursor}
 use Rattle.bits.specs.declared.fault.BitFault.{BitFault}
 use Rattle.bit_stream.specs.declared.entry.Entry.TheVariants.{End}
 use Rattle.bit_stream.specs.Scope.{Scope, top_level}
-use Rattle.bit_stream.specs.Entry.{Item, item, is_top, plain}
+use Rattle.bit_stream.specs.Entry.{StreamItem, item, is_top, plain}
 use Rattle.bit_tree.specs.Stream.{Tree, Stream, is_end, opening}
 use Rattle.bit_tree.specs.Pieces.{Piece, begun, ended, defines, holds, flat}
 use Rattle.bit_tree.proofs.Leaving.{IsWide, top_wide}
@@ -13,20 +13,20 @@ use Rattle.bit_tree.proofs.Faults.{end_stands}
 use Rattle.bit_walk.specs.Left.{piece_at, pieces_from, pieces_left, Ahead, at_end, before}
 
 -- two readings of one place
-record Same (i j : Item) (d e : Cursor) : Type 0 where
+record Same (i j : StreamItem) (d e : Cursor) : Type 0 where
   it : i ≡ j
   place : d ≡ e
 
-same_found : (s : Scope) (c d e : Cursor) (i j : Item) → item s c ≡ Ok (i, d) → item s c ≡ Ok (j, e) → Same i j d e
+same_found : (s : Scope) (c d e : Cursor) (i j : StreamItem) → item s c ≡ Ok (i, d) → item s c ≡ Ok (j, e) → Same i j d e
 same_found s c d e i j h k =
-    let one : Item × Cursor = (i, d) in
-    let other : Item × Cursor = (j, e) in
+    let one : StreamItem × Cursor = (i, d) in
+    let other : StreamItem × Cursor = (j, e) in
     let both : one ≡ other = cc in
-    record { it = ap (λ (x : Item × Cursor). x.0) both; place = ap (λ (x : Item × Cursor). x.1) both }
+    record { it = ap (λ (x : StreamItem × Cursor). x.0) both; place = ap (λ (x : StreamItem × Cursor). x.1) both }
 
 -- the pieces of a way are what is left where it leads to the end
 
-piece_is : (s : Scope) (c d : Cursor) (p : Piece) (i : Item) → Step s c p i d → piece_at i.entry s c i ≡ p ∷ []
+piece_is : (s : Scope) (c d : Cursor) (p : Piece) (i : StreamItem) → Step s c p i d → piece_at i.entry s c i ≡ p ∷ []
 piece_is s c d (begun id width words) i h = rw (h.0.is, h.1, h.2) refl
 piece_is s c d ended i h = rw h.is refl
 piece_is s c d (defines id t) i h = rw (h.0.is, h.1, h.2) refl
@@ -69,12 +69,12 @@ spent_left s c = refl
 -- one step
 
 -- the piece that stands here is the next
-pub record Follows (s : Scope) (c d : Cursor) (i : Item) (ps : List Piece) : Type 0 where
+pub record Follows (s : Scope) (c d : Cursor) (i : StreamItem) (ps : List Piece) : Type 0 where
   pub others : List Piece
   pub are : ps ≡ piece_at i.entry s c i ++ others
   pub ahead : Ahead i.scope d others
 
-pub next_is : {s : Scope} {c d : Cursor} {ps : List Piece} (i : Item) → Ahead s c ps → item s c ≡ Ok (i, d) → Follows s c d i ps
+pub next_is : {s : Scope} {c d : Cursor} {ps : List Piece} (i : StreamItem) → Ahead s c ps → item s c ≡ Ok (i, d) → Follows s c d i ps
 next_is {s} {c} {d} i (at_end top none) k =
     let same = same_found s c c d (plain (Some End) s) i (end_stands s c top none) k in
     rw (← same.it, ← same.place) (record { others = []; are = refl; ahead = at_end top none })
@@ -87,7 +87,7 @@ no_fault {s} {c} e (at_end top none) k = let here = end_stands s c top none in c
 no_fault e (before h more fewer rest) k = cc
 
 -- nothing is left where the end stands
-pub end_is : {s : Scope} {c d : Cursor} {ps : List Piece} (i : Item) → Ahead s c ps → item s c ≡ Ok (i, d) → i.entry ≡ Some End → (ps ≡ []) × Ahead i.scope d []
+pub end_is : {s : Scope} {c d : Cursor} {ps : List Piece} (i : StreamItem) → Ahead s c ps → item s c ≡ Ok (i, d) → i.entry ≡ Some End → (ps ≡ []) × Ahead i.scope d []
 end_is {s} {c} {d} i (at_end top none) k is =
     let same = same_found s c c d (plain (Some End) s) i (end_stands s c top none) k in
     (refl, rw (← same.it, ← same.place) (at_end top none))

@@ -3,9 +3,9 @@ use Rattle.std.specs.Prelude.{◌≡◌, ◌<◌, ℕ, zero, suc, Bool, true, fa
 use Rattle.bits.specs.Cursor.{Cursor, Found}
 use Rattle.bit_stream.specs.declared.entry.Entry.{Entry}
 use Rattle.bit_stream.specs.declared.entry.Entry.TheVariants.{Block, EndBlock, Record, End}
-use Rattle.bit_stream.specs.Abbreviation.{Template}
+use Rattle.bit_stream.specs.Abbreviation.{AdmittedAbbreviation}
 use Rattle.bit_stream.specs.Scope.{Scope}
-use Rattle.bit_stream.specs.Entry.{Item, item, is_top, id_at, has_blob_by, defined_at}
+use Rattle.bit_stream.specs.Entry.{StreamItem, item, is_top, id_at, has_blob_by, defined_at}
 use Rattle.bit_tree.specs.Stream.{next_id, is_end}
 use Rattle.bit_tree.specs.Pieces.{Piece, begun, ended, defines, holds}
 use Rattle.bit_walk.specs.declared.event.Event.{Event}
@@ -14,12 +14,12 @@ use Rattle.bit_walk.specs.Values.{IsRead, list_of}
 use Rattle.bit_walk.specs.Walker.{Walker, piece_of}
 
 -- the piece that an item is; the end of the stream is none
-abbrev pub defines_found : ℕ → Found Template → List Piece
+abbrev pub defines_found : ℕ → Found AdmittedAbbreviation → List Piece
 defines_found id (Ok x) = defines id x.0 ∷ []
 defines_found id (Err fault) = []
 
 -- the pieces that an entry gives
-abbrev pub piece_at : Option Entry → Scope → Cursor → Item → List Piece
+abbrev pub piece_at : Option Entry → Scope → Cursor → StreamItem → List Piece
 piece_at None s c i = defines_found (next_id s) (defined_at s c)
 piece_at (Some (Block id)) s c i = begun id i.scope.block.width i.scope.block.words ∷ []
 piece_at (Some EndBlock) s c i = ended ∷ []
@@ -27,7 +27,7 @@ piece_at (Some (Record code)) s c i = holds (id_at s c) code i.operands (has_blo
 piece_at (Some End) s c i = []
 
 -- an item, and what is left behind it
-abbrev pub piece_and : Scope → Cursor → Found Item → (Scope → Cursor → List Piece) → List Piece
+abbrev pub piece_and : Scope → Cursor → Found StreamItem → (Scope → Cursor → List Piece) → List Piece
 piece_and s c (Ok x) later = piece_at x.0.entry s c x.0 ++ later x.0.scope x.1
 piece_and s c (Err fault) later = []
 
@@ -44,7 +44,7 @@ pieces_left false s c = pieces_from (length c.rest) s c
 -- from a place to the end of the stream stand these pieces
 pub data Ahead : Scope → Cursor → List Piece → Type 0 where
   at_end : {s : Scope} {c : Cursor} → is_top s ≡ true → c.rest ≡ [] → Ahead s c []
-  before : {s : Scope} {c d : Cursor} {i : Item} {ps : List Piece}
+  before : {s : Scope} {c d : Cursor} {i : StreamItem} {ps : List Piece}
       → item s c ≡ Ok (i, d) → is_end i.entry ≡ false → length d.rest < length c.rest → Ahead i.scope d ps → Ahead s c (piece_at i.entry s c i ++ ps)
 
 -- some pieces stand there
@@ -52,7 +52,7 @@ abbrev pub IsAhead : Scope → Cursor → Type 0
 IsAhead s c = (ps : List Piece) × Ahead s c ps
 
 -- a place in a judged stream, and the abbreviation that was read last
-pub record IsPlace (o : Opened) (c : Cursor) (start : Option ℕ) (t : Template) : Type 0 where
+pub record IsPlace (o : Opened) (c : Cursor) (start : Option ℕ) (t : AdmittedAbbreviation) : Type 0 where
   pub ahead : IsAhead o.scope c
   pub on : IsOn o.bits c
   pub kept : IsKept o.bits start t
@@ -68,6 +68,6 @@ operands_left true found = []
 operands_left false found = list_of found
 
 -- a walker that is not spent is at such a place, and the operands of the record that was given last are not refused
-pub record IsWalking (spent : Bool) (o : Opened) (c : Cursor) (start : Option ℕ) (t : Template) (operands : Found (List ℕ)) : Type 0 where
+pub record IsWalking (spent : Bool) (o : Opened) (c : Cursor) (start : Option ℕ) (t : AdmittedAbbreviation) (operands : Found (List ℕ)) : Type 0 where
   pub place : spent ≡ false → IsPlace o c start t
   pub read : spent ≡ false → IsRead operands

@@ -1,9 +1,9 @@
 -- Says how the code reads: abbreviations by the bits where their definitions start.
 use Rattle.std.specs.Prelude.{◌≡◌, ℕ, Bool, List, [], Option, Ok, Err, IfSome, drop, map}
 use Rattle.bits.specs.Cursor.{Cursor, Found}
-use Rattle.bit_stream.specs.declared.abbreviation.Scalar.TheVariants.{Known}
+use Rattle.bit_stream.specs.declared.abbreviation.ValueSpelling.TheVariants.{Known}
 use Rattle.bit_stream.specs.declared.abbreviation.Tail.TheVariants.{NoTail}
-use Rattle.bit_stream.specs.Abbreviation.{Template}
+use Rattle.bit_stream.specs.Abbreviation.{AdmittedAbbreviation}
 use Rattle.bit_stream.specs.Definition.{template}
 use Rattle.bit_stream.specs.Scope.{Frame, Scope}
 
@@ -16,16 +16,16 @@ abbrev pub IsOn : List Bool → Cursor → Type 0
 IsOn bits c = c.rest ≡ drop c.at bits
 
 -- the abbreviation of no operands, for a bit where no definition starts
-abbrev pub no_template : Template
+abbrev pub no_template : AdmittedAbbreviation
 no_template = record { code = Known 0; operands = []; tail = NoTail }
 
 -- the abbreviation that was read, or one of nothing
-abbrev pub or_none : Found Template → Template
+abbrev pub or_none : Found AdmittedAbbreviation → AdmittedAbbreviation
 or_none (Ok x) = x.0
 or_none (Err fault) = no_template
 
 -- the abbreviation whose definition starts at a bit, behind its id
-abbrev pub template_at : List Bool → ℕ → Template
+abbrev pub template_at : List Bool → ℕ → AdmittedAbbreviation
 template_at bits bit = or_none (template (at_bit bits bit))
 
 -- an open block, with the starts of its own definitions
@@ -43,7 +43,7 @@ abbrev pub frame_at : List Bool → StartFrame → Frame
 frame_at bits f = record { id = f.id; width = f.width; count_bit = f.count_bit; words = f.words; given = f.given; own = map (template_at bits) f.own; target = f.target }
 
 -- the abbreviations that a block id was given, read where their definitions start
-abbrev pub row_at : List Bool → ℕ × List ℕ → ℕ × List Template
+abbrev pub row_at : List Bool → ℕ × List ℕ → ℕ × List AdmittedAbbreviation
 row_at bits row = (row.0, map (template_at bits) row.1)
 
 -- the open blocks of a stream, and its bits
@@ -60,5 +60,5 @@ abbrev pub with_scope : Opened → Scope → Opened
 with_scope o s = record { bits = o.bits; scope = s }
 
 -- what is kept of an abbreviation that was read is that one
-abbrev pub IsKept : List Bool → Option ℕ → Template → Type 0
+abbrev pub IsKept : List Bool → Option ℕ → AdmittedAbbreviation → Type 0
 IsKept bits start t = IfSome start (λ bit. t ≡ template_at bits bit)

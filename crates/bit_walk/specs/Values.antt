@@ -2,35 +2,35 @@
 use Rattle.std.specs.Prelude.{◌≡◌, ℕ, zero, suc, List, [], ◌∷◌, Option, Some, None, Ok, Err, drop, if◌then◌else◌, ◌==◌}
 use Rattle.bits.specs.Cursor.{Cursor, Found, ◌>>=◌}
 use Rattle.bits.specs.Reading.{fixed, vbr}
-use Rattle.bit_stream.specs.declared.abbreviation.Scalar.{Scalar}
-use Rattle.bit_stream.specs.declared.abbreviation.Scalar.TheVariants.{Chunks}
+use Rattle.bit_stream.specs.declared.abbreviation.ValueSpelling.{ValueSpelling}
+use Rattle.bit_stream.specs.declared.abbreviation.ValueSpelling.TheVariants.{Chunks}
 use Rattle.bit_stream.specs.declared.abbreviation.Tail.{Tail}
 use Rattle.bit_stream.specs.declared.abbreviation.Tail.TheVariants.{NoTail, Elements, Bytes}
-use Rattle.bit_stream.specs.Abbreviation.{Template}
+use Rattle.bit_stream.specs.Abbreviation.{AdmittedAbbreviation}
 use Rattle.bit_stream.specs.Record.{value_by, code_by}
-use Rattle.bit_walk.specs.declared.values.Stage.{Stage}
-use Rattle.bit_walk.specs.declared.values.Stage.TheVariants.{Fields, Repeats, Over}
+use Rattle.bit_walk.specs.declared.values.OperandStage.{OperandStage}
+use Rattle.bit_walk.specs.declared.values.OperandStage.TheVariants.{Fields, Repeats, Over}
 
 -- so many values of one spelling
-unfoldable pub repeated : Scalar → ℕ → Cursor → Found (List ℕ)
+unfoldable pub repeated : ValueSpelling → ℕ → Cursor → Found (List ℕ)
 repeated s zero c = Ok ([], c)
 repeated s (suc n) c = value_by s c >>= λ v d. repeated s n d >>= λ vs e. Ok (v ∷ vs, e)
 
 -- values of these spellings, and those that the end of the abbreviation gives
-unfoldable pub listed : List Scalar → Tail → Cursor → Found (List ℕ)
+unfoldable pub listed : List ValueSpelling → Tail → Cursor → Found (List ℕ)
 listed [] NoTail c = Ok ([], c)
 listed [] (Elements s) c = vbr 6 c >>= λ n d. repeated s n d
 listed [] Bytes c = Ok ([], c)
 listed (s ∷ ss) t c = value_by s c >>= λ v d. listed ss t d >>= λ vs e. Ok (v ∷ vs, e)
 
 -- the operands that are left
-unfoldable pub left_by : Stage → Template → Cursor → Found (List ℕ)
+unfoldable pub left_by : OperandStage → AdmittedAbbreviation → Cursor → Found (List ℕ)
 left_by (Fields k) t c = listed (drop k t.operands) t.tail c
 left_by (Repeats s n) t c = repeated s n c
 left_by Over t c = Ok ([], c)
 
 -- the operands of a record in front, which is by this abbreviation where its id is not 3
-unfoldable pub operands_at : ℕ → Template → Cursor → Found (List ℕ)
+unfoldable pub operands_at : ℕ → AdmittedAbbreviation → Cursor → Found (List ℕ)
 operands_at width t c = fixed width c >>= λ id d.
     if id == 3 then (code_by (Chunks 6) d >>= λ _ e. vbr 6 e >>= λ n f. repeated (Chunks 6) n f)
     else (code_by t.code d >>= λ _ e. listed t.operands t.tail e)

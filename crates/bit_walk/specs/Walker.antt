@@ -1,7 +1,7 @@
 -- For `next` and `next_operand` of `Walker`: a walker over a judged stream, what is left of it, and what its calls
 -- give.
 use Rattle.std.specs.Prelude.{◌≡◌, ℕ, Bool, true, false, List, [], ◌∷◌, Option, Some, None, Result, Ok, Err, IsErr}
-use Rattle.bit_stream.specs.Abbreviation.{Template}
+use Rattle.bit_stream.specs.Abbreviation.{AdmittedAbbreviation}
 use Rattle.bit_tree.specs.Pieces.{Piece, begun, ended, defines, holds}
 use Rattle.bit_walk.specs.declared.event.Event.{Event}
 use Rattle.bit_walk.specs.declared.event.Event.TheVariants.{Begun, Ended, Defined, Held}
@@ -14,7 +14,7 @@ pub record Walker : Type 0 where
   pub operands : List ℕ
   pub has_blob : Bool
   pub blob : List ℕ
-  pub template : Template
+  pub template : AdmittedAbbreviation
 
 -- what an event is, by what the walker holds behind it
 abbrev pub piece_of : Event → Walker → Piece

@@ -8,14 +8,14 @@ ghost use Rattle.bit_walk.specs.Left.{Ahead, IsPlace, Steps};
 ghost use Rattle.bit_walk.specs.Passing.{pass_item, IsBy};
 ghost use Rattle.bit_walk.specs.Values.{operands_at, left_by, Leaves, IsRead, list_of};
 ghost use Rattle.bit_walk.specs.declared.event.Event.TheVariants.{Begun, Held};
-ghost use Rattle.bit_walk.specs.declared.values.Stage.TheVariants.{Over};
+ghost use Rattle.bit_walk.specs.declared.values.OperandStage.TheVariants.{Over};
 
 use crate::event::{BlockHead, Event, RecordHead};
-use crate::item::{Item, pass_item};
-use crate::scope::Scope;
+use crate::item::{WalkItem, pass_item};
+use crate::scope::WalkScope;
 use crate::starts::Kept;
-use crate::values::{Stage, begin};
-use bit_stream::{Entry, NarrowWidth, StreamFault, Template};
+use crate::values::{OperandStage, begin};
+use bit_stream::{AdmittedAbbreviation, ChunkWidth, Entry, StreamFault};
 use bits::BitCursor;
 use std::alloc::{AllocError, Global};
 
@@ -24,7 +24,7 @@ use std::alloc::{AllocError, Global};
 pub struct Arrival<'b> {
     pub event: Option<Event>,
     pub inner: BitCursor<'b>,
-    pub stage: Stage,
+    pub stage: OperandStage,
     pub has_blob: bool,
     pub blob: &'b [u8],
 }
@@ -39,7 +39,7 @@ fn plain<'b>(event: Option<Event>, inner: BitCursor<'b>) -> Arrival<'b>
     Arrival {
         event,
         inner,
-        stage: Stage::Over,
+        stage: OperandStage::Over,
         has_blob: false,
         blob: &[],
     }
@@ -48,8 +48,8 @@ fn plain<'b>(event: Option<Event>, inner: BitCursor<'b>) -> Arrival<'b>
 /// A record that stands at a place and is not refused.
 fn held<'b>(
     place: BitCursor<'b>,
-    width: NarrowWidth,
-    template: &Template,
+    width: ChunkWidth,
+    template: &AdmittedAbbreviation,
     code: u32,
     blob: &'b [u8],
 ) -> Arrival<'b>
@@ -73,10 +73,10 @@ fn held<'b>(
 /// Passes what stands in front, which is not refused.
 fn pass_judged<'b>(
     cursor: &mut BitCursor<'b>,
-    scope: &mut Scope<'b>,
+    scope: &mut WalkScope<'b>,
     kept: &mut Kept,
     alloc: Global,
-) -> Result<Item<'b>, AllocError>
+) -> Result<WalkItem<'b>, AllocError>
     requires { IsPlace scope.old cursor.old kept.old.start kept.old.template }
     ensures read { IfOk result (λ item. pass_item scope.old.scope cursor.old ≡ Ok (record { entry = item.entry; scope = scope.new.scope; operands = []; blob = item.blob.now }, cursor.new)) }
     ensures by { IfOk result (λ item. IsBy item.entry kept.new.template (defined_at scope.old.scope cursor.old) cursor.new scope.old.scope (id_at scope.old.scope cursor.old)) }
@@ -92,7 +92,7 @@ fn pass_judged<'b>(
 /// Goes past what stands in front.
 pub fn advance<'b>(
     cursor: &mut BitCursor<'b>,
-    scope: &mut Scope<'b>,
+    scope: &mut WalkScope<'b>,
     kept: &mut Kept,
     alloc: Global,
 ) -> Result<Arrival<'b>, AllocError>
@@ -123,7 +123,7 @@ pub fn advance<'b>(
 }
 
 /// A block that was entered.
-fn block(id: u32, scope: &Scope) -> Event
+fn block(id: u32, scope: &WalkScope) -> Event
     ensures { result ≡ Begun (record { id = id; width = scope.now.scope.block.width; words = scope.now.scope.block.words }) }
 {
     Event::Begun(BlockHead {

@@ -2,17 +2,17 @@
 ghost use Rattle.std.specs.Prelude.{◌≡◌, ℕ, ◌<◌, ◌≤◌, ◌^◌, [], length, Some, None, Ok, IfOk};
 ghost use Rattle.bit_stream.specs.Answers.{Ran};
 ghost use Rattle.bit_stream.specs.Scope.{template_of};
-ghost use Rattle.bit_stream.specs.Entry.{is_blockinfo, Item, plain, enter_block, end_block, define_for, define, id_at, defined_at};
+ghost use Rattle.bit_stream.specs.Entry.{is_blockinfo, StreamItem, plain, enter_block, end_block, define_for, define, id_at, defined_at};
 ghost use Rattle.bit_stream.specs.Definition.{template};
 ghost use Rattle.bit_stream.specs.declared.entry.Entry.TheVariants.{Block, EndBlock, Record};
 ghost use Rattle.bit_walk.specs.Starts.{IsOn, IsKept};
 ghost use Rattle.bit_walk.specs.Passing.{Passed, recorded, settled, pass_by_template, pass_record, pass_inside, pass_item, IsBy};
 
 use crate::passing::{Passed, pass_abbreviated, pass_unabbreviated};
-use crate::scope::Scope;
+use crate::scope::WalkScope;
 use crate::starts::Kept;
 use bit_stream::{
-    Entry, NarrowWidth, StreamFault, bad_abbreviation, bad_block_length, nested_too_deep, template,
+    ChunkWidth, Entry, StreamFault, bad_abbreviation, bad_block_length, nested_too_deep, template,
 };
 use bits::{BitCursor, BitFault};
 use std::alloc::Global;
@@ -23,24 +23,24 @@ const MAX_OPEN: usize = 16;
 /// What stands at a place: an entry, or none where it is a definition; and the blob of a record, which is empty where it
 /// has none.
 #[derive(Drop)]
-pub struct Item<'b> {
+pub struct WalkItem<'b> {
     pub entry: Option<Entry>,
     pub blob: &'b [u8],
 }
 
-impl<'b> Item<'b> {
+impl<'b> WalkItem<'b> {
     /// What is no record.
     fn plain(entry: Option<Entry>) -> Self
         ensures entry { result.entry ≡ entry }
         ensures blob { result.blob.now ≡ [] }
     {
-        Item { entry, blob: &[] }
+        WalkItem { entry, blob: &[] }
     }
 }
 
 /// ENTER_SUBBLOCK behind its id. It answers the id of the block.
 #[tactic(auto, unfolding(bit_stream::specs::Entry::enter_block))]
-fn enter_block(cursor: &mut BitCursor, scope: &mut Scope) -> Result<u32, StreamFault>
+fn enter_block(cursor: &mut BitCursor, scope: &mut WalkScope) -> Result<u32, StreamFault>
     ensures read { Ran (λ block. plain (Some (Block block)) scope.new.scope) cursor.new result (enter_block scope.old.scope cursor.old) }
     ensures bits { IfOk result (λ _. scope.new.bits ≡ scope.old.bits) }
 {
@@ -62,7 +62,7 @@ fn enter_block(cursor: &mut BitCursor, scope: &mut Scope) -> Result<u32, StreamF
     let words = cursor.fixed(32)?;
     scope.enter(
         id as u32,
-        NarrowWidth::new(width as u32),
+        ChunkWidth::new(width as u32),
         count_bit,
         words as u32,
     )?;
@@ -71,7 +71,7 @@ fn enter_block(cursor: &mut BitCursor, scope: &mut Scope) -> Result<u32, StreamF
 
 /// END_BLOCK behind its id.
 #[tactic(auto, unfolding(bit_stream::specs::Entry::end_block))]
-fn end_block(cursor: &mut BitCursor, scope: &mut Scope) -> Result<(), StreamFault>
+fn end_block(cursor: &mut BitCursor, scope: &mut WalkScope) -> Result<(), StreamFault>
     ensures read { Ran (λ _. plain (Some EndBlock) scope.new.scope) cursor.new result (end_block scope.old.scope cursor.old) }
     ensures bits { IfOk result (λ _. scope.new.bits ≡ scope.old.bits) }
 {
@@ -103,7 +103,7 @@ fn next_template(cursor: &mut BitCursor, kept: &mut Kept, alloc: Global) -> Resu
 #[tactic(auto, using(crate::proofs::Definitions::template_here), unfolding(bit_stream::specs::Entry::define, bit_stream::specs::Entry::define_for))]
 fn define(
     cursor: &mut BitCursor,
-    scope: &mut Scope,
+    scope: &mut WalkScope,
     kept: &mut Kept,
     alloc: Global,
     bit: u64,
@@ -129,7 +129,7 @@ fn define(
 
 /// Behind a record whose id stands at this bit: in BLOCKINFO it may name a block.
 #[tactic(auto, unfolding(crate::specs::Passing::recorded))]
-fn recorded(scope: &mut Scope, code: u32, first: Option<u64>, bit: u64) -> Result<(), BitFault>
+fn recorded(scope: &mut WalkScope, code: u32, first: Option<u64>, bit: u64) -> Result<(), BitFault>
     ensures read { settled result scope.new.scope ≡ recorded bit scope.old.scope code first }
     ensures bits { scope.new.bits ≡ scope.old.bits }
 {
@@ -146,7 +146,7 @@ fn recorded(scope: &mut Scope, code: u32, first: Option<u64>, bit: u64) -> Resul
 #[tactic(auto, unfolding(crate::specs::Passing::pass_by_template))]
 fn by_template<'b>(
     cursor: &mut BitCursor<'b>,
-    scope: &Scope<'b>,
+    scope: &WalkScope<'b>,
     kept: &mut Kept,
     alloc: Global,
     id: u64,
@@ -171,7 +171,7 @@ fn by_template<'b>(
 #[tactic(auto, unfolding(crate::specs::Passing::pass_record))]
 fn record<'b>(
     cursor: &mut BitCursor<'b>,
-    scope: &mut Scope<'b>,
+    scope: &mut WalkScope<'b>,
     kept: &mut Kept,
     alloc: Global,
     id: u64,
@@ -197,12 +197,12 @@ fn record<'b>(
 #[tactic(auto, unfolding(crate::specs::Passing::pass_inside))]
 fn inside<'b>(
     cursor: &mut BitCursor<'b>,
-    scope: &mut Scope<'b>,
+    scope: &mut WalkScope<'b>,
     kept: &mut Kept,
     alloc: Global,
     id: u64,
     bit: u64,
-) -> Result<Item<'b>, StreamFault>
+) -> Result<WalkItem<'b>, StreamFault>
     requires on { IsOn scope.old.bits cursor.old }
     requires kept { IsKept scope.old.bits kept.old.start kept.old.template }
     ensures read { Ran (λ item. record { entry = item.entry; scope = scope.new.scope; operands = []; blob = item.blob.now }) cursor.new result (pass_inside id bit scope.old.scope cursor.old) }
@@ -213,17 +213,17 @@ fn inside<'b>(
     match id {
         0 => {
             end_block(cursor, scope)?;
-            Ok(Item::plain(Some(Entry::EndBlock)))
+            Ok(WalkItem::plain(Some(Entry::EndBlock)))
         }
         1 if scope.is_blockinfo() => Err(bad_abbreviation(bit).into()),
-        1 => Ok(Item::plain(Some(Entry::Block(enter_block(cursor, scope)?)))),
+        1 => Ok(WalkItem::plain(Some(Entry::Block(enter_block(cursor, scope)?)))),
         2 => {
             define(cursor, scope, kept, alloc, bit)?;
-            Ok(Item::plain(None))
+            Ok(WalkItem::plain(None))
         }
         _ => {
             let passed = record(cursor, scope, kept, alloc, id, bit)?;
-            Ok(Item {
+            Ok(WalkItem {
                 entry: Some(Entry::Record(passed.code)),
                 blob: passed.blob,
             })
@@ -235,10 +235,10 @@ fn inside<'b>(
 #[tactic(auto, using(crate::proofs::On::id_is_on), unfolding(crate::specs::Passing::pass_item, bit_stream::specs::Entry::id_at, bit_stream::specs::Entry::defined_at))]
 pub fn pass_item<'b>(
     cursor: &mut BitCursor<'b>,
-    scope: &mut Scope<'b>,
+    scope: &mut WalkScope<'b>,
     kept: &mut Kept,
     alloc: Global,
-) -> Result<Item<'b>, StreamFault>
+) -> Result<WalkItem<'b>, StreamFault>
     requires on { IsOn scope.old.bits cursor.old }
     requires kept { IsKept scope.old.bits kept.old.start kept.old.template }
     ensures read { Ran (λ item. record { entry = item.entry; scope = scope.new.scope; operands = []; blob = item.blob.now }) cursor.new result (pass_item scope.old.scope cursor.old) }
@@ -252,10 +252,10 @@ pub fn pass_item<'b>(
         return inside(cursor, scope, kept, alloc, id, bit);
     }
     if cursor.is_at_end() {
-        return Ok(Item::plain(Some(Entry::End)));
+        return Ok(WalkItem::plain(Some(Entry::End)));
     }
     if cursor.fixed(scope.width().bits())? != 1 {
         return Err(bad_abbreviation(bit).into());
     }
-    Ok(Item::plain(Some(Entry::Block(enter_block(cursor, scope)?))))
+    Ok(WalkItem::plain(Some(Entry::Block(enter_block(cursor, scope)?))))
 }

@@ -1,12 +1,12 @@
 //! The values of a record, passed over: of its operands the first alone is kept.
 ghost use Rattle.std.specs.Prelude.{◌≡◌, ℕ, ◌-◌, ◌^◌, ◌&&◌, ◌==◌, None};
-ghost use Rattle.bits.specs.Cursor.{found};
+ghost use Rattle.bits.specs.Cursor.{found_at};
 ghost use Rattle.bit_stream.specs.Record.{value_by, code_by, names_block};
 ghost use Rattle.bit_walk.specs.Passing.{with_first, is_none, pass_operand, pass_elements, pass_each, pass_counted, pass_tail, pass_unabbreviated, pass_abbreviated};
-ghost use Rattle.bit_stream.specs.declared.abbreviation.Scalar.TheVariants.{Chunks};
+ghost use Rattle.bit_stream.specs.declared.abbreviation.ValueSpelling.TheVariants.{Chunks};
 
-use crate::spelling::Spelling;
-use bit_stream::{NarrowWidth, Scalar, Tail, bad_abbreviation, code_by, value_by};
+use crate::spelling::WalkedSpelling;
+use bit_stream::{ChunkWidth, Tail, ValueSpelling, bad_abbreviation, code_by, value_by};
 use bits::{BitCursor, BitFault};
 
 /// A record, but for its operands behind the first.
@@ -49,11 +49,11 @@ fn is_none(first: Option<u64>) -> bool
 #[inline(always)]
 fn pass_operand(
     cursor: &mut BitCursor,
-    scalar: Scalar,
+    scalar: ValueSpelling,
     names_block: bool,
     first: Option<u64>,
 ) -> Result<Option<u64>, BitFault>
-    ensures { found (λ first. first) result cursor.new ≡ pass_operand names_block first scalar cursor.old }
+    ensures { found_at (λ first. first) result cursor.new ≡ pass_operand names_block first scalar cursor.old }
 {
     let bit = cursor.at();
     let number = value_by(cursor, scalar)?;
@@ -67,12 +67,12 @@ fn pass_operand(
 #[inline(always)]
 fn pass_elements(
     cursor: &mut BitCursor,
-    scalar: &Scalar,
+    scalar: &ValueSpelling,
     count: u64,
     names_block: bool,
     before: Option<u64>,
 ) -> Result<Option<u64>, BitFault>
-    ensures { found (λ first. first) result cursor.new ≡ pass_elements names_block scalar.now count before cursor.old }
+    ensures { found_at (λ first. first) result cursor.new ≡ pass_elements names_block scalar.now count before cursor.old }
 {
     let mut first = before;
     for _ in 0..count {
@@ -84,10 +84,10 @@ fn pass_elements(
 /// Operands of these spellings.
 fn pass_each(
     cursor: &mut BitCursor,
-    scalars: &[Scalar],
+    scalars: &[ValueSpelling],
     names_block: bool,
 ) -> Result<Option<u64>, BitFault>
-    ensures { found (λ first. first) result cursor.new ≡ pass_each names_block scalars.now None cursor.old }
+    ensures { found_at (λ first. first) result cursor.new ≡ pass_each names_block scalars.now None cursor.old }
 {
     let mut first = None;
     for scalar in scalars {
@@ -99,10 +99,10 @@ fn pass_each(
 /// The operands that an abbreviation spells one by one. Of its literals only the first operand is looked at.
 fn pass_fields(
     cursor: &mut BitCursor,
-    spelling: &Spelling,
+    spelling: &WalkedSpelling,
     names_block: bool,
 ) -> Result<Option<u64>, BitFault>
-    ensures { found (λ first. first) result cursor.new ≡ pass_each names_block spelling.now.operands None cursor.old }
+    ensures { found_at (λ first. first) result cursor.new ≡ pass_each names_block spelling.now.operands None cursor.old }
 {
     pass_each(cursor, spelling.read(), names_block)
 }
@@ -112,11 +112,11 @@ fn pass_fields(
 #[inline(always)]
 fn pass_counted(
     cursor: &mut BitCursor,
-    scalar: Scalar,
+    scalar: ValueSpelling,
     names_block: bool,
     first: Option<u64>,
 ) -> Result<Option<u64>, BitFault>
-    ensures { found (λ first. first) result cursor.new ≡ pass_counted names_block scalar first cursor.old }
+    ensures { found_at (λ first. first) result cursor.new ≡ pass_counted names_block scalar first cursor.old }
 {
     let count = cursor.vbr(6)?;
     pass_elements(cursor, &scalar, count, names_block, first)
@@ -130,7 +130,7 @@ fn pass_tail<'b>(
     names_block: bool,
     first: Option<u64>,
 ) -> Result<Rest<'b>, BitFault>
-    ensures { found (λ rest. (rest.first, rest.blob.now)) result cursor.new ≡ pass_tail names_block tail first cursor.old }
+    ensures { found_at (λ rest. (rest.first, rest.blob.now)) result cursor.new ≡ pass_tail names_block tail first cursor.old }
 {
     match tail {
         Tail::NoTail => Ok(Rest { first, blob: &[] }),
@@ -151,9 +151,9 @@ pub fn pass_unabbreviated<'b>(
     cursor: &mut BitCursor<'b>,
     in_blockinfo: bool,
 ) -> Result<Passed<'b>, BitFault>
-    ensures { found (λ passed. record { code = passed.code; first = passed.first; blob = passed.blob.now }) result cursor.new ≡ pass_unabbreviated in_blockinfo cursor.old }
+    ensures { found_at (λ passed. record { code = passed.code; first = passed.first; blob = passed.blob.now }) result cursor.new ≡ pass_unabbreviated in_blockinfo cursor.old }
 {
-    let spelling = Scalar::Chunks(NarrowWidth::new(6));
+    let spelling = ValueSpelling::Chunks(ChunkWidth::new(6));
     let code = code_by(cursor, spelling)?;
     let first = pass_counted(cursor, spelling, in_blockinfo && code == 1, None)?;
     Ok(Passed {
@@ -167,10 +167,10 @@ pub fn pass_unabbreviated<'b>(
 #[tactic(auto, unfolding(crate::specs::Passing::pass_abbreviated))]
 pub fn pass_abbreviated<'b>(
     cursor: &mut BitCursor<'b>,
-    spelling: &Spelling,
+    spelling: &WalkedSpelling,
     in_blockinfo: bool,
 ) -> Result<Passed<'b>, BitFault>
-    ensures { found (λ passed. record { code = passed.code; first = passed.first; blob = passed.blob.now }) result cursor.new ≡ pass_abbreviated in_blockinfo spelling.now cursor.old }
+    ensures { found_at (λ passed. record { code = passed.code; first = passed.first; blob = passed.blob.now }) result cursor.new ≡ pass_abbreviated in_blockinfo spelling.now cursor.old }
 {
     let template = spelling.template();
     let code = code_by(cursor, template.code)?;

@@ -3,11 +3,11 @@ ghost use Rattle.std.specs.Prelude.{◌≡◌, ℕ, ◌<◌, ◌≤◌, ◌^◌,
 ghost use Rattle.bits.specs.Bits.{stream_bits};
 ghost use Rattle.bit_stream.specs.Scope.{top_level, given_to, given_here, template_of};
 ghost use Rattle.bit_stream.specs.Writer.{in_force};
-ghost use Rattle.bit_stream.specs.Entry.{is_blockinfo, entered, left, defined, given_for, targeting};
+ghost use Rattle.bit_stream.specs.Entry.{is_blockinfo, entered, block_left, defined, given_for, targeting};
 ghost use Rattle.bit_walk.specs.Starts.{Opened, with_scope, template_at};
 
 use crate::starts::StartList;
-use bit_stream::NarrowWidth;
+use bit_stream::ChunkWidth;
 use given_starts::Given;
 use std::alloc::{AllocError, Global};
 use std::marker::Model;
@@ -18,7 +18,7 @@ use std::mem;
 struct Frame {
     /// None at the top level.
     id: Option<u32>,
-    width: NarrowWidth,
+    width: ChunkWidth,
     /// The first bit of the count of words.
     count_bit: u64,
     words: u32,
@@ -39,7 +39,7 @@ impl Model for Frame {
 
 /// The bytes of a stream, the blocks that are open, and the abbreviations that BLOCKINFO gave to each block id.
 #[derive(Drop)]
-pub struct Scope<'b> {
+pub struct WalkScope<'b> {
     bytes: &'b [u8],
     block: Frame,
     around: Vec<Frame>,
@@ -47,7 +47,7 @@ pub struct Scope<'b> {
     alloc: Global,
 }
 
-impl<'b> Model for Scope<'b> {
+impl<'b> Model for WalkScope<'b> {
     ghost use Rattle.std.specs.Prelude.{◌≤◌, ◌^◌, length};
     ghost use Rattle.bits.specs.Bits.{stream_bits};
     ghost use Rattle.bit_walk.specs.Starts.{Opened, opened_at};
@@ -59,17 +59,17 @@ impl<'b> Model for Scope<'b> {
     ghost invariant = { λ s. length s.bytes.now ≤ 2 ^ 24 };
 }
 
-impl<'b> Scope<'b> {
+impl<'b> WalkScope<'b> {
     /// The top level.
     pub fn new(alloc: Global, bytes: &'b [u8]) -> Self
         requires { length bytes.now ≤ 2 ^ 24 }
         ensures { result ≡ record { bits = stream_bits bytes.now; scope = top_level } }
     {
-        Scope {
+        WalkScope {
             bytes,
             block: Frame {
                 id: None,
-                width: NarrowWidth::new(2),
+                width: ChunkWidth::new(2),
                 count_bit: 0,
                 words: 0,
                 given: 0,
@@ -91,7 +91,7 @@ impl<'b> Scope<'b> {
     }
 
     /// How many bits an abbreviation id has.
-    pub fn width(&self) -> NarrowWidth
+    pub fn width(&self) -> ChunkWidth
         ensures { result ≡ self.now.scope.block.width }
     {
         let block = &self.block;
@@ -152,7 +152,7 @@ impl<'b> Scope<'b> {
     pub fn enter(
         &mut self,
         id: u32,
-        width: NarrowWidth,
+        width: ChunkWidth,
         count_bit: u64,
         words: u32,
     ) -> Result<(), AllocError>
@@ -175,7 +175,7 @@ impl<'b> Scope<'b> {
 
     /// Leaves the block for the one around it.
     pub fn leave(&mut self)
-        ensures { self.new ≡ with_scope self.old (left self.old.scope) }
+        ensures { self.new ≡ with_scope self.old (block_left self.old.scope) }
     {
         if let Some(outer) = self.around.pop() {
             self.block = outer;

@@ -3,58 +3,58 @@ ghost use Rattle.std.specs.Prelude.{◌≡◌, ◌++◌, filter, IfOk, OnOk};
 ghost use Rattle.bit_walk.specs.Starts.{no_template};
 ghost use Rattle.bit_walk.specs.Spelling.{has_bits, spelled_out};
 
-use bit_stream::{Scalar, Tail, Template};
+use bit_stream::{AdmittedAbbreviation, Tail, ValueSpelling};
 use std::alloc::{AllocError, Global};
 use std::marker::Model;
 
 /// An abbreviation, and the spellings of its operands but for the literals behind the first: a record goes on by no bit
 /// where these stand, so nothing of them has to be read where only the first operand is wanted.
 #[derive(Drop)]
-pub struct Spelling {
-    template: Template,
-    read: Vec<Scalar>,
+pub struct WalkedSpelling {
+    template: AdmittedAbbreviation,
+    read: Vec<ValueSpelling>,
 }
 
-impl Model for Spelling {
+impl Model for WalkedSpelling {
     ghost use Rattle.std.specs.Prelude.{◌≡◌};
-    ghost use Rattle.bit_stream.specs.Abbreviation.{Template};
+    ghost use Rattle.bit_stream.specs.Abbreviation.{AdmittedAbbreviation};
     ghost use Rattle.bit_walk.specs.Spelling.{spelled_out};
 
-    ghost Value = { Template };
+    ghost Value = { AdmittedAbbreviation };
 
     ghost view = { λ s. s.template };
 
     ghost invariant = { λ s. s.read.items ≡ spelled_out s.template.operands };
 }
 
-impl Spelling {
+impl WalkedSpelling {
     /// That of an abbreviation.
-    pub fn new(alloc: Global, template: Template) -> Result<Self, AllocError>
+    pub fn new(alloc: Global, template: AdmittedAbbreviation) -> Result<Self, AllocError>
         ensures { IfOk result (λ spelling. spelling ≡ template) }
     {
         let read = spelled_out(alloc, &template.operands)?;
-        Ok(Spelling { template, read })
+        Ok(WalkedSpelling { template, read })
     }
 
     /// The abbreviation of no operands.
     pub fn nothing(alloc: Global) -> Self
         ensures { result ≡ no_template }
     {
-        Spelling {
+        WalkedSpelling {
             template: no_template(alloc),
             read: Vec::new(alloc),
         }
     }
 
     /// The abbreviation.
-    pub fn template(&self) -> &Template
+    pub fn template(&self) -> &AdmittedAbbreviation
         ensures { result.now ≡ self.now }
     {
         &self.template
     }
 
     /// The spellings of its operands, but for the literals behind the first.
-    pub fn read(&self) -> &[Scalar]
+    pub fn read(&self) -> &[ValueSpelling]
         ensures { result.now ≡ spelled_out self.now.operands }
     {
         self.read.as_slice()
@@ -62,18 +62,18 @@ impl Spelling {
 }
 
 /// The abbreviation of no operands.
-pub fn no_template(alloc: Global) -> Template
+pub fn no_template(alloc: Global) -> AdmittedAbbreviation
     ensures { result ≡ no_template }
 {
-    Template {
-        code: Scalar::Known(0),
+    AdmittedAbbreviation {
+        code: ValueSpelling::Known(0),
         operands: Vec::new(alloc),
         tail: Tail::NoTail,
     }
 }
 
 /// The first of some spellings, and the others that are no literals.
-fn spelled_out(alloc: Global, scalars: &[Scalar]) -> Result<Vec<Scalar>, AllocError>
+fn spelled_out(alloc: Global, scalars: &[ValueSpelling]) -> Result<Vec<ValueSpelling>, AllocError>
     ensures { IfOk result (λ read. read.items ≡ spelled_out scalars.now) }
 {
     let mut read = Vec::new(alloc);
@@ -85,7 +85,7 @@ fn spelled_out(alloc: Global, scalars: &[Scalar]) -> Result<Vec<Scalar>, AllocEr
 }
 
 /// Adds those that are no literals.
-fn add_read(read: &mut Vec<Scalar>, scalars: &[Scalar]) -> Result<(), AllocError>
+fn add_read(read: &mut Vec<ValueSpelling>, scalars: &[ValueSpelling]) -> Result<(), AllocError>
     ensures { OnOk result (read.new.items ≡ read.old.items ++ filter has_bits scalars.now) }
 {
     for scalar in scalars {
@@ -97,11 +97,11 @@ fn add_read(read: &mut Vec<Scalar>, scalars: &[Scalar]) -> Result<(), AllocError
 }
 
 /// Whether a value of this spelling is read, and is no literal.
-fn has_bits(scalar: Scalar) -> bool
+fn has_bits(scalar: ValueSpelling) -> bool
     ensures { result ≡ has_bits scalar }
 {
     match scalar {
-        Scalar::Known(_) => false,
-        Scalar::Field(_) | Scalar::Chunks(_) | Scalar::Letter => true,
+        ValueSpelling::Known(_) => false,
+        ValueSpelling::Field(_) | ValueSpelling::Chunks(_) | ValueSpelling::Letter => true,
     }
 }

@@ -3,8 +3,8 @@ ghost use Rattle.std.specs.Prelude.{◌≡◌, ◌≤◌, ◌^◌, ◌<◌, ◌*
 ghost use Rattle.bits.specs.Bits.{stream_bits};
 ghost use Rattle.bit_walk.specs.Starts.{no_template, template_at, IsKept};
 
-use crate::spelling::{Spelling, no_template};
-use bit_stream::{StreamFault, Template, template};
+use crate::spelling::{WalkedSpelling, no_template};
+use bit_stream::{AdmittedAbbreviation, StreamFault, template};
 use bits::BitCursor;
 use std::alloc::{AllocError, Global};
 use std::marker::Model;
@@ -67,7 +67,7 @@ impl StartList {
 
 /// The abbreviation whose definition starts at a bit, or that of no operands where none does.
 #[tactic(auto, using(crate::proofs::Definitions::beyond))]
-fn template_at(alloc: Global, bytes: &[u8], bit: u32) -> Result<Template, AllocError>
+fn template_at(alloc: Global, bytes: &[u8], bit: u32) -> Result<AdmittedAbbreviation, AllocError>
     requires { length bytes.now ≤ 2 ^ 24 }
     ensures { IfOk result (λ template. template ≡ template_at (stream_bits bytes.now) bit) }
 {
@@ -87,7 +87,7 @@ fn template_at(alloc: Global, bytes: &[u8], bit: u32) -> Result<Template, AllocE
 #[derive(Drop)]
 pub struct Kept {
     pub start: Option<u32>,
-    pub template: Spelling,
+    pub template: WalkedSpelling,
 }
 
 impl Kept {
@@ -97,7 +97,7 @@ impl Kept {
     {
         Kept {
             start: None,
-            template: Spelling::nothing(alloc),
+            template: WalkedSpelling::nothing(alloc),
         }
     }
 
@@ -118,13 +118,18 @@ impl Kept {
     }
 
     /// Keeps an abbreviation whose definition starts at this bit.
-    pub fn keep(&mut self, alloc: Global, bit: u32, template: Template) -> Result<(), AllocError>
+    pub fn keep(
+        &mut self,
+        alloc: Global,
+        bit: u32,
+        template: AdmittedAbbreviation,
+    ) -> Result<(), AllocError>
         ensures start { OnOk result (self.new.start ≡ Some bit) }
         ensures template { OnOk result (self.new.template ≡ template) }
     {
         *self = Kept {
             start: Some(bit),
-            template: Spelling::new(alloc, template)?,
+            template: WalkedSpelling::new(alloc, template)?,
         };
         Ok(())
     }

@@ -4,27 +4,27 @@ ghost use Rattle.bits.specs.Cursor.{Cursor};
 ghost use Rattle.bits.specs.Reading.{fixed, vbr};
 ghost use Rattle.bit_stream.specs.Record.{value_by, code_by};
 ghost use Rattle.bit_stream.specs.Entry.{number_of};
-ghost use Rattle.bit_stream.specs.declared.abbreviation.Scalar.TheVariants.{Chunks};
-ghost use Rattle.bit_walk.specs.declared.values.Stage.TheVariants.{Fields};
+ghost use Rattle.bit_stream.specs.declared.abbreviation.ValueSpelling.TheVariants.{Chunks};
+ghost use Rattle.bit_walk.specs.declared.values.OperandStage.TheVariants.{Fields};
 ghost use Rattle.bit_walk.specs.Values.{repeated, listed, left_by, operands_at, Leaves, IsRead, Gave};
 
-use bit_stream::{NarrowWidth, Scalar, Tail, Template, code_by, value_by};
+use bit_stream::{AdmittedAbbreviation, ChunkWidth, Tail, ValueSpelling, code_by, value_by};
 use bits::BitCursor;
 
 /// Which operands of a record are left.
 #[derive(Clone, Copy)]
-pub enum Stage {
+pub enum OperandStage {
     /// Those of its abbreviation from this one on, and those that its end gives.
     Fields(usize),
     /// So many of one spelling.
-    Repeats(Scalar, u64),
+    Repeats(ValueSpelling, u64),
     /// None.
     Over,
 }
 
 /// A value that is not refused.
 #[inline(always)]
-fn value(cursor: &mut BitCursor, scalar: Scalar) -> u64
+fn value(cursor: &mut BitCursor, scalar: ValueSpelling) -> u64
     requires { (n : ℕ) × (d : Cursor) × (value_by scalar cursor.old ≡ Ok (n, d)) }
     ensures { value_by scalar cursor.old ≡ Ok (result, cursor.new) }
 {
@@ -49,39 +49,39 @@ fn count(cursor: &mut BitCursor) -> u64
 #[inline(always)]
 fn next_repeated(
     cursor: &mut BitCursor,
-    stage: &mut Stage,
-    scalar: &Scalar,
+    stage: &mut OperandStage,
+    scalar: &ValueSpelling,
     left: u64,
-    template: &Template,
+    template: &AdmittedAbbreviation,
 ) -> Option<u64>
     requires { IsRead (repeated scalar.now left cursor.old) }
     ensures { (ns : List ℕ) → Leaves (repeated scalar.now left cursor.old) ns → Gave ns result (left_by stage.new template.now cursor.new) }
 {
     if left == 0 {
-        *stage = Stage::Over;
+        *stage = OperandStage::Over;
         return None;
     }
-    *stage = Stage::Repeats(*scalar, left - 1);
+    *stage = OperandStage::Repeats(*scalar, left - 1);
     Some(value(cursor, *scalar))
 }
 
 /// The next value behind those that an abbreviation spells one by one.
 fn next_of_tail(
     cursor: &mut BitCursor,
-    stage: &mut Stage,
+    stage: &mut OperandStage,
     tail: Tail,
-    template: &Template,
+    template: &AdmittedAbbreviation,
 ) -> Option<u64>
     requires { IsRead (listed [] tail cursor.old) }
     ensures { (ns : List ℕ) → Leaves (listed [] tail cursor.old) ns → Gave ns result (left_by stage.new template.now cursor.new) }
 {
     match tail {
         Tail::NoTail => {
-            *stage = Stage::Over;
+            *stage = OperandStage::Over;
             None
         }
         Tail::Bytes => {
-            *stage = Stage::Over;
+            *stage = OperandStage::Over;
             None
         }
         Tail::Elements(scalar) => {
@@ -94,16 +94,16 @@ fn next_of_tail(
 /// The next of the values that an abbreviation spells one by one, from this one on.
 fn next_field(
     cursor: &mut BitCursor,
-    stage: &mut Stage,
+    stage: &mut OperandStage,
     index: usize,
-    template: &Template,
+    template: &AdmittedAbbreviation,
 ) -> Option<u64>
     requires { IsRead (left_by (Fields index) template.now cursor.old) }
     ensures { (ns : List ℕ) → Leaves (left_by (Fields index) template.now cursor.old) ns → Gave ns result (left_by stage.new template.now cursor.new) }
 {
     match template.operands.as_slice().get(index) {
         Some(scalar) => {
-            *stage = Stage::Fields(index + 1);
+            *stage = OperandStage::Fields(index + 1);
             Some(value(cursor, *scalar))
         }
         None => next_of_tail(cursor, stage, template.tail, template),
@@ -111,14 +111,20 @@ fn next_field(
 }
 
 /// The next operand of a record, none of whose operands is refused.
-pub fn next_value(cursor: &mut BitCursor, stage: &mut Stage, template: &Template) -> Option<u64>
+pub fn next_value(
+    cursor: &mut BitCursor,
+    stage: &mut OperandStage,
+    template: &AdmittedAbbreviation,
+) -> Option<u64>
     requires { IsRead (left_by stage.old template.now cursor.old) }
     ensures { (ns : List ℕ) → Leaves (left_by stage.old template.now cursor.old) ns → Gave ns result (left_by stage.new template.now cursor.new) }
 {
     match *stage {
-        Stage::Fields(index) => next_field(cursor, stage, index, template),
-        Stage::Repeats(scalar, left) => next_repeated(cursor, stage, &scalar, left, template),
-        Stage::Over => None,
+        OperandStage::Fields(index) => next_field(cursor, stage, index, template),
+        OperandStage::Repeats(scalar, left) => next_repeated(
+            cursor, stage, &scalar, left, template,
+        ),
+        OperandStage::Over => None,
     }
 }
 
@@ -126,12 +132,12 @@ pub fn next_value(cursor: &mut BitCursor, stage: &mut Stage, template: &Template
 #[derive(Clone, Copy)]
 pub struct Start {
     pub id: u32,
-    pub stage: Stage,
+    pub stage: OperandStage,
 }
 
 /// A field that is not refused.
 #[inline(always)]
-fn field(cursor: &mut BitCursor, width: NarrowWidth) -> u64
+fn field(cursor: &mut BitCursor, width: ChunkWidth) -> u64
     requires { (n : ℕ) × (d : Cursor) × (fixed width cursor.old ≡ Ok (n, d)) }
     ensures read { fixed width cursor.old ≡ Ok (result, cursor.new) }
     ensures small { result < 2 ^ 32 }
@@ -144,7 +150,7 @@ fn field(cursor: &mut BitCursor, width: NarrowWidth) -> u64
 
 /// Goes past a code that is not refused.
 #[inline(always)]
-fn pass_code(cursor: &mut BitCursor, scalar: Scalar)
+fn pass_code(cursor: &mut BitCursor, scalar: ValueSpelling)
     requires { (n : ℕ) × (d : Cursor) × (code_by scalar cursor.old ≡ Ok (n, d)) }
     ensures { (n : ℕ) × (code_by scalar cursor.old ≡ Ok (n, cursor.new)) }
 {
@@ -155,15 +161,15 @@ fn pass_code(cursor: &mut BitCursor, scalar: Scalar)
 }
 
 /// How a record without an abbreviation spells its values.
-fn plain_spelling() -> Scalar
+fn plain_spelling() -> ValueSpelling
     ensures { result ≡ Chunks 6 }
 {
-    Scalar::Chunks(NarrowWidth::new(6))
+    ValueSpelling::Chunks(ChunkWidth::new(6))
 }
 
 /// Goes past the abbreviation id and the code of a record in front, which is not refused. It is by this abbreviation
 /// where its id is not 3.
-pub fn begin(cursor: &mut BitCursor, width: NarrowWidth, template: &Template) -> Start
+pub fn begin(cursor: &mut BitCursor, width: ChunkWidth, template: &AdmittedAbbreviation) -> Start
     requires { IsRead (operands_at width template.now cursor.old) }
     ensures id { result.id ≡ number_of (fixed width cursor.old) }
     ensures left { (ns : List ℕ) → Leaves (operands_at width template.now cursor.old) ns → Leaves (left_by result.stage template.now cursor.new) ns }
@@ -174,12 +180,12 @@ pub fn begin(cursor: &mut BitCursor, width: NarrowWidth, template: &Template) ->
         let left = count(cursor);
         return Start {
             id,
-            stage: Stage::Repeats(plain_spelling(), left),
+            stage: OperandStage::Repeats(plain_spelling(), left),
         };
     }
     pass_code(cursor, template.code);
     Start {
         id,
-        stage: Stage::Fields(0),
+        stage: OperandStage::Fields(0),
     }
 }

@@ -6,7 +6,7 @@ ghost use Rattle.bit_tree.specs.Stream.{is_end, opening};
 ghost use Rattle.bit_tree.specs.Read.{Judged};
 
 use crate::item::pass_item;
-use crate::scope::Scope;
+use crate::scope::WalkScope;
 use crate::starts::Kept;
 use bit_stream::{BitReader, Entry, StreamFault};
 use bits::{BitCursor, BitFault};
@@ -19,7 +19,7 @@ pub fn judge(alloc: Global, bytes: &[u8]) -> Result<(), StreamFault>
     ensures { Judged bytes.now result }
 {
     let mut cursor = opening(alloc, bytes)?;
-    let mut scope = Scope::new(alloc, bytes);
+    let mut scope = WalkScope::new(alloc, bytes);
     let mut kept = Kept::nothing(alloc);
     'judging: loop {
         let item = pass_item(&mut cursor, &mut scope, &mut kept, alloc)?;

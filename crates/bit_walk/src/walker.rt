@@ -7,10 +7,10 @@ ghost use Rattle.bit_walk.specs.Walker.{Walks, Took};
 
 use crate::advance::advance;
 use crate::event::Event;
-use crate::scope::Scope;
+use crate::scope::WalkScope;
 use crate::starts::Kept;
-use crate::values::{Stage, next_value};
-use bit_stream::Template;
+use crate::values::{OperandStage, next_value};
+use bit_stream::AdmittedAbbreviation;
 use bits::BitCursor;
 use std::alloc::{AllocError, Global};
 use std::marker::Model;
@@ -22,11 +22,11 @@ use std::marker::Model;
 #[derive(Drop)]
 pub struct Walker<'b> {
     cursor: BitCursor<'b>,
-    scope: Scope<'b>,
+    scope: WalkScope<'b>,
     kept: Kept,
     /// Where the next operand of the record stands that was given last.
     inner: BitCursor<'b>,
-    stage: Stage,
+    stage: OperandStage,
     has_blob: bool,
     blob: &'b [u8],
     spent: bool,
@@ -54,14 +54,14 @@ impl<'b> Walker<'b> {
         ensures whole { (tree : Tree) → Stream bytes.now tree → result.left ≡ flat tree }
     {
         let cursor = BitCursor::at_bit(bytes, 32);
-        let scope = Scope::new(alloc, bytes);
+        let scope = WalkScope::new(alloc, bytes);
         let kept = Kept::nothing(alloc);
         Walker {
             cursor,
             scope,
             kept,
             inner: BitCursor::new(bytes),
-            stage: Stage::Over,
+            stage: OperandStage::Over,
             has_blob: false,
             blob: &[],
             spent: false,
@@ -121,7 +121,7 @@ impl<'b> Walker<'b> {
     }
 
     /// The abbreviation of the definition that was given last.
-    pub fn template(&self) -> &Template
+    pub fn template(&self) -> &AdmittedAbbreviation
         ensures { result.now ≡ self.now.template }
     {
         self.kept.template.template()

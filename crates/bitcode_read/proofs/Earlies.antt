@@ -9,7 +9,7 @@ use Rattle.record_table.specs.Faults.{Answer, BadVersion, Records, a_record, als
 use Rattle.record_table.specs.Fields.{Numbering, Texts}
 use Rattle.record_table.specs.Records as records
 use Rattle.record_table.specs.Layout.{judged}
-use Rattle.record_table.specs.Records.{is_version, may_follow, placed}
+use Rattle.record_table.specs.Records.{is_version, may_follow, record_at_place}
 use Rattle.record_table.specs.TypeRecords.{names_in}
 use Rattle.record_table.specs.Walk.{going}
 use Rattle.record_read.specs.Faults.{Answers}
@@ -121,14 +121,14 @@ module _ (texts : Texts) (all : Records) (known : ModuleAhead) (m : ModuleReader
       (λ t e is. part_read texts all known m r b b2 s (a_record 1 operands behind) behind h ((λ types final a names d. d), (λ k types bodies f. f), refl) 1 s.source s.layout s.triple t (version_first operands t e) (omega arith) last
       (ap (λ (x : Sofar). x.source) same ∙ h.source) (ap (λ (x : Sofar). x.layout) same ∙ h.layout) (ap (λ (x : Sofar). x.triple) same ∙ h.triple) (all_but_last b b2 same) is gone at)
     where
-      by_placed : (broken : Option ℕ) (t : records.Sofar) → placed s 1 broken s ≡ Ok t → s.last < 5
+      by_placed : (broken : Option ℕ) (t : records.Sofar) → record_at_place s 1 broken s ≡ Ok t → s.last < 5
       by_placed broken t e = early_version s.last (is_placed s 1 broken s t e).may
 
       version_first : (operands : List ℕ) (t : records.Sofar) → records.version_record s operands ≡ Ok t → s.last < 5
       version_first [] t e = by_placed (judged records.version []).1 t e
       version_first (n ∷ []) t e = by (nat_eq s.last 0 && not (is_version n)) e
         where
-          by : (c : Bool) → cond {A = Answer records.Sofar} c (Err (BadVersion n)) (placed s 1 (also 5 (nat_eq n s.texts.version) None) s) ≡ Ok t → s.last < 5
+          by : (c : Bool) → cond {A = Answer records.Sofar} c (Err (BadVersion n)) (record_at_place s 1 (also 5 (nat_eq n s.texts.version) None) s) ≡ Ok t → s.last < 5
           by true e = absurd (cc)
           by false e = by_placed (also 5 (nat_eq n s.texts.version) None) t e
       version_first (n ∷ k ∷ operands) t e = by_placed (judged records.version (n ∷ k ∷ operands)).1 t e

@@ -11,7 +11,7 @@ use Rattle.record_table.specs.Fields.{Texts}
 use Rattle.record_table.specs.Records as records
 use Rattle.record_table.specs.Records.{at_first, ended as ended_at, known_at_first, module_from, names_of}
 use Rattle.record_table.specs.Walk.{going}
-use Rattle.record_read.specs.declared.entry.Entry.TheVariants.{Block, Record, End}
+use Rattle.record_read.specs.declared.entry.NextEntry.TheVariants.{Block, Record, End}
 use Rattle.record_read.specs.declared.fault.BitcodeFault.{BitcodeFault}
 use Rattle.record_read.specs.Entries.{Gives, IsBefore}
 use Rattle.record_read.specs.Faults.{Answers}

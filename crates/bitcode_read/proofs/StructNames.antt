@@ -9,7 +9,7 @@ use Rattle.module_arena.specs.Names as arena
 use Rattle.record_table.specs.Faults.{Answer, Records, UnknownRecord, a_block, a_record, also, is_block_id, no_more}
 use Rattle.record_table.specs.Fields.{Texts}
 use Rattle.record_table.specs.Layout.{judged}
-use Rattle.record_table.specs.TypeRecords.{Kind, Listed, all_fit, are_distinct, at_first, definition, ir_type, kind_of_code, kinds, listed, listed_by, listed_from, names_in, struct_record, type_record}
+use Rattle.record_table.specs.TypeRecords.{TypeKind, Listed, all_fit, are_distinct, at_first, definition, ir_type, kind_of_code, kinds, listed, listed_by, listed_from, names_in, struct_record, type_record}
 use Rattle.record_read.specs.Fields.{are_bytes}
 use Rattle.type_read.specs.Fields.{is_good}
 use Rattle.type_read.specs.Listed.{FindsBad, IsBad, are_good}
@@ -25,7 +25,7 @@ module _ (t : Texts) (holds : HoldsTexts t) (good_of : (n : Bytes) → arena.is_
     pub split : all ≡ s.names ++ names_in t rest
     pub good : are_good s.names ≡ true
 
-  not_seven : (code : ℕ) (kind : Kind) → kind_of_code code kinds ≡ Some kind → nat_eq code 7 ≡ false
+  not_seven : (code : ℕ) (kind : TypeKind) → kind_of_code code kinds ≡ Some kind → nat_eq code 7 ≡ false
   not_seven code kind h = by (nat_eq code 7) refl
     where
       never : kind_of_code 7 kinds ≡ Some kind → ⊥
@@ -35,7 +35,7 @@ module _ (t : Texts) (holds : HoldsTexts t) (good_of : (n : Bytes) → arena.is_
       by false e = refl
       by true e = absurd (never (subst (λ c. kind_of_code c kinds ≡ Some kind) (eqb-true code 7 e) h))
 
-  on_type : (s u : Listed) (code : ℕ) (operands : List ℕ) (behind : Records) (kind : Kind) → kind_of_code code kinds ≡ Some kind → IsSoFar (a_record code operands behind) s
+  on_type : (s u : Listed) (code : ℕ) (operands : List ℕ) (behind : Records) (kind : TypeKind) → kind_of_code code kinds ≡ Some kind → IsSoFar (a_record code operands behind) s
       → type_record s (judged (ir_type (length s.types.types) (length s.types.structs) kind) operands) ≡ Ok u → IsSoFar behind u
   on_type s u code operands behind kind of h e =
       let x = judged (ir_type (length s.types.types) (length s.types.structs) kind) operands in
@@ -75,7 +75,7 @@ module _ (t : Texts) (holds : HoldsTexts t) (good_of : (n : Bytes) → arena.is_
       seven true is e = on_struct s u code operands behind is h e
       seven false is e = absurd (cc)
 
-      by : (o : Option Kind) → kind_of_code code kinds ≡ o → listed_by s code operands o ≡ Ok u → IsSoFar behind u
+      by : (o : Option TypeKind) → kind_of_code code kinds ≡ o → listed_by s code operands o ≡ Ok u → IsSoFar behind u
       by (Some kind) of e = on_type s u code operands behind kind of h e
       by None of e = seven (nat_eq code 7) refl e
 

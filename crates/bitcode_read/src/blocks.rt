@@ -21,7 +21,7 @@ use body_read::read_body;
 use entries_ahead::declare_entries;
 use head_read::ModuleAhead;
 use module_arena::{Arena, FunctionId};
-use module_order::Part;
+use module_order::ModulePart;
 use record_read::{BitcodeFault, Texts, misplaced};
 use record_table::{BODY_BLOCK, TYPES_BLOCK};
 use std::mem;
@@ -62,7 +62,7 @@ fn read_types_block(
     sofar.ahead = declare_entries(m.alloc, bytes, texts, &mut arena)?;
     arena_facts(&arena);
     m.growing = GrowingArena::over(m.alloc, arena)?;
-    sofar.last = Part::Types.place();
+    sofar.last = ModulePart::Types.place();
     Ok(())
 }
 
@@ -113,7 +113,7 @@ fn read_next_body(
         blocks: 0,
     };
     sofar.bodies.push(body)?;
-    sofar.last = Part::Body.place();
+    sofar.last = ModulePart::Body.place();
     Ok(())
 }
 
@@ -149,14 +149,14 @@ fn read_body_block(
 fn takes_types(id: u32, last: u8) -> bool
     ensures { result ≡ (nat_eq id 17 && records.may_follow last 5) }
 {
-    id == TYPES_BLOCK && Part::Types.may_follow(last)
+    id == TYPES_BLOCK && ModulePart::Types.may_follow(last)
 }
 
 /// Whether a body may.
 fn takes_body(id: u32, last: u8) -> bool
     ensures { result ≡ (nat_eq id 12 && records.may_follow last 9) }
 {
-    id == BODY_BLOCK && Part::Body.may_follow(last)
+    id == BODY_BLOCK && ModulePart::Body.may_follow(last)
 }
 
 /// Reads a block of that id that was begun.

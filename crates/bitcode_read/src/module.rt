@@ -17,7 +17,7 @@ use crate::sofar::Sofar;
 use arena_read::ModuleReader;
 use head_read::ModuleAhead;
 use module_order::{expect_whole, next_due};
-use record_read::{BitcodeFault, Entry, Texts};
+use record_read::{BitcodeFault, NextEntry, Texts};
 
 /// True where something was read that is not the end.
 fn more(read: Result<(), BitcodeFault>) -> Result<bool, BitcodeFault>
@@ -49,9 +49,9 @@ fn read_entry(
         → GoesOn (texts_of texts.now) (first_module (records_of tree)) others first result m.new sofar.new known.new }
 {
     match m.reader.next()? {
-        Entry::Record(code) => more(read_record(m, texts, sofar, code)),
-        Entry::Block(id) => more(read_block(m, bytes, texts, sofar, known, id)),
-        Entry::End => Ok(false),
+        NextEntry::Record(code) => more(read_record(m, texts, sofar, code)),
+        NextEntry::Block(id) => more(read_block(m, bytes, texts, sofar, known, id)),
+        NextEntry::End => Ok(false),
     }
 }
 

@@ -7,7 +7,7 @@ ghost use Rattle.bitcode_read.specs.Sofar.{HasRoom, ReadsPart, with_number};
 use crate::sofar::Sofar;
 use arena_read::ModuleReader;
 use entry_read::{read_alias, read_function, read_variable};
-use module_order::{Part, read_module_text, read_version};
+use module_order::{ModulePart, read_module_text, read_version};
 use record_read::{BitcodeFault, Texts};
 use record_table::{ALIAS, FUNCTION, LAYOUT, MODULE_BLOCK, SOURCE, TRIPLE, VARIABLE, VERSION};
 use std::alloc::AllocError;
@@ -24,7 +24,7 @@ fn read_version_part(
     ensures reads { ReadsPart (texts_of texts.now) m.old sofar.old 1 result m.new sofar.new }
 {
     read_version(&mut m.reader, texts, sofar.last)?;
-    sofar.last = Part::Version.place();
+    sofar.last = ModulePart::Version.place();
     Ok(())
 }
 
@@ -39,8 +39,14 @@ fn read_source(
     ensures room { OnOk result (HasRoom sofar.new) }
     ensures reads { ReadsPart (texts_of texts.now) m.old sofar.old 2 result m.new sofar.new }
 {
-    sofar.source = read_module_text(&mut m.reader, m.alloc, texts, sofar.last, Part::Source)?;
-    sofar.last = Part::Source.place();
+    sofar.source = read_module_text(
+        &mut m.reader,
+        m.alloc,
+        texts,
+        sofar.last,
+        ModulePart::Source,
+    )?;
+    sofar.last = ModulePart::Source.place();
     Ok(())
 }
 
@@ -55,8 +61,14 @@ fn read_layout(
     ensures room { OnOk result (HasRoom sofar.new) }
     ensures reads { ReadsPart (texts_of texts.now) m.old sofar.old 3 result m.new sofar.new }
 {
-    sofar.layout = read_module_text(&mut m.reader, m.alloc, texts, sofar.last, Part::Layout)?;
-    sofar.last = Part::Layout.place();
+    sofar.layout = read_module_text(
+        &mut m.reader,
+        m.alloc,
+        texts,
+        sofar.last,
+        ModulePart::Layout,
+    )?;
+    sofar.last = ModulePart::Layout.place();
     Ok(())
 }
 
@@ -71,8 +83,14 @@ fn read_triple(
     ensures room { OnOk result (HasRoom sofar.new) }
     ensures reads { ReadsPart (texts_of texts.now) m.old sofar.old 4 result m.new sofar.new }
 {
-    sofar.triple = read_module_text(&mut m.reader, m.alloc, texts, sofar.last, Part::Triple)?;
-    sofar.last = Part::Triple.place();
+    sofar.triple = read_module_text(
+        &mut m.reader,
+        m.alloc,
+        texts,
+        sofar.last,
+        ModulePart::Triple,
+    )?;
+    sofar.last = ModulePart::Triple.place();
     Ok(())
 }
 
@@ -102,11 +120,11 @@ fn read_variable_part(
     ensures room { OnOk result (HasRoom sofar.new) }
     ensures reads { ReadsPart (texts_of texts.now) m.old sofar.old 5 result m.new sofar.new }
 {
-    let in_order = Part::Variable.may_follow(sofar.last);
+    let in_order = ModulePart::Variable.may_follow(sofar.last);
     let number = count_of(&sofar.initialisers);
     let initialiser = read_variable(m, texts, number, in_order)?;
     sofar.initialisers.push(initialiser)?;
-    sofar.last = Part::Variable.place();
+    sofar.last = ModulePart::Variable.place();
     Ok(())
 }
 
@@ -132,12 +150,12 @@ fn read_function_part(
     ensures room { OnOk result (HasRoom sofar.new) }
     ensures reads { ReadsPart (texts_of texts.now) m.old sofar.old 6 result m.new sofar.new }
 {
-    let in_order = Part::Function.may_follow(sofar.last);
+    let in_order = ModulePart::Function.may_follow(sofar.last);
     let number = count_of(&sofar.defined);
     let is_defined = read_function(m, texts, number, in_order)?;
     add_defined(&mut sofar.numbers, number, is_defined)?;
     sofar.defined.push(is_defined)?;
-    sofar.last = Part::Function.place();
+    sofar.last = ModulePart::Function.place();
     Ok(())
 }
 
@@ -152,14 +170,14 @@ fn read_alias_part(
     ensures room { OnOk result (HasRoom sofar.new) }
     ensures reads { ReadsPart (texts_of texts.now) m.old sofar.old 7 result m.new sofar.new }
 {
-    let in_order = Part::Alias.may_follow(sofar.last);
+    let in_order = ModulePart::Alias.may_follow(sofar.last);
     let number = count_of(&sofar.targets);
     let variables = count_of(&sofar.initialisers);
     let functions = count_of(&sofar.defined);
     let others = greater(variables, functions);
     let target = read_alias(m, texts, number, others, in_order)?;
     sofar.targets.push(target)?;
-    sofar.last = Part::Alias.place();
+    sofar.last = ModulePart::Alias.place();
     Ok(())
 }
 

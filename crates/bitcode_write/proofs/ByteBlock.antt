@@ -3,8 +3,8 @@ use Rattle.std.proofs.Common.{◌≡◌, ◌≢◌, ℕ, ◌+◌, ◌<◌, ◌^�
 use Rattle.std.specs.List.{list_all, AllByRecursion}
 use Rattle.std.proofs.lemmas.Bool.{and_from, ne_eqb, lt-ltb, le-leb}
 use Rattle.std.proofs.lemmas.List.Elements.{recursion_from_All}
-use Rattle.bit_stream.specs.Abbreviation.{Template}
-use Rattle.bit_stream.specs.declared.abbreviation.Scalar.TheVariants.{Field, Chunks}
+use Rattle.bit_stream.specs.Abbreviation.{AdmittedAbbreviation}
+use Rattle.bit_stream.specs.declared.abbreviation.ValueSpelling.TheVariants.{Field, Chunks}
 use Rattle.bit_stream.specs.declared.abbreviation.Tail.TheVariants.{Elements}
 use Rattle.bit_stream.specs.Entry.{defined}
 use Rattle.bit_stream.specs.Scope.{Scope, template_of}
@@ -16,7 +16,7 @@ use Rattle.bitcode_write.specs.Put.{IsOutside, PutsOutside}
 use Rattle.bitcode_write.proofs.Lined.{around_ended}
 
 -- bytes behind a code
-abbrev pub template : Template
+abbrev pub template : AdmittedAbbreviation
 template = record { code = Chunks 6; operands = []; tail = Elements (Field 8) }
 
 pub admitted : template_for of_bytes ≡ Some template

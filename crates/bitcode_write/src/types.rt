@@ -15,7 +15,7 @@ ghost use Rattle.bitcode_write.specs.Entries.{type_in, type_operands, body_opera
 
 use crate::records::RecordSink;
 use operand_write::{Numbering, put_flag, put_number, put_text};
-use record_table::{DEFINE, Kind};
+use record_table::{DEFINE, TypeKind};
 use std::alloc::AllocError;
 use type_table::{IrType, StructBody, StructId, TypeId};
 
@@ -35,16 +35,16 @@ fn put_indices(
 }
 
 /// How the type stands in the block of types.
-fn kind_of(ty: &IrType) -> Kind
+fn kind_of(ty: &IrType) -> TypeKind
     ensures { kind_view result ≡ the_kind ty.now }
 {
     match ty {
-        IrType::Int(_) => Kind::Int,
-        IrType::Ptr => Kind::Ptr,
-        IrType::Void => Kind::Void,
-        IrType::Array(_, _) => Kind::Array,
-        IrType::Struct(_, _) => Kind::Struct,
-        IrType::Named(_) => Kind::Named,
+        IrType::Int(_) => TypeKind::Int,
+        IrType::Ptr => TypeKind::Ptr,
+        IrType::Void => TypeKind::Void,
+        IrType::Array(_, _) => TypeKind::Array,
+        IrType::Struct(_, _) => TypeKind::Struct,
+        IrType::Named(_) => TypeKind::Named,
     }
 }
 

@@ -18,6 +18,6 @@ Ok x >>= f = f x.0 x.1
 Err e >>= f = Err e
 
 -- what a call that took no memory answered and where it left its cursor, as one
-abbrev pub found : {X A : Type 0} → (X → A) → Result X BitFault → Cursor → Found A
-found view (Ok x) left = Ok (view x, left)
-found view (Err e) left = Err e
+abbrev pub found_at : {X A : Type 0} → (X → A) → Result X BitFault → Cursor → Found A
+found_at view (Ok x) left = Ok (view x, left)
+found_at view (Err e) left = Err e

@@ -1,7 +1,7 @@
 //! A place in a stream, from which fields are read one after another.
 ghost use Rattle.std.specs.Prelude.{◌≡◌, ℕ, ◌+◌, ◌*◌, ◌^◌, ◌%◌, ◌<◌, ◌≤◌, ◌==◌, length, take, drop, Ok, Err, IfOk, List};
 ghost use Rattle.bits.specs.Bits.{stream_bits};
-ghost use Rattle.bits.specs.Cursor.{Cursor, found};
+ghost use Rattle.bits.specs.Cursor.{Cursor, found_at};
 ghost use Rattle.bits.specs.Reading.{fixed, vbr, align, bytes, blob};
 
 use crate::field::{bytes_at, field_at, vbr_in};
@@ -74,7 +74,7 @@ impl<'b> BitCursor<'b> {
     #[inline(always)]
     pub fn fixed(&mut self, width: u32) -> Result<u64, BitFault>
         requires { width ≤ 64 }
-        ensures read { found (λ n. n) result self.new ≡ fixed width self.old }
+        ensures read { found_at (λ n. n) result self.new ≡ fixed width self.old }
         ensures small { IfOk result (λ n. n < 2 ^ width) }
     {
         if self.left() < u64::from(width) {
@@ -90,7 +90,7 @@ impl<'b> BitCursor<'b> {
     pub fn vbr(&mut self, width: u32) -> Result<u64, BitFault>
         requires width_low { 2 ≤ width }
         requires width_high { width ≤ 32 }
-        ensures { found (λ n. n) result self.new ≡ vbr width self.old }
+        ensures { found_at (λ n. n) result self.new ≡ vbr width self.old }
     {
         match vbr_in(self.bytes, self.at, width) {
             Ok((value, taken)) => {
@@ -103,7 +103,7 @@ impl<'b> BitCursor<'b> {
 
     /// Goes to the next bit that begins a word of 32 bits. What it passes is not looked at.
     pub fn align(&mut self) -> Result<(), BitFault>
-        ensures { found (λ n. n) result self.new ≡ align self.old }
+        ensures { found_at (λ n. n) result self.new ≡ align self.old }
     {
         let gap = (32 - self.at % 32) % 32;
         if self.left() < gap {
@@ -116,7 +116,7 @@ impl<'b> BitCursor<'b> {
     /// As many bytes as `count` says.
     fn bytes(&mut self, count: u64) -> Result<&'b [u8], BitFault>
         requires { self.old.at % 8 ≡ 0 }
-        ensures { found (λ s. s.now) result self.new ≡ bytes count self.old }
+        ensures { found_at (λ s. s.now) result self.new ≡ bytes count self.old }
     {
         if self.left() / 8 < count {
             return Err(self.refusal(BitFaultKind::Truncated));
@@ -129,7 +129,7 @@ impl<'b> BitCursor<'b> {
     /// A blob in front, without a copy of its bytes: how many bytes, alignment, the bytes, alignment.
     #[tactic(auto, unfolding(crate::specs::Reading::blob))]
     pub fn blob(&mut self) -> Result<&'b [u8], BitFault>
-        ensures { found (λ s. s.now) result self.new ≡ blob self.old }
+        ensures { found_at (λ s. s.now) result self.new ≡ blob self.old }
     {
         let count = self.vbr(6)?;
         self.align()?;

@@ -13,8 +13,8 @@ use Rattle.record_table.specs.Fields.{Numbering, Texts}
 use Rattle.record_table.specs.Layout.{judged}
 use Rattle.record_table.specs.Walk.{going}
 use Rattle.record_read.specs.Entries.{IsBefore, IsNearer, Gives}
-use Rattle.record_read.specs.declared.entry.Entry.{Entry}
-use Rattle.record_read.specs.declared.entry.Entry.TheVariants.{Block, Record, End}
+use Rattle.record_read.specs.declared.entry.NextEntry.{NextEntry}
+use Rattle.record_read.specs.declared.entry.NextEntry.TheVariants.{Block, Record, End}
 use Rattle.record_read.specs.Reader.{Reader}
 use Rattle.body_ahead.specs.declared.ahead.BodyAhead.{BodyAhead}
 use Rattle.body_ahead.specs.Ahead.{AreNamesOf, AreVoids, GathersRecord, IsAhead, NamesBehind, NamesFrom, blocks_of, first_names, gives_of, one_where, values_of}
@@ -52,10 +52,10 @@ pub record IsGathering (texts : Texts) (count : ℕ) (voids : List Bool) (inside
   pub names : NamesSoFar texts count inside rest is_first ahead.names
 
 -- an entry was given, with what is left
-abbrev pub Gone : Reader → Entry → Reader → Type 0
+abbrev pub Gone : Reader → NextEntry → Reader → Type 0
 Gone old entry new = (new.spent ≡ false) × IsNearer entry old.left new.left × ((all : Records) (others : List Piece) → IsBefore old.left all others → Gives all old entry new others)
 
-pub gone : (old new : Reader) (given entry : Entry) → Gone old given new → given ≡ entry → Gone old entry new
+pub gone : (old new : Reader) (given entry : NextEntry) → Gone old given new → given ≡ entry → Gone old entry new
 gone old new given entry h is = subst (λ x. Gone old x new) is h
 
 pub gathers_none : (texts : Texts) (count : ℕ) (voids : List Bool) (inside : Records) (others : List Piece) (ahead : BodyAhead) (r : Reader) → ahead.counts.values ≡ count → ahead.counts.blocks ≡ 0 → ahead.names ≡ None

@@ -12,7 +12,7 @@ use crate::giving::gives;
 use crate::parameters::{more, read_parameters};
 use arena_read::LocalCounts;
 use module_arena::LocalNameList;
-use record_read::{Entry, RecordReader, Texts};
+use record_read::{NextEntry, RecordReader, Texts};
 use record_table::{BLOCK, PARAMETERS};
 use std::alloc::{AllocError, Global};
 
@@ -78,14 +78,14 @@ pub fn gather_body(
     let mut is_first = true;
     'records: loop {
         match reader.next()? {
-            Entry::Record(code) => {
+            NextEntry::Record(code) => {
                 gather_record(
                     reader, alloc, texts, parameters, voids, &mut ahead, is_first, code,
                 )?;
                 is_first = false;
             }
-            Entry::Block(_) => reader.pass_block()?,
-            Entry::End => return Ok(ahead),
+            NextEntry::Block(_) => reader.pass_block()?,
+            NextEntry::End => return Ok(ahead),
         }
     }
 }

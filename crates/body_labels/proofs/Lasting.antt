@@ -14,7 +14,7 @@ use Rattle.record_table.specs.Walk.{Walk, going, stopped, ask, stop, break, next
 use Rattle.record_table.specs.Layout.{Layout, ◌&◌, ◌&>◌, found_or, coded, counted, counted_some, is_positive, many, option, option_by}
 use Rattle.record_table.specs.Fields.{Texts, Numbering, byte, text, ty, global, local, block, index, truth, label, alignment, predicate, flags, is_label, label_by, version_1}
 use Rattle.record_table.specs.StringTable.{is_within, label_at, read_only}
-use Rattle.record_table.specs.Constants.{Form, Number, NullPointer, Undefined, Poisoned, Zero, Global, Listed, Bytewise, Element, Converted, Computed, Parts, Reads, integer, integer_at, parts, typed, listed, element, converted, computed, bytewise, of_form, read_nested, value, value_by, parts_of, has_parts, first_part, later_parts, cast_opcode, binary_opcode, one_of, form_of_code}
+use Rattle.record_table.specs.Constants.{ConstantForm, Number, NullPointer, Undefined, Poisoned, Zero, Global, Listed, Bytewise, Element, Converted, Computed, Parts, Reads, integer, integer_at, parts, typed, listed, element, converted, computed, bytewise, of_form, read_nested, value, value_by, parts_of, has_parts, first_part, later_parts, cast_opcode, binary_opcode, one_of, form_of_code}
 use Rattle.record_table.specs.Lines.{arguments, arguments_by, incoming, instruction, known_type, result_by, return_type, typed_value}
 
 -- it goes on to hold
@@ -145,7 +145,7 @@ module _ (P : Walk → Type 0) (h : Lasts P) where
     AreInner None = Unit {0}
     AreInner (Some inner) = (t : Tree) → Keeps P (inner t)
 
-    form_keeps : (inner : Option Reads) → AreInner inner → (form : Option Form) (t : Tree) → Keeps P (of_form k inner form t)
+    form_keeps : (inner : Option Reads) → AreInner inner → (form : Option ConstantForm) (t : Tree) → Keeps P (of_form k inner form t)
     unfolding of_form
     form_keeps inner each None t w p = h.stopped_by 3 w p
     form_keeps inner each (Some Number) t w p = integer_keeps t w p

@@ -8,7 +8,7 @@ use Rattle.module_arena.specs.declared.entry.LocalName.TheVariants as local
 use Rattle.module_arena.specs.Module.{Bytes, Named}
 use Rattle.record_table.specs.Bodies.{are_new}
 use Rattle.record_read.specs.Fields.{are_bytes}
-use Rattle.body_names.specs.declared.called.Names.{Names}
+use Rattle.body_names.specs.declared.called.BodyNames.{BodyNames}
 use Rattle.body_names.specs.Called.{AddsName, AreNames, Calls, beyond_table}
 
 pub ok_by : {A E : Type 0} (r : Result A E) (P Q : A → Type 0) → IfOk r P → ((x : A) → P x → Q x) → IfOk r Q
@@ -66,7 +66,7 @@ any_only p false keys h = refl
 
 -- ---- one more
 
-module _ (n m : Names) (own : m.own ≡ n.own) (strange : m.strange ≡ n.strange) (name : Bytes) (is_new : Bool) (bytes : are_bytes name ≡ true) (adds : AddsName n.taken.keys name is_new m.taken.keys) where
+module _ (n m : BodyNames) (own : m.own ≡ n.own) (strange : m.strange ≡ n.strange) (name : Bytes) (is_new : Bool) (bytes : are_bytes name ≡ true) (adds : AddsName n.taken.keys name is_new m.taken.keys) where
   module _ (o : ℕ) (taken : List Bytes) (h : AreNames n o taken) where
     seen : list_any (bytes_eq name) n.taken.keys ≡ list_any (bytes_eq name) taken
     seen = sym (any_only (bytes_eq name) n.strange n.taken.keys (in_bytes name bytes)) ∙ h.there name
@@ -100,7 +100,7 @@ module _ (n m : Names) (own : m.own ≡ n.own) (strange : m.strange ≡ n.strang
   called_named = record { judged = λ o taken h. (is_new_so o taken h, names_so o taken h); strange = strange ∙ sym (or_false n.strange) }
 
 -- a number more
-pub called_number : (n m : Names) (number : ℕ) → m.own ≡ n.own + 1 → m.strange ≡ n.strange → m.taken.keys ≡ n.taken.keys → Calls n (Some (local.Numbered number)) true m
+pub called_number : (n m : BodyNames) (number : ℕ) → m.own ≡ n.own + 1 → m.strange ≡ n.strange → m.taken.keys ≡ n.taken.keys → Calls n (Some (local.Numbered number)) true m
 called_number n m number own strange keys = record {
   judged = λ o taken h. (
     refl,
@@ -114,7 +114,7 @@ called_number n m number own strange keys = record {
 }
 
 -- a text that passes the end of the table
-pub called_strange : (n m : Names) (is_new : Bool) → is_new ≡ not n.strange → m.own ≡ n.own → m.strange ≡ true → m.taken.keys ≡ n.taken.keys → Calls n None is_new m
+pub called_strange : (n m : BodyNames) (is_new : Bool) → is_new ≡ not n.strange → m.own ≡ n.own → m.strange ≡ true → m.taken.keys ≡ n.taken.keys → Calls n None is_new m
 called_strange n m is_new is own strange keys = record {
   judged = λ o taken h. (
     is ∙ (ap not (sym (seen_by n.strange h.bytes) ∙ h.there beyond_table) ∙ sym (and_true (not (list_any (bytes_eq beyond_table) taken)))),

@@ -10,7 +10,7 @@ use Rattle.record_table.specs.Walk.{Walk, going, stopped}
 use Rattle.record_read.specs.declared.texts.Texts as the_texts
 use Rattle.record_read.specs.Fields.{IsLocal, texts_of}
 use Rattle.record_read.specs.Reader.{Reader, IsKept, IsBrokenBy, is_broken, is_stopped}
-use Rattle.body_names.specs.declared.called.Names.{Names}
+use Rattle.body_names.specs.declared.called.BodyNames.{BodyNames}
 use Rattle.body_names.specs.Called.{AreCalled, AreNames, Calls, IsTame, ReadsCalled, ReadsNames, called_as}
 use Rattle.body_names.proofs.Tame.{label_broken, label_low, tame_label}
 
@@ -52,7 +52,7 @@ over_by t own (suc n) (going rest broken) (inr on) = absurd (cc)
 over_by t own (suc n) (stopped broken) (inr on) = refl
 
 -- the names so far, and those to come
-pub record IsRunning (x : the_texts.Texts) (first now : Reader) (before after_it : Names) (count place : ℕ) (all_new : Bool) : Type 0 where
+pub record IsRunning (x : the_texts.Texts) (first now : Reader) (before after_it : BodyNames) (count place : ℕ) (all_new : Bool) : Type 0 where
   pub names : List LocalName
   pub values : (labels_by (texts_of x) 0 count first.walk).0 ≡ names ++ (labels_by (texts_of x) (after_all 0 names) (count - place) now.walk).0
   pub walk : (labels_by (texts_of x) 0 count first.walk).1 ≡ (labels_by (texts_of x) (after_all 0 names) (count - place) now.walk).1
@@ -60,8 +60,8 @@ pub record IsRunning (x : the_texts.Texts) (first now : Reader) (before after_it
   pub tame : IsTame x first.walk → IsTame x now.walk
   pub judged : IsTame x first.walk → (own : ℕ) (taken : List Bytes) → AreNames before own taken → IsBrokenBy 4 now.walk ⊎ AreCalled before (after_all 0 names) taken names now.walk all_new after_it
 
-pub none_yet : (x : the_texts.Texts) (first : Reader) (before after_it : Names) (count : ℕ) → after_it ≡ record before { own = 0 } → IsRunning x first first before after_it count 0 true
-none_yet x first before after_it count is = subst (λ (n : Names). IsRunning x first first before n count 0 true) (sym is) (record {
+pub none_yet : (x : the_texts.Texts) (first : Reader) (before after_it : BodyNames) (count : ℕ) → after_it ≡ record before { own = 0 } → IsRunning x first first before after_it count 0 true
+none_yet x first before after_it count is = subst (λ (n : BodyNames). IsRunning x first first before n count 0 true) (sym is) (record {
   names = [];
   values = ap (λ n. (labels_by (texts_of x) 0 n first.walk).0) whole;
   walk = ap (λ n. (labels_by (texts_of x) 0 n first.walk).1) whole;
@@ -73,7 +73,7 @@ none_yet x first before after_it count is = subst (λ (n : Names). IsRunning x f
     whole : count ≡ count - 0
     whole = omega arith
 
-module _ (x : the_texts.Texts) (first now new : Reader) (before after_it called : Names) (count place : ℕ) (all_new is_new : Bool) (name : Option the_local.LocalName) (h : IsRunning x first now before after_it count place all_new)
+module _ (x : the_texts.Texts) (first now new : Reader) (before after_it called : BodyNames) (count place : ℕ) (all_new is_new : Bool) (name : Option the_local.LocalName) (h : IsRunning x first now before after_it count place all_new)
     (given : Option the_local.LocalName) (given_is : given ≡ name) (less : place < count) (on : is_stopped now.walk ≡ false) (reads : ReadsCalled x after_it.own now new name) (made : Calls after_it given is_new called) where
   calls : Calls after_it name is_new called
   calls = subst (λ n. Calls after_it n is_new called) given_is made
@@ -152,7 +152,7 @@ module _ (x : the_texts.Texts) (first now new : Reader) (before after_it called 
   })
 
 -- all of them
-pub all_names : (x : the_texts.Texts) (first now : Reader) (before after_it : Names) (count place : ℕ) (all_new : Bool) → IsRunning x first now before after_it count place all_new → (count - place ≡ 0) ⊎ (is_stopped now.walk ≡ true)
+pub all_names : (x : the_texts.Texts) (first now : Reader) (before after_it : BodyNames) (count place : ℕ) (all_new : Bool) → IsRunning x first now before after_it count place all_new → (count - place ≡ 0) ⊎ (is_stopped now.walk ≡ true)
     → ReadsNames x count first before all_new now after_it
 all_names x first now before after_it count place all_new h last =
     let over = over_by (texts_of x) (after_all 0 h.names) (count - place) now.walk last in

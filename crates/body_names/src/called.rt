@@ -11,7 +11,7 @@ use std::alloc::{AllocError, Global};
 
 /// What parameters, blocks and results of a body are called so far.
 #[derive(Drop)]
-pub struct Names {
+pub struct BodyNames {
     /// The number that the next has if it has no name.
     pub own: u32,
     taken: IndexSet<Name>,
@@ -51,14 +51,14 @@ fn add_name(alloc: Global, taken: &mut IndexSet<Name>, name: &Name) -> Result<bo
     Ok(true)
 }
 
-impl Names {
+impl BodyNames {
     /// Nothing is called by a name yet.
-    pub fn new(alloc: Global) -> Names
+    pub fn new(alloc: Global) -> BodyNames
         ensures own { result.own ≡ 0 }
         ensures taken { result.taken.keys ≡ [] }
         ensures strange { result.strange ≡ false }
     {
-        Names {
+        BodyNames {
             own: 0,
             taken: IndexSet::new(alloc),
             strange: false,

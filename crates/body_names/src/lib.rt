@@ -5,7 +5,7 @@
 //! `specs/Called`.
 //!
 //! ```
-//! let mut names = Names::new(alloc);
+//! let mut names = BodyNames::new(alloc);
 //! names.call(alloc, Some(&name))? // true
 //! names.call(alloc, Some(&name))? // false: something is called so already
 //! ```
@@ -15,6 +15,6 @@ mod called;
 mod label;
 mod names;
 
-pub use called::Names;
+pub use called::BodyNames;
 pub use label::read_called;
 pub use names::read_names;

@@ -2,7 +2,7 @@
 ghost use Rattle.std.specs.Prelude.{◌≡◌, ◌&&◌, IfOk};
 ghost use Rattle.body_names.specs.Called.{ReadsNames};
 
-use crate::called::Names;
+use crate::called::BodyNames;
 use crate::label::read_called;
 use record_read::{RecordReader, Texts};
 use std::alloc::{AllocError, Global};
@@ -20,7 +20,7 @@ pub fn read_names(
     reader: &mut RecordReader<'_>,
     alloc: Global,
     texts: &Texts,
-    names: &mut Names,
+    names: &mut BodyNames,
     count: u64,
 ) -> Result<bool, AllocError>
     ensures { IfOk result (λ all_new. ReadsNames texts.now count reader.old names.old all_new reader.new names.new) }

@@ -9,8 +9,8 @@ use Rattle.record_table.specs.Faults.{Answer, ◌>>=◌, Records, no_more, a_blo
 use Rattle.record_table.specs.Fields.{Numbering}
 use Rattle.record_table.specs.Walk.{going}
 use Rattle.body_labels.proofs.Ahead.{IsAhead, first_ahead, record_step, value_ahead}
-use Rattle.record_read.specs.declared.entry.Entry.{Entry}
-use Rattle.record_read.specs.declared.entry.Entry.TheVariants.{Block, Record, End}
+use Rattle.record_read.specs.declared.entry.NextEntry.{NextEntry}
+use Rattle.record_read.specs.declared.entry.NextEntry.TheVariants.{Block, Record, End}
 use Rattle.record_read.specs.declared.fault.BitcodeFault.{BitcodeFault}
 use Rattle.record_read.specs.declared.texts.Texts as the_texts
 use Rattle.record_read.specs.Entries.{IsBefore, IsNearer, Gives}
@@ -31,10 +31,10 @@ use Rattle.body_read.proofs.Told.{misplaced_so, step_refused}
 -- ---- what is kept whatever is read
 
 -- an entry was given, with what is left
-abbrev pub Gone : Reader → Entry → Reader → Type 0
+abbrev pub Gone : Reader → NextEntry → Reader → Type 0
 Gone old entry new = (new.spent ≡ false) × IsNearer entry old.left new.left × ((all : Records) (others : List Piece) → IsBefore old.left all others → Gives all old entry new others)
 
-pub gone : (old new : Reader) (given entry : Entry) → Gone old given new → given ≡ entry → Gone old entry new
+pub gone : (old new : Reader) (given entry : NextEntry) → Gone old given new → given ≡ entry → Gone old entry new
 gone old new given entry h is = subst (λ x. Gone old x new) is h
 
 pub keeps_none : (m : ModuleReader) → KeepsCounts m m

@@ -15,7 +15,7 @@ use crate::records::read_record;
 use arena_read::{LocalCounts, ModuleReader};
 use body_records::{Begun, Due};
 use module_arena::Body;
-use record_read::{BitcodeFault, Entry, Texts, misplaced};
+use record_read::{BitcodeFault, NextEntry, Texts, misplaced};
 use record_table::BODY_BLOCK;
 
 /// What holds of counts: 32 bits hold them.
@@ -71,9 +71,9 @@ fn read_records(
 {
     'records: loop {
         match m.reader.next()? {
-            Entry::Record(code) => read_record(m, texts, body, parameters, code)?,
-            Entry::Block(id) => return Err(misplaced(id, m.reader.at())),
-            Entry::End => return Ok(()),
+            NextEntry::Record(code) => read_record(m, texts, body, parameters, code)?,
+            NextEntry::Block(id) => return Err(misplaced(id, m.reader.at())),
+            NextEntry::End => return Ok(()),
         }
     }
 }

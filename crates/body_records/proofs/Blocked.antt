@@ -24,7 +24,7 @@ use Rattle.arena_read.specs.Growing.{Growing}
 use Rattle.arena_read.proofs.Kept.{grows_self}
 use Rattle.line_read.specs.Kept.{HasInst}
 use Rattle.body_names.specs.Called.{AreNames, Calls, IsTame, ReadsCalled, called_as}
-use Rattle.body_names.specs.declared.called.Names.{Names}
+use Rattle.body_names.specs.declared.called.BodyNames.{BodyNames}
 use Rattle.body_records.specs.declared.begun.Begun.{Begun}
 use Rattle.body_records.specs.Begun.{Begins, Follows, Has, IsBody, Passes, block_called, due_view}
 use Rattle.body_records.proofs.Closing.{vain_both}
@@ -62,7 +62,7 @@ block_not bodies.FirstBlock e is = cc
 block_not bodies.Line e is = false≢true e
 block_not bodies.NextBlock e is = cc
 
-module _ (x : the_texts.Texts) (a : ModuleReader) (q : Reader) (before : Begun) (named : Names) (name given : Option the_local.LocalName) (is_new : Bool) (s : bodies.Begun) (count : ℕ) (operands : List ℕ)
+module _ (x : the_texts.Texts) (a : ModuleReader) (q : Reader) (before : Begun) (named : BodyNames) (name given : Option the_local.LocalName) (is_new : Bool) (s : bodies.Begun) (count : ℕ) (operands : List ℕ)
     (front : a.reader.walk ≡ going operands None) (follows : Follows count before s) (reads : ReadsCalled x before.names.own a.reader q name) (given_is : given ≡ name) (made : Calls before.names given is_new named) where
   abbrev read : m.LocalName × Option ℕ
   read = judged (label (texts_of x) s.own) operands

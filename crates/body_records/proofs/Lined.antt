@@ -37,7 +37,7 @@ use Rattle.operand_read.proofs.Joined.{same_locals}
 use Rattle.line_read.specs.Kept.{HasInst, operation_in}
 use Rattle.call_read.specs.Calls.{IsNameOf, ReadsLine, ids_of, name_behind, operation_read}
 use Rattle.body_names.specs.Called.{AreNames, beyond_table}
-use Rattle.body_names.specs.declared.called.Names.{Names}
+use Rattle.body_names.specs.declared.called.BodyNames.{BodyNames}
 use Rattle.body_records.specs.declared.begun.Begun.{Begun}
 use Rattle.body_records.specs.Begun.{Adds, CallsKept, Follows, Has, IsBody, IsCounted, Means, block_called, due_view, results_so_far}
 use Rattle.body_records.proofs.Closing.{told_unbroken, vain_both}
@@ -86,7 +86,7 @@ abbrev names_of : Option the_local.LocalName → List m.LocalName
 names_of None = []
 names_of (Some name) = local_view name ∷ []
 
-module _ (x : the_texts.Texts) (k : Numbering) (count : ℕ) (a b : ModuleReader) (before : Begun) (named : Names) (o : Opcode) (name : Option the_local.LocalName) (kept : Option Inst) (is_new : Bool) (s : bodies.Begun) (operands : List ℕ)
+module _ (x : the_texts.Texts) (k : Numbering) (count : ℕ) (a b : ModuleReader) (before : Begun) (named : BodyNames) (o : Opcode) (name : Option the_local.LocalName) (kept : Option Inst) (is_new : Bool) (s : bodies.Begun) (operands : List ℕ)
     (front : a.reader.walk ≡ going operands None) (follows : Follows count before s) (n : Numbers a k) (reads : ReadsLine (texts_of x) before.next before.names.own o a b (record { name = name; instruction = kept })) (made : CallsKept before.names name is_new named) where
   abbrev read : m.Instruction × Option ℕ
   read = judged (instruction (texts_of x) k s.own o) operands
@@ -142,7 +142,7 @@ module _ (x : the_texts.Texts) (k : Numbering) (count : ℕ) (a b : ModuleReader
     t = record s { at = suc s.at; own = bodies.after_all s.own (bodies.results result); taken = bodies.with_names s.taken (bodies.results result); instructions = s.instructions ++ read.0 ∷ [] }
 
     called : (nm : Option the_local.LocalName) → CallsKept before.names nm is_new named → AreNames named (bodies.after_all s.own (names_of nm)) (bodies.with_names s.taken (names_of nm)) × (named.strange ≡ false)
-    called None made = (subst (λ ns. AreNames ns s.own s.taken) (sym made.1) follows.names, ap (λ (ns : Names). ns.strange) made.1 ∙ follows.ordinary)
+    called None made = (subst (λ ns. AreNames ns s.own s.taken) (sym made.1) follows.names, ap (λ (ns : BodyNames). ns.strange) made.1 ∙ follows.ordinary)
     called (Some nm) made = ((made.judged s.own s.taken follows.names).1, made.strange ∙ or_false before.names.strange follows.ordinary)
       where
         or_false : (c : Bool) → c ≡ false → (c || false) ≡ false

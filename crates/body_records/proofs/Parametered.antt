@@ -16,7 +16,7 @@ use Rattle.record_read.specs.Fields.{texts_of}
 use Rattle.record_read.specs.Reader.{Reader, IsAtMost, IsBrokenBy, is_broken}
 use Rattle.arena_read.specs.declared.module_reader.ModuleReader.{ModuleReader}
 use Rattle.body_names.specs.Called.{AreCalled, AreNames, IsTame, ReadsNames}
-use Rattle.body_names.specs.declared.called.Names.{Names}
+use Rattle.body_names.specs.declared.called.BodyNames.{BodyNames}
 use Rattle.body_records.specs.declared.begun.Begun.{Begun}
 use Rattle.body_records.specs.declared.begun.Due.TheVariants as due
 use Rattle.body_records.specs.Begun.{Follows, IsBody}
@@ -33,7 +33,7 @@ due_first bodies.FirstBlock e = absurd (false≢true e)
 due_first bodies.Line e = absurd (false≢true e)
 due_first bodies.NextBlock e = absurd (false≢true e)
 
-module _ (x : the_texts.Texts) (count : ℕ) (a : ModuleReader) (q : Reader) (before : Begun) (named : Names) (all_new : Bool) (s : bodies.Begun) (operands : List ℕ)
+module _ (x : the_texts.Texts) (count : ℕ) (a : ModuleReader) (q : Reader) (before : Begun) (named : BodyNames) (all_new : Bool) (s : bodies.Begun) (operands : List ℕ)
     (front : a.reader.walk ≡ going operands None) (follows : Follows count before s) (reads : ReadsNames x count a.reader before.names all_new q named) where
   abbrev read : List m.LocalName × Option ℕ
   read = judged (bodies.parameters (texts_of x) count) operands

@@ -29,7 +29,7 @@ use Rattle.arena_read.specs.Numbered.{Numbers, IsDeclared}
 use Rattle.operand_read.specs.Found.{Always}
 use Rattle.line_read.specs.Kept.{HasInst}
 use Rattle.body_names.specs.Called.{AreNames, Calls}
-use Rattle.body_names.specs.declared.called.Names.{Names}
+use Rattle.body_names.specs.declared.called.BodyNames.{BodyNames}
 use Rattle.body_records.specs.declared.begun.Begun.{Begun}
 use Rattle.body_records.specs.declared.begun.Due as the_due
 use Rattle.body_records.specs.declared.begun.Due.TheVariants as due
@@ -82,7 +82,7 @@ abbrev pub AddsLine : {E : Type 0} → Begun → Option Inst → Option the_loca
 AddsLine old instruction name result new = (i : Inst) → instruction ≡ Some i → OnOk result (Adds old i name new)
 
 -- what is known to be called so is called so from now on, and the name was new or not
-abbrev pub CallsKept : Names → Option the_local.LocalName → Bool → Names → Type 0
+abbrev pub CallsKept : BodyNames → Option the_local.LocalName → Bool → BodyNames → Type 0
 CallsKept old None is_new new = (is_new ≡ true) × (new ≡ old)
 CallsKept old (Some name) is_new new = Calls old (Some name) is_new new
 

@@ -3,7 +3,7 @@ ghost use Rattle.std.specs.Prelude.{◌≡◌, ◌+◌, ◌<◌, ◌^◌, IfOk, 
 ghost use Rattle.record_table.specs.Bodies as bodies;
 ghost use Rattle.body_records.specs.Begun.{Adds, AddsLine, AddsResult, Begins, Ends, Pushes, StartsEmpty, due_view};
 
-use body_names::Names;
+use body_names::BodyNames;
 use ir_base::ItemList;
 use module_arena::{Block, Body, Ending, Inst, LocalName};
 use std::alloc::{AllocError, Global};
@@ -60,7 +60,7 @@ pub struct Begun {
     pub due: Due,
     /// The id of the next parameter or result.
     pub next: u32,
-    pub names: Names,
+    pub names: BodyNames,
     /// The name of the block that has not ended, and its instructions.
     pub name: LocalName,
     pub instructions: Vec<Inst>,
@@ -83,7 +83,7 @@ impl Begun {
         Begun {
             due: Due::Parameters,
             next: 0,
-            names: Names::new(alloc),
+            names: BodyNames::new(alloc),
             name: LocalName::Numbered(0),
             instructions: Vec::new(alloc),
             blocks: Vec::new(alloc),

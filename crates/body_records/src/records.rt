@@ -6,8 +6,8 @@ ghost use Rattle.body_records.specs.Begun.{CallsKept, Passes, ReadsBlock, ReadsE
 
 use crate::begun::{Begun, Due};
 use arena_read::ModuleReader;
-use body_names::{Names, read_called, read_names};
-use call_read::{Line, read_instruction};
+use body_names::{BodyNames, read_called, read_names};
+use call_read::{ReadLine, read_instruction};
 use ending_read::read_ending;
 use ir_tables::Opcode;
 use module_arena::{LocalName, ValueId};
@@ -80,7 +80,11 @@ pub fn read_end(
 }
 
 /// What is known to be called so is called so from now on. Tells whether the name is new, where there is one.
-fn call_kept(alloc: Global, names: &mut Names, name: &Option<LocalName>) -> Result<bool, AllocError>
+fn call_kept(
+    alloc: Global,
+    names: &mut BodyNames,
+    name: &Option<LocalName>,
+) -> Result<bool, AllocError>
     ensures { IfOk result (λ is_new. CallsKept names.old name.now is_new names.new) }
 {
     match name {
@@ -103,7 +107,7 @@ pub fn read_line(
 {
     let defined = ValueId::new(body.next);
     let line = read_instruction(m, texts, opcode, defined, body.names.own)?;
-    let Line { name, instruction } = line;
+    let ReadLine { name, instruction } = line;
     let is_new = call_kept(m.alloc, &mut body.names, &name)?;
     m.reader.also(4, is_new);
     m.reader.also(5, body.due.is_line());

@@ -37,7 +37,7 @@ use Rattle.line_read.specs.Kept.{HasInst, operation_in}
 use Rattle.line_read.proofs.Fields.{plain_in}
 use Rattle.line_read.proofs.Found.{mapped_two}
 use Rattle.line_read.proofs.Lists.{more_all, none_all, one_all}
-use Rattle.call_read.specs.declared.line.Line.{Line}
+use Rattle.call_read.specs.declared.line.ReadLine.{ReadLine}
 use Rattle.call_read.specs.Calls.{IsNameOf, NamesResult, ReadsLine, ReadsBoth, ReadsReturned, ids_of, kept_call, operation_read}
 use Rattle.call_read.proofs.Heads.{name_stays, takes_walk}
 use Rattle.call_read.proofs.ParameterTypes.{parameters_found}

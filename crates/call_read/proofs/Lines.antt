@@ -30,7 +30,7 @@ use Rattle.operand_read.specs.Found.{Finds}
 use Rattle.operand_read.proofs.Joined.{starting}
 use Rattle.line_read.specs.Kept.{DoesInst, GivesInst, HasInst, operation_in}
 use Rattle.line_read.specs.Operations.{is_giving, operation}
-use Rattle.call_read.specs.declared.line.Line.{Line}
+use Rattle.call_read.specs.declared.line.ReadLine.{ReadLine}
 use Rattle.call_read.specs.Calls.{IsNameOf, NamesResult, ReadsLine, ReadsReturned, ids_of, kept_call, name_behind, operation_read}
 use Rattle.call_read.proofs.Calling.{kept_so, made_so, unless_broken}
 use Rattle.call_read.proofs.Heads.{label_still, name_stays, named_by, takes_walk}

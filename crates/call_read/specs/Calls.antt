@@ -22,7 +22,7 @@ use Rattle.arena_read.specs.Kept.{IsKnownType, TakesOnly, tree_at}
 use Rattle.arena_read.specs.Numbered.{Numbers}
 use Rattle.operand_read.specs.Found.{Finds, operand_at}
 use Rattle.line_read.specs.Kept.{HasInst, operation_in}
-use Rattle.call_read.specs.declared.line.Line.{Line}
+use Rattle.call_read.specs.declared.line.ReadLine.{ReadLine}
 
 -- the type that a call returns was read, and nothing else changed; none stands for `void`
 pub record ReadsReturned (old new : ModuleReader) (found : Option ℕ) : Type 0 where
@@ -100,7 +100,7 @@ name_behind texts own o k w = ((label texts own).read w).1
 -- An instruction was read by the layout of its opcode, and all that it names is there. There is none exactly where a rule is
 -- broken. It defines that value where it has a result, and the result is called as its record says: there is no name only
 -- where a rule is broken by then.
-pub record ReadsLine (texts : Texts) (defined own : ℕ) (opcode : Opcode) (old new : ModuleReader) (line : Line) : Type 0 where
+pub record ReadsLine (texts : Texts) (defined own : ℕ) (opcode : Opcode) (old new : ModuleReader) (line : ReadLine) : Type 0 where
   pub reads : Finds HasInst operation_in (operation_read texts own opcode) old new line.instruction
   pub none : is_broken new.reader.walk ≡ true → line.instruction ≡ None
   pub defines : IfSome line.instruction (λ i. result_of i ≡ ids_of defined line.name)

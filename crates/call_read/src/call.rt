@@ -9,7 +9,7 @@ ghost use Rattle.call_read.specs.Calls.{ReadsLine, kept_call};
 
 use crate::arguments::read_arguments;
 use crate::head::{is_void, read_result, read_returned};
-use crate::line::{Line, unless_broken};
+use crate::line::{ReadLine, unless_broken};
 use crate::parameters::{Parameters, read_parameters};
 use arena_read::ModuleReader;
 use module_arena::{Boxed, Call, Inst, OperandList, Signature, Value, ValueId};
@@ -66,7 +66,7 @@ pub(crate) fn read_call(
     texts: &Texts,
     defined: ValueId,
     own: u32,
-) -> Result<Line, AllocError>
+) -> Result<ReadLine, AllocError>
     ensures { IfOk result (ReadsLine (texts_of texts.now) defined own op.Call m.old m.new) }
 {
     let returns = read_returned(m);
@@ -81,7 +81,7 @@ pub(crate) fn read_call(
     let result_id = defined_by(void, defined);
     let call = call_of(result_id, returns, variadic, known, callee, arguments);
     let instruction = boxed(m.alloc, call)?;
-    Ok(Line {
+    Ok(ReadLine {
         name,
         instruction: unless_broken(&m.reader, instruction),
     })

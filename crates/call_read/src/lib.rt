@@ -18,4 +18,4 @@ mod head;
 mod line;
 mod parameters;
 
-pub use line::{Line, read_instruction};
+pub use line::{ReadLine, read_instruction};

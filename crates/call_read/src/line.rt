@@ -19,7 +19,7 @@ use std::alloc::AllocError;
 /// An instruction that was read, and what its result is called. The instruction is None exactly where a rule is broken; the
 /// name is None only there, or where there is no result.
 #[derive(Drop)]
-pub struct Line {
+pub struct ReadLine {
     pub name: Option<LocalName>,
     pub instruction: Option<Inst>,
 }
@@ -36,11 +36,11 @@ pub(crate) fn unless_broken(reader: &RecordReader<'_>, instruction: Option<Inst>
 }
 
 /// A store, which has no result.
-fn read_store_line(m: &mut ModuleReader<'_>) -> Result<Line, AllocError>
+fn read_store_line(m: &mut ModuleReader<'_>) -> Result<ReadLine, AllocError>
     ensures { (texts : fields.Texts) (defined own : ℕ) → IfOk result (ReadsLine texts defined own op.Store m.old m.new) }
 {
     let instruction = read_store(m)?;
-    Ok(Line {
+    Ok(ReadLine {
         name: None,
         instruction: unless_broken(&m.reader, instruction),
     })
@@ -53,13 +53,13 @@ fn read_named(
     opcode: Opcode,
     defined: ValueId,
     own: u32,
-) -> Result<Line, AllocError>
+) -> Result<ReadLine, AllocError>
     requires { is_giving opcode ≡ true }
     ensures { IfOk result (ReadsLine (texts_of texts.now) defined own opcode m.old m.new) }
 {
     let name = read_label(&mut m.reader, m.alloc, texts, own)?;
     let instruction = read_operation(m, opcode, defined)?;
-    Ok(Line {
+    Ok(ReadLine {
         name,
         instruction: unless_broken(&m.reader, instruction),
     })
@@ -73,7 +73,7 @@ pub fn read_instruction(
     opcode: Opcode,
     defined: ValueId,
     own: u32,
-) -> Result<Line, AllocError>
+) -> Result<ReadLine, AllocError>
     requires { is_end opcode ≡ false }
     ensures { IfOk result (ReadsLine (texts_of texts.now) defined own opcode m.old m.new) }
 {

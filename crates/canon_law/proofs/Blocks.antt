@@ -4,7 +4,7 @@ use Rattle.ir_lexer.specs.Pieces.{Space, Line, Indented}
 use Rattle.ir_tables.specs.Opcode.{opcode_code}
 use Rattle.ir_tables.specs.declared.opcode.Opcode.{Opcode}
 use Rattle.ir_tables.specs.declared.opcode.Opcode.TheVariants as op
-use Rattle.phrase_rows.specs.Row.{among, second, alt, mapped}
+use Rattle.phrase_rows.specs.Row.{among, keep_second, alt, mapped}
 use Rattle.ir_terminals.specs.Role.{class}
 use Rattle.ir_terminals.specs.Tokens.{word}
 use Rattle.ir_terminals.specs.declared.terminal.Terminal.TheVariants as terminals

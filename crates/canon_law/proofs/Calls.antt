@@ -4,7 +4,7 @@ use Rattle.ir_lexer.specs.Class.{byte_class}
 use Rattle.ir_lexer.specs.Table.{IsToken}
 use Rattle.ir_lexer.specs.Table as table
 use Rattle.ir_lexer.specs.declared.token.TokenKind.TheVariants as kind
-use Rattle.phrase_rows.specs.Row.{before, second, alt, mapped, nothing, fail, loop}
+use Rattle.phrase_rows.specs.Row.{keep_first, keep_second, alt, mapped, nothing, fail, loop}
 use Rattle.ir_terminals.specs.Role.{class, terminal}
 use Rattle.ir_terminals.specs.Tokens.{word}
 use Rattle.ir_terminals.specs.declared.terminal.Terminal.TheVariants as terminals
@@ -93,7 +93,7 @@ printed_signature_types limits xs ps false h = printed_plain_types limits xs ps 
 -- no parameters in parentheses
 pub printed_no_parameters : (limits : Limits) → IsPrinted (signature_row limits) (option_map unplaced_signature) None none
 unfolding signature_core
-printed_no_parameters limits = printed_labelled signature_shape (printed_none (second (word terminals.OpenParenthesis) (before (signature_types_row limits) (word terminals.CloseParenthesis))) unplaced_signature)
+printed_no_parameters limits = printed_labelled signature_shape (printed_none (keep_second (word terminals.OpenParenthesis) (keep_first (signature_types_row limits) (word terminals.CloseParenthesis))) unplaced_signature)
 
 -- parameters in parentheses
 pub printed_parameters : (limits : Limits) (ts : List Tree) (variadic : Bool) → AreTypeListTexts limits.nesting ts → IsPrinted {X = Option SignatureTree} (signature_row limits) (option_map unplaced_signature) (Some (map type_tree ts, variadic)) (in_parentheses (listed (dotted (map type_phrase ts) variadic)))

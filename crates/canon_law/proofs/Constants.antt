@@ -7,7 +7,7 @@ use Rattle.ir_lexer.specs.declared.token.TokenKind.TheVariants as kind
 use Rattle.ir_tables.specs.Opcode.{opcode_code}
 use Rattle.ir_tables.specs.declared.opcode.Opcode.{Opcode}
 use Rattle.ir_tables.specs.declared.opcode.Opcode.TheVariants as op
-use Rattle.phrase_rows.specs.Row.{Row, among, second, alt}
+use Rattle.phrase_rows.specs.Row.{Row, among, keep_second, alt}
 use Rattle.ir_terminals.specs.Role.{class, terminal}
 use Rattle.ir_terminals.specs.Tokens.{word}
 use Rattle.ir_terminals.specs.Words.{word_terminal, words_by_role}
@@ -151,7 +151,7 @@ module _ (limits : Limits) (typed : Row Located TypedConstantTree) where
   packed_constant : (xs : List TypedConstantTree) (ps : List Phrase) → EachPrinted typed unplaced_typed xs ps → IsPrinted (packed_constant_row typed) unplaced_constant (ListConstant nowhere brackets.Packed (constants xs)) (in_brackets Packed ps)
   packed_constant xs ps h =
       printed_mapped (λ v. ListConstant v.0 brackets.Packed (constants v.1)) unplaced_constant (λ v. ListConstant v.0 brackets.Packed (constants v.1)) (λ v. ap (λ cs. ListConstant nowhere brackets.Packed cs) (unplaced_list v.1))
-      (printed_pair opened_less printed_less (printed_braced_second (elements_row typed) (map unplaced_typed) xs ps (second (word terminals.CloseBrace) (word terminals.Greater)) (mark (codes "}") ⌢ mark (codes ">")) (printed_elements xs ps h) packed_end))
+      (printed_pair opened_less printed_less (printed_braced_second (elements_row typed) (map unplaced_typed) xs ps (keep_second (word terminals.CloseBrace) (word terminals.Greater)) (mark (codes "}") ⌢ mark (codes ">")) (printed_elements xs ps h) packed_end))
 
   printed_operands : (x : TypedConstantTree) (xs : List TypedConstantTree) (p : Phrase) (ps : List Phrase) → IsPrinted typed unplaced_typed x p → EachPrinted typed unplaced_typed xs ps → IsPrinted (operands_row typed) (map unplaced_typed) (x ∷ xs) (with_more p ps)
   unfolding operands_core

@@ -186,7 +186,7 @@ module _ (limits : Limits) where
   defined : (f : Function) (bs : List Block) → AreParameterTexts limits.nesting f.parameters → is_not_empty bs ≡ true → AreBlockTexts limits.nesting bs → IsPrinted {X = (List ParameterTree × Bool) × List BlockTree} (defined_row limits) (λ w. (parts_by unplaced_parameter w.0, map unplaced_block w.1)) ((map parameter_tree f.parameters, false), map block_tree bs) (in_parentheses (listed (map parameter_phrase f.parameters)) ␣ body_of_blocks bs)
   unfolding defined_core
   defined f bs h some k =
-      printed_labelled parameters_shape (printed_pair spaced (parameters limits.wide (plain_list limits.wide (map parameter_tree f.parameters) (map parameter_phrase f.parameters) (named_parameters f.parameters h))) (body bs some k))
+      printed_labelled parameters_shape (printed_pair spaced (parameters limits.with_left_out (plain_list limits.with_left_out (map parameter_tree f.parameters) (map parameter_phrase f.parameters) (named_parameters f.parameters h))) (body bs some k))
 
   pub printed_declaration : (f : Function) → IsNameText f.name → IsTypeText f.returns limits.nesting → AreParameterTexts limits.nesting f.parameters → IsPrinted (declaration_row limits) unplaced (function_item_by f None) (function_phrase_by f None)
   printed_declaration f n t h =

@@ -2,7 +2,7 @@
 use Rattle.std.proofs.Common.{List, [], ◌∷◌, ◌++◌, map, Option, Some, None, codes, refl}
 use Rattle.ir_lexer.specs.Ahead.{Located}
 use Rattle.ir_lexer.specs.Pieces.{Line}
-use Rattle.phrase_rows.specs.Row.{Row, pair, before, second, alt, mapped}
+use Rattle.phrase_rows.specs.Row.{Row, pair, keep_first, keep_second, alt, mapped}
 use Rattle.ir_terminals.specs.Role.{class}
 use Rattle.ir_terminals.specs.Tokens.{word, quoted_row}
 use Rattle.ir_terminals.specs.declared.terminal.Terminal.TheVariants as terminals
@@ -50,7 +50,7 @@ module _ (limits : Limits) where
   from_struct = alt class (struct_row limits) from_global
 
   abbrev to_target : Row Located ItemTree
-  to_target = second (word terminals.Target) target_row
+  to_target = keep_second (word terminals.Target) target_row
 
   abbrev from_target : Row Located ItemTree
   from_target = alt class to_target from_struct
@@ -90,13 +90,13 @@ module _ (limits : Limits) where
 
   of_layout : (bytes : Bytes) → AreBytes bytes → IsPrinted (item_row limits) unplaced (DataLayout nowhere (record { text = bytes; place = nowhere })) ((phrase.word (codes "target") ␣ phrase.word (codes "datalayout")) ␣ mark (codes "=") ␣ names.text bytes)
   of_layout bytes h =
-      target (printed_second spaced printed_target (printed_left (mapped (λ v. TargetTriple v.0 v.1) (pair (before (word terminals.Triple) (word terminals.Equals)) quoted_row))
+      target (printed_second spaced printed_target (printed_left (mapped (λ v. TargetTriple v.0 v.1) (pair (keep_first (word terminals.Triple) (word terminals.Equals)) quoted_row))
       (printed_mapped (λ v. DataLayout v.0 v.1) unplaced (λ v. DataLayout v.0 v.1) (λ v. refl)
       (printed_pair spaced (printed_before spaced printed_datalayout printed_equals) (printed_text bytes h)))))
 
   of_triple : (bytes : Bytes) → AreBytes bytes → IsPrinted (item_row limits) unplaced (TargetTriple nowhere (record { text = bytes; place = nowhere })) ((phrase.word (codes "target") ␣ phrase.word (codes "triple")) ␣ mark (codes "=") ␣ names.text bytes)
   of_triple bytes h =
-      target (printed_second spaced printed_target (printed_right (mapped (λ v. DataLayout v.0 v.1) (pair (before (word terminals.DataLayout) (word terminals.Equals)) quoted_row))
+      target (printed_second spaced printed_target (printed_right (mapped (λ v. DataLayout v.0 v.1) (pair (keep_first (word terminals.DataLayout) (word terminals.Equals)) quoted_row))
       (printed_mapped (λ v. TargetTriple v.0 v.1) unplaced (λ v. TargetTriple v.0 v.1) (λ v. refl)
       (printed_pair spaced (printed_before spaced printed_triple printed_equals) (printed_text bytes h)))))
 

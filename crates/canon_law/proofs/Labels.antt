@@ -23,7 +23,7 @@ use Rattle.ir_terminals.specs.Values.{placed_name, placed_text, label_of, text_o
 use Rattle.ir_terminals.specs.declared.terminal.Terminal.TheVariants as terminals
 use Rattle.ir_terminals.specs.declared.values.Local.TheVariants as locals
 use Rattle.module_arena.specs.Module.{LocalName, Named, Numbered}
-use Rattle.name_rules.specs.Spelled.{decimal, quoted_byte, spelled}
+use Rattle.name_rules.specs.Spelled.{decimal, quoted_byte, name_spelling}
 use Rattle.canonical.specs.Names as names
 use Rattle.canonical.specs.Names.{quoted}
 use Rattle.canon_items.specs.Unplaced.{nowhere, unplaced_text, unplaced_local}
@@ -102,8 +102,8 @@ pub printed_label : (name : LocalName) → IsLocalText name → IsPrinted label_
 unfolding terminal
 printed_label (Named name) h =
     let s = spelling_of name h in
-    printed_one (code terminals.Label ∷ []) label_of unplaced_local (local_tree (Named name)) kind.Label (spelled name ++ 58 ∷ []) (label_token name (spelled name) s) refl
-    (λ place. (locals.Named (placed_name place name), rw (no_number name (spelled name) s) (ap (λ n. option_map locals.Named (option_map (placed_name place) n)) (label_back name (spelled name) s)), refl))
+    printed_one (code terminals.Label ∷ []) label_of unplaced_local (local_tree (Named name)) kind.Label (name_spelling name ++ 58 ∷ []) (label_token name (name_spelling name) s) refl
+    (λ place. (locals.Named (placed_name place name), rw (no_number name (name_spelling name) s) (ap (λ n. option_map locals.Named (option_map (placed_name place) n)) (label_back name (name_spelling name) s)), refl))
 printed_label (Numbered n) h =
     printed_one (code terminals.Label ∷ []) label_of unplaced_local (local_tree (Numbered n)) kind.Label (decimal n ++ 58 ∷ []) (number_label (decimal n) (decimal_some n) (decimal_digits n)) refl
     (λ place. (locals.Numbered n place, rw (bare_label (decimal n)) (rw (digits_each is_digit refl (decimal n) (decimal_digits n)) (ap (λ m. Some (locals.Numbered m place)) (decimal_back n))), refl))

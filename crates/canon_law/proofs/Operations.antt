@@ -8,7 +8,7 @@ use Rattle.ir_tables.specs.declared.opcode.Opcode.{Opcode}
 use Rattle.ir_tables.specs.declared.opcode.Opcode.TheVariants as op
 use Rattle.ir_tables.specs.declared.predicate.Predicate.{Predicate}
 use Rattle.ir_tables.specs.declared.predicate.Predicate.TheVariants as predicates
-use Rattle.phrase_rows.specs.Row.{among, pair, second, mapped, nothing}
+use Rattle.phrase_rows.specs.Row.{among, pair, keep_second, mapped, nothing}
 use Rattle.ir_terminals.specs.Role.{terminal}
 use Rattle.ir_terminals.specs.Terminal.{predicate_class}
 use Rattle.ir_terminals.specs.Tokens.{word, integer_row, predicate_row}
@@ -194,7 +194,7 @@ module _ (limits : Limits) where
   count : (c : Option Operand) (n : Option ℕ) → IsCountText limits.nesting c → IsAlignmentText n → (p : Phrase) → (behind : Phrase) × Joins p behind (counted p c n) × IsPrinted {X = Option TypedValueTree × Option Integer} (count_row limits) (λ w. (option_map unplaced_operand w.0, option_map unplaced_integer w.1)) (option_map operand_tree c, option_map natural n) behind
   unfolding count_core
   count None None h k p =
-      (none, right_none, printed_labelled commas_shape (printed_right (second (word terminals.Comma) (count_behind_row limits)) (printed_nothing (λ w. (option_map unplaced_operand w.0, option_map unplaced_integer w.1)) (None, None))))
+      (none, right_none, printed_labelled commas_shape (printed_right (keep_second (word terminals.Comma) (count_behind_row limits)) (printed_nothing (λ w. (option_map unplaced_operand w.0, option_map unplaced_integer w.1)) (None, None))))
   count None (Some n) h k p = (
     comma ␣ phrase.word (codes "align") ␣ names.natural n,
     tight (starts_comma (phrase.word (codes "align") ␣ names.natural n)),

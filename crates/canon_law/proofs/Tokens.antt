@@ -26,9 +26,9 @@ use Rattle.ir_terminals.specs.declared.values.Local.TheVariants as locals
 use Rattle.ir_lexer.proofs.Rows.{name_quote}
 use Rattle.ir_lexer.proofs.Runs.{each_first}
 use Rattle.ir_terminals.specs.declared.terminal.Terminal.TheVariants as terminals
-use Rattle.ir_constants.specs.Placed.{placed, placed_by}
+use Rattle.ir_constants.specs.Placed.{token_with_place, placed_by}
 use Rattle.module_arena.specs.Module.{LocalName, Named, Numbered}
-use Rattle.name_rules.specs.Spelled.{decimal, is_identifier, quoted_byte, spelled}
+use Rattle.name_rules.specs.Spelled.{decimal, is_identifier, quoted_byte, name_spelling}
 use Rattle.canonical.specs.Phrase as phrase
 use Rattle.canonical.specs.Names as names
 use Rattle.canon_items.specs.Unplaced.{nowhere, no_place, unplaced_integer, unplaced_name, unplaced_local}
@@ -99,7 +99,7 @@ word_of_digits : (ds : List ℕ) → AreDigits ds → IsToken kind.Word (105 ∷
 unfolding byte_class
 word_of_digits ds d = record { row = table.Word; kind_is = refl; spelled = (refl, digits_each in_word refl ds d) }
 
-pub printed_width : (n : ℕ) → 1 ≤ n → n ≤ 128 → IsPrinted {X = ℕ × Place} (placed (integer_type_class ∷ []) width_of_type) (λ v. (v.0, no_place v.1)) (n, nowhere) (phrase.word (105 ∷ decimal n))
+pub printed_width : (n : ℕ) → 1 ≤ n → n ≤ 128 → IsPrinted {X = ℕ × Place} (token_with_place (integer_type_class ∷ []) width_of_type) (λ v. (v.0, no_place v.1)) (n, nowhere) (phrase.word (105 ∷ decimal n))
 printed_width n low high =
     printed_one (integer_type_class ∷ []) (placed_by width_of_type) (λ v. (v.0, no_place v.1)) (n, nowhere) kind.Word (105 ∷ decimal n) (word_of_digits (decimal n) (decimal_digits n))
     (rw (width_terminal n low high) refl) (λ place. ((n, place), rw (width_terminal n low high) refl, refl))
@@ -132,7 +132,7 @@ bare_spelling : (name : List ℕ) → is_identifier name ≡ true → NameSpelli
 bare_spelling [] e = absurd cc
 bare_spelling (x ∷ rest) e = let w = and_parts (starts_name (byte_class x)) (each in_name (x ∷ rest)) e in Bare x rest refl w.0 (each_first in_name x rest w.1).1
 
-pub spelling_of : (name : List ℕ) → IsNameText name → NameSpelling name (spelled name)
+pub spelling_of : (name : List ℕ) → IsNameText name → NameSpelling name (name_spelling name)
 spelling_of name h = elim (bool_cases (is_identifier name)) [ inl e ↦ rw e (bare_spelling name e) | inr e ↦ rw e (InQuotes (quoted_name name h) h.bytes) ]
 
 pub starts_unquoted : (c : Class) → starts_name c ≡ true → is_quote c ≡ false
@@ -163,15 +163,15 @@ local_back name _ (InQuotes t b) = ap (decode Plain) (between (37 ∷ []) (flat_
 pub printed_global : (name : List ℕ) → IsNameText name → IsPrinted global_name_row unplaced_name (name_tree name) (names.global name)
 unfolding terminal
 printed_global name h =
-    printed_one (code terminals.GlobalName ∷ []) name_of_global unplaced_name (name_tree name) kind.GlobalName (64 ∷ spelled name) (global_token name (spelled name) (spelling_of name h)) refl
-    (λ place. (placed_name place name, ap (option_map (placed_name place)) (global_back name (spelled name) (spelling_of name h)), refl))
+    printed_one (code terminals.GlobalName ∷ []) name_of_global unplaced_name (name_tree name) kind.GlobalName (64 ∷ name_spelling name) (global_token name (name_spelling name) (spelling_of name h)) refl
+    (λ place. (placed_name place name, ap (option_map (placed_name place)) (global_back name (name_spelling name) (spelling_of name h)), refl))
 
 -- %name, of a struct
 pub printed_named_local : (limits : Limits) (name : List ℕ) → IsNameText name → IsPrinted (named_local_row limits) unplaced_name (name_tree name) (names.named_local name)
 unfolding terminal
 printed_named_local limits name h =
-    printed_one (code terminals.Local ∷ []) (named_local_of limits.wide) unplaced_name (name_tree name) kind.LocalName (37 ∷ spelled name) (local_token name (spelled name) (spelling_of name h)) refl
-    (λ place. (placed_name place name, ap (option_map (placed_name place)) (local_back name (spelled name) (spelling_of name h)), refl))
+    printed_one (code terminals.Local ∷ []) (named_local_of limits.wide) unplaced_name (name_tree name) kind.LocalName (37 ∷ name_spelling name) (local_token name (name_spelling name) (spelling_of name h)) refl
+    (λ place. (placed_name place name, ap (option_map (placed_name place)) (local_back name (name_spelling name) (spelling_of name h)), refl))
 
 -- %number
 number_token : (ds : List ℕ) → 0 < length ds → AreDigits ds → IsToken kind.UnnamedLocal (37 ∷ ds)
@@ -183,8 +183,8 @@ number_token (y ∷ ds) s (k, lt, is, d) = record { row = table.UnnamedLocal; ki
 pub printed_local : (name : LocalName) → IsLocalText name → IsPrinted local_row unplaced_local (local_tree name) (names.local name)
 unfolding terminal
 printed_local (Named name) h =
-    printed_one (code terminals.Local ∷ []) local_of unplaced_local (local_tree (Named name)) kind.LocalName (37 ∷ spelled name) (local_token name (spelled name) (spelling_of name h)) refl
-    (λ place. (locals.Named (placed_name place name), ap (λ n. option_map locals.Named (option_map (placed_name place) n)) (local_back name (spelled name) (spelling_of name h)), refl))
+    printed_one (code terminals.Local ∷ []) local_of unplaced_local (local_tree (Named name)) kind.LocalName (37 ∷ name_spelling name) (local_token name (name_spelling name) (spelling_of name h)) refl
+    (λ place. (locals.Named (placed_name place name), ap (λ n. option_map locals.Named (option_map (placed_name place) n)) (local_back name (name_spelling name) (spelling_of name h)), refl))
 printed_local (Numbered n) h =
     printed_one (code terminals.Local ∷ []) local_of unplaced_local (local_tree (Numbered n)) kind.UnnamedLocal (37 ∷ decimal n) (number_token (decimal n) (decimal_some n) (decimal_digits n)) refl
     (λ place. (locals.Numbered n place, ap (λ m. Some (locals.Numbered m place)) (decimal_back n), refl))

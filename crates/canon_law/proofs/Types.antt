@@ -3,7 +3,7 @@ use Rattle.std.proofs.Common.{◌≡◌, ℕ, zero, suc, ◌^◌, ◌<◌, List,
 use Rattle.ir_base.specs.declared.place.Place.{Place}
 use Rattle.ir_lexer.specs.Ahead.{Located}
 use Rattle.ir_lexer.specs.Class.{byte_class}
-use Rattle.phrase_rows.specs.Row.{Row, pair, before, second, alt}
+use Rattle.phrase_rows.specs.Row.{Row, pair, keep_first, keep_second, alt}
 use Rattle.ir_terminals.specs.Role.{class}
 use Rattle.ir_terminals.specs.Tokens.{word}
 use Rattle.ir_terminals.specs.declared.terminal.Terminal.TheVariants as terminals
@@ -82,15 +82,15 @@ module _ {X : Type 0} (limits : Limits) (d : ℕ) {e : TypeTree → X} {x : X} {
   inside_nest h = printed_labelled nest_shape h
 
 -- braces, with one space inside where there is something in them
-pub printed_braced : {A X : Type 0} (q : Row Located (List A)) (e : List A → X) (x : X) (ps : List Phrase) (closing : Row Located Place) (end_phrase : Phrase) → IsPrinted q e x (listed ps) → IsPrinted closing no_place nowhere end_phrase → IsPrinted {X = Place × X} (pair (word terminals.OpenBrace) (before q closing)) (λ v. (no_place v.0, e v.1)) (nowhere, x) (braced ps end_phrase)
+pub printed_braced : {A X : Type 0} (q : Row Located (List A)) (e : List A → X) (x : X) (ps : List Phrase) (closing : Row Located Place) (end_phrase : Phrase) → IsPrinted q e x (listed ps) → IsPrinted closing no_place nowhere end_phrase → IsPrinted {X = Place × X} (pair (word terminals.OpenBrace) (keep_first q closing)) (λ v. (no_place v.0, e v.1)) (nowhere, x) (braced ps end_phrase)
 printed_braced q e x [] closing end_phrase h k = printed_pair opened_brace printed_open_brace (printed_before left_none h k)
 printed_braced q e x (p ∷ ps) closing end_phrase h k = printed_pair spaced printed_open_brace (printed_before spaced h k)
 
-pub printed_braced_second : {A X : Type 0} (q : Row Located (List A)) (e : List A → X) (x : X) (ps : List Phrase) (closing : Row Located Place) (end_phrase : Phrase) → IsPrinted q e x (listed ps) → IsPrinted closing no_place nowhere end_phrase → IsPrinted (second (word terminals.OpenBrace) (before q closing)) e x (braced ps end_phrase)
+pub printed_braced_second : {A X : Type 0} (q : Row Located (List A)) (e : List A → X) (x : X) (ps : List Phrase) (closing : Row Located Place) (end_phrase : Phrase) → IsPrinted q e x (listed ps) → IsPrinted closing no_place nowhere end_phrase → IsPrinted (keep_second (word terminals.OpenBrace) (keep_first q closing)) e x (braced ps end_phrase)
 printed_braced_second q e x [] closing end_phrase h k = printed_second opened_brace printed_open_brace (printed_before left_none h k)
 printed_braced_second q e x (p ∷ ps) closing end_phrase h k = printed_second spaced printed_open_brace (printed_before spaced h k)
 
-pub packed_end : IsPrinted (second (word terminals.CloseBrace) (word terminals.Greater)) no_place nowhere (mark (codes "}") ⌢ mark (codes ">"))
+pub packed_end : IsPrinted (keep_second (word terminals.CloseBrace) (word terminals.Greater)) no_place nowhere (mark (codes "}") ⌢ mark (codes ">"))
 packed_end = printed_second (tight starts_greater) printed_close_brace printed_greater
 
 unplaced_list : (ts : List TypeTree) → unplaced_types (types ts) ≡ types (map unplaced_type ts)
@@ -119,7 +119,7 @@ module _ (t : Row Located TypeTree) where
   printed_packed : (xs : List TypeTree) (ps : List Phrase) → EachPrinted t unplaced_type xs ps → IsPrinted (packed_row t) unplaced_type (StructType nowhere true (types xs)) (in_braces true ps)
   printed_packed xs ps h =
       printed_mapped (λ v. StructType v.0 true (types v.1)) unplaced_type (λ v. StructType v.0 true (types v.1)) (λ v. ap (λ us. StructType nowhere true us) (unplaced_list v.1))
-      (printed_pair opened_less printed_less (printed_braced_second (types_row t) (map unplaced_type) xs ps (second (word terminals.CloseBrace) (word terminals.Greater)) (mark (codes "}") ⌢ mark (codes ">")) (printed_types xs ps h) packed_end))
+      (printed_pair opened_less printed_less (printed_braced_second (types_row t) (map unplaced_type) xs ps (keep_second (word terminals.CloseBrace) (word terminals.Greater)) (mark (codes "}") ⌢ mark (codes ">")) (printed_types xs ps h) packed_end))
 
 -- what holds of a type in a bracket
 pub inside_bracket : (P Q : ℕ → Type 0) (R : ℕ → Type 0) (depth : ℕ) → Inside depth P → ((d : ℕ) → P d → Q d) → ((d : ℕ) → Q d → R (suc d)) → R depth

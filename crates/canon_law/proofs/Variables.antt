@@ -3,7 +3,7 @@ use Rattle.std.proofs.Common.{◌≡◌, ℕ, suc, map, Bool, true, false, Optio
 use Rattle.ir_lexer.specs.Ahead.{Located}
 use Rattle.ir_tables.specs.declared.linkage.Linkage.{Linkage}
 use Rattle.ir_tables.specs.declared.linkage.Linkage.TheVariants as linkages
-use Rattle.phrase_rows.specs.Row.{Row, labelled, second, pair, alt, mapped}
+use Rattle.phrase_rows.specs.Row.{Row, labelled, keep_second, pair, alt, mapped}
 use Rattle.ir_terminals.specs.Role.{class}
 use Rattle.ir_terminals.specs.Tokens.{word}
 use Rattle.ir_terminals.specs.declared.terminal.Terminal.TheVariants as terminals
@@ -68,7 +68,7 @@ printed_body limits (fields true ts) h =
     printed_right opaque_row (printed_right (plain_body_row limits)
     (printed_mapped PackedBody unplaced_body PackedBody (λ v. refl)
     (printed_second opened_less printed_less
-    (printed_braced_second (fields_row limits) (map unplaced_type) (type_list ts) (type_phrases ts) (second (word terminals.CloseBrace) (word terminals.Greater)) (mark (codes "}") ⌢ mark (codes ">")) (printed_fields limits ts h) packed_end))))
+    (printed_braced_second (fields_row limits) (map unplaced_type) (type_list ts) (type_phrases ts) (keep_second (word terminals.CloseBrace) (word terminals.Greater)) (mark (codes "}") ⌢ mark (codes ">")) (printed_fields limits ts h) packed_end))))
 
 pub printed_struct : (limits : Limits) (s : Bytes × TreeBody) → IsNameText s.0 → IsBodyOfStruct limits.nesting s.1 → IsPrinted (struct_row limits) unplaced (struct_item s) (struct_phrase s)
 printed_struct limits s n h =

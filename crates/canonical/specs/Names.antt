@@ -2,7 +2,7 @@
 use Rattle.std.specs.Prelude.{ℕ, ◌-◌, ◌^◌, nat_lt, List, [], ◌∷◌, ◌++◌, flat_map, if◌then◌else◌}
 use Rattle.ir_lexer.specs.declared.token.TokenKind.TheVariants as kind
 use Rattle.module_arena.specs.Module.{Bytes, LocalName, Named, Numbered}
-use Rattle.name_rules.specs.Spelled.{decimal, quoted_byte, spelled, spelled_global, spelled_struct}
+use Rattle.name_rules.specs.Spelled.{decimal, quoted_byte, name_spelling, spelled_global, spelled_struct}
 use Rattle.canonical.specs.Phrase.{Phrase, token, number}
 
 -- bytes between quotes
@@ -24,7 +24,7 @@ local (Numbered n) = token kind.UnnamedLocal (37 ∷ decimal n)
 
 -- a name or a number with no mark before it
 abbrev pub label_spelling : LocalName → List ℕ
-label_spelling (Named name) = spelled name
+label_spelling (Named name) = name_spelling name
 label_spelling (Numbered n) = decimal n
 
 -- name: or number:

@@ -6,15 +6,15 @@ use Rattle.command_line.specs.declared.command.UsageKind.{UsageKind}
 use Rattle.command_line.specs.declared.command.UsageKind.TheVariants.{UnknownOption, MissingValue, BadNumber, Repeated, TooManyFiles, NoFile}
 use Rattle.command_line.specs.declared.command.WordsFault.{WordsFault}
 use Rattle.command_line.specs.declared.command.WordsFault.TheVariants as faults
-use Rattle.command_line.specs.declared.given.Given.{Given}
+use Rattle.command_line.specs.declared.given.GivenWords.{GivenWords}
 use Rattle.command_line.specs.declared.tool.Tool.{Tool}
-use Rattle.command_line.specs.declared.options.Flag.{Flag}
-use Rattle.command_line.specs.declared.options.Flag.TheVariants as flags
+use Rattle.command_line.specs.declared.options.PlainOption.{PlainOption}
+use Rattle.command_line.specs.declared.options.PlainOption.TheVariants as flags
 use Rattle.command_line.specs.declared.options.Setting.{Setting}
 use Rattle.command_line.specs.declared.options.Setting.TheVariants as settings
 use Rattle.command_line.specs.Options as options
 use Rattle.command_line.specs.Tools.{takes_one, needs_file}
-use Rattle.command_line.specs.Options.{Spelled, spelled, is_dash}
+use Rattle.command_line.specs.Options.{Spelled, word_spelling, is_dash}
 use Rattle.command_line.specs.Numbers.{is_number}
 use Rattle.command_line.specs.Roles.{Role, Unknown, Lone, Full, Open, Value, Marker, Input, Argument, role, role_by, awaited, others, is_empty, is_program, is_marked, values, has_dash}
 use Rattle.command_line.specs.Reading.{Wrong, Fails, nothing_given, given_by, first_kind, scan_by, scan, turn, turn_by, spelled_turn, taking, with_setting, with_flag, with_output, with_steps}
@@ -24,7 +24,7 @@ first [] = None
 first (word ∷ words) = Some word
 
 -- the scan goes on behind n words
-pub record After (tool : Tool) (before : List Role) (words : List (List ℕ)) (given : Given) (n : ℕ) : Type 0 where
+pub record After (tool : Tool) (before : List Role) (words : List (List ℕ)) (given : GivenWords) (n : ℕ) : Type 0 where
   pub after : List Role
   pub gives : given ≡ given_by tool after
   pub count : length after ≡ length before + n
@@ -33,7 +33,7 @@ pub record After (tool : Tool) (before : List Role) (words : List (List ℕ)) (g
   pub enough : n ≤ length words
   pub same : scan tool before words ≡ scan tool after (drop n words)
 
-abbrev pub Turned : Tool → List Role → List (List ℕ) → Result (Given × ℕ) Wrong → Type 0
+abbrev pub Turned : Tool → List Role → List (List ℕ) → Result (GivenWords × ℕ) Wrong → Type 0
 Turned tool before words (Ok (given, count)) = After tool before words given count
 Turned tool before words (Err wrong) = scan tool before words ≡ Err wrong
 
@@ -47,7 +47,7 @@ refused tool before word behind r kind e f = scan_step tool before word behind r
 passed : (tool : Tool) (before : List Role) (word : List ℕ) (behind : List (List ℕ)) (r : Role) → role tool before word ≡ r → first_kind tool before r behind ≡ None → scan tool before (word ∷ behind) ≡ scan tool (r ∷ before) behind
 passed tool before word behind r e f = scan_step tool before word behind r e ∙ ap (λ f. scan_by f (1 + length before) (scan tool (r ∷ before) behind)) f
 
-one_more : (tool : Tool) (before : List Role) (word : List ℕ) (behind : List (List ℕ)) (r : Role) (given : Given) → role tool before word ≡ r → first_kind tool before r behind ≡ None → awaited (r ∷ before) ≡ None → given ≡ given_by tool (r ∷ before) → After tool before (word ∷ behind) given 1
+one_more : (tool : Tool) (before : List Role) (word : List ℕ) (behind : List (List ℕ)) (r : Role) (given : GivenWords) → role tool before word ≡ r → first_kind tool before r behind ≡ None → awaited (r ∷ before) ≡ None → given ≡ given_by tool (r ∷ before) → After tool before (word ∷ behind) given 1
 one_more tool before word behind r given e f free gives = record {
   after = r ∷ before;
   gives = gives;
@@ -59,7 +59,7 @@ one_more tool before word behind r given e f free gives = record {
 }
 
 -- an option and the next word
-two_more : (tool : Tool) (before : List Role) (word value : List ℕ) (behind : List (List ℕ)) (s : Setting) (given : Given) → role tool before word ≡ Open s → first_kind tool before (Open s) (value ∷ behind) ≡ None → first_kind tool (Open s ∷ before) (Value s value) behind ≡ None → given ≡ given_by tool (Value s value ∷ Open s ∷ before) → After tool before (word ∷ value ∷ behind) given 2
+two_more : (tool : Tool) (before : List Role) (word value : List ℕ) (behind : List (List ℕ)) (s : Setting) (given : GivenWords) → role tool before word ≡ Open s → first_kind tool before (Open s) (value ∷ behind) ≡ None → first_kind tool (Open s ∷ before) (Value s value) behind ≡ None → given ≡ given_by tool (Value s value ∷ Open s ∷ before) → After tool before (word ∷ value ∷ behind) given 2
 two_more tool before word value behind s given e f f' gives = record {
   after = Value s value ∷ Open s ∷ before;
   gives = gives;
@@ -75,7 +75,7 @@ turn_input tool before word behind e true surplus t s = refused tool before word
 turn_input tool before word behind e false true t s = refused tool before word behind (Input word) TooManyFiles e (rw (t, s) refl)
 turn_input tool before word behind e false false t s = one_more tool before word behind (Input word) _ e (rw (t, s) refl) refl refl
 
-turn_flag : (tool : Tool) (before : List Role) (word : List ℕ) (behind : List (List ℕ)) (s : Flag) → role tool before word ≡ Lone s → After tool before (word ∷ behind) (with_flag (given_by tool before) s) 1
+turn_flag : (tool : Tool) (before : List Role) (word : List ℕ) (behind : List (List ℕ)) (s : PlainOption) → role tool before word ≡ Lone s → After tool before (word ∷ behind) (with_flag (given_by tool before) s) 1
 turn_flag tool before word behind flags.Text e = one_more tool before word behind (Lone flags.Text) _ e refl refl refl
 turn_flag tool before word behind flags.Delete e = one_more tool before word behind (Lone flags.Delete) _ e refl refl refl
 turn_flag tool before word behind flags.Recursive e = one_more tool before word behind (Lone flags.Recursive) _ e refl refl refl
@@ -190,18 +190,18 @@ turned_by tool before word behind false false options.Input e = turn_input tool 
 pub turned : (tool : Tool) (before : List Role) (word : List ℕ) (behind : List (List ℕ)) → awaited before ≡ None → Turned tool before (word ∷ behind) (turn (given_by tool before) word (first behind) (1 + length before))
 unfolding turn
 turned tool before word behind free =
-    turned_by tool before word behind _ _ _ (ap (λ a. role_by a (is_program tool (is_empty (others before))) (is_marked before) (spelled tool word) word) free)
+    turned_by tool before word behind _ _ _ (ap (λ a. role_by a (is_program tool (is_empty (others before))) (is_marked before) (word_spelling tool word) word) free)
 
 -- The loop.
 
-pub record Stands (tool : Tool) (words : List (List ℕ)) (given : Given) (at : ℕ) : Type 0 where
+pub record Stands (tool : Tool) (words : List (List ℕ)) (given : GivenWords) (at : ℕ) : Type 0 where
   pub before : List Role
   pub gives : given ≡ given_by tool before
   pub count : at ≡ 1 + length before
   pub free : awaited before ≡ None
   pub rest : scan tool before (drop at words) ≡ scan tool [] (drop 1 words)
 
-pub stands_first : (tool : Tool) (words : List (List ℕ)) (given : Given) → given ≡ nothing_given tool → Stands tool words given 1
+pub stands_first : (tool : Tool) (words : List (List ℕ)) (given : GivenWords) → given ≡ nothing_given tool → Stands tool words given 1
 stands_first tool words given e = record { before = []; gives = e; count = refl; free = refl; rest = refl }
 
 slice_get-first : (words : List (List ℕ)) (i : ℕ) → slice_get words i ≡ first (drop i words)
@@ -211,7 +211,7 @@ slice_get-first (w ∷ ws) zero = refl
 slice_get-first (w ∷ ws) (suc i) = slice_get-first ws i
 
 -- what the code does at one turn, by what the scan does
-turned_here : (tool : Tool) (words : List (List ℕ)) (given : Given) (at : ℕ) (word : List ℕ) (next : Option (List ℕ)) (reading : Result (Given × ℕ) Wrong) → at < length words → word ≡ get_or words at word → next ≡ slice_get words (at + 1) → (s : Stands tool words given at) → turn given word next at ≡ reading → Turned tool s.before (drop at words) reading
+turned_here : (tool : Tool) (words : List (List ℕ)) (given : GivenWords) (at : ℕ) (word : List ℕ) (next : Option (List ℕ)) (reading : Result (GivenWords × ℕ) Wrong) → at < length words → word ≡ get_or words at word → next ≡ slice_get words (at + 1) → (s : Stands tool words given at) → turn given word next at ≡ reading → Turned tool s.before (drop at words) reading
 turned_here tool words given at word next reading h w n s r =
     let t = turned tool s.before word (drop (at + 1) words) s.free in
     let gives = s.gives in
@@ -221,10 +221,10 @@ turned_here tool words given at word next reading h w n s r =
     let here : drop at words ≡ word ∷ drop (at + 1) words = drop_more words at word h ∙ ap (λ x. x ∷ drop (at + 1) words) (sym w) in
     rw here (rw same at t)
 
-pub turn_fails : (tool : Tool) (words : List (List ℕ)) (given : Given) (at : ℕ) (word : List ℕ) (next : Option (List ℕ)) (wrong : Wrong) → at < length words → word ≡ get_or words at word → next ≡ slice_get words (at + 1) → Stands tool words given at → turn given word next at ≡ Err wrong → scan tool [] (drop 1 words) ≡ Err wrong
+pub turn_fails : (tool : Tool) (words : List (List ℕ)) (given : GivenWords) (at : ℕ) (word : List ℕ) (next : Option (List ℕ)) (wrong : Wrong) → at < length words → word ≡ get_or words at word → next ≡ slice_get words (at + 1) → Stands tool words given at → turn given word next at ≡ Err wrong → scan tool [] (drop 1 words) ≡ Err wrong
 turn_fails tool words given at word next wrong h w n s r = sym s.rest ∙ turned_here tool words given at word next (Err wrong) h w n s r
 
-pub turn_stands : (tool : Tool) (words : List (List ℕ)) (given now : Given) (at : ℕ) (word : List ℕ) (next : Option (List ℕ)) (count : ℕ) → at < length words → word ≡ get_or words at word → next ≡ slice_get words (at + 1) → Stands tool words given at → turn given word next at ≡ Ok (now, count) → Stands tool words now (at + count)
+pub turn_stands : (tool : Tool) (words : List (List ℕ)) (given now : GivenWords) (at : ℕ) (word : List ℕ) (next : Option (List ℕ)) (count : ℕ) → at < length words → word ≡ get_or words at word → next ≡ slice_get words (at + 1) → Stands tool words given at → turn given word next at ≡ Ok (now, count) → Stands tool words now (at + count)
 turn_stands tool words given now at word next count h w n s r =
     let a = turned_here tool words given at word next (Ok (now, count)) h w n s r in
     record {
@@ -235,7 +235,7 @@ turn_stands tool words given now at word next count h w n s r =
       rest = rw (← drop-drop count at words) (sym a.same ∙ s.rest);
     }
 
-pub turn_moves : (tool : Tool) (words : List (List ℕ)) (given now : Given) (at : ℕ) (word : List ℕ) (next : Option (List ℕ)) (count : ℕ) → at < length words → word ≡ get_or words at word → next ≡ slice_get words (at + 1) → Stands tool words given at → turn given word next at ≡ Ok (now, count) → (at < at + count) × (at + count ≤ length words)
+pub turn_moves : (tool : Tool) (words : List (List ℕ)) (given now : GivenWords) (at : ℕ) (word : List ℕ) (next : Option (List ℕ)) (count : ℕ) → at < length words → word ≡ get_or words at word → next ≡ slice_get words (at + 1) → Stands tool words given at → turn given word next at ≡ Ok (now, count) → (at < at + count) × (at + count ≤ length words)
 turn_moves tool words given now at word next count h w n s r =
     let a = turned_here tool words given at word next (Ok (now, count)) h w n s r in
     let some = a.some in
@@ -246,21 +246,21 @@ scan_end : (tool : Tool) (before : List Role) (b : Bool) → (needs_file tool &&
 unfolding scan
 scan_end tool before b e = ap (λ b. cond b (Err (NoFile, 1 + length before)) (Ok before)) e
 
-stands_end : (tool : Tool) (words : List (List ℕ)) (given : Given) (at : ℕ) (b : Bool) → at ≡ length words → (s : Stands tool words given at) → (needs_file given.tool && is_empty given.others) ≡ b → scan tool [] (drop 1 words) ≡ cond b (Err (NoFile, length words)) (Ok s.before)
+stands_end : (tool : Tool) (words : List (List ℕ)) (given : GivenWords) (at : ℕ) (b : Bool) → at ≡ length words → (s : Stands tool words given at) → (needs_file given.tool && is_empty given.others) ≡ b → scan tool [] (drop 1 words) ≡ cond b (Err (NoFile, length words)) (Ok s.before)
 stands_end tool words given at b h s e =
     let gives = s.gives in
-    let lacks : (needs_file tool && is_empty (others s.before)) ≡ b = ap (λ (g : Given). needs_file g.tool && is_empty g.others) (sym gives) ∙ e in
+    let lacks : (needs_file tool && is_empty (others s.before)) ≡ b = ap (λ (g : GivenWords). needs_file g.tool && is_empty g.others) (sym gives) ∙ e in
     let none : drop at words ≡ [] = rw h (drop_all (length words) words (omega arith)) in
     let place : 1 + length s.before ≡ length words = let c = s.count in omega arith in
     sym s.rest ∙ ap (scan tool s.before) none ∙ scan_end tool s.before b lacks ∙ ap (λ k. cond b (Err (NoFile, k)) (Ok s.before)) place
 
-pub no_file : (tool : Tool) (words : List (List ℕ)) (given : Given) (at : ℕ) → length words ≤ at → at ≤ length words → Stands tool words given at → (needs_file given.tool && is_empty given.others) ≡ true → scan tool [] (drop 1 words) ≡ Err (NoFile, length words)
+pub no_file : (tool : Tool) (words : List (List ℕ)) (given : GivenWords) (at : ℕ) → length words ≤ at → at ≤ length words → Stands tool words given at → (needs_file given.tool && is_empty given.others) ≡ true → scan tool [] (drop 1 words) ≡ Err (NoFile, length words)
 no_file tool words given at h h' s e = stands_end tool words given at true (omega arith) s e
 
-pub all_read : (tool : Tool) (words : List (List ℕ)) (given : Given) (at : ℕ) → length words ≤ at → at ≤ length words → Stands tool words given at → (needs_file given.tool && is_empty given.others) ≡ false → (all : List Role) × (scan tool [] (drop 1 words) ≡ Ok all) × (given ≡ given_by tool all)
+pub all_read : (tool : Tool) (words : List (List ℕ)) (given : GivenWords) (at : ℕ) → length words ≤ at → at ≤ length words → Stands tool words given at → (needs_file given.tool && is_empty given.others) ≡ false → (all : List Role) × (scan tool [] (drop 1 words) ≡ Ok all) × (given ≡ given_by tool all)
 all_read tool words given at h h' s e = (s.before, stands_end tool words given at false (omega arith) s e, s.gives)
 
 -- a turn that fails is the answer
-pub turn_refuses : (tool : Tool) (words : List (List ℕ)) (given : Given) (at : ℕ) (word : List ℕ) (next : Option (List ℕ)) (fault : WordsFault) → at < length words → word ≡ get_or words at word → next ≡ slice_get words (at + 1) → Stands tool words given at → Fails fault (turn given word next at) → Fails fault (scan tool [] (drop 1 words))
+pub turn_refuses : (tool : Tool) (words : List (List ℕ)) (given : GivenWords) (at : ℕ) (word : List ℕ) (next : Option (List ℕ)) (fault : WordsFault) → at < length words → word ≡ get_or words at word → next ≡ slice_get words (at + 1) → Stands tool words given at → Fails fault (turn given word next at) → Fails fault (scan tool [] (drop 1 words))
 turn_refuses tool words given at word next (faults.Usage kind k) h w n s r = turn_fails tool words given at word next (kind, k) h w n s r
 turn_refuses tool words given at word next faults.Memory h w n s r = tt

@@ -2,7 +2,7 @@
 use Rattle.std.specs.Prelude.{◌≡◌, ◌⊎◌, ℕ, List, [], ◌∷◌, drop, codes, Option, Some, None, Result, Err}
 use Rattle.command_line.specs.declared.command.OutputName.{OutputName}
 use Rattle.command_line.specs.declared.command.OutputName.TheVariants.{Standard}
-use Rattle.command_line.specs.declared.command.Selection.{Selection}
+use Rattle.command_line.specs.declared.command.SelectionWords.{SelectionWords}
 use Rattle.command_line.specs.declared.command.Command.{Command}
 use Rattle.command_line.specs.declared.command.Command.TheVariants as commands
 use Rattle.command_line.specs.declared.command.UsageKind.{UsageKind}
@@ -10,7 +10,7 @@ use Rattle.command_line.specs.declared.command.WordsFault.{WordsFault}
 use Rattle.command_line.specs.declared.command.WordsFault.TheVariants as faults
 use Rattle.command_line.specs.declared.tool.Tool.{Tool}
 use Rattle.command_line.specs.declared.tool.Tool.TheVariants.{LlvmAs, LlvmDis, LlvmLink, LlvmExtract, Lli, LlvmBcanalyzer}
-use Rattle.command_line.specs.declared.options.Flag.TheVariants as flags
+use Rattle.command_line.specs.declared.options.PlainOption.TheVariants as flags
 use Rattle.command_line.specs.declared.options.Setting.TheVariants as settings
 use Rattle.command_line.specs.Tools.{tool_of}
 use Rattle.command_line.specs.Numbers.{decimal}
@@ -49,7 +49,7 @@ abbrev pub given_steps : List Role → Option ℕ
 given_steps all = first_number (values settings.MaxSteps all)
 
 -- what is selected of a module
-abbrev pub given_selection : List Role → Selection
+abbrev pub given_selection : List Role → SelectionWords
 given_selection all = record {
   functions = values settings.Function all;
   variables = values settings.Variable all;

@@ -2,16 +2,16 @@
 use Rattle.std.specs.Prelude.{◌∷◌, [], ℕ, ◌+◌, Bool, ◌==◌, List, take, drop, position, codes, bytes_eq, Option, Some, None, if◌then◌else◌}
 use Rattle.std.specs.List.{starts_with}
 use Rattle.command_line.specs.declared.tool.Tool.{Tool}
-use Rattle.command_line.specs.declared.options.Flag.{Flag}
-use Rattle.command_line.specs.declared.options.Flag.TheVariants as flags
+use Rattle.command_line.specs.declared.options.PlainOption.{PlainOption}
+use Rattle.command_line.specs.declared.options.PlainOption.TheVariants as flags
 use Rattle.command_line.specs.declared.options.Setting.{Setting}
 use Rattle.command_line.specs.declared.options.Setting.TheVariants as settings
-use Rattle.command_line.specs.declared.options.Spelling.{Spelling}
-use Rattle.command_line.specs.declared.options.Spelling.TheVariants as spellings
+use Rattle.command_line.specs.declared.options.WordSpelling.{WordSpelling}
+use Rattle.command_line.specs.declared.options.WordSpelling.TheVariants as spellings
 use Rattle.command_line.specs.Tools.{row_of, has, takes}
 
 -- the flag of a name
-abbrev pub flag_named : List ℕ → Option Flag
+abbrev pub flag_named : List ℕ → Option PlainOption
 flag_named = row_of (
     (codes "S", flags.Text) ∷
     (codes "delete", flags.Delete) ∷
@@ -70,34 +70,34 @@ value_part option = value_behind option (equals_sign option)
 pub data Spelled : Type 0 where
   Marker : Spelled
   -- an option without a value, one with its value behind `=`, and one whose value is the next word
-  Lone : Flag → Spelled
+  Lone : PlainOption → Spelled
   Full : Setting → List ℕ → Spelled
   Open : Setting → Spelled
   Unknown : Spelled
   Input : Spelled
 
 -- an option of the tool, with the value behind its `=` where it has one
-abbrev pub named : Tool → Option Flag → Option Setting → Option (List ℕ) → Spelled
-named tool (Some flag) setting None = if has tool flag then Lone flag else Unknown
-named tool (Some flag) setting (Some value) = Unknown
-named tool None (Some setting) None = if takes tool setting then Open setting else Unknown
-named tool None (Some setting) (Some value) = if takes tool setting then Full setting value else Unknown
-named tool None None value = Unknown
+abbrev pub option_named : Tool → Option PlainOption → Option Setting → Option (List ℕ) → Spelled
+option_named tool (Some flag) setting None = if has tool flag then Lone flag else Unknown
+option_named tool (Some flag) setting (Some value) = Unknown
+option_named tool None (Some setting) None = if takes tool setting then Open setting else Unknown
+option_named tool None (Some setting) (Some value) = if takes tool setting then Full setting value else Unknown
+option_named tool None None value = Unknown
 
 -- what a word is, by what stands behind its dashes, or that it has none
 abbrev pub spelled_behind : Tool → Option (List ℕ) → Spelled
 spelled_behind tool None = Input
-spelled_behind tool (Some option) = named tool (flag_named (name_part option)) (setting_named (name_part option)) (value_part option)
+spelled_behind tool (Some option) = option_named tool (flag_named (name_part option)) (setting_named (name_part option)) (value_part option)
 
 -- what a word is, whatever stands before it
-unfoldable pub spelled : Tool → List ℕ → Spelled
-spelled tool word =
+unfoldable pub word_spelling : Tool → List ℕ → Spelled
+word_spelling tool word =
     if is_dash word then Input
     else if is_marker word then Marker
     else spelled_behind tool (undashed word)
 
 -- the code's answer without its reference
-abbrev pub seen : Spelling → Spelled
+abbrev pub seen : WordSpelling → Spelled
 seen spellings.Marker = Marker
 seen (spellings.Lone flag) = Lone flag
 seen (spellings.Full setting value) = Full setting value.now

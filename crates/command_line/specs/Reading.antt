@@ -8,16 +8,16 @@ use Rattle.command_line.specs.declared.command.Command.{Command}
 use Rattle.command_line.specs.declared.command.Command.TheVariants as commands
 use Rattle.command_line.specs.declared.command.WordsFault.{WordsFault}
 use Rattle.command_line.specs.declared.command.WordsFault.TheVariants as faults
-use Rattle.command_line.specs.declared.given.Given.{Given}
+use Rattle.command_line.specs.declared.given.GivenWords.{GivenWords}
 use Rattle.command_line.specs.declared.tool.Tool.{Tool}
 use Rattle.command_line.specs.declared.tool.Tool.TheVariants.{LlvmAs, LlvmDis, LlvmLink, LlvmExtract, Lli, LlvmBcanalyzer}
-use Rattle.command_line.specs.declared.options.Flag.{Flag}
-use Rattle.command_line.specs.declared.options.Flag.TheVariants as flags
+use Rattle.command_line.specs.declared.options.PlainOption.{PlainOption}
+use Rattle.command_line.specs.declared.options.PlainOption.TheVariants as flags
 use Rattle.command_line.specs.declared.options.Setting.{Setting}
 use Rattle.command_line.specs.declared.options.Setting.TheVariants as settings
 use Rattle.command_line.specs.Tools.{tool_of, takes_one, needs_file}
 use Rattle.command_line.specs.Options as options
-use Rattle.command_line.specs.Options.{Spelled, spelled, is_dash}
+use Rattle.command_line.specs.Options.{Spelled, word_spelling, is_dash}
 use Rattle.command_line.specs.Numbers.{is_number, decimal}
 use Rattle.command_line.specs.Outputs.{output_name, output_from, default_name}
 use Rattle.command_line.specs.Roles.{Role, role, is_empty, is_marked, is_program, others, has_flag, has_dash}
@@ -44,14 +44,14 @@ Gives (Ok u) now reading = reading ≡ Ok now
 Gives (Err fault) now reading = Fails fault reading
 
 -- a call that takes so many words and leaves `now` does what is read
-abbrev pub Takes : Result ℕ WordsFault → Given → Result (Given × ℕ) Wrong → Type 0
+abbrev pub Takes : Result ℕ WordsFault → GivenWords → Result (GivenWords × ℕ) Wrong → Type 0
 Takes (Ok count) now reading = reading ≡ Ok (now, count)
 Takes (Err fault) now reading = Fails fault reading
 
 -- What has been given so far.
 
 -- no word was read behind the tool's
-abbrev pub nothing_given : Tool → Given
+abbrev pub nothing_given : Tool → GivenWords
 nothing_given tool = record {
   tool = tool;
   others = [];
@@ -65,7 +65,7 @@ nothing_given tool = record {
 }
 
 -- what words of these roles give
-abbrev pub given_by : Tool → List Role → Given
+abbrev pub given_by : Tool → List Role → GivenWords
 given_by tool all = record {
   tool = tool;
   others = others all;
@@ -79,7 +79,7 @@ given_by tool all = record {
 }
 
 -- the command of the tool, of what was given
-abbrev pub command_by : Tool → Given → Command
+abbrev pub command_by : Tool → GivenWords → Command
 command_by LlvmAs given = commands.Assemble (input_from given.others) (output_from (default_name (input_from given.others) (codes ".ll") (codes ".bc")) given.output)
 command_by LlvmDis given = commands.Disassemble (input_from given.others) (output_from (default_name (input_from given.others) (codes ".bc") (codes ".ll")) given.output)
 command_by LlvmLink given = commands.Link given.others (output_from Standard given.output) given.text
@@ -88,13 +88,13 @@ command_by Lli given = commands.Lli (input_from given.others) (steps_from given.
 command_by LlvmBcanalyzer given = commands.Analyze (input_from given.others) given.dump
 
 -- the command of what was given
-abbrev pub command_from : Given → Command
+abbrev pub command_from : GivenWords → Command
 command_from given = command_by given.tool given
 
 -- What one turn gives.
 
 -- a flag is given
-abbrev pub with_flag : Given → Flag → Given
+abbrev pub with_flag : GivenWords → PlainOption → GivenWords
 with_flag given flags.Text = record given { text = true }
 with_flag given flags.Delete = record given { selection = record given.selection { delete = true } }
 with_flag given flags.Recursive = record given { selection = record given.selection { recursive = true } }
@@ -106,11 +106,11 @@ is_some None = false
 is_some (Some x) = true
 
 -- an output is given, once
-abbrev pub with_output : Given → List ℕ → ℕ → Result Given Wrong
+abbrev pub with_output : GivenWords → List ℕ → ℕ → Result GivenWords Wrong
 with_output given value at = if is_some given.output then Err (Repeated, at) else Ok (record given { output = Some (output_name value) })
 
 -- a bound on steps is given, once, and is a number
-abbrev pub with_steps : Given → List ℕ → ℕ → ℕ → Result Given Wrong
+abbrev pub with_steps : GivenWords → List ℕ → ℕ → ℕ → Result GivenWords Wrong
 with_steps given value at value_at =
     if not (is_number value) && value_at == at then Err (BadNumber, at)
     else if is_some given.max_steps then Err (Repeated, at)
@@ -122,7 +122,7 @@ abbrev pub name_read : List ℕ → ℕ → Result (List ℕ) Wrong
 name_read value at = if is_name value then Ok value else Err (MissingValue, at)
 
 -- a setting is given its value
-abbrev pub with_setting : Given → Setting → List ℕ → ℕ → ℕ → Result Given Wrong
+abbrev pub with_setting : GivenWords → Setting → List ℕ → ℕ → ℕ → Result GivenWords Wrong
 with_setting given settings.Output value at value_at = with_output given value at
 with_setting given settings.MaxSteps value at value_at = with_steps given value at value_at
 with_setting given settings.Function value at value_at =
@@ -136,19 +136,19 @@ with_setting given settings.Alias value at value_at =
     else Err (MissingValue, at)
 
 -- an input is given
-abbrev pub with_input : Given → List ℕ → ℕ → Result Given Wrong
+abbrev pub with_input : GivenWords → List ℕ → ℕ → Result GivenWords Wrong
 with_input given word at =
     if is_dash word && given.dash then Err (Repeated, at)
     else if takes_one given.tool && not (is_empty given.others) then Err (TooManyFiles, at)
     else Ok (record given { others = given.others ++ word ∷ []; dash = is_dash word || given.dash })
 
 -- so many words are taken, unless something is wrong
-abbrev pub taking : ℕ → Result Given Wrong → Result (Given × ℕ) Wrong
+abbrev pub taking : ℕ → Result GivenWords Wrong → Result (GivenWords × ℕ) Wrong
 taking count (Ok given) = Ok (given, count)
 taking count (Err wrong) = Err wrong
 
 -- a turn over a word by what it is spelled as
-abbrev pub spelled_turn : Given → Spelled → List ℕ → Option (List ℕ) → ℕ → Result (Given × ℕ) Wrong
+abbrev pub spelled_turn : GivenWords → Spelled → List ℕ → Option (List ℕ) → ℕ → Result (GivenWords × ℕ) Wrong
 spelled_turn given options.Marker word next at = Ok (record given { marked = true }, 1)
 spelled_turn given (options.Lone flag) word next at = Ok (with_flag given flag, 1)
 spelled_turn given (options.Full setting value) word next at = taking 1 (with_setting given setting value at at)
@@ -158,14 +158,14 @@ spelled_turn given options.Unknown word next at = Err (UnknownOption, at)
 spelled_turn given options.Input word next at = taking 1 (with_input given word at)
 
 -- a turn over a word by what stands before it
-abbrev pub turn_by : Given → Bool → Bool → Spelled → List ℕ → Option (List ℕ) → ℕ → Result (Given × ℕ) Wrong
+abbrev pub turn_by : GivenWords → Bool → Bool → Spelled → List ℕ → Option (List ℕ) → ℕ → Result (GivenWords × ℕ) Wrong
 turn_by given true marked spelling word next at = Ok (record given { others = given.others ++ word ∷ [] }, 1)
 turn_by given false true spelling word next at = taking 1 (with_input given word at)
 turn_by given false false spelling word next at = spelled_turn given spelling word next at
 
 -- one word, or an option and its value, and how many words that were
-unfoldable pub turn : Given → List ℕ → Option (List ℕ) → ℕ → Result (Given × ℕ) Wrong
-turn given word next at = turn_by given (is_program given.tool (is_empty given.others)) given.marked (spelled given.tool word) word next at
+unfoldable pub turn : GivenWords → List ℕ → Option (List ℕ) → ℕ → Result (GivenWords × ℕ) Wrong
+turn given word next at = turn_by given (is_program given.tool (is_empty given.others)) given.marked (word_spelling given.tool word) word next at
 
 -- The first fault of a word, and of all words.
 
@@ -190,7 +190,7 @@ scan tool before [] = if needs_file tool && is_empty (others before) then Err (N
 scan tool before (word ∷ words) = scan_by (first_kind tool before (role tool before word) words) (1 + length before) (scan tool (role tool before word ∷ before) words)
 
 -- what the words give is what their roles give
-abbrev pub ReadsGiven : Tool → Result Given WordsFault → Result (List Role) Wrong → Type 0
+abbrev pub ReadsGiven : Tool → Result GivenWords WordsFault → Result (List Role) Wrong → Type 0
 ReadsGiven tool (Ok given) reading = (all : List Role) × (reading ≡ Ok all) × (given ≡ given_by tool all)
 ReadsGiven tool (Err fault) reading = Fails fault reading
 

@@ -2,16 +2,16 @@
 use Rattle.std.specs.Prelude.{ℕ, Bool, true, false, not, ◌||◌, List, [], ◌∷◌, ◌++◌, Option, Some, None, if◌then◌else◌}
 use Rattle.command_line.specs.declared.tool.Tool.{Tool}
 use Rattle.command_line.specs.declared.tool.Tool.TheVariants as tools
-use Rattle.command_line.specs.declared.options.Flag.{Flag}
+use Rattle.command_line.specs.declared.options.PlainOption.{PlainOption}
 use Rattle.command_line.specs.declared.options.Setting.{Setting}
 use Rattle.command_line.specs.Tools.{same_flag, same_setting}
 use Rattle.command_line.specs.Options as options
-use Rattle.command_line.specs.Options.{Spelled, spelled, is_dash}
+use Rattle.command_line.specs.Options.{Spelled, word_spelling, is_dash}
 
 -- what a word is, given what the words before it are
 pub data Role : Type 0 where
   Unknown : Role
-  Lone : Flag → Role
+  Lone : PlainOption → Role
   -- an option with its value behind `=`, one whose value is the next word, and that word
   Full : Setting → List ℕ → Role
   Open : Setting → Role
@@ -70,7 +70,7 @@ role_by None false false spelling word = role_spelled spelling word
 
 -- the role of a word behind others
 abbrev pub role : Tool → List Role → List ℕ → Role
-role tool before word = role_by (awaited before) (is_program tool (is_empty (others before))) (is_marked before) (spelled tool word) word
+role tool before word = role_by (awaited before) (is_program tool (is_empty (others before))) (is_marked before) (word_spelling tool word) word
 
 -- the roles of all words, the last first
 abbrev pub roles_onto : Tool → List Role → List (List ℕ) → List Role
@@ -89,7 +89,7 @@ values setting (Value other value ∷ before) = if same_setting setting other th
 values setting (role ∷ before) = values setting before
 
 -- the flag is among them
-abbrev pub has_flag : Flag → List Role → Bool
+abbrev pub has_flag : PlainOption → List Role → Bool
 has_flag flag [] = false
 has_flag flag (Lone other ∷ before) = same_flag flag other || has_flag flag before
 has_flag flag (role ∷ before) = has_flag flag before

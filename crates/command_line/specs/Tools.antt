@@ -3,8 +3,8 @@ use Rattle.std.specs.Prelude.{◌∷◌, [], ℕ, Bool, true, false, List, codes
 use Rattle.std.specs.List.{list_any}
 use Rattle.command_line.specs.declared.tool.Tool.{Tool}
 use Rattle.command_line.specs.declared.tool.Tool.TheVariants.{LlvmAs, LlvmDis, LlvmLink, LlvmExtract, Lli, LlvmBcanalyzer}
-use Rattle.command_line.specs.declared.options.Flag.{Flag}
-use Rattle.command_line.specs.declared.options.Flag.TheVariants as flags
+use Rattle.command_line.specs.declared.options.PlainOption.{PlainOption}
+use Rattle.command_line.specs.declared.options.PlainOption.TheVariants as flags
 use Rattle.command_line.specs.declared.options.Setting.{Setting}
 use Rattle.command_line.specs.declared.options.Setting.TheVariants as settings
 
@@ -48,7 +48,7 @@ abbrev pub line_name : List (List ℕ) → List ℕ
 line_name words = name_or_program (tool_of words)
 
 -- the options of each tool
-abbrev pub flags_of : Tool → List Flag
+abbrev pub flags_of : Tool → List PlainOption
 flags_of LlvmAs = []
 flags_of LlvmDis = []
 flags_of LlvmLink = flags.Text ∷ []
@@ -66,7 +66,7 @@ settings_of Lli = settings.MaxSteps ∷ []
 settings_of LlvmBcanalyzer = []
 
 -- the two are one flag
-abbrev pub same_flag : Flag → Flag → Bool
+abbrev pub same_flag : PlainOption → PlainOption → Bool
 same_flag flags.Text flags.Text = true
 same_flag flags.Delete flags.Delete = true
 same_flag flags.Recursive flags.Recursive = true
@@ -83,7 +83,7 @@ same_setting settings.MaxSteps settings.MaxSteps = true
 same_setting setting other = false
 
 -- the tool has the flag
-abbrev pub has : Tool → Flag → Bool
+abbrev pub has : Tool → PlainOption → Bool
 has tool flag = list_any (same_flag flag) (flags_of tool)
 
 -- the tool has the setting

@@ -85,7 +85,7 @@ pub enum OutputName {
 /// Which definitions `llvm-extract` keeps: those of these names, with `recursive` also the functions
 /// that chosen functions call, and with `delete` all others in their place.
 #[derive(Drop)]
-pub struct Selection {
+pub struct SelectionWords {
     pub functions: NameList,
     pub variables: NameList,
     pub aliases: NameList,
@@ -119,7 +119,7 @@ pub enum Command {
         input: Text,
         output: OutputName,
         text: bool,
-        selection: Selection,
+        selection: SelectionWords,
     },
     /// `lli`: runs a module, for at most so many steps.
     Lli {

@@ -2,29 +2,29 @@
 ghost use Rattle.std.specs.Prelude.{◌≡◌, ◌&&◌, ◌+◌, ◌<◌, ◌≤◌, ◌^◌, IfOk};
 ghost use Rattle.std.specs.Option.{option_copied};
 ghost use Rattle.command_line.specs.Tools.{needs_file};
-ghost use Rattle.command_line.specs.Options.{spelled};
+ghost use Rattle.command_line.specs.Options.{word_spelling};
 ghost use Rattle.command_line.specs.Roles.{is_empty, is_program};
 ghost use Rattle.command_line.specs.Commands.{input_from, arguments_from};
 ghost use Rattle.command_line.specs.Reading.{Gives, Answers, Takes, nothing_given, with_flag, with_output, with_steps, with_setting, with_input, name_read, spelled_turn, turn, command_from};
 
 use crate::number::number_of;
-use crate::options::{Flag, Setting, Spelling, is_dash, spelled};
+use crate::options::{PlainOption, Setting, WordSpelling, is_dash, spelled};
 use crate::output::{output_name, output_or_default, output_or_standard};
-use crate::{Command, OutputName, Selection, Tool, UsageKind, WordsFault};
+use crate::{Command, OutputName, SelectionWords, Tool, UsageKind, WordsFault};
 use ir_base::{Name, NameList, Text, TextList};
 use std::alloc::{AllocError, Global};
 
 const DEFAULT_STEPS: u64 = 1_000_000_000;
 
 #[derive(Drop)]
-pub(crate) struct Given {
+pub(crate) struct GivenWords {
     tool: Tool,
     // The words that are neither options nor their values.
     others: TextList,
     output: Option<OutputName>,
     max_steps: Option<u64>,
     text: bool,
-    selection: Selection,
+    selection: SelectionWords,
     dump: bool,
     // The two dashes were there.
     marked: bool,
@@ -45,17 +45,17 @@ fn name_of(alloc: Global, value: &[u8], at: u64) -> Result<Name, WordsFault>
     }
 }
 
-impl Given {
-    pub fn new(alloc: Global, tool: Tool) -> Given
+impl GivenWords {
+    pub fn new(alloc: Global, tool: Tool) -> GivenWords
         ensures { result ≡ nothing_given tool }
     {
-        Given {
+        GivenWords {
             tool,
             others: TextList::new(alloc),
             output: None,
             max_steps: None,
             text: false,
-            selection: Selection {
+            selection: SelectionWords {
                 functions: NameList::new(alloc),
                 variables: NameList::new(alloc),
                 aliases: NameList::new(alloc),
@@ -68,14 +68,14 @@ impl Given {
         }
     }
 
-    fn set(&mut self, flag: Flag)
+    fn set(&mut self, flag: PlainOption)
         ensures { self.new ≡ with_flag self.old flag }
     {
         match flag {
-            Flag::Text => self.text = true,
-            Flag::Delete => self.selection.delete = true,
-            Flag::Recursive => self.selection.recursive = true,
-            Flag::Dump => self.dump = true,
+            PlainOption::Text => self.text = true,
+            PlainOption::Delete => self.selection.delete = true,
+            PlainOption::Recursive => self.selection.recursive = true,
+            PlainOption::Dump => self.dump = true,
         }
     }
 
@@ -196,22 +196,22 @@ impl Given {
     ) -> Result<usize, WordsFault>
         requires { at + 1 < 2 ^ 64 }
         ensures { Takes result self.new
-            (spelled_turn self.old (spelled self.old.tool word.now) word.now (option_copied next.entry) at) }
+            (spelled_turn self.old (word_spelling self.old.tool word.now) word.now (option_copied next.entry) at) }
     {
         match spelled(self.tool, word) {
-            Spelling::Marker => {
+            WordSpelling::Marker => {
                 self.marked = true;
                 Ok(1)
             }
-            Spelling::Lone(flag) => {
+            WordSpelling::Lone(flag) => {
                 self.set(flag);
                 Ok(1)
             }
-            Spelling::Full(setting, value) => {
+            WordSpelling::Full(setting, value) => {
                 self.give(alloc, setting, value, at, at)?;
                 Ok(1)
             }
-            Spelling::Open(setting) => {
+            WordSpelling::Open(setting) => {
                 let Some(value) = next else {
                     return Err(WordsFault::Usage {
                         kind: UsageKind::MissingValue,
@@ -221,11 +221,11 @@ impl Given {
                 self.give(alloc, setting, value.bytes(), at, at + 1)?;
                 Ok(2)
             }
-            Spelling::Unknown => Err(WordsFault::Usage {
+            WordSpelling::Unknown => Err(WordsFault::Usage {
                 kind: UsageKind::UnknownOption,
                 word: at,
             }),
-            Spelling::Input => {
+            WordSpelling::Input => {
                 self.add_input(alloc, word, at)?;
                 Ok(1)
             }

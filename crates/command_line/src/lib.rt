@@ -21,7 +21,7 @@ mod output;
 mod tool;
 mod words;
 
-pub use command::{Command, OutputName, Selection, UsageKind, WordsFault};
+pub use command::{Command, OutputName, SelectionWords, UsageKind, WordsFault};
 pub use options::is_dash;
 pub use tool::{Tool, line_name, tool_of};
 pub use words::read_words;

@@ -1,13 +1,13 @@
 //! How an option is written.
 ghost use Rattle.std.specs.Prelude.{◌≡◌};
 ghost use Rattle.std.specs.Option.{option_copied};
-ghost use Rattle.command_line.specs.Options.{is_dash, is_marker, flag_named, setting_named, undashed, equals_sign, name_part, value_part, named, spelled, seen};
+ghost use Rattle.command_line.specs.Options.{is_dash, is_marker, flag_named, setting_named, undashed, equals_sign, name_part, value_part, option_named, word_spelling, seen};
 
 use crate::Tool;
 
 /// An option without a value.
 #[derive(Clone, Copy)]
-pub(crate) enum Flag {
+pub(crate) enum PlainOption {
     /// `-S`: text is written in the place of bitcode.
     Text,
     /// `--delete`: what is selected is left out, and all else kept.
@@ -35,11 +35,11 @@ pub(crate) enum Setting {
 
 /// What a word is that stands where an option may stand.
 #[derive(Clone, Copy)]
-pub(crate) enum Spelling<'w> {
+pub(crate) enum WordSpelling<'w> {
     /// The two dashes after which there are no options.
     Marker,
     /// An option without a value.
-    Lone(Flag),
+    Lone(PlainOption),
     /// An option with its value behind `=`.
     Full(Setting, &'w [u8]),
     /// An option whose value is the next word.
@@ -64,14 +64,14 @@ fn is_marker(word: &[u8]) -> bool
     matches!(word, b"--")
 }
 
-fn flag_named(name: &[u8]) -> Option<Flag>
+fn flag_named(name: &[u8]) -> Option<PlainOption>
     ensures { result ≡ flag_named name.now }
 {
     match name {
-        b"S" => Some(Flag::Text),
-        b"delete" => Some(Flag::Delete),
-        b"recursive" => Some(Flag::Recursive),
-        b"dump" => Some(Flag::Dump),
+        b"S" => Some(PlainOption::Text),
+        b"delete" => Some(PlainOption::Delete),
+        b"recursive" => Some(PlainOption::Recursive),
+        b"dump" => Some(PlainOption::Dump),
         _ => None,
     }
 }
@@ -120,37 +120,37 @@ fn parts(option: &[u8]) -> (&[u8], Option<&[u8]>)
 }
 
 // An option of the tool, with the value behind its `=` where it has one.
-fn named<'w>(tool: Tool, name: &[u8], value: Option<&'w [u8]>) -> Spelling<'w>
+fn named<'w>(tool: Tool, name: &[u8], value: Option<&'w [u8]>) -> WordSpelling<'w>
     ensures { seen result
-        ≡ named tool (flag_named name.now) (setting_named name.now) (option_copied value.entry) }
+        ≡ option_named tool (flag_named name.now) (setting_named name.now) (option_copied value.entry) }
 {
     if let Some(flag) = flag_named(name) {
         return if value.is_none() && tool.has(flag) {
-            Spelling::Lone(flag)
+            WordSpelling::Lone(flag)
         } else {
-            Spelling::Unknown
+            WordSpelling::Unknown
         };
     }
     match (setting_named(name), value) {
-        (Some(setting), None) if tool.takes(setting) => Spelling::Open(setting),
-        (Some(setting), Some(value)) if tool.takes(setting) => Spelling::Full(setting, value),
-        _ => Spelling::Unknown,
+        (Some(setting), None) if tool.takes(setting) => WordSpelling::Open(setting),
+        (Some(setting), Some(value)) if tool.takes(setting) => WordSpelling::Full(setting, value),
+        _ => WordSpelling::Unknown,
     }
 }
 
 /// What the word is for the tool.
-#[tactic(auto, unfolding(crate::specs::Options::spelled))]
-pub(crate) fn spelled(tool: Tool, word: &[u8]) -> Spelling<'_>
-    ensures { seen result ≡ spelled tool word.now }
+#[tactic(auto, unfolding(crate::specs::Options::word_spelling))]
+pub(crate) fn spelled(tool: Tool, word: &[u8]) -> WordSpelling<'_>
+    ensures { seen result ≡ word_spelling tool word.now }
 {
     if is_dash(word) {
-        return Spelling::Input;
+        return WordSpelling::Input;
     }
     if is_marker(word) {
-        return Spelling::Marker;
+        return WordSpelling::Marker;
     }
     let Some(option) = undashed(word) else {
-        return Spelling::Input;
+        return WordSpelling::Input;
     };
     let (name, value) = parts(option);
     named(tool, name, value)

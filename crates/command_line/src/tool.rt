@@ -2,7 +2,7 @@
 ghost use Rattle.std.specs.Prelude.{◌≡◌, Some};
 ghost use Rattle.command_line.specs.Tools.{tool_named, tool_name, tool_of, line_name, has, takes, takes_one, needs_file};
 
-use crate::options::{Flag, Setting};
+use crate::options::{PlainOption, Setting};
 use ir_base::Text;
 
 /// A tool, as the first word of the command line names it.
@@ -54,13 +54,13 @@ impl Tool {
     }
 
     // It has this option without a value.
-    pub(crate) fn has(self, flag: Flag) -> bool
+    pub(crate) fn has(self, flag: PlainOption) -> bool
         ensures { result ≡ has self flag }
     {
         match flag {
-            Flag::Text => matches!(self, Tool::LlvmLink | Tool::LlvmExtract),
-            Flag::Delete | Flag::Recursive => matches!(self, Tool::LlvmExtract),
-            Flag::Dump => matches!(self, Tool::LlvmBcanalyzer),
+            PlainOption::Text => matches!(self, Tool::LlvmLink | Tool::LlvmExtract),
+            PlainOption::Delete | PlainOption::Recursive => matches!(self, Tool::LlvmExtract),
+            PlainOption::Dump => matches!(self, Tool::LlvmBcanalyzer),
         }
     }
 

@@ -5,7 +5,7 @@ ghost use Rattle.command_line.specs.Faults.{IsFirstFault};
 ghost use Rattle.command_line.specs.Commands.{IsReadAs, IsJudged, IsUnlessMemory};
 ghost use Rattle.command_line.specs.Reading.{Answers, ReadsGiven, scan, reading};
 
-use crate::given::Given;
+use crate::given::GivenWords;
 use crate::{Command, Tool, UsageKind, WordsFault, tool_of};
 use ir_base::Text;
 use std::alloc::Global;
@@ -17,12 +17,12 @@ fn word_at(words: &[Text], at: usize) -> Option<&Text>
 }
 
 // What the words behind the tool's give.
-fn given_by(alloc: Global, tool: Tool, words: &[Text]) -> Result<Given, WordsFault>
+fn given_by(alloc: Global, tool: Tool, words: &[Text]) -> Result<GivenWords, WordsFault>
     requires some { 0 < length words.now }
     requires few { length words.now + 1 < 2 ^ 64 }
     ensures { ReadsGiven tool result (scan tool [] (drop 1 words.now)) }
 {
-    let mut given = Given::new(alloc, tool);
+    let mut given = GivenWords::new(alloc, tool);
     let mut at = 1;
     'reading: while at < words.len() {
         at += given.take(alloc, &words[at], word_at(words, at + 1), at as u64)?;

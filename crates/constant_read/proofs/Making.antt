@@ -17,7 +17,7 @@ use Rattle.std.specs.Prelude.{is_some}
 use Rattle.std.specs.Option.{option_map}
 use Rattle.record_table.specs.Walk.{Walk, next, ask, stop}
 use Rattle.record_table.specs.Layout.{number, found_or}
-use Rattle.record_table.specs.declared.form.Form as the_form
+use Rattle.record_table.specs.declared.form.ConstantForm as the_form
 use Rattle.record_table.specs.Codes.{form_view}
 use Rattle.record_table.specs.Fields.{Numbering, ty, flags}
 use Rattle.record_table.specs.Constants as constants
@@ -238,8 +238,8 @@ nested_is k zero t w v n is at = λ j. constants.by_code k None (is j) t (at j)
 nested_is k (suc depth) t w v n is at = λ j. constants.by_code k (Some (constants.read_nested k depth)) (is j) t (at j)
 
 -- the form with that code
-pub form_is : (k : Numbering) (inner : Option constants.Reads) (code : ℕ) (form : Option the_form.Form) (t : Tree) (w : Walk) → option_map form_view form ≡ constants.form_of_code code → constants.of_form k inner (option_map form_view form) t w ≡ constants.by_code k inner code t w
-form_is k inner code form t w is = ap (λ (f : Option constants.Form). constants.of_form k inner f t w) is
+pub form_is : (k : Numbering) (inner : Option constants.Reads) (code : ℕ) (form : Option the_form.ConstantForm) (t : Tree) (w : Walk) → option_map form_view form ≡ constants.form_of_code code → constants.of_form k inner (option_map form_view form) t w ≡ constants.by_code k inner code t w
+form_is k inner code form t w is = ap (λ (f : Option constants.ConstantForm). constants.of_form k inner f t w) is
 
 module _ (k : Numbering) (inner : Option constants.Reads) (t : Tree) (w : Walk) where
   pub number_form : constants.integer t w ≡ constants.of_form k inner (Some constants.Number) t w
@@ -305,8 +305,8 @@ stopped_read k a b answer rule x keeps at none is =
     subst (λ z. IsRead k IsConstant z a b answer) (sym is) (subst (IsRead k IsConstant (m.Undef, stop rule a.reader.walk) a b) (sym none) (none_read k a b m.Undef (stop rule a.reader.walk) at there))
 
 -- the form with that code
-pub coded_at : (k : Numbering) (inner : Option constants.Reads) (code : ℕ) (t : Tree) (w : Walk) (form : constants.Form) → Some form ≡ constants.form_of_code code → constants.of_form k inner (Some form) t w ≡ constants.by_code k inner code t w
-coded_at k inner code t w form is = ap (λ (f : Option constants.Form). constants.of_form k inner f t w) is
+pub coded_at : (k : Numbering) (inner : Option constants.Reads) (code : ℕ) (t : Tree) (w : Walk) (form : constants.ConstantForm) → Some form ≡ constants.form_of_code code → constants.of_form k inner (Some form) t w ≡ constants.by_code k inner code t w
+coded_at k inner code t w form is = ap (λ (f : Option constants.ConstantForm). constants.of_form k inner f t w) is
 
 -- one less, where there is room
 pub inner_is : (k : Numbering) (depth : ℕ) → (depth ≡ 0 → ⊥) → Some (constants.read_nested k (depth - 1)) ≡ inner_of k depth

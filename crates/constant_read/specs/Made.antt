@@ -52,7 +52,7 @@ inner_of k zero = None
 inner_of k (suc depth) = Some (constants.read_nested k depth)
 
 -- the form that is meant
-abbrev pub nested_form : the_nested.NestedForm → constants.Form
+abbrev pub nested_form : the_nested.NestedForm → constants.ConstantForm
 nested_form nested.List = constants.Listed
 nested_form nested.Address = constants.Element
 nested_form nested.Cast = constants.Converted

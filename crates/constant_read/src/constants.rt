@@ -17,7 +17,7 @@ use ir_base::ItemList;
 use ir_tables::Opcode;
 use module_arena::{Const, ConstId, TypedConst, TypedConstList};
 use record_read::read_flags;
-use record_table::Form;
+use record_table::ConstantForm;
 use std::alloc::AllocError;
 use type_table::TypeId;
 
@@ -174,19 +174,19 @@ pub fn read_coded(
     ensures keeps { IfOk result (Keeps HasConstant m.old m.new) }
     ensures reads { (k : Numbering) → Numbers m.old k → IfOk result (IsRead k IsConstant (constants.by_code k (inner_of k depth) code (tree_at m.old.growing.arena.table ty) m.old.reader.walk) m.old m.new) }
 {
-    match Form::of_code(code) {
+    match ConstantForm::of_code(code) {
         None => Ok(stopped(m, 3)),
-        Some(Form::Number) => read_integer(m, ty),
-        Some(Form::Null) => read_null(m, ty),
-        Some(Form::Undef) => m.keep_unbroken(Const::Undef),
-        Some(Form::Poison) => m.keep_unbroken(Const::Poison),
-        Some(Form::Zero) => m.keep_unbroken(Const::ZeroInitializer),
-        Some(Form::Global) => read_address(m, ty),
-        Some(Form::Bytewise) => read_string(m, ty),
-        Some(Form::Listed) => read_nested(m, NestedForm::List, ty, depth),
-        Some(Form::Element) => read_nested(m, NestedForm::Address, ty, depth),
-        Some(Form::Converted) => read_nested(m, NestedForm::Cast, ty, depth),
-        Some(Form::Computed) => read_nested(m, NestedForm::Pair, ty, depth),
+        Some(ConstantForm::Number) => read_integer(m, ty),
+        Some(ConstantForm::Null) => read_null(m, ty),
+        Some(ConstantForm::Undef) => m.keep_unbroken(Const::Undef),
+        Some(ConstantForm::Poison) => m.keep_unbroken(Const::Poison),
+        Some(ConstantForm::Zero) => m.keep_unbroken(Const::ZeroInitializer),
+        Some(ConstantForm::Global) => read_address(m, ty),
+        Some(ConstantForm::Bytewise) => read_string(m, ty),
+        Some(ConstantForm::Listed) => read_nested(m, NestedForm::List, ty, depth),
+        Some(ConstantForm::Element) => read_nested(m, NestedForm::Address, ty, depth),
+        Some(ConstantForm::Converted) => read_nested(m, NestedForm::Cast, ty, depth),
+        Some(ConstantForm::Computed) => read_nested(m, NestedForm::Pair, ty, depth),
     }
 }
 

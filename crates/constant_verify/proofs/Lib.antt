@@ -1,4 +1,4 @@
-pub mod FactsTold
+pub mod ConstantsKnown
 pub mod FunctionNames
 pub mod LeadsTold
 pub mod ListsTold

@@ -16,7 +16,7 @@ use Rattle.module_arena.specs.Constants.{Typed, fits}
 use Rattle.module_arena.specs.View.{constant_at, constants_of, module_of}
 use Rattle.constant_verify.specs.declared.constants.ConstFact.{ConstFact}
 use Rattle.constant_verify.specs.ConstantFacts.{all_pass, both, const_fact, own_fact, part_fact, part_fact_at, typed_at, parts_in, fits_outside, fits_within, own_address_passes, own_operands_fit}
-use Rattle.constant_verify.proofs.FactsTold.{fact_told, fits_told, own_structs}
+use Rattle.constant_verify.proofs.ConstantsKnown.{fact_told, fits_told, own_structs}
 use Rattle.constant_verify.proofs.PartsTold.{parts_listed}
 
 mapped_twice : (a : Lists) (xs : List TypedConst) → map (part_fact (module_of a)) (map (typed_at a) xs) ≡ map (part_fact_at a) xs

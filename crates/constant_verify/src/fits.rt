@@ -15,7 +15,7 @@ ghost use Rattle.constant_verify.specs.ConstantFacts as facts;
 use ir_tables::Opcode;
 use module_arena::{Arena, Brackets, Const, ConstId, TypedConst};
 use type_table::TypeId;
-use type_verify::{Opened, TypeJudge};
+use type_verify::{OpenedType, TypeJudge};
 
 /// Whether a width is there, and below another.
 fn is_narrower(width: Option<u8>, other: Option<u8>) -> bool
@@ -68,8 +68,9 @@ fn is_bytes_of(types: &TypeJudge<'_>, ty: TypeId, bytes: usize) -> bool
     ensures { result ≡ constants.is_bytes_of bytes (tree types.now ty) }
 {
     match types.opened(ty) {
-        Opened::Array(count, element) => (count == bytes as u64) & types.is_integer_of(element, 8),
-        Opened::Struct(_, _) | Opened::Other => false,
+        OpenedType::Array(count, element) => (count == bytes as u64)
+            & types.is_integer_of(element, 8),
+        OpenedType::Struct(_, _) | OpenedType::Other => false,
     }
 }
 
@@ -129,15 +130,15 @@ fn are_parts_of(types: &TypeJudge<'_>, ty: TypeId, round: Brackets, parts: &[Typ
     ensures { result ≡ facts.have_types (constants.expected (brackets_view round) (opened (structs types.now) (tree types.now ty))) (map (λ x. tree types.now x.ty) parts.now) }
 {
     match types.opened(ty) {
-        Opened::Array(count, element) => {
+        OpenedType::Array(count, element) => {
             let all = have_type(types, element, parts);
             is_square(round) & ((parts.len() as u64 == count) & all)
         }
-        Opened::Struct(packed, fields) => {
+        OpenedType::Struct(packed, fields) => {
             let all = have_types(types, fields, parts);
             are_brackets_of(round, packed) & all
         }
-        Opened::Other => false,
+        OpenedType::Other => false,
     }
 }
 

@@ -4,7 +4,7 @@ use Rattle.std.specs.Prelude.{nat_eq}
 use Rattle.bit_tree.specs.Pieces.{Piece, ended}
 use Rattle.record_table.specs.Faults.{Records, no_more, a_block, a_record}
 use Rattle.record_read.specs.Entries.{IsBefore, Gives}
-use Rattle.record_read.specs.declared.entry.Entry.TheVariants.{Block, Record, End}
+use Rattle.record_read.specs.declared.entry.NextEntry.TheVariants.{Block, Record, End}
 use Rattle.record_read.specs.Reader.{Reader}
 use Rattle.head_read.specs.Ahead.{one_where}
 use Rattle.head_read.proofs.Finding.{GivesAll}

@@ -10,7 +10,7 @@ use Rattle.record_table.specs.Fields.{Texts, Numbering}
 use Rattle.record_table.specs.Layout.{judged}
 use Rattle.record_table.specs.Walk.{Walk, going, stopped, told}
 use Rattle.record_read.specs.Entries.{IsBefore, Gives}
-use Rattle.record_read.specs.declared.entry.Entry.TheVariants.{Block, Record, End}
+use Rattle.record_read.specs.declared.entry.NextEntry.TheVariants.{Block, Record, End}
 use Rattle.record_read.specs.Reader.{Reader, IsKept, is_broken}
 use Rattle.body_ahead.specs.declared.ahead.BodyAhead.{BodyAhead}
 use Rattle.body_ahead.specs.Ahead.{AreVoids, IsAhead}

@@ -17,7 +17,7 @@ ghost use Rattle.entries_ahead.specs.Entries.{declaring, entry_count, is_entry};
 
 use body_ahead::{BodyAhead, gather_body};
 use head_read::{FunctionFront, find_module, read_function_front};
-use record_read::{Entry, RecordReader, Texts};
+use record_read::{NextEntry, RecordReader, Texts};
 use record_table::{ALIAS, BODY_BLOCK, FUNCTION, VARIABLE};
 use std::alloc::{AllocError, Global};
 use type_table::TypeList;
@@ -234,13 +234,13 @@ fn gather_bodies(
     let mut count: u64 = 0;
     'entries: loop {
         match reader.next()? {
-            Entry::Record(code) => {
+            NextEntry::Record(code) => {
                 gather_record(reader, alloc, texts, types, &mut due, &mut count, code)?;
             }
-            Entry::Block(id) => {
+            NextEntry::Block(id) => {
                 gather_block(reader, alloc, texts, voids, due.as_slice(), &mut bodies, id)?;
             }
-            Entry::End => {
+            NextEntry::End => {
                 return Ok(BlockAhead {
                     bodies,
                     entries: count,

@@ -22,7 +22,7 @@ use head_read::{
     FunctionFront, find_module, read_alias_front, read_function_front, read_variable_front,
 };
 use module_arena::{Arena, Function, LocalName};
-use record_read::{Entry, RecordReader, Texts};
+use record_read::{NextEntry, RecordReader, Texts};
 use record_table::{ALIAS, FUNCTION, VARIABLE};
 use std::alloc::{AllocError, Global};
 
@@ -234,7 +234,7 @@ fn declare_block(
             return Ok(());
         }
         match reader.next()? {
-            Entry::Record(code) => {
+            NextEntry::Record(code) => {
                 let left = due_behind(due, code);
                 let now = declare_record(reader, alloc, texts, arena, bodies, used, code)?;
                 match now {
@@ -245,8 +245,8 @@ fn declare_block(
                     None => return Ok(()),
                 }
             }
-            Entry::Block(_) => reader.pass_block()?,
-            Entry::End => return Ok(()),
+            NextEntry::Block(_) => reader.pass_block()?,
+            NextEntry::End => return Ok(()),
         }
     }
 }

@@ -13,7 +13,7 @@ use crate::linkages::{is_appending, is_common};
 use constant_verify::Judge;
 use module_arena::{Brackets, Const, ConstId, Variable};
 use type_table::TypeId;
-use type_verify::Opened;
+use type_verify::OpenedType;
 
 /// Whether the constant is 0, `false`, `null` or `zeroinitializer`.
 fn is_zero_const(constant: &Const) -> bool
@@ -84,11 +84,11 @@ fn is_list_variable(judge: &Judge<'_>, ty: TypeId, initialiser: Option<ConstId>)
     ensures { result ≡ rules.is_list_variable (tree judge.now.table ty) (option_map (constant_at (constants_of judge.now)) initialiser) }
 {
     match judge.types().opened(ty) {
-        Opened::Array(count, element) => {
+        OpenedType::Array(count, element) => {
             let free = judge.types().is_free_of_names(element);
             free & is_list_of(judge, count, initialiser)
         }
-        Opened::Struct(_, _) | Opened::Other => false,
+        OpenedType::Struct(_, _) | OpenedType::Other => false,
     }
 }
 

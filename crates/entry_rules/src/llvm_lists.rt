@@ -19,7 +19,7 @@ use crate::targets::has_function;
 use constant_verify::{Judge, is_llvm_name, written_number};
 use module_arena::{Arena, Brackets, Const, ConstId, GlobalId, TypedConst, Variable};
 use type_table::{IrType, TypeId};
-use type_verify::{Opened, TypeJudge};
+use type_verify::{OpenedType, TypeJudge};
 
 /// Whether these are the types of the fields of a constructor: i32, ptr and ptr.
 fn are_constructor_types(types: &TypeJudge<'_>, fields: &[TypeId]) -> bool
@@ -56,8 +56,8 @@ fn is_array_of_constructors(judge: &Judge<'_>, ty: TypeId) -> bool
     ensures { result ≡ rules.is_array_of rules.constructor_type (tree judge.now.table ty) }
 {
     match judge.types().opened(ty) {
-        Opened::Array(_, element) => is_constructor_type(judge, element),
-        Opened::Struct(_, _) | Opened::Other => false,
+        OpenedType::Array(_, element) => is_constructor_type(judge, element),
+        OpenedType::Struct(_, _) | OpenedType::Other => false,
     }
 }
 
@@ -67,8 +67,8 @@ fn is_array_of_pointers(judge: &Judge<'_>, ty: TypeId) -> bool
     ensures { result ≡ rules.is_array_of ptr (tree judge.now.table ty) }
 {
     match judge.types().opened(ty) {
-        Opened::Array(_, element) => judge.types().is_pointer(element),
-        Opened::Struct(_, _) | Opened::Other => false,
+        OpenedType::Array(_, element) => judge.types().is_pointer(element),
+        OpenedType::Struct(_, _) | OpenedType::Other => false,
     }
 }
 

@@ -3,7 +3,7 @@ ghost use Rattle.std.specs.Prelude.{◌≡◌, ◌≤◌, ◌^◌, [], length, O
 ghost use Rattle.given_starts.specs.Given.{starts_of, with_start};
 
 use crate::merging::merge;
-use crate::row::Row;
+use crate::row::GivenDefinition;
 use crate::search::{count_through, rows_of, start_at};
 use std::alloc::{AllocError, Global};
 use std::marker::Model;
@@ -17,9 +17,9 @@ const MOST_RECENT: usize = 2048;
 /// The ids of blocks, ascending, each with the bits where the definitions start that were given to it, in order.
 #[derive(Drop)]
 pub struct Given {
-    sorted: Vec<Row>,
+    sorted: Vec<GivenDefinition>,
     /// The rows that came last, sorted among themselves: a new one finds its place by moving few others.
-    recent: Vec<Row>,
+    recent: Vec<GivenDefinition>,
 }
 
 impl Model for Given {
@@ -75,7 +75,7 @@ impl Given {
             return Err(AllocError);
         }
         let place = count_through(self.recent.as_slice(), id);
-        self.recent.insert(place, Row::new(id, start))?;
+        self.recent.insert(place, GivenDefinition::new(id, start))?;
         Ok(())
     }
 

@@ -1,12 +1,12 @@
 //! Rows merged with the fewer rows that came after them.
 ghost use Rattle.std.specs.Prelude.{◌≡◌, ◌+◌, ◌-◌, ◌<◌, ◌≤◌, ◌++◌, ℕ, true, false, length, take, slice_index_or};
 ghost use Rattle.given_starts.specs.Rows.{row_id, starts_in, IsAscending};
-ghost use Rattle.given_starts.specs.declared.row.Row.{Row as RowValue};
+ghost use Rattle.given_starts.specs.declared.row.GivenDefinition.{GivenDefinition as RowValue};
 
-use crate::row::Row;
+use crate::row::GivenDefinition;
 
 /// Whether the last of these rows is of a greater id.
-fn ends_above(rows: &[Row], id: u64) -> bool
+fn ends_above(rows: &[GivenDefinition], id: u64) -> bool
     ensures some { result ≡ true → 0 < length rows.now }
     ensures above { result ≡ true → (row : RowValue) → id < row_id (slice_index_or rows.now (length rows.now - 1) row) }
     ensures within { result ≡ false → 0 < length rows.now → (row : RowValue) → row_id (slice_index_or rows.now (length rows.now - 1) row) ≤ id }
@@ -20,7 +20,7 @@ fn ends_above(rows: &[Row], id: u64) -> bool
 
 /// Merges rows that came later into the first so many rows, in place and from behind, where there is room for them. Of
 /// one id those that came later stand behind the others.
-pub fn merge(rows: &mut [Row], count: usize, later: &[Row])
+pub fn merge(rows: &mut [GivenDefinition], count: usize, later: &[GivenDefinition])
     requires room { count + length later.now ≡ length rows.old }
     requires rows { IsAscending (take count rows.old) }
     requires later { IsAscending later.now }

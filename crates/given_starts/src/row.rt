@@ -7,21 +7,21 @@ const LOWER_HALVES: u64 = 1 << 32;
 
 /// A definition that was given to a block id, by the bit where it starts.
 #[derive(Clone, Copy)]
-pub struct Row {
+pub struct GivenDefinition {
     /// The upper half of the id: in two halves of 32 bits a row takes twelve bytes, and no padding.
     high: u32,
     low: u32,
     pub start: u32,
 }
 
-impl Row {
+impl GivenDefinition {
     /// A definition for this block id, which starts at this bit.
     #[tactic(auto, unfolding(crate::specs::Rows::row_id))]
     pub fn new(id: u64, start: u32) -> Self
         ensures id { row_id result ≡ id }
         ensures start { result.start ≡ start }
     {
-        Row {
+        GivenDefinition {
             high: (id / LOWER_HALVES) as u32,
             low: (id % LOWER_HALVES) as u32,
             start,

@@ -4,36 +4,36 @@ ghost use Rattle.std.specs.List.{slice_range};
 ghost use Rattle.std.specs.List.Sorted.{IsPartitionPoint};
 ghost use Rattle.given_starts.specs.Rows.{row_id, starts_in, IsAscending};
 
-use crate::row::Row;
+use crate::row::GivenDefinition;
 
 /// How many rows in front are of smaller ids.
-fn count_below(rows: &[Row], id: u64) -> usize
+fn count_below(rows: &[GivenDefinition], id: u64) -> usize
     requires { IsAscending rows.now }
     ensures bound { result ≤ length rows.now }
     ensures point { IsPartitionPoint (λ row. row_id row < id) (λ row. id ≤ row_id row) rows.now result }
 {
     rows.partition_point(
-        |row: &Row| -> bool
+        |row: &GivenDefinition| -> bool
             ensures { result ≡ nat_lt (row_id row.now) id }
         { row.id() < id },
     )
 }
 
 /// How many rows in front are of smaller ids or of this one.
-pub fn count_through(rows: &[Row], id: u64) -> usize
+pub fn count_through(rows: &[GivenDefinition], id: u64) -> usize
     requires { IsAscending rows.now }
     ensures bound { result ≤ length rows.now }
     ensures point { IsPartitionPoint (λ row. row_id row ≤ id) (λ row. id < row_id row) rows.now result }
 {
     rows.partition_point(
-        |row: &Row| -> bool
+        |row: &GivenDefinition| -> bool
             ensures { result ≡ nat_le (row_id row.now) id }
         { row.id() <= id },
     )
 }
 
 /// From where to where the rows of an id stand.
-fn span(rows: &[Row], id: u64) -> (usize, usize)
+fn span(rows: &[GivenDefinition], id: u64) -> (usize, usize)
     requires { IsAscending rows.now }
     ensures order { result.0 ≤ result.1 }
     ensures bound { result.1 ≤ length rows.now }
@@ -43,7 +43,7 @@ fn span(rows: &[Row], id: u64) -> (usize, usize)
 }
 
 /// The rows of an id.
-pub fn rows_of(rows: &[Row], id: u64) -> &[Row]
+pub fn rows_of(rows: &[GivenDefinition], id: u64) -> &[GivenDefinition]
     requires { IsAscending rows.now }
     ensures starts { map (λ row. row.start) result.now ≡ starts_in rows.now id }
     ensures bound { length result.now ≤ length rows.now }
@@ -53,7 +53,7 @@ pub fn rows_of(rows: &[Row], id: u64) -> &[Row]
 }
 
 /// Where the definition of the row with this index starts.
-pub fn start_at(rows: &[Row], index: usize) -> Option<u32>
+pub fn start_at(rows: &[GivenDefinition], index: usize) -> Option<u32>
     ensures { result ≡ slice_get (map (λ row. row.start) rows.now) index }
 {
     match rows.get(index) {

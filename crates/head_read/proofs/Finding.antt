@@ -5,20 +5,20 @@ use Rattle.std.proofs.lemmas.Bool.{eqb-true, false_from_ne_true}
 use Rattle.bit_tree.specs.Pieces.{Piece, ended}
 use Rattle.record_table.specs.Faults.{Records, no_more, a_block, a_record, module_id}
 use Rattle.record_read.specs.Entries.{IsBefore, IsNearer, Gives}
-use Rattle.record_read.specs.declared.entry.Entry.{Entry}
-use Rattle.record_read.specs.declared.entry.Entry.TheVariants.{Block, Record, End}
+use Rattle.record_read.specs.declared.entry.NextEntry.{NextEntry}
+use Rattle.record_read.specs.declared.entry.NextEntry.TheVariants.{Block, Record, End}
 use Rattle.record_read.specs.Reader.{Reader}
 use Rattle.head_read.specs.Ahead.{FindsFirst, first_module, has_module}
 
 -- an entry was given, with what is left
-abbrev pub Gone : Reader → Entry → Reader → Type 0
+abbrev pub Gone : Reader → NextEntry → Reader → Type 0
 Gone old entry new = (new.spent ≡ false) × IsNearer entry old.left new.left × ((all : Records) (others : List Piece) → IsBefore old.left all others → Gives all old entry new others)
 
-pub gone : (old new : Reader) (given entry : Entry) → Gone old given new → given ≡ entry → Gone old entry new
+pub gone : (old new : Reader) (given entry : NextEntry) → Gone old given new → given ≡ entry → Gone old entry new
 gone old new given entry h is = subst (λ x. Gone old x new) is h
 
 -- what is given in front of anything
-abbrev pub GivesAll : Reader → Entry → Reader → Type 0
+abbrev pub GivesAll : Reader → NextEntry → Reader → Type 0
 GivesAll old entry new = (all : Records) (others : List Piece) → IsBefore old.left all others → Gives all old entry new others
 
 -- the module's block, if there is one, is among those that are left

@@ -9,7 +9,7 @@ use Rattle.record_table.specs.Faults.{Records, no_more, a_block, a_record, types
 use Rattle.record_table.specs.Records.{names_of}
 use Rattle.record_table.specs.TypeRecords.{names_in}
 use Rattle.record_read.specs.Entries.{IsBefore, Gives}
-use Rattle.record_read.specs.declared.entry.Entry.TheVariants.{Block, Record, End}
+use Rattle.record_read.specs.declared.entry.NextEntry.TheVariants.{Block, Record, End}
 use Rattle.record_read.specs.Reader.{Reader}
 use Rattle.arena_read.specs.declared.counts.GlobalCounts.{GlobalCounts}
 use Rattle.type_read.specs.Listed.{AreGathered}

@@ -10,7 +10,7 @@ ghost use Rattle.head_read.specs.Ahead.{CountsRecord, FindsFirst, Gathers, Gathe
 
 use arena_read::GlobalCounts;
 use module_arena::Arena;
-use record_read::{Entry, RecordReader, Texts};
+use record_read::{NextEntry, RecordReader, Texts};
 use record_table::{ALIAS, FUNCTION, MODULE_BLOCK, TYPES_BLOCK, VARIABLE};
 use std::alloc::{AllocError, Global};
 use type_read::{StructNames, gather_types};
@@ -40,14 +40,14 @@ pub fn find_module(reader: &mut RecordReader<'_>) -> Result<bool, AllocError>
 {
     'entries: loop {
         match reader.next()? {
-            Entry::Block(id) => {
+            NextEntry::Block(id) => {
                 if id == MODULE_BLOCK {
                     return Ok(true);
                 }
                 reader.pass_block()?;
             }
-            Entry::Record(_) => {}
-            Entry::End => return Ok(false),
+            NextEntry::Record(_) => {}
+            NextEntry::End => return Ok(false),
         }
     }
 }
@@ -165,14 +165,14 @@ fn gather_module(
     let mut has_types = false;
     'entries: loop {
         match reader.next()? {
-            Entry::Record(code) => {
+            NextEntry::Record(code) => {
                 let counts = counted(ahead.counts, code)?;
                 ahead.counts = counts;
             }
-            Entry::Block(id) => {
+            NextEntry::Block(id) => {
                 has_types = gather_block(reader, alloc, texts, ahead, has_types, id)?;
             }
-            Entry::End => return Ok(()),
+            NextEntry::End => return Ok(()),
         }
     }
 }

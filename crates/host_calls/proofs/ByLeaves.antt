@@ -12,8 +12,8 @@ use Rattle.ir_printf.specs.declared.conversion.ConversionKind.TheVariants as kin
 use Rattle.ir_printf.specs.declared.conversion.Length.{Length}
 use Rattle.ir_printf.specs.declared.conversion.Length.TheVariants as size
 use Rattle.ir_printf.specs.declared.pattern.BadFormat.{BadFormat}
-use Rattle.ir_printf.specs.declared.pattern.Piece.{Piece}
-use Rattle.ir_printf.specs.declared.pattern.Piece.TheVariants as piece
+use Rattle.ir_printf.specs.declared.pattern.PatternPiece.{PatternPiece}
+use Rattle.ir_printf.specs.declared.pattern.PatternPiece.TheVariants as piece
 use Rattle.ir_tables.specs.declared.undefined_kind.UndefinedKind.TheVariants as kinds
 use Rattle.linkage_rules.specs.SameShape.{same_shape}
 use Rattle.run_rules.specs.Access.{and_then, string_at}
@@ -63,7 +63,7 @@ module _ (m : Blocks) (pattern : List ℕ) where
   conversion_by rest h c _ to at [] vs = refl
   conversion_by rest h c _ to at (s ∷ ss) [] = refl
 
-  piece_by : (rest : Rest) → ByLeaves rest → (r : Result Piece BadFormat) → ByLeaves (written_piece m pattern rest r)
+  piece_by : (rest : Rest) → ByLeaves rest → (r : Result PatternPiece BadFormat) → ByLeaves (written_piece m pattern rest r)
   piece_by rest h (Err bad) at ss vs = refl
   piece_by rest h (Ok piece.End) at ss vs = refl
   piece_by rest h (Ok (piece.Literal from to)) at ss vs = ap (then_bytes (Ok (slice_range pattern from to))) (h to ss vs)

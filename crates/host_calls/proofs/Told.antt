@@ -8,8 +8,8 @@ use Rattle.ir_tables.specs.declared.intrinsic.Intrinsic.{Intrinsic}
 use Rattle.ir_tables.specs.declared.undefined_kind.UndefinedKind.TheVariants.{PoisonArgument}
 use Rattle.module_arena.specs.declared.host.HostRow.{HostRow}
 use Rattle.module_arena.specs.declared.host.HostRow.TheVariants.{Printf, Integer}
-use Rattle.run_host.specs.declared.answer.Answer.{Answer}
-use Rattle.run_host.specs.declared.answer.Answer.TheVariants.{Gives, Reads, Exits, Fails, MemoryLimit}
+use Rattle.run_host.specs.declared.answer.HostAnswer.{HostAnswer}
+use Rattle.run_host.specs.declared.answer.HostAnswer.TheVariants.{Gives, Reads, Exits, Fails, MemoryLimit}
 use Rattle.run_host.specs.Answers.{Writes, answer_of}
 use Rattle.run_rules.specs.Answer as rules
 use Rattle.run_rules.specs.Answer.{undefined}
@@ -18,7 +18,7 @@ use Rattle.type_table.specs.Shape.{Shape}
 
 module _ {E : Type 0} where
   -- a call that writes nothing
-  pub quiet : (what : rules.Answer) (m : Blocks) (old : List ℕ) (r : Result Answer E) → IfOk r (λ a. what ≡ answer_of a m []) → Writes what m old old r
+  pub quiet : (what : rules.Answer) (m : Blocks) (old : List ℕ) (r : Result HostAnswer E) → IfOk r (λ a. what ≡ answer_of a m []) → Writes what m old old r
   quiet what m old (Ok (Gives result)) h = ([], h, sym (append-nil old))
   quiet what m old (Ok Reads) h = (h, refl)
   quiet what m old (Ok (Exits status)) h = (h, refl)
@@ -27,7 +27,7 @@ module _ {E : Type 0} where
   quiet what m old (Err e) h = tt
 
   -- the same call in other words
-  pub written_so : (what other : rules.Answer) (m : Blocks) (old new : List ℕ) (r : Result Answer E) → other ≡ what → Writes other m old new r → Writes what m old new r
+  pub written_so : (what other : rules.Answer) (m : Blocks) (old new : List ℕ) (r : Result HostAnswer E) → other ≡ what → Writes other m old new r → Writes what m old new r
   written_so what other m old new r e h = subst (λ w. Writes w m old new r) e h
 
 -- ---- rows that are neither an intrinsic over integers nor printf

@@ -16,15 +16,15 @@ use Rattle.ir_printf.specs.declared.conversion.ConversionKind.TheVariants as kin
 use Rattle.ir_printf.specs.declared.conversion.Length.{Length}
 use Rattle.ir_printf.specs.declared.conversion.Length.TheVariants as size
 use Rattle.ir_printf.specs.declared.pattern.BadFormat.{BadFormat}
-use Rattle.ir_printf.specs.declared.pattern.Piece.{Piece}
-use Rattle.ir_printf.specs.declared.pattern.Piece.TheVariants as piece
+use Rattle.ir_printf.specs.declared.pattern.PatternPiece.{PatternPiece}
+use Rattle.ir_printf.specs.declared.pattern.PatternPiece.TheVariants as piece
 use Rattle.ir_tables.specs.declared.undefined_kind.UndefinedKind.{UndefinedKind}
 use Rattle.ir_tables.specs.declared.undefined_kind.UndefinedKind.TheVariants as kinds
 use Rattle.linkage_rules.specs.SameShape.{same_shape}
 use Rattle.run_rules.specs.Printing.{Rest, converted, shape_for, then_bytes, written_conversion, written_from, written_piece}
 use Rattle.run_values.specs.Answer.{IsRefusal, Loads}
 use Rattle.type_table.specs.Shape.{Shape, void_leaf}
-use Rattle.host_calls.specs.declared.pattern.Place.{Place}
+use Rattle.host_calls.specs.declared.pattern.PatternPlace.{PatternPlace}
 use Rattle.host_calls.specs.Pieces.{IsPiece, IsPlace, piece_from, rest_from}
 use Rattle.host_calls.specs.Printing.{AreOf, IsConversion, shape_from, takes_argument}
 
@@ -41,7 +41,7 @@ behind_both front bytes (Err e) = refl
 -- ---- where pieces end
 
 -- a piece that is not the end ends behind its place
-abbrev EndsBehind : ℕ → Result Piece BadFormat → Type 0
+abbrev EndsBehind : ℕ → Result PatternPiece BadFormat → Type 0
 EndsBehind at (Ok (piece.Literal from to)) = (from ≡ at) × (at < to)
 EndsBehind at (Ok (piece.Convert c to)) = at < to
 EndsBehind at (Ok piece.End) = ⊤
@@ -78,7 +78,7 @@ module _ (m : Blocks) (pattern : List ℕ) where
   conversion_same r q at h c _ to lt [] vs = refl
   conversion_same r q at h c _ to lt (s ∷ ss) [] = refl
 
-  piece_same : (r q : Rest) (at : ℕ) → SameBehind at r q → (p : Result Piece BadFormat) → EndsBehind at p → (ss : List Shape) (vs : List Scalar) → written_piece m pattern r p at ss vs ≡ written_piece m pattern q p at ss vs
+  piece_same : (r q : Rest) (at : ℕ) → SameBehind at r q → (p : Result PatternPiece BadFormat) → EndsBehind at p → (ss : List Shape) (vs : List Scalar) → written_piece m pattern r p at ss vs ≡ written_piece m pattern q p at ss vs
   piece_same r q at h (Err bad) ends ss vs = refl
   piece_same r q at h (Ok piece.End) ends ss vs = refl
   piece_same r q at h (Ok (piece.Literal from to)) ends ss vs = ap (then_bytes (Ok (slice_range pattern from to))) (h to ends.1 ss vs)
@@ -188,11 +188,11 @@ refusal_of expected old new faults.MemoryLimit h = h
 
 module _ (m : Blocks) (pattern : List ℕ) (told : List (Option Leaf)) (vs : List Scalar) where
   -- the piece is known
-  piece_is : (rest : Rest) (p : Place) (r : Result Piece BadFormat) → piece_at pattern p.at ≡ r → piece_from m pattern told vs rest p ≡ written_piece m pattern rest r p.at (map shape_from (drop p.taken told)) (drop p.taken vs)
+  piece_is : (rest : Rest) (p : PatternPlace) (r : Result PatternPiece BadFormat) → piece_at pattern p.at ≡ r → piece_from m pattern told vs rest p ≡ written_piece m pattern rest r p.at (map shape_from (drop p.taken told)) (drop p.taken vs)
   piece_is rest p r e = ap (λ r. written_piece m pattern rest r p.at (map shape_from (drop p.taken told)) (drop p.taken vs)) e
 
   -- a conversion that was refused
-  pub conversion_refused : (rest : Rest) (p : Place) (c : Conversion) (to : ℕ) (fault : MemoryFault) → piece_at pattern p.at ≡ Ok (piece.Convert c to)
+  pub conversion_refused : (rest : Rest) (p : PatternPlace) (c : Conversion) (to : ℕ) (fault : MemoryFault) → piece_at pattern p.at ≡ Ok (piece.Convert c to)
       → ((rest : Rest) (to at : ℕ) → IsRefusal (written_conversion m rest c c.kind to at (map shape_from (take (length told - p.taken) (drop p.taken told))) (take (length vs - p.taken) (drop p.taken vs))) fault)
       → IsRefusal (piece_from m pattern told vs rest p) fault
   conversion_refused rest p c to fault e h =
@@ -200,18 +200,18 @@ module _ (m : Blocks) (pattern : List ℕ) (told : List (Option Leaf)) (vs : Lis
       (sym (piece_is rest p (Ok (piece.Convert c to)) e ∙ ap₂ (λ ks us. written_conversion m rest c c.kind to p.at (map shape_from ks) us) (sym (take_rest told p.taken)) (sym (take_rest vs p.taken)))) (h rest to p.at)
 
   -- how far a pattern is written
-  pub record IsUnderWay (p : Place) (old new : List ℕ) : Type 0 where
+  pub record IsUnderWay (p : PatternPlace) (old new : List ℕ) : Type 0 where
     pub front : List ℕ
     pub items : new ≡ old ++ front
     pub place : IsPlace (length m.list) pattern told vs p
     pub all : whole m pattern 0 (map shape_from told) vs ≡ then_bytes (Ok front) (rest_from m pattern told vs (whole m pattern) p)
 
   -- the piece and what is behind it
-  here : (p : Place) (old new : List ℕ) (w : IsUnderWay p old new) → whole m pattern 0 (map shape_from told) vs ≡ then_bytes (Ok w.front) (piece_from m pattern told vs (whole m pattern) p)
+  here : (p : PatternPlace) (old new : List ℕ) (w : IsUnderWay p old new) → whole m pattern 0 (map shape_from told) vs ≡ then_bytes (Ok w.front) (piece_from m pattern told vs (whole m pattern) p)
   here p old new w = w.all ∙ ap (then_bytes (Ok w.front)) (turn m pattern p.at (map shape_from (drop p.taken told)) (drop p.taken vs))
 
   -- one piece more
-  pub one_further : (p next : Place) (old now new bytes : List ℕ) → IsUnderWay p old now → IsPiece m pattern told vs p bytes (Some next) → new ≡ now ++ bytes → IsUnderWay next old new
+  pub one_further : (p next : PatternPlace) (old now new bytes : List ℕ) → IsUnderWay p old now → IsPiece m pattern told vs p bytes (Some next) → new ≡ now ++ bytes → IsUnderWay next old new
   one_further p next old now new bytes w is grown = record {
     front = w.front ++ bytes;
     items = grown ∙ ap (λ l. l ++ bytes) w.items ∙ append_assoc old w.front bytes;
@@ -220,13 +220,13 @@ module _ (m : Blocks) (pattern : List ℕ) (told : List (Option Leaf)) (vs : Lis
   }
 
   -- the end of the pattern
-  pub at_the_end : (p : Place) (old now new bytes : List ℕ) → IsUnderWay p old now → IsPiece m pattern told vs p bytes None → new ≡ now ++ bytes
+  pub at_the_end : (p : PatternPlace) (old now new bytes : List ℕ) → IsUnderWay p old now → IsPiece m pattern told vs p bytes None → new ≡ now ++ bytes
       → (all : List ℕ) × (whole m pattern 0 (map shape_from told) vs ≡ Ok all) × (new ≡ old ++ all)
   at_the_end p old now new bytes w is grown =
       (w.front ++ bytes, here p old now w ∙ ap (then_bytes (Ok w.front)) (is (whole m pattern)), grown ∙ ap (λ l. l ++ bytes) w.items ∙ append_assoc old w.front bytes)
 
   -- a piece that was refused
-  pub part_refused : (p : Place) (old now : List ℕ) (fault : MemoryFault) → IsUnderWay p old now → ((rest : Rest) → IsRefusal (piece_from m pattern told vs rest p) fault) → IsRefusal (whole m pattern 0 (map shape_from told) vs) fault
+  pub part_refused : (p : PatternPlace) (old now : List ℕ) (fault : MemoryFault) → IsUnderWay p old now → ((rest : Rest) → IsRefusal (piece_from m pattern told vs rest p) fault) → IsRefusal (whole m pattern 0 (map shape_from told) vs) fault
   part_refused p old now (faults.Undefined which) w h = here p old now w ∙ ap (then_bytes (Ok w.front)) (h (whole m pattern))
   part_refused p old now faults.Memory w h = tt
   part_refused p old now faults.MemoryLimit w h = absurd (h (whole m pattern))

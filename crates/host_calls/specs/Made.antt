@@ -6,8 +6,8 @@ use Rattle.ir_memory.specs.declared.leaf.Leaf.{Leaf}
 use Rattle.module_arena.specs.declared.host.HostRow.{HostRow}
 use Rattle.module_arena.specs.declared.host.HostRow.TheVariants.{Printf}
 use Rattle.module_arena.specs.HostRows.{host_types}
-use Rattle.run_host.specs.declared.answer.Answer.{Answer}
-use Rattle.run_host.specs.declared.answer.Answer.TheVariants.{Gives, Reads, Exits, Fails, MemoryLimit}
+use Rattle.run_host.specs.declared.answer.HostAnswer.{HostAnswer}
+use Rattle.run_host.specs.declared.answer.HostAnswer.TheVariants.{Gives, Reads, Exits, Fails, MemoryLimit}
 use Rattle.run_rules.specs.Action.{Signature}
 use Rattle.run_rules.specs.Calls.{same_signature}
 use Rattle.run_rules.specs.Look.{no_names}
@@ -28,7 +28,7 @@ pub record IsHostCall (row : HostRow) (count : ℕ) (kinds : List (Option Leaf))
   pub told : row ≡ Printf → kinds ≡ map leaf_of shapes
 
 -- the call does not return by itself: a byte of the input is its result, or the program ends
-abbrev pub EndsOrReads : Answer → Type 0
+abbrev pub EndsOrReads : HostAnswer → Type 0
 EndsOrReads (Gives result) = ⊥
 EndsOrReads Reads = ⊤
 EndsOrReads (Exits status) = ⊤

@@ -4,7 +4,7 @@ use Rattle.std.specs.List.{AllZip}
 use Rattle.ir_eval.specs.declared.value.Pointer.{Pointer}
 use Rattle.ir_eval.specs.declared.value.Scalar.{Scalar}
 use Rattle.ir_eval.specs.declared.value.Scalar.TheVariants.{Int, Ptr, Poison}
-use Rattle.ir_memory.specs.Block.{Block}
+use Rattle.ir_memory.specs.Block.{MemoryBlock}
 use Rattle.ir_memory.specs.Given.{IsAddress}
 use Rattle.ir_memory.specs.declared.leaf.Leaf.TheVariants as leaf
 use Rattle.module_arena.specs.declared.host.HostRow.{HostRow}
@@ -44,11 +44,11 @@ pointer_of (Ptr pointer) = pointer
 pointer_of Poison = record { block = None; address = 0 }
 
 -- where to, where from, and how many bytes
-abbrev pub AreCopied : List Block → List Scalar → Type 0
+abbrev pub AreCopied : List MemoryBlock → List Scalar → Type 0
 AreCopied blocks arguments = IsAddress blocks (operand_at arguments 0) × IsAddress blocks (operand_at arguments 1) × (number_of (operand_at arguments 2) < 2 ^ 64)
 
 -- where to, a number, and how many bytes
-abbrev pub AreFilled : List Block → List Scalar → Type 0
+abbrev pub AreFilled : List MemoryBlock → List Scalar → Type 0
 AreFilled blocks arguments = IsAddress blocks (operand_at arguments 0) × (number_of (operand_at arguments 2) < 2 ^ 64)
 
 -- the functions of C give where they wrote, the intrinsics nothing

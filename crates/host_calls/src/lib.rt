@@ -7,7 +7,7 @@
 //! ```
 //! let kinds = [Some(Leaf::Int(32))];
 //! call(alloc, HostRow::Putchar, &kinds, &[Scalar::Int(353)], &mut memory, &mut written)?
-//! // Answer::Gives(Some(outcome)): outcome.first is Scalar::Int(97), and `a` was added to `written`
+//! // HostAnswer::Gives(Some(outcome)): outcome.first is Scalar::Int(97), and `a` was added to `written`
 //! ```
 #![tactic(auto)]
 

@@ -8,7 +8,7 @@ ghost use Rattle.host_calls.specs.Pieces.{IsPiece, IsPlace, piece_from};
 use crate::conversion::put_argument;
 use ir_eval::Scalar;
 use ir_memory::{Leaf, Memory, MemoryFault};
-use ir_printf::{Conversion, ConversionKind, Piece, next_piece};
+use ir_printf::{Conversion, ConversionKind, PatternPiece, next_piece};
 use ir_tables::UndefinedKind;
 use std::alloc::Global;
 
@@ -22,7 +22,7 @@ pub(crate) struct Format<'f> {
 
 /// How far a pattern was written: the place of its next piece, and how many arguments were taken.
 #[derive(Clone, Copy)]
-pub(crate) struct Place {
+pub(crate) struct PatternPlace {
     pub(crate) at: usize,
     pub(crate) taken: usize,
 }
@@ -60,9 +60,9 @@ fn put_piece(
     alloc: Global,
     memory: &Memory,
     format: &Format<'_>,
-    place: Place,
+    place: PatternPlace,
     written: &mut Vec<u8>,
-) -> Result<Option<Place>, MemoryFault>
+) -> Result<Option<PatternPlace>, MemoryFault>
     requires { IsPlace (length memory.now.list) format.now.pattern.now format.now.kinds.now format.now.arguments.now place }
     ensures ok { IfOk result (λ next. (bytes : List ℕ) × IsPiece memory.now format.now.pattern.now format.now.kinds.now format.now.arguments.now place bytes next × (written.new.items ≡ written.old.items ++ bytes)) }
     ensures err { OnErr result (written.new.items ≡ written.old.items) }
@@ -70,19 +70,19 @@ fn put_piece(
 {
     match next_piece(format.pattern, place.at) {
         Err(_) => Err(MemoryFault::Undefined(UndefinedKind::BadFormat)),
-        Ok(Piece::End) => Ok(None),
-        Ok(Piece::Literal(from, to)) => {
+        Ok(PatternPiece::End) => Ok(None),
+        Ok(PatternPiece::Literal(from, to)) => {
             written.extend_from_slice(&format.pattern[from..to])?;
-            Ok(Some(Place {
+            Ok(Some(PatternPlace {
                 at: to,
                 taken: place.taken,
             }))
         }
-        Ok(Piece::Convert(conversion, to)) => {
+        Ok(PatternPiece::Convert(conversion, to)) => {
             let kinds = &format.kinds[place.taken..];
             let arguments = &format.arguments[place.taken..];
             let taken = put_conversion(alloc, memory, &conversion, kinds, arguments, written)?;
-            Ok(Some(Place {
+            Ok(Some(PatternPlace {
                 at: to,
                 taken: place.taken + taken,
             }))
@@ -102,7 +102,7 @@ pub(crate) fn put_pieces(
     ensures err { OnErr result ((bytes : List ℕ) × (written.new.items ≡ written.old.items ++ bytes)) }
     ensures why { IfErr result (IsRefusal (written_from memory.now format.now.pattern.now (length format.now.pattern.now + 1) 0 (map shape_from format.now.kinds.now) format.now.arguments.now)) }
 {
-    let mut place = Place { at: 0, taken: 0 };
+    let mut place = PatternPlace { at: 0, taken: 0 };
     'pieces: loop {
         match put_piece(alloc, memory, format, place, written)? {
             Some(next) => place = next,

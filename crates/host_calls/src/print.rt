@@ -9,7 +9,7 @@ use crate::pattern::{Format, put_pieces};
 use ir_eval::Scalar;
 use ir_memory::{Leaf, Memory};
 use ir_tables::UndefinedKind;
-use run_host::{Answer, refused};
+use run_host::{HostAnswer, refused};
 use run_values::push_string;
 use std::alloc::{AllocError, Global};
 
@@ -20,7 +20,7 @@ fn print_format(
     memory: &Memory,
     format: &Format<'_>,
     written: &mut Vec<u8>,
-) -> Result<Answer, AllocError>
+) -> Result<HostAnswer, AllocError>
     requires { AreOf (length memory.now.list) format.now.kinds.now format.now.arguments.now }
     ensures { Writes (printed memory.now (written_from memory.now format.now.pattern.now (length format.now.pattern.now + 1) 0 (map shape_from format.now.kinds.now) format.now.arguments.now)) memory.now written.old.items written.new.items result }
 {
@@ -28,7 +28,7 @@ fn print_format(
     match put_pieces(alloc, memory, format, written) {
         Ok(()) => {
             let count = (written.len() - before) as u128 % 0x1_0000_0000;
-            Ok(Answer::Gives(one(Scalar::Int(count))))
+            Ok(HostAnswer::Gives(one(Scalar::Int(count))))
         }
         Err(fault) => {
             written.truncate(before);
@@ -44,12 +44,12 @@ pub(crate) fn print(
     kinds: &[Option<Leaf>],
     arguments: &[Scalar],
     written: &mut Vec<u8>,
-) -> Result<Answer, AllocError>
+) -> Result<HostAnswer, AllocError>
     requires { ArePrinted (length memory.now.list) kinds.now arguments.now }
     ensures { Writes (prints (map shape_from kinds.now) arguments.now memory.now) memory.now written.old.items written.new.items result }
 {
     let Some(Scalar::Ptr(string)) = arguments.first() else {
-        return Ok(Answer::Fails(UndefinedKind::PoisonArgument));
+        return Ok(HostAnswer::Fails(UndefinedKind::PoisonArgument));
     };
     let mut pattern = Vec::new(alloc);
     if let Err(fault) = push_string(memory, *string, None, &mut pattern) {

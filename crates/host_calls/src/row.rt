@@ -20,7 +20,9 @@ use ir_intrinsics::Outcome;
 use ir_memory::{Leaf, Memory};
 use ir_tables::UndefinedKind;
 use module_arena::HostRow;
-use run_host::{Answer, allocate, copy, evaluate, fill, free, put_byte, put_line, string_length};
+use run_host::{
+    HostAnswer, allocate, copy, evaluate, fill, free, put_byte, put_line, string_length,
+};
 use std::alloc::{AllocError, Global};
 
 /// The status of a program that calls `abort`: that of a shell where a signal 6 ended it.
@@ -42,7 +44,7 @@ fn copy_bytes(
     row: HostRow,
     arguments: &[Scalar],
     may_overlap: bool,
-) -> Result<Answer, AllocError>
+) -> Result<HostAnswer, AllocError>
     requires { AreCopied memory.old.list arguments.now }
     ensures answer { IfOk result (λ answer. changes (given row arguments.now) (copied (operand_at arguments.now 0) (operand_at arguments.now 1) (number_of (operand_at arguments.now 2)) may_overlap memory.old) ≡ answer_of answer memory.new []) }
     ensures refused { IfOk result (λ answer. EndsTheRun answer → memory.new ≡ memory.old) }
@@ -56,7 +58,7 @@ fn copy_bytes(
 }
 
 /// Fills: the arguments are where to, the number whose low byte is written, and how many bytes.
-fn fill_bytes(memory: &mut Memory, row: HostRow, arguments: &[Scalar]) -> Answer
+fn fill_bytes(memory: &mut Memory, row: HostRow, arguments: &[Scalar]) -> HostAnswer
     requires { AreFilled memory.old.list arguments.now }
     ensures answer { changes (given row arguments.now) (filled (operand_at arguments.now 0) (number_of (operand_at arguments.now 1) % 256) (number_of (operand_at arguments.now 2)) memory.old) ≡ answer_of result memory.new [] }
     ensures refused { EndsTheRun result → memory.new ≡ memory.old }
@@ -74,7 +76,7 @@ fn carry_out(
     arguments: &[Scalar],
     memory: &mut Memory,
     written: &mut Vec<u8>,
-) -> Result<Answer, AllocError>
+) -> Result<HostAnswer, AllocError>
     requires taken { AreTaken row (length memory.old.list) arguments.now }
     requires full { list_any is_poison arguments.now ≡ false }
     requires next { memory.old.next ≤ 2 ^ 61 }
@@ -85,9 +87,9 @@ fn carry_out(
     match row {
         HostRow::Putchar => put_byte(number_at(arguments, 0), written),
         HostRow::Puts => put_line(memory, pointer_at(arguments, 0), written),
-        HostRow::Getchar => Ok(Answer::Reads),
-        HostRow::Exit => Ok(Answer::Exits((number_at(arguments, 0) % 256) as u8)),
-        HostRow::Abort => Ok(Answer::Exits(ABORTED)),
+        HostRow::Getchar => Ok(HostAnswer::Reads),
+        HostRow::Exit => Ok(HostAnswer::Exits((number_at(arguments, 0) % 256) as u8)),
+        HostRow::Abort => Ok(HostAnswer::Exits(ABORTED)),
         HostRow::Malloc => allocate(memory, number_at(arguments, 0)),
         HostRow::Free => Ok(free(memory, pointer_at(arguments, 0))),
         HostRow::Strlen => string_length(memory, pointer_at(arguments, 0), written),
@@ -100,9 +102,9 @@ fn carry_out(
         HostRow::Memset | HostRow::MemsetI64 | HostRow::MemsetI32 => {
             Ok(fill_bytes(memory, row, arguments))
         }
-        HostRow::LifetimeStart | HostRow::LifetimeEnd => Ok(Answer::Gives(None)),
+        HostRow::LifetimeStart | HostRow::LifetimeEnd => Ok(HostAnswer::Gives(None)),
         HostRow::Printf | HostRow::Integer(_, _) => {
-            Ok(Answer::Fails(UndefinedKind::AnotherFunctionType))
+            Ok(HostAnswer::Fails(UndefinedKind::AnotherFunctionType))
         }
     }
 }
@@ -113,7 +115,7 @@ fn call_plain(
     arguments: &[Scalar],
     memory: &mut Memory,
     written: &mut Vec<u8>,
-) -> Result<Answer, AllocError>
+) -> Result<HostAnswer, AllocError>
     requires taken { AreTaken row (length memory.old.list) arguments.now }
     requires next { memory.old.next ≤ 2 ^ 61 }
     ensures answer { Writes (if list_any is_poison arguments.now then undefined PoisonArgument else done row arguments.now memory.old) memory.new written.old.items written.new.items result }
@@ -121,7 +123,7 @@ fn call_plain(
     ensures err { OnErr result (memory.new ≡ memory.old) }
 {
     if has_poison(arguments) {
-        return Ok(Answer::Fails(UndefinedKind::PoisonArgument));
+        return Ok(HostAnswer::Fails(UndefinedKind::PoisonArgument));
     }
     carry_out(row, arguments, memory, written)
 }
@@ -139,7 +141,7 @@ pub fn call(
     arguments: &[Scalar],
     memory: &mut Memory,
     written: &mut Vec<u8>,
-) -> Result<Answer, AllocError>
+) -> Result<HostAnswer, AllocError>
     requires row { IsRow row }
     requires made { IsHostCall row (length memory.old.list) kinds.now arguments.now }
     requires next { memory.old.next ≤ 2 ^ 61 }

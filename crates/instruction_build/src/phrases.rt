@@ -13,7 +13,7 @@ use crate::locals::Locals;
 use crate::numbers::indices_of;
 use crate::values::{build_operand, build_value};
 use ir_constants::TypedValue;
-use ir_instructions::{Conversion, Extraction, Insertion, Operands};
+use ir_instructions::{CastParts, Extraction, Insertion, Operands};
 use ir_tables::{Flags, Opcode, Predicate};
 use module_arena::{Boxed, Choice, Inst, Operand, Value, ValueId};
 use std::alloc::{AllocError, Global};
@@ -91,7 +91,7 @@ pub(crate) fn build_cast(
     next: ValueId,
     opcode: Opcode,
     flags: Flags,
-    conversion: &Conversion,
+    conversion: &CastParts,
 ) -> Result<Inst, AllocError>
     requires can { TakesOperation builder.old.arena locals.now (tree.Cast opcode flags (typed_value_view conversion.now.value) (type_view conversion.now.to)) }
     requires few_values { length locals.now.values.names.items < 2 ^ 32 }

@@ -3,7 +3,7 @@ pub mod CalleesTold
 pub mod CasesTold
 pub mod DistinctTold
 pub mod ElementsTold
-pub mod FactsTold
+pub mod OperandsKnown
 pub mod NothingAsked
 pub mod OwnTypes
 pub mod PartsTold

@@ -16,7 +16,7 @@ use constant_verify::Judge;
 use entry_rules::{are_passable, return_suits};
 use module_arena::{Inst, Signature};
 use type_table::TypeId;
-use type_verify::{Opened, TypeJudge};
+use type_verify::{OpenedType, TypeJudge};
 
 /// The field with that number, where there is one.
 fn field_at(fields: &[TypeId], index: u32) -> Option<TypeId>
@@ -32,15 +32,15 @@ fn part_of(types: &TypeJudge<'_>, ty: TypeId, index: u32) -> Option<TypeId>
     ensures known { IfSome result (λ part. part < length types.now.types) }
 {
     match types.opened(ty) {
-        Opened::Array(count, element) => {
+        OpenedType::Array(count, element) => {
             if u64::from(index) < count {
                 Some(element)
             } else {
                 None
             }
         }
-        Opened::Struct(_, fields) => field_at(fields, index),
-        Opened::Other => None,
+        OpenedType::Struct(_, fields) => field_at(fields, index),
+        OpenedType::Other => None,
     }
 }
 

@@ -20,8 +20,8 @@ abbrev pub named_in : List (List ℕ × List ℕ) → Named
 named_in files name = lookup (bytes_eq name) files
 
 -- the files by their names
-abbrev pub named : FilesState → Named
-named state = named_in state.files
+abbrev pub files_named : FilesState → Named
+files_named state = named_in state.files
 
 -- the next call of a file is told to fail
 abbrev pub fails_next : FilesState → Bool

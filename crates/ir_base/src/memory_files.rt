@@ -3,7 +3,7 @@ ghost use Rattle.std.specs.Prelude.{◌≡◌, ◌≢◌, ◌⊎◌, ◌≤◌, 
 ghost use Rattle.std.specs.Option.{option_copied};
 ghost use Rattle.ir_base.specs.Answers.{Answers};
 ghost use Rattle.ir_base.specs.Files.{Holds, HoldsFront, IsMissing, IsOver, ReadsFrom, with_file};
-ghost use Rattle.ir_base.specs.MemoryFiles.{after_read, after_write, fails_next, named, named_in, within_limit};
+ghost use Rattle.ir_base.specs.MemoryFiles.{after_read, after_write, fails_next, files_named, named_in, within_limit};
 ghost use Rattle.ir_base.specs.Outside.{Rose};
 
 use crate::failing_calls::FailingCalls;
@@ -65,7 +65,7 @@ impl MemoryFiles {
 
     /// Sets one file, which is no counted call. Where memory runs out nothing changes.
     pub fn put(&mut self, name: Text, bytes: Text) -> Result<(), AllocError>
-        ensures ok { OnOk result (named self.new ≡ with_file (named self.old) name bytes) }
+        ensures ok { OnOk result (files_named self.new ≡ with_file (files_named self.old) name bytes) }
         ensures err { OnErr result (self.new.files ≡ self.old.files) }
         ensures rest { self.new ≡ record self.old { files = self.new.files } }
     {
@@ -74,14 +74,14 @@ impl MemoryFiles {
 
     /// The bytes of the file of this name, where there is one. This is no counted call.
     pub fn get(&self, name: &Text) -> Option<&Text>
-        ensures { option_copied result ≡ named self.now name.now }
+        ensures { option_copied result ≡ files_named self.now name.now }
     {
         self.files.get(name)
     }
 }
 
 impl Files for MemoryFiles {
-    ghost contents = { λ files. Some (named files) };
+    ghost contents = { λ files. Some (files_named files) };
 
     ghost read_faults = { λ files. files.read_faults };
 
@@ -89,10 +89,10 @@ impl Files for MemoryFiles {
 
     fn read_file(&mut self, alloc: Global, name: &Text, limit: u64) -> Result<Text, FileFault>
         ensures answer { MatchBool (fails_next self.old) (IsErrOf result FileFault.Failed)
-            (Answers FileFault.Memory result (within_limit limit (named self.old name.now))) }
+            (Answers FileFault.Memory result (within_limit limit (files_named self.old name.now))) }
         ensures after { self.new ≡ after_read self.old }
         ensures rose { IsErrOf result FileFault.Failed →
-            Rose self.old.read_faults self.new.read_faults ⊎ IsMissing (Some (named self.old)) name.now }
+            Rose self.old.read_faults self.new.read_faults ⊎ IsMissing (Some (files_named self.old)) name.now }
         ensures later { self.old.read_faults ≤ self.new.read_faults }
     {
         if self.calls.next_fails() {
@@ -112,7 +112,7 @@ impl Files for MemoryFiles {
         ensures answer { MatchBool (fails_next self.old) (IsErrOf result FileFault.Failed)
             (Answers FileFault.Memory result (Ok tt)) }
         ensures after { self.new ≡ after_write self.old self.new.files }
-        ensures written { OnOk result (named self.new ≡ with_file (named self.old) name.now bytes.now) }
+        ensures written { OnOk result (files_named self.new ≡ with_file (files_named self.old) name.now bytes.now) }
         ensures kept { OnErr result (self.new.files ≡ self.old.files) }
         ensures rose { IsErrOf result FileFault.Failed → Rose self.old.write_faults self.new.write_faults }
         ensures later { self.old.write_faults ≤ self.new.write_faults }

@@ -11,14 +11,14 @@ use Rattle.ir_tables.specs.Flag.{flag_code}
 use Rattle.ir_tables.specs.Flags.{has_flag, flags_with}
 use Rattle.ir_tables.specs.MayHave.{may_have}
 use Rattle.ir_tables.proofs.FlagBits.{or_flag, or_flag_bound, has_flag-with}
-use Rattle.phrase_rows.specs.Row.{Row, second, before}
+use Rattle.phrase_rows.specs.Row.{Row, keep_second, keep_first}
 use Rattle.ir_terminals.specs.declared.limits.Limits.{Limits}
 use Rattle.ir_terminals.specs.declared.terminal.Terminal.TheVariants as terminal
 use Rattle.ir_terminals.specs.Role.{class}
 use Rattle.ir_terminals.specs.Terminal.{flag_class}
 use Rattle.ir_terminals.specs.Tokens.{word, integer_row, global_name_row, byte_string_row, local_row}
 use Rattle.ir_terminals.specs.Values.{flag_of, opcode_in}
-use Rattle.ir_constants.specs.Placed.{placed}
+use Rattle.ir_constants.specs.Placed.{token_with_place}
 use Rattle.ir_constants.specs.Tree.{ConstantTree, TypedConstantTree, constants, LocalValue, ConstantValue}
 use Rattle.ir_constants.specs.Types.{type_shape, list_shape, type_row}
 use Rattle.ir_constants.specs.Flags.{with_flag, flag_shape, flag_step, flags_shape, flags_core, flags_row}
@@ -97,7 +97,7 @@ module _ (limits : Limits) (typed : Row Located TypedConstantTree) (h : Gives ty
   gives_packed_constant : Gives (packed_constant_row typed) IsFormed
   gives_packed_constant =
       gives_mapped _ IsFormed
-      (gives_pair (gives_any (word terminal.Less)) (gives_second (word terminal.OpenBrace) (gives_before (second (word terminal.CloseBrace) (word terminal.Greater)) gives_elements)))
+      (gives_pair (gives_any (word terminal.Less)) (gives_second (word terminal.OpenBrace) (gives_before (keep_second (word terminal.CloseBrace) (word terminal.Greater)) gives_elements)))
       (λ v x. all_formed v.1 x.1)
 
   gives_operands_core : Gives (operands_core typed) (λ cs. IsNotEmpty cs × AllAre IsTypedFormed cs)
@@ -113,14 +113,14 @@ module _ (limits : Limits) (typed : Row Located TypedConstantTree) (h : Gives ty
       gives_mapped _ IsFormed
       (gives_pair (gives_flags op.GetElementPtr)
       (gives_second (word terminal.OpenParenthesis)
-      (gives_pair (gives_any (before (type_row limits) (word terminal.Comma))) (gives_before (word terminal.CloseParenthesis) gives_operands))))
+      (gives_pair (gives_any (keep_first (type_row limits) (word terminal.Comma))) (gives_before (word terminal.CloseParenthesis) gives_operands))))
       (λ v x. (x.0, has_constant v.1.1 x.1.1.0, all_formed v.1.1 x.1.1.1))
 
   gives_conversion : (place : Place) (opcode : Opcode) → is_constant_cast opcode ≡ true → Gives (conversion_row limits typed place opcode) IsFormed
   gives_conversion place opcode ok =
       gives_mapped _ IsFormed
       (gives_second (word terminal.OpenParenthesis)
-      (gives_pair (gives_before (word terminal.To) h) (gives_any (before (type_row limits) (word terminal.CloseParenthesis)))))
+      (gives_pair (gives_before (word terminal.To) h) (gives_any (keep_first (type_row limits) (word terminal.CloseParenthesis)))))
       (λ v x. (ok, x.0))
 
   gives_arithmetic : (place : Place) (opcode : Opcode) → is_constant_sum opcode ≡ true → Gives (arithmetic_row typed place opcode) IsFormed
@@ -147,7 +147,7 @@ module _ (limits : Limits) (typed : Row Located TypedConstantTree) (h : Gives ty
 
   gives_expression : Gives (expression_row limits typed) IsFormed
   gives_expression =
-      gives_chain expression_shape IsFormed (gives_any (placed expression_classes opcode_in)) (λ v x. gives_labelled expression_shape (gives_expression_core v))
+      gives_chain expression_shape IsFormed (gives_any (token_with_place expression_classes opcode_in)) (λ v x. gives_labelled expression_shape (gives_expression_core v))
 
   gives_holder_step : Gives (holder_step limits typed) IsFormed
   gives_holder_step = gives_alt class gives_array_constant (gives_alt class gives_struct_constant (gives_alt class gives_packed_constant gives_expression))
@@ -162,7 +162,7 @@ gives_constant_core holder h =
     gives_alt class (gives_mapped _ IsFormed (gives_any integer_row) (λ v x. tt))
     (gives_alt class (gives_mapped _ IsFormed (gives_any global_name_row) (λ v x. tt))
     (gives_alt class (gives_mapped _ IsFormed (gives_any byte_string_row) (λ v x. tt))
-    (gives_alt class (gives_mapped _ IsFormed (gives_any (placed simple_classes simple_word)) (λ v x. tt)) h)))
+    (gives_alt class (gives_mapped _ IsFormed (gives_any (token_with_place simple_classes simple_word)) (λ v x. tt)) h)))
 
 gives_holder : (limits : Limits) (depth : ℕ) → Gives (holder_core limits depth) IsFormed
 unfolding holder_core

@@ -1,6 +1,6 @@
 -- What the values of whole phrases are like.
 use Rattle.std.proofs.Common.{◌≡◌, ℕ, List, [], ◌∷◌, ◌++◌, true, Option, Some, None, inl, inr, sym, subst}
-use Rattle.phrase_rows.specs.Row.{Row, Shape, among, nothing, fail, one, chain, mapped, both, second, before, pair, alt, optional, many, Each, separated, loop, Steps, labelled}
+use Rattle.phrase_rows.specs.Row.{Row, Shape, among, nothing, fail, one, chain, mapped, joined_values, keep_second, keep_first, pair, alt, optional, many, Each, separated, loop, Steps, labelled}
 use Rattle.ir_constants.specs.Forms.{AllAre}
 
 -- each value of a whole phrase is so
@@ -33,13 +33,13 @@ gives_mapped f Q h k = record { value = λ us b w. subst Q (sym w.2) (k w.0 (h.v
 pub gives_chain : {T A B : Type 0} {p : Row T A} (s : Shape) {q : A → Row T B} {P : A → Type 0} (Q : B → Type 0) → Gives p P → ((a : A) → P a → Gives (q a) Q) → Gives (chain p s q) Q
 gives_chain s Q h k = record { value = λ ts b w. (k w.2 (h.value w.0 w.2 w.4)).value w.1 b w.5 }
 
-pub gives_both : {T A B C : Type 0} (f : A → B → C) {p : Row T A} {q : Row T B} {P : A → Type 0} {Q : B → Type 0} (R : C → Type 0) → Gives p P → Gives q Q → ((a : A) (b : B) → P a → Q b → R (f a b)) → Gives (both f p q) R
+pub gives_both : {T A B C : Type 0} (f : A → B → C) {p : Row T A} {q : Row T B} {P : A → Type 0} {Q : B → Type 0} (R : C → Type 0) → Gives p P → Gives q Q → ((a : A) (b : B) → P a → Q b → R (f a b)) → Gives (joined_values f p q) R
 gives_both f R h g k = record { value = λ ts c w. subst R (sym w.5.2) (k w.2 w.5.0 (h.value w.0 w.2 w.4) (g.value w.1 w.5.0 w.5.1)) }
 
-pub gives_second : {T A B : Type 0} (p : Row T A) {q : Row T B} {Q : B → Type 0} → Gives q Q → Gives (second p q) Q
+pub gives_second : {T A B : Type 0} (p : Row T A) {q : Row T B} {Q : B → Type 0} → Gives q Q → Gives (keep_second p q) Q
 gives_second p h = record { value = λ ts b w. h.value w.1 b w.5 }
 
-pub gives_before : {T A B : Type 0} {p : Row T A} (q : Row T B) {P : A → Type 0} → Gives p P → Gives (before p q) P
+pub gives_before : {T A B : Type 0} {p : Row T A} (q : Row T B) {P : A → Type 0} → Gives p P → Gives (keep_first p q) P
 gives_before q {P} h = record { value = λ ts c w. subst P (sym w.5.2) (h.value w.0 w.2 w.4) }
 
 pub gives_pair : {T A B : Type 0} {p : Row T A} {q : Row T B} {P : A → Type 0} {Q : B → Type 0} → Gives p P → Gives q Q → Gives (pair p q) (λ v. P v.0 × Q v.1)

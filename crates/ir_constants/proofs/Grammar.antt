@@ -18,7 +18,7 @@ use Rattle.ir_terminals.specs.Role.{class}
 use Rattle.ir_terminals.specs.Terminal.{code, integer_type_class}
 use Rattle.ir_terminals.specs.Tokens.{word, integer_row, local_row}
 use Rattle.ir_terminals.specs.Values.{place_of_token, width_of_type, opcode_in}
-use Rattle.ir_constants.specs.Placed.{placed, placed_by}
+use Rattle.ir_constants.specs.Placed.{token_with_place, placed_by}
 use Rattle.ir_constants.specs.Tree.{TypeTree, TypedConstantTree, ConstantTree, LocalValue}
 use Rattle.ir_constants.specs.Flags.{flag_shape, flag_step, flags_shape, flags_core, flags_row}
 use Rattle.ir_constants.specs.Types.{nest_shape, value_type_shape, type_shape, int_row, ptr_row, void_row, named_row, array_row, types_core, types_row, struct_row, packed_row, nest_step, value_type_core, type_core, nest_core, nest_row, type_at, type_row, value_type_row, list_shape, fields_core, fields_row}
@@ -28,7 +28,7 @@ use Rattle.ir_constants.specs.Values.{value_shape, value_core, value_row, typed_
 pub reads_word : (wanted : Terminal) → Reads class (word wanted) (word wanted).shape
 reads_word wanted = reads_one class (code wanted ∷ []) place_of_token
 
-pub reads_placed : {A : Type 0} (classes : List ℕ) (meaning : Terminal → Option A) → Reads class (placed classes meaning) (placed classes meaning).shape
+pub reads_placed : {A : Type 0} (classes : List ℕ) (meaning : Terminal → Option A) → Reads class (token_with_place classes meaning) (token_with_place classes meaning).shape
 reads_placed classes meaning = reads_one class classes (placed_by meaning)
 
 reads_integer : Reads class integer_row integer_row.shape

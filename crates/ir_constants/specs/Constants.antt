@@ -1,6 +1,6 @@
 -- For `constant_of` and `typed_constant_of`: the rows of constants.
 use Rattle.std.specs.Prelude.{ℕ, zero, suc, false, List, [], ◌∷◌, ◌++◌, Option, Some, None}
-use Rattle.phrase_rows.specs.Row.{Row, Shape, fail, chain, mapped, both, second, before, pair, alt, many, separated, labelled}
+use Rattle.phrase_rows.specs.Row.{Row, Shape, fail, chain, mapped, joined_values, keep_second, keep_first, pair, alt, many, separated, labelled}
 use Rattle.ir_lexer.specs.Ahead.{Located}
 use Rattle.ir_base.specs.declared.place.Place.{Place}
 use Rattle.ir_tables.specs.declared.opcode.Opcode.{Opcode}
@@ -12,7 +12,7 @@ use Rattle.ir_terminals.specs.Role.{class}
 use Rattle.ir_terminals.specs.Terminal.{code, flag_class}
 use Rattle.ir_terminals.specs.Tokens.{word, integer_row, global_name_row, byte_string_row}
 use Rattle.ir_terminals.specs.Values.{opcode_in}
-use Rattle.ir_constants.specs.Placed.{placed}
+use Rattle.ir_constants.specs.Placed.{token_with_place}
 use Rattle.ir_constants.specs.declared.constant.Simple.{Simple}
 use Rattle.ir_constants.specs.declared.constant.Simple.TheVariants as simple
 use Rattle.ir_constants.specs.declared.constant.Brackets.TheVariants as brackets
@@ -63,7 +63,7 @@ simple_word _ = None
 
 -- true, false, null, undef, poison, zeroinitializer
 abbrev pub simple_row : Row Located ConstantTree
-simple_row = mapped (λ v. SimpleConstant v.0 v.1) (placed simple_classes simple_word)
+simple_row = mapped (λ v. SimpleConstant v.0 v.1) (token_with_place simple_classes simple_word)
 
 -- INT
 abbrev pub integer_constant_row : Row Located ConstantTree
@@ -95,19 +95,19 @@ elements_row typed = labelled list_shape (elements_core typed)
 
 -- [ (TYPE CONST),* ]
 abbrev pub array_constant_row : Row Located TypedConstantTree → Row Located ConstantTree
-array_constant_row typed = mapped (λ v. ListConstant v.0 brackets.Square (constants v.1)) (pair (word terminal.OpenBracket) (before (elements_row typed) (word terminal.CloseBracket)))
+array_constant_row typed = mapped (λ v. ListConstant v.0 brackets.Square (constants v.1)) (pair (word terminal.OpenBracket) (keep_first (elements_row typed) (word terminal.CloseBracket)))
 
 -- { (TYPE CONST),* }
 abbrev pub struct_constant_row : Row Located TypedConstantTree → Row Located ConstantTree
-struct_constant_row typed = mapped (λ v. ListConstant v.0 brackets.Braces (constants v.1)) (pair (word terminal.OpenBrace) (before (elements_row typed) (word terminal.CloseBrace)))
+struct_constant_row typed = mapped (λ v. ListConstant v.0 brackets.Braces (constants v.1)) (pair (word terminal.OpenBrace) (keep_first (elements_row typed) (word terminal.CloseBrace)))
 
 -- <{ (TYPE CONST),* }>
 abbrev pub packed_constant_row : Row Located TypedConstantTree → Row Located ConstantTree
-packed_constant_row typed = mapped (λ v. ListConstant v.0 brackets.Packed (constants v.1)) (pair (word terminal.Less) (second (word terminal.OpenBrace) (before (elements_row typed) (second (word terminal.CloseBrace) (word terminal.Greater)))))
+packed_constant_row typed = mapped (λ v. ListConstant v.0 brackets.Packed (constants v.1)) (pair (word terminal.Less) (keep_second (word terminal.OpenBrace) (keep_first (elements_row typed) (keep_second (word terminal.CloseBrace) (word terminal.Greater)))))
 
 -- TYPE CONST (, TYPE CONST)*
 unfoldable pub operands_core : Row Located TypedConstantTree → Row Located (List TypedConstantTree)
-operands_core typed = both (λ c cs. c ∷ cs) typed (many class (second (word terminal.Comma) typed))
+operands_core typed = joined_values (λ c cs. c ∷ cs) typed (many class (keep_second (word terminal.Comma) typed))
 
 -- how the operands of an expression begin and go on
 abbrev pub operands_shape : Shape
@@ -121,19 +121,19 @@ operands_row typed = labelled operands_shape (operands_core typed)
 abbrev pub element_address_row : Limits → Row Located TypedConstantTree → Place → Row Located ConstantTree
 element_address_row limits typed place =
     mapped (λ (flags, (source, operands)). ElementAddress place flags source (constants operands))
-    (pair (flags_row op.GetElementPtr) (second (word terminal.OpenParenthesis) (pair (before (type_row limits) (word terminal.Comma)) (before (operands_row typed) (word terminal.CloseParenthesis)))))
+    (pair (flags_row op.GetElementPtr) (keep_second (word terminal.OpenParenthesis) (pair (keep_first (type_row limits) (word terminal.Comma)) (keep_first (operands_row typed) (word terminal.CloseParenthesis)))))
 
 -- ( TYPE CONST to TYPE ), behind `ptrtoint`, `inttoptr` or `trunc`
 abbrev pub conversion_row : Limits → Row Located TypedConstantTree → Place → Opcode → Row Located ConstantTree
 conversion_row limits typed place opcode =
     mapped (λ ((from, value), to). Conversion place opcode from value to)
-    (second (word terminal.OpenParenthesis) (pair (before typed (word terminal.To)) (before (type_row limits) (word terminal.CloseParenthesis))))
+    (keep_second (word terminal.OpenParenthesis) (pair (keep_first typed (word terminal.To)) (keep_first (type_row limits) (word terminal.CloseParenthesis))))
 
 -- FLAG* ( TYPE CONST , TYPE CONST ), behind `add`, `sub` or `xor`, the last of which has no flags
 abbrev pub arithmetic_row : Row Located TypedConstantTree → Place → Opcode → Row Located ConstantTree
 arithmetic_row typed place opcode =
     mapped (λ (flags, ((left_type, left), (right_type, right))). Arithmetic place opcode flags left_type left right_type right)
-    (pair (flags_row opcode) (second (word terminal.OpenParenthesis) (pair (before typed (word terminal.Comma)) (before typed (word terminal.CloseParenthesis)))))
+    (pair (flags_row opcode) (keep_second (word terminal.OpenParenthesis) (pair (keep_first typed (word terminal.Comma)) (keep_first typed (word terminal.CloseParenthesis)))))
 
 -- how an expression goes on behind its opcode
 abbrev pub expression_shape : Shape
@@ -160,7 +160,7 @@ expression_body limits typed v = labelled expression_shape (expression_core limi
 
 -- a constant expression
 abbrev pub expression_row : Limits → Row Located TypedConstantTree → Row Located ConstantTree
-expression_row limits typed = chain (placed expression_classes opcode_in) expression_shape (expression_body limits typed)
+expression_row limits typed = chain (token_with_place expression_classes opcode_in) expression_shape (expression_body limits typed)
 
 -- a constant that holds constants, which are these
 abbrev pub holder_step : Limits → Row Located TypedConstantTree → Row Located ConstantTree

@@ -11,5 +11,5 @@ abbrev pub placed_by : {A : Type 0} → (Terminal → Option A) → Located → 
 placed_by meaning t = option_map (λ a. (a, t.place)) (meaning (terminal t.token))
 
 -- one token of these classes that stands for something, and its place
-abbrev pub placed : {A : Type 0} → List ℕ → (Terminal → Option A) → Row Located (A × Place)
-placed classes meaning = one class classes (placed_by meaning)
+abbrev pub token_with_place : {A : Type 0} → List ℕ → (Terminal → Option A) → Row Located (A × Place)
+token_with_place classes meaning = one class classes (placed_by meaning)

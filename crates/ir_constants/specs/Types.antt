@@ -1,6 +1,6 @@
 -- For `type_of`, `value_type_of` and `fields_of`: the rows of types.
 use Rattle.std.specs.Prelude.{ℕ, zero, suc, true, false, List, [], ◌∷◌}
-use Rattle.phrase_rows.specs.Row.{Row, Shape, fail, mapped, second, before, pair, alt, separated, labelled}
+use Rattle.phrase_rows.specs.Row.{Row, Shape, fail, mapped, keep_second, keep_first, pair, alt, separated, labelled}
 use Rattle.ir_lexer.specs.Ahead.{Located}
 use Rattle.ir_terminals.specs.declared.terminal.Terminal.TheVariants as terminal
 use Rattle.ir_terminals.specs.declared.limits.Limits.{Limits}
@@ -8,7 +8,7 @@ use Rattle.ir_terminals.specs.Role.{class}
 use Rattle.ir_terminals.specs.Terminal.{code, integer_type_class}
 use Rattle.ir_terminals.specs.Tokens.{word, integer_row, named_local_row}
 use Rattle.ir_terminals.specs.Values.{width_of_type}
-use Rattle.ir_constants.specs.Placed.{placed}
+use Rattle.ir_constants.specs.Placed.{token_with_place}
 use Rattle.ir_constants.specs.Tree.{TypeTree, IntegerType, PointerType, VoidType, ArrayType, StructType, NamedType, types}
 
 -- [ { <
@@ -25,7 +25,7 @@ type_shape = record { first = code terminal.Void ∷ value_type_shape.first; mor
 
 -- iN
 abbrev pub int_row : Row Located TypeTree
-int_row = mapped (λ v. IntegerType v.1 v.0) (placed (integer_type_class ∷ []) width_of_type)
+int_row = mapped (λ v. IntegerType v.1 v.0) (token_with_place (integer_type_class ∷ []) width_of_type)
 
 -- ptr
 abbrev pub ptr_row : Row Located TypeTree
@@ -41,7 +41,7 @@ named_row limits = mapped NamedType (named_local_row limits)
 
 -- [ INT x TYPE ]
 abbrev pub array_row : Row Located TypeTree → Row Located TypeTree
-array_row t = mapped (λ (place, (count, element)). ArrayType place count element) (pair (word terminal.OpenBracket) (pair integer_row (second (word terminal.X) (before t (word terminal.CloseBracket)))))
+array_row t = mapped (λ (place, (count, element)). ArrayType place count element) (pair (word terminal.OpenBracket) (pair integer_row (keep_second (word terminal.X) (keep_first t (word terminal.CloseBracket)))))
 
 -- a list with commas, of what begins as types do
 abbrev pub list_shape : Shape
@@ -57,11 +57,11 @@ types_row t = labelled list_shape (types_core t)
 
 -- { TYPE,* }
 abbrev pub struct_row : Row Located TypeTree → Row Located TypeTree
-struct_row t = mapped (λ v. StructType v.0 false (types v.1)) (pair (word terminal.OpenBrace) (before (types_row t) (word terminal.CloseBrace)))
+struct_row t = mapped (λ v. StructType v.0 false (types v.1)) (pair (word terminal.OpenBrace) (keep_first (types_row t) (word terminal.CloseBrace)))
 
 -- <{ TYPE,* }>
 abbrev pub packed_row : Row Located TypeTree → Row Located TypeTree
-packed_row t = mapped (λ v. StructType v.0 true (types v.1)) (pair (word terminal.Less) (second (word terminal.OpenBrace) (before (types_row t) (second (word terminal.CloseBrace) (word terminal.Greater)))))
+packed_row t = mapped (λ v. StructType v.0 true (types v.1)) (pair (word terminal.Less) (keep_second (word terminal.OpenBrace) (keep_first (types_row t) (keep_second (word terminal.CloseBrace) (word terminal.Greater)))))
 
 -- a type that holds types, which are these
 abbrev pub nest_step : Row Located TypeTree → Row Located TypeTree

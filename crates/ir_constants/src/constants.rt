@@ -3,7 +3,7 @@ ghost use Rattle.std.specs.Prelude.{◌≡◌, map};
 ghost use Rattle.phrase_rows.specs.Row.{begins};
 ghost use Rattle.ir_constants.specs.Constants.{simple_classes, simple_word, simple_row, elements_row, array_constant_row, struct_constant_row, packed_constant_row, holder_row, constant_at, typed_at, constant_row, typed_constant_row};
 ghost use Rattle.ir_constants.specs.View.{constant_view, typed_constant_view};
-ghost use Rattle.ir_terminals.specs.Position.{left};
+ghost use Rattle.ir_terminals.specs.Position.{tokens_left};
 ghost use Rattle.ir_terminals.specs.Role.{class};
 ghost use Rattle.ir_terminals.specs.Follows.{Follows};
 
@@ -29,7 +29,7 @@ fn simple_word(terminal: Terminal) -> Option<Simple>
 
 /// Whether a constant that is one word is next.
 fn is_simple_next(cursor: &Cursor) -> bool
-    ensures { result ≡ begins class simple_classes (left cursor.now) }
+    ensures { result ≡ begins class simple_classes (tokens_left cursor.now) }
 {
     matches!(
         cursor.terminal(),

@@ -4,7 +4,7 @@ ghost use Rattle.ir_base.specs.declared.place.Place.{Place as ThePlace};
 ghost use Rattle.ir_constants.specs.Constants.{expression_classes, expression_row, expression_body, operands_row, element_address_row, conversion_row, arithmetic_row, typed_at};
 ghost use Rattle.ir_constants.specs.View.{constant_view, typed_constant_view};
 ghost use Rattle.phrase_rows.specs.Row.{among};
-ghost use Rattle.ir_constants.specs.Placed.{placed};
+ghost use Rattle.ir_constants.specs.Placed.{token_with_place};
 ghost use Rattle.ir_terminals.specs.Terminal.{code};
 ghost use Rattle.ir_terminals.specs.Values.{opcode_in};
 ghost use Rattle.ir_terminals.specs.Follows.{Follows};
@@ -35,7 +35,7 @@ fn is_of_expression(opcode: Opcode) -> bool
 
 /// The opcode of a constant expression, and its place.
 fn expression_opcode(cursor: &mut Cursor) -> Result<(Opcode, Place), Fault>
-    ensures { Follows (λ _. placed expression_classes opcode_in) (λ x. x) cursor.old result cursor.new }
+    ensures { Follows (λ _. token_with_place expression_classes opcode_in) (λ x. x) cursor.old result cursor.new }
 {
     let Some(Terminal::Opcode(opcode)) = cursor.terminal() else {
         return Err(Fault::Refused);

@@ -1,7 +1,7 @@
 //! The flags behind an opcode.
 ghost use Rattle.std.specs.Prelude.{◌≡◌, [], ◌∷◌};
 ghost use Rattle.phrase_rows.specs.Row.{begins};
-ghost use Rattle.ir_terminals.specs.Position.{left};
+ghost use Rattle.ir_terminals.specs.Position.{tokens_left};
 ghost use Rattle.ir_terminals.specs.Role.{class};
 ghost use Rattle.ir_terminals.specs.Terminal.{flag_class};
 ghost use Rattle.ir_constants.specs.Flags.{flag_step, flags_row};
@@ -12,7 +12,7 @@ use ir_terminals::{Cursor, Fault, Terminal};
 
 /// Whether the word of a flag is next.
 fn is_flag_next(cursor: &Cursor) -> bool
-    ensures { result ≡ begins class (flag_class ∷ []) (left cursor.now) }
+    ensures { result ≡ begins class (flag_class ∷ []) (tokens_left cursor.now) }
 {
     matches!(cursor.terminal(), Some(Terminal::Flag(_)))
 }

@@ -5,7 +5,7 @@
 //! constant fits its type is not its concern. Definitions: `specs/Types`, `specs/Constants`, `specs/Values`.
 //!
 //! ```
-//! let limits = Limits { nesting: 64, wide: false };
+//! let limits = Limits { nesting: 64, with_left_out: false };
 //! let mut cursor = Cursor::new(alloc, b"i32 7, ptr @a", limits);
 //! let first = typed_constant_of(&mut cursor)?; // a Type::Integer of 32 bits, and the Constant::Integer 7
 //! cursor.take_class(Terminal::Comma)?;

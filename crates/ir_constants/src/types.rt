@@ -1,7 +1,7 @@
 //! Reads types.
 ghost use Rattle.std.specs.Prelude.{◌≡◌, [], ◌∷◌, map};
 ghost use Rattle.phrase_rows.specs.Row.{begins};
-ghost use Rattle.ir_terminals.specs.Position.{left};
+ghost use Rattle.ir_terminals.specs.Position.{tokens_left};
 ghost use Rattle.ir_terminals.specs.Role.{class};
 ghost use Rattle.ir_terminals.specs.Terminal.{integer_type_class};
 ghost use Rattle.ir_constants.specs.Types.{type_shape, int_row, array_row, types_row, struct_row, packed_row, nest_row, nest_core, type_at, type_over, value_type_over, value_type_row, type_row, fields_row};
@@ -13,7 +13,7 @@ use ir_terminals::{Cursor, Fault, Terminal};
 
 /// Whether an integer type is next.
 fn is_integer_type_next(cursor: &Cursor) -> bool
-    ensures { result ≡ begins class (integer_type_class ∷ []) (left cursor.now) }
+    ensures { result ≡ begins class (integer_type_class ∷ []) (tokens_left cursor.now) }
 {
     matches!(cursor.terminal(), Some(Terminal::IntegerType(_)))
 }
@@ -137,7 +137,7 @@ fn type_at(cursor: &mut Cursor, depth: u8) -> Result<Type, Fault>
 
 /// Whether a type may begin here.
 pub fn begins_type(cursor: &Cursor) -> bool
-    ensures { result ≡ begins class type_shape.first (left cursor.now) }
+    ensures { result ≡ begins class type_shape.first (tokens_left cursor.now) }
 {
     matches!(
         cursor.terminal(),

@@ -1,6 +1,6 @@
 -- The rows of calls are read.
 use Rattle.std.proofs.Common.{[], ◌∷◌, refl, true, false}
-use Rattle.phrase_rows.specs.Row.{second}
+use Rattle.phrase_rows.specs.Row.{keep_second}
 use Rattle.phrase_rows.specs.Reads.{Reads}
 use Rattle.phrase_rows.proofs.Plain.{reads_nothing, reads_fail, reads_mapped, reads_labelled}
 use Rattle.phrase_rows.proofs.Chain.{reads_chain, reads_second, reads_before, reads_pair}
@@ -51,7 +51,7 @@ pub reads_argument : (limits : Limits) → Reads class (argument_row limits) typ
 reads_argument limits = reads_labelled (reads_argument_core limits)
 
 -- an argument behind a comma
-pub reads_next_argument : (limits : Limits) → Reads class (second (word terminal.Comma) (argument_row limits)) comma_shape
+pub reads_next_argument : (limits : Limits) → Reads class (keep_second (word terminal.Comma) (argument_row limits)) comma_shape
 reads_next_argument limits = reads_second class (reads_word terminal.Comma) (reads_argument limits) refl
 
 reads_argument_list_core : (limits : Limits) → Reads class (argument_list_core limits) list_shape

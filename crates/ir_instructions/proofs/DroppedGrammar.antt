@@ -1,6 +1,6 @@
 -- The rows of what is dropped are read.
 use Rattle.std.proofs.Common.{refl}
-use Rattle.phrase_rows.specs.Row.{second}
+use Rattle.phrase_rows.specs.Row.{keep_second}
 use Rattle.phrase_rows.specs.Reads.{Reads}
 use Rattle.phrase_rows.proofs.Plain.{reads_one, reads_mapped, reads_labelled}
 use Rattle.phrase_rows.proofs.Chain.{reads_second}
@@ -24,7 +24,7 @@ reads_attachment =
     (reads_second class (reads_word terminal.MetaMark) (reads_matched terminal.OpenBrace) refl) refl refl) refl
 
 -- a comma and metadata
-pub reads_comma_attachment : Reads class (second (word terminal.Comma) attachment_row) comma_shape
+pub reads_comma_attachment : Reads class (keep_second (word terminal.Comma) attachment_row) comma_shape
 reads_comma_attachment = reads_second class (reads_word terminal.Comma) reads_attachment refl
 
 reads_attachments_core : Reads class attachments_core commas_shape

@@ -3,7 +3,7 @@ use Rattle.std.proofs.Common.{◌≡◌, ℕ, List, [], ◌∷◌, ◌++◌, Boo
 use Rattle.ir_lexer.specs.Ahead.{Located}
 use Rattle.ir_tables.specs.declared.opcode.Opcode.{Opcode}
 use Rattle.ir_tables.specs.declared.opcode.Opcode.TheVariants as op
-use Rattle.phrase_rows.specs.Row.{Row, one, before, pair, optional, labelled}
+use Rattle.phrase_rows.specs.Row.{Row, one, keep_first, pair, optional, labelled}
 use Rattle.ir_terminals.specs.declared.limits.Limits.{Limits}
 use Rattle.ir_terminals.specs.declared.terminal.Terminal.TheVariants as terminal
 use Rattle.ir_terminals.specs.declared.values.Integer.{Integer}
@@ -263,7 +263,7 @@ module _ (limits : Limits) where
   unfolding instruction_core
   gives_instruction_core =
       gives_alt class
-      (gives_mapped _ IsInstructionFormed (gives_pair (gives_any (before local_row (word terminal.Equals))) (gives_operation_over result_classes)) (λ v x. x.1))
+      (gives_mapped _ IsInstructionFormed (gives_pair (gives_any (keep_first local_row (word terminal.Equals))) (gives_operation_over result_classes)) (λ v x. x.1))
       (gives_mapped _ IsInstructionFormed (gives_operation_over operation_classes) (λ o x. x))
 
   gives_instructions : Gives (instructions_row limits) (AllAre IsInstructionFormed)
@@ -310,7 +310,7 @@ module _ (limits : Limits) where
 
   gives_unreachable_core : Gives unreachable_core IsEndingFormed
   unfolding unreachable_core
-  gives_unreachable_core = gives_mapped _ IsEndingFormed (gives_any (before (word (terminal.Opcode op.Unreachable)) attachments_row)) (λ p x. tt)
+  gives_unreachable_core = gives_mapped _ IsEndingFormed (gives_any (keep_first (word (terminal.Opcode op.Unreachable)) attachments_row)) (λ p x. tt)
 
   gives_ending_core : Gives (ending_core limits) IsEndingFormed
   unfolding ending_core

@@ -3,7 +3,7 @@ use Rattle.std.proofs.Common.{◌≡◌, ℕ, ◌<◌, Bool, true, false, ◌⊎
 use Rattle.std.proofs.lemmas.List.{map-append}
 use Rattle.ir_base.specs.declared.place.Place.{Place}
 use Rattle.ir_lexer.specs.Ahead.{Located}
-use Rattle.phrase_rows.specs.Row.{Row, Reading, Done, apart, begins, labelled, second, loop, many}
+use Rattle.phrase_rows.specs.Row.{Row, Reading, Done, apart, begins, labelled, keep_second, loop, many}
 use Rattle.phrase_rows.specs.Reads.{Reads}
 use Rattle.phrase_rows.proofs.Loop.{loop_next}
 use Rattle.phrase_rows.proofs.Many.{with_front, many_next}
@@ -26,7 +26,7 @@ at_limits : {A : Type 0} (row : Limits → Row Located A) (limits here : Limits)
 at_limits row limits here ts rest a h f = rw h at f
 
 -- a phrase behind a comma
-pub behind_comma_read : {A : Type 0} (row : Limits → Row Located A) (limits here : Limits) (a : A) (place : Place) (ts mid rest : List Located) → here ≡ limits → (word terminal.Comma).run ts ≡ Done place mid → (row here).run mid ≡ Done a rest → (second (word terminal.Comma) (row limits)).run ts ≡ Done a rest
+pub behind_comma_read : {A : Type 0} (row : Limits → Row Located A) (limits here : Limits) (a : A) (place : Place) (ts mid rest : List Located) → here ≡ limits → (word terminal.Comma).run ts ≡ Done place mid → (row here).run mid ≡ Done a rest → (keep_second (word terminal.Comma) (row limits)).run ts ≡ Done a rest
 behind_comma_read row limits here a place ts mid rest h e f = rw e (at_limits row limits here mid rest a h f)
 
 -- one more of any number of phrases

@@ -1,6 +1,6 @@
 -- For `blocks_of`: the rows of the blocks of a function.
 use Rattle.std.specs.Prelude.{false, List, ◌∷◌, ◌++◌}
-use Rattle.phrase_rows.specs.Row.{Row, Shape, mapped, both, second, before, pair, optional, many, labelled}
+use Rattle.phrase_rows.specs.Row.{Row, Shape, mapped, joined_values, keep_second, keep_first, pair, optional, many, labelled}
 use Rattle.ir_lexer.specs.Ahead.{Located}
 use Rattle.ir_terminals.specs.declared.limits.Limits.{Limits}
 use Rattle.ir_terminals.specs.declared.terminal.Terminal.TheVariants as terminal
@@ -25,8 +25,8 @@ block_row limits = labelled block_shape (block_core limits)
 
 -- BLOCK+
 abbrev pub block_list_row : Limits → Row Located (List BlockTree)
-block_list_row limits = both (λ b bs. b ∷ bs) (block_row limits) (many class (block_row limits))
+block_list_row limits = joined_values (λ b bs. b ∷ bs) (block_row limits) (many class (block_row limits))
 
 -- { BLOCK+ }
 abbrev pub blocks_row : Limits → Row Located (List BlockTree)
-blocks_row limits = second (word terminal.OpenBrace) (before (block_list_row limits) (word terminal.CloseBrace))
+blocks_row limits = keep_second (word terminal.OpenBrace) (keep_first (block_list_row limits) (word terminal.CloseBrace))

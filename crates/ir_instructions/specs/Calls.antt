@@ -1,6 +1,6 @@
 -- For `blocks_of` and `signature`: the rows of calls.
 use Rattle.std.specs.Prelude.{true, false, cond, List, [], ◌∷◌, ◌++◌, Option}
-use Rattle.phrase_rows.specs.Row.{Row, Shape, fail, chain, mapped, second, before, pair, alt, nothing, optional, separated, loop, labelled}
+use Rattle.phrase_rows.specs.Row.{Row, Shape, fail, chain, mapped, keep_second, keep_first, pair, alt, nothing, optional, separated, loop, labelled}
 use Rattle.ir_lexer.specs.Ahead.{Located}
 use Rattle.ir_terminals.specs.declared.limits.Limits.{Limits}
 use Rattle.ir_terminals.specs.declared.terminal.Terminal.TheVariants as terminal
@@ -15,7 +15,7 @@ use Rattle.ir_instructions.specs.Dropped.{comma_shape, commas_shape, attachments
 
 -- , TYPE or , ..., and nothing behind `...`
 abbrev pub signature_step : Limits → SignatureTree → Row Located SignatureTree
-signature_step limits s = cond s.1 (fail comma_shape) (second (word terminal.Comma) (alt class (mapped (λ p. (s.0, true)) (word terminal.Dots)) (mapped (λ t. (s.0 ++ t ∷ [], false)) (type_row limits))))
+signature_step limits s = cond s.1 (fail comma_shape) (keep_second (word terminal.Comma) (alt class (mapped (λ p. (s.0, true)) (word terminal.Dots)) (mapped (λ t. (s.0 ++ t ∷ [], false)) (type_row limits))))
 
 -- TYPE (, TYPE)* (, ...)?
 abbrev pub some_types_row : Limits → Row Located SignatureTree
@@ -31,7 +31,7 @@ signature_shape = record { first = code terminal.OpenParenthesis ∷ []; more = 
 
 -- (( TYPE,* ))?, by its parts
 unfoldable pub signature_core : Limits → Row Located (Option SignatureTree)
-signature_core limits = optional class (second (word terminal.OpenParenthesis) (before (signature_types_row limits) (word terminal.CloseParenthesis)))
+signature_core limits = optional class (keep_second (word terminal.OpenParenthesis) (keep_first (signature_types_row limits) (word terminal.CloseParenthesis)))
 
 -- (( TYPE,* ))?
 abbrev pub signature_row : Limits → Row Located (Option SignatureTree)
@@ -39,7 +39,7 @@ signature_row limits = labelled signature_shape (signature_core limits)
 
 -- TYPE PDROP* VALUE
 unfoldable pub argument_core : Limits → Row Located TypedValueTree
-argument_core limits = pair (type_row limits) (second parameter_attributes_row (value_row limits))
+argument_core limits = pair (type_row limits) (keep_second parameter_attributes_row (value_row limits))
 
 -- TYPE PDROP* VALUE
 abbrev pub argument_row : Limits → Row Located TypedValueTree
@@ -59,7 +59,7 @@ arguments_shape = record { first = code terminal.OpenParenthesis ∷ []; more = 
 
 -- ( (TYPE PDROP* VALUE),* ), by its parts
 unfoldable pub arguments_core : Limits → Row Located (List TypedValueTree)
-arguments_core limits = second (word terminal.OpenParenthesis) (before (argument_list_row limits) (word terminal.CloseParenthesis))
+arguments_core limits = keep_second (word terminal.OpenParenthesis) (keep_first (argument_list_row limits) (word terminal.CloseParenthesis))
 
 -- ( (TYPE PDROP* VALUE),* )
 abbrev pub arguments_row : Limits → Row Located (List TypedValueTree)
@@ -71,7 +71,7 @@ result_type_shape = record { first = code terminal.CallingConvention ∷ paramet
 
 -- CC? PDROP* TYPE, by its parts
 unfoldable pub result_type_core : Limits → Row Located TypeTree
-result_type_core limits = second convention_row (second parameter_attributes_row (type_row limits))
+result_type_core limits = keep_second convention_row (keep_second parameter_attributes_row (type_row limits))
 
 -- CC? PDROP* TYPE
 abbrev pub result_type_row : Limits → Row Located TypeTree
@@ -83,7 +83,7 @@ call_end_shape = record { first = function_attributes_shape.first ++ commas_shap
 
 -- FDROP* (, MD)*, by its parts
 unfoldable pub call_end_core : Row Located (Unit {0})
-call_end_core = second function_attributes_row attachments_row
+call_end_core = keep_second function_attributes_row attachments_row
 
 -- FDROP* (, MD)*
 abbrev pub call_end_row : Row Located (Unit {0})
@@ -95,7 +95,7 @@ called_shape = record { first = value_shape.first; more = call_end_shape.more; e
 
 -- VALUE ( (TYPE PDROP* VALUE),* ) FDROP* (, MD)*, by its parts
 unfoldable pub called_core : Limits → Row Located (ValueTree × List TypedValueTree)
-called_core limits = pair (value_row limits) (before (arguments_row limits) call_end_row)
+called_core limits = pair (value_row limits) (keep_first (arguments_row limits) call_end_row)
 
 -- VALUE ( (TYPE PDROP* VALUE),* ) FDROP* (, MD)*
 abbrev pub called_row : Limits → Row Located (ValueTree × List TypedValueTree)

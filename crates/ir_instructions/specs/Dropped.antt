@@ -1,7 +1,7 @@
 -- For `attachments`, `parameter_attributes`, `function_attributes` and `convention`: what is read and dropped:
 -- metadata, attributes and calling conventions.
 use Rattle.std.specs.Prelude.{ℕ, true, false, List, [], ◌∷◌, ◌++◌}
-use Rattle.phrase_rows.specs.Row.{Row, Shape, one, mapped, second, alt, optional, loop, labelled}
+use Rattle.phrase_rows.specs.Row.{Row, Shape, one, mapped, keep_second, alt, optional, loop, labelled}
 use Rattle.ir_lexer.specs.Ahead.{Located}
 use Rattle.ir_terminals.specs.declared.terminal.Terminal.TheVariants as terminal
 use Rattle.ir_terminals.specs.Role.{class}
@@ -16,7 +16,7 @@ dropped p = mapped (λ a. tt) p
 
 -- MNAME MNUMBER, or MNAME ! { .. }
 abbrev pub attachment_row : Row Located (Unit {0})
-attachment_row = second (word terminal.MetaName) (alt class (dropped (word terminal.MetaNumber)) (second (word terminal.MetaMark) (matched_row terminal.OpenBrace)))
+attachment_row = keep_second (word terminal.MetaName) (alt class (dropped (word terminal.MetaNumber)) (keep_second (word terminal.MetaMark) (matched_row terminal.OpenBrace)))
 
 -- a comma and what follows it
 abbrev pub comma_shape : Shape
@@ -28,7 +28,7 @@ commas_shape = record { first = comma_shape.first; more = comma_shape.first; emp
 
 -- (, MD)*, by its parts
 unfoldable pub attachments_core : Row Located (Unit {0})
-attachments_core = loop class comma_shape (λ u. second (word terminal.Comma) attachment_row) tt
+attachments_core = loop class comma_shape (λ u. keep_second (word terminal.Comma) attachment_row) tt
 
 -- (, MD)*
 abbrev pub attachments_row : Row Located (Unit {0})
@@ -40,11 +40,11 @@ parameter_word_row = dropped (one class (code terminal.ParameterDropped ∷ code
 
 -- align INT, or align ( INT )
 abbrev pub parameter_alignment_row : Row Located (Unit {0})
-parameter_alignment_row = second (word terminal.Align) (alt class (dropped (word terminal.Integer)) (second (word terminal.OpenParenthesis) (second (word terminal.Integer) (dropped (word terminal.CloseParenthesis)))))
+parameter_alignment_row = keep_second (word terminal.Align) (alt class (dropped (word terminal.Integer)) (keep_second (word terminal.OpenParenthesis) (keep_second (word terminal.Integer) (dropped (word terminal.CloseParenthesis)))))
 
 -- a word and what is in its brackets
 abbrev pub parameter_list_row : Row Located (Unit {0})
-parameter_list_row = second (word terminal.ParameterDroppedList) (matched_row terminal.OpenParenthesis)
+parameter_list_row = keep_second (word terminal.ParameterDroppedList) (matched_row terminal.OpenParenthesis)
 
 -- how the attribute of a parameter begins
 abbrev pub parameter_attribute_shape : Shape
@@ -76,23 +76,23 @@ function_word_row = dropped (one class function_word_classes place_of_token)
 
 -- STRING (= STRING)?
 abbrev pub function_string_row : Row Located (Unit {0})
-function_string_row = second (word terminal.Quoted) (dropped (optional class (second (word terminal.Equals) (word terminal.Quoted))))
+function_string_row = keep_second (word terminal.Quoted) (dropped (optional class (keep_second (word terminal.Equals) (word terminal.Quoted))))
 
 -- align INT
 abbrev pub function_alignment_row : Row Located (Unit {0})
-function_alignment_row = second (word terminal.Align) (dropped (word terminal.Integer))
+function_alignment_row = keep_second (word terminal.Align) (dropped (word terminal.Integer))
 
 -- section STRING
 abbrev pub section_row : Row Located (Unit {0})
-section_row = second (word terminal.Section) (dropped (word terminal.Quoted))
+section_row = keep_second (word terminal.Section) (dropped (word terminal.Quoted))
 
 -- a word and what is in its brackets
 abbrev pub function_list_row : Row Located (Unit {0})
-function_list_row = second (word terminal.FunctionDroppedList) (matched_row terminal.OpenParenthesis)
+function_list_row = keep_second (word terminal.FunctionDroppedList) (matched_row terminal.OpenParenthesis)
 
 -- uwtable, which may have brackets
 abbrev pub unwind_table_row : Row Located (Unit {0})
-unwind_table_row = second (word terminal.UnwindTable) (dropped (optional class (matched_row terminal.OpenParenthesis)))
+unwind_table_row = keep_second (word terminal.UnwindTable) (dropped (optional class (matched_row terminal.OpenParenthesis)))
 
 -- the classes that may begin what is dropped behind a function
 abbrev pub function_attribute_first : List ℕ

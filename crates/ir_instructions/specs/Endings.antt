@@ -1,6 +1,6 @@
 -- For `blocks_of`: the rows of the instructions that end a block.
 use Rattle.std.specs.Prelude.{false, List, [], ◌∷◌}
-use Rattle.phrase_rows.specs.Row.{Row, Shape, mapped, second, before, pair, alt, many, labelled}
+use Rattle.phrase_rows.specs.Row.{Row, Shape, mapped, keep_second, keep_first, pair, alt, many, labelled}
 use Rattle.ir_lexer.specs.Ahead.{Located}
 use Rattle.ir_tables.specs.declared.opcode.Opcode.TheVariants as op
 use Rattle.ir_terminals.specs.declared.limits.Limits.{Limits}
@@ -22,7 +22,7 @@ target_shape = record { first = code terminal.LabelWord ∷ []; more = []; empty
 
 -- label LOCAL, by its parts
 unfoldable pub target_core : Row Located Local
-target_core = second (word terminal.LabelWord) local_row
+target_core = keep_second (word terminal.LabelWord) local_row
 
 -- label LOCAL
 abbrev pub target_row : Row Located Local
@@ -30,7 +30,7 @@ target_row = labelled target_shape target_core
 
 -- , label LOCAL, by its parts
 unfoldable pub next_target_core : Row Located Local
-next_target_core = second (word terminal.Comma) target_row
+next_target_core = keep_second (word terminal.Comma) target_row
 
 -- , label LOCAL
 abbrev pub next_target_row : Row Located Local
@@ -54,7 +54,7 @@ return_shape = record { first = code (terminal.Opcode op.Ret) ∷ []; more = com
 
 -- ret void, or ret TYPE VALUE, by its parts
 unfoldable pub return_core : Limits → Row Located EndingTree
-return_core limits = second (word (terminal.Opcode op.Ret)) (before (return_value_row limits) attachments_row)
+return_core limits = keep_second (word (terminal.Opcode op.Ret)) (keep_first (return_value_row limits) attachments_row)
 
 -- ret void, or ret TYPE VALUE
 abbrev pub return_row : Limits → Row Located EndingTree
@@ -82,7 +82,7 @@ branch_shape = record { first = code (terminal.Opcode op.Br) ∷ []; more = comm
 
 -- br label LOCAL, or br TYPE VALUE , label LOCAL , label LOCAL, by its parts
 unfoldable pub branch_core : Limits → Row Located EndingTree
-branch_core limits = second (word (terminal.Opcode op.Br)) (before (branch_target_row limits) attachments_row)
+branch_core limits = keep_second (word (terminal.Opcode op.Br)) (keep_first (branch_target_row limits) attachments_row)
 
 -- br label LOCAL, or br TYPE VALUE , label LOCAL , label LOCAL
 abbrev pub branch_row : Limits → Row Located EndingTree
@@ -106,7 +106,7 @@ cases_shape = record { first = code terminal.OpenBracket ∷ []; more = []; empt
 
 -- [ (TYPE CONST , label LOCAL)* ], by its parts
 unfoldable pub cases_core : Limits → Row Located (List CaseTree)
-cases_core limits = second (word terminal.OpenBracket) (before (case_list_row limits) (word terminal.CloseBracket))
+cases_core limits = keep_second (word terminal.OpenBracket) (keep_first (case_list_row limits) (word terminal.CloseBracket))
 
 -- [ (TYPE CONST , label LOCAL)* ]
 abbrev pub cases_row : Limits → Row Located (List CaseTree)
@@ -114,7 +114,7 @@ cases_row limits = labelled cases_shape (cases_core limits)
 
 -- , label LOCAL [ (TYPE CONST , label LOCAL)* ] (, MD)*, by its parts
 unfoldable pub switch_targets_core : Limits → Row Located (Local × List CaseTree)
-switch_targets_core limits = pair next_target_row (before (cases_row limits) attachments_row)
+switch_targets_core limits = pair next_target_row (keep_first (cases_row limits) attachments_row)
 
 -- , label LOCAL [ (TYPE CONST , label LOCAL)* ] (, MD)*
 abbrev pub switch_targets_row : Limits → Row Located (Local × List CaseTree)
@@ -126,7 +126,7 @@ switch_shape = record { first = code (terminal.Opcode op.Switch) ∷ []; more = 
 
 -- switch TYPE VALUE , label LOCAL [ (TYPE CONST , label LOCAL)* ], by its parts
 unfoldable pub switch_core : Limits → Row Located EndingTree
-switch_core limits = second (word (terminal.Opcode op.Switch)) (mapped (λ (value, (otherwise, cases)). Switch value otherwise cases) (pair (typed_value_row limits) (switch_targets_row limits)))
+switch_core limits = keep_second (word (terminal.Opcode op.Switch)) (mapped (λ (value, (otherwise, cases)). Switch value otherwise cases) (pair (typed_value_row limits) (switch_targets_row limits)))
 
 -- switch TYPE VALUE , label LOCAL [ (TYPE CONST , label LOCAL)* ]
 abbrev pub switch_row : Limits → Row Located EndingTree
@@ -138,7 +138,7 @@ unreachable_shape = record { first = code (terminal.Opcode op.Unreachable) ∷ [
 
 -- unreachable, by its parts
 unfoldable pub unreachable_core : Row Located EndingTree
-unreachable_core = mapped (λ p. Unreachable) (before (word (terminal.Opcode op.Unreachable)) attachments_row)
+unreachable_core = mapped (λ p. Unreachable) (keep_first (word (terminal.Opcode op.Unreachable)) attachments_row)
 
 -- unreachable
 abbrev pub unreachable_row : Row Located EndingTree

@@ -1,6 +1,6 @@
 -- For `blocks_of`: the rows of instructions.
 use Rattle.std.specs.Prelude.{ℕ, false, List, [], ◌∷◌, Some, None}
-use Rattle.phrase_rows.specs.Row.{Row, Shape, one, chain, mapped, second, before, pair, alt, many, labelled}
+use Rattle.phrase_rows.specs.Row.{Row, Shape, one, chain, mapped, keep_second, keep_first, pair, alt, many, labelled}
 use Rattle.ir_lexer.specs.Ahead.{Located}
 use Rattle.ir_tables.specs.declared.opcode.Opcode.TheVariants as op
 use Rattle.ir_terminals.specs.declared.limits.Limits.{Limits}
@@ -28,7 +28,7 @@ operation_classes = code (terminal.Opcode op.Store) ∷ result_classes
 
 -- (tail|musttail|notail) call ..
 abbrev pub marked_call_row : Limits → Row Located OperationTree
-marked_call_row limits = second (word terminal.TailMark) (second (word (terminal.Opcode op.Call)) (call_row limits))
+marked_call_row limits = keep_second (word terminal.TailMark) (keep_second (word (terminal.Opcode op.Call)) (call_row limits))
 
 -- how operations begin and go on, whose opcodes have these classes
 abbrev pub operation_over_shape : List ℕ → Shape
@@ -44,7 +44,7 @@ operation_over classes limits = labelled (operation_over_shape classes) (operati
 
 -- LOCAL = and an instruction that has a result
 abbrev pub assigned_row : Limits → Row Located InstructionTree
-assigned_row limits = mapped (λ v. record { result = Some v.0; operation = v.1 }) (pair (before local_row (word terminal.Equals)) (operation_over result_classes limits))
+assigned_row limits = mapped (λ v. record { result = Some v.0; operation = v.1 }) (pair (keep_first local_row (word terminal.Equals)) (operation_over result_classes limits))
 
 -- an instruction whose result, where it has one, is not called by a name
 abbrev pub bare_row : Limits → Row Located InstructionTree

@@ -1,6 +1,6 @@
 -- For `blocks_of`: the rows of instructions, behind their opcodes.
 use Rattle.std.specs.Prelude.{false, List, [], ◌∷◌, ◌++◌, Option}
-use Rattle.phrase_rows.specs.Row.{Row, Shape, fail, chain, mapped, second, before, pair, labelled}
+use Rattle.phrase_rows.specs.Row.{Row, Shape, fail, chain, mapped, keep_second, keep_first, pair, labelled}
 use Rattle.ir_lexer.specs.Ahead.{Located}
 use Rattle.ir_tables.specs.declared.opcode.Opcode.{Opcode}
 use Rattle.ir_tables.specs.declared.opcode.Opcode.TheVariants as op
@@ -25,7 +25,7 @@ tail_shape = record { first = comma_shape.first; more = comma_shape.first; empty
 
 -- , VALUE, by its parts
 unfoldable pub next_value_core : Limits → Row Located ValueTree
-next_value_core limits = second (word terminal.Comma) (value_row limits)
+next_value_core limits = keep_second (word terminal.Comma) (value_row limits)
 
 -- , VALUE
 abbrev pub next_value_row : Limits → Row Located ValueTree
@@ -33,7 +33,7 @@ next_value_row limits = labelled comma_shape (next_value_core limits)
 
 -- , TYPE VALUE, by its parts
 unfoldable pub next_typed_value_core : Limits → Row Located TypedValueTree
-next_typed_value_core limits = second (word terminal.Comma) (typed_value_row limits)
+next_typed_value_core limits = keep_second (word terminal.Comma) (typed_value_row limits)
 
 -- , TYPE VALUE
 abbrev pub next_typed_value_row : Limits → Row Located TypedValueTree
@@ -45,7 +45,7 @@ operands_shape = record { first = type_shape.first; more = comma_shape.first; em
 
 -- TYPE VALUE , VALUE (, MD)*, by its parts
 unfoldable pub operands_core : Limits → Row Located (TypedValueTree × ValueTree)
-operands_core limits = pair (typed_value_row limits) (before (next_value_row limits) attachments_row)
+operands_core limits = pair (typed_value_row limits) (keep_first (next_value_row limits) attachments_row)
 
 -- TYPE VALUE , VALUE (, MD)*
 abbrev pub operands_row : Limits → Row Located (TypedValueTree × ValueTree)
@@ -57,7 +57,7 @@ cast_type_shape = record { first = code terminal.To ∷ []; more = comma_shape.f
 
 -- to TYPE (, MD)*, by its parts
 unfoldable pub cast_type_core : Limits → Row Located TypeTree
-cast_type_core limits = second (word terminal.To) (before (type_row limits) attachments_row)
+cast_type_core limits = keep_second (word terminal.To) (keep_first (type_row limits) attachments_row)
 
 -- to TYPE (, MD)*
 abbrev pub cast_type_row : Limits → Row Located TypeTree
@@ -65,7 +65,7 @@ cast_type_row limits = labelled cast_type_shape (cast_type_core limits)
 
 -- , TYPE VALUE , TYPE VALUE (, MD)*, by its parts
 unfoldable pub arms_core : Limits → Row Located (TypedValueTree × TypedValueTree)
-arms_core limits = pair (next_typed_value_row limits) (before (next_typed_value_row limits) attachments_row)
+arms_core limits = pair (next_typed_value_row limits) (keep_first (next_typed_value_row limits) attachments_row)
 
 -- , TYPE VALUE , TYPE VALUE (, MD)*
 abbrev pub arms_row : Limits → Row Located (TypedValueTree × TypedValueTree)
@@ -81,7 +81,7 @@ address_row limits = labelled tail_shape (address_core limits)
 
 -- , LOCAL ], by its parts
 unfoldable pub from_block_core : Row Located Local
-from_block_core = second (word terminal.Comma) (before local_row (word terminal.CloseBracket))
+from_block_core = keep_second (word terminal.Comma) (keep_first local_row (word terminal.CloseBracket))
 
 -- , LOCAL ]
 abbrev pub from_block_row : Row Located Local
@@ -93,7 +93,7 @@ incoming_shape = record { first = code terminal.OpenBracket ∷ []; more = []; e
 
 -- [ VALUE , LOCAL ], by its parts
 unfoldable pub incoming_core : Limits → Row Located IncomingTree
-incoming_core limits = second (word terminal.OpenBracket) (pair (value_row limits) from_block_row)
+incoming_core limits = keep_second (word terminal.OpenBracket) (pair (value_row limits) from_block_row)
 
 -- [ VALUE , LOCAL ]
 abbrev pub incoming_row : Limits → Row Located IncomingTree
@@ -109,7 +109,7 @@ operand_list_row limits = labelled tail_shape (operand_list_core limits)
 
 -- , INT (, INT)* (, MD)*, by its parts
 unfoldable pub indices_core : Row Located (List Integer)
-indices_core = second (word terminal.Comma) (chain integer_row commas_shape (λ i. listed_row integer_row (i ∷ [])))
+indices_core = keep_second (word terminal.Comma) (chain integer_row commas_shape (λ i. listed_row integer_row (i ∷ [])))
 
 -- , INT (, INT)* (, MD)*
 abbrev pub indices_row : Row Located (List Integer)
@@ -157,7 +157,7 @@ select_row limits = labelled operation_shape (select_core limits)
 
 -- TYPE VALUE (, MD)*, by its parts
 unfoldable pub freeze_core : Limits → Row Located OperationTree
-freeze_core limits = mapped Freeze (before (typed_value_row limits) attachments_row)
+freeze_core limits = mapped Freeze (keep_first (typed_value_row limits) attachments_row)
 
 -- TYPE VALUE (, MD)*
 abbrev pub freeze_row : Limits → Row Located OperationTree

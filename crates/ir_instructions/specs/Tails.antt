@@ -1,7 +1,7 @@
 -- For `blocks_of`: what stands behind commas at the end of an instruction: alignments, further parts, and metadata,
 -- which comes last.
 use Rattle.std.specs.Prelude.{Bool, true, false, cond, List, [], ◌∷◌, ◌++◌, Option, Some, None}
-use Rattle.phrase_rows.specs.Row.{Row, mapped, second, before, pair, alt, nothing, loop, labelled}
+use Rattle.phrase_rows.specs.Row.{Row, mapped, keep_second, keep_first, pair, alt, nothing, loop, labelled}
 use Rattle.ir_lexer.specs.Ahead.{Located}
 use Rattle.ir_terminals.specs.declared.limits.Limits.{Limits}
 use Rattle.ir_terminals.specs.declared.terminal.Terminal.TheVariants as terminal
@@ -14,11 +14,11 @@ use Rattle.ir_instructions.specs.Dropped.{attachment_row, attachments_row, comma
 
 -- align INT (, MD)*, or MD (, MD)*
 abbrev pub alignment_behind_row : Row Located (Option Integer)
-alignment_behind_row = alt class (before (mapped Some (second (word terminal.Align) integer_row)) attachments_row) (mapped (λ u. None) (second attachment_row attachments_row))
+alignment_behind_row = alt class (keep_first (mapped Some (keep_second (word terminal.Align) integer_row)) attachments_row) (mapped (λ u. None) (keep_second attachment_row attachments_row))
 
 -- (, align INT)? (, MD)*, by its parts
 unfoldable pub alignment_core : Row Located (Option Integer)
-alignment_core = alt class (second (word terminal.Comma) alignment_behind_row) (nothing None)
+alignment_core = alt class (keep_second (word terminal.Comma) alignment_behind_row) (nothing None)
 
 -- (, align INT)? (, MD)*
 abbrev pub alignment_row : Row Located (Option Integer)
@@ -30,7 +30,7 @@ count_behind_row limits = alt class (pair (mapped Some (typed_value_row limits))
 
 -- (, TYPE VALUE)? (, align INT)? (, MD)*, by its parts
 unfoldable pub count_core : Limits → Row Located (Option TypedValueTree × Option Integer)
-count_core limits = alt class (second (word terminal.Comma) (count_behind_row limits)) (nothing (None, None))
+count_core limits = alt class (keep_second (word terminal.Comma) (count_behind_row limits)) (nothing (None, None))
 
 -- (, TYPE VALUE)? (, align INT)? (, MD)*
 abbrev pub count_row : Limits → Row Located (Option TypedValueTree × Option Integer)
@@ -42,7 +42,7 @@ Listed A = List A × Bool
 
 -- , PART or , MD, and behind MD only that
 abbrev pub listed_step : {A : Type 0} → Row Located A → Listed A → Row Located (Listed A)
-listed_step p s = second (word terminal.Comma) (cond s.1 (mapped (λ u. s) attachment_row) (alt class (mapped (λ u. (s.0, true)) attachment_row) (mapped (λ a. (s.0 ++ a ∷ [], false)) p)))
+listed_step p s = keep_second (word terminal.Comma) (cond s.1 (mapped (λ u. s) attachment_row) (alt class (mapped (λ u. (s.0, true)) attachment_row) (mapped (λ a. (s.0 ++ a ∷ [], false)) p)))
 
 -- (, PART)* (, MD)*, behind these parts, as a loop
 unfoldable pub listed_core : {A : Type 0} → Row Located A → List A → Row Located (List A)

@@ -3,7 +3,7 @@ ghost use Rattle.std.specs.Prelude.{◌≡◌};
 ghost use Rattle.phrase_rows.specs.Row.{begins};
 ghost use Rattle.ir_instructions.specs.Dropped.{parameter_attribute_shape, parameter_attribute_row, parameter_attributes_row, parameter_alignment_row, function_attribute_shape, function_attribute_row, function_attributes_row, function_word_classes, function_word_row, function_string_row, function_alignment_row, section_row, function_list_row, unwind_table_row, convention_row};
 ghost use Rattle.ir_terminals.specs.Follows.{Follows};
-ghost use Rattle.ir_terminals.specs.Position.{left};
+ghost use Rattle.ir_terminals.specs.Position.{tokens_left};
 ghost use Rattle.ir_terminals.specs.Role.{class};
 
 use ir_terminals::{Cursor, Fault, Terminal};
@@ -25,7 +25,7 @@ fn parameter_alignment(cursor: &mut Cursor) -> Result<(), Fault>
 
 /// Whether something that is dropped at a parameter is next.
 fn is_parameter_attribute_next(cursor: &Cursor) -> bool
-    ensures { result ≡ begins class parameter_attribute_shape.first (left cursor.now) }
+    ensures { result ≡ begins class parameter_attribute_shape.first (tokens_left cursor.now) }
 {
     matches!(
         cursor.terminal(),
@@ -92,7 +92,7 @@ fn unwind_table(cursor: &mut Cursor) -> Result<(), Fault>
 
 /// Whether something that is dropped behind a function is next.
 fn is_function_attribute_next(cursor: &Cursor) -> bool
-    ensures { result ≡ begins class function_attribute_shape.first (left cursor.now) }
+    ensures { result ≡ begins class function_attribute_shape.first (tokens_left cursor.now) }
 {
     matches!(
         cursor.terminal(),
@@ -112,7 +112,7 @@ fn is_function_attribute_next(cursor: &Cursor) -> bool
 
 /// Whether a word or a group that is dropped behind a function is next.
 fn is_function_word_next(cursor: &Cursor) -> bool
-    ensures { result ≡ begins class function_word_classes (left cursor.now) }
+    ensures { result ≡ begins class function_word_classes (tokens_left cursor.now) }
 {
     matches!(
         cursor.terminal(),

@@ -4,7 +4,7 @@ ghost use Rattle.phrase_rows.specs.Row.{begins, optional};
 ghost use Rattle.ir_instructions.specs.Blocks.{block_shape, block_row, block_list_row, blocks_row};
 ghost use Rattle.ir_instructions.specs.View.{block_view};
 ghost use Rattle.ir_terminals.specs.Follows.{Follows};
-ghost use Rattle.ir_terminals.specs.Position.{left};
+ghost use Rattle.ir_terminals.specs.Position.{tokens_left};
 ghost use Rattle.ir_terminals.specs.Role.{class};
 ghost use Rattle.ir_terminals.specs.Tokens.{label_row};
 
@@ -42,7 +42,7 @@ fn block(cursor: &mut Cursor) -> Result<Block, Fault>
 /// Whether a block is next.
 #[tactic(auto, using(crate::proofs::Firsts::block_begins))]
 fn is_block_next(cursor: &Cursor) -> bool
-    ensures { result ≡ begins class block_shape.first (left cursor.now) }
+    ensures { result ≡ begins class block_shape.first (tokens_left cursor.now) }
 {
     cursor.is_class_next(Terminal::Label) || is_instruction_next(cursor) || is_ending_next(cursor)
 }

@@ -1,7 +1,7 @@
 //! Reads the instructions that end a block.
 ghost use Rattle.std.specs.Prelude.{◌≡◌, map};
 ghost use Rattle.phrase_rows.specs.Row.{begins};
-ghost use Rattle.ir_terminals.specs.Position.{left};
+ghost use Rattle.ir_terminals.specs.Position.{tokens_left};
 ghost use Rattle.ir_terminals.specs.Role.{class};
 ghost use Rattle.ir_instructions.specs.Endings.{target_row, next_target_row, returned_row, return_value_row, return_row, condition_row, branch_target_row, branch_row, case_row, case_list_row, cases_row, switch_targets_row, switch_row, unreachable_row, ending_shape, ending_row};
 ghost use Rattle.ir_instructions.specs.View.{case_view, ending_view};
@@ -175,7 +175,7 @@ fn unreachable(cursor: &mut Cursor) -> Result<Ending, Fault>
 
 /// Whether an instruction that ends a block is next.
 pub fn is_ending_next(cursor: &Cursor) -> bool
-    ensures { result ≡ begins class ending_shape.first (left cursor.now) }
+    ensures { result ≡ begins class ending_shape.first (tokens_left cursor.now) }
 {
     matches!(
         cursor.terminal(),

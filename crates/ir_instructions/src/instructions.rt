@@ -4,7 +4,7 @@ ghost use Rattle.phrase_rows.specs.Row.{among, begins, one};
 ghost use Rattle.ir_instructions.specs.Instructions.{result_classes, operation_classes, marked_call_row, operation_over, instruction_shape, instruction_row, instructions_row};
 ghost use Rattle.ir_instructions.specs.View.{operation_view, instruction_view};
 ghost use Rattle.ir_terminals.specs.Follows.{Follows};
-ghost use Rattle.ir_terminals.specs.Position.{left};
+ghost use Rattle.ir_terminals.specs.Position.{tokens_left};
 ghost use Rattle.ir_terminals.specs.Role.{class};
 ghost use Rattle.ir_terminals.specs.Terminal.{code};
 ghost use Rattle.ir_terminals.specs.Values.{opcode_of};
@@ -130,7 +130,7 @@ fn begins_operation(terminal: Terminal) -> bool
 
 /// Whether the opcode of an instruction that does not end a block is next.
 fn is_operation_next(cursor: &Cursor) -> bool
-    ensures { result ≡ begins class operation_classes (left cursor.now) }
+    ensures { result ≡ begins class operation_classes (tokens_left cursor.now) }
 {
     match cursor.terminal() {
         Some(terminal) => begins_operation(terminal),
@@ -141,7 +141,7 @@ fn is_operation_next(cursor: &Cursor) -> bool
 /// Whether an instruction that does not end a block is next.
 #[tactic(auto, using(crate::proofs::Firsts::instruction_begins))]
 pub fn is_instruction_next(cursor: &Cursor) -> bool
-    ensures { result ≡ begins class instruction_shape.first (left cursor.now) }
+    ensures { result ≡ begins class instruction_shape.first (tokens_left cursor.now) }
 {
     cursor.is_class_next(Terminal::Local)
         || cursor.is_class_next(Terminal::TailMark)

@@ -32,6 +32,6 @@ pub use blocks::blocks_of;
 pub use calls::signature;
 pub use metadata::{attachment, attachments};
 pub use operation::{
-    Address, Alloca, Call, Choice, Conversion, Extraction, Incoming, Insertion, Load, Operands,
+    Address, Alloca, Call, CastParts, Choice, Extraction, Incoming, Insertion, Load, Operands,
     Operation, Phi, Signature, Store,
 };

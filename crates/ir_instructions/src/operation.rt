@@ -31,7 +31,7 @@ pub struct Operands {
 
 /// What a cast casts, and the type to which it does.
 #[derive(Drop)]
-pub struct Conversion {
+pub struct CastParts {
     pub value: TypedValue,
     pub to: Type,
 }
@@ -123,7 +123,7 @@ pub enum Operation {
     Cast {
         opcode: Opcode,
         flags: Flags,
-        conversion: Box<Conversion>,
+        conversion: Box<CastParts>,
     },
     /// `select`: a condition chooses one of two values.
     Select(Box<Choice>),

@@ -6,7 +6,7 @@ ghost use Rattle.ir_terminals.specs.Follows.{Follows};
 use crate::calls::call;
 use crate::metadata::attachments;
 use crate::operation::{
-    Address, Alloca, Choice, Conversion, Extraction, Insertion, Load, Operation, Phi, Store,
+    Address, Alloca, CastParts, Choice, Extraction, Insertion, Load, Operation, Phi, Store,
 };
 use crate::parts::{
     address, arms, cast_type, incoming, indices, next_typed_value, operand_list, operands,
@@ -53,7 +53,7 @@ fn cast(cursor: &mut Cursor, opcode: Opcode) -> Result<Operation, Fault>
     let flags = flags_of(cursor, opcode)?;
     let value = typed_value_of(cursor)?;
     let to = cast_type(cursor)?;
-    let conversion = Box::new(cursor.alloc(), Conversion { value, to })?;
+    let conversion = Box::new(cursor.alloc(), CastParts { value, to })?;
     Ok(Operation::Cast {
         opcode,
         flags,

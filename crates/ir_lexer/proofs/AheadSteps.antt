@@ -2,7 +2,7 @@
 use Rattle.std.proofs.Common.{◌≡◌, ℕ, zero, suc, ◌<◌, length, refl, ap, arith, Option, Some, None, Result, Ok, Err}
 use Rattle.ir_lexer.specs.Ahead.{AheadIs, before_all, answered, ahead_within, ahead}
 use Rattle.ir_lexer.specs.Laws.{WhatIsAhead}
-use Rattle.ir_lexer.specs.Lexer.{Lexing, rest, spelled, Says, answer, after}
+use Rattle.ir_lexer.specs.Lexer.{Lexing, rest, token_spelling, Says, answer, after}
 use Rattle.ir_lexer.specs.declared.token.Token.{Token}
 use Rattle.ir_lexer.specs.declared.token.BadByte.{BadByte}
 use Rattle.ir_lexer.proofs.Answering.{answers_are_right}
@@ -13,7 +13,7 @@ less : (l : Lexing) (t : Token) → answer l ≡ Ok (Some t) → length (rest (a
 less l t e =
     let h : Says l (answer l) (after l) = answers_are_right l in
     let s : Says l (Ok (Some t)) (after l) = rw e at h in
-    begins_less (rest l) (spelled l.text t) (rest (after l)) s
+    begins_less (rest l) (token_spelling l.text t) (rest (after l)) s
 
 enough : (n m : ℕ) (l : Lexing) → length (rest l) < n → length (rest l) < m → ahead_within n l ≡ ahead_within m l
 unfolding ahead_within
@@ -26,7 +26,7 @@ enough (suc n) (suc m) l p q = go (answer l) refl (λ a b. enough n m (after l) 
     go (Err b) e again = refl
     go (Ok (Some t)) e again =
         let d = less l t e in
-        ap (before_all (record { token = spelled l.text t; place = t.place })) (again (omega arith) (omega arith))
+        ap (before_all (record { token = token_spelling l.text t; place = t.place })) (again (omega arith) (omega arith))
 
 -- One answer, and what is ahead behind it.
 pub ahead_step : (l : Lexing) → ahead l ≡ answered l (answer l) (ahead (after l))
@@ -38,7 +38,7 @@ ahead_step l = go (answer l) refl
     go (Err b) e = refl
     go (Ok (Some t)) e =
         let d = less l t e in
-        ap (before_all (record { token = spelled l.text t; place = t.place })) (enough (length (rest l)) (suc (length (rest (after l)))) (after l) d (omega arith))
+        ap (before_all (record { token = token_spelling l.text t; place = t.place })) (enough (length (rest l)) (suc (length (rest (after l)))) (after l) d (omega arith))
 
 -- What is ahead are the tokens of the rest, or those before its first bad byte.
 within_is : (n : ℕ) (l : Lexing) → length (rest l) < n → AheadIs (rest l) (ahead_within n l)

@@ -1,7 +1,7 @@
 -- For `answers_ahead`: all that a lexer has yet to answer, as one list.
 use Rattle.std.specs.Prelude.{◌≡◌, ℕ, zero, suc, Bool, true, false, List, [], ◌∷◌, length, Option, Some, None, Result, Ok, Err}
 use Rattle.ir_base.specs.declared.place.Place.{Place}
-use Rattle.ir_lexer.specs.Lexer.{Lexing, rest, spelled, answer, after}
+use Rattle.ir_lexer.specs.Lexer.{Lexing, rest, token_spelling, answer, after}
 use Rattle.ir_lexer.specs.Place.{place_of}
 use Rattle.ir_lexer.specs.Tokens.{Spelled, Tokens, TokensBeforeBad}
 use Rattle.ir_lexer.specs.declared.token.Token.{Token}
@@ -25,7 +25,7 @@ before_all t a = record { tokens = t ∷ a.tokens; bad = a.bad; place = a.place 
 -- what is ahead, by the next answer and what is ahead behind it
 abbrev pub answered : Lexing → Result (Option Token) BadByte → Ahead → Ahead
 answered l (Ok None) a = record { tokens = []; bad = false; place = place_of l.text (after l).at }
-answered l (Ok (Some t)) a = before_all (record { token = spelled l.text t; place = t.place }) a
+answered l (Ok (Some t)) a = before_all (record { token = token_spelling l.text t; place = t.place }) a
 answered l (Err e) a = record { tokens = []; bad = true; place = e.place }
 
 -- what is ahead of a lexer, if that is fewer than n answers

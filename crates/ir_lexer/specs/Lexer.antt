@@ -22,8 +22,8 @@ abbrev pub rest : Lexing → List ℕ
 rest l = drop l.at l.text
 
 -- a token of a text, by its kind and its bytes
-abbrev pub spelled : List ℕ → Token → Spelled
-spelled text t = record { kind = t.kind; spelling = take (t.«end» - t.start) (drop t.start text) }
+abbrev pub token_spelling : List ℕ → Token → Spelled
+token_spelling text t = record { kind = t.kind; spelling = take (t.«end» - t.start) (drop t.start text) }
 
 -- it begins before it ends, in the text
 pub record LiesIn (text : List ℕ) (t : Token) : Type 0 where
@@ -34,7 +34,7 @@ pub record LiesIn (text : List ℕ) (t : Token) : Type 0 where
 -- with; a bad byte is one at which no token begins, and the lexer stands at it.
 abbrev pub Says : Lexing → Result (Option Token) BadByte → Lexing → Type 0
 Says l (Ok None) next = IsLastGap (rest l)
-Says l (Ok (Some t)) next = Begins (rest l) (spelled l.text t) (rest next)
+Says l (Ok (Some t)) next = Begins (rest l) (token_spelling l.text t) (rest next)
 Says l (Err e) next = (bad : IsBad (rest l)) × (rest next ≡ bad.byte ∷ bad.rest)
 
 -- Where an answer is: a token's place is that of its first byte, and the lexer stands at its end; a bad byte's place
@@ -62,14 +62,14 @@ is_nil [] = true
 is_nil (b ∷ bs) = false
 
 -- the token that stands in front, or the place where none does
-abbrev pub found : Lexing → Option (TokenKind × ℕ) → Result (Option Token) BadByte
-found l None = Err (record { place = place_of l.text l.at })
-found l (Some (kind, n)) = Ok (Some (token_at l kind n))
+abbrev pub token_found : Lexing → Option (TokenKind × ℕ) → Result (Option Token) BadByte
+token_found l None = Err (record { place = place_of l.text l.at })
+token_found l (Some (kind, n)) = Ok (Some (token_at l kind n))
 
 -- the answer at what stands behind separators and comments
 abbrev pub answer_at : Lexing → List ℕ → Result (Option Token) BadByte
 answer_at l [] = Ok None
-answer_at l (b ∷ bs) = found l (next_token (b ∷ bs))
+answer_at l (b ∷ bs) = token_found l (next_token (b ∷ bs))
 
 -- the lexer behind the token that stands in front
 abbrev pub gone : Lexing → Option (TokenKind × ℕ) → Lexing

@@ -5,7 +5,7 @@ ghost use Rattle.ir_lexer.specs.Form.{run};
 ghost use Rattle.ir_lexer.specs.Front.{next_token};
 ghost use Rattle.ir_lexer.specs.Place.{place_of, place_after};
 ghost use Rattle.ir_lexer.specs.Table.{IsToken};
-ghost use Rattle.ir_lexer.specs.Lexer.{at_start, rest, spelled, Says, IsPlaced, Stays, answer, after, advanced, skipped, token_at, is_nil};
+ghost use Rattle.ir_lexer.specs.Lexer.{at_start, rest, token_spelling, Says, IsPlaced, Stays, answer, after, advanced, skipped, token_at, is_nil};
 
 use crate::class::ClassSet;
 use crate::front::fitting_token_of;
@@ -191,7 +191,7 @@ impl<'t> Lexer<'t> {
     pub fn spelling(&self, token: &Token) -> &[u8]
         requires order { token.now.start ≤ token.now.«end» }
         requires within { token.now.«end» ≤ length self.now.text }
-        ensures { result.now ≡ (spelled self.now.text token.now).spelling }
+        ensures { result.now ≡ (token_spelling self.now.text token.now).spelling }
     {
         &self.text[token.start..token.end]
     }

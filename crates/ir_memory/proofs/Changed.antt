@@ -3,39 +3,39 @@ use Rattle.std.proofs.Common.{◌≡◌, ℕ, zero, suc, ◌+◌, ◌-◌, ◌<�
 use Rattle.std.specs.Prelude.{◌≢◌, Result, Ok, Err, OnErr}
 use Rattle.std.proofs.lemmas.Bool.{cases_lt, cases_eq}
 use Rattle.std.proofs.lemmas.List.{length-map, length-set, length-append, length-drop, length-take, length-replicate, get_or_default, get_or_append_left, get_or-append_right, get_or-map, get_or-set_same, get_or-set_other, same_lists}
-use Rattle.pointer_pieces.specs.declared.piece.Piece.{Piece}
-use Rattle.masked_bytes.specs.Masked.{placed, put}
+use Rattle.pointer_pieces.specs.declared.piece.PointerPiece.{PointerPiece}
+use Rattle.masked_bytes.specs.Masked.{mapped_with_places, put}
 use Rattle.masked_bytes.proofs.Placed.{placed-same, placed-put, placed-map}
 use Rattle.ir_memory.specs.declared.cell.Cell.{Cell}
 use Rattle.ir_memory.specs.declared.cell.Cell.TheVariants as cell
 use Rattle.ir_memory.specs.declared.kind.BlockKind.{BlockKind}
 use Rattle.ir_memory.specs.declared.kept.KeptBlock.{KeptBlock}
-use Rattle.ir_memory.specs.declared.access.Place.{Place}
-use Rattle.ir_memory.specs.Block.{Block, written, gone, new_block}
+use Rattle.ir_memory.specs.declared.access.BlockPlace.{BlockPlace}
+use Rattle.ir_memory.specs.Block.{MemoryBlock, written, gone, new_block}
 use Rattle.ir_memory.specs.Memory.{changed}
 use Rattle.ir_memory.specs.Kept.{IsPlaced}
 use Rattle.ir_memory.specs.Seen.{over, plain, cells, fresh, ended_block, seen, all_seen, IsRoom, IsSound}
 use Rattle.ir_memory.proofs.Placed.{IsPlaced-at, IsPlaced-apart, IsPlaced-written, IsPlaced-ended, IsPlaced-push, changed-set, changed-ended}
 
-pub length-all : (p : ℕ → Option Piece) (kept : List KeptBlock) → length (all_seen p kept) ≡ length kept
+pub length-all : (p : ℕ → Option PointerPiece) (kept : List KeptBlock) → length (all_seen p kept) ≡ length kept
 length-all p kept = length-map kept (seen p)
 
 -- what is seen of a block that is read
-pub seen-read : (p : ℕ → Option Piece) (kept : List KeptBlock) (i : ℕ) (d : Block) (e : KeptBlock) → i < length kept → get_or (all_seen p kept) i d ≡ seen p (get_or kept i e)
+pub seen-read : (p : ℕ → Option PointerPiece) (kept : List KeptBlock) (i : ℕ) (d : MemoryBlock) (e : KeptBlock) → i < length kept → get_or (all_seen p kept) i d ≡ seen p (get_or kept i e)
 seen-read p kept i d e h = get_or-map (seen p) kept i e d h
 
 -- a block is the same where the pieces at its addresses are
-pub same-seen : (p q : ℕ → Option Piece) (b : KeptBlock) → ((k : ℕ) → k < length b.bytes → q (b.start + k) ≡ p (b.start + k)) → seen q b ≡ seen p b
+pub same-seen : (p q : ℕ → Option PointerPiece) (b : KeptBlock) → ((k : ℕ) → k < length b.bytes → q (b.start + k) ≡ p (b.start + k)) → seen q b ≡ seen p b
 same-seen p q b same =
     ap (λ cs. record { start = b.start; size = b.size; kind = b.kind; live = b.live; cells = cs })
     (placed-same (λ a x. over (q a) x) (λ a x. over (p a) x) b.start b.start b.bytes (λ k x h. ap (λ o. over o x) (same k h)))
 
 -- pieces that are the same everywhere
-pub all-same : (p q : ℕ → Option Piece) (kept : List KeptBlock) → ((a : ℕ) → q a ≡ p a) → all_seen q kept ≡ all_seen p kept
+pub all-same : (p q : ℕ → Option PointerPiece) (kept : List KeptBlock) → ((a : ℕ) → q a ≡ p a) → all_seen q kept ≡ all_seen p kept
 all-same p q [] same = refl
 all-same p q (b ∷ bs) same = ap (λ x. x ∷ all_seen q bs) (same-seen p q b (λ k h. same (b.start + k))) ∙ ap (λ xs. seen p b ∷ xs) (all-same p q bs same)
 
-pub sound-same : (p q : ℕ → Option Piece) (kept : List KeptBlock) (next : ℕ) → ((a : ℕ) → q a ≡ p a) → IsSound p kept next → IsSound q kept next
+pub sound-same : (p q : ℕ → Option PointerPiece) (kept : List KeptBlock) (next : ℕ) → ((a : ℕ) → q a ≡ p a) → IsSound p kept next → IsSound q kept next
 sound-same p q kept next same sound = record {
   placed = subst (λ bs. IsPlaced 65536 bs next) (sym (all-same p q kept same)) sound.placed;
   small = sound.small;
@@ -46,14 +46,14 @@ sound-same p q kept next same sound = record {
 }
 
 -- a live block is placed
-pub placed-kept : (p : ℕ → Option Piece) (kept : List KeptBlock) (next k : ℕ) (d : KeptBlock) → IsSound p kept next → k < length kept → (get_or kept k d).live ≡ true → (65536 ≤ (get_or kept k d).start) × ((get_or kept k d).start + (get_or kept k d).size + 16 ≤ next)
+pub placed-kept : (p : ℕ → Option PointerPiece) (kept : List KeptBlock) (next k : ℕ) (d : KeptBlock) → IsSound p kept next → k < length kept → (get_or kept k d).live ≡ true → (65536 ≤ (get_or kept k d).start) × ((get_or kept k d).start + (get_or kept k d).size + 16 ≤ next)
 placed-kept p kept next k d sound h live =
     let e = seen-read p kept k (seen p d) d h in
     subst (λ x. (65536 ≤ x.start) × (x.start + x.size + 16 ≤ next)) e
     (IsPlaced-at (all_seen p kept) 65536 next (seen p d) k sound.placed (omega (arith, h, length-all p kept)) (ap (λ x. x.live) e ∙ live))
 
 -- an earlier live block ends before a later one starts
-apart : (p : ℕ → Option Piece) (kept : List KeptBlock) (next i j : ℕ) (d : KeptBlock) → IsSound p kept next → i < j → j < length kept → (get_or kept i d).live ≡ true → (get_or kept j d).live ≡ true → (get_or kept i d).start + (get_or kept i d).size + 16 ≤ (get_or kept j d).start
+apart : (p : ℕ → Option PointerPiece) (kept : List KeptBlock) (next i j : ℕ) (d : KeptBlock) → IsSound p kept next → i < j → j < length kept → (get_or kept i d).live ≡ true → (get_or kept j d).live ≡ true → (get_or kept i d).start + (get_or kept i d).size + 16 ≤ (get_or kept j d).start
 apart p kept next i j d sound h l one other =
     let e = seen-read p kept i (seen p d) d (omega (arith, h, l)) in
     let f = seen-read p kept j (seen p d) d l in
@@ -66,7 +66,7 @@ either_live true lives dead = lives refl
 either_live false lives dead = dead refl
 
 -- pieces are changed in the block alone
-module _ (p q : ℕ → Option Piece) (kept : List KeptBlock) (next i : ℕ) (b : KeptBlock) (sound : IsSound p kept next) (within : i < length kept) (is : b ≡ get_or kept i b) (live : b.live ≡ true) (elsewhere : (a : ℕ) → (a < b.start ⊎ b.start + b.size ≤ a) → q a ≡ p a) where
+module _ (p q : ℕ → Option PointerPiece) (kept : List KeptBlock) (next i : ℕ) (b : KeptBlock) (sound : IsSound p kept next) (within : i < length kept) (is : b ≡ get_or kept i b) (live : b.live ≡ true) (elsewhere : (a : ℕ) → (a < b.start ⊎ b.start + b.size ≤ a) → q a ≡ p a) where
   here_live : (get_or kept i b).live ≡ true
   here_live = subst (λ x. x.live ≡ true) is live
 
@@ -108,7 +108,7 @@ module _ (p q : ℕ → Option Piece) (kept : List KeptBlock) (next i : ℕ) (b 
       long : length (all_seen q (set kept i new)) ≡ length (set (all_seen p kept) i (seen q new))
       long = length-all q (set kept i new) ∙ length-set kept i new ∙ sym (length-set (all_seen p kept) i (seen q new) ∙ length-all p kept)
 
-      at_k : (k : ℕ) (d : Block) → k < length kept → (k ≡ i) ⊎ (k ≢ i) → get_or (all_seen q (set kept i new)) k d ≡ get_or (set (all_seen p kept) i (seen q new)) k d
+      at_k : (k : ℕ) (d : MemoryBlock) → k < length kept → (k ≡ i) ⊎ (k ≢ i) → get_or (all_seen q (set kept i new)) k d ≡ get_or (set (all_seen p kept) i (seen q new)) k d
       at_k k d h (inl e) =
           seen-read q (set kept i new) k d b (omega (arith, h, length-set kept i new))
           ∙ ap (seen q) (ap (λ j. get_or (set kept i new) j b) e ∙ get_or-set_same kept i new b within)
@@ -119,7 +119,7 @@ module _ (p q : ℕ → Option Piece) (kept : List KeptBlock) (next i : ℕ) (b 
           ∙ seen-other k h n
           ∙ sym (get_or-set_other (all_seen p kept) i k (seen q new) d n ∙ seen-read p kept k d b h)
 
-      each : (k : ℕ) (d : Block) → k < length (all_seen q (set kept i new)) → get_or (all_seen q (set kept i new)) k d ≡ get_or (set (all_seen p kept) i (seen q new)) k d
+      each : (k : ℕ) (d : MemoryBlock) → k < length (all_seen q (set kept i new)) → get_or (all_seen q (set kept i new)) k d ≡ get_or (set (all_seen p kept) i (seen q new)) k d
       each k d h = at_k k d (omega (arith, h, length-all q (set kept i new), length-set kept i new)) (cases_eq k i)
 
 never : true ≡ false → ⊥
@@ -137,7 +137,7 @@ module _ (kept : List KeptBlock) (i : ℕ) (new : KeptBlock) (within : i < lengt
   inside k h = omega (arith, h, length-set kept i new)
 
 -- new bytes are put in a range of a block, and pieces in that range alone
-module _ (p q : ℕ → Option Piece) (kept : List KeptBlock) (next : ℕ) (place : Place) (count : ℕ) (b : KeptBlock) (bytes : List (Option ℕ)) (mixed : Bool) (sound : IsSound p kept next) (room : IsRoom kept place count) (is : b ≡ get_or kept place.index b) (long : length bytes ≡ count) (elsewhere : (a : ℕ) → (a < b.start + place.offset ⊎ b.start + place.offset + count ≤ a) → q a ≡ p a) (clear : mixed ≡ false → (b.mixed ≡ false) × ((a : ℕ) → b.start + place.offset ≤ a → a < b.start + place.offset + count → q a ≡ None)) where
+module _ (p q : ℕ → Option PointerPiece) (kept : List KeptBlock) (next : ℕ) (place : BlockPlace) (count : ℕ) (b : KeptBlock) (bytes : List (Option ℕ)) (mixed : Bool) (sound : IsSound p kept next) (room : IsRoom kept place count) (is : b ≡ get_or kept place.index b) (long : length bytes ≡ count) (elsewhere : (a : ℕ) → (a < b.start + place.offset ⊎ b.start + place.offset + count ≤ a) → q a ≡ p a) (clear : mixed ≡ false → (b.mixed ≡ false) × ((a : ℕ) → b.start + place.offset ≤ a → a < b.start + place.offset + count → q a ≡ None)) where
   abbrev new : KeptBlock
   new = record b { bytes = put place.offset bytes b.bytes; mixed = mixed }
 
@@ -154,7 +154,7 @@ module _ (p q : ℕ → Option Piece) (kept : List KeptBlock) (next : ℕ) (plac
   outside a (inl h) = elsewhere a (inl (omega (arith, h)))
   outside a (inr h) = elsewhere a (inr (omega (arith, h, fits)))
 
-  written-new : (cs : List Cell) → placed (λ a x. over (q a) x) (b.start + place.offset) bytes ≡ cs → seen q new ≡ written place.offset cs (seen p b)
+  written-new : (cs : List Cell) → mapped_with_places (λ a x. over (q a) x) (b.start + place.offset) bytes ≡ cs → seen q new ≡ written place.offset cs (seen p b)
   written-new cs e =
       ap (λ xs. record { start = b.start; size = b.size; kind = b.kind; live = b.live; cells = xs })
       (placed-put (λ a x. over (p a) x) (λ a x. over (q a) x) b.start place.offset bytes b.bytes (omega (arith, long, fits, whole))
@@ -162,7 +162,7 @@ module _ (p q : ℕ → Option Piece) (kept : List KeptBlock) (next : ℕ) (plac
       (λ k x h l. ap (λ o. over o x) (elsewhere (b.start + k) (inr (omega (arith, h, long)))))
       ∙ ap (λ ys. put place.offset ys (cells p b.start b.bytes)) e)
 
-  pub seen-put : (cs : List Cell) → placed (λ a x. over (q a) x) (b.start + place.offset) bytes ≡ cs → all_seen q (set kept place.index (record b { bytes = put place.offset bytes b.bytes; mixed = mixed })) ≡ changed place.index (written place.offset cs) (all_seen p kept)
+  pub seen-put : (cs : List Cell) → mapped_with_places (λ a x. over (q a) x) (b.start + place.offset) bytes ≡ cs → all_seen q (set kept place.index (record b { bytes = put place.offset bytes b.bytes; mixed = mixed })) ≡ changed place.index (written place.offset cs) (all_seen p kept)
   seen-put cs e =
       all-set p q kept next place.index b sound room.index is live outside new
       ∙ ap (λ x. set (all_seen p kept) place.index x) (written-new cs e)
@@ -202,7 +202,7 @@ module _ (p q : ℕ → Option Piece) (kept : List KeptBlock) (next : ℕ) (plac
   }
 
 -- a block ends, and its pieces are removed
-module _ (p q : ℕ → Option Piece) (kept : List KeptBlock) (next i : ℕ) (b : KeptBlock) (sound : IsSound p kept next) (within : i < length kept) (is : b ≡ get_or kept i b) (live : b.live ≡ true) (elsewhere : (a : ℕ) → (a < b.start ⊎ b.start + b.size ≤ a) → q a ≡ p a) where
+module _ (p q : ℕ → Option PointerPiece) (kept : List KeptBlock) (next i : ℕ) (b : KeptBlock) (sound : IsSound p kept next) (within : i < length kept) (is : b ≡ get_or kept i b) (live : b.live ≡ true) (elsewhere : (a : ℕ) → (a < b.start ⊎ b.start + b.size ≤ a) → q a ≡ p a) where
   pub seen-ended : all_seen q (set kept i ended_block) ≡ set (all_seen p kept) i gone
   seen-ended = all-set p q kept next i b sound within is live elsewhere ended_block
 
@@ -230,7 +230,7 @@ module _ (p q : ℕ → Option Piece) (kept : List KeptBlock) (next i : ℕ) (b 
   }
 
 -- bytes of zeros without pieces
-zero_cells : (p : ℕ → Option Piece) (start size : ℕ) → ((a : ℕ) → start ≤ a → p a ≡ None) → cells p start (replicate size (Some 0)) ≡ replicate size (cell.Byte 0)
+zero_cells : (p : ℕ → Option PointerPiece) (start size : ℕ) → ((a : ℕ) → start ≤ a → p a ≡ None) → cells p start (replicate size (Some 0)) ≡ replicate size (cell.Byte 0)
 zero_cells p start size none =
     placed-same (λ a x. over (p a) x) (λ a x. plain x) start start (replicate size (Some 0)) (λ k x h. ap (λ o. over o x) (none (start + k) (omega arith)))
     ∙ placed-map plain start (replicate size (Some 0))
@@ -240,12 +240,12 @@ zero_cells p start size none =
     zeros zero = refl
     zeros (suc n) = ap (λ xs. cell.Byte 0 ∷ xs) (zeros n)
 
-all-append : (p : ℕ → Option Piece) (kept : List KeptBlock) (b : KeptBlock) → all_seen p (kept ++ b ∷ []) ≡ all_seen p kept ++ seen p b ∷ []
+all-append : (p : ℕ → Option PointerPiece) (kept : List KeptBlock) (b : KeptBlock) → all_seen p (kept ++ b ∷ []) ≡ all_seen p kept ++ seen p b ∷ []
 all-append p [] b = refl
 all-append p (c ∷ kept) b = ap (λ xs. seen p c ∷ xs) (all-append p kept b)
 
 -- a block is added behind all others
-module _ (p : ℕ → Option Piece) (kept : List KeptBlock) (next start size : ℕ) (kind : BlockKind) (sound : IsSound p kept next) (above : next ≤ start) (small : start + size + 16 < 2 ^ 62) where
+module _ (p : ℕ → Option PointerPiece) (kept : List KeptBlock) (next start size : ℕ) (kind : BlockKind) (sound : IsSound p kept next) (above : next ≤ start) (small : start + size + 16 < 2 ^ 62) where
   seen_fresh : seen p (fresh start size kind) ≡ new_block start size kind
   seen_fresh = ap (λ cs. record { start = start; size = size; kind = kind; live = true; cells = cs }) (zero_cells p start size (λ a h. sound.ahead a (omega (arith, h, above))))
 

@@ -5,7 +5,7 @@ use Rattle.std.proofs.lemmas.Bool.{and_parts}
 use Rattle.std.proofs.lemmas.List.{get_or_default}
 use Rattle.ir_eval.specs.declared.value.Pointer.{Pointer}
 use Rattle.ir_eval.specs.declared.value.Scalar.TheVariants.{Ptr}
-use Rattle.pointer_pieces.specs.declared.piece.Piece.{Piece}
+use Rattle.pointer_pieces.specs.declared.piece.PointerPiece.{PointerPiece}
 use Rattle.ir_memory.specs.declared.kind.BlockKind.{BlockKind}
 use Rattle.ir_memory.specs.declared.kept.KeptBlock.{KeptBlock}
 use Rattle.ir_memory.specs.Block.{holds, starts, is_constant, same_kind}
@@ -15,7 +15,7 @@ use Rattle.ir_memory.specs.Seen.{seen, all_seen, IsSound}
 use Rattle.ir_memory.proofs.Changed.{length-all, seen-read, placed-kept}
 use Rattle.ir_memory.proofs.Finds.{access-at, started-at, bounds-at, judged}
 
-module _ (p : ℕ → Option Piece) (kept : List KeptBlock) where
+module _ (p : ℕ → Option PointerPiece) (kept : List KeptBlock) where
   pub read : (i : ℕ) (b : KeptBlock) → i < length kept → b ≡ get_or kept i b → seen p b ≡ get_or (all_seen p kept) i (seen p b)
   read i b h is = ap (seen p) is ∙ sym (seen-read p kept i (seen p b) b h)
 
@@ -31,7 +31,7 @@ module _ (p : ℕ → Option Piece) (kept : List KeptBlock) where
   bounds-kept i b h is = bounds-at (all_seen p kept) i (seen p b) b.live (omega (arith, h, length-all p kept)) (read i b h is) refl
 
 -- a live block that is read is placed
-pub read-placed-kept : (p : ℕ → Option Piece) (kept : List KeptBlock) (next i : ℕ) (b : KeptBlock) → IsSound p kept next → i < length kept → b ≡ get_or kept i b → b.live ≡ true → (65536 ≤ b.start) × (b.start + b.size + 16 ≤ next)
+pub read-placed-kept : (p : ℕ → Option PointerPiece) (kept : List KeptBlock) (next i : ℕ) (b : KeptBlock) → IsSound p kept next → i < length kept → b ≡ get_or kept i b → b.live ≡ true → (65536 ≤ b.start) × (b.start + b.size + 16 ≤ next)
 read-placed-kept p kept next i b sound h is live =
     subst (λ x. (65536 ≤ x.start) × (x.start + x.size + 16 ≤ next)) (sym is) (placed-kept p kept next i b sound h (subst (λ x. x.live ≡ true) is live))
 
@@ -39,7 +39,7 @@ read-placed-kept p kept next i b sound h is live =
 pub live-there : (kept : List KeptBlock) (i : ℕ) (b : KeptBlock) → i < length kept → b ≡ get_or kept i b → b.live ≡ true → (d : KeptBlock) → (get_or kept i d).live ≡ true
 live-there kept i b h is live d = ap (λ x. x.live) (get_or_default kept i d b h ∙ sym is) ∙ live
 
-pub starts-live : (p : ℕ → Option Piece) (b : KeptBlock) (address : ℕ) (kind : BlockKind) (t : Bool) → t ≡ starts (seen p b) address kind → t ≡ true → b.live ≡ true
+pub starts-live : (p : ℕ → Option PointerPiece) (b : KeptBlock) (address : ℕ) (kind : BlockKind) (t : Bool) → t ≡ starts (seen p b) address kind → t ≡ true → b.live ≡ true
 starts-live p b address kind t e is =
     let whole : (b.live && nat_eq b.start address && same_kind b.kind kind) ≡ true = sym e ∙ is in
     (and_parts b.live (nat_eq b.start address) (and_parts (b.live && nat_eq b.start address) (same_kind b.kind kind) whole).0).0

@@ -14,11 +14,11 @@ use Rattle.ir_memory.specs.declared.leaf.Leaf.{Leaf}
 use Rattle.ir_memory.specs.declared.leaf.Leaf.TheVariants as leaf
 use Rattle.ir_memory.specs.declared.cell.Cell.{Cell}
 use Rattle.ir_memory.specs.declared.cell.Cell.TheVariants as cell
-use Rattle.ir_memory.specs.declared.access.Place.{Place}
+use Rattle.ir_memory.specs.declared.access.BlockPlace.{BlockPlace}
 use Rattle.ir_memory.specs.Given.{IsLeaf, Fits}
-use Rattle.ir_memory.specs.Cell.{size, spelled, byte_at, bytes, pieces, read, integer, pointer, number_of, same_block, are_pieces}
-use Rattle.ir_memory.specs.Block.{Block, written, holds}
-use Rattle.ir_memory.specs.Memory.{Blocks, changed, access, has_ended, is_over, home, found, named, place_at, place_in}
+use Rattle.ir_memory.specs.Cell.{size, leaf_cells, byte_at, bytes, pieces, read, integer, pointer, number_of, same_block, are_pieces}
+use Rattle.ir_memory.specs.Block.{MemoryBlock, written, holds}
+use Rattle.ir_memory.specs.Memory.{Blocks, changed, access, has_ended, is_over, home, block_found, number_where, place_at, place_in}
 use Rattle.ir_memory.proofs.Bytes.{shift}
 use Rattle.ir_memory.proofs.Known.{length-changed}
 
@@ -60,7 +60,7 @@ are_pieces-pieces : (p : Pointer) (n s : ℕ) → are_pieces p s (map (λ k. cel
 are_pieces-pieces p zero s = refl
 are_pieces-pieces p (suc n) s = rw (same_block-same p.block, eqb_same p.address, eqb_same s) (are_pieces-pieces p n (s + 1))
 
-pub read-spelled : (leaf : Leaf) (value : Scalar) → IsLeaf leaf → Fits leaf value → read leaf (spelled leaf value) ≡ value
+pub read-spelled : (leaf : Leaf) (value : Scalar) → IsLeaf leaf → Fits leaf value → read leaf (leaf_cells leaf value) ≡ value
 read-spelled (leaf.Int width) scalar.Poison is fits = ap (integer width) (number-poison ((width + 7) / 8) (omega (arith, is)))
 read-spelled (leaf.Int width) (scalar.Int n) is fits =
     ap (integer width) (number-bytes n ((width + 7) / 8) (omega (arith, fits, wide width))) ∙ ap scalar.Int (mod-eq_of_lt fits)
@@ -97,31 +97,31 @@ sliced-written at count new cells is within =
 
 -- a write changes nothing that an access asks
 module _ (at : ℕ) (new : List Cell) where
-  same-at : {X : Type 0} (F : Option Block → X) → ((b : Block) → F (Some (written at new b)) ≡ F (Some b)) → (i : ℕ) (bs : List Block) (j : ℕ) → F (slice_get (changed i (written at new) bs) j) ≡ F (slice_get bs j)
+  same-at : {X : Type 0} (F : Option MemoryBlock → X) → ((b : MemoryBlock) → F (Some (written at new b)) ≡ F (Some b)) → (i : ℕ) (bs : List MemoryBlock) (j : ℕ) → F (slice_get (changed i (written at new) bs) j) ≡ F (slice_get bs j)
   same-at F same i [] j = refl
   same-at F same zero (b ∷ bs) zero = same b
   same-at F same zero (b ∷ bs) (suc j) = refl
   same-at F same (suc i) (b ∷ bs) zero = refl
   same-at F same (suc i) (b ∷ bs) (suc j) = same-at F same i bs j
 
-  same-first : (test : Block → Bool) → ((b : Block) → test (written at new b) ≡ test b) → (i : ℕ) (bs : List Block) → position_or_len test (changed i (written at new) bs) ≡ position_or_len test bs
+  same-first : (test : MemoryBlock → Bool) → ((b : MemoryBlock) → test (written at new b) ≡ test b) → (i : ℕ) (bs : List MemoryBlock) → position_or_len test (changed i (written at new) bs) ≡ position_or_len test bs
   same-first test same i [] = refl
   same-first test same zero (b ∷ bs) = rw (same b) refl
   same-first test same (suc i) (b ∷ bs) = rw (same-first test same i bs) refl
 
-  same-home : (i : ℕ) (bs : List Block) (p : Pointer) (count : ℕ) (want : Option ℕ) → found (changed i (written at new) bs) (λ b. b.live && holds b p.address count) want ≡ found bs (λ b. b.live && holds b p.address count) want
+  same-home : (i : ℕ) (bs : List MemoryBlock) (p : Pointer) (count : ℕ) (want : Option ℕ) → block_found (changed i (written at new) bs) (λ b. b.live && holds b p.address count) want ≡ block_found bs (λ b. b.live && holds b p.address count) want
   same-home i bs p count None = rw (same-first (λ b. b.live && holds b p.address count) (λ b. refl) i bs, length-changed i (written at new) bs) refl
-  same-home i bs p count (Some j) = same-at (named j (λ b. b.live && holds b p.address count)) (λ b. refl) i bs j
+  same-home i bs p count (Some j) = same-at (number_where j (λ b. b.live && holds b p.address count)) (λ b. refl) i bs j
 
-  same-end : (i : ℕ) (bs : List Block) (want : Option ℕ) → has_ended (changed i (written at new) bs) want ≡ has_ended bs want
+  same-end : (i : ℕ) (bs : List MemoryBlock) (want : Option ℕ) → has_ended (changed i (written at new) bs) want ≡ has_ended bs want
   same-end i bs None = refl
   same-end i bs (Some j) = same-at is_over (λ b. refl) i bs j
 
-  same-place : (i : ℕ) (bs : List Block) (address : ℕ) (at_home : Option ℕ) → place_at (changed i (written at new) bs) address at_home ≡ place_at bs address at_home
+  same-place : (i : ℕ) (bs : List MemoryBlock) (address : ℕ) (at_home : Option ℕ) → place_at (changed i (written at new) bs) address at_home ≡ place_at bs address at_home
   same-place i bs address None = refl
   same-place i bs address (Some j) = same-at (place_in j address) (λ b. refl) i bs j
 
-relaxed : (none over outside fixed misaligned : Bool) (there place : Option Place) → (if none then Ok None else (if over then Err EndedBlock else (if outside then Err OutsideBlock else (if fixed then Err WriteToConstant else (if misaligned then Err Misaligned else Ok there))))) ≡ Ok place → (if none then Ok None else (if over then Err EndedBlock else (if outside then Err OutsideBlock else (if misaligned then Err Misaligned else Ok there)))) ≡ Ok place
+relaxed : (none over outside fixed misaligned : Bool) (there place : Option BlockPlace) → (if none then Ok None else (if over then Err EndedBlock else (if outside then Err OutsideBlock else (if fixed then Err WriteToConstant else (if misaligned then Err Misaligned else Ok there))))) ≡ Ok place → (if none then Ok None else (if over then Err EndedBlock else (if outside then Err OutsideBlock else (if misaligned then Err Misaligned else Ok there)))) ≡ Ok place
 relaxed true over outside fixed misaligned there place e = e
 relaxed false true outside fixed misaligned there place e = e
 relaxed false false true fixed misaligned there place e = e
@@ -129,14 +129,14 @@ relaxed false false false true misaligned there place e = cc
 relaxed false false false false misaligned there place e = e
 
 -- what was written can be read
-pub access-read : (m : Blocks) (count align i at : ℕ) (new : List Cell) (address : Scalar) (place : Option Place) → access m count align true address ≡ Ok place → access (record m { list = changed i (written at new) m.list }) count align false address ≡ Ok place
+pub access-read : (m : Blocks) (count align i at : ℕ) (new : List Cell) (address : Scalar) (place : Option BlockPlace) → access m count align true address ≡ Ok place → access (record m { list = changed i (written at new) m.list }) count align false address ≡ Ok place
 access-read m count align i at new (scalar.Int n) place e = e
 access-read m count align i at new scalar.Poison place e = e
 access-read m count align i at new (scalar.Ptr p) place e =
     rw (same-end at new i m.list p.block, same-home at new i m.list p count p.block, same-place at new i m.list p.address (home m.list p count))
     (relaxed _ _ _ _ _ _ place e)
 
-pub length-spelled : (leaf : Leaf) (value : Scalar) → Fits leaf value → length (spelled leaf value) ≡ size leaf
+pub length-spelled : (leaf : Leaf) (value : Scalar) → Fits leaf value → length (leaf_cells leaf value) ≡ size leaf
 length-spelled leaf scalar.Poison fits = length-replicate (size leaf) cell.Poison
 length-spelled leaf (scalar.Int n) fits = length-map-range_with_len (λ k. cell.Byte (byte_at n k)) 0 (size leaf)
 length-spelled leaf.Ptr (scalar.Ptr p) fits = refl

@@ -5,12 +5,12 @@ use Rattle.std.proofs.lemmas.Bool.{cases_lt, cases_eq}
 use Rattle.std.proofs.lemmas.Bool.Decides.{nat_tests}
 use Rattle.std.proofs.lemmas.List.{get_or-append_right, get_or_append_left, length-set, get_or-set_same, get_or-set_other}
 use Rattle.ir_eval.specs.declared.value.Scalar.{Scalar}
-use Rattle.ir_memory.specs.declared.access.Place.{Place}
+use Rattle.ir_memory.specs.declared.access.BlockPlace.{BlockPlace}
 use Rattle.ir_memory.specs.declared.leaf.Leaf.{Leaf}
 use Rattle.ir_memory.specs.declared.cell.Cell.{Cell}
 use Rattle.ir_memory.specs.declared.cell.Cell.TheVariants as cell
-use Rattle.ir_memory.specs.Cell.{spelled}
-use Rattle.ir_memory.specs.Block.{Block, gone, written}
+use Rattle.ir_memory.specs.Cell.{leaf_cells}
+use Rattle.ir_memory.specs.Block.{MemoryBlock, gone, written}
 use Rattle.ir_memory.specs.Memory.{changed, cells_at}
 use Rattle.ir_memory.specs.Kept.{IsPlaced}
 use Rattle.ir_memory.specs.Find.{AreStarts, HasOnly, IsLast}
@@ -18,7 +18,7 @@ use Rattle.ir_memory.proofs.Known.{length-changed}
 use Rattle.ir_memory.proofs.Placed.{IsPlaced-apart, IsPlaced-at}
 
 -- the greatest start at or below the address is that of the one block that can have it
-pub only_last : (starts : ℕ → Option ℕ) (blocks : List Block) (next address i : ℕ) → AreStarts starts blocks → IsPlaced 65536 blocks next → IsLast starts address i → HasOnly blocks address (Some i)
+pub only_last : (starts : ℕ → Option ℕ) (blocks : List MemoryBlock) (next address i : ℕ) → AreStarts starts blocks → IsPlaced 65536 blocks next → IsLast starts address i → HasOnly blocks address (Some i)
 only_last starts blocks next address i are placed found k d within live above inside =
     let s = found.0 in
     let least : (get_or blocks k d).start ≤ s = found.3 (get_or blocks k d).start above (subst IsSome (sym (are.all k d within live)) refl) in
@@ -36,7 +36,7 @@ only_last starts blocks next address i are placed found k d within live above in
     ]
 
 -- no start lies at or below the address
-pub only_none : (starts : ℕ → Option ℕ) (blocks : List Block) (address : ℕ) → AreStarts starts blocks → ((q : ℕ) → q ≤ address → starts q ≡ None) → HasOnly blocks address None
+pub only_none : (starts : ℕ → Option ℕ) (blocks : List MemoryBlock) (address : ℕ) → AreStarts starts blocks → ((q : ℕ) → q ≤ address → starts q ≡ None) → HasOnly blocks address None
 only_none starts blocks address are none k d within live above inside =
     sym (none (get_or blocks k d).start above) ∙ are.all k d within live
 
@@ -55,19 +55,19 @@ same_some : {i j : ℕ} → Some i ≡ Some j → i ≡ j
 same_some e = cc
 
 -- a block is added behind all others
-module _ (old new : ℕ → Option ℕ) (bs : List Block) (b : Block) (next : ℕ) (are : AreStarts old bs) (placed : IsPlaced 65536 bs next) (above : next ≤ b.start) (live : b.live ≡ true) (differs : Differs old new b.start (Some (length bs))) where
-  early : (k : ℕ) (d : Block) → k < length bs → get_or (bs ++ b ∷ []) k d ≡ get_or bs k d
+module _ (old new : ℕ → Option ℕ) (bs : List MemoryBlock) (b : MemoryBlock) (next : ℕ) (are : AreStarts old bs) (placed : IsPlaced 65536 bs next) (above : next ≤ b.start) (live : b.live ≡ true) (differs : Differs old new b.start (Some (length bs))) where
+  early : (k : ℕ) (d : MemoryBlock) → k < length bs → get_or (bs ++ b ∷ []) k d ≡ get_or bs k d
   early k d h = get_or_append_left bs (b ∷ []) d k h
 
-  late : (k : ℕ) (d : Block) → k ≡ length bs → get_or (bs ++ b ∷ []) k d ≡ b
+  late : (k : ℕ) (d : MemoryBlock) → k ≡ length bs → get_or (bs ++ b ∷ []) k d ≡ b
   late k d e =
       let z : k - length bs ≡ 0 = omega arith in
       get_or-append_right bs (b ∷ []) (length bs) k d refl (omega arith) ∙ ap (λ n. get_or (b ∷ []) n d) z
 
-  below : (k : ℕ) (d : Block) → k < length bs → (get_or bs k d).live ≡ true → (get_or bs k d).start ≢ b.start
+  below : (k : ℕ) (d : MemoryBlock) → k < length bs → (get_or bs k d).live ≡ true → (get_or bs k d).start ≢ b.start
   below k d h l = λ e. let p = IsPlaced-at bs 65536 next d k placed h l in absurd (omega (arith, p, e, above))
 
-  all_added : (k : ℕ) (d : Block) → k < length (bs ++ b ∷ []) → (get_or (bs ++ b ∷ []) k d).live ≡ true → new (get_or (bs ++ b ∷ []) k d).start ≡ Some k
+  all_added : (k : ℕ) (d : MemoryBlock) → k < length (bs ++ b ∷ []) → (get_or (bs ++ b ∷ []) k d).live ≡ true → new (get_or (bs ++ b ∷ []) k d).start ≡ Some k
   all_added k d h l = elim (cases_lt k (length bs)) [
     | inl g ↦
         let m = subst (λ x. x.live ≡ true) (early k d g) l in
@@ -93,7 +93,7 @@ module _ (old new : ℕ → Option ℕ) (bs : List Block) (b : Block) (next : �
   }
 
 -- nothing has changed
-pub AreStarts-same : (old new : ℕ → Option ℕ) (bs : List Block) → ((q : ℕ) → new q ≡ old q) → AreStarts old bs → AreStarts new bs
+pub AreStarts-same : (old new : ℕ → Option ℕ) (bs : List MemoryBlock) → ((q : ℕ) → new q ≡ old q) → AreStarts old bs → AreStarts new bs
 AreStarts-same old new bs same are = record {
   all = λ k d h l. same _ ∙ are.all k d h l;
   within = λ s k is. are.within s k (sym (same s) ∙ is);
@@ -102,7 +102,7 @@ AreStarts-same old new bs same are = record {
 }
 
 -- a start that was never there is taken back
-pub AreStarts-back : (old more new : ℕ → Option ℕ) (bs : List Block) (next key : ℕ) (value : Option ℕ) → AreStarts old bs → IsPlaced 65536 bs next → next ≤ key → Differs old more key value → Differs more new key None → AreStarts new bs
+pub AreStarts-back : (old more new : ℕ → Option ℕ) (bs : List MemoryBlock) (next key : ℕ) (value : Option ℕ) → AreStarts old bs → IsPlaced 65536 bs next → next ≤ key → Differs old more key value → Differs more new key None → AreStarts new bs
 AreStarts-back old more new bs next key value are placed above one two = AreStarts-same old new bs same are
   where
     absent : (o : Option ℕ) → old key ≡ o → None ≡ old key
@@ -119,7 +119,7 @@ AreStarts-back old more new bs next key value are placed above one two = AreStar
     ]
 
 -- a live block ends
-module _ (old new : ℕ → Option ℕ) (bs : List Block) (i : ℕ) (b : Block) (within : i < length bs) (is : b ≡ get_or bs i b) (are : AreStarts old bs) (live : b.live ≡ true) (differs : Differs old new b.start None) where
+module _ (old new : ℕ → Option ℕ) (bs : List MemoryBlock) (i : ℕ) (b : MemoryBlock) (within : i < length bs) (is : b ≡ get_or bs i b) (are : AreStarts old bs) (live : b.live ≡ true) (differs : Differs old new b.start None) where
   named : old b.start ≡ Some i
   named = subst (λ x. old x.start ≡ Some i) (sym is) (are.all i b within (subst (λ x. x.live ≡ true) is live))
 
@@ -134,13 +134,13 @@ module _ (old new : ℕ → Option ℕ) (bs : List Block) (i : ℕ) (b : Block) 
       none : {k : ℕ} → None ≡ Some k → ⊥
       none e = cc
 
-  still : (k : ℕ) (d : Block) → (get_or (set bs i gone) k d).live ≡ true → k ≢ i
+  still : (k : ℕ) (d : MemoryBlock) → (get_or (set bs i gone) k d).live ≡ true → k ≢ i
   still k d l = λ e. never (sym (ap (λ x. x.live) (ap (λ j. get_or (set bs i gone) j d) e ∙ get_or-set_same bs i gone d within)) ∙ l)
     where
       never : false ≡ true → ⊥
       never e = cc
 
-  all_ended : (k : ℕ) (d : Block) → k < length (set bs i gone) → (get_or (set bs i gone) k d).live ≡ true → new (get_or (set bs i gone) k d).start ≡ Some k
+  all_ended : (k : ℕ) (d : MemoryBlock) → k < length (set bs i gone) → (get_or (set bs i gone) k d).live ≡ true → new (get_or (set bs i gone) k d).start ≡ Some k
   all_ended k d h l =
       let n = still k d l in
       let e = get_or-set_other bs i k gone d n in
@@ -158,21 +158,21 @@ module _ (old new : ℕ → Option ℕ) (bs : List Block) (i : ℕ) (b : Block) 
   }
 
 -- a write changes no start
-written-live : (i at : ℕ) (new : List Cell) (bs : List Block) (k : ℕ) (d : Block) → (get_or (changed i (written at new) bs) k d).live ≡ (get_or bs k d).live
+written-live : (i at : ℕ) (new : List Cell) (bs : List MemoryBlock) (k : ℕ) (d : MemoryBlock) → (get_or (changed i (written at new) bs) k d).live ≡ (get_or bs k d).live
 written-live i at new [] k d = refl
 written-live zero at new (b ∷ bs) zero d = refl
 written-live zero at new (b ∷ bs) (suc k) d = refl
 written-live (suc i) at new (b ∷ bs) zero d = refl
 written-live (suc i) at new (b ∷ bs) (suc k) d = written-live i at new bs k d
 
-written-start : (i at : ℕ) (new : List Cell) (bs : List Block) (k : ℕ) (d : Block) → (get_or (changed i (written at new) bs) k d).start ≡ (get_or bs k d).start
+written-start : (i at : ℕ) (new : List Cell) (bs : List MemoryBlock) (k : ℕ) (d : MemoryBlock) → (get_or (changed i (written at new) bs) k d).start ≡ (get_or bs k d).start
 written-start i at new [] k d = refl
 written-start zero at new (b ∷ bs) zero d = refl
 written-start zero at new (b ∷ bs) (suc k) d = refl
 written-start (suc i) at new (b ∷ bs) zero d = refl
 written-start (suc i) at new (b ∷ bs) (suc k) d = written-start i at new bs k d
 
-pub AreStarts-written : (starts : ℕ → Option ℕ) (i at : ℕ) (new : List Cell) (bs : List Block) → AreStarts starts bs → AreStarts starts (changed i (written at new) bs)
+pub AreStarts-written : (starts : ℕ → Option ℕ) (i at : ℕ) (new : List Cell) (bs : List MemoryBlock) → AreStarts starts bs → AreStarts starts (changed i (written at new) bs)
 AreStarts-written starts i at new bs are = record {
   all = λ k d h l. ap starts (written-start i at new bs k d) ∙ are.all k d (omega (arith, h, length-changed i (written at new) bs)) (sym (written-live i at new bs k d) ∙ l);
   within = λ s k is. omega (arith, are.within s k is, length-changed i (written at new) bs);
@@ -180,11 +180,11 @@ AreStarts-written starts i at new bs are = record {
   start = λ s k d is. written-start i at new bs k d ∙ are.start s k d is;
 }
 
-pub AreStarts-stored : (starts : ℕ → Option ℕ) (place : Place) (leaf : Leaf) (value : Scalar) (bs : List Block) → AreStarts starts bs → AreStarts starts (changed place.index (written place.offset (spelled leaf value)) bs)
-AreStarts-stored starts place leaf value bs are = AreStarts-written starts place.index place.offset (spelled leaf value) bs are
+pub AreStarts-stored : (starts : ℕ → Option ℕ) (place : BlockPlace) (leaf : Leaf) (value : Scalar) (bs : List MemoryBlock) → AreStarts starts bs → AreStarts starts (changed place.index (written place.offset (leaf_cells leaf value)) bs)
+AreStarts-stored starts place leaf value bs are = AreStarts-written starts place.index place.offset (leaf_cells leaf value) bs are
 
-pub AreStarts-filled : (starts : ℕ → Option ℕ) (place : Place) (count byte : ℕ) (bs : List Block) → AreStarts starts bs → AreStarts starts (changed place.index (written place.offset (replicate count (cell.Byte byte))) bs)
+pub AreStarts-filled : (starts : ℕ → Option ℕ) (place : BlockPlace) (count byte : ℕ) (bs : List MemoryBlock) → AreStarts starts bs → AreStarts starts (changed place.index (written place.offset (replicate count (cell.Byte byte))) bs)
 AreStarts-filled starts place count byte bs are = AreStarts-written starts place.index place.offset (replicate count (cell.Byte byte)) bs are
 
-pub AreStarts-copied : (starts : ℕ → Option ℕ) (target source : Place) (count : ℕ) (bs : List Block) → AreStarts starts bs → AreStarts starts (changed target.index (written target.offset (cells_at bs count (Some source))) bs)
+pub AreStarts-copied : (starts : ℕ → Option ℕ) (target source : BlockPlace) (count : ℕ) (bs : List MemoryBlock) → AreStarts starts bs → AreStarts starts (changed target.index (written target.offset (cells_at bs count (Some source))) bs)
 AreStarts-copied starts target source count bs are = AreStarts-written starts target.index target.offset (cells_at bs count (Some source)) bs are

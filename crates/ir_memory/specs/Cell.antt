@@ -28,10 +28,10 @@ abbrev pub pieces : Pointer → List Cell
 pieces p = map (λ k. cell.Piece p k) (range_with_len 0 8)
 
 -- what a store writes
-abbrev pub spelled : Leaf → Scalar → List Cell
-spelled leaf scalar.Poison = replicate (size leaf) cell.Poison
-spelled leaf (scalar.Int number) = bytes (size leaf) number
-spelled leaf (scalar.Ptr p) = pieces p
+abbrev pub leaf_cells : Leaf → Scalar → List Cell
+leaf_cells leaf scalar.Poison = replicate (size leaf) cell.Poison
+leaf_cells leaf (scalar.Int number) = bytes (size leaf) number
+leaf_cells leaf (scalar.Ptr p) = pieces p
 
 -- a cell as a byte, where it is not poison: piece k of a pointer is byte k of its address
 abbrev pub byte_of : Cell → Option ℕ

@@ -7,7 +7,7 @@ use Rattle.ir_memory.specs.declared.leaf.Leaf.{Leaf}
 use Rattle.ir_memory.specs.declared.leaf.Leaf.TheVariants as leaf
 use Rattle.ir_memory.specs.declared.kind.BlockKind.{BlockKind}
 use Rattle.ir_memory.specs.declared.kind.BlockKind.TheVariants as kind
-use Rattle.ir_memory.specs.Block.{Block}
+use Rattle.ir_memory.specs.Block.{MemoryBlock}
 
 -- an integer has 1 to 128 bits
 abbrev pub IsLeaf : Leaf → Type 0
@@ -30,11 +30,11 @@ IsBlock count None = ⊤
 IsBlock count (Some i) = i < count
 
 -- the pointer has no block, or one that was made
-abbrev pub IsKnown : List Block → Pointer → Type 0
+abbrev pub IsKnown : List MemoryBlock → Pointer → Type 0
 IsKnown blocks p = IsBlock (length blocks) p.block
 
 -- a known pointer, or poison
-abbrev pub IsAddress : List Block → Scalar → Type 0
+abbrev pub IsAddress : List MemoryBlock → Scalar → Type 0
 IsAddress blocks (scalar.Int number) = ⊥
 IsAddress blocks (scalar.Ptr p) = IsKnown blocks p
 IsAddress blocks scalar.Poison = ⊤
@@ -47,7 +47,7 @@ Fits leaf.Ptr (scalar.Ptr p) = ⊤
 Fits _ _ = ⊥
 
 -- a pointer in the value is known
-abbrev pub HasKnown : List Block → Scalar → Type 0
+abbrev pub HasKnown : List MemoryBlock → Scalar → Type 0
 HasKnown blocks (scalar.Ptr p) = IsKnown blocks p
 HasKnown blocks (scalar.Int number) = ⊤
 HasKnown blocks scalar.Poison = ⊤

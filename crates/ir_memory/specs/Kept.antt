@@ -3,16 +3,16 @@ use Rattle.std.specs.Prelude.{◌≡◌, ℕ, ◌+◌, ◌<◌, ◌≤◌, ◌^�
 use Rattle.std.specs.List.{All}
 use Rattle.ir_memory.specs.declared.cell.Cell.{Cell}
 use Rattle.ir_memory.specs.declared.cell.Cell.TheVariants as cell
-use Rattle.ir_memory.specs.Block.{Block}
+use Rattle.ir_memory.specs.Block.{MemoryBlock}
 use Rattle.ir_memory.specs.Memory.{live_bytes, byte_limit, first_address}
 use Rattle.ir_memory.specs.Given.{IsBlock}
 
 -- where the next live block may start: 16 addresses behind a live one
-abbrev pub behind : ℕ → Block → ℕ
+abbrev pub behind : ℕ → MemoryBlock → ℕ
 behind from b = if b.live then b.start + b.size + 16 else from
 
 -- live blocks stand in the order of their addresses, and 16 are free between two of them
-abbrev pub IsPlaced : ℕ → List Block → ℕ → Type 0
+abbrev pub IsPlaced : ℕ → List MemoryBlock → ℕ → Type 0
 IsPlaced from [] next = from ≤ next
 IsPlaced from (b ∷ bs) next = (b.live ≡ true → from ≤ b.start) × IsPlaced (behind from b) bs next
 
@@ -23,9 +23,9 @@ IsKnownCell count (cell.Byte b) = ⊤
 IsKnownCell count cell.Poison = ⊤
 
 -- each piece in the blocks is so
-abbrev pub AreKnown : ℕ → List Block → Type 0
+abbrev pub AreKnown : ℕ → List MemoryBlock → Type 0
 AreKnown count blocks = All (λ b. All (IsKnownCell count) b.cells) blocks
 
 -- blocks are placed, so many bytes are live, and each piece is of a pointer whose block was made
-abbrev pub IsKept : List Block → ℕ → ℕ → Type 0
+abbrev pub IsKept : List MemoryBlock → ℕ → ℕ → Type 0
 IsKept blocks next live = IsPlaced first_address blocks next × (live ≡ live_bytes blocks) × (live ≤ byte_limit) × (next < 2 ^ 62) × AreKnown (length blocks) blocks

@@ -3,10 +3,10 @@
 use Rattle.std.specs.Prelude.{◌≡◌, ℕ, ◌+◌, ◌<◌, ◌≤◌, ◌^◌, List, [], length, map, replicate, Bool, true, false, ◌||◌, Option, Some, None, slice_index_or}
 use Rattle.std.specs.Ordering.{nat_cmp}
 use Rattle.std.specs.BTreeMap as tree
-use Rattle.pointer_pieces.specs.declared.piece.Piece.{Piece}
+use Rattle.pointer_pieces.specs.declared.piece.PointerPiece.{PointerPiece}
 use Rattle.pointer_pieces.specs.declared.pieces.Pieces.{Pieces}
 use Rattle.pointer_pieces.specs.Pieces.{at_slots}
-use Rattle.masked_bytes.specs.Masked.{placed, put}
+use Rattle.masked_bytes.specs.Masked.{mapped_with_places, put}
 use Rattle.ir_memory.specs.declared.kind.BlockKind.{BlockKind}
 use Rattle.ir_memory.specs.declared.kind.BlockKind.TheVariants.{Stack}
 use Rattle.ir_memory.specs.declared.cell.Cell.{Cell}
@@ -16,13 +16,13 @@ use Rattle.ir_eval.specs.declared.value.Scalar.{Scalar}
 use Rattle.ir_memory.specs.declared.leaf.Leaf.{Leaf}
 use Rattle.ir_memory.specs.declared.leaf.Leaf.TheVariants as leaf
 use Rattle.ir_memory.specs.Cell.{integer, pointer}
-use Rattle.ir_memory.specs.declared.access.Place.{Place}
-use Rattle.ir_memory.specs.Block.{Block}
+use Rattle.ir_memory.specs.declared.access.BlockPlace.{BlockPlace}
+use Rattle.ir_memory.specs.Block.{MemoryBlock}
 use Rattle.ir_memory.specs.Kept.{IsPlaced}
 use Rattle.ir_memory.specs.Memory.{first_address}
 
 -- the piece at an address
-abbrev pub at : Pieces → ℕ → Option Piece
+abbrev pub at : Pieces → ℕ → Option PointerPiece
 at pieces = at_slots (tree.get nat_cmp pieces.slots)
 
 -- a byte or poison as a cell
@@ -31,20 +31,20 @@ plain None = cell.Poison
 plain (Some byte) = cell.Byte byte
 
 -- a piece stands before the byte at its address
-abbrev pub over : Option Piece → Option ℕ → Cell
+abbrev pub over : Option PointerPiece → Option ℕ → Cell
 over None byte = plain byte
 over (Some piece) byte = cell.Piece piece.pointer piece.place
 
 -- bytes from an address on, under the pieces there
-abbrev pub cells : (ℕ → Option Piece) → ℕ → List (Option ℕ) → List Cell
-cells pieces = placed (λ address byte. over (pieces address) byte)
+abbrev pub cells : (ℕ → Option PointerPiece) → ℕ → List (Option ℕ) → List Cell
+cells pieces = mapped_with_places (λ address byte. over (pieces address) byte)
 
 -- a block as all speak of it
-abbrev pub seen : (ℕ → Option Piece) → KeptBlock → Block
+abbrev pub seen : (ℕ → Option PointerPiece) → KeptBlock → MemoryBlock
 seen pieces b = record { start = b.start; size = b.size; kind = b.kind; live = b.live; cells = cells pieces b.start b.bytes }
 
 -- all blocks, as all speak of them
-abbrev pub all_seen : (ℕ → Option Piece) → List KeptBlock → List Block
+abbrev pub all_seen : (ℕ → Option PointerPiece) → List KeptBlock → List MemoryBlock
 all_seen pieces = map (seen pieces)
 
 -- a new block of zeros, without pieces
@@ -65,14 +65,14 @@ of_number (leaf.Int width) number = integer width number
 of_number leaf.Ptr number = pointer None number
 
 -- so many bytes from a place on are bytes of a live block
-pub record IsRoom (kept : List KeptBlock) (place : Place) (count : ℕ) : Type 0 where
+pub record IsRoom (kept : List KeptBlock) (place : BlockPlace) (count : ℕ) : Type 0 where
   pub index : place.index < length kept
   pub within : (d : KeptBlock) → place.offset + count ≤ (slice_index_or kept place.index d).size
   pub live : (d : KeptBlock) → (slice_index_or kept place.index d).live ≡ true
 
 -- blocks are placed, each has as many bytes as its size, no piece stands from the next address on, and none where
 -- a block is not marked as mixed
-pub record IsSound (pieces : ℕ → Option Piece) (kept : List KeptBlock) (next : ℕ) : Type 0 where
+pub record IsSound (pieces : ℕ → Option PointerPiece) (kept : List KeptBlock) (next : ℕ) : Type 0 where
   pub placed : IsPlaced first_address (all_seen pieces kept) next
   pub small : next < 2 ^ 62
   pub whole : (k : ℕ) (d : KeptBlock) → k < length kept → length (slice_index_or kept k d).bytes ≡ (slice_index_or kept k d).size

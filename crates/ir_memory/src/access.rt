@@ -6,14 +6,14 @@ ghost use Rattle.ir_memory.specs.Given.{IsKnown, IsAddress, IsAlignment};
 ghost use Rattle.ir_memory.specs.Seen.{at, all_seen};
 ghost use Rattle.ir_memory.specs.declared.kept.KeptBlock.{KeptBlock as Kept};
 ghost use Rattle.ir_memory.specs.Block.{is_constant};
-ghost use Rattle.ir_memory.specs.Find.{AreStarts, HasOnly, IsOnly, placed};
+ghost use Rattle.ir_memory.specs.Find.{AreStarts, HasOnly, IsOnly, place_there};
 ghost use Rattle.std.specs.Ordering.{nat_cmp};
 ghost use Rattle.std.specs.BTreeMap as tree;
 
 use crate::BlockKind;
 use crate::kept::KeptBlock;
 use crate::starts::last_started;
-use crate::table::Table;
+use crate::table::BlockTable;
 use ir_eval::{Pointer, Scalar};
 use ir_tables::UndefinedKind;
 use pointer_pieces::Pieces;
@@ -21,7 +21,7 @@ use std::collections::BTreeMap;
 
 /// Where the first byte of an access is: the number of its block, and how far it lies behind the start.
 #[derive(Clone, Copy)]
-pub struct Place {
+pub struct BlockPlace {
     pub index: usize,
     pub offset: usize,
 }
@@ -36,7 +36,7 @@ pub struct Request {
 
 /// The live block of that kind that a pointer starts.
 pub fn started(
-    kept: &Table,
+    kept: &BlockTable,
     _pieces: &Pieces,
     starts: &BTreeMap<u64, u64>,
     pointer: Scalar,
@@ -63,7 +63,7 @@ pub fn started(
 /// The one block that a pointer can speak of: its own, or the one that has its address. Blocks and pieces serve the clauses.
 #[inline(always)]
 fn candidate(
-    _kept: &Table,
+    _kept: &BlockTable,
     _pieces: &Pieces,
     starts: &BTreeMap<u64, u64>,
     pointer: Pointer,
@@ -107,19 +107,19 @@ fn is_aligned(address: u64, align: u32) -> bool
 /// The place of an access of at least one byte, or the first check that fails.
 #[inline(always)]
 pub fn access(
-    kept: &Table,
+    kept: &BlockTable,
     _pieces: &Pieces,
     starts: &BTreeMap<u64, u64>,
     sealed: bool,
     asked: Request,
     address: Scalar,
-) -> Result<Place, UndefinedKind>
+) -> Result<BlockPlace, UndefinedKind>
     requires starts { AreStarts (tree.get nat_cmp starts.now) (all_seen (at _pieces.now) kept.now) }
     requires known { IsAddress (all_seen (at _pieces.now) kept.now) address }
     requires placed { (next : ℕ) × IsPlaced of.first_address (all_seen (at _pieces.now) kept.now) next }
     requires some { 1 ≤ asked.count }
     requires align { IsAlignment asked.align }
-    ensures value { (next : ℕ) → of.access (record { list = all_seen (at _pieces.now) kept.now; next = next; sealed = sealed }) asked.count asked.align asked.writes address ≡ placed result }
+    ensures value { (next : ℕ) → of.access (record { list = all_seen (at _pieces.now) kept.now; next = next; sealed = sealed }) asked.count asked.align asked.writes address ≡ place_there result }
     ensures within { IfOk result (λ p. p.index < length kept.now) }
     ensures holds { IfOk result (λ p. (d : Kept) → p.offset + asked.count ≤ (slice_index_or kept.now p.index d).size) }
     ensures live { IfOk result (λ p. (d : Kept) → (slice_index_or kept.now p.index d).live ≡ true) }
@@ -143,7 +143,7 @@ pub fn access(
     if !is_aligned(pointer.address, asked.align) {
         return Err(UndefinedKind::Misaligned);
     }
-    Ok(Place {
+    Ok(BlockPlace {
         index,
         offset: (pointer.address - block.start) as usize,
     })

@@ -6,8 +6,8 @@ ghost use Rattle.ir_memory.specs.declared.kept.KeptBlock.{KeptBlock as Kept};
 ghost use Rattle.ir_memory.specs.Seen.{at, all_seen, IsRoom, IsSound, with_copied};
 ghost use Rattle.pointer_pieces.specs.Pieces.{with_moved};
 
-use crate::access::Place;
-use crate::table::Table;
+use crate::access::BlockPlace;
+use crate::table::BlockTable;
 use crate::write::clear;
 use masked_bytes::MaskedBytes;
 use pointer_pieces::Pieces;
@@ -15,7 +15,7 @@ use std::alloc::{AllocError, Global};
 use std::mem;
 
 /// Whether two ranges of one block meet and are not equal.
-fn overlap(one: Place, other: Place, count: usize) -> bool
+fn overlap(one: BlockPlace, other: BlockPlace, count: usize) -> bool
     ensures { result ≡ of.overlap count (Some one) (Some other) }
 {
     let apart = if one.offset < other.offset {
@@ -27,7 +27,7 @@ fn overlap(one: Place, other: Place, count: usize) -> bool
 }
 
 /// Whether two ranges of one block meet and are not equal, where they may not.
-pub fn meets(may_overlap: bool, one: Place, other: Place, count: usize) -> bool
+pub fn meets(may_overlap: bool, one: BlockPlace, other: BlockPlace, count: usize) -> bool
     ensures { result ≡ (not may_overlap && of.overlap count (Some one) (Some other)) }
 {
     !may_overlap && overlap(one, other, count)
@@ -38,10 +38,10 @@ pub fn meets(may_overlap: bool, one: Place, other: Place, count: usize) -> bool
 #[inline(never)]
 pub fn copy_cells(
     alloc: Global,
-    kept: &mut Table,
+    kept: &mut BlockTable,
     pieces: &mut Pieces,
-    target: Place,
-    source: Place,
+    target: BlockPlace,
+    source: BlockPlace,
     count: usize,
 ) -> Result<(), AllocError>
     requires target { IsRoom kept.old target count }
@@ -88,9 +88,9 @@ fn copy_pieces(
 /// Copies the bytes, and marks the target's block where the source's may have pieces.
 fn copy_bytes(
     alloc: Global,
-    kept: &mut Table,
-    target: Place,
-    source: Place,
+    kept: &mut BlockTable,
+    target: BlockPlace,
+    source: BlockPlace,
     count: usize,
     mixed: bool,
 )

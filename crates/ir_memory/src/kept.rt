@@ -2,7 +2,7 @@
 ghost use Rattle.std.specs.Prelude.{◌≡◌, ◌≢◌, ◌+◌, ◌&&◌, nat_le, IfOk, ℕ, Option, true, false};
 ghost use Rattle.ir_memory.specs.Block as block;
 ghost use Rattle.ir_memory.specs.Seen.{fresh, ended_block, seen};
-ghost use Rattle.pointer_pieces.specs.declared.piece.Piece.{Piece};
+ghost use Rattle.pointer_pieces.specs.declared.piece.PointerPiece.{PointerPiece};
 
 use crate::BlockKind;
 use masked_bytes::MaskedBytes;
@@ -93,7 +93,7 @@ impl KeptBlock {
 
     /// Whether it is a live block of that kind that starts there.
     pub fn starts(&self, address: u64, kind: BlockKind) -> bool
-        ensures { (pieces : ℕ → Option Piece) → result ≡ block.starts (seen pieces self.now) address kind }
+        ensures { (pieces : ℕ → Option PointerPiece) → result ≡ block.starts (seen pieces self.now) address kind }
     {
         self.live && self.start == address && self.kind == kind
     }

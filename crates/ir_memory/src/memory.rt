@@ -8,14 +8,14 @@ ghost use Rattle.ir_memory.specs.Given.{IsKnown, IsAddress, IsAlignment, IsLeaf,
 ghost use Rattle.ir_memory.specs.Answer.{Answers, NeedsNone, IsInteger, Keeps};
 ghost use Rattle.ir_memory.specs.Seen.{at, all_seen, IsRoom, IsSound};
 ghost use Rattle.ir_memory.specs.declared.kept.KeptBlock.{KeptBlock as Kept};
-ghost use Rattle.ir_memory.specs.Cell.{size, spelled};
+ghost use Rattle.ir_memory.specs.Cell.{size, leaf_cells};
 
-use crate::access::{Place, Request, access, started};
+use crate::access::{BlockPlace, Request, access, started};
 use crate::copy::{copy_cells, meets};
 use crate::kept::KeptBlock;
 use crate::read::read_at;
 use crate::starts::{forget, note};
-use crate::table::Table;
+use crate::table::BlockTable;
 use crate::write::{clear, write_many, write_number, write_pointer, write_poison};
 use crate::{BlockKind, Leaf, MemoryFault};
 use ir_eval::{Pointer, Scalar};
@@ -39,7 +39,7 @@ const GAP: u64 = 16;
 #[derive(Drop)]
 pub struct Memory {
     alloc: Global,
-    kept: Table,
+    kept: BlockTable,
     pieces: Pieces,
     starts: BTreeMap<u64, u64>,
     next: u64,
@@ -69,7 +69,7 @@ impl Memory {
     {
         Memory {
             alloc,
-            kept: Table::new(alloc),
+            kept: BlockTable::new(alloc),
             pieces: Pieces::new(alloc),
             starts: BTreeMap::new(alloc),
             next: FIRST_ADDRESS,
@@ -330,9 +330,9 @@ impl Memory {
 /// Writes a leaf at a place. Where memory is refused, nothing changes; it is asked for only by pointers.
 #[inline(always)]
 fn write_leaf(
-    kept: &mut Table,
+    kept: &mut BlockTable,
     pieces: &mut Pieces,
-    place: Place,
+    place: BlockPlace,
     leaf: Leaf,
     value: Scalar,
 ) -> Result<(), AllocError>
@@ -340,7 +340,7 @@ fn write_leaf(
     requires value { Fits leaf value }
     requires room { IsRoom kept.old place (size leaf) }
     requires sound { (next : ℕ) × IsSound (at pieces.old) kept.old next }
-    ensures value { OnOk result (all_seen (at pieces.new) kept.new ≡ of.changed place.index (block.written place.offset (spelled leaf value)) (all_seen (at pieces.old) kept.old)) }
+    ensures value { OnOk result (all_seen (at pieces.new) kept.new ≡ of.changed place.index (block.written place.offset (leaf_cells leaf value)) (all_seen (at pieces.old) kept.old)) }
     ensures err { OnErr result (all_seen (at pieces.new) kept.new ≡ all_seen (at pieces.old) kept.old) }
     ensures sound { (next : ℕ) → IsSound (at pieces.old) kept.old next → IsSound (at pieces.new) kept.new next }
     ensures memory { IsInteger leaf → IsOk result }
@@ -355,7 +355,7 @@ fn write_leaf(
 }
 
 /// Ends a live block: its bytes and the pieces in it are given up.
-fn end(kept: &mut Table, pieces: &mut Pieces, index: usize)
+fn end(kept: &mut BlockTable, pieces: &mut Pieces, index: usize)
     requires index { index < length kept.old }
     requires live { (d : Kept) → (slice_index_or kept.old index d).live ≡ true }
     requires sound { (next : ℕ) × IsSound (at pieces.old) kept.old next }

@@ -8,16 +8,16 @@ ghost use Rattle.ir_memory.specs.Seen as seen;
 ghost use Rattle.ir_memory.specs.Seen.{at, all_seen, IsRoom, IsSound};
 
 use crate::Leaf;
-use crate::access::Place;
+use crate::access::BlockPlace;
 use crate::cell::{Cell, read, value_of};
 use crate::kept::KeptBlock;
-use crate::table::Table;
+use crate::table::BlockTable;
 use ir_eval::Scalar;
 use pointer_pieces::Pieces;
 
 /// The leaf at a place.
 #[inline(always)]
-pub fn read_at(kept: &Table, pieces: &Pieces, place: Place, leaf: Leaf) -> Scalar
+pub fn read_at(kept: &BlockTable, pieces: &Pieces, place: BlockPlace, leaf: Leaf) -> Scalar
     requires leaf { IsLeaf leaf }
     requires room { IsRoom kept.now place (cell.size leaf) }
     requires sound { (next : ℕ) × IsSound (at pieces.now) kept.now next }

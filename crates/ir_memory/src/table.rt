@@ -14,14 +14,14 @@ use std::marker::Model;
 /// The blocks of a run by their numbers, counted from 0, in pages of 64 numbers each. Of those that have ended nothing is kept: one
 /// row stands for each of them, and for all of a page together none.
 #[derive(Drop)]
-pub struct Table {
+pub struct BlockTable {
     alloc: Global,
     pages: Vec<Page>,
     ended: KeptBlock,
     count: usize,
 }
 
-impl Model for Table {
+impl Model for BlockTable {
     ghost use Rattle.std.specs.Prelude.{◌≡◌, List};
     ghost use Rattle.ir_memory.specs.declared.kept.KeptBlock.{KeptBlock};
     ghost use Rattle.ir_memory.specs.Seen.{ended_block};
@@ -56,12 +56,12 @@ fn put(
     Ok(())
 }
 
-impl Table {
+impl BlockTable {
     /// No blocks.
-    pub fn new(alloc: Global) -> Table
+    pub fn new(alloc: Global) -> BlockTable
         ensures { result ≡ [] }
     {
-        Table {
+        BlockTable {
             alloc,
             pages: Vec::new(alloc),
             ended: KeptBlock::ended(alloc),

@@ -7,8 +7,8 @@ ghost use Rattle.ir_memory.specs.declared.cell.Cell.TheVariants as the;
 ghost use Rattle.ir_memory.specs.Seen.{at, all_seen, IsRoom, IsSound};
 ghost use Rattle.pointer_pieces.specs.Pieces.{without};
 
-use crate::access::Place;
-use crate::table::Table;
+use crate::access::BlockPlace;
+use crate::table::BlockTable;
 use ir_eval::Pointer;
 use pointer_pieces::Pieces;
 use std::alloc::AllocError;
@@ -27,7 +27,13 @@ pub fn clear(pieces: &mut Pieces, mixed: bool, from: u64, to: u64)
 
 /// Writes the least bytes of a number at a place.
 #[inline(always)]
-pub fn write_number(kept: &mut Table, pieces: &mut Pieces, place: Place, count: usize, number: u128)
+pub fn write_number(
+    kept: &mut BlockTable,
+    pieces: &mut Pieces,
+    place: BlockPlace,
+    count: usize,
+    number: u128,
+)
     requires count { count ≤ 16 }
     requires room { IsRoom kept.old place count }
     requires sound { (next : ℕ) × IsSound (at pieces.old) kept.old next }
@@ -42,7 +48,13 @@ pub fn write_number(kept: &mut Table, pieces: &mut Pieces, place: Place, count: 
 
 /// Writes one byte in so many places.
 #[inline(never)]
-pub fn write_many(kept: &mut Table, pieces: &mut Pieces, place: Place, count: usize, byte: u8)
+pub fn write_many(
+    kept: &mut BlockTable,
+    pieces: &mut Pieces,
+    place: BlockPlace,
+    count: usize,
+    byte: u8,
+)
     requires room { IsRoom kept.old place count }
     requires sound { (next : ℕ) × IsSound (at pieces.old) kept.old next }
     ensures value { all_seen (at pieces.new) kept.new ≡ of.changed place.index (block.written place.offset (replicate count (the.Byte byte))) (all_seen (at pieces.old) kept.old) }
@@ -56,7 +68,7 @@ pub fn write_many(kept: &mut Table, pieces: &mut Pieces, place: Place, count: us
 
 /// Writes poison in so many places.
 #[inline(never)]
-pub fn write_poison(kept: &mut Table, pieces: &mut Pieces, place: Place, count: usize)
+pub fn write_poison(kept: &mut BlockTable, pieces: &mut Pieces, place: BlockPlace, count: usize)
     requires room { IsRoom kept.old place count }
     requires sound { (next : ℕ) × IsSound (at pieces.old) kept.old next }
     ensures value { all_seen (at pieces.new) kept.new ≡ of.changed place.index (block.written place.offset (replicate count the.Poison)) (all_seen (at pieces.old) kept.old) }
@@ -71,9 +83,9 @@ pub fn write_poison(kept: &mut Table, pieces: &mut Pieces, place: Place, count: 
 /// Writes a pointer at a place. Where memory is refused, nothing changes.
 #[inline(never)]
 pub fn write_pointer(
-    kept: &mut Table,
+    kept: &mut BlockTable,
     pieces: &mut Pieces,
-    place: Place,
+    place: BlockPlace,
     pointer: Pointer,
 ) -> Result<(), AllocError>
     requires room { IsRoom kept.old place 8 }

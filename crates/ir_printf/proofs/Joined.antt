@@ -4,12 +4,12 @@ use Rattle.std.proofs.lemmas.List.{take-append-drop, drop_all, drop-drop}
 use Rattle.std.specs.List.{prefix_len}
 use Rattle.ir_printf.specs.declared.conversion.Conversion.{Conversion}
 use Rattle.ir_printf.specs.declared.pattern.BadFormat.{BadFormat}
-use Rattle.ir_printf.specs.declared.pattern.Piece.{Piece}
-use Rattle.ir_printf.specs.declared.pattern.Piece.TheVariants as piece
+use Rattle.ir_printf.specs.declared.pattern.PatternPiece.{PatternPiece}
+use Rattle.ir_printf.specs.declared.pattern.PatternPiece.TheVariants as piece
 use Rattle.ir_printf.specs.Pattern.{AreRead, read_bytes, piece_end, piece_at, first_piece, conversion_piece, conversion_in, conversion_size, is_literal, ReadsWhole}
 
 -- where an answer's piece ends
-abbrev answer_end : ℕ → Result Piece BadFormat → ℕ
+abbrev answer_end : ℕ → Result PatternPiece BadFormat → ℕ
 answer_end at (Ok p) = piece_end at p
 answer_end at (Err fault) = at
 
@@ -17,7 +17,7 @@ after_conversion : (at size : ℕ) (c : Option Conversion) → at ≤ answer_end
 after_conversion at size None = omega arith
 after_conversion at size (Some c) = omega arith
 
-either : (at : ℕ) (b : Bool) (x y : Result Piece BadFormat) → at ≤ answer_end at x → at ≤ answer_end at y → at ≤ answer_end at (cond b x y)
+either : (at : ℕ) (b : Bool) (x y : Result PatternPiece BadFormat) → at ≤ answer_end at x → at ≤ answer_end at y → at ≤ answer_end at (cond b x y)
 either at true x y hx hy = hx
 either at false x y hx hy = hy
 
@@ -28,10 +28,10 @@ not_before at (byte ∷ bytes) =
     either at (byte == 37) (conversion_piece at (conversion_size bytes) (conversion_in bytes)) (Ok (piece.Literal at (at + prefix_len is_literal (byte ∷ bytes))))
     (after_conversion at (conversion_size bytes) (conversion_in bytes)) (omega arith)
 
-ends_behind : (pattern : List ℕ) (at : ℕ) (p : Piece) → piece_at pattern at ≡ Ok p → at ≤ piece_end at p
-ends_behind pattern at p e = let P : Result Piece BadFormat → Type 0 = λ r. at ≤ answer_end at r in subst P e (not_before at (drop at pattern))
+ends_behind : (pattern : List ℕ) (at : ℕ) (p : PatternPiece) → piece_at pattern at ≡ Ok p → at ≤ piece_end at p
+ends_behind pattern at p e = let P : Result PatternPiece BadFormat → Type 0 = λ r. at ≤ answer_end at r in subst P e (not_before at (drop at pattern))
 
-from_a_place : (pattern : List ℕ) (at : ℕ) (ps : List Piece) → AreRead pattern at ps → read_bytes pattern at ps ≡ drop at pattern
+from_a_place : (pattern : List ℕ) (at : ℕ) (ps : List PatternPiece) → AreRead pattern at ps → read_bytes pattern at ps ≡ drop at pattern
 from_a_place pattern at [] e = sym (drop_all at pattern (omega (arith, e)))
 from_a_place pattern at (p ∷ ps) h =
     let behind : at ≤ piece_end at p = ends_behind pattern at p h.0 in

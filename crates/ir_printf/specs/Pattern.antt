@@ -6,8 +6,8 @@ use Rattle.ir_printf.specs.declared.conversion.ConversionKind.TheVariants as kin
 use Rattle.ir_printf.specs.declared.conversion.Length.{Length}
 use Rattle.ir_printf.specs.declared.conversion.Length.TheVariants as size
 use Rattle.ir_printf.specs.declared.conversion.Conversion.{Conversion}
-use Rattle.ir_printf.specs.declared.pattern.Piece.{Piece}
-use Rattle.ir_printf.specs.declared.pattern.Piece.TheVariants as piece
+use Rattle.ir_printf.specs.declared.pattern.PatternPiece.{PatternPiece}
+use Rattle.ir_printf.specs.declared.pattern.PatternPiece.TheVariants as piece
 use Rattle.ir_printf.specs.declared.pattern.BadFormat.{BadFormat}
 
 -- ---- what stands behind the `%` of a conversion, from left to right
@@ -158,37 +158,37 @@ abbrev pub is_literal : ℕ → Bool
 is_literal byte = not (byte == 37)
 
 -- behind a `%`, the pattern's byte at this place
-abbrev pub conversion_piece : ℕ → ℕ → Option Conversion → Result Piece BadFormat
+abbrev pub conversion_piece : ℕ → ℕ → Option Conversion → Result PatternPiece BadFormat
 conversion_piece at size None = Err (record { at = at })
 conversion_piece at size (Some conversion) = Ok (piece.Convert conversion (at + 1 + size))
 
 -- the piece that begins a rest of the pattern, which stands at this place
-abbrev pub first_piece : ℕ → List ℕ → Result Piece BadFormat
+abbrev pub first_piece : ℕ → List ℕ → Result PatternPiece BadFormat
 first_piece at [] = Ok piece.End
 first_piece at (byte ∷ bytes) =
     if byte == 37 then conversion_piece at (conversion_size bytes) (conversion_in bytes)
     else Ok (piece.Literal at (at + prefix_len is_literal (byte ∷ bytes)))
 
 -- the piece at this place of a pattern, or that a `%` there begins no conversion
-abbrev pub piece_at : List ℕ → ℕ → Result Piece BadFormat
+abbrev pub piece_at : List ℕ → ℕ → Result PatternPiece BadFormat
 piece_at pattern at = first_piece at (drop at pattern)
 
 -- where a piece that begins at this place ends
-abbrev pub piece_end : ℕ → Piece → ℕ
+abbrev pub piece_end : ℕ → PatternPiece → ℕ
 piece_end at (piece.Literal from to) = to
 piece_end at (piece.Convert conversion to) = to
 piece_end at piece.End = at
 
 -- the pieces from a place of a pattern on, to its end
-abbrev pub AreRead : List ℕ → ℕ → List Piece → Type 0
+abbrev pub AreRead : List ℕ → ℕ → List PatternPiece → Type 0
 AreRead pattern at [] = at ≡ length pattern
 AreRead pattern at (p ∷ ps) = (piece_at pattern at ≡ Ok p) × AreRead pattern (piece_end at p) ps
 
 -- the bytes of the pieces, one behind the other
-abbrev pub read_bytes : List ℕ → ℕ → List Piece → List ℕ
+abbrev pub read_bytes : List ℕ → ℕ → List PatternPiece → List ℕ
 read_bytes pattern at [] = []
 read_bytes pattern at (p ∷ ps) = slice_range pattern at (piece_end at p) ++ read_bytes pattern (piece_end at p) ps
 
 -- a pattern that is read piece by piece is the pattern
 abbrev pub ReadsWhole : Type 0
-ReadsWhole = (pattern : List ℕ) (pieces : List Piece) → AreRead pattern 0 pieces → read_bytes pattern 0 pieces ≡ pattern
+ReadsWhole = (pattern : List ℕ) (pieces : List PatternPiece) → AreRead pattern 0 pieces → read_bytes pattern 0 pieces ≡ pattern

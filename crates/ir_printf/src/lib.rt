@@ -5,8 +5,8 @@
 //! and length. Where arguments come from is not its concern. Definitions: `specs/Pattern`, `specs/Printed`.
 //!
 //! ```
-//! next_piece(b"n = %5d\n", 0) // Ok(Piece::Literal(0, 4))
-//! next_piece(b"n = %5d\n", 4) // Ok(Piece::Convert(conversion, 7)): a ConversionKind::Signed of width 5
+//! next_piece(b"n = %5d\n", 0) // Ok(PatternPiece::Literal(0, 4))
+//! next_piece(b"n = %5d\n", 4) // Ok(PatternPiece::Convert(conversion, 7)): a ConversionKind::Signed of width 5
 //! number_text(alloc, &conversion, 42)? // `   42`
 //! ```
 #![tactic(auto)]
@@ -16,5 +16,5 @@ mod pattern;
 mod text;
 
 pub use conversion::{Conversion, ConversionKind, Length};
-pub use pattern::{BadFormat, Piece, a_pattern_is_its_pieces, next_piece};
+pub use pattern::{BadFormat, PatternPiece, a_pattern_is_its_pieces, next_piece};
 pub use text::{bytes_text, number_text};

@@ -8,7 +8,7 @@ use crate::{Conversion, ConversionKind, Length};
 use thiserror::Error;
 
 /// A piece of a pattern. Places are counted in bytes from the pattern's beginning.
-pub enum Piece {
+pub enum PatternPiece {
     /// Bytes that are written as they are: where they begin, and where they end.
     Literal(usize, usize),
     /// A conversion, and where it ends.
@@ -244,7 +244,7 @@ fn conversion_in(bytes: &[u8]) -> Option<(Conversion, usize)>
 
 /// The piece of the pattern that begins at a byte of it, or at its end. `BadFormat` exactly where a `%` stands there that
 /// begins no conversion (C, "The fprintf function"): flags, a width and a precision of at most 4,095, a length, and a letter.
-pub fn next_piece(pattern: &[u8], at: usize) -> Result<Piece, BadFormat>
+pub fn next_piece(pattern: &[u8], at: usize) -> Result<PatternPiece, BadFormat>
     requires { at ≤ length pattern.now }
     ensures piece { result ≡ piece_at pattern.now at }
     ensures within { IfOk result (λ piece. piece_end at piece ≤ length pattern.now) }
@@ -253,12 +253,12 @@ pub fn next_piece(pattern: &[u8], at: usize) -> Result<Piece, BadFormat>
 {
     let rest = &pattern[at..];
     match rest.first() {
-        None => Ok(Piece::End),
+        None => Ok(PatternPiece::End),
         Some(b'%') => match conversion_in(&rest[1..]) {
-            Some((conversion, size)) => Ok(Piece::Convert(conversion, at + 1 + size)),
+            Some((conversion, size)) => Ok(PatternPiece::Convert(conversion, at + 1 + size)),
             None => Err(BadFormat { at }),
         },
-        Some(_) => Ok(Piece::Literal(at, at + literal_size(rest))),
+        Some(_) => Ok(PatternPiece::Literal(at, at + literal_size(rest))),
     }
 }
 

@@ -2,7 +2,7 @@
 use Rattle.std.proofs.Common.{◌≡◌, ℕ, List, Option, Some, None, refl, sym, subst, not, is_some, inl, inr}
 use Rattle.ir_tables.specs.declared.linkage.Linkage.{Linkage}
 use Rattle.ir_tables.specs.declared.linkage.Linkage.TheVariants as linkage
-use Rattle.phrase_rows.specs.Row.{second}
+use Rattle.phrase_rows.specs.Row.{keep_second}
 use Rattle.ir_terminals.specs.declared.limits.Limits.{Limits}
 use Rattle.ir_terminals.specs.declared.terminal.Terminal.TheVariants as terminal
 use Rattle.ir_terminals.specs.Position.{text_tokens}
@@ -79,7 +79,7 @@ gives_definition limits =
 gives_source : Gives source_row IsItemFormed
 gives_source = record { value = λ us a w. subst IsItemFormed (sym w.2) tt }
 
-gives_target : Gives (second (word terminal.Target) target_row) IsItemFormed
+gives_target : Gives (keep_second (word terminal.Target) target_row) IsItemFormed
 gives_target = record { value = λ us a w. elim w.5 [ inl x ↦ subst IsItemFormed (sym x.2) tt | inr x ↦ subst IsItemFormed (sym x.2) tt ] }
 
 gives_struct : (limits : Limits) → Gives (struct_row limits) IsItemFormed

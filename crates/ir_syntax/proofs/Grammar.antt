@@ -2,7 +2,7 @@
 use Rattle.std.proofs.Common.{[], ◌∷◌, Bool, true, false, cond, Option, Some, None, refl}
 use Rattle.ir_tables.specs.declared.linkage.Linkage.{Linkage}
 use Rattle.ir_tables.specs.declared.linkage.Linkage.TheVariants as linkage
-use Rattle.phrase_rows.specs.Row.{Shape, second, mapped}
+use Rattle.phrase_rows.specs.Row.{Shape, keep_second, mapped}
 use Rattle.phrase_rows.specs.Reads.{Reads}
 use Rattle.phrase_rows.proofs.Plain.{reads_nothing, reads_fail, reads_one, reads_mapped, reads_labelled, reads_wider}
 use Rattle.phrase_rows.proofs.Chain.{reads_chain, reads_both, reads_second, reads_before, reads_pair}
@@ -233,7 +233,7 @@ reads_source =
     reads_mapped class _
     (reads_pair class (reads_before class (reads_word terminal.SourceFilename) (reads_word terminal.Equals) refl) reads_quoted refl)
 
-pub reads_target : Reads class (second (word terminal.Target) target_row) (second (word terminal.Target) target_row).shape
+pub reads_target : Reads class (keep_second (word terminal.Target) target_row) (keep_second (word terminal.Target) target_row).shape
 reads_target =
     reads_second class (reads_word terminal.Target)
     (reads_alt class

@@ -4,7 +4,7 @@ use Rattle.std.specs.Bool.{MatchBool}
 use Rattle.ir_base.specs.declared.place.Place.{Place}
 use Rattle.ir_lexer.specs.Ahead.{Located}
 use Rattle.ir_terminals.specs.LeftOut.{is_left_out, is_left_out_as}
-use Rattle.ir_terminals.specs.Position.{Position, left, text_tokens, is_behind_less, first_place, first_spelling, first_terminal, is_bad_next}
+use Rattle.ir_terminals.specs.Position.{Position, tokens_left, text_tokens, is_behind_less, first_place, first_spelling, first_terminal, is_bad_next}
 use Rattle.ir_terminals.specs.declared.terminal.Terminal.{Terminal}
 use Rattle.ir_syntax.specs.Items.{IsViable}
 use Rattle.ir_syntax.specs.Answers.{passed, FirstBad}
@@ -102,32 +102,32 @@ dropped_first (suc n) [] t e = absurd cc
 dropped_first (suc n) (x ∷ xs) t e = dropped_first n xs t e
 
 -- where nothing is left
-ends_at : (p : Position) (ts : List Located) → left p ≡ ts → first_terminal ts ≡ None → left p ≡ []
+ends_at : (p : Position) (ts : List Located) → tokens_left p ≡ ts → first_terminal ts ≡ None → tokens_left p ≡ []
 ends_at p [] e h = e
 ends_at p (t ∷ ts) e h = absurd cc
 
-end_bad : (p : Position) → left p ≡ [] → FirstBad p.text (passed p) → BadEnd p.text
+end_bad : (p : Position) → tokens_left p ≡ [] → FirstBad p.text (passed p) → BadEnd p.text
 end_bad p e b = subst (λ (i : ℕ). FirstBad p.text i) (let k = ap (λ (ts : List Located). length ts) e in omega (arith, k)) b
 
 -- a byte at which no token begins
-pub bad_byte : (p : Position) (place : Place) → FirstBad p.text (passed p) → is_bad_next p (left p) ≡ true → place ≡ first_place p (left p) → IsRefused p.text (faults.BadByte place)
-bad_byte p place b bad at = by_left (left p) refl bad at
+pub bad_byte : (p : Position) (place : Place) → FirstBad p.text (passed p) → is_bad_next p (tokens_left p) ≡ true → place ≡ first_place p (tokens_left p) → IsRefused p.text (faults.BadByte place)
+bad_byte p place b bad at = by_left (tokens_left p) refl bad at
   where
-    by_left : (ts : List Located) → left p ≡ ts → is_bad_next p ts ≡ true → place ≡ first_place p ts → IsRefused p.text (faults.BadByte place)
+    by_left : (ts : List Located) → tokens_left p ≡ ts → is_bad_next p ts ≡ true → place ≡ first_place p ts → IsRefused p.text (faults.BadByte place)
     by_left [] e bad at = (end_bad p e b, bad, at)
     by_left (t ∷ ts) e bad at = absurd cc
 
 -- the end of the text
-pub text_end : (p : Position) (place : Place) → FirstBad p.text (passed p) → is_bad_next p (left p) ≡ false → first_terminal (left p) ≡ None → place ≡ first_place p (left p) → IsRefused p.text (faults.NoItemHere place)
-text_end p place b good none at = by_left (left p) refl good none at
+pub text_end : (p : Position) (place : Place) → FirstBad p.text (passed p) → is_bad_next p (tokens_left p) ≡ false → first_terminal (tokens_left p) ≡ None → place ≡ first_place p (tokens_left p) → IsRefused p.text (faults.NoItemHere place)
+text_end p place b good none at = by_left (tokens_left p) refl good none at
   where
-    by_left : (ts : List Located) → left p ≡ ts → is_bad_next p ts ≡ false → first_terminal ts ≡ None → place ≡ first_place p ts → IsRefused p.text (faults.NoItemHere place)
+    by_left : (ts : List Located) → tokens_left p ≡ ts → is_bad_next p ts ≡ false → first_terminal ts ≡ None → place ≡ first_place p ts → IsRefused p.text (faults.NoItemHere place)
     by_left [] e good none at = inl (end_bad p e b, good, at)
     by_left (t ∷ ts) e good none at = absurd cc
 
 -- the token at which a cursor stands
-pub next_token : (p : Position) → (first_terminal (left p) ≡ None → ⊥) → (t : Located) × (slice_get (text_tokens p.text) p.taken ≡ Some t) × (first_place p (left p) ≡ t.place) × (first_spelling (left p) ≡ t.token.spelling)
-unfolding left
+pub next_token : (p : Position) → (first_terminal (tokens_left p) ≡ None → ⊥) → (t : Located) × (slice_get (text_tokens p.text) p.taken ≡ Some t) × (first_place p (tokens_left p) ≡ t.place) × (first_spelling (tokens_left p) ≡ t.token.spelling)
+unfolding tokens_left
 next_token p some = by_left (drop p.taken (text_tokens p.text)) refl some
   where
     by_left : (ts : List Located) → drop p.taken (text_tokens p.text) ≡ ts → (first_terminal ts ≡ None → ⊥) → (t : Located) × (slice_get (text_tokens p.text) p.taken ≡ Some t) × (first_place p ts ≡ t.place) × (first_spelling ts ≡ t.token.spelling)
@@ -135,7 +135,7 @@ next_token p some = by_left (drop p.taken (text_tokens p.text)) refl some
     by_left (t ∷ ts) e some = (t, first_dropped p.taken (text_tokens p.text) ts t e, refl, refl)
 
 -- a token is next where the cursor tells one
-pub token_told : (p : Position) (text : List ℕ) (x : Terminal) → p.text ≡ text → Some x ≡ first_terminal (left p) → p.taken < length (text_tokens text)
+pub token_told : (p : Position) (text : List ℕ) (x : Terminal) → p.text ≡ text → Some x ≡ first_terminal (tokens_left p) → p.taken < length (text_tokens text)
 token_told p text x same e =
     let w = next_token p (λ h. absurd (let k = e ∙ h in cc)) in
     by_get p.taken (text_tokens text) w.0 (subst (λ (ts : List ℕ). slice_get (text_tokens ts) p.taken ≡ Some w.0) same w.1)
@@ -154,11 +154,11 @@ token_there (suc n) (x ∷ xs) lt = token_there n xs (omega arith)
 record NextToken (p : Position) (text : List ℕ) : Type 0 where
   pub token : Located
   pub bad : BadToken text p.taken token
-  pub place : first_place p (left p) ≡ token.place
-  pub spelling : first_spelling (left p) ≡ token.token.spelling
+  pub place : first_place p (tokens_left p) ≡ token.place
+  pub spelling : first_spelling (tokens_left p) ≡ token.token.spelling
 
 next_at : (p : Position) → p.taken < length (text_tokens p.text) → FirstBad p.text (passed p) → NextToken p p.text
-unfolding left
+unfolding tokens_left
 next_at p lt b =
     let w = token_there p.taken (text_tokens p.text) lt in
     record {
@@ -172,7 +172,7 @@ next_in : (p : Position) (text : List ℕ) → p.text ≡ text → p.taken < len
 next_in p text same = subst (λ (ts : List ℕ). p.taken < length (text_tokens ts) → FirstBad ts (passed p) → NextToken p ts) same (next_at p)
 
 left_out_here : (p : Position) (t : Located) → slice_get (text_tokens p.text) p.taken ≡ Some t → is_left_out p ≡ is_left_out_as t.token.kind t.token.spelling (is_behind_less p.text p.taken)
-unfolding left
+unfolding tokens_left
 left_out_here p t e = rw (dropped_first p.taken (text_tokens p.text) t e).1 refl
 
 -- what the cursor tells of the next token
@@ -186,13 +186,13 @@ left_out_wider text i t e (Ok true) h = inr h
 left_out_wider text i t e (Ok false) h = λ l. elim l [ inl a ↦ absurd cc | inr v ↦ h v ]
 left_out_wider text i t e (Err x) h = tt
 
-module _ (p : Position) (text : List ℕ) (same : p.text ≡ text) (lt : p.taken < length (text_tokens text)) (b : FirstBad text (passed p)) (place : Place) (at : place ≡ first_place p (left p)) where
+module _ (p : Position) (text : List ℕ) (same : p.text ≡ text) (lt : p.taken < length (text_tokens text)) (b : FirstBad text (passed p)) (place : Place) (at : place ≡ first_place p (tokens_left p)) where
   -- the token opens a nest too deep
   pub too_deep : IsTooDeep text p.taken → IsRefused text (faults.TooDeep place)
   too_deep deep = let n = next_in p text same lt b in (p.taken, n.token, n.bad, deep, at ∙ n.place)
 
   -- it is left out
-  pub left_out : (r : SyntaxFault) (word : List ℕ) → (IsTooDeep text p.taken → ⊥) → ((t : Located) → slice_get (text_tokens text) p.taken ≡ Some t → IsLeftOut text p.taken t) → word ≡ first_spelling (left p) → (r ≡ faults.LeftOutWord place word) ⊎ (r ≡ faults.Memory) → IsRefused text r ⊎ (r ≡ faults.Memory)
+  pub left_out : (r : SyntaxFault) (word : List ℕ) → (IsTooDeep text p.taken → ⊥) → ((t : Located) → slice_get (text_tokens text) p.taken ≡ Some t → IsLeftOut text p.taken t) → word ≡ first_spelling (tokens_left p) → (r ≡ faults.LeftOutWord place word) ⊎ (r ≡ faults.Memory) → IsRefused text r ⊎ (r ≡ faults.Memory)
   left_out r word shallow out spelled told =
       let n = next_in p text same lt b in
       elim told [
@@ -205,10 +205,10 @@ module _ (p : Position) (text : List ℕ) (same : p.text ≡ text) (lt : p.taken
   no_item shallow kept = let n = next_in p text same lt b in inr (p.taken, n.token, n.bad, shallow, kept n.token n.bad.token, at ∙ n.place)
 
 -- the same of a text that the cursor goes over
-pub bad_byte_in : (p : Position) (text : List ℕ) → p.text ≡ text → (place : Place) → FirstBad text (passed p) → is_bad_next p (left p) ≡ true → place ≡ first_place p (left p) → IsRefused text (faults.BadByte place)
+pub bad_byte_in : (p : Position) (text : List ℕ) → p.text ≡ text → (place : Place) → FirstBad text (passed p) → is_bad_next p (tokens_left p) ≡ true → place ≡ first_place p (tokens_left p) → IsRefused text (faults.BadByte place)
 bad_byte_in p text same =
-    subst (λ (ts : List ℕ). (place : Place) → FirstBad ts (passed p) → is_bad_next p (left p) ≡ true → place ≡ first_place p (left p) → IsRefused ts (faults.BadByte place)) same (bad_byte p)
+    subst (λ (ts : List ℕ). (place : Place) → FirstBad ts (passed p) → is_bad_next p (tokens_left p) ≡ true → place ≡ first_place p (tokens_left p) → IsRefused ts (faults.BadByte place)) same (bad_byte p)
 
-pub text_end_in : (p : Position) (text : List ℕ) → p.text ≡ text → (place : Place) → FirstBad text (passed p) → is_bad_next p (left p) ≡ false → first_terminal (left p) ≡ None → place ≡ first_place p (left p) → IsRefused text (faults.NoItemHere place)
+pub text_end_in : (p : Position) (text : List ℕ) → p.text ≡ text → (place : Place) → FirstBad text (passed p) → is_bad_next p (tokens_left p) ≡ false → first_terminal (tokens_left p) ≡ None → place ≡ first_place p (tokens_left p) → IsRefused text (faults.NoItemHere place)
 text_end_in p text same =
-    subst (λ (ts : List ℕ). (place : Place) → FirstBad ts (passed p) → is_bad_next p (left p) ≡ false → first_terminal (left p) ≡ None → place ≡ first_place p (left p) → IsRefused ts (faults.NoItemHere place)) same (text_end p)
+    subst (λ (ts : List ℕ). (place : Place) → FirstBad ts (passed p) → is_bad_next p (tokens_left p) ≡ false → first_terminal (tokens_left p) ≡ None → place ≡ first_place p (tokens_left p) → IsRefused ts (faults.NoItemHere place)) same (text_end p)

@@ -12,7 +12,7 @@ use Rattle.ir_lexer.specs.Lexer.{at_start}
 use Rattle.ir_lexer.specs.Tokens.{Tokens}
 use Rattle.ir_lexer.proofs.TokenLists.{list_or_bad_not_both}
 use Rattle.ir_lexer.proofs.AheadSteps.{ahead_is}
-use Rattle.ir_terminals.specs.Position.{Position, left, text_tokens, is_cut_off, first_terminal, is_bad_next}
+use Rattle.ir_terminals.specs.Position.{Position, tokens_left, text_tokens, is_cut_off, first_terminal, is_bad_next}
 use Rattle.ir_terminals.specs.declared.terminal.Terminal.{Terminal}
 use Rattle.ir_terminals.specs.Role.{class}
 use Rattle.ir_terminals.specs.declared.limits.Limits.{Limits}
@@ -90,12 +90,12 @@ not_viable_behind limits text i j e le lt f = not_viable_from class (items_row l
 
 -- the tokens that were taken stand before those that are left
 pub passed_taken : (p : Position) → p.taken ≤ length (text_tokens p.text) → passed p ≡ p.taken
-unfolding left
+unfolding tokens_left
 passed_taken p le = omega (arith, length-drop p.taken (text_tokens p.text), le)
 
 -- at the first token all are left
-pub left_start : (p : Position) → p.taken ≡ 0 → left p ≡ text_tokens p.text
-unfolding left
+pub left_start : (p : Position) → p.taken ≡ 0 → tokens_left p ≡ text_tokens p.text
+unfolding tokens_left
 left_start p e = rw e refl
 
 -- whether the text ends there, as a cursor tells it
@@ -104,45 +104,45 @@ end_told p [] terminal bad e f = rw (e, f) refl
 end_told p (t ∷ ts) terminal bad e f = rw e refl
 
 -- items up to the end are the answer
-pub end_answer : (limits : Limits) (p : Position) (items : List ItemTree) → (items_row limits).run (text_tokens p.text) ≡ Done items (left p) → is_end p (left p) ≡ true → text_answer limits p.text ≡ Ok items
-end_answer limits p items e end = by_left (left p) e end
+pub end_answer : (limits : Limits) (p : Position) (items : List ItemTree) → (items_row limits).run (text_tokens p.text) ≡ Done items (tokens_left p) → is_end p (tokens_left p) ≡ true → text_answer limits p.text ≡ Ok items
+end_answer limits p items e end = by_left (tokens_left p) e end
   where
     by_left : (ts : List Located) → (items_row limits).run (text_tokens p.text) ≡ Done items ts → is_end p ts ≡ true → text_answer limits p.text ≡ Ok items
     by_left [] e end = rw (e, end) refl
     by_left (t ∷ ts) e end = absurd cc
 
 -- items that end before it leave the first bad place
-pub rest_answer : (limits : Limits) (p : Position) (items : List ItemTree) → (items_row limits).run (text_tokens p.text) ≡ Done items (left p) → is_end p (left p) ≡ false → text_answer limits p.text ≡ Err (passed p)
-rest_answer limits p items e end = by_left (left p) refl e end
+pub rest_answer : (limits : Limits) (p : Position) (items : List ItemTree) → (items_row limits).run (text_tokens p.text) ≡ Done items (tokens_left p) → is_end p (tokens_left p) ≡ false → text_answer limits p.text ≡ Err (passed p)
+rest_answer limits p items e end = by_left (tokens_left p) refl e end
   where
-    by_left : (ts : List Located) → left p ≡ ts → (items_row limits).run (text_tokens p.text) ≡ Done items ts → is_end p ts ≡ false → text_answer limits p.text ≡ Err (passed p)
+    by_left : (ts : List Located) → tokens_left p ≡ ts → (items_row limits).run (text_tokens p.text) ≡ Done items ts → is_end p ts ≡ false → text_answer limits p.text ≡ Err (passed p)
     by_left [] l e end = rw (e, end, l) (ap Err (omega arith))
     by_left (t ∷ ts) l e end = rw (e, l) refl
 
 -- a token at which no item goes on is the first bad one
-pub bad_items : (limits : Limits) (p : Position) → (items_row limits).run (text_tokens p.text) ≡ Bad (left p) → text_answer limits p.text ≡ Err (passed p)
+pub bad_items : (limits : Limits) (p : Position) → (items_row limits).run (text_tokens p.text) ≡ Bad (tokens_left p) → text_answer limits p.text ≡ Err (passed p)
 bad_items limits p e = rw e refl
 
-run_start : (limits : Limits) (p q : Position) → p.taken ≡ 0 → q.text ≡ p.text → (items_row limits).run (text_tokens q.text) ≡ (items_row limits).run (left p)
+run_start : (limits : Limits) (p q : Position) → p.taken ≡ 0 → q.text ≡ p.text → (items_row limits).run (text_tokens q.text) ≡ (items_row limits).run (tokens_left p)
 run_start limits p q z same = ap (items_row limits).run (ap text_tokens same ∙ sym (left_start p z))
 
 -- a reading of all items from the first token on, up to the end
-pub whole_told : (p q : Position) (items : List ItemTree) → p.taken ≡ 0 → q.text ≡ p.text → (items_row p.limits).run (left p) ≡ Done items (left q) → is_end q (left q) ≡ true → text_answer p.limits p.text ≡ Ok items
+pub whole_told : (p q : Position) (items : List ItemTree) → p.taken ≡ 0 → q.text ≡ p.text → (items_row p.limits).run (tokens_left p) ≡ Done items (tokens_left q) → is_end q (tokens_left q) ≡ true → text_answer p.limits p.text ≡ Ok items
 whole_told p q items z same e end =
     subst (λ (text : List ℕ). text_answer p.limits text ≡ Ok items) same (end_answer p.limits q items (run_start p.limits p q z same ∙ e) end)
 
 -- or up to another place
-pub rest_told : (p q : Position) (items : List ItemTree) → p.taken ≡ 0 → q.text ≡ p.text → (items_row p.limits).run (left p) ≡ Done items (left q) → is_end q (left q) ≡ false → text_answer p.limits p.text ≡ Err (passed q)
+pub rest_told : (p q : Position) (items : List ItemTree) → p.taken ≡ 0 → q.text ≡ p.text → (items_row p.limits).run (tokens_left p) ≡ Done items (tokens_left q) → is_end q (tokens_left q) ≡ false → text_answer p.limits p.text ≡ Err (passed q)
 rest_told p q items z same e end =
     subst (λ (text : List ℕ). text_answer p.limits text ≡ Err (passed q)) same (rest_answer p.limits q items (run_start p.limits p q z same ∙ e) end)
 
 -- or to a bad token
-bad_told : (p q : Position) → p.taken ≡ 0 → q.text ≡ p.text → (items_row p.limits).run (left p) ≡ Bad (left q) → text_answer p.limits p.text ≡ Err (passed q)
+bad_told : (p q : Position) → p.taken ≡ 0 → q.text ≡ p.text → (items_row p.limits).run (tokens_left p) ≡ Bad (tokens_left q) → text_answer p.limits p.text ≡ Err (passed q)
 bad_told p q z same e =
     subst (λ (text : List ℕ). text_answer p.limits text ≡ Err (passed q)) same (bad_items p.limits q (run_start p.limits p q z same ∙ e))
 
 -- a refusal by the items is one of the text
-pub refused_told : {X : Type 0} (view : X → List ItemTree) (p q : Position) (fault : Fault) → p.taken ≡ 0 → Moves view p (Err fault) q ((items_row p.limits).run (left p)) → Answers view p.limits p.text (Err fault) q
+pub refused_told : {X : Type 0} (view : X → List ItemTree) (p q : Position) (fault : Fault) → p.taken ≡ 0 → Moves view p (Err fault) q ((items_row p.limits).run (tokens_left p)) → Answers view p.limits p.text (Err fault) q
 refused_told view p q faults.Memory z m = tt
 refused_told view p q faults.Refused z m = (bad_told p q z m.2 m.0, m.2)
 

@@ -132,7 +132,7 @@ sized_body_core limits =
 sized_defined_core : (limits : Limits) → IsSized (defined_core limits) (λ v. parameters_size v.0 + sum_by block_count v.1)
 unfolding defined_core
 sized_defined_core limits =
-    sized_pair (λ v. parameters_size v.0 + sum_by block_count v.1) (sized_parameters limits.wide limits) (sized_labelled body_shape (sized_body_core limits)) (λ a b. omega arith)
+    sized_pair (λ v. parameters_size v.0 + sum_by block_count v.1) (sized_parameters limits.with_left_out limits) (sized_labelled body_shape (sized_body_core limits)) (λ a b. omega arith)
 
 sized_definition : (limits : Limits) → IsSized (definition_row limits) item_count
 sized_definition limits =

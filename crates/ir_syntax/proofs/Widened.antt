@@ -1,6 +1,6 @@
 -- Rows that read as others do, but may go on where those are refused at certain tokens.
 use Rattle.std.proofs.Common.{◌≡◌, ℕ, zero, suc, List, [], ◌∷◌, ◌++◌, length, Bool, true, false, ◌⊎◌, inl, inr, refl, sym, ap, subst, cond, Option, Some, None}
-use Rattle.phrase_rows.specs.Row.{Reading, Done, Bad, bind, Shape, Row, among, begins, nothing, fail, one, run_one, chain, mapped, both, second, before, pair, alt, optional, many, run_many, separated, loop, run_loop, labelled}
+use Rattle.phrase_rows.specs.Row.{Reading, Done, Bad, bind, Shape, Row, among, begins, nothing, fail, one, run_one, chain, mapped, joined_values, keep_second, keep_first, pair, alt, optional, many, run_many, separated, loop, run_loop, labelled}
 use Rattle.phrase_rows.specs.Reads.{Takes, Reads}
 use Rattle.phrase_rows.proofs.ListParts.{bool_cases}
 
@@ -90,14 +90,14 @@ module _ {T A B : Type 0} {may : T → Bool} where
   pub widened_mapped : {f : A → B} {p q : Row T A} → IsWidened may p q → IsWidened may (mapped f p) (mapped f q)
   widened_mapped {f} {p} {q} h = record { kept = λ ts. kept_bind may (p.run ts) (q.run ts) (λ a rest. Done (f a) rest) (λ a rest. Done (f a) rest) (h.kept ts) (λ a rest. inl refl) }
 
-  pub widened_second : {p q : Row T A} {r s : Row T B} → IsWidened may p q → IsWidened may r s → IsWidened may (second p r) (second q s)
+  pub widened_second : {p q : Row T A} {r s : Row T B} → IsWidened may p q → IsWidened may r s → IsWidened may (keep_second p r) (keep_second q s)
   widened_second {p} {q} {r} {s} h k = widened_chain r.shape s.shape h (λ a. k)
 
-pub widened_both : {T A B C : Type 0} {may : T → Bool} {f : A → B → C} {p q : Row T A} {r s : Row T B} → IsWidened may p q → IsWidened may r s → IsWidened may (both f p r) (both f q s)
+pub widened_both : {T A B C : Type 0} {may : T → Bool} {f : A → B → C} {p q : Row T A} {r s : Row T B} → IsWidened may p q → IsWidened may r s → IsWidened may (joined_values f p r) (joined_values f q s)
 widened_both {p} {q} {r} {s} h k = widened_chain r.shape s.shape h (λ a. widened_mapped k)
 
 module _ {T A B : Type 0} {may : T → Bool} where
-  pub widened_before : {p q : Row T A} {r s : Row T B} → IsWidened may p q → IsWidened may r s → IsWidened may (before p r) (before q s)
+  pub widened_before : {p q : Row T A} {r s : Row T B} → IsWidened may p q → IsWidened may r s → IsWidened may (keep_first p r) (keep_first q s)
   widened_before h k = widened_both h k
 
   pub widened_pair : {p q : Row T A} {r s : Row T B} → IsWidened may p q → IsWidened may r s → IsWidened may (pair p r) (pair q s)

@@ -13,7 +13,7 @@ use Rattle.ir_terminals.specs.Role.{class}
 use Rattle.ir_terminals.specs.Tokens.{word, integer_row, local_row, named_local_row}
 use Rattle.ir_constants.specs.Tree.{TypeTree, ConstantTree, TypedConstantTree, LocalValue}
 use Rattle.ir_terminals.specs.Values.{opcode_in}
-use Rattle.ir_constants.specs.Placed.{placed}
+use Rattle.ir_constants.specs.Placed.{token_with_place}
 use Rattle.ir_constants.specs.Flags.{flags_row}
 use Rattle.ir_constants.specs.Types.{nest_shape, int_row, ptr_row, void_row, named_row, array_row, types_core, types_row, struct_row, packed_row, nest_step, value_type_core, value_type_over, type_core, type_over, nest_core, nest_row, type_at, type_row, value_type_row, fields_core, fields_row}
 use Rattle.ir_constants.specs.Constants.{holder_shape, expression_classes, expression_shape, integer_constant_row, address_row, bytes_row, simple_row, typed_core, typed_over, elements_core, elements_row, array_constant_row, struct_constant_row, packed_constant_row, operands_core, operands_row, element_address_row, conversion_row, arithmetic_row, expression_by, expression_core, expression_row, holder_step, constant_core, constant_over, holder_core, constant_at, constant_row, typed_constant_row}
@@ -178,7 +178,7 @@ module _ {may : Located → Bool} {c d : Row Located TypedConstantTree} (h : IsW
     widened_expression_core v = widened_expression_by v.1 v.0
 
     widened_expression : IsWidened may (expression_row narrow c) (expression_row wide d)
-    widened_expression = widened_chain expression_shape expression_shape (widened_same (placed expression_classes opcode_in)) (λ v. widened_labelled {s = expression_shape} (widened_expression_core v))
+    widened_expression = widened_chain expression_shape expression_shape (widened_same (token_with_place expression_classes opcode_in)) (λ v. widened_labelled {s = expression_shape} (widened_expression_core v))
 
     widened_holder_step : d.shape ≡ c.shape → IsWidened may (holder_step narrow c) (holder_step wide d)
     widened_holder_step same =

@@ -3,7 +3,7 @@ use Rattle.std.proofs.Common.{[], ◌∷◌, Bool, true, false, refl, Option, So
 use Rattle.ir_lexer.specs.Ahead.{Located}
 use Rattle.ir_tables.specs.declared.linkage.Linkage.{Linkage}
 use Rattle.ir_tables.specs.declared.linkage.Linkage.TheVariants as linkage
-use Rattle.phrase_rows.specs.Row.{fail, second, nothing, optional}
+use Rattle.phrase_rows.specs.Row.{fail, keep_second, nothing, optional}
 use Rattle.ir_terminals.specs.declared.limits.Limits.{Limits}
 use Rattle.ir_terminals.specs.declared.terminal.Terminal.TheVariants as terminal
 use Rattle.ir_terminals.specs.Role.{class}
@@ -89,7 +89,7 @@ module _ {may : Located → Bool} {narrow wide : Limits} (wider : IsWider may na
   -- parameters
   widened_parameter_core : IsWidened may (parameter_core narrow) (parameter_core wide)
   unfolding parameter_core
-  widened_parameter_core = widened_pair (widened_type wider) (widened_same (second parameter_attributes_row (optional class local_row)))
+  widened_parameter_core = widened_pair (widened_type wider) (widened_same (keep_second parameter_attributes_row (optional class local_row)))
 
   widened_parameter : IsWidened may (parameter_row narrow) (parameter_row wide)
   widened_parameter = widened_labelled widened_parameter_core
@@ -164,7 +164,7 @@ module _ {may : Located → Bool} {narrow wide : Limits} (wider : IsWider may na
     unfolding item_core
     widened_item_core =
         widened_alt class (widened_same source_row)
-        (widened_alt class (widened_same (second (word terminal.Target) target_item_row))
+        (widened_alt class (widened_same (keep_second (word terminal.Target) target_item_row))
         (widened_alt class widened_struct
         (widened_alt class widened_global
         (widened_alt class widened_declaration

@@ -1,6 +1,6 @@
 -- For `read_items`: the rows of aliases, and of what a global name may name.
 use Rattle.std.specs.Prelude.{false, [], ◌∷◌, ◌++◌, Option, Some, None}
-use Rattle.phrase_rows.specs.Row.{Row, Shape, chain, mapped, both, second, pair, alt, labelled}
+use Rattle.phrase_rows.specs.Row.{Row, Shape, chain, mapped, joined_values, keep_second, pair, alt, labelled}
 use Rattle.ir_lexer.specs.Ahead.{Located}
 use Rattle.ir_terminals.specs.declared.limits.Limits.{Limits}
 use Rattle.ir_terminals.specs.declared.terminal.Terminal.TheVariants as terminal
@@ -28,7 +28,7 @@ alias_type_shape = record { first = type_shape.first; more = signature_shape.fir
 
 -- TYPE (( TYPE,* ))?, whose list may end in `...`, by its parts
 unfoldable pub alias_type_core : Limits → Row Located AliasTypeTree
-alias_type_core limits = both alias_type_of (type_row limits) (signature_row limits)
+alias_type_core limits = joined_values alias_type_of (type_row limits) (signature_row limits)
 
 -- TYPE (( TYPE,* ))?, whose list may end in `...`
 abbrev pub alias_type_row : Limits → Row Located AliasTypeTree
@@ -36,7 +36,7 @@ alias_type_row limits = labelled alias_type_shape (alias_type_core limits)
 
 -- , ptr GLOBAL, by its parts
 unfoldable pub target_core : Row Located PlacedName
-target_core = second (word terminal.Comma) (second (word terminal.Ptr) global_name_row)
+target_core = keep_second (word terminal.Comma) (keep_second (word terminal.Ptr) global_name_row)
 
 -- , ptr GLOBAL
 abbrev pub target_row : Row Located PlacedName
@@ -52,7 +52,7 @@ alias_shape = record { first = code terminal.«Alias» ∷ []; more = []; empty 
 
 -- alias ATYPE , ptr GLOBAL, behind GLOBAL = LINKAGE? GDROP*, by its parts
 unfoldable pub alias_core : Limits → GlobalHead → Row Located ItemTree
-alias_core limits h = mapped (alias_of h) (second (word terminal.«Alias») (pair (alias_type_row limits) target_row))
+alias_core limits h = mapped (alias_of h) (keep_second (word terminal.«Alias») (pair (alias_type_row limits) target_row))
 
 -- alias ATYPE , ptr GLOBAL, behind GLOBAL = LINKAGE? GDROP*
 abbrev pub alias_row : Limits → GlobalHead → Row Located ItemTree

@@ -3,7 +3,7 @@ use Rattle.std.specs.Prelude.{◌≡◌, ℕ, ◌-◌, List, [], ◌∷◌, leng
 use Rattle.phrase_rows.specs.Answer.{answer, IsFirstBad}
 use Rattle.ir_lexer.specs.Tokens.{Tokens}
 use Rattle.ir_lexer.specs.Ahead.{Located, tokens_in}
-use Rattle.ir_terminals.specs.Position.{Position, left, text_tokens, is_cut_off}
+use Rattle.ir_terminals.specs.Position.{Position, tokens_left, text_tokens, is_cut_off}
 use Rattle.ir_terminals.specs.declared.fault.Fault.{Fault}
 use Rattle.ir_terminals.specs.declared.fault.Fault.TheVariants as faults
 use Rattle.ir_terminals.specs.declared.limits.Limits.{Limits}
@@ -21,7 +21,7 @@ is_end p (t ∷ ts) = false
 
 -- how many of the text's tokens stand before those that are left
 abbrev pub passed : Position → ℕ
-passed p = length (text_tokens p.text) - length (left p)
+passed p = length (text_tokens p.text) - length (tokens_left p)
 
 -- the call gave the text's answer: the items, or a refusal at the first bad token, at which the cursor then stands
 abbrev pub Answers : {X : Type 0} → (X → List ItemTree) → Limits → List ℕ → Result X Fault → Position → Type 0

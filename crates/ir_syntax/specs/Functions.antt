@@ -1,6 +1,6 @@
 -- For `read_items`: the rows of functions: declarations and definitions.
 use Rattle.std.specs.Prelude.{Bool, true, false, cond, List, [], ◌∷◌, ◌++◌, map, Some, None}
-use Rattle.phrase_rows.specs.Row.{Row, Shape, fail, one, chain, mapped, second, before, pair, alt, nothing, optional, loop, labelled}
+use Rattle.phrase_rows.specs.Row.{Row, Shape, fail, one, chain, mapped, keep_second, keep_first, pair, alt, nothing, optional, loop, labelled}
 use Rattle.ir_lexer.specs.Ahead.{Located}
 use Rattle.ir_terminals.specs.declared.limits.Limits.{Limits}
 use Rattle.ir_terminals.specs.declared.terminal.Terminal.TheVariants as terminal
@@ -21,7 +21,7 @@ parameter_shape = record { first = type_shape.first; more = code terminal.Local 
 
 -- TYPE PDROP* LOCAL?
 unfoldable pub parameter_core : Limits → Row Located ParameterTree
-parameter_core limits = pair (type_row limits) (second parameter_attributes_row (optional class local_row))
+parameter_core limits = pair (type_row limits) (keep_second parameter_attributes_row (optional class local_row))
 
 -- a parameter
 abbrev pub parameter_row : Limits → Row Located ParameterTree
@@ -37,7 +37,7 @@ ParametersTree = List ParameterTree × Bool
 
 -- , PARAM or , ..., and nothing behind `...`
 abbrev pub parameter_step : Bool → Limits → ParametersTree → Row Located ParametersTree
-parameter_step dots limits s = cond s.1 (fail comma_shape) (second (word terminal.Comma) (alt class (mapped (λ d. (s.0, d)) (dots_row dots)) (mapped (λ p. (s.0 ++ p ∷ [], false)) (parameter_row limits))))
+parameter_step dots limits s = cond s.1 (fail comma_shape) (keep_second (word terminal.Comma) (alt class (mapped (λ d. (s.0, d)) (dots_row dots)) (mapped (λ p. (s.0 ++ p ∷ [], false)) (parameter_row limits))))
 
 -- how further parameters begin and go on
 abbrev pub more_parameters_shape : Shape
@@ -61,7 +61,7 @@ parameters_shape = record { first = code terminal.OpenParenthesis ∷ []; more =
 
 -- ( PARAM,* )
 unfoldable pub parameters_core : Bool → Limits → Row Located ParametersTree
-parameters_core dots limits = second (word terminal.OpenParenthesis) (before (parameter_list_row dots limits) (word terminal.CloseParenthesis))
+parameters_core dots limits = keep_second (word terminal.OpenParenthesis) (keep_first (parameter_list_row dots limits) (word terminal.CloseParenthesis))
 
 -- ( PARAMETERS )
 abbrev pub parameters_row : Bool → Limits → Row Located ParametersTree
@@ -79,7 +79,7 @@ head_shape = record {
 unfoldable pub head_core : Limits → Row Located HeadTree
 head_core limits =
     mapped (λ (linkage, (returns, name)). record { linkage = linkage; returns = returns; name = name })
-    (pair optional_linkage_row (second global_words_row (second convention_row (second parameter_attributes_row (pair (type_row limits) global_name_row)))))
+    (pair optional_linkage_row (keep_second global_words_row (keep_second convention_row (keep_second parameter_attributes_row (pair (type_row limits) global_name_row)))))
 
 -- the head of a function: its linkage, its result's type and its name
 abbrev pub head_row : Limits → Row Located HeadTree
@@ -103,7 +103,7 @@ declared_shape = record { first = parameters_shape.first; more = function_attrib
 
 -- ( PARAM,* ) FDROP*, for the types, and whether `...` ends them
 unfoldable pub declared_core : Limits → Row Located (List TypeTree × Bool)
-declared_core limits = mapped (λ s. (parameter_types s.0, s.1)) (before (parameters_row true limits) function_attributes_row)
+declared_core limits = mapped (λ s. (parameter_types s.0, s.1)) (keep_first (parameters_row true limits) function_attributes_row)
 
 -- what stands behind the head of a declaration
 abbrev pub declared_row : Limits → Row Located (List TypeTree × Bool)
@@ -111,7 +111,7 @@ declared_row limits = labelled declared_shape (declared_core limits)
 
 -- declare MD* LINKAGE? GDROP* CC? PDROP* TYPE GLOBAL ( PARAM,* ) FDROP*
 abbrev pub declaration_row : Limits → Row Located ItemTree
-declaration_row limits = mapped (λ (place, (head, (parameters, variadic))). Declaration place head parameters variadic) (pair (word terminal.Declare) (second metadata_row (pair (head_row limits) (declared_row limits))))
+declaration_row limits = mapped (λ (place, (head, (parameters, variadic))). Declaration place head parameters variadic) (pair (word terminal.Declare) (keep_second metadata_row (pair (head_row limits) (declared_row limits))))
 
 -- how what stands behind the parameters of a definition begins
 abbrev pub body_shape : Shape
@@ -119,7 +119,7 @@ body_shape = record { first = function_attribute_shape.first ++ code terminal.Me
 
 -- FDROP* MD* { BLOCK+ }
 unfoldable pub body_core : Limits → Row Located (List BlockTree)
-body_core limits = second function_attributes_row (second metadata_row (blocks_row limits))
+body_core limits = keep_second function_attributes_row (keep_second metadata_row (blocks_row limits))
 
 -- what stands behind the parameters of a definition: attributes, metadata and blocks
 abbrev pub body_row : Limits → Row Located (List BlockTree)

@@ -1,6 +1,6 @@
 -- For `read_items`: what stands before the type of a variable, an alias or a function.
 use Rattle.std.specs.Prelude.{false, [], ◌∷◌, ◌++◌, Option}
-use Rattle.phrase_rows.specs.Row.{Row, Shape, before, pair, alt, optional, loop, labelled}
+use Rattle.phrase_rows.specs.Row.{Row, Shape, keep_first, pair, alt, optional, loop, labelled}
 use Rattle.ir_lexer.specs.Ahead.{Located}
 use Rattle.ir_tables.specs.declared.linkage.Linkage.{Linkage}
 use Rattle.ir_terminals.specs.declared.terminal.Terminal.TheVariants as terminal
@@ -36,7 +36,7 @@ global_head_shape = record { first = code terminal.GlobalName ∷ []; more = lin
 
 -- GLOBAL = LINKAGE? GDROP*, by its parts
 unfoldable pub global_head_core : Row Located GlobalHead
-global_head_core = pair (before global_name_row (word terminal.Equals)) (before optional_linkage_row global_words_row)
+global_head_core = pair (keep_first global_name_row (word terminal.Equals)) (keep_first optional_linkage_row global_words_row)
 
 -- GLOBAL = LINKAGE? GDROP*
 abbrev pub global_head_row : Row Located GlobalHead

@@ -1,6 +1,6 @@
 -- For `read_items`: the items of a text.
 use Rattle.std.specs.Prelude.{false, List, [], ◌∷◌, ◌++◌}
-use Rattle.phrase_rows.specs.Row.{Row, Shape, one, mapped, second, before, pair, alt, optional, many, labelled}
+use Rattle.phrase_rows.specs.Row.{Row, Shape, one, mapped, keep_second, keep_first, pair, alt, optional, many, labelled}
 use Rattle.phrase_rows.specs.Reads.{Front}
 use Rattle.ir_base.specs.declared.place.Place.{Place}
 use Rattle.ir_lexer.specs.Ahead.{Located}
@@ -19,18 +19,18 @@ use Rattle.ir_syntax.specs.Functions.{declaration_row, definition_row}
 
 -- source_filename = STRING
 abbrev pub source_row : Row Located ItemTree
-source_row = mapped (λ v. SourceFilename v.0 v.1) (pair (before (word terminal.SourceFilename) (word terminal.Equals)) quoted_row)
+source_row = mapped (λ v. SourceFilename v.0 v.1) (pair (keep_first (word terminal.SourceFilename) (word terminal.Equals)) quoted_row)
 
 -- datalayout = STRING, or triple = STRING, behind `target`
 abbrev pub target_row : Row Located ItemTree
 target_row =
     alt class
-    (mapped (λ v. DataLayout v.0 v.1) (pair (before (word terminal.DataLayout) (word terminal.Equals)) quoted_row))
-    (mapped (λ v. TargetTriple v.0 v.1) (pair (before (word terminal.Triple) (word terminal.Equals)) quoted_row))
+    (mapped (λ v. DataLayout v.0 v.1) (pair (keep_first (word terminal.DataLayout) (word terminal.Equals)) quoted_row))
+    (mapped (λ v. TargetTriple v.0 v.1) (pair (keep_first (word terminal.Triple) (word terminal.Equals)) quoted_row))
 
 -- attributes GROUP = { .. }
 abbrev pub attributes_row : Row Located ItemTree
-attributes_row = mapped Attributes (before (word terminal.«Attributes») (second (word terminal.Group) (second (word terminal.Equals) braced_row)))
+attributes_row = mapped Attributes (keep_first (word terminal.«Attributes») (keep_second (word terminal.Group) (keep_second (word terminal.Equals) braced_row)))
 
 -- META
 abbrev pub metadata_name_row : Row Located Place
@@ -38,11 +38,11 @@ metadata_name_row = one class (code terminal.MetaName ∷ code terminal.MetaNumb
 
 -- ! { .. }, or MNAME ( .. )
 abbrev pub node_row : Row Located (Unit {0})
-node_row = alt class (second (word terminal.MetaMark) (matched_row terminal.OpenBrace)) (second (word terminal.MetaName) (matched_row terminal.OpenParenthesis))
+node_row = alt class (keep_second (word terminal.MetaMark) (matched_row terminal.OpenBrace)) (keep_second (word terminal.MetaName) (matched_row terminal.OpenParenthesis))
 
 -- META = distinct? ! { .. }, or META = distinct? MNAME ( .. )
 abbrev pub metadata_item_row : Row Located ItemTree
-metadata_item_row = mapped Metadata (before metadata_name_row (second (word terminal.Equals) (second (optional class (word terminal.Distinct)) node_row)))
+metadata_item_row = mapped Metadata (keep_first metadata_name_row (keep_second (word terminal.Equals) (keep_second (optional class (word terminal.Distinct)) node_row)))
 
 -- how items begin and go on
 abbrev pub item_shape : Shape
@@ -55,7 +55,7 @@ item_shape = record {
 -- an item
 unfoldable pub item_core : Limits → Row Located ItemTree
 item_core limits =
-    alt class source_row (alt class (second (word terminal.Target) target_row) (alt class (struct_row limits) (alt class (global_row limits)
+    alt class source_row (alt class (keep_second (word terminal.Target) target_row) (alt class (struct_row limits) (alt class (global_row limits)
     (alt class (declaration_row limits) (alt class (definition_row limits) (alt class attributes_row metadata_item_row))))))
 
 -- an item

@@ -11,11 +11,11 @@ use Rattle.ir_syntax.specs.declared.read.SyntaxFault.TheVariants as faults
 
 -- the language with one nest more
 abbrev pub deeper : Limits
-deeper = record { nesting = 65; wide = false }
+deeper = record { nesting = 65; with_left_out = false }
 
 -- the language in which unnamed locals name structs, and `...` ends the parameters of a definition
 abbrev pub wider : Limits
-wider = record { nesting = 64; wide = true }
+wider = record { nesting = 64; with_left_out = true }
 
 -- the tokens up to and with this one
 abbrev pub through : List ℕ → ℕ → List Located

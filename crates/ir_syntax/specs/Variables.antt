@@ -1,6 +1,6 @@
 -- For `read_items`: the rows of variables, and of the structs that have names.
 use Rattle.std.specs.Prelude.{Bool, true, false, [], ◌∷◌, ◌++◌, Option, Some, None}
-use Rattle.phrase_rows.specs.Row.{Row, Shape, mapped, second, before, pair, alt, nothing, loop, labelled}
+use Rattle.phrase_rows.specs.Row.{Row, Shape, mapped, keep_second, keep_first, pair, alt, nothing, loop, labelled}
 use Rattle.ir_lexer.specs.Ahead.{Located}
 use Rattle.ir_tables.specs.declared.linkage.Linkage.{Linkage}
 use Rattle.ir_tables.specs.declared.linkage.Linkage.TheVariants as linkage
@@ -23,11 +23,11 @@ opaque_row = mapped (λ p. OpaqueBody) (word terminal.Opaque)
 
 -- { TYPE,* }
 abbrev pub plain_body_row : Limits → Row Located BodyTree
-plain_body_row limits = mapped PlainBody (second (word terminal.OpenBrace) (before (fields_row limits) (word terminal.CloseBrace)))
+plain_body_row limits = mapped PlainBody (keep_second (word terminal.OpenBrace) (keep_first (fields_row limits) (word terminal.CloseBrace)))
 
 -- <{ TYPE,* }>
 abbrev pub packed_body_row : Limits → Row Located BodyTree
-packed_body_row limits = mapped PackedBody (second (word terminal.Less) (second (word terminal.OpenBrace) (before (fields_row limits) (second (word terminal.CloseBrace) (word terminal.Greater)))))
+packed_body_row limits = mapped PackedBody (keep_second (word terminal.Less) (keep_second (word terminal.OpenBrace) (keep_first (fields_row limits) (keep_second (word terminal.CloseBrace) (word terminal.Greater)))))
 
 -- opaque, { TYPE,* } or <{ TYPE,* }>
 abbrev pub body_row : Limits → Row Located BodyTree
@@ -35,7 +35,7 @@ body_row limits = alt class opaque_row (alt class (plain_body_row limits) (packe
 
 -- LOCAL = type opaque, LOCAL = type { TYPE,* } or LOCAL = type <{ TYPE,* }>
 abbrev pub struct_row : Limits → Row Located ItemTree
-struct_row limits = mapped (λ v. Struct v.0 v.1) (pair (before (named_local_row limits) (second (word terminal.Equals) (word terminal.«Type»))) (body_row limits))
+struct_row limits = mapped (λ v. Struct v.0 v.1) (pair (keep_first (named_local_row limits) (keep_second (word terminal.Equals) (word terminal.«Type»))) (body_row limits))
 
 -- global or constant
 abbrev pub constant_word_row : Row Located Bool
@@ -57,7 +57,7 @@ initialiser_row limits written = labelled initialiser_shape (initialiser_core li
 
 -- align INT, where no alignment is written yet, section STRING, or MD
 abbrev pub tail_row : Option Integer → Row Located (Option Integer)
-tail_row None = alt class (mapped Some (second (word terminal.Align) integer_row)) (alt class (mapped (λ u. None) section_row) (mapped (λ u. None) attachment_row))
+tail_row None = alt class (mapped Some (keep_second (word terminal.Align) integer_row)) (alt class (mapped (λ u. None) section_row) (mapped (λ u. None) attachment_row))
 tail_row (Some a) = alt class (mapped (λ u. Some a) section_row) (mapped (λ u. Some a) attachment_row)
 
 -- how what stands behind a variable's comma begins
@@ -66,7 +66,7 @@ tail_shape = record { first = code terminal.Align ∷ code terminal.Section ∷ 
 
 -- TAIL
 abbrev pub tail_step : Option Integer → Row Located (Option Integer)
-tail_step alignment = second (word terminal.Comma) (labelled tail_shape (tail_row alignment))
+tail_step alignment = keep_second (word terminal.Comma) (labelled tail_shape (tail_row alignment))
 
 -- TAIL*, for the alignment
 abbrev pub tails_row : Row Located (Option Integer)

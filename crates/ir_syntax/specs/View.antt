@@ -5,8 +5,8 @@ use Rattle.ir_constants.specs.Tree.{TypeTree, ConstantTree}
 use Rattle.ir_constants.specs.View.{type_view, constant_view}
 use Rattle.ir_instructions.specs.Tree.{BlockTree}
 use Rattle.ir_instructions.specs.View.{block_view}
-use Rattle.ir_syntax.specs.declared.item.StructBody.{StructBody}
-use Rattle.ir_syntax.specs.declared.item.StructBody.TheVariants as bodies
+use Rattle.ir_syntax.specs.declared.item.WrittenBody.{WrittenBody}
+use Rattle.ir_syntax.specs.declared.item.WrittenBody.TheVariants as bodies
 use Rattle.ir_syntax.specs.declared.item.Variable as the_variable
 use Rattle.ir_syntax.specs.declared.item.Head.{Head}
 use Rattle.ir_syntax.specs.declared.item.Parameter.{Parameter}
@@ -24,7 +24,7 @@ use Rattle.ir_syntax.specs.Functions.{parameter_types}
 use Rattle.ir_syntax.specs.Tree.{BodyTree, OpaqueBody, PlainBody, PackedBody, VariableTree, AliasTypeTree, PlainAlias, FunctionAlias, AliasTree, ParameterTree, HeadTree, ItemTree, SourceFilename, DataLayout, TargetTriple, Struct, Variable, Alias, Declaration, Definition, Attributes, Metadata}
 
 -- the body of a struct as a tree
-abbrev pub body_view : StructBody → BodyTree
+abbrev pub body_view : WrittenBody → BodyTree
 body_view bodies.Opaque = OpaqueBody
 body_view (bodies.Plain fields) = PlainBody (map type_view fields.items)
 body_view (bodies.Packed fields) = PackedBody (map type_view fields.items)

@@ -199,7 +199,7 @@ struct Defined {
 fn defined_behind(cursor: &mut Cursor) -> Result<Defined, Fault>
     ensures { Follows defined_row defined_view cursor.old result cursor.new }
 {
-    let parameters = parameters(cursor, cursor.limits().wide)?;
+    let parameters = parameters(cursor, cursor.limits().with_left_out)?;
     let blocks = body(cursor)?;
     Ok(Defined { parameters, blocks })
 }

@@ -4,7 +4,7 @@ ghost use Rattle.phrase_rows.specs.Row.{begins};
 ghost use Rattle.ir_syntax.specs.Heads.{optional_linkage_row, global_word_shape, global_word_row, global_words_row, global_head_row};
 ghost use Rattle.ir_syntax.specs.View.{global_view};
 ghost use Rattle.ir_terminals.specs.Follows.{Follows};
-ghost use Rattle.ir_terminals.specs.Position.{left};
+ghost use Rattle.ir_terminals.specs.Position.{tokens_left};
 ghost use Rattle.ir_terminals.specs.Role.{class};
 
 use ir_tables::Linkage;
@@ -23,7 +23,7 @@ pub fn optional_linkage(cursor: &mut Cursor) -> Result<Option<Linkage>, Fault>
 
 /// Whether a word that is dropped before `global`, `constant` or a function's type is next.
 fn is_global_word_next(cursor: &Cursor) -> bool
-    ensures { result ≡ begins class global_word_shape.first (left cursor.now) }
+    ensures { result ≡ begins class global_word_shape.first (tokens_left cursor.now) }
 {
     matches!(
         cursor.terminal(),

@@ -8,7 +8,7 @@ use ir_terminals::{Integer, Local, PlacedName, PlacedText};
 
 /// What a struct is.
 #[derive(Drop)]
-pub enum StructBody {
+pub enum WrittenBody {
     /// `opaque`: the fields are not known.
     Opaque,
     /// The fields of `{ .. }`.
@@ -110,7 +110,7 @@ pub enum Item {
     /// A struct that has a name.
     Struct {
         name: PlacedName,
-        body: StructBody,
+        body: WrittenBody,
     },
     /// `global` or `constant`: a variable.
     Variable(Box<Variable>),

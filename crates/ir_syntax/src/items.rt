@@ -1,11 +1,11 @@
 //! Reads all items.
 ghost use Rattle.std.specs.Prelude.{◌≡◌, map};
-ghost use Rattle.phrase_rows.specs.Row.{begins, second};
+ghost use Rattle.phrase_rows.specs.Row.{begins, keep_second};
 ghost use Rattle.ir_syntax.specs.Answers.{Answers, is_end};
 ghost use Rattle.ir_syntax.specs.Items.{source_row, target_row, attributes_row, metadata_name_row, node_row, metadata_item_row, item_shape, item_row, items_row};
 ghost use Rattle.ir_syntax.specs.View.{item_view, items_view};
 ghost use Rattle.ir_terminals.specs.Follows.{Follows};
-ghost use Rattle.ir_terminals.specs.Position.{left};
+ghost use Rattle.ir_terminals.specs.Position.{tokens_left};
 ghost use Rattle.ir_terminals.specs.Role.{class};
 ghost use Rattle.ir_terminals.specs.Tokens.{word};
 ghost use Rattle.ir_terminals.specs.declared.terminal.Terminal.TheVariants as terminal;
@@ -45,7 +45,7 @@ fn target_behind(cursor: &mut Cursor) -> Result<Item, Fault>
 
 /// `target datalayout = STRING`, or `target triple = STRING`.
 fn target(cursor: &mut Cursor) -> Result<Item, Fault>
-    ensures { Follows (λ _. second (word terminal.Target) target_row) item_view cursor.old result cursor.new }
+    ensures { Follows (λ _. keep_second (word terminal.Target) target_row) item_view cursor.old result cursor.new }
 {
     cursor.take_class(Terminal::Target)?;
     target_behind(cursor)
@@ -124,7 +124,7 @@ fn item(cursor: &mut Cursor) -> Result<Item, Fault>
 
 /// Whether an item is next.
 fn is_item_next(cursor: &Cursor) -> bool
-    ensures { result ≡ begins class item_shape.first (left cursor.now) }
+    ensures { result ≡ begins class item_shape.first (tokens_left cursor.now) }
 {
     matches!(
         cursor.terminal(),
@@ -156,7 +156,7 @@ fn items(cursor: &mut Cursor) -> Result<Vec<Item>, Fault>
 
 /// Whether the text ends where the cursor stands.
 fn is_at_end(cursor: &Cursor) -> bool
-    ensures { result ≡ is_end cursor.now (left cursor.now) }
+    ensures { result ≡ is_end cursor.now (tokens_left cursor.now) }
 {
     cursor.terminal().is_none() && !cursor.is_bad()
 }

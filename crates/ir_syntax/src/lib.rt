@@ -23,6 +23,6 @@ mod variables;
 
 pub use item::{
     Alias, AliasType, Declaration, Definition, FormalParameters, Head, Item, Items, Parameter,
-    StructBody, Variable,
+    Variable, WrittenBody,
 };
 pub use read::{SyntaxFault, read_items};

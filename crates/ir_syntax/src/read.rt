@@ -12,7 +12,7 @@ ghost use Rattle.ir_syntax.specs.Widths.{opens_nest, is_of_wider, is_first};
 ghost use Rattle.ir_syntax.specs.declared.read.SyntaxFault.{SyntaxFault as TheFault};
 ghost use Rattle.ir_lexer.specs.Ahead.{Located};
 ghost use Rattle.phrase_rows.specs.Row.{among};
-ghost use Rattle.ir_terminals.specs.Position.{text_tokens, left};
+ghost use Rattle.ir_terminals.specs.Position.{text_tokens, tokens_left};
 ghost use Rattle.ir_terminals.specs.Terminal.{code};
 ghost use Rattle.ir_constants.specs.Constants.{holder_shape};
 
@@ -112,7 +112,7 @@ fn is_of_expression(opcode: Opcode) -> bool
 
 /// Whether the token at which the cursor stands begins a type or a constant that holds others.
 fn opens_a_nest(cursor: &Cursor) -> bool
-    ensures { result ≡ is_first opens_nest (left cursor.now) }
+    ensures { result ≡ is_first opens_nest (tokens_left cursor.now) }
 {
     match cursor.terminal() {
         Some(Terminal::OpenBracket | Terminal::OpenBrace | Terminal::Less) => true,
@@ -123,7 +123,7 @@ fn opens_a_nest(cursor: &Cursor) -> bool
 
 /// Whether the wider language has the token at which the cursor stands in more places: an unnamed local, or `...`.
 fn is_of_wider_language(cursor: &Cursor) -> bool
-    ensures { result ≡ is_first is_of_wider (left cursor.now) }
+    ensures { result ≡ is_first is_of_wider (tokens_left cursor.now) }
 {
     if let Some(TokenKind::UnnamedLocal) = cursor.kind() {
         return true;

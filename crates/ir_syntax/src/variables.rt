@@ -7,24 +7,24 @@ ghost use Rattle.ir_syntax.specs.View.{body_view, global_view, variable_rest_vie
 ghost use Rattle.ir_terminals.specs.Follows.{Follows};
 
 use crate::heads::GlobalHead;
-use crate::item::{Item, StructBody, Variable};
+use crate::item::{Item, Variable, WrittenBody};
 use ir_constants::{Constant, constant_of, fields_of, type_of};
 use ir_instructions::{attachment, section};
 use ir_tables::Linkage;
 use ir_terminals::{Cursor, Fault, Integer, Terminal};
 
 /// `{ TYPE,* }`
-fn plain_body(cursor: &mut Cursor) -> Result<StructBody, Fault>
+fn plain_body(cursor: &mut Cursor) -> Result<WrittenBody, Fault>
     ensures { Follows plain_body_row body_view cursor.old result cursor.new }
 {
     cursor.take_class(Terminal::OpenBrace)?;
     let fields = fields_of(cursor)?;
     cursor.take_class(Terminal::CloseBrace)?;
-    Ok(StructBody::Plain(fields))
+    Ok(WrittenBody::Plain(fields))
 }
 
 /// `<{ TYPE,* }>`
-fn packed_body(cursor: &mut Cursor) -> Result<StructBody, Fault>
+fn packed_body(cursor: &mut Cursor) -> Result<WrittenBody, Fault>
     ensures { Follows packed_body_row body_view cursor.old result cursor.new }
 {
     cursor.take_class(Terminal::Less)?;
@@ -32,16 +32,16 @@ fn packed_body(cursor: &mut Cursor) -> Result<StructBody, Fault>
     let fields = fields_of(cursor)?;
     cursor.take_class(Terminal::CloseBrace)?;
     cursor.take_class(Terminal::Greater)?;
-    Ok(StructBody::Packed(fields))
+    Ok(WrittenBody::Packed(fields))
 }
 
 /// `opaque`, `{ TYPE,* }` or `<{ TYPE,* }>`.
-fn body(cursor: &mut Cursor) -> Result<StructBody, Fault>
+fn body(cursor: &mut Cursor) -> Result<WrittenBody, Fault>
     ensures { Follows body_row body_view cursor.old result cursor.new }
 {
     if cursor.is_class_next(Terminal::Opaque) {
         cursor.take_class(Terminal::Opaque)?;
-        Ok(StructBody::Opaque)
+        Ok(WrittenBody::Opaque)
     } else if cursor.is_class_next(Terminal::OpenBrace) {
         plain_body(cursor)
     } else {

@@ -1,7 +1,7 @@
 -- What a cursor keeps of a text.
 use Rattle.std.proofs.Common.{◌≡◌, ℕ, zero, suc, ◌+◌, ◌<◌, ◌≤◌, ◌^◌, Bool, false, List, [], ◌∷◌, length, drop, Option, Some, None, Result, Ok, Err, refl, sym, ap, ◌∙◌, arith, add-one}
 use Rattle.ir_lexer.specs.Ahead.{AheadIs, Located, Ahead, before_all, answered, ahead_within, ahead}
-use Rattle.ir_lexer.specs.Lexer.{Lexing, at_start, rest, spelled, LiesIn, Says, answer, after}
+use Rattle.ir_lexer.specs.Lexer.{Lexing, at_start, rest, token_spelling, LiesIn, Says, answer, after}
 use Rattle.ir_lexer.specs.Place.{place_of}
 use Rattle.ir_lexer.specs.Tokens.{Begins}
 use Rattle.ir_lexer.specs.declared.token.Token.{Token}
@@ -10,7 +10,7 @@ use Rattle.ir_lexer.proofs.AheadSteps.{ahead_step, ahead_is}
 use Rattle.ir_lexer.proofs.Answering.{answers_are_right}
 use Rattle.ir_lexer.proofs.TokenLists.{begins_less}
 use Rattle.ir_terminals.specs.Front.{ahead_from, IsFrontOf, IsAt, front_less}
-use Rattle.ir_terminals.specs.Position.{Position, text_tokens, is_cut_off, end_place, left, is_less, is_behind_less}
+use Rattle.ir_terminals.specs.Position.{Position, text_tokens, is_cut_off, end_place, tokens_left, is_less, is_behind_less}
 use Rattle.ir_terminals.specs.Role.{terminal}
 use Rattle.ir_terminals.specs.declared.cursor.Front.{Front}
 use Rattle.ir_terminals.specs.declared.cursor.Front.TheVariants as fronts
@@ -26,7 +26,7 @@ few_within (suc n) l = go (answer l) (answers_are_right l) (few_within n (after 
     go : (r : Result (Option Token) BadByte) → Says l r (after l) → length (ahead_within n (after l)).tokens ≤ length (rest (after l)) → length (answered l r (ahead_within n (after l))).tokens ≤ length (rest l)
     go (Ok None) s i = omega arith
     go (Err b) s i = omega arith
-    go (Ok (Some t)) s i = omega (arith, begins_less (rest l) (spelled l.text t) (rest (after l)) s, i)
+    go (Ok (Some t)) s i = omega (arith, begins_less (rest l) (token_spelling l.text t) (rest (after l)) s, i)
 
 no_drop : (s : List ℕ) → drop 0 s ≡ s
 no_drop [] = refl
@@ -45,11 +45,11 @@ tokens_few text =
     omega (arith, few, all)
 
 -- the lexer's answers
-pub front_token : (l new : Lexing) (t : Token) (x : Terminal) → Ok (Some t) ≡ answer l → new ≡ after l → new.text ≡ l.text → Begins (rest l) (spelled l.text t) (rest new) → LiesIn l.text t → x ≡ terminal (spelled new.text t) → IsFrontOf l (fronts.Token t x) new
+pub front_token : (l new : Lexing) (t : Token) (x : Terminal) → Ok (Some t) ≡ answer l → new ≡ after l → new.text ≡ l.text → Begins (rest l) (token_spelling l.text t) (rest new) → LiesIn l.text t → x ≡ terminal (token_spelling new.text t) → IsFrontOf l (fronts.Token t x) new
 front_token l new t x a n text b lies e =
     let step = rw (← a, ← n) at (ahead_step l) in
     record {
-      is_ahead = step ∙ ap (λ (all : List ℕ). before_all (record { token = spelled all t; place = t.place }) (ahead new)) (sym text);
+      is_ahead = step ∙ ap (λ (all : List ℕ). before_all (record { token = token_spelling all t; place = t.place }) (ahead new)) (sym text);
       text = text;
       sound = (rw text lies, rw text b.token.token, e);
     }
@@ -93,7 +93,7 @@ behind_next text n t more x e f = rw (e, f) refl
 -- behind one more token
 pub advanced : (l new : Lexing) (front next : Front) (n : ℕ) (behind : Bool) → IsAt l front n behind → 0 < length (drop n (text_tokens l.text)) → IsFrontOf l next new → IsAt new next (n + 1) (front_less front)
 advanced l new (fronts.Token t x) next n behind i h f =
-    let located : Located = record { token = spelled l.text t; place = t.place } in
+    let located : Located = record { token = token_spelling l.text t; place = t.place } in
     let d = drop_next n (text_tokens l.text) located (ahead l).tokens i.tokens in
     rw add-one (record {
       short = rw f.text i.short;
@@ -108,8 +108,8 @@ advanced l new fronts.End next n behind i h f = absurd (not_fewer _ i.tokens h)
 advanced l new (fronts.Bad place) next n behind i h f = absurd (not_fewer _ i.tokens h)
 
 -- what a cursor has left
-pub left_is : (p : Position) (limits : Limits) (l : Lexing) (front : Front) (n : ℕ) (behind : Bool) → record { limits = limits; text = l.text; taken = n } ≡ p → IsAt l front n behind → left p ≡ (ahead_from l front).tokens
-unfolding left
+pub left_is : (p : Position) (limits : Limits) (l : Lexing) (front : Front) (n : ℕ) (behind : Bool) → record { limits = limits; text = l.text; taken = n } ≡ p → IsAt l front n behind → tokens_left p ≡ (ahead_from l front).tokens
+unfolding tokens_left
 left_is p limits l front n behind e i = rw (← e) i.tokens
 
 -- the tokens of all of a text

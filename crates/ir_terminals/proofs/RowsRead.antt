@@ -27,7 +27,7 @@ pub reads_local : Reads class local_row local_row.shape
 reads_local = reads_one class (code terminals.Local ∷ []) local_of
 
 pub reads_named_local : (limits : Limits) → Reads class (named_local_row limits) (named_local_row limits).shape
-reads_named_local limits = reads_one class (code terminals.Local ∷ []) (named_local_of limits.wide)
+reads_named_local limits = reads_one class (code terminals.Local ∷ []) (named_local_of limits.with_left_out)
 
 pub reads_label : Reads class label_row label_row.shape
 reads_label = reads_one class (code terminals.Label ∷ []) label_of

@@ -9,7 +9,7 @@ use Rattle.ir_lexer.specs.Tokens.{Spelled}
 use Rattle.ir_lexer.specs.declared.token.TokenKind.{TokenKind}
 use Rattle.ir_lexer.specs.declared.token.TokenKind.TheVariants as kind
 use Rattle.phrase_rows.specs.Row.{Done, Row, among, begins, one}
-use Rattle.ir_terminals.specs.Position.{Position, text_tokens, left, stepped, first_kind, first_place, first_spelling, first_terminal, IsFirstToken}
+use Rattle.ir_terminals.specs.Position.{Position, text_tokens, tokens_left, stepped, first_kind, first_place, first_spelling, first_terminal, IsFirstToken}
 use Rattle.ir_terminals.specs.Role.{class, terminal, terminal_in}
 use Rattle.ir_terminals.specs.Terminal.{code}
 use Rattle.ir_terminals.specs.Values.{place_of_token}
@@ -18,15 +18,15 @@ use Rattle.ir_terminals.proofs.Fronts.{drop_next}
 
 -- the row gives the value, and what it leaves is left
 abbrev pub IsRead : {A : Type 0} → Row Located A → A → Position → Position → Type 0
-IsRead row v p next = (row.run (left p) ≡ Done v (left next)) × (next.limits ≡ p.limits) × (next.text ≡ p.text)
+IsRead row v p next = (row.run (tokens_left p) ≡ Done v (tokens_left next)) × (next.limits ≡ p.limits) × (next.text ≡ p.text)
 
-pub left_stepped : (p : Position) (t : Located) (more : List Located) → left p ≡ t ∷ more → left (stepped p) ≡ more
-unfolding left
+pub left_stepped : (p : Position) (t : Located) (more : List Located) → tokens_left p ≡ t ∷ more → tokens_left (stepped p) ≡ more
+unfolding tokens_left
 left_stepped p t more e = rw add-one (drop_next p.taken (text_tokens p.text) t more e).0
 
-pub took : {A : Type 0} (ks : List ℕ) (f : Located → Option A) (v : A) (p next : Position) (t : Located) (more : List Located) → left p ≡ t ∷ more → next ≡ stepped p → among (class t) ks ≡ true → f t ≡ Some v → IsRead (one class ks f) v p next
+pub took : {A : Type 0} (ks : List ℕ) (f : Located → Option A) (v : A) (p next : Position) (t : Located) (more : List Located) → tokens_left p ≡ t ∷ more → next ≡ stepped p → among (class t) ks ≡ true → f t ≡ Some v → IsRead (one class ks f) v p next
 took ks f v p next t more e n a g =
-    (rw (e, a, g) (ap (Done v) (sym (ap left n ∙ left_stepped p t more e))), ap (λ (q : Position). q.limits) n, ap (λ (q : Position). q.text) n)
+    (rw (e, a, g) (ap (Done v) (sym (ap tokens_left n ∙ left_stepped p t more e))), ap (λ (q : Position). q.limits) n, ap (λ (q : Position). q.text) n)
 
 kind_among : (ks : List ℕ) (kind : TokenKind) (t : Located) → t.token.kind ≡ kind → ((s : List ℕ) → among (code (terminal_in kind s)) ks ≡ true) → among (class t) ks ≡ true
 unfolding terminal
@@ -45,10 +45,10 @@ token_is : (t : Spelled) (kind : TokenKind) → t.kind ≡ kind → t ≡ spelle
 token_is t kind e = ap (λ (k : TokenKind). spelled_as k t.spelling) e
 
 -- a token of a kind
-pub took_kind : {A : Type 0} (ks : List ℕ) (of_kind : TokenKind → Located → Option A) (kind : TokenKind) (v : A) (p next : Position) → ((s : List ℕ) → among (code (terminal_in kind s)) ks ≡ true) → Some kind ≡ first_kind (left p) → next ≡ stepped p → ((t : Located) → t.place ≡ first_place p (left p) → t.token ≡ record { kind = kind; spelling = first_spelling (left p) } → of_kind kind t ≡ Some v) → IsRead (one class ks (λ t. of_kind t.token.kind t)) v p next
-took_kind ks of_kind kind v p next classed h n g = go (left p) refl h
+pub took_kind : {A : Type 0} (ks : List ℕ) (of_kind : TokenKind → Located → Option A) (kind : TokenKind) (v : A) (p next : Position) → ((s : List ℕ) → among (code (terminal_in kind s)) ks ≡ true) → Some kind ≡ first_kind (tokens_left p) → next ≡ stepped p → ((t : Located) → t.place ≡ first_place p (tokens_left p) → t.token ≡ record { kind = kind; spelling = first_spelling (tokens_left p) } → of_kind kind t ≡ Some v) → IsRead (one class ks (λ t. of_kind t.token.kind t)) v p next
+took_kind ks of_kind kind v p next classed h n g = go (tokens_left p) refl h
   where
-    go : (ts : List Located) → left p ≡ ts → Some kind ≡ first_kind ts → IsRead (one class ks (λ t. of_kind t.token.kind t)) v p next
+    go : (ts : List Located) → tokens_left p ≡ ts → Some kind ≡ first_kind ts → IsRead (one class ks (λ t. of_kind t.token.kind t)) v p next
     go [] e h = absurd cc
     go (t ∷ more) e h =
         let k : t.token.kind ≡ kind = sym (same_kind kind t.token.kind h) in
@@ -56,20 +56,20 @@ took_kind ks of_kind kind v p next classed h n g = go (left p) refl h
         took ks (λ t. of_kind t.token.kind t) v p next t more e n (kind_among ks kind t k classed) (ap (λ (j : TokenKind). of_kind j t) k ∙ given)
 
 -- a token of a terminal
-pub took_terminal : {A : Type 0} (ks : List ℕ) (of_terminal : Terminal → Option A) (x : Terminal) (v : A) (p next : Position) → among (code x) ks ≡ true → of_terminal x ≡ Some v → Some x ≡ first_terminal (left p) → next ≡ stepped p → IsRead (one class ks (λ t. of_terminal (terminal t.token))) v p next
-took_terminal ks of_terminal x v p next a g h n = go (left p) refl h
+pub took_terminal : {A : Type 0} (ks : List ℕ) (of_terminal : Terminal → Option A) (x : Terminal) (v : A) (p next : Position) → among (code x) ks ≡ true → of_terminal x ≡ Some v → Some x ≡ first_terminal (tokens_left p) → next ≡ stepped p → IsRead (one class ks (λ t. of_terminal (terminal t.token))) v p next
+took_terminal ks of_terminal x v p next a g h n = go (tokens_left p) refl h
   where
-    go : (ts : List Located) → left p ≡ ts → Some x ≡ first_terminal ts → IsRead (one class ks (λ t. of_terminal (terminal t.token))) v p next
+    go : (ts : List Located) → tokens_left p ≡ ts → Some x ≡ first_terminal ts → IsRead (one class ks (λ t. of_terminal (terminal t.token))) v p next
     go [] e h = absurd cc
     go (t ∷ more) e h =
         let k : terminal t.token ≡ x = sym (same_terminal x (terminal t.token) h) in
         took ks (λ t. of_terminal (terminal t.token)) v p next t more e n (rw k a) (rw k g)
 
 -- a token of a class, for its place
-pub took_place : (ks : List ℕ) (v : Place) (p next : Position) → begins class ks (left p) ≡ true → v ≡ first_place p (left p) → next ≡ stepped p → IsRead (one class ks place_of_token) v p next
-took_place ks v p next b f n = go (left p) refl b f
+pub took_place : (ks : List ℕ) (v : Place) (p next : Position) → begins class ks (tokens_left p) ≡ true → v ≡ first_place p (tokens_left p) → next ≡ stepped p → IsRead (one class ks place_of_token) v p next
+took_place ks v p next b f n = go (tokens_left p) refl b f
   where
-    go : (ts : List Located) → left p ≡ ts → begins class ks ts ≡ true → v ≡ first_place p ts → IsRead (one class ks place_of_token) v p next
+    go : (ts : List Located) → tokens_left p ≡ ts → begins class ks ts ≡ true → v ≡ first_place p ts → IsRead (one class ks place_of_token) v p next
     go [] e b f = absurd cc
     go (t ∷ more) e b f = took ks place_of_token v p next t more e n b (ap Some (sym f))
 

@@ -1,7 +1,7 @@
 -- Says how the code reads: what a cursor keeps: a lexer, and what the lexer answered last.
 use Rattle.std.specs.Prelude.{◌≡◌, ℕ, ◌≤◌, ◌^◌, Bool, true, false, List, [], length, drop}
 use Rattle.ir_lexer.specs.Ahead.{Ahead, ahead, before_all}
-use Rattle.ir_lexer.specs.Lexer.{Lexing, LiesIn, spelled}
+use Rattle.ir_lexer.specs.Lexer.{Lexing, LiesIn, token_spelling}
 use Rattle.ir_lexer.specs.Place.{place_of}
 use Rattle.ir_lexer.specs.Table.{IsToken}
 use Rattle.ir_terminals.specs.Position.{text_tokens, is_cut_off, end_place, is_behind_less, is_less}
@@ -11,13 +11,13 @@ use Rattle.ir_terminals.specs.declared.cursor.Front.TheVariants as fronts
 
 -- the answer, and what is ahead of the lexer
 abbrev pub ahead_from : Lexing → Front → Ahead
-ahead_from l (fronts.Token t x) = before_all (record { token = spelled l.text t; place = t.place }) (ahead l)
+ahead_from l (fronts.Token t x) = before_all (record { token = token_spelling l.text t; place = t.place }) (ahead l)
 ahead_from l fronts.End = record { tokens = []; bad = false; place = place_of l.text l.at }
 ahead_from l (fronts.Bad place) = record { tokens = []; bad = true; place = place }
 
 -- a token lies in the text, is spelled as its kind is, and has its terminal
 abbrev pub IsSound : List ℕ → Front → Type 0
-IsSound text (fronts.Token t x) = LiesIn text t × IsToken t.kind (spelled text t).spelling × (x ≡ terminal (spelled text t))
+IsSound text (fronts.Token t x) = LiesIn text t × IsToken t.kind (token_spelling text t).spelling × (x ≡ terminal (token_spelling text t))
 IsSound text fronts.End = Unit {0}
 IsSound text (fronts.Bad place) = Unit {0}
 

@@ -4,7 +4,7 @@ use Rattle.std.specs.List.{list_any}
 use Rattle.ir_lexer.specs.Ahead.{Located}
 use Rattle.ir_lexer.specs.declared.token.TokenKind.{TokenKind}
 use Rattle.ir_lexer.specs.declared.token.TokenKind.TheVariants as kind
-use Rattle.ir_terminals.specs.Position.{Position, left, is_behind_less}
+use Rattle.ir_terminals.specs.Position.{Position, tokens_left, is_behind_less}
 use Rattle.ir_terminals.specs.Words.{width_in, is_width}
 
 -- the words for which the language has no phrase
@@ -114,4 +114,4 @@ is_first_left_out (t ∷ ts) behind = is_left_out_as t.token.kind t.token.spelli
 
 -- the next token is one that the language leaves out, wherever it stands
 abbrev pub is_left_out : Position → Bool
-is_left_out p = is_first_left_out (left p) (is_behind_less p.text p.taken)
+is_left_out p = is_first_left_out (tokens_left p) (is_behind_less p.text p.taken)

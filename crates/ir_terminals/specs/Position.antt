@@ -30,8 +30,8 @@ abbrev pub end_place : List ℕ → Place
 end_place text = (ahead (at_start text)).place
 
 -- the tokens that are left
-unfoldable pub left : Position → List Located
-left p = drop p.taken (text_tokens p.text)
+unfoldable pub tokens_left : Position → List Located
+tokens_left p = drop p.taken (text_tokens p.text)
 
 -- behind one more token
 abbrev pub stepped : Position → Position

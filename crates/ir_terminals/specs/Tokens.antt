@@ -35,7 +35,7 @@ local_row = one class (code terminals.Local ∷ []) local_of
 
 -- a local that names a type or a struct
 abbrev pub named_local_row : Limits → Row Located PlacedName
-named_local_row limits = one class (code terminals.Local ∷ []) (named_local_of limits.wide)
+named_local_row limits = one class (code terminals.Local ∷ []) (named_local_of limits.with_left_out)
 
 -- a label
 abbrev pub label_row : Row Located Local

@@ -2,7 +2,7 @@
 ghost use Rattle.std.specs.Prelude.{◌≡◌, ◌+◌, ◌≤◌, ◌<◌, ◌^◌, length, [], ◌∷◌};
 ghost use Rattle.ir_lexer.specs.Ahead.{AheadIs, ahead};
 ghost use Rattle.ir_lexer.specs.Lexer.{at_start};
-ghost use Rattle.ir_terminals.specs.Position.{text_tokens, left, first_kind, first_spelling, first_place, first_terminal, is_bad_next, is_behind_less, IsFirstToken, stepped};
+ghost use Rattle.ir_terminals.specs.Position.{text_tokens, tokens_left, first_kind, first_spelling, first_place, first_terminal, is_bad_next, is_behind_less, IsFirstToken, stepped};
 ghost use Rattle.ir_terminals.specs.Front.{IsFrontOf, front_less};
 ghost use Rattle.ir_terminals.specs.Role.{class};
 ghost use Rattle.ir_terminals.specs.Terminal.{code};
@@ -105,7 +105,7 @@ impl<'t> Cursor<'t> {
 
     /// What the next token is, if one is left.
     pub fn terminal(&self) -> Option<Terminal>
-        ensures { result ≡ first_terminal (left self.now) }
+        ensures { result ≡ first_terminal (tokens_left self.now) }
     {
         match self.front {
             Front::Token(_, terminal) => Some(terminal),
@@ -116,7 +116,7 @@ impl<'t> Cursor<'t> {
 
     /// The kind of the next token, if one is left.
     pub fn kind(&self) -> Option<TokenKind>
-        ensures { result ≡ first_kind (left self.now) }
+        ensures { result ≡ first_kind (tokens_left self.now) }
     {
         match self.front {
             Front::Token(token, _) => Some(token.kind),
@@ -127,8 +127,8 @@ impl<'t> Cursor<'t> {
 
     /// The bytes of the next token, and none if no token is left.
     pub fn spelling(&self) -> &[u8]
-        ensures bytes { result.now ≡ first_spelling (left self.now) }
-        ensures token { IsFirstToken (left self.now) }
+        ensures bytes { result.now ≡ first_spelling (tokens_left self.now) }
+        ensures token { IsFirstToken (tokens_left self.now) }
     {
         match self.front {
             Front::Token(token, _) => self.lexer.spelling(&token),
@@ -139,7 +139,7 @@ impl<'t> Cursor<'t> {
 
     /// The place of the next token, or of the end of the text, or of the byte at which no token begins.
     pub fn place(&self) -> Place
-        ensures { result ≡ first_place self.now (left self.now) }
+        ensures { result ≡ first_place self.now (tokens_left self.now) }
     {
         match self.front {
             Front::Token(token, _) => token.place,
@@ -150,7 +150,7 @@ impl<'t> Cursor<'t> {
 
     /// Whether all tokens were taken, and behind them stands a byte at which no token begins.
     pub fn is_bad(&self) -> bool
-        ensures { result ≡ is_bad_next self.now (left self.now) }
+        ensures { result ≡ is_bad_next self.now (tokens_left self.now) }
     {
         match self.front {
             Front::Token(_, _) => false,
@@ -168,7 +168,7 @@ impl<'t> Cursor<'t> {
 
     /// Whether a token of the class of the wanted terminal is next, whatever it holds.
     pub fn is_class_next(&self, wanted: Terminal) -> bool
-        ensures { result ≡ begins class (code wanted ∷ []) (left self.now) }
+        ensures { result ≡ begins class (code wanted ∷ []) (tokens_left self.now) }
     {
         match self.terminal() {
             Some(terminal) => terminal.code() == wanted.code(),
@@ -178,7 +178,7 @@ impl<'t> Cursor<'t> {
 
     /// Goes over the next token.
     pub(crate) fn advance(&mut self)
-        requires { 0 < length (left self.old) }
+        requires { 0 < length (tokens_left self.old) }
         ensures { self.new ≡ stepped self.old }
     {
         self.behind_less = is_less(self.front);

@@ -5,7 +5,7 @@
 //! Definitions: `specs/Words`, `specs/Terminal`, `specs/Values`, `specs/Position`, `specs/Tokens`, `specs/LeftOut`.
 //!
 //! ```
-//! let limits = Limits { nesting: 64, wide: false };
+//! let limits = Limits { nesting: 64, with_left_out: false };
 //! let mut cursor = Cursor::new(alloc, b"@a = global i32 7", limits);
 //! let name = cursor.global_name()?; // a PlacedName: `a`, at 1:1
 //! cursor.take_class(Terminal::Equals)?; // 1:4

@@ -4,10 +4,10 @@
 /// language, in which an unnamed local may name a type and a struct.
 ///
 /// ```
-/// Limits { nesting: 64, wide: false } // those of the language
+/// Limits { nesting: 64, with_left_out: false } // those of the language
 /// ```
 #[derive(Clone, Copy)]
 pub struct Limits {
     pub nesting: u8,
-    pub wide: bool,
+    pub with_left_out: bool,
 }

@@ -6,7 +6,7 @@ ghost use Rattle.ir_lexer.specs.declared.token.TokenKind.TheVariants.{Label, Unn
 ghost use Rattle.ir_terminals.specs.Follows.{Follows};
 ghost use Rattle.ir_terminals.specs.Tokens.{word, integer_row, global_name_row, local_row, named_local_row, label_row, quoted_row, byte_string_row, linkage_row, flag_row, predicate_row};
 ghost use Rattle.ir_terminals.specs.Digits.{decimal};
-ghost use Rattle.ir_terminals.specs.Position.{left, first_kind, first_spelling};
+ghost use Rattle.ir_terminals.specs.Position.{tokens_left, first_kind, first_spelling};
 ghost use Rattle.ir_terminals.specs.Values.{integer_at, is_negative, label_at};
 
 use crate::compact::{CompactName, CompactText};
@@ -121,8 +121,8 @@ impl<'t> Cursor<'t> {
     /// The name that the next token spells, which is of this kind.
     fn name_here(&self, kind: TokenKind) -> Result<CompactName, AllocError>
         requires named { has_name kind ≡ true }
-        requires next { Some kind ≡ first_kind (left self.now) }
-        ensures { IfOk result (λ name. Some name ≡ name_in (record { kind = kind; spelling = first_spelling (left self.now) })) }
+        requires next { Some kind ≡ first_kind (tokens_left self.now) }
+        ensures { IfOk result (λ name. Some name ≡ name_in (record { kind = kind; spelling = first_spelling (tokens_left self.now) })) }
     {
         name_at(self.alloc(), kind, self.spelling())
     }

@@ -4,14 +4,14 @@ use Rattle.std.proofs.lemmas.List.{length-append, length-map}
 use Rattle.std.proofs.lemmas.Option.{same_Some}
 use Rattle.ir_syntax.specs.declared.item.Item.{Item}
 use Rattle.ir_syntax.specs.declared.item.Item.TheVariants as items
-use Rattle.ir_syntax.specs.declared.item.StructBody.{StructBody}
+use Rattle.ir_syntax.specs.declared.item.WrittenBody.{WrittenBody}
 use Rattle.ir_syntax.specs.View.{item_view, items_view}
 use Rattle.ir_terminals.specs.declared.values.PlacedName.{PlacedName}
 use Rattle.name_rules.specs.ModuleOf.{struct_in, structs_in}
 use Rattle.item_build.specs.Places.{ArePlaces}
 
 -- an item that is no struct gives none
-pub no_struct : (item : Item) → ((name : PlacedName) (body : StructBody) → item ≡ items.Struct name body → ⊥) → struct_in (item_view item) ≡ None
+pub no_struct : (item : Item) → ((name : PlacedName) (body : WrittenBody) → item ≡ items.Struct name body → ⊥) → struct_in (item_view item) ≡ None
 no_struct (items.Struct name body) never = absurd (never name body refl)
 no_struct (items.Variable variable) never = refl
 no_struct (items.Alias alias) never = refl

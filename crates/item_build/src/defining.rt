@@ -12,7 +12,7 @@ ghost use Rattle.type_build.specs.Stands.{Grows};
 ghost use Rattle.buildable.specs.Entries.{CanStruct};
 ghost use Rattle.item_build.specs.Partly.{IsPartly, IsDone, CanDefine, with_structs};
 
-use ir_syntax::StructBody;
+use ir_syntax::WrittenBody;
 use std::alloc::{AllocError, Global};
 use type_build::Builder;
 use type_table::{StructId, TypeFault};
@@ -28,7 +28,7 @@ pub(crate) fn out_of_memory(_fault: TypeFault) -> AllocError
 fn add_body(
     builder: &mut Builder,
     alloc: Global,
-    written: &StructBody,
+    written: &WrittenBody,
 ) -> Result<type_table::StructBody, AllocError>
     requires { CanStruct (structs builder.old.arena.table) (body_view written.now) }
     ensures grows { OnOk result (Grows builder.old.arena builder.new.arena) }
@@ -37,12 +37,12 @@ fn add_body(
     ensures within { (whole : Structs) → CanStruct whole (body_view written.now) → AreWithin whole builder.old.arena → OnOk result (AreWithin whole builder.new.arena) }
 {
     match written {
-        StructBody::Opaque => Ok(type_table::StructBody::Opaque),
-        StructBody::Plain(fields) => {
+        WrittenBody::Opaque => Ok(type_table::StructBody::Opaque),
+        WrittenBody::Plain(fields) => {
             let fields = builder.add_types(alloc, fields)?;
             Ok(type_table::StructBody::Plain(fields))
         }
-        StructBody::Packed(fields) => {
+        WrittenBody::Packed(fields) => {
             let fields = builder.add_types(alloc, fields)?;
             Ok(type_table::StructBody::Packed(fields))
         }
@@ -54,7 +54,7 @@ pub(crate) fn define_struct(
     builder: &mut Builder,
     alloc: Global,
     number: u32,
-    written: &StructBody,
+    written: &WrittenBody,
 ) -> Result<(), AllocError>
     requires { (whole : Structs) × CanDefine whole builder.old.arena number (body_view written.now) }
     ensures module { OnOk result (module_of builder.new.arena ≡ with_structs (module_of builder.old.arena) (structs builder.new.arena.table)) }

@@ -4,7 +4,7 @@ use Rattle.ir_base.specs.declared.place.Place.{Place}
 use Rattle.ir_lexer.specs.Ahead.{Located, answered, ahead, ahead_within}
 use Rattle.ir_lexer.specs.Front.{next_token}
 use Rattle.ir_lexer.specs.Gap.{gap_length}
-use Rattle.ir_lexer.specs.Lexer.{Lexing, rest, at_start, advanced, skipped, found, answer_at, gone, answer, after}
+use Rattle.ir_lexer.specs.Lexer.{Lexing, rest, at_start, advanced, skipped, token_found, answer_at, gone, answer, after}
 use Rattle.ir_lexer.specs.Place.{next_place, place_after, place_of}
 use Rattle.ir_lexer.specs.declared.token.TokenKind.{TokenKind}
 use Rattle.ir_lexer.proofs.Placing.{place_on}
@@ -62,7 +62,7 @@ unfolding skipped
 ordered_at l n [] again = (tt, tt)
 ordered_at l n (b ∷ bs) again = by (next_token (b ∷ bs))
   where
-    by : (o : Option (TokenKind × ℕ)) → Ordered l (answered l (found (skipped l) o) (ahead_within n (gone (skipped l) o))).tokens
+    by : (o : Option (TokenKind × ℕ)) → Ordered l (answered l (token_found (skipped l) o) (ahead_within n (gone (skipped l) o))).tokens
     by None = (tt, tt)
     by (Some (kind, m)) =
         let gap = gap_length false (rest l) in

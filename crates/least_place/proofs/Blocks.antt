@@ -3,7 +3,7 @@ use Rattle.std.proofs.Common.{◌≡◌, List, [], ◌∷◌, true, false, Optio
 use Rattle.ir_base.specs.declared.place.Place.{Place}
 use Rattle.ir_lexer.specs.Ahead.{Located}
 use Rattle.ir_tables.specs.declared.opcode.Opcode.TheVariants as op
-use Rattle.phrase_rows.specs.Row.{before}
+use Rattle.phrase_rows.specs.Row.{keep_first}
 use Rattle.ir_terminals.specs.declared.limits.Limits.{Limits}
 use Rattle.ir_terminals.specs.declared.terminal.Terminal.TheVariants as terminal
 use Rattle.ir_terminals.specs.declared.values.Local.{Local}
@@ -178,7 +178,7 @@ module _ (limits : Limits) where
 
   draws_unreachable_core : Draws unreachable_core ending_asked
   unfolding unreachable_core
-  draws_unreachable_core = draws_mapped _ ending_asked (draws_any (Unit {0}) (before (word (terminal.Opcode op.Unreachable)) attachments_row)) (λ us p d x. tt)
+  draws_unreachable_core = draws_mapped _ ending_asked (draws_any (Unit {0}) (keep_first (word (terminal.Opcode op.Unreachable)) attachments_row)) (λ us p d x. tt)
 
   draws_ending_core : Draws (ending_core limits) ending_asked
   unfolding ending_core

@@ -4,7 +4,7 @@ use Rattle.ir_base.specs.declared.place.Place.{Place}
 use Rattle.ir_lexer.specs.Ahead.{Located}
 use Rattle.ir_tables.specs.declared.opcode.Opcode.{Opcode}
 use Rattle.ir_tables.specs.declared.opcode.Opcode.TheVariants as op
-use Rattle.phrase_rows.specs.Row.{Row, second}
+use Rattle.phrase_rows.specs.Row.{Row, keep_second}
 use Rattle.ir_terminals.specs.declared.limits.Limits.{Limits}
 use Rattle.ir_terminals.specs.declared.terminal.Terminal.TheVariants as terminal
 use Rattle.ir_terminals.specs.declared.values.Integer.{Integer}
@@ -14,7 +14,7 @@ use Rattle.ir_terminals.specs.Role.{class}
 use Rattle.ir_terminals.specs.Terminal.{code}
 use Rattle.ir_terminals.specs.Tokens.{word, integer_row, global_name_row, byte_string_row, local_row}
 use Rattle.ir_terminals.specs.Values.{opcode_in, integer_of, name_of_global, local_of}
-use Rattle.ir_constants.specs.Placed.{placed}
+use Rattle.ir_constants.specs.Placed.{token_with_place}
 use Rattle.ir_constants.specs.Flags.{flags_row}
 use Rattle.ir_constants.specs.Tree.{ConstantTree, IntegerConstant, AddressConstant, TypedConstantTree, constants, ValueTree, LocalValue, ConstantValue, TypedValueTree}
 use Rattle.ir_constants.specs.Types.{type_shape, list_shape}
@@ -85,7 +85,7 @@ module _ (limits : Limits) (typed : Row Located TypedConstantTree) (h : Draws ty
   draws_packed_constant : Draws (packed_constant_row typed) constant_asked
   draws_packed_constant =
       draws_mapped _ constant_asked
-      (draws_right (word terminal.Less) (draws_second (word terminal.OpenBrace) (draws_before (second (word terminal.CloseBrace) (word terminal.Greater)) draws_elements)))
+      (draws_right (word terminal.Less) (draws_second (word terminal.OpenBrace) (draws_before (keep_second (word terminal.CloseBrace) (word terminal.Greater)) draws_elements)))
       (λ us v d x. listed us v.1 x.0 (d x.0))
 
   draws_operands_core : Draws (operands_core typed) (all_asked typed_asked)
@@ -135,7 +135,7 @@ module _ (limits : Limits) (typed : Row Located TypedConstantTree) (h : Draws ty
 
   draws_expression : Draws (expression_row limits typed) constant_asked
   draws_expression =
-      draws_chosen (placed expression_classes opcode_in) expression_shape constant_asked (λ v. draws_labelled expression_shape (draws_expression_core v))
+      draws_chosen (token_with_place expression_classes opcode_in) expression_shape constant_asked (λ v. draws_labelled expression_shape (draws_expression_core v))
 
   draws_holder_step : Draws (holder_step limits typed) constant_asked
   draws_holder_step = draws_alt class draws_array_constant (draws_alt class draws_struct_constant (draws_alt class draws_packed_constant draws_expression))
@@ -150,7 +150,7 @@ draws_constant_core holder h =
     draws_alt class (draws_mapped IntegerConstant constant_asked draws_bits (λ us v d x. d (bits_at x.1)))
     (draws_alt class (draws_mapped AddressConstant constant_asked draws_global (λ us v d x. d x.0))
     (draws_alt class (draws_mapped _ constant_asked (draws_any (Unit {0}) byte_string_row) (λ us v d x. tt))
-    (draws_alt class (draws_mapped _ constant_asked (draws_any (Unit {0}) (placed simple_classes simple_word)) (λ us v d x. tt)) h)))
+    (draws_alt class (draws_mapped _ constant_asked (draws_any (Unit {0}) (token_with_place simple_classes simple_word)) (λ us v d x. tt)) h)))
 
 draws_holder : (limits : Limits) (depth : ℕ) → Draws (holder_core limits depth) constant_asked
 unfolding holder_core

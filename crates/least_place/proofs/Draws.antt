@@ -1,7 +1,7 @@
 -- What the values of whole phrases ask for stands at the tokens of the phrases, in their order.
 use Rattle.std.proofs.Common.{◌≡◌, ℕ, List, [], ◌∷◌, ◌++◌, Option, Some, None, inl, inr, refl, sym, ap, ◌∙◌, subst, flat_map, append_assoc}
 use Rattle.std.proofs.lemmas.List.{append-nil}
-use Rattle.phrase_rows.specs.Row.{Row, Shape, nothing, fail, one, chain, mapped, both, second, before, pair, alt, optional, many, Each, separated, loop, Steps, labelled}
+use Rattle.phrase_rows.specs.Row.{Row, Shape, nothing, fail, one, chain, mapped, joined_values, keep_second, keep_first, pair, alt, optional, many, Each, separated, loop, Steps, labelled}
 use Rattle.ir_lexer.specs.Ahead.{Located}
 use Rattle.name_rules.specs.Demand.{Demand}
 use Rattle.least_place.specs.Places.{InOrder}
@@ -47,10 +47,10 @@ draws_mapped m g h k = record { value = λ us b w. subst (Drawn g us) (sym w.2) 
 pub draws_so : {A X Y : Type 0} {p : Row Located A} {f : X → A → List Demand} (g : Y → A → List Demand) → Draws p f → ((us : List Located) (a : A) → Drawn f us a → Drawn g us a) → Draws p g
 draws_so g h k = record { value = λ us a w. k us a (h.value us a w) }
 
-pub draws_second : {A B X : Type 0} (p : Row Located A) {q : Row Located B} {f : X → B → List Demand} → Draws q f → Draws (second p q) f
+pub draws_second : {A B X : Type 0} (p : Row Located A) {q : Row Located B} {f : X → B → List Demand} → Draws q f → Draws (keep_second p q) f
 draws_second p {f} h = record { value = λ ts b w x. subst (λ all. InOrder all (f x b)) (sym w.3) (preceded w.0 w.1 (f x b) (h.value w.1 b w.5 x)) }
 
-pub draws_before : {A B X : Type 0} {p : Row Located A} (q : Row Located B) {f : X → A → List Demand} → Draws p f → Draws (before p q) f
+pub draws_before : {A B X : Type 0} {p : Row Located A} (q : Row Located B) {f : X → A → List Demand} → Draws p f → Draws (keep_first p q) f
 draws_before q {f} h = record {
   value = λ ts c w x. subst (λ all. InOrder all (f x c)) (sym w.3) (followed w.0 w.1 (f x c) (subst (λ a. InOrder w.0 (f x a)) (sym w.5.2) (h.value w.0 w.2 w.4 x)));
 }
@@ -60,7 +60,7 @@ abbrev pub pair_asked : {A B X Y : Type 0} → (X → A → List Demand) → (Y 
 pair_asked f g x v = f x.0 v.0 ++ g x.1 v.1
 
 pub draws_both : {A B C X Y Z : Type 0} (m : A → B → C) {p : Row Located A} {q : Row Located B} {f : X → A → List Demand} {g : Y → B → List Demand} (k : Z → C → List Demand) → Draws p f → Draws q g
-    → ((us vs : List Located) (a : A) (b : B) → Drawn f us a → Drawn g vs b → Drawn k (us ++ vs) (m a b)) → Draws (both m p q) k
+    → ((us vs : List Located) (a : A) (b : B) → Drawn f us a → Drawn g vs b → Drawn k (us ++ vs) (m a b)) → Draws (joined_values m p q) k
 draws_both m k h g j = record {
   value = λ ts c w x. subst (λ all. InOrder all (k x c)) (sym w.3) (subst (λ d. InOrder (w.0 ++ w.1) (k x d)) (sym w.5.2) (j w.0 w.1 w.2 w.5.0 (h.value w.0 w.2 w.4) (g.value w.1 w.5.0 w.5.1) x));
 }
@@ -104,7 +104,7 @@ pub draws_many_by : {A X Y : Type 0} (class : Located → ℕ) {p : Row Located 
 draws_many_by class {p} {f} g s h = record { value = λ us xs each. each_draws p f g s h xs us each }
 
 -- one, and more behind it
-pub draws_some_by : {A X Y : Type 0} {p : Row Located A} {q : Row Located (List A)} {f : X → A → List Demand} (g : Y → List A → List Demand) → Follows f g → Draws p f → Draws q g → Draws (both (λ a all. a ∷ all) p q) g
+pub draws_some_by : {A X Y : Type 0} {p : Row Located A} {q : Row Located (List A)} {f : X → A → List Demand} (g : Y → List A → List Demand) → Follows f g → Draws p f → Draws q g → Draws (joined_values (λ a all. a ∷ all) p q) g
 draws_some_by {f} g s h i =
     draws_both (λ a all. a ∷ all) g h i
     (λ us vs a all x y z. subst (InOrder (us ++ vs)) (sym (s.some z a all)) (joined us vs (f (s.first z a) a) (g (s.next z a) all) (x (s.first z a)) (y (s.next z a))))
@@ -117,7 +117,7 @@ pub draws_many : {A X : Type 0} (class : Located → ℕ) {p : Row Located A} {f
 draws_many class {f} h = draws_many_by class (all_asked f) (record { first = λ y a. y; next = λ y a. y; none = λ y. refl; some = λ y a more. refl }) h
 
 -- one, and more behind it
-pub draws_some : {A X : Type 0} {p : Row Located A} {q : Row Located (List A)} {f : X → A → List Demand} → Draws p f → Draws q (all_asked f) → Draws (both (λ a all. a ∷ all) p q) (all_asked f)
+pub draws_some : {A X : Type 0} {p : Row Located A} {q : Row Located (List A)} {f : X → A → List Demand} → Draws p f → Draws q (all_asked f) → Draws (joined_values (λ a all. a ∷ all) p q) (all_asked f)
 draws_some {f} h g = draws_both (λ a all. a ∷ all) (all_asked f) h g (λ us vs a all x y z. joined us vs (f z a) (flat_map (f z) all) (x z) (y z))
 
 pub draws_separated : {A S X : Type 0} (class : Located → ℕ) (s : Row Located S) {p : Row Located A} {f : X → A → List Demand} → Draws p f → Draws (separated class s p) (all_asked f)
@@ -153,7 +153,7 @@ spans_any r = record { value = λ us a w. tt }
 pub spans_mapped : {A B : Type 0} (m : A → B) {p : Row Located A} {P : List Located → A → Type 0} (Q : List Located → B → Type 0) → Spans p P → ((us : List Located) (a : A) → P us a → Q us (m a)) → Spans (mapped m p) Q
 spans_mapped m Q h k = record { value = λ us b w. subst (Q us) (sym w.2) (k us w.0 (h.value us w.0 w.1)) }
 
-pub spans_second : {A B : Type 0} (p : Row Located A) {q : Row Located B} (Q : List Located → B → Type 0) → ((us vs : List Located) (b : B) → Q vs b → Q (us ++ vs) b) → Spans q Q → Spans (second p q) Q
+pub spans_second : {A B : Type 0} (p : Row Located A) {q : Row Located B} (Q : List Located → B → Type 0) → ((us vs : List Located) (b : B) → Q vs b → Q (us ++ vs) b) → Spans q Q → Spans (keep_second p q) Q
 spans_second p Q further h = record { value = λ ts b w. subst (λ all. Q all b) (sym w.3) (further w.0 w.1 b (h.value w.1 b w.5)) }
 
 pub spans_alt : {A : Type 0} (class : Located → ℕ) {p q : Row Located A} {P : List Located → A → Type 0} → Spans p P → Spans q P → Spans (alt class p q) P

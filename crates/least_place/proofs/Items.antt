@@ -4,7 +4,7 @@ use Rattle.ir_base.specs.declared.place.Place.{Place}
 use Rattle.ir_lexer.specs.Ahead.{Located}
 use Rattle.ir_tables.specs.declared.linkage.Linkage.{Linkage}
 use Rattle.ir_tables.specs.declared.linkage.Linkage.TheVariants as linkage
-use Rattle.phrase_rows.specs.Row.{before, second}
+use Rattle.phrase_rows.specs.Row.{keep_first, keep_second}
 use Rattle.ir_terminals.specs.declared.limits.Limits.{Limits}
 use Rattle.ir_terminals.specs.declared.terminal.Terminal.{Terminal}
 use Rattle.ir_terminals.specs.declared.terminal.Terminal.TheVariants as terminal
@@ -105,7 +105,7 @@ module _ (limits : Limits) where
       (draws_mapped PlainBody body_asked (draws_second (word terminal.OpenBrace) (draws_before (word terminal.CloseBrace) (draws_fields limits))) listed)
       (draws_mapped PackedBody body_asked
       (draws_second (word terminal.Less)
-      (draws_second (word terminal.OpenBrace) (draws_before (second (word terminal.CloseBrace) (word terminal.Greater)) (draws_fields limits))))
+      (draws_second (word terminal.OpenBrace) (draws_before (keep_second (word terminal.CloseBrace) (word terminal.Greater)) (draws_fields limits))))
       listed))
     where
       listed : (us : List Located) (ts : List TypeTree) → Drawn (all_asked type_demands) us ts → (known : Known) → InOrder us (types_demands known (types ts))
@@ -113,7 +113,7 @@ module _ (limits : Limits) where
 
   draws_struct : Draws (struct_row limits) item_asked
   draws_struct =
-      draws_mapped _ item_asked (draws_pair (draws_before (second (word terminal.Equals) (word terminal.«Type»)) (draws_naming limits)) draws_body)
+      draws_mapped _ item_asked (draws_pair (draws_before (keep_second (word terminal.Equals) (word terminal.«Type»)) (draws_naming limits)) draws_body)
       (λ us v d x.
       let names = filter_map struct_name x.1 in
       let past = have_past x.0 (body_types x.0 v.1) in
@@ -218,7 +218,7 @@ module _ (limits : Limits) where
 
   draws_global_head_core : Draws global_head_core (λ names h. is_new names h.0)
   unfolding global_head_core
-  draws_global_head_core = draws_left (before optional_linkage_row global_words_row) (draws_before (word terminal.Equals) draws_new)
+  draws_global_head_core = draws_left (keep_first optional_linkage_row global_words_row) (draws_before (word terminal.Equals) draws_new)
 
   draws_global_item : Draws (global_row limits) item_asked
   draws_global_item =

@@ -2,7 +2,7 @@
 use Rattle.std.proofs.Common.{◌≡◌, List, [], ◌∷◌, ◌++◌, Bool, true, false, refl, sym, ap, ◌∙◌, subst, flat_map, append_assoc}
 use Rattle.std.proofs.lemmas.List.{append-nil}
 use Rattle.ir_lexer.specs.Ahead.{Located}
-use Rattle.phrase_rows.specs.Row.{second, optional}
+use Rattle.phrase_rows.specs.Row.{keep_second, optional}
 use Rattle.ir_terminals.specs.declared.limits.Limits.{Limits}
 use Rattle.ir_terminals.specs.declared.terminal.Terminal.TheVariants as terminal
 use Rattle.ir_terminals.specs.Role.{class}
@@ -59,7 +59,7 @@ draws_parameter_core limits =
 
 draws_typed_core : (limits : Limits) → Draws (parameter_core limits) typed_asked
 unfolding parameter_core
-draws_typed_core limits = draws_left (second parameter_attributes_row (optional class local_row)) (draws_type limits)
+draws_typed_core limits = draws_left (keep_second parameter_attributes_row (optional class local_row)) (draws_type limits)
 
 -- lists of parameters, of which each asks for one thing, and the list for another
 module _ {X Y : Type 0} (dots : Bool) (limits : Limits) (f : X → ParameterTree → List Demand) (h : Draws (parameter_core limits) f) (g : Y → List ParameterTree → List Demand) (none : (y : Y) → g y [] ≡ [])

@@ -1,7 +1,7 @@
 -- What the types of a text ask for stands at their tokens, in order.
 use Rattle.std.proofs.Common.{◌≡◌, ℕ, zero, suc, Bool, true, false, List, [], ◌∷◌, ◌++◌, Option, Some, refl, sym, ap, subst, flat_map}
 use Rattle.ir_lexer.specs.Ahead.{Located}
-use Rattle.phrase_rows.specs.Row.{Row, second}
+use Rattle.phrase_rows.specs.Row.{Row, keep_second}
 use Rattle.ir_base.specs.declared.place.Place.{Place}
 use Rattle.ir_terminals.specs.declared.limits.Limits.{Limits}
 use Rattle.ir_terminals.specs.declared.terminal.Terminal.{Terminal}
@@ -12,7 +12,7 @@ use Rattle.ir_terminals.specs.Role.{class}
 use Rattle.ir_terminals.specs.Terminal.{code, integer_type_class}
 use Rattle.ir_terminals.specs.Tokens.{word, integer_row, named_local_row}
 use Rattle.ir_terminals.specs.Values.{place_of_token, integer_of, named_local_of, width_of_type}
-use Rattle.ir_constants.specs.Placed.{placed}
+use Rattle.ir_constants.specs.Placed.{token_with_place}
 use Rattle.ir_constants.specs.Tree.{TypeTree, PointerType, VoidType, ArrayType, StructType, NamedType, types}
 use Rattle.ir_constants.specs.Types.{nest_shape, value_type_shape, type_shape, list_shape, int_row, array_row, types_core, types_row, struct_row, packed_row, nest_step, value_type_core, value_type_over, type_core, type_over, nest_core, nest_row, type_at, type_row, value_type_row, fields_core, fields_row}
 use Rattle.type_table.specs.declared.measure.Measure.{Measure}
@@ -63,7 +63,7 @@ draws_named limits =
     at_first t [] (is_struct known n) (nested ∷ small ∷ []) at (at_first t [] nested (small ∷ []) at (at_first t [] small [] at tt)))
 
 draws_int : Draws int_row type_demands
-draws_int = draws_mapped _ type_demands (draws_any Known (placed (integer_type_class ∷ []) width_of_type)) (λ us v d known. tt)
+draws_int = draws_mapped _ type_demands (draws_any Known (token_with_place (integer_type_class ∷ []) width_of_type)) (λ us v d known. tt)
 
 module _ (t : Row Located TypeTree) (h : Draws t type_demands) where
   draws_array : Draws (array_row t) type_demands
@@ -93,7 +93,7 @@ module _ (t : Row Located TypeTree) (h : Draws t type_demands) where
   draws_packed : Draws (packed_row t) type_demands
   draws_packed =
       draws_mapped _ type_demands
-      (draws_pair (draws_sized terminal.Less) (draws_second (word terminal.OpenBrace) (draws_before (second (word terminal.CloseBrace) (word terminal.Greater)) draws_types)))
+      (draws_pair (draws_sized terminal.Less) (draws_second (word terminal.OpenBrace) (draws_before (keep_second (word terminal.CloseBrace) (word terminal.Greater)) draws_types)))
       (λ us v d known. struct_asked true us v.0 v.1 known (λ x. d (x, known)))
 
   draws_nest_step : Draws (nest_step t) type_demands

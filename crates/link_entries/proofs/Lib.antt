@@ -1,5 +1,5 @@
 pub mod Still
-pub mod OneMore
+pub mod DeclaredMore
 pub mod Written
 pub mod JoinedTypes
 pub mod Commons

@@ -7,7 +7,7 @@ use Rattle.linkage_rules.specs.declared.symbol.Symbol.{Symbol}
 use Rattle.linkage_rules.specs.declared.symbol.Symbol.TheVariants.{Shared, Local}
 use Rattle.linkage_rules.specs.Symbols.{symbols}
 use Rattle.linkage_rules.proofs.Steps.{drop_more, drop_whole}
-use Rattle.module_linker.specs.Rename.{all_names, base_of, named, new_name, renaming, shared_names}
+use Rattle.module_linker.specs.Rename.{all_names, base_of, with_given_names, new_name, renaming, shared_names}
 use Rattle.module_linker.proofs.Searches.{any_join}
 use Rattle.link_names.specs.Naming.{GivesName, HasMore, Names, SameNames}
 use Rattle.link_names.proofs.FirstFree.{fresh_same}
@@ -32,33 +32,33 @@ module _ (base : Bytes → Bytes) where
       ap₂ (λ b n. cond b n name) (given name) (fresh_same (xs ++ vs) (ys ++ ws) (base name) (joined_same xs ys vs ws given everywhere))
 
   -- and so do the names of symbols, one behind the other
-  pub named_same : (ss : List Symbol) (xs ys vs ws : List Bytes) → SameNames xs ys → SameNames vs ws → new_ones (named base vs xs ss) ≡ new_ones (named base ws ys ss)
+  pub named_same : (ss : List Symbol) (xs ys vs ws : List Bytes) → SameNames xs ys → SameNames vs ws → new_ones (with_given_names base vs xs ss) ≡ new_ones (with_given_names base ws ys ss)
   named_same [] xs ys vs ws given everywhere = refl
   named_same (Shared name ∷ ss) xs ys vs ws given everywhere = ap (λ l. name ∷ l) (named_same ss xs ys vs ws given everywhere)
   named_same (Local part name ∷ ss) xs ys vs ws given everywhere =
       let one = new_name_same xs ys vs ws name given everywhere in
       ap₂ (λ n l. n ∷ l) one
-      (ap (λ n. new_ones (named base vs (n ∷ xs) ss)) one
+      (ap (λ n. new_ones (with_given_names base vs (n ∷ xs) ss)) one
       ∙ named_same ss (new_name base ws ys name ∷ xs) (new_name base ws ys name ∷ ys) vs ws (one_more_same xs ys (new_name base ws ys name) given) everywhere)
 
 -- the next symbol's name, and what is named behind it
 named_next : (everywhere : List Bytes) (before now : Names) (s : Symbol) (new : Bytes) (rest : List Symbol) → SameNames before.avoided everywhere → GivesName before s new now
-    → new_ones (named base_of everywhere before.given (s ∷ rest)) ≡ new ∷ new_ones (named base_of everywhere now.given rest)
+    → new_ones (with_given_names base_of everywhere before.given (s ∷ rest)) ≡ new ∷ new_ones (with_given_names base_of everywhere now.given rest)
 named_next everywhere before now (Shared name) new rest avoided gives =
-    ap₂ (λ n (v : Names). n ∷ new_ones (named base_of everywhere v.given rest)) (sym gives.0) (sym gives.1)
+    ap₂ (λ n (v : Names). n ∷ new_ones (with_given_names base_of everywhere v.given rest)) (sym gives.0) (sym gives.1)
 named_next everywhere before now (Local part name) new rest avoided gives =
     let one : new_name base_of everywhere before.given name ≡ new = sym (gives.0 ∙ new_name_same base_of before.given before.given before.avoided everywhere name (λ n. refl) avoided) in
     ap₂ (λ n l. n ∷ l) one
-    (ap (λ n. new_ones (named base_of everywhere (n ∷ before.given) rest)) one
+    (ap (λ n. new_ones (with_given_names base_of everywhere (n ∷ before.given) rest)) one
     ∙ named_same base_of rest (new ∷ before.given) now.given everywhere everywhere (λ n. sym (gives.1 n)) (λ n. refl))
 
 -- one symbol further
 pub named_more : (everywhere : List Bytes) (before now : Names) (ss : List Symbol) (k : ℕ) (s : Symbol) (new : Bytes) (names after all : List Bytes) → slice_get ss k ≡ Some s → SameNames before.avoided everywhere → GivesName before s new now → after ≡ names ++ new ∷ []
-    → names ++ new_ones (named base_of everywhere before.given (drop k ss)) ≡ all → after ++ new_ones (named base_of everywhere now.given (drop (k + 1) ss)) ≡ all
+    → names ++ new_ones (with_given_names base_of everywhere before.given (drop k ss)) ≡ all → after ++ new_ones (with_given_names base_of everywhere now.given (drop (k + 1) ss)) ≡ all
 named_more everywhere before now ss k s new names after all at avoided gives pushed so_far =
-    ap (λ l. l ++ new_ones (named base_of everywhere now.given (drop (k + 1) ss))) pushed
-    ∙ append_assoc names (new ∷ []) (new_ones (named base_of everywhere now.given (drop (k + 1) ss)))
-    ∙ ap (λ l. names ++ l) (sym (ap (λ l. new_ones (named base_of everywhere before.given l)) (drop_more ss k s at) ∙ named_next everywhere before now s new (drop (k + 1) ss) avoided gives))
+    ap (λ l. l ++ new_ones (with_given_names base_of everywhere now.given (drop (k + 1) ss))) pushed
+    ∙ append_assoc names (new ∷ []) (new_ones (with_given_names base_of everywhere now.given (drop (k + 1) ss)))
+    ∙ ap (λ l. names ++ l) (sym (ap (λ l. new_ones (with_given_names base_of everywhere before.given l)) (drop_more ss k s at) ∙ named_next everywhere before now s new (drop (k + 1) ss) avoided gives))
     ∙ so_far
 
 -- names behind none are the same names
@@ -66,12 +66,12 @@ pub same_behind_none : (old names now : List Bytes) → old ≡ [] → HasMore o
 same_behind_none old names now none more name = more name ∙ ap (λ l. has bytes_eq (names ++ l) name) none ∙ ap (λ l. has bytes_eq l name) (append-nil names)
 
 -- all are named
-pub named_end : (everywhere given names all : List Bytes) (ss : List Symbol) (k : ℕ) → k ≡ length ss → names ++ new_ones (named base_of everywhere given (drop k ss)) ≡ all → names ≡ all
+pub named_end : (everywhere given names all : List Bytes) (ss : List Symbol) (k : ℕ) → k ≡ length ss → names ++ new_ones (with_given_names base_of everywhere given (drop k ss)) ≡ all → names ≡ all
 named_end everywhere given names all ss k end so_far =
-    sym (append-nil names) ∙ ap (λ l. names ++ new_ones (named base_of everywhere given l)) (sym (ap (λ n. drop n ss) end ∙ drop_whole ss)) ∙ so_far
+    sym (append-nil names) ∙ ap (λ l. names ++ new_ones (with_given_names base_of everywhere given l)) (sym (ap (λ n. drop n ss) end ∙ drop_whole ss)) ∙ so_far
 
 -- all of them, before the first is given
-pub named_all : (parts : List Module) (ss : List Symbol) (given : List Bytes) → ss ≡ symbols parts → SameNames given (shared_names ss) → new_ones (named base_of (all_names parts) given ss) ≡ new_ones (renaming parts)
+pub named_all : (parts : List Module) (ss : List Symbol) (given : List Bytes) → ss ≡ symbols parts → SameNames given (shared_names ss) → new_ones (with_given_names base_of (all_names parts) given ss) ≡ new_ones (renaming parts)
 named_all parts ss given is same =
     named_same base_of ss given (shared_names ss) (all_names parts) (all_names parts) same (λ n. refl)
-    ∙ ap (λ l. new_ones (named base_of (all_names parts) (shared_names l) l)) is
+    ∙ ap (λ l. new_ones (with_given_names base_of (all_names parts) (shared_names l) l)) is

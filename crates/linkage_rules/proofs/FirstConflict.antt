@@ -4,7 +4,7 @@ use Rattle.std.specs.Prelude.{flat_map, slice_get}
 use Rattle.std.specs.Option.{option_map, option_or}
 use Rattle.module_arena.specs.Module.{Bytes, Module}
 use Rattle.type_table.specs.Shape.{Shape}
-use Rattle.linkage_rules.specs.declared.clash.Clash.{Clash}
+use Rattle.linkage_rules.specs.declared.clash.EntryClash.{EntryClash}
 use Rattle.linkage_rules.specs.Conflicts.{ConflictKind, TwoStrong, FunctionAndVariable, AppendingAndPlain, ElementShape, Constness, conflict_kinds, is_strong, appends, elements_alike, clash, FoundConflict, found_conflict, conflicts_of_kind, conflicts_of}
 use Rattle.linkage_rules.specs.Entries.{Entry, Symbol, Shared, mentions}
 use Rattle.linkage_rules.specs.Globals.{is_variable, is_constant, type_of, element_of}
@@ -103,7 +103,7 @@ module _ (parts : List Module) where
   -- ALL SYMBOLS
 
   -- the conflict of a kind, or else a later one
-  pub kind_or_later : (es : List Entry) (kind : ConflictKind) (kinds : List ConflictKind) (here later : Option Clash) → here ≡ option_map (told_of kind) (first_clash parts kind es) → later ≡ option_map the_clash (conflict_among parts es kinds)
+  pub kind_or_later : (es : List Entry) (kind : ConflictKind) (kinds : List ConflictKind) (here later : Option EntryClash) → here ≡ option_map (told_of kind) (first_clash parts kind es) → later ≡ option_map the_clash (conflict_among parts es kinds)
       → option_or here later ≡ option_map the_clash (conflict_among parts es (kind ∷ kinds))
   kind_or_later es kind kinds here later h l = ap₂ (λ x y. option_or x y) h l ∙ go (first_clash parts kind es) (conflict_among parts es kinds)
     where
@@ -111,7 +111,7 @@ module _ (parts : List Module) where
       go None rest = refl
       go (Some p) rest = refl
 
-  pub last_kind : (es : List Entry) (kind : ConflictKind) (here : Option Clash) → here ≡ option_map (told_of kind) (first_clash parts kind es) → here ≡ option_map the_clash (conflict_among parts es (kind ∷ []))
+  pub last_kind : (es : List Entry) (kind : ConflictKind) (here : Option EntryClash) → here ≡ option_map (told_of kind) (first_clash parts kind es) → here ≡ option_map the_clash (conflict_among parts es (kind ∷ []))
   last_kind es kind here h = h ∙ go (first_clash parts kind es)
     where
       go : (o : Option (Entry × Entry)) → option_map (told_of kind) o ≡ option_map the_clash (or_later kind o None)
@@ -119,7 +119,7 @@ module _ (parts : List Module) where
       go (Some p) = refl
 
   -- what the code tells of a name is its first conflict
-  pub told_of_name : (name : Bytes) (es : List Entry) (clash : Option Clash) → clash ≡ option_map the_clash (conflict_among parts es conflict_kinds) → es ≡ mentions parts name → option_map (told_in (Shared name)) clash ≡ first (conflicts_of parts (Shared name))
+  pub told_of_name : (name : Bytes) (es : List Entry) (clash : Option EntryClash) → clash ≡ option_map the_clash (conflict_among parts es conflict_kinds) → es ≡ mentions parts name → option_map (told_in (Shared name)) clash ≡ first (conflicts_of parts (Shared name))
   told_of_name name es clash h is =
       ap (option_map (told_in (Shared name))) (h ∙ ap (λ l. option_map the_clash (conflict_among parts l conflict_kinds)) is)
       ∙ go (conflict_among parts (mentions parts name) conflict_kinds) ∙ sym (of_name name)

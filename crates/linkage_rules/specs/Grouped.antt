@@ -7,9 +7,9 @@ use Rattle.indexmap.specs.IndexMap.{insert_entry}
 use Rattle.module_arena.specs.Known.{upto}
 use Rattle.module_arena.specs.Lists.{Lists}
 use Rattle.module_arena.specs.Module.{Module}
-use Rattle.linkage_rules.specs.declared.clash.Clash.{Clash}
+use Rattle.linkage_rules.specs.declared.clash.EntryClash.{EntryClash}
 use Rattle.linkage_rules.specs.declared.entry.EntryId.{EntryId}
-use Rattle.linkage_rules.specs.declared.entry.Head.{Head}
+use Rattle.linkage_rules.specs.declared.entry.EntryHead.{EntryHead}
 use Rattle.linkage_rules.specs.declared.symbol.SymbolKind.{SymbolKind}
 use Rattle.linkage_rules.specs.declared.symbol.SymbolKind.TheVariants as kind
 use Rattle.linkage_rules.specs.Conflicts.{FoundConflict, conflicts_of, ConflictKind, TwoStrong, FunctionAndVariable, AppendingAndPlain, ElementShape, Constness, appends, is_strong, elements_alike}
@@ -22,7 +22,7 @@ use Rattle.linkage_rules.specs.Symbols.{is_alias_symbol}
 use Rattle.linkage_rules.specs.Winner.{best, better, home, is_definition}
 
 -- what is told of an entry without its names and types
-abbrev pub head_of : Global → Head
+abbrev pub head_of : Global → EntryHead
 head_of g = record { linkage = linkage_of g; written = is_written g; variable = is_variable g; alias = is_alias g; constant = is_constant g }
 
 -- ---- all entries
@@ -165,15 +165,15 @@ abbrev pub later_kinds : List ConflictKind
 later_kinds = FunctionAndVariable ∷ AppendingAndPlain ∷ ElementShape ∷ Constness ∷ []
 
 -- what is told of two entries in conflict
-abbrev pub told_of : ConflictKind → Entry × Entry → Clash
+abbrev pub told_of : ConflictKind → Entry × Entry → EntryClash
 told_of kind pair = record { kind = kind; one = pair.0.part; other = pair.1.part }
 
 -- the same, with the kind
-abbrev pub told : ConflictKind × (Entry × Entry) → Clash
+abbrev pub told : ConflictKind × (Entry × Entry) → EntryClash
 told found = told_of found.0 found.1
 
 -- the conflict of a symbol, of which that is told
-abbrev pub told_in : Symbol → Clash → FoundConflict
+abbrev pub told_in : Symbol → EntryClash → FoundConflict
 told_in s clash = record { kind = clash.kind; name = symbol_name s; one = clash.one; other = clash.other }
 
 -- the first conflict of these symbols

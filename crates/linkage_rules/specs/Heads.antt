@@ -5,14 +5,14 @@ use Rattle.module_arena.specs.declared.entry.AliasType.{AliasType}
 use Rattle.module_arena.specs.declared.entry.AliasType.TheVariants as alias_type
 use Rattle.module_arena.specs.declared.entry.Function.{Function}
 use Rattle.module_arena.specs.declared.entry.Variable.{Variable}
-use Rattle.linkage_rules.specs.declared.entry.Head.{Head}
+use Rattle.linkage_rules.specs.declared.entry.EntryHead.{EntryHead}
 
 -- a variable
-abbrev pub variable_head : Variable → Head
+abbrev pub variable_head : Variable → EntryHead
 variable_head v = record { linkage = v.linkage; written = is_some v.initialiser; variable = true; alias = false; constant = v.constant }
 
 -- a function
-abbrev pub function_head : Function → Head
+abbrev pub function_head : Function → EntryHead
 function_head f = record { linkage = f.linkage; written = is_some f.body; variable = false; alias = false; constant = false }
 
 -- whether an alias is of a variable
@@ -21,5 +21,5 @@ is_of_variable (alias_type.Plain ty) = true
 is_of_variable (alias_type.Function returns parameters variadic) = false
 
 -- an alias
-abbrev pub alias_head : Alias → Head
+abbrev pub alias_head : Alias → EntryHead
 alias_head x = record { linkage = x.linkage; written = true; variable = is_of_variable x.ty; alias = true; constant = false }

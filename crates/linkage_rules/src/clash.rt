@@ -20,7 +20,7 @@ use type_table::{IrType, TypeId};
 
 /// A conflict, by the parts of its entries.
 #[derive(Clone, Copy)]
-pub(crate) struct Clash {
+pub(crate) struct EntryClash {
     kind: ConflictKind,
     one: u64,
     other: u64,
@@ -166,14 +166,14 @@ fn clash_behind(
     kind: ConflictKind,
     one: EntryId,
     behind: &[EntryId],
-) -> Option<Clash>
+) -> Option<EntryClash>
     requires one { IsEntryId parts.now one }
     requires behind { All (IsEntryId parts.now) behind.now }
     requires one_can { takes_part kind (seen (modules parts.now) one) ≡ true }
     ensures { result ≡ option_map (told_of kind) (pair_behind (modules parts.now) kind (seen (modules parts.now) one) (map (seen (modules parts.now)) behind.now)) }
 {
     match clash_with(parts, kind, one, behind) {
-        Some(other) => Some(Clash {
+        Some(other) => Some(EntryClash {
             kind,
             one: one.part,
             other: other.part,
@@ -183,7 +183,7 @@ fn clash_behind(
 }
 
 /// The first two entries that are in a conflict of this kind.
-fn first_clash(parts: &[Checked], kind: ConflictKind, ids: &[EntryId]) -> Option<Clash>
+fn first_clash(parts: &[Checked], kind: ConflictKind, ids: &[EntryId]) -> Option<EntryClash>
     requires { All (IsEntryId parts.now) ids.now }
     ensures { result ≡ option_map (told_of kind) (first_clash (modules parts.now) kind (map (seen (modules parts.now)) ids.now)) }
 {
@@ -197,7 +197,7 @@ fn first_clash(parts: &[Checked], kind: ConflictKind, ids: &[EntryId]) -> Option
 }
 
 /// The first conflict of a kind behind the first.
-fn later_clash(parts: &[Checked], ids: &[EntryId]) -> Option<Clash>
+fn later_clash(parts: &[Checked], ids: &[EntryId]) -> Option<EntryClash>
     requires { All (IsEntryId parts.now) ids.now }
     ensures { result ≡ option_map told (conflict_among (modules parts.now) (map (seen (modules parts.now)) ids.now) later_kinds) }
 {
@@ -209,7 +209,7 @@ fn later_clash(parts: &[Checked], ids: &[EntryId]) -> Option<Clash>
 }
 
 /// The first conflict among entries of one name, by the kinds in their order.
-fn conflict_among(parts: &[Checked], ids: &[EntryId]) -> Option<Clash>
+fn conflict_among(parts: &[Checked], ids: &[EntryId]) -> Option<EntryClash>
     requires { All (IsEntryId parts.now) ids.now }
     ensures { result ≡ option_map told (conflict_among (modules parts.now) (map (seen (modules parts.now)) ids.now) conflicts.conflict_kinds) }
 {
@@ -217,7 +217,7 @@ fn conflict_among(parts: &[Checked], ids: &[EntryId]) -> Option<Clash>
 }
 
 /// The first conflict of a symbol.
-fn conflict_of(parts: &[Checked], groups: &Groups, symbol: &Symbol) -> Option<Clash>
+fn conflict_of(parts: &[Checked], groups: &Groups, symbol: &Symbol) -> Option<EntryClash>
     requires { AreGroups parts.now groups.now.entries }
     ensures { option_map (told_in symbol.now) result ≡ first (conflicts.conflicts_of (modules parts.now) symbol.now) }
 {

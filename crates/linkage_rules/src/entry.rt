@@ -73,7 +73,7 @@ pub type EntryList = ItemList<EntryId>;
 
 /// What is told of an entry without its names and types.
 #[derive(Clone, Copy)]
-pub struct Head {
+pub struct EntryHead {
     /// Its linkage.
     pub linkage: Linkage,
     /// Whether it has an initialiser or a body, or is an alias.
@@ -96,10 +96,10 @@ pub fn arena_of(parts: &[Checked], part: u64) -> &Arena
     parts[part as usize].arena()
 }
 
-fn variable_head(variable: &Variable) -> Head
+fn variable_head(variable: &Variable) -> EntryHead
     ensures { result ≡ heads.variable_head variable.now }
 {
-    Head {
+    EntryHead {
         linkage: variable.linkage,
         written: variable.initialiser.is_some(),
         variable: true,
@@ -108,10 +108,10 @@ fn variable_head(variable: &Variable) -> Head
     }
 }
 
-fn function_head(function: &Function) -> Head
+fn function_head(function: &Function) -> EntryHead
     ensures { result ≡ heads.function_head function.now }
 {
-    Head {
+    EntryHead {
         linkage: function.linkage,
         written: function.body.is_some(),
         variable: false,
@@ -120,10 +120,10 @@ fn function_head(function: &Function) -> Head
     }
 }
 
-fn alias_head(alias: &Alias) -> Head
+fn alias_head(alias: &Alias) -> EntryHead
     ensures { result ≡ heads.alias_head alias.now }
 {
-    Head {
+    EntryHead {
         linkage: alias.linkage,
         written: true,
         variable: matches!(&alias.ty, AliasType::Plain(_)),
@@ -133,7 +133,7 @@ fn alias_head(alias: &Alias) -> Head
 }
 
 /// What is told of an entry without its names and types.
-pub fn head_of(parts: &[Checked], id: EntryId) -> Head
+pub fn head_of(parts: &[Checked], id: EntryId) -> EntryHead
     requires { IsEntryId parts.now id }
     ensures { result ≡ head_of (seen (modules parts.now) id).global }
 {

@@ -28,6 +28,6 @@ pub use address::FIRST_ADDRESS;
 pub use bindings::{Bindings, resolve_symbols};
 pub use clash::element_of;
 pub use conflict::{ConflictKind, SymbolFault};
-pub use entry::{EntryId, EntryList, Head, arena_of, head_of, is_definition, name};
+pub use entry::{EntryHead, EntryId, EntryList, arena_of, head_of, is_definition, name};
 pub use gather::{all_ids, push_part};
 pub use symbol::{Symbol, SymbolKind, SymbolList};

@@ -7,7 +7,7 @@ use Rattle.module_arena.specs.Module.Operation.{BinaryOperation, Compare, Conver
 use Rattle.module_arena.specs.Renamed.{renamed_operand, renamed_incoming, renamed_operation, renamed_instruction, renamed_ending, renamed_block}
 use Rattle.module_arena.specs.Operations.{operands, ending_operands, callee, local_in}
 use Rattle.module_arena.specs.Functions.{blocks}
-use Rattle.module_arena.specs.Flow.{Flow, Place, flow_of, predecessors, end_of}
+use Rattle.module_arena.specs.Flow.{Flow, FlowPlace, flow_of, predecessors, end_of}
 use Rattle.module_arena.specs.Paths.{IsSurelyDefined}
 use Rattle.module_arena.specs.InstructionRules.{operands_take_no_intrinsic, callee_takes_no_intrinsic, operands_suit, phi_suits}
 use Rattle.module_arena.specs.ValueRules.{have_types_written, operands_fit, callee_fits}
@@ -26,11 +26,11 @@ pub record BlockKept (old new : Module) (globals : Bytes → Bytes) (b : Block) 
 
 -- USES
 
-module _ (names globals : Bytes → Bytes) (flow : Flow) (place : Place) where
-  abbrev at : LocalName → Place × LocalName
+module _ (names globals : Bytes → Bytes) (flow : Flow) (place : FlowPlace) where
+  abbrev at : LocalName → FlowPlace × LocalName
   at name = (place, name)
 
-  abbrev plain_uses : Operation → List (Place × LocalName)
+  abbrev plain_uses : Operation → List (FlowPlace × LocalName)
   plain_uses o = operand_uses place (operands o) ++ map at (flat_map local_in (option_to_list (callee o)))
 
   pub operand_uses_same : (os : List Operand) → operand_uses place (map (renamed_operand names globals) os) ≡ operand_uses place os
@@ -44,7 +44,7 @@ module _ (names globals : Bytes → Bytes) (flow : Flow) (place : Place) where
   incoming_same : (is : List Incoming) → flat_map (incoming_uses flow) (map (renamed_incoming names globals) is) ≡ flat_map (incoming_uses flow) is
   incoming_same [] = refl
   incoming_same (i ∷ is) =
-      ap₂ (λ x y. x ++ y) (ap (map {B = Place × LocalName} (λ name. (end_of flow i.block, name))) (locals_same names globals i.value)) (incoming_same is)
+      ap₂ (λ x y. x ++ y) (ap (map {B = FlowPlace × LocalName} (λ name. (end_of flow i.block, name))) (locals_same names globals i.value)) (incoming_same is)
 
   pub uses_same : (o : Operation) → operation_uses flow place (renamed_operation names globals o) ≡ operation_uses flow place o
   uses_same (Phi ty incoming) = incoming_same incoming
@@ -73,10 +73,10 @@ length_renamed f (x ∷ xs) = ap suc (length_renamed f xs)
 -- DEMANDS
 
 module _ (m n : Module) (names globals : Bytes → Bytes) (keeps : KeepsStructs m.structs n.structs names) (f g : Function) (is : IsRenamed names globals f g) (known : KnownFunction m.structs f) where
-  defined_kept : (d e : Entity) (us vs : List (Place × LocalName)) → vs ≡ us → AllHold (definedness_demands f d us) → AllHold (definedness_demands g e vs)
+  defined_kept : (d e : Entity) (us vs : List (FlowPlace × LocalName)) → vs ≡ us → AllHold (definedness_demands f d us) → AllHold (definedness_demands g e vs)
   defined_kept d e us vs same h = subst (λ l. AllHold (definedness_demands g e l)) (sym same) (go us h)
     where
-      go : (us : List (Place × LocalName)) → AllHold (definedness_demands f d us) → AllHold (definedness_demands g e us)
+      go : (us : List (FlowPlace × LocalName)) → AllHold (definedness_demands f d us) → AllHold (definedness_demands g e us)
       go [] h = tt
       go (u ∷ us) h = (subst (λ (flow : Flow). IsSurelyDefined flow u.0 u.1) (sym (flow_same names globals f g is)) h.0, go us h.1)
 

@@ -9,7 +9,7 @@ use Rattle.module_arena.specs.EntryRules.{is_llvm_name}
 use Rattle.linkage_rules.specs.Lists.{has}
 use Rattle.linkage_rules.specs.declared.symbol.Symbol.{Symbol}
 use Rattle.linkage_rules.specs.declared.symbol.Symbol.TheVariants.{Shared, Local}
-use Rattle.module_linker.specs.Rename.{dotted, least, fresh, new_name, named, base_of}
+use Rattle.module_linker.specs.Rename.{dotted, least, fresh, new_name, with_given_names, base_of}
 use Rattle.linkage_rules.specs.SymbolLaws.{name_self}
 
 -- a byte of a name that begins with another one
@@ -46,7 +46,7 @@ new_name_plain everywhere given n h = go (has bytes_eq given n) refl
     go false e = ap is_llvm_name (cond-false (has bytes_eq given n) (fresh (given ++ everywhere) (base_of n)) n e) ∙ h
 
 -- the name of a local symbol in the linked module
-pub local_plain : (everywhere given : List Bytes) (ss : List Symbol) (k j : ℕ) (n m : Bytes) → slice_get (named base_of everywhere given ss) k ≡ Some (Local j n, m) → is_llvm_name n ≡ false → is_llvm_name m ≡ false
+pub local_plain : (everywhere given : List Bytes) (ss : List Symbol) (k j : ℕ) (n m : Bytes) → slice_get (with_given_names base_of everywhere given ss) k ≡ Some (Local j n, m) → is_llvm_name n ≡ false → is_llvm_name m ≡ false
 local_plain everywhere given [] k j n m at h = cc
 local_plain everywhere given (Shared a ∷ ss) zero j n m at h = let same : Shared a ≡ Local j n = ap (λ r. r.0) (same_Some (Shared a, a) (Local j n, m) at) in cc
 local_plain everywhere given (Local i a ∷ ss) zero j n m at h =

@@ -24,7 +24,7 @@ use Rattle.module_linker.proofs.Apart.{Apart, at_has}
 use Rattle.linkage_rules.specs.SymbolLaws.{symbol_self, symbol_exact}
 use Rattle.module_linker.proofs.Symbols.{all_firsts, symbols_have}
 use Rattle.module_linker.proofs.ByKind.{get_all}
-use Rattle.module_linker.specs.Rename.{dotted, least, fresh, new_name, named, base_of, all_names, shared_names, renaming}
+use Rattle.module_linker.specs.Rename.{dotted, least, fresh, new_name, with_given_names, base_of, all_names, shared_names, renaming}
 use Rattle.module_linker.specs.Structs.{structs_from, struct_symbols, same_struct, struct_map, linked_struct}
 use Rattle.module_linker.specs.Linked.{linked, linked_globals, link_result}
 use Rattle.module_linker.proofs.Merged.{Row, names, linked_name}
@@ -73,7 +73,7 @@ module _ (base : Bytes → Bytes) (base_good : (name : Bytes) → is_name name �
       go (inl t) = ap is_name (cond-true (has bytes_eq given name) (fresh (given ++ everywhere) (base name)) name t) ∙ dotted_good (base name) (least (length (given ++ everywhere)) (given ++ everywhere) (base name) 1) (base_good name h)
       go (inr f) = ap is_name (cond-false (has bytes_eq given name) (fresh (given ++ everywhere) (base name)) name f) ∙ h
 
-  named_good : (given : List Bytes) (ss : List Symbol) → AllByRecursion (λ s. is_name (symbol_name s) ≡ true) ss → AllByRecursion (λ (r : Row). is_name r.1 ≡ true) (named base everywhere given ss)
+  named_good : (given : List Bytes) (ss : List Symbol) → AllByRecursion (λ s. is_name (symbol_name s) ≡ true) ss → AllByRecursion (λ (r : Row). is_name r.1 ≡ true) (with_given_names base everywhere given ss)
   named_good given [] a = tt
   named_good given (Shared n ∷ ss) a = (a.0, named_good given ss a.1)
   named_good given (Local i n ∷ ss) a = (new_good given n a.0, named_good (new_name base everywhere given n ∷ given) ss a.1)

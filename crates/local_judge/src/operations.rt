@@ -17,7 +17,7 @@ use crate::gathered::FunctionLocals;
 use crate::operands::{check_callee, check_local, check_operand, check_operands, check_value};
 use ir_constants::{Type, TypedValue};
 use ir_instructions::{
-    Address, Alloca, Call, Choice, Conversion, Extraction, Incoming, Insertion, Load, Operands,
+    Address, Alloca, Call, CastParts, Choice, Extraction, Incoming, Insertion, Load, Operands,
     Operation, Phi, Signature, Store,
 };
 use name_rules::ResolveFault;
@@ -44,7 +44,7 @@ fn check_conversion(
     alloc: Global,
     known: &Known,
     locals: &FunctionLocals,
-    conversion: &Conversion,
+    conversion: &CastParts,
 ) -> Result<(), ResolveFault>
     requires known { IsKnown known.now }
     requires locals { AreGathered locals.now }

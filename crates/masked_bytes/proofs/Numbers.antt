@@ -1,7 +1,7 @@
 -- Numbers as bytes.
 use Rattle.std.proofs.Common.{◌≡◌, ℕ, zero, suc, ◌+◌, ◌-◌, ◌*◌, ◌/◌, ◌%◌, ◌^◌, ◌<◌, ◌≤◌, List, [], ◌∷◌, length, drop, get_or, map, refl, ap, ◌∙◌, arith, Some, None, Option, drop-cons, add-one, lit≤, pow-add}
 use Rattle.std.proofs.Math.Nat.{pow-le-pow_right, pow-succ'}
-use Rattle.masked_bytes.specs.Masked.{digit, joined, number_of, spelled}
+use Rattle.masked_bytes.specs.Masked.{digit, joined, number_of, number_of_bytes}
 
 -- a shift by bits is a shift by bytes
 shift : (place : ℕ) → 2 ^ (8 * place) ≡ 256 ^ place
@@ -25,14 +25,14 @@ below_all n k h l =
 pub times_fits : (n k : ℕ) → n < 256 ^ k → k + 1 ≤ 16 → n * 256 + 255 < 2 ^ 128
 times_fits n k h l = below_all (n * 256 + 255) (k + 1) (below_more n 255 k (k + 1) h (lit≤ tt) refl) l
 
-pub spelled-step : (bs : List ℕ) (left number : ℕ) → 1 ≤ left → left ≤ length bs → spelled (drop left bs) ≡ number → spelled (drop (left - 1) bs) ≡ number * 256 + get_or bs (left - 1) 0
+pub spelled-step : (bs : List ℕ) (left number : ℕ) → 1 ≤ left → left ≤ length bs → number_of_bytes (drop left bs) ≡ number → number_of_bytes (drop (left - 1) bs) ≡ number * 256 + get_or bs (left - 1) 0
 spelled-step bs left number some within e =
     let next : suc (left - 1) ≡ left = omega arith in
-    let more = ap spelled (drop-cons bs (left - 1) 0 (omega arith)) ∙ ap (λ n. get_or bs (left - 1) 0 + 256 * spelled (drop n bs)) next in
+    let more = ap number_of_bytes (drop-cons bs (left - 1) 0 (omega arith)) ∙ ap (λ n. get_or bs (left - 1) 0 + 256 * number_of_bytes (drop n bs)) next in
     omega (arith, more, e)
 
 -- what no poison is in spells a number
-pub number_of-some : (bs : List ℕ) → number_of (map (λ b. Some b) bs) ≡ Some (spelled bs)
+pub number_of-some : (bs : List ℕ) → number_of (map (λ b. Some b) bs) ≡ Some (number_of_bytes bs)
 number_of-some [] = refl
 number_of-some (b ∷ bs) = ap (λ r. joined (Some b) r) (number_of-some bs)
 

@@ -2,45 +2,45 @@
 use Rattle.std.proofs.Common.{◌≡◌, ℕ, zero, suc, ◌+◌, ◌-◌, ◌<◌, ◌≤◌, List, [], ◌∷◌, ◌++◌, length, take, drop, get_or, map, replicate, refl, sym, ap, ◌∙◌, arith, append_assoc}
 use Rattle.std.specs.Prelude.{slice_range}
 use Rattle.std.proofs.lemmas.List.{length-take-le, length-drop}
-use Rattle.masked_bytes.specs.Masked.{placed, put}
+use Rattle.masked_bytes.specs.Masked.{mapped_with_places, put}
 
-pub length-placed : {X Y : Type 0} (f : ℕ → X → Y) (a : ℕ) (xs : List X) → length (placed f a xs) ≡ length xs
+pub length-placed : {X Y : Type 0} (f : ℕ → X → Y) (a : ℕ) (xs : List X) → length (mapped_with_places f a xs) ≡ length xs
 length-placed f a [] = refl
 length-placed f a (x ∷ xs) = omega (arith, length-placed f (a + 1) xs)
 
-pub placed-append : {X Y : Type 0} (f : ℕ → X → Y) (a : ℕ) (xs ys : List X) → placed f a (xs ++ ys) ≡ placed f a xs ++ placed f (a + length xs) ys
-placed-append f a [] ys = let e : a ≡ a + 0 = omega arith in ap (λ n. placed f n ys) e
+pub placed-append : {X Y : Type 0} (f : ℕ → X → Y) (a : ℕ) (xs ys : List X) → mapped_with_places f a (xs ++ ys) ≡ mapped_with_places f a xs ++ mapped_with_places f (a + length xs) ys
+placed-append f a [] ys = let e : a ≡ a + 0 = omega arith in ap (λ n. mapped_with_places f n ys) e
 placed-append f a (x ∷ xs) ys =
     let e : a + 1 + length xs ≡ a + length (x ∷ xs) = omega arith in
-    ap (λ zs. f a x ∷ zs) (placed-append f (a + 1) xs ys ∙ ap (λ n. placed f (a + 1) xs ++ placed f n ys) e)
+    ap (λ zs. f a x ∷ zs) (placed-append f (a + 1) xs ys ∙ ap (λ n. mapped_with_places f (a + 1) xs ++ mapped_with_places f n ys) e)
 
-pub take-placed : {X Y : Type 0} (f : ℕ → X → Y) (n a : ℕ) (xs : List X) → take n (placed f a xs) ≡ placed f a (take n xs)
+pub take-placed : {X Y : Type 0} (f : ℕ → X → Y) (n a : ℕ) (xs : List X) → take n (mapped_with_places f a xs) ≡ mapped_with_places f a (take n xs)
 take-placed f zero a xs = refl
 take-placed f (suc n) a [] = refl
 take-placed f (suc n) a (x ∷ xs) = ap (λ zs. f a x ∷ zs) (take-placed f n (a + 1) xs)
 
-pub drop-placed : {X Y : Type 0} (f : ℕ → X → Y) (n a : ℕ) (xs : List X) → drop n (placed f a xs) ≡ placed f (a + n) (drop n xs)
-drop-placed f zero a xs = let e : a ≡ a + 0 = omega arith in ap (λ m. placed f m xs) e
+pub drop-placed : {X Y : Type 0} (f : ℕ → X → Y) (n a : ℕ) (xs : List X) → drop n (mapped_with_places f a xs) ≡ mapped_with_places f (a + n) (drop n xs)
+drop-placed f zero a xs = let e : a ≡ a + 0 = omega arith in ap (λ m. mapped_with_places f m xs) e
 drop-placed f (suc n) a [] = refl
 drop-placed f (suc n) a (x ∷ xs) =
     let e : a + 1 + n ≡ a + suc n = omega arith in
-    drop-placed f n (a + 1) xs ∙ ap (λ m. placed f m (drop n xs)) e
+    drop-placed f n (a + 1) xs ∙ ap (λ m. mapped_with_places f m (drop n xs)) e
 
 -- two functions that agree at each place give the same
-pub placed-same : {X Y : Type 0} (f g : ℕ → X → Y) (a b : ℕ) (xs : List X) → ((k : ℕ) (x : X) → k < length xs → f (a + k) x ≡ g (b + k) x) → placed f a xs ≡ placed g b xs
+pub placed-same : {X Y : Type 0} (f g : ℕ → X → Y) (a b : ℕ) (xs : List X) → ((k : ℕ) (x : X) → k < length xs → f (a + k) x ≡ g (b + k) x) → mapped_with_places f a xs ≡ mapped_with_places g b xs
 placed-same f g a b [] same = refl
 placed-same f g a b (x ∷ xs) same =
     let at : a ≡ a + 0 = omega arith in
     let from : b + 0 ≡ b = omega arith in
     let here = ap (λ n. f n x) at ∙ same 0 x (omega arith) ∙ ap (λ n. g n x) from in
-    ap (λ y. y ∷ placed f (a + 1) xs) here
+    ap (λ y. y ∷ mapped_with_places f (a + 1) xs) here
     ∙ ap (λ ys. g b x ∷ ys) (placed-same f g (a + 1) (b + 1) xs (λ k y h.
     let one : a + 1 + k ≡ a + (k + 1) = omega arith in
     let other : b + (k + 1) ≡ b + 1 + k = omega arith in
     ap (λ n. f n y) one ∙ same (k + 1) y (omega (arith, h)) ∙ ap (λ n. g n y) other))
 
 -- the place is not asked
-pub placed-map : {X Y : Type 0} (f : X → Y) (a : ℕ) (xs : List X) → placed (λ k x. f x) a xs ≡ map f xs
+pub placed-map : {X Y : Type 0} (f : X → Y) (a : ℕ) (xs : List X) → mapped_with_places (λ k x. f x) a xs ≡ map f xs
 placed-map f a [] = refl
 placed-map f a (x ∷ xs) = ap (λ ys. f x ∷ ys) (placed-map f (a + 1) xs)
 
@@ -49,47 +49,47 @@ map-const y [] = refl
 map-const y (x ∷ xs) = ap (λ ys. y ∷ ys) (map-const y xs)
 
 -- a range of what is given
-pub range-placed : {X Y : Type 0} (f : ℕ → X → Y) (a from count : ℕ) (xs : List X) → slice_range (placed f a xs) from (from + count) ≡ placed f (a + from) (slice_range xs from (from + count))
+pub range-placed : {X Y : Type 0} (f : ℕ → X → Y) (a from count : ℕ) (xs : List X) → slice_range (mapped_with_places f a xs) from (from + count) ≡ mapped_with_places f (a + from) (slice_range xs from (from + count))
 range-placed f a from count xs =
     let n : from + count - from ≡ count = omega arith in
-    ap (λ m. take m (drop from (placed f a xs))) n
+    ap (λ m. take m (drop from (mapped_with_places f a xs))) n
     ∙ ap (λ ys. take count ys) (drop-placed f from a xs)
     ∙ take-placed f count (a + from) (drop from xs)
-    ∙ ap (λ m. placed f (a + from) (take m (drop from xs))) (sym n)
+    ∙ ap (λ m. mapped_with_places f (a + from) (take m (drop from xs))) (sym n)
 
 regroup : {X : Type 0} (xs ys zs : List X) → (xs ++ ys) ++ zs ≡ xs ++ (ys ++ zs)
 regroup xs ys zs = simp append_assoc
 
 -- elements are put, and elsewhere the functions agree
-pub placed-put : {X Y : Type 0} (f g : ℕ → X → Y) (a at : ℕ) (new xs : List X) → at + length new ≤ length xs → ((k : ℕ) (x : X) → k < at → g (a + k) x ≡ f (a + k) x) → ((k : ℕ) (x : X) → at + length new ≤ k → k < length xs → g (a + k) x ≡ f (a + k) x) → placed g a (put at new xs) ≡ put at (placed g (a + at) new) (placed f a xs)
+pub placed-put : {X Y : Type 0} (f g : ℕ → X → Y) (a at : ℕ) (new xs : List X) → at + length new ≤ length xs → ((k : ℕ) (x : X) → k < at → g (a + k) x ≡ f (a + k) x) → ((k : ℕ) (x : X) → at + length new ≤ k → k < length xs → g (a + k) x ≡ f (a + k) x) → mapped_with_places g a (put at new xs) ≡ put at (mapped_with_places g (a + at) new) (mapped_with_places f a xs)
 placed-put f g a at new xs fits before after =
-    ap (λ ys. placed g a ys) (regroup (take at xs) new (drop (at + length new) xs))
+    ap (λ ys. mapped_with_places g a ys) (regroup (take at xs) new (drop (at + length new) xs))
     ∙ placed-append g a (take at xs) (new ++ drop (at + length new) xs)
-    ∙ ap (λ ys. ys ++ placed g (a + length (take at xs)) (new ++ drop (at + length new) xs)) front
-    ∙ ap (λ n. take at (placed f a xs) ++ placed g (a + n) (new ++ drop (at + length new) xs)) long
-    ∙ ap (λ ys. take at (placed f a xs) ++ ys) (placed-append g (a + at) new (drop (at + length new) xs) ∙ ap (λ ys. placed g (a + at) new ++ ys) back)
-    ∙ sym (regroup (take at (placed f a xs)) (placed g (a + at) new) (drop (at + length (placed g (a + at) new)) (placed f a xs)))
+    ∙ ap (λ ys. ys ++ mapped_with_places g (a + length (take at xs)) (new ++ drop (at + length new) xs)) front
+    ∙ ap (λ n. take at (mapped_with_places f a xs) ++ mapped_with_places g (a + n) (new ++ drop (at + length new) xs)) long
+    ∙ ap (λ ys. take at (mapped_with_places f a xs) ++ ys) (placed-append g (a + at) new (drop (at + length new) xs) ∙ ap (λ ys. mapped_with_places g (a + at) new ++ ys) back)
+    ∙ sym (regroup (take at (mapped_with_places f a xs)) (mapped_with_places g (a + at) new) (drop (at + length (mapped_with_places g (a + at) new)) (mapped_with_places f a xs)))
   where
     long : length (take at xs) ≡ at
     long = length-take-le at xs (omega (arith, fits))
 
-    front : placed g a (take at xs) ≡ take at (placed f a xs)
+    front : mapped_with_places g a (take at xs) ≡ take at (mapped_with_places f a xs)
     front = placed-same g f a a (take at xs) (λ k x h. before k x (omega (arith, h, long))) ∙ sym (take-placed f at a xs)
 
-    rest : placed g (a + at + length new) (drop (at + length new) xs) ≡ placed f (a + (at + length new)) (drop (at + length new) xs)
+    rest : mapped_with_places g (a + at + length new) (drop (at + length new) xs) ≡ mapped_with_places f (a + (at + length new)) (drop (at + length new) xs)
     rest =
         placed-same g f (a + at + length new) (a + (at + length new)) (drop (at + length new) xs) (λ k x h.
         let one : a + at + length new + k ≡ a + (at + length new + k) = omega arith in
         let other : a + (at + length new + k) ≡ a + (at + length new) + k = omega arith in
         ap (λ n. g n x) one ∙ after (at + length new + k) x (omega arith) (omega (arith, h, length-drop (at + length new) xs)) ∙ ap (λ n. f n x) other)
 
-    back : placed g (a + at + length new) (drop (at + length new) xs) ≡ drop (at + length (placed g (a + at) new)) (placed f a xs)
+    back : mapped_with_places g (a + at + length new) (drop (at + length new) xs) ≡ drop (at + length (mapped_with_places g (a + at) new)) (mapped_with_places f a xs)
     back =
         rest
         ∙ sym (drop-placed f (at + length new) a xs)
-        ∙ ap (λ n. drop (at + n) (placed f a xs)) (sym (length-placed g (a + at) new))
+        ∙ ap (λ n. drop (at + n) (mapped_with_places f a xs)) (sym (length-placed g (a + at) new))
 
-pub get_or-placed : {X Y : Type 0} (f : ℕ → X → Y) (a : ℕ) (xs : List X) (k : ℕ) (d : Y) (e : X) → k < length xs → get_or (placed f a xs) k d ≡ f (a + k) (get_or xs k e)
+pub get_or-placed : {X Y : Type 0} (f : ℕ → X → Y) (a : ℕ) (xs : List X) (k : ℕ) (d : Y) (e : X) → k < length xs → get_or (mapped_with_places f a xs) k d ≡ f (a + k) (get_or xs k e)
 get_or-placed f a [] k d e h = absurd (omega (arith, h))
 get_or-placed f a (x ∷ xs) zero d e h = let at : a ≡ a + 0 = omega arith in ap (λ n. f n x) at
 get_or-placed f a (x ∷ xs) (suc k) d e h =

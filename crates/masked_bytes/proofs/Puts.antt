@@ -6,7 +6,7 @@ use Rattle.std.proofs.lemmas.Bool.Decides.{nat_tests}
 use Rattle.std.proofs.lemmas.List.{length-replicate}
 use Rattle.std.proofs.lemmas.List.Edits.{length-between}
 use Rattle.std.proofs.lemmas.List.FromFn.{length-map-range_with_len}
-use Rattle.masked_bytes.specs.Masked.{put, digit, digits, bytes, is_within, is_marked, placed, unless, masked, number_of, spelled}
+use Rattle.masked_bytes.specs.Masked.{put, digit, digits, bytes, is_within, is_marked, mapped_with_places, unless, masked, number_of, number_of_bytes}
 use Rattle.masked_bytes.proofs.Placed.{length-placed, placed-same, placed-map, map-const, range-placed, placed-put, get_or-placed}
 use Rattle.masked_bytes.proofs.Numbers.{number_of-some, number_of-none}
 
@@ -28,7 +28,7 @@ module _ (words marks : List ℕ) (at count : ℕ) (to : ℕ → Bool) (are : Ar
   after k h = are k ∙ grind (arith, nat_tests)
 
 -- bytes are put, with marks of their own
-masked-put : (words marks bs new : List ℕ) (at : ℕ) (to : ℕ → Bool) → at + length new ≤ length bs → AreMarked words marks at (length new) to → masked marks (put at new bs) ≡ put at (placed (λ k b. unless (to k) b) at new) (masked words bs)
+masked-put : (words marks bs new : List ℕ) (at : ℕ) (to : ℕ → Bool) → at + length new ≤ length bs → AreMarked words marks at (length new) to → masked marks (put at new bs) ≡ put at (mapped_with_places (λ k b. unless (to k) b) at new) (masked words bs)
 masked-put words marks bs new at to fits are =
     placed-put (λ k b. unless (is_marked words k) b) (λ k b. unless (is_marked marks k) b) 0 at new bs fits
     (λ k b h. ap (λ t. unless t b) (before words marks at (length new) to are (0 + k) (omega (arith, h))))
@@ -87,7 +87,7 @@ module _ (words bs : List ℕ) (at count : ℕ) (within : at + count ≤ length 
   long_read = let l = length-between bs at (at + count) within in omega (arith, l)
 
   -- what has no mark spells a number
-  pub number-some : ((k : ℕ) → k < count → is_marked words (at + k) ≡ false) → number_of (slice_range (masked words bs) at (at + count)) ≡ Some (spelled (slice_range bs at (at + count)))
+  pub number-some : ((k : ℕ) → k < count → is_marked words (at + k) ≡ false) → number_of (slice_range (masked words bs) at (at + count)) ≡ Some (number_of_bytes (slice_range bs at (at + count)))
   number-some none =
       ap number_of (range-placed (λ k b. unless (is_marked words k) b) 0 at count bs
       ∙ placed-same (λ k b. unless (is_marked words k) b) (λ k b. Some b) (0 + at) at (slice_range bs at (at + count)) (λ k b h.
@@ -103,7 +103,7 @@ module _ (words bs : List ℕ) (at count : ℕ) (within : at + count ≤ length 
       let whole = range-placed (λ j b. unless (is_marked words j) b) 0 at count bs in
       let l = length-placed (λ j b. unless (is_marked words j) b) (0 + at) (slice_range bs at (at + count)) in
       ap number_of whole
-      ∙ number_of-none (placed (λ j b. unless (is_marked words j) b) (0 + at) (slice_range bs at (at + count))) k (omega (arith, h, l, long_read))
+      ∙ number_of-none (mapped_with_places (λ j b. unless (is_marked words j) b) (0 + at) (slice_range bs at (at + count))) k (omega (arith, h, l, long_read))
       (get_or-placed (λ j b. unless (is_marked words j) b) (0 + at) (slice_range bs at (at + count)) k (Some 0) 0 (omega (arith, h, long_read))
       ∙ ap (λ n. unless (is_marked words n) (get_or (slice_range bs at (at + count)) k 0)) e
       ∙ ap (λ t. unless t (get_or (slice_range bs at (at + count)) k 0)) marked)

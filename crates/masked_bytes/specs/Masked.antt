@@ -20,9 +20,9 @@ abbrev pub bytes : ℕ → ℕ → List (Option ℕ)
 bytes count number = map (λ k. Some (digit number k)) (range_with_len 0 count)
 
 -- the number that bytes spell
-abbrev pub spelled : List ℕ → ℕ
-spelled [] = 0
-spelled (b ∷ bs) = b + 256 * spelled bs
+abbrev pub number_of_bytes : List ℕ → ℕ
+number_of_bytes [] = 0
+number_of_bytes (b ∷ bs) = b + 256 * number_of_bytes bs
 
 -- a byte before a number, where neither is poison
 abbrev pub joined : Option ℕ → Option ℕ → Option ℕ
@@ -44,9 +44,9 @@ abbrev pub is_marked : List ℕ → ℕ → Bool
 is_marked words k = nat_eq (bit_at (slice_index_or words (k / 64) 0) (k % 64)) 1
 
 -- what a function gives for each element and its place, the first of which is given
-abbrev pub placed : {X Y : Type 0} → (ℕ → X → Y) → ℕ → List X → List Y
-placed f k [] = []
-placed f k (x ∷ xs) = f k x ∷ placed f (k + 1) xs
+abbrev pub mapped_with_places : {X Y : Type 0} → (ℕ → X → Y) → ℕ → List X → List Y
+mapped_with_places f k [] = []
+mapped_with_places f k (x ∷ xs) = f k x ∷ mapped_with_places f (k + 1) xs
 
 -- poison where there is a mark, else the byte
 abbrev pub unless : Bool → ℕ → Option ℕ
@@ -55,4 +55,4 @@ unless false byte = Some byte
 
 -- bytes under a mask
 abbrev pub masked : List ℕ → List ℕ → List (Option ℕ)
-masked words = placed (λ k byte. unless (is_marked words k) byte) 0
+masked words = mapped_with_places (λ k byte. unless (is_marked words k) byte) 0

@@ -1,6 +1,6 @@
 //! Numbers as bytes, the least first.
 ghost use Rattle.std.specs.Prelude.{◌≡◌, ◌+◌, ◌<◌, ◌≤◌, ◌^◌, length, replicate, slice_range, vec_len};
-ghost use Rattle.masked_bytes.specs.Masked.{put, digit, digits, spelled};
+ghost use Rattle.masked_bytes.specs.Masked.{put, digit, digits, number_of_bytes};
 
 /// The byte at a place of a number, the least first.
 #[inline]
@@ -15,7 +15,7 @@ fn digit(number: u128, place: usize) -> u8
 #[inline(always)]
 pub fn spelled(bytes: &[u8]) -> u128
     requires { length bytes.now ≤ 16 }
-    ensures value { result ≡ spelled bytes.now }
+    ensures value { result ≡ number_of_bytes bytes.now }
     ensures fits { result < 256 ^ length bytes.now }
 {
     match bytes.len() {
@@ -33,7 +33,7 @@ pub fn spelled(bytes: &[u8]) -> u128
 #[inline(never)]
 fn spelled_in_turn(bytes: &[u8]) -> u128
     requires { length bytes.now ≤ 16 }
-    ensures value { result ≡ spelled bytes.now }
+    ensures value { result ≡ number_of_bytes bytes.now }
     ensures fits { result < 256 ^ length bytes.now }
 {
     let mut number = 0;

@@ -5,7 +5,7 @@ use std::str::SplitWhitespace;
 
 /// A call on memory.
 #[derive(Clone, Copy)]
-pub enum Call {
+pub enum MemoryCall {
     /// `add SIZE ALIGN KIND`: makes a block, of a size and an alignment in bytes.
     Add(u64, u32, BlockKind),
     /// `end POINTER KIND`: ends the block of that kind that starts at the pointer.
@@ -26,56 +26,56 @@ pub enum Call {
     Live,
 }
 
-impl Call {
+impl MemoryCall {
     /// The call on the line, if there is one.
     pub fn read(line: &str) -> Option<Self> {
         let mut words = line.split_whitespace();
         let word = words.next()?;
         match word.as_bytes() {
             b"add" => added(&mut words),
-            b"end" => Some(Call::End(scalar(words.next()?)?, kind(words.next()?)?)),
-            b"bounds" => Some(Call::Bounds(pointer(words.next()?)?)),
-            b"seal" => Some(Call::Seal),
+            b"end" => Some(MemoryCall::End(scalar(words.next()?)?, kind(words.next()?)?)),
+            b"bounds" => Some(MemoryCall::Bounds(pointer(words.next()?)?)),
+            b"seal" => Some(MemoryCall::Seal),
             b"load" => loaded(&mut words),
             b"store" => stored(&mut words),
             b"copy" => copied(&mut words),
             b"fill" => filled(&mut words),
-            b"live" => Some(Call::Live),
+            b"live" => Some(MemoryCall::Live),
             _ => None,
         }
     }
 }
 
-fn added(words: &mut SplitWhitespace<'_>) -> Option<Call> {
+fn added(words: &mut SplitWhitespace<'_>) -> Option<MemoryCall> {
     let size = words.next()?.parse::<u64>().ok()?;
     let align = words.next()?.parse::<u32>().ok()?;
-    Some(Call::Add(size, align, kind(words.next()?)?))
+    Some(MemoryCall::Add(size, align, kind(words.next()?)?))
 }
 
-fn loaded(words: &mut SplitWhitespace<'_>) -> Option<Call> {
+fn loaded(words: &mut SplitWhitespace<'_>) -> Option<MemoryCall> {
     let address = scalar(words.next()?)?;
     let leaf = leaf(words.next()?)?;
-    Some(Call::Load(address, leaf, words.next()?.parse::<u32>().ok()?))
+    Some(MemoryCall::Load(address, leaf, words.next()?.parse::<u32>().ok()?))
 }
 
-fn stored(words: &mut SplitWhitespace<'_>) -> Option<Call> {
+fn stored(words: &mut SplitWhitespace<'_>) -> Option<MemoryCall> {
     let address = scalar(words.next()?)?;
     let leaf = leaf(words.next()?)?;
     let align = words.next()?.parse::<u32>().ok()?;
-    Some(Call::Store(address, leaf, align, scalar(words.next()?)?))
+    Some(MemoryCall::Store(address, leaf, align, scalar(words.next()?)?))
 }
 
-fn copied(words: &mut SplitWhitespace<'_>) -> Option<Call> {
+fn copied(words: &mut SplitWhitespace<'_>) -> Option<MemoryCall> {
     let to = scalar(words.next()?)?;
     let from = scalar(words.next()?)?;
     let count = words.next()?.parse::<u64>().ok()?;
-    Some(Call::Copy(to, from, count, words.next()? == "may"))
+    Some(MemoryCall::Copy(to, from, count, words.next()? == "may"))
 }
 
-fn filled(words: &mut SplitWhitespace<'_>) -> Option<Call> {
+fn filled(words: &mut SplitWhitespace<'_>) -> Option<MemoryCall> {
     let to = scalar(words.next()?)?;
     let byte = words.next()?.parse::<u8>().ok()?;
-    Some(Call::Fill(to, byte, words.next()?.parse::<u64>().ok()?))
+    Some(MemoryCall::Fill(to, byte, words.next()?.parse::<u64>().ok()?))
 }
 
 fn kind(word: &str) -> Option<BlockKind> {

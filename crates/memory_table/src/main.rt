@@ -10,7 +10,7 @@ mod answer;
 mod call;
 mod run;
 
-use call::Call;
+use call::MemoryCall;
 use run::Run;
 use std::io;
 
@@ -23,7 +23,7 @@ fn main(rt: HostRuntime) -> io::Result<()> {
             println!(rt; "{line}")?;
             continue;
         }
-        let Some(call) = Call::read(line.as_str()) else {
+        let Some(call) = MemoryCall::read(line.as_str()) else {
             println!(rt; "{line}: no such call")?;
             continue;
         };

@@ -4,7 +4,7 @@ ghost use Rattle.ir_memory.specs.Given.{IsAlignment, IsAddress, HasKnown, IsKnow
 ghost use Rattle.ir_memory.specs.Memory.{byte_limit, first_address};
 
 use crate::answer::Answer;
-use crate::call::Call;
+use crate::call::MemoryCall;
 use ir_eval::{Pointer, Scalar};
 use ir_memory::{BlockKind, Leaf, Memory, MemoryFault};
 use std::alloc::Global;
@@ -31,20 +31,27 @@ impl Run {
     }
 
     /// The answer of a call, which is made where its conditions hold.
-    pub fn answer(&mut self, call: Call) -> Answer {
+    pub fn answer(&mut self, call: MemoryCall) -> Answer {
         match call {
-            Call::Add(size, align, kind) => self.add(size, align, kind),
-            Call::End(pointer, kind) => self.end(pointer, kind),
-            Call::Bounds(pointer) => self.bounds(pointer),
-            Call::Seal => {
+            MemoryCall::Add(size, align, kind) => self.add(size, align, kind),
+            MemoryCall::End(pointer, kind) => self.end(pointer, kind),
+            MemoryCall::Bounds(pointer) => self.bounds(pointer),
+            MemoryCall::Seal => {
                 self.memory.seal_constants();
                 Answer::Done
             }
-            Call::Load(address, leaf, align) => self.load(address, leaf, align),
-            Call::Store(address, leaf, align, value) => self.store(address, leaf, align, value),
-            Call::Copy(to, from, count, may_overlap) => self.copy(to, from, count, may_overlap),
-            Call::Fill(to, byte, count) => self.fill(to, byte, count),
-            Call::Live => Answer::Bytes(self.memory.live_bytes()),
+            MemoryCall::Load(address, leaf, align) => self.load(address, leaf, align),
+            MemoryCall::Store(address, leaf, align, value) => self.store(
+                address, leaf, align, value,
+            ),
+            MemoryCall::Copy(to, from, count, may_overlap) => self.copy(
+                to,
+                from,
+                count,
+                may_overlap,
+            ),
+            MemoryCall::Fill(to, byte, count) => self.fill(to, byte, count),
+            MemoryCall::Live => Answer::Bytes(self.memory.live_bytes()),
         }
     }
 }

@@ -15,7 +15,7 @@ use Rattle.module_arena.specs.Module.Operation.{Phi}
 use Rattle.module_arena.specs.Constants.{fits}
 use Rattle.module_arena.specs.Operations.{operands, ending_operands, callee, local_in}
 use Rattle.module_arena.specs.Functions.{blocks}
-use Rattle.module_arena.specs.Flow.{Flow, Place, flow_of, predecessors, end_of}
+use Rattle.module_arena.specs.Flow.{Flow, FlowPlace, flow_of, predecessors, end_of}
 use Rattle.module_arena.specs.Paths.{IsSurelyDefined, is_surely_defined}
 use Rattle.module_arena.specs.LayoutText.{has_own_layout}
 use Rattle.module_arena.specs.EntryRules.{linkage_suits, is_common, common_variable_suits, is_appending, appending_variable_suits, variable_name_suits, function_name_suits, variable_types_suit, function_types_suit, alignment_suits, alias_names_suit, alias_types_suit, alias_suits, takes_no_intrinsic}
@@ -32,7 +32,7 @@ pub data Entity : Type 0 where
 -- what is asked for: a test to be passed, or a value to be surely defined at a place
 pub data Fact : Type 0 where
   Test : (passes : Bool) → Fact
-  Defined : (flow : Flow) → (place : Place) → (value : LocalName) → Fact
+  Defined : (flow : Flow) → (place : FlowPlace) → (value : LocalName) → Fact
 
 -- the test is passed, or the value surely defined
 abbrev pub Holds : Fact → Type 0
@@ -85,21 +85,21 @@ alias_demands m a =
     ∷ []
 
 -- a local value of a phi, used at the end of its block
-abbrev pub incoming_uses : Flow → Incoming → List (Place × LocalName)
+abbrev pub incoming_uses : Flow → Incoming → List (FlowPlace × LocalName)
 incoming_uses flow i = map (λ name. (end_of flow i.block, name)) (local_in i.value)
 
 -- the local values among operands, used at this place
-abbrev pub operand_uses : Place → List Operand → List (Place × LocalName)
+abbrev pub operand_uses : FlowPlace → List Operand → List (FlowPlace × LocalName)
 operand_uses place os = map (λ name. (place, name)) (flat_map (λ o. local_in o.value) os)
 
 -- the local values that an instruction uses, each with the place of its use: that of a phi is the end of the block that it
 -- comes from
-abbrev pub operation_uses : Flow → Place → Operation → List (Place × LocalName)
+abbrev pub operation_uses : Flow → FlowPlace → Operation → List (FlowPlace × LocalName)
 operation_uses flow place (Phi ty incoming) = flat_map (incoming_uses flow) incoming
 operation_uses flow place o = operand_uses place (operands o) ++ map (λ name. (place, name)) (flat_map local_in (option_to_list (callee o)))
 
 -- each use asks for a sure definition
-abbrev pub definedness_demands : Function → Entity → List (Place × LocalName) → List Demand
+abbrev pub definedness_demands : Function → Entity → List (FlowPlace × LocalName) → List Demand
 definedness_demands f entity uses = map (λ u. record { entity = entity; rule = 10; fact = Defined (flow_of f) u.0 u.1 }) uses
 
 -- a phi suits its place and its edges

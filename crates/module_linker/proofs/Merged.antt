@@ -18,7 +18,7 @@ use Rattle.linkage_rules.specs.declared.symbol.Symbol.TheVariants.{Shared, Local
 use Rattle.linkage_rules.specs.Symbols.{is_alias_symbol, variable_symbols, function_symbols, alias_symbols, symbols}
 use Rattle.linkage_rules.specs.Winner.{definitions, is_definition, home}
 use Rattle.linkage_rules.specs.Bind.{all_extern_weak}
-use Rattle.module_linker.specs.Rename.{new_name, named, shared_names, all_names, base_of, renaming}
+use Rattle.module_linker.specs.Rename.{new_name, with_given_names, shared_names, all_names, base_of, renaming}
 use Rattle.module_linker.specs.Structs.{new_struct}
 use Rattle.module_linker.specs.Linked.{linked_definition, declaration_of_type, linked_declaration, declared_linkage, linked_first, linked_by, linked}
 use Rattle.module_linker.proofs.Apart.{Apart, none_at}
@@ -87,20 +87,20 @@ module _ (base : Bytes → Bytes) (everywhere : List Bytes) where
   given_after given (Shared name ∷ ss) = given_after given ss
   given_after given (Local part name ∷ ss) = given_after (new_name base everywhere given name ∷ given) ss
 
-  pub named_append : (given : List Bytes) (ss ts : List Symbol) → named base everywhere given (ss ++ ts) ≡ named base everywhere given ss ++ named base everywhere (given_after given ss) ts
+  pub named_append : (given : List Bytes) (ss ts : List Symbol) → with_given_names base everywhere given (ss ++ ts) ≡ with_given_names base everywhere given ss ++ with_given_names base everywhere (given_after given ss) ts
   named_append given [] ts = refl
   named_append given (Shared n ∷ ss) ts = ap (λ l. (Shared n, n) ∷ l) (named_append given ss ts)
   named_append given (Local i n ∷ ss) ts = ap (λ l. (Local i n, new_name base everywhere given n) ∷ l) (named_append (new_name base everywhere given n ∷ given) ss ts)
 
 module _ (parts : List Module) where
   abbrev pub variable_rows : List Row
-  variable_rows = named base_of (all_names parts) (shared_names (symbols parts)) (variable_symbols parts)
+  variable_rows = with_given_names base_of (all_names parts) (shared_names (symbols parts)) (variable_symbols parts)
 
   abbrev pub function_rows : List Row
-  function_rows = named base_of (all_names parts) (given_after base_of (all_names parts) (shared_names (symbols parts)) (variable_symbols parts)) (function_symbols parts)
+  function_rows = with_given_names base_of (all_names parts) (given_after base_of (all_names parts) (shared_names (symbols parts)) (variable_symbols parts)) (function_symbols parts)
 
   abbrev pub alias_rows : List Row
-  alias_rows = named base_of (all_names parts) (given_after base_of (all_names parts) (shared_names (symbols parts)) (variable_symbols parts ++ function_symbols parts)) (alias_symbols parts)
+  alias_rows = with_given_names base_of (all_names parts) (given_after base_of (all_names parts) (shared_names (symbols parts)) (variable_symbols parts ++ function_symbols parts)) (alias_symbols parts)
 
   pub renaming_split : renaming parts ≡ variable_rows ++ function_rows ++ alias_rows
   renaming_split =

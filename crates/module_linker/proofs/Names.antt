@@ -13,7 +13,7 @@ use Rattle.linkage_rules.specs.Lists.{has}
 use Rattle.linkage_rules.specs.declared.symbol.Symbol.{Symbol}
 use Rattle.linkage_rules.specs.declared.symbol.Symbol.TheVariants.{Shared, Local}
 use Rattle.linkage_rules.specs.Entries.{same_symbol}
-use Rattle.module_linker.specs.Rename.{dotted, least, fresh, new_name, shared_names, named}
+use Rattle.module_linker.specs.Rename.{dotted, least, fresh, new_name, shared_names, with_given_names}
 use Rattle.module_linker.proofs.Apart.{Apart}
 use Rattle.linkage_rules.specs.SymbolLaws.{name_self, name_exact}
 
@@ -111,13 +111,13 @@ module _ (base : Bytes → Bytes) (everywhere : List Bytes) where
       go false e = rw e e
 
   -- the rows are the symbols, in order
-  pub keys_named : (given : List Bytes) (ss : List Symbol) → map (λ r. r.0) (named base everywhere given ss) ≡ ss
+  pub keys_named : (given : List Bytes) (ss : List Symbol) → map (λ r. r.0) (with_given_names base everywhere given ss) ≡ ss
   keys_named given [] = refl
   keys_named given (Shared n ∷ ss) = ap (λ l. Shared n ∷ l) (keys_named given ss)
   keys_named given (Local i n ∷ ss) = ap (λ l. Local i n ∷ l) (keys_named (new_name base everywhere given n ∷ given) ss)
 
   -- a name that is given already is given to no other symbol
-  named_new : (ss : List Symbol) (given : List Bytes) (n : Bytes) → has bytes_eq given n ≡ true → has bytes_eq (shared_names ss) n ≡ false → has bytes_eq (map (λ r. r.1) (named base everywhere given ss)) n ≡ false
+  named_new : (ss : List Symbol) (given : List Bytes) (n : Bytes) → has bytes_eq given n ≡ true → has bytes_eq (shared_names ss) n ≡ false → has bytes_eq (map (λ r. r.1) (with_given_names base everywhere given ss)) n ≡ false
   named_new [] given n t g = refl
   named_new (Shared m ∷ ss) given n t g =
       let parts = or_parts (bytes_eq n m) _ g in
@@ -128,7 +128,7 @@ module _ (base : Bytes → Bytes) (everywhere : List Bytes) where
       or_from (bytes_eq n new) _ differs (named_new ss (new ∷ given) n (or_right _ _ t) g)
 
   -- no two symbols have one name in the result
-  pub names_apart : (ss : List Symbol) (given : List Bytes) → Apart same_symbol ss → ((n : Bytes) → has bytes_eq (shared_names ss) n ≡ true → has bytes_eq given n ≡ true) → Apart bytes_eq (map (λ r. r.1) (named base everywhere given ss))
+  pub names_apart : (ss : List Symbol) (given : List Bytes) → Apart same_symbol ss → ((n : Bytes) → has bytes_eq (shared_names ss) n ≡ true → has bytes_eq given n ≡ true) → Apart bytes_eq (map (λ r. r.1) (with_given_names base everywhere given ss))
   names_apart [] given a inc = tt
   names_apart (Shared n ∷ ss) given a inc =
       (named_new ss given n (inc n (or_left _ _ (name_self n))) (shared_has ss n ∙ a.0), names_apart ss given a.1 (λ m h. inc m (or_right _ _ h)))
@@ -138,7 +138,7 @@ module _ (base : Bytes → Bytes) (everywhere : List Bytes) where
       (named_new ss (new ∷ given) new (or_left _ _ (name_self new)) not_shared, names_apart ss (new ∷ given) a.1 (λ m h. or_right _ _ (inc m h)))
 
   -- a shared name stays
-  pub shared_stays : (given : List Bytes) (ss : List Symbol) (k : ℕ) (n m : Bytes) → slice_get (named base everywhere given ss) k ≡ Some (Shared n, m) → m ≡ n
+  pub shared_stays : (given : List Bytes) (ss : List Symbol) (k : ℕ) (n m : Bytes) → slice_get (with_given_names base everywhere given ss) k ≡ Some (Shared n, m) → m ≡ n
   shared_stays given [] k n m h = cc
   shared_stays given (Shared a ∷ ss) zero n m h =
       let e = same_Some (Shared a, a) (Shared n, m) h in

@@ -9,7 +9,7 @@ use Rattle.linkage_rules.specs.Entries.{entries, same_symbol, symbol_of, symbol_
 use Rattle.linkage_rules.specs.declared.symbol.Symbol.{Symbol}
 use Rattle.linkage_rules.specs.declared.symbol.Symbol.TheVariants.{Shared, Local}
 use Rattle.linkage_rules.specs.Symbols.{symbols}
-use Rattle.module_linker.specs.Rename.{new_name, named, shared_names, all_names, base_of, renaming, name_or, new_global}
+use Rattle.module_linker.specs.Rename.{new_name, with_given_names, shared_names, all_names, base_of, renaming, name_or, new_global}
 use Rattle.module_linker.specs.Structs.{struct_symbols, same_struct, struct_map, new_struct}
 use Rattle.module_linker.proofs.Apart.{Apart, all_left}
 use Rattle.linkage_rules.specs.SymbolLaws.{name_self, name_exact, symbol_exact}
@@ -35,12 +35,12 @@ still_free given n (Local i m ∷ ss) h a =
     (or_from (bytes_eq m n) _ (other_way n m halves.0) a.0, still_free given n ss halves.1 a.1)
 
 -- where no name is taken each symbol keeps its own
-pub names_stay : (base : Bytes → Bytes) (everywhere given : List Bytes) (ss : List Symbol) → Apart bytes_eq (map symbol_name ss) → AllByRecursion (IsFree given) ss → named base everywhere given ss ≡ map self_named ss
+pub names_stay : (base : Bytes → Bytes) (everywhere given : List Bytes) (ss : List Symbol) → Apart bytes_eq (map symbol_name ss) → AllByRecursion (IsFree given) ss → with_given_names base everywhere given ss ≡ map self_named ss
 names_stay base everywhere given [] p a = refl
 names_stay base everywhere given (Shared n ∷ ss) p a = ap (λ l. (Shared n, n) ∷ l) (names_stay base everywhere given ss p.1 a.1)
 names_stay base everywhere given (Local i n ∷ ss) p a =
     let same : new_name base everywhere given n ≡ n = cond-false (has bytes_eq given n) _ _ a.0 in
-    ap (λ m. (Local i n, m) ∷ named base everywhere (m ∷ given) ss) same
+    ap (λ m. (Local i n, m) ∷ with_given_names base everywhere (m ∷ given) ss) same
     ∙ ap (λ l. (Local i n, n) ∷ l) (names_stay base everywhere (n ∷ given) ss p.1 (still_free given n ss p.0 a.1))
 
 -- a name that no symbol has is no shared one's
@@ -100,7 +100,7 @@ module _ (parts : List Module) where
 
     pub own_structs : struct_map parts ≡ map self_named (struct_symbols parts)
     own_structs =
-        ap (named (λ name. name) (map symbol_name (struct_symbols parts)) []) (structs_apart (struct_symbols parts) p)
+        ap (with_given_names (λ name. name) (map symbol_name (struct_symbols parts)) []) (structs_apart (struct_symbols parts) p)
         ∙ names_stay (λ name. name) (map symbol_name (struct_symbols parts)) [] (struct_symbols parts) p (free_again (struct_symbols parts))
 
     pub own_struct : (i : ℕ) (name : Bytes) → new_struct parts i name ≡ name

@@ -30,10 +30,10 @@ module _ (base : Bytes → Bytes) (everywhere : List Bytes) where
   new_name given name = if has bytes_eq given name then fresh (given ++ everywhere) (base name) else name
 
   -- each symbol with its name in the result, where these names are given
-  abbrev pub named : List Bytes → List Symbol → List (Symbol × Bytes)
-  named given [] = []
-  named given (Shared name ∷ ss) = (Shared name, name) ∷ named given ss
-  named given (Local part name ∷ ss) = (Local part name, new_name given name) ∷ named (new_name given name ∷ given) ss
+  abbrev pub with_given_names : List Bytes → List Symbol → List (Symbol × Bytes)
+  with_given_names given [] = []
+  with_given_names given (Shared name ∷ ss) = (Shared name, name) ∷ with_given_names given ss
+  with_given_names given (Local part name ∷ ss) = (Local part name, new_name given name) ∷ with_given_names (new_name given name ∷ given) ss
 
 -- the names that all parts share
 abbrev pub shared_names : List Symbol → List Bytes
@@ -51,7 +51,7 @@ base_of name = if bytes_eq name (codes "llvm") then codes "llvm_" else name
 
 -- each symbol, in order, with its name in the result
 abbrev pub renaming : List Module → List (Symbol × Bytes)
-renaming parts = named base_of (all_names parts) (shared_names (symbols parts)) (symbols parts)
+renaming parts = with_given_names base_of (all_names parts) (shared_names (symbols parts)) (symbols parts)
 
 -- the new name, or the old one where there is none
 abbrev pub name_or : Bytes → Option Bytes → Bytes

@@ -39,7 +39,7 @@ same_struct parts s t = bytes_eq (symbol_name s) (symbol_name t) && alike (shape
 
 -- each struct of the result, in order, with its name there: its own where that is free
 abbrev pub struct_map : List Module → List (Symbol × Bytes)
-struct_map parts = rename.named (λ name. name) (map symbol_name (struct_symbols parts)) [] (firsts (same_struct parts) (struct_symbols parts))
+struct_map parts = rename.with_given_names (λ name. name) (map symbol_name (struct_symbols parts)) [] (firsts (same_struct parts) (struct_symbols parts))
 
 -- what a struct of part i is called in the result
 abbrev pub new_struct : List Module → ℕ → Bytes → Bytes

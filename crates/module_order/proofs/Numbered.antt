@@ -3,7 +3,7 @@ use Rattle.std.proofs.Common.{◌≡◌, ℕ, suc, Bool, true, false, not, ◌&&
 use Rattle.std.specs.Prelude.{Err}
 use Rattle.record_table.specs.Faults.{Answer, BadVersion, also}
 use Rattle.record_table.specs.Fields.{Texts}
-use Rattle.record_table.specs.Records.{Sofar, is_version, placed, version_record}
+use Rattle.record_table.specs.Records.{Sofar, is_version, record_at_place, version_record}
 use Rattle.record_table.specs.Walk.{Walk, going, next, told}
 use Rattle.record_read.specs.Reader.{Reader, TakesBy, also_asked}
 use Rattle.module_order.specs.Order.{IsAlone, IsNoNumber, IsOnly, StandsBehind}
@@ -76,8 +76,8 @@ abbrev is_strange : Sofar → ℕ → Bool
 is_strange s number = nat_eq s.last 0 && not (is_version number)
 
 by_strange : (s : Sofar) (number : ℕ) (b : Bool) → is_strange s number ≡ b
-    → version_record s (number ∷ []) ≡ cond {A = Answer Sofar} b (Err (BadVersion number)) (placed s 1 (also 5 (nat_eq number s.texts.version) None) s)
-by_strange s number b e = ap (λ c. cond {A = Answer Sofar} c (Err (BadVersion number)) (placed s 1 (also 5 (nat_eq number s.texts.version) None) s)) e
+    → version_record s (number ∷ []) ≡ cond {A = Answer Sofar} b (Err (BadVersion number)) (record_at_place s 1 (also 5 (nat_eq number s.texts.version) None) s)
+by_strange s number b e = ap (λ c. cond {A = Answer Sofar} c (Err (BadVersion number)) (record_at_place s 1 (also 5 (nat_eq number s.texts.version) None) s)) e
 
 strange_is : (s : Sofar) (last number : ℕ) (b : Bool) → s.last ≡ last → (nat_eq last 0 && not (is_version number)) ≡ b → is_strange s number ≡ b
 strange_is s last number b same e = ap (λ n. nat_eq n 0 && not (is_version number)) same ∙ e
@@ -85,7 +85,7 @@ strange_is s last number b same e = ap (λ n. nat_eq n 0 && not (is_version numb
 pub version_strange : (s : Sofar) (last number : ℕ) → s.last ≡ last → (nat_eq last 0 && not (is_version number)) ≡ true → version_record s (number ∷ []) ≡ Err (BadVersion number)
 version_strange s last number same e = by_strange s number true (strange_is s last number true same e)
 
-pub version_known : (s : Sofar) (last number : ℕ) → s.last ≡ last → (nat_eq last 0 && not (is_version number)) ≡ false → version_record s (number ∷ []) ≡ placed s 1 (also 5 (nat_eq number s.texts.version) None) s
+pub version_known : (s : Sofar) (last number : ℕ) → s.last ≡ last → (nat_eq last 0 && not (is_version number)) ≡ false → version_record s (number ∷ []) ≡ record_at_place s 1 (also 5 (nat_eq number s.texts.version) None) s
 version_known s last number same e = by_strange s number false (strange_is s last number false same e)
 
 pub number_told : (s : Sofar) (t : Texts) (last number : ℕ) (is : Bool) (old mid : Reader) → StandsBehind t last old s [] → is ≡ nat_eq number t.version → mid ≡ record old { walk = also_asked 5 is old.walk }
@@ -101,7 +101,7 @@ without_told s t last left old mid b also_is = ap (λ (x : Reader). told x.walk)
     by [] = refl
     by (n ∷ left) = refl
 
-pub without_number : (s : Sofar) (operands : List ℕ) → IsNoNumber operands → version_record s operands ≡ placed s 1 (Some 1) s
+pub without_number : (s : Sofar) (operands : List ℕ) → IsNoNumber operands → version_record s operands ≡ record_at_place s 1 (Some 1) s
 unfolding next
 without_number s [] h = refl
 without_number s (n ∷ []) h = absurd h

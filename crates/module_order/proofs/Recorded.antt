@@ -3,7 +3,7 @@ use Rattle.std.proofs.Common.{◌≡◌, ℕ, suc, Bool, true, false, Option, So
 use Rattle.std.specs.Prelude.{Result, Ok, Err}
 use Rattle.module_arena.specs.Module.{Bytes}
 use Rattle.record_table.specs.Faults.{Answer, also, unless_broken}
-use Rattle.record_table.specs.Records.{Sofar, may_follow, placed}
+use Rattle.record_table.specs.Records.{Sofar, may_follow, record_at_place}
 use Rattle.record_table.specs.Walk.{Walk, going, stopped, told}
 use Rattle.record_read.specs.declared.fault.BitcodeFault.{BitcodeFault}
 use Rattle.record_read.specs.Faults.{Answers, Finishes}
@@ -26,7 +26,7 @@ stays_one a b w is = record { spent = ap (λ (r : Reader). r.spent) is; left = a
 -- a part that is ended answers as it is placed
 pub part_ended : (s after : Sofar) (old r : Reader) (holds : Bool) (last place : ℕ) (broken : Option ℕ) (result : Result (Unit {0}) BitcodeFault) → s.last ≡ last → old.at ≡ suc s.at → told old.walk ≡ broken
     → holds ≡ may_follow last place → r ≡ record old { walk = also_asked 5 holds old.walk } → Finishes 8 r result
-    → Answers {A = Sofar} {B = Unit {0}} (λ done t. t ≡ record after { at = suc s.at; last = place }) (placed s place broken after) result
+    → Answers {A = Sofar} {B = Unit {0}} (λ done t. t ≡ record after { at = suc s.at; last = place }) (record_at_place s place broken after) result
 part_ended s after old r holds last place broken result same at is may also_is f =
     let value : Sofar = record after { at = suc s.at; last = place } in
     let rules = also 5 (may_follow s.last place) broken in

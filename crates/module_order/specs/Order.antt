@@ -1,14 +1,14 @@
--- For `Part`, `read_version` and `read_module_text`: the order of a module's block, and its records of texts.
+-- For `ModulePart`, `read_version` and `read_module_text`: the order of a module's block, and its records of texts.
 use Rattle.std.specs.Prelude.{◌≡◌, ℕ, suc, List, [], ◌∷◌, Option, Some, None}
 use Rattle.record_table.specs.Fields.{Texts}
 use Rattle.record_table.specs.Records as records
 use Rattle.record_table.specs.Walk.{Walk, going}
 use Rattle.record_read.specs.Reader.{Reader}
-use Rattle.module_order.specs.declared.part.Part.{Part}
-use Rattle.module_order.specs.declared.part.Part.TheVariants as part
+use Rattle.module_order.specs.declared.part.ModulePart.{ModulePart}
+use Rattle.module_order.specs.declared.part.ModulePart.TheVariants as part
 
 -- the places of the order
-abbrev pub place_of : Part → ℕ
+abbrev pub place_of : ModulePart → ℕ
 place_of part.Version = 1
 place_of part.Source = 2
 place_of part.Layout = 3

@@ -5,9 +5,9 @@
 //! that a block is over exactly where nothing of it is missing. Definitions: `Records` of `record_table`, and `specs/`.
 //!
 //! ```
-//! Part::Version.place() // 1
-//! Part::Version.may_follow(0) // true: it stands first
-//! Part::Source.may_follow(0) // false
+//! ModulePart::Version.place() // 1
+//! ModulePart::Version.may_follow(0) // true: it stands first
+//! ModulePart::Source.may_follow(0) // false
 //! next_due(&[true, false, true], 1) // Some(2): the body of function 0 came, and function 1 has none
 //! ```
 #![tactic(auto)]
@@ -20,6 +20,6 @@ mod version;
 
 pub use due::next_due;
 pub use ending::expect_whole;
-pub use part::Part;
+pub use part::ModulePart;
 pub use text::read_module_text;
 pub use version::read_version;

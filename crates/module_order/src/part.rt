@@ -10,7 +10,7 @@ use record_table::MODULE_BLOCK;
 
 /// What stands in the block of a module, in its order. The first five stand there at most once.
 #[derive(Clone, Copy)]
-pub enum Part {
+pub enum ModulePart {
     /// The version of the record table.
     Version,
     /// The name of the source.
@@ -31,21 +31,21 @@ pub enum Part {
     Body,
 }
 
-impl Part {
+impl ModulePart {
     /// The part's place, counted from 1.
     pub fn place(self) -> u8
         ensures { result ≡ place_of self }
     {
         match self {
-            Part::Version => 1,
-            Part::Source => 2,
-            Part::Layout => 3,
-            Part::Triple => 4,
-            Part::Types => 5,
-            Part::Variable => 6,
-            Part::Function => 7,
-            Part::Alias => 8,
-            Part::Body => 9,
+            ModulePart::Version => 1,
+            ModulePart::Source => 2,
+            ModulePart::Layout => 3,
+            ModulePart::Triple => 4,
+            ModulePart::Types => 5,
+            ModulePart::Variable => 6,
+            ModulePart::Function => 7,
+            ModulePart::Alias => 8,
+            ModulePart::Body => 9,
         }
     }
 
@@ -55,15 +55,15 @@ impl Part {
         ensures { result ≡ records.may_follow last (place_of self) }
     {
         match self {
-            Part::Version => last == 0,
-            Part::Source => is_in_front(last, 2),
-            Part::Layout => is_in_front(last, 3),
-            Part::Triple => is_in_front(last, 4),
-            Part::Types => is_in_front(last, 5),
-            Part::Variable => is_behind(last, 6),
-            Part::Function => is_behind(last, 7),
-            Part::Alias => is_behind(last, 8),
-            Part::Body => is_behind(last, 9),
+            ModulePart::Version => last == 0,
+            ModulePart::Source => is_in_front(last, 2),
+            ModulePart::Layout => is_in_front(last, 3),
+            ModulePart::Triple => is_in_front(last, 4),
+            ModulePart::Types => is_in_front(last, 5),
+            ModulePart::Variable => is_behind(last, 6),
+            ModulePart::Function => is_behind(last, 7),
+            ModulePart::Alias => is_behind(last, 8),
+            ModulePart::Body => is_behind(last, 9),
         }
     }
 }
@@ -87,12 +87,12 @@ fn is_behind(last: u8, place: u8) -> bool
 pub(crate) fn end_part(
     reader: &mut RecordReader<'_>,
     last: u8,
-    part: Part,
+    part: ModulePart,
 ) -> Result<(), BitcodeFault>
     requires { 0 < reader.old.at }
     ensures stays { IsBehindRecord reader.old reader.new }
     ensures answers { (s after : records.Sofar) (broken : Option ℕ) → s.last ≡ last → reader.old.at ≡ suc s.at → told reader.old.walk ≡ broken
-        → Answers (λ done t. t ≡ record after { at = suc s.at; last = place_of part }) (records.placed s (place_of part) broken after) result }
+        → Answers (λ done t. t ≡ record after { at = suc s.at; last = place_of part }) (records.record_at_place s (place_of part) broken after) result }
 {
     reader.also(5, part.may_follow(last));
     reader.finish(MODULE_BLOCK)

@@ -5,7 +5,7 @@ ghost use Rattle.record_read.specs.Faults.{Answers};
 ghost use Rattle.record_read.specs.Fields.{texts_of};
 ghost use Rattle.module_order.specs.Order.{IsBehindRecord, StandsBehind, place_of};
 
-use crate::part::{Part, end_part};
+use crate::part::{ModulePart, end_part};
 use ir_base::Text;
 use record_read::{BitcodeFault, RecordReader, Texts, read_last};
 use std::alloc::Global;
@@ -17,7 +17,7 @@ pub fn read_module_text(
     alloc: Global,
     texts: &Texts,
     last: u8,
-    part: Part,
+    part: ModulePart,
 ) -> Result<Option<Text>, BitcodeFault>
     requires { 0 < reader.old.at }
     ensures stays { OnOk result (IsBehindRecord reader.old reader.new) }

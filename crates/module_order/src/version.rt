@@ -6,7 +6,7 @@ ghost use Rattle.record_read.specs.Faults.{Answers};
 ghost use Rattle.record_read.specs.Fields.{texts_of};
 ghost use Rattle.module_order.specs.Order.{IsAlone, IsBehindRecord, IsNoNumber, IsOnly, StandsBehind};
 
-use crate::part::{Part, end_part};
+use crate::part::{ModulePart, end_part};
 use record_read::{BitcodeFault, RecordReader, Texts};
 
 /// The version of the record table in which texts stand so.
@@ -77,7 +77,7 @@ fn end_number(
         return Err(BitcodeFault::BadVersion(number));
     }
     reader.also(5, is_version_of(texts, number));
-    end_part(reader, last, Part::Version)
+    end_part(reader, last, ModulePart::Version)
 }
 
 /// Ends the record of the version, which has no operand, or more than one: rule 1.
@@ -87,7 +87,7 @@ fn end_without(reader: &mut RecordReader<'_>, last: u8) -> Result<(), BitcodeFau
     ensures answers { (s : records.Sofar) (operands left : List ℕ) → IsNoNumber operands → StandsBehind s.texts last reader.old s left → Answers (λ done t. t ≡ record s { at = suc s.at; last = 1 }) (records.version_record s operands) result }
 {
     reader.also(1, false);
-    end_part(reader, last, Part::Version)
+    end_part(reader, last, ModulePart::Version)
 }
 
 /// Reads the record of the version, behind what stands at the place `last`. A version that there is not, where it comes

@@ -9,7 +9,7 @@ use Rattle.ir_syntax.specs.Tree.{ItemTree, SourceFilename, DataLayout, TargetTri
 use Rattle.ir_syntax.specs.View.{item_view, items_view}
 use Rattle.ir_syntax.specs.Counts.{counted, item_count}
 use Rattle.name_rules.specs.ModuleOf.{struct_in, variable_in, function_in, alias_in}
-use Rattle.name_judge.specs.declared.counts.Counts.{Counts}
+use Rattle.name_judge.specs.declared.counts.ItemCounts.{ItemCounts}
 use Rattle.name_judge.specs.Counting.{AreCounts}
 
 -- no more are kept than there are
@@ -40,7 +40,7 @@ one_more f front item whole old new w o e =
     ∙ sym (ap (λ xs. length (filter_map f xs)) w)
 
 -- one item more
-pub counts_more : (front : List ItemTree) (item : ItemTree) (whole : List ItemTree) (old new : Counts) → whole ≡ front ++ item ∷ [] → AreCounts old front
+pub counts_more : (front : List ItemTree) (item : ItemTree) (whole : List ItemTree) (old new : ItemCounts) → whole ≡ front ++ item ∷ [] → AreCounts old front
     → new.structs ≡ old.structs + length (filter_map struct_in (item ∷ []))
     → new.variables ≡ old.variables + length (filter_map variable_in (item ∷ []))
     → new.functions ≡ old.functions + length (filter_map function_in (item ∷ []))

@@ -17,7 +17,7 @@ const MOST: u64 = COUNT_LIMIT as u64;
 
 /// How many there are of each kind.
 #[derive(Clone, Copy)]
-pub(crate) struct Counts {
+pub(crate) struct ItemCounts {
     structs: u64,
     variables: u64,
     functions: u64,
@@ -25,7 +25,7 @@ pub(crate) struct Counts {
 }
 
 /// One item more.
-fn with_item(counts: Counts, item: &Item) -> Counts
+fn with_item(counts: ItemCounts, item: &Item) -> ItemCounts
     requires structs { counts.structs < 2 ^ 63 }
     requires variables { counts.variables < 2 ^ 63 }
     requires functions { counts.functions < 2 ^ 63 }
@@ -51,11 +51,11 @@ fn with_item(counts: Counts, item: &Item) -> Counts
 }
 
 /// How many there are of each kind among these items.
-fn counts_of(items: &Items) -> Counts
+fn counts_of(items: &Items) -> ItemCounts
     requires few { length (items_view items.now) ≤ 2 ^ 24 }
     ensures { AreCounts result (items_view items.now) }
 {
-    let mut counts = Counts {
+    let mut counts = ItemCounts {
         structs: 0,
         variables: 0,
         functions: 0,

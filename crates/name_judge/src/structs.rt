@@ -16,7 +16,7 @@ ghost use Rattle.name_judge.specs.Seen.{AreFirst};
 use crate::seen::check_new;
 use ir_base::Place;
 use ir_constants::Type;
-use ir_syntax::StructBody;
+use ir_syntax::WrittenBody;
 use ir_terminals::{CompactName, PlacedName};
 use name_rules::ResolveFault;
 use name_table::NameTable;
@@ -60,12 +60,12 @@ fn check_ends(
 }
 
 /// The types in the braces of a struct.
-fn fields_of(body: &StructBody) -> &[Type]
+fn fields_of(body: &WrittenBody) -> &[Type]
     ensures { (known : demands.Known) → types (map type_view result.now) ≡ body_types known (body_view body.now) }
 {
     match body {
-        StructBody::Opaque => &[],
-        StructBody::Plain(fields) | StructBody::Packed(fields) => fields,
+        WrittenBody::Opaque => &[],
+        WrittenBody::Plain(fields) | WrittenBody::Packed(fields) => fields,
     }
 }
 
@@ -75,7 +75,7 @@ fn check_body(
     known: &Known,
     mentions: &StructMentions,
     name: &PlacedName,
-    body: &StructBody,
+    body: &WrittenBody,
 ) -> Result<(), ResolveFault>
     requires known { IsKnown known.now }
     requires mentions { AreMentions mentions.now }
@@ -97,7 +97,7 @@ pub(crate) fn check_struct<'a>(
     mentions: &StructMentions,
     structs: &mut NameTable<'a, Place>,
     name: &'a PlacedName,
-    body: &StructBody,
+    body: &WrittenBody,
 ) -> Result<(), ResolveFault>
     requires known { IsKnown known.now }
     requires mentions { AreMentions mentions.now }

@@ -11,5 +11,5 @@ pub mod Within
 pub mod Fine
 pub mod Below
 mod Identifiers
-mod FromText
+mod WorkedRows
 mod Modules

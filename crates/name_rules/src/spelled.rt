@@ -3,7 +3,7 @@ ghost use Rattle.std.specs.Prelude.{◌≡◌, ◌∷◌, ◌++◌, ◌<◌, IfO
 ghost use Rattle.ir_lexer.specs.Class.{byte_class, starts_name, in_name};
 ghost use Rattle.ir_lexer.specs.Form.{each};
 ghost use Rattle.name_rules.specs.Locals.{local_in};
-ghost use Rattle.name_rules.specs.Spelled.{decimal, hexadecimal, is_plain, quoted_byte, is_identifier, spelled, spelled_global, spelled_struct, spelled_local};
+ghost use Rattle.name_rules.specs.Spelled.{decimal, hexadecimal, is_plain, quoted_byte, is_identifier, name_spelling, spelled_global, spelled_struct, spelled_local};
 
 use ir_base::Text;
 use ir_terminals::{Local, Number};
@@ -84,7 +84,7 @@ fn put_quoted_byte(text: &mut Text, byte: u8) -> Result<(), AllocError>
 
 /// Adds a name, in quotes where it is no identifier.
 fn put_name(text: &mut Text, name: &[u8]) -> Result<(), AllocError>
-    ensures { OnOk result (text.new ≡ text.old ++ spelled name.now) }
+    ensures { OnOk result (text.new ≡ text.old ++ name_spelling name.now) }
 {
     if is_identifier(name) {
         return text.extend(name);
@@ -98,7 +98,7 @@ fn put_name(text: &mut Text, name: &[u8]) -> Result<(), AllocError>
 
 /// A name behind a mark.
 fn marked(alloc: Global, mark: u8, name: &[u8]) -> Result<Text, AllocError>
-    ensures { IfOk result (λ text. text ≡ mark ∷ spelled name.now) }
+    ensures { IfOk result (λ text. text ≡ mark ∷ name_spelling name.now) }
 {
     let mut text = Text::new(alloc);
     text.push(mark)?;

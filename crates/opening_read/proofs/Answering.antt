@@ -3,7 +3,7 @@ use Rattle.std.proofs.Common.{◌≡◌, ◌-◌, ℕ, suc, min, Bool, true, fal
 use Rattle.std.specs.Prelude.{Result, Ok, Err}
 use Rattle.record_table.specs.Walk.{Walk, going, stopped, least, told}
 use Rattle.record_table.specs.Faults.{Answer, BadRecord, RecordFault, Records, UnknownRecord, also, is_block_id, misplaced, unless_broken}
-use Rattle.record_read.specs.declared.entry.Entry.{Entry}
+use Rattle.record_read.specs.declared.entry.NextEntry.{NextEntry}
 use Rattle.record_read.specs.declared.fault.BitcodeFault.{BitcodeFault}
 use Rattle.record_read.specs.declared.fault.BitcodeFault.TheVariants as fault
 use Rattle.record_read.specs.Entries.{Gives, IsBefore, IsNearer}
@@ -12,10 +12,10 @@ use Rattle.record_read.specs.Reader.{Reader, also_asked}
 use Rattle.bit_tree.specs.Pieces.{Piece}
 
 -- an entry was given, with what is left
-abbrev pub Gone : Reader → Entry → Reader → Type 0
+abbrev pub Gone : Reader → NextEntry → Reader → Type 0
 Gone old entry new = (new.spent ≡ false) × IsNearer entry old.left new.left × ((all : Records) (others : List Piece) → IsBefore old.left all others → Gives all old entry new others)
 
-pub gone : (old new : Reader) (given entry : Entry) → Gone old given new → given ≡ entry → Gone old entry new
+pub gone : (old new : Reader) (given entry : NextEntry) → Gone old given new → given ≡ entry → Gone old entry new
 gone old new given entry h is = subst (λ x. Gone old x new) is h
 
 -- a refusal of records

@@ -7,8 +7,8 @@ use Rattle.record_table.specs.Fields.{byte}
 use Rattle.record_table.specs.Layout.{judged, many, times}
 use Rattle.record_table.specs.Records.{is_ours, producer, producer_from}
 use Rattle.record_table.specs.Walk.{going, told}
-use Rattle.record_read.specs.declared.entry.Entry.{Entry}
-use Rattle.record_read.specs.declared.entry.Entry.TheVariants.{Block, Record, End}
+use Rattle.record_read.specs.declared.entry.NextEntry.{NextEntry}
+use Rattle.record_read.specs.declared.entry.NextEntry.TheVariants.{Block, Record, End}
 use Rattle.record_read.specs.declared.fault.BitcodeFault.{BitcodeFault}
 use Rattle.record_read.specs.declared.fault.BitcodeFault.TheVariants as fault
 use Rattle.record_read.specs.Entries.{Gives, IsBefore}
@@ -144,7 +144,7 @@ front_missing inside others first r now block h gives = by_rest h.rest h.ours h.
 -- ---- the whole block
 
 -- the first entry is no block of the producer
-pub foreign_entry : (all : Records) (old now : Reader) (given : Entry) → Gives all old given now [] → is_producer_block given ≡ false → producer_of all ≡ Err ForeignProducer
+pub foreign_entry : (all : Records) (old now : Reader) (given : NextEntry) → Gives all old given now [] → is_producer_block given ≡ false → producer_of all ≡ Err ForeignProducer
 foreign_entry no_more old now given g other = refl
 foreign_entry (a_record code operands behind) old now given g other = refl
 foreign_entry (a_block id inside behind) old now (Block given) g other = ap (λ b. cond {A = Answer (ℕ × Records)} (b && is_ours inside) (producer_from 0 inside >>= λ at. Ok (at, behind)) (Err ForeignProducer)) (ap (λ n. nat_eq n 13) (sym g.0) ∙ other)
@@ -160,7 +160,7 @@ pub record IsEntered (all : Records) (now : Reader) : Type 0 where
   pub later : IsBefore pieces behind []
   pub is : producer_of all ≡ cond {A = Answer (ℕ × Records)} (is_ours inside) (producer_from 0 inside >>= λ at. Ok (at, behind)) (Err ForeignProducer)
 
-pub entered : (all : Records) (old now : Reader) (given : Entry) → Gives all old given now [] → is_producer_block given ≡ true → IsEntered all now × (now.at ≡ old.at)
+pub entered : (all : Records) (old now : Reader) (given : NextEntry) → Gives all old given now [] → is_producer_block given ≡ true → IsEntered all now × (now.at ≡ old.at)
 entered no_more old now End g is = absurd (cc)
 entered no_more old now (Block given) g is = absurd g
 entered no_more old now (Record code) g is = absurd g

@@ -7,7 +7,7 @@ use Rattle.record_table.specs.Fields.{byte}
 use Rattle.record_table.specs.Layout.{judged, to_end}
 use Rattle.record_table.specs.Records.{Table, table, table_ended}
 use Rattle.record_table.specs.Walk.{Walk, going, stopped, told}
-use Rattle.record_read.specs.declared.entry.Entry.TheVariants.{Block, Record, End}
+use Rattle.record_read.specs.declared.entry.NextEntry.TheVariants.{Block, Record, End}
 use Rattle.record_read.specs.declared.fault.BitcodeFault.{BitcodeFault}
 use Rattle.record_read.specs.declared.fault.BitcodeFault.TheVariants as fault
 use Rattle.record_read.specs.Entries.{Gives, IsBefore}

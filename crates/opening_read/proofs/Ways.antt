@@ -7,8 +7,8 @@ use Rattle.record_table.specs.Faults.{Answer, ◌>>=◌, BadRecord, Records, no_
 use Rattle.record_table.specs.Fields.{Texts, version_1}
 use Rattle.record_table.specs.Records.{Sofar, Table, nothing_behind, table}
 use Rattle.record_table.specs.StringTable.{read_only}
-use Rattle.record_read.specs.declared.entry.Entry.{Entry}
-use Rattle.record_read.specs.declared.entry.Entry.TheVariants.{Block, Record, End}
+use Rattle.record_read.specs.declared.entry.NextEntry.{NextEntry}
+use Rattle.record_read.specs.declared.entry.NextEntry.TheVariants.{Block, Record, End}
 use Rattle.record_read.specs.declared.fault.BitcodeFault.{BitcodeFault}
 use Rattle.record_read.specs.declared.fault.BitcodeFault.TheVariants as fault
 use Rattle.record_read.specs.declared.texts.Texts as the_texts
@@ -22,7 +22,7 @@ use Rattle.opening_read.specs.Table.{IsTable}
 use Rattle.opening_read.proofs.Answering.{fault_is, misplaced_so, out_of_memory}
 
 -- the entry is the module's block
-pub enters : (texts : the_texts.Texts) (t : Texts) (at : ℕ) (rest : Records) (old now : Reader) (given : Entry) (done : Unit {0}) → Gives rest old given now [] → texts_of texts ≡ t → old.at ≡ at → EntersModule given at (Ok done)
+pub enters : (texts : the_texts.Texts) (t : Texts) (at : ℕ) (rest : Records) (old now : Reader) (given : NextEntry) (done : Unit {0}) → Gives rest old given now [] → texts_of texts ≡ t → old.at ≡ at → EntersModule given at (Ok done)
     → Answers {A = Entered} {B = the_texts.Texts} (IsIn now) (block_of t at rest) (Ok texts)
 enters texts t at rest old now End done g same place e = absurd e
 enters texts t at rest old now (Record code) done g same place e = absurd e
@@ -32,7 +32,7 @@ enters texts t at (a_block other inside behind) old now (Block id) done g same p
     rw (ap (λ n. nat_eq n 8) (sym g.0) ∙ e) (record { texts_are = same; at_is = g.1 ∙ place; pieces = g.2.pieces; inside = g.2.inside; behind = g.2.behind })
 
 -- another is
-pub refused : (t : Texts) (at : ℕ) (rest : Records) (old now after : Reader) (given : Entry) (told : BitcodeFault) → Gives rest old given now [] → EntersModule given at (Err told)
+pub refused : (t : Texts) (at : ℕ) (rest : Records) (old now after : Reader) (given : NextEntry) (told : BitcodeFault) → Gives rest old given now [] → EntersModule given at (Err told)
     → Answers {A = Entered} {B = the_texts.Texts} (IsIn after) (block_of t at rest) (Err told)
 refused t at no_more old now after End told g e = fault_is told (BadRecord 8 at 5) e
 refused t at no_more old now after (Record code) told g e = absurd g
@@ -47,7 +47,7 @@ refused t at (a_block other inside behind) old now after (Block id) told g e =
     (misplaced_so other at told (IsIn after) (subst (λ n. IsMisplaced n at told) g.0 e.1))
 
 -- without a table
-pub without_table : (at : ℕ) (all : Records) (old now : Reader) (given : Entry) → Gives all old given now [] → is_table_block given ≡ false → module_in at all ≡ block_of version_1 at all
+pub without_table : (at : ℕ) (all : Records) (old now : Reader) (given : NextEntry) → Gives all old given now [] → is_table_block given ≡ false → module_in at all ≡ block_of version_1 at all
 without_table at no_more old now given g e = refl
 without_table at (a_record code operands behind) old now given g e = refl
 without_table at (a_block id inside behind) old now End g e = absurd g
@@ -64,7 +64,7 @@ pub record IsBegun (at : ℕ) (all : Records) (now : Reader) : Type 0 where
   pub later : IsBefore pieces behind []
   pub is : module_in at all ≡ (table at inside >>= λ t. block_of (read_only t.bytes) t.at behind)
 
-pub begun : (at : ℕ) (all : Records) (old now : Reader) (given : Entry) → Gives all old given now [] → is_table_block given ≡ true → IsBegun at all now × (now.at ≡ old.at)
+pub begun : (at : ℕ) (all : Records) (old now : Reader) (given : NextEntry) → Gives all old given now [] → is_table_block given ≡ true → IsBegun at all now × (now.at ≡ old.at)
 begun at no_more old now End g e = absurd (cc)
 begun at no_more old now (Record code) g e = absurd g
 begun at no_more old now (Block id) g e = absurd g
@@ -145,22 +145,22 @@ record_behind s (a_record other operands later) old now code given g is = fault_
 -- ---- the answers
 
 -- an entry that is no table's is the module's block, or refused
-pub answers_inline : (all : Records) (old now : Reader) (given : Entry) (done : Unit {0}) → Gives all old given now [] → is_table_block given ≡ false → EntersModule given old.at (Ok done)
+pub answers_inline : (all : Records) (old now : Reader) (given : NextEntry) (done : Unit {0}) → Gives all old given now [] → is_table_block given ≡ false → EntersModule given old.at (Ok done)
     → Answers {A = Entered} {B = the_texts.Texts} (IsIn now) (module_in old.at all) (Ok kind.Inline)
 answers_inline all old now given done g other e = rw (without_table old.at all old now given g other) (enters kind.Inline version_1 old.at all old now given done g refl refl e)
 
-pub refuses_inline : (all : Records) (old now after : Reader) (given : Entry) (told : BitcodeFault) (here : ℕ) → Gives all old given now [] → is_table_block given ≡ false → here ≡ old.at → EntersModule given here (Err told)
+pub refuses_inline : (all : Records) (old now after : Reader) (given : NextEntry) (told : BitcodeFault) (here : ℕ) → Gives all old given now [] → is_table_block given ≡ false → here ≡ old.at → EntersModule given here (Err told)
     → Answers {A = Entered} {B = the_texts.Texts} (IsIn after) (module_in old.at all) (Err told)
 refuses_inline all old now after given told here g other is e =
     rw (without_table old.at all old now given g other) (refused version_1 old.at all old now after given told g (subst (λ n. EntersModule given n (Err told)) is e))
 
 -- an entry behind a table is the module's block, or refused
-pub answers_tabled : (at : ℕ) (all : Records) (bytes : List ℕ) (after now : Reader) (given : Entry) (done : Unit {0}) (i : IsTabled at all bytes after) → Gives i.behind after given now [] → EntersModule given after.at (Ok done)
+pub answers_tabled : (at : ℕ) (all : Records) (bytes : List ℕ) (after now : Reader) (given : NextEntry) (done : Unit {0}) (i : IsTabled at all bytes after) → Gives i.behind after given now [] → EntersModule given after.at (Ok done)
     → Answers {A = Entered} {B = the_texts.Texts} (IsIn now) (module_in at all) (Ok (kind.Table bytes))
 answers_tabled at all bytes after now given done i g e =
     rw i.is (enters (kind.Table bytes) (read_only i.t.bytes) i.t.at i.behind after now given done g (ap read_only i.bytes_are) i.at_is (subst (λ n. EntersModule given n (Ok done)) i.at_is e))
 
-pub refuses_tabled : (at : ℕ) (all : Records) (bytes : List ℕ) (after now new : Reader) (given : Entry) (told : BitcodeFault) (here : ℕ) (i : IsTabled at all bytes after) → Gives i.behind after given now [] → here ≡ after.at
+pub refuses_tabled : (at : ℕ) (all : Records) (bytes : List ℕ) (after now new : Reader) (given : NextEntry) (told : BitcodeFault) (here : ℕ) (i : IsTabled at all bytes after) → Gives i.behind after given now [] → here ≡ after.at
     → EntersModule given here (Err told)
     → Answers {A = Entered} {B = the_texts.Texts} (IsIn new) (module_in at all) (Err told)
 refuses_tabled at all bytes after now new given told here i g is e =

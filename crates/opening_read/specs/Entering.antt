@@ -5,8 +5,8 @@ use Rattle.record_table.specs.Faults.{Answer, BadRecord, Records, no_more, a_blo
 use Rattle.record_table.specs.Fields.{Texts, version_1}
 use Rattle.record_table.specs.Records as records
 use Rattle.record_table.specs.StringTable.{read_only}
-use Rattle.record_read.specs.declared.entry.Entry.{Entry}
-use Rattle.record_read.specs.declared.entry.Entry.TheVariants as entry
+use Rattle.record_read.specs.declared.entry.NextEntry.{NextEntry}
+use Rattle.record_read.specs.declared.entry.NextEntry.TheVariants as entry
 use Rattle.record_read.specs.declared.fault.BitcodeFault.{BitcodeFault}
 use Rattle.record_read.specs.declared.texts.Texts as the_texts
 use Rattle.record_read.specs.Entries.{IsBefore}
@@ -15,7 +15,7 @@ use Rattle.record_read.specs.Fields.{texts_of}
 use Rattle.record_read.specs.Reader.{Reader}
 
 -- an entry that is the table's block
-abbrev pub is_table_block : Entry → Bool
+abbrev pub is_table_block : NextEntry → Bool
 is_table_block (entry.Block id) = nat_eq id table_id
 is_table_block _ = false
 
@@ -48,7 +48,7 @@ pub record IsIn (new : Reader) (texts : the_texts.Texts) (e : Entered) : Type 0 
   pub behind : IsBefore pieces e.behind []
 
 -- the block of the module is entered; another entry is refused
-abbrev pub EntersModule : Entry → ℕ → Result (Unit {0}) BitcodeFault → Type 0
+abbrev pub EntersModule : NextEntry → ℕ → Result (Unit {0}) BitcodeFault → Type 0
 EntersModule (entry.Block id) at (Ok done) = nat_eq id module_id ≡ true
 EntersModule (entry.Block id) at (Err given) = (nat_eq id module_id ≡ false) × IsMisplaced id at given
 EntersModule _ at (Ok done) = ⊥

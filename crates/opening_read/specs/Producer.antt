@@ -4,8 +4,8 @@ use Rattle.bit_tree.specs.Pieces.{Piece, ended}
 use Rattle.record_table.specs.Faults.{Answer, Records, no_more, a_block, a_record, ForeignProducer, producer_id, ◌>>=◌}
 use Rattle.record_table.specs.Records as records
 use Rattle.record_table.specs.Walk.{Walk, going}
-use Rattle.record_read.specs.declared.entry.Entry.{Entry}
-use Rattle.record_read.specs.declared.entry.Entry.TheVariants as entry
+use Rattle.record_read.specs.declared.entry.NextEntry.{NextEntry}
+use Rattle.record_read.specs.declared.entry.NextEntry.TheVariants as entry
 use Rattle.record_read.specs.Entries.{IsBefore}
 use Rattle.record_read.specs.Reader.{Reader}
 use Rattle.opening_read.specs.declared.producer.Front.{Front}
@@ -27,7 +27,7 @@ pub record IsInBlock (left : List Piece) : Type 0 where
   pub before : IsBefore left inside (ended ∷ others)
 
 -- an entry that is the producer's block
-abbrev pub is_producer_block : Entry → Bool
+abbrev pub is_producer_block : NextEntry → Bool
 is_producer_block (entry.Block id) = nat_eq id producer_id
 is_producer_block _ = false
 

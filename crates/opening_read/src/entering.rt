@@ -8,38 +8,38 @@ ghost use Rattle.opening_read.specs.Entering.{EntersModule, IsIn, is_table_block
 ghost use Rattle.opening_read.specs.Producer.{IsWholeStream};
 
 use crate::table::read_table;
-use record_read::{BitcodeFault, Entry, RecordReader, Texts, misplaced};
+use record_read::{BitcodeFault, NextEntry, RecordReader, Texts, misplaced};
 use record_table::{MODULE_BLOCK, TABLE_BLOCK};
 use std::alloc::Global;
 
 /// Whether an entry of the stream is the block of the string table.
-fn is_table(entry: Entry) -> bool
+fn is_table(entry: NextEntry) -> bool
     ensures { result ≡ is_table_block entry }
 {
     match entry {
-        Entry::Block(id) => id == TABLE_BLOCK,
-        Entry::Record(_) | Entry::End => false,
+        NextEntry::Block(id) => id == TABLE_BLOCK,
+        NextEntry::Record(_) | NextEntry::End => false,
     }
 }
 
 /// Goes into the module's block, where an entry of the stream is one. Others are refused.
-fn enter_module(entry: Entry, at: u64) -> Result<(), BitcodeFault>
+fn enter_module(entry: NextEntry, at: u64) -> Result<(), BitcodeFault>
     ensures { EntersModule entry at result }
 {
     match entry {
-        Entry::Block(id) => {
+        NextEntry::Block(id) => {
             if id == MODULE_BLOCK {
                 Ok(())
             } else {
                 Err(misplaced(id, at))
             }
         }
-        Entry::Record(_) => Err(BitcodeFault::BadRecord {
+        NextEntry::Record(_) => Err(BitcodeFault::BadRecord {
             block: MODULE_BLOCK,
             index: at,
             rule: 5,
         }),
-        Entry::End => Err(BitcodeFault::BadRecord {
+        NextEntry::End => Err(BitcodeFault::BadRecord {
             block: MODULE_BLOCK,
             index: at,
             rule: 5,
@@ -75,9 +75,9 @@ pub fn expect_end(reader: &mut RecordReader<'_>) -> Result<(), BitcodeFault>
 {
     let at = reader.at();
     match reader.next()? {
-        Entry::End => Ok(()),
-        Entry::Block(id) => Err(misplaced(id, at)),
-        Entry::Record(_) => Err(BitcodeFault::BadRecord {
+        NextEntry::End => Ok(()),
+        NextEntry::Block(id) => Err(misplaced(id, at)),
+        NextEntry::Record(_) => Err(BitcodeFault::BadRecord {
             block: MODULE_BLOCK,
             index: at,
             rule: 5,

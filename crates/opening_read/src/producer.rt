@@ -10,7 +10,7 @@ ghost use Rattle.record_read.specs.Entries.{IsBefore};
 ghost use Rattle.record_read.specs.Faults.{Answers};
 ghost use Rattle.opening_read.specs.Producer.{FindsFront, IsBehind, IsEnded, IsInBlock, IsWholeStream, TakesThat, another, is_producer_block, noted_or, producer_of};
 
-use record_read::{BitcodeFault, Entry, RecordReader, misplaced, read_below};
+use record_read::{BitcodeFault, NextEntry, RecordReader, misplaced, read_below};
 use record_table::{PRODUCER, PRODUCER_BLOCK, TEXT};
 use std::alloc::AllocError;
 
@@ -89,15 +89,15 @@ fn read_front(reader: &mut RecordReader<'_>) -> Result<Front, AllocError>
     let mut block = None;
     'entries: loop {
         match reader.next()? {
-            Entry::Record(code) => {
+            NextEntry::Record(code) => {
                 let is_ours = is_naming(reader, code);
                 return Ok(Front { is_ours, block });
             }
-            Entry::Block(id) => {
+            NextEntry::Block(id) => {
                 block = first_of(block, id);
                 reader.pass_block()?;
             }
-            Entry::End => {
+            NextEntry::End => {
                 return Ok(Front {
                     is_ours: false,
                     block,
@@ -143,19 +143,19 @@ fn end_of_producer(reader: &mut RecordReader<'_>) -> Result<(), BitcodeFault>
     ensures answers { (rest : Records) (others : List Piece) → IsBefore reader.old.left rest (ended ∷ others) → Answers (λ done at. IsEnded reader.new others at) (records.producer_from 1 rest) result }
 {
     match reader.next()? {
-        Entry::Record(code) => refuse_more(reader, code),
-        Entry::Block(id) => Err(misplaced(id, reader.at())),
-        Entry::End => Ok(()),
+        NextEntry::Record(code) => refuse_more(reader, code),
+        NextEntry::Block(id) => Err(misplaced(id, reader.at())),
+        NextEntry::End => Ok(()),
     }
 }
 
 /// Whether an entry of the stream is the block that names the producer.
-fn is_producer(entry: Entry) -> bool
+fn is_producer(entry: NextEntry) -> bool
     ensures { result ≡ is_producer_block entry }
 {
     match entry {
-        Entry::Block(id) => id == PRODUCER_BLOCK,
-        Entry::Record(_) | Entry::End => false,
+        NextEntry::Block(id) => id == PRODUCER_BLOCK,
+        NextEntry::Record(_) | NextEntry::End => false,
     }
 }
 

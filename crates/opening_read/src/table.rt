@@ -10,7 +10,7 @@ ghost use Rattle.opening_read.specs.Producer.{IsInBlock};
 ghost use Rattle.opening_read.specs.Table.{HasBytes, IsTable, KeepsTable};
 
 use ir_base::Text;
-use record_read::{BitcodeFault, Entry, RecordReader, misplaced, read_rest};
+use record_read::{BitcodeFault, NextEntry, RecordReader, misplaced, read_rest};
 use record_table::{TABLE_BLOCK, TEXT};
 use std::alloc::Global;
 
@@ -63,9 +63,9 @@ fn end_of_table(reader: &mut RecordReader<'_>, alloc: Global) -> Result<(), Bitc
         → Answers (λ done kept. KeepsTable reader.new others t kept) (records.table_ended t rest) result }
 {
     match reader.next()? {
-        Entry::Record(code) => refuse_more(reader, alloc, code),
-        Entry::Block(id) => Err(misplaced(id, reader.at())),
-        Entry::End => Ok(()),
+        NextEntry::Record(code) => refuse_more(reader, alloc, code),
+        NextEntry::Block(id) => Err(misplaced(id, reader.at())),
+        NextEntry::End => Ok(()),
     }
 }
 
@@ -79,13 +79,13 @@ pub fn read_table(reader: &mut RecordReader<'_>, alloc: Global) -> Result<Text, 
         → Answers (IsTable reader.new others) (records.table reader.old.at inside) result }
 {
     match reader.next()? {
-        Entry::Record(code) => {
+        NextEntry::Record(code) => {
             let bytes = read_bytes(reader, alloc, code)?;
             end_of_table(reader, alloc)?;
             Ok(bytes)
         }
-        Entry::Block(id) => Err(misplaced(id, reader.at())),
-        Entry::End => Err(BitcodeFault::BadRecord {
+        NextEntry::Block(id) => Err(misplaced(id, reader.at())),
+        NextEntry::End => Err(BitcodeFault::BadRecord {
             block: TABLE_BLOCK,
             index: reader.at(),
             rule: 5,

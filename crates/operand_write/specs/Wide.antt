@@ -14,7 +14,7 @@ use Rattle.module_arena.specs.declared.instruction.Value as the_value
 use Rattle.module_arena.specs.declared.instruction.Value.TheVariants as value
 use Rattle.module_arena.specs.Lists.{Lists, value_names, function_blocks}
 use Rattle.module_arena.specs.Same.{same_local}
-use Rattle.record_table.specs.Constants.{Form, Number, NullPointer, Undefined, Poisoned, Zero, Global, Listed, Bytewise, Element, Converted, Computed}
+use Rattle.record_table.specs.Constants.{ConstantForm, Number, NullPointer, Undefined, Poisoned, Zero, Global, Listed, Bytewise, Element, Converted, Computed}
 use Rattle.record_table.specs.Standing.{Stands}
 use Rattle.operand_write.specs.Numbered.{constant_of, values_in, labels_in}
 
@@ -24,7 +24,7 @@ pub record HasTyped (a : Lists) (c : TypedConst) : Type 0 where
   pub value : c.value < length a.constants
 
 -- the form of a constant
-abbrev pub form_in : Const → Form
+abbrev pub form_in : Const → ConstantForm
 form_in (const.Integer n) = Number
 form_in (const.Truth b) = Undefined
 form_in const.Null = NullPointer

@@ -14,7 +14,7 @@ use crate::fields::put_number;
 use crate::{Numbering, put_count};
 use ir_tables::{Flags, Opcode};
 use module_arena::{Const, ConstAddress, ConstId, ConstPair, TypedConst};
-use record_table::Form;
+use record_table::ConstantForm;
 use std::alloc::AllocError;
 
 /// One more than the greatest number that an operand holds.
@@ -199,22 +199,22 @@ fn put_pair(
 }
 
 /// The form of a constant.
-fn form_of(constant: &Const) -> Form
+fn form_of(constant: &Const) -> ConstantForm
     ensures { form_view result ≡ form_in constant.now }
 {
     match constant {
-        Const::Integer(_) => Form::Number,
-        Const::Null => Form::Null,
+        Const::Integer(_) => ConstantForm::Number,
+        Const::Null => ConstantForm::Null,
         // No valid module has a truth at another type than i1.
-        Const::Undef | Const::Truth(_) => Form::Undef,
-        Const::Poison => Form::Poison,
-        Const::ZeroInitializer => Form::Zero,
-        Const::Address(_) => Form::Global,
-        Const::ByteString(_) => Form::Bytewise,
-        Const::Aggregate(_, _) => Form::Listed,
-        Const::ElementAddress(_, _) => Form::Element,
-        Const::Cast(_, _, _) => Form::Converted,
-        Const::Binary(_, _, _) => Form::Computed,
+        Const::Undef | Const::Truth(_) => ConstantForm::Undef,
+        Const::Poison => ConstantForm::Poison,
+        Const::ZeroInitializer => ConstantForm::Zero,
+        Const::Address(_) => ConstantForm::Global,
+        Const::ByteString(_) => ConstantForm::Bytewise,
+        Const::Aggregate(_, _) => ConstantForm::Listed,
+        Const::ElementAddress(_, _) => ConstantForm::Element,
+        Const::Cast(_, _, _) => ConstantForm::Converted,
+        Const::Binary(_, _, _) => ConstantForm::Computed,
     }
 }
 

@@ -39,7 +39,7 @@ use Rattle.entry_fates.specs.declared.fates.Fate.TheVariants.{Kept, Declared, Le
 use Rattle.entry_declare.specs.Declaring.{AreFewer, IsDeclaring}
 use Rattle.part_declare.specs.AliasesThere.{with_declared, with_alias_as, aliases_through}
 use Rattle.entry_declare.proofs.Declared.{either_variable, fewer_on}
-use Rattle.part_declare.proofs.OneMore.{either_alias, either_function, fewer_as_variable, fewer_with_alias, fewer_as_function}
+use Rattle.part_declare.proofs.DeclaredNext.{either_alias, either_function, fewer_as_variable, fewer_with_alias, fewer_as_function}
 use Rattle.entry_declare.proofs.Room.{free_name, wider, stands_on, stands_one_more, less_within, within_limits, fewer_within, no_excess}
 
 -- the name of an alias

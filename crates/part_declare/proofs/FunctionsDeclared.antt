@@ -27,7 +27,7 @@ use Rattle.entry_declare.specs.Declaring.{AreFewer, IsDeclaring}
 use Rattle.part_declare.specs.FunctionsThere.{functions_through, with_functions}
 use Rattle.entry_declare.proofs.Declared.{fewer_on}
 use Rattle.part_declare.proofs.Becoming.{function_declared, function_becomes}
-use Rattle.part_declare.proofs.OneMore.{either_function, fewer_with_function}
+use Rattle.part_declare.proofs.DeclaredNext.{either_function, fewer_with_function}
 use Rattle.entry_declare.proofs.Room.{free_name, wider, stands_on, stands_one_more, less_within, within_limits, fewer_within, no_excess}
 
 -- the name of a function

@@ -1,4 +1,4 @@
-pub mod OneMore
+pub mod DeclaredNext
 pub mod Becoming
 pub mod FunctionsDeclared
 pub mod Numbering

@@ -4,7 +4,7 @@ ghost use Rattle.gathered.specs.Told.{state, Tells};
 ghost use Rattle.canonical.specs.Names.{quoted, global, named_local, local, label_spelling, label, text, byte_string};
 ghost use Rattle.module_arena.specs.Module.{Numbered};
 ghost use Rattle.module_arena.specs.View.{local_view};
-ghost use Rattle.name_rules.specs.Spelled.{hexadecimal, is_plain, quoted_byte, is_identifier, spelled};
+ghost use Rattle.name_rules.specs.Spelled.{hexadecimal, is_plain, quoted_byte, is_identifier, name_spelling};
 ghost use Rattle.phrase_printer.specs.Printing.{separator_of, Prints};
 
 use crate::numbers::put_digits;
@@ -60,7 +60,7 @@ fn put_quoted<S: Sink>(out: &mut Gathered, sink: &mut S, bytes: &[u8])
 
 /// Puts a name, in quotes where it is no identifier.
 fn put_name<S: Sink>(out: &mut Gathered, sink: &mut S, name: &[u8])
-    ensures { Tells (state out.old (S.taken sink.old) (S.faults sink.old)) (state out.new (S.taken sink.new) (S.faults sink.new)) (spelled name.now) }
+    ensures { Tells (state out.old (S.taken sink.old) (S.faults sink.old)) (state out.new (S.taken sink.new) (S.faults sink.new)) (name_spelling name.now) }
 {
     if is_identifier(name) {
         out.put(sink, name);

@@ -1,7 +1,7 @@
 -- Either of two phrases is read, and a phrase that may be left out.
 use Rattle.std.proofs.Common.{◌≡◌, ℕ, ◌≤◌, List, [], ◌∷◌, ◌++◌, length, Bool, true, false, ◌⊎◌, inl, inr, refl, ◌∙◌, cond, Some, None}
 use Rattle.phrase_rows.specs.Row.{Reading, Done, Bad, Row, apart, begins, alt, optional}
-use Rattle.phrase_rows.specs.Reads.{Stops, Front, Takes, left, Reads}
+use Rattle.phrase_rows.specs.Reads.{Stops, Front, Takes, tokens_behind, Reads}
 use Rattle.phrase_rows.proofs.ListParts.{apart_out, takes_left, stops_left, stops_right, begins_left, begins_right}
 use Rattle.phrase_rows.proofs.Plain.{reads_nothing, reads_mapped}
 
@@ -53,7 +53,7 @@ module _ {T A : Type 0} (class : T → ℕ) (p q : Row T A) (hp : Reads class p 
   front_right us (inl w) = inl (w.0, inr w.1)
   front_right us (inr c) = inr (inr c)
 
-  alt_past : (us rest : List T) → Front p us ⊎ Front q us → length (left ((alt class p q).run (us ++ rest))) ≤ length rest
+  alt_past : (us rest : List T) → Front p us ⊎ Front q us → length (tokens_behind ((alt class p q).run (us ++ rest))) ≤ length rest
   alt_past [] rest f = takes_left (alt class p q) rest ((alt class p q).run rest) (alt_takes rest)
   alt_past (u ∷ us) rest (inl f) = rw (to_left u us rest f) (hp.past (u ∷ us) rest f)
   alt_past (u ∷ us) rest (inr f) = rw (to_right u us rest f) (hq.past (u ∷ us) rest f)

@@ -4,14 +4,14 @@ use Rattle.std.proofs.lemmas.List.{take-append-drop, take-append-le}
 use Rattle.std.proofs.lemmas.Bool.{cases_order}
 use Rattle.std.proofs.Math.Seq.{take-length}
 use Rattle.phrase_rows.specs.Row.{Reading, Done, Bad, Shape, Row}
-use Rattle.phrase_rows.specs.Reads.{Front, Takes, left, Reads}
+use Rattle.phrase_rows.specs.Reads.{Front, Takes, tokens_behind, Reads}
 use Rattle.phrase_rows.specs.Answer.{IsFirstBad, IsAnswer, HasOneAnswer, ended, answer}
 
 module _ {T A : Type 0} (class : T → ℕ) (r : Row T A) (s : Shape) (h : Reads class r s) where
   front_before : (us rest : List T) (j : ℕ) → Front r us → j ≤ length us → Front r (take j (us ++ rest))
   front_before us rest j f le = rw take-append-le (h.closed (take j us) (drop j us) (rw take-append-drop f))
 
-  no_front_after : (ts : List T) (j : ℕ) → length ts < j + length (left (r.run ts)) → j ≤ length ts → Front r (take j ts) → ⊥
+  no_front_after : (ts : List T) (j : ℕ) → length ts < j + length (tokens_behind (r.run ts)) → j ≤ length ts → Front r (take j ts) → ⊥
   no_front_after ts j lt le f =
       let past = h.past (take j ts) (drop j ts) f in
       let here = rw (take-append-drop j ts) at past in
@@ -20,7 +20,7 @@ module _ {T A : Type 0} (class : T → ℕ) (r : Row T A) (s : Shape) (h : Reads
   whole_read : (ts : List T) (a : A) → r.whole ts a → r.run ts ≡ Done a []
   whole_read ts a w = ap r.run (sym (append-nil ts)) ∙ h.complete ts [] a w tt
 
-  first_bad : (end : Bool) (ts us rest : List T) → ts ≡ us ++ rest → Front r us → length (left (r.run ts)) ≡ length rest → (end ≡ true → (a : A) → r.whole ts a → ⊥) → IsFirstBad r end ts (length ts - length rest)
+  first_bad : (end : Bool) (ts us rest : List T) → ts ≡ us ++ rest → Front r us → length (tokens_behind (r.run ts)) ≡ length rest → (end ≡ true → (a : A) → r.whole ts a → ⊥) → IsFirstBad r end ts (length ts - length rest)
   first_bad end ts us rest e f l unread =
       let n = ap length e in
       record {
@@ -46,9 +46,9 @@ module _ {T A : Type 0} (class : T → ℕ) (r : Row T A) (s : Shape) (h : Reads
       answered_at true (Done a []) e (us, d, w) = (refl, rw d (rw (append-nil us) w))
       answered_at false (Done a []) e (us, d, w) = bad_behind ts a (rw d (rw (append-nil us) w))
       answered_at end (Done a (t ∷ rest)) e (us, d, w) =
-          first_bad end ts us (t ∷ rest) d (inl (a, w)) (ap (λ (x : Reading T A). length (left x)) e) (λ over b v. let k = whole_read ts b v in absurd cc)
+          first_bad end ts us (t ∷ rest) d (inl (a, w)) (ap (λ (x : Reading T A). length (tokens_behind x)) e) (λ over b v. let k = whole_read ts b v in absurd cc)
       answered_at end (Bad rest) e (us, d, c) =
-          first_bad end ts us rest d (inr c) (ap (λ (x : Reading T A). length (left x)) e) (λ over b v. let k = whole_read ts b v in absurd cc)
+          first_bad end ts us rest d (inr c) (ap (λ (x : Reading T A). length (tokens_behind x)) e) (λ over b v. let k = whole_read ts b v in absurd cc)
 
   -- nothing that is whole is refused, where it is all there is
   pub answered_whole : (ts : List T) (a : A) → r.whole ts a → answer r true ts ≡ Ok a

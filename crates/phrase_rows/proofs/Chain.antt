@@ -1,7 +1,7 @@
 -- One phrase after another is read.
 use Rattle.std.proofs.Common.{◌≡◌, ℕ, ◌≤◌, List, [], ◌∷◌, ◌++◌, length, true, ◌⊎◌, inl, inr, refl, sym, ap, subst, ◌∙◌, append_assoc, append-nil, arith, ◌&&◌}
-use Rattle.phrase_rows.specs.Row.{Reading, Done, Bad, bind, Shape, Row, apart, chain, both, second, before, pair, mapped}
-use Rattle.phrase_rows.specs.Reads.{Stops, Begins, Front, Takes, left, Reads}
+use Rattle.phrase_rows.specs.Row.{Reading, Done, Bad, bind, Shape, Row, apart, chain, joined_values, keep_second, keep_first, pair, mapped}
+use Rattle.phrase_rows.specs.Reads.{Stops, Begins, Front, Takes, tokens_behind, Reads}
 use Rattle.phrase_rows.proofs.ListParts.{split, nil_parts, apart_out, takes_left, bind_left, stops_if, stops_and, begins_if, begins_and}
 use Rattle.phrase_rows.proofs.Plain.{reads_mapped}
 
@@ -36,16 +36,16 @@ module _ {T A B : Type 0} (class : T → ℕ) (p : Row T A) (s : Shape) (q : A �
   stops_between a [] rest f h = h refl
   stops_between a (v ∷ vs) rest f h = apart_out (class v) p.shape.more s.first ok ((hq a).begins (v ∷ vs) f)
 
-  shrinks : (a : A) (rest : List T) → length (left ((q a).run rest)) ≤ length rest
+  shrinks : (a : A) (rest : List T) → length (tokens_behind ((q a).run rest)) ≤ length rest
   shrinks a rest = takes_left (q a) rest ((q a).run rest) ((hq a).takes rest)
 
-  past_first : (us rest : List T) → Front p us → length (left ((chain p s q).run (us ++ rest))) ≤ length rest
+  past_first : (us rest : List T) → Front p us → length (tokens_behind ((chain p s q).run (us ++ rest))) ≤ length rest
   past_first us rest f =
       let h = bind_left (p.run (us ++ rest)) (λ a rest. (q a).run rest) shrinks in
       let g = hp.past us rest f in
       omega (arith, h, g)
 
-  past_two : (us vs rest : List T) (a : A) → p.whole us a → Front (q a) vs → length (left ((chain p s q).run (us ++ (vs ++ rest)))) ≤ length rest
+  past_two : (us vs rest : List T) (a : A) → p.whole us a → Front (q a) vs → length (tokens_behind ((chain p s q).run (us ++ (vs ++ rest)))) ≤ length rest
   past_two us [] rest a w f = past_first us rest (inl (a, w))
   past_two us (v ∷ vs) rest a w f = rw (hp.complete us (v ∷ (vs ++ rest)) a w (stops_between a (v ∷ vs) rest f (λ e. absurd cc))) ((hq a).past (v ∷ vs) rest f)
 
@@ -93,13 +93,13 @@ module _ {T A B : Type 0} (class : T → ℕ) (p : Row T A) (s : Shape) (q : A �
 pub reads_chain : {T A B : Type 0} (class : T → ℕ) {p : Row T A} {s : Shape} {q : A → Row T B} → Reads class p p.shape → ((a : A) → Reads class (q a) s) → apart p.shape.more s.first ≡ true → Reads class (chain p s q) (chain p s q).shape
 reads_chain class {p} {s} {q} hp hq ok = reads_chain_at class p s q hp hq ok
 
-pub reads_both : {T A B C : Type 0} (class : T → ℕ) (f : A → B → C) {p : Row T A} {q : Row T B} → Reads class p p.shape → Reads class q q.shape → apart p.shape.more q.shape.first ≡ true → Reads class (both f p q) (both f p q).shape
+pub reads_both : {T A B C : Type 0} (class : T → ℕ) (f : A → B → C) {p : Row T A} {q : Row T B} → Reads class p p.shape → Reads class q q.shape → apart p.shape.more q.shape.first ≡ true → Reads class (joined_values f p q) (joined_values f p q).shape
 reads_both class f {p} {q} hp hq ok = reads_chain_at class p q.shape (λ a. mapped (f a) q) hp (λ a. reads_mapped class (f a) hq) ok
 
-pub reads_second : {T A B : Type 0} (class : T → ℕ) {p : Row T A} {q : Row T B} → Reads class p p.shape → Reads class q q.shape → apart p.shape.more q.shape.first ≡ true → Reads class (second p q) (second p q).shape
+pub reads_second : {T A B : Type 0} (class : T → ℕ) {p : Row T A} {q : Row T B} → Reads class p p.shape → Reads class q q.shape → apart p.shape.more q.shape.first ≡ true → Reads class (keep_second p q) (keep_second p q).shape
 reads_second class {p} {q} hp hq ok = reads_chain_at class p q.shape (λ a. q) hp (λ a. hq) ok
 
-pub reads_before : {T A B : Type 0} (class : T → ℕ) {p : Row T A} {q : Row T B} → Reads class p p.shape → Reads class q q.shape → apart p.shape.more q.shape.first ≡ true → Reads class (before p q) (before p q).shape
+pub reads_before : {T A B : Type 0} (class : T → ℕ) {p : Row T A} {q : Row T B} → Reads class p p.shape → Reads class q q.shape → apart p.shape.more q.shape.first ≡ true → Reads class (keep_first p q) (keep_first p q).shape
 reads_before class hp hq ok = reads_both class (λ a b. a) hp hq ok
 
 pub reads_pair : {T A B : Type 0} (class : T → ℕ) {p : Row T A} {q : Row T B} → Reads class p p.shape → Reads class q q.shape → apart p.shape.more q.shape.first ≡ true → Reads class (pair p q) (pair p q).shape

@@ -1,6 +1,6 @@
 -- Small rows over numbers, each number its own class: what they read, and what is first bad.
 use Rattle.std.proofs.Common.{◌≡◌, ◌+◌, ◌-◌, ℕ, List, [], ◌∷◌, Bool, true, false, ◌==◌, cond, inl, inr, refl, Some, None, Ok, Err}
-use Rattle.phrase_rows.specs.Row.{Row, one, second, before, separated, loop, Move, On, Ends, Stops, machine}
+use Rattle.phrase_rows.specs.Row.{Row, one, keep_second, keep_first, separated, loop, Move, On, Ends, Stops, machine}
 use Rattle.phrase_rows.specs.Reads.{Reads}
 use Rattle.phrase_rows.specs.Answer.{IsFirstBad, answer}
 use Rattle.phrase_rows.proofs.Plain.{reads_one}
@@ -23,7 +23,7 @@ digit = one class (3 ∷ 4 ∷ []) (λ t. Some t)
 
 -- 0 digits with a 2 between each two, and then 1
 abbrev digits : Row ℕ (List ℕ)
-digits = second (word 0) (before (separated class (word 2) digit) (word 1))
+digits = keep_second (word 0) (keep_first (separated class (word 2) digit) (word 1))
 
 reads_digits : Reads class digits digits.shape
 reads_digits = reads_second class (reads_one class (0 ∷ []) _) (reads_before class (reads_separated class (reads_one class (2 ∷ []) _) (reads_one class (3 ∷ 4 ∷ []) _) refl refl refl refl) (reads_one class (1 ∷ []) _) refl) refl

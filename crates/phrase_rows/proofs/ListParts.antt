@@ -2,7 +2,7 @@
 use Rattle.std.proofs.Common.{◌≡◌, ℕ, ◌≤◌, List, [], ◌∷◌, ◌++◌, length, Bool, true, false, ◌⊎◌, inl, inr, refl, sym, ap, arith, length-append, cond, ◌==◌}
 use Rattle.std.proofs.lemmas.Bool.{eqb-true}
 use Rattle.phrase_rows.specs.Row.{Reading, Done, Bad, bind, Row, among, apart}
-use Rattle.phrase_rows.specs.Reads.{Stops, Begins, Takes, left}
+use Rattle.phrase_rows.specs.Reads.{Stops, Begins, Takes, tokens_behind}
 
 pub split : {T : Type 0} (a b c d : List T) → a ++ b ≡ c ++ d → ((m : List T) × (c ≡ a ++ m) × (b ≡ m ++ d)) ⊎ ((m : List T) × (a ≡ c ++ m) × (d ≡ m ++ b))
 split [] b c d e = inl (c, refl, e)
@@ -47,11 +47,11 @@ apart_out k (x ∷ xs) ys h g =
       ]
     ]
 
-pub takes_left : {T A : Type 0} (r : Row T A) (ts : List T) (x : Reading T A) → Takes r ts x → length (left x) ≤ length ts
+pub takes_left : {T A : Type 0} (r : Row T A) (ts : List T) (x : Reading T A) → Takes r ts x → length (tokens_behind x) ≤ length ts
 takes_left r ts (Done a rest) h = omega (arith, length-append h.0 rest, ap length h.1)
 takes_left r ts (Bad rest) h = omega (arith, length-append h.0 rest, ap length h.1)
 
-pub bind_left : {T A B : Type 0} (x : Reading T A) (f : A → List T → Reading T B) → ((a : A) (rest : List T) → length (left (f a rest)) ≤ length rest) → length (left (bind x f)) ≤ length (left x)
+pub bind_left : {T A B : Type 0} (x : Reading T A) (f : A → List T → Reading T B) → ((a : A) (rest : List T) → length (tokens_behind (f a rest)) ≤ length rest) → length (tokens_behind (bind x f)) ≤ length (tokens_behind x)
 bind_left (Done a rest) f h = h a rest
 bind_left (Bad rest) f h = omega arith
 

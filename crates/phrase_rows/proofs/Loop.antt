@@ -1,7 +1,7 @@
 -- Any number of steps is read, each in the state that the one before gave.
 use Rattle.std.proofs.Common.{◌≡◌, ℕ, zero, suc, ◌≤◌, ◌<◌, List, [], ◌∷◌, ◌++◌, length, Bool, true, false, ◌⊎◌, inl, inr, refl, sym, ap, subst, ◌∙◌, append_assoc, append-nil, arith, length-append, cond}
 use Rattle.phrase_rows.specs.Row.{Reading, Done, Bad, bind, Shape, Row, among, apart, begins, loop, run_loop, Steps}
-use Rattle.phrase_rows.specs.Reads.{Stops, Begins, Front, Takes, left, Reads}
+use Rattle.phrase_rows.specs.Reads.{Stops, Begins, Front, Takes, tokens_behind, Reads}
 use Rattle.phrase_rows.proofs.ListParts.{split, nil_parts, apart_out, takes_left, bind_left, stops_left, stops_right}
 
 module _ {T S : Type 0} (class : T → ℕ) (form : Shape) (q : S → Row T S) (hq : (s : S) → Reads class (q s) form) (ok : apart form.more form.first ≡ true) (some : form.empty ≡ false) where
@@ -103,17 +103,17 @@ module _ {T S : Type 0} (class : T → ℕ) (form : Shape) (q : S → Row T S) (
       let parted = ap (λ (t : List T). t ++ rest) e ∙ append_assoc vs ws rest in
       rw parted (complete_cons n s m last vs ws rest (rw parted at le) w (stops_next ms m ws rest (step_fronts ms m last ws steps) st) (λ k h. loop_complete ms m last ws rest k h steps st))
 
-  go_left : (n : ℕ) (x : Reading T S) → length (left (Go n x)) ≤ length (left x)
+  go_left : (n : ℕ) (x : Reading T S) → length (tokens_behind (Go n x)) ≤ length (tokens_behind x)
   unfolding Go
   go_left n x = bind_left x (λ m rest. run_loop class form q n m rest) (λ m rest. takes_left (loop class form q m) rest (run_loop class form q n m rest) (loop_takes n m rest))
 
-  past_one : (n : ℕ) (s : S) (u : T) (us rest : List T) → Front (q s) (u ∷ us) → length (left (run_loop class form q (suc n) s (u ∷ (us ++ rest)))) ≤ length rest
+  past_one : (n : ℕ) (s : S) (u : T) (us rest : List T) → Front (q s) (u ∷ us) → length (tokens_behind (run_loop class form q (suc n) s (u ∷ (us ++ rest)))) ≤ length rest
   past_one n s u us rest f =
       let h = go_left n ((q s).run (u ∷ (us ++ rest))) in
       let g = (hq s).past (u ∷ us) rest f in
       rw (loop_go n s u us rest f) (omega (arith, h, g))
 
-  past_cons : (n : ℕ) (s m : S) (vs ws rest : List T) → length (vs ++ (ws ++ rest)) ≤ n → (q s).whole vs m → (ms : List S) → Fronts m ws ms → ((n : ℕ) → length (ws ++ rest) ≤ n → length (left (run_loop class form q n m (ws ++ rest))) ≤ length rest) → length (left (run_loop class form q n s (vs ++ (ws ++ rest)))) ≤ length rest
+  past_cons : (n : ℕ) (s m : S) (vs ws rest : List T) → length (vs ++ (ws ++ rest)) ≤ n → (q s).whole vs m → (ms : List S) → Fronts m ws ms → ((n : ℕ) → length (ws ++ rest) ≤ n → length (tokens_behind (run_loop class form q n m (ws ++ rest))) ≤ length rest) → length (tokens_behind (run_loop class form q n s (vs ++ (ws ++ rest)))) ≤ length rest
   unfolding Go
   past_cons n s m [] ws rest le w ms f ih = absurd (let h = (hq s).empty m w in cc)
   past_cons zero s m (v ∷ vs) ws rest le w ms f ih = absurd (omega arith)
@@ -123,12 +123,12 @@ module _ {T S : Type 0} (class : T → ℕ) (form : Shape) (q : S → Row T S) (
       (rw ((hq s).complete (v ∷ vs) (y ∷ (ws ++ rest)) m w (apart_out (class y) form.more form.first ok (loop_begins ms m (y ∷ ws) f)))
       (ih n (omega (arith, length-append vs (y ∷ (ws ++ rest))))))
 
-  past_cut : (n : ℕ) (s : S) (us rest : List T) → length (us ++ rest) ≤ n → (q s).cut us → length (left (run_loop class form q n s (us ++ rest))) ≤ length rest
+  past_cut : (n : ℕ) (s : S) (us rest : List T) → length (us ++ rest) ≤ n → (q s).cut us → length (tokens_behind (run_loop class form q n s (us ++ rest))) ≤ length rest
   past_cut n s [] rest le c = takes_left (loop class form q s) rest (run_loop class form q n s rest) (loop_takes n s rest)
   past_cut zero s (u ∷ us) rest le c = absurd (omega arith)
   past_cut (suc n) s (u ∷ us) rest le c = past_one n s u us rest (inr c)
 
-  loop_past : (ms : List S) (s : S) (us rest : List T) (n : ℕ) → length (us ++ rest) ≤ n → Fronts s us ms → length (left (run_loop class form q n s (us ++ rest))) ≤ length rest
+  loop_past : (ms : List S) (s : S) (us rest : List T) (n : ℕ) → length (us ++ rest) ≤ n → Fronts s us ms → length (tokens_behind (run_loop class form q n s (us ++ rest))) ≤ length rest
   unfolding Fronts
   loop_past [] s us rest n le (inl e) = rw e (takes_left (loop class form q s) rest (run_loop class form q n s rest) (loop_takes n s rest))
   loop_past [] s us rest n le (inr c) = past_cut n s us rest le c

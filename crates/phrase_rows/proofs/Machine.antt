@@ -1,7 +1,7 @@
 -- Tokens that are taken one by one, until a step ends the phrase, are read.
 use Rattle.std.proofs.Common.{◌≡◌, ℕ, ◌≤◌, List, [], ◌∷◌, ◌++◌, length, false, inl, inr, refl, ap, arith}
 use Rattle.phrase_rows.specs.Row.{Reading, Done, Bad, among, Move, On, Ends, Stops, EndsWith, GoesOn, machine, run_machine}
-use Rattle.phrase_rows.specs.Reads.{Begins, Front, Takes, left, Reads}
+use Rattle.phrase_rows.specs.Reads.{Begins, Front, Takes, tokens_behind, Reads}
 use Rattle.phrase_rows.proofs.ListParts.{nil_parts, bool_cases, takes_left}
 
 module _ {T S A : Type 0} (class : T → ℕ) (first : List ℕ) (step : S → T → Move S A) where
@@ -27,17 +27,17 @@ module _ {T S A : Type 0} (class : T → ℕ) (first : List ℕ) (step : S → T
   machine_complete [] rest s a w = absurd w
   machine_complete (t ∷ us) rest s a w = complete_by t us rest a (step s t) w (λ m v. machine_complete us rest m a v)
 
-  past_by : (t : T) (us rest : List T) (x : Move S A) → elim x as (λ m. Type 0) [ On m ↦ GoesOn step m us | Ends b ↦ ⊥ | Stops ↦ ⊥ ] → ((m : S) → GoesOn step m us → length (left (run_machine step m (us ++ rest))) ≤ length rest) → length (left (elim x as (λ m. Reading T A) [ On m ↦ run_machine step m (us ++ rest) | Ends b ↦ Done b (us ++ rest) | Stops ↦ Bad (t ∷ (us ++ rest)) ])) ≤ length rest
+  past_by : (t : T) (us rest : List T) (x : Move S A) → elim x as (λ m. Type 0) [ On m ↦ GoesOn step m us | Ends b ↦ ⊥ | Stops ↦ ⊥ ] → ((m : S) → GoesOn step m us → length (tokens_behind (run_machine step m (us ++ rest))) ≤ length rest) → length (tokens_behind (elim x as (λ m. Reading T A) [ On m ↦ run_machine step m (us ++ rest) | Ends b ↦ Done b (us ++ rest) | Stops ↦ Bad (t ∷ (us ++ rest)) ])) ≤ length rest
   past_by t us rest (On m) c ih = ih m c
   past_by t us rest (Ends b) c ih = absurd c
   past_by t us rest Stops c ih = absurd c
 
-  past_cut : (us rest : List T) (s : S) → GoesOn step s us → length (left (run_machine step s (us ++ rest))) ≤ length rest
+  past_cut : (us rest : List T) (s : S) → GoesOn step s us → length (tokens_behind (run_machine step s (us ++ rest))) ≤ length rest
   past_cut [] rest s c = takes_left (machine first step s) rest (run_machine step s rest) (machine_takes rest s)
   past_cut (t ∷ us) rest s c = past_by t us rest (step s t) c (past_cut us rest)
 
-  machine_past : (us rest : List T) (s : S) → Front (machine first step s) us → length (left (run_machine step s (us ++ rest))) ≤ length rest
-  machine_past us rest s (inl (a, w)) = let h = ap (λ (x : Reading T A). length (left x)) (machine_complete us rest s a w) in omega (arith, h)
+  machine_past : (us rest : List T) (s : S) → Front (machine first step s) us → length (tokens_behind (run_machine step s (us ++ rest))) ≤ length rest
+  machine_past us rest s (inl (a, w)) = let h = ap (λ (x : Reading T A). length (tokens_behind x)) (machine_complete us rest s a w) in omega (arith, h)
   machine_past us rest s (inr c) = past_cut us rest s c
 
   front_on : (s m : S) (t : T) (us : List T) → step s t ≡ On m → Front (machine first step m) us → Front (machine first step s) (t ∷ us)

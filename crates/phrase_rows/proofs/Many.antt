@@ -1,7 +1,7 @@
 -- Any number of a phrase is read.
 use Rattle.std.proofs.Common.{◌≡◌, ℕ, zero, suc, ◌≤◌, ◌<◌, List, [], ◌∷◌, ◌++◌, length, Bool, true, false, ◌⊎◌, inl, inr, refl, sym, ap, subst, ◌∙◌, append_assoc, append-nil, arith, length-append, cond}
-use Rattle.phrase_rows.specs.Row.{Reading, Done, Bad, bind, Row, among, apart, begins, second, many, run_many, Each, separated}
-use Rattle.phrase_rows.specs.Reads.{Stops, Begins, Front, Takes, left, Reads}
+use Rattle.phrase_rows.specs.Row.{Reading, Done, Bad, bind, Row, among, apart, begins, keep_second, many, run_many, Each, separated}
+use Rattle.phrase_rows.specs.Reads.{Stops, Begins, Front, Takes, tokens_behind, Reads}
 use Rattle.phrase_rows.proofs.ListParts.{split, nil_parts, apart_out, takes_left, bind_left, stops_left, stops_right}
 use Rattle.phrase_rows.proofs.Plain.{mapped_left, reads_nothing}
 use Rattle.phrase_rows.proofs.Chain.{reads_both, reads_second}
@@ -103,18 +103,18 @@ module _ {T A : Type 0} (class : T → ℕ) (p : Row T A) (hp : Reads class p p.
       let shape = ap (λ (t : List T). t ++ rest) e ∙ append_assoc vs ws rest in
       rw shape (complete_cons n xs vs ws rest a (rw shape at le) w (stops_next xs ws rest (each_fronts xs ws each) st) (λ m h. many_complete xs ws rest m h each st))
 
-  go_left : (n : ℕ) (x : Reading T A) → length (left (Go n x)) ≤ length (left x)
+  go_left : (n : ℕ) (x : Reading T A) → length (tokens_behind (Go n x)) ≤ length (tokens_behind x)
   unfolding Go
   go_left n x = bind_left x (λ a rest. bind (run_many class p n rest) (λ xs rest. Done (a ∷ xs) rest)) (λ a rest.
       rw (mapped_left (λ (xs : List A). a ∷ xs) (run_many class p n rest)) (takes_left (many class p) rest (run_many class p n rest) (many_takes n rest)))
 
-  past_one : (n : ℕ) (u : T) (us rest : List T) → Front p (u ∷ us) → length (left (run_many class p (suc n) (u ∷ (us ++ rest)))) ≤ length rest
+  past_one : (n : ℕ) (u : T) (us rest : List T) → Front p (u ∷ us) → length (tokens_behind (run_many class p (suc n) (u ∷ (us ++ rest)))) ≤ length rest
   past_one n u us rest f =
       let h = go_left n (p.run (u ∷ (us ++ rest))) in
       let g = hp.past (u ∷ us) rest f in
       rw (many_go n u us rest f) (omega (arith, h, g))
 
-  past_cons : (n : ℕ) (vs ws rest : List T) (a : A) → length (vs ++ (ws ++ rest)) ≤ n → p.whole vs a → (xs : List A) → Fronts ws xs → ((n : ℕ) → length (ws ++ rest) ≤ n → length (left (run_many class p n (ws ++ rest))) ≤ length rest) → length (left (run_many class p n (vs ++ (ws ++ rest)))) ≤ length rest
+  past_cons : (n : ℕ) (vs ws rest : List T) (a : A) → length (vs ++ (ws ++ rest)) ≤ n → p.whole vs a → (xs : List A) → Fronts ws xs → ((n : ℕ) → length (ws ++ rest) ≤ n → length (tokens_behind (run_many class p n (ws ++ rest))) ≤ length rest) → length (tokens_behind (run_many class p n (vs ++ (ws ++ rest)))) ≤ length rest
   unfolding Go
   past_cons n [] ws rest a le w xs f ih = absurd (let h = hp.empty a w in cc)
   past_cons zero (v ∷ vs) ws rest a le w xs f ih = absurd (omega arith)
@@ -124,12 +124,12 @@ module _ {T A : Type 0} (class : T → ℕ) (p : Row T A) (hp : Reads class p p.
       (rw (hp.complete (v ∷ vs) (y ∷ (ws ++ rest)) a w (apart_out (class y) p.shape.more p.shape.first ok (many_begins xs (y ∷ ws) f)))
       (rw (mapped_left (λ (xs : List A). a ∷ xs) (run_many class p n (y ∷ (ws ++ rest)))) (ih n (omega (arith, length-append vs (y ∷ (ws ++ rest)))))))
 
-  past_cut : (n : ℕ) (us rest : List T) → length (us ++ rest) ≤ n → p.cut us → length (left (run_many class p n (us ++ rest))) ≤ length rest
+  past_cut : (n : ℕ) (us rest : List T) → length (us ++ rest) ≤ n → p.cut us → length (tokens_behind (run_many class p n (us ++ rest))) ≤ length rest
   past_cut n [] rest le c = takes_left (many class p) rest (run_many class p n rest) (many_takes n rest)
   past_cut zero (u ∷ us) rest le c = absurd (omega arith)
   past_cut (suc n) (u ∷ us) rest le c = past_one n u us rest (inr c)
 
-  many_past : (xs : List A) (us rest : List T) (n : ℕ) → length (us ++ rest) ≤ n → Fronts us xs → length (left (run_many class p n (us ++ rest))) ≤ length rest
+  many_past : (xs : List A) (us rest : List T) (n : ℕ) → length (us ++ rest) ≤ n → Fronts us xs → length (tokens_behind (run_many class p n (us ++ rest))) ≤ length rest
   unfolding Fronts
   many_past [] us rest n le (inl e) = rw e (takes_left (many class p) rest (run_many class p n rest) (many_takes n rest))
   many_past [] us rest n le (inr c) = past_cut n us rest le c
@@ -185,7 +185,7 @@ reads_many class {p} hp ok some = reads_many_at class p hp ok some
 
 pub reads_separated : {T A S : Type 0} (class : T → ℕ) {s : Row T S} {p : Row T A} → Reads class s s.shape → Reads class p p.shape → s.shape.empty ≡ false → p.shape.empty ≡ false → apart s.shape.more p.shape.first ≡ true → apart p.shape.more s.shape.first ≡ true → Reads class (separated class s p) (separated class s p).shape
 reads_separated class {s} {p} hs hp se pe sp ps =
-    reads_alt class (reads_both class (λ a xs. a ∷ xs) hp (reads_many class (reads_second class hs hp sp) (rw (se, pe) ps) (rw se refl)) (rw se ps)) (reads_nothing class []) (apart_nil (cond p.shape.empty (p.shape.first ++ (many class (second s p)).shape.first) p.shape.first)) (rw pe refl)
+    reads_alt class (reads_both class (λ a xs. a ∷ xs) hp (reads_many class (reads_second class hs hp sp) (rw (se, pe) ps) (rw se refl)) (rw se ps)) (reads_nothing class []) (apart_nil (cond p.shape.empty (p.shape.first ++ (many class (keep_second s p)).shape.first) p.shape.first)) (rw pe refl)
 
 -- what was read before, and then this
 abbrev pub with_front : {T A : Type 0} → List A → Reading T (List A) → Reading T (List A)

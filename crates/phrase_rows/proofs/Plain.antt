@@ -2,7 +2,7 @@
 use Rattle.std.proofs.Common.{◌≡◌, ℕ, zero, suc, List, [], ◌∷◌, ◌++◌, length, Bool, true, false, inl, inr, refl, ap, arith, length-append, cond, ◌==◌, Option, Some, None}
 use Rattle.std.proofs.lemmas.Bool.{eqb-true}
 use Rattle.phrase_rows.specs.Row.{Reading, Done, Bad, bind, Shape, Row, among, within, nothing, fail, one, run_one, mapped, deep, labelled}
-use Rattle.phrase_rows.specs.Reads.{Stops, Begins, Front, Takes, left, Reads}
+use Rattle.phrase_rows.specs.Reads.{Stops, Begins, Front, Takes, tokens_behind, Reads}
 use Rattle.phrase_rows.proofs.ListParts.{nil_parts, bool_cases, takes_left}
 
 pub reads_nothing : {T A : Type 0} (class : T → ℕ) (a : A) → Reads class (nothing a) (record { first = []; more = []; empty = true })
@@ -57,7 +57,7 @@ reads_one {T} {A} class ks f =
       takes = takes;
       complete = λ us rest a w st. one_whole class ks f us rest a w;
       past = λ us rest e. elim e [
-        | inl w ↦ (let h = ap (λ x. length (left x)) (one_whole class ks f us rest w.0 w.1) in omega (arith, h))
+        | inl w ↦ (let h = ap (λ x. length (tokens_behind x)) (one_whole class ks f us rest w.0 w.1) in omega (arith, h))
         | inr c ↦ rw c (takes_left (one class ks f) rest (run_one class ks f rest) (takes rest))
       ];
       begins = λ us e. elim e [ inl w ↦ rw w.1.1 w.1.2 | inr c ↦ rw c tt ];
@@ -78,7 +78,7 @@ front_mapped : {T A B : Type 0} (f : A → B) (p : Row T A) (us : List T) → Fr
 front_mapped f p us (inl w) = inl (f w.0, (w.0, w.1, refl))
 front_mapped f p us (inr c) = inr c
 
-pub mapped_left : {T A B : Type 0} (f : A → B) (x : Reading T A) → left (bind x (λ a rest. Done (f a) rest)) ≡ left x
+pub mapped_left : {T A B : Type 0} (f : A → B) (x : Reading T A) → tokens_behind (bind x (λ a rest. Done (f a) rest)) ≡ tokens_behind x
 mapped_left f (Done a rest) = refl
 mapped_left f (Bad rest) = refl
 

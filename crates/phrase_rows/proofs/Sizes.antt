@@ -2,7 +2,7 @@
 use Rattle.std.proofs.Common.{◌≡◌, ℕ, zero, suc, ◌≤◌, ◌+◌, List, [], ◌∷◌, length, true, inl, inr, refl, ap, arith, length-append, Option, Some, None}
 use Rattle.std.specs.List.{sum_by}
 use Rattle.std.proofs.lemmas.List.Sums.{sum_by-cons}
-use Rattle.phrase_rows.specs.Row.{Shape, Row, among, nothing, fail, one, chain, mapped, both, second, before, pair, alt, optional, many, Each, separated, loop, Steps, Move, On, Ends, Stops, EndsWith, machine, labelled, deep}
+use Rattle.phrase_rows.specs.Row.{Shape, Row, among, nothing, fail, one, chain, mapped, joined_values, keep_second, keep_first, pair, alt, optional, many, Each, separated, loop, Steps, Move, On, Ends, Stops, EndsWith, machine, labelled, deep}
 use Rattle.phrase_rows.specs.Size.{IsSized, IsSizedFrom}
 
 pub sized_nothing : {T A : Type 0} (a : A) (f : A → ℕ) → f a ≡ 0 → IsSized {T = T} (nothing a) f
@@ -45,7 +45,7 @@ fail_from n s f = record { size = λ us b w. absurd w }
 pub one_from : {T A : Type 0} (n : ℕ) (class : T → ℕ) (ks : List ℕ) (v : T → Option A) (f : A → ℕ) → ((t : T) (a : A) → among (class t) ks ≡ true → v t ≡ Some a → f a ≤ n + 1) → IsSizedFrom n (one class ks v) f
 one_from n class ks v f h = record { size = λ us a w. rw w.1 (h w.0 a w.2 w.3) }
 
-pub both_from : {T A B C : Type 0} (n : ℕ) (m : A → B → C) {p : Row T A} {q : Row T B} {f : A → ℕ} {g : B → ℕ} (h : C → ℕ) → IsSized p f → IsSized q g → ((a : A) (b : B) → h (m a b) ≤ n + (f a + g b)) → IsSizedFrom n (both m p q) h
+pub both_from : {T A B C : Type 0} (n : ℕ) (m : A → B → C) {p : Row T A} {q : Row T B} {f : A → ℕ} {g : B → ℕ} (h : C → ℕ) → IsSized p f → IsSized q g → ((a : A) (b : B) → h (m a b) ≤ n + (f a + g b)) → IsSizedFrom n (joined_values m p q) h
 both_from n m h hp hq le = record {
   size = λ ts c w.
       rw w.5.2 (
@@ -55,7 +55,7 @@ both_from n m h hp hq le = record {
       omega (arith, k, l, d, ap length w.3, length-append w.0 w.1));
 }
 
-pub second_from : {T A B : Type 0} {n : ℕ} {p : Row T A} {q : Row T B} {f : A → ℕ} {g : B → ℕ} (h : B → ℕ) → IsSized p f → IsSizedFrom n q g → ((a : A) (b : B) → h b ≤ f a + g b) → IsSizedFrom n (second p q) h
+pub second_from : {T A B : Type 0} {n : ℕ} {p : Row T A} {q : Row T B} {f : A → ℕ} {g : B → ℕ} (h : B → ℕ) → IsSized p f → IsSizedFrom n q g → ((a : A) (b : B) → h b ≤ f a + g b) → IsSizedFrom n (keep_second p q) h
 second_from h hp hq le = record {
   size = λ ts b w.
       (let k = hp.size w.0 w.2 w.4 in
@@ -75,7 +75,7 @@ chain_from s g hp hq = record {
 pub sized_chain : {T A B : Type 0} {p : Row T A} (s : Shape) {q : A → Row T B} {f : A → ℕ} (g : B → ℕ) → IsSized p f → ((a : A) → IsSizedFrom (f a) (q a) g) → IsSized (chain p s q) g
 sized_chain s g hp hq = sized_at_zero (chain_from s g (sized_from 0 hp) hq)
 
-pub sized_both : {T A B C : Type 0} (m : A → B → C) {p : Row T A} {q : Row T B} {f : A → ℕ} {g : B → ℕ} (h : C → ℕ) → IsSized p f → IsSized q g → ((a : A) (b : B) → h (m a b) ≤ f a + g b) → IsSized (both m p q) h
+pub sized_both : {T A B C : Type 0} (m : A → B → C) {p : Row T A} {q : Row T B} {f : A → ℕ} {g : B → ℕ} (h : C → ℕ) → IsSized p f → IsSized q g → ((a : A) (b : B) → h (m a b) ≤ f a + g b) → IsSized (joined_values m p q) h
 sized_both m h hp hq le = record {
   size = λ ts c w.
       rw w.5.2 (
@@ -85,7 +85,7 @@ sized_both m h hp hq le = record {
       omega (arith, k, l, n, ap length w.3, length-append w.0 w.1));
 }
 
-pub sized_second : {T A B : Type 0} {p : Row T A} {q : Row T B} {f : A → ℕ} {g : B → ℕ} (h : B → ℕ) → IsSized p f → IsSized q g → ((a : A) (b : B) → h b ≤ f a + g b) → IsSized (second p q) h
+pub sized_second : {T A B : Type 0} {p : Row T A} {q : Row T B} {f : A → ℕ} {g : B → ℕ} (h : B → ℕ) → IsSized p f → IsSized q g → ((a : A) (b : B) → h b ≤ f a + g b) → IsSized (keep_second p q) h
 sized_second h hp hq le = record {
   size = λ ts b w.
       (let k = hp.size w.0 w.2 w.4 in
@@ -94,7 +94,7 @@ sized_second h hp hq le = record {
       omega (arith, k, l, n, ap length w.3, length-append w.0 w.1));
 }
 
-pub sized_before : {T A B : Type 0} {p : Row T A} {q : Row T B} {f : A → ℕ} {g : B → ℕ} (h : A → ℕ) → IsSized p f → IsSized q g → ((a : A) (b : B) → h a ≤ f a + g b) → IsSized (before p q) h
+pub sized_before : {T A B : Type 0} {p : Row T A} {q : Row T B} {f : A → ℕ} {g : B → ℕ} (h : A → ℕ) → IsSized p f → IsSized q g → ((a : A) (b : B) → h a ≤ f a + g b) → IsSized (keep_first p q) h
 sized_before h hp hq le = sized_both (λ a b. a) h hp hq le
 
 pub sized_pair : {T A B : Type 0} {p : Row T A} {q : Row T B} {f : A → ℕ} {g : B → ℕ} (h : A × B → ℕ) → IsSized p f → IsSized q g → ((a : A) (b : B) → h (a, b) ≤ f a + g b) → IsSized (pair p q) h

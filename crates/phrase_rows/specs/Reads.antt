@@ -22,9 +22,9 @@ Takes {T} r ts (Done a rest) = (us : List T) × (ts ≡ us ++ rest) × r.whole u
 Takes {T} r ts (Bad rest) = (us : List T) × (ts ≡ us ++ rest) × r.cut us
 
 -- the tokens that reading leaves
-abbrev pub left : {T A : Type 0} → Reading T A → List T
-left (Done a rest) = rest
-left (Bad rest) = rest
+abbrev pub tokens_behind : {T A : Type 0} → Reading T A → List T
+tokens_behind (Done a rest) = rest
+tokens_behind (Bad rest) = rest
 
 -- The reader reads the row: what it takes is taken rightly, a whole phrase before what cannot go on with it is read,
 -- and the first bad token is told.
@@ -33,7 +33,7 @@ pub record Reads {T A : Type 0} (class : T → ℕ) (r : Row T A) (s : Shape) : 
   -- a whole phrase before what cannot go on with it is read
   pub complete : (us rest : List T) (a : A) → r.whole us a → Stops class s.more rest → r.run (us ++ rest) ≡ Done a rest
   -- the reader gets over each front, whatever follows
-  pub past : (us rest : List T) → Front r us → length (left (r.run (us ++ rest))) ≤ length rest
+  pub past : (us rest : List T) → Front r us → length (tokens_behind (r.run (us ++ rest))) ≤ length rest
   pub begins : (us : List T) → Front r us → Begins class s.first us
   pub empty : (a : A) → r.whole [] a → s.empty ≡ true
   -- a front of a front is one

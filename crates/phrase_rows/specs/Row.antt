@@ -96,20 +96,20 @@ mapped {T} {A} {B} f p = record {
 }
 
 -- one after the other, with a value of both
-abbrev pub both : {T A B C : Type 0} → (A → B → C) → Row T A → Row T B → Row T C
-both f p q = chain p q.shape (λ a. mapped (f a) q)
+abbrev pub joined_values : {T A B C : Type 0} → (A → B → C) → Row T A → Row T B → Row T C
+joined_values f p q = chain p q.shape (λ a. mapped (f a) q)
 
 -- the first of the two keeps no value
-abbrev pub second : {T A B : Type 0} → Row T A → Row T B → Row T B
-second p q = chain p q.shape (λ a. q)
+abbrev pub keep_second : {T A B : Type 0} → Row T A → Row T B → Row T B
+keep_second p q = chain p q.shape (λ a. q)
 
 -- the second of the two keeps no value
-abbrev pub before : {T A B : Type 0} → Row T A → Row T B → Row T A
-before p q = both (λ a b. a) p q
+abbrev pub keep_first : {T A B : Type 0} → Row T A → Row T B → Row T A
+keep_first p q = joined_values (λ a b. a) p q
 
 -- the values of the two
 abbrev pub pair : {T A B : Type 0} → Row T A → Row T B → Row T (A × B)
-pair p q = both (λ a b. (a, b)) p q
+pair p q = joined_values (λ a b. (a, b)) p q
 
 -- either phrase, by the first token
 abbrev pub alt : {T A : Type 0} → (T → ℕ) → Row T A → Row T A → Row T A
@@ -145,7 +145,7 @@ many {T} {A} class p = record {
 
 -- none, or some with a separator between each two
 abbrev pub separated : {T A S : Type 0} → (T → ℕ) → Row T S → Row T A → Row T (List A)
-separated class s p = alt class (both (λ a xs. a ∷ xs) p (many class (second s p))) (nothing [])
+separated class s p = alt class (joined_values (λ a xs. a ∷ xs) p (many class (keep_second s p))) (nothing [])
 
 -- phrases in a row, each read in the state that the one before gave: from s through these states to the last
 abbrev pub Steps : {T S : Type 0} → (S → List T → S → Type 0) → S → List T → List S → S → Type 0

@@ -6,7 +6,7 @@
 //! ```
 //! let mut pieces = Pieces::new(alloc);
 //! pieces.place(65_536, pointer)?;
-//! pieces.get(65_539) // Some(Piece { pointer, place: 3 })
+//! pieces.get(65_539) // Some(PointerPiece { pointer, place: 3 })
 //! pieces.clear(65_539, 65_540);
 //! pieces.get(65_539) // None
 //! ```
@@ -19,5 +19,5 @@ mod ranges;
 mod slot;
 mod slots;
 
-pub use piece::Piece;
+pub use piece::PointerPiece;
 pub use pieces::Pieces;

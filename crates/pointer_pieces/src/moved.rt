@@ -4,8 +4,8 @@ ghost use Rattle.std.specs.Ordering.{nat_cmp};
 ghost use Rattle.std.specs.BTreeMap as tree;
 ghost use Rattle.pointer_pieces.specs.Pieces.{at_slots, shifted};
 
-use crate::piece::Piece;
-use crate::slot::Slot;
+use crate::piece::PointerPiece;
+use crate::slot::PieceSlot;
 use crate::slots::first_piece;
 use std::alloc::{AllocError, Global};
 use std::collections::BTreeMap;
@@ -13,11 +13,11 @@ use std::collections::BTreeMap;
 /// The pieces of a range, at the addresses where a copy puts them.
 pub fn moved(
     alloc: Global,
-    slots: &BTreeMap<u64, Slot>,
+    slots: &BTreeMap<u64, PieceSlot>,
     to: u64,
     from: u64,
     count: u64,
-) -> Result<BTreeMap<u64, Piece>, AllocError>
+) -> Result<BTreeMap<u64, PointerPiece>, AllocError>
     requires target { to + count < 2 ^ 64 }
     requires source { from + count < 2 ^ 64 }
     ensures { IfOk result (λ m. (q : ℕ) → tree.get nat_cmp m q ≡ shifted to from count (at_slots (tree.get nat_cmp slots.now)) q) }

@@ -6,8 +6,8 @@ ghost use Rattle.ir_eval.specs.declared.value.Pointer.{Pointer};
 ghost use Rattle.pointer_pieces.specs.Pieces.{at_slots, without, with_pointer, with_moved};
 
 use crate::moved::moved;
-use crate::piece::Piece;
-use crate::slot::Slot;
+use crate::piece::PointerPiece;
+use crate::slot::PieceSlot;
 use crate::slots::{clear, first_piece, make_room, put, write_all};
 use ir_eval::Pointer;
 use std::alloc::{AllocError, Global};
@@ -17,11 +17,15 @@ use std::collections::BTreeMap;
 #[derive(Drop)]
 pub struct Pieces {
     alloc: Global,
-    slots: BTreeMap<u64, Slot>,
+    slots: BTreeMap<u64, PieceSlot>,
 }
 
 /// The pieces of a pointer from an address on.
-fn pieces_of(alloc: Global, at: u64, pointer: Pointer) -> Result<BTreeMap<u64, Piece>, AllocError>
+fn pieces_of(
+    alloc: Global,
+    at: u64,
+    pointer: Pointer,
+) -> Result<BTreeMap<u64, PointerPiece>, AllocError>
     requires { at + 8 < 2 ^ 64 }
     ensures { IfOk result (λ m. (q : ℕ) → tree.get nat_cmp m q ≡ with_pointer at 8 pointer (λ q. None) q) }
 {
@@ -29,7 +33,7 @@ fn pieces_of(alloc: Global, at: u64, pointer: Pointer) -> Result<BTreeMap<u64, P
     for k in 0..8 {
         found.insert(
             at + k,
-            Piece {
+            PointerPiece {
                 pointer,
                 place: k as u8,
             },
@@ -50,7 +54,7 @@ impl Pieces {
     }
 
     /// The piece at an address.
-    pub fn get(&self, address: u64) -> Option<Piece>
+    pub fn get(&self, address: u64) -> Option<PointerPiece>
         ensures { result ≡ at_slots (tree.get nat_cmp self.now.slots) address }
     {
         match self.slots.get(&(address / 8)) {
@@ -97,7 +101,7 @@ impl Pieces {
         ensures err { OnErr result ((q : ℕ) → at_slots (tree.get nat_cmp self.new.slots) q ≡ at_slots (tree.get nat_cmp self.old.slots) q) }
     {
         if at % 8 == 0 {
-            put(&mut self.slots, at / 8, Slot::whole(pointer))?;
+            put(&mut self.slots, at / 8, PieceSlot::whole(pointer))?;
             return Ok(());
         }
         let found = pieces_of(self.alloc, at, pointer)?;

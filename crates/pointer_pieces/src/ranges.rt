@@ -3,11 +3,15 @@ ghost use Rattle.std.specs.Prelude.{◌≡◌, ℕ, ◌<◌, ◌≤◌, IfSome, 
 ghost use Rattle.std.specs.Ordering.{nat_cmp};
 ghost use Rattle.std.specs.BTreeMap as tree;
 
-use crate::piece::Piece;
+use crate::piece::PointerPiece;
 use std::collections::BTreeMap;
 
 /// The first piece of a range, and its address.
-pub fn first_within(pieces: &BTreeMap<u64, Piece>, from: u64, to: u64) -> Option<(u64, Piece)>
+pub fn first_within(
+    pieces: &BTreeMap<u64, PointerPiece>,
+    from: u64,
+    to: u64,
+) -> Option<(u64, PointerPiece)>
     requires { from ≤ to }
     ensures within { IfSome result (λ e. (from ≤ e.0) × (e.0 < to)) }
     ensures here { IfSome result (λ e. tree.get nat_cmp pieces.now e.0 ≡ Some e.1) }

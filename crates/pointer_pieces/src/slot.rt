@@ -5,14 +5,14 @@ ghost use Rattle.std.specs.BTreeMap as tree;
 ghost use Rattle.ir_eval.specs.declared.value.Pointer.{Pointer};
 ghost use Rattle.pointer_pieces.specs.Pieces.{is_within};
 
-use crate::piece::Piece;
+use crate::piece::PointerPiece;
 use ir_eval::Pointer;
 use std::collections::BTreeMap;
 
 /// The pieces at eight addresses, the first of which is a multiple of 8.
 #[derive(Clone, Copy)]
-pub struct Slot {
-    pub pieces: [Option<Piece>; 8],
+pub struct PieceSlot {
+    pub pieces: [Option<PointerPiece>; 8],
 }
 
 /// Whether an address is one of a range.
@@ -24,7 +24,12 @@ fn is_within(from: u64, to: u64, address: u64) -> bool
 }
 
 /// A piece, unless it is one of a range.
-fn unless_within(piece: Option<Piece>, from: u64, to: u64, address: u64) -> Option<Piece>
+fn unless_within(
+    piece: Option<PointerPiece>,
+    from: u64,
+    to: u64,
+    address: u64,
+) -> Option<PointerPiece>
     ensures { result ≡ (if is_within from to address then None else piece) }
 {
     if is_within(from, to, address) {
@@ -35,7 +40,7 @@ fn unless_within(piece: Option<Piece>, from: u64, to: u64, address: u64) -> Opti
 }
 
 /// A piece, if it is one of a range.
-fn if_within(piece: Option<Piece>, from: u64, to: u64, address: u64) -> Option<Piece>
+fn if_within(piece: Option<PointerPiece>, from: u64, to: u64, address: u64) -> Option<PointerPiece>
     ensures { result ≡ (if is_within from to address then piece else None) }
 {
     if is_within(from, to, address) {
@@ -47,12 +52,12 @@ fn if_within(piece: Option<Piece>, from: u64, to: u64, address: u64) -> Option<P
 
 /// In a range the found piece, elsewhere the one.
 fn found_within(
-    piece: Option<Piece>,
+    piece: Option<PointerPiece>,
     from: u64,
     to: u64,
     address: u64,
-    found: &BTreeMap<u64, Piece>,
-) -> Option<Piece>
+    found: &BTreeMap<u64, PointerPiece>,
+) -> Option<PointerPiece>
     ensures { result ≡ (if is_within from to address then tree.get nat_cmp found.now address else piece) }
 {
     if is_within(from, to, address) {
@@ -63,18 +68,18 @@ fn found_within(
 }
 
 /// Whether a piece is that of a pointer, counted from the lowest.
-fn is_piece(piece: Option<Piece>, pointer: Pointer, place: u8) -> bool
+fn is_piece(piece: Option<PointerPiece>, pointer: Pointer, place: u8) -> bool
     ensures same { result ≡ true → piece ≡ Some (record { pointer = pointer; place = place }) }
     ensures other { result ≡ false → piece ≢ Some (record { pointer = pointer; place = place }) }
 {
     match piece {
-        Some(piece) => piece == Piece { pointer, place },
+        Some(piece) => piece == PointerPiece { pointer, place },
         None => false,
     }
 }
 
 /// Whether there is no piece.
-fn is_absent(piece: Option<Piece>) -> bool
+fn is_absent(piece: Option<PointerPiece>) -> bool
     ensures none { result ≡ true → piece ≡ None }
     ensures some { result ≡ false → IsSome piece }
 {
@@ -84,26 +89,26 @@ fn is_absent(piece: Option<Piece>) -> bool
     }
 }
 
-impl Slot {
+impl PieceSlot {
     /// No piece.
-    pub fn none() -> Slot
+    pub fn none() -> PieceSlot
         ensures { (k : ℕ) → slice_index_or result.pieces k None ≡ None }
     {
-        Slot { pieces: [None; 8] }
+        PieceSlot { pieces: [None; 8] }
     }
 
     /// All pieces of a pointer, in order.
-    pub fn whole(pointer: Pointer) -> Slot
+    pub fn whole(pointer: Pointer) -> PieceSlot
         ensures { (k : ℕ) → k < 8 → slice_index_or result.pieces k None ≡ Some (record { pointer = pointer; place = k }) }
     {
         let mut pieces = [None; 8];
         'places: for k in 0..8 {
-            pieces[k] = Some(Piece {
+            pieces[k] = Some(PointerPiece {
                 pointer,
                 place: k as u8,
             });
         }
-        Slot { pieces }
+        PieceSlot { pieces }
     }
 
     /// The pointer all of whose pieces these are, in order; None where there is no such pointer.
@@ -135,7 +140,7 @@ impl Slot {
     }
 
     /// The slot of that number without the pieces of a range of addresses.
-    pub fn without(self, number: u64, from: u64, to: u64) -> Slot
+    pub fn without(self, number: u64, from: u64, to: u64) -> PieceSlot
         requires { number < 2 ^ 61 }
         ensures { (k : ℕ) → k < 8 → slice_index_or result.pieces k None ≡ (if is_within from to (8 * number + k) then None else slice_index_or self.pieces k None) }
     {
@@ -143,11 +148,17 @@ impl Slot {
         'places: for k in 0..8 {
             pieces[k] = unless_within(pieces[k], from, to, 8 * number + k as u64);
         }
-        Slot { pieces }
+        PieceSlot { pieces }
     }
 
     /// The slot of that number with the found pieces, and no others, in a range of addresses.
-    pub fn with(self, number: u64, from: u64, to: u64, found: &BTreeMap<u64, Piece>) -> Slot
+    pub fn with(
+        self,
+        number: u64,
+        from: u64,
+        to: u64,
+        found: &BTreeMap<u64, PointerPiece>,
+    ) -> PieceSlot
         requires { number < 2 ^ 61 }
         ensures { (k : ℕ) → k < 8 → slice_index_or result.pieces k None ≡ (if is_within from to (8 * number + k) then tree.get nat_cmp found.now (8 * number + k) else slice_index_or self.pieces k None) }
     {
@@ -155,11 +166,11 @@ impl Slot {
         'places: for k in 0..8 {
             pieces[k] = found_within(pieces[k], from, to, 8 * number + k as u64, found);
         }
-        Slot { pieces }
+        PieceSlot { pieces }
     }
 
     /// The first piece of a range of addresses that is in the slot of that number, and its address.
-    pub fn first(&self, number: u64, from: u64, to: u64) -> Option<(u64, Piece)>
+    pub fn first(&self, number: u64, from: u64, to: u64) -> Option<(u64, PointerPiece)>
         requires { number < 2 ^ 61 }
         ensures within { IfSome result (λ e. (from ≤ e.0) × (e.0 < to)) }
         ensures slot { IfSome result (λ e. e.0 / 8 ≡ number) }

@@ -4,14 +4,14 @@ ghost use Rattle.std.specs.Ordering.{nat_cmp};
 ghost use Rattle.std.specs.BTreeMap as tree;
 ghost use Rattle.pointer_pieces.specs.Pieces.{at_slots, within_or, without};
 
-use crate::piece::Piece;
+use crate::piece::PointerPiece;
 use crate::ranges::first_within;
-use crate::slot::Slot;
+use crate::slot::PieceSlot;
 use std::alloc::AllocError;
 use std::collections::BTreeMap;
 
 /// The first slot of a range of numbers.
-fn first_slot(slots: &BTreeMap<u64, Slot>, from: u64, to: u64) -> Option<(u64, Slot)>
+fn first_slot(slots: &BTreeMap<u64, PieceSlot>, from: u64, to: u64) -> Option<(u64, PieceSlot)>
     requires { from ≤ to }
     ensures within { IfSome result (λ e. (from ≤ e.0) × (e.0 < to)) }
     ensures here { IfSome result (λ e. tree.get nat_cmp slots.now e.0 ≡ Some e.1) }
@@ -23,7 +23,11 @@ fn first_slot(slots: &BTreeMap<u64, Slot>, from: u64, to: u64) -> Option<(u64, S
 }
 
 /// Puts a slot in the place of what has that number.
-pub fn put(slots: &mut BTreeMap<u64, Slot>, number: u64, slot: Slot) -> Result<(), AllocError>
+pub fn put(
+    slots: &mut BTreeMap<u64, PieceSlot>,
+    number: u64,
+    slot: PieceSlot,
+) -> Result<(), AllocError>
     ensures put { OnOk result ((s : ℕ) → tree.get nat_cmp slots.new s ≡ (if s == number then Some slot else tree.get nat_cmp slots.old s)) }
     ensures err { OnErr result ((s : ℕ) → tree.get nat_cmp slots.new s ≡ tree.get nat_cmp slots.old s) }
 {
@@ -32,7 +36,7 @@ pub fn put(slots: &mut BTreeMap<u64, Slot>, number: u64, slot: Slot) -> Result<(
 }
 
 /// Changes a slot that is there, which takes no memory.
-fn change(slots: &mut BTreeMap<u64, Slot>, number: u64, slot: Slot)
+fn change(slots: &mut BTreeMap<u64, PieceSlot>, number: u64, slot: PieceSlot)
     requires { IsSome (tree.get nat_cmp slots.old number) }
     ensures { (s : ℕ) → tree.get nat_cmp slots.new s ≡ (if s == number then Some slot else tree.get nat_cmp slots.old s) }
 {
@@ -42,14 +46,14 @@ fn change(slots: &mut BTreeMap<u64, Slot>, number: u64, slot: Slot)
 }
 
 /// Takes a slot away.
-fn take(slots: &mut BTreeMap<u64, Slot>, number: u64)
+fn take(slots: &mut BTreeMap<u64, PieceSlot>, number: u64)
     ensures { (s : ℕ) → tree.get nat_cmp slots.new s ≡ (if s == number then None else tree.get nat_cmp slots.old s) }
 {
     let _slot = slots.remove(&number);
 }
 
 /// Puts a slot in the place of one that is there, which takes no memory. Where it has no piece there is no slot then.
-fn leave(slots: &mut BTreeMap<u64, Slot>, number: u64, left: Slot)
+fn leave(slots: &mut BTreeMap<u64, PieceSlot>, number: u64, left: PieceSlot)
     requires { IsSome (tree.get nat_cmp slots.old number) }
     ensures here { (q : ℕ) → q / 8 ≡ number → at_slots (tree.get nat_cmp slots.new) q ≡ slice_index_or left.pieces (q % 8) None }
     ensures others { (s : ℕ) → s ≢ number → tree.get nat_cmp slots.new s ≡ tree.get nat_cmp slots.old s }
@@ -62,7 +66,7 @@ fn leave(slots: &mut BTreeMap<u64, Slot>, number: u64, left: Slot)
 }
 
 /// Takes the pieces of a range out of a slot that is there. One that has none behind that is taken away.
-fn hide(slots: &mut BTreeMap<u64, Slot>, number: u64, slot: Slot, from: u64, to: u64)
+fn hide(slots: &mut BTreeMap<u64, PieceSlot>, number: u64, slot: PieceSlot, from: u64, to: u64)
     requires small { number < 2 ^ 61 }
     requires there { tree.get nat_cmp slots.old number ≡ Some slot }
     ensures here { (q : ℕ) → q / 8 ≡ number → at_slots (tree.get nat_cmp slots.new) q ≡ without from to (at_slots (tree.get nat_cmp slots.old)) q }
@@ -85,7 +89,7 @@ fn end_of(from: u64, to: u64) -> u64
 }
 
 /// Takes away the pieces of a range, which takes no memory.
-pub fn clear(slots: &mut BTreeMap<u64, Slot>, from: u64, to: u64)
+pub fn clear(slots: &mut BTreeMap<u64, PieceSlot>, from: u64, to: u64)
     requires { from ≤ to }
     ensures { (q : ℕ) → at_slots (tree.get nat_cmp slots.new) q ≡ without from to (at_slots (tree.get nat_cmp slots.old)) q }
 {
@@ -98,7 +102,7 @@ pub fn clear(slots: &mut BTreeMap<u64, Slot>, from: u64, to: u64)
 }
 
 /// Makes sure that there is a slot for the found piece at an address. What is seen stays the same, also where memory is refused.
-fn make_slot(slots: &mut BTreeMap<u64, Slot>, address: u64) -> Result<(), AllocError>
+fn make_slot(slots: &mut BTreeMap<u64, PieceSlot>, address: u64) -> Result<(), AllocError>
     ensures room { OnOk result (IsSome (tree.get nat_cmp slots.new (address / 8))) }
     ensures stay { (s : ℕ) → IsSome (tree.get nat_cmp slots.old s) → IsSome (tree.get nat_cmp slots.new s) }
     ensures same { (q : ℕ) → at_slots (tree.get nat_cmp slots.new) q ≡ at_slots (tree.get nat_cmp slots.old) q }
@@ -106,14 +110,14 @@ fn make_slot(slots: &mut BTreeMap<u64, Slot>, address: u64) -> Result<(), AllocE
     if slots.contains_key(&(address / 8)) {
         return Ok(());
     }
-    put(slots, address / 8, Slot::none())?;
+    put(slots, address / 8, PieceSlot::none())?;
     Ok(())
 }
 
 /// Makes sure that there is a slot for each of the found pieces in a range. What is seen stays the same, also where memory is refused.
 fn add_slots(
-    slots: &mut BTreeMap<u64, Slot>,
-    found: &BTreeMap<u64, Piece>,
+    slots: &mut BTreeMap<u64, PieceSlot>,
+    found: &BTreeMap<u64, PointerPiece>,
     from: u64,
     to: u64,
 ) -> Result<(), AllocError>
@@ -130,7 +134,7 @@ fn add_slots(
 }
 
 /// Takes away the slots of a range of addresses that have no piece, which takes no memory. What is seen stays the same.
-fn sweep(slots: &mut BTreeMap<u64, Slot>, from: u64, to: u64)
+fn sweep(slots: &mut BTreeMap<u64, PieceSlot>, from: u64, to: u64)
     requires { from ≤ to }
     ensures { (q : ℕ) → at_slots (tree.get nat_cmp slots.new) q ≡ at_slots (tree.get nat_cmp slots.old) q }
 {
@@ -145,8 +149,8 @@ fn sweep(slots: &mut BTreeMap<u64, Slot>, from: u64, to: u64)
 /// Makes sure that there is a slot for each of the found pieces in a range. What is seen stays the same, also where memory is refused;
 /// then no slot without a piece stays there.
 pub fn make_room(
-    slots: &mut BTreeMap<u64, Slot>,
-    found: &BTreeMap<u64, Piece>,
+    slots: &mut BTreeMap<u64, PieceSlot>,
+    found: &BTreeMap<u64, PointerPiece>,
     from: u64,
     to: u64,
 ) -> Result<(), AllocError>
@@ -164,7 +168,12 @@ pub fn make_room(
 }
 
 /// Makes a range have the found pieces and no others. There is a slot for each, so it takes no memory.
-pub fn write_all(slots: &mut BTreeMap<u64, Slot>, found: &BTreeMap<u64, Piece>, from: u64, to: u64)
+pub fn write_all(
+    slots: &mut BTreeMap<u64, PieceSlot>,
+    found: &BTreeMap<u64, PointerPiece>,
+    from: u64,
+    to: u64,
+)
     requires order { from ≤ to }
     requires room { (q : ℕ) → from ≤ q → q < to → IsSome (tree.get nat_cmp found.now q) → IsSome (tree.get nat_cmp slots.old (q / 8)) }
     ensures { (q : ℕ) → at_slots (tree.get nat_cmp slots.new) q ≡ within_or from to (tree.get nat_cmp found.now) (at_slots (tree.get nat_cmp slots.old)) q }
@@ -178,7 +187,11 @@ pub fn write_all(slots: &mut BTreeMap<u64, Slot>, found: &BTreeMap<u64, Piece>, 
 }
 
 /// The first piece of a range, and its address.
-pub fn first_piece(slots: &BTreeMap<u64, Slot>, from: u64, to: u64) -> Option<(u64, Piece)>
+pub fn first_piece(
+    slots: &BTreeMap<u64, PieceSlot>,
+    from: u64,
+    to: u64,
+) -> Option<(u64, PointerPiece)>
     requires { from ≤ to }
     ensures within { IfSome result (λ e. (from ≤ e.0) × (e.0 < to)) }
     ensures here { IfSome result (λ e. at_slots (tree.get nat_cmp slots.now) e.0 ≡ Some e.1) }

@@ -3,7 +3,9 @@ ghost use Rattle.std.specs.Prelude.{◌⊎◌, ◌<◌, ◌^◌, IsTrue};
 ghost use Rattle.ir_printf.specs.Printed.{is_long};
 
 use ir_base::Text;
-use ir_printf::{Conversion, ConversionKind, Length, Piece, bytes_text, next_piece, number_text};
+use ir_printf::{
+    Conversion, ConversionKind, Length, PatternPiece, bytes_text, next_piece, number_text,
+};
 use std::alloc::{AllocError, Global};
 
 /// What a line comes to.
@@ -23,12 +25,12 @@ pub fn written_of(alloc: Global, pattern: &[u8], arguments: &str) -> Result<Writ
     let mut at = 0;
     'pieces: for _ in 0..=pattern.len() {
         match next_piece(pattern, at) {
-            Ok(Piece::End) => break,
-            Ok(Piece::Literal(_, to)) => {
+            Ok(PatternPiece::End) => break,
+            Ok(PatternPiece::Literal(_, to)) => {
                 text.extend(&pattern[at..to])?;
                 at = to;
             }
-            Ok(Piece::Convert(conversion, to)) => {
+            Ok(PatternPiece::Convert(conversion, to)) => {
                 at = to;
                 if matches!(conversion.kind, ConversionKind::Percent) {
                     text.push(b'%')?;

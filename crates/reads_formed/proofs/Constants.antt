@@ -16,7 +16,7 @@ use Rattle.module_arena.specs.TypeTests.{is_pointer}
 use Rattle.module_arena.specs.WellFormed.{are_good_types, depth, greatest_depth, has_entry, is_good_body, is_good_constant, is_good_part, is_good_type, is_in_range, names_an_entry, type_in_constant}
 use Rattle.record_table.specs.Walk.{Walk, going, stopped, ask, next}
 use Rattle.record_table.specs.Fields.{Numbering, ty, global, text, flags}
-use Rattle.record_table.specs.Constants.{Form, Number, NullPointer, Undefined, Poisoned, Zero, Global, Listed, Bytewise, Element, Converted, Computed, Parts, alike, these, no_parts, Reads, binary_opcode, body_parts, brackets_of, bytewise, cast_opcode, computed, converted, element, first_part, form_of_code, has_parts, integer, integer_at, later_parts, listed, of_form, one_of, parts, parts_of, read_nested, typed}
+use Rattle.record_table.specs.Constants.{ConstantForm, Number, NullPointer, Undefined, Poisoned, Zero, Global, Listed, Bytewise, Element, Converted, Computed, Parts, alike, these, no_parts, Reads, binary_opcode, body_parts, brackets_of, bytewise, cast_opcode, computed, converted, element, first_part, form_of_code, has_parts, integer, integer_at, later_parts, listed, of_form, one_of, parts, parts_of, read_nested, typed}
 use Rattle.reads_formed.proofs.Ranges.{IsPlain, range_bytes, range_plain}
 use Rattle.reads_formed.proofs.Tests.{each_passes}
 use Rattle.reads_formed.proofs.Texts.{text_read}
@@ -351,7 +351,7 @@ module _ (m : Module) (k : Numbering) (of : IsOf m k) where
   nested_back : (most less : ℕ) (t : Tree) (one : Walk → Constant × Walk) → most ≡ suc less → IsRead (ConstAt (suc less) t) one → (w : Walk) → IsFine (one w).1 → IsFine w × ConstAt most t (one w).0
   nested_back most less t one same is w h = let r = is.back w h in (r.0, λ g. subst (λ n. IsConst m n t (one w).0) (sym same) (r.1 g))
 
-  form_back : (most : ℕ) (inner : Option Reads) → IsInner most inner → (form : Option Form) (t : Tree) (w : Walk) → IsFine (of_form k inner form t w).1 → IsFine w × ConstAt most t (of_form k inner form t w).0
+  form_back : (most : ℕ) (inner : Option Reads) → IsInner most inner → (form : Option ConstantForm) (t : Tree) (w : Walk) → IsFine (of_form k inner form t w).1 → IsFine w × ConstAt most t (of_form k inner form t w).0
   unfolding of_form
   form_back most inner each None t w h = absurd (never_stopped 3 w h)
   form_back most inner each (Some Number) t w h = integer_back most t w h
@@ -372,7 +372,7 @@ module _ (m : Module) (k : Numbering) (of : IsOf m k) where
   form_back most None each (Some Computed) t w h = absurd (never_stopped 7 w h)
   form_back most (Some inner) each (Some Computed) t w h = nested_back most each.0 t (computed k inner t) each.1 (computed_read each.0 inner each.2 t) w h
 
-  form_sound : (most : ℕ) (inner : Option Reads) → IsInner most inner → (form : Option Form) (t : Tree) (w : Walk) → IsSound w → IsSound (of_form k inner form t w).1
+  form_sound : (most : ℕ) (inner : Option Reads) → IsInner most inner → (form : Option ConstantForm) (t : Tree) (w : Walk) → IsSound w → IsSound (of_form k inner form t w).1
   unfolding of_form
   form_sound most inner each None t w s = stopped_sound 3 w s
   form_sound most inner each (Some Number) t w s = integer_sound t w s
@@ -391,7 +391,7 @@ module _ (m : Module) (k : Numbering) (of : IsOf m k) where
   form_sound most None each (Some Computed) t w s = stopped_sound 7 w s
   form_sound most (Some inner) each (Some Computed) t w s = (computed_read each.0 inner each.2 t).sound w s
 
-  pub form_read : (most : ℕ) (inner : Option Reads) → IsInner most inner → (form : Option Form) (t : Tree) → IsRead (ConstAt most t) (of_form k inner form t)
+  pub form_read : (most : ℕ) (inner : Option Reads) → IsInner most inner → (form : Option ConstantForm) (t : Tree) → IsRead (ConstAt most t) (of_form k inner form t)
   form_read most inner each form t = record { back = form_back most inner each form t; sound = form_sound most inner each form t }
 
   -- a constant in which lists and expressions nest so deep

@@ -13,7 +13,7 @@ use Rattle.record_table.specs.Bodies.{Begun, body}
 use Rattle.record_table.specs.Faults.{Answer, ◌>>=◌, Records, a_block, a_record, BadRecord, BadVersion, UnknownRecord, also, is_block_id}
 use Rattle.record_table.specs.Fields.{Texts, name}
 use Rattle.record_table.specs.Layout.{judged}
-use Rattle.record_table.specs.Records.{Sofar, alias, alias_record, block_in, body_block, first_due, function, function_record, give_body, is_new, is_version, may_follow, names_of, placed, record_in, text_record, types_block, variable, variable_record, version, version_record}
+use Rattle.record_table.specs.Records.{Sofar, alias, alias_record, block_in, body_block, first_due, function, function_record, give_body, is_new, is_version, may_follow, names_of, record_at_place, record_in, text_record, types_block, variable, variable_record, version, version_record}
 use Rattle.record_table.specs.TypeRecords.{listed}
 use Rattle.reads_formed.proofs.Good.{AreTexts}
 use Rattle.reads_formed.proofs.Tests.{both_of, distinct_with}
@@ -110,7 +110,7 @@ module _ (t : Texts) (are : AreTexts t) (all : Records) where
         late = λ more. absurd (omega (arith, more, after));
       }
 
-  version_step : (s u : Sofar) (operands : List ℕ) (behind : Records) (broken : Option ℕ) → IsSoFar t all (a_record 1 operands behind) s → placed s 1 broken s ≡ Ok u → IsSoFar t all behind u
+  version_step : (s u : Sofar) (operands : List ℕ) (behind : Records) (broken : Option ℕ) → IsSoFar t all (a_record 1 operands behind) s → record_at_place s 1 broken s ≡ Ok u → IsSoFar t all behind u
   version_step s u operands behind broken h e =
       let d = is_placed s 1 broken s u e in
       let first : s.last ≡ 0 = eqb-true s.last 0 d.may in
@@ -122,7 +122,7 @@ module _ (t : Texts) (are : AreTexts t) (all : Records) where
   version_by s u [] behind h e = version_step s u [] behind (judged version []).1 h e
   version_by s u (n ∷ []) behind h e = by (nat_eq s.last 0 && not (is_version n)) e
     where
-      by : (b : Bool) → cond {A = Answer Sofar} b (Err (BadVersion n)) (placed s 1 (also 5 (nat_eq n s.texts.version) None) s) ≡ Ok u → IsSoFar t all behind u
+      by : (b : Bool) → cond {A = Answer Sofar} b (Err (BadVersion n)) (record_at_place s 1 (also 5 (nat_eq n s.texts.version) None) s) ≡ Ok u → IsSoFar t all behind u
       by true e = absurd (cc)
       by false e = version_step s u (n ∷ []) behind (also 5 (nat_eq n s.texts.version) None) h e
   version_by s u (n ∷ m ∷ operands) behind h e = version_step s u (n ∷ m ∷ operands) behind (judged version (n ∷ m ∷ operands)).1 h e

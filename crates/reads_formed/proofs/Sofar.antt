@@ -8,7 +8,7 @@ use Rattle.module_arena.specs.Names.{are_bytes}
 use Rattle.module_arena.specs.WellFormed.{are_good_names, are_good_structs, is_good_type}
 use Rattle.record_table.specs.Fields.{Numbering, Texts}
 use Rattle.record_table.specs.Faults.{Records, also}
-use Rattle.record_table.specs.Records.{Sofar, may_follow, names_of, placed}
+use Rattle.record_table.specs.Records.{Sofar, may_follow, names_of, record_at_place}
 use Rattle.reads_formed.proofs.Unbroken.{OfSome, also_held, unless_ok}
 use Rattle.reads_formed.proofs.Good.{IsOf}
 use Rattle.reads_formed.proofs.Entries.{IsAlias, IsFunction, IsVariable}
@@ -80,7 +80,7 @@ pub record IsPlaced (s : Sofar) (place : ℕ) (broken : Option ℕ) (after u : S
   pub may : may_follow s.last place ≡ true
   pub same : (record after { at = suc s.at; last = place }) ≡ u
 
-pub is_placed : (s : Sofar) (place : ℕ) (broken : Option ℕ) (after u : Sofar) → placed s place broken after ≡ Ok u → IsPlaced s place broken after u
+pub is_placed : (s : Sofar) (place : ℕ) (broken : Option ℕ) (after u : Sofar) → record_at_place s place broken after ≡ Ok u → IsPlaced s place broken after u
 is_placed s place broken after u e =
     let one = unless_ok 8 s.at (also 5 (may_follow s.last place) broken) (record after { at = suc s.at; last = place }) u e in
     let five = also_held 5 (may_follow s.last place) broken one.0 in

@@ -9,7 +9,7 @@ use Rattle.module_arena.specs.Names as arena
 use Rattle.record_table.specs.Walk.{Walk, going, stopped, ask, next}
 use Rattle.record_table.specs.Layout.{many, judged}
 use Rattle.record_table.specs.Fields.{Texts, is_name, truth}
-use Rattle.record_table.specs.TypeRecords.{Kind, OfInt, OfPtr, OfVoid, OfArray, OfStruct, OfName, body_by, definition, earlier, ir_type, may_have, struct_body, width}
+use Rattle.record_table.specs.TypeRecords.{TypeKind, OfInt, OfPtr, OfVoid, OfArray, OfStruct, OfName, body_by, definition, earlier, ir_type, may_have, struct_body, width}
 use Rattle.reads_formed.proofs.Tests.{place_of_each}
 use Rattle.reads_formed.proofs.Texts.{HoldsTexts, IsAlike, ask_alike, below_read, name_good, next_alike}
 use Rattle.reads_formed.proofs.Unbroken.{Any, IsRead, asking_read, both_read, counted_read, mapped_read, nothing_read, number_read, to_end_read, weaker_read}
@@ -32,7 +32,7 @@ all_below : (count : ℕ) (parts : List ℕ) → AllByRecursion (λ n. n < count
 all_below count parts h = place_of_each (λ n. n < count) parts h
 
 -- a type of that kind, where it breaks no rule
-pub type_read : (count known : ℕ) (kind : Kind) → IsRead (Knows count known) (ir_type count known kind).read
+pub type_read : (count known : ℕ) (kind : TypeKind) → IsRead (Knows count known) (ir_type count known kind).read
 type_read count known OfInt = mapped_read width_read (Knows count known) (λ w. Int w) (λ w h. h)
 type_read count known OfPtr = mapped_read nothing_read (Knows count known) (λ u. Ptr) (λ u h. tt)
 type_read count known OfVoid = mapped_read nothing_read (Knows count known) (λ u. Void) (λ u h. tt)

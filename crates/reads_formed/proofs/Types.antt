@@ -14,7 +14,7 @@ use Rattle.module_arena.specs.WellFormed.{is_good_type, are_good_names}
 use Rattle.record_table.specs.Layout.{judged}
 use Rattle.record_table.specs.Fields.{Texts, is_name}
 use Rattle.record_table.specs.Faults.{Answer, ◌>>=◌, Records, no_more, a_block, a_record, BadRecord, UnknownRecord, is_block_id, also}
-use Rattle.record_table.specs.TypeRecords.{Listed, Kind, all_fit, are_distinct, at_first, called, definition, ir_type, kind_of_code, kinds, listed, listed_by, listed_from, names_in, stand_ins, struct_record, type_record}
+use Rattle.record_table.specs.TypeRecords.{Listed, TypeKind, all_fit, are_distinct, at_first, called, definition, ir_type, kind_of_code, kinds, listed, listed_by, listed_from, names_in, stand_ins, struct_record, type_record}
 use Rattle.reads_formed.proofs.Good.{AreGoodTypes, AreTexts}
 use Rattle.reads_formed.proofs.TypeRecords.{definition_read, name_ahead, type_read}
 use Rattle.reads_formed.proofs.Tests.{all_pass, both_of, distinct_with, each_set, each_too, not_is, other_way}
@@ -57,7 +57,7 @@ names_stay [] id b = refl
 names_stay (s ∷ all) zero b = refl
 names_stay (s ∷ all) (suc id) b = ap (λ (ns : List Bytes). s.0 ∷ ns) (names_stay all id b)
 
-not_seven : (code : ℕ) (kind : Kind) → kind_of_code code kinds ≡ Some kind → nat_eq code 7 ≡ false
+not_seven : (code : ℕ) (kind : TypeKind) → kind_of_code code kinds ≡ Some kind → nat_eq code 7 ≡ false
 not_seven code kind h = elim (cases_Bool (nat_eq code 7)) [
   | inl is ↦ absurd (never (subst (λ c. kind_of_code c kinds ≡ Some kind) (eqb-true code 7 is) h))
   | inr differs ↦ differs
@@ -85,7 +85,7 @@ module _ (t : Texts) (holds : HoldsTexts t) (all : List Bytes) where
     pub so_far : IsSoFar rest s
     pub fit : all_fit s.types ≡ true
 
-  type_step : (s u : Listed) (code : ℕ) (operands : List ℕ) (behind : Records) (kind : Kind) → kind_of_code code kinds ≡ Some kind → IsSoFar (a_record code operands behind) s
+  type_step : (s u : Listed) (code : ℕ) (operands : List ℕ) (behind : Records) (kind : TypeKind) → kind_of_code code kinds ≡ Some kind → IsSoFar (a_record code operands behind) s
       → type_record s (judged (ir_type (length s.types.types) (length s.types.structs) kind) operands) ≡ Ok u → IsFit behind u
   type_step s u code operands behind kind of h e =
       let count = length s.types.types in
@@ -155,7 +155,7 @@ module _ (t : Texts) (holds : HoldsTexts t) (all : List Bytes) where
   record_step : (s u : Listed) (code : ℕ) (operands : List ℕ) (behind : Records) → IsSoFar (a_record code operands behind) s → listed_by s code operands (kind_of_code code kinds) ≡ Ok u → IsFit behind u
   record_step s u code operands behind h e = by (kind_of_code code kinds) refl e
     where
-      by : (o : Option Kind) → kind_of_code code kinds ≡ o → listed_by s code operands o ≡ Ok u → IsFit behind u
+      by : (o : Option TypeKind) → kind_of_code code kinds ≡ o → listed_by s code operands o ≡ Ok u → IsFit behind u
       by (Some kind) of e = type_step s u code operands behind kind of h e
       by None of e = seven_step s u code operands behind (nat_eq code 7) refl h e
 

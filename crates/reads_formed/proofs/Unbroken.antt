@@ -5,7 +5,7 @@ use Rattle.std.specs.List.{AllByRecursion}
 use Rattle.std.proofs.lemmas.Bool.{ltb-true}
 use Rattle.module_arena.specs.Forms.{is_not_empty}
 use Rattle.record_table.specs.Faults.{also, unless_broken}
-use Rattle.record_table.specs.Walk.{Walk, going, stopped, ask, break, stop, next, left, told}
+use Rattle.record_table.specs.Walk.{Walk, going, stopped, ask, break, stop, next, count_left, told}
 use Rattle.record_table.specs.Layout.{Layout, number, nothing, many, is_positive, option_by, option, either_by, either, indexed, coded, found_or, judged}
 
 -- no rule is broken, and it is known what stands next
@@ -155,10 +155,10 @@ counted_some_read {P = P} {one = one} is = record {
 }
 
 -- as many as there are operands
-pub to_end_read : {A : Type 0} {P : A → Type 0} {one : Walk → A × Walk} → IsRead P one → IsRead (AllByRecursion P) (λ w. many one (left w) w)
+pub to_end_read : {A : Type 0} {P : A → Type 0} {one : Walk → A × Walk} → IsRead P one → IsRead (AllByRecursion P) (λ w. many one (count_left w) w)
 to_end_read {P = P} {one = one} is = record {
-  back = λ w h. let r = many_back P one is (left w) w h in (r.0, r.1.0);
-  sound = λ w s. many_sound P one is (left w) w s;
+  back = λ w h. let r = many_back P one is (count_left w) w h in (r.0, r.1.0);
+  sound = λ w s. many_sound P one is (count_left w) w s;
 }
 
 -- ---- options, one of two, and codes

@@ -1,7 +1,7 @@
 -- The instructions and blocks of a text: integer types have 1 to 128 bits, and a store has no result.
 use Rattle.std.proofs.Common.{◌∷◌, Some}
 use Rattle.ir_tables.specs.declared.opcode.Opcode.TheVariants as op
-use Rattle.phrase_rows.specs.Row.{Row, before, pair, optional}
+use Rattle.phrase_rows.specs.Row.{Row, keep_first, pair, optional}
 use Rattle.ir_terminals.specs.declared.limits.Limits.{Limits}
 use Rattle.ir_terminals.specs.declared.terminal.Terminal.TheVariants as terminal
 use Rattle.ir_terminals.specs.Role.{class}
@@ -31,7 +31,7 @@ module _ (limits : Limits) where
   gives_instruction_core =
       gives_alt class
       (gives_mapped _ IsNarrowInstruction
-      (gives_pair (gives_any (before local_row (word terminal.Equals))) (gives_also (gives_operation_over limits result_classes) (gives_no_store limits)))
+      (gives_pair (gives_any (keep_first local_row (word terminal.Equals))) (gives_also (gives_operation_over limits result_classes) (gives_no_store limits)))
       (λ v x. (x.1.0, other_stores_nothing (Some v.0) v.1 x.1.1)))
       (gives_mapped _ IsNarrowInstruction (gives_operation_over limits operation_classes) (λ o x. (x, bare_stores_nothing o)))
 
@@ -79,7 +79,7 @@ module _ (limits : Limits) where
 
   gives_unreachable_core : Gives unreachable_core IsNarrowEnding
   unfolding unreachable_core
-  gives_unreachable_core = gives_mapped _ IsNarrowEnding (gives_any (before (word (terminal.Opcode op.Unreachable)) attachments_row)) (λ p x. tt)
+  gives_unreachable_core = gives_mapped _ IsNarrowEnding (gives_any (keep_first (word (terminal.Opcode op.Unreachable)) attachments_row)) (λ p x. tt)
 
   gives_ending_core : Gives (ending_core limits) IsNarrowEnding
   unfolding ending_core

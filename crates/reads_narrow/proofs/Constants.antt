@@ -4,13 +4,13 @@ use Rattle.ir_base.specs.declared.place.Place.{Place}
 use Rattle.ir_lexer.specs.Ahead.{Located}
 use Rattle.ir_tables.specs.declared.opcode.Opcode.{Opcode}
 use Rattle.ir_tables.specs.declared.opcode.Opcode.TheVariants as op
-use Rattle.phrase_rows.specs.Row.{Row, second}
+use Rattle.phrase_rows.specs.Row.{Row, keep_second}
 use Rattle.ir_terminals.specs.declared.limits.Limits.{Limits}
 use Rattle.ir_terminals.specs.declared.terminal.Terminal.TheVariants as terminal
 use Rattle.ir_terminals.specs.Role.{class}
 use Rattle.ir_terminals.specs.Tokens.{word, integer_row, global_name_row, byte_string_row, local_row}
 use Rattle.ir_terminals.specs.Values.{opcode_in}
-use Rattle.ir_constants.specs.Placed.{placed}
+use Rattle.ir_constants.specs.Placed.{token_with_place}
 use Rattle.ir_constants.specs.Flags.{flags_row}
 use Rattle.ir_constants.specs.Tree.{ConstantTree, TypedConstantTree, constants, LocalValue, ConstantValue}
 use Rattle.ir_constants.specs.Types.{type_shape, list_shape}
@@ -45,7 +45,7 @@ module _ (limits : Limits) (typed : Row Located TypedConstantTree) (h : Gives ty
   gives_packed_constant : Gives (packed_constant_row typed) IsNarrowConstant
   gives_packed_constant =
       gives_mapped _ IsNarrowConstant
-      (gives_pair (gives_any (word terminal.Less)) (gives_second (word terminal.OpenBrace) (gives_before (second (word terminal.CloseBrace) (word terminal.Greater)) gives_elements)))
+      (gives_pair (gives_any (word terminal.Less)) (gives_second (word terminal.OpenBrace) (gives_before (keep_second (word terminal.CloseBrace) (word terminal.Greater)) gives_elements)))
       (λ v x. all_narrow v.1 x.1)
 
   gives_operands_core : Gives (operands_core typed) (AllAre IsNarrowTyped)
@@ -94,7 +94,7 @@ module _ (limits : Limits) (typed : Row Located TypedConstantTree) (h : Gives ty
 
   gives_expression : Gives (expression_row limits typed) IsNarrowConstant
   gives_expression =
-      gives_chain expression_shape IsNarrowConstant (gives_any (placed expression_classes opcode_in)) (λ v x. gives_labelled expression_shape (gives_expression_core v))
+      gives_chain expression_shape IsNarrowConstant (gives_any (token_with_place expression_classes opcode_in)) (λ v x. gives_labelled expression_shape (gives_expression_core v))
 
   gives_holder_step : Gives (holder_step limits typed) IsNarrowConstant
   gives_holder_step = gives_alt class gives_array_constant (gives_alt class gives_struct_constant (gives_alt class gives_packed_constant gives_expression))
@@ -109,7 +109,7 @@ gives_constant_core holder h =
     gives_alt class (gives_mapped _ IsNarrowConstant (gives_any integer_row) (λ v x. tt))
     (gives_alt class (gives_mapped _ IsNarrowConstant (gives_any global_name_row) (λ v x. tt))
     (gives_alt class (gives_mapped _ IsNarrowConstant (gives_any byte_string_row) (λ v x. tt))
-    (gives_alt class (gives_mapped _ IsNarrowConstant (gives_any (placed simple_classes simple_word)) (λ v x. tt)) h)))
+    (gives_alt class (gives_mapped _ IsNarrowConstant (gives_any (token_with_place simple_classes simple_word)) (λ v x. tt)) h)))
 
 gives_holder : (limits : Limits) (depth : ℕ) → Gives (holder_core limits depth) IsNarrowConstant
 unfolding holder_core

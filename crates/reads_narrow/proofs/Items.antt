@@ -2,7 +2,7 @@
 use Rattle.std.proofs.Common.{List, [], ◌∷◌, Bool, true, false, Option, Some, None, sym, subst, inl, inr}
 use Rattle.ir_tables.specs.declared.linkage.Linkage.{Linkage}
 use Rattle.ir_tables.specs.declared.linkage.Linkage.TheVariants as linkage
-use Rattle.phrase_rows.specs.Row.{second, optional}
+use Rattle.phrase_rows.specs.Row.{keep_second, optional}
 use Rattle.ir_terminals.specs.declared.limits.Limits.{Limits}
 use Rattle.ir_terminals.specs.declared.terminal.Terminal.TheVariants as terminal
 use Rattle.ir_terminals.specs.Position.{text_tokens}
@@ -51,13 +51,13 @@ module _ (limits : Limits) where
       (gives_mapped PlainBody IsNarrowBody (gives_second (word terminal.OpenBrace) (gives_before (word terminal.CloseBrace) (gives_fields limits))) (λ f x. all_of IsNarrow f x))
       (gives_mapped PackedBody IsNarrowBody
       (gives_second (word terminal.Less)
-      (gives_second (word terminal.OpenBrace) (gives_before (second (word terminal.CloseBrace) (word terminal.Greater)) (gives_fields limits))))
+      (gives_second (word terminal.OpenBrace) (gives_before (keep_second (word terminal.CloseBrace) (word terminal.Greater)) (gives_fields limits))))
       (λ f x. all_of IsNarrow f x)))
 
   gives_struct : Gives (struct_row limits) IsNarrowItem
   gives_struct =
       gives_mapped _ IsNarrowItem
-      (gives_pair (gives_before (second (word terminal.Equals) (word terminal.«Type»)) (gives_any (named_local_row limits))) gives_body)
+      (gives_pair (gives_before (keep_second (word terminal.Equals) (word terminal.«Type»)) (gives_any (named_local_row limits))) gives_body)
       (λ v x. x.1)
 
   -- ---- variables and aliases
@@ -180,7 +180,7 @@ module _ (limits : Limits) where
   gives_source : Gives source_row IsNarrowItem
   gives_source = record { value = λ us a w. subst IsNarrowItem (sym w.2) tt }
 
-  gives_target : Gives (second (word terminal.Target) target_row) IsNarrowItem
+  gives_target : Gives (keep_second (word terminal.Target) target_row) IsNarrowItem
   gives_target = record { value = λ us a w. elim w.5 [ inl x ↦ subst IsNarrowItem (sym x.2) tt | inr x ↦ subst IsNarrowItem (sym x.2) tt ] }
 
   gives_attributes : Gives attributes_row IsNarrowItem

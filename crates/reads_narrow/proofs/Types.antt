@@ -1,7 +1,7 @@
 -- The integer types in the types of a text have 1 to 128 bits.
 use Rattle.std.proofs.Common.{◌≡◌, ℕ, zero, suc, List, [], ◌∷◌, Option, Some, None, option_map, refl, subst}
 use Rattle.ir_lexer.specs.Ahead.{Located}
-use Rattle.phrase_rows.specs.Row.{Row, second}
+use Rattle.phrase_rows.specs.Row.{Row, keep_second}
 use Rattle.ir_base.specs.declared.place.Place.{Place}
 use Rattle.ir_terminals.specs.declared.limits.Limits.{Limits}
 use Rattle.ir_terminals.specs.declared.terminal.Terminal.TheVariants as terminal
@@ -55,7 +55,7 @@ module _ (t : Row Located TypeTree) (h : Gives t IsNarrow) where
   gives_packed : Gives (packed_row t) IsNarrow
   gives_packed =
       gives_mapped _ IsNarrow
-      (gives_pair (gives_any (word terminal.Less)) (gives_second (word terminal.OpenBrace) (gives_before (second (word terminal.CloseBrace) (word terminal.Greater)) gives_types)))
+      (gives_pair (gives_any (word terminal.Less)) (gives_second (word terminal.OpenBrace) (gives_before (keep_second (word terminal.CloseBrace) (word terminal.Greater)) gives_types)))
       (λ v x. all_narrow v.1 x.1)
 
   gives_nest_step : Gives (nest_step t) IsNarrow

@@ -4,14 +4,14 @@ use Rattle.ir_base.specs.declared.place.Place.{Place}
 use Rattle.ir_lexer.specs.Ahead.{Located}
 use Rattle.ir_tables.specs.declared.opcode.Opcode.{Opcode}
 use Rattle.ir_tables.specs.declared.opcode.Opcode.TheVariants as op
-use Rattle.phrase_rows.specs.Row.{Row, second}
+use Rattle.phrase_rows.specs.Row.{Row, keep_second}
 use Rattle.ir_terminals.specs.declared.limits.Limits.{Limits}
 use Rattle.ir_terminals.specs.declared.terminal.Terminal.TheVariants as terminal
 use Rattle.ir_terminals.specs.Role.{class}
 use Rattle.ir_terminals.specs.Terminal.{code}
 use Rattle.ir_terminals.specs.Tokens.{word, integer_row, global_name_row, local_row}
 use Rattle.ir_terminals.specs.Values.{opcode_in, bytes_of}
-use Rattle.ir_constants.specs.Placed.{placed}
+use Rattle.ir_constants.specs.Placed.{token_with_place}
 use Rattle.ir_constants.specs.Flags.{flags_row}
 use Rattle.ir_constants.specs.Tree.{ConstantTree, IntegerConstant, SimpleConstant, AddressConstant, BytesConstant, ListConstant, ElementAddress, Conversion, Arithmetic, ConstantTrees, no_constants, more_constants, TypedConstantTree, constants, ValueTree, LocalValue, ConstantValue, TypedValueTree}
 use Rattle.ir_constants.specs.Types.{type_shape, list_shape}
@@ -96,7 +96,7 @@ module _ (limits : Limits) (depth : ℕ) (typed : Row Located TypedConstantTree)
   given_packed_constant : Given (packed_constant_row typed) (IsWell (suc depth))
   given_packed_constant =
       given_mapped _ (IsWell (suc depth))
-      (given_pair (given_any (word terminal.Less)) (given_second (word terminal.OpenBrace) (given_before (second (word terminal.CloseBrace) (word terminal.Greater)) given_elements)))
+      (given_pair (given_any (word terminal.Less)) (given_second (word terminal.OpenBrace) (given_before (keep_second (word terminal.CloseBrace) (word terminal.Greater)) given_elements)))
       (λ v x. listed v.1 x.1)
 
   given_operands_core : Given (operands_core typed) (AllAre (IsTypedWell depth))
@@ -145,7 +145,7 @@ module _ (limits : Limits) (depth : ℕ) (typed : Row Located TypedConstantTree)
 
   given_expression : Given (expression_row limits typed) (IsWell (suc depth))
   given_expression =
-      given_chain expression_shape (IsWell (suc depth)) (given_any (placed expression_classes opcode_in)) (λ v x. given_labelled expression_shape (given_expression_core v))
+      given_chain expression_shape (IsWell (suc depth)) (given_any (token_with_place expression_classes opcode_in)) (λ v x. given_labelled expression_shape (given_expression_core v))
 
   given_holder_step : Given (holder_step limits typed) (IsWell (suc depth))
   given_holder_step = given_alt class given_array_constant (given_alt class given_struct_constant (given_alt class given_packed_constant given_expression))
@@ -161,7 +161,7 @@ given_constant_core depth holder h =
     (given_alt class (given_mapped _ (IsWell depth) (given_any global_name_row) (λ v x. (tt, omega arith)))
     (given_alt class
     (given_mapped BytesConstant (IsWell depth) (given_one class (code terminal.ByteString ∷ []) bytes_of (λ s. AreBytes s.text) byte_string_well) (λ v x. (x, omega arith)))
-    (given_alt class (given_mapped _ (IsWell depth) (given_any (placed simple_classes simple_word)) (λ v x. (tt, omega arith))) h)))
+    (given_alt class (given_mapped _ (IsWell depth) (given_any (token_with_place simple_classes simple_word)) (λ v x. (tt, omega arith))) h)))
 
 given_holder : (limits : Limits) (depth : ℕ) → Given (holder_core limits depth) (IsWell depth)
 unfolding holder_core

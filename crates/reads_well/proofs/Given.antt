@@ -1,6 +1,6 @@
 -- What the values of whole phrases are like where each token is spelled in bytes.
 use Rattle.std.proofs.Common.{◌≡◌, ℕ, List, [], ◌∷◌, ◌++◌, true, Option, Some, None, inl, inr, sym, subst}
-use Rattle.phrase_rows.specs.Row.{Row, Shape, nothing, fail, one, chain, mapped, both, second, before, pair, alt, optional, many, Each, separated, loop, Steps, labelled}
+use Rattle.phrase_rows.specs.Row.{Row, Shape, nothing, fail, one, chain, mapped, joined_values, keep_second, keep_first, pair, alt, optional, many, Each, separated, loop, Steps, labelled}
 use Rattle.ir_lexer.specs.Ahead.{Located}
 use Rattle.ir_lexer.specs.Table.{IsToken}
 use Rattle.module_arena.specs.Names.{are_bytes}
@@ -53,15 +53,15 @@ given_mapped f Q h k = record { value = λ us b q w. subst Q (sym w.2) (k w.0 (h
 pub given_chain : {A B : Type 0} {p : Row Located A} (s : Shape) {q : A → Row Located B} {P : A → Type 0} (Q : B → Type 0) → Given p P → ((a : A) → P a → Given (q a) Q) → Given (chain p s q) Q
 given_chain s Q h k = record { value = λ ts b all w. (k w.2 (h.value w.0 w.2 (halves ts w.0 w.1 w.3 all).0 w.4)).value w.1 b (halves ts w.0 w.1 w.3 all).1 w.5 }
 
-pub given_both : {A B C : Type 0} (f : A → B → C) {p : Row Located A} {q : Row Located B} {P : A → Type 0} {Q : B → Type 0} (R : C → Type 0) → Given p P → Given q Q → ((a : A) (b : B) → P a → Q b → R (f a b)) → Given (both f p q) R
+pub given_both : {A B C : Type 0} (f : A → B → C) {p : Row Located A} {q : Row Located B} {P : A → Type 0} {Q : B → Type 0} (R : C → Type 0) → Given p P → Given q Q → ((a : A) (b : B) → P a → Q b → R (f a b)) → Given (joined_values f p q) R
 given_both f R h g k = record {
   value = λ ts c all w. subst R (sym w.5.2) (k w.2 w.5.0 (h.value w.0 w.2 (halves ts w.0 w.1 w.3 all).0 w.4) (g.value w.1 w.5.0 (halves ts w.0 w.1 w.3 all).1 w.5.1));
 }
 
-pub given_second : {A B : Type 0} (p : Row Located A) {q : Row Located B} {Q : B → Type 0} → Given q Q → Given (second p q) Q
+pub given_second : {A B : Type 0} (p : Row Located A) {q : Row Located B} {Q : B → Type 0} → Given q Q → Given (keep_second p q) Q
 given_second p h = record { value = λ ts b all w. h.value w.1 b (halves ts w.0 w.1 w.3 all).1 w.5 }
 
-pub given_before : {A B : Type 0} {p : Row Located A} (q : Row Located B) {P : A → Type 0} → Given p P → Given (before p q) P
+pub given_before : {A B : Type 0} {p : Row Located A} (q : Row Located B) {P : A → Type 0} → Given p P → Given (keep_first p q) P
 given_before q {P} h = record { value = λ ts c all w. subst P (sym w.5.2) (h.value w.0 w.2 (halves ts w.0 w.1 w.3 all).0 w.4) }
 
 pub given_pair : {A B : Type 0} {p : Row Located A} {q : Row Located B} {P : A → Type 0} {Q : B → Type 0} → Given p P → Given q Q → Given (pair p q) (λ v. P v.0 × Q v.1)

@@ -3,7 +3,7 @@ use Rattle.std.proofs.Common.{◌≡◌, ℕ, List, [], ◌∷◌, Bool, true, f
 use Rattle.ir_lexer.specs.Ahead.{Located}
 use Rattle.ir_tables.specs.declared.opcode.Opcode.{Opcode}
 use Rattle.ir_tables.specs.declared.opcode.Opcode.TheVariants as op
-use Rattle.phrase_rows.specs.Row.{Row, among, one, before, pair, labelled}
+use Rattle.phrase_rows.specs.Row.{Row, among, one, keep_first, pair, labelled}
 use Rattle.ir_terminals.specs.declared.limits.Limits.{Limits}
 use Rattle.ir_terminals.specs.declared.terminal.Terminal.TheVariants as terminal
 use Rattle.ir_terminals.specs.declared.values.Local.{Local}
@@ -444,7 +444,7 @@ module _ (limits : Limits) where
 
   given_unreachable_core : Given unreachable_core (IsEndingWell limits)
   unfolding unreachable_core
-  given_unreachable_core = given_mapped _ (IsEndingWell limits) (given_any (before (word (terminal.Opcode op.Unreachable)) attachments_row)) (λ p x. tt)
+  given_unreachable_core = given_mapped _ (IsEndingWell limits) (given_any (keep_first (word (terminal.Opcode op.Unreachable)) attachments_row)) (λ p x. tt)
 
   given_ending_core : Given (ending_core limits) (IsEndingWell limits)
   unfolding ending_core

@@ -4,7 +4,7 @@ use Rattle.ir_lexer.specs.Ahead.{Located, tokens_in}
 use Rattle.ir_lexer.specs.Tokens.{Tokens}
 use Rattle.ir_tables.specs.declared.linkage.Linkage.{Linkage}
 use Rattle.ir_tables.specs.declared.linkage.Linkage.TheVariants as linkage
-use Rattle.phrase_rows.specs.Row.{before, second}
+use Rattle.phrase_rows.specs.Row.{keep_first, keep_second}
 use Rattle.ir_terminals.specs.declared.terminal.Terminal.TheVariants as terminal
 use Rattle.ir_terminals.specs.Position.{text_tokens}
 use Rattle.ir_terminals.specs.Role.{class}
@@ -78,13 +78,13 @@ given_body =
     (given_mapped PlainBody IsBodyWell (given_second (word terminal.OpenBrace) (given_before (word terminal.CloseBrace) (given_fields language))) (λ f x. x))
     (given_mapped PackedBody IsBodyWell
     (given_second (word terminal.Less)
-    (given_second (word terminal.OpenBrace) (given_before (second (word terminal.CloseBrace) (word terminal.Greater)) (given_fields language))))
+    (given_second (word terminal.OpenBrace) (given_before (keep_second (word terminal.CloseBrace) (word terminal.Greater)) (given_fields language))))
     (λ f x. x)))
 
 given_struct : Given (struct_row language) IsItemWell
 given_struct =
     given_mapped _ IsItemWell
-    (given_pair (given_before (second (word terminal.Equals) (word terminal.«Type»)) given_struct_name) given_body)
+    (given_pair (given_before (keep_second (word terminal.Equals) (word terminal.«Type»)) given_struct_name) given_body)
     (λ v x. (x.0, x.1))
 
 -- ---- variables and aliases
@@ -130,7 +130,7 @@ given_behind_core h good = given_alt class (given_labelled alias_shape (given_al
 given_global_head_core : Given global_head_core (λ h. IsNameWell h.0.name)
 unfolding global_head_core
 given_global_head_core =
-    given_weaker (λ h. IsNameWell h.0.name) (given_pair (given_before (word terminal.Equals) given_global_name) (given_any (before optional_linkage_row global_words_row))) (λ h x. x.0)
+    given_weaker (λ h. IsNameWell h.0.name) (given_pair (given_before (word terminal.Equals) given_global_name) (given_any (keep_first optional_linkage_row global_words_row))) (λ h x. x.0)
 
 given_global : Given (global_row language) IsItemWell
 given_global = given_chain global_behind_shape IsItemWell (given_labelled global_head_shape given_global_head_core) (λ h x. given_labelled global_behind_shape (given_behind_core h x))
@@ -220,13 +220,13 @@ given_definition =
 -- ---- all items
 
 given_source : Given source_row IsItemWell
-given_source = given_mapped _ IsItemWell (given_pair (given_any (before (word terminal.SourceFilename) (word terminal.Equals))) given_quoted) (λ v x. x.1)
+given_source = given_mapped _ IsItemWell (given_pair (given_any (keep_first (word terminal.SourceFilename) (word terminal.Equals))) given_quoted) (λ v x. x.1)
 
 given_target : Given target_row IsItemWell
 given_target =
     given_alt class
-    (given_mapped _ IsItemWell (given_pair (given_any (before (word terminal.DataLayout) (word terminal.Equals))) given_quoted) (λ v x. x.1))
-    (given_mapped _ IsItemWell (given_pair (given_any (before (word terminal.Triple) (word terminal.Equals))) given_quoted) (λ v x. x.1))
+    (given_mapped _ IsItemWell (given_pair (given_any (keep_first (word terminal.DataLayout) (word terminal.Equals))) given_quoted) (λ v x. x.1))
+    (given_mapped _ IsItemWell (given_pair (given_any (keep_first (word terminal.Triple) (word terminal.Equals))) given_quoted) (λ v x. x.1))
 
 given_attributes : Given attributes_row IsItemWell
 given_attributes = record { value = λ us a q w. subst IsItemWell (sym w.2) tt }

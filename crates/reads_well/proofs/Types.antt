@@ -1,7 +1,7 @@
 -- The integer types in the types of a text have 1 to 128 bits.
 use Rattle.std.proofs.Common.{◌≡◌, ℕ, zero, suc, List, [], ◌∷◌, Option, Some, None, option_map, refl, subst}
 use Rattle.ir_lexer.specs.Ahead.{Located}
-use Rattle.phrase_rows.specs.Row.{Row, second}
+use Rattle.phrase_rows.specs.Row.{Row, keep_second}
 use Rattle.ir_base.specs.declared.place.Place.{Place}
 use Rattle.ir_terminals.specs.declared.limits.Limits.{Limits}
 use Rattle.ir_terminals.specs.declared.terminal.Terminal.TheVariants as terminal
@@ -68,7 +68,7 @@ module _ (t : Row Located TypeTree) (h : Given t HasWidths) where
   given_packed : Given (packed_row t) HasWidths
   given_packed =
       given_mapped _ HasWidths
-      (given_pair (given_any (word terminal.Less)) (given_second (word terminal.OpenBrace) (given_before (second (word terminal.CloseBrace) (word terminal.Greater)) given_types)))
+      (given_pair (given_any (word terminal.Less)) (given_second (word terminal.OpenBrace) (given_before (keep_second (word terminal.CloseBrace) (word terminal.Greater)) given_types)))
       (λ v x. all_widths v.1 x.1)
 
   given_nest_step : Given (nest_step t) HasWidths

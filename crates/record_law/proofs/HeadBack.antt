@@ -6,7 +6,7 @@ use Rattle.bit_tree.specs.Written.{Written}
 use Rattle.record_table.specs.Walk.{going, told, next}
 use Rattle.record_table.specs.Layout.{judged}
 use Rattle.record_table.specs.Faults.{Answer, ◌>>=◌}
-use Rattle.record_table.specs.Records.{Sofar, may_follow, is_version, version, version_record, text_record, placed, record_in, module_from}
+use Rattle.record_table.specs.Records.{Sofar, may_follow, is_version, version, version_record, text_record, record_at_place, record_in, module_from}
 use Rattle.record_table.specs.Spelling.{put, records_put, text_line, head_lines}
 use Rattle.record_table.specs.FittingLines.{IfSome}
 use Rattle.record_law.specs.FittingModules.{at_text}
@@ -22,7 +22,7 @@ module _ (s : Sofar) (lays_last : Lays (λ t. s.texts.holds t ≡ true) s.texts.
   text_judged : (t : Bytes) → s.texts.holds t ≡ true → judged s.texts.last (s.texts.last.spell t) ≡ (t, None)
   text_judged t fit = ap (λ p. (p.0, told p.1)) (ap (λ ns. s.texts.last.read (going ns None)) (sym (append-nil (s.texts.last.spell t))) ∙ lays_last.back t [] fit)
 
-  text_placed : (place : ℕ) (after : Sofar) → may_follow s.last place ≡ true → placed s place None after ≡ Ok (record after { at = suc s.at; last = place })
+  text_placed : (place : ℕ) (after : Sofar) → may_follow s.last place ≡ true → record_at_place s place None after ≡ Ok (record after { at = suc s.at; last = place })
   text_placed place after may = rw may refl
 
   -- a text stands in a record of that code, at that place of the order
@@ -32,7 +32,7 @@ module _ (s : Sofar) (lays_last : Lays (λ t. s.texts.holds t ≡ true) s.texts.
   text_back code place given None behind by fit may = refl
   text_back code place given (Some t) behind by fit may =
       ap (λ (answer : Answer Sofar). answer >>= λ u. module_from u (records_put behind))
-      (by (s.texts.last.spell t) ∙ ap (λ (x : Bytes × Option ℕ). placed s place x.1 (given (Some x.0))) (text_judged t fit) ∙ text_placed place (given (Some t)) may)
+      (by (s.texts.last.spell t) ∙ ap (λ (x : Bytes × Option ℕ). record_at_place s place x.1 (given (Some x.0))) (text_judged t fit) ∙ text_placed place (given (Some t)) may)
 
 -- the version stands first
 pub version_back : (s : Sofar) → is_version s.texts.version ≡ true → s.last ≡ 0 → version_record s (version.spell s.texts.version) ≡ Ok (record s { at = suc s.at; last = 1 })

@@ -8,9 +8,9 @@ use Rattle.type_table.specs.declared.ir_type.StructBody.{StructBody}
 use Rattle.record_table.specs.Layout.{judged}
 use Rattle.record_table.specs.Fields.{Texts, Numbering, name}
 use Rattle.record_table.specs.Faults.{BadRecord, UnknownRecord, Answer, ◌>>=◌, Records, no_more, a_block, a_record, types_id, module_id, body_id, is_block_id, misplaced, unless_broken}
-use Rattle.record_table.specs.TypeRecords.{Kind, kinds, kind_of_code, definition, names_in, called, Listed, at_first as none_listed, type_record, struct_record, ir_type, listed_by, listed_from, listed}
+use Rattle.record_table.specs.TypeRecords.{TypeKind, kinds, kind_of_code, definition, names_in, called, Listed, at_first as none_listed, type_record, struct_record, ir_type, listed_by, listed_from, listed}
 use Rattle.record_table.specs.Bodies.{Begun, body}
-use Rattle.record_table.specs.Records.{Sofar, placed, variable, function, alias, version_record, variable_record, function_record, alias_record, first_due, body_block, types_block, block_in, record_in, ended, module_from, may_follow, give_body, names_of, known_at_first, module_of}
+use Rattle.record_table.specs.Records.{Sofar, record_at_place, variable, function, alias, version_record, variable_record, function_record, alias_record, first_due, body_block, types_block, block_in, record_in, ended, module_from, may_follow, give_body, names_of, known_at_first, module_of}
 use Rattle.record_law.specs.FittingModules.{IsRead}
 use Rattle.record_law.proofs.RereadBodies.{written, reading, body_read}
 
@@ -75,13 +75,13 @@ module _ (table : Bytes) where
     struct_alike s x =
         unless_alike types_id s.at _ (record (listed_with nowhere s) { at = suc s.at; types = with_body s.types (length s.names) x.0.0; names = s.names ++ x.0.1 ∷ [] }) (listed_with offset_of)
 
-    kind_alike : (s : Listed) (code : ℕ) (operands : List ℕ) (kind : Option Kind) → listed_by (listed_with offset_of s) code operands kind ≡ (listed_by (listed_with nowhere s) code operands kind >>= to_listed)
+    kind_alike : (s : Listed) (code : ℕ) (operands : List ℕ) (kind : Option TypeKind) → listed_by (listed_with offset_of s) code operands kind ≡ (listed_by (listed_with nowhere s) code operands kind >>= to_listed)
     kind_alike s code operands (Some kind) = type_alike s (judged (ir_type (length s.types.types) (length s.types.structs) kind) operands)
     kind_alike s code operands None =
         if_alike to_listed (nat_eq code 7) _ _ _ _ (struct_alike s (judged (definition texts (length s.types.types)) operands)) refl
 
     -- ---- the module
-    placed_alike : (s : Sofar) (place : ℕ) (broken : Option ℕ) (after : Sofar) → placed (with_texts offset_of s) place broken (with_texts offset_of after) ≡ (placed (with_texts nowhere s) place broken (with_texts nowhere after) >>= to)
+    placed_alike : (s : Sofar) (place : ℕ) (broken : Option ℕ) (after : Sofar) → record_at_place (with_texts offset_of s) place broken (with_texts offset_of after) ≡ (record_at_place (with_texts nowhere s) place broken (with_texts nowhere after) >>= to)
     placed_alike s place broken after = unless_alike module_id s.at _ (record (with_texts nowhere after) { at = suc s.at; last = place }) (with_texts offset_of)
 
     version_alike : (s : Sofar) (operands : List ℕ) → version_record (with_texts offset_of s) operands ≡ (version_record (with_texts nowhere s) operands >>= to)

@@ -1,12 +1,12 @@
 -- What is given in front of the pieces of a tree.
 use Rattle.std.proofs.Common.{◌≡◌, ℕ, suc, Bool, true, false, nat_eq, List, [], ◌∷◌, ◌++◌, None, refl, sym, ap, subst, ◌∙◌}
 use Rattle.std.proofs.lemmas.List.{append_assoc}
-use Rattle.bit_stream.specs.Abbreviation.{Template}
+use Rattle.bit_stream.specs.Abbreviation.{AdmittedAbbreviation}
 use Rattle.bit_tree.specs.Pieces.{Piece, begun, ended, defines, holds, flat}
 use Rattle.bit_tree.specs.Stream.{Tree, nothing, block, definition, values}
 use Rattle.record_table.specs.Walk.{going}
 use Rattle.record_table.specs.Faults.{Records, records}
-use Rattle.record_read.specs.declared.entry.Entry.TheVariants.{Block, Record, End}
+use Rattle.record_read.specs.declared.entry.NextEntry.TheVariants.{Block, Record, End}
 use Rattle.record_read.specs.Reader.{Reader}
 use Rattle.record_read.specs.Entries.{IsBefore, IsEnd, IsOver, Gives}
 
@@ -19,7 +19,7 @@ no_holds : (others rest : List Piece) (id code : ℕ) (operands : List ℕ) (has
 no_holds [] rest id code operands has_blob blob h is = cc
 no_holds (p ∷ ps) rest id code operands has_blob blob h is = cc
 
-no_defines : (others rest : List Piece) (id : ℕ) (d : Template) → IsEnd others → defines id d ∷ rest ≡ others → ⊥
+no_defines : (others rest : List Piece) (id : ℕ) (d : AdmittedAbbreviation) → IsEnd others → defines id d ∷ rest ≡ others → ⊥
 no_defines [] rest id d h is = cc
 no_defines (p ∷ ps) rest id d h is = cc
 
@@ -107,7 +107,7 @@ gives_whole old new now all others h is left at =
 
 -- what is passed over
 
-definition_of : (t : Tree) (left rest others : List Piece) (id : ℕ) (d : Template) → IsEnd others → defines id d ∷ rest ≡ flat t ++ others → left ≡ rest → IsBefore left (records t) others
+definition_of : (t : Tree) (left rest others : List Piece) (id : ℕ) (d : AdmittedAbbreviation) → IsEnd others → defines id d ∷ rest ≡ flat t ++ others → left ≡ rest → IsBefore left (records t) others
 unfolding flat
 definition_of nothing left rest others id d end h is = absurd (no_defines others rest id d end h)
 definition_of (block i w n inside behind) left rest others id d end h is = absurd (cc)
@@ -116,7 +116,7 @@ definition_of (definition i e behind) left rest others id d end h is =
     record { tree = behind; is = refl; left_is = is ∙ tail; ends = end }
 definition_of (values i c o hb b behind) left rest others id d end h is = absurd (cc)
 
-pub past_definition : (now left rest : List Piece) (all : Records) (others : List Piece) (id : ℕ) (d : Template) → IsBefore now all others → now ≡ defines id d ∷ rest → left ≡ rest → IsBefore left all others
+pub past_definition : (now left rest : List Piece) (all : Records) (others : List Piece) (id : ℕ) (d : AdmittedAbbreviation) → IsBefore now all others → now ≡ defines id d ∷ rest → left ≡ rest → IsBefore left all others
 past_definition now left rest all others id d h is left_is =
     subst (λ a. IsBefore left a others) (sym h.is) (definition_of h.tree left rest others id d h.ends (sym is ∙ h.left_is) left_is)
 

@@ -2,7 +2,7 @@
 use Rattle.std.proofs.Common.{◌≡◌, ◌<◌, ◌+◌, ◌-◌, ℕ, Bool, List, [], ◌∷◌, ◌++◌, length, refl, sym, ◌∙◌, arith}
 use Rattle.std.proofs.lemmas.List.{append_assoc}
 use Rattle.bit_tree.specs.Pieces.{Piece, begun, ended, defines, holds, flat}
-use Rattle.bit_stream.specs.Abbreviation.{Template}
+use Rattle.bit_stream.specs.Abbreviation.{AdmittedAbbreviation}
 use Rattle.bit_tree.specs.Stream.{Tree, nothing, block, definition, values}
 
 -- the pieces of these trees, each with the end of its block, and then others
@@ -56,7 +56,7 @@ holds_one (block i w n inside behind) ts rest others id code operands has_blob b
 holds_one (definition i d behind) ts rest others id code operands has_blob blob h = absurd (cc)
 holds_one (values i c o hb b behind) ts rest others id code operands has_blob blob h = record { one = behind; rest_is = cc }
 
-defines_one : (t : Tree) (ts : List Tree) (rest others : List Piece) (id : ℕ) (d : Template) → defines id d ∷ rest ≡ closing (t ∷ ts) others → Stays ts rest others
+defines_one : (t : Tree) (ts : List Tree) (rest others : List Piece) (id : ℕ) (d : AdmittedAbbreviation) → defines id d ∷ rest ≡ closing (t ∷ ts) others → Stays ts rest others
 unfolding flat
 defines_one nothing ts rest others id d h = absurd (cc)
 defines_one (block i w n inside behind) ts rest others id d h = absurd (cc)
@@ -97,7 +97,7 @@ after_held n id code operands has_blob blob left rest others h more is = by_tree
     by_trees [] count at = absurd (omega (arith, count))
     by_trees (t ∷ ts) count at = stays n t ts rest others count (holds_one t ts rest others id code operands has_blob blob (sym is ∙ at))
 
-pub after_defined : (n : ℕ) (id : ℕ) (d : Template) (left rest others : List Piece) → IsClosing n left others → 0 < n → left ≡ defines id d ∷ rest → IsClosing n rest others
+pub after_defined : (n : ℕ) (id : ℕ) (d : AdmittedAbbreviation) (left rest others : List Piece) → IsClosing n left others → 0 < n → left ≡ defines id d ∷ rest → IsClosing n rest others
 after_defined n id d left rest others h more is = by_trees h.trees h.count h.left_is
   where
     by_trees : (ts : List Tree) → length ts ≡ n → left ≡ closing ts others → IsClosing n rest others

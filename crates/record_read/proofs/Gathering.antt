@@ -1,7 +1,7 @@
 -- Bytes and indices as a loop gathers them, against what stands in the operands.
 use Rattle.std.proofs.Common.{◌≡◌, ◌⊎◌, ◌<◌, ◌+◌, ◌-◌, ℕ, Bool, true, false, not, ◌&&◌, cond, inl, inr, List, [], ◌∷◌, ◌++◌, Option, Some, None, nat_lt, refl, sym, ap, ◌∙◌, arith}
 use Rattle.std.proofs.lemmas.Bool.{ltb-true, ltb-false, and_parts, and_cases, not-true, not-false}
-use Rattle.record_table.specs.Walk.{Walk, going, stopped, ask, next, left}
+use Rattle.record_table.specs.Walk.{Walk, going, stopped, ask, next, count_left}
 use Rattle.record_table.specs.Layout.{number, times, to_end}
 use Rattle.record_table.specs.Fields.{byte}
 use Rattle.record_read.specs.Reader.{Reader, Reads, Takes, TakesBy, IsBrokenBy, is_stopped}
@@ -27,7 +27,7 @@ numbered before mid after text now n is h p =
 -- an operand that was taken is the next number, and one less is left
 pub record Taken (before mid : Reader) (n : ℕ) : Type 0 where
   pub reads : Reads number before mid n
-  pub fewer : left before.walk ≡ left mid.walk + 1
+  pub fewer : count_left before.walk ≡ count_left mid.walk + 1
   pub goes : is_stopped before.walk ≡ false
 
 taken_by : (w : Walk) (before mid : Reader) (n : ℕ) → before.walk ≡ w → TakesBy w before (Some n) mid → Taken before mid n
@@ -43,22 +43,22 @@ taken_by (stopped broken) before mid n is h = absurd h
 pub taken : (before mid : Reader) (n : ℕ) → Takes before (Some n) mid → Taken before mid n
 taken before mid n h = taken_by before.walk before mid n refl h
 
-none_by : (w : Walk) (before mid : Reader) → TakesBy w before None mid → (mid ≡ before) × (left w ≡ 0)
+none_by : (w : Walk) (before mid : Reader) → TakesBy w before None mid → (mid ≡ before) × (count_left w ≡ 0)
 none_by (going [] broken) before mid h = (h, refl)
 none_by (going (k ∷ rest) broken) before mid h = absurd h
 none_by (stopped broken) before mid h = (h, refl)
 
-pub none_taken : (before mid : Reader) → Takes before None mid → (mid ≡ before) × (left before.walk ≡ 0)
+pub none_taken : (before mid : Reader) → Takes before None mid → (mid ≡ before) × (count_left before.walk ≡ 0)
 none_taken before mid h = none_by before.walk before mid h
 
 -- no rule that is asked changes how many operands are left
-asked_left : (rule : ℕ) (b : Bool) (w : Walk) → left (ask rule b w) ≡ left w
+asked_left : (rule : ℕ) (b : Bool) (w : Walk) → count_left (ask rule b w) ≡ count_left w
 asked_left rule true w = refl
 asked_left rule false (going rest broken) = refl
 asked_left rule false (stopped broken) = refl
 
-pub pushed_left : (mid after : Reader) (text now : List ℕ) (n : ℕ) (is : Bool) → PushesByte mid text n is after now → left after.walk ≡ left mid.walk
-pushed_left mid after text now n is p = ap (λ (r : Reader). left r.walk) p.1 ∙ asked_left 3 is mid.walk
+pub pushed_left : (mid after : Reader) (text now : List ℕ) (n : ℕ) (is : Bool) → PushesByte mid text n is after now → count_left after.walk ≡ count_left mid.walk
+pushed_left mid after text now n is p = ap (λ (r : Reader). count_left r.walk) p.1 ∙ asked_left 3 is mid.walk
 
 -- bytes that are gathered so far; a text is one only as long as all of them are bytes
 pub record AreGathered (first now : Reader) (count n : ℕ) (text : List ℕ) (are : Bool) : Type 0 where
@@ -153,9 +153,9 @@ loop_ends place count stops h = by_case (and_cases (nat_lt place count) (not sto
     by_case (inr stop) = inr (not-false stops stop)
 
 -- all that are left
-pub rest_are : (first before now : Reader) (text : List ℕ) (are : Bool) (answer : Option (List ℕ)) → AreGathered first before (left first.walk) (left before.walk) text are → Takes before None now → answer ≡ cond are (Some text) None
+pub rest_are : (first before now : Reader) (text : List ℕ) (are : Bool) (answer : Option (List ℕ)) → AreGathered first before (count_left first.walk) (count_left before.walk) text are → Takes before None now → answer ≡ cond are (Some text) None
     → ReadsBytes (to_end byte) first now answer
 rest_are first before now text are answer h last is =
     let none = none_taken before now last in
-    let bytes = bytes_are first before (left first.walk) (left before.walk) text are answer h (inl none.1) is in
+    let bytes = bytes_are first before (count_left first.walk) (count_left before.walk) text are answer h (inl none.1) is in
     rw none.0 (record { kept = bytes.kept; reader = bytes.reader })

@@ -4,8 +4,8 @@ use Rattle.bit_tree.specs.Pieces.{Piece, ended, flat}
 use Rattle.bit_tree.specs.Stream.{Tree}
 use Rattle.record_table.specs.Walk.{going}
 use Rattle.record_table.specs.Faults.{Records, no_more, a_block, a_record, records}
-use Rattle.record_read.specs.declared.entry.Entry.{Entry}
-use Rattle.record_read.specs.declared.entry.Entry.TheVariants.{Block, Record, End}
+use Rattle.record_read.specs.declared.entry.NextEntry.{NextEntry}
+use Rattle.record_read.specs.declared.entry.NextEntry.TheVariants.{Block, Record, End}
 use Rattle.record_read.specs.Reader.{Reader}
 
 -- nothing is behind a stream, and an end behind what stands in a block
@@ -32,7 +32,7 @@ pub record IsInside (left : List Piece) (held later : Records) (others : List Pi
   pub behind : IsBefore pieces later others
 
 -- the first block or record was given, or the end; the operands of a record are all to be taken
-abbrev pub Gives : Records → Reader → Entry → Reader → List Piece → Type 0
+abbrev pub Gives : Records → Reader → NextEntry → Reader → List Piece → Type 0
 Gives no_more old End new others = (new.at ≡ old.at) × IsOver others new.left
 Gives (a_block id inside behind) old (Block given) new others = (given ≡ id) × (new.at ≡ old.at) × IsInside new.left inside behind others
 Gives (a_record code operands behind) old (Record given) new others =
@@ -40,12 +40,12 @@ Gives (a_record code operands behind) old (Record given) new others =
 Gives _ old entry new others = ⊥
 
 -- behind a block or a record fewer pieces are left
-abbrev pub IsNearer : Entry → List Piece → List Piece → Type 0
+abbrev pub IsNearer : NextEntry → List Piece → List Piece → Type 0
 IsNearer End old new = Unit {0}
 IsNearer _ old new = length new < length old
 
 -- the same in front of any blocks and records; or memory ran out, and the reader is spent
-abbrev pub Advances : {E : Type 0} → Reader → Result Entry E → Reader → Type 0
+abbrev pub Advances : {E : Type 0} → Reader → Result NextEntry E → Reader → Type 0
 Advances old (Ok entry) new = (new.spent ≡ false) × IsNearer entry old.left new.left × ((all : Records) (others : List Piece) → IsBefore old.left all others → Gives all old entry new others)
 Advances old (Err e) new = new.spent ≡ true
 

@@ -2,7 +2,7 @@
 
 /// What stands next in a block, or in a stream.
 #[derive(Clone, Copy)]
-pub enum Entry {
+pub enum NextEntry {
     /// A block of that id begins.
     Block(u32),
     /// A record of that code, whose operands are taken one by one.

@@ -7,7 +7,7 @@
 //!
 //! ```
 //! let mut reader = RecordReader::new(alloc, bytes);
-//! reader.next()? // Entry::Record(code)
+//! reader.next()? // NextEntry::Record(code)
 //! let linkage = reader.number(); // its first operand
 //! reader.ask(3, linkage < 11); // breaks rule 3 where that is none
 //! reader.finish(MODULE_BLOCK)?; // refused where a rule is broken, or operands are left
@@ -22,7 +22,7 @@ mod reader;
 mod texts;
 
 pub use codes::{read_alignment, read_flags, read_linkage, read_predicate};
-pub use entry::Entry;
+pub use entry::NextEntry;
 pub use fault::{BitcodeFault, misplaced};
 pub use numbers::{read_below, read_flag, read_index, read_place};
 pub use reader::RecordReader;

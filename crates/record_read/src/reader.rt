@@ -9,7 +9,7 @@ ghost use Rattle.record_read.specs.Reader.{Reads, Takes, also_asked, is_broken, 
 ghost use Rattle.record_read.specs.Faults.{Finishes};
 ghost use Rattle.record_read.specs.Entries.{IsBefore, Advances, Passes};
 
-use crate::entry::Entry;
+use crate::entry::NextEntry;
 use crate::fault::BitcodeFault;
 use bit_walk::{Event, Walker};
 use std::alloc::{AllocError, Global};
@@ -83,22 +83,22 @@ impl<'b> RecordReader<'b> {
 
     /// What stands next in the innermost open block, or in the stream. Operands of the record before that were not taken
     /// are passed over, and so are definitions, and BLOCKINFO with what it holds. After want of memory the reader is spent.
-    pub fn next(&mut self) -> Result<Entry, AllocError>
+    pub fn next(&mut self) -> Result<NextEntry, AllocError>
         requires { self.old.spent ≡ false }
         ensures { Advances self.old result self.new }
     {
         'entries: loop {
             match self.walker.next()? {
                 Some(Event::Begun(head)) if head.id == 0 => self.pass_block()?,
-                Some(Event::Begun(head)) => return Ok(Entry::Block(head.id)),
+                Some(Event::Begun(head)) => return Ok(NextEntry::Block(head.id)),
                 Some(Event::Held(head)) => {
                     self.at = one_more(self.at, &mut self.overrun)?;
                     self.stopped = false;
                     self.broken = None;
-                    return Ok(Entry::Record(head.code));
+                    return Ok(NextEntry::Record(head.code));
                 }
-                Some(Event::Ended) => return Ok(Entry::End),
-                None => return Ok(Entry::End),
+                Some(Event::Ended) => return Ok(NextEntry::End),
+                None => return Ok(NextEntry::End),
                 Some(Event::Defined(_)) => {}
             }
         }

@@ -13,21 +13,21 @@ use Rattle.record_table.specs.Layout.{Layout, coded}
 use Rattle.record_table.specs.Fields.{Numbering, ty, global, local, text, flags}
 
 -- the forms of constants
-pub data Form : Type 0 where
-  Number : Form
-  NullPointer : Form
-  Undefined : Form
-  Poisoned : Form
-  Zero : Form
-  Global : Form
-  Listed : Form
-  Bytewise : Form
-  Element : Form
-  Converted : Form
-  Computed : Form
+pub data ConstantForm : Type 0 where
+  Number : ConstantForm
+  NullPointer : ConstantForm
+  Undefined : ConstantForm
+  Poisoned : ConstantForm
+  Zero : ConstantForm
+  Global : ConstantForm
+  Listed : ConstantForm
+  Bytewise : ConstantForm
+  Element : ConstantForm
+  Converted : ConstantForm
+  Computed : ConstantForm
 
 -- their codes
-abbrev pub form_code : Form → ℕ
+abbrev pub form_code : ConstantForm → ℕ
 form_code Number = 1
 form_code NullPointer = 2
 form_code Undefined = 3
@@ -41,11 +41,11 @@ form_code Converted = 10
 form_code Computed = 11
 
 -- all of them
-abbrev pub forms : List Form
+abbrev pub forms : List ConstantForm
 forms = Number ∷ NullPointer ∷ Undefined ∷ Poisoned ∷ Zero ∷ Global ∷ Listed ∷ Bytewise ∷ Element ∷ Converted ∷ Computed ∷ []
 
 -- the form that has this code
-abbrev pub form_of_code : ℕ → Option Form
+abbrev pub form_of_code : ℕ → Option ConstantForm
 form_of_code code = find (λ form. nat_eq (form_code form) code) forms
 
 -- what a list is made of at a type: so many of one type, these, or nothing, since no list is of that type
@@ -187,7 +187,7 @@ module _ (k : Numbering) where
   nested of_inner (Some inner) t w = of_inner inner t w
 
   -- a constant of that form, behind its code; the constants in it are read by `inner`, where it may hold any
-  unfoldable pub of_form : Option Reads → Option Form → Reads
+  unfoldable pub of_form : Option Reads → Option ConstantForm → Reads
   of_form inner None t w = (Undef, stop 3 w)
   of_form inner (Some Number) t w = integer t w
   of_form inner (Some NullPointer) t w = (Null, ask 6 (is_pointer t) w)

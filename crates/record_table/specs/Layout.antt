@@ -1,7 +1,7 @@
 -- For `write` and `read` of bitcode: how values stand as operands, and how operands are read as values.
 use Rattle.std.specs.Prelude.{ℕ, zero, suc, nat_lt, nat_eq, Bool, true, false, List, [], ◌∷◌, ◌++◌, length, flat_map, ◌⊎◌, Option, Some, None, slice_index_or, if◌then◌else◌}
 use mathlib.Core.Logic.{inl, inr}
-use Rattle.record_table.specs.Walk.{Walk, going, stopped, ask, stop, break, next, left, told}
+use Rattle.record_table.specs.Walk.{Walk, going, stopped, ask, stop, break, next, count_left, told}
 
 -- The operands of a value; and the value that operands stand for, with the walk behind them. Where a rule is broken
 -- the value is some value that nobody looks at.
@@ -72,7 +72,7 @@ counted_some l = record {
 
 -- values of one operand each, as many as there are operands
 abbrev pub to_end : {A : Type 0} → Layout A → Layout (List A)
-to_end l = record { spell = λ xs. flat_map l.spell xs; read = λ w. many l.read (left w) w }
+to_end l = record { spell = λ xs. flat_map l.spell xs; read = λ w. many l.read (count_left w) w }
 
 -- 0, or 1 and a value
 unfoldable pub option_by : {A : Type 0} → Layout A → ℕ → Walk → Option A × Walk

@@ -114,15 +114,15 @@ at_first t at inside = record {
 }
 
 -- a record that stands at a place of the order, whose operands break that rule
-abbrev pub placed : Sofar → ℕ → Option ℕ → Sofar → Answer Sofar
-placed s place broken after = unless_broken module_id s.at (also 5 (may_follow s.last place) broken) (record after { at = suc s.at; last = place })
+abbrev pub record_at_place : Sofar → ℕ → Option ℕ → Sofar → Answer Sofar
+record_at_place s place broken after = unless_broken module_id s.at (also 5 (may_follow s.last place) broken) (record after { at = suc s.at; last = place })
 
 -- a version that is not known, where it stands first
 abbrev pub version_record : Sofar → List ℕ → Answer Sofar
 version_record s (n ∷ []) =
     if nat_eq s.last 0 && not (is_version n) then Err (BadVersion n)
-    else placed s 1 (also 5 (nat_eq n s.texts.version) None) s
-version_record s operands = placed s 1 (judged version operands).1 s
+    else record_at_place s 1 (also 5 (nat_eq n s.texts.version) None) s
+version_record s operands = record_at_place s 1 (judged version operands).1 s
 
 -- the name of no variable, function or alias that is there already
 abbrev pub is_new : Sofar → Bytes → Bool
@@ -132,21 +132,21 @@ is_new s n =
 
 -- VARIABLE
 abbrev pub variable_record : Sofar → Variable × Option ℕ → Answer Sofar
-variable_record s x = placed s 6 (also 7 (nat_lt (length s.variables) COUNT_LIMIT) (also 4 (is_new s x.0.name) x.1)) (record s { variables = s.variables ++ x.0 ∷ [] })
+variable_record s x = record_at_place s 6 (also 7 (nat_lt (length s.variables) COUNT_LIMIT) (also 4 (is_new s x.0.name) x.1)) (record s { variables = s.variables ++ x.0 ∷ [] })
 
 -- FUNCTION
 abbrev pub function_record : Sofar → (Bool × Function) × Option ℕ → Answer Sofar
-function_record s x = placed s 7 (also 7 (nat_lt (length s.functions) COUNT_LIMIT) (also 4 (is_new s x.0.1.name) x.1)) (record s { functions = s.functions ++ x.0 ∷ [] })
+function_record s x = record_at_place s 7 (also 7 (nat_lt (length s.functions) COUNT_LIMIT) (also 4 (is_new s x.0.1.name) x.1)) (record s { functions = s.functions ++ x.0 ∷ [] })
 
 -- the count for aliases is theirs and the greater of those of variables and functions
 abbrev pub alias_record : Sofar → Alias × Option ℕ → Answer Sofar
 alias_record s x =
-    placed s 8 (also 7 (nat_le (suc (length s.aliases) + max (length s.variables) (length s.functions)) COUNT_LIMIT) (also 4 (is_new s x.0.name) x.1))
+    record_at_place s 8 (also 7 (nat_le (suc (length s.aliases) + max (length s.variables) (length s.functions)) COUNT_LIMIT) (also 4 (is_new s x.0.name) x.1))
     (record s { aliases = s.aliases ++ x.0 ∷ [] })
 
 -- SOURCE, LAYOUT or TRIPLE
 abbrev pub text_record : Sofar → ℕ → List ℕ → (Option Bytes → Sofar) → Answer Sofar
-text_record s place operands after = let x = judged s.texts.last operands in placed s place x.1 (after (Some x.0))
+text_record s place operands after = let x = judged s.texts.last operands in record_at_place s place x.1 (after (Some x.0))
 
 -- the first function whose body is due
 abbrev pub first_due : List (Bool × Function) → Option Function

@@ -45,16 +45,16 @@ struct_id (Named id) = id
 struct_id _ = 0
 
 -- the kinds of types
-pub data Kind : Type 0 where
-  OfInt : Kind
-  OfPtr : Kind
-  OfVoid : Kind
-  OfArray : Kind
-  OfStruct : Kind
-  OfName : Kind
+pub data TypeKind : Type 0 where
+  OfInt : TypeKind
+  OfPtr : TypeKind
+  OfVoid : TypeKind
+  OfArray : TypeKind
+  OfStruct : TypeKind
+  OfName : TypeKind
 
 -- their codes
-abbrev pub kind_code : Kind → ℕ
+abbrev pub kind_code : TypeKind → ℕ
 kind_code OfInt = 1
 kind_code OfPtr = 2
 kind_code OfVoid = 3
@@ -63,7 +63,7 @@ kind_code OfStruct = 5
 kind_code OfName = 6
 
 -- the kind of a type
-abbrev pub kind_of : IrType → Kind
+abbrev pub kind_of : IrType → TypeKind
 kind_of (Int w) = OfInt
 kind_of Ptr = OfPtr
 kind_of Void = OfVoid
@@ -72,11 +72,11 @@ kind_of (Struct packed ts) = OfStruct
 kind_of (Named id) = OfName
 
 -- all of them
-abbrev pub kinds : List Kind
+abbrev pub kinds : List TypeKind
 kinds = OfInt ∷ OfPtr ∷ OfVoid ∷ OfArray ∷ OfStruct ∷ OfName ∷ []
 
 -- a type of that kind behind so many types, where there are so many structs
-abbrev pub ir_type : ℕ → ℕ → Kind → Layout IrType
+abbrev pub ir_type : ℕ → ℕ → TypeKind → Layout IrType
 ir_type count known OfInt = mapped (λ w. Int w) width_of width
 ir_type count known OfPtr = mapped (λ u. Ptr) (λ t. tt) nothing
 ir_type count known OfVoid = mapped (λ u. Void) (λ t. tt) nothing
@@ -166,16 +166,16 @@ struct_record s x = let after = with_body s.types (length s.names) x.0.0 in
     (record s { at = suc s.at; types = after; names = s.names ++ x.0.1 ∷ [] })
 
 -- the kind that has this code
-abbrev pub kind_of_code : ℕ → List Kind → Option Kind
+abbrev pub kind_of_code : ℕ → List TypeKind → Option TypeKind
 kind_of_code code [] = None
 kind_of_code code (k ∷ ks) = if nat_eq (kind_code k) code then Some k else kind_of_code code ks
 
 -- a record of a type of that kind
-abbrev pub of_kind : Listed → List ℕ → Kind → Answer Listed
+abbrev pub of_kind : Listed → List ℕ → TypeKind → Answer Listed
 of_kind s operands kind = type_record s (judged (ir_type (length s.types.types) (length s.types.structs) kind) operands)
 
 -- a record by its kind, or of a struct
-abbrev pub listed_by : Listed → ℕ → List ℕ → Option Kind → Answer Listed
+abbrev pub listed_by : Listed → ℕ → List ℕ → Option TypeKind → Answer Listed
 listed_by s code operands (Some kind) = of_kind s operands kind
 listed_by s code operands None =
     if nat_eq code 7 then struct_record s (judged (definition s.texts (length s.types.types)) operands) else Err (UnknownRecord types_id code)

@@ -35,9 +35,9 @@ next (going (n ∷ rest) broken) = (n, going rest broken)
 next (stopped broken) = (0, stopped broken)
 
 -- how many operands are left
-abbrev pub left : Walk → ℕ
-left (going rest broken) = length rest
-left (stopped broken) = 0
+abbrev pub count_left : Walk → ℕ
+count_left (going rest broken) = length rest
+count_left (stopped broken) = 0
 
 -- the least rule that a record breaks. Where operands are left at its end there are too many
 abbrev pub told : Walk → Option ℕ

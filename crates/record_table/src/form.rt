@@ -6,7 +6,7 @@ ghost use Rattle.record_table.specs.Codes.{form_view};
 
 /// How a constant stands in a record.
 #[derive(Clone, Copy, Debug, PartialEq, Eq)]
-pub enum Form {
+pub enum ConstantForm {
     /// An integer.
     Number,
     /// `null`
@@ -31,42 +31,42 @@ pub enum Form {
     Computed,
 }
 
-impl Form {
+impl ConstantForm {
     /// The form's code, counted from 1.
     pub fn code(self) -> u64
         ensures { result ≡ form_code (form_view self) }
     {
         match self {
-            Form::Number => 1,
-            Form::Null => 2,
-            Form::Undef => 3,
-            Form::Poison => 4,
-            Form::Zero => 5,
-            Form::Global => 6,
-            Form::Listed => 7,
-            Form::Bytewise => 8,
-            Form::Element => 9,
-            Form::Converted => 10,
-            Form::Computed => 11,
+            ConstantForm::Number => 1,
+            ConstantForm::Null => 2,
+            ConstantForm::Undef => 3,
+            ConstantForm::Poison => 4,
+            ConstantForm::Zero => 5,
+            ConstantForm::Global => 6,
+            ConstantForm::Listed => 7,
+            ConstantForm::Bytewise => 8,
+            ConstantForm::Element => 9,
+            ConstantForm::Converted => 10,
+            ConstantForm::Computed => 11,
         }
     }
 
     /// The form with this code, and None exactly where there is none.
-    pub fn of_code(code: u64) -> Option<Form>
+    pub fn of_code(code: u64) -> Option<ConstantForm>
         ensures { option_map form_view result ≡ form_of_code code }
     {
         match code {
-            1 => Some(Form::Number),
-            2 => Some(Form::Null),
-            3 => Some(Form::Undef),
-            4 => Some(Form::Poison),
-            5 => Some(Form::Zero),
-            6 => Some(Form::Global),
-            7 => Some(Form::Listed),
-            8 => Some(Form::Bytewise),
-            9 => Some(Form::Element),
-            10 => Some(Form::Converted),
-            11 => Some(Form::Computed),
+            1 => Some(ConstantForm::Number),
+            2 => Some(ConstantForm::Null),
+            3 => Some(ConstantForm::Undef),
+            4 => Some(ConstantForm::Poison),
+            5 => Some(ConstantForm::Zero),
+            6 => Some(ConstantForm::Global),
+            7 => Some(ConstantForm::Listed),
+            8 => Some(ConstantForm::Bytewise),
+            9 => Some(ConstantForm::Element),
+            10 => Some(ConstantForm::Converted),
+            11 => Some(ConstantForm::Computed),
             _ => None,
         }
     }

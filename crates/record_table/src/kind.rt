@@ -6,7 +6,7 @@ ghost use Rattle.record_table.specs.Codes.{kind_view};
 
 /// How a type stands in the block of types.
 #[derive(Clone, Copy, Debug, PartialEq, Eq)]
-pub enum Kind {
+pub enum TypeKind {
     /// An integer, by its width.
     Int,
     /// A pointer.
@@ -21,32 +21,32 @@ pub enum Kind {
     Named,
 }
 
-impl Kind {
+impl TypeKind {
     /// The code of the record of such a type, counted from 1.
     pub fn code(self) -> u32
         ensures { result ≡ kind_code (kind_view self) }
     {
         match self {
-            Kind::Int => 1,
-            Kind::Ptr => 2,
-            Kind::Void => 3,
-            Kind::Array => 4,
-            Kind::Struct => 5,
-            Kind::Named => 6,
+            TypeKind::Int => 1,
+            TypeKind::Ptr => 2,
+            TypeKind::Void => 3,
+            TypeKind::Array => 4,
+            TypeKind::Struct => 5,
+            TypeKind::Named => 6,
         }
     }
 
     /// The kind with this code, and None exactly where there is none.
-    pub fn of_code(code: u32) -> Option<Kind>
+    pub fn of_code(code: u32) -> Option<TypeKind>
         ensures { option_map kind_view result ≡ kind_of_code code kinds }
     {
         match code {
-            1 => Some(Kind::Int),
-            2 => Some(Kind::Ptr),
-            3 => Some(Kind::Void),
-            4 => Some(Kind::Array),
-            5 => Some(Kind::Struct),
-            6 => Some(Kind::Named),
+            1 => Some(TypeKind::Int),
+            2 => Some(TypeKind::Ptr),
+            3 => Some(TypeKind::Void),
+            4 => Some(TypeKind::Array),
+            5 => Some(TypeKind::Struct),
+            6 => Some(TypeKind::Named),
             _ => None,
         }
     }

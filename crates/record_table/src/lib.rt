@@ -6,8 +6,8 @@
 //! `Records` what is read and what is refused, `specs/Mentions` and `Spelling` what is written, `specs/Laws` and `LineLaws` the laws.
 //!
 //! ```
-//! Kind::of_code(Kind::Array.code()) // Some(Kind::Array)
-//! Form::of_code(Form::Global.code()) // Some(Form::Global)
+//! TypeKind::of_code(TypeKind::Array.code()) // Some(TypeKind::Array)
+//! ConstantForm::of_code(ConstantForm::Global.code()) // Some(ConstantForm::Global)
 //! is_block_id(MODULE_BLOCK) // true
 //! ```
 #![tactic(auto)]
@@ -20,8 +20,8 @@ mod line_laws;
 mod records;
 
 pub use blocks::{BODY_BLOCK, MODULE_BLOCK, PRODUCER_BLOCK, TABLE_BLOCK, TYPES_BLOCK, is_block_id};
-pub use form::Form;
-pub use kind::Kind;
+pub use form::ConstantForm;
+pub use kind::TypeKind;
 pub use layout_laws::{
     labels_are_read_back, names_are_read_back, texts_are_held, texts_are_read_back,
 };

@@ -14,14 +14,14 @@ use Rattle.module_arena.specs.WellFormed.{is_within_limits}
 use Rattle.record_table.specs.Layout.{judged}
 use Rattle.record_table.specs.Fields.{Texts}
 use Rattle.record_table.specs.Faults.{Answer, ◌>>=◌}
-use Rattle.record_table.specs.TypeRecords.{Kind, OfInt, OfPtr, OfVoid, OfArray, OfStruct, OfName, kind_code, kinds, kind_of, kind_of_code, ir_type, all_fit, Listed, type_record, listed_by, listed_from}
+use Rattle.record_table.specs.TypeRecords.{TypeKind, OfInt, OfPtr, OfVoid, OfArray, OfStruct, OfName, kind_code, kinds, kind_of, kind_of_code, ir_type, all_fit, Listed, type_record, listed_by, listed_from}
 use Rattle.record_table.specs.Spelling.{put, records_put, by_ids, type_line}
 use Rattle.record_types.proofs.LessDefined.{fits_opaque}
 use Rattle.record_types.proofs.TypesInOrder.{parts_in, AreThere}
 use Rattle.record_types.proofs.TypesById.{IsWide, IsNamedBy, type_judged}
 use Rattle.record_types.proofs.TypesFront.{StandsOn, one_behind, grows}
 
-kind_found : (kind : Kind) → kind_of_code (kind_code kind) kinds ≡ Some kind
+kind_found : (kind : TypeKind) → kind_of_code (kind_code kind) kinds ≡ Some kind
 kind_found OfInt = refl
 kind_found OfPtr = refl
 kind_found OfVoid = refl

@@ -19,7 +19,7 @@ use Rattle.record_table.proofs.TextsBack.{lays_sized}
 use Rattle.record_table.specs.Fields.{Texts, is_name}
 use Rattle.record_table.specs.Lays.{Lays}
 use Rattle.record_table.specs.Faults.{Answer, ◌>>=◌}
-use Rattle.record_table.specs.TypeRecords.{Kind, OfInt, OfPtr, OfVoid, OfArray, OfStruct, OfName, kind_code, kind_of, all_fit, earlier, definition, names_in, are_distinct, called, Listed, struct_record, listed_from}
+use Rattle.record_table.specs.TypeRecords.{TypeKind, OfInt, OfPtr, OfVoid, OfArray, OfStruct, OfName, kind_code, kind_of, all_fit, earlier, definition, names_in, are_distinct, called, Listed, struct_record, listed_from}
 use Rattle.record_table.specs.Mentions.{mentioned}
 use Rattle.record_table.specs.Spelling.{Line, put, records_put, places, by_ids, body_by_ids, type_line, string_table, texts_of, texts_in}
 use Rattle.record_bodies.proofs.BodyBack.{put_append}
@@ -36,7 +36,7 @@ pub names_split : (front back : Structs) → names_of (front ++ back) ≡ names_
 names_split [] back = refl
 names_split (s ∷ front) back = ap (λ ns. s.0 ∷ ns) (names_split front back)
 
-no_struct : (kind : Kind) → nat_eq (kind_code kind) 7 ≡ false
+no_struct : (kind : TypeKind) → nat_eq (kind_code kind) 7 ≡ false
 no_struct OfInt = refl
 no_struct OfPtr = refl
 no_struct OfVoid = refl

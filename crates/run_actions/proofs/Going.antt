@@ -13,7 +13,7 @@ use Rattle.run_stack.specs.declared.origin.Move.{Move}
 use Rattle.run_stack.specs.declared.origin.Origin.{Origin}
 use Rattle.run_stack.specs.Origins.{origin_of}
 use Rattle.run_stack.specs.UnderWay.{UnderWay, newest, changed, IsRunning}
-use Rattle.run_actions.specs.declared.edge.Case.{Case}
+use Rattle.run_actions.specs.declared.edge.SwitchWay.{SwitchWay}
 use Rattle.run_actions.specs.declared.edge.Edge as code
 use Rattle.run_actions.specs.Carried.{IsCarriedOut, IsUndefined}
 use Rattle.run_actions.specs.Edges.{way_of, case_way, chosen_of, IsWay}
@@ -57,7 +57,7 @@ branches_nowhere condition then_way else_way s h =
 -- ---- to one of many
 
 -- the case that was looked for is the one of the definition
-chosen_way : (pool : List Move) (number : ℕ) (otherwise : code.Edge) (cases : List Case) → way_of pool (chosen_of number otherwise cases) ≡ case_of number (way_of pool otherwise) (map (case_way pool) cases)
+chosen_way : (pool : List Move) (number : ℕ) (otherwise : code.Edge) (cases : List SwitchWay) → way_of pool (chosen_of number otherwise cases) ≡ case_of number (way_of pool otherwise) (map (case_way pool) cases)
 chosen_way pool number otherwise [] = refl
 chosen_way pool number otherwise (x ∷ xs) =
     elim (eqb x.number number) as (λ b. way_of pool (if b then x.edge else chosen_of number otherwise xs) ≡ (if b then way_of pool x.edge else case_of number (way_of pool otherwise) (map (case_way pool) xs))) [
@@ -66,7 +66,7 @@ chosen_way pool number otherwise (x ∷ xs) =
     ]
 
 -- where each way may be gone, the chosen one may
-pub chosen_may : (s : UnderWay) (pool : List Move) (number : ℕ) (otherwise : code.Edge) (cases : List Case) → IsWay s pool otherwise → All (λ x. IsWay s pool x.edge) cases → IsWay s pool (chosen_of number otherwise cases)
+pub chosen_may : (s : UnderWay) (pool : List Move) (number : ℕ) (otherwise : code.Edge) (cases : List SwitchWay) → IsWay s pool otherwise → All (λ x. IsWay s pool x.edge) cases → IsWay s pool (chosen_of number otherwise cases)
 chosen_may s pool number otherwise [] other ways = other
 chosen_may s pool number otherwise (x ∷ xs) other ways =
     elim (eqb x.number number) as (λ b. IsWay s pool (if b then x.edge else chosen_of number otherwise xs)) [
@@ -79,7 +79,7 @@ no_case (Int number) otherwise cases f c h = absurd (h number refl)
 no_case (Ptr p) otherwise cases f c h = refl
 no_case Poison otherwise cases f c h = refl
 
-pub goes_case : (value : Origin) (pool : List Move) (number : ℕ) (otherwise : code.Edge) (cases : List Case) (old new : UnderWay) → IsRunning old.frames → Int number ≡ leaf_of old value
+pub goes_case : (value : Origin) (pool : List Move) (number : ℕ) (otherwise : code.Edge) (cases : List SwitchWay) (old new : UnderWay) → IsRunning old.frames → Int number ≡ leaf_of old value
     → new ≡ changed (followed (way_of pool (chosen_of number otherwise cases))) old → IsCarriedOut (Switch (origin_of value) (way_of pool otherwise) (map (case_way pool) cases)) old new
 goes_case value pool number otherwise cases old new running is_number is =
     let way = case_of number (way_of pool otherwise) (map (case_way pool) cases) in

@@ -11,7 +11,7 @@ use Rattle.run_stack.specs.declared.origin.Origin.{Origin}
 use Rattle.run_stack.specs.Origins.{origin_of}
 use Rattle.run_stack.specs.UnderWay.{UnderWay, newest, changed, Fits, IsRunning}
 use Rattle.run_actions.specs.declared.values.Arm.{Arm}
-use Rattle.run_actions.specs.declared.values.Part.{Part}
+use Rattle.run_actions.specs.declared.values.FrozenLeaf.{FrozenLeaf}
 use Rattle.run_actions.specs.Carried.{IsCarriedOut}
 use Rattle.run_actions.specs.Operands.{leaf_of}
 use Rattle.run_actions.specs.Values.{arm_of, part_of}
@@ -43,7 +43,7 @@ module _ (to : ℕ) (old new : UnderWay) (result : List Scalar) (running : IsRun
       carried (Select to (origin_of condition) (map arm_of arms)) (λ f. with_result f to result) old new running is
       (λ table c. ap (λ (vs : List Scalar). goes (with_result (newest old.frames) to vs) c) (map-map _ arm_of arms ∙ sym e))
 
-  pub freezes : (value : List Part) → result ≡ map (λ p. freeze_of p.pointer (leaf_of old p.value)) value → IsCarriedOut (Freeze to (map part_of value)) old new
+  pub freezes : (value : List FrozenLeaf) → result ≡ map (λ p. freeze_of p.pointer (leaf_of old p.value)) value → IsCarriedOut (Freeze to (map part_of value)) old new
   freezes value e =
       carried (Freeze to (map part_of value)) (λ f. with_result f to result) old new running is
       (λ table c. ap (λ (vs : List Scalar). goes (with_result (newest old.frames) to vs) c) (map-map _ part_of value ∙ sym e))

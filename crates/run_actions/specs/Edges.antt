@@ -6,7 +6,7 @@ use Rattle.run_stack.specs.declared.origin.Move.{Move}
 use Rattle.run_stack.specs.Origins.{edge_of, IsMoveIn}
 use Rattle.run_stack.specs.UnderWay.{UnderWay, newest}
 use Rattle.run_actions.specs.declared.edge.Edge.{Edge}
-use Rattle.run_actions.specs.declared.edge.Case.{Case}
+use Rattle.run_actions.specs.declared.edge.SwitchWay.{SwitchWay}
 
 -- the moves of a way
 abbrev pub moves_in : List Move → Edge → List Move
@@ -17,11 +17,11 @@ abbrev pub way_of : List Move → Edge → actions.Edge
 way_of pool e = edge_of e.block e.position (moves_in pool e)
 
 -- the same of a case
-abbrev pub case_way : List Move → Case → ℕ × actions.Edge
+abbrev pub case_way : List Move → SwitchWay → ℕ × actions.Edge
 case_way pool c = (c.number, way_of pool c.edge)
 
 -- the way of the first case with that number, or else the other
-abbrev pub chosen_of : ℕ → Edge → List Case → Edge
+abbrev pub chosen_of : ℕ → Edge → List SwitchWay → Edge
 chosen_of number otherwise [] = otherwise
 chosen_of number otherwise (c ∷ cs) = if nat_eq c.number number then c.edge else chosen_of number otherwise cs
 

@@ -4,7 +4,7 @@ use Rattle.run_rules.specs.Action as actions
 use Rattle.run_stack.specs.Origins.{origin_of}
 use Rattle.run_stack.specs.UnderWay.{UnderWay}
 use Rattle.run_actions.specs.declared.values.Arm.{Arm}
-use Rattle.run_actions.specs.declared.values.Part.{Part}
+use Rattle.run_actions.specs.declared.values.FrozenLeaf.{FrozenLeaf}
 use Rattle.run_actions.specs.Operands.{IsThere}
 
 -- what they are in an action
@@ -12,7 +12,7 @@ abbrev pub arm_of : Arm → actions.Origin × actions.Origin
 arm_of a = (origin_of a.first, origin_of a.second)
 
 -- the same of a leaf that is frozen
-abbrev pub part_of : Part → Bool × actions.Origin
+abbrev pub part_of : FrozenLeaf → Bool × actions.Origin
 part_of p = (p.pointer, origin_of p.value)
 
 -- the newest frame has the places of both
@@ -20,5 +20,5 @@ abbrev pub IsArmThere : UnderWay → Arm → Type 0
 IsArmThere s a = IsThere s a.first × IsThere s a.second
 
 -- and of that leaf
-abbrev pub IsPartThere : UnderWay → Part → Type 0
+abbrev pub IsPartThere : UnderWay → FrozenLeaf → Type 0
 IsPartThere s p = IsThere s p.value

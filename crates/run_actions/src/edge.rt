@@ -18,10 +18,10 @@ pub struct Edge {
 /// A case of a switch: the number, and the way that it goes.
 ///
 /// ```
-/// Case { number: 7, edge } // of `i32 7, label %b`, where `edge` leads into `%b`
+/// SwitchWay { number: 7, edge } // of `i32 7, label %b`, where `edge` leads into `%b`
 /// ```
 #[derive(Clone, Copy, Debug, PartialEq, Eq)]
-pub struct Case {
+pub struct SwitchWay {
     pub number: u128,
     pub edge: Edge,
 }

@@ -18,7 +18,7 @@ mod scalars;
 mod values;
 mod ways;
 
-pub use edge::{Case, Edge};
+pub use edge::{Edge, SwitchWay};
 pub use scalars::{compare, compute, convert};
-pub use values::{Arm, Part, freeze, gather, select};
+pub use values::{Arm, FrozenLeaf, freeze, gather, select};
 pub use ways::{branch, jump, switch, unreachable};

@@ -30,10 +30,10 @@ pub struct Arm {
 /// A leaf of a value that is frozen, and whether it is a pointer.
 ///
 /// ```
-/// Part { pointer: false, value: Origin::Held(1) } // of `freeze i32 %a`, where `%a` stands at place 1
+/// FrozenLeaf { pointer: false, value: Origin::Held(1) } // of `freeze i32 %a`, where `%a` stands at place 1
 /// ```
 #[derive(Clone, Copy, Debug, PartialEq, Eq)]
-pub struct Part {
+pub struct FrozenLeaf {
     pub pointer: bool,
     pub value: Origin,
 }
@@ -140,7 +140,7 @@ pub fn select(
 
 // What freezing gives for each leaf, in the place of what `room` had.
 #[inline(never)]
-fn freeze_all(stack: &Stack, value: &[Part], room: &mut Vec<Scalar>) -> Result<(), AllocError>
+fn freeze_all(stack: &Stack, value: &[FrozenLeaf], room: &mut Vec<Scalar>) -> Result<(), AllocError>
     requires { All (IsPartThere stack.now) value.now }
     ensures ok { OnOk result (room.new.items ≡ map (λ p. freeze_of p.pointer (leaf_of stack.now p.value)) value.now) }
     ensures some { OnErr result (0 < length value.now) }
@@ -164,7 +164,7 @@ fn freeze_all(stack: &Stack, value: &[Part], room: &mut Vec<Scalar>) -> Result<(
 pub fn freeze(
     stack: &mut Stack,
     to: u32,
-    value: &[Part],
+    value: &[FrozenLeaf],
     room: &mut Vec<Scalar>,
 ) -> Result<(), AllocError>
     requires on { MayGoOn stack.old }

@@ -9,7 +9,7 @@ ghost use Rattle.run_actions.specs.Carried.{Acts, IsCarriedOut, IsUndefined};
 ghost use Rattle.run_actions.specs.Edges.{case_way, chosen_of, IsWay, way_of};
 ghost use Rattle.run_actions.specs.Operands.{IsThere};
 
-use crate::edge::{Case, Edge};
+use crate::edge::{Edge, SwitchWay};
 use ir_eval::Scalar;
 use ir_tables::UndefinedKind;
 use run_stack::{Move, Origin, Stack};
@@ -61,7 +61,7 @@ pub fn branch(
 }
 
 // The way of the first case with that number, or else the other.
-fn chosen<'a>(number: u128, otherwise: &'a Edge, cases: &'a [Case]) -> &'a Edge
+fn chosen<'a>(number: u128, otherwise: &'a Edge, cases: &'a [SwitchWay]) -> &'a Edge
     ensures { result.now ≡ chosen_of number otherwise.now cases.now }
 {
     'looking: for case in cases {
@@ -80,7 +80,7 @@ pub fn switch(
     stack: &mut Stack,
     value: &Origin,
     otherwise: &Edge,
-    cases: &[Case],
+    cases: &[SwitchWay],
     pool: &[Move],
 ) -> Result<(), UndefinedKind>
     requires running { IsRunning stack.old.frames }

@@ -29,7 +29,7 @@ use Rattle.run_body.specs.Bodies.{Decoded}
 use Rattle.run_signatures.specs.Met.{known}
 use Rattle.run_signatures.specs.Numbers.{IsNumbered}
 use Rattle.run_signatures.proofs.Numbered.{numbered_still}
-use Rattle.run_program.specs.declared.program.Head.{Head}
+use Rattle.run_program.specs.declared.program.FrameNeeds.{FrameNeeds}
 use Rattle.run_program.specs.Loaded.{HasHead, IsReady, Keeps, Loaded}
 use Rattle.typed_runs.specs.Actions.{AreArguments, Typing}
 use Rattle.typed_runs.specs.Kinds.{IsOf, kinds_of_all}
@@ -83,7 +83,7 @@ module _ (t : Typing) (look : ℕ → ℕ → ℕ → Action) (table : ℕ → C
 -- ---- what is told of it
 
 -- as it was before function types gained numbers
-pub head_callee : (p q : Loaded) (id : ℕ) (head : Head) → Keeps p q → (h : HasHead q id head) → callee_seen (alone (module_of p.lists)) (callees.Code id) ≡ Code id h.signature head.leaves
+pub head_callee : (p q : Loaded) (id : ℕ) (head : FrameNeeds) → Keeps p q → (h : HasHead q id head) → callee_seen (alone (module_of p.lists)) (callees.Code id) ≡ Code id h.signature head.leaves
 head_callee p q id head keeps h = ap (λ (a : Lists). callee_seen (alone (module_of a)) (callees.Code id)) (sym keeps.lists) ∙ h.callee
 
 -- ---- the body in which the call stands
@@ -106,7 +106,7 @@ module _ (p : Loaded) (s : UnderWay) (parts : CallParts) (to : ℕ) (arguments :
   call_leaves = subst (λ (x : Decoded). AllZip (IsOf count) (kinds_of_all (shapes_of x.pools p.lists parts)) arguments) body_is may.leaves
 
   -- what is told of the two function types
-  pub types_compared : (q : Loaded) (head : Head) (id : ℕ) (r : Bool) → Keeps p q → (h : HasHead q id head)
+  pub types_compared : (q : Loaded) (head : FrameNeeds) (id : ℕ) (r : Bool) → Keeps p q → (h : HasHead q id head)
       → ((x y : Signature) → slice_get (known q.met) head.signature ≡ Some x → slice_get (known q.met) parts.signature ≡ Some y → r ≡ same_signature x y)
       → r ≡ same_signature h.signature (signature_of b.pools p.lists parts)
   types_compared q head id r keeps h same = same h.signature (signature_of b.pools p.lists parts) h.number (numbered_still p.met q.met keeps.met parts.signature (signature_of b.pools p.lists parts) call_numbered.number)
@@ -133,7 +133,7 @@ called_enters callee function leaves s used shapes arguments to is same frames o
     ∙ h.enters due m
 called_enters callee function leaves s used shapes arguments to is same frames old new are (Err e) h = tt
 
-module _ (p q : Loaded) (s : UnderWay) (parts : CallParts) (to : ℕ) (arguments : List Scalar) (count : ℕ) (may : MayCall p s parts to arguments count) (head : Head) (id : ℕ) (b : Bool) (keeps : Keeps p q) (h : HasHead q id head)
+module _ (p q : Loaded) (s : UnderWay) (parts : CallParts) (to : ℕ) (arguments : List Scalar) (count : ℕ) (may : MayCall p s parts to arguments count) (head : FrameNeeds) (id : ℕ) (b : Bool) (keeps : Keeps p q) (h : HasHead q id head)
     (same : (x y : Signature) → slice_get (known q.met) head.signature ≡ Some x → slice_get (known q.met) parts.signature ≡ Some y → b ≡ same_signature x y) where
   abbrev the_callee : Callee
   the_callee = callee_seen (alone (module_of p.lists)) (callees.Code id)

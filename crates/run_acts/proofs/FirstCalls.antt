@@ -41,7 +41,7 @@ use Rattle.run_signatures.specs.Met as met
 use Rattle.run_signatures.specs.Met.{Met}
 use Rattle.run_types.specs.Wanted.{written_as}
 use Rattle.run_places.specs.Places.{IsFunctionOf}
-use Rattle.run_program.specs.declared.program.Head.{Head}
+use Rattle.run_program.specs.declared.program.FrameNeeds.{FrameNeeds}
 use Rattle.run_program.specs.Loaded.{HasHead, IsHead, Keeps, Loaded}
 use Rattle.typed_look.specs.Typings.{IsTypedLook, typing_of}
 use Rattle.typed_runs.specs.Kinds.{kinds_of_all}
@@ -91,7 +91,7 @@ host_refused row other next is due m =
     ap (λ (b : Bool). if b then answered 0 (core_of [] due m) (host row [] [] m) else fails AnotherFunctionType) (no_constructor row other) ∙ ap (λ (n : Next). next_of n (core_of [] due m) []) (sym is)
 
 -- what is told of a function by its types as they are written
-pub written_told : (a : Lists) (m : Met) (id : ℕ) (head : Head) (h : IsHead a m id head) (t : Types) (f : Function) → t ≡ a.table → slice_get a.functions id ≡ Some f
+pub written_told : (a : Lists) (m : Met) (id : ℕ) (head : FrameNeeds) (h : IsHead a m id head) (t : Types) (f : Function) → t ≡ a.table → slice_get a.functions id ≡ Some f
     → h.signature ≡ written_as t f.result (map (λ (p : Parameter). p.ty) f.parameters) f.variadic
 written_told a m id head h t f table there =
     let same : h.function ≡ f = same_Some h.function f (sym h.there ∙ there) in
@@ -121,7 +121,7 @@ pub main_leaves : (arguments : List Scalar) → length arguments ≤ length (mai
 main_leaves [] h = omega arith
 main_leaves (v ∷ vs) h = h
 
-module _ (p q : Loaded) (id : ℕ) (head : Head) (keeps : Keeps p q) (h : HasHead q id head) (address : ℕ) (arguments : List Scalar) (r : CalleeRef) (is : r ≡ callees.Code id)
+module _ (p q : Loaded) (id : ℕ) (head : FrameNeeds) (keeps : Keeps p q) (h : HasHead q id head) (address : ℕ) (arguments : List Scalar) (r : CalleeRef) (is : r ≡ callees.Code id)
     (value : callee_seen (alone (module_of p.lists)) r ≡ table (alone (module_of p.lists)) address) (main : IsMainAt (alone (module_of p.lists)) address arguments) where
   -- what main's address has
   pub main_callee : table (alone (module_of p.lists)) address ≡ Code id h.signature head.leaves
@@ -147,12 +147,12 @@ pub code_kept : (p q : Loaded) (id : ℕ) → Keeps p q → HasCode p.lists (cal
 code_kept p q id keeps h = subst (λ (a : Lists). HasCode a (callees.Code id)) (sym keeps.lists) h
 
 -- whether its type is that of a constructor
-pub constructor_tested : (q : Loaded) (id : ℕ) (head : Head) (h : HasHead q id head) (t : Types) (f : Function) (b : Bool) → t ≡ q.lists.table → slice_get q.lists.functions id ≡ Some f
+pub constructor_tested : (q : Loaded) (id : ℕ) (head : FrameNeeds) (h : HasHead q id head) (t : Types) (f : Function) (b : Bool) → t ≡ q.lists.table → slice_get q.lists.functions id ≡ Some f
     → b ≡ same_signature (written_as t f.result (map (λ (p : Parameter). p.ty) f.parameters) f.variadic) constructor_type → b ≡ same_signature h.signature constructor_type
 constructor_tested q id head h t f b table there e = e ∙ ap (λ (s : Signature). same_signature s constructor_type) (sym (written_told q.lists q.met id head h t f table there))
 
 -- it is of another type
-pub constructor_refused : (p q : Loaded) (id : ℕ) (head : Head) → Keeps p q → (h : HasHead q id head) (b : Bool) → b ≡ same_signature h.signature constructor_type → b ≡ false → (next : Next) → next ≡ Stops (stops.Undefined AnotherFunctionType)
+pub constructor_refused : (p q : Loaded) (id : ℕ) (head : FrameNeeds) → Keeps p q → (h : HasHead q id head) (b : Bool) → b ≡ same_signature h.signature constructor_type → b ≡ false → (next : Next) → next ≡ Stops (stops.Undefined AnotherFunctionType)
     → (frames : List Frame) → frames ≡ [] → (due : List Due) (m : Blocks) → called (callee_seen (alone (module_of p.lists)) (callees.Code id)) constructor_type [] [] 0 (core_of [] due m) ≡ next_of next (core_of frames due m) []
 constructor_refused p q id head keeps h b test untold next is frames none due m =
     fails_by_type (callee_seen (alone (module_of p.lists)) (callees.Code id)) id head.leaves h.signature constructor_type [] [] 0 (head_callee p q id head keeps h) b test (core_of [] due m) untold

@@ -13,8 +13,8 @@ use Rattle.module_arena.specs.declared.host.HostRow.{HostRow}
 use Rattle.module_arena.specs.HostRows.{host_types}
 use Rattle.type_table.specs.Shape.{Shape}
 use Rattle.type_table.specs.Types.{Types}
-use Rattle.run_host.specs.declared.answer.Answer.{Answer}
-use Rattle.run_host.specs.declared.answer.Answer.TheVariants.{Gives, Reads, Exits, Fails, MemoryLimit}
+use Rattle.run_host.specs.declared.answer.HostAnswer.{HostAnswer}
+use Rattle.run_host.specs.declared.answer.HostAnswer.TheVariants.{Gives, Reads, Exits, Fails, MemoryLimit}
 use Rattle.run_host.specs.Answers.{Writes, answer_of, leaves_of}
 use Rattle.run_rules.specs.Action.{Signature}
 use Rattle.run_rules.specs.Answer as rules
@@ -77,7 +77,7 @@ module _ (s : UnderWay) (to : ℕ) (due : List Due) (m n : Blocks) (output : Lis
 -- ---- the answer
 
 -- what was written is what the answer tells
-pub told_by : (what : rules.Answer) (n : Blocks) (old new : List ℕ) (answer : Answer) → old ≡ [] → Writes {E = AllocError} what n old new (Ok answer) → what ≡ answer_of answer n new
+pub told_by : (what : rules.Answer) (n : Blocks) (old new : List ℕ) (answer : HostAnswer) → old ≡ [] → Writes {E = AllocError} what n old new (Ok answer) → what ≡ answer_of answer n new
 told_by what n old new (Gives result) none h = h.1 ∙ ap (answer_of (Gives result) n) (sym (h.2 ∙ ap (λ (o : List ℕ). o ++ h.0) none))
 told_by what n old new Reads none h = h.0
 told_by what n old new (Exits status) none h = h.0
@@ -85,7 +85,7 @@ told_by what n old new (Fails kind) none h = h.0
 told_by what n old new MemoryLimit none h = h.0
 
 -- a result of these kinds has its place
-takes_typed : (s : UnderWay) (to : ℕ) (kinds : List Leaf) (m n : Blocks) (output : List ℕ) (answer : Answer) → IsTypedAnswer m kinds (answer_of answer n output) → HasPlaces s to (length kinds) → TakesResult s to answer
+takes_typed : (s : UnderWay) (to : ℕ) (kinds : List Leaf) (m n : Blocks) (output : List ℕ) (answer : HostAnswer) → IsTypedAnswer m kinds (answer_of answer n output) → HasPlaces s to (length kinds) → TakesResult s to answer
 takes_typed s to kinds m n output (Gives result) h place =
     fits_from (length (newest s.frames).leaves) to (leaves_of result)
     (subst (λ (k : ℕ). 0 < k → to + k ≤ length (newest s.frames).leaves) (sym (same_lengths (length n.list) kinds (leaves_of result) h.0)) place)
@@ -96,7 +96,7 @@ takes_typed s to kinds m n output MemoryLimit h place = tt
 
 -- what a host function gives has its place
 pub takes_result : (s : UnderWay) (row : HostRow) (shapes : List Shape) (arguments : List Scalar) (to : ℕ) (m : Blocks) → MayCallHost s row shapes arguments to (length m.list) → IsRow row → IsTypedMemory m
-    → (n : Blocks) (old new : List ℕ) (answer : Answer) → old ≡ [] → Writes {E = AllocError} (host row shapes arguments m) n old new (Ok answer) → TakesResult s to answer
+    → (n : Blocks) (old new : List ℕ) (answer : HostAnswer) → old ≡ [] → Writes {E = AllocError} (host row shapes arguments m) n old new (Ok answer) → TakesResult s to answer
 takes_result s row shapes arguments to m may is memory n old new answer none h =
     takes_typed s to (kinds_of may.used.returns) m n new answer
     (subst (IsTypedAnswer m (kinds_of may.used.returns)) (told_by (host row shapes arguments m) n old new answer none h) (host_typed m memory row is may.used shapes arguments may.typed may.fit may.leaves)) may.place

@@ -15,8 +15,8 @@ use Rattle.run_shapes.specs.Shapes.{shape_in}
 use Rattle.run_stack.specs.UnderWay.{UnderWay, Fits, IsRunning, newest, older}
 use Rattle.run_actions.specs.Operands.{HasPlaces}
 use Rattle.run_host.specs.Answers.{leaves_of}
-use Rattle.run_host.specs.declared.answer.Answer.{Answer}
-use Rattle.run_host.specs.declared.answer.Answer.TheVariants.{Gives, Reads, Exits, Fails, MemoryLimit}
+use Rattle.run_host.specs.declared.answer.HostAnswer.{HostAnswer}
+use Rattle.run_host.specs.declared.answer.HostAnswer.TheVariants.{Gives, Reads, Exits, Fails, MemoryLimit}
 use Rattle.run_flat.specs.declared.action.CallParts.{CallParts}
 use Rattle.run_flat.specs.declared.pools.Pools.{Pools}
 use Rattle.run_flat.specs.Flat.{signature_of}
@@ -53,7 +53,7 @@ pub record MayCallHost (s : UnderWay) (row : HostRow) (shapes : List Shape) (arg
   pub place : HasPlaces s to (length (kinds_of used.returns))
 
 -- what was answered has its place in the newest frame
-abbrev pub TakesResult : UnderWay → ℕ → Answer → Type 0
+abbrev pub TakesResult : UnderWay → ℕ → HostAnswer → Type 0
 TakesResult s to (Gives result) = Fits (length (newest s.frames).leaves) to (leaves_of result)
 TakesResult s to Reads = ⊤
 TakesResult s to (Exits status) = ⊤

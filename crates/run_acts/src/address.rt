@@ -35,10 +35,10 @@ use std::alloc::AllocError;
 /// another, and the place of its result's first leaf.
 ///
 /// ```
-/// Call { callee, parts, arguments: &[Scalar::Int(7)], to: 2 } // `call i32 @f(i32 7)`, whose result goes to place 2
+/// FrameCall { callee, parts, arguments: &[Scalar::Int(7)], to: 2 } // `call i32 @f(i32 7)`, whose result goes to place 2
 /// ```
 #[derive(Clone, Copy)]
-pub struct Call<'c> {
+pub struct FrameCall<'c> {
     pub callee: Scalar,
     pub parts: CallParts,
     pub arguments: &'c [Scalar],
@@ -50,7 +50,7 @@ fn call_code(
     program: &mut Program<'_>,
     stack: &mut Stack,
     id: FunctionId,
-    call: &Call<'_>,
+    call: &FrameCall<'_>,
 ) -> Result<Next, AllocError>
     requires code { HasCode program.old.lists (callees.Code id) }
     requires typed { let parts = alone (module_of program.old.lists) in IsTypedCallee (typing_of parts) (look parts) (table parts) (callee_seen parts (callees.Code id)) }
@@ -74,7 +74,7 @@ fn call_row(
     stack: &mut Stack,
     memory: &mut Memory,
     row: HostRow,
-    call: &Call<'_>,
+    call: &FrameCall<'_>,
     written: &mut Vec<u8>,
 ) -> Result<Next, AllocError>
     requires row { IsRow row }
@@ -113,7 +113,7 @@ pub fn call_address(
     program: &mut Program<'_>,
     stack: &mut Stack,
     memory: &mut Memory,
-    call: &Call<'_>,
+    call: &FrameCall<'_>,
     written: &mut Vec<u8>,
 ) -> Result<Next, AllocError>
     requires typed { IsTypedLook (alone (module_of program.old.lists)) }

@@ -10,10 +10,10 @@ ghost use Rattle.run_acts.specs.Made.{StaysReady};
 ghost use Rattle.run_acts.specs.Said.{IsLast};
 ghost use Rattle.run_acts.specs.Acting.{CameTo, MayActIn};
 
-use crate::address::{Call, call_address};
+use crate::address::{FrameCall, call_address};
 use crate::leave::return_value;
 use crate::next::Next;
-use crate::room::Room;
+use crate::room::Buffers;
 use ir_memory::Memory;
 use run_classes::origin;
 use run_flat::{LeafAt, Span};
@@ -30,7 +30,7 @@ pub(crate) fn act_on_call(
     to: u32,
     callee: LeafAt,
     place: u32,
-    room: &mut Room,
+    room: &mut Buffers,
 ) -> Result<Next, AllocError>
     requires may { (b : Decoded) × MayActIn program.old b (flat.Call to callee place) stack.old memory.old }
     requires none { room.old.written.items ≡ [] }
@@ -48,7 +48,7 @@ pub(crate) fn act_on_call(
     room.leaves.clear();
     stack.read_all(listed, &mut room.leaves)?;
     stack.move_on();
-    let call = Call {
+    let call = FrameCall {
         callee: address,
         parts,
         arguments: &room.leaves,
@@ -65,7 +65,7 @@ pub(crate) fn act_on_return(
     memory: &mut Memory,
     value: Span,
     is_last: bool,
-    room: &mut Room,
+    room: &mut Buffers,
 ) -> Result<Next, AllocError>
     requires may { (b : Decoded) × MayActIn program.now b (flat.Return value) stack.old memory.old }
     ensures came { IfOk result (λ next. (b : Decoded) (due : List Due) → IsLast due is_last → MayActIn program.now b (flat.Return value) stack.old memory.old

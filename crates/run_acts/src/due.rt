@@ -26,7 +26,7 @@ use ir_tables::UndefinedKind;
 use module_arena::{Function, FunctionId, HostRow};
 use run_names::CalleeRef;
 use run_program::Program;
-use run_shapes::{Form, form_of};
+use run_shapes::{TypeForm, form_of};
 use run_stack::Stack;
 use std::alloc::AllocError;
 use std::marker::Model;
@@ -110,12 +110,12 @@ fn is_void(types: &TypeTable, ty: TypeId) -> bool
     ensures { result ≡ same_shape (shape_in types.now ty) void_leaf }
 {
     match form_of(types, ty) {
-        Form::Nothing => true,
-        Form::Int(_) => false,
-        Form::Pointer => false,
-        Form::Opaque => false,
-        Form::Array(_) => false,
-        Form::Struct(_) => false,
+        TypeForm::Nothing => true,
+        TypeForm::Int(_) => false,
+        TypeForm::Pointer => false,
+        TypeForm::Opaque => false,
+        TypeForm::Array(_) => false,
+        TypeForm::Struct(_) => false,
     }
 }
 

@@ -22,7 +22,7 @@ use ir_eval::Scalar;
 use ir_intrinsics::Outcome;
 use ir_memory::{Leaf, Memory};
 use module_arena::HostRow;
-use run_host::Answer;
+use run_host::HostAnswer;
 use run_stack::Stack;
 use run_types::only_leaf;
 use std::alloc::{AllocError, Global};
@@ -83,7 +83,7 @@ fn give(stack: &mut Stack, to: u32, given: Option<Outcome>)
 }
 
 /// What a host function answered, on behalf of the newest frame, which takes its result. Memory is what the call left of it.
-fn take_answer(stack: &mut Stack, to: u32, answer: Answer) -> Next
+fn take_answer(stack: &mut Stack, to: u32, answer: HostAnswer) -> Next
     requires running { IsRunning stack.old.frames }
     requires place { TakesResult stack.old to answer }
     ensures answered { (due : List Due) (m n : Blocks) (output : List ℕ) → (EndsOrReads answer → n ≡ m)
@@ -91,14 +91,14 @@ fn take_answer(stack: &mut Stack, to: u32, answer: Answer) -> Next
     ensures ready { (p : Loaded) → StaysReady p stack.old p stack.new }
 {
     match answer {
-        Answer::Gives(given) => {
+        HostAnswer::Gives(given) => {
             give(stack, to, given);
             Next::Goes
         }
-        Answer::Reads => Next::Gets(to),
-        Answer::Exits(status) => Next::Stops(Stop::Exit(status)),
-        Answer::Fails(kind) => fails(kind),
-        Answer::MemoryLimit => Next::Stops(Stop::MemoryLimit),
+        HostAnswer::Reads => Next::Gets(to),
+        HostAnswer::Exits(status) => Next::Stops(Stop::Exit(status)),
+        HostAnswer::Fails(kind) => fails(kind),
+        HostAnswer::MemoryLimit => Next::Stops(Stop::MemoryLimit),
     }
 }
 

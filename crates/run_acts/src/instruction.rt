@@ -9,7 +9,7 @@ ghost use Rattle.run_acts.specs.Acting.{ActsFor, MayActHere, WantsHere};
 use crate::calls::{act_on_call, act_on_return};
 use crate::inner::act_within;
 use crate::next::Next;
-use crate::room::Room;
+use crate::room::Buffers;
 use ir_memory::Memory;
 use run_flat::Action;
 use run_program::Program;
@@ -26,7 +26,7 @@ pub fn act(
     stack: &mut Stack,
     memory: &mut Memory,
     is_last: bool,
-    room: &mut Room,
+    room: &mut Buffers,
 ) -> Result<Next, AllocError>
     requires may { MayActHere program.old stack.old memory.old }
     requires none { room.old.written.items ≡ [] }

@@ -24,9 +24,9 @@ mod leave;
 mod next;
 mod room;
 
-pub use address::{Call, call_address};
+pub use address::{FrameCall, call_address};
 pub use due::{DueCall, DueCalls, call_due};
 pub use instruction::act;
 pub use leave::return_value;
 pub use next::{Next, Stop};
-pub use room::Room;
+pub use room::Buffers;

@@ -9,7 +9,7 @@ use Rattle.module_arena.specs.Module.{Block}
 use Rattle.run_rules.specs.Action as actions
 use Rattle.run_rules.specs.Look.{action_at, look_in}
 use Rattle.run_rules.specs.Resolve.{ending_in, instruction_in}
-use Rattle.run_rules.specs.Scope.{Scope}
+use Rattle.run_rules.specs.Scope.{FunctionScope}
 use Rattle.run_flat.specs.declared.action.Action.{Action}
 use Rattle.run_flat.specs.declared.pools.Pools.{Pools}
 use Rattle.run_flat.specs.Flat.{action_of}
@@ -17,7 +17,7 @@ use Rattle.run_flat.specs.Grown.{Stands}
 use Rattle.run_body.specs.Bodies.{Decoded, look_in_row, look_of}
 
 -- the actions of a block: those of its instructions, and of its end
-abbrev pub actions_of : Scope → Block → List actions.Action
+abbrev pub actions_of : FunctionScope → Block → List actions.Action
 actions_of sc b = map (instruction_in sc) b.instructions ++ ending_in sc b.name b.ending ∷ []
 
 -- the action at a place of a list
@@ -43,11 +43,11 @@ row_looked a pools (r ∷ row) (x ∷ xs) zero h = h.0.means
 row_looked a pools (r ∷ row) (x ∷ xs) (suc p) h = row_looked a pools row xs p h.1
 
 -- so the actions of a block stand where look-up finds them
-pub block_looked : (d : Decoded) (sc : Scope) (row : List Action) (b : Block) (position : ℕ) → AllZip (Stands d.lists d.pools) row (actions_of sc b) → look_in_row d position row ≡ action_at sc b position
+pub block_looked : (d : Decoded) (sc : FunctionScope) (row : List Action) (b : Block) (position : ℕ) → AllZip (Stands d.lists d.pools) row (actions_of sc b) → look_in_row d position row ≡ action_at sc b position
 block_looked d sc row b position h =
     row_looked d.lists d.pools row (actions_of sc b) position h ∙ at_end (instruction_in sc) b.instructions (ending_in sc b.name b.ending) position
 
-rows_looked : (d : Decoded) (sc : Scope) (rows : List (List Action)) (bs : List Block) (block position : ℕ) → AllZip (λ (row : List Action) (b : Block). AllZip (Stands d.lists d.pools) row (actions_of sc b)) rows bs
+rows_looked : (d : Decoded) (sc : FunctionScope) (rows : List (List Action)) (bs : List Block) (block position : ℕ) → AllZip (λ (row : List Action) (b : Block). AllZip (Stands d.lists d.pools) row (actions_of sc b)) rows bs
     → option_map_or (look_in_row d position) (slice_get rows block) actions.Stuck ≡ option_map_or (λ (b : Block). action_at sc b position) (slice_get bs block) actions.Stuck
 rows_looked d sc [] [] block position h = refl
 rows_looked d sc [] (b ∷ bs) block position h = absurd h
@@ -56,5 +56,5 @@ rows_looked d sc (row ∷ rows) (b ∷ bs) zero position h = block_looked d sc r
 rows_looked d sc (row ∷ rows) (b ∷ bs) (suc block) position h = rows_looked d sc rows bs block position h.1
 
 -- and so those of all blocks
-pub body_looked : (d : Decoded) (sc : Scope) → AllZip (λ (row : List Action) (b : Block). AllZip (Stands d.lists d.pools) row (actions_of sc b)) d.rows sc.blocks → (block position : ℕ) → look_of d block position ≡ look_in sc block position
+pub body_looked : (d : Decoded) (sc : FunctionScope) → AllZip (λ (row : List Action) (b : Block). AllZip (Stands d.lists d.pools) row (actions_of sc b)) d.rows sc.blocks → (block position : ℕ) → look_of d block position ≡ look_in sc block position
 body_looked d sc h block position = rows_looked d sc d.rows sc.blocks block position h

@@ -1,10 +1,10 @@
--- For `new`, `action` and `widest` of `Body`: the actions of a function by their places.
+-- For `new`, `action` and `widest` of `ActionBody`: the actions of a function by their places.
 use Rattle.std.specs.Prelude.{ℕ, ◌-◌, ◌≤◌, List, slice_get}
 use Rattle.std.specs.List.{All}
 use Rattle.std.specs.Option.{option_map_or}
 use Rattle.module_arena.specs.Lists.{Lists}
 use Rattle.run_rules.specs.Action as actions
-use Rattle.run_actions.specs.declared.edge.Case.{Case}
+use Rattle.run_actions.specs.declared.edge.SwitchWay.{SwitchWay}
 use Rattle.run_actions.specs.declared.edge.Edge.{Edge}
 use Rattle.run_flat.specs.declared.action.Action.{Action}
 use Rattle.run_flat.specs.declared.leaf.Span.{Span}
@@ -31,7 +31,7 @@ module _ (d : Decoded) where
 -- no edge sets more leaves than that at once, be it an edge of its own or of a case
 pub record AreNarrow (p : Pools) (widest : ℕ) : Type 0 where
   pub edges : All (λ (e : Edge). e.end - e.first ≤ widest) p.edges
-  pub cases : All (λ (c : Case). c.edge.end - c.edge.first ≤ widest) p.cases
+  pub cases : All (λ (c : SwitchWay). c.edge.end - c.edge.first ≤ widest) p.cases
 
 -- each block has its place among the actions, what each action points to is there, and no edge sets more leaves than the widest
 pub record IsDecoded (p : Pools) (done : List Action) (spans : List Span) (widest : ℕ) : Type 0 where

@@ -13,7 +13,7 @@ use std::marker::Model;
 /// The body of a function as actions: those of each block in order, its end behind them. A clause sees the actions of each block, the
 /// pools into which they point, and the lists of the module.
 #[derive(Drop)]
-pub struct Body<'m> {
+pub struct ActionBody<'m> {
     program: &'m Checked,
     pools: Pools,
     actions: Pool<Action>,
@@ -21,7 +21,7 @@ pub struct Body<'m> {
     widest: u32,
 }
 
-impl<'m> Model for Body<'m> {
+impl<'m> Model for ActionBody<'m> {
     ghost use Rattle.std.specs.Prelude.{map};
     ghost use Rattle.run_flat.specs.Spans.{spanned};
     ghost use Rattle.run_body.specs.Bodies.{Decoded, IsDecoded};
@@ -33,7 +33,7 @@ impl<'m> Model for Body<'m> {
     ghost invariant = { λ b. IsDecoded b.pools b.actions b.rows b.widest };
 }
 
-impl<'m> Body<'m> {
+impl<'m> ActionBody<'m> {
     /// The body of a function of a module: its actions, where those of each block stand, in the order of the blocks, and the pools into
     /// which the actions point.
     pub fn new(
@@ -41,7 +41,7 @@ impl<'m> Body<'m> {
         pools: Pools,
         actions: Pool<Action>,
         rows: Pool<Span>,
-    ) -> Body<'m>
+    ) -> ActionBody<'m>
         requires rows { All (IsSpanIn actions) rows }
         requires within { All (IsWithin pools) actions }
         ensures lists { result.lists ≡ program.now }
@@ -50,7 +50,7 @@ impl<'m> Body<'m> {
         ensures narrow { AreNarrow result.pools result.widest }
     {
         let widest = widest_way(&pools);
-        Body {
+        ActionBody {
             program,
             pools,
             actions,

@@ -5,7 +5,7 @@
 //!
 //! ```
 //! // of `define void @f() { ret void }`
-//! let body = Body::new(program, pools, actions, rows);
+//! let body = ActionBody::new(program, pools, actions, rows);
 //! body.action(0, 0) // Action::Return { value }, with an empty span
 //! body.widest() // 0: there is no edge
 //! ```
@@ -14,4 +14,4 @@
 mod body;
 mod widest;
 
-pub use body::Body;
+pub use body::ActionBody;

@@ -2,7 +2,7 @@
 ghost use Rattle.std.specs.Prelude.{◌≡◌, ◌-◌, ◌≤◌, All};
 ghost use Rattle.run_body.specs.Bodies.{AreNarrow};
 
-use run_actions::{Case, Edge};
+use run_actions::{Edge, SwitchWay};
 use run_flat::Pools;
 
 /// How many leaves an edge sets. One whose moves end before they begin sets none.
@@ -25,7 +25,7 @@ fn widest_edge(edges: &[Edge]) -> u32
 }
 
 /// How many leaves the edge of one of the cases sets at most.
-fn widest_case(cases: &[Case]) -> u32
+fn widest_case(cases: &[SwitchWay]) -> u32
     ensures { All (λ c. c.edge.end - c.edge.first ≤ result) cases.now }
 {
     let mut widest = 0;

@@ -12,7 +12,7 @@ use Rattle.run_stack.specs.declared.origin.Move.{Move}
 use Rattle.run_stack.specs.declared.origin.Origin.{Origin}
 use Rattle.run_stack.specs.Origins.{IsMoveIn, move_of, origin_of}
 use Rattle.run_stack.specs.UnderWay.{UnderWay, IsRunning, newest}
-use Rattle.run_actions.specs.declared.edge.Case.{Case}
+use Rattle.run_actions.specs.declared.edge.SwitchWay.{SwitchWay}
 use Rattle.run_actions.specs.declared.edge.Edge.{Edge}
 use Rattle.run_actions.specs.Edges.{case_way, IsWay, moves_in, way_of}
 use Rattle.run_actions.specs.Operands.{IsThere}
@@ -63,9 +63,9 @@ module _ (count : ℕ) (p : Pools) (action : Action) (s : UnderWay) (may : MayAc
       (subst IsMeantEdge (sym means) is)
 
   -- cases
-  pub cases_may : (cases : Span) → AreCasesIn p cases → All (λ (x : ℕ × actions.Edge). IsMeantEdge x.1) (cases_of p cases) → All (λ (c : Case). IsWay s p.moves c.edge) (spanned p.cases cases)
+  pub cases_may : (cases : Span) → AreCasesIn p cases → All (λ (x : ℕ × actions.Edge). IsMeantEdge x.1) (cases_of p cases) → All (λ (c : SwitchWay). IsWay s p.moves c.edge) (spanned p.cases cases)
   cases_may cases has is =
-      let IsNarrow : Case → Type 0 = λ c. c.edge.end - c.edge.first ≤ s.widest in
+      let IsNarrow : SwitchWay → Type 0 = λ c. c.edge.end - c.edge.first ≤ s.widest in
       let narrow = All-take IsNarrow cases.count (drop cases.first p.cases) (All-drop IsNarrow cases.first p.cases may.narrow.cases) in
       let typed = All-unmap (λ (x : ℕ × actions.Edge). IsMeantEdge x.1) (case_way p.moves) (spanned p.cases cases) is in
       λ k d lt. way_may (get_or (spanned p.cases cases) k d).edge (has.moves k d lt) (narrow k d lt) (typed k d lt)
@@ -99,7 +99,7 @@ module _ (count : ℕ) (p : Pools) (s : UnderWay) where
     pub running : IsRunning s.frames
     pub there : IsThere s number
     pub other_way : IsWay s p.moves other
-    pub case_ways : All (λ (c : Case). IsWay s p.moves c.edge) (spanned p.cases cases)
+    pub case_ways : All (λ (c : SwitchWay). IsWay s p.moves c.edge) (spanned p.cases cases)
 
   pub switches_well : (value : LeafAt) (otherwise : ℕ) (cases : Span) (number : Origin) (other : Edge) → origin_of number ≡ leaf_of p value → slice_get p.edges otherwise ≡ Some other → way_of p.moves other ≡ edge_at p otherwise
       → MayAct count p (Switch value otherwise cases) s → IsSwitching number other cases
@@ -123,7 +123,7 @@ module _ (p : Pools) (a : Lists) (action : Action) where
   branched_so condition then_edge else_edge moves chooses first second is all one first_means second_means =
       (λ i. actions.Branch (one i) (way_of (all i) first) (way_of (all i) second)) ∙ (λ i. actions.Branch (leaf_of p condition) (first_means i) (second_means i)) ∙ ap (action_of p a) (sym is)
 
-  pub switched_so : (value : LeafAt) (otherwise : ℕ) (cases : Span) (moves : List Move) (number : Origin) (other : Edge) (listed : List Case) → action ≡ Switch value otherwise cases → moves ≡ p.moves → origin_of number ≡ leaf_of p value
+  pub switched_so : (value : LeafAt) (otherwise : ℕ) (cases : Span) (moves : List Move) (number : Origin) (other : Edge) (listed : List SwitchWay) → action ≡ Switch value otherwise cases → moves ≡ p.moves → origin_of number ≡ leaf_of p value
       → way_of p.moves other ≡ edge_at p otherwise → listed ≡ spanned p.cases cases → actions.Switch (origin_of number) (way_of moves other) (map (case_way moves) listed) ≡ action_of p a action
   switched_so value otherwise cases moves number other listed is all one means here =
       (λ i. actions.Switch (one i) (way_of (all i) other) (map (case_way (all i)) (here i))) ∙ (λ i. actions.Switch (leaf_of p value) (means i) (cases_of p cases)) ∙ ap (action_of p a) (sym is)

@@ -5,7 +5,7 @@ use Rattle.std.proofs.lemmas.List.{length-map}
 use Rattle.std.proofs.lemmas.List.Elements.{All-weaker}
 use Rattle.ir_eval.specs.declared.value.Scalar.{Scalar}
 use Rattle.ir_eval.specs.declared.value.Scalar.TheVariants as scalar
-use Rattle.ir_memory.specs.Block.{Block}
+use Rattle.ir_memory.specs.Block.{MemoryBlock}
 use Rattle.ir_memory.specs.declared.fault.MemoryFault.{MemoryFault}
 use Rattle.ir_memory.specs.declared.fault.MemoryFault.TheVariants as faults
 use Rattle.ir_memory.specs.declared.leaf.Leaf.{Leaf}
@@ -42,18 +42,18 @@ use Rattle.run_classes.proofs.Paired.{zip_mapped}
 use Rattle.run_classes.proofs.Placed.{had, IsMeant, may_go_on, place_there, places_there}
 
 -- a pointer is an address
-address_from : (blocks : List Block) (v : Scalar) → IsOf (length blocks) leaf.Ptr v → IsAddress blocks v
+address_from : (blocks : List MemoryBlock) (v : Scalar) → IsOf (length blocks) leaf.Ptr v → IsAddress blocks v
 address_from blocks (scalar.Int n) h = absurd h
 address_from blocks (scalar.Ptr q) h = h
 address_from blocks scalar.Poison h = tt
 
 -- what an access asks of its address
-pub record IsAccessible (blocks : List Block) (s : UnderWay) (place : Origin) : Type 0 where
+pub record IsAccessible (blocks : List MemoryBlock) (s : UnderWay) (place : Origin) : Type 0 where
   pub on : MayGoOn s
   pub there : IsThere s place
   pub address : IsAddress blocks (operands.leaf_of s place)
 
-module _ (blocks : List Block) (p : Pools) (action : Action) (s : UnderWay) (may : MayAct (length blocks) p action s) where
+module _ (blocks : List MemoryBlock) (p : Pools) (action : Action) (s : UnderWay) (may : MayAct (length blocks) p action s) where
   accessible : (place : Origin) (meant : actions.Origin) → origin_of place ≡ meant → IsMeant (length blocks) p action s may leaf.Ptr meant → IsAccessible blocks s place
   accessible place meant e h =
       let one = had (length blocks) p action s may leaf.Ptr place meant e h in
@@ -88,13 +88,13 @@ module _ (blocks : List Block) (p : Pools) (action : Action) (s : UnderWay) (may
 
 -- ---- each of them
 
-pub record IsLoadable (blocks : List Block) (s : UnderWay) (to align : ℕ) (place : Origin) (kinds : List Slot) : Type 0 where
+pub record IsLoadable (blocks : List MemoryBlock) (s : UnderWay) (to align : ℕ) (place : Origin) (kinds : List Slot) : Type 0 where
   pub access : IsAccessible blocks s place
   pub align_is : IsAlignment align
   pub leaves : All (λ (x : Slot). IsLeaf x.leaf) kinds
   pub places : HasPlaces s to (length kinds)
 
-pub record IsStoredTo (blocks : List Block) (s : UnderWay) (align : ℕ) (place : Origin) (kinds : List Slot) (leaves : List Origin) : Type 0 where
+pub record IsStoredTo (blocks : List MemoryBlock) (s : UnderWay) (align : ℕ) (place : Origin) (kinds : List Slot) (leaves : List Origin) : Type 0 where
   pub access : IsAccessible blocks s place
   pub align_is : IsAlignment align
   pub pairs : All (IsStorable (length blocks) s) (zip kinds leaves)
@@ -105,11 +105,11 @@ pub record IsAllocatable (s : UnderWay) (to align : ℕ) (number : Origin) : Typ
   pub there : IsThere s number
   pub align_is : IsAlignment align
 
-pub record IsDisplaceable (blocks : List Block) (s : UnderWay) (p : Pools) (to : ℕ) (place : Origin) : Type 0 where
+pub record IsDisplaceable (blocks : List MemoryBlock) (s : UnderWay) (p : Pools) (to : ℕ) (place : Origin) : Type 0 where
   pub access : IsAccessible blocks s place
   pub to_place : IsPlace s to
 
-module _ (blocks : List Block) (p : Pools) (s : UnderWay) where
+module _ (blocks : List MemoryBlock) (p : Pools) (s : UnderWay) where
   pub loadable : (to align : ℕ) (address : LeafAt) (slots : Span) (place : Origin) (kinds : List Slot) → origin_of place ≡ leaf_of p address → kinds ≡ spanned p.slots slots → MayAct (length blocks) p (Load to align address slots) s
       → IsLoadable blocks s to align place kinds
   loadable to align address slots place kinds is here may =

@@ -15,7 +15,7 @@ use Rattle.run_stack.specs.declared.origin.Origin.{Origin}
 use Rattle.run_stack.specs.Origins.{origin_of}
 use Rattle.run_stack.specs.UnderWay.{UnderWay}
 use Rattle.run_actions.specs.declared.values.Arm.{Arm}
-use Rattle.run_actions.specs.declared.values.Part.{Part}
+use Rattle.run_actions.specs.declared.values.FrozenLeaf.{FrozenLeaf}
 use Rattle.run_actions.specs.Operands as operands
 use Rattle.run_actions.specs.Operands.{HasPlaces, IsThere, MayGoOn}
 use Rattle.run_actions.specs.Values.{arm_of, IsArmThere, IsPartThere, part_of}
@@ -51,7 +51,7 @@ module _ (count : ℕ) (p : Pools) (action : Action) (s : UnderWay) (may : MayAc
   abbrev pub IsMeantPart : Leaf → Bool × actions.Origin → Type 0
   IsMeantPart kind x = (x.0 ≡ is_pointer kind) × IsMeant count p action s may kind x.1
 
-  parts_there : (ks : List Leaf) (parts : List Part) → AllZip IsMeantPart ks (map part_of parts) → All (IsPartThere s) parts
+  parts_there : (ks : List Leaf) (parts : List FrozenLeaf) → AllZip IsMeantPart ks (map part_of parts) → All (IsPartThere s) parts
   parts_there [] [] h = All-nil (IsPartThere s)
   parts_there [] (x ∷ xs) h = absurd h
   parts_there (k ∷ ks) [] h = absurd h
@@ -72,7 +72,7 @@ pub record IsSelectable (s : UnderWay) (to : ℕ) (chooses : Origin) (arms : Lis
   pub arms_there : All (IsArmThere s) arms
   pub places : HasPlaces s to (length arms)
 
-pub record IsFreezable (s : UnderWay) (to : ℕ) (parts : List Part) : Type 0 where
+pub record IsFreezable (s : UnderWay) (to : ℕ) (parts : List FrozenLeaf) : Type 0 where
   pub on : MayGoOn s
   pub there : All (IsPartThere s) parts
   pub places : HasPlaces s to (length parts)
@@ -98,11 +98,11 @@ module _ (count : ℕ) (p : Pools) (s : UnderWay) where
         places = places_there count p action s may to kinds (length both) (as_many (IsMeantArm count p action s may) arm_of kinds both typed) may.typed.1.2;
       }
 
-  pub freezable : (to : ℕ) (parts : Span) (leaves : List Part) → leaves ≡ spanned p.parts parts → MayAct count p (Freeze to parts) s → IsFreezable s to leaves
+  pub freezable : (to : ℕ) (parts : Span) (leaves : List FrozenLeaf) → leaves ≡ spanned p.parts parts → MayAct count p (Freeze to parts) s → IsFreezable s to leaves
   freezable to parts leaves here may =
       let action = Freeze to parts in
       let kinds = may.typed.0.0 in
-      let typed = subst (λ (xs : List Part). AllZip (IsMeantPart count p action s may) kinds (map part_of xs)) (sym here) may.typed.0.1 in
+      let typed = subst (λ (xs : List FrozenLeaf). AllZip (IsMeantPart count p action s may) kinds (map part_of xs)) (sym here) may.typed.0.1 in
       record {
         on = may_go_on count p action s may;
         there = parts_there count p action s may kinds leaves typed;
@@ -127,7 +127,7 @@ module _ (p : Pools) (a : Lists) (action : Action) where
       → actions.Select to (origin_of chooses) (map arm_of both) ≡ action_of p a action
   selected_so to condition arms chooses both is one here = (λ i. actions.Select to (one i) (map arm_of (here i))) ∙ ap (action_of p a) (sym is)
 
-  pub frozen_so : (to : ℕ) (parts : Span) (leaves : List Part) → action ≡ Freeze to parts → leaves ≡ spanned p.parts parts → actions.Freeze to (map part_of leaves) ≡ action_of p a action
+  pub frozen_so : (to : ℕ) (parts : Span) (leaves : List FrozenLeaf) → action ≡ Freeze to parts → leaves ≡ spanned p.parts parts → actions.Freeze to (map part_of leaves) ≡ action_of p a action
   frozen_so to parts leaves is here = (λ i. actions.Freeze to (map part_of (here i))) ∙ ap (action_of p a) (sym is)
 
   pub gathered_so : (to : ℕ) (value : Span) (leaves : List Origin) → action ≡ Gather to value → leaves ≡ spanned p.origins value → actions.Gather to (map origin_of leaves) ≡ action_of p a action

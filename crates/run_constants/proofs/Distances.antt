@@ -12,7 +12,7 @@ use Rattle.run_accesses.specs.Near.{IsNear}
 use Rattle.run_rules.specs.Constant.{constant_indices}
 use Rattle.run_rules.specs.Displace.{Index, inner_term, inner_terms, known, number_in, reach_of, sum_of, terms_of}
 use Rattle.run_rules.specs.Leaves.{element, field}
-use Rattle.run_constants.specs.declared.distance.Place.TheVariants.{Whole}
+use Rattle.run_constants.specs.declared.distance.PathPlace.TheVariants.{Whole}
 use Rattle.run_constants.specs.declared.distance.Reached.{Reached}
 use Rattle.run_shapes.specs.Shapes.{shape_in}
 use Rattle.run_constants.specs.Places.{IsPlace, shape_at, term_reach}

@@ -2,7 +2,7 @@
 use Rattle.std.proofs.Common.{◌≡◌, ℕ, zero, suc, ◌+◌, ◌-◌, ◌<◌, ◌≤◌, Bool, List, [], ◌∷◌, ◌++◌, length, drop, get_or, map, append_assoc, append-nil, refl, sym, ap, ◌∙◌, arith}
 use Rattle.std.proofs.lemmas.List.{at_drop_more, at_drop_all, length-append}
 use Rattle.ir_eval.specs.declared.value.Scalar.{Scalar}
-use Rattle.type_table.specs.Layout.{align, placed, size}
+use Rattle.type_table.specs.Layout.{align, field_start, size}
 use Rattle.type_table.specs.Shape.{Shape, int_leaf, ptr_leaf, void_leaf, opaque_leaf, array_of, struct_of, Shapes, no_shapes, more_shapes}
 use Rattle.type_table.specs.Types.{Types}
 use Rattle.run_rules.specs.Leaves.{Slot, field_slots, repeated, slots, slots_at}
@@ -37,8 +37,8 @@ module _ (fill : Fill) where
     all_filled_at : (ss : Shapes) (packed : Bool) (at end : ℕ) → map one (field_slots ss packed at end) ≡ all_filled fill ss
     all_filled_at no_shapes packed at end = refl
     all_filled_at (more_shapes s ss) packed at end =
-        map-++ one (slots_at s (at + placed packed end (align s))) (field_slots ss packed at (placed packed end (align s) + size s))
-        ∙ (λ i. filled_at s (at + placed packed end (align s)) i ++ all_filled_at ss packed at (placed packed end (align s) + size s) i)
+        map-++ one (slots_at s (at + field_start packed end (align s))) (field_slots ss packed at (field_start packed end (align s) + size s))
+        ∙ (λ i. filled_at s (at + field_start packed end (align s)) i ++ all_filled_at ss packed at (field_start packed end (align s) + size s) i)
 
   pub filled_is : (s : Shape) → map one (slots s) ≡ filled fill s
   filled_is s = filled_at s 0

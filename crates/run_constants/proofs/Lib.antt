@@ -2,7 +2,7 @@ pub mod Appended
 pub mod Distances
 pub mod Fills
 pub mod Held
-pub mod OneLeaf
+pub mod LeafKinds
 pub mod Lists
 pub mod Reached
 pub mod Sounds

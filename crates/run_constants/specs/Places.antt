@@ -10,18 +10,18 @@ use Rattle.run_rules.specs.Action.{Known, Term}
 use Rattle.run_rules.specs.Constant.{constant_value, one_leaf, width_of}
 use Rattle.run_rules.specs.Displace.{Index, known, reach}
 use Rattle.run_shapes.specs.Shapes.{offset_in, shape_in}
-use Rattle.run_constants.specs.declared.distance.Place.{Place}
-use Rattle.run_constants.specs.declared.distance.Place.TheVariants.{Whole, Inside, Nowhere}
+use Rattle.run_constants.specs.declared.distance.PathPlace.{PathPlace}
+use Rattle.run_constants.specs.declared.distance.PathPlace.TheVariants.{Whole, Inside, Nowhere}
 use Rattle.run_constants.specs.Sound.{constant_of, names_of}
 
 -- the shape into which the next index leads. The first counts whole values, as if these were the elements of an array
-abbrev pub shape_at : Types → Place → Shape
+abbrev pub shape_at : Types → PathPlace → Shape
 shape_at t (Whole ty) = array_of 0 (shape_in t ty)
 shape_at t (Inside ty) = shape_in t ty
 shape_at t Nowhere = void_leaf
 
 -- a type of the table that lies in memory, if any
-abbrev pub IsPlace : Types → Place → Type 0
+abbrev pub IsPlace : Types → PathPlace → Type 0
 IsPlace t (Whole ty) = (ty < length t.types) × (lies_in_memory (structs t) (tree t ty) ≡ true)
 IsPlace t (Inside ty) = (ty < length t.types) × (lies_in_memory (structs t) (tree t ty) ≡ true)
 IsPlace t Nowhere = ⊤

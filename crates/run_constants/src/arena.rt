@@ -10,7 +10,7 @@ ghost use Rattle.run_constants.specs.Sound.{constant_of, is_scalar, leaf_tree, w
 use ir_memory::Leaf;
 use module_arena::{Const, ConstId};
 use run_names::Names;
-use run_shapes::{Form, form_of};
+use run_shapes::{TypeForm, form_of};
 use type_table::{TypeId, TypeTable};
 
 /// The types of the module.
@@ -43,12 +43,12 @@ pub fn kind_of(names: &Names<'_>, ty: TypeId) -> Leaf
     // What holds of each table of types.
     let _count = types.type_count();
     match form_of(types, ty) {
-        Form::Int(width) => Leaf::Int(width),
-        Form::Pointer => Leaf::Ptr,
-        Form::Nothing => Leaf::Ptr,
-        Form::Opaque => Leaf::Ptr,
-        Form::Array(_) => Leaf::Ptr,
-        Form::Struct(_) => Leaf::Ptr,
+        TypeForm::Int(width) => Leaf::Int(width),
+        TypeForm::Pointer => Leaf::Ptr,
+        TypeForm::Nothing => Leaf::Ptr,
+        TypeForm::Opaque => Leaf::Ptr,
+        TypeForm::Array(_) => Leaf::Ptr,
+        TypeForm::Struct(_) => Leaf::Ptr,
     }
 }
 

@@ -18,7 +18,7 @@ use type_table::{TypeId, TypeTable};
 
 /// Where indices have led to so far.
 #[derive(Clone, Copy)]
-pub(crate) enum Place {
+pub(crate) enum PathPlace {
     /// To values of that type, which the next index counts.
     Whole(TypeId),
     /// To a part of that type.
@@ -30,7 +30,7 @@ pub(crate) enum Place {
 /// How far indices have led so far.
 #[derive(Clone, Copy)]
 pub(crate) struct Reached {
-    place: Place,
+    place: PathPlace,
     /// In bytes; None where an index is poison.
     pub distance: Option<i128>,
 }
@@ -38,13 +38,13 @@ pub(crate) struct Reached {
 /// Before the first index, which counts values of that type.
 pub(crate) fn before_all(types: &TypeTable, ty: TypeId) -> Reached
     requires known { ty < length types.now.types }
-    ensures start { result ≡ record { place = Place.Whole ty; distance = Some (pos 0) } }
+    ensures start { result ≡ record { place = PathPlace.Whole ty; distance = Some (pos 0) } }
     ensures few { nesting (shape_in types.now ty) ≤ 64 }
 {
     // No type of a table nests deeper than its limits.
     let _count = types.type_count();
     Reached {
-        place: Place::Whole(ty),
+        place: PathPlace::Whole(ty),
         distance: Some(0),
     }
 }
@@ -61,7 +61,7 @@ pub fn number_of(leaf: Scalar) -> u128
 
 /// How far so many values of that type reach, in bytes. The index is an integer of that width.
 fn reach_over(types: &TypeTable, ty: TypeId, index: Scalar, width: u8) -> Option<i128>
-    requires place { IsPlace types.now (Place.Whole ty) }
+    requires place { IsPlace types.now (PathPlace.Whole ty) }
     requires width { IsWidth width }
     requires index { IsInteger width index }
     ensures value { result ≡ rules.reach index width (size (shape_in types.now ty)) }
@@ -74,7 +74,7 @@ fn reach_over(types: &TypeTable, ty: TypeId, index: Scalar, width: u8) -> Option
 
 /// How far it is to the field with that index, in bytes; 0 in a type that is no struct.
 fn reach_to_field(types: &TypeTable, ty: TypeId, index: Scalar) -> Option<i128>
-    requires place { IsPlace types.now (Place.Inside ty) }
+    requires place { IsPlace types.now (PathPlace.Inside ty) }
     ensures value { result ≡ rules.reach (Scalar.Int (offset_at (shape_in types.now ty) (rules.number_of index))) 64 1 }
     ensures near { IfSome result (IsNear (2 ^ 63 * 2 ^ 40)) }
 {
@@ -83,7 +83,7 @@ fn reach_to_field(types: &TypeTable, ty: TypeId, index: Scalar) -> Option<i128>
 }
 
 /// How far an index leads from where indices have led to so far, in bytes; None where it is poison.
-fn reach_in(types: &TypeTable, place: Place, index: Scalar, width: u8) -> Option<i128>
+fn reach_in(types: &TypeTable, place: PathPlace, index: Scalar, width: u8) -> Option<i128>
     requires place { IsPlace types.now place }
     requires width { IsWidth width }
     requires index { IsInteger width index }
@@ -91,28 +91,28 @@ fn reach_in(types: &TypeTable, place: Place, index: Scalar, width: u8) -> Option
     ensures near { IfSome result (IsNear (2 ^ 63 * 2 ^ 40)) }
 {
     match place {
-        Place::Whole(ty) => reach_over(types, ty, index, width),
-        Place::Inside(ty) => match elements(types, ty) {
+        PathPlace::Whole(ty) => reach_over(types, ty, index, width),
+        PathPlace::Inside(ty) => match elements(types, ty) {
             Some(element) => reach_over(types, element, index, width),
             None => reach_to_field(types, ty, index),
         },
-        Place::Nowhere => Some(0),
+        PathPlace::Nowhere => Some(0),
     }
 }
 
 /// Where that index leads to.
-fn place_in(types: &TypeTable, place: Place, index: Scalar) -> Place
+fn place_in(types: &TypeTable, place: PathPlace, index: Scalar) -> PathPlace
     requires place { IsPlace types.now place }
     ensures place { IsPlace types.now result }
     ensures shape { shape_at types.now result ≡ leaves.element (shape_at types.now place) (rules.number_of index) }
 {
     match place {
-        Place::Whole(ty) => Place::Inside(ty),
-        Place::Inside(ty) => match element(types, ty, number_of(index)) {
-            Some(part) => Place::Inside(part),
-            None => Place::Nowhere,
+        PathPlace::Whole(ty) => PathPlace::Inside(ty),
+        PathPlace::Inside(ty) => match element(types, ty, number_of(index)) {
+            Some(part) => PathPlace::Inside(part),
+            None => PathPlace::Nowhere,
         },
-        Place::Nowhere => Place::Nowhere,
+        PathPlace::Nowhere => PathPlace::Nowhere,
     }
 }
 

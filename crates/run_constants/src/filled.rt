@@ -6,7 +6,7 @@ ghost use Rattle.run_constants.specs.Filled.{all_filled, copies, filled, leaf_in
 
 use ir_eval::{Pointer, Scalar};
 use ir_memory::Leaf;
-use run_shapes::{Form, form_of, parts};
+use run_shapes::{TypeForm, form_of, parts};
 use std::alloc::AllocError;
 use type_table::{TypeId, TypeTable};
 
@@ -63,12 +63,12 @@ pub(crate) fn push_filled(
 {
     let parts = parts(types, ty);
     match form_of(types, ty) {
-        Form::Int(width) => push_leaf(into, leaf_in(fill, Leaf::Int(width))),
-        Form::Pointer => push_leaf(into, leaf_in(fill, Leaf::Ptr)),
-        Form::Array(count) => push_copies(types, fill, parts[0], count, into),
-        Form::Struct(_packed) => push_fields(types, fill, parts, into),
-        Form::Nothing => Ok(()),
-        Form::Opaque => Ok(()),
+        TypeForm::Int(width) => push_leaf(into, leaf_in(fill, Leaf::Int(width))),
+        TypeForm::Pointer => push_leaf(into, leaf_in(fill, Leaf::Ptr)),
+        TypeForm::Array(count) => push_copies(types, fill, parts[0], count, into),
+        TypeForm::Struct(_packed) => push_fields(types, fill, parts, into),
+        TypeForm::Nothing => Ok(()),
+        TypeForm::Opaque => Ok(()),
     }
 }
 

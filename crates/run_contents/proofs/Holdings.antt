@@ -25,7 +25,7 @@ use Rattle.linkage_rules.specs.Entries.{Entry, symbol_of}
 use Rattle.linkage_rules.specs.Linkages.{is_appending}
 use Rattle.linkage_rules.specs.Winner.{definitions, home, is_definition}
 use Rattle.linked_contents.specs.Contents.{Piece, elements_in, elements_of, whole, pieces_by, pieces_of_constants}
-use Rattle.run_constants.proofs.OneLeaf.{shape_is}
+use Rattle.run_constants.proofs.LeafKinds.{shape_is}
 use Rattle.run_constants.proofs.Sounds.{back_all, front_all, list_sound}
 use Rattle.run_constants.proofs.Standing.{initialiser_stands}
 use Rattle.run_constants.specs.Sound.{IsSound, constant_of, names_of}

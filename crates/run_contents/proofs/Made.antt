@@ -7,7 +7,7 @@ use Rattle.std.proofs.lemmas.List.{at_drop_more, at_drop_all, length-append}
 use Rattle.std.proofs.lemmas.Nat.{div-add-mod', div-mul-add, mod-mul-add, mod_below}
 use Rattle.ir_memory.specs.declared.kind.BlockKind.{BlockKind}
 use Rattle.ir_memory.specs.declared.kind.BlockKind.TheVariants as kind
-use Rattle.ir_memory.specs.Block.{Block, new_block}
+use Rattle.ir_memory.specs.Block.{MemoryBlock, new_block}
 use Rattle.ir_memory.specs.Memory.{Blocks, added, byte_limit, live_bytes, round_up}
 use Rattle.run_rules.specs.declared.end.End.{End}
 use Rattle.run_rules.specs.declared.end.End.TheVariants.{MemoryLimit}
@@ -90,7 +90,7 @@ variables_made [] m n e =
     subst (AreMade [] m) same (record { sealed = refl; long = omega arith; old = λ j lt. refl; new = λ k start v at from. cc })
 variables_made (v ∷ vs) m n e = go (made v.size v.align (kind.Variable v.constant) m) refl e (λ o h. variables_made vs o n h)
   where
-    block : Block
+    block : MemoryBlock
     block = new_block (round_up m.next v.align) v.size (kind.Variable v.constant)
 
     by : (o : Blocks) → o ≡ added v.size v.align (kind.Variable v.constant) m → AreMade vs o n → length o.list ≡ length m.list + 1 → o.list ≡ m.list ++ block ∷ [] → (k start : ℕ) (w : plans.Variable) → slice_get (v ∷ vs) k ≡ Some w → slice_get (starts_from m.next (v ∷ vs)) k ≡ Some start

@@ -18,18 +18,18 @@ ghost use Rattle.run_decode.specs.Rows.{AddsActions, AreRows, IsRow};
 
 use crate::instructions::put_instruction;
 use module_arena::{BlockId, FunctionId, Inst};
-use run_body::Body;
+use run_body::ActionBody;
 use run_flat::{Action, Pool, Pools, Span, numbered};
 use run_names::Names;
 use run_operands::put_ending;
-use run_scopes::Scope;
+use run_scopes::FunctionScope;
 use run_signatures::Signatures;
 use run_suits::functions_of_a_checked_module_suit;
 use std::alloc::{AllocError, Global};
 
 /// Puts the actions of instructions behind those that are there, in order.
 fn put_actions(
-    scope: &Scope<'_, '_>,
+    scope: &FunctionScope<'_, '_>,
     pools: &mut Pools,
     signatures: &mut Signatures<'_>,
     actions: &mut Pool<Action>,
@@ -52,7 +52,7 @@ fn put_actions(
 
 /// Puts the actions of a block behind those that are there, and gives where they stand.
 fn put_block(
-    scope: &Scope<'_, '_>,
+    scope: &FunctionScope<'_, '_>,
     pools: &mut Pools,
     signatures: &mut Signatures<'_>,
     actions: &mut Pool<Action>,
@@ -86,7 +86,7 @@ fn put_block(
 
 /// Puts the actions of all blocks behind those that are there, in order, and gives where those of each block stand.
 fn put_blocks(
-    scope: &Scope<'_, '_>,
+    scope: &FunctionScope<'_, '_>,
     pools: &mut Pools,
     signatures: &mut Signatures<'_>,
     actions: &mut Pool<Action>,
@@ -115,7 +115,7 @@ pub fn decode<'m>(
     names: &Names<'m>,
     signatures: &mut Signatures<'m>,
     id: FunctionId,
-) -> Result<Body<'m>, AllocError>
+) -> Result<ActionBody<'m>, AllocError>
     requires code { HasCode names.now (callees.Code id) }
     requires lists { signatures.old.lists ≡ names.now }
     ensures lists { IfOk result (λ body. body.lists ≡ names.now) }
@@ -129,9 +129,9 @@ pub fn decode<'m>(
     let arena = program.arena();
     let _count = arena.variable_count();
     functions_of_a_checked_module_suit();
-    let scope = Scope::new(alloc, names, id)?;
+    let scope = FunctionScope::new(alloc, names, id)?;
     let mut pools = Pools::new(alloc);
     let mut actions = Pool::new(alloc);
     let rows = put_blocks(&scope, &mut pools, signatures, &mut actions)?;
-    Ok(Body::new(program, pools, actions, rows))
+    Ok(ActionBody::new(program, pools, actions, rows))
 }

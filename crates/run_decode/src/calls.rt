@@ -11,7 +11,7 @@ ghost use Rattle.run_decode.specs.Operations.{Meant};
 use module_arena::{Call, Operand};
 use run_flat::{Action, CallParts, Pools, Span};
 use run_operands::{put_callee, put_operands};
-use run_scopes::Scope;
+use run_scopes::FunctionScope;
 use run_signatures::Signatures;
 use std::alloc::AllocError;
 
@@ -30,7 +30,7 @@ fn put_types(pools: &mut Pools, operands: &[Operand]) -> Result<Span, AllocError
 
 /// Puts the parts of a call but for its result and its callee among the calls, and gives their place. Its function type gets a number.
 fn put_call_parts(
-    scope: &Scope<'_, '_>,
+    scope: &FunctionScope<'_, '_>,
     pools: &mut Pools,
     signatures: &mut Signatures<'_>,
     call: &Call,
@@ -62,7 +62,7 @@ fn put_call_parts(
 
 /// `call`: its function type gets a number.
 pub(crate) fn put_call(
-    scope: &Scope<'_, '_>,
+    scope: &FunctionScope<'_, '_>,
     pools: &mut Pools,
     signatures: &mut Signatures<'_>,
     call: &Call,

@@ -12,13 +12,13 @@ use crate::operations::{
 };
 use module_arena::Inst;
 use run_flat::{Action, Pools};
-use run_scopes::Scope;
+use run_scopes::FunctionScope;
 use run_signatures::Signatures;
 use std::alloc::AllocError;
 
 /// The action of an instruction that is no call.
 fn put_operation(
-    scope: &Scope<'_, '_>,
+    scope: &FunctionScope<'_, '_>,
     pools: &mut Pools,
     instruction: &Inst,
 ) -> Result<Action, AllocError>
@@ -67,7 +67,7 @@ fn put_operation(
 
 /// The action of an instruction. The function type of a call gets a number.
 pub(crate) fn put_instruction(
-    scope: &Scope<'_, '_>,
+    scope: &FunctionScope<'_, '_>,
     pools: &mut Pools,
     signatures: &mut Signatures<'_>,
     instruction: &Inst,

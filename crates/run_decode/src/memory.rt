@@ -13,13 +13,13 @@ use ir_tables::{Flag, Flags};
 use module_arena::{Operand, ValueId};
 use run_flat::{Action, LeafAt, Pools};
 use run_operands::{put_known, put_operand, put_scalar, put_slots, put_steps};
-use run_scopes::Scope;
+use run_scopes::FunctionScope;
 use run_shapes::layout_of;
 use std::alloc::AllocError;
 use type_table::TypeId;
 
 /// The alignment that is stated, or else the type's. In bytes.
-fn align_of(scope: &Scope<'_, '_>, stated: Option<u32>, ty: TypeId) -> u32
+fn align_of(scope: &FunctionScope<'_, '_>, stated: Option<u32>, ty: TypeId) -> u32
     requires { Lies scope.now.lists ty }
     ensures { result ≡ unwrap_or stated (layouts.align (shape_in scope.now.lists.table ty)) }
 {
@@ -31,7 +31,7 @@ fn align_of(scope: &Scope<'_, '_>, stated: Option<u32>, ty: TypeId) -> u32
 
 /// `load`
 pub(crate) fn put_load(
-    scope: &Scope<'_, '_>,
+    scope: &FunctionScope<'_, '_>,
     pools: &mut Pools,
     to: ValueId,
     ty: TypeId,
@@ -55,7 +55,7 @@ pub(crate) fn put_load(
 
 /// `store`
 pub(crate) fn put_store(
-    scope: &Scope<'_, '_>,
+    scope: &FunctionScope<'_, '_>,
     pools: &mut Pools,
     stored: &Operand,
     address: Operand,
@@ -78,7 +78,7 @@ pub(crate) fn put_store(
 
 /// The count of an `alloca`: 1 where none is written.
 fn put_count(
-    scope: &Scope<'_, '_>,
+    scope: &FunctionScope<'_, '_>,
     pools: &mut Pools,
     count: Option<Operand>,
 ) -> Result<LeafAt, AllocError>
@@ -94,7 +94,7 @@ fn put_count(
 
 /// `alloca`
 pub(crate) fn put_alloca(
-    scope: &Scope<'_, '_>,
+    scope: &FunctionScope<'_, '_>,
     pools: &mut Pools,
     to: ValueId,
     ty: TypeId,
@@ -118,7 +118,7 @@ pub(crate) fn put_alloca(
 
 /// `getelementptr`
 pub(crate) fn put_displace(
-    scope: &Scope<'_, '_>,
+    scope: &FunctionScope<'_, '_>,
     pools: &mut Pools,
     operation: (Flags, ValueId),
     source: TypeId,

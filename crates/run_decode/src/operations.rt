@@ -12,14 +12,14 @@ use ir_tables::{Flag, Flags, Opcode, Predicate};
 use module_arena::{Choice, Insertion, Operand, Value, ValueId};
 use run_flat::{Action, LeafAt, Pools};
 use run_operands::{put_arms, put_extracted, put_inserted, put_parts, put_scalar};
-use run_scopes::Scope;
+use run_scopes::FunctionScope;
 use run_shapes::width;
 use std::alloc::AllocError;
 use type_table::TypeId;
 
 /// Puts the one leaf of an integer or a pointer, whose type is written before another.
 fn put_second(
-    scope: &Scope<'_, '_>,
+    scope: &FunctionScope<'_, '_>,
     pools: &mut Pools,
     ty: TypeId,
     value: Value,
@@ -33,7 +33,7 @@ fn put_second(
 
 /// A binary instruction.
 pub(crate) fn put_binary(
-    scope: &Scope<'_, '_>,
+    scope: &FunctionScope<'_, '_>,
     pools: &mut Pools,
     operation: (Opcode, Flags),
     to: ValueId,
@@ -59,7 +59,7 @@ pub(crate) fn put_binary(
 
 /// `icmp`
 pub(crate) fn put_compare(
-    scope: &Scope<'_, '_>,
+    scope: &FunctionScope<'_, '_>,
     pools: &mut Pools,
     operation: (Flags, Predicate),
     to: ValueId,
@@ -85,7 +85,7 @@ pub(crate) fn put_compare(
 
 /// A cast.
 pub(crate) fn put_convert(
-    scope: &Scope<'_, '_>,
+    scope: &FunctionScope<'_, '_>,
     pools: &mut Pools,
     operation: (Opcode, Flags),
     to: ValueId,
@@ -110,7 +110,7 @@ pub(crate) fn put_convert(
 
 /// `select`
 pub(crate) fn put_select(
-    scope: &Scope<'_, '_>,
+    scope: &FunctionScope<'_, '_>,
     pools: &mut Pools,
     to: ValueId,
     choice: &Choice,
@@ -131,7 +131,7 @@ pub(crate) fn put_select(
 
 /// `freeze`
 pub(crate) fn put_freeze(
-    scope: &Scope<'_, '_>,
+    scope: &FunctionScope<'_, '_>,
     pools: &mut Pools,
     to: ValueId,
     operand: Operand,
@@ -150,7 +150,7 @@ pub(crate) fn put_freeze(
 
 /// `extractvalue`
 pub(crate) fn put_extract(
-    scope: &Scope<'_, '_>,
+    scope: &FunctionScope<'_, '_>,
     pools: &mut Pools,
     to: ValueId,
     aggregate: Operand,
@@ -170,7 +170,7 @@ pub(crate) fn put_extract(
 
 /// `insertvalue`
 pub(crate) fn put_insert(
-    scope: &Scope<'_, '_>,
+    scope: &FunctionScope<'_, '_>,
     pools: &mut Pools,
     to: ValueId,
     insertion: &Insertion,

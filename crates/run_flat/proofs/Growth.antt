@@ -15,10 +15,10 @@ use Rattle.run_shapes.specs.Shapes.{shape_in}
 use Rattle.run_stack.specs.declared.origin.Move.{Move}
 use Rattle.run_stack.specs.declared.origin.Origin.{Origin}
 use Rattle.run_stack.specs.Origins.{origin_of, edge_of}
-use Rattle.run_actions.specs.declared.edge.Case.{Case}
+use Rattle.run_actions.specs.declared.edge.SwitchWay.{SwitchWay}
 use Rattle.run_actions.specs.declared.edge.Edge.{Edge}
 use Rattle.run_actions.specs.declared.values.Arm.{Arm}
-use Rattle.run_actions.specs.declared.values.Part.{Part}
+use Rattle.run_actions.specs.declared.values.FrozenLeaf.{FrozenLeaf}
 use Rattle.run_actions.specs.Edges.{case_way, way_of}
 use Rattle.run_actions.specs.Values.{arm_of, part_of}
 use Rattle.run_flat.specs.declared.action.Action.{Action}
@@ -155,7 +155,7 @@ edges_add p xs h = record {
   calls = refl;
 }
 
-pub cases_add : (p : Pools) (xs : List Case) → IsLonger p.cases xs → Adds p (record p { cases = xs })
+pub cases_add : (p : Pools) (xs : List SwitchWay) → IsLonger p.cases xs → Adds p (record p { cases = xs })
 cases_add p xs h = record {
   grows = record { known = longer_none p.known; origins = longer_none p.origins; slots = longer_none p.slots; terms = longer_none p.terms; sums = longer_none p.sums; moves = longer_none p.moves; edges = longer_none p.edges; cases = h; arms = longer_none p.arms; parts = longer_none p.parts; calls = longer_none p.calls; types = longer_none p.types };
   calls = refl;
@@ -167,7 +167,7 @@ arms_add p xs h = record {
   calls = refl;
 }
 
-pub parts_add : (p : Pools) (xs : List Part) → IsLonger p.parts xs → Adds p (record p { parts = xs })
+pub parts_add : (p : Pools) (xs : List FrozenLeaf) → IsLonger p.parts xs → Adds p (record p { parts = xs })
 parts_add p xs h = record {
   grows = record { known = longer_none p.known; origins = longer_none p.origins; slots = longer_none p.slots; terms = longer_none p.terms; sums = longer_none p.sums; moves = longer_none p.moves; edges = longer_none p.edges; cases = longer_none p.cases; arms = longer_none p.arms; parts = h; calls = longer_none p.calls; types = longer_none p.types };
   calls = refl;
@@ -278,20 +278,20 @@ module _ (p q : Pools) (g : Grows p q) where
 
   -- cases
 
-  ways_stay : (cs : List Case) → All (λ (c : Case). HasItsMoves p c.edge) cs → All (λ (c : Case). HasItsMoves q c.edge) cs
+  ways_stay : (cs : List SwitchWay) → All (λ (c : SwitchWay). HasItsMoves p c.edge) cs → All (λ (c : SwitchWay). HasItsMoves q c.edge) cs
   ways_stay cs w k d lt = its_moves_stay (get_or cs k d).edge (w k d lt)
 
   pub cases_in_stay : (s : Span) → AreCasesIn p s → AreCasesIn q s
   cases_in_stay s h = record {
     there = span_stays p.cases q.cases s g.cases h.there;
-    moves = subst (All (λ (c : Case). HasItsMoves q c.edge)) (sym (spanned_same p.cases q.cases s g.cases h.there)) (ways_stay (spanned p.cases s) h.moves);
+    moves = subst (All (λ (c : SwitchWay). HasItsMoves q c.edge)) (sym (spanned_same p.cases q.cases s g.cases h.there)) (ways_stay (spanned p.cases s) h.moves);
   }
 
-  ways_same : (cs : List Case) → All (λ (c : Case). HasItsMoves p c.edge) cs → map (case_way q.moves) cs ≡ map (case_way p.moves) cs
+  ways_same : (cs : List SwitchWay) → All (λ (c : SwitchWay). HasItsMoves p c.edge) cs → map (case_way q.moves) cs ≡ map (case_way p.moves) cs
   ways_same [] w = refl
   ways_same (c ∷ cs) w =
-      let here = way_same c.edge (All-head (λ (x : Case). HasItsMoves p x.edge) c cs w) in
-      let others = ways_same cs (All-tail (λ (x : Case). HasItsMoves p x.edge) c cs w) in
+      let here = way_same c.edge (All-head (λ (x : SwitchWay). HasItsMoves p x.edge) c cs w) in
+      let others = ways_same cs (All-tail (λ (x : SwitchWay). HasItsMoves p x.edge) c cs w) in
       λ i. (c.number, here i) ∷ others i
 
   pub cases_same : (s : Span) → AreCasesIn p s → cases_of q s ≡ cases_of p s
@@ -353,7 +353,7 @@ module _ (p q : Pools) (g : Grows p q) where
   action_same a (Compare to predicate samesign width left right) w = λ i. actions.Compare to predicate samesign width (leaf_same left w.0 i) (leaf_same right w.1 i)
   action_same a (Convert to opcode flags from_width to_width value) w = ap (actions.Convert to opcode flags from_width to_width) (leaf_same value w)
   action_same a (Select to condition arms) w = λ i. actions.Select to (leaf_same condition w.0 i) (map arm_of (spanned_same p.arms q.arms arms g.arms w.1 i))
-  action_same a (Freeze to parts) w = ap (λ (xs : List Part). actions.Freeze to (map part_of xs)) (spanned_same p.parts q.parts parts g.parts w)
+  action_same a (Freeze to parts) w = ap (λ (xs : List FrozenLeaf). actions.Freeze to (map part_of xs)) (spanned_same p.parts q.parts parts g.parts w)
   action_same a (Gather to value) w = ap (actions.Gather to) (origins_same value w)
   action_same a (Load to align address slots) w = λ i. actions.Load to align (leaf_same address w.0 i) (spanned_same p.slots q.slots slots g.slots w.1 i)
   action_same a (Store align address slots value) w = λ i. actions.Store align (leaf_same address w.0 i) (zip (spanned_same p.slots q.slots slots g.slots w.1 i) (origins_same value w.2 i))

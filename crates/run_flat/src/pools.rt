@@ -5,7 +5,7 @@ ghost use Rattle.run_flat.specs.Grown.{no_pools};
 use crate::action::{CallParts, Term};
 use crate::pool::Pool;
 use ir_eval::Scalar;
-use run_actions::{Arm, Case, Edge, Part};
+use run_actions::{Arm, Edge, FrozenLeaf, SwitchWay};
 use run_stack::{Move, Origin};
 use run_values::Slot;
 use std::alloc::Global;
@@ -29,11 +29,11 @@ pub struct Pools {
     /// Ways into blocks, but for those of cases.
     pub edges: Pool<Edge>,
     /// The cases of `switch`.
-    pub cases: Pool<Case>,
+    pub cases: Pool<SwitchWay>,
     /// The leaves of both operands of `select`.
     pub arms: Pool<Arm>,
     /// The leaves of the operand of `freeze`.
-    pub parts: Pool<Part>,
+    pub parts: Pool<FrozenLeaf>,
     /// The further parts of calls.
     pub calls: Pool<CallParts>,
     /// The types of parameters and arguments.

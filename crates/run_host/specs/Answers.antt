@@ -9,8 +9,8 @@ use Rattle.ir_memory.specs.Memory.{Blocks}
 use Rattle.run_rules.specs.declared.end.End.TheVariants as ends
 use Rattle.run_rules.specs.Answer as rules
 use Rattle.run_rules.specs.Host.{outcome_leaves}
-use Rattle.run_host.specs.declared.answer.Answer.{Answer}
-use Rattle.run_host.specs.declared.answer.Answer.TheVariants.{Gives, Reads, Exits, Fails, MemoryLimit}
+use Rattle.run_host.specs.declared.answer.HostAnswer.{HostAnswer}
+use Rattle.run_host.specs.declared.answer.HostAnswer.TheVariants.{Gives, Reads, Exits, Fails, MemoryLimit}
 
 -- the leaves of a result, and none where there is no result
 abbrev pub leaves_of : Option Outcome → List Scalar
@@ -18,7 +18,7 @@ leaves_of None = []
 leaves_of (Some outcome) = outcome_leaves outcome
 
 -- an answer as a run knows it, with memory and with what was written
-abbrev pub answer_of : Answer → Blocks → List ℕ → rules.Answer
+abbrev pub answer_of : HostAnswer → Blocks → List ℕ → rules.Answer
 answer_of (Gives result) m output = rules.Gives (leaves_of result) m output
 answer_of Reads m output = rules.Reads
 answer_of (Exits status) m output = rules.Halts (ends.Exit status)
@@ -26,7 +26,7 @@ answer_of (Fails kind) m output = rules.undefined kind
 answer_of MemoryLimit m output = rules.Halts ends.MemoryLimit
 
 -- What is written is behind what was there, and only where the call returns. Where memory is wanted, a part of it may be there
-abbrev pub Writes : {E : Type 0} → rules.Answer → Blocks → (old new : List ℕ) → Result Answer E → Type 0
+abbrev pub Writes : {E : Type 0} → rules.Answer → Blocks → (old new : List ℕ) → Result HostAnswer E → Type 0
 Writes expected m old new (Ok (Gives result)) = (output : List ℕ) × (expected ≡ answer_of (Gives result) m output) × (new ≡ old ++ output)
 Writes expected m old new (Ok Reads) = (expected ≡ answer_of Reads m []) × (new ≡ old)
 Writes expected m old new (Ok (Exits status)) = (expected ≡ answer_of (Exits status) m []) × (new ≡ old)
@@ -35,13 +35,13 @@ Writes expected m old new (Ok MemoryLimit) = (expected ≡ answer_of MemoryLimit
 Writes expected m old new (Err e) = ⊤
 
 -- what is answered where memory refused
-abbrev pub Refuses : {E : Type 0} → MemoryFault → Result Answer E → Type 0
+abbrev pub Refuses : {E : Type 0} → MemoryFault → Result HostAnswer E → Type 0
 Refuses (faults.Undefined kind) answer = answer ≡ Ok (Fails kind)
 Refuses faults.MemoryLimit answer = answer ≡ Ok MemoryLimit
 Refuses faults.Memory answer = IsErr answer
 
 -- the program ends with this answer
-abbrev pub EndsTheRun : Answer → Type 0
+abbrev pub EndsTheRun : HostAnswer → Type 0
 EndsTheRun (Gives result) = ⊥
 EndsTheRun Reads = ⊥
 EndsTheRun (Exits status) = ⊤
@@ -55,7 +55,7 @@ IsUndefined faults.MemoryLimit = ⊥
 IsUndefined faults.Memory = ⊥
 
 -- what is answered then
-abbrev pub FailsBy : MemoryFault → Answer → Type 0
+abbrev pub FailsBy : MemoryFault → HostAnswer → Type 0
 FailsBy (faults.Undefined kind) answer = answer ≡ Fails kind
 FailsBy faults.MemoryLimit answer = ⊥
 FailsBy faults.Memory answer = ⊥

@@ -11,7 +11,7 @@ use std::alloc::AllocError;
 /// What a host function answers. The bytes that it writes are handed on apart. That input is read, and that the program exits, is
 /// told by the choice of the row.
 #[derive(Clone, Copy)]
-pub enum Answer {
+pub enum HostAnswer {
     /// It returns: the leaves of its result, if it has one.
     Gives(Option<Outcome>),
     /// Its result is the next byte of the input, or -1 at the end.
@@ -35,23 +35,23 @@ pub(crate) fn one(first: Scalar) -> Option<Outcome>
 }
 
 /// What is answered where memory refused.
-pub fn refused(fault: MemoryFault) -> Result<Answer, AllocError>
+pub fn refused(fault: MemoryFault) -> Result<HostAnswer, AllocError>
     ensures { Refuses fault result }
 {
     match fault {
-        MemoryFault::Undefined(kind) => Ok(Answer::Fails(kind)),
-        MemoryFault::MemoryLimit => Ok(Answer::MemoryLimit),
+        MemoryFault::Undefined(kind) => Ok(HostAnswer::Fails(kind)),
+        MemoryFault::MemoryLimit => Ok(HostAnswer::MemoryLimit),
         MemoryFault::Memory => Err(AllocError),
     }
 }
 
 /// What is answered where memory refused a call that takes none.
-pub(crate) fn failing(fault: MemoryFault) -> Answer
+pub(crate) fn failing(fault: MemoryFault) -> HostAnswer
     requires { IsUndefined fault }
     ensures { FailsBy fault result }
 {
     match fault {
-        MemoryFault::Undefined(kind) => Answer::Fails(kind),
+        MemoryFault::Undefined(kind) => HostAnswer::Fails(kind),
         MemoryFault::MemoryLimit => unreachable!(),
         MemoryFault::Memory => unreachable!(),
     }

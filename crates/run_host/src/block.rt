@@ -6,7 +6,7 @@ ghost use Rattle.run_rules.specs.Access as access;
 ghost use Rattle.run_rules.specs.Host.{allocates, frees};
 ghost use Rattle.run_host.specs.Answers.{EndsTheRun, answer_of};
 
-use crate::Answer;
+use crate::HostAnswer;
 use crate::answer::{failing, one};
 use ir_eval::{Pointer, Scalar};
 use ir_memory::{BlockKind, Memory};
@@ -17,7 +17,7 @@ use std::alloc::AllocError;
 const HEAP_ALIGN: u32 = 16;
 
 /// A new heap block of so many bytes, for which there is room.
-fn add_heap_block(memory: &mut Memory, size: u64) -> Result<Answer, AllocError>
+fn add_heap_block(memory: &mut Memory, size: u64) -> Result<HostAnswer, AllocError>
     requires next { memory.old.next ≤ 2 ^ 61 }
     requires room { access.has_room size memory.old ≡ true }
     ensures answer { IfOk result (λ answer. allocates size memory.old ≡ answer_of answer memory.new []) }
@@ -25,7 +25,7 @@ fn add_heap_block(memory: &mut Memory, size: u64) -> Result<Answer, AllocError>
     ensures err { OnErr result (memory.new ≡ memory.old) }
 {
     match memory.add_block(size, HEAP_ALIGN, BlockKind::Heap) {
-        Ok(pointer) => Ok(Answer::Gives(one(Scalar::Ptr(pointer)))),
+        Ok(pointer) => Ok(HostAnswer::Gives(one(Scalar::Ptr(pointer)))),
         // There is room, so it was memory that was wanted.
         Err(_) => Err(AllocError),
     }
@@ -34,7 +34,7 @@ fn add_heap_block(memory: &mut Memory, size: u64) -> Result<Answer, AllocError>
 /// A new heap block of so many bytes, as `malloc` gives it; the limit on live bytes is told exactly where they would pass it.
 /// A refusal leaves memory as it was.
 #[tactic(auto, using(crate::proofs::Heaps::small, crate::proofs::Heaps::no_room))]
-pub fn allocate(memory: &mut Memory, size: u128) -> Result<Answer, AllocError>
+pub fn allocate(memory: &mut Memory, size: u128) -> Result<HostAnswer, AllocError>
     requires { memory.old.next ≤ 2 ^ 61 }
     ensures answer { IfOk result (λ answer. allocates size memory.old ≡ answer_of answer memory.new []) }
     ensures refused { IfOk result (λ answer. EndsTheRun answer → memory.new ≡ memory.old) }
@@ -43,22 +43,22 @@ pub fn allocate(memory: &mut Memory, size: u128) -> Result<Answer, AllocError>
     if has_room(memory, size) {
         add_heap_block(memory, size as u64)
     } else {
-        Ok(Answer::MemoryLimit)
+        Ok(HostAnswer::MemoryLimit)
     }
 }
 
 /// Ends the heap block that a pointer starts, as `free` does; null ends none. It takes no memory.
-pub fn free(memory: &mut Memory, pointer: Pointer) -> Answer
+pub fn free(memory: &mut Memory, pointer: Pointer) -> HostAnswer
     requires { IsKnown memory.old.list pointer }
     ensures answer { frees pointer memory.old ≡ answer_of result memory.new [] }
     ensures refused { EndsTheRun result → memory.new ≡ memory.old }
     ensures kept { Keeps memory.old memory.new }
 {
     if pointer.address == 0 {
-        return Answer::Gives(None);
+        return HostAnswer::Gives(None);
     }
     match memory.end_block(Scalar::Ptr(pointer), BlockKind::Heap) {
-        Ok(()) => Answer::Gives(None),
+        Ok(()) => HostAnswer::Gives(None),
         Err(fault) => failing(fault),
     }
 }

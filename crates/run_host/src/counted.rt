@@ -5,7 +5,7 @@ ghost use Rattle.run_rules.specs.Access.{string_at};
 ghost use Rattle.run_rules.specs.Host.{counts};
 ghost use Rattle.run_host.specs.Answers.{Writes};
 
-use crate::Answer;
+use crate::HostAnswer;
 use crate::answer::{one, refused};
 use ir_eval::{Pointer, Scalar};
 use ir_memory::Memory;
@@ -28,7 +28,7 @@ pub fn string_length(
     memory: &Memory,
     string: Pointer,
     written: &mut Vec<u8>,
-) -> Result<Answer, AllocError>
+) -> Result<HostAnswer, AllocError>
     requires { IsKnown memory.now.list string }
     ensures { Writes (counts memory.now (string_at memory.now string)) memory.now written.old.items written.new.items result }
 {
@@ -36,7 +36,7 @@ pub fn string_length(
     match push_string(memory, string, None, written) {
         Ok(()) => {
             let count = take_back(written, before);
-            Ok(Answer::Gives(one(Scalar::Int(count as u128))))
+            Ok(HostAnswer::Gives(one(Scalar::Int(count as u128))))
         }
         Err(fault) => refused(fault),
     }

@@ -7,7 +7,7 @@ ghost use Rattle.ir_tables.specs.IntrinsicName.{has_width};
 ghost use Rattle.run_rules.specs.Host.{evaluates, operand_at};
 ghost use Rattle.run_host.specs.Answers.{answer_of};
 
-use crate::Answer;
+use crate::HostAnswer;
 use ir_eval::Scalar;
 use ir_intrinsics::apply;
 use ir_tables::Intrinsic;
@@ -20,7 +20,7 @@ fn operand_at(arguments: &[Scalar], place: usize) -> Scalar
 }
 
 /// What an intrinsic over integers gives at this width, in bits; a poison operand gives poison, and nothing is undefined.
-pub fn evaluate(which: Intrinsic, width: u8, arguments: &[Scalar]) -> Answer
+pub fn evaluate(which: Intrinsic, width: u8, arguments: &[Scalar]) -> HostAnswer
     requires width { IsWidth width }
     requires whole { IsTrue (has_width which width) }
     requires first { IsInteger width (operand_at arguments.now 0) }
@@ -31,5 +31,5 @@ pub fn evaluate(which: Intrinsic, width: u8, arguments: &[Scalar]) -> Answer
     let first = operand_at(arguments, 0);
     let second = operand_at(arguments, 1);
     let third = operand_at(arguments, 2);
-    Answer::Gives(Some(apply(which, width, first, second, third)))
+    HostAnswer::Gives(Some(apply(which, width, first, second, third)))
 }

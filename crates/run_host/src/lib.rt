@@ -5,7 +5,7 @@
 //! `run_rules`.
 //!
 //! ```
-//! evaluate(Intrinsic::Ctpop, 32, &[Scalar::Int(7)]) // Answer::Gives(Some(outcome)): outcome.first is Scalar::Int(3)
+//! evaluate(Intrinsic::Ctpop, 32, &[Scalar::Int(7)]) // HostAnswer::Gives(Some(outcome)): outcome.first is Scalar::Int(3)
 //! ```
 #![tactic(auto)]
 
@@ -16,7 +16,7 @@ mod integer;
 mod range;
 mod written;
 
-pub use answer::{Answer, refused};
+pub use answer::{HostAnswer, refused};
 pub use block::{allocate, free};
 pub use counted::string_length;
 pub use integer::evaluate;

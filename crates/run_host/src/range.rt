@@ -6,7 +6,7 @@ ghost use Rattle.ir_memory.specs.Memory.{copied, filled};
 ghost use Rattle.run_rules.specs.Answer.{changes};
 ghost use Rattle.run_host.specs.Answers.{EndsTheRun, answer_of, leaves_of};
 
-use crate::Answer;
+use crate::HostAnswer;
 use crate::answer::{failing, refused};
 use ir_eval::Scalar;
 use ir_intrinsics::Outcome;
@@ -22,7 +22,7 @@ pub fn copy(
     count: u64,
     may_overlap: bool,
     gives: Option<Outcome>,
-) -> Result<Answer, AllocError>
+) -> Result<HostAnswer, AllocError>
     requires to { IsAddress memory.old.list to }
     requires from { IsAddress memory.old.list from }
     ensures answer { IfOk result (λ answer. changes (leaves_of gives) (copied to from count may_overlap memory.old) ≡ answer_of answer memory.new []) }
@@ -31,21 +31,27 @@ pub fn copy(
     ensures kept { Keeps memory.old memory.new }
 {
     match memory.copy(to, from, count, may_overlap) {
-        Ok(()) => Ok(Answer::Gives(gives)),
+        Ok(()) => Ok(HostAnswer::Gives(gives)),
         Err(fault) => refused(fault),
     }
 }
 
 /// Writes one byte at so many addresses and gives that result. It takes no memory, and a refusal leaves memory as it was. A poison
 /// argument is the caller's to refuse: here it is a poison address.
-pub fn fill(memory: &mut Memory, to: Scalar, byte: u8, count: u64, gives: Option<Outcome>) -> Answer
+pub fn fill(
+    memory: &mut Memory,
+    to: Scalar,
+    byte: u8,
+    count: u64,
+    gives: Option<Outcome>,
+) -> HostAnswer
     requires { IsAddress memory.old.list to }
     ensures answer { changes (leaves_of gives) (filled to byte count memory.old) ≡ answer_of result memory.new [] }
     ensures refused { EndsTheRun result → memory.new ≡ memory.old }
     ensures kept { Keeps memory.old memory.new }
 {
     match memory.fill(to, byte, count) {
-        Ok(()) => Answer::Gives(gives),
+        Ok(()) => HostAnswer::Gives(gives),
         Err(fault) => failing(fault),
     }
 }

@@ -8,7 +8,7 @@ ghost use Rattle.run_rules.specs.Access.{string_at};
 ghost use Rattle.run_rules.specs.Host.{done, puts_line};
 ghost use Rattle.run_host.specs.Answers.{Writes};
 
-use crate::Answer;
+use crate::HostAnswer;
 use crate::answer::{one, refused};
 use ir_eval::{Pointer, Scalar};
 use ir_memory::Memory;
@@ -16,20 +16,20 @@ use run_values::push_string;
 use std::alloc::AllocError;
 
 /// Writes the low byte of a number and gives it, as `putchar` does.
-pub fn put_byte(number: u128, written: &mut Vec<u8>) -> Result<Answer, AllocError>
+pub fn put_byte(number: u128, written: &mut Vec<u8>) -> Result<HostAnswer, AllocError>
     ensures { (m : Blocks) → Writes (done Putchar (Int number ∷ []) m) m written.old.items written.new.items result }
 {
     let byte = (number % 256) as u8;
     written.push(byte)?;
-    Ok(Answer::Gives(one(Scalar::Int(u128::from(byte)))))
+    Ok(HostAnswer::Gives(one(Scalar::Int(u128::from(byte)))))
 }
 
 /// Writes the line feed behind bytes that were written.
-fn end_line(written: &mut Vec<u8>) -> Result<Answer, AllocError>
+fn end_line(written: &mut Vec<u8>) -> Result<HostAnswer, AllocError>
     ensures { (m : Blocks) (before bytes : List ℕ) → written.old.items ≡ before ++ bytes → Writes (puts_line m (Ok bytes)) m before written.new.items result }
 {
     written.push(b'\n')?;
-    Ok(Answer::Gives(one(Scalar::Int(0))))
+    Ok(HostAnswer::Gives(one(Scalar::Int(0))))
 }
 
 /// Writes the string at a pointer and a line feed, and gives 0, as `puts` does. Nothing is written where the string is undefined.
@@ -37,7 +37,7 @@ pub fn put_line(
     memory: &Memory,
     string: Pointer,
     written: &mut Vec<u8>,
-) -> Result<Answer, AllocError>
+) -> Result<HostAnswer, AllocError>
     requires { IsKnown memory.now.list string }
     ensures { Writes (puts_line memory.now (string_at memory.now string)) memory.now written.old.items written.new.items result }
 {

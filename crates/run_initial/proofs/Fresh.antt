@@ -10,14 +10,14 @@ use Rattle.ir_tables.specs.declared.undefined_kind.UndefinedKind.TheVariants.{En
 use Rattle.ir_eval.specs.declared.value.Pointer.{Pointer}
 use Rattle.ir_eval.specs.declared.value.Scalar.{Scalar}
 use Rattle.ir_eval.specs.declared.value.Scalar.TheVariants as scalar
-use Rattle.ir_memory.specs.declared.access.Place.{Place}
+use Rattle.ir_memory.specs.declared.access.BlockPlace.{BlockPlace}
 use Rattle.ir_memory.specs.declared.cell.Cell.{Cell}
 use Rattle.ir_memory.specs.declared.cell.Cell.TheVariants.{Byte}
 use Rattle.ir_memory.specs.declared.leaf.Leaf.{Leaf}
 use Rattle.ir_memory.specs.declared.leaf.Leaf.TheVariants as leaf
-use Rattle.ir_memory.specs.Block.{Block, holds, written}
-use Rattle.ir_memory.specs.Cell.{byte_at, size, spelled}
-use Rattle.ir_memory.specs.Memory.{Blocks, access, changed, found, has_constant, has_ended, home, is_over, named, place_at, place_in, put_at, stored}
+use Rattle.ir_memory.specs.Block.{MemoryBlock, holds, written}
+use Rattle.ir_memory.specs.Cell.{byte_at, size, leaf_cells}
+use Rattle.ir_memory.specs.Memory.{Blocks, access, changed, block_found, has_constant, has_ended, home, is_over, number_where, place_at, place_in, put_at, stored}
 use Rattle.run_rules.specs.Access.{and_then, behind, stored_slots}
 use Rattle.run_rules.specs.Plan.{Contents}
 use Rattle.typed_runs.specs.Kinds.{IsOf}
@@ -27,28 +27,28 @@ use Rattle.run_initial.proofs.Ordered.{AreInOrder, from_earlier}
 
 -- ---- one block of many is changed
 
-pub changed_there : (i : ℕ) (f : Block → Block) (bs : List Block) (b : Block) → slice_get bs i ≡ Some b → slice_get (changed i f bs) i ≡ Some (f b)
+pub changed_there : (i : ℕ) (f : MemoryBlock → MemoryBlock) (bs : List MemoryBlock) (b : MemoryBlock) → slice_get bs i ≡ Some b → slice_get (changed i f bs) i ≡ Some (f b)
 changed_there i f [] b e = cc
-changed_there zero f (x ∷ bs) b e = let same : x ≡ b = cc in ap (λ (y : Block). Some (f y)) same
+changed_there zero f (x ∷ bs) b e = let same : x ≡ b = cc in ap (λ (y : MemoryBlock). Some (f y)) same
 changed_there (suc i) f (x ∷ bs) b e = changed_there i f bs b e
 
-pub changed_other : (i j : ℕ) (f : Block → Block) (bs : List Block) → (j ≡ i → ⊥) → slice_get (changed i f bs) j ≡ slice_get bs j
+pub changed_other : (i j : ℕ) (f : MemoryBlock → MemoryBlock) (bs : List MemoryBlock) → (j ≡ i → ⊥) → slice_get (changed i f bs) j ≡ slice_get bs j
 changed_other i j f [] never = refl
 changed_other zero zero f (x ∷ bs) never = absurd (never refl)
 changed_other zero (suc j) f (x ∷ bs) never = refl
 changed_other (suc i) zero f (x ∷ bs) never = refl
 changed_other (suc i) (suc j) f (x ∷ bs) never = changed_other i j f bs (λ e. never (ap suc e))
 
-changed_same : (i : ℕ) (f : Block → Block) (bs : List Block) (b : Block) → slice_get bs i ≡ Some b → f b ≡ b → changed i f bs ≡ bs
+changed_same : (i : ℕ) (f : MemoryBlock → MemoryBlock) (bs : List MemoryBlock) (b : MemoryBlock) → slice_get bs i ≡ Some b → f b ≡ b → changed i f bs ≡ bs
 changed_same i f [] b e same = refl
 changed_same zero f (x ∷ bs) b e same =
     let is : x ≡ b = cc in
-    ap (λ (y : Block). y ∷ bs) (ap f is ∙ same ∙ sym is)
-changed_same (suc i) f (x ∷ bs) b e same = ap (λ (l : List Block). x ∷ l) (changed_same i f bs b e same)
+    ap (λ (y : MemoryBlock). y ∷ bs) (ap f is ∙ same ∙ sym is)
+changed_same (suc i) f (x ∷ bs) b e same = ap (λ (l : List MemoryBlock). x ∷ l) (changed_same i f bs b e same)
 
 -- ---- a store within a block that lives
 
-abbrev judged : Bool → Bool → Bool → Bool → Bool → Option Place → Result (Option Place) UndefinedKind
+abbrev judged : Bool → Bool → Bool → Bool → Bool → Option BlockPlace → Result (Option BlockPlace) UndefinedKind
 judged none over outside fixed crooked place =
     if none then Ok None else (if over then Err EndedBlock else (if outside then Err OutsideBlock else (if fixed then Err WriteToConstant else (if crooked then Err Misaligned else Ok place))))
 
@@ -62,15 +62,15 @@ not_none n h = go (nat_eq n 0) refl
 both_true : (b c : Bool) → b ≡ true → c ≡ true → (b && c) ≡ true
 both_true b c p q = ap (λ (x : Bool). x && c) p ∙ q
 
-module _ (m : Blocks) (q : Pointer) (i : ℕ) (b : Block) (of_block : q.block ≡ Some i) (there : slice_get m.list i ≡ Some b) (live : b.live ≡ true) (unsealed : m.sealed ≡ false) where
+module _ (m : Blocks) (q : Pointer) (i : ℕ) (b : MemoryBlock) (of_block : q.block ≡ Some i) (there : slice_get m.list i ≡ Some b) (live : b.live ≡ true) (unsealed : m.sealed ≡ false) where
   within : (count : ℕ) → b.start ≤ q.address → q.address + count ≤ b.start + b.size → (b.live && holds b q.address count) ≡ true
   within count low high =
       both_true b.live (holds b q.address count) live (both_true (nat_le b.start q.address) (nat_le (q.address + count) (b.start + b.size)) (le-leb b.start q.address low) (le-leb (q.address + count) (b.start + b.size) high))
 
   home_is : (count : ℕ) → b.start ≤ q.address → q.address + count ≤ b.start + b.size → home m.list q count ≡ Some i
   home_is count low high =
-      let test : Block → Bool = λ x. x.live && holds x q.address count in
-      ap (found m.list test) of_block ∙ ap (named i test) there ∙ cond-true (test b) (Some i) None (within count low high)
+      let test : MemoryBlock → Bool = λ x. x.live && holds x q.address count in
+      ap (block_found m.list test) of_block ∙ ap (number_where i test) there ∙ cond-true (test b) (Some i) None (within count low high)
 
   access_is : (count : ℕ) → 1 ≤ count → b.start ≤ q.address → q.address + count ≤ b.start + b.size → access m count 1 true (scalar.Ptr q) ≡ Ok (Some (record { index = i; offset = q.address - b.start }))
   access_is count some low high =
@@ -92,7 +92,7 @@ with_cells m i at cells = record m { list = changed i (written at cells) m.list 
 
 -- a pointer to the start of a live block: cells in front are as they are, and the others fresh
 pub record IsFresh (m : Blocks) (p : Pointer) (i : ℕ) (front : List Cell) (rest : ℕ) : Type 0 where
-  pub block : Block
+  pub block : MemoryBlock
   pub of_block : p.block ≡ Some i
   pub address : p.address ≡ block.start
   pub there : slice_get m.list i ≡ Some block
@@ -114,7 +114,7 @@ module _ (m : Blocks) (p : Pointer) (i : ℕ) (front : List Cell) (rest : ℕ) (
       let small : f.block.start + at < 2 ^ 64 = omega (arith, inside, long, near) in
       ap (λ (n : ℕ). n % 2 ^ 64) same ∙ low_enough (f.block.start + at) small
 
-  stored_is : 1 ≤ size kind → stored (scalar.Ptr (behind p at)) kind 1 v m ≡ Ok (with_cells m i at (spelled kind v))
+  stored_is : 1 ≤ size kind → stored (scalar.Ptr (behind p at)) kind 1 v m ≡ Ok (with_cells m i at (leaf_cells kind v))
   stored_is some =
       let long = f.long in
       let is = place_is in
@@ -122,8 +122,8 @@ module _ (m : Blocks) (p : Pointer) (i : ℕ) (front : List Cell) (rest : ℕ) (
       let low : f.block.start ≤ q.address = omega (arith, is) in
       let high : q.address + size kind ≤ f.block.start + f.block.size = omega (arith, is, inside, long) in
       let offset : q.address - f.block.start ≡ at = omega (arith, is) in
-      ap (put_at m (spelled kind v)) (access_is m q i f.block f.of_block f.there f.live f.unsealed (size kind) some low high)
-      ∙ ap (λ (n : ℕ). Ok (with_cells m i n (spelled kind v))) offset
+      ap (put_at m (leaf_cells kind v)) (access_is m q i f.block f.of_block f.there f.live f.unsealed (size kind) some low high)
+      ∙ ap (λ (n : ℕ). Ok (with_cells m i n (leaf_cells kind v))) offset
 
 -- ---- cells
 
@@ -201,7 +201,7 @@ module _ (m : Blocks) (p : Pointer) (i : ℕ) (front : List Cell) (rest : ℕ) (
       ∙ replicate-append-replicate (at - length front) (n + left) (Byte 0)
       ∙ ap (λ (k : ℕ). zeros k) (sym same))
       ∙ sym f.cells in
-      ap (λ (l : List Block). record m { list = l })
+      ap (λ (l : List MemoryBlock). record m { list = l })
       (changed_same i (written at cells) m.list f.block f.there (ap (λ (l : List Cell). record f.block { cells = l }) (written_is ∙ cells_same)))
 
 -- ---- all leaves
@@ -211,18 +211,18 @@ no_cells [] e = refl
 no_cells (c ∷ cells) e = absurd (omega (arith, e))
 
 -- a leaf of any size
-leaf_stored : (m : Blocks) (p : Pointer) (i : ℕ) (front : List Cell) (rest : ℕ) → IsFresh m p i front rest → (at : ℕ) (kind : Leaf) (v : Scalar) → length front ≤ at → at + size kind ≤ length front + rest → length (spelled kind v) ≡ size kind
-    → stored (scalar.Ptr (behind p at)) kind 1 v m ≡ Ok (with_cells m i at (spelled kind v))
+leaf_stored : (m : Blocks) (p : Pointer) (i : ℕ) (front : List Cell) (rest : ℕ) → IsFresh m p i front rest → (at : ℕ) (kind : Leaf) (v : Scalar) → length front ≤ at → at + size kind ≤ length front + rest → length (leaf_cells kind v) ≡ size kind
+    → stored (scalar.Ptr (behind p at)) kind 1 v m ≡ Ok (with_cells m i at (leaf_cells kind v))
 leaf_stored m p i front rest f at kind v low inside long = go (size kind) refl
   where
-    go : (n : ℕ) → size kind ≡ n → stored (scalar.Ptr (behind p at)) kind 1 v m ≡ Ok (with_cells m i at (spelled kind v))
+    go : (n : ℕ) → size kind ≡ n → stored (scalar.Ptr (behind p at)) kind 1 v m ≡ Ok (with_cells m i at (leaf_cells kind v))
     go zero e =
-        let none : length (spelled kind v) ≡ 0 = long ∙ e in
-        ap (λ (n : ℕ). put_at m (spelled kind v) (access m n 1 true (scalar.Ptr (behind p at)))) e
-        ∙ ap (λ (n : Blocks). Ok n) (sym (zeros_same m p i front rest f at (spelled kind v) low (omega (arith, inside, long)) 0 (no_cells (spelled kind v) none) none))
+        let none : length (leaf_cells kind v) ≡ 0 = long ∙ e in
+        ap (λ (n : ℕ). put_at m (leaf_cells kind v) (access m n 1 true (scalar.Ptr (behind p at)))) e
+        ∙ ap (λ (n : Blocks). Ok n) (sym (zeros_same m p i front rest f at (leaf_cells kind v) low (omega (arith, inside, long)) 0 (no_cells (leaf_cells kind v) none) none))
     go (suc n) e = stored_is m p i front rest f at kind v inside (omega (arith, e))
 
-spelled_long : (count : ℕ) (kind : Leaf) (v : Scalar) → IsOf count kind v → length (spelled kind v) ≡ size kind
+spelled_long : (count : ℕ) (kind : Leaf) (v : Scalar) → IsOf count kind v → length (leaf_cells kind v) ≡ size kind
 spelled_long count kind scalar.Poison h = length-replicate (size kind) _
 spelled_long count kind (scalar.Int n) h = go 0 (size kind)
   where
@@ -245,7 +245,7 @@ both_stored (x ∷ xs) m p i front rest to count whole f order are =
     go (is_fresh x.1) refl (λ n l k e g o. both_stored xs n p i l k to count e g o are.1)
   where
     cells : List Cell
-    cells = spelled x.0.leaf x.1
+    cells = leaf_cells x.0.leaf x.1
 
     many : length cells ≡ size x.0.leaf
     many = spelled_long count x.0.leaf x.1 are.0
@@ -277,7 +277,7 @@ both_stored (x ∷ xs) m p i front rest to count whole f order are =
         → ((n : Blocks) (l : List Cell) (k : ℕ) → to ≡ length l + k → IsFresh n p i l k → AreInOrder (length l) to xs → IsOk (stored_slots p 1 xs n) × (stored_slots p 1 xs n ≡ stored_slots p 1 (to_store xs) n))
         → IsOk all × (all ≡ stored_slots p 1 (cond (not b) (x ∷ to_store xs) (to_store xs)) m)
     go true e more =
-        let is : cells ≡ zeros (size x.0.leaf) = ap (spelled x.0.leaf) (fresh_zero x.1 e) ∙ bytes_zero 0 (size x.0.leaf) in
+        let is : cells ≡ zeros (size x.0.leaf) = ap (leaf_cells x.0.leaf) (fresh_zero x.1 e) ∙ bytes_zero 0 (size x.0.leaf) in
         let same : with_cells m i x.0.offset cells ≡ m = zeros_same m p i front rest f x.0.offset cells low cells_inside (size x.0.leaf) is many in
         let first : all ≡ stored_slots p 1 xs m = ap (λ (r : Result Blocks UndefinedKind). and_then r (λ n. stored_slots p 1 xs n)) (here ∙ ap (λ (n : Blocks). Ok n) same) in
         let others = more m front rest whole f (from_earlier (length front) (x.0.offset + size x.0.leaf) to xs (omega (arith, low)) order.2) in

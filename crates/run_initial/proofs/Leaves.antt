@@ -4,7 +4,7 @@ use Rattle.std.specs.Option.{option_map}
 use Rattle.std.proofs.lemmas.List.{map-append}
 use Rattle.ir_memory.specs.Given.{IsLeaf}
 use Rattle.ir_memory.specs.declared.leaf.Leaf.TheVariants as leaf
-use Rattle.type_table.specs.Layout.{align, leaves, placed, size}
+use Rattle.type_table.specs.Layout.{align, leaves, field_start, size}
 use Rattle.type_table.specs.Shape.{Label, Shape, int_leaf, ptr_leaf, void_leaf, opaque_leaf, array_of, struct_of, Shapes, no_shapes, more_shapes, all_expanded, body_shape, name_shape, shape}
 use Rattle.type_table.specs.Tree.{Tree, int, ptr, void, array, struct, named, TreeBody, opaque_body, fields, Structs, body_of}
 use Rattle.type_table.specs.Types.{IsGood, Types, structs, tree}
@@ -89,8 +89,8 @@ mutual
   fields_fresh no_shapes h packed at end = refl
   fields_fresh (more_shapes s ss) h packed at end =
       let both = or_none (has_pointer s) (have_pointers ss) h in
-      filled_none (slots_at s (at + placed packed end (align s))) (field_slots ss packed at (placed packed end (align s) + size s))
-      (zeros_fresh s both.0 (at + placed packed end (align s))) (fields_fresh ss both.1 packed at (placed packed end (align s) + size s))
+      filled_none (slots_at s (at + field_start packed end (align s))) (field_slots ss packed at (field_start packed end (align s) + size s))
+      (zeros_fresh s both.0 (at + field_start packed end (align s))) (fields_fresh ss both.1 packed at (field_start packed end (align s) + size s))
 
 few_leaves : (n : ℕ) → not (nat_eq n 0) ≡ false → n ≡ 0
 few_leaves n h = go (nat_eq n 0) refl h

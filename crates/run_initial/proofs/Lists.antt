@@ -7,7 +7,7 @@ use Rattle.ir_eval.specs.declared.value.Scalar.{Scalar}
 use Rattle.ir_eval.specs.declared.value.Scalar.TheVariants as scalar
 use Rattle.ir_memory.specs.declared.leaf.Leaf.{Leaf}
 use Rattle.ir_memory.specs.declared.leaf.Leaf.TheVariants as leaf
-use Rattle.type_table.specs.Layout.{align, end_after, has_layout, have_layouts, placed, size}
+use Rattle.type_table.specs.Layout.{align, end_after, has_layout, have_layouts, field_start, size}
 use Rattle.type_table.specs.Shape.{Shape, int_leaf, ptr_leaf, void_leaf, opaque_leaf, array_of, struct_of, Shapes, no_shapes, more_shapes, expanded, all_expanded, name_shape, shape}
 use Rattle.type_table.specs.Tree.{Tree, int, ptr, void, array, struct, named, Trees, no_trees, more_trees, body_of}
 use Rattle.type_table.proofs.Rooms.{unjoined, unmapped}
@@ -65,10 +65,10 @@ mutual
   same_field_kinds : (ss : Shapes) (packed : Bool) (at bt end : ℕ) → kinds_in (field_slots ss packed at end) ≡ kinds_in (field_slots ss packed bt end)
   same_field_kinds no_shapes packed at bt end = refl
   same_field_kinds (more_shapes s ss) packed at bt end =
-      kinds_append (slots_at s (at + placed packed end (align s))) (field_slots ss packed at (placed packed end (align s) + size s))
-      ∙ two (kinds_in (slots_at s (at + placed packed end (align s)))) (kinds_in (slots_at s (bt + placed packed end (align s)))) (kinds_in (field_slots ss packed at (placed packed end (align s) + size s))) (kinds_in (field_slots ss packed bt (placed packed end (align s) + size s)))
-      (same_kinds s (at + placed packed end (align s)) (bt + placed packed end (align s))) (same_field_kinds ss packed at bt (placed packed end (align s) + size s))
-      ∙ sym (kinds_append (slots_at s (bt + placed packed end (align s))) (field_slots ss packed bt (placed packed end (align s) + size s)))
+      kinds_append (slots_at s (at + field_start packed end (align s))) (field_slots ss packed at (field_start packed end (align s) + size s))
+      ∙ two (kinds_in (slots_at s (at + field_start packed end (align s)))) (kinds_in (slots_at s (bt + field_start packed end (align s)))) (kinds_in (field_slots ss packed at (field_start packed end (align s) + size s))) (kinds_in (field_slots ss packed bt (field_start packed end (align s) + size s)))
+      (same_kinds s (at + field_start packed end (align s)) (bt + field_start packed end (align s))) (same_field_kinds ss packed at bt (field_start packed end (align s) + size s))
+      ∙ sym (kinds_append (slots_at s (bt + field_start packed end (align s))) (field_slots ss packed bt (field_start packed end (align s) + size s)))
 
 same_length : (s : Shape) (at bt : ℕ) → length (slots_at s at) ≡ length (slots_at s bt)
 same_length s at bt = sym (length-map (slots_at s at) (λ (x : Slot). x.leaf)) ∙ ap length (same_kinds s at bt) ∙ length-map (slots_at s bt) (λ (x : Slot). x.leaf)
@@ -160,7 +160,7 @@ module _ (names : Names) (count : ℕ) where
   parts_are packed at end no_constants h = refl
   parts_are packed at end (more_constants t c cs) h =
       let s = shape_of names t in
-      let start = placed packed end (align s) in
+      let start = field_start packed end (align s) in
       ap (λ (l : Contents). value_at names t c (at + start) ++ l) (parts_are packed at (start + size s) cs h.1)
       ∙ sym (zip_both (slots_at s (at + start)) (field_slots (shapes_with names cs) packed at (start + size s)) (constant_value names t c) (constant_values names cs) (value_length t c (at + start) h.0))
 

@@ -4,7 +4,7 @@ use Rattle.std.specs.List.{AllZip}
 use Rattle.std.specs.Int.{next_multiple_of}
 use Rattle.ir_eval.specs.declared.value.Scalar.{Scalar}
 use Rattle.ir_memory.specs.Cell as cell
-use Rattle.type_table.specs.Layout.{align, end_after, int_align, placed, size}
+use Rattle.type_table.specs.Layout.{align, end_after, int_align, field_start, size}
 use Rattle.type_table.specs.Shape.{Shape, int_leaf, ptr_leaf, void_leaf, opaque_leaf, array_of, struct_of, Shapes, no_shapes, more_shapes}
 use Rattle.type_table.proofs.Caps.{placed-le}
 use Rattle.run_rules.specs.Leaves.{Slot, field_slots, repeated, slots_at}
@@ -73,7 +73,7 @@ mutual
   fields_follow : (ss : Shapes) (packed : Bool) (at end : ℕ) → Follow (at + end) (at + end_after packed end ss) (field_slots ss packed at end)
   fields_follow no_shapes packed at end = omega arith
   fields_follow (more_shapes s ss) packed at end =
-      let start = placed packed end (align s) in
+      let start = field_start packed end (align s) in
       let behind : end ≤ start = placed-le packed end (align s) in
       let whole : at + start + size s ≡ at + (start + size s) = omega arith in
       follow_wider (at + end) (at + start) (at + end_after packed (start + size s) ss) (at + end_after packed (start + size s) ss) (slots_at s (at + start) ++ field_slots ss packed at (start + size s)) (omega (arith, behind)) (omega arith)

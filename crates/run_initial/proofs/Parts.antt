@@ -7,12 +7,12 @@ use Rattle.module_arena.specs.Lists.{Lists}
 use Rattle.module_arena.specs.Module.{Constants, no_constants, more_constants}
 use Rattle.module_arena.specs.TypeTests.{lies_in_memory}
 use Rattle.type_table.specs.declared.layout.Layout.{Layout}
-use Rattle.type_table.specs.Layout.{align, end_after, has_layout, have_layouts, placed, size}
+use Rattle.type_table.specs.Layout.{align, end_after, has_layout, have_layouts, field_start, size}
 use Rattle.type_table.specs.Limits.{IsWithin}
 use Rattle.type_table.specs.Shape.{Shape}
 use Rattle.type_table.specs.Types.{IsGood, Types, structs, tree}
 use Rattle.type_table.proofs.ShapeMeasures.{align-positive}
-use Rattle.run_constants.proofs.OneLeaf.{shape_is}
+use Rattle.run_constants.proofs.LeafKinds.{shape_is}
 use Rattle.run_constants.proofs.Within.{item_has}
 use Rattle.run_constants.specs.Sound.{IsPart, constant_of, constants_with_types, names_of}
 use Rattle.run_rules.specs.Constant.{shape_of}
@@ -53,10 +53,10 @@ module _ (a : Lists) (types : Types) (same : types ≡ a.table) (packed : Bool) 
       (known, is_laid types good within item.ty known (ap has_layout here_is ∙ (and_parts (has_layout here) (have_layouts (shapes_with (names_of a) others)) both_laid).0))
 
   -- and ends where the whole ends, or before
-  pub it_ends : placed packed end (align here) + size here ≤ whole
+  pub it_ends : field_start packed end (align here) + size here ≤ whole
   it_ends = field_ends packed here (shapes_with (names_of a) others) (shapes_with (names_of a) (constants_with_types a (drop k parts))) end whole ends (ap (shapes_with (names_of a)) next)
 
-  pub others_end : end_after packed (placed packed end (align here) + size here) (shapes_with (names_of a) others) ≡ whole
+  pub others_end : end_after packed (field_start packed end (align here) + size here) (shapes_with (names_of a) others) ≡ whole
   others_end = ap (λ (cs : Constants). end_after packed end (shapes_with (names_of a) cs)) (sym next) ∙ ends
 
   module _ (layout : Layout) (told : layout ≡ laid_out (shape_in types item.ty)) where
@@ -69,8 +69,8 @@ module _ (a : Lists) (types : Types) (same : types ≡ a.table) (packed : Bool) 
     pub some_align : 1 ≤ layout.align
     some_align = subst (λ (n : ℕ). 1 ≤ n) (sym its_align) (align-positive here)
 
-    pub room : (offset : ℕ) → offset + whole ≤ 2 ^ 40 → placed packed end layout.align < 2 ^ 64
+    pub room : (offset : ℕ) → offset + whole ≤ 2 ^ 40 → field_start packed end layout.align < 2 ^ 64
     room offset most =
         let ends_there = it_ends in
-        let start = ap (placed packed end) its_align in
+        let start = ap (field_start packed end) its_align in
         omega (arith, ends_there, start, most)

@@ -14,7 +14,7 @@ use Rattle.ir_memory.specs.declared.fault.MemoryFault.{MemoryFault}
 use Rattle.ir_memory.specs.declared.fault.MemoryFault.TheVariants.{Undefined, MemoryLimit, Memory}
 use Rattle.ir_memory.specs.Memory.{Blocks, stored}
 use Rattle.module_arena.specs.Module.{Constant, Constants, more_constants}
-use Rattle.type_table.specs.Layout.{align, placed, size}
+use Rattle.type_table.specs.Layout.{align, field_start, size}
 use Rattle.type_table.specs.Shape.{Shape, Shapes, no_shapes, more_shapes}
 use Rattle.type_table.specs.Tree.{Tree}
 use Rattle.run_rules.specs.Access.{and_then, behind, stored_slots}
@@ -161,7 +161,7 @@ module _ (fill : Fill) where
   pub elements_none : (n place at step : ℕ) (element : ℕ → List Slot) → n ≤ place → filled fill (repeated (n - place) element at step) ≡ []
   elements_none n place at step element le = let none : n - place ≡ 0 = omega (arith, le) in ap (filled fill) (repeated_none (n - place) element at step none)
 
-  pub fields_next : (s : Shape) (ss us : Shapes) (packed : Bool) (at end start : ℕ) → us ≡ more_shapes s ss → start ≡ placed packed end (align s)
+  pub fields_next : (s : Shape) (ss us : Shapes) (packed : Bool) (at end start : ℕ) → us ≡ more_shapes s ss → start ≡ field_start packed end (align s)
       → filled fill (field_slots us packed at end) ≡ filled fill (slots_at s (at + start)) ++ filled fill (field_slots ss packed at (start + size s))
   fields_next s ss us packed at end start from is =
       ap (λ (x : Shapes). filled fill (field_slots x packed at end)) from
@@ -185,7 +185,7 @@ bytes_none bytes place at le = at_drop_all (bytes_at (at + place)) bytes place l
 
 -- ---- parts of a constant
 
-pub parts_next : (names : Names) (t : Tree) (c : Constant) (cs us : Constants) (packed : Bool) (at end start : ℕ) → us ≡ more_constants t c cs → start ≡ placed packed end (align (shape_of names t))
+pub parts_next : (names : Names) (t : Tree) (c : Constant) (cs us : Constants) (packed : Bool) (at end start : ℕ) → us ≡ more_constants t c cs → start ≡ field_start packed end (align (shape_of names t))
     → parts_at names packed at end us ≡ value_at names t c (at + start) ++ parts_at names packed at (start + size (shape_of names t)) cs
 parts_next names t c cs us packed at end start from is =
     ap (parts_at names packed at end) from

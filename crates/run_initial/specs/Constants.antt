@@ -3,7 +3,7 @@ use Rattle.std.specs.Prelude.{ℕ, ◌+◌, Bool, List, [], ◌∷◌, ◌++◌,
 use Rattle.ir_eval.specs.declared.value.Scalar.TheVariants.{Int}
 use Rattle.ir_memory.specs.declared.leaf.Leaf.TheVariants as leaf
 use Rattle.module_arena.specs.Module.{Constant, Constants, no_constants, more_constants}
-use Rattle.type_table.specs.Layout.{align, placed, size}
+use Rattle.type_table.specs.Layout.{align, field_start, size}
 use Rattle.type_table.specs.Shape.{Shapes, no_shapes, more_shapes}
 use Rattle.type_table.specs.Tree.{Tree}
 use Rattle.run_rules.specs.Constant.{Names, constant_value, shape_of}
@@ -29,4 +29,4 @@ module _ (names : Names) where
   abbrev pub parts_at : Bool → ℕ → ℕ → Constants → Contents
   parts_at packed at end no_constants = []
   parts_at packed at end (more_constants t c cs) =
-      value_at t c (at + placed packed end (align (shape_of names t))) ++ parts_at packed at (placed packed end (align (shape_of names t)) + size (shape_of names t)) cs
+      value_at t c (at + field_start packed end (align (shape_of names t))) ++ parts_at packed at (field_start packed end (align (shape_of names t)) + size (shape_of names t)) cs

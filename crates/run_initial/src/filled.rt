@@ -14,7 +14,7 @@ use crate::leaf::{Target, further, put_leaf};
 use crate::pointers::has_pointer;
 use ir_memory::{Leaf, Memory, MemoryFault};
 use run_constants::{Fill, leaf_in};
-use run_shapes::{Form, form_of, layout_of, parts};
+use run_shapes::{TypeForm, form_of, layout_of, parts};
 use run_slots::start_of;
 use type_table::{TypeId, TypeTable};
 
@@ -53,12 +53,12 @@ pub(crate) fn put_filled(
     }
     let parts = parts(types, ty);
     match form_of(types, ty) {
-        Form::Int(width) => put_filled_leaf(memory, target, fill, Leaf::Int(width)),
-        Form::Pointer => put_filled_leaf(memory, target, fill, Leaf::Ptr),
-        Form::Array(count) => put_filled_elements(types, memory, target, fill, parts[0], count),
-        Form::Struct(packed) => put_filled_fields(types, memory, target, fill, packed, parts),
-        Form::Nothing => Ok(()),
-        Form::Opaque => Ok(()),
+        TypeForm::Int(width) => put_filled_leaf(memory, target, fill, Leaf::Int(width)),
+        TypeForm::Pointer => put_filled_leaf(memory, target, fill, Leaf::Ptr),
+        TypeForm::Array(count) => put_filled_elements(types, memory, target, fill, parts[0], count),
+        TypeForm::Struct(packed) => put_filled_fields(types, memory, target, fill, packed, parts),
+        TypeForm::Nothing => Ok(()),
+        TypeForm::Opaque => Ok(()),
     }
 }
 

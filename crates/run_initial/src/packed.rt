@@ -3,7 +3,7 @@ ghost use Rattle.std.specs.Prelude.{◌≡◌, ◌<◌, length};
 ghost use Rattle.run_initial.specs.Fresh.{is_packed};
 ghost use Rattle.run_shapes.specs.Shapes.{shape_in};
 
-use run_shapes::{Form, form_of};
+use run_shapes::{TypeForm, form_of};
 use type_table::{TypeId, TypeTable};
 
 /// Whether the parts of a value follow one another without a gap.
@@ -12,11 +12,11 @@ pub(crate) fn is_packed(types: &TypeTable, ty: TypeId) -> bool
     ensures { result ≡ is_packed (shape_in types.now ty) }
 {
     match form_of(types, ty) {
-        Form::Struct(packed) => packed,
-        Form::Array(_) => true,
-        Form::Int(_) => true,
-        Form::Pointer => true,
-        Form::Nothing => true,
-        Form::Opaque => true,
+        TypeForm::Struct(packed) => packed,
+        TypeForm::Array(_) => true,
+        TypeForm::Int(_) => true,
+        TypeForm::Pointer => true,
+        TypeForm::Nothing => true,
+        TypeForm::Opaque => true,
     }
 }

@@ -3,7 +3,7 @@ ghost use Rattle.std.specs.Prelude.{◌≡◌, ◌<◌, All, length};
 ghost use Rattle.run_shapes.specs.Shapes.{shape_in, shapes_in};
 ghost use Rattle.run_initial.specs.Fresh.{has_pointer, have_pointers};
 
-use run_shapes::{Form, form_of, parts};
+use run_shapes::{TypeForm, form_of, parts};
 use type_table::{TypeId, TypeTable};
 
 /// Whether a value of that type has a pointer among its leaves.
@@ -14,12 +14,12 @@ pub(crate) fn has_pointer(types: &TypeTable, ty: TypeId) -> bool
 {
     let parts = parts(types, ty);
     match form_of(types, ty) {
-        Form::Pointer => true,
-        Form::Array(count) => count != 0 && has_pointer(types, parts[0]),
-        Form::Struct(_packed) => have_pointers(types, parts),
-        Form::Int(_) => false,
-        Form::Nothing => false,
-        Form::Opaque => false,
+        TypeForm::Pointer => true,
+        TypeForm::Array(count) => count != 0 && has_pointer(types, parts[0]),
+        TypeForm::Struct(_packed) => have_pointers(types, parts),
+        TypeForm::Int(_) => false,
+        TypeForm::Nothing => false,
+        TypeForm::Opaque => false,
     }
 }
 

@@ -13,7 +13,7 @@ use Rattle.run_rules.specs.Action.{Move, Action}
 use Rattle.run_rules.specs.Constant.{Names, one_leaf}
 use Rattle.run_rules.specs.Displace.{number_of}
 use Rattle.run_rules.specs.Resolve.{incoming_from, moves_to, phi_moves, is_phi, phis, edge_into, edge_in, case_in, ending_in}
-use Rattle.run_rules.specs.Scope.{Scope, Placed, place_in, block_in, value_in, one_origin}
+use Rattle.run_rules.specs.Scope.{FunctionScope, Placed, place_in, block_in, value_in, one_origin}
 use Rattle.run_laws.proofs.SameConstants.{Agree, ConstantIn, same_constant}
 use Rattle.run_laws.proofs.SameOperations.{OperandIn, OperationIn, IncomingIn, scope_with, same_value, same_operand}
 
@@ -78,10 +78,10 @@ module _ (structs globals : Bytes → Bytes) where
   same_number target bs = λ i. cond (nat_lt (same_prefix target bs i) (same_length bs i)) (Some (same_prefix target bs i)) None
 
 module _ (old new : Names) (structs globals : Bytes → Bytes) (T : Tree → Type 0) (G : Bytes → Type 0) (agree : Agree old new structs globals T G) (locals : List Placed) (blocks : List Block) where
-  abbrev before : Scope
+  abbrev before : FunctionScope
   before = scope_with old locals blocks
 
-  abbrev after : Scope
+  abbrev after : FunctionScope
   after = scope_with new locals (map (renamed_block structs globals) blocks)
 
   same_incoming : (from : LocalName) (ty : Tree) (xs : List Incoming) → IncomingIn T G ty xs → incoming_from after from (renamed_tree structs ty) (map (renamed_incoming structs globals) xs) ≡ incoming_from before from ty xs
@@ -110,7 +110,7 @@ module _ (old new : Names) (structs globals : Bytes → Bytes) (T : Tree → Typ
   same_phi_moves from result (ExtractValue aggregate indices) h = refl
   same_phi_moves from result (InsertValue aggregate inserted indices) h = refl
 
-  abbrev moves_in : Scope → LocalName → List Instruction → List Move
+  abbrev moves_in : FunctionScope → LocalName → List Instruction → List Move
   moves_in sc from xs = flat_map (λ (x : Instruction). phi_moves sc from x.result x.operation) xs
 
   same_moves : (from : LocalName) (xs : List Instruction) → InstructionsIn T G xs → moves_in after from (phis (map (renamed_instruction structs globals) xs)) ≡ moves_in before from (phis xs)

@@ -12,7 +12,7 @@ use Rattle.run_rules.specs.Constant.{Names, shape_of}
 use Rattle.run_rules.specs.Leaves.{part}
 use Rattle.run_rules.specs.Look.{ending_at, action_at, look_in}
 use Rattle.run_rules.specs.Resolve.{instruction_in}
-use Rattle.run_rules.specs.Scope.{Scope, Placed, Typed, result_shape, result_of, results_of, placed_from, place_in}
+use Rattle.run_rules.specs.Scope.{FunctionScope, Placed, Typed, result_shape, result_of, results_of, placed_from, place_in}
 use Rattle.run_laws.proofs.SameConstants.{Agree}
 use Rattle.run_laws.proofs.SameOperations.{OperationIn, scope_with, same_operation}
 use Rattle.run_laws.proofs.SameBlocks.{InstructionsIn, BlockIn, BlocksIn, same_ending}
@@ -28,7 +28,7 @@ abbrev pub typed_locals : Names → List Parameter → List Block → List Typed
 typed_locals names ps bs = typed_parameters names ps ++ flat_map (results_of names) bs
 
 -- what all names mean in a function with these parameters and blocks
-abbrev pub scope_in : Names → List Parameter → List Block → Scope
+abbrev pub scope_in : Names → List Parameter → List Block → FunctionScope
 scope_in names ps bs = scope_with names (placed_from 0 (typed_locals names ps bs)) bs
 
 module _ (old new : Names) (structs globals : Bytes → Bytes) (T : Tree → Type 0) (G : Bytes → Type 0) (agree : Agree old new structs globals T G) where
@@ -68,10 +68,10 @@ module _ (old new : Names) (structs globals : Bytes → Bytes) (T : Tree → Typ
   same_locals ps bs h k = λ i. same_parameters ps h i ++ same_block_results bs k i
 
   module _ (locals : List Placed) (blocks : List Block) (known : BlocksIn T G blocks) where
-    abbrev before : Scope
+    abbrev before : FunctionScope
     before = scope_with old locals blocks
 
-    abbrev after : Scope
+    abbrev after : FunctionScope
     after = scope_with new locals (map (renamed_block structs globals) blocks)
 
     same_instruction : (xs : List Instruction) → InstructionsIn T G xs → (n : ℕ) (d e : Action) → d ≡ e

@@ -17,7 +17,7 @@ use Rattle.run_rules.specs.Constant.{Names, shape_of}
 use Rattle.run_rules.specs.Displace.{Index, terms_of}
 use Rattle.run_rules.specs.Leaves.{slots, is_pointer, part, leaves_before_part, width}
 use Rattle.run_rules.specs.Resolve.{index_in, operation_in}
-use Rattle.run_rules.specs.Scope.{Scope, Placed, value_in, operand_in, one_origin, scalar_in}
+use Rattle.run_rules.specs.Scope.{FunctionScope, Placed, value_in, operand_in, one_origin, scalar_in}
 use Rattle.run_laws.proofs.SameConstants.{Agree, ConstantIn, same_constant}
 
 module _ (T : Tree → Type 0) (G : Bytes → Type 0) where
@@ -60,14 +60,14 @@ module _ (T : Tree → Type 0) (G : Bytes → Type 0) where
   OperationIn (ExtractValue aggregate indices) = OperandIn aggregate
   OperationIn (InsertValue aggregate new indices) = OperandIn aggregate × OperandIn new
 
-abbrev pub scope_with : Names → List Placed → List Block → Scope
+abbrev pub scope_with : Names → List Placed → List Block → FunctionScope
 scope_with names locals blocks = record { names = names; locals = locals; blocks = blocks }
 
 module _ (old new : Names) (structs globals : Bytes → Bytes) (T : Tree → Type 0) (G : Bytes → Type 0) (agree : Agree old new structs globals T G) (locals : List Placed) (blocks : List Block) where
-  abbrev before : Scope
+  abbrev before : FunctionScope
   before = scope_with old locals blocks
 
-  abbrev after : Scope
+  abbrev after : FunctionScope
   after = scope_with new locals (map (renamed_block structs globals) blocks)
 
   pub same_value : (t : Tree) (v : Value) → ValueIn T G t v → value_in after (renamed_tree structs t) (renamed_value structs globals v) ≡ value_in before t v

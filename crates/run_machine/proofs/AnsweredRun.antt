@@ -9,8 +9,8 @@ use Rattle.run_rules.specs.RunClauses.{RunAnswers, Runs}
 use Rattle.run_rules.specs.State.{Core}
 use Rattle.run_machine.specs.Opened.{IsOpened}
 use Rattle.run_machine.specs.Seen.{Answering, machine_seen}
-use Rattle.run_machine.specs.declared.opening.Opened.{Opened}
-use Rattle.run_machine.specs.declared.opening.Opened.TheVariants.{Ready, Ended}
+use Rattle.run_machine.specs.declared.opening.OpenedMachine.{OpenedMachine}
+use Rattle.run_machine.specs.declared.opening.OpenedMachine.TheVariants.{Ready, Ended}
 use Rattle.run_rules.specs.declared.end.End.{End}
 use Rattle.run_rules.specs.declared.fault.RunFault.{RunFault}
 use Rattle.run_played.specs.Laws.{EarlyEndsArePlayed, RunsArePlayed}
@@ -25,14 +25,14 @@ end_behind : (m : Module) (r : Result Core End) (end : End) → elim r as (λ _.
 end_behind m (Ok c) end e = absurd cc
 end_behind m (Err other) end e = let same : other ≡ end = cc in ap (λ (x : End). Err x) same
 
-pub run_answered : RunsArePlayed → (p : Program) (found : Opened) (old : Answering) (new : Machine) (answer : Result End RunFault) (before after : Outside) → found ≡ Ready old → IsOpened found p.code p.words → Runs p.bound answer (machine_seen old) new before after → Plays p answer before after
+pub run_answered : RunsArePlayed → (p : Program) (found : OpenedMachine) (old : Answering) (new : Machine) (answer : Result End RunFault) (before after : Outside) → found ≡ Ready old → IsOpened found p.code p.words → Runs p.bound answer (machine_seen old) new before after → Plays p answer before after
 run_answered law p found old new answer before after is seen runs =
-    let opens : opened_machine p.code p.words ≡ Ok (machine_seen old) = subst (λ (o : Opened). IsOpened o p.code p.words) is seen in
+    let opens : opened_machine p.code p.words ≡ Ok (machine_seen old) = subst (λ (o : OpenedMachine). IsOpened o p.code p.words) is seen in
     let behind = core_behind p.code (opened (plan (p.code ∷ [])) p.words) (machine_seen old) opens in
     let fresh : (machine_seen old).answer ≡ None = ap (λ (m : Machine). m.answer) behind.2 in
     law p behind.0 new answer before after behind.1 (subst (λ (m : Machine). RunAnswers p.bound answer m new before after) behind.2 (runs.first fresh).0)
 
-pub end_answered : EarlyEndsArePlayed → (p : Program) (found : Opened) (end : End) (outside : Outside) → found ≡ Ended end → IsOpened found p.code p.words → Plays p (Ok end) outside outside
+pub end_answered : EarlyEndsArePlayed → (p : Program) (found : OpenedMachine) (end : End) (outside : Outside) → found ≡ Ended end → IsOpened found p.code p.words → Plays p (Ok end) outside outside
 end_answered law p found end outside is seen =
-    let opens : opened_machine p.code p.words ≡ Err end = subst (λ (o : Opened). IsOpened o p.code p.words) is seen in
+    let opens : opened_machine p.code p.words ≡ Err end = subst (λ (o : OpenedMachine). IsOpened o p.code p.words) is seen in
     law.ends p end outside (end_behind p.code (opened (plan (p.code ∷ [])) p.words) end opens)

@@ -9,7 +9,7 @@ use Rattle.ir_eval.specs.declared.value.Pointer.{Pointer}
 use Rattle.ir_memory.specs.declared.kind.BlockKind.{BlockKind}
 use Rattle.ir_memory.specs.declared.kind.BlockKind.TheVariants as kind
 use Rattle.ir_memory.specs.Answer.{Keeps}
-use Rattle.ir_memory.specs.Block.{Block, new_block}
+use Rattle.ir_memory.specs.Block.{MemoryBlock, new_block}
 use Rattle.ir_memory.specs.Given.{IsBlock, IsKnown}
 use Rattle.ir_memory.specs.Memory.{Blocks, added, byte_limit, live_bytes, round_up}
 use Rattle.run_rules.specs.declared.end.End.{End}
@@ -52,21 +52,21 @@ module _ (size align : ℕ) (kind : BlockKind) (m n : Blocks) (e : made size ali
       subst (λ (q : Pointer). IsKnown n.list q) (sym is) there
 
 -- pointers to blocks that were made are so when there are more
-pub known_still : (bs cs : List Block) (ps : List Pointer) → length bs ≤ length cs → All (IsKnown bs) ps → All (IsKnown cs) ps
+pub known_still : (bs cs : List MemoryBlock) (ps : List Pointer) → length bs ≤ length cs → All (IsKnown bs) ps → All (IsKnown cs) ps
 known_still bs cs ps more are = λ k d lt. still (get_or ps k d).block (are k d lt)
   where
     still : (o : Option ℕ) → IsBlock (length bs) o → IsBlock (length cs) o
     still None h = h
     still (Some i) h = omega (arith, more, h)
 
-pub known_at : (bs cs : List Block) (ps : List Pointer) (k : ℕ) (d : Pointer) → length cs ≡ length bs → All (IsKnown bs) ps → k < length ps → IsKnown cs (get_or ps k d)
+pub known_at : (bs cs : List MemoryBlock) (ps : List Pointer) (k : ℕ) (d : Pointer) → length cs ≡ length bs → All (IsKnown bs) ps → k < length ps → IsKnown cs (get_or ps k d)
 known_at bs cs ps k d count are lt = known_still bs cs ps (omega (arith, count)) are k d lt
 
 pub known_behind : (size align : ℕ) (m n : Blocks) (ps : List Pointer) → made size align (kind.Variable false) m ≡ Ok n → All (IsKnown m.list) ps → All (IsKnown n.list) ps
 known_behind size align m n ps e are = let longer = made_longer size align (kind.Variable false) m n e in known_still m.list n.list ps (omega (arith, longer)) are
 
 -- and one more
-pub known_more : (bs cs : List Block) (ps : List Pointer) (p : Pointer) → length bs ≤ length cs → All (IsKnown bs) ps → IsKnown cs p → All (IsKnown cs) (ps ++ p ∷ [])
+pub known_more : (bs cs : List MemoryBlock) (ps : List Pointer) (p : Pointer) → length bs ≤ length cs → All (IsKnown bs) ps → IsKnown cs p → All (IsKnown cs) (ps ++ p ∷ [])
 known_more bs cs ps p more are is = All-push (IsKnown cs) ps p (known_still bs cs ps more are) is
 
 pub none_kept : (m : Blocks) → KeepsBlocks m m

@@ -6,7 +6,7 @@ use Rattle.std.proofs.lemmas.List.{length-map}
 use Rattle.std.proofs.lemmas.Option.{same_Some, slice_get_within}
 use Rattle.ir_memory.specs.declared.kind.BlockKind.{BlockKind}
 use Rattle.ir_memory.specs.declared.kind.BlockKind.TheVariants as kind
-use Rattle.ir_memory.specs.Block.{Block, new_block}
+use Rattle.ir_memory.specs.Block.{MemoryBlock, new_block}
 use Rattle.ir_memory.specs.Memory.{Blocks, added, no_blocks, round_up}
 use Rattle.linkage_rules.specs.Place.{rooms}
 use Rattle.module_arena.specs.Lists.{Lists}
@@ -26,9 +26,9 @@ use Rattle.run_machine.proofs.Blocks.{made_is}
 
 -- where no block ends further off, the next one does not begin far behind
 abbrev IsNear : Blocks → Type 0
-IsNear m = (bound : ℕ) → ((j : ℕ) (b : Block) → slice_get m.list j ≡ Some b → b.start + b.size ≤ bound) → m.next ≤ bound + 2 ^ 17
+IsNear m = (bound : ℕ) → ((j : ℕ) (b : MemoryBlock) → slice_get m.list j ≡ Some b → b.start + b.size ≤ bound) → m.next ≤ bound + 2 ^ 17
 
-newest : (bs : List Block) (b : Block) → slice_get (bs ++ b ∷ []) (length bs) ≡ Some b
+newest : (bs : List MemoryBlock) (b : MemoryBlock) → slice_get (bs ++ b ∷ []) (length bs) ≡ Some b
 newest [] b = refl
 newest (c ∷ bs) b = newest bs b
 
@@ -58,7 +58,7 @@ module _ (a : Lists) (spots : List Spot) (are : AreSpots a spots) where
   pub variables_near : (m : Blocks) → with_variables vs no_blocks ≡ Ok m → ArePlaced a m → m.next ≤ 2 ^ 60 + 2 ^ 17
   variables_near m e placed = near_variables vs no_blocks m (λ bound h. omega arith) e (2 ^ 60) ends
     where
-      ends : (j : ℕ) (b : Block) → slice_get m.list j ≡ Some b → b.start + b.size ≤ 2 ^ 60
+      ends : (j : ℕ) (b : MemoryBlock) → slice_get m.list j ≡ Some b → b.start + b.size ≤ 2 ^ 60
       ends j b at =
           let long = (variables_made vs no_blocks m e).long in
           let many = as_many_spots in
@@ -66,7 +66,7 @@ module _ (a : Lists) (spots : List Spot) (are : AreSpots a spots) where
           let s = get_within spots j (omega (arith, long, many, within)) in
           let same = same_Some (new_block s.0.start s.0.size (kind.Variable s.0.constant)) b (sym (placed.fresh spots are j s.0 s.1) ∙ at) in
           let last = are.within j s.0 s.1 in
-          subst (λ (x : Block). x.start + x.size ≤ 2 ^ 60) same last
+          subst (λ (x : MemoryBlock). x.start + x.size ≤ 2 ^ 60) same last
 
 -- the same of an answer
 pub near_where : {E : Type 0} (a : Lists) (spots : List Spot) → AreSpots a spots → (r : Result Bool E) (m : Blocks) → IfOk r (λ all. Fills all (with_variables (plans.plan (alone (module_of a))).variables no_blocks) m) → IfOk r (λ all. all ≡ true → ArePlaced a m) → IfOk r (λ all. all ≡ true → m.next ≤ 2 ^ 60 + 2 ^ 17)

@@ -20,7 +20,7 @@ use Rattle.run_rules.specs.declared.end.End.TheVariants.{MemoryLimit, NoMain, Un
 use Rattle.run_machine.specs.Constructors.{constructor_seen}
 use Rattle.run_machine.specs.declared.order.Constructor as the_constructor
 use Rattle.run_rules.specs.Access.{and_then}
-use Rattle.run_rules.specs.Opening.{opened, opened_from, opened_main, placed, ready, sealed, with_contents, with_main, with_variables}
+use Rattle.run_rules.specs.Opening.{opened, opened_from, opened_main, opening_core, ready, sealed, with_contents, with_main, with_variables}
 use Rattle.run_rules.specs.Plan as plans
 use Rattle.run_rules.specs.Plan.{constructors}
 use Rattle.run_rules.specs.State as rules
@@ -39,15 +39,15 @@ module _ (p : plans.Plan) (main : plans.Main) (words : List (List ℕ)) where
   abbrev behind_main : Result (Blocks × Due) End → Result Core End
   behind_main r = and_then r (λ x. Ok (ready p x))
 
-  pub variables_full : with_variables p.variables no_blocks ≡ Err MemoryLimit → placed p main words ≡ Err MemoryLimit
+  pub variables_full : with_variables p.variables no_blocks ≡ Err MemoryLimit → opening_core p main words ≡ Err MemoryLimit
   variables_full e = ap behind_variables e
 
   module _ (m : Blocks) (e : with_variables p.variables no_blocks ≡ Ok m) where
-    pub words_full : with_main main words m ≡ Err MemoryLimit → placed p main words ≡ Err MemoryLimit
+    pub words_full : with_main main words m ≡ Err MemoryLimit → opening_core p main words ≡ Err MemoryLimit
     words_full f = ap behind_variables e ∙ ap behind_main f
 
     pub all_placed : (n o q : Blocks) (call : Due) (due : List Due) → with_main main words m ≡ Ok (n, call) → o ≡ with_contents p.stores n → q ≡ sealed o → due ≡ map Constructor p.constructors ++ call ∷ []
-        → placed p main words ≡ Ok (record { frames = []; due = due; memory = q })
+        → opening_core p main words ≡ Ok (record { frames = []; due = due; memory = q })
     all_placed n o q call due f stored closed is =
         ap behind_variables e ∙ ap behind_main f ∙ (λ j. core_with (sym is j) (sym (closed ∙ ap sealed stored) j))
 
@@ -56,7 +56,7 @@ module _ (p : plans.Plan) (main : plans.Main) (words : List (List ℕ)) where
 pub main_missing : (p : plans.Plan) (words : List (List ℕ)) (found : Option plans.Main) → None ≡ found → opened_main p found words ≡ Err NoMain
 main_missing p words found none = ap (λ (o : Option plans.Main). opened_main p o words) (sym none)
 
-pub main_there : (p : plans.Plan) (main : plans.Main) (words : List (List ℕ)) (found : Option plans.Main) → Some main ≡ found → opened_main p found words ≡ placed p main words
+pub main_there : (p : plans.Plan) (main : plans.Main) (words : List (List ℕ)) (found : Option plans.Main) → Some main ≡ found → opened_main p found words ≡ opening_core p main words
 main_there p main words found some = ap (λ (o : Option plans.Main). opened_main p o words) (sym some)
 
 pub none_missing : (p : plans.Plan) (words : List (List ℕ)) → None ≡ p.missing → opened p words ≡ opened_main p p.main words

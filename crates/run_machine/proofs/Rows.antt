@@ -12,7 +12,7 @@ use Rattle.ir_eval.specs.declared.value.Scalar.TheVariants as scalar
 use Rattle.ir_memory.specs.declared.kind.BlockKind.TheVariants as kind
 use Rattle.ir_memory.specs.declared.leaf.Leaf.TheVariants as leaf
 use Rattle.ir_memory.specs.Answer.{Keeps}
-use Rattle.ir_memory.specs.Block.{Block}
+use Rattle.ir_memory.specs.Block.{MemoryBlock}
 use Rattle.ir_memory.specs.Given.{IsKnown}
 use Rattle.ir_memory.specs.declared.fault.MemoryFault.{MemoryFault}
 use Rattle.ir_memory.specs.Memory.{Blocks, added, round_up}
@@ -100,7 +100,7 @@ pointers_order k to (p ∷ ps) le =
     let rest : AreInOrder ((k + 1) * 8) to (pointers_at (k + 1) ps) = pointers_order (k + 1) to ps (omega (arith, le)) in
     (omega arith, omega (arith, le), subst (λ (n : ℕ). AreInOrder n to (pointers_at (k + 1) ps)) behind rest)
 
-pointers_typed : (k : ℕ) (bs : List Block) (ps : List Pointer) → All (IsKnown bs) ps → AreStored (length bs) (pointers_at k ps)
+pointers_typed : (k : ℕ) (bs : List MemoryBlock) (ps : List Pointer) → All (IsKnown bs) ps → AreStored (length bs) (pointers_at k ps)
 pointers_typed k bs [] h = tt
 pointers_typed k bs (p ∷ ps) h = (All-head (IsKnown bs) p ps h, pointers_typed (k + 1) bs ps (All-tail (IsKnown bs) p ps h))
 

@@ -6,7 +6,7 @@ use Rattle.run_rules.specs.RunClauses.{WantedToHalt}
 use Rattle.run_rules.specs.declared.end.End.{End}
 use Rattle.run_rules.specs.State.{Core, State}
 use Rattle.run_rules.specs.Step.{Step, GoesOn, IsOver}
-use Rattle.run_traffic.specs.Input.{Waiting, IsWaiting, IsNext, HasHeard, Takes, left}
+use Rattle.run_traffic.specs.Input.{Waiting, IsWaiting, IsNext, HasHeard, Takes, bytes_left}
 use Rattle.ir_base.specs.Outside.{Lost, Added}
 use Rattle.run_traffic.proofs.Taken.{lost_none}
 use Rattle.run_traffic.proofs.Written.{added_none}
@@ -107,7 +107,7 @@ put_stepped old new before after written q few p n e =
 
 -- where a byte is waited for, one comes or the end
 never_idle : (w v : Waiting) (heard : List ℕ) (byte : Option ℕ) → IsWaiting w → heard ≡ [] → v.closed ≡ w.closed
-    → ((rest : List ℕ) → (w.closed ≡ false → v.closed ≡ true → rest ≡ []) → IsNext (left w (heard ++ rest)) byte (left v rest)) → ⊥
+    → ((rest : List ℕ) → (w.closed ≡ false → v.closed ≡ true → rest ≡ []) → IsNext (bytes_left w (heard ++ rest)) byte (bytes_left v rest)) → ⊥
 never_idle w v heard byte waits none same next =
     let open_still : v.closed ≡ false = same ∙ waits.1 in
     let at_none = rw (none, waits.0, waits.1) at (next [] (λ c d. refl)) in

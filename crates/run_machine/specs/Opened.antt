@@ -3,10 +3,10 @@ use Rattle.std.specs.Prelude.{◌≡◌, ℕ, List, Ok, Err}
 use Rattle.module_arena.specs.Module.{Module}
 use Rattle.run_rules.specs.Machine.{opened_machine}
 use Rattle.run_machine.specs.Seen.{machine_seen}
-use Rattle.run_machine.specs.declared.opening.Opened.{Opened}
-use Rattle.run_machine.specs.declared.opening.Opened.TheVariants.{Ready, Ended}
+use Rattle.run_machine.specs.declared.opening.OpenedMachine.{OpenedMachine}
+use Rattle.run_machine.specs.declared.opening.OpenedMachine.TheVariants.{Ready, Ended}
 
 -- what opening gives of a module with these words
-abbrev pub IsOpened : Opened → Module → List (List ℕ) → Type 0
+abbrev pub IsOpened : OpenedMachine → Module → List (List ℕ) → Type 0
 IsOpened (Ready machine) m words = opened_machine m words ≡ Ok (machine_seen machine)
 IsOpened (Ended end) m words = opened_machine m words ≡ Err end

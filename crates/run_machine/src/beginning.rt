@@ -7,7 +7,7 @@ ghost use Rattle.run_contents.specs.Placed.{ArePlaced, Fills};
 ghost use Rattle.run_entry.specs.Mains.{main_seen};
 ghost use Rattle.run_names.specs.Told.{alone};
 ghost use Rattle.run_machine.specs.Opens.{Opens};
-ghost use Rattle.run_rules.specs.Opening.{opened, opened_main, placed, with_variables};
+ghost use Rattle.run_rules.specs.Opening.{opened, opened_main, opening_core, with_variables};
 ghost use Rattle.run_rules.specs.Plan.{main_in, plan};
 ghost use Rattle.run_rules.specs.State as rules;
 
@@ -63,7 +63,7 @@ fn open_with(
     main: MainFunction,
     words: &TextList,
 ) -> Result<Result<OpenRun, End>, AllocError>
-    ensures { IfOk result (λ run. Opens run (placed (plan (alone (module_of names.now))) (main_seen main) words.now)) }
+    ensures { IfOk result (λ run. Opens run (opening_core (plan (alone (module_of names.now))) (main_seen main) words.now)) }
 {
     let mut memory = Memory::new(alloc);
     let all = place_all(&mut memory, names)?;

@@ -6,14 +6,14 @@
 //! with its arguments and its order of refusals included; and the clauses of a machine: that opening, each step and each run are those of the
 //! definitions, with input and output on the objects that are handed in, so that what is answered, printed and read is what the program does:
 //! `Plays` of `run_played`. Definitions: `specs/Constructors`, `Arguments` and `Opens` of opening; `specs/Seen`, how a clause sees a machine,
-//! `Opened`, what opening gives, `Living`, what holds of a run that is not over, `Fresh`, what holds of one that was just opened; `Machine`,
+//! `OpenedMachine`, what opening gives, `Living`, what holds of a run that is not over, `Fresh`, what holds of one that was just opened; `Machine`,
 //! `Clauses`, `RunClauses`, `Opening` and `Plan` of `run_rules`.
 //!
 //! ```
 //! // of `define i32 @main() { ret i32 3 }`
 //! run_module(alloc, &checked, &words, 100, &mut input, &mut output)? // End::Exit(3)
 //!
-//! if let Opened::Ready(mut machine) = Machine::open(alloc, &checked, &words)? {
+//! if let OpenedMachine::Ready(mut machine) = Machine::open(alloc, &checked, &words)? {
 //!     machine.step(&mut input, &mut output)? // Some(End::Exit(3))
 //! }
 //! ```
@@ -32,6 +32,6 @@ mod running;
 pub use arguments::place_main;
 pub use beginning::{OpenRun, open_run};
 pub use machine::Machine;
-pub use opening::Opened;
+pub use opening::OpenedMachine;
 pub use order::{Constructor, constructors};
 pub use running::run_module;

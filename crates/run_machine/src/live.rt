@@ -6,7 +6,7 @@ ghost use Rattle.run_rules.specs.Clauses.{outside};
 
 use ir_base::{Sink, Source};
 use ir_memory::Memory;
-use run_acts::{DueCalls, Next, Room, Stop, act, call_due};
+use run_acts::{Buffers, DueCalls, Next, Stop, act, call_due};
 use run_passing::get;
 use run_program::Program;
 use run_rules::RunFault;
@@ -22,7 +22,7 @@ pub(crate) struct Live<'m> {
     pub stack: Stack,
     pub memory: Memory,
     pub due: DueCalls,
-    pub room: Room,
+    pub room: Buffers,
 }
 
 impl<'m> Model for Live<'m> {

@@ -7,7 +7,7 @@ ghost use Rattle.run_machine.specs.Seen.{machine_seen};
 use crate::inside::Inside;
 use ir_base::{Sink, Source};
 use run_loop::Stepping;
-use run_passing::Told;
+use run_passing::ToldEnd;
 use run_rules::{End, RunFault};
 use std::marker::Model;
 
@@ -15,7 +15,7 @@ use std::marker::Model;
 #[derive(Drop)]
 pub struct Machine<'m> {
     pub(crate) inside: Inside<'m>,
-    pub(crate) answer: Option<Told>,
+    pub(crate) answer: Option<ToldEnd>,
 }
 
 impl<'m> Model for Machine<'m> {
@@ -53,7 +53,7 @@ impl<'m> Machine<'m> {
             return told.step_answer();
         }
         let result = self.inside.step(input, output);
-        self.answer = Told::of_step(&result);
+        self.answer = ToldEnd::of_step(&result);
         result
     }
 
@@ -76,7 +76,7 @@ impl<'m> Machine<'m> {
             return told.answer();
         }
         let result = run_loop::run(&mut self.inside, bound, input, output);
-        self.answer = Some(Told::of_run(&result));
+        self.answer = Some(ToldEnd::of_run(&result));
         result
     }
 }

@@ -14,7 +14,7 @@ use crate::live::Live;
 use crate::machine::Machine;
 use ir_base::TextList;
 use module_arena::Checked;
-use run_acts::Room;
+use run_acts::Buffers;
 use run_names::names_of;
 use run_program::Program;
 use run_rules::End;
@@ -24,7 +24,7 @@ use std::alloc::{AllocError, Global};
 
 /// A machine, or how the run ends before it has begun.
 #[derive(Drop)]
-pub enum Opened<'m> {
+pub enum OpenedMachine<'m> {
     /// A machine before its first step, with its constructors and main due.
     Ready(Machine<'m>),
     /// The run is over: a name is missing, there is no main, or too many bytes would live.
@@ -60,7 +60,7 @@ fn inside_of<'m>(
     let output = Output::new(alloc)?;
     let stack = Stack::new(alloc);
     let OpenRun { memory, due } = opened;
-    let room = Room {
+    let room = Buffers {
         leaves: Vec::new(alloc),
         written: Vec::new(alloc),
     };
@@ -89,7 +89,7 @@ impl<'m> Machine<'m> {
         alloc: Global,
         program: &'m Checked,
         words: &TextList,
-    ) -> Result<Opened<'m>, AllocError>
+    ) -> Result<OpenedMachine<'m>, AllocError>
         ensures { IfOk result (λ answer. IsOpened answer (module_of program.now) words.now) }
     {
         // The module is well formed and valid, so that what is opened is typed.
@@ -98,11 +98,11 @@ impl<'m> Machine<'m> {
         let names = names_of(alloc, program)?;
         let opened = match open_run(alloc, &names, words)? {
             Ok(opened) => opened,
-            Err(end) => return Ok(Opened::Ended(end)),
+            Err(end) => return Ok(OpenedMachine::Ended(end)),
         };
         let functions = Program::new(alloc, names)?;
         let inside = inside_of(alloc, functions, opened)?;
-        Ok(Opened::Ready(Machine {
+        Ok(OpenedMachine::Ready(Machine {
             inside,
             answer: None,
         }))

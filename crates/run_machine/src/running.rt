@@ -5,7 +5,7 @@ ghost use Rattle.run_rules.specs.Clauses.{outside};
 ghost use Rattle.run_played.specs.Played.{Plays};
 
 use crate::machine::Machine;
-use crate::opening::Opened;
+use crate::opening::OpenedMachine;
 use ir_base::{Sink, Source, TextList};
 use module_arena::Checked;
 use run_played::{early_ends_are_played, runs_are_played};
@@ -36,8 +36,8 @@ pub fn run_module<I: Source, O: Sink>(
         Err(_) => return Err(RunFault::Memory),
     };
     let mut machine = match opened {
-        Opened::Ready(machine) => machine,
-        Opened::Ended(end) => return Ok(end),
+        OpenedMachine::Ready(machine) => machine,
+        OpenedMachine::Ended(end) => return Ok(end),
     };
     machine.run(bound, input, output)
 }

@@ -10,7 +10,7 @@ use Rattle.module_arena.specs.View.{case_view, constants_of, ending_view}
 use Rattle.type_table.specs.Types.{trees}
 use Rattle.run_rules.specs.Action as actions
 use Rattle.run_rules.specs.Resolve.{case_in, ending_in}
-use Rattle.run_actions.specs.declared.edge.Case.{Case}
+use Rattle.run_actions.specs.declared.edge.SwitchWay.{SwitchWay}
 use Rattle.run_actions.specs.Edges.{case_way}
 use Rattle.run_flat.specs.declared.action.Action.{Action}
 use Rattle.run_flat.specs.declared.pools.Pools.{Pools}
@@ -36,7 +36,7 @@ abbrev pub ending_from : Framed → ℕ → the_ending.Ending → actions.Action
 ending_from s from e = ending_in (scope_in s.lists s.function) (label_of s.lists s.function from) (ending_of s.lists s.function e)
 
 -- these are the cases that are meant, with the moves of their edges
-pub record AreMeant (p : Pools) (cs : List Case) (meant : List (ℕ × actions.Edge)) : Type 0 where
+pub record AreMeant (p : Pools) (cs : List SwitchWay) (meant : List (ℕ × actions.Edge)) : Type 0 where
   pub moves : All (λ c. HasItsMoves p c.edge) cs
   pub means : map (case_way p.moves) cs ≡ meant
 

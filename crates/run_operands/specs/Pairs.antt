@@ -1,6 +1,6 @@
 -- For `put_arms` and `put_parts`: the arm and the part that are made of two.
 use Rattle.run_actions.specs.declared.values.Arm.{Arm}
-use Rattle.run_actions.specs.declared.values.Part.{Part}
+use Rattle.run_actions.specs.declared.values.FrozenLeaf.{FrozenLeaf}
 use Rattle.run_rules.specs.Leaves.{Slot, is_pointer}
 use Rattle.run_stack.specs.declared.origin.Origin.{Origin}
 
@@ -9,5 +9,5 @@ abbrev pub arm_with : Origin × Origin → Arm
 arm_with p = record { first = p.0; second = p.1 }
 
 -- a leaf, and whether it is a pointer
-abbrev pub part_with : Slot × Origin → Part
+abbrev pub part_with : Slot × Origin → FrozenLeaf
 part_with p = record { pointer = is_pointer p.0.leaf; value = p.1 }

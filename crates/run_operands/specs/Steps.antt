@@ -8,8 +8,8 @@ use Rattle.run_rules.specs.Displace.{Index}
 use Rattle.run_shapes.specs.Shapes.{shape_in}
 use Rattle.run_stack.specs.declared.origin.Origin.{Origin}
 use Rattle.run_stack.specs.Origins.{origin_of}
-use Rattle.run_operands.specs.declared.steps.Place.{Place}
-use Rattle.run_operands.specs.declared.steps.Place.TheVariants.{Whole, Inside, Nowhere}
+use Rattle.run_operands.specs.declared.steps.StepPlace.{StepPlace}
+use Rattle.run_operands.specs.declared.steps.StepPlace.TheVariants.{Whole, Inside, Nowhere}
 use Rattle.run_operands.specs.declared.steps.Step.{Step}
 
 -- the term that is meant
@@ -21,13 +21,13 @@ abbrev pub index_at : Origin → ℕ → Index
 index_at o width = record { origin = origin_of o; width = width }
 
 -- the shape into which the next index leads. The first counts whole values, as if these were the elements of an array
-abbrev pub shape_at : Types → Place → Shape
+abbrev pub shape_at : Types → StepPlace → Shape
 shape_at t (Whole ty) = array_of 0 (shape_in t ty)
 shape_at t (Inside ty) = shape_in t ty
 shape_at t Nowhere = void_leaf
 
 -- a type of the table that lies in memory, if any
-abbrev pub IsPlace : Types → Place → Type 0
+abbrev pub IsPlace : Types → StepPlace → Type 0
 IsPlace t (Whole ty) = (ty < length t.types) × (lies_in_memory (structs t) (tree t ty) ≡ true)
 IsPlace t (Inside ty) = (ty < length t.types) × (lies_in_memory (structs t) (tree t ty) ≡ true)
 IsPlace t Nowhere = ⊤

@@ -13,16 +13,16 @@ use module_arena::{BlockId, Case};
 use run_actions as actions;
 use run_constants::{leaf_of, number_of};
 use run_flat::{Pools, Span};
-use run_scopes::Scope;
+use run_scopes::FunctionScope;
 use std::alloc::AllocError;
 
 /// A case of a `switch` that ends a block: its number, and its way, with the moves among the moves.
 fn put_case(
-    scope: &Scope<'_, '_>,
+    scope: &FunctionScope<'_, '_>,
     pools: &mut Pools,
     from: BlockId,
     case: Case,
-) -> Result<actions::Case, AllocError>
+) -> Result<actions::SwitchWay, AllocError>
     requires from { HasBlock scope.now from }
     requires case { HasCase scope.now case }
     requires suits { AllPhisSuit scope.now }
@@ -32,16 +32,16 @@ fn put_case(
 {
     let number = number_of(leaf_of(scope.names(), case.ty, case.value));
     let edge = put_way(scope, pools, from, case.target)?;
-    Ok(actions::Case { number, edge })
+    Ok(actions::SwitchWay { number, edge })
 }
 
 /// The cases of a `switch` that ends a block, with the moves of their ways among the moves.
 fn cases_of(
-    scope: &Scope<'_, '_>,
+    scope: &FunctionScope<'_, '_>,
     pools: &mut Pools,
     from: BlockId,
     cases: &[Case],
-) -> Result<Vec<actions::Case>, AllocError>
+) -> Result<Vec<actions::SwitchWay>, AllocError>
     requires from { HasBlock scope.now from }
     requires cases { All (HasCase scope.now) cases.now }
     requires suits { AllPhisSuit scope.now }
@@ -59,7 +59,7 @@ fn cases_of(
 /// Puts the cases of a `switch` that ends a block among the cases, in order. It is refused for want of memory alone; then pools may have
 /// grown.
 pub fn put_cases(
-    scope: &Scope<'_, '_>,
+    scope: &FunctionScope<'_, '_>,
     pools: &mut Pools,
     from: BlockId,
     cases: &[Case],

@@ -12,12 +12,12 @@ use crate::operands::{put_operand, put_scalar};
 use crate::ways::put_edge;
 use module_arena::{BlockId, Case, Ending, Operand};
 use run_flat::{Action, NOTHING, Pools};
-use run_scopes::Scope;
+use run_scopes::FunctionScope;
 use std::alloc::AllocError;
 
 /// `ret` of a value.
 fn put_return(
-    scope: &Scope<'_, '_>,
+    scope: &FunctionScope<'_, '_>,
     pools: &mut Pools,
     from: BlockId,
     operand: Operand,
@@ -32,7 +32,7 @@ fn put_return(
 
 /// `br` to one block.
 fn put_jump(
-    scope: &Scope<'_, '_>,
+    scope: &FunctionScope<'_, '_>,
     pools: &mut Pools,
     from: BlockId,
     to: BlockId,
@@ -49,7 +49,7 @@ fn put_jump(
 
 /// `br` on a condition.
 fn put_branch(
-    scope: &Scope<'_, '_>,
+    scope: &FunctionScope<'_, '_>,
     pools: &mut Pools,
     from: BlockId,
     condition: Operand,
@@ -73,7 +73,7 @@ fn put_branch(
 
 /// `switch`
 fn put_switch(
-    scope: &Scope<'_, '_>,
+    scope: &FunctionScope<'_, '_>,
     pools: &mut Pools,
     from: BlockId,
     operand: Operand,
@@ -99,7 +99,7 @@ fn put_switch(
 /// The action of the end of a block, with what it points to in the pools. It is refused for want of memory alone; then pools may have
 /// grown.
 pub fn put_ending(
-    scope: &Scope<'_, '_>,
+    scope: &FunctionScope<'_, '_>,
     pools: &mut Pools,
     from: BlockId,
     end: &Ending,

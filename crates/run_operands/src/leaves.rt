@@ -10,9 +10,9 @@ ghost use Rattle.run_operands.specs.Suits.{HasStored};
 
 use ir_memory::Leaf;
 use module_arena::Operand;
-use run_actions::{Arm, Part};
+use run_actions::{Arm, FrozenLeaf};
 use run_flat::{Pools, Span};
-use run_scopes::{Scope, push_value};
+use run_scopes::{FunctionScope, push_value};
 use run_slots::push_slots;
 use run_stack::Origin;
 use run_values::Slot;
@@ -35,7 +35,7 @@ fn arms_of(alloc: Global, first: &[Origin], second: &[Origin]) -> Result<Vec<Arm
 /// Puts the leaves of both operands of a `select` among the arms, a leaf of one beside that of the other. It is refused for want of memory
 /// alone; then pools may have grown.
 pub fn put_arms(
-    scope: &Scope<'_, '_>,
+    scope: &FunctionScope<'_, '_>,
     pools: &mut Pools,
     first: Operand,
     second: Operand,
@@ -56,18 +56,18 @@ pub fn put_arms(
 }
 
 /// A leaf, and whether it is a pointer.
-fn part_of(slot: Slot, value: Origin) -> Part
+fn part_of(slot: Slot, value: Origin) -> FrozenLeaf
     ensures { result ≡ part_with (slot, value) }
 {
     let pointer = match slot.leaf() {
         Leaf::Int(_) => false,
         Leaf::Ptr => true,
     };
-    Part { pointer, value }
+    FrozenLeaf { pointer, value }
 }
 
 /// The leaves of a value, and whether each is a pointer.
-fn parts_of(alloc: Global, slots: &[Slot], leaves: &[Origin]) -> Result<Vec<Part>, AllocError>
+fn parts_of(alloc: Global, slots: &[Slot], leaves: &[Origin]) -> Result<Vec<FrozenLeaf>, AllocError>
     ensures { IfOk result (λ parts. parts.items ≡ map part_with (zip slots.now leaves.now)) }
 {
     slots
@@ -80,7 +80,7 @@ fn parts_of(alloc: Global, slots: &[Slot], leaves: &[Origin]) -> Result<Vec<Part
 /// Puts the leaves of the operand of a `freeze` among the parts, beside each whether it is a pointer. It is refused for want of memory
 /// alone; then pools may have grown.
 pub fn put_parts(
-    scope: &Scope<'_, '_>,
+    scope: &FunctionScope<'_, '_>,
     pools: &mut Pools,
     operand: Operand,
 ) -> Result<Span, AllocError>

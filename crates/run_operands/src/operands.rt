@@ -11,13 +11,14 @@ use crate::pooled::{put_leaf, put_leaves};
 use module_arena::{Operand, Value};
 use run_flat::{LeafAt, Pools, Span};
 use run_scopes::{
-    Scope, callee_leaf, operand_leaf, push_extracted, push_inserted, push_operands, push_value,
+    FunctionScope, callee_leaf, operand_leaf, push_extracted, push_inserted, push_operands,
+    push_value,
 };
 use std::alloc::AllocError;
 
 /// Puts the one leaf of an operand that is an integer or a pointer. It is refused for want of memory alone.
 pub fn put_scalar(
-    scope: &Scope<'_, '_>,
+    scope: &FunctionScope<'_, '_>,
     pools: &mut Pools,
     operand: Operand,
 ) -> Result<LeafAt, AllocError>
@@ -30,7 +31,7 @@ pub fn put_scalar(
 
 /// Puts a callee, before which no type is written. It is refused for want of memory alone.
 pub fn put_callee(
-    scope: &Scope<'_, '_>,
+    scope: &FunctionScope<'_, '_>,
     pools: &mut Pools,
     value: Value,
 ) -> Result<LeafAt, AllocError>
@@ -44,7 +45,7 @@ pub fn put_callee(
 
 /// Puts the leaves of an operand among the origins. It is refused for want of memory alone.
 pub fn put_operand(
-    scope: &Scope<'_, '_>,
+    scope: &FunctionScope<'_, '_>,
     pools: &mut Pools,
     operand: Operand,
 ) -> Result<Span, AllocError>
@@ -59,7 +60,7 @@ pub fn put_operand(
 
 /// Puts the leaves of operands among the origins, those of one behind those of the one before. It is refused for want of memory alone.
 pub fn put_operands(
-    scope: &Scope<'_, '_>,
+    scope: &FunctionScope<'_, '_>,
     pools: &mut Pools,
     operands: &[Operand],
 ) -> Result<Span, AllocError>
@@ -75,7 +76,7 @@ pub fn put_operands(
 /// Puts the leaves of a part of an operand among the origins (LangRef, "extractvalue Instruction"). It is refused for want of memory
 /// alone.
 pub fn put_extracted(
-    scope: &Scope<'_, '_>,
+    scope: &FunctionScope<'_, '_>,
     pools: &mut Pools,
     aggregate: Operand,
     indices: &[u32],
@@ -93,7 +94,7 @@ pub fn put_extracted(
 /// Puts the leaves of an operand among the origins, with those of a part replaced (LangRef, "insertvalue Instruction"). It is refused
 /// for want of memory alone.
 pub fn put_inserted(
-    scope: &Scope<'_, '_>,
+    scope: &FunctionScope<'_, '_>,
     pools: &mut Pools,
     aggregate: Operand,
     new: Operand,

@@ -16,7 +16,7 @@ ghost use Rattle.run_operands.specs.Steps.{IsPlace, index_at, shape_at, term_of}
 
 use ir_eval::Scalar;
 use module_arena::Operand;
-use run_scopes::{Scope, operand_leaf};
+use run_scopes::{FunctionScope, operand_leaf};
 use run_shapes::{element, element_offset, elements, is_struct, layout_of, width};
 use run_stack::Origin;
 use std::alloc::AllocError;
@@ -33,7 +33,7 @@ pub(crate) struct Step {
 
 /// Where indices have led to so far.
 #[derive(Clone, Copy)]
-enum Place {
+enum StepPlace {
     /// To values of that type, which the next index counts.
     Whole(TypeId),
     /// To a part of that type.
@@ -109,36 +109,41 @@ fn step_into(types: &TypeTable, ty: TypeId, index: Origin, width: u8) -> Step
 }
 
 /// What an index leads over from where indices have led to so far.
-fn step_from(types: &TypeTable, place: &Place, index: Origin, width: u8) -> Step
+fn step_from(types: &TypeTable, place: &StepPlace, index: Origin, width: u8) -> Step
     requires { IsPlace types.now place.now }
     ensures term { term_of result ≡ inner_term (shape_at types.now place.now) (index_at index width) }
     ensures small { result.size ≤ 2 ^ 40 }
 {
     match place {
-        Place::Whole(ty) => step_over(types, *ty, index, width),
-        Place::Inside(ty) => step_into(types, *ty, index, width),
-        Place::Nowhere => known_step(0, 0),
+        StepPlace::Whole(ty) => step_over(types, *ty, index, width),
+        StepPlace::Inside(ty) => step_into(types, *ty, index, width),
+        StepPlace::Nowhere => known_step(0, 0),
     }
 }
 
 /// Where that index leads to.
-fn place_in(types: &TypeTable, place: Place, index: Origin) -> Place
+fn place_in(types: &TypeTable, place: StepPlace, index: Origin) -> StepPlace
     requires { IsPlace types.now place }
     ensures place { IsPlace types.now result }
     ensures shape { shape_at types.now result ≡ element (shape_at types.now place) (number_of (known (origin_of index))) }
 {
     match place {
-        Place::Whole(ty) => Place::Inside(ty),
-        Place::Inside(ty) => match element(types, ty, number_of(index)) {
-            Some(part) => Place::Inside(part),
-            None => Place::Nowhere,
+        StepPlace::Whole(ty) => StepPlace::Inside(ty),
+        StepPlace::Inside(ty) => match element(types, ty, number_of(index)) {
+            Some(part) => StepPlace::Inside(part),
+            None => StepPlace::Nowhere,
         },
-        Place::Nowhere => Place::Nowhere,
+        StepPlace::Nowhere => StepPlace::Nowhere,
     }
 }
 
 /// Where the index leads to that an operand is.
-fn place_behind(types: &TypeTable, place: Place, scope: &Scope<'_, '_>, operand: Operand) -> Place
+fn place_behind(
+    types: &TypeTable,
+    place: StepPlace,
+    scope: &FunctionScope<'_, '_>,
+    operand: Operand,
+) -> StepPlace
     requires place { IsPlace types.now place }
     requires operand { HasScalar scope.now operand }
     ensures place { IsPlace types.now result }
@@ -151,7 +156,7 @@ fn place_behind(types: &TypeTable, place: Place, scope: &Scope<'_, '_>, operand:
 /// Appends what the indices of a `getelementptr` lead over: the first counts whole values of the source type, and each other one goes into
 /// the part that the one before it names. It is refused for want of memory alone, and may then have appended some.
 pub(crate) fn push_steps(
-    scope: &Scope<'_, '_>,
+    scope: &FunctionScope<'_, '_>,
     source: TypeId,
     indices: &[Operand],
     into: &mut Vec<Step>,
@@ -164,7 +169,7 @@ pub(crate) fn push_steps(
     ensures small { OnOk result (All (λ s. s.size ≤ 2 ^ 40) into.new.items) }
 {
     let types = scope.types();
-    let mut place = Place::Whole(source);
+    let mut place = StepPlace::Whole(source);
     'indices: for operand in indices {
         let index = operand_leaf(scope, *operand);
         let bits = width(types, operand.ty);

@@ -15,7 +15,7 @@ use crate::steps::{Step, push_steps};
 use ir_eval::Scalar;
 use module_arena::Operand;
 use run_flat::{LeafAt, Pools, Span, Term};
-use run_scopes::Scope;
+use run_scopes::FunctionScope;
 use run_stack::Origin;
 use std::alloc::{AllocError, Global};
 use type_table::TypeId;
@@ -83,7 +83,7 @@ fn put_terms(alloc: Global, pools: &mut Pools, steps: &[Step]) -> Result<Vec<Ter
 /// Puts the terms of a `getelementptr` among the terms, and the sum of those that are gathered among the sums. It is refused for want of
 /// memory, or of room for so many terms.
 pub fn put_steps(
-    scope: &Scope<'_, '_>,
+    scope: &FunctionScope<'_, '_>,
     pools: &mut Pools,
     source: TypeId,
     indices: &[Operand],

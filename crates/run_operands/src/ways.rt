@@ -10,12 +10,12 @@ ghost use Rattle.run_flat.specs.Grown.{Adds, IsEdge};
 use module_arena::BlockId;
 use run_actions::Edge;
 use run_flat::Pools;
-use run_scopes::{Scope, push_way};
+use run_scopes::{FunctionScope, push_way};
 use std::alloc::AllocError;
 
 /// The way from a block into another, with its moves among the moves. It is refused for want of memory alone.
 pub fn put_way(
-    scope: &Scope<'_, '_>,
+    scope: &FunctionScope<'_, '_>,
     pools: &mut Pools,
     from: BlockId,
     to: BlockId,
@@ -40,7 +40,7 @@ pub fn put_way(
 
 /// Puts the way from a block into another among the edges. It is refused for want of memory alone.
 pub fn put_edge(
-    scope: &Scope<'_, '_>,
+    scope: &FunctionScope<'_, '_>,
     pools: &mut Pools,
     from: BlockId,
     to: BlockId,

@@ -1,13 +1,13 @@
--- For `of_run`, `of_step`, `answer` and `step_answer` of `Told`: what was answered.
+-- For `of_run`, `of_step`, `answer` and `step_answer` of `ToldEnd`: what was answered.
 use Rattle.std.specs.Prelude.{Result, Ok, Err}
 use Rattle.run_rules.specs.declared.end.End.TheVariants as ends
 use Rattle.run_rules.specs.declared.fault.RunFault.{RunFault}
 use Rattle.run_rules.specs.declared.end.End.{End}
-use Rattle.run_passing.specs.declared.told.Told.{Told}
-use Rattle.run_passing.specs.declared.told.Told.TheVariants.{Exit, Undefined, StepsUsed, StackLimit, MemoryLimit, Failed}
+use Rattle.run_passing.specs.declared.told.ToldEnd.{ToldEnd}
+use Rattle.run_passing.specs.declared.told.ToldEnd.TheVariants.{Exit, Undefined, StepsUsed, StackLimit, MemoryLimit, Failed}
 
 -- the end or the fault that is meant
-abbrev pub told_seen : Told → Result End RunFault
+abbrev pub told_seen : ToldEnd → Result End RunFault
 told_seen (Exit status) = Ok (ends.Exit status)
 told_seen (Undefined kind) = Ok (ends.Undefined kind)
 told_seen StepsUsed = Ok ends.StepsUsed

@@ -2,13 +2,13 @@
 //!
 //! It stands on the bytes that wait in `run_traffic`, the frames of `run_stack`, and on `run_ends`, which tells the ends that a run can
 //! have. It promises that output is written before input is read, that a failed read or write is told as what it is, and that what was
-//! answered once can be answered again, word for word. Definitions: `specs/Traffic`, `specs/Told`.
+//! answered once can be answered again, word for word. Definitions: `specs/Traffic`, `specs/ToldEnd`.
 //!
 //! ```
 //! put(&mut held, b"a", &mut sink)?; // the sink may not have it yet
 //! finish(End::Exit(3), &mut held, &mut sink)? // End::Exit(3), and now it has
 //!
-//! let told = Told::of_run(&Ok(End::Exit(3)));
+//! let told = ToldEnd::of_run(&Ok(End::Exit(3)));
 //! told.answer() // Ok(End::Exit(3)), as often as it is asked
 //! ```
 #![tactic(auto)]
@@ -16,5 +16,5 @@
 mod told;
 mod traffic;
 
-pub use told::Told;
+pub use told::ToldEnd;
 pub use traffic::{finish, flush, get, put};

@@ -10,7 +10,7 @@ use run_rules::{End, RunFault};
 
 /// An end or a fault that a run has answered. `End` cannot be told twice, since it may hold a name; a run that has begun has no such end.
 #[derive(Clone, Copy)]
-pub enum Told {
+pub enum ToldEnd {
     /// The program ended with this status.
     Exit(u8),
     /// What it did is undefined.
@@ -26,41 +26,41 @@ pub enum Told {
 }
 
 /// The end of a run as one that may be told again.
-fn told_of(end: &End) -> Told
+fn told_of(end: &End) -> ToldEnd
     requires { IsOfRuns end.now }
     ensures { told_seen result ≡ Ok end.now }
 {
     match end {
-        End::Exit(status) => Told::Exit(*status),
-        End::Undefined(kind) => Told::Undefined(*kind),
-        End::StepsUsed => Told::StepsUsed,
-        End::StackLimit => Told::StackLimit,
-        End::MemoryLimit => Told::MemoryLimit,
+        End::Exit(status) => ToldEnd::Exit(*status),
+        End::Undefined(kind) => ToldEnd::Undefined(*kind),
+        End::StepsUsed => ToldEnd::StepsUsed,
+        End::StackLimit => ToldEnd::StackLimit,
+        End::MemoryLimit => ToldEnd::MemoryLimit,
         End::Unresolved(_) | End::NoMain => unreachable!(),
     }
 }
 
-impl Told {
+impl ToldEnd {
     /// What a run answered. No run that has begun ends for a name that is missing, or for want of main.
-    pub fn of_run(answer: &Result<End, RunFault>) -> Told
+    pub fn of_run(answer: &Result<End, RunFault>) -> ToldEnd
         requires { IfOk answer.now IsOfRuns }
         ensures { told_seen result ≡ answer.now }
     {
         match answer {
             Ok(end) => told_of(end),
-            Err(fault) => Told::Failed(*fault),
+            Err(fault) => ToldEnd::Failed(*fault),
         }
     }
 
     /// What a step answered, where that is an end or a fault, or else None.
-    pub fn of_step(answer: &Result<Option<End>, RunFault>) -> Option<Told>
+    pub fn of_step(answer: &Result<Option<End>, RunFault>) -> Option<ToldEnd>
         requires { IfOk answer.now (λ end. IfSome end IsOfRuns) }
         ensures { option_map told_seen result ≡ remembered answer.now }
     {
         match answer {
             Ok(None) => None,
             Ok(Some(end)) => Some(told_of(end)),
-            Err(fault) => Some(Told::Failed(*fault)),
+            Err(fault) => Some(ToldEnd::Failed(*fault)),
         }
     }
 
@@ -69,12 +69,12 @@ impl Told {
         ensures { result ≡ told_seen self }
     {
         match self {
-            Told::Exit(status) => Ok(End::Exit(status)),
-            Told::Undefined(kind) => Ok(End::Undefined(kind)),
-            Told::StepsUsed => Ok(End::StepsUsed),
-            Told::StackLimit => Ok(End::StackLimit),
-            Told::MemoryLimit => Ok(End::MemoryLimit),
-            Told::Failed(fault) => Err(fault),
+            ToldEnd::Exit(status) => Ok(End::Exit(status)),
+            ToldEnd::Undefined(kind) => Ok(End::Undefined(kind)),
+            ToldEnd::StepsUsed => Ok(End::StepsUsed),
+            ToldEnd::StackLimit => Ok(End::StackLimit),
+            ToldEnd::MemoryLimit => Ok(End::MemoryLimit),
+            ToldEnd::Failed(fault) => Err(fault),
         }
     }
 

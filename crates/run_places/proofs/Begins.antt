@@ -6,7 +6,7 @@ use Rattle.run_rules.specs.Access.{and_then}
 use Rattle.run_rules.specs.Action.{Action}
 use Rattle.run_rules.specs.Calls.{Callee}
 use Rattle.run_rules.specs.Due.{plain_main, main_with_arguments}
-use Rattle.run_rules.specs.Opening.{with_variables, with_strings, with_pointers, with_main, ready, placed, opened_main, opened_from, opened}
+use Rattle.run_rules.specs.Opening.{with_variables, with_strings, with_pointers, with_main, ready, opening_core, opened_main, opened_from, opened}
 use Rattle.run_rules.specs.Plan.{Plan}
 use Rattle.run_rules.specs.Plan as plans
 use Rattle.run_rules.specs.declared.end.End.{End}
@@ -51,7 +51,7 @@ module _ (look : ℕ → ℕ → ℕ → Action) (table : ℕ → Callee) where
     has_due [] d = tt
     has_due (c ∷ cs) d = tt
 
-    placed_fine : (m : plans.Main) → IsCalled m.address m.takes_arguments → IfOk (placed p m arguments) (IsFine look table)
+    placed_fine : (m : plans.Main) → IsCalled m.address m.takes_arguments → IfOk (opening_core p m arguments) (IsFine look table)
     placed_fine m has =
         then_ok (with_variables p.variables no_blocks) (λ b. and_then (with_main m arguments b) (λ x. Ok (ready p x))) (IsFine look table)
         (λ b. then_kept (with_main m arguments b) (λ x. Ok (ready p x)) (λ x. IsTrueMain look table x.1) (IsFine look table) (main_due m has b)

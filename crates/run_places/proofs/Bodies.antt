@@ -12,13 +12,13 @@ use Rattle.run_rules.specs.Action.{Edge, Action}
 use Rattle.run_rules.specs.Look.{look_in, action_at, ending_at}
 use Rattle.run_rules.specs.NeverStuck.{is_stuck}
 use Rattle.run_rules.specs.Resolve.{operation_in, instruction_in, is_phi, phis, edge_in, edge_into, case_in, ending_in}
-use Rattle.run_rules.specs.Scope.{Scope, place_in, block_in}
+use Rattle.run_rules.specs.Scope.{FunctionScope, place_in, block_in}
 use Rattle.run_places.specs.Bodies.{is_phi_instruction, IsLaidOut}
 use Rattle.run_places.specs.Places.{IsThere, LeadsOn, GoesOnFrom}
 use Rattle.run_places.proofs.Options.{some_same, none_some}
 use Rattle.run_places.proofs.Search.{IsFound, found_at, position_at, all_before, ends_at}
 
-module _ (sc : Scope) where
+module _ (sc : FunctionScope) where
   -- only a phi is no action
   stuck_is_phi : (to : ℕ) (o : Operation) → is_stuck (operation_in sc to o) ≡ is_phi o
   stuck_is_phi to (Operation.BinaryOperation opcode flags left right) = refl

@@ -9,13 +9,13 @@ use Rattle.run_body.specs.Bodies.{Decoded}
 use Rattle.run_signatures.specs.Met.{Met}
 use Rattle.run_signatures.specs.Numbers.{Numbers}
 use Rattle.run_signatures.proofs.Numbered.{calls_numbered, numbered_still}
-use Rattle.run_program.specs.declared.program.Head.{Head}
+use Rattle.run_program.specs.declared.program.FrameNeeds.{FrameNeeds}
 use Rattle.run_program.specs.Loaded.{IsBodyOf, IsHead, IsLoaded}
 
 -- ---- numbers
 
 module _ (a : Lists) (m n : Met) (numbers : Numbers m n) where
-  pub head_grown : (id : ℕ) (h : Head) → IsHead a m id h → IsHead a n id h
+  pub head_grown : (id : ℕ) (h : FrameNeeds) → IsHead a m id h → IsHead a n id h
   head_grown id h k = record {
     function = k.function;
     there = k.there;
@@ -33,7 +33,7 @@ module _ (a : Lists) (m n : Met) (numbers : Numbers m n) where
     numbered = calls_numbered m n a b.pools b.pools numbers (adds_none b.pools) k.numbered;
   }
 
-  pub loaded_grown : (told : List (Option Head)) (decoded : List (Option Decoded)) → IsLoaded a m told decoded → IsLoaded a n told decoded
+  pub loaded_grown : (told : List (Option FrameNeeds)) (decoded : List (Option Decoded)) → IsLoaded a m told decoded → IsLoaded a n told decoded
   loaded_grown told decoded k = record {
     lists = numbers.lists ∙ k.lists;
     heads_count = k.heads_count;
@@ -52,14 +52,14 @@ set_got (z ∷ zs) zero (suc j) x y e = inr e
 set_got (z ∷ zs) (suc k) zero x y e = inr e
 set_got (z ∷ zs) (suc k) (suc j) x y e = elim (set_got zs k j x y e) [ inl h ↦ inl (ap suc h.0, h.1) | inr h ↦ inr h ]
 
-module _ (a : Lists) (met : Met) (told : List (Option Head)) (decoded : List (Option Decoded)) (loaded : IsLoaded a met told decoded) where
-  pub loaded_head : (n : ℕ) (one : Head) → IsHead a met n one → IsLoaded a met (set told n (Some one)) decoded
+module _ (a : Lists) (met : Met) (told : List (Option FrameNeeds)) (decoded : List (Option Decoded)) (loaded : IsLoaded a met told decoded) where
+  pub loaded_head : (n : ℕ) (one : FrameNeeds) → IsHead a met n one → IsLoaded a met (set told n (Some one)) decoded
   loaded_head n one is = record {
     lists = loaded.lists;
     heads_count = length-set told n (Some one) ∙ loaded.heads_count;
     bodies_count = loaded.bodies_count;
     heads = λ id h e. elim (set_got told n id (Some one) (Some h) e) [
-      | inl w ↦ subst (λ (x : Head). IsHead a met id x) (same_Some one h w.1) (subst (λ (i : ℕ). IsHead a met i one) (sym w.0) is)
+      | inl w ↦ subst (λ (x : FrameNeeds). IsHead a met id x) (same_Some one h w.1) (subst (λ (i : ℕ). IsHead a met i one) (sym w.0) is)
       | inr w ↦ loaded.heads id h w
     ];
     bodies = loaded.bodies;

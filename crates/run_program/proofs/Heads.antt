@@ -10,7 +10,7 @@ use Rattle.module_arena.specs.Module.{Parameter}
 use Rattle.module_arena.specs.View.{module_of, parameter_view}
 use Rattle.module_arena.specs.WellFormed.{IsWellFormed}
 use Rattle.type_table.specs.Types.{trees}
-use Rattle.run_constants.proofs.OneLeaf.{shape_is}
+use Rattle.run_constants.proofs.LeafKinds.{shape_is}
 use Rattle.run_constants.specs.Sound.{names_of}
 use Rattle.run_names.specs.declared.callee.CalleeRef.TheVariants as callees
 use Rattle.run_names.specs.Standings.{has_code}

@@ -6,7 +6,7 @@ use Rattle.std.proofs.lemmas.Option.{get_or_from_slice_get, none-some, slice_get
 use Rattle.module_arena.specs.Lists.{Lists}
 use Rattle.run_body.specs.Bodies.{Decoded}
 use Rattle.run_signatures.specs.Met.{Met, none_met}
-use Rattle.run_program.specs.declared.program.Head.{Head}
+use Rattle.run_program.specs.declared.program.FrameNeeds.{FrameNeeds}
 use Rattle.run_program.specs.Loaded.{IsBodyOf, IsLoaded, IsReady, Loaded, nothing_ready}
 
 -- nothing is there
@@ -19,7 +19,7 @@ none_there {A} n k x e =
     none-some x here
 
 -- no head and no body
-abbrev pub no_head : Option Head
+abbrev pub no_head : Option FrameNeeds
 no_head = None
 
 abbrev pub no_body : Option Decoded
@@ -35,11 +35,11 @@ loaded_none a n m few many = record {
 }
 
 -- the same by what is known of the parts
-pub loaded_new : (a b : Lists) (met : Met) (told : List (Option Head)) (decoded : List (Option Decoded)) (count : ℕ) → met ≡ none_met b → b ≡ a → told ≡ replicate count no_head → decoded ≡ replicate count no_body → count ≡ length a.functions
+pub loaded_new : (a b : Lists) (met : Met) (told : List (Option FrameNeeds)) (decoded : List (Option Decoded)) (count : ℕ) → met ≡ none_met b → b ≡ a → told ≡ replicate count no_head → decoded ≡ replicate count no_body → count ≡ length a.functions
     → IsLoaded a met told decoded
 loaded_new a b met told decoded count none same few many all =
     subst (λ (m : Met). IsLoaded a m told decoded) (sym (none ∙ ap none_met same))
-    (subst (λ (hs : List (Option Head)). IsLoaded a (none_met a) hs decoded) (sym few)
+    (subst (λ (hs : List (Option FrameNeeds)). IsLoaded a (none_met a) hs decoded) (sym few)
     (subst (λ (ds : List (Option Decoded)). IsLoaded a (none_met a) (replicate count no_head) ds) (sym many) (loaded_none a count count all all)))
 
 pub seen_new : (a b : Lists) (met : Met) (decoded : List (Option Decoded)) (count : ℕ) → met ≡ none_met b → b ≡ a → decoded ≡ replicate count no_body → count ≡ length a.functions
@@ -52,7 +52,7 @@ seen_new a b met decoded count none same many all = λ i. record { lists = a; me
 got_body : (decoded : List (Option Decoded)) (k : ℕ) (o : Option Decoded) (b : Decoded) → k < length decoded → o ≡ get_or decoded k o → o ≡ Some b → slice_get decoded k ≡ Some (Some b)
 got_body decoded k o b lt here is = slice_get-get_or decoded k o lt ∙ ap Some (sym here ∙ is)
 
-pub body_of : (p : Loaded) (a : Lists) (met : Met) (told : List (Option Head)) (decoded : List (Option Decoded)) → ◌≡◌ {A = Loaded} (record { lists = a; met = met; bodies = decoded }) p → IsLoaded a met told decoded
+pub body_of : (p : Loaded) (a : Lists) (met : Met) (told : List (Option FrameNeeds)) (decoded : List (Option Decoded)) → ◌≡◌ {A = Loaded} (record { lists = a; met = met; bodies = decoded }) p → IsLoaded a met told decoded
     → (k : ℕ) (o : Option Decoded) (b one : Decoded) → IsReady p k one → o ≡ get_or decoded k o → o ≡ Some b → IsBodyOf p.lists p.met k b
 body_of p a met told decoded is loaded k o b one ready here same =
     let lt : k < length decoded = slice_get_within decoded k (Some one) (ap (λ (x : Loaded). slice_get x.bodies k) is ∙ ready) in

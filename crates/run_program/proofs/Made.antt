@@ -18,7 +18,7 @@ use Rattle.run_rules.specs.Scope.{leaf_count}
 use Rattle.run_scopes.specs.Scopes.{function_of}
 use Rattle.run_signatures.specs.Met.{Met, known, written_as}
 use Rattle.run_signatures.specs.Numbers.{Numbers}
-use Rattle.run_program.specs.declared.program.Head.{Head}
+use Rattle.run_program.specs.declared.program.FrameNeeds.{FrameNeeds}
 use Rattle.run_program.specs.Loaded.{IsBodyOf, IsHead, IsLoaded, Keeps, Loaded, IsReady}
 use Rattle.run_program.proofs.Growing.{loaded_body, loaded_grown, loaded_head}
 use Rattle.run_program.proofs.Heads.{head_is}
@@ -28,7 +28,7 @@ pub code_of_found : (a : Lists) (id : ℕ) (f : Function) → HasCode a (callees
 code_of_found a id f code at = subst (λ (g : Function). has_code g ≡ true) (same_Some code.0 f (sym code.1 ∙ at)) code.2
 
 -- its number, and how many leaves it has
-pub head_made : (a : Lists) → IsWellFormed (module_of a) → IsValid (module_of a) → (id : ℕ) (f : Function) → slice_get a.functions id ≡ Some f → has_code f ≡ true → (met : Met) (lists : Lists) (types : List ℕ) (h : Head)
+pub head_made : (a : Lists) → IsWellFormed (module_of a) → IsValid (module_of a) → (id : ℕ) (f : Function) → slice_get a.functions id ≡ Some f → has_code f ≡ true → (met : Met) (lists : Lists) (types : List ℕ) (h : FrameNeeds)
     → lists ≡ a → types ≡ map (λ (p : Parameter). p.ty) f.parameters → slice_get (known met) h.signature ≡ Some (written_as lists f.result types f.variadic) → h.leaves ≡ leaf_count (names_of a) (function_of a f) → IsHead a met id h
 head_made a well_formed valid id f at code met lists types h same typed number leaves = record {
   function = f;
@@ -39,7 +39,7 @@ head_made a well_formed valid id f at code met lists types h same typed number l
   callee = head_is a well_formed valid id f at code ∙ ap (calls.Code id (written_as a f.result (map (λ (p : Parameter). p.ty) f.parameters) f.variadic)) (sym leaves);
 }
 
-module _ (p : Loaded) (a : Lists) (met : Met) (told : List (Option Head)) (decoded : List (Option Decoded)) (is : ◌≡◌ {A = Loaded} (record { lists = a; met = met; bodies = decoded }) p) (loaded : IsLoaded a met told decoded) where
+module _ (p : Loaded) (a : Lists) (met : Met) (told : List (Option FrameNeeds)) (decoded : List (Option Decoded)) (is : ◌≡◌ {A = Loaded} (record { lists = a; met = met; bodies = decoded }) p) (loaded : IsLoaded a met told decoded) where
   -- a function of the program has its places
   pub code_here : (id : ℕ) → HasCode p.lists (callees.Code id) → HasCode a (callees.Code id)
   code_here id h = subst (λ (x : Loaded). HasCode x.lists (callees.Code id)) (sym is) h
@@ -52,7 +52,7 @@ module _ (p : Loaded) (a : Lists) (met : Met) (told : List (Option Head)) (decod
       omega (arith, lt, many)
 
   -- a head is put in its place
-  pub loaded_with : (new : Met) → Numbers met new → (id : ℕ) (h : Head) → IsHead a new id h → IsLoaded a new (set told id (Some h)) decoded
+  pub loaded_with : (new : Met) → Numbers met new → (id : ℕ) (h : FrameNeeds) → IsHead a new id h → IsLoaded a new (set told id (Some h)) decoded
   loaded_with new numbers id h made = loaded_head a new told decoded (loaded_grown a met new numbers told decoded loaded) id h made
 
 -- what stands where nothing was put, and where something was
@@ -68,7 +68,7 @@ set_there [] n x lt = absurd (omega (arith, lt))
 set_there (z ∷ zs) zero x lt = refl
 set_there (z ∷ zs) (suc n) x lt = set_there zs n x (omega (arith, lt))
 
-module _ (p : Loaded) (a : Lists) (met : Met) (told : List (Option Head)) (decoded : List (Option Decoded)) (is : ◌≡◌ {A = Loaded} (record { lists = a; met = met; bodies = decoded }) p) (loaded : IsLoaded a met told decoded) where
+module _ (p : Loaded) (a : Lists) (met : Met) (told : List (Option FrameNeeds)) (decoded : List (Option Decoded)) (is : ◌≡◌ {A = Loaded} (record { lists = a; met = met; bodies = decoded }) p) (loaded : IsLoaded a met told decoded) where
   pub body_place : (id : ℕ) → HasCode p.lists (callees.Code id) → id < length decoded
   body_place id h =
       let code = code_here p a met told decoded is loaded id h in

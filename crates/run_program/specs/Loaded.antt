@@ -11,7 +11,7 @@ use Rattle.run_rules.specs.Look.{look}
 use Rattle.run_body.specs.Bodies.{AreNarrow, Decoded, look_of}
 use Rattle.run_signatures.specs.Met.{Met, known, none_met, written_as}
 use Rattle.run_signatures.specs.Numbers.{AreNumbered, Numbers}
-use Rattle.run_program.specs.declared.program.Head.{Head}
+use Rattle.run_program.specs.declared.program.FrameNeeds.{FrameNeeds}
 
 -- the lists of the module, the function types that were met, and the bodies that are there
 pub record Loaded : Type 0 where
@@ -29,7 +29,7 @@ IsReady p function body = slice_get p.bodies function ≡ Some (Some body)
 
 -- What is told of a function that has a body: its function type as it is written has that number, and as a callee it has this
 -- type and so many leaves
-pub record IsHead (a : Lists) (met : Met) (id : ℕ) (h : Head) : Type 0 where
+pub record IsHead (a : Lists) (met : Met) (id : ℕ) (h : FrameNeeds) : Type 0 where
   pub function : Function
   pub there : slice_get a.functions id ≡ Some function
   pub signature : Signature
@@ -38,7 +38,7 @@ pub record IsHead (a : Lists) (met : Met) (id : ℕ) (h : Head) : Type 0 where
   pub callee : callee_seen (alone (module_of a)) (callees.Code id) ≡ calls.Code id signature h.leaves
 
 -- so in a program
-abbrev pub HasHead : Loaded → ℕ → Head → Type 0
+abbrev pub HasHead : Loaded → ℕ → FrameNeeds → Type 0
 HasHead p id h = IsHead p.lists p.met id h
 
 -- a body is what look-up finds in a run of the module alone, no edge of it sets more leaves than its widest, and its calls are numbered
@@ -59,9 +59,9 @@ pub record Keeps (old new : Loaded) : Type 0 where
   pub bodies : (function : ℕ) (b : Decoded) → IsReady old function b → IsReady new function b
 
 -- what holds of a program at every moment: of each function what is told of it is so
-pub record IsLoaded (a : Lists) (met : Met) (told : List (Option Head)) (decoded : List (Option Decoded)) : Type 0 where
+pub record IsLoaded (a : Lists) (met : Met) (told : List (Option FrameNeeds)) (decoded : List (Option Decoded)) : Type 0 where
   pub lists : met.lists ≡ a
   pub heads_count : length told ≡ length a.functions
   pub bodies_count : length decoded ≡ length a.functions
-  pub heads : (id : ℕ) (h : Head) → slice_get told id ≡ Some (Some h) → IsHead a met id h
+  pub heads : (id : ℕ) (h : FrameNeeds) → slice_get told id ≡ Some (Some h) → IsHead a met id h
   pub bodies : (function : ℕ) (b : Decoded) → slice_get decoded function ≡ Some (Some b) → IsBodyOf a met function b

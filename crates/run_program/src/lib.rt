@@ -9,7 +9,7 @@
 //! ```
 //! // of a module whose one function is `define i32 @f(i32 %a) { ret i32 %a }`
 //! let mut program = Program::new(alloc, names)?;
-//! program.head(id)? // Head { signature: 0, leaves: 1 }
+//! program.head(id)? // FrameNeeds { signature: 0, leaves: 1 }
 //! program.prepare(id)? // 0: no edge sets a leaf
 //! program.body(0).action(0, 0) // an Action::Return
 //! ```
@@ -19,4 +19,4 @@ mod leaves;
 mod program;
 mod told;
 
-pub use program::{Head, Program};
+pub use program::{FrameNeeds, Program};

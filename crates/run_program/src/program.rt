@@ -12,7 +12,7 @@ ghost use Rattle.run_program.specs.Loaded.{HasHead, IsBody, IsReady, Keeps, noth
 
 use crate::told::{body_of, head_of};
 use module_arena::{Checked, Function, FunctionId};
-use run_body::Body;
+use run_body::ActionBody;
 use run_names::{CalleeRef, Names};
 use run_signatures::Signatures;
 use std::alloc::{AllocError, Global};
@@ -22,10 +22,10 @@ use type_table::TypeTable;
 /// What a call asks of a function: the number of its function type among those that the run has met, and how many leaves its frame has.
 ///
 /// ```
-/// Head { signature: 0, leaves: 2 } // of the first function type that was met, and two leaves in a frame
+/// FrameNeeds { signature: 0, leaves: 2 } // of the first function type that was met, and two leaves in a frame
 /// ```
 #[derive(Clone, Copy)]
-pub struct Head {
+pub struct FrameNeeds {
     pub signature: u32,
     pub leaves: u64,
 }
@@ -36,8 +36,8 @@ pub struct Program<'m> {
     alloc: Global,
     names: Names<'m>,
     signatures: Signatures<'m>,
-    heads: Vec<Option<Head>>,
-    bodies: Vec<Option<Body<'m>>>,
+    heads: Vec<Option<FrameNeeds>>,
+    bodies: Vec<Option<ActionBody<'m>>>,
 }
 
 impl<'m> Model for Program<'m> {
@@ -124,7 +124,7 @@ impl<'m> Program<'m> {
     }
 
     /// What a call asks of a function that has a body. It is refused for want of memory alone.
-    pub fn head(&mut self, id: FunctionId) -> Result<Head, AllocError>
+    pub fn head(&mut self, id: FunctionId) -> Result<FrameNeeds, AllocError>
         requires { HasCode self.old.lists (callees.Code id) }
         ensures head { IfOk result (HasHead self.new id) }
         ensures keeps { Keeps self.old self.new }
@@ -158,7 +158,7 @@ impl<'m> Program<'m> {
 
     /// The body of a function that was entered.
     #[inline]
-    pub fn body(&self, function: u32) -> &Body<'m>
+    pub fn body(&self, function: u32) -> &ActionBody<'m>
         requires { (body : Decoded) × IsReady self.now function body }
         ensures ready { IsReady self.now function result.now }
         ensures body { IsBody self.now function result.now }

@@ -6,9 +6,9 @@ ghost use Rattle.run_program.specs.Loaded.{IsBodyOf, IsHead};
 ghost use Rattle.run_signatures.specs.Numbers.{Numbers};
 
 use crate::leaves::leaf_count;
-use crate::program::Head;
+use crate::program::FrameNeeds;
 use module_arena::{Function, FunctionId};
-use run_body::Body;
+use run_body::ActionBody;
 use run_decode::decode;
 use run_names::Names;
 use run_signatures::Signatures;
@@ -33,7 +33,7 @@ pub(crate) fn head_of(
     names: &Names<'_>,
     signatures: &mut Signatures<'_>,
     id: FunctionId,
-) -> Result<Head, AllocError>
+) -> Result<FrameNeeds, AllocError>
     requires code { HasCode names.now (callees.Code id) }
     requires lists { signatures.old.lists ≡ names.now }
     ensures head { IfOk result (IsHead names.now signatures.new id) }
@@ -47,7 +47,7 @@ pub(crate) fn head_of(
     let leaves = leaf_count(arena, function)?;
     let parameters = parameter_types(alloc, function)?;
     let signature = signatures.number(function.result, &parameters, function.variadic)?;
-    Ok(Head { signature, leaves })
+    Ok(FrameNeeds { signature, leaves })
 }
 
 /// The body of a function that has one, decoded. The function types of its calls get numbers.
@@ -56,7 +56,7 @@ pub(crate) fn body_of<'m>(
     names: &Names<'m>,
     signatures: &mut Signatures<'m>,
     id: FunctionId,
-) -> Result<Body<'m>, AllocError>
+) -> Result<ActionBody<'m>, AllocError>
     requires code { HasCode names.now (callees.Code id) }
     requires lists { signatures.old.lists ≡ names.now }
     ensures body { IfOk result (IsBodyOf names.now signatures.new id) }

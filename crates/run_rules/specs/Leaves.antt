@@ -7,7 +7,7 @@ use Rattle.ir_eval.specs.Cast.{pointer_at}
 use Rattle.ir_memory.specs.declared.leaf.Leaf.{Leaf}
 use Rattle.ir_memory.specs.declared.leaf.Leaf.TheVariants as leaf
 use Rattle.type_table.specs.Shape.{Shape, int_leaf, ptr_leaf, void_leaf, opaque_leaf, array_of, struct_of, Shapes, no_shapes, more_shapes}
-use Rattle.type_table.specs.Layout.{size, align, placed, leaves}
+use Rattle.type_table.specs.Layout.{size, align, field_start, leaves}
 
 -- a leaf, and how far it lies behind the first byte of its value
 pub record Slot : Type 0 where
@@ -32,7 +32,7 @@ abbrev mutual
   -- the leaves of fields, in a struct that begins at that offset and whose fields so far end after `end` bytes
   pub field_slots : Shapes → Bool → ℕ → ℕ → List Slot
   field_slots no_shapes packed at end = []
-  field_slots (more_shapes s ss) packed at end = slots_at s (at + placed packed end (align s)) ++ field_slots ss packed at (placed packed end (align s) + size s)
+  field_slots (more_shapes s ss) packed at end = slots_at s (at + field_start packed end (align s)) ++ field_slots ss packed at (field_start packed end (align s) + size s)
 
 -- the leaves of a value, from its first byte on
 abbrev pub slots : Shape → List Slot

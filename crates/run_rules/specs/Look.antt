@@ -21,7 +21,7 @@ use Rattle.run_rules.specs.Action.{Action}
 use Rattle.run_rules.specs.Calls.{Callee, Code, Host, Nothing}
 use Rattle.run_rules.specs.Constant.{Names}
 use Rattle.run_rules.specs.Resolve.{signature_in, instruction_in, ending_in}
-use Rattle.run_rules.specs.Scope.{Scope, scope_of, leaf_count}
+use Rattle.run_rules.specs.Scope.{FunctionScope, scope_of, leaf_count}
 
 -- The address of a symbol: of an alias, that of what is behind it. A variable's block has its number among the variables
 -- that lie in memory; a function has none
@@ -71,15 +71,15 @@ abbrev pub function_at : List Module → ℕ → Option Defined
 function_at parts n = option_and_then (defined parts) (slice_get (function_symbols parts) n)
 
 -- behind the last instruction stands the end
-abbrev pub ending_at : Scope → Block → ℕ → Action
+abbrev pub ending_at : FunctionScope → Block → ℕ → Action
 ending_at sc b position = if nat_eq position (length b.instructions) then ending_in sc b.name b.ending else Action.Stuck
 
 -- the instruction at a position, or the end of the block
-abbrev pub action_at : Scope → Block → ℕ → Action
+abbrev pub action_at : FunctionScope → Block → ℕ → Action
 action_at sc b position = option_map_or (instruction_in sc) (slice_get b.instructions position) (ending_at sc b position)
 
 -- the action at a place of a function
-abbrev pub look_in : Scope → ℕ → ℕ → Action
+abbrev pub look_in : FunctionScope → ℕ → ℕ → Action
 look_in sc block position = option_map_or (λ b. action_at sc b position) (slice_get sc.blocks block) Action.Stuck
 
 -- the action at a place of the function with that number

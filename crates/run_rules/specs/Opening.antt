@@ -68,13 +68,13 @@ abbrev pub ready : Plan → Blocks × Due → Core
 ready p x = record { frames = []; due = map Constructor p.constructors ++ x.1 ∷ []; memory = sealed (with_contents p.stores x.0) }
 
 -- variables, arguments and initialisers, in this order
-abbrev pub placed : Plan → plans.Main → List (List ℕ) → Result Core End
-placed p main arguments = and_then (with_variables p.variables no_blocks) (λ m. and_then (with_main main arguments m) (λ x. Ok (ready p x)))
+abbrev pub opening_core : Plan → plans.Main → List (List ℕ) → Result Core End
+opening_core p main arguments = and_then (with_variables p.variables no_blocks) (λ m. and_then (with_main main arguments m) (λ x. Ok (ready p x)))
 
 -- no main, no run
 abbrev pub opened_main : Plan → Option plans.Main → List (List ℕ) → Result Core End
 opened_main p None arguments = Err NoMain
-opened_main p (Some main) arguments = placed p main arguments
+opened_main p (Some main) arguments = opening_core p main arguments
 
 -- a missing symbol comes before all else
 abbrev pub opened_from : Plan → Option (List ℕ) → List (List ℕ) → Result Core End

@@ -14,8 +14,8 @@ use Rattle.ir_printf.specs.declared.conversion.ConversionKind.TheVariants as kin
 use Rattle.ir_printf.specs.declared.conversion.Length.{Length}
 use Rattle.ir_printf.specs.declared.conversion.Length.TheVariants as size
 use Rattle.ir_printf.specs.declared.pattern.BadFormat.{BadFormat}
-use Rattle.ir_printf.specs.declared.pattern.Piece.{Piece}
-use Rattle.ir_printf.specs.declared.pattern.Piece.TheVariants as piece
+use Rattle.ir_printf.specs.declared.pattern.PatternPiece.{PatternPiece}
+use Rattle.ir_printf.specs.declared.pattern.PatternPiece.TheVariants as piece
 use Rattle.ir_printf.specs.Pattern.{piece_at}
 use Rattle.ir_printf.specs.Printed.{is_number, printed_number, printed_bytes}
 use Rattle.linkage_rules.specs.SameShape.{same_shape}
@@ -65,7 +65,7 @@ written_conversion m rest c _ to at (s ∷ ss) (v ∷ vs) =
 written_conversion m rest c _ to at _ _ = Err kinds.BadFormat
 
 -- a piece of the pattern that begins at a place, and what is behind it
-abbrev pub written_piece : Blocks → List ℕ → Rest → Result Piece BadFormat → Rest
+abbrev pub written_piece : Blocks → List ℕ → Rest → Result PatternPiece BadFormat → Rest
 written_piece m pattern rest (Err bad) at shapes leaves = Err kinds.BadFormat
 written_piece m pattern rest (Ok piece.End) at shapes leaves = Ok []
 written_piece m pattern rest (Ok (piece.Literal from to)) at shapes leaves = then_bytes (Ok (slice_range pattern from to)) (rest to shapes leaves)

@@ -15,7 +15,7 @@ use Rattle.run_rules.specs.Action.{Origin, Move, Edge, Signature, Action}
 use Rattle.run_rules.specs.Constant.{Names, shape_of, width_of, constant_value, one_leaf}
 use Rattle.run_rules.specs.Displace.{Index, terms_of, number_of}
 use Rattle.run_rules.specs.Leaves.{slots, is_pointer, part, leaves_before_part}
-use Rattle.run_rules.specs.Scope.{Scope, place_in, block_in, value_in, operand_in, scalar_in, scalar_of}
+use Rattle.run_rules.specs.Scope.{FunctionScope, place_in, block_in, value_in, operand_in, scalar_in, scalar_of}
 
 -- a function type with its struct names replaced
 abbrev pub signature_in : Names → module_arena.Signature → Signature
@@ -26,28 +26,28 @@ abbrev pub alignment_in : Names → Option ℕ → Tree → ℕ
 alignment_in names stated t = unwrap_or stated (align (shape_of names t))
 
 -- an index of getelementptr
-abbrev pub index_in : Scope → Operand → Index
+abbrev pub index_in : FunctionScope → Operand → Index
 index_in sc o = record { origin = scalar_in sc o; width = width_of sc.names o.ty }
 
 -- how many leaves a part of an operand has
-abbrev pub part_leaves : Scope → Operand → List ℕ → ℕ
+abbrev pub part_leaves : FunctionScope → Operand → List ℕ → ℕ
 part_leaves sc o indices = leaves (part (shape_of sc.names o.ty) indices)
 
 -- how many leaves stand before it
-abbrev pub leaves_before_in : Scope → Operand → List ℕ → ℕ
+abbrev pub leaves_before_in : FunctionScope → Operand → List ℕ → ℕ
 leaves_before_in sc o indices = leaves_before_part (shape_of sc.names o.ty) indices
 
 -- the leaves of the part
-abbrev pub extracted : Scope → Operand → List ℕ → List Origin
+abbrev pub extracted : FunctionScope → Operand → List ℕ → List Origin
 extracted sc o indices = take (part_leaves sc o indices) (drop (leaves_before_in sc o indices) (operand_in sc o))
 
 -- the leaves of the aggregate, with those of the part replaced
-abbrev pub inserted : Scope → Operand → Operand → List ℕ → List Origin
+abbrev pub inserted : FunctionScope → Operand → Operand → List ℕ → List Origin
 inserted sc o new indices =
     take (leaves_before_in sc o indices) (operand_in sc o) ++ operand_in sc new ++ drop (leaves_before_in sc o indices + part_leaves sc o indices) (operand_in sc o)
 
 -- the action of an instruction whose result goes to that place
-abbrev pub operation_in : Scope → ℕ → Operation → Action
+abbrev pub operation_in : FunctionScope → ℕ → Operation → Action
 operation_in sc to (BinaryOperation opcode flags left right) =
     Action.Compute to opcode flags (width_of sc.names left.ty) (scalar_in sc left) (scalar_of sc left.ty right)
 operation_in sc to (Compare flags predicate left right) =
@@ -73,11 +73,11 @@ operation_in sc to (ExtractValue aggregate indices) = Action.Gather to (extracte
 operation_in sc to (InsertValue aggregate new indices) = Action.Gather to (inserted sc aggregate new indices)
 
 -- the action of an instruction
-abbrev pub instruction_in : Scope → Instruction → Action
+abbrev pub instruction_in : FunctionScope → Instruction → Action
 instruction_in sc i = operation_in sc (place_in sc i.result) i.operation
 
 -- what a phi gets from a block
-abbrev pub incoming_from : Scope → LocalName → Tree → List Incoming → List Origin
+abbrev pub incoming_from : FunctionScope → LocalName → Tree → List Incoming → List Origin
 incoming_from sc from ty incoming = option_map_or (λ x. value_in sc ty x.value) (find (λ x. same_local x.block from) incoming) []
 
 -- one behind the other, from that place on
@@ -86,7 +86,7 @@ moves_to to [] = []
 moves_to to (o ∷ os) = record { to = to; from = o } ∷ moves_to (to + 1) os
 
 -- what the leaves of a phi get from a block
-abbrev pub phi_moves : Scope → LocalName → Option LocalName → Operation → List Move
+abbrev pub phi_moves : FunctionScope → LocalName → Option LocalName → Operation → List Move
 phi_moves sc from result (Phi ty incoming) = moves_to (place_in sc result) (incoming_from sc from ty incoming)
 phi_moves sc from result _ = []
 
@@ -101,21 +101,21 @@ phis [] = []
 phis (i ∷ is) = if is_phi i.operation then i ∷ phis is else []
 
 -- the way from a block into a block
-abbrev pub edge_into : Scope → LocalName → ℕ → Option Block → Edge
+abbrev pub edge_into : FunctionScope → LocalName → ℕ → Option Block → Edge
 edge_into sc from number None = record { block = number; position = 0; moves = [] }
 edge_into sc from number (Some b) =
     record { block = number; position = length (phis b.instructions); moves = flat_map (λ i. phi_moves sc from i.result i.operation) (phis b.instructions) }
 
 -- the way from a block to another
-abbrev pub edge_in : Scope → LocalName → LocalName → Edge
+abbrev pub edge_in : FunctionScope → LocalName → LocalName → Edge
 edge_in sc from to = edge_into sc from (block_in sc to) (find (λ b. same_local b.name to) sc.blocks)
 
 -- a case, with its number
-abbrev pub case_in : Scope → LocalName → Case → ℕ × Edge
+abbrev pub case_in : FunctionScope → LocalName → Case → ℕ × Edge
 case_in sc from c = (number_of (one_leaf (constant_value sc.names c.ty c.value)), edge_in sc from c.target)
 
 -- the action of the end of a block
-abbrev pub ending_in : Scope → LocalName → Ending → Action
+abbrev pub ending_in : FunctionScope → LocalName → Ending → Action
 ending_in sc from ReturnVoid = Action.Return []
 ending_in sc from (Return value) = Action.Return (operand_in sc value)
 ending_in sc from (Jump target) = Action.Jump (edge_in sc from target)

@@ -22,7 +22,7 @@ pub record Placed : Type 0 where
   pub place : ℕ
 
 -- what all names in a function mean
-pub record Scope : Type 0 where
+pub record FunctionScope : Type 0 where
   pub names : Names
   pub locals : List Placed
   pub blocks : List Block
@@ -77,19 +77,19 @@ abbrev pub leaf_count : Names → Function → ℕ
 leaf_count names f = sum (map (λ x. leaves x.1) (locals_of names f))
 
 -- what the names in a function of that part mean
-abbrev pub scope_of : Names → Function → Scope
+abbrev pub scope_of : Names → Function → FunctionScope
 scope_of names f = record { names = names; locals = placed_from 0 (locals_of names f); blocks = blocks_of f }
 
 -- the parameter or result of that name
-abbrev pub local_in : Scope → LocalName → Option Placed
+abbrev pub local_in : FunctionScope → LocalName → Option Placed
 local_in sc name = find (λ l. same_local l.name name) sc.locals
 
 -- where a result goes
-abbrev pub place_in : Scope → Option LocalName → ℕ
+abbrev pub place_in : FunctionScope → Option LocalName → ℕ
 place_in sc name = option_map_or (λ l. l.place) (option_and_then (local_in sc) name) 0
 
 -- the number of a block
-abbrev pub block_in : Scope → LocalName → ℕ
+abbrev pub block_in : FunctionScope → LocalName → ℕ
 block_in sc label = unwrap_or (position (λ b. same_local b.name label) sc.blocks) 0
 
 -- the leaves of a parameter or result
@@ -97,12 +97,12 @@ abbrev pub leaves_at : Placed → List Origin
 leaves_at l = map Origin.Held (range_with_len l.place (leaves l.shape))
 
 -- where the leaves of a value of that type are had from
-abbrev pub value_in : Scope → Tree → Value → List Origin
+abbrev pub value_in : FunctionScope → Tree → Value → List Origin
 value_in sc t (Local name) = option_map_or leaves_at (local_in sc name) []
 value_in sc t (Known constant) = map Origin.Known (constant_value sc.names t constant)
 
 -- the leaves of an operand
-abbrev pub operand_in : Scope → Operand → List Origin
+abbrev pub operand_in : FunctionScope → Operand → List Origin
 operand_in sc o = value_in sc o.ty o.value
 
 -- the first of them
@@ -111,9 +111,9 @@ one_origin [] = Origin.Known scalar.Poison
 one_origin (o ∷ os) = o
 
 -- the one leaf of an integer or a pointer
-abbrev pub scalar_in : Scope → Operand → Origin
+abbrev pub scalar_in : FunctionScope → Operand → Origin
 scalar_in sc o = one_origin (operand_in sc o)
 
 -- the same of a value whose type is written before another
-abbrev pub scalar_of : Scope → Tree → Value → Origin
+abbrev pub scalar_of : FunctionScope → Tree → Value → Origin
 scalar_of sc t v = one_origin (value_in sc t v)

@@ -1,4 +1,4 @@
--- For `Scope::new`: that types are those of values, and where the leaves of parameters and results are placed.
+-- For `FunctionScope::new`: that types are those of values, and where the leaves of parameters and results are placed.
 use Rattle.std.specs.Prelude.{◌≡◌, ℕ, ◌+◌, ◌<◌, true, ◌⊎◌, List, [], ◌∷◌, ◌++◌, All, length}
 use Rattle.module_arena.specs.declared.entry.Block.{Block}
 use Rattle.module_arena.specs.declared.entry.Function.{Function}

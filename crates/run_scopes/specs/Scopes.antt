@@ -1,4 +1,4 @@
--- For `new`, `bounds`, `to` and the other calls of `Scope`: what the ids in a function of an arena stand for in a run
+-- For `new`, `bounds`, `to` and the other calls of `FunctionScope`: what the ids in a function of an arena stand for in a run
 -- of its module alone.
 use Rattle.std.specs.Prelude.{◌≡◌, ℕ, ◌+◌, ◌<◌, ⊤, true, List, [], ◌∷◌, map, length, Option, Some, slice_get}
 use Rattle.std.specs.List.{IsDistinct}
@@ -19,7 +19,7 @@ use Rattle.type_table.specs.Layout.{leaves}
 use Rattle.type_table.specs.Tree.{Tree}
 use Rattle.type_table.specs.Types.{tree, trees}
 use Rattle.run_rules.specs.Constant.{shape_of}
-use Rattle.run_rules.specs.Scope.{Placed, Scope, Typed, local_in, locals_of, place_in, scope_of}
+use Rattle.run_rules.specs.Scope.{Placed, FunctionScope, Typed, local_in, locals_of, place_in, scope_of}
 use Rattle.run_constants.specs.Sound.{IsSound, constant_of, is_scalar, names_of}
 
 -- a function of an arena, and where the leaves of its parameters and results begin in a frame; behind them, where the last ones end
@@ -33,7 +33,7 @@ abbrev pub function_of : Lists → Function → m.Function
 function_of a f = function_view (trees a.table) (constants_of a) f
 
 -- what the names in it mean
-abbrev pub scope_in : Lists → Function → Scope
+abbrev pub scope_in : Lists → Function → FunctionScope
 scope_in a f = scope_of (names_of a) (function_of a f)
 
 -- where the leaves of each begin that follow those up to a place, and where the last ones end

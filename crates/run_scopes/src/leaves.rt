@@ -11,7 +11,7 @@ ghost use Rattle.run_constants.specs.Sound.{constant_of, names_of};
 ghost use Rattle.run_scopes.specs.Leaves.{Gains};
 ghost use Rattle.run_scopes.specs.Scopes.{HasOperand, HasScalar, HasScalarAt, HasValue, HasValueAt, StandsAt, operand_of, scope_in, value_of};
 
-use crate::scope::Scope;
+use crate::scope::FunctionScope;
 use ir_eval::Scalar;
 use module_arena::{ConstId, Operand, Value, ValueId};
 use run_constants::{leaf_of, pointer_leaf, push_leaves};
@@ -20,7 +20,7 @@ use std::alloc::AllocError;
 use type_table::TypeId;
 
 /// Where the one leaf of a parameter or result is had from that is an integer or a pointer.
-fn local_leaf(scope: &Scope<'_, '_>, id: ValueId) -> Origin
+fn local_leaf(scope: &FunctionScope<'_, '_>, id: ValueId) -> Origin
     requires { HasValue scope.now (Value.Local id) }
     ensures { (ty : Tree) → origin_of result ≡ scalar_of (scope_in scope.now.lists scope.now.function) ty (value_of scope.now.lists scope.now.function (Value.Local id)) }
 {
@@ -33,7 +33,7 @@ fn local_leaf(scope: &Scope<'_, '_>, id: ValueId) -> Origin
 }
 
 /// Where the one leaf of a value at that type is had from, which is an integer or a pointer.
-fn value_leaf(scope: &Scope<'_, '_>, ty: TypeId, value: Value) -> Origin
+fn value_leaf(scope: &FunctionScope<'_, '_>, ty: TypeId, value: Value) -> Origin
     requires { HasScalarAt scope.now ty value }
     ensures { origin_of result ≡ scalar_of (scope_in scope.now.lists scope.now.function) (tree scope.now.lists.table ty) (value_of scope.now.lists scope.now.function value) }
 {
@@ -44,7 +44,7 @@ fn value_leaf(scope: &Scope<'_, '_>, ty: TypeId, value: Value) -> Origin
 }
 
 /// Where the one leaf of an operand is had from that is an integer or a pointer.
-pub fn operand_leaf(scope: &Scope<'_, '_>, operand: Operand) -> Origin
+pub fn operand_leaf(scope: &FunctionScope<'_, '_>, operand: Operand) -> Origin
     requires { HasScalar scope.now operand }
     ensures { origin_of result ≡ scalar_in (scope_in scope.now.lists scope.now.function) (operand_of scope.now.lists scope.now.function operand) }
 {
@@ -52,7 +52,7 @@ pub fn operand_leaf(scope: &Scope<'_, '_>, operand: Operand) -> Origin
 }
 
 /// Where a callee is had from, before which no type is written.
-pub fn callee_leaf(scope: &Scope<'_, '_>, value: Value) -> Origin
+pub fn callee_leaf(scope: &FunctionScope<'_, '_>, value: Value) -> Origin
     requires there { HasValue scope.now value }
     requires stands { StandsAt scope.now ptr value }
     ensures { origin_of result ≡ scalar_of (scope_in scope.now.lists scope.now.function) ptr (value_of scope.now.lists scope.now.function value) }
@@ -85,7 +85,11 @@ fn push_known(into: &mut Vec<Origin>, leaves: &[Scalar]) -> Result<(), AllocErro
 }
 
 /// Appends where the leaves of a parameter or result are had from.
-fn push_local(scope: &Scope<'_, '_>, id: ValueId, into: &mut Vec<Origin>) -> Result<(), AllocError>
+fn push_local(
+    scope: &FunctionScope<'_, '_>,
+    id: ValueId,
+    into: &mut Vec<Origin>,
+) -> Result<(), AllocError>
     requires { HasValue scope.now (Value.Local id) }
     ensures { OnOk result ((ty : Tree) → Gains into.old.items into.new.items (value_in (scope_in scope.now.lists scope.now.function) ty (value_of scope.now.lists scope.now.function (Value.Local id)))) }
 {
@@ -95,7 +99,7 @@ fn push_local(scope: &Scope<'_, '_>, id: ValueId, into: &mut Vec<Origin>) -> Res
 
 /// Appends the leaves of a constant at that type.
 fn push_constant(
-    scope: &Scope<'_, '_>,
+    scope: &FunctionScope<'_, '_>,
     ty: TypeId,
     id: ConstId,
     into: &mut Vec<Origin>,
@@ -111,7 +115,7 @@ fn push_constant(
 /// Appends where the leaves of a value at that type are had from, in order. It is refused for want of memory alone, and may then have
 /// appended some.
 pub fn push_value(
-    scope: &Scope<'_, '_>,
+    scope: &FunctionScope<'_, '_>,
     ty: TypeId,
     value: Value,
     into: &mut Vec<Origin>,
@@ -128,7 +132,7 @@ pub fn push_value(
 /// Appends where the leaves of operands are had from, those of one behind those of the one before. It is refused for want of memory
 /// alone, and may then have appended some.
 pub fn push_operands(
-    scope: &Scope<'_, '_>,
+    scope: &FunctionScope<'_, '_>,
     operands: &[Operand],
     into: &mut Vec<Origin>,
 ) -> Result<(), AllocError>

@@ -3,11 +3,11 @@
 //!
 //! It stands on the names of `run_names`, the constants of `run_constants` and the types of `run_types`. It promises that each parameter
 //! and each result has the places in a frame that the definition of scopes gives, and that the leaves of each operand are had from exactly
-//! where that definition says. Definitions: `specs/Scopes`, what the ids of a function are; `specs/Places`; `Scope` of `run_rules`.
+//! where that definition says. Definitions: `specs/Scopes`, what the ids of a function are; `specs/Places`; `FunctionScope` of `run_rules`.
 //!
 //! ```
 //! // of `define i32 @f(ptr %p, i32 %a) { ret i32 %a }`
-//! let scope = Scope::new(alloc, &names, id)?;
+//! let scope = FunctionScope::new(alloc, &names, id)?;
 //! scope.leaves() // 2
 //! scope.bounds(second) // (1, 2): the leaf of `%a` stands at place 1
 //! operand_leaf(&scope, operand) // of `i32 %a` Origin::Held(1), of `i32 7` Origin::Known(Scalar::Int(7))
@@ -22,5 +22,5 @@ mod ways;
 
 pub use leaves::{callee_leaf, operand_leaf, push_operands, push_value};
 pub use parts::{push_extracted, push_inserted};
-pub use scope::Scope;
+pub use scope::FunctionScope;
 pub use ways::push_way;

@@ -12,7 +12,7 @@ ghost use Rattle.run_scopes.specs.Places.{HasPart};
 ghost use Rattle.run_scopes.specs.Scopes.{HasOperand, operand_of, scope_in};
 
 use crate::leaves::push_value;
-use crate::scope::Scope;
+use crate::scope::FunctionScope;
 use module_arena::Operand;
 use run_shapes::layout_of;
 use run_stack::Origin;
@@ -21,7 +21,7 @@ use std::alloc::AllocError;
 use type_table::TypeId;
 
 /// How many leaves of a value of that type stand before a part of it, and how many the part has.
-fn leaves_to(scope: &Scope<'_, '_>, ty: TypeId, indices: &[u32]) -> (u64, u64)
+fn leaves_to(scope: &FunctionScope<'_, '_>, ty: TypeId, indices: &[u32]) -> (u64, u64)
     requires { HasPart scope.now.lists ty indices.now }
     ensures before { result.0 ≡ leaves_before_part (shape_of (names_of scope.now.lists) (tree scope.now.lists.table ty)) indices.now }
     ensures count { result.1 ≡ leaves (part (shape_of (names_of scope.now.lists) (tree scope.now.lists.table ty)) indices.now) }
@@ -63,7 +63,7 @@ fn push_all(into: &mut Vec<Origin>, leaves: &[Origin]) -> Result<(), AllocError>
 /// Appends where the leaves of a part of an operand are had from. It is refused for want of memory alone, and may then have appended
 /// some.
 pub fn push_extracted(
-    scope: &Scope<'_, '_>,
+    scope: &FunctionScope<'_, '_>,
     aggregate: Operand,
     indices: &[u32],
     into: &mut Vec<Origin>,
@@ -81,7 +81,7 @@ pub fn push_extracted(
 /// Appends where the leaves of an operand are had from, with those of a part replaced. It is refused for want of memory alone, and may
 /// then have appended some.
 pub fn push_inserted(
-    scope: &Scope<'_, '_>,
+    scope: &FunctionScope<'_, '_>,
     aggregate: Operand,
     new: Operand,
     indices: &[u32],

@@ -16,14 +16,14 @@ use type_table::TypeTable;
 
 /// A function of a module, and where the leaves of its parameters and results stand in a frame.
 #[derive(Drop)]
-pub struct Scope<'a, 'm> {
+pub struct FunctionScope<'a, 'm> {
     alloc: Global,
     names: &'a Names<'m>,
     function: &'a Function,
     places: Vec<u32>,
 }
 
-impl<'a, 'm> Model for Scope<'a, 'm> {
+impl<'a, 'm> Model for FunctionScope<'a, 'm> {
     ghost use Rattle.run_scopes.specs.Scopes.{Framed, IsFramed};
 
     ghost Value = { Framed };
@@ -33,13 +33,13 @@ impl<'a, 'm> Model for Scope<'a, 'm> {
     ghost invariant = { λ s. IsFramed s.names.now s.function.now s.places.items };
 }
 
-impl<'a, 'm> Scope<'a, 'm> {
+impl<'a, 'm> FunctionScope<'a, 'm> {
     /// The scope of a function. It is refused for want of memory, or of places in a frame that 32 bits can count.
     pub fn new(
         alloc: Global,
         names: &'a Names<'m>,
         id: FunctionId,
-    ) -> Result<Scope<'a, 'm>, AllocError>
+    ) -> Result<FunctionScope<'a, 'm>, AllocError>
         requires id { id < length names.now.functions }
         requires values { (f : the_function.Function) → slice_get names.now.functions id ≡ Some f → HasValues names.now f }
         ensures lists { IfOk result (λ scope. scope.lists ≡ names.now) }
@@ -50,7 +50,7 @@ impl<'a, 'm> Scope<'a, 'm> {
         let _count = arena.variable_count();
         let function = arena.function(id);
         let places = places_of(alloc, arena, function)?;
-        Ok(Scope {
+        Ok(FunctionScope {
             alloc,
             names,
             function,

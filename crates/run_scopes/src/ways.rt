@@ -9,7 +9,7 @@ ghost use Rattle.run_scopes.specs.Scopes.{AreApart, HasBlock, HasValueAt, incomi
 ghost use Rattle.run_scopes.specs.Ways.{AllPhisSuit, GainsMoves, HasPhi, PhiSuits, entry_from, gets};
 
 use crate::leaves::push_value;
-use crate::scope::Scope;
+use crate::scope::FunctionScope;
 use module_arena::{BlockId, Incoming, Inst, Value, ValueId};
 use run_stack::{Move, Origin};
 use std::alloc::AllocError;
@@ -54,7 +54,7 @@ fn push_moves(into: &mut Vec<Move>, to: u32, leaves: &[Origin]) -> Result<(), Al
 
 /// Appends moves of the leaves of a value to those of a phi of that type.
 fn push_entry(
-    scope: &Scope<'_, '_>,
+    scope: &FunctionScope<'_, '_>,
     phi: ValueId,
     ty: TypeId,
     value: Value,
@@ -72,7 +72,7 @@ fn push_entry(
 
 /// Appends what the leaves of a phi of that type get from a block.
 fn push_phi(
-    scope: &Scope<'_, '_>,
+    scope: &FunctionScope<'_, '_>,
     from: BlockId,
     phi: (ValueId, TypeId),
     incoming: &[Incoming],
@@ -93,7 +93,7 @@ fn push_phi(
 
 /// Appends what the phis at the front of a block get from another, and gives how many phis these are.
 fn push_phis(
-    scope: &Scope<'_, '_>,
+    scope: &FunctionScope<'_, '_>,
     from: BlockId,
     instructions: &[Inst],
     into: &mut Vec<Move>,
@@ -118,7 +118,7 @@ fn push_phis(
 /// Appends the moves of the way from a block into another, and gives the place behind the other's phis. It is refused for want of memory
 /// alone, and may then have appended some.
 pub fn push_way(
-    scope: &Scope<'_, '_>,
+    scope: &FunctionScope<'_, '_>,
     from: BlockId,
     to: BlockId,
     into: &mut Vec<Move>,

@@ -72,7 +72,7 @@ count_within (more_shapes s ss) = let first = parts_some s in let rest = count_w
 past_all : (packed : Bool) (at : ℕ) (ss : Shapes) (k : ℕ) → field_count ss ≤ k → layouts.field_offset packed at ss k ≡ None
 past_all packed at no_shapes k le = refl
 past_all packed at (more_shapes s ss) zero le = absurd (omega arith)
-past_all packed at (more_shapes s ss) (suc k) le = past_all packed (layouts.placed packed at (layouts.align s) + layouts.size s) ss k (omega arith)
+past_all packed at (more_shapes s ss) (suc k) le = past_all packed (layouts.field_start packed at (layouts.align s) + layouts.size s) ss k (omega arith)
 
 -- a type has no field with so great an index
 pub none_so_far : (s : Shape) (k : ℕ) → parts s ≤ 2 ^ 20 → 2 ^ 32 ≤ k → unwrap_or (offset_in s k) 0 ≡ 0

@@ -22,8 +22,8 @@ use Rattle.type_table.specs.Types.{Types, IsGood, bodies, names, shape, structs,
 use Rattle.type_table.proofs.Added.{length-trees}
 use Rattle.type_table.proofs.Outlined.{listed, outlined, part_nesting, shape_head, shape_parts, tree-is}
 use Rattle.type_table.proofs.Rooms.{HasShape, unjoined, unmapped}
-use Rattle.run_shapes.specs.declared.form.Form.{Form}
-use Rattle.run_shapes.specs.declared.form.Form.TheVariants as form
+use Rattle.run_shapes.specs.declared.form.TypeForm.{TypeForm}
+use Rattle.run_shapes.specs.declared.form.TypeForm.TheVariants as form
 use Rattle.run_shapes.specs.Shapes.{HasCount, IsMade, body_form, elements_of, first_shape, laid_out, shape_in, shapes_in}
 
 -- ---- types of a table
@@ -54,7 +54,7 @@ module _ (t : Types) (good : IsGood t) (within : IsWithin t) where
       subst (λ (s : Shape). Fits s) (sym (ap (λ (o : Option Shape). unwrap_or o void_leaf) there.1)) (subst IsWithinLimits there.1 (fits_at ty lt))
 
   -- the form of a type by what stands at it
-  abbrev pub form_in : IrType → Form
+  abbrev pub form_in : IrType → TypeForm
   form_in (Int w) = form.Int w
   form_in Ptr = form.Pointer
   form_in Void = form.Nothing

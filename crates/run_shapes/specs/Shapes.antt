@@ -7,8 +7,8 @@ use Rattle.type_table.specs.Layout.{size, align, leaves, field_offset}
 use Rattle.type_table.specs.Shape.{Label, Shape, int_leaf, ptr_leaf, void_leaf, opaque_leaf, array_of, struct_of, Shapes, no_shapes, more_shapes}
 use Rattle.type_table.specs.Types.{Types, shape}
 use Rattle.run_rules.specs.Leaves.{element}
-use Rattle.run_shapes.specs.declared.form.Form.{Form}
-use Rattle.run_shapes.specs.declared.form.Form.TheVariants as form
+use Rattle.run_shapes.specs.declared.form.TypeForm.{TypeForm}
+use Rattle.run_shapes.specs.declared.form.TypeForm.TheVariants as form
 
 -- the shape of a type; each type of a table has one
 abbrev pub shape_in : Types → ℕ → Shape
@@ -24,7 +24,7 @@ abbrev pub laid_out : Shape → Layout
 laid_out s = record { size = size s; align = align s; leaves = leaves s }
 
 -- what the body of a struct is but for its fields
-abbrev pub body_form : Option StructBody → Form
+abbrev pub body_form : Option StructBody → TypeForm
 body_form None = form.Opaque
 body_form (Some Opaque) = form.Opaque
 body_form (Some (Plain parts)) = form.Struct false
@@ -36,7 +36,7 @@ first_shape no_shapes = void_leaf
 first_shape (more_shapes s ss) = s
 
 -- the shape of that form with these parts, under that label
-abbrev pub made : Label → Form → Shapes → Shape
+abbrev pub made : Label → TypeForm → Shapes → Shape
 made label (form.Int w) ss = int_leaf w
 made label form.Pointer ss = ptr_leaf
 made label form.Nothing ss = void_leaf
@@ -45,12 +45,12 @@ made label (form.Array n) ss = array_of n (first_shape ss)
 made label (form.Struct packed) ss = struct_of label packed ss
 
 -- a shape is of that form with these parts, whatever its label
-pub record IsMade (f : Form) (ss : Shapes) (s : Shape) : Type 0 where
+pub record IsMade (f : TypeForm) (ss : Shapes) (s : Shape) : Type 0 where
   pub label : Label
   pub is : s ≡ made label f ss
 
 -- an array has one part, the type of its elements
-abbrev pub HasCount : Form → ℕ → Type 0
+abbrev pub HasCount : TypeForm → ℕ → Type 0
 HasCount (form.Array n) count = count ≡ 1
 HasCount (form.Int w) count = ⊤
 HasCount form.Pointer count = ⊤

@@ -12,7 +12,7 @@ use type_table::{IrType, Layout, StructBody, TypeId, TypeTable};
 
 /// What a type is but for its parts, where the name of a struct stands for the struct's body.
 #[derive(Clone, Copy)]
-pub enum Form {
+pub enum TypeForm {
     /// An integer, by its width in bits.
     Int(u8),
     /// A pointer.
@@ -28,18 +28,18 @@ pub enum Form {
 }
 
 /// What the body of a struct is but for its fields.
-fn form_of_body(body: Option<&StructBody>) -> Form
+fn form_of_body(body: Option<&StructBody>) -> TypeForm
     ensures { result ≡ body_form (option_copied body.entry) }
 {
     match body {
-        None | Some(StructBody::Opaque) => Form::Opaque,
-        Some(StructBody::Plain(_)) => Form::Struct(false),
-        Some(StructBody::Packed(_)) => Form::Struct(true),
+        None | Some(StructBody::Opaque) => TypeForm::Opaque,
+        Some(StructBody::Plain(_)) => TypeForm::Struct(false),
+        Some(StructBody::Packed(_)) => TypeForm::Struct(true),
     }
 }
 
 /// What a type is but for its parts.
-pub fn form_of(types: &TypeTable, ty: TypeId) -> Form
+pub fn form_of(types: &TypeTable, ty: TypeId) -> TypeForm
     requires { ty < length types.now.types }
     ensures shape { IsMade result (shapes_in types.now (parts_of types.now ty)) (shape_in types.now ty) }
     ensures count { HasCount result (length (parts_of types.now ty)) }
@@ -47,11 +47,11 @@ pub fn form_of(types: &TypeTable, ty: TypeId) -> Form
     // What holds of each table of types.
     let _count = types.type_count();
     match types.get(ty) {
-        IrType::Int(width) => Form::Int(*width),
-        IrType::Ptr => Form::Pointer,
-        IrType::Void => Form::Nothing,
-        IrType::Array(count, _) => Form::Array(*count),
-        IrType::Struct(packed, _) => Form::Struct(*packed),
+        IrType::Int(width) => TypeForm::Int(*width),
+        IrType::Ptr => TypeForm::Pointer,
+        IrType::Void => TypeForm::Nothing,
+        IrType::Array(count, _) => TypeForm::Array(*count),
+        IrType::Struct(packed, _) => TypeForm::Struct(*packed),
         IrType::Named(id) => form_of_body(types.struct_body(*id)),
     }
 }
@@ -110,11 +110,11 @@ pub fn width(types: &TypeTable, ty: TypeId) -> u8
     ensures { result ≡ leaves.width (shape_in types.now ty) }
 {
     match form_of(types, ty) {
-        Form::Int(width) => width,
-        Form::Pointer => 64,
-        Form::Nothing => 0,
-        Form::Opaque => 0,
-        Form::Array(_) => 0,
-        Form::Struct(_) => 0,
+        TypeForm::Int(width) => width,
+        TypeForm::Pointer => 64,
+        TypeForm::Nothing => 0,
+        TypeForm::Opaque => 0,
+        TypeForm::Array(_) => 0,
+        TypeForm::Struct(_) => 0,
     }
 }

@@ -5,7 +5,7 @@
 //! `type_table`, `Leaves` of `run_rules`.
 //!
 //! ```
-//! form_of(types, ty) // of `[2 x i32]` Form::Array(2)
+//! form_of(types, ty) // of `[2 x i32]` TypeForm::Array(2)
 //! parts(types, ty) // the one type `i32`
 //! layout_of(types, ty) // Layout { size: 8, align: 4, leaves: 2 }
 //! ```
@@ -14,5 +14,5 @@
 mod form;
 mod part;
 
-pub use form::{Form, form_of, layout_of, parts, width};
+pub use form::{TypeForm, form_of, layout_of, parts, width};
 pub use part::{element, element_offset, elements, is_struct};

@@ -7,7 +7,7 @@ ghost use Rattle.type_table.specs.Shape.{void_leaf};
 ghost use Rattle.type_table.specs.Types.{structs, tree};
 ghost use Rattle.run_shapes.specs.Shapes.{elements_of, is_struct, offset_in, shape_in};
 
-use crate::form::{Form, form_of, parts};
+use crate::form::{TypeForm, form_of, parts};
 use type_table::{TypeId, TypeTable};
 
 /// More fields than a struct may have.
@@ -34,12 +34,12 @@ pub fn element(types: &TypeTable, ty: TypeId, index: u128) -> Option<TypeId>
     let _count = types.type_count();
     let parts = parts(types, ty);
     match form_of(types, ty) {
-        Form::Array(_length) => elements_in(parts),
-        Form::Struct(_packed) => field_of(parts, index),
-        Form::Int(_) => None,
-        Form::Pointer => None,
-        Form::Nothing => None,
-        Form::Opaque => None,
+        TypeForm::Array(_length) => elements_in(parts),
+        TypeForm::Struct(_packed) => field_of(parts, index),
+        TypeForm::Int(_) => None,
+        TypeForm::Pointer => None,
+        TypeForm::Nothing => None,
+        TypeForm::Opaque => None,
     }
 }
 
@@ -61,12 +61,12 @@ pub fn elements(types: &TypeTable, ty: TypeId) -> Option<TypeId>
     let _count = types.type_count();
     let parts = parts(types, ty);
     match form_of(types, ty) {
-        Form::Array(_length) => elements_in(parts),
-        Form::Int(_) => None,
-        Form::Pointer => None,
-        Form::Nothing => None,
-        Form::Opaque => None,
-        Form::Struct(_) => None,
+        TypeForm::Array(_length) => elements_in(parts),
+        TypeForm::Int(_) => None,
+        TypeForm::Pointer => None,
+        TypeForm::Nothing => None,
+        TypeForm::Opaque => None,
+        TypeForm::Struct(_) => None,
     }
 }
 
@@ -76,12 +76,12 @@ pub fn is_struct(types: &TypeTable, ty: TypeId) -> bool
     ensures { result ≡ is_struct (shape_in types.now ty) }
 {
     match form_of(types, ty) {
-        Form::Struct(_) => true,
-        Form::Int(_) => false,
-        Form::Pointer => false,
-        Form::Nothing => false,
-        Form::Opaque => false,
-        Form::Array(_) => false,
+        TypeForm::Struct(_) => true,
+        TypeForm::Int(_) => false,
+        TypeForm::Pointer => false,
+        TypeForm::Nothing => false,
+        TypeForm::Opaque => false,
+        TypeForm::Array(_) => false,
     }
 }
 

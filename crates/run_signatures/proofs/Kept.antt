@@ -12,15 +12,15 @@ use Rattle.run_flat.specs.declared.leaf.Span.{Span}
 use Rattle.run_flat.specs.Spans.{IsBetween, IsLonger}
 use Rattle.run_flat.proofs.Growth.{span_stays, spanned_same}
 use Rattle.run_flat.proofs.Spanned.{between_in, spanned_more}
-use Rattle.run_signatures.specs.declared.written.Written.{Written}
+use Rattle.run_signatures.specs.declared.written.WrittenSignature.{WrittenSignature}
 use Rattle.run_signatures.specs.Met.{AreMet, FunctionType, IsWritten, Met, known, shaped, type_in, written_as}
 use Rattle.run_signatures.specs.Numbers.{Numbers}
 
 module _ (a : Lists) (ps qs : List ℕ) (longer : IsLonger ps qs) where
-  type_kept : (w : Written) → IsWritten a ps w → type_in qs w ≡ type_in ps w
+  type_kept : (w : WrittenSignature) → IsWritten a ps w → type_in qs w ≡ type_in ps w
   type_kept w h = ap (λ (ids : List ℕ). record { returns = w.returns; parameters = ids; variadic = w.variadic }) (spanned_same ps qs w.parameters longer h.there)
 
-  written_kept : (w : Written) → IsWritten a ps w → IsWritten a qs w
+  written_kept : (w : WrittenSignature) → IsWritten a ps w → IsWritten a qs w
   written_kept w h = record {
     returns = h.returns;
     there = span_stays ps qs w.parameters longer h.there;
@@ -28,11 +28,11 @@ module _ (a : Lists) (ps qs : List ℕ) (longer : IsLonger ps qs) where
   }
 
   -- all stay what they are
-  pub types_kept : (ws : List Written) → All (IsWritten a ps) ws → map (type_in qs) ws ≡ map (type_in ps) ws
+  pub types_kept : (ws : List WrittenSignature) → All (IsWritten a ps) ws → map (type_in qs) ws ≡ map (type_in ps) ws
   types_kept [] h = refl
   types_kept (w ∷ ws) h = λ i. type_kept w (All-head (IsWritten a ps) w ws h) i ∷ types_kept ws (All-tail (IsWritten a ps) w ws h) i
 
-  pub met_kept : (ws : List Written) → AreMet a ps ws → AreMet a qs ws
+  pub met_kept : (ws : List WrittenSignature) → AreMet a ps ws → AreMet a qs ws
   met_kept ws h = record {
     written = λ k d lt. written_kept (get_or ws k d) (h.written k d lt);
     distinct = λ i j d lt lt' e. h.distinct i j d lt lt'
@@ -40,7 +40,7 @@ module _ (a : Lists) (ps qs : List ℕ) (longer : IsLonger ps qs) where
   }
 
 -- the function type with a number
-pub typed_as : (ps : List ℕ) (ws : List Written) (k : ℕ) (w : Written) → slice_get ws k ≡ Some w → slice_get (map (type_in ps) ws) k ≡ Some (type_in ps w)
+pub typed_as : (ps : List ℕ) (ws : List WrittenSignature) (k : ℕ) (w : WrittenSignature) → slice_get ws k ≡ Some w → slice_get (map (type_in ps) ws) k ≡ Some (type_in ps w)
 typed_as ps ws k w e = slice_get-map (type_in ps) ws k ∙ ap (option_map (type_in ps)) e
 
 pub shaped_as : (a : Lists) (ts : List FunctionType) (k : ℕ) (t : FunctionType) → slice_get ts k ≡ Some t → slice_get (map (shaped a) ts) k ≡ Some (shaped a t)
@@ -52,22 +52,22 @@ last_got [] x = refl
 last_got (y ∷ xs) x = last_got xs x
 
 -- one function type more, which none is yet
-met_more : (a : Lists) (qs : List ℕ) (ws : List Written) (w : Written) → AreMet a qs ws → IsWritten a qs w
+met_more : (a : Lists) (qs : List ℕ) (ws : List WrittenSignature) (w : WrittenSignature) → AreMet a qs ws → IsWritten a qs w
     → ((k : ℕ) → slice_get (map (shaped a) (map (type_in qs) ws)) k ≡ Some (shaped a (type_in qs w)) → ⊥) → AreMet a qs (ws ++ w ∷ [])
 met_more a qs ws w h here none = record {
   written = All-push (IsWritten a qs) ws w h.written here;
-  distinct = all_pairs_push (λ (v u : Written). shaped a (type_in qs v) ≡ shaped a (type_in qs u) → ⊥) ws w h.distinct
+  distinct = all_pairs_push (λ (v u : WrittenSignature). shaped a (type_in qs v) ≡ shaped a (type_in qs u) → ⊥) ws w h.distinct
       (λ k d lt e. none k (shaped_as a (map (type_in qs) ws) k (type_in qs (get_or ws k d)) (typed_as qs ws k (get_or ws k d) (slice_get-get_or ws k d lt)) ∙ ap Some e));
 }
 
 -- ---- what a clause sees
 
-module _ (m : Met) (a : Lists) (ps : List ℕ) (ws : List Written) (is : record { lists = a; types = map (type_in ps) ws } ≡ m) (met : AreMet a ps ws) where
+module _ (m : Met) (a : Lists) (ps : List ℕ) (ws : List WrittenSignature) (is : record { lists = a; types = map (type_in ps) ws } ≡ m) (met : AreMet a ps ws) where
   pub lists_are : a ≡ m.lists
   lists_are = ap (λ (x : Met). x.lists) is
 
   -- the function type with a number
-  pub seen_as : (k : ℕ) (w : Written) → slice_get ws k ≡ Some w → slice_get (known m) k ≡ Some (shaped a (type_in ps w))
+  pub seen_as : (k : ℕ) (w : WrittenSignature) → slice_get ws k ≡ Some w → slice_get (known m) k ≡ Some (shaped a (type_in ps w))
   seen_as k w e = sym (ap (λ (x : Met). slice_get (known x) k) is) ∙ shaped_as a (map (type_in ps) ws) k (type_in ps w) (typed_as ps ws k w e)
 
   -- no number is that of a function type which those so far have not, where these are all
@@ -86,7 +86,7 @@ module _ (m : Met) (a : Lists) (ps : List ℕ) (ws : List Written) (is : record 
 
   module _ (qs : List ℕ) (returns : ℕ) (parameters : List ℕ) (variadic : Bool) (span : Span) (more : qs ≡ ps ++ parameters) (between : IsBetween (length ps) (length qs) span) where
     -- what is written
-    abbrev one : Written
+    abbrev one : WrittenSignature
     one = record { returns = returns; parameters = span; variadic = variadic }
 
     one_seen : shaped a (type_in qs one) ≡ written_as m.lists returns parameters variadic
@@ -95,7 +95,7 @@ module _ (m : Met) (a : Lists) (ps : List ℕ) (ws : List Written) (is : record 
         ∙ ap (λ (x : Lists). written_as x returns parameters variadic) lists_are
 
     -- one function type is gained
-    pub numbers_more : (us : List Written) → us ≡ ws ++ one ∷ [] → Numbers m (record { lists = a; types = map (type_in qs) us })
+    pub numbers_more : (us : List WrittenSignature) → us ≡ ws ++ one ∷ [] → Numbers m (record { lists = a; types = map (type_in qs) us })
     numbers_more us e =
         subst (λ (x : Met). Numbers x (record { lists = a; types = map (type_in qs) us })) is
         (record {
@@ -108,12 +108,12 @@ module _ (m : Met) (a : Lists) (ps : List ℕ) (ws : List Written) (is : record 
         })
 
     -- it has the next number
-    pub number_more : (us : List Written) (n : ℕ) → us ≡ ws ++ one ∷ [] → n ≡ length ws → slice_get (map (shaped a) (map (type_in qs) us)) n ≡ Some (written_as m.lists returns parameters variadic)
+    pub number_more : (us : List WrittenSignature) (n : ℕ) → us ≡ ws ++ one ∷ [] → n ≡ length ws → slice_get (map (shaped a) (map (type_in qs) us)) n ≡ Some (written_as m.lists returns parameters variadic)
     number_more us n e here =
         shaped_as a (map (type_in qs) us) n (type_in qs one) (typed_as qs us n one ((λ i. slice_get (e i) (here i)) ∙ last_got ws one)) ∙ ap Some one_seen
 
     -- and it was not met before
-    pub met_with : (us : List Written) → us ≡ ws ++ one ∷ [] → returns < length m.lists.table.types → All (λ (ty : ℕ). ty < length m.lists.table.types) parameters
+    pub met_with : (us : List WrittenSignature) → us ≡ ws ++ one ∷ [] → returns < length m.lists.table.types → All (λ (ty : ℕ). ty < length m.lists.table.types) parameters
         → ((k : ℕ) → slice_get (known m) k ≡ Some (written_as m.lists returns parameters variadic) → ⊥) → AreMet a qs us
     met_with us e known_returns known_parameters none =
         let longer : IsLonger ps qs = (parameters, more) in

@@ -7,7 +7,7 @@ use Rattle.std.proofs.lemmas.Option.{get_or_from_slice_get, same_Some, slice_get
 use Rattle.module_arena.specs.Lists.{Lists}
 use Rattle.run_rules.specs.Action.{Signature}
 use Rattle.run_rules.specs.Calls.{same_signature}
-use Rattle.run_signatures.specs.declared.written.Written.{Written}
+use Rattle.run_signatures.specs.declared.written.WrittenSignature.{WrittenSignature}
 use Rattle.run_signatures.specs.Met.{AreMet, FunctionType, Met, known, shaped, type_in}
 use Rattle.run_signatures.proofs.Same.{same_if, unlike_if}
 
@@ -27,7 +27,7 @@ made_of {A} {B} f xs k y e = go (slice_get xs k) refl (sym (slice_get-map f xs k
     go (Some x) here h = (x, here, same_Some (f x) y h)
 
 -- no two have one number
-apart_types : (a : Lists) (ps : List ℕ) (ws : List Written) (ts : List FunctionType) → map (type_in ps) ws ≡ ts → AreMet a ps ws → (j k : ℕ) (s t : Signature) → j < k
+apart_types : (a : Lists) (ps : List ℕ) (ws : List WrittenSignature) (ts : List FunctionType) → map (type_in ps) ws ≡ ts → AreMet a ps ws → (j k : ℕ) (s t : Signature) → j < k
     → slice_get (map (shaped a) ts) j ≡ Some s → slice_get (map (shaped a) ts) k ≡ Some t → s ≡ t → ⊥
 apart_types a ps ws ts is met j k s t lt at at' e =
     let v = made_of (shaped a) ts j s at in
@@ -35,10 +35,10 @@ apart_types a ps ws ts is met j k s t lt at at' e =
     let x = made_of (type_in ps) ws j v.0 (ap (λ (l : List FunctionType). slice_get l j) is ∙ v.1) in
     let y = made_of (type_in ps) ws k w.0 (ap (λ (l : List FunctionType). slice_get l k) is ∙ w.1) in
     met.distinct j k x.0 lt (slice_get_within ws k y.0 y.1)
-    (ap (λ (u : Written). shaped a (type_in ps u)) (get_or_from_slice_get ws j x.0 x.0 x.1) ∙ ap (shaped a) x.2 ∙ v.2 ∙ e
-    ∙ sym (ap (λ (u : Written). shaped a (type_in ps u)) (get_or_from_slice_get ws k y.0 x.0 y.1) ∙ ap (shaped a) y.2 ∙ w.2))
+    (ap (λ (u : WrittenSignature). shaped a (type_in ps u)) (get_or_from_slice_get ws j x.0 x.0 x.1) ∙ ap (shaped a) x.2 ∙ v.2 ∙ e
+    ∙ sym (ap (λ (u : WrittenSignature). shaped a (type_in ps u)) (get_or_from_slice_get ws k y.0 x.0 y.1) ∙ ap (shaped a) y.2 ∙ w.2))
 
-numbers_apart : (a : Lists) (ps : List ℕ) (ws : List Written) (ts : List FunctionType) → map (type_in ps) ws ≡ ts → AreMet a ps ws → (j k : ℕ) (s t : Signature)
+numbers_apart : (a : Lists) (ps : List ℕ) (ws : List WrittenSignature) (ts : List FunctionType) → map (type_in ps) ws ≡ ts → AreMet a ps ws → (j k : ℕ) (s t : Signature)
     → slice_get (map (shaped a) ts) j ≡ Some s → slice_get (map (shaped a) ts) k ≡ Some t → (j ≡ k → ⊥) → s ≡ t → ⊥
 numbers_apart a ps ws ts is met j k s t at at' other e =
     elim (cases_order j k) [
@@ -48,7 +48,7 @@ numbers_apart a ps ws ts is met j k s t at at' other e =
     ]
 
 -- the test by the numbers
-pub same_numbers : (m : Met) (a : Lists) (ps : List ℕ) (ws : List Written) → record { lists = a; types = map (type_in ps) ws } ≡ m → AreMet a ps ws → (j k : ℕ) (s t : Signature)
+pub same_numbers : (m : Met) (a : Lists) (ps : List ℕ) (ws : List WrittenSignature) → record { lists = a; types = map (type_in ps) ws } ≡ m → AreMet a ps ws → (j k : ℕ) (s t : Signature)
     → slice_get (known m) j ≡ Some s → slice_get (known m) k ≡ Some t → nat_eq j k ≡ same_signature s t
 same_numbers m a ps ws is met j k s t at at' =
     let here : slice_get (map (shaped a) (map (type_in ps) ws)) j ≡ Some s = ap (λ (x : Met). slice_get (known x) j) is ∙ at in

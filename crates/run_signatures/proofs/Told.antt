@@ -10,12 +10,12 @@ use Rattle.type_table.specs.Types.{Types, shape, IsGood}
 use Rattle.run_rules.specs.Action.{Signature}
 use Rattle.run_flat.specs.Spans.{spanned}
 use Rattle.run_shapes.specs.Shapes.{shape_in}
-use Rattle.run_signatures.specs.declared.written.Written.{Written}
+use Rattle.run_signatures.specs.declared.written.WrittenSignature.{WrittenSignature}
 use Rattle.run_signatures.specs.Met.{AreMet, IsWritten, Met, known, shaped, type_in, written_as}
 use Rattle.run_signatures.proofs.Kept.{lists_are, seen_as}
 use Rattle.run_signatures.proofs.Same.{shape_from, shape_to, truth_from, truths_same}
 
-module _ (m : Met) (a : Lists) (ps : List ℕ) (ws : List Written) (is : record { lists = a; types = map (type_in ps) ws } ≡ m) (met : AreMet a ps ws) (n : ℕ) (w : Written) (there : slice_get ws n ≡ Some w) where
+module _ (m : Met) (a : Lists) (ps : List ℕ) (ws : List WrittenSignature) (is : record { lists = a; types = map (type_in ps) ws } ≡ m) (met : AreMet a ps ws) (n : ℕ) (w : WrittenSignature) (there : slice_get ws n ≡ Some w) where
   -- its ids are of the arena
   pub written_here : IsWritten a ps w
   written_here = subst (IsWritten a ps) (get_or_from_slice_get ws n w w there) (met.written n w (slice_get_within ws n w there))

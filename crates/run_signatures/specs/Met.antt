@@ -5,7 +5,7 @@ use Rattle.module_arena.specs.Lists.{Lists}
 use Rattle.run_rules.specs.Action.{Signature}
 use Rattle.run_shapes.specs.Shapes.{shape_in}
 use Rattle.run_flat.specs.Spans.{spanned, IsSpanIn}
-use Rattle.run_signatures.specs.declared.written.Written.{Written}
+use Rattle.run_signatures.specs.declared.written.WrittenSignature.{WrittenSignature}
 
 -- a function type by the ids of its types
 pub record FunctionType : Type 0 where
@@ -40,16 +40,16 @@ IsNumberOf m s (Some number) = slice_get (known m) number ≡ Some s
 IsNumberOf m s None = (number : ℕ) → slice_get (known m) number ≢ Some s
 
 -- a function type whose parameters stand among those of all
-abbrev pub type_in : List ℕ → Written → FunctionType
+abbrev pub type_in : List ℕ → WrittenSignature → FunctionType
 type_in parameters w = record { returns = w.returns; parameters = spanned parameters w.parameters; variadic = w.variadic }
 
 -- its types are types of the arena
-pub record IsWritten (a : Lists) (parameters : List ℕ) (w : Written) : Type 0 where
+pub record IsWritten (a : Lists) (parameters : List ℕ) (w : WrittenSignature) : Type 0 where
   pub returns : w.returns < length a.table.types
   pub there : IsSpanIn parameters w.parameters
   pub known_types : All (λ ty. ty < length a.table.types) (spanned parameters w.parameters)
 
 -- each is of types of the arena, and no two are the same
-pub record AreMet (a : Lists) (parameters : List ℕ) (ws : List Written) : Type 0 where
+pub record AreMet (a : Lists) (parameters : List ℕ) (ws : List WrittenSignature) : Type 0 where
   pub written : All (IsWritten a parameters) ws
   pub distinct : AllPairs (λ v w. shaped a (type_in parameters v) ≢ shaped a (type_in parameters w)) ws

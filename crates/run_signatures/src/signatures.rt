@@ -6,7 +6,7 @@ ghost use Rattle.run_signatures.specs.Met.{IsNumberOf, known, none_met, written_
 ghost use Rattle.run_signatures.specs.Numbers.{Numbers};
 
 use crate::alike::are_alike;
-use crate::written::Written;
+use crate::written::WrittenSignature;
 use module_arena::Checked;
 use run_flat::{Pool, numbered};
 use std::alloc::{AllocError, Global};
@@ -18,7 +18,7 @@ use type_table::TypeId;
 #[derive(Drop)]
 pub struct Signatures<'m> {
     program: &'m Checked,
-    written: Pool<Written>,
+    written: Pool<WrittenSignature>,
     parameters: Pool<TypeId>,
 }
 
@@ -101,7 +101,7 @@ impl<'m> Signatures<'m> {
         ensures numbers { Numbers self.old self.new }
     {
         let parameters = self.parameters.append(parameters)?;
-        let number = self.written.push(Written {
+        let number = self.written.push(WrittenSignature {
             returns,
             parameters,
             variadic,

@@ -5,7 +5,7 @@ use type_table::TypeId;
 
 /// A function type, whose parameters stand among those of all.
 #[derive(Clone, Copy)]
-pub struct Written {
+pub struct WrittenSignature {
     pub returns: TypeId,
     pub parameters: Span,
     pub variadic: bool,

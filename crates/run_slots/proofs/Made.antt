@@ -4,7 +4,7 @@ use Rattle.std.specs.Prelude.{slice_get}
 use Rattle.type_table.specs.Outline.{parts_of}
 use Rattle.type_table.specs.Shape.{array_of, struct_of}
 use Rattle.type_table.specs.Types.{Types}
-use Rattle.run_shapes.specs.declared.form.Form.TheVariants as form
+use Rattle.run_shapes.specs.declared.form.TypeForm.TheVariants as form
 use Rattle.run_shapes.specs.Shapes.{IsMade, first_shape, shape_in, shapes_in}
 use Rattle.run_shapes.proofs.Outlines.{only_is}
 

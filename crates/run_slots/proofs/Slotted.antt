@@ -3,7 +3,7 @@ use Rattle.std.proofs.Common.{◌≡◌, Result, Ok, Err, OnOk, ℕ, zero, suc, 
 use Rattle.std.specs.Prelude.{if◌then◌else◌}
 use Rattle.std.proofs.lemmas.List.{at_drop_more, at_drop_all}
 use Rattle.run_rules.specs.Leaves.{Slot, field_slots, repeated, slots_at}
-use Rattle.type_table.specs.Layout.{align, all_leaves, end_after, greatest_align, leaves, placed, size}
+use Rattle.type_table.specs.Layout.{align, all_leaves, end_after, greatest_align, leaves, field_start, size}
 use Rattle.type_table.specs.Shape.{Label, Shape, int_leaf, ptr_leaf, void_leaf, opaque_leaf, array_of, struct_of, Shapes, no_shapes, more_shapes}
 use Rattle.type_table.specs.Types.{Types}
 use Rattle.type_table.proofs.Caps.{placed-le}
@@ -42,7 +42,7 @@ mutual
   no_field_slots : (ss : Shapes) (packed : Bool) (at end : ℕ) → all_leaves ss ≡ 0 → field_slots ss packed at end ≡ []
   no_field_slots no_shapes packed at end e = refl
   no_field_slots (more_shapes s ss) packed at end e = λ i.
-      no_slots s (at + placed packed end (align s)) (omega (arith, e)) i ++ no_field_slots ss packed at (placed packed end (align s) + size s) (omega (arith, e)) i
+      no_slots s (at + field_start packed end (align s)) (omega (arith, e)) i ++ no_field_slots ss packed at (field_start packed end (align s) + size s) (omega (arith, e)) i
 
 -- ---- elements
 
@@ -86,7 +86,7 @@ pub end_grows : (packed : Bool) (ss : Shapes) (end : ℕ) → end ≤ end_after 
 end_grows packed no_shapes end = omega arith
 end_grows packed (more_shapes s ss) end =
     let first = placed-le packed end (align s) in
-    let rest = end_grows packed ss (placed packed end (align s) + size s) in
+    let rest = end_grows packed ss (field_start packed end (align s) + size s) in
     omega (arith, first, rest)
 
 -- the fields from one on
@@ -98,7 +98,7 @@ pub no_fields_from : (t : Types) (ids : List ℕ) (k : ℕ) → length ids ≤ k
 no_fields_from t ids k le = at_drop_all (shapes_in t) ids k le
 
 -- one field more
-pub fields_more : (s : Shape) (ss : Shapes) (packed : Bool) (at end start : ℕ) (now next whole : List Slot) → start ≡ placed packed end (align s) → now ++ field_slots (more_shapes s ss) packed at end ≡ whole
+pub fields_more : (s : Shape) (ss : Shapes) (packed : Bool) (at end start : ℕ) (now next whole : List Slot) → start ≡ field_start packed end (align s) → now ++ field_slots (more_shapes s ss) packed at end ≡ whole
     → next ≡ now ++ slots_at s (at + start) → next ++ field_slots ss packed at (start + size s) ≡ whole
 fields_more s ss packed at end start now next whole is before added =
     ap (λ (l : List Slot). l ++ field_slots ss packed at (start + size s)) added
@@ -110,10 +110,10 @@ pub fields_end : (packed : Bool) (at end : ℕ) (ss : Shapes) (now whole : List 
 fields_end packed at end ss now whole none before = sym (append-nil now) ∙ ap (λ (us : Shapes). now ++ field_slots us packed at end) (sym none) ∙ before
 
 -- a field ends where the struct ends, or before
-pub field_ends : (packed : Bool) (s : Shape) (ss us : Shapes) (end whole : ℕ) → end_after packed end us ≡ whole → us ≡ more_shapes s ss → placed packed end (align s) + size s ≤ whole
+pub field_ends : (packed : Bool) (s : Shape) (ss us : Shapes) (end whole : ℕ) → end_after packed end us ≡ whole → us ≡ more_shapes s ss → field_start packed end (align s) + size s ≤ whole
 field_ends packed s ss us end whole e f =
-    let grows = end_grows packed ss (placed packed end (align s) + size s) in
-    let same : end_after packed (placed packed end (align s) + size s) ss ≡ whole = ap (end_after packed end) (sym f) ∙ e in
+    let grows = end_grows packed ss (field_start packed end (align s) + size s) in
+    let same : end_after packed (field_start packed end (align s) + size s) ss ≡ whole = ap (end_after packed end) (sym f) ∙ e in
     omega (arith, grows, same)
 
 -- a struct is as long as its fields at least

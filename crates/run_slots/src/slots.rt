@@ -7,7 +7,7 @@ ghost use Rattle.type_table.specs.Types.{structs, tree};
 ghost use Rattle.run_shapes.specs.Shapes.{shape_in, shapes_in};
 
 use ir_memory::Leaf;
-use run_shapes::{Form, form_of, layout_of, parts};
+use run_shapes::{TypeForm, form_of, layout_of, parts};
 use run_values::Slot;
 use std::alloc::AllocError;
 use type_table::{TypeId, TypeTable};
@@ -42,12 +42,12 @@ pub fn push_slots(
     }
     let parts = parts(types, ty);
     match form_of(types, ty) {
-        Form::Int(width) => push_slot(slots, Slot::new(at, Leaf::Int(width))),
-        Form::Pointer => push_slot(slots, Slot::new(at, Leaf::Ptr)),
-        Form::Array(count) => push_elements(types, parts[0], count, at, slots),
-        Form::Struct(packed) => push_fields(types, packed, parts, at, slots),
-        Form::Nothing => Ok(()),
-        Form::Opaque => Ok(()),
+        TypeForm::Int(width) => push_slot(slots, Slot::new(at, Leaf::Int(width))),
+        TypeForm::Pointer => push_slot(slots, Slot::new(at, Leaf::Ptr)),
+        TypeForm::Array(count) => push_elements(types, parts[0], count, at, slots),
+        TypeForm::Struct(packed) => push_fields(types, packed, parts, at, slots),
+        TypeForm::Nothing => Ok(()),
+        TypeForm::Opaque => Ok(()),
     }
 }
 
@@ -102,8 +102,8 @@ fn push_fields(
 /// "Structure Type").
 pub fn start_of(packed: bool, end: u64, align: u32) -> u64
     requires some { 1 ≤ align }
-    requires room { layouts.placed packed end align < 2 ^ 64 }
-    ensures { result ≡ layouts.placed packed end align }
+    requires room { layouts.field_start packed end align < 2 ^ 64 }
+    ensures { result ≡ layouts.field_start packed end align }
 {
     if packed {
         return end;

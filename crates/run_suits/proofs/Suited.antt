@@ -28,7 +28,7 @@ use Rattle.module_arena.specs.TypeTests.{is_integer, is_integer_of, is_passable,
 use Rattle.module_arena.specs.ValueRules.{case_numbers, index_of_operand, is_case_of}
 use Rattle.module_arena.proofs.SameValues.{type_is}
 use Rattle.run_constants.specs.Sound.{is_scalar}
-use Rattle.run_constants.proofs.OneLeaf.{cast_scalars, integer_scalar, pointer_scalar}
+use Rattle.run_constants.proofs.LeafKinds.{cast_scalars, integer_scalar, pointer_scalar}
 use Rattle.run_scopes.specs.Scopes.{Framed, HasOperand, HasScalar, operand_of}
 use Rattle.run_operands.specs.Suits.{BlockSuits, EndSuits, HasCall, HasCase, IsResult, Lies, Suits}
 use Rattle.run_suits.specs.Laws.{FunctionsSuit}

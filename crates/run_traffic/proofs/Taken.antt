@@ -2,7 +2,7 @@
 use Rattle.std.proofs.Common.{◌≡◌, ◌↔◌, ℕ, ◌≤◌, Bool, true, false, List, [], ◌∷◌, ◌++◌, length, Option, Some, None, IfSome, IsTrue, refl, sym, ap, ◌∙◌, inl, inr, arith}
 use Rattle.std.proofs.lemmas.List.{nil_from_length}
 use Rattle.ir_base.specs.Outside.{Lost}
-use Rattle.run_traffic.specs.Input.{Waiting, IsWaiting, left, IsNext, IsHeard, Takes}
+use Rattle.run_traffic.specs.Input.{Waiting, IsWaiting, bytes_left, IsNext, IsHeard, Takes}
 
 pub lost_none : (l : Option (List ℕ)) → Lost l l []
 lost_none None = refl
@@ -11,7 +11,7 @@ lost_none (Some xs) = refl
 -- ---- a byte that waits, or the end that was found before
 
 next_left : (unused others : List ℕ) (closed after : Bool) (byte : Option ℕ) (rest : List ℕ) → IsNext unused byte others → after ≡ closed → (unused ≡ [] → closed ≡ true)
-    → IsNext (left (record { unused = unused; closed = closed }) rest) byte (left (record { unused = others; closed = after }) rest)
+    → IsNext (bytes_left (record { unused = unused; closed = closed }) rest) byte (bytes_left (record { unused = others; closed = after }) rest)
 next_left [] others closed after byte rest n e end = rw (e, end refl, n.1) (n.0, refl)
 next_left (b ∷ bs) others closed after byte rest n e end = rw (e, n.1) (n.0, refl)
 
@@ -47,7 +47,7 @@ takes_unused old new byte l test h false_is n e =
 -- ---- a byte of those that were read, or the end
 
 next_heard : (heard others : List ℕ) (closed : Bool) (byte : Option ℕ) (rest : List ℕ) → IsNext heard byte others → ((closed ≡ true) ↔ (heard ≡ [])) → (closed ≡ true → rest ≡ [])
-    → IsNext (heard ++ rest) byte (others ++ (left (record { unused = []; closed = closed }) rest))
+    → IsNext (heard ++ rest) byte (others ++ (bytes_left (record { unused = []; closed = closed }) rest))
 next_heard [] others closed byte rest n c h =
     let shut : closed ≡ true = c.1 refl in
     rw (h shut, shut, n.1) (n.0, refl)

@@ -12,8 +12,8 @@ abbrev pub IsWaiting : Waiting → Type 0
 IsWaiting w = (w.unused ≡ []) × (w.closed ≡ false)
 
 -- the input that a run still has, where the source has `rest` left
-abbrev pub left : Waiting → List ℕ → List ℕ
-left w rest = w.unused ++ (if w.closed then [] else rest)
+abbrev pub bytes_left : Waiting → List ℕ → List ℕ
+bytes_left w rest = w.unused ++ (if w.closed then [] else rest)
 
 -- the first of the bytes, or None where there is none; the others are left
 abbrev pub IsNext : List ℕ → Option ℕ → List ℕ → Type 0
@@ -41,4 +41,4 @@ pub record Takes (old : Waiting) (byte : Option ℕ) (new : Waiting) (before now
   pub heard : List ℕ
   pub lost : Lost before now heard
   pub reads : ((heard ≡ []) × (new.closed ≡ old.closed)) ⊎ HasHeard old new heard now
-  pub next : (rest : List ℕ) → (old.closed ≡ false → new.closed ≡ true → rest ≡ []) → IsNext (left old (heard ++ rest)) byte (left new rest)
+  pub next : (rest : List ℕ) → (old.closed ≡ false → new.closed ≡ true → rest ≡ []) → IsNext (bytes_left old (heard ++ rest)) byte (bytes_left new rest)

@@ -13,8 +13,8 @@ use Rattle.run_rules.specs.Calls.{same_shape_list, same_signature}
 use Rattle.run_rules.specs.Look.{no_names}
 use Rattle.run_rules.specs.Resolve.{signature_in}
 use Rattle.run_shapes.specs.Shapes.{IsMade, made, shape_in, shapes_in}
-use Rattle.run_shapes.specs.declared.form.Form.{Form}
-use Rattle.run_shapes.specs.declared.form.Form.TheVariants as form
+use Rattle.run_shapes.specs.declared.form.TypeForm.{TypeForm}
+use Rattle.run_shapes.specs.declared.form.TypeForm.TheVariants as form
 use Rattle.run_types.specs.declared.wanted.Wanted.{Wanted}
 use Rattle.run_types.specs.declared.wanted.Wanted.TheVariants as wanted
 use Rattle.run_types.specs.Wanted.{fits_forms, is_plain, is_typed, pair_shape, shape_wanted}
@@ -38,7 +38,7 @@ and_flat false b c = refl
 
 -- ---- types without parts
 
-plain_is : (label : Label) (f : Form) (ss : Shapes) (w : Wanted) → ((width : ℕ) → w ≡ wanted.Pair width → ⊥) → same_shape (made label f ss) (shape_wanted w) ≡ is_plain f w
+plain_is : (label : Label) (f : TypeForm) (ss : Shapes) (w : Wanted) → ((width : ℕ) → w ≡ wanted.Pair width → ⊥) → same_shape (made label f ss) (shape_wanted w) ≡ is_plain f w
 plain_is label (form.Int v) ss (wanted.Int w) other = refl
 plain_is label form.Pointer ss (wanted.Int w) other = refl
 plain_is label form.Nothing ss (wanted.Int w) other = refl
@@ -60,7 +60,7 @@ plain_is label (form.Struct packed) ss wanted.Void other = refl
 plain_is label f ss (wanted.Pair w) other = absurd (other w refl)
 
 -- what is told of a form is told of the shape
-pub plain_told : (s : Shape) (f : Form) (ss : Shapes) (w : Wanted) → IsMade f ss s → ((width : ℕ) → w ≡ wanted.Pair width → ⊥) → is_plain f w ≡ same_shape s (shape_wanted w)
+pub plain_told : (s : Shape) (f : TypeForm) (ss : Shapes) (w : Wanted) → IsMade f ss s → ((width : ℕ) → w ≡ wanted.Pair width → ⊥) → is_plain f w ≡ same_shape s (shape_wanted w)
 plain_told s f ss w is other = sym (ap (λ s. same_shape s (shape_wanted w)) is.is ∙ plain_is is.label f ss w other)
 
 pub integer_is_no_pair : (v width : ℕ) → wanted.Int v ≡ wanted.Pair width → ⊥
@@ -71,7 +71,7 @@ integer_is_no_pair v width e = cc
 abbrev two : ℕ → Shapes
 two width = more_shapes (int_leaf width) (more_shapes (int_leaf 1) no_shapes)
 
-no_struct : (label : Label) (f : Form) (ss : Shapes) (width : ℕ) → ((packed : Bool) → f ≡ form.Struct packed → ⊥) → false ≡ same_shape (made label f ss) (pair_shape width)
+no_struct : (label : Label) (f : TypeForm) (ss : Shapes) (width : ℕ) → ((packed : Bool) → f ≡ form.Struct packed → ⊥) → false ≡ same_shape (made label f ss) (pair_shape width)
 no_struct label (form.Int v) ss width other = refl
 no_struct label form.Pointer ss width other = refl
 no_struct label form.Nothing ss width other = refl
@@ -79,7 +79,7 @@ no_struct label form.Opaque ss width other = refl
 no_struct label (form.Array n) ss width other = refl
 no_struct label (form.Struct packed) ss width other = absurd (other packed refl)
 
-pub no_pair : (s : Shape) (f : Form) (ss : Shapes) (width : ℕ) → IsMade f ss s → ((packed : Bool) → f ≡ form.Struct packed → ⊥) → false ≡ same_shape s (pair_shape width)
+pub no_pair : (s : Shape) (f : TypeForm) (ss : Shapes) (width : ℕ) → IsMade f ss s → ((packed : Bool) → f ≡ form.Struct packed → ⊥) → false ≡ same_shape s (pair_shape width)
 no_pair s f ss width is other = no_struct is.label f ss width other ∙ ap (λ s. same_shape s (pair_shape width)) (sym is.is)
 
 pub packed_pair : (s : Shape) (packed : Bool) (ss : Shapes) (width : ℕ) → IsMade (form.Struct packed) ss s → packed ≡ true → false ≡ same_shape s (pair_shape width)

@@ -6,11 +6,11 @@ use Rattle.run_rules.specs.Leaves.{element, leaves_before, leaves_before_part, p
 use Rattle.type_table.specs.Layout.{leaves}
 use Rattle.type_table.specs.Shape.{Shape}
 use Rattle.type_table.specs.Types.{Types, structs, tree}
-use Rattle.run_types.specs.declared.part.Part.{Part}
+use Rattle.run_types.specs.declared.part.ValuePart.{ValuePart}
 use Rattle.run_shapes.specs.Shapes.{HasElement, HasPath, shape_in}
 
 -- from a part the indices from one on lead to where all lead from the whole
-pub record IsOnTheWay (t : Types) (whole : ℕ) (indices : List ℕ) (k : ℕ) (p : Part) : Type 0 where
+pub record IsOnTheWay (t : Types) (whole : ℕ) (indices : List ℕ) (k : ℕ) (p : ValuePart) : Type 0 where
   pub known : p.ty < length t.types
   pub laid : lies_in_memory (structs t) (tree t p.ty) ≡ true
   pub there : HasPath (shape_in t p.ty) (drop k indices)
@@ -19,7 +19,7 @@ pub record IsOnTheWay (t : Types) (whole : ℕ) (indices : List ℕ) (k : ℕ) (
   pub within : p.before + leaves (shape_in t p.ty) ≤ leaves (shape_in t whole)
 
 -- one index more
-pub one_further : (t : Types) (whole : ℕ) (indices : List ℕ) (k i : ℕ) (p q : Part) → k < length indices → i ≡ get_or indices k 0 → IsOnTheWay t whole indices k p
+pub one_further : (t : Types) (whole : ℕ) (indices : List ℕ) (k i : ℕ) (p q : ValuePart) → k < length indices → i ≡ get_or indices k 0 → IsOnTheWay t whole indices k p
     → q.ty < length t.types → lies_in_memory (structs t) (tree t q.ty) ≡ true → shape_in t q.ty ≡ element (shape_in t p.ty) i → q.before ≡ p.before + leaves_before (shape_in t p.ty) i
     → q.before + leaves (shape_in t q.ty) ≤ p.before + leaves (shape_in t p.ty) → IsOnTheWay t whole indices (k + 1) q
 one_further t whole indices k i p q lt is way known laid shape before within =
@@ -39,7 +39,7 @@ one_further t whole indices k i p q lt is way known laid shape before within =
     }
 
 -- and no index is left
-pub at_the_end : (t : Types) (whole : ℕ) (indices : List ℕ) (k : ℕ) (p : Part) → length indices ≤ k → IsOnTheWay t whole indices k p
+pub at_the_end : (t : Types) (whole : ℕ) (indices : List ℕ) (k : ℕ) (p : ValuePart) → length indices ≤ k → IsOnTheWay t whole indices k p
     → (shape_in t p.ty ≡ part (shape_in t whole) indices) × (p.before ≡ leaves_before_part (shape_in t whole) indices)
 at_the_end t whole indices k p le way =
     let none : drop k indices ≡ [] = at_drop_all (λ (l : List ℕ). l) indices k le in
@@ -48,7 +48,7 @@ at_the_end t whole indices k p le way =
     (ap (part (shape_in t p.ty)) (sym none) ∙ way.shape, omega (arith, rest, told))
 
 -- what the next index leads to is there
-pub next_there : (t : Types) (whole : ℕ) (indices : List ℕ) (k i : ℕ) (p : Part) → k < length indices → i ≡ get_or indices k 0 → IsOnTheWay t whole indices k p → HasElement (shape_in t p.ty) i
+pub next_there : (t : Types) (whole : ℕ) (indices : List ℕ) (k i : ℕ) (p : ValuePart) → k < length indices → i ≡ get_or indices k 0 → IsOnTheWay t whole indices k p → HasElement (shape_in t p.ty) i
 next_there t whole indices k i p lt is way =
     let here : drop k indices ≡ i ∷ drop (k + 1) indices = at_drop_more (λ (l : List ℕ). l) indices k 0 lt ∙ ap (λ (n : ℕ). n ∷ drop (k + 1) indices) (sym is) in
     let there : HasElement (shape_in t p.ty) i × HasPath (element (shape_in t p.ty) i) (drop (k + 1) indices) = subst (HasPath (shape_in t p.ty)) here way.there in

@@ -12,8 +12,8 @@ use Rattle.run_rules.specs.Calls.{same_signature}
 use Rattle.run_rules.specs.Look.{no_names}
 use Rattle.run_rules.specs.Resolve.{signature_in}
 use Rattle.run_shapes.specs.Shapes.{shape_in}
-use Rattle.run_shapes.specs.declared.form.Form.{Form}
-use Rattle.run_shapes.specs.declared.form.Form.TheVariants as form
+use Rattle.run_shapes.specs.declared.form.TypeForm.{TypeForm}
+use Rattle.run_shapes.specs.declared.form.TypeForm.TheVariants as form
 use Rattle.run_types.specs.declared.wanted.Wanted.{Wanted}
 use Rattle.run_types.specs.declared.wanted.Wanted.TheVariants as wanted
 
@@ -29,7 +29,7 @@ shape_wanted wanted.Void = void_leaf
 shape_wanted (wanted.Pair width) = pair_shape width
 
 -- a form is that of a type without parts that is asked for
-abbrev pub is_plain : Form → Wanted → Bool
+abbrev pub is_plain : TypeForm → Wanted → Bool
 is_plain (form.Int width) (wanted.Int other) = width == other
 is_plain form.Pointer wanted.Ptr = true
 is_plain form.Nothing wanted.Void = true

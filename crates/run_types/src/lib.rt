@@ -16,6 +16,6 @@ mod part;
 mod row;
 mod wanted;
 
-pub use part::{Part, part_of};
+pub use part::{ValuePart, part_of};
 pub use row::fits_row;
 pub use wanted::only_leaf;

@@ -6,12 +6,12 @@ ghost use Rattle.type_table.specs.Layout as layouts;
 ghost use Rattle.type_table.specs.Types.{structs, tree};
 ghost use Rattle.run_shapes.specs.Shapes.{HasElement, HasPath, shape_in, shapes_in};
 
-use run_shapes::{Form, element, form_of, layout_of, parts};
+use run_shapes::{TypeForm, element, form_of, layout_of, parts};
 use type_table::{TypeId, TypeTable};
 
 /// A part of a value: its type, and how many leaves of the value stand before it.
 #[derive(Clone, Copy)]
-pub struct Part {
+pub struct ValuePart {
     pub ty: TypeId,
     pub before: u64,
 }
@@ -71,17 +71,17 @@ fn leaves_before(types: &TypeTable, ty: TypeId, index: u32) -> u64
     let _count = types.type_count();
     let parts = parts(types, ty);
     match form_of(types, ty) {
-        Form::Array(_length) => leaves_of_elements(types, only_part(parts), index),
-        Form::Struct(_packed) => leaves_of(types, front(parts, index)),
-        Form::Int(_) => 0,
-        Form::Pointer => 0,
-        Form::Nothing => 0,
-        Form::Opaque => 0,
+        TypeForm::Array(_length) => leaves_of_elements(types, only_part(parts), index),
+        TypeForm::Struct(_packed) => leaves_of(types, front(parts, index)),
+        TypeForm::Int(_) => 0,
+        TypeForm::Pointer => 0,
+        TypeForm::Nothing => 0,
+        TypeForm::Opaque => 0,
     }
 }
 
 /// The part of a part to which an index leads.
-fn part_in(types: &TypeTable, part: Part, index: u32) -> Part
+fn part_in(types: &TypeTable, part: ValuePart, index: u32) -> ValuePart
     requires known { part.ty < length types.now.types }
     requires laid { lies_in_memory (structs types.now) (tree types.now part.ty) ≡ true }
     requires there { HasElement (shape_in types.now part.ty) index }
@@ -94,13 +94,13 @@ fn part_in(types: &TypeTable, part: Part, index: u32) -> Part
 {
     let before = part.before + leaves_before(types, part.ty, index);
     match element(types, part.ty, u128::from(index)) {
-        Some(ty) => Part { ty, before },
+        Some(ty) => ValuePart { ty, before },
         None => unreachable!(),
     }
 }
 
 /// The part of a value to which indices lead, each within the part before (LangRef, "extractvalue Instruction").
-pub fn part_of(types: &TypeTable, whole: TypeId, indices: &[u32]) -> Part
+pub fn part_of(types: &TypeTable, whole: TypeId, indices: &[u32]) -> ValuePart
     requires known { whole < length types.now.types }
     requires laid { lies_in_memory (structs types.now) (tree types.now whole) ≡ true }
     requires there { HasPath (shape_in types.now whole) indices.now }
@@ -111,7 +111,7 @@ pub fn part_of(types: &TypeTable, whole: TypeId, indices: &[u32]) -> Part
     ensures before { result.before ≡ leaves.leaves_before_part (shape_in types.now whole) indices.now }
     ensures within { result.before + layouts.leaves (shape_in types.now result.ty) ≤ layouts.leaves (shape_in types.now whole) }
 {
-    let mut part = Part {
+    let mut part = ValuePart {
         ty: whole,
         before: 0,
     };

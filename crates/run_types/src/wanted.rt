@@ -7,7 +7,7 @@ ghost use Rattle.run_types.specs.Wanted.{is_plain, leaf_of, pair_shape, shape_wa
 ghost use Rattle.type_table.specs.Shape.{int_leaf};
 
 use ir_memory::Leaf;
-use run_shapes::{Form, form_of, parts};
+use run_shapes::{TypeForm, form_of, parts};
 use type_table::{TypeId, TypeTable};
 
 /// A type that a host function has in its function type.
@@ -24,14 +24,14 @@ pub(crate) enum Wanted {
 }
 
 /// Whether a form is that of a type without parts that is asked for.
-fn is_plain(form: Form, wanted: Wanted) -> bool
+fn is_plain(form: TypeForm, wanted: Wanted) -> bool
     ensures { result ≡ is_plain form wanted }
 {
     match form {
-        Form::Int(width) => matches!(wanted, Wanted::Int(other) if other == width),
-        Form::Pointer => matches!(wanted, Wanted::Ptr),
-        Form::Nothing => matches!(wanted, Wanted::Void),
-        Form::Opaque | Form::Array(_) | Form::Struct(_) => false,
+        TypeForm::Int(width) => matches!(wanted, Wanted::Int(other) if other == width),
+        TypeForm::Pointer => matches!(wanted, Wanted::Ptr),
+        TypeForm::Nothing => matches!(wanted, Wanted::Void),
+        TypeForm::Opaque | TypeForm::Array(_) | TypeForm::Struct(_) => false,
     }
 }
 
@@ -48,7 +48,7 @@ fn is_pair(types: &TypeTable, ty: TypeId, width: u8) -> bool
     requires { ty < length types.now.types }
     ensures { result ≡ same_shape (shape_in types.now ty) (pair_shape width) }
 {
-    let Form::Struct(packed) = form_of(types, ty) else {
+    let TypeForm::Struct(packed) = form_of(types, ty) else {
         return false;
     };
     if packed {
@@ -96,11 +96,11 @@ pub fn only_leaf(types: &TypeTable, ty: TypeId) -> Option<Leaf>
     ensures { result ≡ leaf_of (shape_in types.now ty) }
 {
     match form_of(types, ty) {
-        Form::Int(width) => Some(Leaf::Int(width)),
-        Form::Pointer => Some(Leaf::Ptr),
-        Form::Nothing => None,
-        Form::Opaque => None,
-        Form::Array(_) => None,
-        Form::Struct(_) => None,
+        TypeForm::Int(width) => Some(Leaf::Int(width)),
+        TypeForm::Pointer => Some(Leaf::Ptr),
+        TypeForm::Nothing => None,
+        TypeForm::Opaque => None,
+        TypeForm::Array(_) => None,
+        TypeForm::Struct(_) => None,
     }
 }

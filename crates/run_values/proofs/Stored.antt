@@ -9,7 +9,7 @@ use Rattle.ir_eval.specs.declared.value.Scalar.{Scalar}
 use Rattle.ir_eval.specs.declared.value.Scalar.TheVariants as scalar
 use Rattle.ir_memory.specs.declared.leaf.Leaf.{Leaf}
 use Rattle.ir_memory.specs.declared.leaf.Leaf.TheVariants as leaf
-use Rattle.ir_memory.specs.Block.{Block}
+use Rattle.ir_memory.specs.Block.{MemoryBlock}
 use Rattle.ir_memory.specs.Given.{Fits, HasKnown}
 use Rattle.ir_memory.specs.Memory.{Blocks, stored}
 use Rattle.linkage_rules.proofs.Steps.{drop_more}
@@ -57,7 +57,7 @@ module _ (ss : List Slot) (vs : List Scalar) (count : length vs ≡ length ss) (
   pub fits_at : (blocks : ℕ) (d : Scalar) (kind : Leaf) → AreStored blocks (zip ss vs) → kind ≡ s.leaf → Fits kind (get_or vs k d)
   fits_at blocks d kind h of = subst (λ kind. Fits kind (get_or vs k d)) (sym of) (of_fits blocks s.leaf (get_or vs k d) (kind_at blocks d h))
 
-  pub known_at : (bs : List Block) (blocks : ℕ) (d : Scalar) → AreStored blocks (zip ss vs) → length bs ≡ blocks → HasKnown bs (get_or vs k d)
+  pub known_at : (bs : List MemoryBlock) (blocks : ℕ) (d : Scalar) → AreStored blocks (zip ss vs) → length bs ≡ blocks → HasKnown bs (get_or vs k d)
   known_at bs blocks d h same = has_known bs s.leaf (get_or vs k d) (subst (λ n. IsOf n s.leaf (get_or vs k d)) (sym same) (kind_at blocks d h))
 
 module _ (p : Pointer) (align : ℕ) (xs : List (Slot × Scalar)) (m : Blocks) where

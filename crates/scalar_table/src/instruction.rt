@@ -3,7 +3,7 @@ use ir_tables::{Flag, Flags, Opcode, Predicate};
 
 /// An instruction over integers of 4 bits. A cast goes to another width.
 #[derive(Clone, Copy, Debug, PartialEq, Eq)]
-pub enum Instruction {
+pub enum ScalarCall {
     /// An operation on two integers, and its flags.
     Binary(Opcode, Flags),
     /// A comparison, and whether it has `samesign`.
@@ -12,7 +12,7 @@ pub enum Instruction {
     Cast(Opcode, Flags, u8),
 }
 
-impl Instruction {
+impl ScalarCall {
     /// The instruction on the line, if there is one.
     pub fn read(line: &str) -> Option<Self> {
         let mut op = None;
@@ -32,16 +32,16 @@ impl Instruction {
         }
         match (op?, predicate, to) {
             (Opcode::ICmp, Some(predicate), None) => {
-                Some(Instruction::Compare(predicate, flags.has(Flag::Samesign)))
+                Some(ScalarCall::Compare(predicate, flags.has(Flag::Samesign)))
             }
-            (op, None, Some(to)) => Some(Instruction::Cast(op, flags, to)),
-            (op, None, None) => Some(Instruction::Binary(op, flags)),
+            (op, None, Some(to)) => Some(ScalarCall::Cast(op, flags, to)),
+            (op, None, None) => Some(ScalarCall::Binary(op, flags)),
             _ => None,
         }
     }
 
     /// Whether it has one operand.
     pub fn is_cast(&self) -> bool {
-        matches!(self, Instruction::Cast(_, _, _))
+        matches!(self, ScalarCall::Cast(_, _, _))
     }
 }

@@ -10,7 +10,7 @@ mod instruction;
 mod results;
 mod row;
 
-use instruction::Instruction;
+use instruction::ScalarCall;
 use results::text_of;
 use row::text_of_row;
 use std::io;
@@ -20,7 +20,7 @@ fn main(rt: HostRuntime) -> io::Result<()> {
         let line = line?;
         let text = match line.as_str().strip_prefix("row ") {
             Some(words) => text_of_row(rt.alloc(), words)?,
-            None => match Instruction::read(line.as_str()) {
+            None => match ScalarCall::read(line.as_str()) {
                 Some(instruction) => text_of(rt.alloc(), instruction)?,
                 None => String::from_str(rt.alloc(), " no such instruction")?,
             },

@@ -3,7 +3,7 @@ ghost use Rattle.std.specs.Prelude.{IsTrue};
 ghost use Rattle.ir_eval.specs.Value.{IsInteger};
 ghost use Rattle.ir_eval.specs.Scalar.{is_binary};
 
-use crate::instruction::Instruction;
+use crate::instruction::ScalarCall;
 use ir_eval::{Pointer, Scalar, binary, cast, compare};
 use ir_tables::{Opcode, UndefinedKind};
 use std::alloc::{AllocError, Global};
@@ -14,7 +14,7 @@ const WIDTH: u8 = 4;
 const OPERANDS: u8 = 17;
 
 /// The results in order, each behind a space. The first operand varies slowest; a cast has one operand.
-pub fn text_of(alloc: Global, instruction: Instruction) -> Result<String, AllocError> {
+pub fn text_of(alloc: Global, instruction: ScalarCall) -> Result<String, AllocError> {
     let mut text = String::new(alloc);
     let seconds = if instruction.is_cast() { 1 } else { OPERANDS };
     for first in 0..OPERANDS {
@@ -51,25 +51,21 @@ pub fn is_binary(op: Opcode) -> bool
 }
 
 // None where the instruction is none of those that the crate is for.
-fn result_of(
-    instruction: Instruction,
-    a: Scalar,
-    b: Scalar,
-) -> Option<Result<Scalar, UndefinedKind>>
+fn result_of(instruction: ScalarCall, a: Scalar, b: Scalar) -> Option<Result<Scalar, UndefinedKind>>
     requires a { IsInteger 4 a }
     requires b { IsInteger 4 b }
 {
     match instruction {
-        Instruction::Binary(op, flags) => {
+        ScalarCall::Binary(op, flags) => {
             if !is_binary(op) {
                 return None;
             }
             Some(binary(op, flags, WIDTH, a, b))
         }
-        Instruction::Compare(predicate, samesign) => Some(Ok(compare(
+        ScalarCall::Compare(predicate, samesign) => Some(Ok(compare(
             predicate, samesign, WIDTH, a, b,
         ))),
-        Instruction::Cast(op, flags, to) => match op {
+        ScalarCall::Cast(op, flags, to) => match op {
             Opcode::Trunc if 1 <= to && to < WIDTH => Some(Ok(cast(op, flags, WIDTH, to, a))),
             Opcode::ZExt | Opcode::SExt if WIDTH < to && to <= 128 => Some(Ok(cast(
                 op, flags, WIDTH, to, a,

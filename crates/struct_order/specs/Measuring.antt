@@ -6,7 +6,7 @@ use Rattle.type_table.specs.Measures.{opaque_measure}
 use Rattle.type_table.specs.Tree.{TreeBody, opaque_body, Structs}
 use Rattle.module_arena.specs.Module.{Bytes}
 use Rattle.name_table.specs.Entries.{value_of}
-use Rattle.ir_syntax.specs.declared.item.StructBody.{StructBody}
+use Rattle.ir_syntax.specs.declared.item.WrittenBody.{WrittenBody}
 use Rattle.ir_syntax.specs.View.{body_view, items_view}
 use Rattle.name_rules.specs.Written.{body_in}
 use Rattle.name_rules.specs.Measured.{body_measured, look_in, struct_measures}
@@ -33,7 +33,7 @@ abbrev pub array_length : ℕ → ℕ
 array_length length = min length (2 ^ 64 - 1)
 
 -- the bodies behind these references
-abbrev pub bodies_in : List (Bor StructBody) → List TreeBody
+abbrev pub bodies_in : List (Bor WrittenBody) → List TreeBody
 bodies_in bodies = map (λ body. body_in (body_view body.now)) bodies
 
 -- the bodies of structs

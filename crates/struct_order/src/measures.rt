@@ -15,7 +15,7 @@ ghost use Rattle.struct_order.specs.Measuring.{measure_in, bodies_in, bodies_of,
 use crate::dependency_order;
 use crate::mentions::struct_numbers;
 use ir_constants::Type;
-use ir_syntax::{Item, Items, StructBody};
+use ir_syntax::{Item, Items, WrittenBody};
 use ir_terminals::Integer;
 use name_table::NameTable;
 use std::alloc::{AllocError, Global};
@@ -89,18 +89,18 @@ fn fields_measure(table: &MeasureTable, packed: bool, fields: &[Type]) -> Option
 }
 
 /// The measure of a struct with that body, likewise.
-fn body_measure(table: &MeasureTable, body: &StructBody) -> Option<Measure>
+fn body_measure(table: &MeasureTable, body: &WrittenBody) -> Option<Measure>
     ensures { result ≡ body_measured (measure_in table.now) (body_in (body_view body.now)) }
 {
     match body {
-        StructBody::Opaque => Some(Measure::opaque()),
-        StructBody::Plain(fields) => fields_measure(table, false, fields),
-        StructBody::Packed(fields) => fields_measure(table, true, fields),
+        WrittenBody::Opaque => Some(Measure::opaque()),
+        WrittenBody::Plain(fields) => fields_measure(table, false, fields),
+        WrittenBody::Packed(fields) => fields_measure(table, true, fields),
     }
 }
 
 /// The bodies of the structs, in the order of the text.
-fn struct_bodies<'a>(alloc: Global, items: &'a Items) -> Result<Vec<&'a StructBody>, AllocError>
+fn struct_bodies<'a>(alloc: Global, items: &'a Items) -> Result<Vec<&'a WrittenBody>, AllocError>
     ensures { IfOk result (λ bodies. bodies_in bodies.items ≡ bodies_of (structs_in (items_view items.now))) }
 {
     let mut bodies = Vec::new(alloc);
@@ -111,7 +111,7 @@ fn struct_bodies<'a>(alloc: Global, items: &'a Items) -> Result<Vec<&'a StructBo
 }
 
 /// Adds the body of the item, where it is a struct.
-fn add_body<'a>(item: &'a Item, bodies: &mut Vec<&'a StructBody>) -> Result<(), AllocError>
+fn add_body<'a>(item: &'a Item, bodies: &mut Vec<&'a WrittenBody>) -> Result<(), AllocError>
     ensures { OnOk result (bodies_in bodies.new.items ≡ bodies_in bodies.old.items ++ bodies_of (structs_in (item_view item.now ∷ []))) }
 {
     match item {
@@ -124,7 +124,7 @@ fn add_body<'a>(item: &'a Item, bodies: &mut Vec<&'a StructBody>) -> Result<(), 
 }
 
 /// Gives the struct with that number the measure of its body.
-fn measure_struct(table: &mut MeasureTable, bodies: &[&StructBody], number: usize)
+fn measure_struct(table: &mut MeasureTable, bodies: &[&WrittenBody], number: usize)
     requires { number < length bodies.now }
     ensures numbers { table.new.numbers ≡ table.old.numbers }
     ensures measures { table.new.measures.items ≡ with_measure table.old.numbers (bodies_in bodies.now) table.old.measures.items number }
@@ -136,7 +136,7 @@ fn measure_struct(table: &mut MeasureTable, bodies: &[&StructBody], number: usiz
 }
 
 /// Gives the structs their measures, in that order.
-fn measure_along(table: &mut MeasureTable, bodies: &[&StructBody], order: &[u32])
+fn measure_along(table: &mut MeasureTable, bodies: &[&WrittenBody], order: &[u32])
     requires { (number : ℕ) → stands_in order.now number ≡ true → number < length bodies.now }
     ensures numbers { table.new.numbers ≡ table.old.numbers }
     ensures measures { table.new.measures.items ≡ with_measures table.old.numbers (bodies_in bodies.now) table.old.measures.items order.now }
@@ -150,7 +150,7 @@ fn measure_along(table: &mut MeasureTable, bodies: &[&StructBody], order: &[u32]
 fn unmeasured<'a>(
     alloc: Global,
     numbers: NameTable<'a, u32>,
-    bodies: &[&StructBody],
+    bodies: &[&WrittenBody],
 ) -> Result<MeasureTable<'a>, AllocError>
     ensures numbers { IfOk result (λ table. table.numbers ≡ numbers.entry) }
     ensures count { IfOk result (λ table. length table.measures.items ≡ length bodies.now) }

@@ -12,7 +12,7 @@ ghost use Rattle.struct_order.specs.Mentions.{AreNumbers, numbers_of, mentions_o
 ghost use Rattle.struct_order.specs.Order.{mention_lists};
 
 use ir_constants::Type;
-use ir_syntax::{Item, Items, StructBody};
+use ir_syntax::{Item, Items, WrittenBody};
 use ir_terminals::PlacedName;
 use name_table::NameTable;
 use std::alloc::{AllocError, Global};
@@ -100,14 +100,14 @@ fn add_types(
 fn body_mentions(
     alloc: Global,
     numbers: &NameTable<u32>,
-    body: &StructBody,
+    body: &WrittenBody,
 ) -> Result<Vec<u32>, AllocError>
     ensures { IfOk result (λ found. found.items ≡ numbers_of numbers.now (body_names (body_in (body_view body.now)))) }
 {
     let mut found = Vec::new(alloc);
     match body {
-        StructBody::Opaque => {}
-        StructBody::Plain(fields) | StructBody::Packed(fields) => {
+        WrittenBody::Opaque => {}
+        WrittenBody::Plain(fields) | WrittenBody::Packed(fields) => {
             add_types(numbers, fields, &mut found)?;
         }
     }
@@ -120,7 +120,7 @@ fn struct_mentions(
     numbers: &NameTable<u32>,
     number: u32,
     name: &PlacedName,
-    body: &StructBody,
+    body: &WrittenBody,
 ) -> Result<Vec<u32>, AllocError>
     ensures { IfOk result (λ found. found.items ≡ mentions_of numbers.now number (name.now.name, body_in (body_view body.now))) }
 {

@@ -15,7 +15,7 @@ use Rattle.linkage_rules.specs.declared.symbol.Symbol.{Symbol}
 use Rattle.linkage_rules.specs.declared.symbol.Symbol.TheVariants.{Shared, Local}
 use Rattle.linkage_rules.proofs.Shapes.{alike_self}
 use Rattle.module_arena.specs.Module.{Bytes, Module}
-use Rattle.module_linker.specs.Rename.{named, new_name}
+use Rattle.module_linker.specs.Rename.{with_given_names, new_name}
 use Rattle.module_linker.specs.Structs.{same_struct, shape_of}
 use Rattle.module_linker.proofs.Merged.{given_after, named_append}
 use Rattle.module_linker.proofs.StructRows.{key, key_exact, same_key}
@@ -124,7 +124,7 @@ module _ (parts : List Module) where
   names_more : (ss : List Symbol) (i : ℕ) (name : Bytes) → names_given parts (ss ++ Local i name ∷ []) ≡ names_given parts ss ++ new_name (λ n. n) everywhere (given_after (λ n. n) everywhere [] ss) name ∷ []
   names_more ss i name =
       ap (map (λ (r : Symbol × Bytes). r.1)) (named_append (λ n. n) everywhere [] ss (Local i name ∷ []))
-      ∙ map-append (λ (r : Symbol × Bytes). r.1) (named (λ n. n) everywhere [] ss) ((Local i name, new_name (λ n. n) everywhere (given_after (λ n. n) everywhere [] ss) name) ∷ [])
+      ∙ map-append (λ (r : Symbol × Bytes). r.1) (with_given_names (λ n. n) everywhere [] ss) ((Local i name, new_name (λ n. n) everywhere (given_after (λ n. n) everywhere [] ss) name) ∷ [])
 
 -- ---- one struct more
 

@@ -5,7 +5,7 @@ use Rattle.linkage_rules.specs.Lists.{firsts}
 use Rattle.linkage_rules.specs.declared.symbol.Symbol.{Symbol}
 use Rattle.linkage_rules.specs.declared.symbol.Symbol.TheVariants.{Local}
 use Rattle.module_arena.specs.Module.{Bytes, Module}
-use Rattle.module_linker.specs.Rename.{named, new_name}
+use Rattle.module_linker.specs.Rename.{with_given_names, new_name}
 use Rattle.module_linker.specs.Structs.{shape_of, same_struct}
 use Rattle.module_linker.proofs.Merged.{given_after}
 use Rattle.type_table.specs.Shape.{Label, Shape, int_leaf, ptr_leaf, void_leaf, opaque_leaf, array_of, struct_of}
@@ -44,7 +44,7 @@ first_of_each parts done = firsts (same_struct parts) done
 
 -- the names of these structs, one behind the other
 abbrev pub names_given : List Module → List Symbol → List Bytes
-names_given parts ss = map (λ row. row.1) (named (λ name. name) (all_struct_names parts) [] ss)
+names_given parts ss = map (λ row. row.1) (with_given_names (λ name. name) (all_struct_names parts) [] ss)
 
 -- There is a row for each of the structs that were looked at, and it has its name.
 pub record AreRows (parts : List Module) (done : List Symbol) (rows : Rows) : Type 0 where

@@ -3,7 +3,7 @@
 use ir_base::Place;
 use ir_instructions::{Alloca, Block, Call, Ending, Operation};
 use ir_syntax::{
-    Alias, AliasType, Declaration, Definition, FormalParameters, Item, StructBody, Variable,
+    Alias, AliasType, Declaration, Definition, FormalParameters, Item, Variable, WrittenBody,
 };
 use ir_tables::{Flags, Linkage};
 use ir_terminals::{Integer, PlacedName};
@@ -73,11 +73,11 @@ fn print_alias(rt: &HostRuntime, alias: &Alias) -> io::Result<()> {
     }
 }
 
-fn print_struct(rt: &HostRuntime, name: &PlacedName, body: &StructBody) -> io::Result<()> {
+fn print_struct(rt: &HostRuntime, name: &PlacedName, body: &WrittenBody) -> io::Result<()> {
     let (word, fields) = match body {
-        StructBody::Opaque => ("opaque ", None),
-        StructBody::Plain(fields) => ("plain ", Some(fields.len())),
-        StructBody::Packed(fields) => ("packed ", Some(fields.len())),
+        WrittenBody::Opaque => ("opaque ", None),
+        WrittenBody::Plain(fields) => ("plain ", Some(fields.len())),
+        WrittenBody::Packed(fields) => ("packed ", Some(fields.len())),
     };
     print!(rt; "{word}")?;
     print_name(rt, name)?;

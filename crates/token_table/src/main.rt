@@ -23,7 +23,7 @@ const FEW: usize = 40;
 
 const LIMITS: Limits = Limits {
     nesting: 64,
-    wide: false,
+    with_left_out: false,
 };
 
 /// Prints the place, the kind, the class and the spelling of the next token.

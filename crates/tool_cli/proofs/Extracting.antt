@@ -4,7 +4,7 @@ use Rattle.std.specs.Prelude.{IfOk, IfErr, OnOk}
 use Rattle.command_line.specs.declared.command.Command.{Command}
 use Rattle.command_line.specs.declared.command.Command.TheVariants.{Extract}
 use Rattle.command_line.specs.declared.command.OutputName.{OutputName}
-use Rattle.command_line.specs.declared.command.Selection as words
+use Rattle.command_line.specs.declared.command.SelectionWords as words
 use Rattle.extract_core.specs.Extracted.{Extracted}
 use Rattle.extract_core.specs.Faults.{HasFault}
 use Rattle.extract_core.specs.Selected.{no_such_symbol}
@@ -26,16 +26,16 @@ use Rattle.tool_cli.specs.Told.{part_end, IsExtraction, IsWork}
 -- An input that stands for a module.
 
 -- a module in which a selected name is not there
-missing_unextracted : (name bytes : List ℕ) (selection : words.Selection) (m : Module) (ended : Ended) → IsPart bytes m → (ended ≡ part_end (no_such_symbol m (selection_of selection))) ⊎ (ended ≡ Memory) → IsExtraction name selection bytes ended ⊎ (ended ≡ Memory)
+missing_unextracted : (name bytes : List ℕ) (selection : words.SelectionWords) (m : Module) (ended : Ended) → IsPart bytes m → (ended ≡ part_end (no_such_symbol m (selection_of selection))) ⊎ (ended ≡ Memory) → IsExtraction name selection bytes ended ⊎ (ended ≡ Memory)
 missing_unextracted name bytes selection m ended is (inl told) = inl (inr (m, is, told))
 missing_unextracted name bytes selection m ended is (inr none) = inr none
 
 -- what is found: a part, or an end
-pub found_extracted : (bytes : List ℕ) (selection : words.Selection) (m : Module) (found : Result Lists Ended) → IsPart bytes m → OnOk found (no_such_symbol m (selection_of selection) ≡ None) → IfOk found (λ part. module_of part ≡ Extracted m (selection_of selection)) → IfOk found (λ part. ExtractsTo bytes selection (module_of part))
+pub found_extracted : (bytes : List ℕ) (selection : words.SelectionWords) (m : Module) (found : Result Lists Ended) → IsPart bytes m → OnOk found (no_such_symbol m (selection_of selection) ≡ None) → IfOk found (λ part. module_of part ≡ Extracted m (selection_of selection)) → IfOk found (λ part. ExtractsTo bytes selection (module_of part))
 found_extracted bytes selection m (Ok part) is there extracted = record { whole = m; is_part = is; there = there; extracted = extracted }
 found_extracted bytes selection m (Err ended) is there extracted = tt
 
-pub found_unextracted : (name bytes : List ℕ) (selection : words.Selection) (m : Module) (found : Result Lists Ended) → IsPart bytes m → IfErr found (λ ended. (ended ≡ part_end (no_such_symbol m (selection_of selection))) ⊎ (ended ≡ Memory)) → IfErr found (λ ended. IsExtraction name selection bytes ended ⊎ (ended ≡ Memory))
+pub found_unextracted : (name bytes : List ℕ) (selection : words.SelectionWords) (m : Module) (found : Result Lists Ended) → IsPart bytes m → IfErr found (λ ended. (ended ≡ part_end (no_such_symbol m (selection_of selection))) ⊎ (ended ≡ Memory)) → IfErr found (λ ended. IsExtraction name selection bytes ended ⊎ (ended ≡ Memory))
 found_unextracted name bytes selection m (Ok part) is missing = tt
 found_unextracted name bytes selection m (Err ended) is missing = missing_unextracted name bytes selection m ended is missing
 
@@ -57,17 +57,17 @@ taken_missing m s t fault symbol ended taken is has (inr none) = inr none
 
 -- The command.
 
-pub extract_work : (name bytes : List ℕ) (place : OutputName) (text : Bool) (selection : words.Selection) (part : Module) → ExtractsTo bytes selection part → IsWork (Extract name place text selection) (bytes ∷ []) ends.Ok
+pub extract_work : (name bytes : List ℕ) (place : OutputName) (text : Bool) (selection : words.SelectionWords) (part : Module) → ExtractsTo bytes selection part → IsWork (Extract name place text selection) (bytes ∷ []) ends.Ok
 extract_work name bytes place text selection part e = inr (e.whole, e.is_part, ap part_end (sym e.there))
 
-pub extract_result : (name bytes : List ℕ) (place : OutputName) (text : Bool) (selection : words.Selection) (part : Module) → ExtractsTo bytes selection part → IsResult (Extract name place text selection) (bytes ∷ []) (written (format_of text) part)
+pub extract_result : (name bytes : List ℕ) (place : OutputName) (text : Bool) (selection : words.SelectionWords) (part : Module) → ExtractsTo bytes selection part → IsResult (Extract name place text selection) (bytes ∷ []) (written (format_of text) part)
 extract_result name bytes place text selection part e = (part, e, refl)
 
-pub extract_refused : (name bytes : List ℕ) (place : OutputName) (text : Bool) (selection : words.Selection) (o w : Type 0) (ended : Ended) → IsExtraction name selection bytes ended ⊎ (ended ≡ Memory) → IsWork (Extract name place text selection) (bytes ∷ []) ended ⊎ FailsToWrite (Some place) o w ended
+pub extract_refused : (name bytes : List ℕ) (place : OutputName) (text : Bool) (selection : words.SelectionWords) (o w : Type 0) (ended : Ended) → IsExtraction name selection bytes ended ⊎ (ended ≡ Memory) → IsWork (Extract name place text selection) (bytes ∷ []) ended ⊎ FailsToWrite (Some place) o w ended
 extract_refused name bytes place text selection o w ended (inl refused) = inl refused
 extract_refused name bytes place text selection o w ended (inr none) = inr (rw none tt)
 
 -- what is said of the command that was done, which has one input, is said of the command that it is
-pub extract_is : (P : Command → List (List ℕ) → Type 0) (command : Command) (input : List ℕ) (place : OutputName) (text : Bool) (selection : words.Selection) (texts : List (List ℕ)) (bytes : List ℕ) → command ≡ Extract input place text selection → texts ≡ bytes ∷ [] → P (Extract input place text selection) (bytes ∷ []) → P command texts
+pub extract_is : (P : Command → List (List ℕ) → Type 0) (command : Command) (input : List ℕ) (place : OutputName) (text : Bool) (selection : words.SelectionWords) (texts : List (List ℕ)) (bytes : List ℕ) → command ≡ Extract input place text selection → texts ≡ bytes ∷ [] → P (Extract input place text selection) (bytes ∷ []) → P command texts
 extract_is P command input place text selection texts bytes is one said =
     subst (λ (ts : List (List ℕ)). P command ts) (sym one) (subst (λ (c : Command). P c (bytes ∷ [])) (sym is) said)

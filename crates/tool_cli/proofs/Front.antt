@@ -10,7 +10,7 @@ use Rattle.tool_cli.specs.Inputs.{content, input_read, read_on, texts_read, with
 use Rattle.tool_cli.specs.Causes.{GaveUp, HasRead, Refuses}
 use Rattle.tool_cli.specs.Order.{before_stdin, IsRefusedInFront}
 use Rattle.tool_cli.proofs.Contents.{content_read, input_ok, input_over, refusal_told}
-use Rattle.tool_cli.proofs.Turns.{next_name, none_behind}
+use Rattle.tool_cli.proofs.InputsInOrder.{next_name, none_behind}
 use Rattle.tool_cli.specs.declared.inputs.TheConstants.{LARGEST_TOGETHER}
 
 -- what the inputs from this name on give in front of standard input, behind so many bytes

@@ -1,5 +1,5 @@
 pub mod Contents
-pub mod Turns
+pub mod InputsInOrder
 pub mod Delivered
 pub mod Linked
 pub mod Extracting

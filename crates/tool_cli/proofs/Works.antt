@@ -6,7 +6,7 @@ use Rattle.command_line.specs.declared.command.Command.{Command}
 use Rattle.command_line.specs.declared.command.Command.TheVariants.{Assemble, Disassemble, Extract, Lli, Analyze}
 use Rattle.command_line.specs.declared.command.OutputName.{OutputName}
 use Rattle.command_line.specs.declared.command.OutputName.TheVariants.{Standard}
-use Rattle.command_line.specs.declared.command.Selection.{Selection}
+use Rattle.command_line.specs.declared.command.SelectionWords.{SelectionWords}
 use Rattle.command_line.specs.declared.command.UsageKind.{UsageKind}
 use Rattle.command_line.specs.Options.{is_dash}
 use Rattle.bit_dump.specs.Text.{dump_text}
@@ -36,7 +36,7 @@ only_text command input output texts text is count first = one_alone texts text 
 pub only_bitcode : (command : Command) (input : List ℕ) (output : OutputName) (texts : List (List ℕ)) (bytes : List ℕ) → command ≡ Disassemble input output → length texts ≡ length (inputs_of command) → slice_get texts 0 ≡ Some bytes → texts ≡ bytes ∷ []
 only_bitcode command input output texts bytes is count first = one_alone texts bytes (rw is at count) first
 
-pub only_input : (command : Command) (input : List ℕ) (output : OutputName) (text : Bool) (selection : Selection) (texts : List (List ℕ)) (bytes : List ℕ) → command ≡ Extract input output text selection → length texts ≡ length (inputs_of command) → slice_get texts 0 ≡ Some bytes → texts ≡ bytes ∷ []
+pub only_input : (command : Command) (input : List ℕ) (output : OutputName) (text : Bool) (selection : SelectionWords) (texts : List (List ℕ)) (bytes : List ℕ) → command ≡ Extract input output text selection → length texts ≡ length (inputs_of command) → slice_get texts 0 ≡ Some bytes → texts ≡ bytes ∷ []
 only_input command input output text selection texts bytes is count first = one_alone texts bytes (rw is at count) first
 
 pub only_program : (command : Command) (input : List ℕ) (bound : ℕ) (arguments texts : List (List ℕ)) (bytes : List ℕ) → command ≡ Lli input bound arguments → length texts ≡ length (inputs_of command) → slice_get texts 0 ≡ Some bytes → texts ≡ bytes ∷ []

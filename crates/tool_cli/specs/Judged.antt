@@ -16,7 +16,7 @@ use Rattle.module_arena.specs.Module.LocalName.{Named, Numbered}
 use Rattle.module_arena.specs.Valid.{Entity, IsValid}
 use Rattle.name_rules.specs.Breaks.{first_break}
 use Rattle.name_rules.specs.Reads.{Resolves}
-use Rattle.name_rules.specs.Spelled.{spelled, spelled_global}
+use Rattle.name_rules.specs.Spelled.{name_spelling, spelled_global}
 use Rattle.name_rules.specs.declared.fault.ResolveFault.{ResolveFault}
 use Rattle.name_rules.specs.declared.fault.ResolveFault.TheVariants as breaks
 use Rattle.record_read.specs.declared.fault.BitcodeFault.{BitcodeFault}
@@ -73,7 +73,7 @@ pub record HasNoModule (name text : List ℕ) (ended : Ended) : Type 0 where
 
 -- a block, in words: its name as canonical text spells it, or its number
 abbrev pub block_words : LocalName → List ℕ
-block_words (Named name) = 37 ∷ spelled name
+block_words (Named name) = 37 ∷ name_spelling name
 block_words (Numbered number) = 37 ∷ decimal number
 
 -- what is at fault, in words; names are spelled as in canonical text

@@ -5,7 +5,7 @@ use Rattle.bit_tree.specs.Stream.{Tree, Stream}
 use Rattle.bit_dump.specs.Text.{dump_text}
 use Rattle.command_line.specs.declared.command.Command.{Command}
 use Rattle.command_line.specs.declared.command.Command.TheVariants.{Assemble, Disassemble, Link, Extract, Analyze}
-use Rattle.command_line.specs.declared.command.Selection as words
+use Rattle.command_line.specs.declared.command.SelectionWords as words
 use Rattle.linkage_rules.specs.Conflicts.{first_conflict}
 use Rattle.module_linker.specs.Counts.{too_many}
 use Rattle.module_linker.specs.Linked.{link_result}
@@ -71,11 +71,11 @@ pub record AssemblesTo (text : List ℕ) (m : Module) : Type 0 where
   pub valid : IsValid m
 
 -- what the words of `llvm-extract` select, as it is taken of a module
-abbrev pub selection_of : words.Selection → Selection
+abbrev pub selection_of : words.SelectionWords → Selection
 selection_of s = record { functions = s.functions; variables = s.variables; aliases = s.aliases; delete = s.delete; recursive = s.recursive }
 
 -- an input stands for a module in which all that the words select is there, and this is the part of it that they keep
-pub record ExtractsTo (bytes : List ℕ) (selection : words.Selection) (part : Module) : Type 0 where
+pub record ExtractsTo (bytes : List ℕ) (selection : words.SelectionWords) (part : Module) : Type 0 where
   pub whole : Module
   pub is_part : IsPart bytes whole
   pub there : no_such_symbol whole (selection_of selection) ≡ None

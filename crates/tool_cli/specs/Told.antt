@@ -9,7 +9,7 @@ use Rattle.module_linker.specs.Counts.{Count, too_many}
 use Rattle.extract_core.specs.Selected.{no_such_symbol}
 use Rattle.command_line.specs.declared.command.Command.{Command}
 use Rattle.command_line.specs.declared.command.Command.TheVariants.{Assemble, Disassemble, Link, Extract, Lli, Analyze}
-use Rattle.command_line.specs.declared.command.Selection.{Selection}
+use Rattle.command_line.specs.declared.command.SelectionWords.{SelectionWords}
 use Rattle.command_line.specs.declared.command.UsageKind.{UsageKind}
 use Rattle.command_line.specs.Faults.{IsFirstFault}
 use Rattle.command_line.specs.Commands.{IsReadAs}
@@ -69,7 +69,7 @@ part_end None = ends.Ok
 part_end (Some name) = NoSuchSymbol (spelled_global name)
 
 -- the end of `llvm-extract` over the input of this name: it is refused, or that over the module that it stands for
-abbrev pub IsExtraction : List ℕ → Selection → List ℕ → Ended → Type 0
+abbrev pub IsExtraction : List ℕ → SelectionWords → List ℕ → Ended → Type 0
 IsExtraction name selection bytes ended =
     IsPartRefused name bytes ended ⊎ ((m : Module) × IsPart bytes m × (ended ≡ part_end (no_such_symbol m (selection_of selection))))
 

@@ -15,7 +15,7 @@ ghost use Rattle.tool_cli.specs.Told.{part_end, IsExtraction, IsWork, IsOfTexts,
 use crate::delivery::deliver;
 use crate::linking::format_of;
 use crate::parts::accepted_part;
-use command_line::{OutputName, Selection};
+use command_line::{OutputName, SelectionWords};
 use extract_core::ExtractFault;
 use ir_base::{Files, Name, NameList, Sink, Text};
 use module_arena::Checked;
@@ -36,7 +36,10 @@ fn copied_names(alloc: Global, names: &[Name]) -> Result<NameList, AllocError>
 }
 
 // What the words select, as it is taken of a module.
-fn selection_of(alloc: Global, selection: &Selection) -> Result<extract_core::Selection, AllocError>
+fn selection_of(
+    alloc: Global,
+    selection: &SelectionWords,
+) -> Result<extract_core::Selection, AllocError>
     ensures { IfOk result (λ copy. copy ≡ selection_of selection.now) }
 {
     Ok(extract_core::Selection {
@@ -60,7 +63,7 @@ fn symbol_told(alloc: Global, name: &Name) -> Ended
 }
 
 // The part that the words select of a module.
-fn part_of(alloc: Global, checked: &Checked, selection: &Selection) -> Result<Checked, Ended>
+fn part_of(alloc: Global, checked: &Checked, selection: &SelectionWords) -> Result<Checked, Ended>
     ensures there { OnOk result (no_such_symbol (module_of checked.now) (selection_of selection.now) ≡ None) }
     ensures part { IfOk result (λ part. module_of part ≡ Extracted (module_of checked.now) (selection_of selection.now)) }
     ensures missing { IfErr result (λ ended. (ended ≡ part_end (no_such_symbol (module_of checked.now) (selection_of selection.now))) ⊎ (ended ≡ Ended.Memory)) }
@@ -81,7 +84,7 @@ fn extracted(
     alloc: Global,
     name: &Text,
     bytes: &[u8],
-    selection: &Selection,
+    selection: &SelectionWords,
 ) -> Result<Checked, Ended>
     requires { IsShort bytes.now }
     ensures made { IfOk result (λ part. ExtractsTo bytes.now selection.now (module_of part)) }
@@ -98,7 +101,7 @@ pub(crate) fn extract_part<F: Files, O: Sink>(
     alloc: Global,
     name: &Text,
     bytes: &[u8],
-    selection: &Selection,
+    selection: &SelectionWords,
     place: &OutputName,
     text: bool,
     files: &mut F,

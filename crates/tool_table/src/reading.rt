@@ -1,7 +1,7 @@
 //! What the words of a command line are read as, as text.
 
 use crate::telling::{add, add_number};
-use command_line::{Command, OutputName, Selection, line_name, read_words};
+use command_line::{Command, OutputName, SelectionWords, line_name, read_words};
 use ir_base::{NameList, Text, TextList};
 use std::alloc::{AllocError, Global};
 
@@ -38,7 +38,7 @@ fn add_flag(shown: &mut Vec<u8>, mark: &str, given: bool) -> Result<(), AllocErr
     add(shown, if given { mark } else { "" })
 }
 
-fn add_selection(shown: &mut Vec<u8>, selection: &Selection) -> Result<(), AllocError> {
+fn add_selection(shown: &mut Vec<u8>, selection: &SelectionWords) -> Result<(), AllocError> {
     add_names(shown, ", function", &selection.functions)?;
     add_names(shown, ", variable", &selection.variables)?;
     add_names(shown, ", alias", &selection.aliases)?;

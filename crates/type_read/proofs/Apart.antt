@@ -1,7 +1,7 @@
 -- The name of a struct does not depend on how many types stand before it.
 use Rattle.std.proofs.Common.{◌≡◌, ℕ, zero, suc, List, [], ◌∷◌, None, length, refl, ap, ◌∙◌}
 use Rattle.std.specs.Prelude.{true, false, Bool}
-use Rattle.record_table.specs.Walk.{Walk, going, stopped, ask, next, left}
+use Rattle.record_table.specs.Walk.{Walk, going, stopped, ask, next, count_left}
 use Rattle.record_table.specs.Layout.{many, judged}
 use Rattle.record_table.specs.Fields.{below, byte}
 use Rattle.record_table.specs.StringTable.{text_at}
@@ -65,14 +65,14 @@ near_bytes (suc size) (going a x) (going b y) h =
     let rest = near_bytes size (byte.read (going a x)).1 (byte.read (going b y)).1 (near_ask 3 _ _ (next (going a x)).1 (next (going b y)).1 n.1) in
     ((λ j. n.0 j ∷ rest.0 j), rest.1)
 
-near_left : (v w : Walk) → AreNear v w → left v ≡ left w
+near_left : (v w : Walk) → AreNear v w → count_left v ≡ count_left w
 near_left (going a x) (going b y) h = ap length h
 near_left (stopped x) (stopped y) h = refl
 near_left (going a x) (stopped y) h = absurd h
 near_left (stopped x) (going b y) h = absurd h
 
 near_text : (x : the_texts.Texts) (v w : Walk) → AreNear v w → ((texts_of x).last.read v).0 ≡ ((texts_of x).last.read w).0
-near_text Inline v w h = (near_bytes (left v) v w h).0 ∙ ap (λ n. (many byte.read n w).0) (near_left v w h)
+near_text Inline v w h = (near_bytes (count_left v) v w h).0 ∙ ap (λ n. (many byte.read n w).0) (near_left v w h)
 near_text (Table bytes) v w h =
     let n = near_next v w h in
     let m = near_next (next v).1 (next w).1 n.1 in

@@ -4,7 +4,7 @@ use Rattle.std.specs.Prelude.{option_to_list}
 use Rattle.std.proofs.lemmas.List.{append-nil}
 use Rattle.std.proofs.lemmas.List.Elements.{All-push}
 use Rattle.std.proofs.lemmas.Bool.{ltb-true}
-use Rattle.record_table.specs.Walk.{Walk, next, ask, left}
+use Rattle.record_table.specs.Walk.{Walk, next, ask, count_left}
 use Rattle.record_table.specs.Layout.{number, many, times, to_end}
 use Rattle.record_table.specs.TypeRecords.{earlier}
 use Rattle.record_read.specs.Reader.{Reader, Reads, ReadsAs, Takes, is_broken, is_stopped}
@@ -92,10 +92,10 @@ asked_below count before mid after n ty h goes asked is = by_test (nat_lt n coun
             stops_not (Walk.stopped broken) p q = cc
 
 -- all that are left
-pub rest_gathered : (count : ℕ) (first before now : Reader) (items : List ℕ) (answer : Option (List ℕ)) → AreGathered count first before (left first.walk) (left before.walk) items → Takes before None now → answer ≡ cond (is_broken now.walk) None (Some items)
+pub rest_gathered : (count : ℕ) (first before now : Reader) (items : List ℕ) (answer : Option (List ℕ)) → AreGathered count first before (count_left first.walk) (count_left before.walk) items → Takes before None now → answer ≡ cond (is_broken now.walk) None (Some items)
     → ReadsAs (AreBelow count) (to_end (earlier count)) first now answer
 rest_gathered count first before now items answer h last is =
     let none = none_taken before now last in
     let same : is_broken now.walk ≡ is_broken before.walk = ap (λ (r : Reader). is_broken r.walk) none.0 in
-    let all = all_gathered count first before (left first.walk) (left before.walk) items (is_broken before.walk) answer h (inl none.1) refl (is ∙ ap (λ b. cond b None (Some items)) same) in
+    let all = all_gathered count first before (count_left first.walk) (count_left before.walk) items (is_broken before.walk) answer h (inl none.1) refl (is ∙ ap (λ b. cond b None (Some items)) same) in
     rw none.0 (record { kept = all.kept; reader = all.reader })

@@ -11,8 +11,8 @@ use Rattle.record_table.specs.Walk.{going}
 use Rattle.record_table.specs.Layout.{judged}
 use Rattle.record_table.specs.TypeRecords.{names_in, definition}
 use Rattle.record_read.specs.Entries.{IsBefore, IsNearer, Gives}
-use Rattle.record_read.specs.declared.entry.Entry.{Entry}
-use Rattle.record_read.specs.declared.entry.Entry.TheVariants.{Block, Record, End}
+use Rattle.record_read.specs.declared.entry.NextEntry.{NextEntry}
+use Rattle.record_read.specs.declared.entry.NextEntry.TheVariants.{Block, Record, End}
 use Rattle.record_read.specs.Reader.{Reader}
 use Rattle.type_read.specs.Listed.{AreGathered, GathersRecord, voids_in, void_of}
 use Rattle.type_read.specs.declared.structs.TypesAhead.{TypesAhead}
@@ -27,10 +27,10 @@ pub record IsGathering (t : Texts) (inside : Records) (others : List Piece) (a :
   pub voids : voids_in inside ≡ ahead.voids.items ++ voids_in rest
 
 -- an entry was given, with what is left
-abbrev pub Gone : Reader → Entry → Reader → Type 0
+abbrev pub Gone : Reader → NextEntry → Reader → Type 0
 Gone old entry new = (new.spent ≡ false) × IsNearer entry old.left new.left × ((all : Records) (others : List Piece) → IsBefore old.left all others → Gives all old entry new others)
 
-pub gone : (old new : Reader) (given entry : Entry) → Gone old given new → given ≡ entry → Gone old entry new
+pub gone : (old new : Reader) (given entry : NextEntry) → Gone old given new → given ≡ entry → Gone old entry new
 gone old new given entry h is = subst (λ x. Gone old x new) is h
 
 -- nothing is gathered yet

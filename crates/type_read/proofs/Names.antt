@@ -10,7 +10,7 @@ use Rattle.record_read.specs.Reader.{Reader, ReadsAs, is_broken}
 use Rattle.record_read.specs.Fields.{ReadsText, IsNamed, are_bytes}
 use Rattle.record_read.proofs.Sized.{named_reads}
 use Rattle.type_read.specs.Fields.{IsBodyOf, IsDefinition, ReadsName, is_good}
-use Rattle.type_read.specs.declared.definition.Definition.{Definition}
+use Rattle.type_read.specs.declared.definition.StructDefinition.{StructDefinition}
 
 -- items that are each below 256
 pub all_bytes : (bs : Bytes) → ((i : ℕ) → i < length bs → get_or bs i 0 < 256) → are_bytes bs ≡ true
@@ -50,7 +50,7 @@ name_none t old mid now (Some text) h n = record {
 }
 
 -- a definition is a body and a name
-module _ (t : Texts) (count : ℕ) (old mid now : Reader) (made : Definition) (b : ReadsAs (IsBodyOf count) (struct_body count) old mid made.body) (n : ReadsName t mid now made.name) where
+module _ (t : Texts) (count : ℕ) (old mid now : Reader) (made : StructDefinition) (b : ReadsAs (IsBodyOf count) (struct_body count) old mid made.body) (n : ReadsName t mid now made.name) where
   mid_walk : mid.walk ≡ ((struct_body count).read old.walk).1
   mid_walk = ap (λ (r : Reader). r.walk) b.reader
 

@@ -13,7 +13,7 @@ use Rattle.module_arena.specs.Lists.{Lists}
 use Rattle.record_table.specs.Layout.{judged}
 use Rattle.record_table.specs.Fields.{Texts, is_name}
 use Rattle.record_table.specs.Faults.{Answer, ◌>>=◌, Records, no_more, a_block, a_record, is_block_id, misplaced, RecordFault, UnknownRecord, BadRecord}
-use Rattle.record_table.specs.TypeRecords.{Listed, Kind, of_kind, struct_record, at_first, listed, listed_by, listed_from, kind_of_code, kinds, are_distinct, called, stand_ins, names_in, definition}
+use Rattle.record_table.specs.TypeRecords.{Listed, TypeKind, of_kind, struct_record, at_first, listed, listed_by, listed_from, kind_of_code, kinds, are_distinct, called, stand_ins, names_in, definition}
 use Rattle.record_read.specs.declared.texts.Texts as the_texts
 use Rattle.record_read.specs.Fields.{are_bytes, texts_of}
 use Rattle.record_read.specs.Faults.{Answers, IsMisplaced, of_records}
@@ -21,7 +21,7 @@ use Rattle.record_read.specs.declared.fault.BitcodeFault.{BitcodeFault}
 use Rattle.record_read.specs.declared.fault.BitcodeFault.TheVariants as fault
 use Rattle.record_read.specs.Reader.{Reader}
 use Rattle.record_read.specs.Entries.{IsBefore, Gives}
-use Rattle.record_read.specs.declared.entry.Entry.TheVariants.{Block, Record, End}
+use Rattle.record_read.specs.declared.entry.NextEntry.TheVariants.{Block, Record, End}
 use Rattle.type_read.specs.Fields.{is_good}
 use Rattle.type_read.specs.Listed.{AreNames, AreSoFar, IsListed, IsMore, IsNamedAs, IsOn, IsReached, IsUndefined, are_good, later_names, only_named}
 use Rattle.type_read.specs.declared.structs.StructNames.{StructNames}
@@ -307,7 +307,7 @@ names_counted all xs ys earlier later n p q e =
     omega (arith, a, b, c, d, e)
 
 -- a record of a type, or of a struct, as one of the block: it tells how many structs there are then
-pub as_type : (s : Listed) (code : ℕ) (operands : List ℕ) (kind : Kind) (found : StructNames) (a new : Lists) (all later : List Bytes) (number : ℕ) (result : Result (Unit {0}) BitcodeFault) → kind_of_code code kinds ≡ Some kind
+pub as_type : (s : Listed) (code : ℕ) (operands : List ℕ) (kind : TypeKind) (found : StructNames) (a new : Lists) (all later : List Bytes) (number : ℕ) (result : Result (Unit {0}) BitcodeFault) → kind_of_code code kinds ≡ Some kind
     → AreSoFar found all s later → number ≡ length s.names → Answers (λ _ u. IsMore new found all later s u) (of_kind s operands kind) result
     → Answers (λ n u. IsMore new found all later s u × (n ≡ length u.names)) (listed_by s code operands (kind_of_code code kinds)) (result_map (λ u. number) result)
 as_type s code operands kind found a new all later number result is so_far many h = rw is (by_answer (of_kind s operands kind) result h)

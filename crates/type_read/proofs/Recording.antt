@@ -12,12 +12,12 @@ use Rattle.type_table.specs.Types.{Types, IsGood, Knows, bodies, with_type, with
 use Rattle.module_arena.specs.Changes.{with_table}
 use Rattle.module_arena.specs.Lists.{Lists, no_lists}
 use Rattle.module_arena.specs.Module.{Bytes}
-use Rattle.record_table.specs.Walk.{Walk, going, stopped, told, ask, next, left}
+use Rattle.record_table.specs.Walk.{Walk, going, stopped, told, ask, next, count_left}
 use Rattle.record_table.specs.Layout.{Layout, asking, judged, many}
 use Rattle.record_table.specs.Fields.{byte, is_name}
 use Rattle.record_table.specs.StringTable.{is_within}
 use Rattle.record_table.specs.Faults.{also, types_id}
-use Rattle.record_table.specs.TypeRecords.{Listed, Kind, ir_type, struct_body, definition, of_kind, struct_record, all_fit}
+use Rattle.record_table.specs.TypeRecords.{Listed, TypeKind, ir_type, struct_body, definition, of_kind, struct_record, all_fit}
 use Rattle.record_read.specs.Reader.{Reader, ReadsAs, IsAtMost, IsBrokenBy, also_asked, is_broken}
 use Rattle.record_read.specs.Faults.{Answers, Finishes}
 use Rattle.record_read.specs.Fields.{texts_of}
@@ -28,7 +28,7 @@ use Rattle.record_read.specs.declared.fault.BitcodeFault.{BitcodeFault}
 use Rattle.type_read.specs.Fields.{IsTypeOf, IsDefinition, is_good}
 use Rattle.type_read.specs.Listed.{AddsType, AreSoFar, IsMore, IsOn, IsReached, NamesNext, is_first}
 use Rattle.type_read.specs.declared.structs.StructNames.{StructNames}
-use Rattle.type_read.specs.declared.definition.Definition.{Definition}
+use Rattle.type_read.specs.declared.definition.StructDefinition.{StructDefinition}
 use Rattle.type_read.proofs.Good.{bad_is_new, first_tells, reaches_next}
 use Rattle.type_read.proofs.Walks.{IsLow, many_by, low_type, low_body, low_broken, told_also, told_low, also_in_vain, also_low, also_held, finished}
 use Rattle.type_read.proofs.Adding.{structs_are, type_fits, body_fits}
@@ -46,7 +46,7 @@ table_rest a after t rest is =
 module _ (a after : Lists) (found : StructNames) (all later : List Bytes) (s : Listed) (operands : List ℕ) (r0 r1 r2 r3 : Reader) (on : IsOn a found all r0 operands s) (good : IsGood a.table) where
   -- ---- a type
 
-  module _ (so_far : AreSoFar found all s later) (kind : Kind) (count known defined : ℕ) (counts : count ≡ length a.table.types) (structs : known ≡ length a.table.structs) (number : defined ≡ length s.names)
+  module _ (so_far : AreSoFar found all s later) (kind : TypeKind) (count known defined : ℕ) (counts : count ≡ length a.table.types) (structs : known ≡ length a.table.structs) (number : defined ≡ length s.names)
       (asked : r2 ≡ record r1 { walk = also_asked 5 (defined == 0) r1.walk }) where
     abbrev layout : Layout IrType
     layout = ir_type (length s.types.types) (length s.types.structs) kind
@@ -133,7 +133,7 @@ module _ (a after : Lists) (found : StructNames) (all later : List Bytes) (s : L
 
   -- ---- a struct
 
-  module _ (count number : ℕ) (made : Definition) (counts : count ≡ length a.table.types) (place_is : number ≡ length s.names)
+  module _ (count number : ℕ) (made : StructDefinition) (counts : count ≡ length a.table.types) (place_is : number ≡ length s.names)
       (read : r1 ≡ record r0 { walk = ((definition s.texts count).read r0.walk).1 }) (kept : IsDefinition s.texts count r0.walk made)
       (so_far : AreSoFar found all s ((judged (definition s.texts (length s.types.types)) operands).0.1 ∷ later)) where
     abbrev struct_layout : Layout (StructBody × Bytes)
@@ -305,7 +305,7 @@ module _ (a after : Lists) (found : StructNames) (all later : List Bytes) (s : L
         keep none = absurd (none_at_most 3 struct_rules (also_low 3 7 struct_fits (also 4 is_new struct_value.1) (omega arith) at_most) none)
 
 -- a body that is not there broke a rule that is at most 3, and the text behind it does not change that
-pub low_definition : (x : the_texts.Texts) (count : ℕ) (operands : List ℕ) (made : Definition) → IsDefinition (texts_of x) count (going operands None) made → made.body ≡ None
+pub low_definition : (x : the_texts.Texts) (count : ℕ) (operands : List ℕ) (made : StructDefinition) → IsDefinition (texts_of x) count (going operands None) made → made.body ≡ None
     → IsBrokenBy 3 ((definition (texts_of x) count).read (going operands None)).1
 low_definition x count operands made h none =
     let broken = rw none at h.body in
@@ -315,7 +315,7 @@ low_definition x count operands made h none =
     byte_by w b = still_by 3 3 (nat_lt (next w).0 256) (next w).1 (next_by 3 w b)
 
     text_by : (x : the_texts.Texts) (w : Walk) → IsBrokenBy 3 w → IsBrokenBy 3 ((asking 4 is_name (texts_of x).last).read w).1
-    text_by Inline w b = still_by 4 3 _ (many byte.read (left w) w).1 (many_by 3 byte.read byte_by (left w) w b)
+    text_by Inline w b = still_by 4 3 _ (many byte.read (count_left w) w).1 (many_by 3 byte.read byte_by (count_left w) w b)
     text_by (Table bytes) w b =
         still_by 4 3 _ (ask 8 (is_within bytes (next w).0 (next (next w).1).0) (next (next w).1).1)
         (still_by 8 3 (is_within bytes (next w).0 (next (next w).1).0) (next (next w).1).1 (next_by 3 (next w).1 (next_by 3 w b)))

@@ -1,10 +1,10 @@
 -- Rules that stay broken, rules that are low, and rules that are told of a whole record.
 use Rattle.std.proofs.Common.{◌≡◌, ◌≤◌, ◌-◌, ℕ, zero, suc, min, Bool, true, false, [], ◌∷◌, Option, Some, None, refl, ap, ◌∙◌, arith}
 use Rattle.std.specs.Prelude.{nat_lt, Result, Ok, Err}
-use Rattle.record_table.specs.Walk.{Walk, going, stopped, least, ask, next, left, told}
+use Rattle.record_table.specs.Walk.{Walk, going, stopped, least, ask, next, count_left, told}
 use Rattle.record_table.specs.Layout.{many}
 use Rattle.record_table.specs.Faults.{Answer, also, unless_broken}
-use Rattle.record_table.specs.TypeRecords.{earlier, ir_type, struct_body, Kind, OfInt, OfPtr, OfVoid, OfArray, OfStruct, OfName}
+use Rattle.record_table.specs.TypeRecords.{earlier, ir_type, struct_body, TypeKind, OfInt, OfPtr, OfVoid, OfArray, OfStruct, OfName}
 use Rattle.record_read.specs.declared.fault.BitcodeFault.{BitcodeFault}
 use Rattle.record_read.specs.declared.fault.BitcodeFault.TheVariants as fault
 use Rattle.record_read.specs.Faults.{Answers, Finishes}
@@ -66,14 +66,14 @@ low_many limit one each (suc n) (going rest broken) h = low_many limit one each 
 low_earlier : (count : ℕ) (w : Walk) → IsLow 3 w → IsLow 3 ((earlier count).read w).1
 low_earlier count w h = low_ask 3 2 (nat_lt (next w).0 count) (next w).1 (omega arith) (low_next 3 w (omega arith) h)
 
-pub low_type : (count known : ℕ) (kind : Kind) (w : Walk) → IsLow 3 w → IsLow 3 ((ir_type count known kind).read w).1
+pub low_type : (count known : ℕ) (kind : TypeKind) (w : Walk) → IsLow 3 w → IsLow 3 ((ir_type count known kind).read w).1
 low_type count known OfInt w h = low_ask 3 3 _ (next w).1 (omega arith) (low_next 3 w (omega arith) h)
 low_type count known OfPtr w h = h
 low_type count known OfVoid w h = h
 low_type count known OfArray w h = low_earlier count (next w).1 (low_next 3 w (omega arith) h)
 low_type count known OfStruct w h =
     let v = ask 3 (nat_lt (next w).0 2) (next w).1 in
-    low_many 3 (earlier count).read (low_earlier count) (left v) v (low_ask 3 3 (nat_lt (next w).0 2) (next w).1 (omega arith) (low_next 3 w (omega arith) h))
+    low_many 3 (earlier count).read (low_earlier count) (count_left v) v (low_ask 3 3 (nat_lt (next w).0 2) (next w).1 (omega arith) (low_next 3 w (omega arith) h))
 low_type count known OfName w h = low_earlier known w h
 
 pub low_body : (count : ℕ) (w : Walk) → IsLow 3 w → IsLow 3 ((struct_body count).read w).1

@@ -10,7 +10,7 @@ use Rattle.record_table.specs.Walk.{Walk}
 use Rattle.record_table.specs.TypeRecords.{struct_body, definition}
 use Rattle.record_read.specs.Reader.{Reader, IsKept, IsBroken}
 use Rattle.record_read.specs.Fields.{are_bytes}
-use Rattle.type_read.specs.declared.definition.Definition.{Definition}
+use Rattle.type_read.specs.declared.definition.StructDefinition.{StructDefinition}
 
 -- the very types, each before so many
 abbrev pub AreBelow : ℕ → List ℕ → List ℕ → Type 0
@@ -40,7 +40,7 @@ pub record ReadsName (t : Texts) (old new : Reader) (name : Option Bytes) : Type
   pub broken : name ≡ None → IsBroken new.walk
 
 -- what a definition keeps: its body, none only where a rule is broken by then, and its name
-pub record IsDefinition (t : Texts) (count : ℕ) (w : Walk) (made : Definition) : Type 0 where
+pub record IsDefinition (t : Texts) (count : ℕ) (w : Walk) (made : StructDefinition) : Type 0 where
   pub body : IsKept (IsBodyOf count) made.body ((struct_body count).read w).0 ((struct_body count).read w).1
   pub name : IsNameOf made.name ((definition t count).read w).0.1
   pub broken : made.name ≡ None → IsBroken ((definition t count).read w).1

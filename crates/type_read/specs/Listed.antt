@@ -12,7 +12,7 @@ use Rattle.record_table.specs.Fields.{Texts}
 use Rattle.record_table.specs.Walk.{going, told}
 use Rattle.record_table.specs.Faults.{Records, no_more, a_block, a_record}
 use Rattle.record_table.specs.Layout.{judged}
-use Rattle.record_table.specs.TypeRecords.{Listed, Kind, OfVoid, definition, names_in, kind_of_code, kinds, all_fit, are_distinct, called}
+use Rattle.record_table.specs.TypeRecords.{Listed, TypeKind, OfVoid, definition, names_in, kind_of_code, kinds, all_fit, are_distinct, called}
 use Rattle.record_read.specs.Entries.{IsBefore}
 use Rattle.record_read.specs.Reader.{Reader, also_asked}
 use Rattle.record_read.specs.declared.fault.BitcodeFault.{BitcodeFault}
@@ -88,12 +88,12 @@ pub record IsNamedAs (found : StructNames) (all : List Bytes) (a : Lists) : Type
 -- ---- kinds
 
 -- whether types of that kind are `void`
-abbrev pub is_void_kind : Kind → Bool
+abbrev pub is_void_kind : TypeKind → Bool
 is_void_kind OfVoid = true
 is_void_kind _ = false
 
 -- a type by its kind
-abbrev pub void_by : Option Kind → List Bool
+abbrev pub void_by : Option TypeKind → List Bool
 void_by None = []
 void_by (Some kind) = is_void_kind kind ∷ []
 

@@ -14,7 +14,7 @@ use type_table::{StructBody, TypeList};
 /// What a struct is, and what it is called. The body is None only where a rule is broken, the name only where the text is no
 /// name.
 #[derive(Drop)]
-pub(crate) struct Definition {
+pub(crate) struct StructDefinition {
     pub body: Option<StructBody>,
     pub name: Option<Name>,
 }
@@ -93,11 +93,11 @@ pub(crate) fn read_definition(
     alloc: Global,
     texts: &Texts,
     count: u64,
-) -> Result<Definition, AllocError>
+) -> Result<StructDefinition, AllocError>
     ensures reader { OnOk result (reader.new ≡ record reader.old { walk = ((types.definition (texts_of texts.now) count).read reader.old.walk).1 }) }
     ensures definition { IfOk result (λ made. IsDefinition (texts_of texts.now) count reader.old.walk made) }
 {
     let body = read_body(reader, alloc, count)?;
     let name = read_struct_name(reader, alloc, texts)?;
-    Ok(Definition { body, name })
+    Ok(StructDefinition { body, name })
 }

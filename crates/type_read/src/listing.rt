@@ -12,12 +12,12 @@ ghost use Rattle.record_read.specs.Faults.{Answers};
 ghost use Rattle.record_read.specs.Fields.{texts_of};
 ghost use Rattle.type_read.specs.Listed.{AddsType, AreNames, AreSoFar, IsBegun, IsListed, IsMore, IsNamedAs, IsOn, IsRefusedBy, IsUndefined, NamesNext, ReadsOne, later_names};
 
-use crate::definition::{Definition, read_definition};
+use crate::definition::{StructDefinition, read_definition};
 use crate::records::read_type;
 use crate::structs::StructNames;
 use module_arena::{Arena, COUNT_LIMIT};
-use record_read::{BitcodeFault, Entry, RecordReader, Texts, misplaced};
-use record_table::{DEFINE, Kind, TYPES_BLOCK};
+use record_read::{BitcodeFault, NextEntry, RecordReader, Texts, misplaced};
+use record_table::{DEFINE, TYPES_BLOCK, TypeKind};
 use std::alloc::Global;
 use type_table::{IrType, StructBody, StructId, TypeFault};
 
@@ -88,7 +88,7 @@ fn read_type_record(
     reader: &mut RecordReader<'_>,
     alloc: Global,
     arena: &mut Arena,
-    kind: Kind,
+    kind: TypeKind,
     defined: u32,
 ) -> Result<(), BitcodeFault>
     requires { 0 < reader.old.at }
@@ -142,7 +142,7 @@ fn read_struct_record(
 {
     let count = arena.types().type_count();
     let definition = read_definition(reader, alloc, texts, count)?;
-    let Definition { body, name } = definition;
+    let StructDefinition { body, name } = definition;
     ask_new(reader, names, number, name.is_some());
     reader.also(7, number < COUNT_LIMIT);
     are_within(arena);
@@ -177,7 +177,7 @@ fn read_record(
         read_struct_record(reader, alloc, texts, arena, names, defined)?;
         return Ok(defined + 1);
     }
-    match Kind::of_code(code) {
+    match TypeKind::of_code(code) {
         Some(kind) => {
             read_type_record(reader, alloc, arena, kind, defined)?;
             Ok(defined)
@@ -209,11 +209,11 @@ pub fn read_types(
     let mut defined: u32 = 0;
     'records: loop {
         match reader.next()? {
-            Entry::Record(code) => {
+            NextEntry::Record(code) => {
                 defined = read_record(reader, alloc, texts, arena, names, defined, code)?;
             }
-            Entry::Block(id) => return Err(misplaced(id, reader.at())),
-            Entry::End => return Ok(()),
+            NextEntry::Block(id) => return Err(misplaced(id, reader.at())),
+            NextEntry::End => return Ok(()),
         }
     }
 }

@@ -9,7 +9,7 @@ ghost use Rattle.type_read.specs.Fields.{AreBelow, IsTypeOf};
 
 use ir_base::ItemList;
 use record_read::{RecordReader, read_flag, read_place};
-use record_table::Kind;
+use record_table::TypeKind;
 use std::alloc::{AllocError, Global};
 use type_table::{IrType, StructId, TypeId, TypeList};
 
@@ -158,18 +158,18 @@ fn read_named(reader: &mut RecordReader<'_>, count: u64, structs: u32) -> Option
 pub(crate) fn read_type(
     reader: &mut RecordReader<'_>,
     alloc: Global,
-    kind: Kind,
+    kind: TypeKind,
     count: u64,
     structs: u32,
 ) -> Result<Option<IrType>, AllocError>
     ensures { IfOk result (ReadsAs (IsTypeOf count structs) (types.ir_type count structs (kind_view kind)) reader.old reader.new) }
 {
     match kind {
-        Kind::Int => Ok(read_integer(reader, count, structs)),
-        Kind::Ptr => Ok(Some(IrType::Ptr)),
-        Kind::Void => Ok(Some(IrType::Void)),
-        Kind::Array => Ok(read_array(reader, count, structs)),
-        Kind::Struct => read_structure(reader, alloc, count, structs),
-        Kind::Named => Ok(read_named(reader, count, structs)),
+        TypeKind::Int => Ok(read_integer(reader, count, structs)),
+        TypeKind::Ptr => Ok(Some(IrType::Ptr)),
+        TypeKind::Void => Ok(Some(IrType::Void)),
+        TypeKind::Array => Ok(read_array(reader, count, structs)),
+        TypeKind::Struct => read_structure(reader, alloc, count, structs),
+        TypeKind::Named => Ok(read_named(reader, count, structs)),
     }
 }

@@ -14,8 +14,8 @@ ghost use Rattle.type_read.specs.Fields.{IsNameOf};
 use crate::definition::read_definition;
 use ir_base::{Name, Text};
 use module_arena::Arena;
-use record_read::{Entry, RecordReader, Texts};
-use record_table::{DEFINE, Kind};
+use record_read::{NextEntry, RecordReader, Texts};
+use record_table::{DEFINE, TypeKind};
 use std::alloc::{AllocError, Global};
 use type_table::TypeFault;
 
@@ -101,12 +101,13 @@ fn add_struct(
 }
 
 /// Whether types of that kind are `void`.
-fn is_void(kind: Kind) -> bool
+fn is_void(kind: TypeKind) -> bool
     ensures { result ≡ is_void_kind (kind_view kind) }
 {
     match kind {
-        Kind::Void => true,
-        Kind::Int | Kind::Ptr | Kind::Array | Kind::Struct | Kind::Named => false,
+        TypeKind::Void => true,
+        TypeKind::Int | TypeKind::Ptr | TypeKind::Array | TypeKind::Struct | TypeKind::Named =>
+            false,
     }
 }
 
@@ -121,7 +122,7 @@ pub struct TypesAhead {
 fn push_void(voids: &mut Vec<bool>, code: u32) -> Result<(), AllocError>
     ensures { OnOk result (voids.new.items ≡ voids.old.items ++ void_of code) }
 {
-    match Kind::of_code(code) {
+    match TypeKind::of_code(code) {
         Some(kind) => {
             voids.push(is_void(kind))?;
             Ok(())
@@ -174,11 +175,11 @@ pub fn gather_types(
     };
     'records: loop {
         match reader.next()? {
-            Entry::Record(code) => {
+            NextEntry::Record(code) => {
                 gather_record(reader, alloc, texts, arena, &mut ahead, code)?;
             }
-            Entry::Block(_) => reader.pass_block()?,
-            Entry::End => return Ok(ahead),
+            NextEntry::Block(_) => reader.pass_block()?,
+            NextEntry::End => return Ok(ahead),
         }
     }
 }

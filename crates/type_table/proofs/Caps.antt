@@ -2,7 +2,7 @@
 use Rattle.std.proofs.Common.{◌≡◌, ℕ, zero, suc, ◌+◌, ◌*◌, ◌^◌, ◌≤◌, ◌<◌, Bool, true, false, ap, sym, ◌∙◌, arith, ◌⊎◌, inl, inr}
 use Rattle.std.proofs.lemmas.Bool.{cases_lt}
 use Rattle.std.specs.Int.{next_multiple_of}
-use Rattle.type_table.specs.Layout.{placed}
+use Rattle.type_table.specs.Layout.{field_start}
 use Rattle.type_table.specs.Measures.{capped, capped_nesting, capped_parts}
 
 capped_small : (x : ℕ) → x ≤ 2 ^ 40 + 1 → capped x ≡ x
@@ -22,7 +22,7 @@ sides x = by (cases_lt x (2 ^ 40 + 1))
 next_multiple_of-le : (x y : ℕ) → x ≤ next_multiple_of x y
 next_multiple_of-le x y = omega arith
 
-pub placed-le : (packed : Bool) (x y : ℕ) → x ≤ placed packed x y
+pub placed-le : (packed : Bool) (x y : ℕ) → x ≤ field_start packed x y
 placed-le true x y = omega arith
 placed-le false x y = next_multiple_of-le x y
 
@@ -38,8 +38,8 @@ capped_of f up x z = by (sides x) (sides z)
         let high : 2 ^ 40 + 1 ≤ f x = omega (arith, e.1, up x) in
         capped_large (f (capped x) + capped z) (omega (arith, low)) ∙ sym (capped_large (f x + z) (omega (arith, high)))
 
-pub capped-placed : (packed : Bool) (x y z : ℕ) → capped (placed packed (capped x) y + capped z) ≡ capped (placed packed x y + z)
-capped-placed packed x y z = capped_of (λ at. placed packed at y) (λ at. placed-le packed at y) x z
+pub capped-placed : (packed : Bool) (x y z : ℕ) → capped (field_start packed (capped x) y + capped z) ≡ capped (field_start packed x y + z)
+capped-placed packed x y z = capped_of (λ at. field_start packed at y) (λ at. placed-le packed at y) x z
 
 pub capped-rounded : (x y : ℕ) → capped (next_multiple_of (capped x) y) ≡ capped (next_multiple_of x y)
 capped-rounded x y =

@@ -6,10 +6,10 @@ use Rattle.std.proofs.lemmas.List.{drop_more}
 use Rattle.std.proofs.lemmas.List.Elements.{All-head, All-tail}
 use Rattle.type_table.specs.declared.layout.Layout.{Layout}
 use Rattle.type_table.specs.declared.measure.Measure.{Measure}
-use Rattle.type_table.specs.declared.outline.Head.{Head}
-use Rattle.type_table.specs.declared.outline.Head.TheVariants as heads
+use Rattle.type_table.specs.declared.outline.TypeOutline.{TypeOutline}
+use Rattle.type_table.specs.declared.outline.TypeOutline.TheVariants as heads
 use Rattle.type_table.specs.Kept.{IsKept}
-use Rattle.type_table.specs.Layout.{has_layout, have_layouts, layout, offset, field_offset, placed, size, align, leaves, end_after, greatest_align}
+use Rattle.type_table.specs.Layout.{has_layout, have_layouts, layout, offset, field_offset, field_start, size, align, leaves, end_after, greatest_align}
 use Rattle.type_table.specs.Measures.{capped, empty_struct, with_field, measures_at, opaque_measure}
 use Rattle.type_table.specs.Outline.{next_offset, offset_from, head_of, parts_of}
 use Rattle.type_table.specs.Shape.{Shape, int_leaf, ptr_leaf, void_leaf, opaque_leaf, array_of, struct_of, Shapes, no_shapes, more_shapes, nesting, parts}
@@ -45,20 +45,20 @@ end_after-le : (packed : Bool) (at : ℕ) (ss : Shapes) → at ≤ end_after pac
 end_after-le packed at no_shapes = omega arith
 end_after-le packed at (more_shapes s ss) =
     let start = placed-le packed at (align s) in
-    let rest = end_after-le packed (placed packed at (align s) + size s) ss in
+    let rest = end_after-le packed (field_start packed at (align s) + size s) ss in
     omega (arith, start, rest)
 
 both_true : (a b : Bool) → (a && b) ≡ true → (a ≡ true) × (b ≡ true)
 both_true true b e = (refl, e)
 both_true false b e = absurd (true≢false (sym e))
 
-next_is : (packed : Bool) (e z m a l k : ℕ) (b c : Bool) → b ≡ true → c ≡ true → e ≤ 2 ^ 40 → 1 ≤ a → next_offset packed (if_laid b e m l) (if_laid c z a k) ≡ Some (placed packed e a)
+next_is : (packed : Bool) (e z m a l k : ℕ) (b c : Bool) → b ≡ true → c ≡ true → e ≤ 2 ^ 40 → 1 ≤ a → next_offset packed (if_laid b e m l) (if_laid c z a k) ≡ Some (field_start packed e a)
 next_is packed e z m a l k false c p q le positive = cc
 next_is packed e z m a l k true false p q le positive = cc
 next_is packed e z m a l k true true p q le positive =
     let exact : capped (capped e) ≡ e = omega arith in
     let one : max 1 a ≡ a = omega arith in
-    λ j. Some (placed packed (exact j) (one j))
+    λ j. Some (field_start packed (exact j) (one j))
 
 -- where each field begins, by the measures so far and by the shapes
 offsets_agree : (packed : Bool) (d p e m l : ℕ) (b : Bool) (ss : Shapes) (k : ℕ) → b ≡ true → have_layouts ss ≡ true → end_after packed e ss ≤ 2 ^ 40
@@ -67,13 +67,13 @@ offsets_agree packed d p e m l b no_shapes k laid all le = refl
 offsets_agree packed d p e m l b (more_shapes s ss) zero laid all le =
     let each = both_true (has_layout s) (have_layouts ss) all in
     let start = placed-le packed e (align s) in
-    let rest = end_after-le packed (placed packed e (align s) + size s) ss in
+    let rest = end_after-le packed (field_start packed e (align s) + size s) ss in
     ap (λ o. next_offset packed (if_laid b e m l) o) (kept_layout s)
     ∙ next_is packed e (size s) m (align s) l (leaves s) b (has_layout s) laid each.0 (omega (arith, start, rest, le)) (align-positive s)
 offsets_agree packed d p e m l b (more_shapes s ss) (suc k) laid all le =
     let each = both_true (has_layout s) (have_layouts ss) all in
     ap (λ acc. offset_from packed acc (shape_measures ss) k) (field_further packed d p e m l b s)
-    ∙ offsets_agree packed (max d (nesting s)) (p + parts s) (placed packed e (align s) + size s) (alignment packed m (align s)) (l + leaves s) (b && has_layout s) ss k
+    ∙ offsets_agree packed (max d (nesting s)) (p + parts s) (field_start packed e (align s) + size s) (alignment packed m (align s)) (l + leaves s) (b && has_layout s) ss k
     (λ j. laid j && each.0 j) each.1 le
 
 -- what has no layout, and what is no struct, has no offsets
@@ -96,7 +96,7 @@ pub offset_none : (o : Option Shape) (field : ℕ) → option_and_then layout o 
 offset_none None field e = refl
 offset_none (Some x) field e = offset_unlaid x field (no_layout x e)
 
-other_head : (x : Shape) (field : ℕ) (h : Head) → shape_head x ≡ h → ((packed : Bool) → h ≡ heads.Struct packed → ⊥) → offset x field ≡ None
+other_head : (x : Shape) (field : ℕ) (h : TypeOutline) → shape_head x ≡ h → ((packed : Bool) → h ≡ heads.Struct packed → ⊥) → offset x field ≡ None
 other_head (int_leaf w) field h e apart = refl
 other_head ptr_leaf field h e apart = refl
 other_head void_leaf field h e apart = refl

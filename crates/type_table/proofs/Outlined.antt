@@ -9,8 +9,8 @@ use Rattle.type_table.specs.declared.ir_type.IrType.{IrType}
 use Rattle.type_table.specs.declared.ir_type.IrType.TheVariants.{Int, Ptr, Void, Array, Struct, Named}
 use Rattle.type_table.specs.declared.ir_type.StructBody.{StructBody}
 use Rattle.type_table.specs.declared.ir_type.StructBody.TheVariants.{Opaque, Plain, Packed}
-use Rattle.type_table.specs.declared.outline.Head.{Head}
-use Rattle.type_table.specs.declared.outline.Head.TheVariants as heads
+use Rattle.type_table.specs.declared.outline.TypeOutline.{TypeOutline}
+use Rattle.type_table.specs.declared.outline.TypeOutline.TheVariants as heads
 use Rattle.type_table.specs.Outline.{body_head, body_parts, type_head, type_parts, head_of, parts_of, type_nesting}
 use Rattle.type_table.specs.Shape.{Label, Shape, int_leaf, ptr_leaf, void_leaf, opaque_leaf, array_of, struct_of, Shapes, no_shapes, more_shapes, with_first, expanded, all_expanded, body_shape, name_shape, nesting, deepest}
 use Rattle.type_table.specs.Tree.{Tree, int, ptr, void, array, struct, named, Trees, no_trees, more_trees, TreeBody, opaque_body, fields, body_of}
@@ -121,7 +121,7 @@ name_keeps label bs (suc room) n x e =
     ∙ body_keeps (name_shape label bs room) (name_shape label bs (suc room)) (name_keeps label bs room) (label n) (bs n) x (sym (name_shape-suc label bs room n) ∙ e)
 
 -- what a head and the shapes of its parts make
-abbrev built : Head → Option Shapes → Option Shape
+abbrev built : TypeOutline → Option Shapes → Option Shape
 built h None = None
 built (heads.Int w) (Some ss) = Some (int_leaf w)
 built heads.Ptr (Some ss) = Some ptr_leaf
@@ -131,7 +131,7 @@ built (heads.Array n) (Some no_shapes) = None
 built (heads.Array n) (Some (more_shapes s ss)) = Some (array_of n s)
 built (heads.Struct packed) (Some ss) = Some (struct_of None packed ss)
 
-abbrev pub shape_head : Shape → Head
+abbrev pub shape_head : Shape → TypeOutline
 shape_head (int_leaf w) = heads.Int w
 shape_head ptr_leaf = heads.Ptr
 shape_head void_leaf = heads.Void
@@ -180,7 +180,7 @@ module _ (t : Types) (good : IsGood t) where
   abbrev in_room : ℕ → List ℕ → Option Shape
   in_room room = name_shape (λ _. None) (body_of (structs t)) room
 
-  abbrev Outlined : Head → List ℕ → Shape → Type 0
+  abbrev Outlined : TypeOutline → List ℕ → Shape → Type 0
   Outlined h ps x = (built h (collected (map (shape t) ps)) ≡ Some x) × (shape_head x ≡ h) × (shape_parts x ≡ map (shape t) ps)
 
   struct_outlined : (packed : Bool) (ps : List ℕ) (ss : Shapes) (x : Shape) → all_expanded (in_room 64) (trees_at (trees t) ps) ≡ Some ss → struct_of None packed ss ≡ x → Outlined (heads.Struct packed) ps x

@@ -5,7 +5,7 @@ use Rattle.std.specs.Option.{option_map}
 use Rattle.std.specs.Int.{next_multiple_of}
 use Rattle.type_table.specs.declared.layout.Layout.{Layout}
 use Rattle.type_table.specs.declared.measure.Measure.{Measure}
-use Rattle.type_table.specs.Layout.{has_layout, have_layouts, layout, size, align, leaves, all_leaves, greatest_align, end_after, placed, int_align}
+use Rattle.type_table.specs.Layout.{has_layout, have_layouts, layout, size, align, leaves, all_leaves, greatest_align, end_after, field_start, int_align}
 use Rattle.type_table.specs.Shape.{Label, Shape, int_leaf, ptr_leaf, void_leaf, opaque_leaf, array_of, struct_of, Shapes, no_shapes, more_shapes, nesting, deepest, parts, all_parts}
 use Rattle.type_table.specs.Measures.{measure, capped, capped_nesting, capped_parts, capped_layout, array_measure, with_field, with_field_layout, rounded, closed, struct_measure}
 use Rattle.type_table.proofs.Caps.{capped-placed, capped-rounded, capped-times, capped-add, capped-capped, capped_nesting-suc}
@@ -80,18 +80,18 @@ abbrev pub alignment : Bool → ℕ → ℕ → ℕ
 alignment packed most a = cond packed most (max most a)
 
 laid_further : (packed : Bool) (e z m a l k : ℕ) (b c : Bool) → 1 ≤ a
-    → with_field_layout packed (if_laid b e m l) (if_laid c z a k) ≡ if_laid (b && c) (placed packed e a + z) (alignment packed m a) (l + k)
+    → with_field_layout packed (if_laid b e m l) (if_laid c z a k) ≡ if_laid (b && c) (field_start packed e a + z) (alignment packed m a) (l + k)
 laid_further packed e z m a l k false c p = refl
 laid_further packed e z m a l k true false p = refl
 laid_further packed e z m a l k true true p = λ j. Some (record {
-  size = (ap (λ x. capped (placed packed x (max 1 a) + capped z)) (capped-capped e) ∙ ap (λ x. capped (placed packed (capped e) x + capped z)) (max-one a p) ∙ capped-placed packed e a z) j;
+  size = (ap (λ x. capped (field_start packed x (max 1 a) + capped z)) (capped-capped e) ∙ ap (λ x. capped (field_start packed (capped e) x + capped z)) (max-one a p) ∙ capped-placed packed e a z) j;
   align = alignment packed m a;
   leaves = capped-add l k j;
 })
 
 pub field_further : (packed : Bool) (d p e m l : ℕ) (b : Bool) (s : Shape)
     → with_field packed (sofar d p e m l b) (measure s)
-    ≡ sofar (max d (nesting s)) (p + parts s) (placed packed e (align s) + size s) (alignment packed m (align s)) (l + leaves s) (b && has_layout s)
+    ≡ sofar (max d (nesting s)) (p + parts s) (field_start packed e (align s) + size s) (alignment packed m (align s)) (l + leaves s) (b && has_layout s)
 field_further packed d p e m l b s = λ j. kept (nest j) (count j) (laid j)
   where
     nest : max (capped_nesting (d + 1)) (capped_nesting (capped_nesting (nesting s) + 1)) ≡ capped_nesting (max d (nesting s) + 1)
@@ -100,7 +100,7 @@ field_further packed d p e m l b s = λ j. kept (nest j) (count j) (laid j)
     count : capped_parts (capped_parts (1 + p) + capped_parts (parts s)) ≡ capped_parts (1 + (p + parts s))
     count = omega arith
 
-    laid : with_field_layout packed (if_laid b e m l) (option_map capped_layout (layout s)) ≡ if_laid (b && has_layout s) (placed packed e (align s) + size s) (alignment packed m (align s)) (l + leaves s)
+    laid : with_field_layout packed (if_laid b e m l) (option_map capped_layout (layout s)) ≡ if_laid (b && has_layout s) (field_start packed e (align s) + size s) (alignment packed m (align s)) (l + leaves s)
     laid = ap (with_field_layout packed (if_laid b e m l)) (kept_layout s) ∙ laid_further packed e (size s) m (align s) l (leaves s) b (has_layout s) (align-positive s)
 
 max_assoc : (a b c : ℕ) → max (max a b) c ≡ max a (max b c)
@@ -138,8 +138,8 @@ fields_further packed d p e m l b (more_shapes s ss) h =
     let count : p + parts s + all_parts ss ≡ p + (parts s + all_parts ss) = omega arith in
     let laid : l + leaves s + all_leaves ss ≡ l + (leaves s + all_leaves ss) = omega arith in
     ap (λ x. fold (with_field packed) x (shape_measures ss)) (field_further packed d p e m l b s)
-    ∙ fields_further packed (max d (nesting s)) (p + parts s) (placed packed e (align s) + size s) (alignment packed m (align s)) (l + leaves s) (b && has_layout s) ss (alignment-positive packed m (align s) h)
-    ∙ (λ j. sofar (max_assoc d (nesting s) (deepest ss) j) (count j) (end_after packed (placed packed e (align s) + size s) ss) (alignments packed m (align s) (greatest_align ss) j) (laid j)
+    ∙ fields_further packed (max d (nesting s)) (p + parts s) (field_start packed e (align s) + size s) (alignment packed m (align s)) (l + leaves s) (b && has_layout s) ss (alignment-positive packed m (align s) h)
+    ∙ (λ j. sofar (max_assoc d (nesting s) (deepest ss) j) (count j) (end_after packed (field_start packed e (align s) + size s) ss) (alignments packed m (align s) (greatest_align ss) j) (laid j)
     (and_assoc b (has_layout s) (have_layouts ss) j))
 
 rounded_once : (packed : Bool) (e g l : ℕ) (b : Bool) → 1 ≤ g

@@ -8,7 +8,7 @@ use Rattle.type_table.specs.declared.ir_type.IrType.{IrType}
 use Rattle.type_table.specs.declared.ir_type.IrType.TheVariants.{Int, Ptr, Void, Array, Struct, Named}
 use Rattle.type_table.specs.declared.ir_type.StructBody.{StructBody}
 use Rattle.type_table.specs.declared.ir_type.StructBody.TheVariants.{Opaque, Plain, Packed}
-use Rattle.type_table.specs.Layout.{size, leaves, all_leaves, align, end_after, placed, int_align, greatest_align}
+use Rattle.type_table.specs.Layout.{size, leaves, all_leaves, align, end_after, field_start, int_align, greatest_align}
 use Rattle.type_table.specs.Shape.{Label, Shape, int_leaf, ptr_leaf, void_leaf, opaque_leaf, array_of, struct_of, Shapes, no_shapes, more_shapes, expanded, all_expanded, body_shape, name_shape}
 use Rattle.type_table.specs.Tree.{Tree, int, ptr, void, array, struct, named, Trees, no_trees, more_trees, TreeBody, opaque_body, fields, body_of, index_of}
 use Rattle.type_table.specs.Types.{Types, names, bodies, trees, trees_at, tree_of, grow, tree_body, structs, tree, shape, Knows, AllKnown, IsGood}
@@ -49,7 +49,7 @@ mutual
   all_leaves-le packed at (more_shapes s ss) wide =
       let one = leaves-le s wide.0 in
       let start = placed-le packed at (align s) in
-      let rest = all_leaves-le packed (placed packed at (align s) + size s) ss wide.1 in
+      let rest = all_leaves-le packed (field_start packed at (align s) + size s) ss wide.1 in
       omega (arith, one, start, rest)
 
 abbrev mutual

@@ -40,8 +40,8 @@ abbrev mutual
   greatest_align (more_shapes s ss) = max (align s) (greatest_align ss)
 
 -- where a field of that alignment begins, if the fields before it end `at` that byte. A packed struct has no gaps
-abbrev pub placed : Bool → ℕ → ℕ → ℕ
-placed packed at field_align = if packed then at else next_multiple_of at field_align
+abbrev pub field_start : Bool → ℕ → ℕ → ℕ
+field_start packed at field_align = if packed then at else next_multiple_of at field_align
 
 -- the bytes that an integer takes when it is stored, rounded up to its alignment
 abbrev pub int_size : ℕ → ℕ
@@ -60,7 +60,7 @@ abbrev mutual
   -- where the fields end that follow what ends `at` that byte
   pub end_after : Bool → ℕ → Shapes → ℕ
   end_after packed at no_shapes = at
-  end_after packed at (more_shapes s ss) = end_after packed (placed packed at (align s) + size s) ss
+  end_after packed at (more_shapes s ss) = end_after packed (field_start packed at (align s) + size s) ss
 
 abbrev mutual
   -- the integers and pointers of a value, written out
@@ -84,8 +84,8 @@ layout s = if has_layout s then Some (record { size = size s; align = align s; l
 -- where the field with that index begins
 abbrev pub field_offset : Bool → ℕ → Shapes → ℕ → Option ℕ
 field_offset packed at no_shapes field = None
-field_offset packed at (more_shapes s ss) zero = Some (placed packed at (align s))
-field_offset packed at (more_shapes s ss) (suc field) = field_offset packed (placed packed at (align s) + size s) ss field
+field_offset packed at (more_shapes s ss) zero = Some (field_start packed at (align s))
+field_offset packed at (more_shapes s ss) (suc field) = field_offset packed (field_start packed at (align s) + size s) ss field
 
 -- the same for a type that is a struct with a layout
 abbrev pub offset : Shape → ℕ → Option ℕ

@@ -9,7 +9,7 @@ use Rattle.type_table.specs.declared.ir_type.StructBody.{StructBody}
 use Rattle.type_table.specs.declared.ir_type.StructBody.TheVariants.{Opaque, Plain, Packed}
 use Rattle.type_table.specs.declared.layout.Layout.{Layout}
 use Rattle.type_table.specs.declared.measure.Measure.{Measure}
-use Rattle.type_table.specs.Layout.{layout, placed}
+use Rattle.type_table.specs.Layout.{layout, field_start}
 use Rattle.type_table.specs.Shape.{Shape, int_leaf, ptr_leaf, void_leaf, nesting, parts}
 use Rattle.type_table.specs.Tree.{Tree, int, ptr, void, array, struct, named, Trees, no_trees, more_trees, TreeBody, opaque_body, fields, index_of}
 
@@ -54,7 +54,7 @@ abbrev pub with_field_layout : Bool → Option Layout → Option Layout → Opti
 with_field_layout packed None field = None
 with_field_layout packed (Some l) None = None
 with_field_layout packed (Some l) (Some field) = Some (record {
-  size = capped (placed packed (capped l.size) (max 1 field.align) + field.size);
+  size = capped (field_start packed (capped l.size) (max 1 field.align) + field.size);
   align = if packed then l.align else max l.align field.align;
   leaves = capped (l.leaves + field.leaves);
 })

@@ -8,15 +8,15 @@ use Rattle.type_table.specs.declared.ir_type.StructBody.{StructBody}
 use Rattle.type_table.specs.declared.ir_type.StructBody.TheVariants.{Opaque, Plain, Packed}
 use Rattle.type_table.specs.declared.layout.Layout.{Layout}
 use Rattle.type_table.specs.declared.measure.Measure.{Measure}
-use Rattle.type_table.specs.declared.outline.Head.{Head}
-use Rattle.type_table.specs.declared.outline.Head.TheVariants as heads
-use Rattle.type_table.specs.Layout.{placed}
+use Rattle.type_table.specs.declared.outline.TypeOutline.{TypeOutline}
+use Rattle.type_table.specs.declared.outline.TypeOutline.TheVariants as heads
+use Rattle.type_table.specs.Layout.{field_start}
 use Rattle.type_table.specs.Measures.{capped, with_field}
 use Rattle.type_table.specs.Shape.{nesting}
 use Rattle.type_table.specs.Types.{Types, bodies, shape}
 
 -- what the body of a struct is but for its parts
-abbrev pub body_head : Option StructBody → Head
+abbrev pub body_head : Option StructBody → TypeOutline
 body_head None = heads.Opaque
 body_head (Some Opaque) = heads.Opaque
 body_head (Some (Plain parts)) = heads.Struct false
@@ -30,7 +30,7 @@ body_parts (Some (Plain parts)) = parts
 body_parts (Some (Packed parts)) = parts
 
 -- what a type is but for its parts
-abbrev pub type_head : List (Option StructBody) → IrType → Head
+abbrev pub type_head : List (Option StructBody) → IrType → TypeOutline
 type_head bs (Int w) = heads.Int w
 type_head bs Ptr = heads.Ptr
 type_head bs Void = heads.Void
@@ -48,7 +48,7 @@ type_parts bs (Struct packed parts) = parts
 type_parts bs (Named id) = body_parts (slice_index_or bs id None)
 
 -- what the type with this id is but for its parts
-abbrev pub head_of : Types → ℕ → Head
+abbrev pub head_of : Types → ℕ → TypeOutline
 head_of t ty = type_head (bodies t) (slice_index_or t.types ty Void)
 
 -- the ids of the parts of the type with this id
@@ -63,7 +63,7 @@ type_nesting t ty = option_map_or nesting (shape t ty) 0
 abbrev pub next_offset : Bool → Option Layout → Option Layout → Option ℕ
 next_offset packed None field = None
 next_offset packed (Some l) None = None
-next_offset packed (Some l) (Some field) = Some (placed packed (capped l.size) (max 1 field.align))
+next_offset packed (Some l) (Some field) = Some (field_start packed (capped l.size) (max 1 field.align))
 
 -- where the field with that index begins, after the fields so far
 abbrev pub offset_from : Bool → Measure → List Measure → ℕ → Option ℕ

@@ -2,7 +2,7 @@
 ghost use Rattle.std.specs.Prelude.{◌≡◌, ◌↔◌, ◌<◌, ◌+◌, max, Some, IsTrue, [], ◌∷◌, OnOk, IfErr};
 ghost use Rattle.std.specs.Int.{next_multiple_of};
 ghost use Rattle.type_table.specs.Kept.{IsSmall, IsLarge, HasListFault};
-ghost use Rattle.type_table.specs.Layout.{int_align, placed};
+ghost use Rattle.type_table.specs.Layout.{int_align, field_start};
 ghost use Rattle.type_table.specs.Shape.{int_leaf, ptr_leaf, void_leaf};
 ghost use Rattle.type_table.specs.Outline.{next_offset};
 ghost use Rattle.type_table.specs.Measures.{measure, capped, capped_nesting, capped_parts, opaque_measure, array_measure, empty_struct, with_field_layout, with_field, rounded, closed, struct_measure};
@@ -82,7 +82,7 @@ fn rounded_up(at: u64, align: u32) -> u64
 
 /// Where a field of that alignment begins, if the fields before it end at the byte.
 fn placed(packed: bool, at: u64, align: u32) -> u64
-    ensures { result ≡ placed packed (capped at) (max 1 align) }
+    ensures { result ≡ field_start packed (capped at) (max 1 align) }
 {
     if packed {
         capped(at)

@@ -6,7 +6,7 @@ use crate::{StructBody, TypeId};
 
 /// What a type is but for its parts, where a struct's name stands for its body.
 #[derive(Clone, Copy)]
-pub(crate) enum Head {
+pub(crate) enum TypeOutline {
     /// An integer, by its width in bits.
     Int(u8),
     /// A pointer.
@@ -21,32 +21,33 @@ pub(crate) enum Head {
     Struct(bool),
 }
 
-impl Head {
+impl TypeOutline {
     /// What a struct with that body is.
-    pub(crate) fn of_body(body: &Option<StructBody>) -> Head
+    pub(crate) fn of_body(body: &Option<StructBody>) -> TypeOutline
         ensures { result ≡ body_head body.now }
     {
         match body {
-            None | Some(StructBody::Opaque) => Head::Opaque,
-            Some(StructBody::Plain(_)) => Head::Struct(false),
-            Some(StructBody::Packed(_)) => Head::Struct(true),
+            None | Some(StructBody::Opaque) => TypeOutline::Opaque,
+            Some(StructBody::Plain(_)) => TypeOutline::Struct(false),
+            Some(StructBody::Packed(_)) => TypeOutline::Struct(true),
         }
     }
 
     /// Whether two types are the same but for their parts.
-    pub(crate) fn is_same(self, other: Head) -> bool
+    pub(crate) fn is_same(self, other: TypeOutline) -> bool
         ensures { IsTrue result ↔ (self ≡ other) }
     {
         match self {
-            Head::Int(width) => matches!(other, Head::Int(other_width) if other_width == width),
-            Head::Ptr => matches!(other, Head::Ptr),
-            Head::Void => matches!(other, Head::Void),
-            Head::Opaque => matches!(other, Head::Opaque),
-            Head::Array(length) => {
-                matches!(other, Head::Array(other_length) if other_length == length)
+            TypeOutline::Int(width) =>
+                matches!(other, TypeOutline::Int(other_width) if other_width == width),
+            TypeOutline::Ptr => matches!(other, TypeOutline::Ptr),
+            TypeOutline::Void => matches!(other, TypeOutline::Void),
+            TypeOutline::Opaque => matches!(other, TypeOutline::Opaque),
+            TypeOutline::Array(length) => {
+                matches!(other, TypeOutline::Array(other_length) if other_length == length)
             }
-            Head::Struct(packed) => {
-                matches!(other, Head::Struct(other_packed) if other_packed == packed)
+            TypeOutline::Struct(packed) => {
+                matches!(other, TypeOutline::Struct(other_packed) if other_packed == packed)
             }
         }
     }

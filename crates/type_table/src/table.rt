@@ -9,7 +9,7 @@ ghost use Rattle.type_table.specs.Layout.{layout, offset};
 ghost use Rattle.type_table.specs.Outline.{head_of, parts_of};
 
 use crate::measure::{Measure, NESTING_LIMIT, SIZE_LIMIT};
-use crate::outline::{Head, parts_of_body};
+use crate::outline::{TypeOutline, parts_of_body};
 use crate::settle::{Measures, field_offset, measure_at, measure_body, measure_type, remeasured};
 use crate::structs::{StructMap, add_struct, copy_structs, has_name, name_at, place_of, set_body};
 use crate::{IrType, Layout, StructBody, StructId, TypeFault, TypeId};
@@ -191,17 +191,17 @@ impl TypeTable {
     }
 
     /// What the type is but for its parts.
-    fn head(&self, ty: TypeId) -> Head
+    fn head(&self, ty: TypeId) -> TypeOutline
         requires { ty < length self.now.types }
         ensures { result ≡ head_of self.now ty }
     {
         match &self.types[ty.number() as usize] {
-            IrType::Int(width) => Head::Int(*width),
-            IrType::Ptr => Head::Ptr,
-            IrType::Void => Head::Void,
-            IrType::Array(length, _) => Head::Array(*length),
-            IrType::Struct(packed, _) => Head::Struct(*packed),
-            IrType::Named(id) => Head::of_body(&self.structs[id.number() as usize]),
+            IrType::Int(width) => TypeOutline::Int(*width),
+            IrType::Ptr => TypeOutline::Ptr,
+            IrType::Void => TypeOutline::Void,
+            IrType::Array(length, _) => TypeOutline::Array(*length),
+            IrType::Struct(packed, _) => TypeOutline::Struct(*packed),
+            IrType::Named(id) => TypeOutline::of_body(&self.structs[id.number() as usize]),
         }
     }
 
@@ -226,7 +226,7 @@ impl TypeTable {
     {
         let types = &self.measures.types;
         self.layout(ty)?;
-        let Head::Struct(packed) = self.head(ty) else {
+        let TypeOutline::Struct(packed) = self.head(ty) else {
             return None;
         };
         let parts = self.parts(ty);

@@ -6,8 +6,8 @@ use Rattle.type_table.specs.declared.ir_type.StructBody.{StructBody}
 use Rattle.type_table.specs.declared.ir_type.StructBody.TheVariants.{Opaque, Plain, Packed}
 use Rattle.type_table.specs.Tree.{Tree, array, struct}
 use Rattle.type_table.specs.Types.{Types, bodies, trees, trees_at, tree}
-use Rattle.type_verify.specs.declared.types.Opened as the_opened
-use Rattle.type_verify.specs.declared.types.Opened.TheVariants as the
+use Rattle.type_verify.specs.declared.types.OpenedType as the_opened
+use Rattle.type_verify.specs.declared.types.OpenedType.TheVariants as the
 
 -- an array or a struct by the ids of its parts, or neither
 pub data OpenedIds : Type 0 where
@@ -16,7 +16,7 @@ pub data OpenedIds : Type 0 where
   neither : OpenedIds
 
 -- the ids that the code has
-abbrev pub opened_ids : the_opened.Opened → OpenedIds
+abbrev pub opened_ids : the_opened.OpenedType → OpenedIds
 opened_ids (the.Array length part) = array_of length part
 opened_ids (the.Struct packed parts) = struct_of packed parts.now
 opened_ids the.Other = neither

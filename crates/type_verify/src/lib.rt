@@ -18,4 +18,4 @@ mod types;
 
 pub use fault::VerifyFault;
 pub use judged::{Check, asked, judge_global, judge_instruction, judge_module};
-pub use types::{Opened, TypeJudge};
+pub use types::{OpenedType, TypeJudge};

@@ -215,16 +215,16 @@ impl<'a> TypeJudge<'a> {
     }
 
     /// The type by its parts, where a struct's name stands for its body.
-    pub fn opened(&self, ty: TypeId) -> Opened<'_>
+    pub fn opened(&self, ty: TypeId) -> OpenedType<'_>
         requires { ty < length self.now.types }
         ensures { IsOpened self.now (opened_ids result) (opened (structs self.now) (tree self.now ty)) }
     {
         match self.table.get(ty) {
-            IrType::Int(_) => Opened::Other,
-            IrType::Ptr => Opened::Other,
-            IrType::Void => Opened::Other,
-            IrType::Array(length, element) => Opened::Array(*length, *element),
-            IrType::Struct(packed, fields) => Opened::Struct(*packed, fields.as_slice()),
+            IrType::Int(_) => OpenedType::Other,
+            IrType::Ptr => OpenedType::Other,
+            IrType::Void => OpenedType::Other,
+            IrType::Array(length, element) => OpenedType::Array(*length, *element),
+            IrType::Struct(packed, fields) => OpenedType::Struct(*packed, fields.as_slice()),
             IrType::Named(id) => opened_body(self.table.struct_body(*id)),
         }
     }
@@ -237,22 +237,22 @@ impl<'a> TypeJudge<'a> {
         ensures known { IfSome result (λ part. part < length self.now.types) }
     {
         match self.opened(ty) {
-            Opened::Array(_, element) => Some(element),
-            Opened::Struct(_, fields) => {
+            OpenedType::Array(_, element) => Some(element),
+            OpenedType::Struct(_, fields) => {
                 if self.is_integer_of(index, 32) {
                     field_at(fields, number)
                 } else {
                     None
                 }
             }
-            Opened::Other => None,
+            OpenedType::Other => None,
         }
     }
 }
 
 /// What a type is by its parts, where a struct's name stands for its body.
 #[derive(Clone, Copy)]
-pub enum Opened<'t> {
+pub enum OpenedType<'t> {
     /// An array, by its length and the type of its elements.
     Array(u64, TypeId),
     /// A struct, packed where the flag is true, with the types of its fields.
@@ -262,13 +262,13 @@ pub enum Opened<'t> {
 }
 
 /// What a struct with that body is.
-fn opened_body(body: Option<&StructBody>) -> Opened<'_>
+fn opened_body(body: Option<&StructBody>) -> OpenedType<'_>
     ensures { opened_ids result ≡ opened_body (option_copied body.entry) }
 {
     match body {
-        None | Some(StructBody::Opaque) => Opened::Other,
-        Some(StructBody::Plain(fields)) => Opened::Struct(false, fields.as_slice()),
-        Some(StructBody::Packed(fields)) => Opened::Struct(true, fields.as_slice()),
+        None | Some(StructBody::Opaque) => OpenedType::Other,
+        Some(StructBody::Plain(fields)) => OpenedType::Struct(false, fields.as_slice()),
+        Some(StructBody::Packed(fields)) => OpenedType::Struct(true, fields.as_slice()),
     }
 }
 

@@ -12,7 +12,7 @@ use Rattle.module_arena.proofs.SameValues.{type_is}
 use Rattle.run_rules.specs.Action.{Origin, Action}
 use Rattle.run_rules.specs.Constant.{shape_of}
 use Rattle.run_rules.specs.Resolve.{signature_in}
-use Rattle.run_rules.specs.Scope.{Scope, operand_in, scalar_of}
+use Rattle.run_rules.specs.Scope.{FunctionScope, operand_in, scalar_of}
 use Rattle.typed_runs.specs.Actions.{Typing, AreOrigins, IsResult, IsPlace, IsTypedAction}
 use Rattle.typed_runs.specs.Kinds.{kinds_of, kinds_of_all}
 use Rattle.typed_actions.specs.Asked.{HasLeaves, IsGoodOperand}
@@ -25,7 +25,7 @@ module _ (t : Typing) (look : ℕ → ℕ → ℕ → Action) (n : ℕ) where
   both_had (k ∷ ks) js [] ys h g = absurd h
   both_had (k ∷ ks) js (x ∷ xs) ys h g = (h.0, both_had ks js xs ys h.1 g)
 
-  module _ (sc : Scope) where
+  module _ (sc : FunctionScope) where
     abbrev shapes : List Operand → List Shape
     shapes os = map (λ (a : Operand). shape_of sc.names a.ty) os
 

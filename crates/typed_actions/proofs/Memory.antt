@@ -17,7 +17,7 @@ use Rattle.run_rules.specs.Action.{Origin, Action}
 use Rattle.run_rules.specs.Constant.{shape_of, width_of}
 use Rattle.run_rules.specs.Leaves.{Slot, slots}
 use Rattle.run_rules.specs.Resolve.{alignment_in}
-use Rattle.run_rules.specs.Scope.{Scope, value_in, scalar_in, scalar_of}
+use Rattle.run_rules.specs.Scope.{FunctionScope, value_in, scalar_in, scalar_of}
 use Rattle.typed_runs.specs.Actions.{Typing, IsOrigin, AreOrigins, IsResult, IsPlace, IsTypedAction}
 use Rattle.typed_runs.specs.Kinds.{kinds_of}
 use Rattle.typed_types.proofs.Aligned.{shape_aligned, stated_aligned}
@@ -35,7 +35,7 @@ module _ (t : Typing) (look : ℕ → ℕ → ℕ → Action) (n : ℕ) where
   stored_typed (s ∷ ss) [] g h = absurd h
   stored_typed (s ∷ ss) (x ∷ xs) g h = ((g.0, h.0), stored_typed ss xs g.1 h.1)
 
-  module _ (sc : Scope) (good : are_good_structs sc.names.structs ≡ true) where
+  module _ (sc : FunctionScope) (good : are_good_structs sc.names.structs ≡ true) where
     aligned : (stated : Option ℕ) (ty : Tree) → alignment_suits stated ≡ true → IsAlignment (alignment_in sc.names stated ty)
     aligned None ty h = shape_aligned (shape_of sc.names ty)
     aligned (Some a) ty h = stated_aligned a h

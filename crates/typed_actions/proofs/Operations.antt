@@ -11,7 +11,7 @@ use Rattle.module_arena.specs.WellFormed.{is_good_type, are_good_structs}
 use Rattle.run_rules.specs.Action.{Action}
 use Rattle.run_rules.specs.Constant.{shape_of}
 use Rattle.run_rules.specs.Resolve.{operation_in, is_phi}
-use Rattle.run_rules.specs.Scope.{Scope, place_in}
+use Rattle.run_rules.specs.Scope.{FunctionScope, place_in}
 use Rattle.typed_runs.specs.Actions.{Typing, IsPlace, IsTypedAction}
 use Rattle.typed_actions.specs.Asked.{IsAsked}
 use Rattle.typed_actions.specs.Laws.{InstructionsAreTyped}
@@ -22,7 +22,7 @@ use Rattle.typed_actions.proofs.Scalars.{compute_typed, compare_typed, convert_t
 use Rattle.typed_actions.proofs.Steps.{displace_typed}
 use Rattle.typed_actions.proofs.Values.{select_typed, freeze_typed}
 
-module _ (t : Typing) (look : ℕ → ℕ → ℕ → Action) (n : ℕ) (sc : Scope) (good : are_good_structs sc.names.structs ≡ true) (r : Option LocalName) (k p : ℕ) (next : IsPlace t look n k (p + 1)) where
+module _ (t : Typing) (look : ℕ → ℕ → ℕ → Action) (n : ℕ) (sc : FunctionScope) (good : are_good_structs sc.names.structs ≡ true) (r : Option LocalName) (k p : ℕ) (next : IsPlace t look n k (p + 1)) where
   abbrev to : ℕ
   to = place_in sc r
 

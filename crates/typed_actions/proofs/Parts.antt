@@ -11,7 +11,7 @@ use Rattle.module_arena.proofs.SameValues.{type_is}
 use Rattle.run_rules.specs.Action.{Origin, Action}
 use Rattle.run_rules.specs.Constant.{shape_of}
 use Rattle.run_rules.specs.Leaves.{part, leaves_before_part}
-use Rattle.run_rules.specs.Scope.{Scope, value_in}
+use Rattle.run_rules.specs.Scope.{FunctionScope, value_in}
 use Rattle.typed_runs.specs.Actions.{Typing, AreOrigins, IsResult, IsPlace, IsTypedAction}
 use Rattle.typed_runs.specs.Kinds.{kinds_of}
 use Rattle.typed_look.proofs.Opened.{parts_have_shapes}
@@ -68,7 +68,7 @@ module _ (t : Typing) (look : ℕ → ℕ → ℕ → Action) (n : ℕ) where
       (subst (λ j. AreOrigins t look n (s.front ++ (inner ++ s.back)) (take j xs ++ (new ++ drop (behind + count) xs))) s.long
       (middle_put s.front inner s.back xs new (behind + count) sum (subst (λ ks. AreOrigins t look n ks xs) s.made h) g)))
 
-  module _ (sc : Scope) (good : are_good_structs sc.names.structs ≡ true) where
+  module _ (sc : FunctionScope) (good : are_good_structs sc.names.structs ≡ true) where
     pub extract_typed : (ty : Tree) (v : Value) (indices : List ℕ) (to k p : ℕ) → is_some (part_at sc.names.structs ty indices) ≡ true → is_good_type sc.names.structs ty ≡ true → HasLeaves t look n sc ty v
         → IsResult t look n to (kinds_of (part (shape_of sc.names ty) indices)) → IsPlace t look n k (p + 1)
         → IsTypedAction t look n k p (Action.Gather to (take (leaves (part (shape_of sc.names ty) indices)) (drop (leaves_before_part (shape_of sc.names ty) indices) (value_in sc ty v))))

@@ -15,7 +15,7 @@ use Rattle.module_arena.specs.TypeTests.{is_integer, is_pointer}
 use Rattle.module_arena.specs.WellFormed.{is_good_type}
 use Rattle.run_rules.specs.Action.{Action}
 use Rattle.run_rules.specs.Constant.{shape_of, width_of}
-use Rattle.run_rules.specs.Scope.{Scope, value_in, scalar_of}
+use Rattle.run_rules.specs.Scope.{FunctionScope, value_in, scalar_of}
 use Rattle.typed_runs.specs.Actions.{Typing, cast_from, IsOrigin, AreOrigins, IsResult, IsPlace, IsTypedAction}
 use Rattle.typed_runs.specs.Kinds.{kinds_of}
 use Rattle.typed_look.proofs.Constants.{cast_suits}
@@ -44,7 +44,7 @@ same_binary op.Or h = refl
 same_binary op.Xor h = refl
 same_binary _ h = absurd (true≢false (sym h))
 
-module _ (t : Typing) (look : ℕ → ℕ → ℕ → Action) (n : ℕ) (sc : Scope) where
+module _ (t : Typing) (look : ℕ → ℕ → ℕ → Action) (n : ℕ) (sc : FunctionScope) where
   -- the one leaf of an integer, and of a pointer
   pub integer_leaf : (w : ℕ) (v : Value) → HasLeaves t look n sc (int w) v → IsOrigin t look n (leaf.Int w) (scalar_of sc (int w) v)
   integer_leaf w v h = one_origin_typed t look n (leaf.Int w) (value_in sc (int w) v) h

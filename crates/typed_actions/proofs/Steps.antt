@@ -17,7 +17,7 @@ use Rattle.run_rules.specs.Constant.{shape_of}
 use Rattle.run_rules.specs.Displace.{Index, number_in, inner_term, inner_terms, terms_of}
 use Rattle.run_rules.specs.Leaves.{element}
 use Rattle.run_rules.specs.Resolve.{index_in}
-use Rattle.run_rules.specs.Scope.{Scope, scalar_of}
+use Rattle.run_rules.specs.Scope.{FunctionScope, scalar_of}
 use Rattle.typed_runs.specs.Actions.{Typing, IsOrigin, IsResult, IsPlace, IsTerm, IsTypedAction}
 use Rattle.typed_types.proofs.Laid.{IsLaid, element_laid, offset_small, type_laid}
 use Rattle.typed_actions.specs.Asked.{HasLeaves, IsGoodOperand}
@@ -44,7 +44,7 @@ module _ (t : Typing) (look : ℕ → ℕ → ℕ → Action) (n : ℕ) where
   terms_typed s [] laid h = tt
   terms_typed s (i ∷ is) laid h = (h.0, inner_typed s is laid h.1)
 
-  module _ (sc : Scope) (good : are_good_structs sc.names.structs ≡ true) where
+  module _ (sc : FunctionScope) (good : are_good_structs sc.names.structs ≡ true) where
     indices_good : (os : List Operand) → list_all (λ i. is_integer i.ty) (map index_of_operand os) ≡ true → AllByRecursion (IsGoodOperand t look n sc) os → AllByRecursion IsGoodIndex (map (index_in sc) os)
     indices_good [] h g = tt
     indices_good (o ∷ os) h g =

@@ -12,7 +12,7 @@ use Rattle.module_arena.proofs.SameValues.{type_is}
 use Rattle.run_rules.specs.Action.{Origin, Action}
 use Rattle.run_rules.specs.Constant.{shape_of}
 use Rattle.run_rules.specs.Leaves.{Slot, slots, is_pointer}
-use Rattle.run_rules.specs.Scope.{Scope, value_in, scalar_of}
+use Rattle.run_rules.specs.Scope.{FunctionScope, value_in, scalar_of}
 use Rattle.typed_runs.specs.Actions.{Typing, IsOrigin, AreOrigins, IsResult, IsPlace, IsTypedAction}
 use Rattle.typed_runs.specs.Kinds.{kinds_of}
 use Rattle.typed_look.proofs.Constants.{integer_of_is}
@@ -36,7 +36,7 @@ module _ (t : Typing) (look : ℕ → ℕ → ℕ → Action) (n : ℕ) where
   frozen_typed (s ∷ ss) [] h = absurd h
   frozen_typed (s ∷ ss) (x ∷ xs) h = ((refl, h.0), frozen_typed ss xs h.1)
 
-  module _ (sc : Scope) where
+  module _ (sc : FunctionScope) where
     -- the one leaf of an i1
     pub condition_leaf : (ty : Tree) (v : Value) → is_integer_of 1 ty ≡ true → HasLeaves t look n sc ty v → IsOrigin t look n (leaf.Int 1) (scalar_of sc ty v)
     condition_leaf ty v e h =

@@ -11,7 +11,7 @@ use Rattle.module_arena.specs.ValueRules.{arithmetic_suits, cast_suits, address_
 use Rattle.module_arena.specs.WellFormed.{is_good_type, types_of_operation}
 use Rattle.run_rules.specs.Action.{Action}
 use Rattle.run_rules.specs.Constant.{shape_of}
-use Rattle.run_rules.specs.Scope.{Scope, place_in, value_in, result_shape}
+use Rattle.run_rules.specs.Scope.{FunctionScope, place_in, value_in, result_shape}
 use Rattle.typed_runs.specs.Actions.{Typing, AreOrigins, IsResult}
 use Rattle.typed_runs.specs.Kinds.{kinds_of}
 
@@ -20,7 +20,7 @@ abbrev pub CallSuits : Operation → Type 0
 CallSuits (Call signature value arguments) = arguments_suit signature.variadic signature.parameters arguments ≡ true
 CallSuits _ = ⊤
 
-module _ (t : Typing) (look : ℕ → ℕ → ℕ → Action) (function : ℕ) (sc : Scope) where
+module _ (t : Typing) (look : ℕ → ℕ → ℕ → Action) (function : ℕ) (sc : FunctionScope) where
   -- a value has the leaves of that type
   abbrev pub HasLeaves : Tree → Value → Type 0
   HasLeaves ty v = AreOrigins t look function (kinds_of (shape_of sc.names ty)) (value_in sc ty v)

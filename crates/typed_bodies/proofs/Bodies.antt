@@ -24,7 +24,7 @@ use Rattle.run_places.proofs.Parts.{all_from_places}
 use Rattle.run_places.proofs.Search.{all_at}
 use Rattle.run_rules.specs.Action.{Action}
 use Rattle.run_rules.specs.Constant.{Names, shape_of}
-use Rattle.run_rules.specs.Scope.{Scope, scope_of, blocks_of, result_shape, place_in}
+use Rattle.run_rules.specs.Scope.{FunctionScope, scope_of, blocks_of, result_shape, place_in}
 use Rattle.typed_runs.specs.Actions.{Typing, IsResult}
 use Rattle.typed_runs.specs.Kinds.{IsOf, AreAt, kinds_of}
 use Rattle.typed_look.specs.Typings.{frame_kinds}
@@ -107,7 +107,7 @@ module _ (m : Module) (well_formed : IsWellFormed m) (valid : IsValid m) (number
     abbrev names : Names
     names = names_with m address bounds
 
-    abbrev sc : Scope
+    abbrev sc : FunctionScope
     sc = scope_of names f
 
     result_asked : (k : ℕ) (b : Block) (j : ℕ) (i : Instruction) → slice_get (blocks f) k ≡ Some b → slice_get b.instructions j ≡ Some i → has_result_of_phrase i.operation (is_some i.result) ≡ true

@@ -16,7 +16,7 @@ use Rattle.module_arena.specs.ValueRules.{value_has_type, have_types_written, is
 use Rattle.module_arena.specs.WellFormed.{is_good_type, are_good_structs, known_in, known_of_operands, is_good_constant, are_good_operands}
 use Rattle.run_rules.specs.Action.{Action}
 use Rattle.run_rules.specs.Constant.{Names}
-use Rattle.run_rules.specs.Scope.{Scope, scope_of}
+use Rattle.run_rules.specs.Scope.{FunctionScope, scope_of}
 use Rattle.typed_runs.specs.Actions.{Typing}
 use Rattle.typed_runs.specs.Kinds.{IsOf}
 use Rattle.typed_look.specs.Typings.{frame_kinds}
@@ -32,7 +32,7 @@ module _ (m : Module) (good : are_good_structs m.structs ≡ true) (address : By
   names = names_with m address bounds
 
   module _ (f : Function) (t : Typing) (look : ℕ → ℕ → ℕ → Action) (n : ℕ) (kinds : t.kinds n ≡ frame_kinds names f) (shapes : AllHaveShapes m.structs (blocks f)) (addresses : (name : Bytes) → IsOf t.fixed leaf.Ptr (address name)) where
-    abbrev sc : Scope
+    abbrev sc : FunctionScope
     sc = scope_of names f
 
     value_leaves : (ty : Tree) (v : Value) → value_has_type m.structs f ty v ≡ true → value_fits m.structs ty v ≡ true → list_all (is_good_constant m) (known_in ty v) ≡ true → HasLeaves t look n sc ty v

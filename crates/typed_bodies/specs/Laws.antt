@@ -10,7 +10,7 @@ use Rattle.module_arena.specs.Valid.{IsValid}
 use Rattle.module_arena.specs.WellFormed.{IsWellFormed}
 use Rattle.run_rules.specs.Action.{Action}
 use Rattle.run_rules.specs.Constant.{Names}
-use Rattle.run_rules.specs.Scope.{Scope, scope_of}
+use Rattle.run_rules.specs.Scope.{FunctionScope, scope_of}
 use Rattle.typed_runs.specs.Actions.{Typing}
 use Rattle.typed_runs.specs.Kinds.{IsOf}
 use Rattle.typed_look.specs.Typings.{frame_kinds}
@@ -18,7 +18,7 @@ use Rattle.typed_actions.specs.Asked.{IsAsked}
 use Rattle.typed_edges.specs.Asked.{IsAskedEnd}
 
 -- each instruction of a block, and its end
-pub record IsAskedBlock (t : Typing) (look : ℕ → ℕ → ℕ → Action) (function : ℕ) (sc : Scope) (f : Function) (b : Block) : Type 0 where
+pub record IsAskedBlock (t : Typing) (look : ℕ → ℕ → ℕ → Action) (function : ℕ) (sc : FunctionScope) (f : Function) (b : Block) : Type 0 where
   pub instructions : AllByRecursion (IsAsked t look function sc) b.instructions
   pub ending : IsAskedEnd t look function sc f b.ending
 

@@ -12,7 +12,7 @@ use Rattle.module_arena.specs.Same.{same_local}
 use Rattle.run_rules.specs.Action.{Origin, Action}
 use Rattle.run_rules.specs.Constant.{shape_of}
 use Rattle.run_rules.specs.Resolve.{moves_to, phi_moves, is_phi, phis, edge_into, edge_in}
-use Rattle.run_rules.specs.Scope.{Scope, place_in, value_in, block_in}
+use Rattle.run_rules.specs.Scope.{FunctionScope, place_in, value_in, block_in}
 use Rattle.run_places.proofs.Together.{all_append}
 use Rattle.run_places.specs.Places.{LeadsOn}
 use Rattle.typed_runs.specs.Actions.{Typing, AreOrigins, IsResult, IsMove, IsEdge}
@@ -26,7 +26,7 @@ module _ (t : Typing) (look : ℕ → ℕ → ℕ → Action) (n : ℕ) where
   moves_typed (k ∷ ks) [] to at h = absurd h
   moves_typed (k ∷ ks) (x ∷ xs) to at h = ((k, at.0, h.0), moves_typed ks xs (to + 1) at.1 h.1)
 
-  module _ (sc : Scope) (from : LocalName) where
+  module _ (sc : FunctionScope) (from : LocalName) where
     -- the entry for the block that is left
     entry_typed : (ty : Tree) (to : ℕ) (incoming : List Incoming) → IsResult t look n to (kinds_of (shape_of sc.names ty)) → AllByRecursion (IsGoodOperand t look n sc) (map (incoming_operand ty) incoming)
         → AllByRecursion (IsMove t look n) (moves_to to (option_map_or (λ x. value_in sc ty x.value) (find (λ x. same_local x.block from) incoming) []))

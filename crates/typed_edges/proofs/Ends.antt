@@ -16,7 +16,7 @@ use Rattle.run_rules.specs.Action.{Edge, Action}
 use Rattle.run_rules.specs.Constant.{shape_of, width_of, one_leaf, constant_value}
 use Rattle.run_rules.specs.Displace.{number_of}
 use Rattle.run_rules.specs.Resolve.{case_in, ending_in}
-use Rattle.run_rules.specs.Scope.{Scope, value_in}
+use Rattle.run_rules.specs.Scope.{FunctionScope, value_in}
 use Rattle.run_places.specs.Places.{LeadsOn, GoesOnFrom}
 use Rattle.typed_runs.specs.Actions.{Typing, AreOrigins, IsEdge, IsTypedAction}
 use Rattle.typed_runs.specs.Kinds.{kinds_of}
@@ -27,7 +27,7 @@ use Rattle.typed_edges.specs.Asked.{IsAskedEnd}
 use Rattle.typed_edges.specs.Laws.{EndsAreTyped}
 use Rattle.typed_edges.proofs.Edges.{edge_typed}
 
-module _ (t : Typing) (look : ℕ → ℕ → ℕ → Action) (n : ℕ) (sc : Scope) where
+module _ (t : Typing) (look : ℕ → ℕ → ℕ → Action) (n : ℕ) (sc : FunctionScope) where
   -- a number that is written is one of its type
   number_small : (w : ℕ) (c : Constant) → is_some (written_number c) ≡ true → HasLeaves t look n sc (int w) (Value.Known c) → number_of (one_leaf (constant_value sc.names (int w) c)) < 2 ^ w
   number_small w (Constant.Integer number) s h = h.0

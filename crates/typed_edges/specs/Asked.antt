@@ -5,11 +5,11 @@ use Rattle.module_arena.specs.Module.{Ending, Function}
 use Rattle.module_arena.specs.Operations.{ending_operands}
 use Rattle.module_arena.specs.ValueRules.{ending_suits}
 use Rattle.run_rules.specs.Action.{Action}
-use Rattle.run_rules.specs.Scope.{Scope}
+use Rattle.run_rules.specs.Scope.{FunctionScope}
 use Rattle.typed_runs.specs.Actions.{Typing}
 use Rattle.typed_actions.specs.Asked.{IsGoodOperand}
 
 -- values have their leaves, and the test of validity is passed
-pub record IsAskedEnd (t : Typing) (look : ℕ → ℕ → ℕ → Action) (function : ℕ) (sc : Scope) (f : Function) (e : Ending) : Type 0 where
+pub record IsAskedEnd (t : Typing) (look : ℕ → ℕ → ℕ → Action) (function : ℕ) (sc : FunctionScope) (f : Function) (e : Ending) : Type 0 where
   pub values : AllByRecursion (IsGoodOperand t look function sc) (ending_operands e)
   pub suits : ending_suits f e ≡ true

@@ -4,7 +4,7 @@ use Rattle.std.specs.List.{AllZip}
 use Rattle.std.proofs.lemmas.Bool.{and_parts}
 use Rattle.ir_eval.specs.declared.value.Scalar.{Scalar}
 use Rattle.ir_memory.specs.declared.leaf.Leaf.{Leaf}
-use Rattle.type_table.specs.Layout.{size, align, placed}
+use Rattle.type_table.specs.Layout.{size, align, field_start}
 use Rattle.type_table.specs.Shape.{Shape, int_leaf, ptr_leaf, void_leaf, opaque_leaf, array_of, struct_of, Shapes, no_shapes, more_shapes, expanded, all_expanded, name_shape, shape}
 use Rattle.type_table.specs.Tree.{Tree, array, struct, Trees, no_trees, more_trees, body_of}
 use Rattle.type_table.proofs.Rooms.{unjoined, unmapped}
@@ -52,10 +52,10 @@ mutual
   same_field_kinds : (ss : Shapes) (packed : Bool) (at bt end : ℕ) → kinds_in (field_slots ss packed at end) ≡ kinds_in (field_slots ss packed bt end)
   same_field_kinds no_shapes packed at bt end = refl
   same_field_kinds (more_shapes s ss) packed at bt end =
-      kinds_append (slots_at s (at + placed packed end (align s))) (field_slots ss packed at (placed packed end (align s) + size s))
-      ∙ two (kinds_in (slots_at s (at + placed packed end (align s)))) (kinds_in (slots_at s (bt + placed packed end (align s)))) (kinds_in (field_slots ss packed at (placed packed end (align s) + size s))) (kinds_in (field_slots ss packed bt (placed packed end (align s) + size s)))
-      (same_kinds s (at + placed packed end (align s)) (bt + placed packed end (align s))) (same_field_kinds ss packed at bt (placed packed end (align s) + size s))
-      ∙ sym (kinds_append (slots_at s (bt + placed packed end (align s))) (field_slots ss packed bt (placed packed end (align s) + size s)))
+      kinds_append (slots_at s (at + field_start packed end (align s))) (field_slots ss packed at (field_start packed end (align s) + size s))
+      ∙ two (kinds_in (slots_at s (at + field_start packed end (align s)))) (kinds_in (slots_at s (bt + field_start packed end (align s)))) (kinds_in (field_slots ss packed at (field_start packed end (align s) + size s))) (kinds_in (field_slots ss packed bt (field_start packed end (align s) + size s)))
+      (same_kinds s (at + field_start packed end (align s)) (bt + field_start packed end (align s))) (same_field_kinds ss packed at bt (field_start packed end (align s) + size s))
+      ∙ sym (kinds_append (slots_at s (bt + field_start packed end (align s))) (field_slots ss packed bt (field_start packed end (align s) + size s)))
 
 module _ (names : Names) (count : ℕ) where
   -- each constant of a list has leaves of the type that is written before it
@@ -100,9 +100,9 @@ module _ (names : Names) (count : ℕ) where
       let first : inside.0 ≡ x = ap first_of inside.4 in
       let others : inside.1 ≡ xs = ap rest_of inside.4 in
       let shaped : shape_of names t ≡ x = ap (λ (o : Option Shape). unwrap_or o void_leaf) inside.2 ∙ first in
-      one_more_part x (at + placed packed end (align x)) (field_slots xs packed at (placed packed end (align x) + size x)) (constant_value names v c) (constant_values names cs)
+      one_more_part x (at + field_start packed end (align x)) (field_slots xs packed at (field_start packed end (align x) + size x)) (constant_value names v c) (constant_values names cs)
       (subst (λ s. AllZip (IsOf count) (kinds_of s) (constant_value names v c)) shaped (subst (λ t. AllZip (IsOf count) (kinds_of (shape_of names t)) (constant_value names v c)) (sym (type_is t v p.0)) k.0))
-      (these_typed ts xs cs packed at (placed packed end (align x) + size x) (inside.3 ∙ ap (λ (ss : Shapes). Some ss) others) q.1 k.1)
+      (these_typed ts xs cs packed at (field_start packed end (align x) + size x) (inside.3 ∙ ap (λ (ss : Shapes). Some ss) others) q.1 k.1)
     where
       first_of : Shapes → Shape
       first_of no_shapes = void_leaf

@@ -1,7 +1,7 @@
 -- A value has as many kinds as leaves.
 use Rattle.std.proofs.Common.{◌≡◌, ℕ, zero, suc, ◌+◌, ◌*◌, List, [], ◌∷◌, length, map, fold, sum, refl, sym, ap, ◌∙◌, arith, Bool}
 use Rattle.std.proofs.lemmas.List.{length-append}
-use Rattle.type_table.specs.Layout.{size, align, placed, leaves, all_leaves}
+use Rattle.type_table.specs.Layout.{size, align, field_start, leaves, all_leaves}
 use Rattle.type_table.specs.Shape.{Shape, int_leaf, ptr_leaf, void_leaf, opaque_leaf, array_of, struct_of, Shapes, no_shapes, more_shapes}
 use Rattle.run_rules.specs.Leaves.{Slot, repeated, slots_at, field_slots, slots}
 use Rattle.typed_runs.specs.Kinds.{kinds_of, kinds_of_all}
@@ -26,8 +26,8 @@ mutual
   fields_length : (ss : Shapes) (packed : Bool) (at end : ℕ) → length (field_slots ss packed at end) ≡ all_leaves ss
   fields_length no_shapes packed at end = refl
   fields_length (more_shapes s ss) packed at end =
-      length-append (slots_at s (at + placed packed end (align s))) (field_slots ss packed at (placed packed end (align s) + size s))
-      ∙ (let one = slots_length s (at + placed packed end (align s)) in let more = fields_length ss packed at (placed packed end (align s) + size s) in omega (arith, one, more))
+      length-append (slots_at s (at + field_start packed end (align s))) (field_slots ss packed at (field_start packed end (align s) + size s))
+      ∙ (let one = slots_length s (at + field_start packed end (align s)) in let more = fields_length ss packed at (field_start packed end (align s) + size s) in omega (arith, one, more))
 
 mapped_length : {X Y : Type 0} (g : X → Y) (xs : List X) → length (map g xs) ≡ length xs
 mapped_length g [] = refl

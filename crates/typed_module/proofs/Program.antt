@@ -16,7 +16,7 @@ use Rattle.run_rules.specs.Constant.{Names, shape_of}
 use Rattle.run_rules.specs.Look.{Defined, address_in, bounds_in, names_in, function_at, ending_at, action_at, look_in, look}
 use Rattle.run_rules.specs.NeverStuck.{is_stuck}
 use Rattle.run_rules.specs.Resolve.{operation_in, instruction_in, ending_in, is_phi}
-use Rattle.run_rules.specs.Scope.{Scope, scope_of, blocks_of, place_in}
+use Rattle.run_rules.specs.Scope.{FunctionScope, scope_of, blocks_of, place_in}
 use Rattle.typed_runs.specs.Actions.{Typing, IsTypedAction}
 use Rattle.typed_runs.specs.Kinds.{kinds_of}
 use Rattle.typed_runs.proofs.Leaves.{some_same, none_some}
@@ -42,11 +42,11 @@ all_there P (y ∷ ys) zero x h e = subst P (some_same y x e) h.0
 all_there P (y ∷ ys) (suc k) x h e = all_there P ys k x h.1 e
 
 -- an action is of no phi, and goes on to the next
-not_phi : (sc : Scope) (to : ℕ) (o : Operation) → is_stuck (operation_in sc to o) ≡ false → is_phi o ≡ false
+not_phi : (sc : FunctionScope) (to : ℕ) (o : Operation) → is_stuck (operation_in sc to o) ≡ false → is_phi o ≡ false
 not_phi sc to (Operation.Phi ty incoming) h = absurd (true≢false h)
 not_phi sc to _ h = refl
 
-next_there : (here : ℕ → ℕ → Action) (sc : Scope) (to k p : ℕ) (o : Operation) → GoesOnFrom here k p (operation_in sc to o) → IsThere here k (p + 1)
+next_there : (here : ℕ → ℕ → Action) (sc : FunctionScope) (to k p : ℕ) (o : Operation) → GoesOnFrom here k p (operation_in sc to o) → IsThere here k (p + 1)
 next_there here sc to k p (Operation.Phi ty incoming) h = absurd h
 next_there here sc to k p _ h = h
 
@@ -61,7 +61,7 @@ module _ (m : Module) (well_formed : IsWellFormed m) (valid : IsValid m) where
   t = typing_of parts
 
   module _ (f : Function) (j : ℕ) (is : slice_get m.functions j ≡ Some f) (n : ℕ) (kinds : t.kinds n ≡ frame_kinds names f) (gives : t.gives n ≡ kinds_of (shape_of names f.returns)) where
-    abbrev sc : Scope
+    abbrev sc : FunctionScope
     sc = scope_of names f
 
     asked : AllByRecursion (IsAskedBlock t (look parts) n sc f) (blocks_of f)

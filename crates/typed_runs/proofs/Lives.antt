@@ -5,12 +5,12 @@ use Rattle.ir_tables.specs.declared.undefined_kind.UndefinedKind.{UndefinedKind}
 use Rattle.ir_eval.specs.declared.value.Pointer.{Pointer}
 use Rattle.ir_eval.specs.declared.value.Scalar.{Scalar}
 use Rattle.ir_eval.specs.declared.value.Scalar.TheVariants as scalar
-use Rattle.ir_memory.specs.declared.access.Place.{Place}
+use Rattle.ir_memory.specs.declared.access.BlockPlace.{BlockPlace}
 use Rattle.ir_memory.specs.declared.cell.Cell.{Cell}
 use Rattle.ir_memory.specs.declared.kind.BlockKind.TheVariants as kind
 use Rattle.ir_memory.specs.declared.leaf.Leaf.TheVariants as leaf
 use Rattle.ir_memory.specs.Block.{new_block}
-use Rattle.ir_memory.specs.Cell.{size, spelled}
+use Rattle.ir_memory.specs.Cell.{size, leaf_cells}
 use Rattle.ir_memory.specs.Memory.{Blocks, added, round_up, live_bytes, access, put_at, stored}
 use Rattle.ir_memory.proofs.Placed.{live_bytes-push, live_bytes-written}
 use Rattle.run_rules.specs.declared.end.End.{End}
@@ -24,7 +24,7 @@ use Rattle.run_rules.specs.Plan.{Contents}
 abbrev LivesAs : Blocks → Blocks → Type 0
 LivesAs m n = live_bytes n.list ≡ live_bytes m.list
 
-put_lives : (m : Blocks) (cells : List Cell) (place : Result (Option Place) UndefinedKind) → IfOk (put_at m cells place) (LivesAs m)
+put_lives : (m : Blocks) (cells : List Cell) (place : Result (Option BlockPlace) UndefinedKind) → IfOk (put_at m cells place) (LivesAs m)
 put_lives m cells (Err e) = tt
 put_lives m cells (Ok None) = refl
 put_lives m cells (Ok (Some p)) = live_bytes-written p.index p.offset cells m.list
@@ -32,7 +32,7 @@ put_lives m cells (Ok (Some p)) = live_bytes-written p.index p.offset cells m.li
 slots_live : (p : Pointer) (align : ℕ) (xs : List (Slot × Scalar)) (m : Blocks) → IfOk (stored_slots p align xs m) (LivesAs m)
 slots_live p align [] m = refl
 slots_live p align (x ∷ xs) m =
-    go (stored (scalar.Ptr (behind p x.0.offset)) x.0.leaf align x.1 m) (put_lives m (spelled x.0.leaf x.1) (access m (size x.0.leaf) align true (scalar.Ptr (behind p x.0.offset)))) (λ n. slots_live p 1 xs n)
+    go (stored (scalar.Ptr (behind p x.0.offset)) x.0.leaf align x.1 m) (put_lives m (leaf_cells x.0.leaf x.1) (access m (size x.0.leaf) align true (scalar.Ptr (behind p x.0.offset)))) (λ n. slots_live p 1 xs n)
   where
     more : (n : Blocks) → LivesAs m n → (r : Result Blocks UndefinedKind) → IfOk r (LivesAs n) → IfOk r (LivesAs m)
     more n h (Ok o) k = k ∙ h

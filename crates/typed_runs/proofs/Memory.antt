@@ -17,10 +17,10 @@ use Rattle.ir_memory.specs.declared.leaf.Leaf.TheVariants as leaf
 use Rattle.ir_memory.specs.declared.kind.BlockKind.{BlockKind}
 use Rattle.ir_memory.specs.declared.cell.Cell.{Cell}
 use Rattle.ir_memory.specs.declared.cell.Cell.TheVariants as cell
-use Rattle.ir_memory.specs.declared.access.Place.{Place}
+use Rattle.ir_memory.specs.declared.access.BlockPlace.{BlockPlace}
 use Rattle.ir_memory.specs.Answer.{Keeps}
-use Rattle.ir_memory.specs.Block.{Block, new_block, gone, written}
-use Rattle.ir_memory.specs.Cell.{size, read, spelled, integer, pointer, number_of, pointer_of}
+use Rattle.ir_memory.specs.Block.{MemoryBlock, new_block, gone, written}
+use Rattle.ir_memory.specs.Cell.{size, read, leaf_cells, integer, pointer, number_of, pointer_of}
 use Rattle.ir_memory.specs.Given.{IsAlignment, HasKnown}
 use Rattle.ir_memory.specs.Kept.{IsKnownCell, AreKnown}
 use Rattle.ir_memory.specs.Memory.{Blocks, added, round_up, live_bytes, byte_limit, changed, access, cells_at, put, put_at, read_at, loaded, stored, filled, copied, copied_at, overlap, ended, ended_at, started}
@@ -32,7 +32,7 @@ use Rattle.typed_runs.specs.States.{IsTypedMemory, IsLater}
 
 -- a value of a kind is one that memory takes
 
-pub has_known : (bs : List Block) (kind : Leaf) (v : Scalar) → IsOf (length bs) kind v → HasKnown bs v
+pub has_known : (bs : List MemoryBlock) (kind : Leaf) (v : Scalar) → IsOf (length bs) kind v → HasKnown bs v
 has_known bs kind (scalar.Int n) h = tt
 has_known bs (leaf.Int w) (scalar.Ptr p) h = absurd h
 has_known bs leaf.Ptr (scalar.Ptr p) h = h
@@ -71,12 +71,12 @@ added_typed size align kind m is room h =
 
 -- blocks of which one is changed
 
-ended_live : (i : ℕ) (bs : List Block) → live_bytes (changed i (λ b. gone) bs) ≤ live_bytes bs
+ended_live : (i : ℕ) (bs : List MemoryBlock) → live_bytes (changed i (λ b. gone) bs) ≤ live_bytes bs
 ended_live i [] = omega arith
 ended_live zero (b ∷ bs) = omega arith
 ended_live (suc i) (b ∷ bs) = omega (arith, ended_live i bs)
 
-ended_known : (count i : ℕ) (bs : List Block) → AreKnown count bs → AreKnown count (changed i (λ b. gone) bs)
+ended_known : (count i : ℕ) (bs : List MemoryBlock) → AreKnown count bs → AreKnown count (changed i (λ b. gone) bs)
 ended_known count i [] known = known
 ended_known count zero (b ∷ bs) known =
     All-cons (λ b. All (IsKnownCell count) b.cells) gone bs (All-nil (IsKnownCell count)) (All-tail (λ b. All (IsKnownCell count) b.cells) b bs known)
@@ -100,7 +100,7 @@ then_done m n o h k = (k.0, (k.1.0 ∙ h.1.0, k.1.1 ∙ h.1.1))
 pub later_of : (m n : Blocks) → Keeps m n → IsLater m n
 later_of m n k = record { blocks = omega (arith, k.0); next = omega (arith, k.1) }
 
-put_typed : (m : Blocks) (cells : List Cell) (place : Option Place) → All (IsKnownCell (length m.list)) cells → IsTypedMemory m → IsKeptTyped m (put m cells place)
+put_typed : (m : Blocks) (cells : List Cell) (place : Option BlockPlace) → All (IsKnownCell (length m.list)) cells → IsTypedMemory m → IsKeptTyped m (put m cells place)
 put_typed m cells None known h = nothing_done m h
 put_typed m cells (Some p) known h =
     let same : length (changed p.index (written p.offset cells) m.list) ≡ length m.list = length-changed p.index (written p.offset cells) m.list in (
@@ -112,23 +112,23 @@ put_typed m cells (Some p) known h =
       (same, refl),
     )
 
-put_at_typed : (m : Blocks) (cells : List Cell) (place : Result (Option Place) UndefinedKind) → All (IsKnownCell (length m.list)) cells → IsTypedMemory m → IfOk (put_at m cells place) (IsKeptTyped m)
+put_at_typed : (m : Blocks) (cells : List Cell) (place : Result (Option BlockPlace) UndefinedKind) → All (IsKnownCell (length m.list)) cells → IsTypedMemory m → IfOk (put_at m cells place) (IsKeptTyped m)
 put_at_typed m cells (Err kind) known h = tt
 put_at_typed m cells (Ok place) known h = put_typed m cells place known h
 
 pub stored_typed : (m : Blocks) (address : Scalar) (kind : Leaf) (align : ℕ) (v : Scalar) → IsOf (length m.list) kind v → IsTypedMemory m → IfOk (stored address kind align v m) (IsKeptTyped m)
 stored_typed m address kind align v is h =
-    put_at_typed m (spelled kind v) (access m (size kind) align true address) (known-spelled m.list kind v (has_known m.list kind v is)) h
+    put_at_typed m (leaf_cells kind v) (access m (size kind) align true address) (known-spelled m.list kind v (has_known m.list kind v is)) h
 
 pub filled_typed : (m : Blocks) (to : Scalar) (byte count : ℕ) → IsTypedMemory m → IfOk (filled to byte count m) (IsKeptTyped m)
 filled_typed m to byte count h =
     put_at_typed m (replicate count (cell.Byte byte)) (access m count 1 true to) (All-replicate (IsKnownCell (length m.list)) count (cell.Byte byte) tt) h
 
-cells_at_known : (count n : ℕ) (bs : List Block) (place : Option Place) → AreKnown count bs → All (IsKnownCell count) (cells_at bs n place)
+cells_at_known : (count n : ℕ) (bs : List MemoryBlock) (place : Option BlockPlace) → AreKnown count bs → All (IsKnownCell count) (cells_at bs n place)
 cells_at_known count n bs None known = All-nil (IsKnownCell count)
 cells_at_known count n bs (Some p) known = known-cells_of count n p.offset bs p.index known
 
-copied_at_typed : (m : Blocks) (count : ℕ) (may : Bool) (source target : Result (Option Place) UndefinedKind) → IsTypedMemory m → IfOk (copied_at m count may source target) (IsKeptTyped m)
+copied_at_typed : (m : Blocks) (count : ℕ) (may : Bool) (source target : Result (Option BlockPlace) UndefinedKind) → IsTypedMemory m → IfOk (copied_at m count may source target) (IsKeptTyped m)
 copied_at_typed m count may (Err kind) target h = tt
 copied_at_typed m count may (Ok source) (Err kind) h = tt
 copied_at_typed m count may (Ok source) (Ok target) h = go (not may && overlap count source target)
@@ -165,16 +165,16 @@ integer_fits : (count width : ℕ) (number : Option ℕ) → IsOf count (leaf.In
 integer_fits count width None = tt
 integer_fits count width (Some n) = mod_below n (2 ^ width) (pow_pos width)
 
-pointer_fits : (bs : List Block) (p : Option Pointer) (number : Option ℕ) → HasKnown bs (pointer p number) → IsOf (length bs) leaf.Ptr (pointer p number)
+pointer_fits : (bs : List MemoryBlock) (p : Option Pointer) (number : Option ℕ) → HasKnown bs (pointer p number) → IsOf (length bs) leaf.Ptr (pointer p number)
 pointer_fits bs (Some p) number h = h
 pointer_fits bs None None h = tt
 pointer_fits bs None (Some n) h = tt
 
-pub read_fits : (bs : List Block) (kind : Leaf) (cells : List Cell) → All (IsKnownCell (length bs)) cells → IsOf (length bs) kind (read kind cells)
+pub read_fits : (bs : List MemoryBlock) (kind : Leaf) (cells : List Cell) → All (IsKnownCell (length bs)) cells → IsOf (length bs) kind (read kind cells)
 read_fits bs (leaf.Int width) cells known = integer_fits (length bs) width (number_of cells)
 read_fits bs leaf.Ptr cells known = pointer_fits bs (pointer_of cells) (number_of cells) (known-read bs leaf.Ptr cells known)
 
-read_at_fits : (m : Blocks) (kind : Leaf) (place : Result (Option Place) UndefinedKind) → IsTypedMemory m → IfOk (read_at m kind place) (IsOf (length m.list) kind)
+read_at_fits : (m : Blocks) (kind : Leaf) (place : Result (Option BlockPlace) UndefinedKind) → IsTypedMemory m → IfOk (read_at m kind place) (IsOf (length m.list) kind)
 read_at_fits m kind (Err e) h = tt
 read_at_fits m kind (Ok place) h = read_fits m.list kind (cells_at m.list (size kind) place) (cells_at_known (length m.list) (size kind) m.list place h.known)
 

@@ -17,7 +17,7 @@ use Rattle.run_rules.specs.declared.end.End.TheVariants as ends
 use Rattle.run_rules.specs.Access.{and_then, has_room, next_block, stored_slots, or_as_before}
 use Rattle.run_rules.specs.Action.{Action}
 use Rattle.run_rules.specs.Calls.{Callee}
-use Rattle.run_rules.specs.Opening.{made, with_variables, with_contents, row_of, block_with, with_string, with_strings, with_pointers, with_main, ready, placed, opened_main, opened_from, opened}
+use Rattle.run_rules.specs.Opening.{made, with_variables, with_contents, row_of, block_with, with_string, with_strings, with_pointers, with_main, ready, opening_core, opened_main, opened_from, opened}
 use Rattle.run_rules.specs.Plan.{Plan, Variable, Contents}
 use Rattle.run_rules.specs.Plan as plans
 use Rattle.run_rules.specs.Side.{begun}
@@ -209,7 +209,7 @@ module _ (t : Typing) (look : ℕ → ℕ → ℕ → Action) (table : ℕ → C
   no_blocks_typed : IsTypedMemory no_blocks
   no_blocks_typed = record { placed = lit≤ tt; limit = lit≤ tt; known = λ k d lt. absurd (omega (arith, lt)) }
 
-  placed_typed : (main : plans.Main) → IsTypedMain t look table main.address main.takes_arguments → IfOk (placed p main arguments) IsFirst
+  placed_typed : (main : plans.Main) → IsTypedMain t look table main.address main.takes_arguments → IfOk (opening_core p main arguments) IsFirst
   placed_typed main is = first (with_variables p.variables no_blocks) (variables_typed p.variables no_blocks plan_typed.variables no_blocks_typed)
     where
       second : (m : Blocks) → IsOpened (length p.variables) no_blocks m → (r : Result (Blocks × Due) End) → IfOk r (IsReady m) → IfOk (and_then r (λ x. Ok (ready p x))) IsFirst

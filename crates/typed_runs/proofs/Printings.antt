@@ -15,8 +15,8 @@ use Rattle.ir_printf.specs.declared.conversion.Conversion.{Conversion}
 use Rattle.ir_printf.specs.declared.conversion.ConversionKind.{ConversionKind}
 use Rattle.ir_printf.specs.declared.conversion.ConversionKind.TheVariants as kind
 use Rattle.ir_printf.specs.declared.pattern.BadFormat.{BadFormat}
-use Rattle.ir_printf.specs.declared.pattern.Piece.{Piece}
-use Rattle.ir_printf.specs.declared.pattern.Piece.TheVariants as piece
+use Rattle.ir_printf.specs.declared.pattern.PatternPiece.{PatternPiece}
+use Rattle.ir_printf.specs.declared.pattern.PatternPiece.TheVariants as piece
 use Rattle.ir_printf.specs.Pattern.{piece_at}
 use Rattle.ir_printf.specs.Printed.{numeral, with_zeros, precise_digits, is_signed, sign, fills_with_zeros, filled, is_negative, magnitude, printed_number, precise_bytes, spaced, printed_bytes, is_number}
 use Rattle.linkage_rules.specs.SameShape.{same_shape}
@@ -172,7 +172,7 @@ module _ (m : Blocks) (is : IsTypedMemory m) where
   conversion_are rest h c _ to at [] leaves = tt
   conversion_are rest h c _ to at (s ∷ ss) [] = tt
 
-  piece_are : (pattern : List ℕ) → AreBytes pattern → (rest : Rest) → Writes rest → (r : Result Piece BadFormat) → Writes (written_piece m pattern rest r)
+  piece_are : (pattern : List ℕ) → AreBytes pattern → (rest : Rest) → Writes rest → (r : Result PatternPiece BadFormat) → Writes (written_piece m pattern rest r)
   piece_are pattern are rest h (Err bad) at shapes leaves = tt
   piece_are pattern are rest h (Ok piece.End) at shapes leaves = no_bytes
   piece_are pattern are rest h (Ok (piece.Literal from to)) at shapes leaves =

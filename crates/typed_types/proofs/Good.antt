@@ -3,7 +3,7 @@ use Rattle.std.proofs.Common.{◌≡◌, ℕ, zero, suc, ◌+◌, List, Bool, tr
 use Rattle.std.specs.List.{AllByRecursion}
 use Rattle.std.proofs.lemmas.List.Elements.{All-from_recursion}
 use Rattle.ir_memory.specs.Given.{IsLeaf}
-use Rattle.type_table.specs.Layout.{size, align, placed}
+use Rattle.type_table.specs.Layout.{size, align, field_start}
 use Rattle.type_table.specs.Shape.{Shape, int_leaf, ptr_leaf, void_leaf, opaque_leaf, array_of, struct_of, Shapes, no_shapes, more_shapes, shape}
 use Rattle.type_table.specs.Tree.{Tree, Structs}
 use Rattle.module_arena.specs.WellFormed.{is_good_type, are_good_structs}
@@ -34,8 +34,8 @@ mutual
   fields_good : (ss : Shapes) (packed : Bool) (at end : ℕ) → AreSound ss → AllByRecursion IsGoodSlot (field_slots ss packed at end)
   fields_good no_shapes packed at end h = tt
   fields_good (more_shapes s ss) packed at end h =
-      all_append IsGoodSlot (slots_at s (at + placed packed end (align s))) (field_slots ss packed at (placed packed end (align s) + size s)) (slots_good s (at + placed packed end (align s)) h.0)
-      (fields_good ss packed at (placed packed end (align s) + size s) h.1)
+      all_append IsGoodSlot (slots_at s (at + field_start packed end (align s))) (field_slots ss packed at (field_start packed end (align s) + size s)) (slots_good s (at + field_start packed end (align s)) h.0)
+      (fields_good ss packed at (field_start packed end (align s) + size s) h.1)
 
 -- those of a good type
 pub leaves_good : (structs : Structs) → are_good_structs structs ≡ true → (t : Tree) → is_good_type structs t ≡ true → AllByRecursion IsGoodSlot (slots (unwrap_or (shape structs t) void_leaf))

@@ -3,7 +3,7 @@ use Rattle.std.proofs.Common.{◌≡◌, ℕ, zero, suc, ◌+◌, ◌≤◌, ◌
 use Rattle.std.specs.Prelude.{⊤, option_and_then, if◌then◌else◌}
 use Rattle.std.proofs.lemmas.Bool.{and_parts}
 use Rattle.type_table.specs.declared.layout.Layout.{Layout}
-use Rattle.type_table.specs.Layout.{has_layout, have_layouts, layout, align, greatest_align, placed, size, leaves, end_after, field_offset}
+use Rattle.type_table.specs.Layout.{has_layout, have_layouts, layout, align, greatest_align, field_start, size, leaves, end_after, field_offset}
 use Rattle.type_table.specs.Shape.{Shape, int_leaf, ptr_leaf, void_leaf, opaque_leaf, array_of, struct_of, Shapes, no_shapes, more_shapes, shape}
 use Rattle.type_table.specs.Tree.{Tree, Structs}
 use Rattle.type_table.proofs.Caps.{placed-le}
@@ -57,16 +57,16 @@ end_after-le : (packed : Bool) (at : ℕ) (ss : Shapes) → at ≤ end_after pac
 end_after-le packed at no_shapes = omega arith
 end_after-le packed at (more_shapes s ss) =
     let start = placed-le packed at (align s) in
-    let rest = end_after-le packed (placed packed at (align s) + size s) ss in
+    let rest = end_after-le packed (field_start packed at (align s) + size s) ss in
     omega (arith, start, rest)
 
 -- a field begins before the fields end
 field_before : (packed : Bool) (at : ℕ) (ss : Shapes) (k : ℕ) → unwrap_or (field_offset packed at ss k) 0 ≤ end_after packed at ss
 field_before packed at no_shapes k = omega arith
 field_before packed at (more_shapes s ss) zero =
-    let rest = end_after-le packed (placed packed at (align s) + size s) ss in
+    let rest = end_after-le packed (field_start packed at (align s) + size s) ss in
     omega (arith, rest)
-field_before packed at (more_shapes s ss) (suc k) = field_before packed (placed packed at (align s) + size s) ss k
+field_before packed at (more_shapes s ss) (suc k) = field_before packed (field_start packed at (align s) + size s) ss k
 
 pub offset_small : (packed : Bool) (ss : Shapes) (k : ℕ) → size (struct_of None packed ss) ≤ 2 ^ 40 → unwrap_or (field_offset packed 0 ss k) 0 < 2 ^ 64
 offset_small packed ss k h =

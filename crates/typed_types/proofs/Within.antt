@@ -3,7 +3,7 @@ use Rattle.std.proofs.Common.{◌≡◌, ℕ, zero, suc, ◌+◌, ◌*◌, ◌<�
 use Rattle.std.specs.Prelude.{⊤, option_and_then, if◌then◌else◌}
 use Rattle.std.proofs.lemmas.List.{length-append}
 use Rattle.ir_memory.specs.declared.leaf.Leaf.{Leaf}
-use Rattle.type_table.specs.Layout.{size, align, placed, leaves}
+use Rattle.type_table.specs.Layout.{size, align, field_start, leaves}
 use Rattle.type_table.specs.Shape.{Shape, int_leaf, ptr_leaf, void_leaf, opaque_leaf, array_of, struct_of, Shapes, no_shapes, more_shapes, expanded, all_expanded, name_shape, shape}
 use Rattle.type_table.specs.Tree.{Tree, int, ptr, void, array, struct, named, Trees, no_trees, more_trees, Structs, body_of}
 use Rattle.type_table.proofs.Rooms.{unmapped, unjoined}
@@ -46,9 +46,9 @@ mutual
   same_field_kinds : (ss : Shapes) (packed : Bool) (at bt end : ℕ) → kinds_in (field_slots ss packed at end) ≡ kinds_in (field_slots ss packed bt end)
   same_field_kinds no_shapes packed at bt end = refl
   same_field_kinds (more_shapes s ss) packed at bt end =
-      let first = at + placed packed end (align s) in
-      let second = bt + placed packed end (align s) in
-      let after = placed packed end (align s) + size s in
+      let first = at + field_start packed end (align s) in
+      let second = bt + field_start packed end (align s) in
+      let after = field_start packed end (align s) + size s in
       kinds_append (slots_at s first) (field_slots ss packed at after)
       ∙ two (kinds_in (slots_at s first)) (kinds_in (slots_at s second)) (kinds_in (field_slots ss packed at after)) (kinds_in (field_slots ss packed bt after)) (same_kinds s first second) (same_field_kinds ss packed at bt after)
       ∙ sym (kinds_append (slots_at s second) (field_slots ss packed bt after))
@@ -117,15 +117,15 @@ element_stands (suc n) s at step (suc k) lt =
 field_stands : (ss : Shapes) (packed : Bool) (at end k : ℕ) → HasField ss k → StandsIn (kinds_in (field_slots ss packed at end)) (kinds_of (field ss k)) (leaves_before_field ss k)
 field_stands no_shapes packed at end k h = absurd h
 field_stands (more_shapes s ss) packed at end zero h =
-    let first = slots_at s (at + placed packed end (align s)) in
-    let others = field_slots ss packed at (placed packed end (align s) + size s) in
-    subst (λ ks. StandsIn ks (kinds_of s) 0) (sym (kinds_append first others)) (foremost (kinds_in first) (kinds_in others) (kinds_of s) (same_kinds s (at + placed packed end (align s)) 0))
+    let first = slots_at s (at + field_start packed end (align s)) in
+    let others = field_slots ss packed at (field_start packed end (align s) + size s) in
+    subst (λ ks. StandsIn ks (kinds_of s) 0) (sym (kinds_append first others)) (foremost (kinds_in first) (kinds_in others) (kinds_of s) (same_kinds s (at + field_start packed end (align s)) 0))
 field_stands (more_shapes s ss) packed at end (suc k) h =
-    let first = slots_at s (at + placed packed end (align s)) in
-    let others = field_slots ss packed at (placed packed end (align s) + size s) in
+    let first = slots_at s (at + field_start packed end (align s)) in
+    let others = field_slots ss packed at (field_start packed end (align s) + size s) in
     subst (λ ks. StandsIn ks (kinds_of (field ss k)) (leaves s + leaves_before_field ss k)) (sym (kinds_append first others))
-    (further (kinds_in first) (kinds_in others) (kinds_of (field ss k)) (leaves s) (leaves_before_field ss k) (leaves s + leaves_before_field ss k) (ap length (same_kinds s (at + placed packed end (align s)) 0) ∙ kinds_length s) refl
-    (field_stands ss packed at (placed packed end (align s) + size s) k h))
+    (further (kinds_in first) (kinds_in others) (kinds_of (field ss k)) (leaves s) (leaves_before_field ss k) (leaves s + leaves_before_field ss k) (ap length (same_kinds s (at + field_start packed end (align s)) 0) ∙ kinds_length s) refl
+    (field_stands ss packed at (field_start packed end (align s) + size s) k h))
 
 one_stands : (s : Shape) (k : ℕ) → HasElement s k → StandsIn (kinds_of s) (kinds_of (element s k)) (leaves_before s k)
 one_stands (int_leaf w) k h = absurd h

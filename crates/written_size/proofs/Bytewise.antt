@@ -6,8 +6,8 @@ use Rattle.std.proofs.lemmas.List.{length-append}
 use Rattle.std.proofs.Math.Pow.{pow_mono}
 use Rattle.bits.specs.Bits.{bits_of}
 use Rattle.bits.proofs.BitsLaws.{length-bits_of}
-use Rattle.bit_stream.specs.Abbreviation.{Template}
-use Rattle.bit_stream.specs.declared.abbreviation.Scalar.TheVariants.{Field, Chunks}
+use Rattle.bit_stream.specs.Abbreviation.{AdmittedAbbreviation}
+use Rattle.bit_stream.specs.declared.abbreviation.ValueSpelling.TheVariants.{Field, Chunks}
 use Rattle.bit_stream.specs.declared.abbreviation.Tail.TheVariants.{Elements}
 use Rattle.bit_stream.specs.Scope.{Scope, template_of}
 use Rattle.bit_stream.specs.Record.{names_block}
@@ -20,7 +20,7 @@ use Rattle.written_size.proofs.Grows.{size}
 use Rattle.written_size.proofs.Kept.{left_is, entered_inside}
 
 -- bytes behind a code
-abbrev template : Template
+abbrev template : AdmittedAbbreviation
 template = record { code = Chunks 6; operands = []; tail = Elements (Field 8) }
 
 admitted : template_for of_bytes ≡ Some template
@@ -84,7 +84,7 @@ module _ (w : Writer) (id width : ℕ) (may : MayBlock id width) (none_given : w
   -- there are fewer than bits
   pub bytes_few : (ns : List ℕ) → size (abbreviated shaped 4 1 ns) < 2 ^ 37 → length ns < 2 ^ 37
   bytes_few ns small =
-      let a = ap (λ (t : Option Template). length (with_record t 1 ns (shaped.bits ++ id_bits shaped 4))) found in
+      let a = ap (λ (t : Option AdmittedAbbreviation). length (with_record t 1 ns (shaped.bits ++ id_bits shaped 4))) found in
       let b = record_count ns (shaped.bits ++ id_bits shaped 4) in
       omega (arith, a, b, small)
 
@@ -103,7 +103,7 @@ module _ (w : Writer) (id width : ℕ) (may : MayBlock id width) (none_given : w
         };
         low = omega arith;
         narrow = narrow;
-        fits = ap (λ (t : Option Template). record_fits t 1 ns) found ∙ fitting ns all;
+        fits = ap (λ (t : Option AdmittedAbbreviation). record_fits t 1 ns) found ∙ fitting ns all;
       } in
       (may_define, (may_abbreviate, tt))
 

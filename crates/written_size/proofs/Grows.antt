@@ -6,10 +6,10 @@ use Rattle.std.proofs.lemmas.List.{length-append, get_or_at, take_at}
 use Rattle.bits.specs.Bits.{bits_of}
 use Rattle.bits.specs.Writing.{vbr_bits, pad_bits}
 use Rattle.bits.proofs.BitsLaws.{length-bits_of}
-use Rattle.bit_stream.specs.declared.abbreviation.Scalar.TheVariants.{Chunks, Field}
+use Rattle.bit_stream.specs.declared.abbreviation.ValueSpelling.TheVariants.{Chunks, Field}
 use Rattle.bit_stream.specs.declared.abbreviation.Tail.{Tail}
 use Rattle.bit_stream.specs.declared.abbreviation.Tail.TheVariants.{NoTail, Elements, Bytes}
-use Rattle.bit_stream.specs.Abbreviation.{Template}
+use Rattle.bit_stream.specs.Abbreviation.{AdmittedAbbreviation}
 use Rattle.bit_stream.specs.Scope.{template_of}
 use Rattle.bit_stream.specs.Spelling.{chunks, all_bits, value_bits, each_bits, record_bits, definition_bits, aligned, with_tail, with_record}
 use Rattle.bit_stream.specs.declared.abbreviation.AbbrevOp.{AbbrevOp}
@@ -146,7 +146,7 @@ tail_longer Bytes ns bits =
     let d = aligned_longer (inner ++ all_bits (Field 8) ns) in
     omega (arith, a, b, c, d)
 
-record_longer : (t : Option Template) (code : ℕ) (ns : List ℕ) (bits : List Bool) → length bits ≤ length (with_record t code ns bits)
+record_longer : (t : Option AdmittedAbbreviation) (code : ℕ) (ns : List ℕ) (bits : List Bool) → length bits ≤ length (with_record t code ns bits)
 unfolding with_record
 record_longer None code ns bits = omega arith
 record_longer (Some t) code ns bits =

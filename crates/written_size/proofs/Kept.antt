@@ -4,13 +4,13 @@ use Rattle.std.specs.List.{slice_index_or}
 use Rattle.std.proofs.lemmas.Bool.{ne_eqb}
 use Rattle.std.proofs.lemmas.List.{length-append, get_or_at, take_at}
 use Rattle.bit_stream.specs.Scope.{Scope}
-use Rattle.bit_stream.specs.Entry.{entered, left, is_top, is_blockinfo}
+use Rattle.bit_stream.specs.Entry.{entered, block_left, is_top, is_blockinfo}
 use Rattle.bit_stream.specs.Writer.{Writer, enter, end_block, put_record}
 use Rattle.bit_tree.specs.Written.{Written, no_more, a_block, a_definition, a_record, a_short_record, written}
 use Rattle.written_size.specs.Plain.{IsPlain}
 
 -- what is left is the block around
-pub left_is : (s x : Scope) → x.around ≡ s.around ++ s.block ∷ [] → x.given ≡ s.given → left x ≡ s
+pub left_is : (s x : Scope) → x.around ≡ s.around ++ s.block ∷ [] → x.given ≡ s.given → block_left x ≡ s
 left_is s x same given =
     let count : length x.around - 1 ≡ length s.around = omega (arith, ap length same, length-append s.around (s.block ∷ [])) in
     let block : slice_index_or x.around (length x.around - 1) x.block ≡ s.block = rw (count, same) (get_or_at s.around s.block [] x.block (length s.around) refl) in

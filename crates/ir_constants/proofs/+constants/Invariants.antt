@@ -1,8 +1,8 @@
 use Rattle.std.proofs.Common.{◌≡◌, map, ◌+◌, ◌*◌, length}
-use Rattle.phrase_rows.specs.Row.{many, second}
+use Rattle.phrase_rows.specs.Row.{many, keep_second}
 use Rattle.phrase_rows.proofs.Many.{with_front}
 use Rattle.ir_terminals.specs.declared.terminal.Terminal.TheVariants as terminal
-use Rattle.ir_terminals.specs.Position.{left}
+use Rattle.ir_terminals.specs.Position.{tokens_left}
 use Rattle.ir_terminals.specs.Role.{class}
 use Rattle.ir_terminals.specs.Tokens.{word}
 use Rattle.ir_constants.specs.Constants.{elements_row, operands_row, typed_at}
@@ -50,20 +50,20 @@ decreases-expressions::expression l = 8 * l.depth + 6
 
 abbrev pub invariant-constants::elements-elements : goal.invariant-constants::elements-elements
 invariant-constants::elements-elements l = record {
-  so_far : with_front (map typed_constant_view l.elements.items) ((many class (second (word terminal.Comma) (typed_at l.fn.cursor.limits l.depth))).run (left l.cursor)) ≡ (elements_row (typed_at l.fn.cursor.limits l.depth)).run (left l.fn.cursor);
+  so_far : with_front (map typed_constant_view l.elements.items) ((many class (keep_second (word terminal.Comma) (typed_at l.fn.cursor.limits l.depth))).run (tokens_left l.cursor)) ≡ (elements_row (typed_at l.fn.cursor.limits l.depth)).run (tokens_left l.fn.cursor);
   limits : l.cursor.limits ≡ l.fn.cursor.limits;
   text : l.cursor.text ≡ l.fn.cursor.text;
 }
 
 abbrev pub decreases-constants::elements-elements : goal.decreases-constants::elements-elements
-decreases-constants::elements-elements l = length (left l.cursor)
+decreases-constants::elements-elements l = length (tokens_left l.cursor)
 
 abbrev pub invariant-expressions::operands-operands : goal.invariant-expressions::operands-operands
 invariant-expressions::operands-operands l = record {
-  so_far : with_front (map typed_constant_view l.operands.items) ((many class (second (word terminal.Comma) (typed_at l.fn.cursor.limits l.depth))).run (left l.cursor)) ≡ (operands_row (typed_at l.fn.cursor.limits l.depth)).run (left l.fn.cursor);
+  so_far : with_front (map typed_constant_view l.operands.items) ((many class (keep_second (word terminal.Comma) (typed_at l.fn.cursor.limits l.depth))).run (tokens_left l.cursor)) ≡ (operands_row (typed_at l.fn.cursor.limits l.depth)).run (tokens_left l.fn.cursor);
   limits : l.cursor.limits ≡ l.fn.cursor.limits;
   text : l.cursor.text ≡ l.fn.cursor.text;
 }
 
 abbrev pub decreases-expressions::operands-operands : goal.decreases-expressions::operands-operands
-decreases-expressions::operands-operands l = length (left l.cursor)
+decreases-expressions::operands-operands l = length (tokens_left l.cursor)

@@ -1,5 +1,5 @@
 use Rattle.std.proofs.Common.{rules, ◌∙◌, [], ◌∷◌, ◌++◌, Ok, Some, None, arith, length-append}
-use Rattle.ir_lexer.specs.Lexer.{Says, rest, spelled}
+use Rattle.ir_lexer.specs.Lexer.{Says, rest, token_spelling}
 use Rattle.ir_lexer.proofs.TokenLists.{front_more, front_end, begins_less}
 use Rattle.token_count.proofs.Refusals.{refused}
 use Rattle.token_count.proofs.token_count.Goals as goal
@@ -8,7 +8,7 @@ pub tokens-preserved : goal.tokens-preserved
 tokens-preserved c =
     let old = c.tokens.lexer in
     let new = c.next.new.self in
-    let t = spelled old.text c.in-Some.field-0 in
+    let t = token_spelling old.text c.in-Some.field-0 in
     let seen = c.tokens.invariant.seen in
     let h = c.in_ok-next.ensures.says in
     let begins : Says old (Ok (Some c.in-Some.field-0)) new = rw c.in-Some.is at h in

@@ -1,5 +1,5 @@
 use Rattle.std.proofs.Common.{ap}
-use Rattle.bit_stream.specs.Abbreviation.{Template}
+use Rattle.bit_stream.specs.Abbreviation.{AdmittedAbbreviation}
 use Rattle.bit_walk.proofs.Operands.{starts_id, starts_plain, starts_count, plain_left, starts_code, code_left}
 use Rattle.bit_walk.proofs.values.begin.Goals as goal
 
@@ -21,11 +21,11 @@ returns-then-id-eq3-clause-left c = λ ns h. (
 
 pub pass_code-requires-2 : goal.pass_code-requires-2
 pass_code-requires-2 c =
-    let code = ap (λ (t : Template). t.code) c.template.view_is in
+    let code = ap (λ (t : AdmittedAbbreviation). t.code) c.template.view_is in
     rw code (starts_code c.args.width c.field-id.result c.args.template.now c.args.cursor.now c.field-id.new.cursor c.field-id.ensures.read c.if-id-eq3.false c.requires)
 
 pub returns-clause-left : goal.returns-clause-left
 returns-clause-left c = λ ns h. (
-    let code = ap (λ (t : Template). t.code) c.template.view_is in
+    let code = ap (λ (t : AdmittedAbbreviation). t.code) c.template.view_is in
     let read = rw code at c.pass_code-2.ensures in
     code_left c.args.width c.field-id.result read.0 c.args.template.now c.args.cursor.now c.field-id.new.cursor c.pass_code-2.new.cursor ns c.field-id.ensures.read c.if-id-eq3.false read.1 h)

@@ -2,7 +2,7 @@ use Rattle.std.proofs.Common.{true, false, refl, sym, ◌∙◌, arith}
 use Rattle.std.specs.Prelude.{Ok}
 use Rattle.std.proofs.lemmas.Result.{err_from_is_err_and}
 use Rattle.record_table.specs.Faults.{records}
-use Rattle.record_read.specs.declared.entry.Entry.TheVariants.{Block, Record, End}
+use Rattle.record_read.specs.declared.entry.NextEntry.TheVariants.{Block, Record, End}
 use Rattle.record_read.specs.Fields.{texts_of}
 use Rattle.head_read.specs.Ahead.{first_module}
 use Rattle.opening_read.proofs.Answering.{gone, out_of_memory}

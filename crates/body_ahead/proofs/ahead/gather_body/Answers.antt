@@ -1,5 +1,5 @@
 use Rattle.std.proofs.Common.{refl, ◌∙◌}
-use Rattle.record_read.specs.declared.entry.Entry.TheVariants.{Block, Record, End}
+use Rattle.record_read.specs.declared.entry.NextEntry.TheVariants.{Block, Record, End}
 use Rattle.body_ahead.proofs.Gathering.{gone, gathers_none, passed, gathered_one, gathers_all}
 use Rattle.body_ahead.proofs.ahead.gather_body.Goals as goal
 

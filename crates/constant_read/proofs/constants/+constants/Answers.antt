@@ -53,7 +53,7 @@ read_coded-returns-in-None-clause-reads t c =
     let inner = inner_of k c.args.depth in
     let u = tree_at m0.growing.arena.table c.args.ty in
     let w = m0.reader.walk in
-    let e : constants.of_form k inner None u w ≡ constants.by_code k inner c.args.code u w = ap (λ (f : Option constants.Form). constants.of_form k inner f u w) c.in-None.ensures in
+    let e : constants.of_form k inner None u w ≡ constants.by_code k inner c.args.code u w = ap (λ (f : Option constants.ConstantForm). constants.of_form k inner f u w) c.in-None.ensures in
     stopped_read k m0 c.stopped.new.m c.stopped.result 3 (constants.by_code k inner c.args.code u w) c.stopped.ensures.keeps c.stopped.ensures.walk c.stopped.ensures.none (sym e ∙ no_form k inner u w)
 
 pub read_coded-returns-in-Some-Number-clause-reads : goal.read_coded-returns-in-Some-Number-clause-reads

@@ -3,7 +3,7 @@ use Rattle.bit_tree.specs.Pieces.{Piece, ended}
 use Rattle.record_table.specs.Faults.{Records}
 use Rattle.record_read.specs.Entries.{IsBefore}
 use Rattle.record_read.specs.Fields.{texts_of}
-use Rattle.record_read.specs.declared.entry.Entry.TheVariants.{Block, Record, End}
+use Rattle.record_read.specs.declared.entry.NextEntry.TheVariants.{Block, Record, End}
 use Rattle.head_read.proofs.Finding.{gone}
 use Rattle.head_read.proofs.Gathering.{left_fewer}
 use Rattle.entries_ahead.specs.Bodies.{AddsIfBody}

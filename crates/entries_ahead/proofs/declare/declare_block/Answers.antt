@@ -1,7 +1,7 @@
 use Rattle.std.proofs.Common.{◌≤◌, length, map, refl, ap, subst, ◌∙◌, arith}
 use Rattle.std.specs.Prelude.{IfSome}
 use Rattle.record_read.specs.Fields.{texts_of}
-use Rattle.record_read.specs.declared.entry.Entry.TheVariants.{Block, Record, End}
+use Rattle.record_read.specs.declared.entry.NextEntry.TheVariants.{Block, Record, End}
 use Rattle.head_read.proofs.Finding.{gone}
 use Rattle.entries_ahead.specs.Bodies.{names_given}
 use Rattle.entries_ahead.specs.Entries.{DeclaresBy, declaring}

@@ -1,6 +1,6 @@
 use Rattle.std.proofs.Common.{◌-◌, ◌<◌, ◌≤◌, length, take, get_or, refl, arith}
 use Rattle.std.proofs.lemmas.List.{get_or_default, length-take-le}
-use Rattle.given_starts.specs.declared.row.Row.{Row}
+use Rattle.given_starts.specs.declared.row.GivenDefinition.{GivenDefinition}
 use Rattle.given_starts.specs.Rows.{row_id}
 use Rattle.given_starts.proofs.Rising.{no_row}
 use Rattle.given_starts.proofs.Joining.{merge_none, merge_all, last_of, front_step, later_step}
@@ -39,7 +39,7 @@ loop-back-preserved c =
     let size = length-take-le front rows long in
     let near : back - 1 < length later = omega (arith, m.behind, c.loop-back-test.true) in
     let row = get_or later (back - 1) no_row in
-    let small : 0 < front → (d : Row) → row_id (get_or rows (front - 1) d) ≤ row_id row =
+    let small : 0 < front → (d : GivenDefinition) → row_id (get_or rows (front - 1) d) ≤ row_id row =
     λ some d.
     let some_taken : 0 < length (take front rows) = omega (arith, size) in
     let within = c.if-ends_above.ensures.within refl some_taken d in

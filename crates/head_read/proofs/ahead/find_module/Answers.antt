@@ -1,4 +1,4 @@
-use Rattle.record_read.specs.declared.entry.Entry.TheVariants.{Block, Record, End}
+use Rattle.record_read.specs.declared.entry.NextEntry.TheVariants.{Block, Record, End}
 use Rattle.head_read.proofs.Finding.{gone, sought_all, sought_block, sought_record, found_here, found_none}
 use Rattle.head_read.proofs.ahead.find_module.Goals as goal
 

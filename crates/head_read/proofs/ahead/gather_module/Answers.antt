@@ -1,6 +1,6 @@
 use Rattle.std.proofs.Common.{◌∷◌}
 use Rattle.bit_tree.specs.Pieces.{ended}
-use Rattle.record_read.specs.declared.entry.Entry.TheVariants.{Block, Record, End}
+use Rattle.record_read.specs.declared.entry.NextEntry.TheVariants.{Block, Record, End}
 use Rattle.head_read.proofs.Finding.{gone}
 use Rattle.head_read.proofs.Gathering.{gathers_none, gathered_record, gathered_block, gathers_all, left_fewer}
 use Rattle.head_read.proofs.ahead.gather_module.Goals as goal

@@ -1,5 +1,5 @@
 use Rattle.std.proofs.Common.{◌≡◌, Ok}
-use Rattle.ir_printf.specs.declared.pattern.Piece.TheVariants as piece
+use Rattle.ir_printf.specs.declared.pattern.PatternPiece.TheVariants as piece
 use Rattle.ir_printf.specs.Pattern.{piece_at}
 use Rattle.run_values.proofs.Refusals.{if_fault}
 use Rattle.host_calls.proofs.Walked.{conversion_refused}

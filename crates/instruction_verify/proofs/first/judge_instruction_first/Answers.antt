@@ -1,5 +1,5 @@
 use Rattle.std.proofs.Common.{◌&&◌, List, [], ◌∷◌, sym, ap, ◌∙◌, subst}
-use Rattle.constant_verify.proofs.FactsTold.{own_structs}
+use Rattle.constant_verify.proofs.ConstantsKnown.{own_structs}
 use Rattle.instruction_verify.proofs.Asked.{demand}
 use Rattle.module_arena.specs.Valid.{Demand, InstructionOf}
 use Rattle.type_table.specs.Types.{Types, structs}

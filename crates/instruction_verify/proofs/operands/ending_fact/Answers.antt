@@ -7,7 +7,7 @@ use Rattle.module_arena.specs.declared.instruction.Case.{Case}
 use Rattle.module_arena.specs.declared.instruction.Operand.{Operand}
 use Rattle.instruction_verify.specs.OperandFacts.{HasCase, HasOperand, both, case_operand_in, ending_in, operand_in, operands_fact}
 use Rattle.instruction_verify.proofs.CasesTold.{cases_known, cases_listed}
-use Rattle.instruction_verify.proofs.FactsTold.{joined_facts}
+use Rattle.instruction_verify.proofs.OperandsKnown.{joined_facts}
 use Rattle.instruction_verify.proofs.operands.ending_fact.Goals as goal
 
 pub cases_fact-others-requires : goal.cases_fact-others-requires

@@ -10,7 +10,7 @@ use Rattle.instruction_verify.specs.OperandFacts.{HasConstant, HasOperand, both,
 use Rattle.std.proofs.lemmas.List.Elements.{All-tail}
 use Rattle.module_arena.specs.Mentions.{bare_values_of, operands_of}
 use Rattle.instruction_verify.proofs.CasesTold.{incoming_listed, values_known}
-use Rattle.instruction_verify.proofs.FactsTold.{joined_facts}
+use Rattle.instruction_verify.proofs.OperandsKnown.{joined_facts}
 use Rattle.instruction_verify.proofs.operands.instruction_fact.Goals as goal
 
 pub returns-in-Binary : goal.returns-in-Binary

@@ -3,7 +3,7 @@ use Rattle.type_table.specs.Types.{Types, tree, structs}
 use Rattle.module_arena.specs.TypeTests.{is_passable}
 use Rattle.module_arena.specs.View.{module_of}
 use Rattle.instruction_verify.specs.OperandFacts.{operand_fact, operand_in}
-use Rattle.instruction_verify.proofs.FactsTold.{local_fact, known_fact}
+use Rattle.instruction_verify.proofs.OperandsKnown.{local_fact, known_fact}
 use Rattle.instruction_verify.proofs.operands.value_fact.Goals as goal
 
 pub returns-in-Local : goal.returns-in-Local

@@ -1,8 +1,8 @@
 use Rattle.std.proofs.Common.{◌≡◌, map, ◌+◌, ◌*◌, length}
-use Rattle.phrase_rows.specs.Row.{many, second}
+use Rattle.phrase_rows.specs.Row.{many, keep_second}
 use Rattle.phrase_rows.proofs.Many.{with_front}
 use Rattle.ir_terminals.specs.declared.terminal.Terminal.TheVariants as terminal
-use Rattle.ir_terminals.specs.Position.{left}
+use Rattle.ir_terminals.specs.Position.{tokens_left}
 use Rattle.ir_terminals.specs.Role.{class}
 use Rattle.ir_terminals.specs.Tokens.{word}
 use Rattle.ir_constants.specs.Types.{types_row, type_at}
@@ -32,10 +32,10 @@ decreases-structure l = 6 * l.depth + 4
 
 abbrev pub invariant-fields-fields : goal.invariant-fields-fields
 invariant-fields-fields l = record {
-  so_far : with_front (map type_view l.fields.items) ((many class (second (word terminal.Comma) (type_at l.fn.cursor.limits l.depth))).run (left l.cursor)) ≡ (types_row (type_at l.fn.cursor.limits l.depth)).run (left l.fn.cursor);
+  so_far : with_front (map type_view l.fields.items) ((many class (keep_second (word terminal.Comma) (type_at l.fn.cursor.limits l.depth))).run (tokens_left l.cursor)) ≡ (types_row (type_at l.fn.cursor.limits l.depth)).run (tokens_left l.fn.cursor);
   limits : l.cursor.limits ≡ l.fn.cursor.limits;
   text : l.cursor.text ≡ l.fn.cursor.text;
 }
 
 abbrev pub decreases-fields-fields : goal.decreases-fields-fields
-decreases-fields-fields l = length (left l.cursor)
+decreases-fields-fields l = length (tokens_left l.cursor)

@@ -1,7 +1,7 @@
 use Rattle.std.proofs.Common.{◌≡◌, length, map}
 use Rattle.phrase_rows.specs.Row.{many}
 use Rattle.phrase_rows.proofs.Many.{with_front}
-use Rattle.ir_terminals.specs.Position.{left}
+use Rattle.ir_terminals.specs.Position.{tokens_left}
 use Rattle.ir_terminals.specs.Role.{class}
 use Rattle.ir_instructions.specs.View.{block_view}
 use Rattle.ir_instructions.specs.Blocks.{block_row, block_list_row}
@@ -9,10 +9,10 @@ use Rattle.ir_instructions.proofs.blocks.block_list.Given as goal
 
 abbrev pub invariant-list : goal.invariant-list
 invariant-list l = record {
-  so_far : with_front (map block_view l.blocks.items) ((many class (block_row l.cursor.limits)).run (left l.cursor)) ≡ (block_list_row l.fn.cursor.limits).run (left l.fn.cursor);
+  so_far : with_front (map block_view l.blocks.items) ((many class (block_row l.cursor.limits)).run (tokens_left l.cursor)) ≡ (block_list_row l.fn.cursor.limits).run (tokens_left l.fn.cursor);
   limits : l.cursor.limits ≡ l.fn.cursor.limits;
   text : l.cursor.text ≡ l.fn.cursor.text;
 }
 
 abbrev pub decreases-list : goal.decreases-list
-decreases-list l = length (left l.cursor)
+decreases-list l = length (tokens_left l.cursor)

@@ -1,8 +1,8 @@
 use Rattle.std.proofs.Common.{refl, sym, ◌∙◌}
-use Rattle.phrase_rows.specs.Row.{second}
+use Rattle.phrase_rows.specs.Row.{keep_second}
 use Rattle.phrase_rows.proofs.Values.{read_less}
 use Rattle.ir_terminals.specs.declared.terminal.Terminal.TheVariants as terminal
-use Rattle.ir_terminals.specs.Position.{left}
+use Rattle.ir_terminals.specs.Position.{tokens_left}
 use Rattle.ir_terminals.specs.Tokens.{word}
 use Rattle.ir_constants.specs.View.{typed_value_view}
 use Rattle.ir_instructions.specs.Calls.{argument_row}
@@ -12,14 +12,14 @@ use Rattle.ir_instructions.proofs.calls.argument_list.Goals as goal
 
 pub arguments-smaller : goal.arguments-smaller
 arguments-smaller c =
-    read_less (reads_next_argument c.arguments.cursor.limits) refl (left c.arguments.cursor) (left c.argument-in-arguments.new.cursor) (typed_value_view c.in_ok-argument-2.field-0)
-    (behind_comma_read argument_row c.arguments.cursor.limits c.take_class.new.self.limits (typed_value_view c.in_ok-argument-2.field-0) c.in_ok-take_class.field-0 (left c.arguments.cursor) (left c.take_class.new.self) (left c.argument-in-arguments.new.cursor) c.in_ok-take_class.ensures.1 c.in_ok-take_class.ensures.0 c.in_ok-argument-2.ensures.0)
+    read_less (reads_next_argument c.arguments.cursor.limits) refl (tokens_left c.arguments.cursor) (tokens_left c.argument-in-arguments.new.cursor) (typed_value_view c.in_ok-argument-2.field-0)
+    (behind_comma_read argument_row c.arguments.cursor.limits c.take_class.new.self.limits (typed_value_view c.in_ok-argument-2.field-0) c.in_ok-take_class.field-0 (tokens_left c.arguments.cursor) (tokens_left c.take_class.new.self) (tokens_left c.argument-in-arguments.new.cursor) c.in_ok-take_class.ensures.1 c.in_ok-take_class.ensures.0 c.in_ok-argument-2.ensures.0)
 
 pub arguments-preserved : goal.arguments-preserved
 arguments-preserved c = record {
   so_far =
-      many_moved (λ l. second (word terminal.Comma) (argument_row l)) typed_value_view reads_next_argument (λ l. refl) (λ l. refl) c.arguments.cursor.limits c.argument-in-arguments.new.cursor.limits c.arguments.arguments.items c.push-in-arguments.new.self.items c.in_ok-argument-2.field-0 (left c.arguments.cursor) (left c.argument-in-arguments.new.cursor) _ (c.in_ok-argument-2.ensures.1 ∙ c.in_ok-take_class.ensures.1) c.in_ok-push-2.ensures.items (sym c.is_class_next.ensures ∙ c.arguments-test.true)
-      (behind_comma_read argument_row c.arguments.cursor.limits c.take_class.new.self.limits (typed_value_view c.in_ok-argument-2.field-0) c.in_ok-take_class.field-0 (left c.arguments.cursor) (left c.take_class.new.self) (left c.argument-in-arguments.new.cursor) c.in_ok-take_class.ensures.1 c.in_ok-take_class.ensures.0 c.in_ok-argument-2.ensures.0)
+      many_moved (λ l. keep_second (word terminal.Comma) (argument_row l)) typed_value_view reads_next_argument (λ l. refl) (λ l. refl) c.arguments.cursor.limits c.argument-in-arguments.new.cursor.limits c.arguments.arguments.items c.push-in-arguments.new.self.items c.in_ok-argument-2.field-0 (tokens_left c.arguments.cursor) (tokens_left c.argument-in-arguments.new.cursor) _ (c.in_ok-argument-2.ensures.1 ∙ c.in_ok-take_class.ensures.1) c.in_ok-push-2.ensures.items (sym c.is_class_next.ensures ∙ c.arguments-test.true)
+      (behind_comma_read argument_row c.arguments.cursor.limits c.take_class.new.self.limits (typed_value_view c.in_ok-argument-2.field-0) c.in_ok-take_class.field-0 (tokens_left c.arguments.cursor) (tokens_left c.take_class.new.self) (tokens_left c.argument-in-arguments.new.cursor) c.in_ok-take_class.ensures.1 c.in_ok-take_class.ensures.0 c.in_ok-argument-2.ensures.0)
       c.arguments.invariant.so_far;
   limits = c.in_ok-argument-2.ensures.1 ∙ (c.in_ok-take_class.ensures.1 ∙ c.arguments.invariant.limits);
   text = c.in_ok-argument-2.ensures.2 ∙ (c.in_ok-take_class.ensures.2 ∙ c.arguments.invariant.text);

@@ -1,8 +1,8 @@
 use Rattle.std.proofs.Common.{◌≡◌, length, map}
-use Rattle.phrase_rows.specs.Row.{many, second}
+use Rattle.phrase_rows.specs.Row.{many, keep_second}
 use Rattle.phrase_rows.proofs.Many.{with_front}
 use Rattle.ir_terminals.specs.declared.terminal.Terminal.TheVariants as terminal
-use Rattle.ir_terminals.specs.Position.{left}
+use Rattle.ir_terminals.specs.Position.{tokens_left}
 use Rattle.ir_terminals.specs.Role.{class}
 use Rattle.ir_terminals.specs.Tokens.{word}
 use Rattle.ir_constants.specs.View.{typed_value_view}
@@ -11,10 +11,10 @@ use Rattle.ir_instructions.proofs.calls.argument_list.Given as goal
 
 abbrev pub invariant-arguments : goal.invariant-arguments
 invariant-arguments l = record {
-  so_far : with_front (map typed_value_view l.arguments.items) ((many class (second (word terminal.Comma) (argument_row l.cursor.limits))).run (left l.cursor)) ≡ (argument_list_row l.fn.cursor.limits).run (left l.fn.cursor);
+  so_far : with_front (map typed_value_view l.arguments.items) ((many class (keep_second (word terminal.Comma) (argument_row l.cursor.limits))).run (tokens_left l.cursor)) ≡ (argument_list_row l.fn.cursor.limits).run (tokens_left l.fn.cursor);
   limits : l.cursor.limits ≡ l.fn.cursor.limits;
   text : l.cursor.text ≡ l.fn.cursor.text;
 }
 
 abbrev pub decreases-arguments : goal.decreases-arguments
-decreases-arguments l = length (left l.cursor)
+decreases-arguments l = length (tokens_left l.cursor)

@@ -1,6 +1,6 @@
 use Rattle.std.proofs.Common.{◌≡◌, length, map}
 use Rattle.phrase_rows.specs.Row.{loop}
-use Rattle.ir_terminals.specs.Position.{left}
+use Rattle.ir_terminals.specs.Position.{tokens_left}
 use Rattle.ir_terminals.specs.Role.{class}
 use Rattle.ir_constants.specs.View.{type_view}
 use Rattle.ir_instructions.specs.Dropped.{comma_shape}
@@ -9,10 +9,10 @@ use Rattle.ir_instructions.proofs.calls.some_types.Given as goal
 
 abbrev pub invariant-parameters : goal.invariant-parameters
 invariant-parameters l = record {
-  so_far : (loop class comma_shape (signature_step l.cursor.limits) (map type_view l.parameters.items, l.variadic)).run (left l.cursor) ≡ (some_types_row l.fn.cursor.limits).run (left l.fn.cursor);
+  so_far : (loop class comma_shape (signature_step l.cursor.limits) (map type_view l.parameters.items, l.variadic)).run (tokens_left l.cursor) ≡ (some_types_row l.fn.cursor.limits).run (tokens_left l.fn.cursor);
   limits : l.cursor.limits ≡ l.fn.cursor.limits;
   text : l.cursor.text ≡ l.fn.cursor.text;
 }
 
 abbrev pub decreases-parameters : goal.decreases-parameters
-decreases-parameters l = length (left l.cursor)
+decreases-parameters l = length (tokens_left l.cursor)

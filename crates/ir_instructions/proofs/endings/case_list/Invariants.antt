@@ -1,7 +1,7 @@
 use Rattle.std.proofs.Common.{◌≡◌, length, map}
 use Rattle.phrase_rows.specs.Row.{many}
 use Rattle.phrase_rows.proofs.Many.{with_front}
-use Rattle.ir_terminals.specs.Position.{left}
+use Rattle.ir_terminals.specs.Position.{tokens_left}
 use Rattle.ir_terminals.specs.Role.{class}
 use Rattle.ir_instructions.specs.View.{case_view}
 use Rattle.ir_instructions.specs.Endings.{case_row, case_list_row}
@@ -9,10 +9,10 @@ use Rattle.ir_instructions.proofs.endings.case_list.Given as goal
 
 abbrev pub invariant-cases : goal.invariant-cases
 invariant-cases l = record {
-  so_far : with_front (map case_view l.cases.items) ((many class (case_row l.cursor.limits)).run (left l.cursor)) ≡ (case_list_row l.fn.cursor.limits).run (left l.fn.cursor);
+  so_far : with_front (map case_view l.cases.items) ((many class (case_row l.cursor.limits)).run (tokens_left l.cursor)) ≡ (case_list_row l.fn.cursor.limits).run (tokens_left l.fn.cursor);
   limits : l.cursor.limits ≡ l.fn.cursor.limits;
   text : l.cursor.text ≡ l.fn.cursor.text;
 }
 
 abbrev pub decreases-cases : goal.decreases-cases
-decreases-cases l = length (left l.cursor)
+decreases-cases l = length (tokens_left l.cursor)

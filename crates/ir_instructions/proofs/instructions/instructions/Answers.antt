@@ -1,6 +1,6 @@
 use Rattle.std.proofs.Common.{refl, sym, ◌∙◌}
 use Rattle.phrase_rows.proofs.Values.{read_less}
-use Rattle.ir_terminals.specs.Position.{left}
+use Rattle.ir_terminals.specs.Position.{tokens_left}
 use Rattle.ir_instructions.specs.View.{instruction_view}
 use Rattle.ir_instructions.specs.Instructions.{instruction_row}
 use Rattle.ir_instructions.proofs.Grammar.{reads_instruction}
@@ -8,11 +8,11 @@ use Rattle.ir_instructions.proofs.Lists.{many_moved}
 use Rattle.ir_instructions.proofs.instructions.instructions.Goals as goal
 
 pub instructions-smaller : goal.instructions-smaller
-instructions-smaller c = read_less (reads_instruction c.instructions.cursor.limits) refl (left c.instructions.cursor) (left c.instruction.new.cursor) (instruction_view c.in_ok-instruction.field-0) c.in_ok-instruction.ensures.0
+instructions-smaller c = read_less (reads_instruction c.instructions.cursor.limits) refl (tokens_left c.instructions.cursor) (tokens_left c.instruction.new.cursor) (instruction_view c.in_ok-instruction.field-0) c.in_ok-instruction.ensures.0
 
 pub instructions-preserved : goal.instructions-preserved
 instructions-preserved c = record {
-  so_far = many_moved instruction_row instruction_view reads_instruction (λ l. refl) (λ l. refl) c.instructions.cursor.limits c.instruction.new.cursor.limits c.instructions.instructions.items c.push.new.self.items c.in_ok-instruction.field-0 (left c.instructions.cursor) (left c.instruction.new.cursor) _ c.in_ok-instruction.ensures.1 c.in_ok-push.ensures.items (sym c.is_instruction_next.ensures ∙ c.instructions-test.true) c.in_ok-instruction.ensures.0 c.instructions.invariant.so_far;
+  so_far = many_moved instruction_row instruction_view reads_instruction (λ l. refl) (λ l. refl) c.instructions.cursor.limits c.instruction.new.cursor.limits c.instructions.instructions.items c.push.new.self.items c.in_ok-instruction.field-0 (tokens_left c.instructions.cursor) (tokens_left c.instruction.new.cursor) _ c.in_ok-instruction.ensures.1 c.in_ok-push.ensures.items (sym c.is_instruction_next.ensures ∙ c.instructions-test.true) c.in_ok-instruction.ensures.0 c.instructions.invariant.so_far;
   limits = c.in_ok-instruction.ensures.1 ∙ c.instructions.invariant.limits;
   text = c.in_ok-instruction.ensures.2 ∙ c.instructions.invariant.text;
 }

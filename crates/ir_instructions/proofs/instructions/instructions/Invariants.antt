@@ -1,7 +1,7 @@
 use Rattle.std.proofs.Common.{◌≡◌, length, map}
 use Rattle.phrase_rows.specs.Row.{many}
 use Rattle.phrase_rows.proofs.Many.{with_front}
-use Rattle.ir_terminals.specs.Position.{left}
+use Rattle.ir_terminals.specs.Position.{tokens_left}
 use Rattle.ir_terminals.specs.Role.{class}
 use Rattle.ir_instructions.specs.View.{instruction_view}
 use Rattle.ir_instructions.specs.Instructions.{instruction_row, instructions_row}
@@ -9,10 +9,10 @@ use Rattle.ir_instructions.proofs.instructions.instructions.Given as goal
 
 abbrev pub invariant-instructions : goal.invariant-instructions
 invariant-instructions l = record {
-  so_far : with_front (map instruction_view l.instructions.items) ((many class (instruction_row l.cursor.limits)).run (left l.cursor)) ≡ (instructions_row l.fn.cursor.limits).run (left l.fn.cursor);
+  so_far : with_front (map instruction_view l.instructions.items) ((many class (instruction_row l.cursor.limits)).run (tokens_left l.cursor)) ≡ (instructions_row l.fn.cursor.limits).run (tokens_left l.fn.cursor);
   limits : l.cursor.limits ≡ l.fn.cursor.limits;
   text : l.cursor.text ≡ l.fn.cursor.text;
 }
 
 abbrev pub decreases-instructions : goal.decreases-instructions
-decreases-instructions l = length (left l.cursor)
+decreases-instructions l = length (tokens_left l.cursor)

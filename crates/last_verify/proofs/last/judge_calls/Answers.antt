@@ -8,7 +8,7 @@ use Rattle.module_arena.specs.ValueRules as rules
 use Rattle.module_arena.specs.View.{constants_of, inst_view, operand_view, value_view}
 use Rattle.module_arena.specs.declared.instruction.Operand.{Operand}
 use Rattle.module_arena.specs.declared.instruction.Value as the_value
-use Rattle.constant_verify.proofs.FactsTold.{own_structs}
+use Rattle.constant_verify.proofs.ConstantsKnown.{own_structs}
 use Rattle.path_rows.proofs.Viewed.{callee_viewed, operands_viewed}
 use Rattle.type_verify.specs.Judged.{Judged, asks}
 use Rattle.instruction_verify.proofs.Asked.{demand}

@@ -4,7 +4,7 @@ use Rattle.module_arena.specs.Changes.{function_in}
 use Rattle.module_arena.specs.Valid.{Demand, InstructionOf}
 use Rattle.module_arena.specs.ValueRules.{have_types_written}
 use Rattle.module_arena.specs.View.{constants_of, operand_view}
-use Rattle.constant_verify.proofs.FactsTold.{own_structs}
+use Rattle.constant_verify.proofs.ConstantsKnown.{own_structs}
 use Rattle.type_verify.specs.Judged.{Judged, asks}
 use Rattle.instruction_verify.proofs.Asked.{demand}
 use Rattle.last_verify.proofs.last.judge_written.Goals as goal

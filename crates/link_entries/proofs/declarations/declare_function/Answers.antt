@@ -12,7 +12,7 @@ use Rattle.type_build.specs.Stands.{IsType}
 use Rattle.type_build.proofs.Growing.{grows_not}
 use Rattle.link_entries.specs.Room.{HasRoom}
 use Rattle.link_entries.specs.Step.{IsDeclared}
-use Rattle.link_entries.proofs.OneMore.{function_more}
+use Rattle.link_entries.proofs.DeclaredMore.{function_more}
 use Rattle.link_entries.proofs.Written.{type_there, declared_function, function_declared, function_is, function_known}
 use Rattle.link_entries.proofs.declarations.declare_function.Goals as goal
 

@@ -12,7 +12,7 @@ use Rattle.type_build.specs.Stands.{IsType}
 use Rattle.type_build.proofs.Growing.{grows_not}
 use Rattle.link_entries.specs.Room.{HasRoom}
 use Rattle.link_entries.specs.Step.{IsDeclared}
-use Rattle.link_entries.proofs.OneMore.{variable_more}
+use Rattle.link_entries.proofs.DeclaredMore.{variable_more}
 use Rattle.link_entries.proofs.Written.{type_there, declared_variable, variable_declared, declared_variable_is, variable_known}
 use Rattle.link_entries.proofs.declarations.declare_variable.Goals as goal
 

@@ -9,7 +9,7 @@ use Rattle.type_build.specs.Declarations.{IsFree}
 use Rattle.type_build.proofs.Growing.{grows_not}
 use Rattle.link_entries.specs.Room.{HasRoom}
 use Rattle.link_entries.specs.Step.{IsDeclared}
-use Rattle.link_entries.proofs.OneMore.{alias_more}
+use Rattle.link_entries.proofs.DeclaredMore.{alias_more}
 use Rattle.link_entries.proofs.Written.{defined_alias, alias_defined, alias_is, alias_known}
 use Rattle.link_entries.proofs.definitions.declare_alias.Goals as goal
 

@@ -4,7 +4,7 @@ use Rattle.type_table.specs.Limits.{IsWithinLimits}
 use Rattle.type_table.specs.Shape.{shape}
 use Rattle.type_table.specs.Types.{names, trees, structs, tree_of, IsKnown}
 use Rattle.module_arena.specs.Known.{KnowsVariable}
-use Rattle.linkage_rules.specs.declared.entry.Head.{Head}
+use Rattle.linkage_rules.specs.declared.entry.EntryHead.{EntryHead}
 use Rattle.linkage_rules.specs.Globals.{element_of, type_of}
 use Rattle.linkage_rules.proofs.Seen.{get_within, known_part}
 use Rattle.linkage_rules.proofs.Steps.{all_get}
@@ -31,7 +31,7 @@ keep_type-requires-clause-known c =
     let element = c.element_of.ensures in
     subst (λ i. IsKnown b.table (Array c.joined_length-length.result i)) (sym c.new_type-element.ensures)
     (appended_known parts c.args.home c.args.ids.now a b t c.requires.entry (c.requires.types.types c.args.home.part a t c.arena_of-arena.ensures.arena c.copier_of-copier.ensures) c.element_of.result c.joined_length-length.result
-    element.known (element.element v.0 v.1 ∙ ap element_of (sym (ap type_of here))) (ap (λ (h : Head). h.linkage) (sym c.head_of.ensures) ∙ c.in-Appending.is) c.joined_length-length.ensures c.requires.good)
+    element.known (element.element v.0 v.1 ∙ ap element_of (sym (ap type_of here))) (ap (λ (h : EntryHead). h.linkage) (sym c.head_of.ensures) ∙ c.in-Appending.is) c.joined_length-length.ensures c.requires.good)
 
 pub keep_type-requires-clause-fits : goal.keep_type-requires-clause-fits
 keep_type-requires-clause-fits c =
@@ -44,7 +44,7 @@ keep_type-requires-clause-fits c =
     let element = c.element_of.ensures in
     subst (λ i. IsWithinLimits (shape (structs b.table) (tree_of (names b.table) (trees b.table) (Array c.joined_length-length.result i)))) (sym c.new_type-element.ensures)
     (appended_fits parts c.args.home c.args.ids.now a b t c.requires.entry (c.requires.types.types c.args.home.part a t c.arena_of-arena.ensures.arena c.copier_of-copier.ensures) c.element_of.result c.joined_length-length.result
-    element.known (element.element v.0 v.1 ∙ ap element_of (sym (ap type_of here))) (ap (λ (h : Head). h.linkage) (sym c.head_of.ensures) ∙ c.in-Appending.is) c.joined_length-length.ensures c.requires.good)
+    element.known (element.element v.0 v.1 ∙ ap element_of (sym (ap type_of here))) (ap (λ (h : EntryHead). h.linkage) (sym c.head_of.ensures) ∙ c.in-Appending.is) c.joined_length-length.ensures c.requires.good)
 
 pub returns-in_ok-id-in-Appending-clause-is : goal.returns-in_ok-id-in-Appending-clause-is
 returns-in_ok-id-in-Appending-clause-is c =
@@ -58,7 +58,7 @@ returns-in_ok-id-in-Appending-clause-is c =
     subst (IsType c.keep_type.new.self.arena c.in_ok-id-in-Appending.id)
     (ap (λ i. tree_of (names b.table) (trees b.table) (Array c.joined_length-length.result i)) c.new_type-element.ensures
     ∙ appended_is parts c.args.home c.args.ids.now a b t c.requires.entry (c.requires.types.types c.args.home.part a t c.arena_of-arena.ensures.arena c.copier_of-copier.ensures) c.element_of.result c.joined_length-length.result
-    element.known (element.element v.0 v.1 ∙ ap element_of (sym (ap type_of here))) (ap (λ (h : Head). h.linkage) (sym c.head_of.ensures) ∙ c.in-Appending.is) c.joined_length-length.ensures c.requires.good)
+    element.known (element.element v.0 v.1 ∙ ap element_of (sym (ap type_of here))) (ap (λ (h : EntryHead). h.linkage) (sym c.head_of.ensures) ∙ c.in-Appending.is) c.joined_length-length.ensures c.requires.good)
     c.in_ok-id-in-Appending.ensures.is
 
 pub returns-in_default-clause-is : goal.returns-in_default-clause-is
@@ -72,4 +72,4 @@ returns-in_default-clause-is c =
     let here = variable_here parts c.args.home a c.arena_of-arena.ensures.arena [] v c.requires.variable at in
     subst (λ i. IsType b i (joined_of parts c.args.home c.args.ids.now)) (sym c.new_type.ensures)
     (own_type parts c.args.home c.args.ids.now a b t c.requires.entry (c.requires.types.types c.args.home.part a t c.arena_of-arena.ensures.arena c.copier_of-copier.ensures) v.ty
-    (all_get (KnowsVariable _ _) a.variables c.args.home.number v c.variable_count-good.ensures.good.variables at).ty_known (ap type_of here) (λ e. c.in_default.not-Appending (ap (λ (h : Head). h.linkage) c.head_of.ensures ∙ e)))
+    (all_get (KnowsVariable _ _) a.variables c.args.home.number v c.variable_count-good.ensures.good.variables at).ty_known (ap type_of here) (λ e. c.in_default.not-Appending (ap (λ (h : EntryHead). h.linkage) c.head_of.ensures ∙ e)))

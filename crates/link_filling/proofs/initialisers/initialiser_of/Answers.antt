@@ -1,5 +1,5 @@
 use Rattle.std.proofs.Common.{◌≡◌, Some, slice_get, sym, subst, ap, ◌∙◌}
-use Rattle.linkage_rules.specs.declared.entry.Head.{Head}
+use Rattle.linkage_rules.specs.declared.entry.EntryHead.{EntryHead}
 use Rattle.linkage_rules.specs.Globals.{initialiser_of, linkage_of}
 use Rattle.linkage_rules.specs.Ids.{modules, seen}
 use Rattle.linkage_rules.specs.Linkages.{is_appending}
@@ -12,7 +12,7 @@ returns-in_ok-joined-in-Appending-clause-is c =
     let parts = c.args.parts.now in
     let e = seen (modules parts) c.args.home in
     appended_is (modules parts) c.joined_initialiser.new.into.arena e (entries_defined parts c.args.ids.now) (initialiser_of e.global) c.in_ok-joined-in-Appending.joined
-    (ap is_appending (sym (ap (λ (h : Head). h.linkage) c.head_of.ensures) ∙ c.in-Appending.is)) c.in_ok-joined-in-Appending.ensures.is
+    (ap is_appending (sym (ap (λ (h : EntryHead). h.linkage) c.head_of.ensures) ∙ c.in-Appending.is)) c.in_ok-joined-in-Appending.ensures.is
 
 pub returns-in_default-clause-is : goal.returns-in_default-clause-is
 returns-in_default-clause-is c =
@@ -22,4 +22,4 @@ returns-in_default-clause-is c =
     let at = subst (λ n. slice_get a.variables n ≡ Some v) c.new.ensures c.variable-variable.ensures in
     plain_is parts c.args.into.now.arena c.args.copiers.now c.requires.copied c.requires.new_ids c.args.home a c.copier_of.result.now c.arena_of-arena.ensures.arena c.copier_of.ensures c.requires.variable v at
     c.variable_count-good.ensures.good (entries_defined parts c.args.ids.now) c.copied_initialiser.result
-    (not_appending (linkage_of (seen (modules parts) c.args.home).global) (λ e. c.in_default.not-Appending (ap (λ (h : Head). h.linkage) c.head_of.ensures ∙ e))) c.copied_initialiser.ensures
+    (not_appending (linkage_of (seen (modules parts) c.args.home).global) (λ e. c.in_default.not-Appending (ap (λ (h : EntryHead). h.linkage) c.head_of.ensures ∙ e))) c.copied_initialiser.ensures

@@ -1,11 +1,11 @@
 use Rattle.std.proofs.Common.{◌≡◌, ◌<◌, ◌≤◌, ◌-◌, ◌^◌, drop, length}
-use Rattle.masked_bytes.specs.Masked.{spelled}
+use Rattle.masked_bytes.specs.Masked.{number_of_bytes}
 use Rattle.masked_bytes.proofs.bytes.spelled_in_turn.Given as goal
 
 abbrev pub invariant-loop-left : goal.invariant-loop-left
 invariant-loop-left l = record {
   within : l.left ≤ length l.bytes;
-  number : spelled (drop l.left l.bytes) ≡ l.number;
+  number : number_of_bytes (drop l.left l.bytes) ≡ l.number;
   fits : l.number < 256 ^ (length l.bytes - l.left);
 }
 

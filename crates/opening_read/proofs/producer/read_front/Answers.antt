@@ -1,5 +1,5 @@
 use Rattle.std.proofs.Common.{ap, subst, sym, ◌∙◌, arith}
-use Rattle.record_read.specs.declared.entry.Entry.TheVariants.{Block, Record, End}
+use Rattle.record_read.specs.declared.entry.NextEntry.TheVariants.{Block, Record, End}
 use Rattle.record_read.specs.Reader.{Reader}
 use Rattle.opening_read.proofs.Answering.{gone}
 use Rattle.opening_read.proofs.Fronts.{IsGoing, front_found, front_missing, goes_begin, goes_on}

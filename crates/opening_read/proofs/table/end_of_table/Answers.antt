@@ -1,7 +1,7 @@
 use Rattle.std.proofs.Common.{◌∷◌, subst, arith}
 use Rattle.std.proofs.lemmas.Result.{err_from_is_err_and}
 use Rattle.bit_tree.specs.Pieces.{ended}
-use Rattle.record_read.specs.declared.entry.Entry.TheVariants.{Block, Record, End}
+use Rattle.record_read.specs.declared.entry.NextEntry.TheVariants.{Block, Record, End}
 use Rattle.record_read.specs.Faults.{IsMisplaced}
 use Rattle.opening_read.proofs.Answering.{gone, out_of_memory}
 use Rattle.opening_read.proofs.Tables.{block_refused, ends, more_done, more_refused, record_at}

@@ -7,7 +7,7 @@ use Rattle.module_arena.specs.Lists.{Lists}
 use Rattle.module_arena.specs.Valid.{Demand, Global}
 use Rattle.module_arena.specs.View.{module_of}
 use Rattle.module_arena.specs.declared.entry.Function as the_function
-use Rattle.constant_verify.proofs.FactsTold.{own_structs}
+use Rattle.constant_verify.proofs.ConstantsKnown.{own_structs}
 use Rattle.type_verify.specs.Judged.{Judged, asks}
 use Rattle.path_verify.specs.Heads.{head_demands}
 use Rattle.path_verify.proofs.Asked.{demand}

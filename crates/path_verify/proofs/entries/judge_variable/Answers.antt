@@ -4,7 +4,7 @@ use Rattle.module_arena.specs.Constants.{fits}
 use Rattle.module_arena.specs.Changes.{variable_in}
 use Rattle.module_arena.specs.EntryRules.{linkage_suits, variable_types_suit}
 use Rattle.module_arena.specs.Valid.{Demand, Global}
-use Rattle.constant_verify.proofs.FactsTold.{own_structs}
+use Rattle.constant_verify.proofs.ConstantsKnown.{own_structs}
 use Rattle.type_verify.specs.Judged.{Judged, asks}
 use Rattle.path_verify.proofs.Asked.{demand}
 use Rattle.entry_rules.proofs.EntriesFound.{some-map}

@@ -2,7 +2,7 @@ use Rattle.std.proofs.Common.{◌≡◌, refl, Less, ℕ, ◌<◌, ◌≤◌, ar
 use Rattle.std.specs.Prelude.{Option, Some, None, IsSome, IfSome, slice_get}
 use Rattle.std.specs.Ordering.{nat_cmp, is_gt}
 use Rattle.std.proofs.lemmas.Bool.Decides.{nat_tests}
-use Rattle.pointer_pieces.specs.declared.piece.Piece.{Piece}
+use Rattle.pointer_pieces.specs.declared.piece.PointerPiece.{PointerPiece}
 use Rattle.pointer_pieces.proofs.ranges.first_within.Goals as goal
 
 from_up : (from q : ℕ) → from ≤ q → is_gt (nat_cmp from q) ≡ false
@@ -14,7 +14,7 @@ below q to h = grind (arith, nat_tests)
 not_above : (key q : ℕ) → q < key → is_gt (nat_cmp key q) ≡ false → ⊥
 not_above key q h e = grind (arith, nat_tests)
 
-none_else : (o : Option Piece) → (IsSome o → ⊥) → o ≡ None
+none_else : (o : Option PointerPiece) → (IsSome o → ⊥) → o ≡ None
 none_else None never = refl
 none_else (Some piece) never = absurd (never refl)
 

@@ -2,7 +2,7 @@ use Rattle.std.proofs.Common.{ℕ, Option, None, refl, sym, arith}
 use Rattle.std.specs.Prelude.{if◌then◌else◌}
 use Rattle.std.specs.Ordering.{nat_cmp}
 use Rattle.std.specs.BTreeMap as tree
-use Rattle.pointer_pieces.specs.declared.piece.Piece.{Piece}
+use Rattle.pointer_pieces.specs.declared.piece.PointerPiece.{PointerPiece}
 use Rattle.pointer_pieces.specs.Pieces.{at_slots, is_within}
 use Rattle.pointer_pieces.proofs.Seen.{ahead_more, before, behind, done_all, done_more, either, not_before}
 use Rattle.pointer_pieces.proofs.slots.clear.Goals as goal
@@ -18,7 +18,7 @@ slots-preserved c =
     let now = tree.get nat_cmp c.slots.slots in
     let new = tree.get nat_cmp c.hide.new.slots in
     let initial = tree.get nat_cmp a.slots.now in
-    let to_be = λ (q : ℕ) (x : Option Piece). if is_within a.from a.to q then None else x in
+    let to_be = λ (q : ℕ) (x : Option PointerPiece). if is_within a.from a.to q then None else x in
     let n = c.in-Some.met.0 in
     let i = c.slots.invariant in
     let e = c.in-Some.ensures in
@@ -32,7 +32,7 @@ slots-preserved c =
 pub returns : goal.returns
 returns c =
     let a = c.args in
-    let to_be = λ (q : ℕ) (x : Option Piece). if is_within a.from a.to q then None else x in
+    let to_be = λ (q : ℕ) (x : Option PointerPiece). if is_within a.from a.to q then None else x in
     let i = c.slots.invariant in
     done_all to_be (tree.get nat_cmp a.slots.now) (λ q h. either (is_within a.from a.to q) None) (tree.get nat_cmp c.slots.slots) c.slots.next c.end_of-end.result i.done i.ahead c.in_default.ensures.none
     (λ q h x. behind a.from a.to q None x (not_before q a.to c.end_of-end.result (c.end_of-end.ensures.behind q) h))

@@ -2,7 +2,7 @@ use Rattle.std.proofs.Common.{ℕ, ◌∙◌, Option, None, refl, sym, subst, ar
 use Rattle.std.specs.Prelude.{if◌then◌else◌, IsSome}
 use Rattle.std.specs.Ordering.{nat_cmp}
 use Rattle.std.specs.BTreeMap as tree
-use Rattle.pointer_pieces.specs.declared.piece.Piece.{Piece}
+use Rattle.pointer_pieces.specs.declared.piece.PointerPiece.{PointerPiece}
 use Rattle.pointer_pieces.specs.Pieces.{at_slots, is_within}
 use Rattle.pointer_pieces.proofs.Seen.{at_none, chosen, inside, shown_here}
 use Rattle.pointer_pieces.proofs.slots.hide.Goals as goal
@@ -20,4 +20,4 @@ pub returns-clause-here : goal.returns-clause-here
 returns-clause-here c = λ q e.
     let a = c.args in
     c.leave.ensures.here q e
-    ∙ shown_here (tree.get nat_cmp a.slots.now) a.number a.slot c.without.result (λ (p : ℕ) (x : Option Piece). if is_within a.from a.to p then None else x) c.requires.there c.without.ensures q e
+    ∙ shown_here (tree.get nat_cmp a.slots.now) a.number a.slot c.without.result (λ (p : ℕ) (x : Option PointerPiece). if is_within a.from a.to p then None else x) c.requires.there c.without.ensures q e

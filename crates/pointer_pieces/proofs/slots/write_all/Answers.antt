@@ -2,7 +2,7 @@ use Rattle.std.proofs.Common.{◌≡◌, ℕ, ◌∙◌, Option, Some, refl, sym
 use Rattle.std.specs.Prelude.{◌≢◌, if◌then◌else◌, IsSome}
 use Rattle.std.specs.Ordering.{nat_cmp}
 use Rattle.std.specs.BTreeMap as tree
-use Rattle.pointer_pieces.specs.declared.piece.Piece.{Piece}
+use Rattle.pointer_pieces.specs.declared.piece.PointerPiece.{PointerPiece}
 use Rattle.pointer_pieces.specs.Pieces.{at_slots, is_within}
 use Rattle.pointer_pieces.proofs.Seen.{ahead_more, before, behind, changed_here, chosen, done_all, done_more, found_empty, not_before, passed}
 use Rattle.pointer_pieces.proofs.slots.write_all.Goals as goal
@@ -22,7 +22,7 @@ slots-preserved c =
     let new = tree.get nat_cmp c.change.new.slots in
     let initial = tree.get nat_cmp a.slots.now in
     let found = tree.get nat_cmp a.found.now in
-    let to_be = λ (q : ℕ) (x : Option Piece). if is_within a.from a.to q then found q else x in
+    let to_be = λ (q : ℕ) (x : Option PointerPiece). if is_within a.from a.to q then found q else x in
     let n = c.in-Some.met.0 in
     let i = c.slots.invariant in
     let e = c.in-Some.ensures in
@@ -40,7 +40,7 @@ pub returns : goal.returns
 returns c =
     let a = c.args in
     let found = tree.get nat_cmp a.found.now in
-    let to_be = λ (q : ℕ) (x : Option Piece). if is_within a.from a.to q then found q else x in
+    let to_be = λ (q : ℕ) (x : Option PointerPiece). if is_within a.from a.to q then found q else x in
     let initial = tree.get nat_cmp a.slots.now in
     let i = c.slots.invariant in
     done_all to_be initial (found_empty found initial a.from a.to c.requires.room) (tree.get nat_cmp c.slots.slots) c.slots.next c.end_of-end.result i.done i.ahead c.in_default.ensures.none

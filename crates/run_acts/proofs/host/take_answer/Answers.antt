@@ -2,7 +2,7 @@ use Rattle.std.proofs.Common.{◌≡◌, ap, ◌∙◌, subst, sym}
 use Rattle.host_calls.specs.Made.{EndsOrReads}
 use Rattle.run_actions.specs.Carried.{core_of}
 use Rattle.run_host.specs.Answers.{answer_of, leaves_of}
-use Rattle.run_host.specs.declared.answer.Answer.{Answer}
+use Rattle.run_host.specs.declared.answer.HostAnswer.{HostAnswer}
 use Rattle.run_rules.specs.Calls.{answered}
 use Rattle.run_rules.specs.State as states
 use Rattle.run_acts.specs.declared.next.Next.{Next}
@@ -19,7 +19,7 @@ pub returns-in-Gives-clause-answered : goal.returns-in-Gives-clause-answered
 returns-in-Gives-clause-answered c = λ due m n output kept.
     let s = c.args.stack.now in
     let t = c.give.new.stack in
-    subst (λ (a : Answer). answered c.args.to (core_of s.frames due m) (answer_of a n output) ≡ states.Goes (core_of t.frames due n) output) (sym c.in-Gives.is)
+    subst (λ (a : HostAnswer). answered c.args.to (core_of s.frames due m) (answer_of a n output) ≡ states.Goes (core_of t.frames due n) output) (sym c.in-Gives.is)
     (gives_value s c.args.to due m n output (leaves_of c.in-Gives.given) t c.give.ensures)
 
 pub returns-in-Gives-clause-ready : goal.returns-in-Gives-clause-ready
@@ -28,14 +28,14 @@ returns-in-Gives-clause-ready c = λ p. ready_valued p c.args.stack.now c.give.n
 pub returns-in-Reads-clause-answered : goal.returns-in-Reads-clause-answered
 returns-in-Reads-clause-answered c = λ due m n output kept.
     let s = c.args.stack.now in
-    subst (λ (a : Answer). answered c.args.to (core_of s.frames due m) (answer_of a n output) ≡ states.Gets c.args.to (core_of s.frames due n)) (sym c.in-Reads.is)
+    subst (λ (a : HostAnswer). answered c.args.to (core_of s.frames due m) (answer_of a n output) ≡ states.Gets c.args.to (core_of s.frames due n)) (sym c.in-Reads.is)
     (asks_for s c.args.to due m n output (kept (subst EndsOrReads (sym c.in-Reads.is) tt)))
 
 pub returns-in-Reads-clause-ready : goal.returns-in-Reads-clause-ready
 returns-in-Reads-clause-ready c = λ p h. h
 
 pub returns-in-Exits-clause-answered : goal.returns-in-Exits-clause-answered
-returns-in-Exits-clause-answered c = λ due m n output kept. ap (λ (a : Answer). answered c.args.to (core_of c.args.stack.now.frames due m) (answer_of a n output)) c.in-Exits.is
+returns-in-Exits-clause-answered c = λ due m n output kept. ap (λ (a : HostAnswer). answered c.args.to (core_of c.args.stack.now.frames due m) (answer_of a n output)) c.in-Exits.is
 
 pub returns-in-Exits-clause-ready : goal.returns-in-Exits-clause-ready
 returns-in-Exits-clause-ready c = λ p h. h
@@ -43,13 +43,13 @@ returns-in-Exits-clause-ready c = λ p h. h
 pub returns-in-Fails-clause-answered : goal.returns-in-Fails-clause-answered
 returns-in-Fails-clause-answered c = λ due m n output kept.
     let s = c.args.stack.now in
-    ap (λ (a : Answer). answered c.args.to (core_of s.frames due m) (answer_of a n output)) c.in-Fails.is ∙ ap (λ (x : Next). next_of x (core_of s.frames due n) output) (sym c.fails.ensures)
+    ap (λ (a : HostAnswer). answered c.args.to (core_of s.frames due m) (answer_of a n output)) c.in-Fails.is ∙ ap (λ (x : Next). next_of x (core_of s.frames due n) output) (sym c.fails.ensures)
 
 pub returns-in-Fails-clause-ready : goal.returns-in-Fails-clause-ready
 returns-in-Fails-clause-ready c = λ p h. h
 
 pub returns-in-MemoryLimit-clause-answered : goal.returns-in-MemoryLimit-clause-answered
-returns-in-MemoryLimit-clause-answered c = λ due m n output kept. ap (λ (a : Answer). answered c.args.to (core_of c.args.stack.now.frames due m) (answer_of a n output)) c.in-MemoryLimit.is
+returns-in-MemoryLimit-clause-answered c = λ due m n output kept. ap (λ (a : HostAnswer). answered c.args.to (core_of c.args.stack.now.frames due m) (answer_of a n output)) c.in-MemoryLimit.is
 
 pub returns-in-MemoryLimit-clause-ready : goal.returns-in-MemoryLimit-clause-ready
 returns-in-MemoryLimit-clause-ready c = λ p h. h

@@ -4,7 +4,7 @@ use Rattle.run_actions.specs.Carried.{Acts, IsCarriedOut, IsUndefined}
 use Rattle.run_flat.specs.declared.action.Action.{Action}
 use Rattle.run_flat.specs.Flat.{action_of, IsWithin}
 use Rattle.run_stack.specs.declared.origin.Move.{Move}
-use Rattle.run_actions.specs.declared.edge.Case.{Case}
+use Rattle.run_actions.specs.declared.edge.SwitchWay.{SwitchWay}
 use Rattle.run_actions.specs.Edges.{IsWay}
 use Rattle.run_classes.specs.May.{MayAct}
 use Rattle.run_classes.proofs.Going.{branched_so, branches_well, jumped_so, jumps_well, no_other_way, switched_so, switches_well}
@@ -95,8 +95,8 @@ switch-requires c =
       there = k.there;
       other_way = subst (λ (moves : List Move). IsWay s moves e.result) all k.other_way;
       case_ways =
-          subst (λ (moves : List Move). All (λ (x : Case). IsWay s moves x.edge) c.in_span-listed.result.now) all
-          (subst (All (λ (x : Case). IsWay s p.moves x.edge)) (sym c.in_span-listed.ensures) k.case_ways);
+          subst (λ (moves : List Move). All (λ (x : SwitchWay). IsWay s moves x.edge) c.in_span-listed.result.now) all
+          (subst (All (λ (x : SwitchWay). IsWay s p.moves x.edge)) (sym c.in_span-listed.ensures) k.case_ways);
     }
 
 pub returns-in-Switch : goal.returns-in-Switch

@@ -28,7 +28,7 @@ use Rattle.run_constants.specs.Places.{IsPlace, index_at, index_of, shape_at, te
 use Rattle.run_constants.specs.Sound.{HasType, IsOfKind, IsPart, IsSound, constant_of, constants_with_types, leaf_tree, names_of, width_of}
 use Rattle.run_constants.proofs.Distances.{IsOnTheWay, at_first, at_the_end, indices_from, indices_of, no_indices, one_further, so_far}
 use Rattle.run_constants.proofs.Held.{base_pointer, empty_of, indices_integers, leaf_as, sound_as}
-use Rattle.run_constants.proofs.OneLeaf.{address_kind, binary_asked, cast_asked, cast_given, cast_scalars, integer_of, integer_scalar, kind_has, kind_is, moved_pointer, no_bytes, no_list, null_kind, number_kind, of_integer, pointer_of, poison_kind, poison_value, shape_is, truth_kind, truth_leaf, width_is, zero_kind, zero_value}
+use Rattle.run_constants.proofs.LeafKinds.{address_kind, binary_asked, cast_asked, cast_given, cast_scalars, integer_of, integer_scalar, kind_has, kind_is, moved_pointer, no_bytes, no_list, null_kind, number_kind, of_integer, pointer_of, poison_kind, poison_value, shape_is, truth_kind, truth_leaf, width_is, zero_kind, zero_value}
 use Rattle.run_constants.proofs.Sounds.{address_sound, all_parts, binary_sound, cast_sound}
 use Rattle.run_constants.proofs.Within.{below_top, first_has, first_within, item_has, parted, rest_have, rest_of, rest_within, top, top_within}
 use Rattle.run_constants.proofs.leaf.+leaf.Goals as goal

@@ -3,7 +3,7 @@ use Rattle.type_table.specs.Tree.{Tree}
 use Rattle.module_arena.specs.View.{module_of}
 use Rattle.run_rules.specs.Constant.{constant_value, one_leaf}
 use Rattle.run_constants.specs.Sound.{HasType, IsSound, constant_of, names_of}
-use Rattle.run_constants.proofs.OneLeaf.{kind_has}
+use Rattle.run_constants.proofs.LeafKinds.{kind_has}
 use Rattle.run_constants.proofs.leaf.leaf_of.Goals as goal
 
 pub leaf_at-requires-clause-sound : goal.leaf_at-requires-clause-sound

@@ -12,7 +12,7 @@ use Rattle.run_constants.specs.Sound.{IsPart}
 use Rattle.run_constants.proofs.Appended.{part_end, part_more, reworded}
 use Rattle.run_constants.proofs.Fills.{filled_is}
 use Rattle.run_constants.proofs.Held.{sound_as, value_as}
-use Rattle.run_constants.proofs.OneLeaf.{shape_is}
+use Rattle.run_constants.proofs.LeafKinds.{shape_is}
 use Rattle.run_constants.proofs.Lists.{value_of, values_of}
 use Rattle.run_constants.proofs.Sounds.{all_parts, list_sound}
 use Rattle.run_constants.proofs.Within.{below_top, item_has, top, top_within}

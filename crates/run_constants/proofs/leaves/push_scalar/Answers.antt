@@ -4,7 +4,7 @@ use Rattle.type_table.specs.Types.{tree}
 use Rattle.module_arena.specs.View.{module_of}
 use Rattle.run_constants.specs.Sound.{constant_of, names_of}
 use Rattle.run_constants.proofs.Appended.{reworded}
-use Rattle.run_constants.proofs.OneLeaf.{single_is, single_scalar}
+use Rattle.run_constants.proofs.LeafKinds.{single_is, single_scalar}
 use Rattle.run_constants.proofs.leaves.push_scalar.Goals as goal
 
 pub leaf_of-requires-clause-scalar : goal.leaf_of-requires-clause-scalar

@@ -1,6 +1,6 @@
 use Rattle.std.proofs.Common.{◌≡◌, ℕ, ◌+◌, ◌^◌, ◌<◌, ◌≤◌, List, length, drop, zip, Ok, true, sym, ap, ◌∙◌, subst, arith}
 use Rattle.ir_memory.specs.Given.{IsBlock}
-use Rattle.type_table.specs.Layout.{end_after, has_layout, have_layouts, placed, size}
+use Rattle.type_table.specs.Layout.{end_after, has_layout, have_layouts, field_start, size}
 use Rattle.type_table.specs.Shape.{Shape}
 use Rattle.type_table.specs.Types.{Types, structs, tree}
 use Rattle.module_arena.specs.declared.constant.Const.TheVariants as const
@@ -9,7 +9,7 @@ use Rattle.module_arena.specs.Module.{Constant}
 use Rattle.module_arena.specs.TypeTests.{lies_in_memory}
 use Rattle.module_arena.specs.View.{brackets_view, module_of}
 use Rattle.run_constants.proofs.Held.{as_form, sound_as}
-use Rattle.run_constants.proofs.OneLeaf.{shape_is}
+use Rattle.run_constants.proofs.LeafKinds.{shape_is}
 use Rattle.run_constants.proofs.Sounds.{all_parts, list_sound}
 use Rattle.run_constants.proofs.Within.{below_top, item_has, top, top_within}
 use Rattle.run_constants.specs.Sound.{IsPart, constant_of, constants_with_types, names_of}
@@ -186,7 +186,7 @@ put_constants-further-requires t c =
     let ends = it_ends c.args.names.now c.types_of-types.result.now c.types_of-types.ensures c.args.packed c.args.parts.now c.parts.part-index c.parts.end _ c.part-item.result c.parts-test.true c.part-item.is c.parts.invariant.laid c.parts.invariant.end in
     let align = its_align c.args.names.now c.types_of-types.result.now c.types_of-types.ensures c.args.packed c.args.parts.now c.parts.part-index c.parts.end _ c.part-item.result c.parts-test.true c.part-item.is c.parts.invariant.laid c.parts.invariant.end
     c.layout_of-layout.result c.layout_of-layout.ensures in
-    let start = c.start_of-start.ensures ∙ ap (placed c.args.packed c.parts.end) align in
+    let start = c.start_of-start.ensures ∙ ap (field_start c.args.packed c.parts.end) align in
     let most = c.requires.ends in
     omega (arith, ends, start, most)
 
@@ -197,7 +197,7 @@ put_constants-overflow_add-end t c =
     c.layout_of-layout.result c.layout_of-layout.ensures in
     let long = its_size c.args.names.now c.types_of-types.result.now c.types_of-types.ensures c.args.packed c.args.parts.now c.parts.part-index c.parts.end _ c.part-item.result c.parts-test.true c.part-item.is c.parts.invariant.laid c.parts.invariant.end
     c.layout_of-layout.result c.layout_of-layout.ensures in
-    let start = c.start_of-start.ensures ∙ ap (placed c.args.packed c.parts.end) align in
+    let start = c.start_of-start.ensures ∙ ap (field_start c.args.packed c.parts.end) align in
     let most = c.requires.ends in
     omega (arith, ends, start, long, most)
 
@@ -210,7 +210,7 @@ put_constants-put_constant-requires t c =
     c.layout_of-layout.result c.layout_of-layout.ensures in
     let it = lies a c.types_of-types.result.now c.types_of-types.ensures c.args.packed c.args.parts.now c.parts.part-index c.parts.end _ item c.parts-test.true c.part-item.is c.parts.invariant.laid c.parts.invariant.end
     c.requires.parts c.type_count-count.ensures.good c.type_count-count.ensures.within in
-    let start = c.start_of-start.ensures ∙ ap (placed c.args.packed c.parts.end) align in
+    let start = c.start_of-start.ensures ∙ ap (field_start c.args.packed c.parts.end) align in
     let there = ap (λ (x : Target). x.offset) c.further.ensures in
     let long = ap size (shape_is a item.ty) in
     let most = c.requires.ends in
@@ -244,7 +244,7 @@ put_constants-parts-preserved t c =
     c.layout_of-layout.result c.layout_of-layout.ensures in
     let long = its_size a c.types_of-types.result.now c.types_of-types.ensures c.args.packed c.args.parts.now c.parts.part-index c.parts.end _ item c.parts-test.true c.part-item.is c.parts.invariant.laid c.parts.invariant.end
     c.layout_of-layout.result c.layout_of-layout.ensures in
-    let start = c.start_of-start.ensures ∙ ap (placed c.args.packed c.parts.end) align in
+    let start = c.start_of-start.ensures ∙ ap (field_start c.args.packed c.parts.end) align in
     let others = constants_with_types a (drop (c.parts.part-index + 1) c.args.parts.now) in
     let stored = subst (λ (x : Target). put x.block (value_at (names_of a) (tree a.table item.ty) (constant_of a item.value) x.offset) c.parts.memory ≡ Ok c.put_constant.new.memory) c.further.ensures c.in_ok-put_constant.ensures.put in
     record {
@@ -279,7 +279,7 @@ put_constants-returns-in_err-put_constant-clause-put t c =
     let n = next a c.types_of-types.result.now c.types_of-types.ensures c.args.packed c.args.parts.now c.parts.part-index c.parts.end _ item c.parts-test.true c.part-item.is c.parts.invariant.laid c.parts.invariant.end in
     let align = its_align a c.types_of-types.result.now c.types_of-types.ensures c.args.packed c.args.parts.now c.parts.part-index c.parts.end _ item c.parts-test.true c.part-item.is c.parts.invariant.laid c.parts.invariant.end
     c.layout_of-layout.result c.layout_of-layout.ensures in
-    let start = c.start_of-start.ensures ∙ ap (placed c.args.packed c.parts.end) align in
+    let start = c.start_of-start.ensures ∙ ap (field_start c.args.packed c.parts.end) align in
     let others = constants_with_types a (drop (c.parts.part-index + 1) c.args.parts.now) in
     let its : ℕ → Contents = value_at (names_of a) (tree a.table item.ty) (constant_of a item.value) in
     let all = put c.args.target.block (parts_at (names_of a) c.args.packed at 0 (constants_with_types a c.args.parts.now)) c.args.memory.now in

@@ -3,8 +3,8 @@ use Rattle.ir_eval.specs.declared.value.Scalar.{Scalar}
 use Rattle.type_table.specs.Types.{tree}
 use Rattle.module_arena.specs.View.{module_of}
 use Rattle.run_constants.specs.Sound.{constant_of, names_of}
-use Rattle.run_constants.proofs.OneLeaf as leaves
-use Rattle.run_constants.proofs.OneLeaf.{single_scalar}
+use Rattle.run_constants.proofs.LeafKinds as leaves
+use Rattle.run_constants.proofs.LeafKinds.{single_scalar}
 use Rattle.run_rules.specs.Constant.{constant_value, one_leaf}
 use Rattle.typed_runs.proofs.Leaves.{leaf_more}
 use Rattle.typed_runs.specs.Kinds.{IsOf}

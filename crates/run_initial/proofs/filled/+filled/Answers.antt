@@ -3,7 +3,7 @@ use Rattle.std.proofs.lemmas.Option.{slice_get-get_or}
 use Rattle.ir_memory.specs.declared.leaf.Leaf.TheVariants as leaf
 use Rattle.ir_memory.specs.Given.{IsBlock}
 use Rattle.run_rules.specs.Leaves.{field_slots, repeated, slots_at}
-use Rattle.type_table.specs.Layout.{end_after, has_layout, placed, size}
+use Rattle.type_table.specs.Layout.{end_after, has_layout, field_start, size}
 use Rattle.type_table.specs.declared.layout.Layout.{Layout}
 use Rattle.type_table.specs.Outline.{type_nesting}
 use Rattle.type_table.specs.Shape.{Shape}
@@ -144,7 +144,7 @@ put_filled_fields-start_of-start-requires-clause-room t c =
     let rest = shapes_in types (drop (c.fields.field-index + 1) c.args.fields.now) in
     let from = fields_from types c.args.fields.now c.fields.field-index c.field-item.result c.fields-test.true c.field-item.is in
     let ends = field_ends c.args.packed s rest _ c.fields.end _ c.fields.invariant.end from in
-    let same = ap (λ (l : Layout). placed c.args.packed c.fields.end l.align) c.layout_of-layout.ensures in
+    let same = ap (λ (l : Layout). field_start c.args.packed c.fields.end l.align) c.layout_of-layout.ensures in
     let room = c.requires.ends in
     omega (arith, ends, same, room)
 
@@ -154,7 +154,7 @@ put_filled_fields-further-requires t c =
     let rest = shapes_in types (drop (c.fields.field-index + 1) c.args.fields.now) in
     let from = fields_from types c.args.fields.now c.fields.field-index c.field-item.result c.fields-test.true c.field-item.is in
     let ends = field_ends c.args.packed (shape_in types c.field-item.result) rest _ c.fields.end _ c.fields.invariant.end from in
-    let start = c.start_of-start.ensures ∙ ap (λ (l : Layout). placed c.args.packed c.fields.end l.align) c.layout_of-layout.ensures in
+    let start = c.start_of-start.ensures ∙ ap (λ (l : Layout). field_start c.args.packed c.fields.end l.align) c.layout_of-layout.ensures in
     let room = c.requires.ends in
     omega (arith, ends, start, room)
 
@@ -164,7 +164,7 @@ put_filled_fields-overflow_add-end t c =
     let rest = shapes_in types (drop (c.fields.field-index + 1) c.args.fields.now) in
     let from = fields_from types c.args.fields.now c.fields.field-index c.field-item.result c.fields-test.true c.field-item.is in
     let ends = field_ends c.args.packed (shape_in types c.field-item.result) rest _ c.fields.end _ c.fields.invariant.end from in
-    let start = c.start_of-start.ensures ∙ ap (λ (l : Layout). placed c.args.packed c.fields.end l.align) c.layout_of-layout.ensures in
+    let start = c.start_of-start.ensures ∙ ap (λ (l : Layout). field_start c.args.packed c.fields.end l.align) c.layout_of-layout.ensures in
     let long = ap (λ (l : Layout). l.size) c.layout_of-layout.ensures in
     let room = c.requires.ends in
     omega (arith, ends, start, long, room)
@@ -176,7 +176,7 @@ put_filled_fields-put_filled-requires t c =
     let rest = shapes_in types (drop (c.fields.field-index + 1) c.args.fields.now) in
     let from = fields_from types c.args.fields.now c.fields.field-index c.field-item.result c.fields-test.true c.field-item.is in
     let ends = field_ends c.args.packed s rest _ c.fields.end _ c.fields.invariant.end from in
-    let start = c.start_of-start.ensures ∙ ap (λ (l : Layout). placed c.args.packed c.fields.end l.align) c.layout_of-layout.ensures in
+    let start = c.start_of-start.ensures ∙ ap (λ (l : Layout). field_start c.args.packed c.fields.end l.align) c.layout_of-layout.ensures in
     let there = ap (λ (x : Target). x.offset) c.further.ensures in
     let room = c.requires.ends in
     let deep = nests_within types c.args.fields.now c.fields.field-index c.field-item.result c.fields-test.true in
@@ -206,7 +206,7 @@ put_filled_fields-fields-preserved t c =
     let s = shape_in types c.field-item.result in
     let rest = shapes_in types (drop (c.fields.field-index + 1) c.args.fields.now) in
     let from = fields_from types c.args.fields.now c.fields.field-index c.field-item.result c.fields-test.true c.field-item.is in
-    let start = c.start_of-start.ensures ∙ ap (λ (l : Layout). placed c.args.packed c.fields.end l.align) c.layout_of-layout.ensures in
+    let start = c.start_of-start.ensures ∙ ap (λ (l : Layout). field_start c.args.packed c.fields.end l.align) c.layout_of-layout.ensures in
     let long : c.start_of-start.result + c.layout_of-layout.result.size ≡ c.start_of-start.result + size s = ap (λ (l : Layout). c.start_of-start.result + l.size) c.layout_of-layout.ensures in
     let stored = subst (λ (x : Target). put x.block (filled c.args.fill (slots_at s x.offset)) c.fields.memory ≡ Ok c.put_filled.new.memory) c.further.ensures c.in_ok-put_filled.ensures.put in
     record {
@@ -231,7 +231,7 @@ put_filled_fields-returns-in_err-put_filled-clause-put t c =
     let s = shape_in types c.field-item.result in
     let rest = shapes_in types (drop (c.fields.field-index + 1) c.args.fields.now) in
     let from = fields_from types c.args.fields.now c.fields.field-index c.field-item.result c.fields-test.true c.field-item.is in
-    let start = c.start_of-start.ensures ∙ ap (λ (l : Layout). placed c.args.packed c.fields.end l.align) c.layout_of-layout.ensures in
+    let start = c.start_of-start.ensures ∙ ap (λ (l : Layout). field_start c.args.packed c.fields.end l.align) c.layout_of-layout.ensures in
     let all = put p (filled c.args.fill (field_slots (shapes_in types c.args.fields.now) c.args.packed at 0)) c.args.memory.now in
     refused_on all (put c.further.result.block (filled c.args.fill (slots_at s c.further.result.offset)) m) c.put_filled.new.memory c.put_filled.new.memory c.from_residual.result _ c.from_residual.ensures.0 c.from_residual.ensures.1 c.in_err-put_filled.ensures.put
     (λ kind e.

@@ -3,7 +3,7 @@ use Rattle.std.specs.Prelude.{option_and_then}
 use Rattle.type_table.specs.declared.layout.Layout.{Layout}
 use Rattle.type_table.specs.Layout.{layout, leaves}
 use Rattle.type_table.specs.Types.{Types, shape}
-use Rattle.run_constants.proofs.OneLeaf.{shape_is}
+use Rattle.run_constants.proofs.LeafKinds.{shape_is}
 use Rattle.run_shapes.proofs.Outlines.{layout_is}
 use Rattle.run_program.proofs.Counted.{no_leaves}
 use Rattle.run_program.proofs.leaves.leaves_of.Goals as goal

@@ -5,7 +5,7 @@ use Rattle.type_table.specs.Layout.{leaves}
 use Rattle.type_table.specs.Shape.{Shape}
 use Rattle.type_table.specs.Types.{Types, structs, tree}
 use Rattle.type_table.specs.declared.layout.Layout.{Layout}
-use Rattle.run_constants.proofs.OneLeaf.{shape_is}
+use Rattle.run_constants.proofs.LeafKinds.{shape_is}
 use Rattle.run_shapes.specs.Shapes.{HasPath, shape_in}
 use Rattle.run_program.proofs.Counted.{passable_few, passable_laid}
 use Rattle.run_program.proofs.leaves.leaves_of_part.Goals as goal

@@ -5,8 +5,8 @@ use Rattle.type_table.specs.declared.ir_type.IrType.TheVariants.{Void}
 use Rattle.type_table.specs.Outline.{parts_of}
 use Rattle.type_table.specs.Types.{Knows, bodies}
 use Rattle.type_table.proofs.Outlined.{type_known}
-use Rattle.run_shapes.specs.declared.form.Form.{Form}
-use Rattle.run_shapes.specs.declared.form.Form.TheVariants as form
+use Rattle.run_shapes.specs.declared.form.TypeForm.{TypeForm}
+use Rattle.run_shapes.specs.declared.form.TypeForm.TheVariants as form
 use Rattle.run_shapes.specs.Shapes.{HasCount, IsMade, body_form, shape_in, shapes_in}
 use Rattle.run_shapes.proofs.Outlines.{body_here, count_here, form_here, parts_here}
 use Rattle.run_shapes.proofs.form.form_of.Goals as goal
@@ -54,12 +54,12 @@ returns-in-Named-clause-shape c =
     let t = c.args.types.now in
     let e = c.get.ensures ∙ ap Some c.in-Named.is in
     let is = ap body_form (body_here t c.type_count-count.ensures.good c.type_count-count.ensures.within c.in-Named.id _ c.struct_body.ensures) ∙ sym c.form_of_body.ensures in
-    subst (λ (f : Form). IsMade f (shapes_in t (parts_of t c.args.ty)) (shape_in t c.args.ty)) is
+    subst (λ (f : TypeForm). IsMade f (shapes_in t (parts_of t c.args.ty)) (shape_in t c.args.ty)) is
     (subst (λ (l : List ℕ). IsMade (body_form (get_or (bodies t) c.in-Named.id None)) (shapes_in t l) (shape_in t c.args.ty)) (parts_here t c.type_count-count.ensures.good c.type_count-count.ensures.within c.args.ty _ e) (form_here t c.type_count-count.ensures.good c.type_count-count.ensures.within c.args.ty _ e))
 
 pub returns-in-Named-clause-count : goal.returns-in-Named-clause-count
 returns-in-Named-clause-count c =
     let t = c.args.types.now in
-    subst (λ (f : Form). HasCount f (length (parts_of t c.args.ty)))
+    subst (λ (f : TypeForm). HasCount f (length (parts_of t c.args.ty)))
     (ap body_form (body_here t c.type_count-count.ensures.good c.type_count-count.ensures.within c.in-Named.id _ c.struct_body.ensures) ∙ sym c.form_of_body.ensures)
     (count_here t c.type_count-count.ensures.good c.type_count-count.ensures.within c.args.ty _ (c.get.ensures ∙ ap Some c.in-Named.is))

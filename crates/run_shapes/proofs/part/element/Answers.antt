@@ -2,7 +2,7 @@ use Rattle.std.proofs.Common.{◌≡◌, ◌<◌, ℕ, List, Option, length, ap,
 use Rattle.std.specs.Option.{option_map_or}
 use Rattle.run_rules.specs.Leaves as leaves
 use Rattle.type_table.specs.Shape.{Shape, array_of, struct_of, void_leaf}
-use Rattle.run_shapes.specs.declared.form.Form.TheVariants as form
+use Rattle.run_shapes.specs.declared.form.TypeForm.TheVariants as form
 use Rattle.run_shapes.specs.Shapes.{first_shape, made, shape_in, shapes_in}
 use Rattle.run_shapes.proofs.Outlines.{array_laid, array_part, found_all, found_laid, struct_laid, struct_part}
 use Rattle.run_shapes.proofs.part.element.Goals as goal

@@ -1,7 +1,7 @@
 use Rattle.std.proofs.Common.{◌≡◌, ◌<◌, ℕ, List, length, ap, sym, ◌∙◌}
 use Rattle.std.specs.Option.{option_map}
 use Rattle.type_table.specs.Shape.{array_of}
-use Rattle.run_shapes.specs.declared.form.Form.TheVariants as form
+use Rattle.run_shapes.specs.declared.form.TypeForm.TheVariants as form
 use Rattle.run_shapes.specs.Shapes.{elements_of, first_shape, made, shape_in, shapes_in}
 use Rattle.run_shapes.proofs.Outlines.{array_elements, array_laid, found_all, found_laid}
 use Rattle.run_shapes.proofs.part.elements.Goals as goal

@@ -1,7 +1,7 @@
 use Rattle.std.proofs.Common.{◌≡◌, ℕ, ◌+◌, ◌*◌, ◌^◌, ◌<◌, ◌≤◌, ◌++◌, List, [], ◌∷◌, Some, length, drop, ap, sym, ◌∙◌, subst, arith}
 use Rattle.std.proofs.lemmas.Option.{slice_get-get_or}
 use Rattle.run_rules.specs.Leaves.{Slot, field_slots, slots_at}
-use Rattle.type_table.specs.Layout.{end_after, has_layout, placed, size}
+use Rattle.type_table.specs.Layout.{end_after, has_layout, field_start, size}
 use Rattle.type_table.specs.declared.layout.Layout.{Layout}
 use Rattle.type_table.specs.Outline.{type_nesting}
 use Rattle.type_table.specs.Shape.{Shape, Shapes}
@@ -115,7 +115,7 @@ push_fields-start_of-start-requires t c =
     let rest = shapes_in types (drop (c.fields.field-index + 1) c.args.fields.now) in
     let from = fields_from types c.args.fields.now c.fields.field-index c.field-item.result c.fields-test.true c.field-item.is in
     let ends = field_ends c.args.packed s rest _ c.fields.end _ c.fields.invariant.end from in
-    let same = ap (λ (l : Layout). placed c.args.packed c.fields.end l.align) c.layout_of-layout.ensures in
+    let same = ap (λ (l : Layout). field_start c.args.packed c.fields.end l.align) c.layout_of-layout.ensures in
     let room = c.requires.ends in
     record {
       some = subst (λ (n : ℕ). 1 ≤ n) (sym (ap (λ (l : Layout). l.align) c.layout_of-layout.ensures)) (align-positive s);
@@ -128,7 +128,7 @@ push_fields-overflow_add-at t c =
     let rest = shapes_in types (drop (c.fields.field-index + 1) c.args.fields.now) in
     let from = fields_from types c.args.fields.now c.fields.field-index c.field-item.result c.fields-test.true c.field-item.is in
     let ends = field_ends c.args.packed (shape_in types c.field-item.result) rest _ c.fields.end _ c.fields.invariant.end from in
-    let start = c.start_of-start.ensures ∙ ap (λ (l : Layout). placed c.args.packed c.fields.end l.align) c.layout_of-layout.ensures in
+    let start = c.start_of-start.ensures ∙ ap (λ (l : Layout). field_start c.args.packed c.fields.end l.align) c.layout_of-layout.ensures in
     let room = c.requires.ends in
     omega (arith, ends, start, room)
 
@@ -138,7 +138,7 @@ push_fields-overflow_add-end t c =
     let rest = shapes_in types (drop (c.fields.field-index + 1) c.args.fields.now) in
     let from = fields_from types c.args.fields.now c.fields.field-index c.field-item.result c.fields-test.true c.field-item.is in
     let ends = field_ends c.args.packed (shape_in types c.field-item.result) rest _ c.fields.end _ c.fields.invariant.end from in
-    let start = c.start_of-start.ensures ∙ ap (λ (l : Layout). placed c.args.packed c.fields.end l.align) c.layout_of-layout.ensures in
+    let start = c.start_of-start.ensures ∙ ap (λ (l : Layout). field_start c.args.packed c.fields.end l.align) c.layout_of-layout.ensures in
     let long = ap (λ (l : Layout). l.size) c.layout_of-layout.ensures in
     let room = c.requires.ends in
     omega (arith, ends, start, long, room)
@@ -150,7 +150,7 @@ push_fields-push_slots-requires t c =
     let rest = shapes_in types (drop (c.fields.field-index + 1) c.args.fields.now) in
     let from = fields_from types c.args.fields.now c.fields.field-index c.field-item.result c.fields-test.true c.field-item.is in
     let ends = field_ends c.args.packed s rest _ c.fields.end _ c.fields.invariant.end from in
-    let start = c.start_of-start.ensures ∙ ap (λ (l : Layout). placed c.args.packed c.fields.end l.align) c.layout_of-layout.ensures in
+    let start = c.start_of-start.ensures ∙ ap (λ (l : Layout). field_start c.args.packed c.fields.end l.align) c.layout_of-layout.ensures in
     let room = c.requires.ends in
     let deep = nests_within types c.args.fields.now c.fields.field-index c.field-item.result c.fields-test.true in
     let here = ap (type_nesting types) c.field-item.is in
@@ -165,7 +165,7 @@ push_fields-fields-preserved t c =
     let s = shape_in types c.field-item.result in
     let rest = shapes_in types (drop (c.fields.field-index + 1) c.args.fields.now) in
     let from = fields_from types c.args.fields.now c.fields.field-index c.field-item.result c.fields-test.true c.field-item.is in
-    let start = c.start_of-start.ensures ∙ ap (λ (l : Layout). placed c.args.packed c.fields.end l.align) c.layout_of-layout.ensures in
+    let start = c.start_of-start.ensures ∙ ap (λ (l : Layout). field_start c.args.packed c.fields.end l.align) c.layout_of-layout.ensures in
     let end : c.start_of-start.result + c.layout_of-layout.result.size ≡ c.start_of-start.result + size s = ap (λ (l : Layout). c.start_of-start.result + l.size) c.layout_of-layout.ensures in
     record {
       slots =

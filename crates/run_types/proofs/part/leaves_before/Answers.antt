@@ -2,7 +2,7 @@ use Rattle.std.proofs.Common.{◌≡◌, ◌<◌, ℕ, List, Some, length, take,
 use Rattle.run_rules.specs.Leaves as leaves
 use Rattle.type_table.specs.Layout as layouts
 use Rattle.type_table.specs.Shape.{Shape, array_of, struct_of}
-use Rattle.run_shapes.specs.declared.form.Form.TheVariants as form
+use Rattle.run_shapes.specs.declared.form.TypeForm.TheVariants as form
 use Rattle.run_shapes.specs.Shapes.{HasElement, field_count, first_shape, made, shape_in, shapes_in}
 use Rattle.run_shapes.proofs.Counted.{before_is, count_is, elements_before, front_laid, leaves_within, part_within}
 use Rattle.run_shapes.proofs.Outlines.{array_laid, found_all, is_laid, laid_is, only_is}

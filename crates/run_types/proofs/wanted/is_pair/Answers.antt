@@ -1,6 +1,6 @@
 use Rattle.std.proofs.Common.{◌&&◌, ℕ, List, sym, ◌∙◌, subst}
 use Rattle.type_table.specs.Outline.{parts_of}
-use Rattle.run_shapes.specs.declared.form.Form.TheVariants as form
+use Rattle.run_shapes.specs.declared.form.TypeForm.TheVariants as form
 use Rattle.run_shapes.specs.Shapes.{IsMade, shape_in, shapes_in}
 use Rattle.run_types.proofs.Asked.{no_pair, other_pair, packed_pair, pair_is}
 use Rattle.run_types.proofs.wanted.is_pair.Goals as goal

@@ -1,7 +1,7 @@
 use Rattle.std.proofs.Common.{inl, inr, [], ◌∷◌, length, drop, refl, ap, ◌∙◌, arith, length-append}
 use Rattle.std.proofs.lemmas.Result.{err_from_is_err_and}
 use Rattle.ir_base.specs.Outside.{Rose}
-use Rattle.tool_cli.proofs.Turns.{Unread, onto_none, refused_one, over_one, told_refused, told_over, told_on, told_at_end, stdin_on, stdin_at_end, unread_on, unread_so_far, lost_by, lost_so_far}
+use Rattle.tool_cli.proofs.InputsInOrder.{Unread, onto_none, refused_one, over_one, told_refused, told_over, told_on, told_at_end, stdin_on, stdin_at_end, unread_on, unread_so_far, lost_by, lost_so_far}
 use Rattle.tool_cli.specs.declared.inputs.TheConstants.{LARGEST_TOGETHER}
 use Rattle.tool_cli.proofs.Judging.{short_more}
 use Rattle.tool_cli.proofs.Front.{due_on, front_over, front_refused, none_due, turn_kept}

@@ -3,7 +3,7 @@ use Rattle.ir_base.specs.Files.{Named}
 use Rattle.tool_cli.specs.Inputs.{TellsAll}
 use Rattle.tool_cli.specs.Judged.{AreShort}
 use Rattle.tool_cli.specs.Order.{has_file}
-use Rattle.tool_cli.proofs.Turns.{Stdin, GoesOn}
+use Rattle.tool_cli.proofs.InputsInOrder.{Stdin, GoesOn}
 use Rattle.tool_cli.proofs.Front.{IsDue}
 use Rattle.tool_cli.proofs.Order.{Untouched}
 use Rattle.tool_cli.proofs.inputs.read_inputs.Given as goal

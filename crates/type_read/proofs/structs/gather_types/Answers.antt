@@ -1,5 +1,5 @@
 use Rattle.std.proofs.Common.{None, refl, ◌∙◌}
-use Rattle.record_read.specs.declared.entry.Entry.TheVariants.{Block, Record, End}
+use Rattle.record_read.specs.declared.entry.NextEntry.TheVariants.{Block, Record, End}
 use Rattle.type_read.proofs.GatheredAhead.{gone, gathers_none, passed, gathered_one, gathers_all}
 use Rattle.type_read.proofs.structs.gather_types.Goals as goal
 

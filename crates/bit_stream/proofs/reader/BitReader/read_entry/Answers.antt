@@ -1,6 +1,6 @@
 use Rattle.std.proofs.Common.{ap, refl, ◌∙◌}
 use Rattle.std.proofs.lemmas.Result.{err_from_is_err_and}
-use Rattle.bit_stream.specs.declared.told.Told.{Told}
+use Rattle.bit_stream.specs.declared.told.LastSeen.{LastSeen}
 use Rattle.bit_stream.specs.Entry.{start, more, id_at, has_blob_by}
 use Rattle.bit_stream.specs.Reader.{Reader, told_of}
 use Rattle.bit_stream.proofs.Progress.{fewer_left}
@@ -31,7 +31,7 @@ returns-in-Some c =
     let s = c.loop-item.self-inside.scope in
     let d = c.loop-item.self-inside.cursor in
     let there = told_there c.loop-item.self-inside.told c.in-Some.entry c.next_item.new.scope s d c.in_ok-item.item.id c.in_ok-item.item.has_blob told in
-    let before = ap (λ (t : Told). told_of t c.in-Some.entry c.next_item.new.scope (id_at s d) (has_blob_by s (id_at s d))) c.loop-item.invariant.told in
+    let before = ap (λ (t : LastSeen). told_of t c.in-Some.entry c.next_item.new.scope (id_at s d) (has_blob_by s (id_at s d))) c.loop-item.invariant.told in
     record {
       reached = rw (← c.self.view_is) (
         c.loop-item.invariant.running,

@@ -3,7 +3,7 @@ use Rattle.module_arena.specs.EntryRules.{takes_no_intrinsic}
 use Rattle.module_arena.specs.Lists.{Lists}
 use Rattle.module_arena.specs.View.{constant_at, constants_of, module_of}
 use Rattle.constant_verify.specs.declared.constants.ConstFact.{ConstFact}
-use Rattle.constant_verify.proofs.FactsTold.{any_type, fact_here}
+use Rattle.constant_verify.proofs.ConstantsKnown.{any_type, fact_here}
 use Rattle.constant_verify.proofs.judge.Judge.takes_no_intrinsic.Goals as goal
 
 pub returns : goal.returns

@@ -4,7 +4,7 @@ use Rattle.module_arena.specs.EntryRules.{constant_types_suit}
 use Rattle.module_arena.specs.Lists.{Lists}
 use Rattle.module_arena.specs.View.{constant_at, constants_of, module_of}
 use Rattle.constant_verify.specs.declared.constants.ConstFact.{ConstFact}
-use Rattle.constant_verify.proofs.FactsTold.{any_written, fact_here, own_structs}
+use Rattle.constant_verify.proofs.ConstantsKnown.{any_written, fact_here, own_structs}
 use Rattle.constant_verify.proofs.judge.Judge.types_suit.Goals as goal
 
 pub returns : goal.returns

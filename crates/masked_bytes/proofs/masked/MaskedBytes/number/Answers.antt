@@ -1,6 +1,6 @@
 use Rattle.std.proofs.Common.{◌+◌, sym, ap, ◌∙◌, length, arith, Some}
 use Rattle.std.specs.Prelude.{slice_range}
-use Rattle.masked_bytes.specs.Masked.{spelled}
+use Rattle.masked_bytes.specs.Masked.{number_of_bytes}
 use Rattle.masked_bytes.proofs.Puts.{length-masked, number-some, number-none}
 use Rattle.masked_bytes.proofs.masked.MaskedBytes.number.Goals as goal
 
@@ -29,4 +29,4 @@ returns-then-has_any-clause-value c =
 pub returns-clause-value : goal.returns-clause-value
 returns-clause-value c =
     let long = sym (length-masked _ _) ∙ ap length c.self.view_is in
-    rw (← c.self.view_is) (ap Some (c.spelled.ensures.value ∙ ap (λ bs. spelled (slice_range bs c.args.at (c.args.at + c.args.count))) c.deref.ensures.value) ∙ sym (number-some _ c.self.inside.bytes.items c.args.at c.args.count (omega (arith, long, c.requires.within)) (c.has_any.ensures.none c.if-has_any.false)))
+    rw (← c.self.view_is) (ap Some (c.spelled.ensures.value ∙ ap (λ bs. number_of_bytes (slice_range bs c.args.at (c.args.at + c.args.count))) c.deref.ensures.value) ∙ sym (number-some _ c.self.inside.bytes.items c.args.at c.args.count (omega (arith, long, c.requires.within)) (c.has_any.ensures.none c.if-has_any.false)))

@@ -2,7 +2,7 @@ use Rattle.std.proofs.Common.{◌+◌, ◌-◌, ◌∙◌, Option, ap}
 use Rattle.std.specs.Prelude.{if◌then◌else◌}
 use Rattle.std.specs.Ordering.{nat_cmp}
 use Rattle.std.specs.BTreeMap as tree
-use Rattle.pointer_pieces.specs.declared.piece.Piece.{Piece}
+use Rattle.pointer_pieces.specs.declared.piece.PointerPiece.{PointerPiece}
 use Rattle.pointer_pieces.specs.Pieces.{at_slots, is_within}
 use Rattle.pointer_pieces.proofs.Seen.{twice}
 use Rattle.pointer_pieces.proofs.pieces.Pieces.copy.Goals as goal
@@ -14,6 +14,6 @@ returns-clause-copied c = λ q.
     let old = at_slots (tree.get nat_cmp a.self.now.slots) in
     let mid = at_slots (tree.get nat_cmp c.make_room.new.slots) q in
     c.write_all.ensures q
-    ∙ ap (λ (x : Option Piece). if here then x else mid) (c.in_ok-found.ensures q)
+    ∙ ap (λ (x : Option PointerPiece). if here then x else mid) (c.in_ok-found.ensures q)
     ∙ twice here (old (a.from + (q - a.to))) mid
-    ∙ ap (λ (x : Option Piece). if here then old (a.from + (q - a.to)) else x) (c.make_room.ensures.same q)
+    ∙ ap (λ (x : Option PointerPiece). if here then old (a.from + (q - a.to)) else x) (c.make_room.ensures.same q)

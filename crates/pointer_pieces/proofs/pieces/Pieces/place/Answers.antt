@@ -2,7 +2,7 @@ use Rattle.std.proofs.Common.{◌+◌, ◌-◌, ◌/◌, ◌∙◌, Option, Some
 use Rattle.std.specs.Prelude.{if◌then◌else◌}
 use Rattle.std.specs.Ordering.{nat_cmp}
 use Rattle.std.specs.BTreeMap as tree
-use Rattle.pointer_pieces.specs.declared.piece.Piece.{Piece}
+use Rattle.pointer_pieces.specs.declared.piece.PointerPiece.{PointerPiece}
 use Rattle.pointer_pieces.specs.Pieces.{at_slots, is_within}
 use Rattle.pointer_pieces.proofs.Seen.{chosen, passed, twice, whole_placed}
 use Rattle.pointer_pieces.proofs.pieces.Pieces.place.Goals as goal
@@ -19,9 +19,9 @@ pub returns-clause-placed : goal.returns-clause-placed
 returns-clause-placed c = λ q.
     let a = c.args in
     let here = is_within a.at (a.at + 8) q in
-    let piece : Option Piece = Some (record { pointer = a.pointer; place = q - a.at }) in
+    let piece : Option PointerPiece = Some (record { pointer = a.pointer; place = q - a.at }) in
     let mid = at_slots (tree.get nat_cmp c.make_room.new.slots) q in
     c.write_all.ensures q
-    ∙ ap (λ (x : Option Piece). if here then x else mid) (c.in_ok-found.ensures q)
+    ∙ ap (λ (x : Option PointerPiece). if here then x else mid) (c.in_ok-found.ensures q)
     ∙ twice here piece mid
-    ∙ ap (λ (x : Option Piece). if here then piece else x) (c.make_room.ensures.same q)
+    ∙ ap (λ (x : Option PointerPiece). if here then piece else x) (c.make_room.ensures.same q)

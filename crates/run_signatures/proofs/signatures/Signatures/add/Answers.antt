@@ -1,5 +1,5 @@
 use Rattle.std.proofs.Common.{List, map, subst, sym}
-use Rattle.run_signatures.specs.declared.written.Written.{Written}
+use Rattle.run_signatures.specs.declared.written.WrittenSignature.{WrittenSignature}
 use Rattle.run_signatures.specs.Met.{AreMet, type_in}
 use Rattle.run_signatures.specs.Numbers.{Numbers}
 use Rattle.run_signatures.proofs.Kept.{met_kept, met_with, number_more, numbers_more, numbers_same}
@@ -13,13 +13,13 @@ returns-in_err-parameters-clause-numbers c =
 pub invariant_of-self-in_err-number : goal.invariant_of-self-in_err-number
 invariant_of-self-in_err-number c =
     let s = c.self.inside in
-    subst (λ (us : List Written). AreMet s.program.now c.append.new.self us) (sym c.in_err-number.ensures.err)
+    subst (λ (us : List WrittenSignature). AreMet s.program.now c.append.new.self us) (sym c.in_err-number.ensures.err)
     (met_kept s.program.now s.parameters c.append.new.self c.append.ensures.kept s.written c.self.invariant)
 
 pub returns-in_err-number-clause-numbers : goal.returns-in_err-number-clause-numbers
 returns-in_err-number-clause-numbers c =
     let s = c.self.inside in
-    subst (λ (us : List Written). Numbers c.args.self.now (record { lists = s.program.now; types = map (type_in c.append.new.self) us })) (sym c.in_err-number.ensures.err)
+    subst (λ (us : List WrittenSignature). Numbers c.args.self.now (record { lists = s.program.now; types = map (type_in c.append.new.self) us })) (sym c.in_err-number.ensures.err)
     (numbers_same c.args.self.now s.program.now s.parameters s.written c.self.view_is c.self.invariant c.append.new.self c.append.ensures.kept)
 
 pub invariant_of-self-2 : goal.invariant_of-self-2

@@ -1,7 +1,7 @@
 use Rattle.std.proofs.Common.{◌≡◌, ap, sym, subst, ◌∙◌, arith, ℕ, List, length, ◌<◌, true}
 use Rattle.std.proofs.lemmas.List.{length-map}
 use Rattle.std.specs.Borrow.{Bor}
-use Rattle.ir_syntax.specs.declared.item.StructBody.{StructBody}
+use Rattle.ir_syntax.specs.declared.item.WrittenBody.{WrittenBody}
 use Rattle.ir_syntax.specs.View.{body_view, items_view}
 use Rattle.type_table.specs.Tree.{TreeBody}
 use Rattle.module_arena.specs.Module.{Bytes}
@@ -14,8 +14,8 @@ use Rattle.struct_order.proofs.Settled.{all_found}
 use Rattle.struct_order.proofs.measures.StructMeasures.of_items.Goals as goal
 
 -- there are as many bodies as structs
-same_count : (bodies : List (Bor StructBody)) (structs : List (Bytes × TreeBody)) → bodies_in bodies ≡ bodies_of structs → length bodies ≡ length structs
-same_count bodies structs e = sym (length-map bodies (λ (b : Bor StructBody). body_in (body_view b.now))) ∙ ap length e ∙ length-map structs (λ (s : Bytes × TreeBody). s.1)
+same_count : (bodies : List (Bor WrittenBody)) (structs : List (Bytes × TreeBody)) → bodies_in bodies ≡ bodies_of structs → length bodies ≡ length structs
+same_count bodies structs e = sym (length-map bodies (λ (b : Bor WrittenBody). body_in (body_view b.now))) ∙ ap length e ∙ length-map structs (λ (s : Bytes × TreeBody). s.1)
 
 pub measure_along-requires : goal.measure_along-requires
 measure_along-requires c number here =
