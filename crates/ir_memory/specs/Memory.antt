@@ -28,6 +28,10 @@ first_address = FIRST_ADDRESS
 abbrev pub no_blocks : Blocks
 no_blocks = record { list = []; next = first_address; sealed = false }
 
+-- so many addresses are free that a block can be placed at the next one
+abbrev pub HasFreeAddresses : Blocks → Type 0
+HasFreeAddresses m = m.next ≤ 2 ^ 61
+
 -- how many bytes live blocks may have together
 abbrev pub byte_limit : ℕ
 byte_limit = BYTE_LIMIT

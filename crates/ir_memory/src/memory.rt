@@ -1,7 +1,7 @@
 //! All blocks of a run.
 ghost use Rattle.std.specs.Prelude.{◌≡◌, ◌≢◌, ℕ, ◌+◌, ◌<◌, ◌≤◌, ◌^◌, ◌↔◌, IfOk, IfSome, OnOk, OnErr, length, true, IsOk, slice_index_or, slice_set, Some, Ok, Err};
 ghost use Rattle.ir_memory.specs.Memory as of;
-ghost use Rattle.ir_memory.specs.Memory.{live_bytes, round_up};
+ghost use Rattle.ir_memory.specs.Memory.{HasFreeAddresses, live_bytes, round_up};
 ghost use Rattle.ir_memory.specs.Kept.{IsPlaced, AreKnown};
 ghost use Rattle.ir_memory.specs.Block as block;
 ghost use Rattle.ir_memory.specs.Given.{IsKnown, IsAddress, IsAlignment, IsLeaf, Fits, HasKnown, CanEnd};
@@ -105,7 +105,7 @@ impl Memory {
         kind: BlockKind,
     ) -> Result<Pointer, MemoryFault>
         requires align { IsAlignment align }
-        requires next { self.old.next ≤ 2 ^ 61 }
+        requires next { HasFreeAddresses self.old }
         ensures added { OnOk result (self.new ≡ of.added size align kind self.old) }
         ensures pointer { IfOk result (λ p. p ≡ record { block = Some (length self.old.list); address = round_up self.old.next align }) }
         ensures limit { (result ≡ Err MemoryFault.MemoryLimit) ↔ (of.byte_limit < live_bytes self.old.list + size) }
