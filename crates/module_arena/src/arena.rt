@@ -23,6 +23,9 @@ use type_table::{IrType, StructBody, StructId, TypeFault, TypeId, TypeTable};
 /// How many structs, variables, aliases or functions a module has at most.
 pub const COUNT_LIMIT: u32 = 262_144;
 
+/// How many leaves a value that is handed on has at most.
+pub const LEAF_LIMIT: u64 = 65_536;
+
 /// A module: its texts, and its types, constants, variables, aliases and functions under typed ids.
 #[derive(Drop)]
 pub struct Arena {
