@@ -126,7 +126,7 @@ impl Arena {
         }
         let (functions, aliases) = (self.functions.len(), self.aliases.len());
         if let Some((kind, count)) = excess(self.variables.len() + 1, functions, aliases) {
-            return Err(ArenaFault::TooMany(kind, count));
+            return Err(ArenaFault::TooMany { kind, count });
         }
         let name = variable.name.copy(*self.constants.allocator())?;
         let id = VariableId::new(self.variables.len() as u32);
@@ -153,7 +153,7 @@ impl Arena {
         }
         let (variables, aliases) = (self.variables.len(), self.aliases.len());
         if let Some((kind, count)) = excess(variables, self.functions.len() + 1, aliases) {
-            return Err(ArenaFault::TooMany(kind, count));
+            return Err(ArenaFault::TooMany { kind, count });
         }
         let name = function.name.copy(*self.constants.allocator())?;
         let id = FunctionId::new(self.functions.len() as u32);
@@ -180,7 +180,7 @@ impl Arena {
         }
         let (variables, functions) = (self.variables.len(), self.functions.len());
         if let Some((kind, count)) = excess(variables, functions, self.aliases.len() + 1) {
-            return Err(ArenaFault::TooMany(kind, count));
+            return Err(ArenaFault::TooMany { kind, count });
         }
         let name = alias.name.copy(*self.constants.allocator())?;
         let id = AliasId::new(self.aliases.len() as u32);
