@@ -127,7 +127,7 @@ body_row limits = labelled body_shape (body_core limits)
 
 -- ( PARAM,* ) FDROP* MD* { BLOCK+ }
 unfoldable pub defined_core : Limits → Row Located (ParametersTree × List BlockTree)
-defined_core limits = pair (parameters_row limits.wide limits) (body_row limits)
+defined_core limits = pair (parameters_row limits.with_left_out limits) (body_row limits)
 
 -- what stands behind the head of a definition
 abbrev pub defined_row : Limits → Row Located (ParametersTree × List BlockTree)

@@ -68,7 +68,7 @@ items_row limits = many class (item_row limits)
 
 -- the language: types and constants nest no more than 64 deep
 abbrev pub language : Limits
-language = record { nesting = 64; wide = false }
+language = record { nesting = 64; with_left_out = false }
 
 -- these tokens are these items, and no others
 abbrev pub Items : List Located → List ItemTree → Type 0

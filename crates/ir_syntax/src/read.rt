@@ -59,19 +59,19 @@ impl From<AllocError> for SyntaxFault {
 /// The language: types and constants nest no more than 64 deep.
 const LANGUAGE: Limits = Limits {
     nesting: 64,
-    wide: false,
+    with_left_out: false,
 };
 
 /// The language with one nest more, in which what opens at 65 might stand.
 const DEEPER: Limits = Limits {
     nesting: 65,
-    wide: false,
+    with_left_out: false,
 };
 
 /// The language in which unnamed locals name structs, and `...` ends the parameters of a definition.
 const WIDER: Limits = Limits {
     nesting: 64,
-    wide: true,
+    with_left_out: true,
 };
 
 /// Whether the tokens up to and with the one with this number are viable within these limits.
