@@ -1,5 +1,5 @@
 -- For all calls of `Memory`: blocks in the order of their addresses, and what each call does to them.
-use Rattle.std.specs.Prelude.{ℕ, zero, suc, ◌+◌, ◌-◌, ◌*◌, ◌/◌, ◌%◌, Bool, true, false, not, ◌&&◌, nat_eq, nat_lt, List, [], ◌∷◌, ◌++◌, Option, Some, None, Result, Ok, Err, is_none, position, slice_get, slice_range, replicate, if◌then◌else◌}
+use Rattle.std.specs.Prelude.{ℕ, zero, suc, ◌+◌, ◌-◌, ◌*◌, ◌/◌, ◌%◌, ◌^◌, ◌≤◌, Bool, true, false, not, ◌&&◌, nat_eq, nat_lt, List, [], ◌∷◌, ◌++◌, Option, Some, None, Result, Ok, Err, is_none, position, slice_get, slice_range, replicate, if◌then◌else◌}
 use Rattle.ir_eval.specs.declared.value.Pointer.{Pointer}
 use Rattle.ir_eval.specs.declared.value.Scalar.{Scalar}
 use Rattle.ir_eval.specs.declared.value.Scalar.TheVariants.{Int, Ptr, Poison}
