@@ -10,3 +10,4 @@ pub mod Filled
 pub mod Homes
 pub mod Steps
 pub mod Defining
+pub mod Kept

@@ -1,3 +1,4 @@
 pub mod Definitions
 pub mod Elements
 pub mod Filling
+pub mod Origins

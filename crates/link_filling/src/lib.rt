@@ -2,12 +2,12 @@
 //! targets, each where its symbol is defined.
 //!
 //! It stands on the stages of `link_stages`: on entries that are declared, and on constants that the copiers of `entry_copy`
-//! copied. It promises that exactly the linked module is made of them. Definitions: `specs/Definitions`, `specs/Elements` and
-//! `specs/Filling`, `Filled` of `link_stages` and `Linked` of `module_linker`.
+//! copied. It promises that exactly the linked module is made of them. Definitions: `specs/Definitions`, `specs/Elements`,
+//! `specs/Filling` and `specs/Origins`, `Filled` of `link_stages` and `Linked` of `module_linker`.
 //!
 //! ```
 //! // of the parts `declare void @f()` and `define void @f() { ret void }`, with `declare void @f()` in the new arena
-//! define_symbols(&copiers, alloc, parts, &bindings, &mut into, &ids)?; // now it is `define void @f() { ret void }`
+//! define_symbols(&copiers, alloc, parts, bindings, &mut into, &ids)?; // now it is `define void @f() { ret void }`
 //! ```
 #![tactic(auto)]
 
@@ -15,6 +15,7 @@ mod appended;
 mod bodies;
 mod filling;
 mod initialisers;
+mod origins;
 mod sources;
 mod targets;
 

@@ -1,7 +1,9 @@
 -- Names are given as the definition gives them, though they are kept in another order.
 use Rattle.std.proofs.Common.{◌≡◌, ℕ, ◌+◌, cond, ◌||◌, List, [], ◌∷◌, ◌++◌, map, length, drop, Some, refl, sym, ap, ap₂, ◌∙◌, bytes_eq, append-nil, append_assoc}
-use Rattle.std.specs.Prelude.{slice_get}
+use Rattle.std.specs.Prelude.{slice_get, true, false}
+use Rattle.std.specs.List.{list_all}
 use Rattle.module_arena.specs.Module.{Bytes, Module}
+use Rattle.linkage_rules.specs.Entries.{symbol_name}
 use Rattle.linkage_rules.specs.Lists.{has}
 use Rattle.linkage_rules.specs.declared.symbol.Symbol.{Symbol}
 use Rattle.linkage_rules.specs.declared.symbol.Symbol.TheVariants.{Shared, Local}
@@ -9,7 +11,7 @@ use Rattle.linkage_rules.specs.Symbols.{symbols}
 use Rattle.linkage_rules.proofs.Steps.{drop_more, drop_whole}
 use Rattle.module_linker.specs.Rename.{all_names, base_of, with_given_names, new_name, renaming, shared_names}
 use Rattle.module_linker.proofs.Searches.{any_join}
-use Rattle.link_names.specs.Naming.{GivesName, HasMore, Names, SameNames}
+use Rattle.link_names.specs.Naming.{GivesName, HasMore, Names, SameNames, is_shared}
 use Rattle.link_names.proofs.FirstFree.{fresh_same}
 
 -- equal names in front of equal names
@@ -75,3 +77,14 @@ pub named_all : (parts : List Module) (ss : List Symbol) (given : List Bytes) �
 named_all parts ss given is same =
     named_same base_of ss given (shared_names ss) (all_names parts) (all_names parts) same (λ n. refl)
     ∙ ap (λ l. new_ones (with_given_names base_of (all_names parts) (shared_names l) l)) is
+
+-- where all parts share each symbol, each keeps its name
+pub shared_keep : (everywhere given : List Bytes) (ss : List Symbol) → list_all is_shared ss ≡ true → map symbol_name ss ≡ new_ones (with_given_names base_of everywhere given ss)
+shared_keep everywhere given [] all = refl
+shared_keep everywhere given (Shared name ∷ ss) all = ap (λ l. name ∷ l) (shared_keep everywhere given ss all)
+shared_keep everywhere given (Local part name ∷ ss) all = let no : false ≡ true = all in absurd (cc)
+
+-- so do all of some parts
+pub all_shared_keep : (parts : List Module) (ss : List Symbol) → ss ≡ symbols parts → list_all is_shared ss ≡ true → map symbol_name ss ≡ new_ones (renaming parts)
+all_shared_keep parts ss is all =
+    shared_keep (all_names parts) (shared_names ss) ss all ∙ named_all parts ss (shared_names ss) is (λ n. refl)

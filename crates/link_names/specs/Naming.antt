@@ -1,6 +1,6 @@
--- For `avoid`, `give` and `name_for` of `Naming`: names that are given one after another, whatever the order in which
--- they are kept.
-use Rattle.std.specs.Prelude.{◌≡◌, ℕ, ◌<◌, ◌≤◌, true, List, ◌∷◌, ◌++◌, bytes_eq, Some}
+-- For `avoid`, `give` and `name_for` of `Naming`, and how the code reads: names that are given one after another, whatever
+-- the order in which they are kept.
+use Rattle.std.specs.Prelude.{◌≡◌, ℕ, ◌<◌, ◌≤◌, Bool, true, false, List, ◌∷◌, ◌++◌, bytes_eq, Some}
 use Rattle.std.specs.Map.{lookup}
 use Rattle.module_arena.specs.Module.{Bytes}
 use Rattle.linkage_rules.specs.Lists.{has}
@@ -41,3 +41,8 @@ AreHints hints names = (base : Bytes) (number : ℕ) → lookup (bytes_eq base) 
 abbrev pub GivesName : Names → Symbol → Bytes → Names → Type 0
 GivesName before (Shared name) new now = (new ≡ name) × (now ≡ before)
 GivesName before (Local part name) new now = (new ≡ new_name base_of before.avoided before.given name) × HasOneMore before.given new now.given
+
+-- all parts share the symbol
+abbrev pub is_shared : Symbol → Bool
+is_shared (Shared name) = true
+is_shared (Local part name) = false

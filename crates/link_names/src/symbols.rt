@@ -1,10 +1,12 @@
 //! The names of symbols in the module that is made of their parts.
 ghost use Rattle.std.specs.Prelude.{◌≡◌, ◌∷◌, [], map, All, IfOk, OnOk};
+ghost use Rattle.std.specs.List.{list_all};
+ghost use Rattle.linkage_rules.specs.Entries.{symbol_name};
 ghost use Rattle.linkage_rules.specs.Globals.{name_of};
 ghost use Rattle.linkage_rules.specs.Ids.{IsEntryId, modules, seen};
 ghost use Rattle.linkage_rules.specs.Symbols.{symbols as all_symbols};
 ghost use Rattle.module_linker.specs.Rename.{all_names, renaming, shared_names};
-ghost use Rattle.link_names.specs.Naming.{HasMore, GivesName};
+ghost use Rattle.link_names.specs.Naming.{HasMore, GivesName, is_shared};
 
 use crate::Naming;
 use crate::numbered::base_of;
@@ -75,14 +77,8 @@ fn name_symbol(alloc: Global, symbol: &Symbol, naming: &mut Naming) -> Result<Na
     }
 }
 
-/// What the symbols of some parts are called in the module that is made of them, in their order. A name that all parts share
-/// stays. A part's own stays where no other symbol has it; else it gets a dot and the least number from 1 on that makes it a
-/// name of no entry. Only memory may be wanting.
-pub fn new_names(
-    alloc: Global,
-    parts: &[Checked],
-    symbols: &[Symbol],
-) -> Result<NameList, AllocError>
+/// What the symbols of some parts are called, where each of a part's own may have to give way to another.
+fn names_apart(alloc: Global, parts: &[Checked], symbols: &[Symbol]) -> Result<NameList, AllocError>
     requires { symbols.now ≡ all_symbols (modules parts.now) }
     ensures { IfOk result (λ names. names ≡ map (λ row. row.1) (renaming (modules parts.now))) }
 {
@@ -95,4 +91,57 @@ pub fn new_names(
         names.push(name)?;
     }
     Ok(names)
+}
+
+/// Whether all parts share the symbol.
+fn is_shared(symbol: &Symbol) -> bool
+    ensures { result ≡ is_shared symbol.now }
+{
+    match symbol {
+        Symbol::Shared(_) => true,
+        Symbol::Local(_, _) => false,
+    }
+}
+
+/// Whether all parts share each of these symbols.
+fn are_shared(symbols: &[Symbol]) -> bool
+    ensures { result ≡ list_all is_shared symbols.now }
+{
+    for symbol in symbols {
+        if !is_shared(symbol) {
+            return false;
+        }
+    }
+    true
+}
+
+/// The names of some symbols.
+fn own_names(alloc: Global, symbols: &[Symbol]) -> Result<NameList, AllocError>
+    ensures { IfOk result (λ names. names ≡ map symbol_name symbols.now) }
+{
+    let mut names = Vec::with_capacity(alloc, symbols.len())?;
+    for symbol in symbols {
+        let name = symbol.name().copy(alloc)?;
+        names.push(name)?;
+    }
+    Ok(NameList::from_vec(names))
+}
+
+/// What the symbols of some parts are called in the module that is made of them, in their order. A name that all parts share
+/// stays. A part's own stays where no other symbol has it; else it gets a dot and the least number from 1 on that makes it a
+/// name of no entry. Only memory may be wanting.
+pub fn new_names(
+    alloc: Global,
+    parts: &[Checked],
+    symbols: &[Symbol],
+) -> Result<NameList, AllocError>
+    requires { symbols.now ≡ all_symbols (modules parts.now) }
+    ensures { IfOk result (λ names. names ≡ map (λ row. row.1) (renaming (modules parts.now))) }
+{
+    // Where no part has a symbol of its own, no name gives way.
+    if are_shared(symbols) {
+        own_names(alloc, symbols)
+    } else {
+        names_apart(alloc, parts, symbols)
+    }
 }

@@ -41,7 +41,7 @@ fn link_all(alloc: Global, parts: &[Checked]) -> Result<Checked, LinkFault>
     // What is made of parts that have no conflict and pass no count is well formed and valid, and runs as they do.
     linking_keeps_modules();
     linking_is_right();
-    let whole = linked(alloc, parts, &bindings, &rows)?;
+    let whole = linked(alloc, parts, bindings, &rows)?;
     Ok(Checked::seal(whole))
 }
 

@@ -7,11 +7,8 @@ use Rattle.module_link.proofs.making.linked.Goals as goal
 none_known : (ts : List Tables) → All (λ (t : Tables). t ≡ with_types (tables_of t.structs) t.types) ts → All (λ (t : Tables). t.constants ≡ []) ts
 none_known ts h = All-weaker (λ (t : Tables). t ≡ with_types (tables_of t.structs) t.types) (λ (t : Tables). t.constants ≡ []) (λ t e. ap (λ (x : Tables). x.constants) e) ts h
 
-pub new_names-requires : goal.new_names-requires
-new_names-requires c = c.as_slice.ensures ∙ c.symbols.ensures ∙ c.requires.resolved.symbols
-
-pub declare_symbols-requires-clause-types : goal.declare_symbols-requires-clause-types
-declare_symbols-requires-clause-types c = rw c.deref.ensures.value c.in_ok-copiers.ensures.types
+pub declare_entries-requires-clause-types : goal.declare_entries-requires-clause-types
+declare_entries-requires-clause-types c = rw c.deref.ensures.value c.in_ok-copiers.ensures.types
 
 pub define_entries-requires-clause-types : goal.define_entries-requires-clause-types
 define_entries-requires-clause-types c = rw c.deref_mut.ensures.value (rw c.deref.ensures.value at c.in_ok-ids.ensures.types)

@@ -4,7 +4,7 @@ use Rattle.module_arena.specs.Module.{Bytes}
 use Rattle.linkage_rules.specs.declared.symbol.Symbol.{Symbol}
 use Rattle.module_linker.specs.Rename.{base_of, all_names, with_given_names, renaming}
 use Rattle.link_names.specs.Naming.{SameNames}
-use Rattle.link_names.proofs.symbols.new_names.Given as goal
+use Rattle.link_names.proofs.symbols.names_apart.Given as goal
 
 -- what is named so far, and what is named of the rest where the names so far are given
 abbrev pub invariant-loop-symbol : goal.invariant-loop-symbol
