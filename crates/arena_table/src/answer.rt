@@ -80,7 +80,7 @@ impl fmt::Display for Refusal {
                 let (kind, number) = kind_and_number(id);
                 write!(f, "refused, there is {kind} {number}")
             }
-            Refusal::Arena(ArenaFault::TooMany(kind, count)) => write!(
+            Refusal::Arena(ArenaFault::TooMany { kind, count }) => write!(
                 f,
                 "refused, {count} {kind:?}"
             ),

@@ -152,7 +152,11 @@ fn test_block(alloc: Global, parts: &Parts) -> Result<Block, AllocError>
         load(parts, 3, 2),
         less(parts, 4, 3, Value::Known(parts.limit)),
     ]?;
-    let end = Ending::Branch(at(parts.bit, 4), BlockId::new(2), BlockId::new(4));
+    let end = Ending::Branch {
+        condition: at(parts.bit, 4),
+        then_to: BlockId::new(2),
+        else_to: BlockId::new(4),
+    };
     Ok(block(4, instructions, end))
 }
 

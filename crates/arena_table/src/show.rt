@@ -122,7 +122,11 @@ fn push_inst(text: &mut String, inst: &Inst) -> Result<(), AllocError> {
 fn push_ending(text: &mut String, ending: &Ending) -> Result<(), AllocError> {
     match ending {
         Ending::Jump(to) => write!(text, ", to {}", to.number()),
-        Ending::Branch(_, yes, no) => write!(text, ", to {} or {}", yes.number(), no.number()),
+        Ending::Branch {
+            then_to,
+            else_to,
+            ..
+        } => write!(text, ", to {} or {}", then_to.number(), else_to.number()),
         Ending::Return(_) => write!(text, ", return"),
         _ => write!(text, ", another"),
     }

@@ -1,5 +1,6 @@
 //! Telling a whole stream.
-ghost use Rattle.std.specs.Prelude.{◌≤◌, ◌^◌, length};
+ghost use Rattle.std.specs.Prelude.{◌≤◌, length};
+ghost use Rattle.bit_stream.specs.declared.reader.TheConstants.{LARGEST_STREAM};
 ghost use Rattle.bit_tree.specs.Read.{IsStream};
 ghost use Rattle.bit_dump.specs.Dumped.{Dumped, Counted};
 ghost use Rattle.bit_dump.specs.Outline.{summed};
@@ -21,7 +22,7 @@ pub fn dump<S: Sink>(
     whole: bool,
     sink: &mut S,
 ) -> Result<(), DumpFault>
-    requires { length bytes.now ≤ 2 ^ 24 }
+    requires { length bytes.now ≤ LARGEST_STREAM }
     ensures told { Dumped bytes.now whole (S.taken sink.old) (S.taken sink.new) result }
     ensures counted { Counted (S.faults sink.old) (S.faults sink.new) result }
 {
@@ -36,7 +37,7 @@ fn tell_judged<S: Sink>(
     whole: bool,
     sink: &mut S,
 ) -> Result<(), DumpFault>
-    requires short { length bytes.now ≤ 2 ^ 24 }
+    requires short { length bytes.now ≤ LARGEST_STREAM }
     requires judged { IsStream bytes.now }
     ensures told { Dumped bytes.now whole (S.taken sink.old) (S.taken sink.new) result }
     ensures counted { Counted (S.faults sink.old) (S.faults sink.new) result }

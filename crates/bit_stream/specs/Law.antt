@@ -58,6 +58,7 @@ pub record IsSound (t : AdmittedAbbreviation) : Type 0 where
 
 -- a record by an abbreviation without a blob
 abbrev pub AbbreviatedIsReadBack : Type 0
-AbbreviatedIsReadBack = (s : Scope) (id : ℕ) (t : AdmittedAbbreviation) (code : ℕ) (ns : List ℕ) → IsInBlock s → 4 ≤ id → id < 2 ^ s.block.width → template_of s id ≡ Some t → IsSound t
+AbbreviatedIsReadBack = (s : Scope) (id : ℕ) (t : AdmittedAbbreviation) (code : ℕ) (ns : List ℕ) → IsInBlock s
+    → 4 ≤ id → id < 2 ^ s.block.width → template_of s id ≡ Some t → IsSound t
     → record_fits (Some t) code ns ≡ true → code < 2 ^ 32 → AreOperands ns
     → ReadsAs (item s) (with_record (Some t) code ns (bits_of s.block.width id)) (record_item s code ns)

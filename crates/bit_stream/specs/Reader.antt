@@ -75,7 +75,10 @@ pub record Arrived (old : Reader) (entry : Entry) (new : Reader) : Type 0 where
 
 -- the next entry was read, or is refused, or memory ran out
 abbrev pub Reached : Reader → Result Entry StreamFault → Reader → Type 0
-Reached old (Ok entry) new = (new.stopped ≡ None) × Next old.scope old.cursor (Ok (record { entry = Some entry; scope = new.scope; operands = new.operands; blob = new.blob }, new.cursor)) × Arrived old entry new
+Reached old (Ok entry) new =
+    (new.stopped ≡ None)
+    × Next old.scope old.cursor (Ok (record { entry = Some entry; scope = new.scope; operands = new.operands; blob = new.blob }, new.cursor))
+    × Arrived old entry new
 Reached old (Err (Bit fault)) new = Next old.scope old.cursor (Err fault)
 Reached old (Err Memory) new = Unit {0}
 

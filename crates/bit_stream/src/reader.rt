@@ -3,6 +3,7 @@ ghost use Rattle.std.specs.Prelude.{◌≡◌, ℕ, ◌+◌, ◌<◌, ◌≤◌,
 ghost use Rattle.bits.specs.Reading.{fixed, vbr};
 ghost use Rattle.bit_stream.specs.Reader.{Reader, opened, Numbered, Entered, Reached, Stopped};
 ghost use Rattle.bit_stream.specs.Writer.{in_force};
+ghost use Rattle.bit_stream.specs.declared.reader.TheConstants.{LARGEST_STREAM};
 ghost use Rattle.bit_stream.specs.declared.fault.StreamFault.TheVariants.{Memory};
 
 use crate::StreamFault;
@@ -14,6 +15,9 @@ use crate::told::LastSeen;
 use bits::{BitCursor, BitFault, BitFaultKind};
 use std::alloc::Global;
 use std::marker::Model;
+
+/// The most bytes of a stream that is read.
+pub const LARGEST_STREAM: usize = 16_777_216;
 
 /// The bytes 42 43 C0 DE, as a number.
 const MAGIC: u64 = 0xdec0_4342;
@@ -44,7 +48,7 @@ impl<'b> Model for BitReader<'b> {
 impl<'b> BitReader<'b> {
     /// A reader behind the bytes 42 43 C0 DE. It is refused exactly where the stream does not begin with them.
     pub fn new(alloc: Global, bytes: &'b [u8]) -> Result<BitReader<'b>, BitFault>
-        requires { length bytes.now ≤ 2 ^ 24 }
+        requires { length bytes.now ≤ LARGEST_STREAM }
         ensures { result ≡ opened bytes.now }
     {
         let mut cursor = BitCursor::new(bytes);

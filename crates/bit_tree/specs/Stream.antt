@@ -35,11 +35,20 @@ next_id s = in_force s + 4
 pub data Holds : Scope → Cursor → Tree → Scope → Cursor → Type 0 where
   none : {s : Scope} {c : Cursor} → Holds s c nothing s c
   of_block : {s t u : Scope} {c d e f g : Cursor} {i j : StreamItem} {id : ℕ} {inside behind : Tree}
-      → Stands s c (Some (Block id)) i d → Holds i.scope d inside t e → Stands t e (Some EndBlock) j f → Holds j.scope f behind u g → Holds s c (block id i.scope.block.width i.scope.block.words inside behind) u g
+      → (starts : Stands s c (Some (Block id)) i d)
+      → (holds_inside : Holds i.scope d inside t e)
+      → (ends : Stands t e (Some EndBlock) j f)
+      → (holds_behind : Holds j.scope f behind u g)
+      → Holds s c (block id i.scope.block.width i.scope.block.words inside behind) u g
   of_definition : {s u : Scope} {c d g : Cursor} {i : StreamItem} {t : AdmittedAbbreviation} {behind : Tree}
-      → Stands s c None i d → defined_at s c ≡ Ok (t, d) → Holds i.scope d behind u g → Holds s c (definition (next_id s) t behind) u g
+      → (stands : Stands s c None i d)
+      → (defines : defined_at s c ≡ Ok (t, d))
+      → (holds_behind : Holds i.scope d behind u g)
+      → Holds s c (definition (next_id s) t behind) u g
   of_record : {s u : Scope} {c d g : Cursor} {i : StreamItem} {code : ℕ} {behind : Tree}
-      → Stands s c (Some (Record code)) i d → Holds i.scope d behind u g → Holds s c (values (id_at s c) code i.operands (has_blob_by s (id_at s c)) i.blob behind) u g
+      → (stands : Stands s c (Some (Record code)) i d)
+      → (holds_behind : Holds i.scope d behind u g)
+      → Holds s c (values (id_at s c) code i.operands (has_blob_by s (id_at s c)) i.blob behind) u g
 
 -- the place behind the bytes that a stream begins with
 abbrev pub opening : List ℕ → Cursor

@@ -1,5 +1,6 @@
 //! Reading a whole stream.
-ghost use Rattle.std.specs.Prelude.{◌≡◌, ◌≤◌, ◌^◌, length, Some};
+ghost use Rattle.std.specs.Prelude.{◌≡◌, ◌≤◌, length, Some};
+ghost use Rattle.bit_stream.specs.declared.reader.TheConstants.{LARGEST_STREAM};
 ghost use Rattle.bit_tree.specs.Stream.{is_end};
 ghost use Rattle.bit_tree.specs.Read.{AllRead};
 
@@ -19,7 +20,7 @@ pub fn is_end(entry: Entry) -> bool
 
 /// The entries of the stream's tree, in order and without the end, or the first field of it that is refused.
 pub fn read_stream(alloc: Global, bytes: &[u8]) -> Result<HeldEntryList, StreamFault>
-    requires { length bytes.now ≤ 2 ^ 24 }
+    requires { length bytes.now ≤ LARGEST_STREAM }
     ensures { AllRead bytes.now result }
 {
     let mut reader = BitReader::new(alloc, bytes)?;

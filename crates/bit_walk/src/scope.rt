@@ -4,6 +4,7 @@ ghost use Rattle.bits.specs.Bits.{stream_bits};
 ghost use Rattle.bit_stream.specs.Scope.{top_level, given_to, given_here, template_of};
 ghost use Rattle.bit_stream.specs.Writer.{in_force};
 ghost use Rattle.bit_stream.specs.Entry.{is_blockinfo, entered, block_left, defined, given_for, targeting};
+ghost use Rattle.bit_stream.specs.declared.reader.TheConstants.{LARGEST_STREAM};
 ghost use Rattle.bit_walk.specs.Starts.{Opened, with_scope, template_at};
 
 use crate::starts::StartList;
@@ -48,21 +49,22 @@ pub struct WalkScope<'b> {
 }
 
 impl<'b> Model for WalkScope<'b> {
-    ghost use Rattle.std.specs.Prelude.{◌≤◌, ◌^◌, length};
+    ghost use Rattle.std.specs.Prelude.{◌≤◌, length};
     ghost use Rattle.bits.specs.Bits.{stream_bits};
     ghost use Rattle.bit_walk.specs.Starts.{Opened, opened_at};
+    ghost use Rattle.bit_stream.specs.declared.reader.TheConstants.{LARGEST_STREAM};
 
     ghost Value = { Opened };
 
     ghost view = { λ s. opened_at (stream_bits s.bytes.now) s.block s.around.items s.given };
 
-    ghost invariant = { λ s. length s.bytes.now ≤ 2 ^ 24 };
+    ghost invariant = { λ s. length s.bytes.now ≤ LARGEST_STREAM };
 }
 
 impl<'b> WalkScope<'b> {
     /// The top level.
     pub fn new(alloc: Global, bytes: &'b [u8]) -> Self
-        requires { length bytes.now ≤ 2 ^ 24 }
+        requires { length bytes.now ≤ LARGEST_STREAM }
         ensures { result ≡ record { bits = stream_bits bytes.now; scope = top_level } }
     {
         WalkScope {
@@ -85,7 +87,7 @@ impl<'b> WalkScope<'b> {
     /// The bytes of the stream.
     pub fn bytes(&self) -> &'b [u8]
         ensures bits { stream_bits result.now ≡ self.now.bits }
-        ensures short { length result.now ≤ 2 ^ 24 }
+        ensures short { length result.now ≤ LARGEST_STREAM }
     {
         self.bytes
     }

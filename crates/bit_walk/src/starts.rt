@@ -1,6 +1,7 @@
 //! Abbreviations by the bits where their definitions start, a few bytes each.
 ghost use Rattle.std.specs.Prelude.{◌≡◌, ◌≤◌, ◌^◌, ◌<◌, ◌*◌, [], ◌++◌, ◌∷◌, Bool, List, Some, length, OnOk, IfOk, slice_get};
 ghost use Rattle.bits.specs.Bits.{stream_bits};
+ghost use Rattle.bit_stream.specs.declared.reader.TheConstants.{LARGEST_STREAM};
 ghost use Rattle.bit_walk.specs.Starts.{no_template, template_at, IsKept};
 
 use crate::spelling::{WalkedSpelling, no_template};
@@ -68,7 +69,7 @@ impl StartList {
 /// The abbreviation whose definition starts at a bit, or that of no operands where none does.
 #[tactic(auto, using(crate::proofs::Definitions::beyond))]
 fn template_at(alloc: Global, bytes: &[u8], bit: u32) -> Result<AdmittedAbbreviation, AllocError>
-    requires { length bytes.now ≤ 2 ^ 24 }
+    requires { length bytes.now ≤ LARGEST_STREAM }
     ensures { IfOk result (λ template. template ≡ template_at (stream_bits bytes.now) bit) }
 {
     let bit = u64::from(bit);
@@ -103,7 +104,7 @@ impl Kept {
 
     /// Keeps the abbreviation whose definition starts at a bit.
     pub fn fetch(&mut self, alloc: Global, bytes: &[u8], bit: u32) -> Result<(), AllocError>
-        requires short { length bytes.now ≤ 2 ^ 24 }
+        requires short { length bytes.now ≤ LARGEST_STREAM }
         requires kept { IsKept (stream_bits bytes.now) self.old.start self.old.template }
         ensures kept { OnOk result (IsKept (stream_bits bytes.now) self.new.start self.new.template) }
         ensures fetched { OnOk result (self.new.template ≡ template_at (stream_bits bytes.now) bit) }

@@ -1,7 +1,8 @@
 //! Judging a whole stream, one entry at a time.
-ghost use Rattle.std.specs.Prelude.{◌≡◌, ◌≤◌, ◌^◌, Ok, Err, length, if◌then◌else◌};
+ghost use Rattle.std.specs.Prelude.{◌≡◌, ◌≤◌, Ok, Err, length, if◌then◌else◌};
 ghost use Rattle.bits.specs.declared.fault.BitFaultKind.TheVariants.{BadMagic};
 ghost use Rattle.bit_stream.specs.Reader.{begins};
+ghost use Rattle.bit_stream.specs.declared.reader.TheConstants.{LARGEST_STREAM};
 ghost use Rattle.bit_tree.specs.Stream.{is_end, opening};
 ghost use Rattle.bit_tree.specs.Read.{Judged};
 
@@ -15,7 +16,7 @@ use std::alloc::Global;
 /// Whether the bytes are the stream of a tree, or the first field of it that is refused. It holds a few bytes for each
 /// abbreviation, and no operands.
 pub fn judge(alloc: Global, bytes: &[u8]) -> Result<(), StreamFault>
-    requires { length bytes.now ≤ 2 ^ 24 }
+    requires { length bytes.now ≤ LARGEST_STREAM }
     ensures { Judged bytes.now result }
 {
     let mut cursor = opening(alloc, bytes)?;
@@ -31,7 +32,7 @@ pub fn judge(alloc: Global, bytes: &[u8]) -> Result<(), StreamFault>
 
 /// The place behind the bytes 42 43 C0 DE, which a stream begins with.
 fn opening<'b>(alloc: Global, bytes: &'b [u8]) -> Result<BitCursor<'b>, BitFault>
-    requires { length bytes.now ≤ 2 ^ 24 }
+    requires { length bytes.now ≤ LARGEST_STREAM }
     ensures { result ≡ (if begins bytes.now then Ok (opening bytes.now) else Err (record { kind = BadMagic; bit = 0 })) }
 {
     BitReader::new(alloc, bytes)?;

@@ -1,5 +1,6 @@
 //! A walker over a judged stream.
-ghost use Rattle.std.specs.Prelude.{◌≡◌, ◌≤◌, ◌^◌, false, length};
+ghost use Rattle.std.specs.Prelude.{◌≡◌, ◌≤◌, false, length};
+ghost use Rattle.bit_stream.specs.declared.reader.TheConstants.{LARGEST_STREAM};
 ghost use Rattle.bit_tree.specs.Stream.{Tree, Stream};
 ghost use Rattle.bit_tree.specs.Pieces.{flat};
 ghost use Rattle.bit_tree.specs.Read.{IsStream};
@@ -48,7 +49,7 @@ impl<'b> Model for Walker<'b> {
 impl<'b> Walker<'b> {
     /// A walker in front of the whole tree of a stream.
     pub fn new(alloc: Global, bytes: &'b [u8]) -> Walker<'b>
-        requires short { length bytes.now ≤ 2 ^ 24 }
+        requires short { length bytes.now ≤ LARGEST_STREAM }
         requires judged { IsStream bytes.now }
         ensures unspent { result.spent ≡ false }
         ensures whole { (tree : Tree) → Stream bytes.now tree → result.left ≡ flat tree }

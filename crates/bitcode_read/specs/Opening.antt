@@ -25,7 +25,9 @@ pub record IsOpened (tree : Tree) (texts : the_texts.Texts) (reader : Reader) (k
   pub before : IsBefore reader.left (first_module (records_of tree)) (ended ∷ others)
   pub later : IsBefore others behind []
   pub is_known : IsAhead (texts_of texts) (first_module (records_of tree)) known
-  pub from : table.read (records_of tree) ≡ (table.module_from (table.at_first (texts_of texts) reader.at (first_module (records_of tree))) (first_module (records_of tree)) >>= λ s. table.nothing_behind s behind)
+  pub from : table.read (records_of tree)
+      ≡ (table.module_from (table.at_first (texts_of texts) reader.at (first_module (records_of tree))) (first_module (records_of tree))
+      >>= λ s. table.nothing_behind s behind)
 
 -- it was entered, or what stands in front of it refuses the stream
 abbrev pub Opens : Tree → Result Opening BitcodeFault → Type 0

@@ -155,7 +155,8 @@ pub record IsLate (m : ModuleReader) (b : Sofar) (s : records.Sofar) (rest : Rec
   pub foresees : Foresees s.texts s.k (length s.k.types) (counts_due s.functions) (drop (length b.bodies.items) b.ahead.items) rest
   pub variables : AreVariables base m.growing (AreDeclared base m.globals s.k) a.variables b.initialisers.items s.variables
   pub aliases : AreAliases base m.growing (AreDeclared base m.globals s.k) a.aliases b.targets.items s.aliases
-  pub functions : AreFunctions base m.growing (AreDeclared base m.globals s.k) later a.functions b.defined.items b.bodies.items (map names_given (drop (length b.bodies.items) b.ahead.items)) s.functions
+  pub functions : AreFunctions base m.growing (AreDeclared base m.globals s.k) later a.functions b.defined.items b.bodies.items
+      (map names_given (drop (length b.bodies.items) b.ahead.items)) s.functions
 
 -- ---- both
 

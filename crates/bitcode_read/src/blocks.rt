@@ -1,10 +1,11 @@
 //! The blocks in a module's block: the types, and bodies.
-ghost use Rattle.std.specs.Prelude.{◌≡◌, ◌≤◌, ◌^◌, ◌&&◌, nat_eq, length, true, false, slice_get, Some, OnOk, IfOk, IfErr};
+ghost use Rattle.std.specs.Prelude.{◌≡◌, ◌≤◌, ◌&&◌, nat_eq, length, true, false, slice_get, Some, OnOk, IfOk, IfErr};
 ghost use Rattle.bit_tree.specs.Read.{IsStream};
 ghost use Rattle.bit_tree.specs.Stream.{Tree, Stream};
 ghost use Rattle.type_table.specs.Types as tables;
 ghost use Rattle.module_arena.specs.declared.entry.Function.{Function};
 ghost use Rattle.module_arena.specs.Known.{AreDistinct, IsGood};
+ghost use Rattle.bit_stream.specs.declared.reader.TheConstants.{LARGEST_STREAM};
 ghost use Rattle.record_table.specs.Faults.{Records, records as records_of};
 ghost use Rattle.record_table.specs.Records as records;
 ghost use Rattle.record_read.specs.declared.fault.BitcodeFault.TheVariants as fault;
@@ -48,7 +49,7 @@ fn read_types_block(
 ) -> Result<(), BitcodeFault>
     requires unspent { m.old.reader.spent ≡ false }
     requires begun { IsTypesBegun (texts_of texts.now) m.old.reader.left known.old }
-    requires short { length bytes.now ≤ 2 ^ 24 }
+    requires short { length bytes.now ≤ LARGEST_STREAM }
     requires judged { IsStream bytes.now }
     requires held { AreBytesHeld texts.now }
     requires room { HasRoom sofar.old }
@@ -172,7 +173,7 @@ pub(crate) fn read_block(
     requires begun { IsInBlock m.old.reader.left }
     requires held { AreBytesHeld texts.now }
     requires types { MayBeTypes id (texts_of texts.now) sofar.old m.old.reader.left known.old }
-    requires short { length bytes.now ≤ 2 ^ 24 }
+    requires short { length bytes.now ≤ LARGEST_STREAM }
     requires judged { IsStream bytes.now }
     requires room { HasRoom sofar.old }
     ensures room { OnOk result (HasRoom sofar.new) }

@@ -1,5 +1,6 @@
 //! The block of the module.
-ghost use Rattle.std.specs.Prelude.{◌≡◌, ◌∷◌, ◌<◌, ◌≤◌, ◌^◌, ℕ, List, true, false, length, Ok, OnOk};
+ghost use Rattle.std.specs.Prelude.{◌≡◌, ◌∷◌, ◌<◌, ◌≤◌, ℕ, List, true, false, length, Ok, OnOk};
+ghost use Rattle.bit_stream.specs.declared.reader.TheConstants.{LARGEST_STREAM};
 ghost use Rattle.bit_tree.specs.Pieces.{Piece, ended};
 ghost use Rattle.bit_tree.specs.Stream.{Tree, Stream};
 ghost use Rattle.record_table.specs.Faults.{Records, records as records_of};
@@ -38,7 +39,7 @@ fn read_entry(
     known: &mut ModuleAhead,
 ) -> Result<bool, BitcodeFault>
     requires unspent { m.old.reader.spent ≡ false }
-    requires short { length bytes.now ≤ 2 ^ 24 }
+    requires short { length bytes.now ≤ LARGEST_STREAM }
     requires held { AreBytesHeld texts.now }
     requires room { HasRoom sofar.old }
     requires going { IsAmong bytes.now (texts_of texts.now) m.old sofar.old known.old }
@@ -64,7 +65,7 @@ fn read_entries(
     known: &mut ModuleAhead,
 ) -> Result<(), BitcodeFault>
     requires unspent { m.old.reader.spent ≡ false }
-    requires short { length bytes.now ≤ 2 ^ 24 }
+    requires short { length bytes.now ≤ LARGEST_STREAM }
     requires held { AreBytesHeld texts.now }
     requires room { HasRoom sofar.old }
     requires going { IsAmong bytes.now (texts_of texts.now) m.old sofar.old known.old }
@@ -101,7 +102,7 @@ pub(crate) fn read_module(
     known: &mut ModuleAhead,
 ) -> Result<Sofar, BitcodeFault>
     requires unspent { m.old.reader.spent ≡ false }
-    requires short { length bytes.now ≤ 2 ^ 24 }
+    requires short { length bytes.now ≤ LARGEST_STREAM }
     requires held { AreBytesHeld texts.now }
     requires begun { IsModuleBegun bytes.now (texts_of texts.now) m.old known.old }
     ensures unspent { OnOk result (m.new.reader.spent ≡ false) }

@@ -1,5 +1,6 @@
 //! What stands in front of the block of the module.
-ghost use Rattle.std.specs.Prelude.{◌≡◌, ◌≤◌, ◌^◌, length, true, false, IfOk};
+ghost use Rattle.std.specs.Prelude.{◌≡◌, ◌≤◌, length, true, false, IfOk};
+ghost use Rattle.bit_stream.specs.declared.reader.TheConstants.{LARGEST_STREAM};
 ghost use Rattle.bit_tree.specs.Read.{IsStream};
 ghost use Rattle.bit_tree.specs.Stream.{Tree, Stream};
 ghost use Rattle.record_read.specs.Fields.{are_bytes};
@@ -39,7 +40,7 @@ pub(crate) struct Opening<'b> {
 /// Goes into the module's block of a judged stream, and looks ahead over it. What stands in front of it is refused by the
 /// least rule that it breaks.
 pub(crate) fn open_stream<'b>(alloc: Global, bytes: &'b [u8]) -> Result<Opening<'b>, BitcodeFault>
-    requires short { length bytes.now ≤ 2 ^ 24 }
+    requires short { length bytes.now ≤ LARGEST_STREAM }
     requires judged { IsStream bytes.now }
     ensures unspent { IfOk result (λ opening. opening.reader.spent ≡ false) }
     ensures held { IfOk result (λ opening. AreBytesHeld opening.texts) }

@@ -1,10 +1,11 @@
 //! A whole stream.
-ghost use Rattle.std.specs.Prelude.{◌≡◌, ◌≤◌, ◌^◌, [], length, false, IfErr, IfOk};
+ghost use Rattle.std.specs.Prelude.{◌≡◌, ◌≤◌, [], length, false, IfErr, IfOk};
 ghost use Rattle.bit_tree.specs.Read.{IsStream};
 ghost use Rattle.bit_tree.specs.Stream.{Tree, Stream};
 ghost use Rattle.module_arena.specs.Module.{Module};
 ghost use Rattle.module_arena.specs.View.{module_of};
 ghost use Rattle.module_arena.specs.WellFormed.{IsWellFormed};
+ghost use Rattle.bit_stream.specs.declared.reader.TheConstants.{LARGEST_STREAM};
 ghost use Rattle.record_table.specs.Faults.{Records, records as records_of};
 ghost use Rattle.record_table.specs.Records as table;
 ghost use Rattle.record_read.specs.Entries.{IsBefore};
@@ -99,7 +100,7 @@ fn read_opened(
     texts: &Texts,
     known: &mut ModuleAhead,
 ) -> Result<Arena, BitcodeFault>
-    requires short { length bytes.now ≤ 2 ^ 24 }
+    requires short { length bytes.now ≤ LARGEST_STREAM }
     requires unspent { reader.spent ≡ false }
     requires held { AreBytesHeld texts.now }
     requires opened { IsOpenedStream bytes.now texts.now reader known.old }
@@ -112,7 +113,7 @@ fn read_opened(
 
 /// The module of a stream that is a tree.
 fn read_judged(alloc: Global, bytes: &[u8]) -> Result<Arena, BitcodeFault>
-    requires short { length bytes.now ≤ 2 ^ 24 }
+    requires short { length bytes.now ≤ LARGEST_STREAM }
     requires judged { IsStream bytes.now }
     ensures { (tree : Tree) → Stream bytes.now tree → Answers IsModule (table.read (records_of tree)) result }
 {
@@ -133,7 +134,7 @@ fn read_judged(alloc: Global, bytes: &[u8]) -> Result<Arena, BitcodeFault>
 /// its bit, counted from 0. Where the container is whole, `ForeignProducer`, `BadVersion`, `UnknownRecord` or `BadRecord`
 /// tells the first block or record that breaks a rule, and the least rule that it breaks. `Memory` where memory ran out.
 pub fn read(alloc: Global, bytes: &[u8]) -> Result<Arena, BitcodeFault>
-    requires { length bytes.now ≤ 2 ^ 24 }
+    requires { length bytes.now ≤ LARGEST_STREAM }
     ensures spelled { IfOk result (λ arena. table.Spells bytes.now (module_of arena)) }
     // Bytes spell no other module, and what they spell is refused for want of memory alone.
     ensures alone { (m : Module) → table.Spells bytes.now m → IsReadAs m result }

@@ -38,7 +38,9 @@ AddsName old name is_new new = (is_new ≡ not (list_any (bytes_eq name) old)) �
 
 -- something is called so from now on, and the name was new or not
 pub record Calls (old : BodyNames) (name : Option the_local.LocalName) (is_new : Bool) (new : BodyNames) : Type 0 where
-  pub judged : (own : ℕ) (taken : List Bytes) → AreNames old own taken → (is_new ≡ are_new taken (called_as name ∷ [])) × AreNames new (after_all own (called_as name ∷ [])) (with_names taken (called_as name ∷ []))
+  pub judged : (own : ℕ) (taken : List Bytes) → AreNames old own taken
+      → (is_new ≡ are_new taken (called_as name ∷ []))
+      × AreNames new (after_all own (called_as name ∷ [])) (with_names taken (called_as name ∷ []))
   pub strange : new.strange ≡ (old.strange || is_none name)
 
 -- ---- names as they are read

@@ -168,10 +168,14 @@ ReadsEnd k count o = ReadsOne k count (λ s operands. bodies.with_end s (judged 
 
 -- the result of an instruction is called as the value of its index is, where these were counted ahead
 abbrev pub IsCounted : Numbering → bodies.Begun → m.Instruction × Option ℕ → Type 0
-IsCounted k s x = s.due ≡ bodies.Line → x.1 ≡ None → (name : m.LocalName) → x.0.result ≡ Some name → slice_index_or k.values (length s.parameters + length (results_so_far s)) (m.Numbered 0) ≡ name
+IsCounted k s (i, broken) = s.due ≡ bodies.Line → broken ≡ None
+    → (name : m.LocalName) → i.result ≡ Some name
+    → slice_index_or k.values (length s.parameters + length (results_so_far s)) (m.Numbered 0) ≡ name
 
 -- an instruction
 abbrev pub ReadsInstruction : the_texts.Texts → Numbering → ℕ → Opcode → ModuleReader → Begun → Result (Unit {0}) BitcodeFault → ModuleReader → Begun → Type 0
 ReadsInstruction x k count o old before result new after =
-    Numbers old k → (s : bodies.Begun) (operands : List ℕ) → old.reader.walk ≡ going operands None → old.reader.at ≡ suc s.at → Follows count before s → IsCounted k s (judged (instruction (texts_of x) k s.own o) operands)
+    Numbers old k → (s : bodies.Begun) (operands : List ℕ) → old.reader.walk ≡ going operands None → old.reader.at ≡ suc s.at
+    → Follows count before s
+    → IsCounted k s (judged (instruction (texts_of x) k s.own o) operands)
     → Answers (λ done t. IsBody k count old new before after s t) (bodies.with_instruction s (judged (instruction (texts_of x) k s.own o) operands)) result

@@ -7,7 +7,7 @@ use Rattle.ir_constants.specs.Tree.{TypeTree, ConstantTree}
 use Rattle.ir_constants.specs.Forms.{AllAre}
 use Rattle.ir_instructions.specs.Tree.{BlockTree}
 use Rattle.ir_instructions.specs.Forms.{IsBlockFormed}
-use Rattle.ir_syntax.specs.Counts.{block_count, item_count, counted}
+use Rattle.ir_syntax.specs.Counts.{block_count, item_count, counted, most_counted}
 use Rattle.ir_syntax.specs.Forms.{IsItemFormed}
 use Rattle.ir_syntax.specs.Tree.{AliasTypeTree, PlainAlias, FunctionAlias, ParameterTree, HeadTree, ItemTree, SourceFilename, DataLayout, TargetTriple, Struct, Variable, Alias, Declaration, Definition, Attributes, Metadata}
 use Rattle.module_arena.specs.Lists.{Lists}
@@ -34,8 +34,8 @@ use Rattle.builds_well.proofs.Blocks.{can_blocks}
 use Rattle.builds_well.proofs.Locals.{are_locals}
 
 -- what holds of each item of which nothing is asked in vain, and that has not too many parts
-module _ (known : Known) (P : ItemTree → Type 0) (each : (before : List ItemTree) (i : ItemTree) → IsNarrowItem i → IsItemFormed i → item_count i ≤ 2 ^ 24 → first_refusal (item_demands known before i) ≡ None → P i) where
-  pub all_items : (before xs : List ItemTree) → All IsNarrowItem xs → AllAre IsItemFormed xs → counted xs ≤ 2 ^ 24 → first_refusal (demands_behind known before xs) ≡ None → All P xs
+module _ (known : Known) (P : ItemTree → Type 0) (each : (before : List ItemTree) (i : ItemTree) → IsNarrowItem i → IsItemFormed i → item_count i ≤ most_counted → first_refusal (item_demands known before i) ≡ None → P i) where
+  pub all_items : (before xs : List ItemTree) → All IsNarrowItem xs → AllAre IsItemFormed xs → counted xs ≤ most_counted → first_refusal (demands_behind known before xs) ≡ None → All P xs
   all_items before [] n f c e = All-nil P
   all_items before (i ∷ more) n f c e =
       let parts = both_hold (item_demands known before i) (demands_behind known (before ++ i ∷ []) more) e in
@@ -116,7 +116,7 @@ module _ (items : List ItemTree) (entries : Lists) (given : IsGiven items entrie
       }
 
   -- what completes an item of which nothing is asked in vain
-  pub can_complete : (before : List ItemTree) (i : ItemTree) → IsNarrowItem i → IsItemFormed i → item_count i ≤ 2 ^ 24 → first_refusal (item_demands (known_in items) before i) ≡ None
+  pub can_complete : (before : List ItemTree) (i : ItemTree) → IsNarrowItem i → IsItemFormed i → item_count i ≤ most_counted → first_refusal (item_demands (known_in items) before i) ≡ None
       → CanComplete (structs_in items) entries i
   can_complete before (Variable variable) n f c e =
       let known = known_in items in

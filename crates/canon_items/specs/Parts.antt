@@ -83,7 +83,9 @@ abbrev mutual
   constant_tree ty (Aggregate kind elements) = ListConstant nowhere (brackets_tree kind) (constant_trees elements)
   constant_tree ty (ElementAddress flags source operands) = tree.ElementAddress nowhere flags (type_tree source) (constant_trees operands)
   constant_tree ty (Cast opcode from value to) = Conversion nowhere opcode (type_tree from) (constant_tree from value) (type_tree to)
-  constant_tree ty (Binary opcode flags left_type left right_type right) = Arithmetic nowhere opcode flags (type_tree left_type) (constant_tree left_type left) (type_tree right_type) (constant_tree right_type right)
+  constant_tree ty (Binary opcode flags left_type left right_type right) =
+      Arithmetic nowhere opcode flags
+      (type_tree left_type) (constant_tree left_type left) (type_tree right_type) (constant_tree right_type right)
 
   -- constants, each behind its type
   pub constant_trees : Constants → ConstantTrees

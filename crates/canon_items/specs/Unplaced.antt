@@ -60,7 +60,9 @@ abbrev mutual
   unplaced_constant (ListConstant place brackets elements) = ListConstant nowhere brackets (unplaced_constants elements)
   unplaced_constant (ElementAddress place flags source operands) = ElementAddress nowhere flags (unplaced_type source) (unplaced_constants operands)
   unplaced_constant (Conversion place opcode from value to) = Conversion nowhere opcode (unplaced_type from) (unplaced_constant value) (unplaced_type to)
-  unplaced_constant (Arithmetic place opcode flags left_type left right_type right) = Arithmetic nowhere opcode flags (unplaced_type left_type) (unplaced_constant left) (unplaced_type right_type) (unplaced_constant right)
+  unplaced_constant (Arithmetic place opcode flags left_type left right_type right) =
+      Arithmetic nowhere opcode flags
+      (unplaced_type left_type) (unplaced_constant left) (unplaced_type right_type) (unplaced_constant right)
 
   -- constants, each behind its type
   pub unplaced_constants : ConstantTrees → ConstantTrees
@@ -100,7 +102,13 @@ unplaced_operation (Load flags ty address alignment) = Load flags (unplaced_type
 unplaced_operation (Store flags value address alignment) = Store flags (unplaced_operand value) (unplaced_operand address) (option_map unplaced_integer alignment)
 unplaced_operation (Alloca ty count alignment) = Alloca (unplaced_type ty) (option_map unplaced_operand count) (option_map unplaced_integer alignment)
 unplaced_operation (GetElementPtr flags source operands) = GetElementPtr flags (unplaced_type source) (map unplaced_operand operands)
-unplaced_operation (Call c) = Call (record { returns = unplaced_type c.returns; signature = option_map unplaced_signature c.signature; callee = unplaced_value c.callee; arguments = map unplaced_operand c.arguments })
+unplaced_operation (Call c) =
+    Call (record {
+      returns = unplaced_type c.returns;
+      signature = option_map unplaced_signature c.signature;
+      callee = unplaced_value c.callee;
+      arguments = map unplaced_operand c.arguments;
+    })
 unplaced_operation (ExtractValue value indices) = ExtractValue (unplaced_operand value) (map unplaced_integer indices)
 unplaced_operation (InsertValue value part indices) = InsertValue (unplaced_operand value) (unplaced_operand part) (map unplaced_integer indices)
 

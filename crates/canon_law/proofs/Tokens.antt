@@ -170,7 +170,7 @@ printed_global name h =
 pub printed_named_local : (limits : Limits) (name : List ℕ) → IsNameText name → IsPrinted (named_local_row limits) unplaced_name (name_tree name) (names.named_local name)
 unfolding terminal
 printed_named_local limits name h =
-    printed_one (code terminals.Local ∷ []) (named_local_of limits.wide) unplaced_name (name_tree name) kind.LocalName (37 ∷ name_spelling name) (local_token name (name_spelling name) (spelling_of name h)) refl
+    printed_one (code terminals.Local ∷ []) (named_local_of limits.with_left_out) unplaced_name (name_tree name) kind.LocalName (37 ∷ name_spelling name) (local_token name (name_spelling name) (spelling_of name h)) refl
     (λ place. (placed_name place name, ap (option_map (placed_name place)) (local_back name (name_spelling name) (spelling_of name h)), refl))
 
 -- %number

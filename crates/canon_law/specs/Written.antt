@@ -152,6 +152,8 @@ IsOperationText nesting (Load set ty address alignment) = IsFlagSet op.Load set 
 IsOperationText nesting (Store set value address alignment) = IsFlagSet op.Store set × IsOperandText nesting value × IsOperandText nesting address × IsAlignmentText alignment
 IsOperationText nesting (Alloca ty count alignment) = IsTypeText ty nesting × IsCountText nesting count × IsAlignmentText alignment
 IsOperationText nesting (GetElementPtr set source base indices) = IsFlagSet op.GetElementPtr set × IsTypeText source nesting × IsOperandText nesting base × AreOperandTexts nesting indices
-IsOperationText nesting (Call signature callee arguments) = IsTypeText signature.returns nesting × AreTypeListTexts nesting signature.parameters × IsValueText nesting ptr callee × AreOperandTexts nesting arguments
+IsOperationText nesting (Call signature callee arguments) =
+    IsTypeText signature.returns nesting × AreTypeListTexts nesting signature.parameters
+    × IsValueText nesting ptr callee × AreOperandTexts nesting arguments
 IsOperationText nesting (ExtractValue aggregate indices) = IsOperandText nesting aggregate × (is_not_empty indices ≡ true) × AreSmall indices
 IsOperationText nesting (InsertValue aggregate part indices) = IsOperandText nesting aggregate × IsOperandText nesting part × (is_not_empty indices ≡ true) × AreSmall indices

@@ -21,8 +21,8 @@ use record_table::ConstantForm;
 use std::alloc::AllocError;
 use type_table::TypeId;
 
-/// How deep lists and expressions nest in a constant.
-pub const NESTING_LIMIT: u32 = 64;
+/// How deep lists and expressions nest in a constant: as deep as types do, in a nest of their own.
+pub const NESTING_LIMIT: u32 = type_table::NESTING_LIMIT as u32;
 
 /// A list of constants, each of the type of its part.
 #[cycle(constants)]

@@ -20,7 +20,11 @@ fn branch_of(
 ) -> Option<Ending>
     ensures { result ≡ option_map kept_branch (both condition (both then_to else_to)) }
 {
-    Some(Ending::Branch(condition?, then_to?, else_to?))
+    Some(Ending::Branch {
+        condition: condition?,
+        then_to: then_to?,
+        else_to: else_to?,
+    })
 }
 
 /// `br` on a condition, behind the 1 that says so: a value of i1, and two blocks. None only where a rule is broken.

@@ -60,7 +60,11 @@ fn switch_of(
 ) -> Option<Ending>
     ensures { result ≡ option_map kept_switch (both value (both otherwise cases)) }
 {
-    Some(Ending::Switch(value?, otherwise?, cases?))
+    Some(Ending::Switch {
+        value: value?,
+        otherwise: otherwise?,
+        cases: cases?,
+    })
 }
 
 /// `switch`: type, value, block, and cases.

@@ -98,18 +98,23 @@ entry_count (a_record code operands behind) = one_where (is_entry (declaring cod
 abbrev pub front_of : {A : Type 0} → Layout A → List ℕ → A × Walk
 front_of l operands = l.read (going operands None)
 
+-- what an entry is called, which stands first in its front
+abbrev pub name_in : {A : Type 0} → Bytes × A → Bytes
+name_in (name, rest) = name
+
 module _ (texts : Texts) (types : ℕ) (final : Lists) where
   -- An entry more is declared behind these, and those behind it; or none more is.
   abbrev pub DeclaresOne : List (List the_local.LocalName) → Lists → List ℕ → (List (List the_local.LocalName) → Lists → Type 0) → Declaring → Type 0
   DeclaresOne names a operands behind a_variable =
-      let front = front_of (variable_front texts types) operands in let after = with_variable a (variable_entry front.0) in
-      IsRefused a after final front.0.0 front.1 ⊎ behind names after
+      let (front, walk) = front_of (variable_front texts types) operands in let after = with_variable a (variable_entry front) in
+      IsRefused a after final (name_in front) walk ⊎ behind names after
   DeclaresOne names a operands behind a_function =
-      let front = front_of (function_front texts types) operands in let after = with_function a (function_entry (names_for (function_defined front.0) names) front.0) in
-      IsRefused a after final front.0.0 front.1 ⊎ behind (names_behind (function_defined front.0) names) after
+      let (front, walk) = front_of (function_front texts types) operands in
+      let after = with_function a (function_entry (names_for (function_defined front) names) front) in
+      IsRefused a after final (name_in front) walk ⊎ behind (names_behind (function_defined front) names) after
   DeclaresOne names a operands behind an_alias =
-      let front = front_of (alias_front texts types) operands in let after = with_alias a (alias_entry front.0) in
-      IsRefused a after final front.0.0 front.1 ⊎ behind names after
+      let (front, walk) = front_of (alias_front texts types) operands in let after = with_alias a (alias_entry front) in
+      IsRefused a after final (name_in front) walk ⊎ behind names after
   DeclaresOne names a operands behind nothing = behind names a
 
   -- The arena has, behind these entries, those of the records, up to one that is refused. The functions that are defined have
@@ -166,17 +171,21 @@ module _ (texts : Texts) (all : List (List the_local.LocalName)) (used : ℕ) (o
   -- the front of a variable's record was read, and the variable declared or not
   abbrev pub DeclaresVariable : Bool → Lists → Type 0
   DeclaresVariable is new =
-      let front = front_of (variable_front texts (length old.table.types)) operands in IsDeclared old (with_variable old (variable_entry front.0)) front.0.0 front.1 is new
+      let (front, walk) = front_of (variable_front texts (length old.table.types)) operands in
+      IsDeclared old (with_variable old (variable_entry front)) (name_in front) walk is new
 
   -- the same of an alias
   abbrev pub DeclaresAlias : Bool → Lists → Type 0
-  DeclaresAlias is new = let front = front_of (alias_front texts (length old.table.types)) operands in IsDeclared old (with_alias old (alias_entry front.0)) front.0.0 front.1 is new
+  DeclaresAlias is new =
+      let (front, walk) = front_of (alias_front texts (length old.table.types)) operands in
+      IsDeclared old (with_alias old (alias_entry front)) (name_in front) walk is new
 
   -- the same of a function, whose body gives it the names that were not used yet
   abbrev pub DeclaresFunction : Option ℕ → Lists → Type 0
   DeclaresFunction now new =
-      let front = front_of (function_front texts (length old.table.types)) operands in let names = drop used all in
-      StepsOn all (names_behind (function_defined front.0) names) (with_function old (function_entry (names_for (function_defined front.0) names) front.0)) old front.0.0 front.1 now new
+      let (front, walk) = front_of (function_front texts (length old.table.types)) operands in let names = drop used all in
+      let after = with_function old (function_entry (names_for (function_defined front) names) front) in
+      StepsOn all (names_behind (function_defined front) names) after old (name_in front) walk now new
 
   -- an entry that uses no names
   abbrev pub StepsBy : (Bool → Lists → Type 0) → Option ℕ → Lists → Type 0

@@ -13,7 +13,7 @@ fn refused(fault: ArenaFault) -> Result<bool, AllocError>
 {
     match fault {
         ArenaFault::Memory => Err(AllocError),
-        ArenaFault::Duplicate(_) | ArenaFault::TooMany(_, _) => Ok(false),
+        ArenaFault::Duplicate(_) | ArenaFault::TooMany { .. } => Ok(false),
     }
 }
 

@@ -1,5 +1,6 @@
 //! What is known ahead of the bodies of a module's block.
-ghost use Rattle.std.specs.Prelude.{◌≡◌, ◌+◌, ◌≤◌, ◌^◌, ◌∷◌, ◌++◌, ℕ, List, [], false, true, length, slice_get, None, IfOk, OnOk, option_to_list};
+ghost use Rattle.std.specs.Prelude.{◌≡◌, ◌+◌, ◌≤◌, ◌∷◌, ◌++◌, ℕ, List, [], false, true, length, slice_get, None, IfOk, OnOk, option_to_list};
+ghost use Rattle.bit_stream.specs.declared.reader.TheConstants.{LARGEST_STREAM};
 ghost use Rattle.bit_tree.specs.Pieces.{Piece, ended};
 ghost use Rattle.bit_tree.specs.Read.{IsStream};
 ghost use Rattle.bit_tree.specs.Stream.{Tree, Stream};
@@ -259,7 +260,7 @@ pub(crate) fn look_at_bodies(
     types: u64,
     voids: &[bool],
 ) -> Result<BlockAhead, AllocError>
-    requires short { length bytes.now ≤ 2 ^ 24 }
+    requires short { length bytes.now ≤ LARGEST_STREAM }
     requires judged { IsStream bytes.now }
     ensures foresees { (tree : Tree) (k : Numbering) → Stream bytes.now tree → AreVoids voids.now k → IfOk result (λ found. Foresees (texts_of texts.now) k types [] found.bodies.items (first_module (records tree))) }
     ensures counted { (tree : Tree) → Stream bytes.now tree → IfOk result (λ found. found.entries ≡ entry_count (first_module (records tree))) }

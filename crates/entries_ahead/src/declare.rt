@@ -1,9 +1,10 @@
 //! The entries of a module's block, declared in their order.
-ghost use Rattle.std.specs.Prelude.{◌≡◌, ◌+◌, ◌<◌, ◌≤◌, ◌∷◌, ◌^◌, ℕ, List, [], false, length, map, drop, None, Some, IfOk, IfSome, OnOk, if◌then◌else◌};
+ghost use Rattle.std.specs.Prelude.{◌≡◌, ◌+◌, ◌<◌, ◌≤◌, ◌∷◌, ℕ, List, [], false, length, map, drop, None, Some, IfOk, IfSome, OnOk, if◌then◌else◌};
 ghost use Rattle.bit_tree.specs.Pieces.{Piece, ended};
 ghost use Rattle.bit_tree.specs.Read.{IsStream};
 ghost use Rattle.bit_tree.specs.Stream.{Tree, Stream};
 ghost use Rattle.type_table.specs.Types.{trees};
+ghost use Rattle.bit_stream.specs.declared.reader.TheConstants.{LARGEST_STREAM};
 ghost use Rattle.record_table.specs.Faults.{Records, records};
 ghost use Rattle.record_table.specs.Fields.{Numbering};
 ghost use Rattle.record_table.specs.Walk.{going};
@@ -261,7 +262,7 @@ fn declare_all(
     bodies: &[BodyAhead],
     count: u64,
 ) -> Result<(), AllocError>
-    requires short { length bytes.now ≤ 2 ^ 24 }
+    requires short { length bytes.now ≤ LARGEST_STREAM }
     requires judged { IsStream bytes.now }
     ensures { (tree : Tree) → Stream bytes.now tree → count ≡ entry_count (first_module (records tree))
         → OnOk result (Declares (texts_of texts.now) (length arena.old.table.types) arena.new (map names_given bodies.now) arena.old (first_module (records tree))) }
@@ -284,7 +285,7 @@ pub fn declare_entries(
     texts: &Texts,
     arena: &mut Arena,
 ) -> Result<Vec<BodyAhead>, AllocError>
-    requires short { length bytes.now ≤ 2 ^ 24 }
+    requires short { length bytes.now ≤ LARGEST_STREAM }
     requires judged { IsStream bytes.now }
     ensures declares { (tree : Tree) → Stream bytes.now tree → IfOk result (λ bodies. Declares (texts_of texts.now) (length arena.old.table.types) arena.new (map names_given bodies.items) arena.old (first_module (records tree))) }
     ensures foresees { (tree : Tree) (k : Numbering) → Stream bytes.now tree → k.types ≡ trees arena.old.table

@@ -20,13 +20,24 @@ pub(crate) fn moved_ending(
         Ending::ReturnVoid => Ending::ReturnVoid,
         Ending::Return(operand) => Ending::Return(moved_operand(copier, *operand)),
         Ending::Jump(target) => Ending::Jump(*target),
-        Ending::Branch(condition, then_to, else_to) => {
-            Ending::Branch(moved_operand(copier, *condition), *then_to, *else_to)
-        }
-        Ending::Switch(operand, otherwise, cases) => {
-            let operand = moved_operand(copier, *operand);
-            Ending::Switch(operand, *otherwise, moved_list(alloc, copier, cases)?)
-        }
+        Ending::Branch {
+            condition,
+            then_to,
+            else_to,
+        } => Ending::Branch {
+            condition: moved_operand(copier, *condition),
+            then_to: *then_to,
+            else_to: *else_to,
+        },
+        Ending::Switch {
+            value,
+            otherwise,
+            cases,
+        } => Ending::Switch {
+            value: moved_operand(copier, *value),
+            otherwise: *otherwise,
+            cases: moved_list(alloc, copier, cases)?,
+        },
         Ending::Unreachable => Ending::Unreachable,
     })
 }

@@ -3,7 +3,7 @@
 //! It stands on `bit_stream`, and serves to time and to show it.
 #![tactic(auto)]
 
-use bit_stream::{BitFault, BitReader, Entry, StreamFault};
+use bit_stream::{BitFault, BitReader, Entry, LARGEST_STREAM, StreamFault};
 use std::io;
 use std::io::Read;
 
@@ -40,7 +40,7 @@ fn counts_of(reader: &mut BitReader) -> Result<Counts, StreamFault> {
 fn main(rt: HostRuntime) -> io::Result<()> {
     let mut bytes = Vec::new(rt.alloc());
     rt.reader().read_to_end(&mut bytes)?;
-    if bytes.len() > 16_777_216 {
+    if bytes.len() > LARGEST_STREAM {
         return println!(rt; "too large");
     }
     let mut reader = match BitReader::new(rt.alloc(), bytes.as_slice()) {

@@ -1,5 +1,6 @@
 //! What is known ahead of the block of a module.
-ghost use Rattle.std.specs.Prelude.{◌≡◌, ◌≤◌, ◌+◌, ◌^◌, ◌&&◌, ◌∷◌, ℕ, List, [], false, length, nat_eq, not, IfOk, OnOk};
+ghost use Rattle.std.specs.Prelude.{◌≡◌, ◌≤◌, ◌+◌, ◌&&◌, ◌∷◌, ℕ, List, [], false, length, nat_eq, not, IfOk, OnOk};
+ghost use Rattle.bit_stream.specs.declared.reader.TheConstants.{LARGEST_STREAM};
 ghost use Rattle.bit_tree.specs.Pieces.{Piece, ended};
 ghost use Rattle.bit_tree.specs.Read.{IsStream};
 ghost use Rattle.bit_tree.specs.Stream.{Tree, Stream};
@@ -179,7 +180,7 @@ fn gather_module(
 
 /// What is known ahead of the module's block of a judged stream. It is refused for want of memory alone.
 pub fn look_ahead(alloc: Global, bytes: &[u8], texts: &Texts) -> Result<ModuleAhead, AllocError>
-    requires short { length bytes.now ≤ 2 ^ 24 }
+    requires short { length bytes.now ≤ LARGEST_STREAM }
     requires judged { IsStream bytes.now }
     ensures { (tree : Tree) → Stream bytes.now tree → IfOk result (IsAhead (texts_of texts.now) (first_module (records tree))) }
 {

@@ -48,4 +48,6 @@ pub record IsConversion (m : Blocks) (c : Conversion) (kinds : List (Option Leaf
   pub kinds_there : taken ≤ length kinds
   pub arguments_there : taken ≤ length arguments
   pub others : AreOf (length m.list) (drop taken kinds) (drop taken arguments)
-  pub wrote : (rest : Rest) (to at : ℕ) → written_conversion m rest c c.kind to at (map shape_from kinds) arguments ≡ then_bytes (Ok bytes) (rest to (map shape_from (drop taken kinds)) (drop taken arguments))
+  pub wrote : (rest : Rest) (to at : ℕ)
+      → written_conversion m rest c c.kind to at (map shape_from kinds) arguments
+      ≡ then_bytes (Ok bytes) (rest to (map shape_from (drop taken kinds)) (drop taken arguments))

@@ -1,7 +1,7 @@
 //! One call of a host function, by its row.
-ghost use Rattle.std.specs.Prelude.{◌≡◌, ◌≤◌, ◌^◌, ◌%◌, [], List, false, IfOk, OnErr, if◌then◌else◌, length, map};
+ghost use Rattle.std.specs.Prelude.{◌≡◌, ◌%◌, [], List, false, IfOk, OnErr, if◌then◌else◌, length, map};
 ghost use Rattle.std.specs.List.{list_any};
-ghost use Rattle.ir_memory.specs.Memory.{copied, filled};
+ghost use Rattle.ir_memory.specs.Memory.{HasFreeAddresses, copied, filled};
 ghost use Rattle.ir_tables.specs.declared.undefined_kind.UndefinedKind.TheVariants.{PoisonArgument};
 ghost use Rattle.module_arena.specs.declared.host.HostRow.TheVariants as HostRow;
 ghost use Rattle.run_host.specs.Answers.{EndsTheRun, Writes, answer_of, leaves_of};
@@ -79,7 +79,7 @@ fn carry_out(
 ) -> Result<HostAnswer, AllocError>
     requires taken { AreTaken row (length memory.old.list) arguments.now }
     requires full { list_any is_poison arguments.now ≡ false }
-    requires next { memory.old.next ≤ 2 ^ 61 }
+    requires next { HasFreeAddresses memory.old }
     ensures answer { Writes (done row arguments.now memory.old) memory.new written.old.items written.new.items result }
     ensures kept { IfOk result (λ answer. EndsOrReads answer → memory.new ≡ memory.old) }
     ensures err { OnErr result (memory.new ≡ memory.old) }
@@ -117,7 +117,7 @@ fn call_plain(
     written: &mut Vec<u8>,
 ) -> Result<HostAnswer, AllocError>
     requires taken { AreTaken row (length memory.old.list) arguments.now }
-    requires next { memory.old.next ≤ 2 ^ 61 }
+    requires next { HasFreeAddresses memory.old }
     ensures answer { Writes (if list_any is_poison arguments.now then undefined PoisonArgument else done row arguments.now memory.old) memory.new written.old.items written.new.items result }
     ensures kept { IfOk result (λ answer. EndsOrReads answer → memory.new ≡ memory.old) }
     ensures err { OnErr result (memory.new ≡ memory.old) }
@@ -144,7 +144,7 @@ pub fn call(
 ) -> Result<HostAnswer, AllocError>
     requires row { IsRow row }
     requires made { IsHostCall row (length memory.old.list) kinds.now arguments.now }
-    requires next { memory.old.next ≤ 2 ^ 61 }
+    requires next { HasFreeAddresses memory.old }
     ensures answer { (shapes : List Shape) → (row ≡ HostRow.Printf → kinds.now ≡ map leaf_of shapes) → Writes (host row shapes arguments.now memory.old) memory.new written.old.items written.new.items result }
     ensures kept { IfOk result (λ answer. EndsOrReads answer → memory.new ≡ memory.old) }
     ensures err { OnErr result (memory.new ≡ memory.old) }

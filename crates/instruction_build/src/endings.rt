@@ -50,7 +50,11 @@ pub(crate) fn build_branch(
     let condition = build_operand(builder, alloc, locals, &branch.condition)?;
     let then_to = find_block(locals, &branch.then_to);
     let else_to = find_block(locals, &branch.else_to);
-    Ok(Ending::Branch(condition, then_to, else_to))
+    Ok(Ending::Branch {
+        condition,
+        then_to,
+        else_to,
+    })
 }
 
 /// `switch`
@@ -69,5 +73,9 @@ pub(crate) fn build_switch(
     let operand = build_operand(builder, alloc, locals, &switch.value)?;
     let otherwise = find_block(locals, &switch.otherwise);
     let cases = build_cases(builder, alloc, locals, &switch.cases)?;
-    Ok(Ending::Switch(operand, otherwise, cases))
+    Ok(Ending::Switch {
+        value: operand,
+        otherwise,
+        cases,
+    })
 }

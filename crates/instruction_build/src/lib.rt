@@ -5,10 +5,8 @@
 //!
 //! ```
 //! // `block` is `entry: %x = add i32 1, 2 ret i32 %x`, as `ir_instructions` has it.
-//! let mut values = LocalIds::new(alloc);
-//! let mut blocks = LocalIds::new(alloc);
-//! add_block(&mut values, &mut blocks, alloc, 0, &block)? // 0: no number is taken, since both have names
-//! let locals = Locals { values, blocks };
+//! let mut locals = Locals::new(alloc); // for this function and, once it is cleared, for those behind it
+//! add_block(&mut locals.values, &mut locals.blocks, alloc, 0, &block)? // 0: no number is taken, since both have names
 //! build_instruction(&mut builder, alloc, &locals, ValueId::new(0), &block.instructions[0])? // an Inst::Binary
 //! build_ending(&mut builder, alloc, &locals, &block.ending)? // an Ending::Return, of the value 0
 //! ```

@@ -10,6 +10,10 @@ use module_arena::LocalName;
 use name_table::NameTable;
 use std::alloc::{AllocError, Global};
 
+/// How many names of a function leave its tables worth keeping. To empty a table takes time by its room, and many small
+/// functions may stand behind a large one.
+const MOST_KEPT: usize = 1024;
+
 /// What the values, or the blocks, of a function are called, in the order of their ids. The tables say where a name may
 /// be: each answer of theirs is compared with the list, and where it is another the list is searched.
 #[derive(Drop)]
@@ -29,6 +33,19 @@ impl<'a> LocalIds<'a> {
             names: Vec::new(alloc),
             named: NameTable::new(alloc),
             numbered: IndexMap::new(alloc),
+        }
+    }
+
+    /// Takes all names out. The memory is kept for the next function, unless there were many names.
+    pub fn clear(&mut self, alloc: Global)
+        ensures { self.new.names.items ≡ [] }
+    {
+        if self.names.len() > MOST_KEPT {
+            *self = LocalIds::new(alloc);
+        } else {
+            self.names.clear();
+            self.named.clear();
+            self.numbered.clear();
         }
     }
 

@@ -1,5 +1,8 @@
 //! What the values and the blocks of a function are called.
+ghost use Rattle.std.specs.Prelude.{◌≡◌, []};
+
 use crate::local_ids::LocalIds;
+use std::alloc::Global;
 
 /// The locals of a function, by their ids.
 #[derive(Drop)]
@@ -8,4 +11,26 @@ pub struct Locals<'a> {
     pub values: LocalIds<'a>,
     /// What its blocks are called.
     pub blocks: LocalIds<'a>,
+}
+
+impl<'a> Locals<'a> {
+    /// None yet.
+    pub fn new(alloc: Global) -> Locals<'a>
+        ensures values { result.values.names.items ≡ [] }
+        ensures blocks { result.blocks.names.items ≡ [] }
+    {
+        Locals {
+            values: LocalIds::new(alloc),
+            blocks: LocalIds::new(alloc),
+        }
+    }
+
+    /// Takes all out, for those of another function.
+    pub fn clear(&mut self, alloc: Global)
+        ensures values { self.new.values.names.items ≡ [] }
+        ensures blocks { self.new.blocks.names.items ≡ [] }
+    {
+        self.values.clear(alloc);
+        self.blocks.clear(alloc);
+    }
 }

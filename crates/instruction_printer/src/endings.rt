@@ -162,23 +162,27 @@ pub fn put_ending<S: Sink>(
         Ending::ReturnVoid => put_return_void(out, sink, behind),
         Ending::Return(part) => put_return(out, sink, arena, function, *part, behind),
         Ending::Jump(to) => put_jump(out, sink, function, *to, behind),
-        Ending::Branch(condition, then_to, else_to) => {
-            put_branch(
-                out, sink, arena, function, *condition, *then_to, *else_to, behind,
-            )
-        }
-        Ending::Switch(part, otherwise, cases) => {
-            put_switch(
-                out,
-                sink,
-                arena,
-                function,
-                *part,
-                *otherwise,
-                cases.as_slice(),
-                behind,
-            )
-        }
+        Ending::Branch {
+            condition,
+            then_to,
+            else_to,
+        } => put_branch(
+            out, sink, arena, function, *condition, *then_to, *else_to, behind,
+        ),
+        Ending::Switch {
+            value,
+            otherwise,
+            cases,
+        } => put_switch(
+            out,
+            sink,
+            arena,
+            function,
+            *value,
+            *otherwise,
+            cases.as_slice(),
+            behind,
+        ),
         Ending::Unreachable => put_token(out, sink, b"unreachable", behind),
     }
 }

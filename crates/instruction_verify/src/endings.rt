@@ -106,9 +106,9 @@ fn ending_suits(
     match ending {
         Ending::ReturnVoid => Ok(types.is_void(returns)),
         Ending::Return(operand) => Ok(types.same_type(operand.ty, returns)),
-        Ending::Branch(condition, _, _) => Ok(types.is_integer_of(condition.ty, 1)),
-        Ending::Switch(operand, _, cases) => {
-            switch_suits(alloc, judge, operand.ty, cases.as_slice())
+        Ending::Branch { condition, .. } => Ok(types.is_integer_of(condition.ty, 1)),
+        Ending::Switch { value, cases, .. } => {
+            switch_suits(alloc, judge, value.ty, cases.as_slice())
         }
         Ending::Jump(_) => Ok(true),
         Ending::Unreachable => Ok(true),

@@ -172,10 +172,10 @@ pub(crate) fn ending_fact(judge: &Judge<'_>, ending: &Ending) -> OperandFact
 {
     match ending {
         Ending::Return(operand) => operands_fact(judge, slice::from_ref(operand)),
-        Ending::Branch(condition, _, _) => operands_fact(judge, slice::from_ref(condition)),
-        Ending::Switch(operand, _, cases) => {
+        Ending::Branch { condition, .. } => operands_fact(judge, slice::from_ref(condition)),
+        Ending::Switch { value, cases, .. } => {
             let others = cases_fact(judge, cases.as_slice());
-            operands_fact(judge, slice::from_ref(operand)).and(others)
+            operands_fact(judge, slice::from_ref(value)).and(others)
         }
         Ending::ReturnVoid | Ending::Jump(_) | Ending::Unreachable => OperandFact::all_pass(),
     }

@@ -103,7 +103,11 @@ struct_constant_row typed = mapped (λ v. ListConstant v.0 brackets.Braces (cons
 
 -- <{ (TYPE CONST),* }>
 abbrev pub packed_constant_row : Row Located TypedConstantTree → Row Located ConstantTree
-packed_constant_row typed = mapped (λ v. ListConstant v.0 brackets.Packed (constants v.1)) (pair (word terminal.Less) (keep_second (word terminal.OpenBrace) (keep_first (elements_row typed) (keep_second (word terminal.CloseBrace) (word terminal.Greater)))))
+packed_constant_row typed =
+    mapped (λ v. ListConstant v.0 brackets.Packed (constants v.1))
+    (pair (word terminal.Less)
+    (keep_second (word terminal.OpenBrace)
+    (keep_first (elements_row typed) (keep_second (word terminal.CloseBrace) (word terminal.Greater)))))
 
 -- TYPE CONST (, TYPE CONST)*
 unfoldable pub operands_core : Row Located TypedConstantTree → Row Located (List TypedConstantTree)
@@ -121,7 +125,9 @@ operands_row typed = labelled operands_shape (operands_core typed)
 abbrev pub element_address_row : Limits → Row Located TypedConstantTree → Place → Row Located ConstantTree
 element_address_row limits typed place =
     mapped (λ (flags, (source, operands)). ElementAddress place flags source (constants operands))
-    (pair (flags_row op.GetElementPtr) (keep_second (word terminal.OpenParenthesis) (pair (keep_first (type_row limits) (word terminal.Comma)) (keep_first (operands_row typed) (word terminal.CloseParenthesis)))))
+    (pair (flags_row op.GetElementPtr)
+    (keep_second (word terminal.OpenParenthesis)
+    (pair (keep_first (type_row limits) (word terminal.Comma)) (keep_first (operands_row typed) (word terminal.CloseParenthesis)))))
 
 -- ( TYPE CONST to TYPE ), behind `ptrtoint`, `inttoptr` or `trunc`
 abbrev pub conversion_row : Limits → Row Located TypedConstantTree → Place → Opcode → Row Located ConstantTree

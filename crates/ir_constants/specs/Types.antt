@@ -41,7 +41,9 @@ named_row limits = mapped NamedType (named_local_row limits)
 
 -- [ INT x TYPE ]
 abbrev pub array_row : Row Located TypeTree → Row Located TypeTree
-array_row t = mapped (λ (place, (count, element)). ArrayType place count element) (pair (word terminal.OpenBracket) (pair integer_row (keep_second (word terminal.X) (keep_first t (word terminal.CloseBracket)))))
+array_row t =
+    mapped (λ (place, (count, element)). ArrayType place count element)
+    (pair (word terminal.OpenBracket) (pair integer_row (keep_second (word terminal.X) (keep_first t (word terminal.CloseBracket)))))
 
 -- a list with commas, of what begins as types do
 abbrev pub list_shape : Shape
@@ -61,7 +63,11 @@ struct_row t = mapped (λ v. StructType v.0 false (types v.1)) (pair (word termi
 
 -- <{ TYPE,* }>
 abbrev pub packed_row : Row Located TypeTree → Row Located TypeTree
-packed_row t = mapped (λ v. StructType v.0 true (types v.1)) (pair (word terminal.Less) (keep_second (word terminal.OpenBrace) (keep_first (types_row t) (keep_second (word terminal.CloseBrace) (word terminal.Greater)))))
+packed_row t =
+    mapped (λ v. StructType v.0 true (types v.1))
+    (pair (word terminal.Less)
+    (keep_second (word terminal.OpenBrace)
+    (keep_first (types_row t) (keep_second (word terminal.CloseBrace) (word terminal.Greater)))))
 
 -- a type that holds types, which are these
 abbrev pub nest_step : Row Located TypeTree → Row Located TypeTree

@@ -17,7 +17,9 @@ block_shape = record { first = code terminal.Label ∷ instruction_shape.first +
 
 -- LABEL? INST* END
 unfoldable pub block_core : Limits → Row Located BlockTree
-block_core limits = mapped (λ (label, (instructions, ending)). record { label = label; instructions = instructions; ending = ending }) (pair (optional class label_row) (pair (instructions_row limits) (ending_row limits)))
+block_core limits =
+    mapped (λ (label, (instructions, ending)). record { label = label; instructions = instructions; ending = ending })
+    (pair (optional class label_row) (pair (instructions_row limits) (ending_row limits)))
 
 -- LABEL? INSTRUCTION* ENDING
 abbrev pub block_row : Limits → Row Located BlockTree

@@ -15,7 +15,12 @@ use Rattle.ir_instructions.specs.Dropped.{comma_shape, commas_shape, attachments
 
 -- , TYPE or , ..., and nothing behind `...`
 abbrev pub signature_step : Limits → SignatureTree → Row Located SignatureTree
-signature_step limits s = cond s.1 (fail comma_shape) (keep_second (word terminal.Comma) (alt class (mapped (λ p. (s.0, true)) (word terminal.Dots)) (mapped (λ t. (s.0 ++ t ∷ [], false)) (type_row limits))))
+signature_step limits (parameters, variadic) =
+    cond variadic (fail comma_shape)
+    (keep_second (word terminal.Comma)
+    (alt class
+    (mapped (λ p. (parameters, true)) (word terminal.Dots))
+    (mapped (λ t. (parameters ++ t ∷ [], false)) (type_row limits))))
 
 -- TYPE (, TYPE)* (, ...)?
 abbrev pub some_types_row : Limits → Row Located SignatureTree

@@ -40,7 +40,11 @@ parameter_word_row = dropped (one class (code terminal.ParameterDropped ∷ code
 
 -- align INT, or align ( INT )
 abbrev pub parameter_alignment_row : Row Located (Unit {0})
-parameter_alignment_row = keep_second (word terminal.Align) (alt class (dropped (word terminal.Integer)) (keep_second (word terminal.OpenParenthesis) (keep_second (word terminal.Integer) (dropped (word terminal.CloseParenthesis)))))
+parameter_alignment_row =
+    keep_second (word terminal.Align)
+    (alt class
+    (dropped (word terminal.Integer))
+    (keep_second (word terminal.OpenParenthesis) (keep_second (word terminal.Integer) (dropped (word terminal.CloseParenthesis)))))
 
 -- a word and what is in its brackets
 abbrev pub parameter_list_row : Row Located (Unit {0})
@@ -48,7 +52,11 @@ parameter_list_row = keep_second (word terminal.ParameterDroppedList) (matched_r
 
 -- how the attribute of a parameter begins
 abbrev pub parameter_attribute_shape : Shape
-parameter_attribute_shape = record { first = code terminal.ParameterDropped ∷ code terminal.AttributeDropped ∷ code terminal.Align ∷ code terminal.ParameterDroppedList ∷ []; more = []; empty = false }
+parameter_attribute_shape = record {
+  first = code terminal.ParameterDropped ∷ code terminal.AttributeDropped ∷ code terminal.Align ∷ code terminal.ParameterDroppedList ∷ [];
+  more = [];
+  empty = false;
+}
 
 -- PDROP
 abbrev pub parameter_attribute_row : Row Located (Unit {0})

@@ -146,7 +146,11 @@ unreachable_row = labelled unreachable_shape unreachable_core
 
 -- how the ends of blocks begin and go on
 abbrev pub ending_shape : Shape
-ending_shape = record { first = code (terminal.Opcode op.Ret) ∷ code (terminal.Opcode op.Br) ∷ code (terminal.Opcode op.Switch) ∷ code (terminal.Opcode op.Unreachable) ∷ []; more = code terminal.Comma ∷ []; empty = false }
+ending_shape = record {
+  first = code (terminal.Opcode op.Ret) ∷ code (terminal.Opcode op.Br) ∷ code (terminal.Opcode op.Switch) ∷ code (terminal.Opcode op.Unreachable) ∷ [];
+  more = code terminal.Comma ∷ [];
+  empty = false;
+}
 
 -- END
 unfoldable pub ending_core : Limits → Row Located EndingTree

@@ -16,10 +16,12 @@ use Rattle.ir_instructions.specs.Calls.{call_row}
 -- the opcodes of instructions that have a result, or may have one
 abbrev pub result_classes : List ℕ
 result_classes =
-    code (terminal.Opcode op.Add) ∷ code (terminal.Opcode op.Sub) ∷ code (terminal.Opcode op.Mul) ∷ code (terminal.Opcode op.UDiv) ∷ code (terminal.Opcode op.SDiv) ∷ code (terminal.Opcode op.URem)
-    ∷ code (terminal.Opcode op.SRem) ∷ code (terminal.Opcode op.Shl) ∷ code (terminal.Opcode op.LShr) ∷ code (terminal.Opcode op.AShr) ∷ code (terminal.Opcode op.And) ∷ code (terminal.Opcode op.Or)
-    ∷ code (terminal.Opcode op.Xor) ∷ code (terminal.Opcode op.ICmp) ∷ code (terminal.Opcode op.Trunc) ∷ code (terminal.Opcode op.ZExt) ∷ code (terminal.Opcode op.SExt) ∷ code (terminal.Opcode op.PtrToInt)
-    ∷ code (terminal.Opcode op.IntToPtr) ∷ code (terminal.Opcode op.Select) ∷ code (terminal.Opcode op.Freeze) ∷ code (terminal.Opcode op.Phi) ∷ code (terminal.Opcode op.Load) ∷ code (terminal.Opcode op.Alloca)
+    code (terminal.Opcode op.Add) ∷ code (terminal.Opcode op.Sub) ∷ code (terminal.Opcode op.Mul) ∷ code (terminal.Opcode op.UDiv)
+    ∷ code (terminal.Opcode op.SDiv) ∷ code (terminal.Opcode op.URem) ∷ code (terminal.Opcode op.SRem) ∷ code (terminal.Opcode op.Shl)
+    ∷ code (terminal.Opcode op.LShr) ∷ code (terminal.Opcode op.AShr) ∷ code (terminal.Opcode op.And) ∷ code (terminal.Opcode op.Or)
+    ∷ code (terminal.Opcode op.Xor) ∷ code (terminal.Opcode op.ICmp) ∷ code (terminal.Opcode op.Trunc) ∷ code (terminal.Opcode op.ZExt)
+    ∷ code (terminal.Opcode op.SExt) ∷ code (terminal.Opcode op.PtrToInt) ∷ code (terminal.Opcode op.IntToPtr) ∷ code (terminal.Opcode op.Select)
+    ∷ code (terminal.Opcode op.Freeze) ∷ code (terminal.Opcode op.Phi) ∷ code (terminal.Opcode op.Load) ∷ code (terminal.Opcode op.Alloca)
     ∷ code (terminal.Opcode op.GetElementPtr) ∷ code (terminal.Opcode op.Call) ∷ code (terminal.Opcode op.ExtractValue) ∷ code (terminal.Opcode op.InsertValue) ∷ []
 
 -- and `store`, which has none

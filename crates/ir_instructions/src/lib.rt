@@ -5,7 +5,7 @@
 //! are read and dropped. Definitions: `specs/Operations`, `specs/Instructions`, `specs/Endings`, `specs/Blocks`.
 //!
 //! ```
-//! let limits = Limits { nesting: 64, wide: false };
+//! let limits = Limits { nesting: 64, with_left_out: false };
 //! let mut cursor = Cursor::new(alloc, b"{ %1 = add i32 %0, 1 ret i32 %1 }", limits);
 //! let blocks = blocks_of(&mut cursor)?;
 //! // One block without a label: its one instruction is an Operation::Binary whose result is called 1, and an

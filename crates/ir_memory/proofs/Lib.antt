@@ -1,5 +1,5 @@
 pub mod Placed
-pub mod Search
+mod Search
 pub mod Finds
 pub mod Bytes
 pub mod Known

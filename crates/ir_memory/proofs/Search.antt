@@ -1,11 +1,14 @@
--- The last live block that starts at or below an address is the only one that can have it, and how starts are kept.
-use Rattle.std.proofs.Common.{◌≡◌, ℕ, zero, suc, ◌<◌, ◌≤◌, List, [], ◌∷◌, ◌++◌, length, get_or, set, arith, true, false, Option, Some, None, subst, inl, inr, ap, sym, refl, ◌∙◌, length-append, ◌-◌}
-use Rattle.std.specs.Prelude.{IsSome, ◌==◌, ◌≢◌, if◌then◌else◌, replicate}
+-- The page of an address and the last live block of it that begins at or below the address are the only ones that can have
+-- it, and how starts of pages are kept.
+use Rattle.std.proofs.Common.{◌≡◌, ℕ, zero, suc, ◌+◌, ◌-◌, ◌*◌, ◌/◌, ◌%◌, ◌<◌, ◌≤◌, List, [], ◌∷◌, ◌++◌, length, get_or, set, arith, true, false, Option, Some, None, subst, inl, inr, ap, sym, refl, ◌∙◌, length-append}
+use Rattle.std.specs.Prelude.{◌≢◌, replicate}
 use Rattle.std.proofs.lemmas.Bool.{cases_lt, cases_eq}
 use Rattle.std.proofs.lemmas.Bool.Decides.{nat_tests}
-use Rattle.std.proofs.lemmas.List.{get_or-append_right, get_or_append_left, length-set, get_or-set_same, get_or-set_other}
+use Rattle.std.proofs.lemmas.List.{get_or_push, get_or_append_left, length-set, get_or-set_same, get_or-set_other}
 use Rattle.ir_eval.specs.declared.value.Scalar.{Scalar}
+use Rattle.pointer_pieces.specs.declared.piece.PointerPiece.{PointerPiece}
 use Rattle.ir_memory.specs.declared.access.BlockPlace.{BlockPlace}
+use Rattle.ir_memory.specs.declared.kept.KeptBlock.{KeptBlock}
 use Rattle.ir_memory.specs.declared.leaf.Leaf.{Leaf}
 use Rattle.ir_memory.specs.declared.cell.Cell.{Cell}
 use Rattle.ir_memory.specs.declared.cell.Cell.TheVariants as cell
@@ -13,148 +16,185 @@ use Rattle.ir_memory.specs.Cell.{leaf_cells}
 use Rattle.ir_memory.specs.Block.{MemoryBlock, gone, written}
 use Rattle.ir_memory.specs.Memory.{changed, cells_at}
 use Rattle.ir_memory.specs.Kept.{IsPlaced}
-use Rattle.ir_memory.specs.Find.{AreStarts, HasOnly, IsLast}
+use Rattle.ir_memory.specs.Seen.{all_seen, ended_block}
+use Rattle.ir_memory.specs.Find.{AreBefore, AreStarts, HasOnly, IsLast, IsSplit, noted}
+use Rattle.ir_memory.proofs.Changed.{length-all, seen-read}
 use Rattle.ir_memory.proofs.Known.{length-changed}
 use Rattle.ir_memory.proofs.Placed.{IsPlaced-apart, IsPlaced-at}
 
--- the greatest start at or below the address is that of the one block that can have it
-pub only_last : (starts : ℕ → Option ℕ) (blocks : List MemoryBlock) (next address i : ℕ) → AreStarts starts blocks → IsPlaced 65536 blocks next → IsLast starts address i → HasOnly blocks address (Some i)
-only_last starts blocks next address i are placed found k d within live above inside =
-    let s = found.0 in
-    let least : (get_or blocks k d).start ≤ s = found.3 (get_or blocks k d).start above (subst IsSome (sym (are.all k d within live)) refl) in
-    let here : (get_or blocks i d).start ≡ s = are.start s i d found.1 in
-    elim (cases_lt i k) [
-      | inl h ↦
-          let apart = IsPlaced-apart blocks 65536 next d i k placed h within (are.live s i d found.1) live in
-          absurd (omega (arith, apart, least, here))
-      | inr h ↦ elim (cases_lt k i) [
-        | inl g ↦
-            let apart = IsPlaced-apart blocks 65536 next d k i placed g (are.within s i found.1) live (are.live s i d found.1) in
-            absurd (omega (arith, apart, inside, found.2, here))
-        | inr g ↦ let e : i ≡ k = omega (arith, h, g) in ap Some e
-      ]
+-- pages that start at or below an address, and those that do not
+module _ (p : ℕ → Option PointerPiece) (kept : List KeptBlock) (starts : List ℕ) (address below : ℕ) (are : AreStarts starts (all_seen p kept)) (split : IsSplit starts address below) where
+  -- a live block that can have the address is one of the last page that starts at or below it
+  paged : (k : ℕ) (d : MemoryBlock) → k < length (all_seen p kept) → (get_or (all_seen p kept) k d).live ≡ true → (get_or (all_seen p kept) k d).start ≤ address → address ≤ (get_or (all_seen p kept) k d).start + (get_or (all_seen p kept) k d).size → k / 64 + 1 ≡ below
+  paged k d within live above inside = elim (cases_lt (k / 64) below) [
+    | inr h ↦
+        let page : k / 64 < length starts = omega (arith, within, are.enough) in
+        let low = are.low k d within live in
+        let high = split.high (k / 64) h page in
+        absurd (omega (arith, low, high, above))
+    | inl h ↦ elim (cases_lt (k / 64 + 1) below) [
+      | inl g ↦
+          let high = are.high k (below - 1) d within live (omega (arith, g)) (omega (arith, g, split.within)) in
+          let low = split.low (below - 1) (omega (arith, g)) in
+          absurd (omega (arith, high, low, inside))
+      | inr g ↦ omega (arith, h, g)
     ]
+  ]
 
--- no start lies at or below the address
-pub only_none : (starts : ℕ → Option ℕ) (blocks : List MemoryBlock) (address : ℕ) → AreStarts starts blocks → ((q : ℕ) → q ≤ address → starts q ≡ None) → HasOnly blocks address None
-only_none starts blocks address are none k d within live above inside =
-    sym (none (get_or blocks k d).start above) ∙ are.all k d within live
+  -- no page starts at or below the address
+  pub only_none : below ≡ 0 → HasOnly (all_seen p kept) address None
+  only_none e k d within live above inside = absurd (omega (arith, paged k d within live above inside, e))
 
--- at one key there is another value
-abbrev pub Differs : (ℕ → Option ℕ) → (ℕ → Option ℕ) → ℕ → Option ℕ → Type 0
-Differs old new key value = (q : ℕ) → new q ≡ (if q == key then value else old q)
+  -- the last block of that page that begins at or below the address is the one that can have it
+  pub only_last : (next from to : ℕ) (place : Option ℕ) → IsPlaced 65536 (all_seen p kept) next → from + 64 ≡ 64 * below → to ≤ length kept → ((k : ℕ) → k < length kept → k < from + 64 → k < to) → IsLast kept from to address place → HasOnly (all_seen p kept) address place
+  only_last next from to None placed page most reach none k d within live above inside =
+      let here = paged k d within live above inside in
+      let h : k < length kept = omega (arith, within, length-all p kept) in
+      let is = seen-read p kept k d ended_block h in
+      let after = none k (omega (arith, here, page)) (reach k h (omega (arith, here, page))) (ap (λ x. x.live) (sym is) ∙ live) in
+      absurd (omega (arith, after, ap (λ x. x.start) is, above))
+  only_last next from to (Some i) placed page most reach found k d within live above inside =
+      let here = paged k d within live above inside in
+      let h : k < length kept = omega (arith, within, length-all p kept) in
+      let is = seen-read p kept k d ended_block h in
+      elim (cases_lt i k) [
+        | inl l ↦
+            let after = found.3 k (omega (arith, l)) (reach k h (omega (arith, here, page))) (ap (λ x. x.live) (sym is) ∙ live) in
+            absurd (omega (arith, after, ap (λ x. x.start) is, above))
+        | inr l ↦ elim (cases_lt k i) [
+          | inl g ↦
+              let lt : i < length kept = omega (arith, found.0, most) in
+              let there = seen-read p kept i d ended_block lt in
+              let apart = IsPlaced-apart (all_seen p kept) 65536 next d k i placed g (omega (arith, lt, length-all p kept)) live (ap (λ x. x.live) there ∙ found.1) in
+              absurd (omega (arith, apart, ap (λ x. x.start) there, found.2, inside))
+          | inr g ↦ let same : i ≡ k = omega (arith, l, g) in ap Some same
+        ]
+      ]
 
-module _ (old new : ℕ → Option ℕ) (key : ℕ) (value : Option ℕ) (differs : Differs old new key value) where
-  there : (q : ℕ) → q ≡ key → new q ≡ value
-  there q e = differs q ∙ grind (arith, nat_tests)
+pub AreStarts-none : AreStarts [] []
+AreStarts-none = record {
+  enough = omega arith;
+  few = omega arith;
+  rising = λ p q h l. absurd (omega (arith, l));
+  low = λ k d h l. absurd (omega (arith, h));
+  high = λ k p d h l a b. absurd (omega (arith, h));
+}
 
-  elsewhere : (q : ℕ) → q ≢ key → new q ≡ old q
-  elsewhere q e = differs q ∙ grind (arith, nat_tests)
+-- by whether the block of a number is the first of a page
+by_page : (P : List ℕ → Type 0) (index start : ℕ) (starts : List ℕ) → (index % 64 ≡ 0 → P (starts ++ start ∷ [])) → (index % 64 ≢ 0 → P starts) → P (noted index start starts)
+by_page P index start starts first other = elim (cases_eq (index % 64) 0) [
+  | inl e ↦ subst P (sym (yes e)) (first e)
+  | inr n ↦ subst P (sym (no n)) (other n)
+]
+  where
+    yes : index % 64 ≡ 0 → noted index start starts ≡ starts ++ start ∷ []
+    yes e = grind (arith, nat_tests)
 
-same_some : {i j : ℕ} → Some i ≡ Some j → i ≡ j
-same_some e = cc
+    no : index % 64 ≢ 0 → noted index start starts ≡ starts
+    no n = grind (arith, nat_tests)
 
 -- a block is added behind all others
-module _ (old new : ℕ → Option ℕ) (bs : List MemoryBlock) (b : MemoryBlock) (next : ℕ) (are : AreStarts old bs) (placed : IsPlaced 65536 bs next) (above : next ≤ b.start) (live : b.live ≡ true) (differs : Differs old new b.start (Some (length bs))) where
+module _ (starts : List ℕ) (bs : List MemoryBlock) (b : MemoryBlock) (next : ℕ) (are : AreStarts starts bs) (before : AreBefore starts next) (placed : IsPlaced 65536 bs next) (above : next ≤ b.start) where
   early : (k : ℕ) (d : MemoryBlock) → k < length bs → get_or (bs ++ b ∷ []) k d ≡ get_or bs k d
   early k d h = get_or_append_left bs (b ∷ []) d k h
 
   late : (k : ℕ) (d : MemoryBlock) → k ≡ length bs → get_or (bs ++ b ∷ []) k d ≡ b
-  late k d e =
-      let z : k - length bs ≡ 0 = omega arith in
-      get_or-append_right bs (b ∷ []) (length bs) k d refl (omega arith) ∙ ap (λ n. get_or (b ∷ []) n d) z
+  late k d e = get_or_push bs b d k (sym e)
 
-  below : (k : ℕ) (d : MemoryBlock) → k < length bs → (get_or bs k d).live ≡ true → (get_or bs k d).start ≢ b.start
-  below k d h l = λ e. let p = IsPlaced-at bs 65536 next d k placed h l in absurd (omega (arith, p, e, above))
-
-  all_added : (k : ℕ) (d : MemoryBlock) → k < length (bs ++ b ∷ []) → (get_or (bs ++ b ∷ []) k d).live ≡ true → new (get_or (bs ++ b ∷ []) k d).start ≡ Some k
-  all_added k d h l = elim (cases_lt k (length bs)) [
-    | inl g ↦
-        let m = subst (λ x. x.live ≡ true) (early k d g) l in
-        subst (λ x. new x.start ≡ Some k) (sym (early k d g)) (elsewhere old new b.start _ differs _ (below k d g m) ∙ are.all k d g m)
-    | inr g ↦
-        let e : k ≡ length bs = omega (arith, h, g, length-append bs (b ∷ [])) in
-        subst (λ x. new x.start ≡ Some k) (sym (late k d e)) (there old new b.start _ differs b.start refl ∙ ap Some (sym e))
+  -- by whether a block is the new one
+  by_age : (P : MemoryBlock → Type 0) (k : ℕ) (d : MemoryBlock) → k < length (bs ++ b ∷ []) → (k < length bs → P (get_or bs k d)) → (k ≡ length bs → P b) → P (get_or (bs ++ b ∷ []) k d)
+  by_age P k d h old new = elim (cases_lt k (length bs)) [
+    | inl g ↦ subst P (sym (early k d g)) (old g)
+    | inr g ↦ let e : k ≡ length bs = omega (arith, h, g, length-append bs (b ∷ [])) in subst P (sym (late k d e)) (new e)
   ]
 
-  -- what has a number is the new block, or had it
-  before : {P : Type 0} (s k : ℕ) → new s ≡ Some k → (s ≡ b.start → k ≡ length bs → P) → (old s ≡ Some k → P) → P
-  before s k is f g = elim (cases_eq s b.start) [
-    | inl e ↦ f e (same_some (sym is ∙ there old new b.start _ differs s e))
-    | inr n ↦ g (sym (elsewhere old new b.start _ differs s n) ∙ is)
-  ]
-
-  pub AreStarts-added : AreStarts new (bs ++ b ∷ [])
-  AreStarts-added = record {
-    all = all_added;
-    within = λ s k is. before s k is (λ e f. omega (arith, f, length-append bs (b ∷ []))) (λ o. omega (arith, are.within s k o, length-append bs (b ∷ [])));
-    live = λ s k d is. before s k is (λ e f. subst (λ x. x.live ≡ true) (sym (late k d f)) live) (λ o. subst (λ x. x.live ≡ true) (sym (early k d (are.within s k o))) (are.live s k d o));
-    start = λ s k d is. before s k is (λ e f. subst (λ x. x.start ≡ s) (sym (late k d f)) (sym e)) (λ o. subst (λ x. x.start ≡ s) (sym (early k d (are.within s k o))) (are.start s k d o));
+  -- the page of the new block was there
+  other : length bs % 64 ≢ 0 → AreStarts starts (bs ++ b ∷ [])
+  other n = record {
+    enough = omega (arith, length-append bs (b ∷ []), are.enough, n);
+    few = omega (arith, length-append bs (b ∷ []), are.few);
+    rising = are.rising;
+    low = λ k d h. by_age (λ x. x.live ≡ true → get_or starts (k / 64) 0 ≤ x.start) k d h
+        (λ g l. are.low k d g l)
+        (λ e l. let old = before (k / 64) (omega (arith, e, are.enough, n)) in omega (arith, old, above));
+    high = λ k p d h. by_age (λ x. x.live ≡ true → k / 64 < p → p < length starts → x.start + x.size < get_or starts p 0) k d h
+        (λ g l. are.high k p d g l)
+        (λ e l a c. absurd (omega (arith, e, a, c, are.few, n)));
   }
 
--- nothing has changed
-pub AreStarts-same : (old new : ℕ → Option ℕ) (bs : List MemoryBlock) → ((q : ℕ) → new q ≡ old q) → AreStarts old bs → AreStarts new bs
-AreStarts-same old new bs same are = record {
-  all = λ k d h l. same _ ∙ are.all k d h l;
-  within = λ s k is. are.within s k (sym (same s) ∙ is);
-  live = λ s k d is. are.live s k d (sym (same s) ∙ is);
-  start = λ s k d is. are.start s k d (sym (same s) ∙ is);
-}
+  old_start : (p : ℕ) → p < length starts → get_or (starts ++ b.start ∷ []) p 0 ≡ get_or starts p 0
+  old_start p h = get_or_append_left starts (b.start ∷ []) 0 p h
 
--- a start that was never there is taken back
-pub AreStarts-back : (old more new : ℕ → Option ℕ) (bs : List MemoryBlock) (next key : ℕ) (value : Option ℕ) → AreStarts old bs → IsPlaced 65536 bs next → next ≤ key → Differs old more key value → Differs more new key None → AreStarts new bs
-AreStarts-back old more new bs next key value are placed above one two = AreStarts-same old new bs same are
-  where
-    absent : (o : Option ℕ) → old key ≡ o → None ≡ old key
-    absent None e = sym e
-    absent (Some k) e =
-        let p = IsPlaced-at bs 65536 next (get_or bs k gone) k placed (are.within key k e) (are.live key k _ e) in
-        let s = are.start key k (get_or bs k gone) e in
-        absurd (omega (arith, p, s, above))
+  new_start : (p : ℕ) → p ≡ length starts → get_or (starts ++ b.start ∷ []) p 0 ≡ b.start
+  new_start p e = get_or_push starts b.start 0 p (sym e)
 
-    same : (q : ℕ) → new q ≡ old q
-    same q = elim (cases_eq q key) [
-      | inl e ↦ there more new key None two q e ∙ absent (old key) refl ∙ ap old (sym e)
-      | inr n ↦ elsewhere more new key None two q n ∙ elsewhere old more key value one q n
-    ]
+  -- no start is above the new one
+  last_start : (p : ℕ) → p < length (starts ++ b.start ∷ []) → get_or (starts ++ b.start ∷ []) p 0 ≤ b.start
+  last_start p h = elim (cases_lt p (length starts)) [
+    | inl g ↦ omega (arith, old_start p g, before p g, above)
+    | inr g ↦ omega (arith, new_start p (omega (arith, h, g, length-append starts (b.start ∷ []))))
+  ]
+
+  more_rising : (p q : ℕ) → p ≤ q → q < length (starts ++ b.start ∷ []) → get_or (starts ++ b.start ∷ []) p 0 ≤ get_or (starts ++ b.start ∷ []) q 0
+  more_rising p q le h = elim (cases_lt q (length starts)) [
+    | inl g ↦ omega (arith, old_start p (omega (arith, g, le)), old_start q g, are.rising p q le g)
+    | inr g ↦ omega (arith, new_start q (omega (arith, h, g, length-append starts (b.start ∷ []))), last_start p (omega (arith, h, le)))
+  ]
+
+  -- an old live block ends before a page that starts with the new one
+  more_high : (k p : ℕ) (d : MemoryBlock) → k < length bs → (get_or bs k d).live ≡ true → k / 64 < p → p < length (starts ++ b.start ∷ []) → (get_or bs k d).start + (get_or bs k d).size < get_or (starts ++ b.start ∷ []) p 0
+  more_high k p d g l a c = elim (cases_lt p (length starts)) [
+    | inl f ↦ omega (arith, old_start p f, are.high k p d g l a f)
+    | inr f ↦
+        let end = IsPlaced-at bs 65536 next d k placed g l in
+        omega (arith, new_start p (omega (arith, c, f, length-append starts (b.start ∷ []))), end.1, above)
+  ]
+
+  -- the new block is the first of its page
+  first : length bs % 64 ≡ 0 → AreStarts (starts ++ b.start ∷ []) (bs ++ b ∷ [])
+  first z = record {
+    enough = omega (arith, length-append bs (b ∷ []), length-append starts (b.start ∷ []), are.enough, z);
+    few = omega (arith, length-append bs (b ∷ []), length-append starts (b.start ∷ []), are.few, are.enough, z);
+    rising = more_rising;
+    low = λ k d h. by_age (λ x. x.live ≡ true → get_or (starts ++ b.start ∷ []) (k / 64) 0 ≤ x.start) k d h
+        (λ g l. omega (arith, old_start (k / 64) (omega (arith, g, are.enough)), are.low k d g l))
+        (λ e l. last_start (k / 64) (omega (arith, e, z, are.few, are.enough, length-append starts (b.start ∷ []))));
+    high = λ k p d h. by_age (λ x. x.live ≡ true → k / 64 < p → p < length (starts ++ b.start ∷ []) → x.start + x.size < get_or (starts ++ b.start ∷ []) p 0) k d h
+        (λ g l a c. more_high k p d g l a c)
+        (λ e l a c. absurd (omega (arith, e, z, a, c, are.few, are.enough, length-append starts (b.start ∷ []))));
+  }
+
+  pub AreStarts-added : AreStarts (noted (length bs) b.start starts) (bs ++ b ∷ [])
+  AreStarts-added = by_page (λ s. AreStarts s (bs ++ b ∷ [])) (length bs) b.start starts first other
+
+  pub AreBefore-added : (after : ℕ) → b.start ≤ after → AreBefore (noted (length bs) b.start starts) after
+  AreBefore-added after h =
+      by_page (λ s. AreBefore s after) (length bs) b.start starts
+      (λ e p l. let last = last_start p l in omega (arith, last, h))
+      (λ n p l. let old = before p l in omega (arith, old, above, h))
 
 -- a live block ends
-module _ (old new : ℕ → Option ℕ) (bs : List MemoryBlock) (i : ℕ) (b : MemoryBlock) (within : i < length bs) (is : b ≡ get_or bs i b) (are : AreStarts old bs) (live : b.live ≡ true) (differs : Differs old new b.start None) where
-  named : old b.start ≡ Some i
-  named = subst (λ x. old x.start ≡ Some i) (sym is) (are.all i b within (subst (λ x. x.live ≡ true) is live))
-
-  other : (s k : ℕ) → new s ≡ Some k → (old s ≡ Some k) × (k ≢ i)
-  other s k h = elim (cases_eq s b.start) [
-    | inl e ↦ absurd (none (sym (there old new b.start None differs s e) ∙ h))
-    | inr n ↦
-        let o : old s ≡ Some k = sym (elsewhere old new b.start None differs s n) ∙ h in
-        (o, λ e. n (sym (are.start s k b o) ∙ ap (λ j. (get_or bs j b).start) e ∙ ap (λ x. x.start) (sym is)))
+module _ (starts : List ℕ) (bs : List MemoryBlock) (i : ℕ) (within : i < length bs) (are : AreStarts starts bs) where
+  still : (k : ℕ) (d : MemoryBlock) → (get_or (set bs i gone) k d).live ≡ true → get_or (set bs i gone) k d ≡ get_or bs k d
+  still k d l = elim (cases_eq k i) [
+    | inl e ↦ absurd (never (sym (ap (λ x. x.live) (ap (λ j. get_or (set bs i gone) j d) e ∙ get_or-set_same bs i gone d within)) ∙ l))
+    | inr n ↦ get_or-set_other bs i k gone d n
   ]
-    where
-      none : {k : ℕ} → None ≡ Some k → ⊥
-      none e = cc
-
-  still : (k : ℕ) (d : MemoryBlock) → (get_or (set bs i gone) k d).live ≡ true → k ≢ i
-  still k d l = λ e. never (sym (ap (λ x. x.live) (ap (λ j. get_or (set bs i gone) j d) e ∙ get_or-set_same bs i gone d within)) ∙ l)
     where
       never : false ≡ true → ⊥
       never e = cc
 
-  all_ended : (k : ℕ) (d : MemoryBlock) → k < length (set bs i gone) → (get_or (set bs i gone) k d).live ≡ true → new (get_or (set bs i gone) k d).start ≡ Some k
-  all_ended k d h l =
-      let n = still k d l in
-      let e = get_or-set_other bs i k gone d n in
-      let m = subst (λ x. x.live ≡ true) e l in
-      let o = are.all k d (omega (arith, h, length-set bs i gone)) m in
-      subst (λ x. new x.start ≡ Some k) (sym e)
-      (elsewhere old new b.start None differs (get_or bs k d).start (λ f. n (same_some (sym o ∙ ap old f ∙ named))) ∙ o)
-
-  pub AreStarts-ended : AreStarts new (set bs i gone)
+  pub AreStarts-ended : AreStarts starts (set bs i gone)
   AreStarts-ended = record {
-    all = all_ended;
-    within = λ s k h. omega (arith, are.within s k (other s k h).0, length-set bs i gone);
-    live = λ s k d h. let o = other s k h in subst (λ x. x.live ≡ true) (sym (get_or-set_other bs i k gone d o.1)) (are.live s k d o.0);
-    start = λ s k d h. let o = other s k h in subst (λ x. x.start ≡ s) (sym (get_or-set_other bs i k gone d o.1)) (are.start s k d o.0);
+    enough = omega (arith, length-set bs i gone, are.enough);
+    few = omega (arith, length-set bs i gone, are.few);
+    rising = are.rising;
+    low = λ k d h l.
+        let e = still k d l in
+        subst (λ x. get_or starts (k / 64) 0 ≤ x.start) (sym e) (are.low k d (omega (arith, h, length-set bs i gone)) (subst (λ x. x.live ≡ true) e l));
+    high = λ k p d h l a c.
+        let e = still k d l in
+        subst (λ x. x.start + x.size < get_or starts p 0) (sym e) (are.high k p d (omega (arith, h, length-set bs i gone)) (subst (λ x. x.live ≡ true) e l) a c);
   }
 
 -- a write changes no start
@@ -172,19 +212,27 @@ written-start zero at new (b ∷ bs) (suc k) d = refl
 written-start (suc i) at new (b ∷ bs) zero d = refl
 written-start (suc i) at new (b ∷ bs) (suc k) d = written-start i at new bs k d
 
-pub AreStarts-written : (starts : ℕ → Option ℕ) (i at : ℕ) (new : List Cell) (bs : List MemoryBlock) → AreStarts starts bs → AreStarts starts (changed i (written at new) bs)
+written-size : (i at : ℕ) (new : List Cell) (bs : List MemoryBlock) (k : ℕ) (d : MemoryBlock) → (get_or (changed i (written at new) bs) k d).size ≡ (get_or bs k d).size
+written-size i at new [] k d = refl
+written-size zero at new (b ∷ bs) zero d = refl
+written-size zero at new (b ∷ bs) (suc k) d = refl
+written-size (suc i) at new (b ∷ bs) zero d = refl
+written-size (suc i) at new (b ∷ bs) (suc k) d = written-size i at new bs k d
+
+pub AreStarts-written : (starts : List ℕ) (i at : ℕ) (new : List Cell) (bs : List MemoryBlock) → AreStarts starts bs → AreStarts starts (changed i (written at new) bs)
 AreStarts-written starts i at new bs are = record {
-  all = λ k d h l. ap starts (written-start i at new bs k d) ∙ are.all k d (omega (arith, h, length-changed i (written at new) bs)) (sym (written-live i at new bs k d) ∙ l);
-  within = λ s k is. omega (arith, are.within s k is, length-changed i (written at new) bs);
-  live = λ s k d is. written-live i at new bs k d ∙ are.live s k d is;
-  start = λ s k d is. written-start i at new bs k d ∙ are.start s k d is;
+  enough = omega (arith, length-changed i (written at new) bs, are.enough);
+  few = omega (arith, length-changed i (written at new) bs, are.few);
+  rising = are.rising;
+  low = λ k d h l. omega (arith, written-start i at new bs k d, are.low k d (omega (arith, h, length-changed i (written at new) bs)) (sym (written-live i at new bs k d) ∙ l));
+  high = λ k p d h l a c. omega (arith, written-start i at new bs k d, written-size i at new bs k d, are.high k p d (omega (arith, h, length-changed i (written at new) bs)) (sym (written-live i at new bs k d) ∙ l) a c);
 }
 
-pub AreStarts-stored : (starts : ℕ → Option ℕ) (place : BlockPlace) (leaf : Leaf) (value : Scalar) (bs : List MemoryBlock) → AreStarts starts bs → AreStarts starts (changed place.index (written place.offset (leaf_cells leaf value)) bs)
+pub AreStarts-stored : (starts : List ℕ) (place : BlockPlace) (leaf : Leaf) (value : Scalar) (bs : List MemoryBlock) → AreStarts starts bs → AreStarts starts (changed place.index (written place.offset (leaf_cells leaf value)) bs)
 AreStarts-stored starts place leaf value bs are = AreStarts-written starts place.index place.offset (leaf_cells leaf value) bs are
 
-pub AreStarts-filled : (starts : ℕ → Option ℕ) (place : BlockPlace) (count byte : ℕ) (bs : List MemoryBlock) → AreStarts starts bs → AreStarts starts (changed place.index (written place.offset (replicate count (cell.Byte byte))) bs)
+pub AreStarts-filled : (starts : List ℕ) (place : BlockPlace) (count byte : ℕ) (bs : List MemoryBlock) → AreStarts starts bs → AreStarts starts (changed place.index (written place.offset (replicate count (cell.Byte byte))) bs)
 AreStarts-filled starts place count byte bs are = AreStarts-written starts place.index place.offset (replicate count (cell.Byte byte)) bs are
 
-pub AreStarts-copied : (starts : ℕ → Option ℕ) (target source : BlockPlace) (count : ℕ) (bs : List MemoryBlock) → AreStarts starts bs → AreStarts starts (changed target.index (written target.offset (cells_at bs count (Some source))) bs)
+pub AreStarts-copied : (starts : List ℕ) (target source : BlockPlace) (count : ℕ) (bs : List MemoryBlock) → AreStarts starts bs → AreStarts starts (changed target.index (written target.offset (cells_at bs count (Some source))) bs)
 AreStarts-copied starts target source count bs are = AreStarts-written starts target.index target.offset (cells_at bs count (Some source)) bs are

@@ -1,5 +1,5 @@
 -- For all calls of `Memory`: blocks in the order of their addresses, and what each call does to them.
-use Rattle.std.specs.Prelude.{ℕ, zero, suc, ◌+◌, ◌-◌, ◌*◌, ◌/◌, ◌%◌, Bool, true, false, not, ◌&&◌, nat_eq, nat_lt, List, [], ◌∷◌, ◌++◌, Option, Some, None, Result, Ok, Err, is_none, position, slice_get, slice_range, replicate, if◌then◌else◌}
+use Rattle.std.specs.Prelude.{ℕ, zero, suc, ◌+◌, ◌-◌, ◌*◌, ◌/◌, ◌%◌, ◌^◌, ◌≤◌, Bool, true, false, not, ◌&&◌, nat_eq, nat_lt, List, [], ◌∷◌, ◌++◌, Option, Some, None, Result, Ok, Err, is_none, position, slice_get, slice_range, replicate, if◌then◌else◌}
 use Rattle.ir_eval.specs.declared.value.Pointer.{Pointer}
 use Rattle.ir_eval.specs.declared.value.Scalar.{Scalar}
 use Rattle.ir_eval.specs.declared.value.Scalar.TheVariants.{Int, Ptr, Poison}
@@ -27,6 +27,10 @@ first_address = FIRST_ADDRESS
 -- memory before any block is made
 abbrev pub no_blocks : Blocks
 no_blocks = record { list = []; next = first_address; sealed = false }
+
+-- so many addresses are free that a block can be placed at the next one
+abbrev pub HasFreeAddresses : Blocks → Type 0
+HasFreeAddresses m = m.next ≤ 2 ^ 61
 
 -- how many bytes live blocks may have together
 abbrev pub byte_limit : ℕ

@@ -78,4 +78,6 @@ pub record IsSound (pieces : ℕ → Option PointerPiece) (kept : List KeptBlock
   pub whole : (k : ℕ) (d : KeptBlock) → k < length kept → length (slice_index_or kept k d).bytes ≡ (slice_index_or kept k d).size
   pub gone : (k : ℕ) (d : KeptBlock) → k < length kept → (slice_index_or kept k d).live ≡ false → (slice_index_or kept k d).bytes ≡ []
   pub ahead : (q : ℕ) → next ≤ q → pieces q ≡ None
-  pub unmixed : (k : ℕ) (d : KeptBlock) → k < length kept → (slice_index_or kept k d).mixed ≡ false → (q : ℕ) → (slice_index_or kept k d).start ≤ q → q < (slice_index_or kept k d).start + (slice_index_or kept k d).size → pieces q ≡ None
+  pub unmixed : (k : ℕ) (d : KeptBlock) → k < length kept → (slice_index_or kept k d).mixed ≡ false
+      → (q : ℕ) → (slice_index_or kept k d).start ≤ q → q < (slice_index_or kept k d).start + (slice_index_or kept k d).size
+      → pieces q ≡ None

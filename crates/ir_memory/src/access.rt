@@ -7,17 +7,14 @@ ghost use Rattle.ir_memory.specs.Seen.{at, all_seen};
 ghost use Rattle.ir_memory.specs.declared.kept.KeptBlock.{KeptBlock as Kept};
 ghost use Rattle.ir_memory.specs.Block.{is_constant};
 ghost use Rattle.ir_memory.specs.Find.{AreStarts, HasOnly, IsOnly, place_there};
-ghost use Rattle.std.specs.Ordering.{nat_cmp};
-ghost use Rattle.std.specs.BTreeMap as tree;
 
 use crate::BlockKind;
 use crate::kept::KeptBlock;
-use crate::starts::last_started;
+use crate::starts::block_at;
 use crate::table::BlockTable;
 use ir_eval::{Pointer, Scalar};
 use ir_tables::UndefinedKind;
 use pointer_pieces::Pieces;
-use std::collections::BTreeMap;
 
 /// Where the first byte of an access is: the number of its block, and how far it lies behind the start.
 #[derive(Clone, Copy)]
@@ -38,11 +35,11 @@ pub struct Request {
 pub fn started(
     kept: &BlockTable,
     _pieces: &Pieces,
-    starts: &BTreeMap<u64, u64>,
+    starts: &Vec<u64>,
     pointer: Scalar,
     kind: BlockKind,
 ) -> Option<usize>
-    requires starts { AreStarts (tree.get nat_cmp starts.now) (all_seen (at _pieces.now) kept.now) }
+    requires starts { AreStarts starts.now.items (all_seen (at _pieces.now) kept.now) }
     requires known { IsAddress (all_seen (at _pieces.now) kept.now) pointer }
     requires placed { (next : ℕ) × IsPlaced of.first_address (all_seen (at _pieces.now) kept.now) next }
     ensures value { result ≡ of.started (all_seen (at _pieces.now) kept.now) pointer kind }
@@ -60,23 +57,23 @@ pub fn started(
     }
 }
 
-/// The one block that a pointer can speak of: its own, or the one that has its address. Blocks and pieces serve the clauses.
+/// The one block that a pointer can speak of: its own, or the one that has its address. Pieces serve the clauses.
 #[inline(always)]
 fn candidate(
-    _kept: &BlockTable,
+    kept: &BlockTable,
     _pieces: &Pieces,
-    starts: &BTreeMap<u64, u64>,
+    starts: &Vec<u64>,
     pointer: Pointer,
 ) -> Option<usize>
-    requires starts { AreStarts (tree.get nat_cmp starts.now) (all_seen (at _pieces.now) _kept.now) }
-    requires known { IsKnown (all_seen (at _pieces.now) _kept.now) pointer }
-    requires placed { (next : ℕ) × IsPlaced of.first_address (all_seen (at _pieces.now) _kept.now) next }
-    ensures within { IfSome result (λ i. i < length _kept.now) }
-    ensures only { IsOnly (all_seen (at _pieces.now) _kept.now) pointer.block pointer.address result }
+    requires starts { AreStarts starts.now.items (all_seen (at _pieces.now) kept.now) }
+    requires known { IsKnown (all_seen (at _pieces.now) kept.now) pointer }
+    requires placed { (next : ℕ) × IsPlaced of.first_address (all_seen (at _pieces.now) kept.now) next }
+    ensures within { IfSome result (λ i. i < length kept.now) }
+    ensures only { IsOnly (all_seen (at _pieces.now) kept.now) pointer.block pointer.address result }
 {
     match pointer.block {
         Some(index) => Some(index as usize),
-        None => Some(last_started(starts, pointer.address)? as usize),
+        None => block_at(kept, _pieces, starts, pointer.address),
     }
 }
 
@@ -109,12 +106,12 @@ fn is_aligned(address: u64, align: u32) -> bool
 pub fn access(
     kept: &BlockTable,
     _pieces: &Pieces,
-    starts: &BTreeMap<u64, u64>,
+    starts: &Vec<u64>,
     sealed: bool,
     asked: Request,
     address: Scalar,
 ) -> Result<BlockPlace, UndefinedKind>
-    requires starts { AreStarts (tree.get nat_cmp starts.now) (all_seen (at _pieces.now) kept.now) }
+    requires starts { AreStarts starts.now.items (all_seen (at _pieces.now) kept.now) }
     requires known { IsAddress (all_seen (at _pieces.now) kept.now) address }
     requires placed { (next : ℕ) × IsPlaced of.first_address (all_seen (at _pieces.now) kept.now) next }
     requires some { 1 ≤ asked.count }

@@ -98,6 +98,14 @@ impl KeptBlock {
         self.live && self.start == address && self.kind == kind
     }
 
+    /// Whether it is live and begins at or below an address.
+    #[inline(always)]
+    pub fn has_begun(&self, address: u64) -> bool
+        ensures { result ≡ (self.now.live && nat_le self.now.start address) }
+    {
+        self.live && self.start <= address
+    }
+
     /// Whether the block is a constant variable.
     #[inline(always)]
     pub fn is_constant(&self) -> bool

@@ -1,7 +1,7 @@
 //! All blocks of a run.
 ghost use Rattle.std.specs.Prelude.{◌≡◌, ◌≢◌, ℕ, ◌+◌, ◌<◌, ◌≤◌, ◌^◌, ◌↔◌, IfOk, IfSome, OnOk, OnErr, length, true, IsOk, slice_index_or, slice_set, Some, Ok, Err};
 ghost use Rattle.ir_memory.specs.Memory as of;
-ghost use Rattle.ir_memory.specs.Memory.{live_bytes, round_up};
+ghost use Rattle.ir_memory.specs.Memory.{HasFreeAddresses, live_bytes, round_up};
 ghost use Rattle.ir_memory.specs.Kept.{IsPlaced, AreKnown};
 ghost use Rattle.ir_memory.specs.Block as block;
 ghost use Rattle.ir_memory.specs.Given.{IsKnown, IsAddress, IsAlignment, IsLeaf, Fits, HasKnown, CanEnd};
@@ -22,7 +22,6 @@ use ir_eval::{Pointer, Scalar};
 use ir_tables::UndefinedKind;
 use pointer_pieces::Pieces;
 use std::alloc::{AllocError, Global};
-use std::collections::BTreeMap;
 use std::marker::Model;
 
 /// How many bytes live blocks may have together.
@@ -41,7 +40,7 @@ pub struct Memory {
     alloc: Global,
     kept: BlockTable,
     pieces: Pieces,
-    starts: BTreeMap<u64, u64>,
+    starts: Vec<u64>,
     next: u64,
     sealed: bool,
     live: u64,
@@ -50,16 +49,14 @@ pub struct Memory {
 impl Model for Memory {
     ghost use Rattle.ir_memory.specs.Memory.{Blocks};
     ghost use Rattle.ir_memory.specs.Kept.{IsKept};
-    ghost use Rattle.ir_memory.specs.Find.{AreStarts};
+    ghost use Rattle.ir_memory.specs.Find.{AreStarts, AreBefore};
     ghost use Rattle.ir_memory.specs.Seen.{at, all_seen, IsSound};
-    ghost use Rattle.std.specs.Ordering.{nat_cmp};
-    ghost use Rattle.std.specs.BTreeMap as tree;
 
     ghost Value = { Blocks };
 
     ghost view = { λ m. record { list = all_seen (at m.pieces) m.kept; next = m.next; sealed = m.sealed } };
 
-    ghost invariant = { λ m. IsKept (all_seen (at m.pieces) m.kept) m.next m.live × AreStarts (tree.get nat_cmp m.starts) (all_seen (at m.pieces) m.kept) × IsSound (at m.pieces) m.kept m.next };
+    ghost invariant = { λ m. IsKept (all_seen (at m.pieces) m.kept) m.next m.live × AreStarts m.starts.items (all_seen (at m.pieces) m.kept) × IsSound (at m.pieces) m.kept m.next × AreBefore m.starts.items m.next };
 }
 
 impl Memory {
@@ -71,7 +68,7 @@ impl Memory {
             alloc,
             kept: BlockTable::new(alloc),
             pieces: Pieces::new(alloc),
-            starts: BTreeMap::new(alloc),
+            starts: Vec::new(alloc),
             next: FIRST_ADDRESS,
             sealed: false,
             live: 0,
@@ -105,7 +102,7 @@ impl Memory {
         kind: BlockKind,
     ) -> Result<Pointer, MemoryFault>
         requires align { IsAlignment align }
-        requires next { self.old.next ≤ 2 ^ 61 }
+        requires next { HasFreeAddresses self.old }
         ensures added { OnOk result (self.new ≡ of.added size align kind self.old) }
         ensures pointer { IfOk result (λ p. p ≡ record { block = Some (length self.old.list); address = round_up self.old.next align }) }
         ensures limit { (result ≡ Err MemoryFault.MemoryLimit) ↔ (of.byte_limit < live_bytes self.old.list + size) }
@@ -118,17 +115,17 @@ impl Memory {
             return Err(MemoryFault::MemoryLimit);
         }
         let start = round_up(self.next, align);
-        let index = self.kept.len() as u64;
+        let index = self.kept.len();
         let block = KeptBlock::new(self.alloc, start, size, kind)?;
-        note(&mut self.starts, start, index)?;
+        note(&mut self.starts, index, start)?;
         if let Err(fault) = self.kept.push(block) {
-            forget(&mut self.starts, start);
+            forget(&mut self.starts, index);
             return Err(fault.into());
         }
         self.next = start + size + GAP;
         self.live += size;
         Ok(Pointer {
-            block: Some(index),
+            block: Some(index as u64),
             address: start,
         })
     }
@@ -147,7 +144,6 @@ impl Memory {
         };
         let block = self.kept.get(index);
         self.live -= block.size;
-        forget(&mut self.starts, block.start);
         end(&mut self.kept, &mut self.pieces, index);
         Ok(())
     }

@@ -17,17 +17,19 @@ ghost use Rattle.item_build.specs.Declaring.{declared_functions, AreNamed, count
 ghost use Rattle.ir_resolve.specs.Defining.{defined_in, function_behind, IsCalledSo, with_bodies};
 
 use crate::body::build_body;
+use instruction_build::Locals;
 use ir_syntax::{Definition, Item};
 use module_arena::FunctionId;
 use std::alloc::{AllocError, Global};
 use type_build::Builder;
 
-/// Gives the function with that number the blocks of the definition.
-fn define_function(
+/// Gives the function with that number the blocks of the definition. The table of locals may be that of any function before.
+fn define_function<'a>(
     builder: &mut Builder,
     alloc: Global,
+    locals: &mut Locals<'a>,
     number: u32,
-    written: &Definition,
+    written: &'a Definition,
 ) -> Result<(), AllocError>
     requires known { number < length builder.old.arena.functions }
     requires undefined { (f : the_function.Function) → slice_get builder.old.arena.functions number ≡ Some f → f.body ≡ None }
@@ -35,17 +37,19 @@ fn define_function(
     requires can { CanBody (structs builder.old.arena.table) (entries builder.old.arena) (map parameter_view written.now.parameters.items) (map block_view written.now.blocks.items) }
     ensures { OnOk result (module_of builder.new.arena ≡ defined (module_of builder.old.arena) number (λ f. body_of (map parameter_view written.now.parameters.items) (map block_view written.now.blocks.items))) }
 {
-    let body = build_body(builder, alloc, &written.parameters, &written.blocks)?;
+    let body = build_body(builder, alloc, locals, &written.parameters, &written.blocks)?;
     builder.arena.define(FunctionId::new(number), body);
     Ok(())
 }
 
-/// Gives the function with that number its blocks, where the item is a definition, and tells the next number.
-fn define_item(
+/// Gives the function with that number its blocks, where the item is a definition, and tells the next number. The table of
+/// locals may be that of any function before.
+fn define_item<'a>(
     builder: &mut Builder,
     alloc: Global,
+    locals: &mut Locals<'a>,
     number: u32,
-    item: &Item,
+    item: &'a Item,
 ) -> Result<u32, AllocError>
     requires known { function_behind number (item_view item.now) ≤ length builder.old.arena.functions }
     requires small { length builder.old.arena.functions < 2 ^ 32 - 1 }
@@ -57,7 +61,7 @@ fn define_item(
 {
     match item {
         Item::Definition { definition, .. } => {
-            define_function(builder, alloc, number, definition)?;
+            define_function(builder, alloc, locals, number, definition)?;
             Ok(number + 1)
         }
         Item::Declaration { .. } => Ok(number + 1),
@@ -78,9 +82,10 @@ pub(crate) fn define_items(
     requires declared { (module_of builder.old.arena).functions ≡ declared_functions (items_view items.now) }
     ensures { OnOk result (module_of builder.new.arena ≡ with_bodies (module_of builder.old.arena) (items_view items.now) []) }
 {
+    let mut locals = Locals::new(alloc);
     let mut number: u32 = 0;
     'items: for item in items {
-        number = define_item(builder, alloc, number, item)?;
+        number = define_item(builder, alloc, &mut locals, number, item)?;
     }
     Ok(())
 }

@@ -12,6 +12,7 @@ ghost use Rattle.buildable.specs.Bodies.{CanBody, parameter_names, body_of};
 use crate::blocks::build_blocks;
 use crate::gathered::gather;
 use crate::names::names_from;
+use instruction_build::Locals;
 use ir_instructions::Block;
 use ir_syntax::Parameter;
 use module_arena::ValueId;
@@ -19,21 +20,22 @@ use std::alloc::{AllocError, Global};
 use type_build::Builder;
 
 /// The body of a function with these parameters: its blocks, and the names of the results behind those of the parameters.
-/// It is refused for want of memory alone.
-pub(crate) fn build_body(
+/// The table of locals may be that of any function before. It is refused for want of memory alone.
+pub(crate) fn build_body<'a>(
     builder: &mut Builder,
     alloc: Global,
-    parameters: &[Parameter],
-    blocks: &[Block],
+    locals: &mut Locals<'a>,
+    parameters: &'a [Parameter],
+    blocks: &'a [Block],
 ) -> Result<module_arena::Body, AllocError>
     requires { CanBody (structs builder.old.arena.table) (entries builder.old.arena) (map parameter_view parameters.now) (map block_view blocks.now) }
     ensures grows { OnOk result (Grows builder.old.arena builder.new.arena) }
     ensures known { IfOk result (λ body. KnowsBody (length builder.new.arena.table.types) (length builder.new.arena.constants) (length parameters.now) body) }
     ensures blocks { IfOk result (λ body. body_view (trees builder.new.arena.table) (constants_of builder.new.arena) (parameter_names (map parameter_view parameters.now)) body ≡ body_of (map parameter_view parameters.now) (map block_view blocks.now)) }
 {
-    let locals = gather(alloc, parameters, blocks)?;
+    gather(locals, alloc, parameters, blocks)?;
     let first = ValueId::new(parameters.len() as u32);
-    let blocks = build_blocks(builder, alloc, &locals, first, blocks)?;
+    let blocks = build_blocks(builder, alloc, locals, first, blocks)?;
     let results = names_from(alloc, &locals.values.names, parameters.len())?;
     Ok(module_arena::Body { blocks, results })
 }

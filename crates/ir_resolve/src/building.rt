@@ -1,6 +1,6 @@
 //! Builds the arena of items, step by step.
-ghost use Rattle.std.specs.Prelude.{◌≡◌, ◌≤◌, ◌^◌, None, IfOk, OnOk};
-ghost use Rattle.ir_syntax.specs.Counts.{counted};
+ghost use Rattle.std.specs.Prelude.{◌≡◌, ◌≤◌, None, IfOk, OnOk};
+ghost use Rattle.ir_syntax.specs.Counts.{counted, most_counted};
 ghost use Rattle.ir_syntax.specs.Forms.{AreItemsFormed};
 ghost use Rattle.ir_syntax.specs.View.{items_view};
 ghost use Rattle.type_table.specs.Types.{structs};
@@ -40,7 +40,7 @@ fn begin(alloc: Global, items: &[Item], order: &[u32]) -> Result<Builder, AllocE
 fn build_entries(builder: &mut Builder, alloc: Global, items: &[Item]) -> Result<(), AllocError>
     requires buildable { AreBuildable (items_view items.now) }
     requires few { AreFew (counts_in (items_view items.now)) }
-    requires few_parts { counted (items_view items.now) ≤ 2 ^ 24 }
+    requires few_parts { counted (items_view items.now) ≤ most_counted }
     requires structs { structs builder.old.arena.table ≡ structs_in (items_view items.now) }
     requires empty { entries builder.old.arena ≡ no_lists }
     ensures { OnOk result (module_of builder.new.arena ≡ with_items (module_of builder.old.arena) (items_view items.now)) }
@@ -56,7 +56,7 @@ fn build_entries(builder: &mut Builder, alloc: Global, items: &[Item]) -> Result
 /// bodies in the order of these numbers first. It is refused for want of memory alone.
 pub(crate) fn build_items(alloc: Global, items: &[Item], order: &[u32]) -> Result<Arena, AllocError>
     requires buildable { AreBuildable (items_view items.now) }
-    requires few { counted (items_view items.now) ≤ 2 ^ 24 }
+    requires few { counted (items_view items.now) ≤ most_counted }
     requires unbroken { first_break (items_view items.now) ≡ None }
     ensures { IfOk result (λ arena. module_of arena ≡ module_of_items (items_view items.now)) }
 {
@@ -70,7 +70,7 @@ pub(crate) fn build_items(alloc: Global, items: &[Item], order: &[u32]) -> Resul
 pub(crate) fn build(alloc: Global, items: &Items) -> Result<Arena, AllocError>
     requires formed { AreItemsFormed (items_view items.now) }
     requires narrow { AreItemsNarrow (items_view items.now) }
-    requires few { counted (items_view items.now) ≤ 2 ^ 24 }
+    requires few { counted (items_view items.now) ≤ most_counted }
     requires unbroken { first_break (items_view items.now) ≡ None }
     ensures { IfOk result (λ arena. module_of arena ≡ module_of_items (items_view items.now)) }
 {

@@ -1,5 +1,5 @@
 //! What the values and the blocks of a function are called.
-ghost use Rattle.std.specs.Prelude.{◌≡◌, ◌<◌, ◌+◌, ◌-◌, ◌^◌, map, length, IfOk};
+ghost use Rattle.std.specs.Prelude.{◌≡◌, ◌<◌, ◌+◌, ◌-◌, ◌^◌, map, length, OnOk};
 ghost use Rattle.std.specs.List.{sum_by};
 ghost use Rattle.ir_instructions.specs.View.{block_view};
 ghost use Rattle.ir_syntax.specs.Counts.{block_count};
@@ -7,29 +7,26 @@ ghost use Rattle.ir_syntax.specs.View.{parameter_view};
 ghost use Rattle.buildable.specs.Bodies.{values_of, labels_of};
 ghost use Rattle.instruction_build.specs.Named.{called_of};
 
-use instruction_build::{LocalIds, Locals, add_block};
+use instruction_build::{Locals, add_block};
 use ir_instructions::Block;
 use ir_syntax::Parameter;
 use std::alloc::{AllocError, Global};
 
-/// The locals of a function, in the order of the text.
+/// Gathers the locals of a function, in the order of the text, whichever function's they were.
 pub(crate) fn gather<'a>(
+    locals: &mut Locals<'a>,
     alloc: Global,
     parameters: &'a [Parameter],
     blocks: &'a [Block],
-) -> Result<Locals<'a>, AllocError>
+) -> Result<(), AllocError>
     requires { length parameters.now + sum_by block_count (map block_view blocks.now) < 2 ^ 32 - 2 }
-    ensures values { IfOk result (λ locals. called_of locals.values.names.items ≡ values_of (map parameter_view parameters.now) (map block_view blocks.now)) }
-    ensures labels { IfOk result (λ locals. called_of locals.blocks.names.items ≡ labels_of (map parameter_view parameters.now) (map block_view blocks.now)) }
+    ensures values { OnOk result (called_of locals.new.values.names.items ≡ values_of (map parameter_view parameters.now) (map block_view blocks.now)) }
+    ensures labels { OnOk result (called_of locals.new.blocks.names.items ≡ labels_of (map parameter_view parameters.now) (map block_view blocks.now)) }
 {
-    let mut values = LocalIds::new(alloc);
-    let mut labels = LocalIds::new(alloc);
-    let mut next = values.add_parameters(alloc, parameters)?;
+    locals.clear(alloc);
+    let mut next = locals.values.add_parameters(alloc, parameters)?;
     for block in blocks {
-        next = add_block(&mut values, &mut labels, alloc, next, block)?;
+        next = add_block(&mut locals.values, &mut locals.blocks, alloc, next, block)?;
     }
-    Ok(Locals {
-        values,
-        blocks: labels,
-    })
+    Ok(())
 }

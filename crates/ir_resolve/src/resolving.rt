@@ -1,7 +1,7 @@
 //! Judges the items of a text, and then builds their module.
-ghost use Rattle.std.specs.Prelude.{◌≡◌, ◌≤◌, ◌^◌, true, List, ℕ, IfOk};
+ghost use Rattle.std.specs.Prelude.{◌≡◌, ◌≤◌, true, List, ℕ, IfOk};
 ghost use Rattle.ir_syntax.specs.Answers.{HasItems};
-ghost use Rattle.ir_syntax.specs.Counts.{counted};
+ghost use Rattle.ir_syntax.specs.Counts.{counted, most_counted};
 ghost use Rattle.ir_syntax.specs.Forms.{AreItemsFormed};
 ghost use Rattle.ir_syntax.specs.View.{items_view};
 ghost use Rattle.module_arena.specs.Names.{are_bytes};
@@ -23,7 +23,7 @@ use std::alloc::Global;
 /// first break is told: too many of a kind, which has no place; else the first demand, in the order of the tokens, that
 /// fails, at its place. `Memory` where memory ran out.
 pub fn resolve(alloc: Global, items: &Items) -> Result<Arena, ResolveFault>
-    requires few { counted (items_view items.now) ≤ 2 ^ 24 }
+    requires few { counted (items_view items.now) ≤ most_counted }
     requires formed { AreItemsFormed (items_view items.now) }
     requires narrow { AreItemsNarrow (items_view items.now) }
     // What is resolved is the module of the items, of which nothing is asked in vain.

@@ -68,7 +68,7 @@ gives_defined_core : (limits : Limits) → Gives (defined_core limits) (λ v. Is
 unfolding defined_core
 gives_defined_core limits =
     gives_weaker (λ v. IsNotEmpty v.1 × AllAre IsBlockFormed v.1)
-    (gives_pair (gives_any (parameters_row limits.wide limits)) (gives_labelled body_shape (gives_body_core limits))) (λ v x. x.1)
+    (gives_pair (gives_any (parameters_row limits.with_left_out limits)) (gives_labelled body_shape (gives_body_core limits))) (λ v x. x.1)
 
 gives_definition : (limits : Limits) → Gives (definition_row limits) IsItemFormed
 gives_definition limits =

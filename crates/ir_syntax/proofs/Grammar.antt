@@ -220,7 +220,7 @@ reads_body_core limits = reads_wider class body_shape (reads_second class reads_
 
 reads_defined_core : (limits : Limits) → Reads class (defined_core limits) parameters_shape
 unfolding defined_core
-reads_defined_core limits = reads_wider class parameters_shape (reads_pair class (reads_parameters limits.wide limits) (reads_labelled (reads_body_core limits)) refl) refl refl (λ e. e)
+reads_defined_core limits = reads_wider class parameters_shape (reads_pair class (reads_parameters limits.with_left_out limits) (reads_labelled (reads_body_core limits)) refl) refl refl (λ e. e)
 
 reads_definition : (limits : Limits) → Reads class (definition_row limits) (definition_row limits).shape
 reads_definition limits =

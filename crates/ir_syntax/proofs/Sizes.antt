@@ -1,5 +1,5 @@
 -- A text has no more items, parameters, blocks and instructions than tokens.
-use Rattle.std.proofs.Common.{◌≡◌, ℕ, ◌+◌, ◌≤◌, ◌^◌, List, [], ◌∷◌, ◌++◌, length, Bool, true, false, refl, ap, inl, inr, arith, length-append}
+use Rattle.std.proofs.Common.{◌≡◌, ℕ, ◌+◌, ◌≤◌, List, [], ◌∷◌, ◌++◌, length, Bool, true, false, refl, ap, inl, inr, arith, length-append}
 use Rattle.std.specs.List.{sum_by}
 use Rattle.std.proofs.lemmas.List.{length-map}
 use Rattle.std.proofs.lemmas.List.Sums.{sum_by-cons}
@@ -8,6 +8,7 @@ use Rattle.phrase_rows.specs.Reads.{Reads}
 use Rattle.phrase_rows.specs.Size.{IsSized, IsSizedFrom}
 use Rattle.phrase_rows.proofs.Sizes.{sized_none, sized_mapped, sized_both, sized_pair, sized_second, sized_before, sized_alt, sized_nothing, sized_chain, sized_loop, sized_labelled, sized_many, labelled_from, fail_from, second_from, alt_from, mapped_onto}
 use Rattle.ir_lexer.specs.Ahead.{Located}
+use Rattle.ir_lexer.specs.declared.lexer.TheConstants.{LARGEST}
 use Rattle.ir_terminals.specs.declared.limits.Limits.{Limits}
 use Rattle.ir_terminals.specs.declared.terminal.Terminal.{Terminal}
 use Rattle.ir_terminals.specs.declared.terminal.Terminal.TheVariants as terminal
@@ -20,7 +21,7 @@ use Rattle.ir_instructions.specs.Dropped.{comma_shape, function_attributes_row}
 use Rattle.ir_instructions.specs.Instructions.{instructions_row}
 use Rattle.ir_instructions.specs.Blocks.{block_shape, block_core, block_list_row, blocks_row}
 use Rattle.ir_syntax.specs.Tree.{ItemTree, ParameterTree}
-use Rattle.ir_syntax.specs.Counts.{block_count, item_count, counted}
+use Rattle.ir_syntax.specs.Counts.{block_count, item_count, counted, most_counted}
 use Rattle.ir_syntax.specs.Functions.{ParametersTree, parameter_row, dots_row, parameter_step, more_parameters_row, more_parameters_shape, some_parameters_row, parameter_list_row, parameter_types, parameters_shape, parameters_core, parameters_row, head_row, metadata_row, declared_shape, declared_core, declaration_row, body_shape, body_core, defined_core, definition_row}
 use Rattle.ir_syntax.specs.Heads.{GlobalHead}
 use Rattle.ir_syntax.specs.Variables.{variable_core}
@@ -162,5 +163,5 @@ sized_items : (limits : Limits) → IsSized (items_row limits) counted
 sized_items limits = sized_many class (sized_labelled item_shape (sized_item_core limits))
 
 -- a text of so many bytes has no more
-pub items_few : (text : List ℕ) (items : List ItemTree) → length (text_tokens text) ≤ length text → length text ≤ 2 ^ 24 → HasItems text items → counted items ≤ 2 ^ 24
+pub items_few : (text : List ℕ) (items : List ItemTree) → length (text_tokens text) ≤ length text → length text ≤ LARGEST → HasItems text items → counted items ≤ most_counted
 items_few text items few short h = let k = (sized_items language).size (text_tokens text) items h.are_items in omega (arith, k, few, short)

@@ -148,10 +148,10 @@ module _ {may : Located → Bool} {narrow wide : Limits} (wider : IsWider may na
   widened_body : IsWidened may (function_body_row narrow) (function_body_row wide)
   widened_body = widened_labelled widened_body_core
 
-  module _ (dots : IsWidened may (dots_row narrow.wide) (dots_row wide.wide)) where
+  module _ (dots : IsWidened may (dots_row narrow.with_left_out) (dots_row wide.with_left_out)) where
     widened_defined_core : IsWidened may (defined_core narrow) (defined_core wide)
     unfolding defined_core
-    widened_defined_core = widened_pair (widened_parameters narrow.wide wide.wide dots) widened_body
+    widened_defined_core = widened_pair (widened_parameters narrow.with_left_out wide.with_left_out dots) widened_body
 
     widened_defined : IsWidened may (defined_row narrow) (defined_row wide)
     widened_defined = widened_labelled widened_defined_core

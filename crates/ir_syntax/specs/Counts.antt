@@ -1,6 +1,7 @@
 -- For `read_items` and `resolve`: how many items, parameters, blocks and instructions there are.
 use Rattle.std.specs.Prelude.{ℕ, ◌+◌, List, length}
 use Rattle.std.specs.List.{sum_by}
+use Rattle.ir_lexer.specs.declared.lexer.TheConstants.{LARGEST}
 use Rattle.ir_instructions.specs.Tree.{BlockTree}
 use Rattle.ir_syntax.specs.Tree.{ItemTree, Declaration, Definition}
 
@@ -17,3 +18,7 @@ item_count item = 1
 -- all of them together
 abbrev pub counted : List ItemTree → ℕ
 counted items = sum_by item_count items
+
+-- how many a text has at most: each takes a byte at least
+abbrev pub most_counted : ℕ
+most_counted = LARGEST

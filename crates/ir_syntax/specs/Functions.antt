@@ -37,7 +37,12 @@ ParametersTree = List ParameterTree × Bool
 
 -- , PARAM or , ..., and nothing behind `...`
 abbrev pub parameter_step : Bool → Limits → ParametersTree → Row Located ParametersTree
-parameter_step dots limits s = cond s.1 (fail comma_shape) (keep_second (word terminal.Comma) (alt class (mapped (λ d. (s.0, d)) (dots_row dots)) (mapped (λ p. (s.0 ++ p ∷ [], false)) (parameter_row limits))))
+parameter_step dots limits (parameters, variadic) =
+    cond variadic (fail comma_shape)
+    (keep_second (word terminal.Comma)
+    (alt class
+    (mapped (λ d. (parameters, d)) (dots_row dots))
+    (mapped (λ p. (parameters ++ p ∷ [], false)) (parameter_row limits))))
 
 -- how further parameters begin and go on
 abbrev pub more_parameters_shape : Shape
@@ -45,7 +50,9 @@ more_parameters_shape = record { first = comma_shape.first; more = parameter_sha
 
 -- further parameters, each behind a comma
 abbrev pub more_parameters_row : Bool → Limits → ParametersTree → Row Located ParametersTree
-more_parameters_row dots limits s = labelled more_parameters_shape (loop class (record { first = comma_shape.first; more = parameter_shape.more; empty = false }) (parameter_step dots limits) s)
+more_parameters_row dots limits s =
+    labelled more_parameters_shape
+    (loop class (record { first = comma_shape.first; more = parameter_shape.more; empty = false }) (parameter_step dots limits) s)
 
 -- PARAM (, PARAM)* (, ...)?
 abbrev pub some_parameters_row : Bool → Limits → Row Located ParametersTree
@@ -79,7 +86,10 @@ head_shape = record {
 unfoldable pub head_core : Limits → Row Located HeadTree
 head_core limits =
     mapped (λ (linkage, (returns, name)). record { linkage = linkage; returns = returns; name = name })
-    (pair optional_linkage_row (keep_second global_words_row (keep_second convention_row (keep_second parameter_attributes_row (pair (type_row limits) global_name_row)))))
+    (pair optional_linkage_row
+    (keep_second global_words_row
+    (keep_second convention_row
+    (keep_second parameter_attributes_row (pair (type_row limits) global_name_row)))))
 
 -- the head of a function: its linkage, its result's type and its name
 abbrev pub head_row : Limits → Row Located HeadTree
@@ -103,7 +113,8 @@ declared_shape = record { first = parameters_shape.first; more = function_attrib
 
 -- ( PARAM,* ) FDROP*, for the types, and whether `...` ends them
 unfoldable pub declared_core : Limits → Row Located (List TypeTree × Bool)
-declared_core limits = mapped (λ s. (parameter_types s.0, s.1)) (keep_first (parameters_row true limits) function_attributes_row)
+declared_core limits =
+    mapped (λ (parameters, variadic). (parameter_types parameters, variadic)) (keep_first (parameters_row true limits) function_attributes_row)
 
 -- what stands behind the head of a declaration
 abbrev pub declared_row : Limits → Row Located (List TypeTree × Bool)
@@ -111,7 +122,9 @@ declared_row limits = labelled declared_shape (declared_core limits)
 
 -- declare MD* LINKAGE? GDROP* CC? PDROP* TYPE GLOBAL ( PARAM,* ) FDROP*
 abbrev pub declaration_row : Limits → Row Located ItemTree
-declaration_row limits = mapped (λ (place, (head, (parameters, variadic))). Declaration place head parameters variadic) (pair (word terminal.Declare) (keep_second metadata_row (pair (head_row limits) (declared_row limits))))
+declaration_row limits =
+    mapped (λ (place, (head, (parameters, variadic))). Declaration place head parameters variadic)
+    (pair (word terminal.Declare) (keep_second metadata_row (pair (head_row limits) (declared_row limits))))
 
 -- how what stands behind the parameters of a definition begins
 abbrev pub body_shape : Shape
@@ -127,7 +140,7 @@ body_row limits = labelled body_shape (body_core limits)
 
 -- ( PARAM,* ) FDROP* MD* { BLOCK+ }
 unfoldable pub defined_core : Limits → Row Located (ParametersTree × List BlockTree)
-defined_core limits = pair (parameters_row limits.wide limits) (body_row limits)
+defined_core limits = pair (parameters_row limits.with_left_out limits) (body_row limits)
 
 -- what stands behind the head of a definition
 abbrev pub defined_row : Limits → Row Located (ParametersTree × List BlockTree)
@@ -135,4 +148,6 @@ defined_row limits = labelled parameters_shape (defined_core limits)
 
 -- define LINKAGE? GDROP* CC? PDROP* TYPE GLOBAL ( PARAM,* ) FDROP* MD* { BLOCK+ }
 abbrev pub definition_row : Limits → Row Located ItemTree
-definition_row limits = mapped (λ (place, (head, ((parameters, variadic), blocks))). Definition place head parameters blocks) (pair (word terminal.Define) (pair (head_row limits) (defined_row limits)))
+definition_row limits =
+    mapped (λ (place, (head, ((parameters, variadic), blocks))). Definition place head parameters blocks)
+    (pair (word terminal.Define) (pair (head_row limits) (defined_row limits)))

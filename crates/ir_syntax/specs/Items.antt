@@ -47,7 +47,9 @@ metadata_item_row = mapped Metadata (keep_first metadata_name_row (keep_second (
 -- how items begin and go on
 abbrev pub item_shape : Shape
 item_shape = record {
-  first = code terminal.SourceFilename ∷ code terminal.Target ∷ code terminal.Local ∷ code terminal.GlobalName ∷ code terminal.Declare ∷ code terminal.Define ∷ code terminal.«Attributes» ∷ code terminal.MetaName ∷ code terminal.MetaNumber ∷ [];
+  first =
+      code terminal.SourceFilename ∷ code terminal.Target ∷ code terminal.Local ∷ code terminal.GlobalName
+      ∷ code terminal.Declare ∷ code terminal.Define ∷ code terminal.«Attributes» ∷ code terminal.MetaName ∷ code terminal.MetaNumber ∷ [];
   more = comma_shape.first ++ function_attribute_shape.first ++ function_attribute_shape.more;
   empty = false;
 }
@@ -68,7 +70,7 @@ items_row limits = many class (item_row limits)
 
 -- the language: types and constants nest no more than 64 deep
 abbrev pub language : Limits
-language = record { nesting = 64; wide = false }
+language = record { nesting = 64; with_left_out = false }
 
 -- these tokens are these items, and no others
 abbrev pub Items : List Located → List ItemTree → Type 0

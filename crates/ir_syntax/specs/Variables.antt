@@ -27,7 +27,11 @@ plain_body_row limits = mapped PlainBody (keep_second (word terminal.OpenBrace) 
 
 -- <{ TYPE,* }>
 abbrev pub packed_body_row : Limits → Row Located BodyTree
-packed_body_row limits = mapped PackedBody (keep_second (word terminal.Less) (keep_second (word terminal.OpenBrace) (keep_first (fields_row limits) (keep_second (word terminal.CloseBrace) (word terminal.Greater)))))
+packed_body_row limits =
+    mapped PackedBody
+    (keep_second (word terminal.Less)
+    (keep_second (word terminal.OpenBrace)
+    (keep_first (fields_row limits) (keep_second (word terminal.CloseBrace) (word terminal.Greater)))))
 
 -- opaque, { TYPE,* } or <{ TYPE,* }>
 abbrev pub body_row : Limits → Row Located BodyTree

@@ -85,8 +85,12 @@ item_view (items.TargetTriple place text) = TargetTriple place text
 item_view (items.Struct name body) = Struct name (body_view body)
 item_view (items.Variable variable) = Variable (variable_view variable.value)
 item_view (items.Alias alias) = Alias (alias_view alias.value)
-item_view (items.Declaration place declaration) = Declaration place (head_view declaration.value.head) (parameter_types (map parameter_view declaration.value.formal.parameters.items)) declaration.value.formal.variadic
-item_view (items.Definition place definition) = Definition place (head_view definition.value.head) (map parameter_view definition.value.parameters.items) (map block_view definition.value.blocks.items)
+item_view (items.Declaration place declaration) =
+    Declaration place (head_view declaration.value.head)
+    (parameter_types (map parameter_view declaration.value.formal.parameters.items)) declaration.value.formal.variadic
+item_view (items.Definition place definition) =
+    Definition place (head_view definition.value.head)
+    (map parameter_view definition.value.parameters.items) (map block_view definition.value.blocks.items)
 item_view (items.Attributes place) = Attributes place
 item_view (items.Metadata place) = Metadata place
 

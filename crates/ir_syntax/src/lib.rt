@@ -21,6 +21,7 @@ mod items;
 mod read;
 mod variables;
 
+pub use ir_lexer::LARGEST;
 pub use item::{
     Alias, AliasType, Declaration, Definition, FormalParameters, Head, Item, Items, Parameter,
     Variable, WrittenBody,

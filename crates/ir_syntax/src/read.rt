@@ -1,8 +1,8 @@
 //! Reads a text whole, and tells why one is refused.
-ghost use Rattle.std.specs.Prelude.{◌≡◌, ◌⊎◌, ◌<◌, ◌≤◌, ◌^◌, List, Some, length, slice_get, IfOk, IfErr, IsErrAnd};
+ghost use Rattle.std.specs.Prelude.{◌≡◌, ◌⊎◌, ◌<◌, ◌≤◌, List, Some, length, slice_get, IfOk, IfErr, IsErrAnd};
 ghost use Rattle.std.specs.Bool.{MatchBool};
 ghost use Rattle.ir_syntax.specs.Answers.{HasItems, FirstBad, passed};
-ghost use Rattle.ir_syntax.specs.Counts.{counted};
+ghost use Rattle.ir_syntax.specs.Counts.{counted, most_counted};
 ghost use Rattle.ir_syntax.specs.Forms.{AreItemsFormed};
 ghost use Rattle.ir_syntax.specs.Items.{IsViable};
 ghost use Rattle.ir_syntax.specs.Refusal.{IsRefused, IsTooDeep, IsLeftOut, through};
@@ -11,6 +11,7 @@ ghost use Rattle.ir_syntax.specs.View.{items_view};
 ghost use Rattle.ir_syntax.specs.Widths.{opens_nest, is_of_wider, is_first};
 ghost use Rattle.ir_syntax.specs.declared.read.SyntaxFault.{SyntaxFault as TheFault};
 ghost use Rattle.ir_lexer.specs.Ahead.{Located};
+ghost use Rattle.ir_lexer.specs.declared.lexer.TheConstants.{LARGEST};
 ghost use Rattle.phrase_rows.specs.Row.{among};
 ghost use Rattle.ir_terminals.specs.Position.{text_tokens, tokens_left};
 ghost use Rattle.ir_terminals.specs.Terminal.{code};
@@ -59,19 +60,19 @@ impl From<AllocError> for SyntaxFault {
 /// The language: types and constants nest no more than 64 deep.
 const LANGUAGE: Limits = Limits {
     nesting: 64,
-    wide: false,
+    with_left_out: false,
 };
 
 /// The language with one nest more, in which what opens at 65 might stand.
 const DEEPER: Limits = Limits {
     nesting: 65,
-    wide: false,
+    with_left_out: false,
 };
 
 /// The language in which unnamed locals name structs, and `...` ends the parameters of a definition.
 const WIDER: Limits = Limits {
     nesting: 64,
-    wide: true,
+    with_left_out: true,
 };
 
 /// Whether the tokens up to and with the one with this number are viable within these limits.
@@ -81,7 +82,7 @@ fn is_viable_through(
     limits: Limits,
     number: usize,
 ) -> Result<bool, AllocError>
-    requires short { length text.now ≤ 2 ^ 24 }
+    requires short { length text.now ≤ LARGEST }
     requires token { number < length (text_tokens text.now) }
     ensures { IfOk result (λ viable. MatchBool viable (IsViable limits (through text.now number)) (IsViable limits (through text.now number) → ⊥)) }
 {
@@ -134,7 +135,7 @@ fn is_of_wider_language(cursor: &Cursor) -> bool
 /// Whether the token at which the cursor stands, which is the first bad one, is too deep. With one nest more the text
 /// is read only where the token opens a nest: any other is as bad there.
 fn is_too_deep(alloc: Global, text: &[u8], cursor: &Cursor) -> Result<bool, AllocError>
-    requires short { length text.now ≤ 2 ^ 24 }
+    requires short { length text.now ≤ LARGEST }
     requires text { cursor.now.text ≡ text.now }
     requires token { cursor.now.taken < length (text_tokens text.now) }
     requires first_bad { FirstBad text.now (passed cursor.now) }
@@ -148,7 +149,7 @@ fn is_too_deep(alloc: Global, text: &[u8], cursor: &Cursor) -> Result<bool, Allo
 
 /// Whether the token at which the cursor stands is left out: by itself, or where the wider language has it.
 fn is_left_out(alloc: Global, text: &[u8], cursor: &Cursor) -> Result<bool, AllocError>
-    requires short { length text.now ≤ 2 ^ 24 }
+    requires short { length text.now ≤ LARGEST }
     requires text { cursor.now.text ≡ text.now }
     requires token { cursor.now.taken < length (text_tokens text.now) }
     ensures { (t : Located) → slice_get (text_tokens text.now) cursor.now.taken ≡ Some t
@@ -163,7 +164,7 @@ fn is_left_out(alloc: Global, text: &[u8], cursor: &Cursor) -> Result<bool, Allo
 /// Whether the token at which the cursor stands, which is the first bad one, is left out. In the wider language the text
 /// is read only where the token is one that this language has in more places: any other is as bad there.
 fn is_bad_left_out(alloc: Global, text: &[u8], cursor: &Cursor) -> Result<bool, AllocError>
-    requires short { length text.now ≤ 2 ^ 24 }
+    requires short { length text.now ≤ LARGEST }
     requires text { cursor.now.text ≡ text.now }
     requires token { cursor.now.taken < length (text_tokens text.now) }
     requires first_bad { FirstBad text.now (passed cursor.now) }
@@ -190,7 +191,7 @@ fn left_out(alloc: Global, place: Place, spelling: &[u8]) -> SyntaxFault
 ///
 /// The text is read at most once more, since no token both opens a nest and is one of the wider language's.
 fn token_refusal(alloc: Global, text: &[u8], cursor: &Cursor) -> SyntaxFault
-    requires short { length text.now ≤ 2 ^ 24 }
+    requires short { length text.now ≤ LARGEST }
     requires text { cursor.now.text ≡ text.now }
     requires token { cursor.now.taken < length (text_tokens text.now) }
     requires first_bad { FirstBad text.now (passed cursor.now) }
@@ -211,7 +212,7 @@ fn token_refusal(alloc: Global, text: &[u8], cursor: &Cursor) -> SyntaxFault
 
 /// Why the text is refused at the place where the cursor stands, which is the first bad one.
 fn refusal(alloc: Global, text: &[u8], cursor: &Cursor) -> SyntaxFault
-    requires short { length text.now ≤ 2 ^ 24 }
+    requires short { length text.now ≤ LARGEST }
     requires text { cursor.now.text ≡ text.now }
     requires first_bad { FirstBad text.now (passed cursor.now) }
     ensures { IsRefused text.now result ⊎ (result ≡ SyntaxFault.Memory) }
@@ -231,13 +232,13 @@ fn refusal(alloc: Global, text: &[u8], cursor: &Cursor) -> SyntaxFault
 ///
 /// The items, parameters, blocks and instructions together are no more than the tokens, each of which has a byte.
 pub fn read_items(alloc: Global, text: &[u8]) -> Result<Items, SyntaxFault>
-    requires { length text.now ≤ 2 ^ 24 }
+    requires { length text.now ≤ LARGEST }
     // What is read are the text's items.
     ensures items { IfOk result (λ items. HasItems text.now (items_view items)) }
     // A text has no other items.
     ensures one { IfOk result (λ items. (others : List ItemTree) → HasItems text.now others → others ≡ items_view items) }
     // There are no more of them than the text has bytes.
-    ensures count { IfOk result (λ items. counted (items_view items) ≤ 2 ^ 24) }
+    ensures count { IfOk result (λ items. counted (items_view items) ≤ most_counted) }
     // Each has the opcodes, the flags and the parts of its phrase.
     ensures shape { IfOk result (λ items. AreItemsFormed (items_view items)) }
     // What is told is the first bad place, by its kind.

@@ -55,17 +55,17 @@ IsPlaceOf keys key found = (place : ℕ) → (found ≡ Some place) ↔ (slice_g
 abbrev pub IsListed : {A : Type 0} → List A → Type 0
 IsListed {A} values = (value : A) → (place : ℕ) × (slice_get values place ≡ Some value)
 
-pub none_has_key : {A K : Type 0} (key_of : A → K) (values : List A) (keys : List K) (key : K) → IsListed values → keys ≡ map key_of values → IsPlaceOf keys key None → (value : A) → key_of value ≡ key → ⊥
+none_has_key : {A K : Type 0} (key_of : A → K) (values : List A) (keys : List K) (key : K) → IsListed values → keys ≡ map key_of values → IsPlaceOf keys key None → (value : A) → key_of value ≡ key → ⊥
 none_has_key key_of values keys key listed e found value has =
     let (place, here) = listed value in
     let there : slice_get keys place ≡ Some key = rw (e, slice_get-map, here, has) in
     let contrary : None ≡ Some place = (found place).1 there in
     cc
 
-pub place_below : {A K : Type 0} (key_of : A → K) (values : List A) (keys : List K) (key : K) (place : ℕ) → keys ≡ map key_of values → IsPlaceOf keys key (Some place) → place < length values
-place_below key_of values keys key place e found = let there = slice_get_within keys place key ((found place).0 refl) in let same : length keys ≡ length values = ap length e ∙ length-map values key_of in omega (arith, there)
+pub place_below : {A K : Type 0} {keys : List K} {key : K} {place : ℕ} (key_of : A → K) (values : List A) → keys ≡ map key_of values → IsPlaceOf keys key (Some place) → place < length values
+place_below {A} {K} {keys} {key} {place} key_of values e found = let there = slice_get_within keys place key ((found place).0 refl) in let same : length keys ≡ length values = ap length e ∙ length-map values key_of in omega (arith, there)
 
-pub only_has_key : {A K : Type 0} (key_of : A → K) (values : List A) (keys : List K) (key : K) (place : ℕ) → IsListed values → keys ≡ map key_of values → IsPlaceOf keys key (Some place) → (read value : A) → slice_get values place ≡ Some read → (Some read ≡ Some value) ↔ (key_of value ≡ key)
+only_has_key : {A K : Type 0} (key_of : A → K) (values : List A) (keys : List K) (key : K) (place : ℕ) → IsListed values → keys ≡ map key_of values → IsPlaceOf keys key (Some place) → (read value : A) → slice_get values place ≡ Some read → (Some read ≡ Some value) ↔ (key_of value ≡ key)
 only_has_key key_of values keys key place listed e found read value here = (
   λ same.
       let there : slice_get keys place ≡ Some key = (found place).0 refl in
@@ -127,13 +127,31 @@ find_only test (first ∷ values) (suc place) value only here passes =
     ]
 
 -- the search of the definition finds nothing where no value has the key
-pub find_absent : {A K : Type 0} (same : K → K → Bool) → ((x y : K) → Decides (same x y) (x ≡ y)) → (key_of : A → K) (values : List A) (key : K) → ((value : A) → key_of value ≡ key → ⊥) → None ≡ find (λ value. same (key_of value) key) values
+find_absent : {A K : Type 0} (same : K → K → Bool) → ((x y : K) → Decides (same x y) (x ≡ y)) → (key_of : A → K) (values : List A) (key : K) → ((value : A) → key_of value ≡ key → ⊥) → None ≡ find (λ value. same (key_of value) key) values
 find_absent same decides key_of values key absent = sym (find_none (λ value. same (key_of value) key) values (λ value passes. absent value ((decides (key_of value) key).0 passes)))
 
 -- and finds the one value that has it
-pub find_present : {A K : Type 0} (same : K → K → Bool) → ((x y : K) → Decides (same x y) (x ≡ y)) → (key_of : A → K) (values : List A) (keys : List K) (key : K) (place : ℕ) → IsListed values → keys ≡ map key_of values → IsPlaceOf keys key (Some place) → (read : A) → slice_get values place ≡ Some read → Some read ≡ find (λ value. same (key_of value) key) values
+find_present : {A K : Type 0} (same : K → K → Bool) → ((x y : K) → Decides (same x y) (x ≡ y)) → (key_of : A → K) (values : List A) (keys : List K) (key : K) (place : ℕ) → IsListed values → keys ≡ map key_of values → IsPlaceOf keys key (Some place) → (read : A) → slice_get values place ≡ Some read → Some read ≡ find (λ value. same (key_of value) key) values
 find_present same decides key_of values keys key place listed e found read here =
     let has : key_of read ≡ key = (only_has_key key_of values keys key place listed e found read read here).0 refl in
     sym (find_only (λ value. same (key_of value) key) values place read
     (λ other passes. let s : Some read ≡ Some other = (only_has_key key_of values keys key place listed e found read other here).1 ((decides (key_of other) key).0 passes) in cc)
     here ((decides (key_of read) key).1 has))
+
+-- what is given where no place has the key: nothing, since no value has it
+pub absent_exact : {A K : Type 0} {keys : List K} {key : K} {given : Option A} (key_of : A → K) (values : List A) → IsListed values → keys ≡ map key_of values → IsPlaceOf keys key None → given ≡ None → (value : A) → (given ≡ Some value) ↔ (key_of value ≡ key)
+absent_exact {A} {K} {keys} {key} {given} key_of values listed e found none value = (λ some. absurd (cc), λ has. absurd (none_has_key key_of values keys key listed e found value has))
+
+pub absent_value : {A K : Type 0} {keys : List K} {key : K} {given : Option A} (same : K → K → Bool) → ((x y : K) → Decides (same x y) (x ≡ y)) → (key_of : A → K) (values : List A) → IsListed values → keys ≡ map key_of values → IsPlaceOf keys key None → given ≡ None → given ≡ find (λ value. same (key_of value) key) values
+absent_value {A} {K} {keys} {key} {given} same decides key_of values listed e found none = none ∙ find_absent same decides key_of values key (none_has_key key_of values keys key listed e found)
+
+-- what is given where a place has the key: the value at that place, and no other value has it
+pub present_exact : {A K : Type 0} {keys : List K} {key : K} {place : ℕ} (key_of : A → K) (values : List A) (default : A) → IsListed values → keys ≡ map key_of values → IsPlaceOf keys key (Some place) → (value : A) → (Some (get_or values place default) ≡ Some value) ↔ (key_of value ≡ key)
+present_exact {A} {K} {keys} {key} {place} key_of values default listed e found value =
+    let here = slice_get-get_or values place default (place_below key_of values e found) in
+    only_has_key key_of values keys key place listed e found (get_or values place default) value here
+
+pub present_value : {A K : Type 0} {keys : List K} {key : K} {place : ℕ} (same : K → K → Bool) → ((x y : K) → Decides (same x y) (x ≡ y)) → (key_of : A → K) (values : List A) (default : A) → IsListed values → keys ≡ map key_of values → IsPlaceOf keys key (Some place) → Some (get_or values place default) ≡ find (λ value. same (key_of value) key) values
+present_value {A} {K} {keys} {key} {place} same decides key_of values default listed e found =
+    let here = slice_get-get_or values place default (place_below key_of values e found) in
+    find_present same decides key_of values keys key place listed e found (get_or values place default) here

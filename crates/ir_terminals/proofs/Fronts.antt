@@ -1,9 +1,10 @@
 -- What a cursor keeps of a text.
-use Rattle.std.proofs.Common.{◌≡◌, ℕ, zero, suc, ◌+◌, ◌<◌, ◌≤◌, ◌^◌, Bool, false, List, [], ◌∷◌, length, drop, Option, Some, None, Result, Ok, Err, refl, sym, ap, ◌∙◌, arith, add-one}
+use Rattle.std.proofs.Common.{◌≡◌, ℕ, zero, suc, ◌+◌, ◌<◌, ◌≤◌, Bool, false, List, [], ◌∷◌, length, drop, Option, Some, None, Result, Ok, Err, refl, sym, ap, ◌∙◌, arith, add-one}
 use Rattle.ir_lexer.specs.Ahead.{AheadIs, Located, Ahead, before_all, answered, ahead_within, ahead}
 use Rattle.ir_lexer.specs.Lexer.{Lexing, at_start, rest, token_spelling, LiesIn, Says, answer, after}
 use Rattle.ir_lexer.specs.Place.{place_of}
 use Rattle.ir_lexer.specs.Tokens.{Begins}
+use Rattle.ir_lexer.specs.declared.lexer.TheConstants.{LARGEST}
 use Rattle.ir_lexer.specs.declared.token.Token.{Token}
 use Rattle.ir_lexer.specs.declared.token.BadByte.{BadByte}
 use Rattle.ir_lexer.proofs.AheadSteps.{ahead_step, ahead_is}
@@ -67,7 +68,7 @@ pub front_bad : (l new : Lexing) (bad : BadByte) → Err bad ≡ answer l → ne
 front_bad l new bad a n text = record { is_ahead = rw (← a) at (ahead_step l); text = text; sound = tt }
 
 -- at the first token
-pub starts_at : (text : List ℕ) (l : Lexing) (front : Front) → length text ≤ 2 ^ 24 → IsFrontOf (at_start text) front l → IsAt l front 0 false
+pub starts_at : (text : List ℕ) (l : Lexing) (front : Front) → length text ≤ LARGEST → IsFrontOf (at_start text) front l → IsAt l front 0 false
 starts_at text l front short f = record {
   short = rw f.text short;
   tokens = no_drop_tokens (text_tokens l.text) ∙ ap text_tokens f.text ∙ ap (λ (a : Ahead). a.tokens) f.is_ahead;

@@ -1,9 +1,10 @@
 -- Says how the code reads: what a cursor keeps: a lexer, and what the lexer answered last.
-use Rattle.std.specs.Prelude.{◌≡◌, ℕ, ◌≤◌, ◌^◌, Bool, true, false, List, [], length, drop}
+use Rattle.std.specs.Prelude.{◌≡◌, ℕ, ◌≤◌, Bool, true, false, List, [], length, drop}
 use Rattle.ir_lexer.specs.Ahead.{Ahead, ahead, before_all}
 use Rattle.ir_lexer.specs.Lexer.{Lexing, LiesIn, token_spelling}
 use Rattle.ir_lexer.specs.Place.{place_of}
 use Rattle.ir_lexer.specs.Table.{IsToken}
+use Rattle.ir_lexer.specs.declared.lexer.TheConstants.{LARGEST}
 use Rattle.ir_terminals.specs.Position.{text_tokens, is_cut_off, end_place, is_behind_less, is_less}
 use Rattle.ir_terminals.specs.Role.{terminal}
 use Rattle.ir_terminals.specs.declared.cursor.Front.{Front}
@@ -29,7 +30,7 @@ pub record IsFrontOf (old : Lexing) (front : Front) (new : Lexing) : Type 0 wher
 
 -- the lexer and its last answer are behind so many tokens of the text
 pub record IsAt (l : Lexing) (front : Front) (taken : ℕ) (behind : Bool) : Type 0 where
-  pub short : length l.text ≤ 2 ^ 24
+  pub short : length l.text ≤ LARGEST
   pub tokens : drop taken (text_tokens l.text) ≡ (ahead_from l front).tokens
   pub bad : is_cut_off l.text ≡ (ahead_from l front).bad
   pub place : end_place l.text ≡ (ahead_from l front).place

@@ -1,7 +1,8 @@
 //! A cursor over the tokens of a text.
-ghost use Rattle.std.specs.Prelude.{◌≡◌, ◌+◌, ◌≤◌, ◌<◌, ◌^◌, length, [], ◌∷◌};
+ghost use Rattle.std.specs.Prelude.{◌≡◌, ◌+◌, ◌≤◌, ◌<◌, length, [], ◌∷◌};
 ghost use Rattle.ir_lexer.specs.Ahead.{AheadIs, ahead};
 ghost use Rattle.ir_lexer.specs.Lexer.{at_start};
+ghost use Rattle.ir_lexer.specs.declared.lexer.TheConstants.{LARGEST};
 ghost use Rattle.ir_terminals.specs.Position.{text_tokens, tokens_left, first_kind, first_spelling, first_place, first_terminal, is_bad_next, is_behind_less, IsFirstToken, stepped};
 ghost use Rattle.ir_terminals.specs.Front.{IsFrontOf, front_less};
 ghost use Rattle.ir_terminals.specs.Role.{class};
@@ -64,7 +65,7 @@ impl<'t> Cursor<'t> {
     /// A cursor at the first token of the text, which has at most 16 MiB. The tokens are those of the text, or those
     /// before its first byte at which no token begins, and there are no more of them than bytes.
     pub fn new(alloc: Global, text: &'t [u8], limits: Limits) -> Cursor<'t>
-        requires { length text.now ≤ 2 ^ 24 }
+        requires { length text.now ≤ LARGEST }
         ensures start { result ≡ record { limits = limits; text = text.now; taken = 0 } }
         ensures tokens { AheadIs text.now (ahead (at_start text.now)) }
         ensures few { length (text_tokens text.now) ≤ length text.now }
@@ -98,7 +99,7 @@ impl<'t> Cursor<'t> {
         ensures count { result ≡ self.now.taken }
         ensures within { self.now.taken ≤ length (text_tokens self.now.text) }
         ensures few { length (text_tokens self.now.text) ≤ length self.now.text }
-        ensures short { length self.now.text ≤ 2 ^ 24 }
+        ensures short { length self.now.text ≤ LARGEST }
     {
         self.taken
     }

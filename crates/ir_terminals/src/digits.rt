@@ -1,44 +1,32 @@
 //! Numbers that digits write, while they fit.
-ghost use Rattle.std.specs.Prelude.{◌≡◌, ◌<◌, ◌+◌, ◌-◌, ◌*◌, ◌^◌, ◌&&◌, true, nat_le};
+ghost use Rattle.std.specs.Prelude.{◌≡◌, ◌<◌, ◌^◌, ◌&&◌, true, nat_le};
 ghost use Rattle.std.specs.List.{list_all};
 ghost use Rattle.ir_terminals.specs.Digits.{are_digits, below, decimal, IsWritten};
 
-/// The number that a digit makes of the number that those before it write, where it is below 2^64.
-fn with_digit(number: u64, digit: u8) -> Option<u64>
-    ensures { result ≡ below (2 ^ 64) (number * 10 + (digit - 48)) }
-{
-    let digit = u64::from(digit.saturating_sub(b'0'));
-    number.checked_mul(10)?.checked_add(digit)
-}
-
-/// The same below 2^128.
-fn with_wide_digit(number: u128, digit: u8) -> Option<u128>
-    ensures { result ≡ below (2 ^ 128) (number * 10 + (digit - 48)) }
-{
-    let digit = u128::from(digit.saturating_sub(b'0'));
-    number.checked_mul(10)?.checked_add(digit)
+// The number that the digits write, where it fits the type.
+macro_rules! decimal {
+    ($type:ident: $digits:ident) => {{
+        let mut number: $type = 0;
+        for digit in $digits {
+            let value = $type::from(digit.saturating_sub(b'0'));
+            number = number.checked_mul(10)?.checked_add(value)?;
+        }
+        Some(number)
+    }};
 }
 
 /// The number that the digits write, where it is below 2^64.
 pub(crate) fn decimal_64(digits: &[u8]) -> Option<u64>
     ensures { result ≡ below (2 ^ 64) (decimal digits.now) }
 {
-    let mut number = 0;
-    for digit in digits {
-        number = with_digit(number, *digit)?;
-    }
-    Some(number)
+    decimal!(u64: digits)
 }
 
 /// The number that the digits write, where it is below 2^128.
 pub(crate) fn decimal_128(digits: &[u8]) -> Option<u128>
     ensures { result ≡ below (2 ^ 128) (decimal digits.now) }
 {
-    let mut number = 0;
-    for digit in digits {
-        number = with_wide_digit(number, *digit)?;
-    }
-    Some(number)
+    decimal!(u128: digits)
 }
 
 /// The same digits, of which some other than zero, without the zeros before them.

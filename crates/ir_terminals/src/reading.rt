@@ -171,7 +171,7 @@ impl<'t> Cursor<'t> {
                 self.advance();
                 Ok(PlacedName { name, place })
             }
-            Some(TokenKind::UnnamedLocal) if self.limits().wide => {
+            Some(TokenKind::UnnamedLocal) if self.limits().with_left_out => {
                 let name = digits_name(self.alloc(), self.spelling())?;
                 self.advance();
                 Ok(PlacedName { name, place })

@@ -1,5 +1,6 @@
 //! Declares what the items of a text declare.
 ghost use Rattle.std.specs.Prelude.{◌≡◌, ◌<◌, ◌≤◌, ◌^◌, ◌-◌, OnOk};
+ghost use Rattle.ir_syntax.specs.Counts.{most_counted};
 ghost use Rattle.ir_syntax.specs.Counts.{counted, item_count};
 ghost use Rattle.ir_syntax.specs.View.{item_view, items_view};
 ghost use Rattle.type_table.specs.Types.{structs};
@@ -53,7 +54,7 @@ fn declare_item(builder: &mut Builder, alloc: Global, item: &Item) -> Result<(),
 pub fn declare_items(builder: &mut Builder, alloc: Global, items: &[Item]) -> Result<(), AllocError>
     requires buildable { AreBuildable (items_view items.now) }
     requires few { AreFew (counts_in (items_view items.now)) }
-    requires few_parts { counted (items_view items.now) ≤ 2 ^ 24 }
+    requires few_parts { counted (items_view items.now) ≤ most_counted }
     requires structs { structs builder.old.arena.table ≡ structs_in (items_view items.now) }
     requires empty { entries builder.old.arena ≡ no_lists }
     ensures module { OnOk result (module_of builder.new.arena ≡ with_declared (module_of builder.old.arena) (items_view items.now)) }

@@ -156,8 +156,8 @@ fn mark_ending(marks: &mut [bool], ending: &Ending)
 {
     match ending {
         Ending::Return(operand) => mark_value(marks, operand.value),
-        Ending::Branch(condition, _, _) => mark_value(marks, condition.value),
-        Ending::Switch(operand, _, cases) => mark_switch(marks, operand.value, cases.as_slice()),
+        Ending::Branch { condition, .. } => mark_value(marks, condition.value),
+        Ending::Switch { value, cases, .. } => mark_switch(marks, value.value, cases.as_slice()),
         Ending::ReturnVoid => {}
         Ending::Jump(_) => {}
         Ending::Unreachable => {}

@@ -91,8 +91,8 @@ naming_stands t name (Some earlier) known past e = at_first t [] (ask false (fau
 
 draws_naming : (limits : Limits) → Draws (named_local_row limits) naming_asked
 draws_naming limits =
-    draws_one class (code terminal.Local ∷ []) (named_local_of limits.wide) naming_asked
-    (λ t n e x. naming_stands t n (place_of_name x.0 n.name) x.1.0 x.1.1 (struct_place limits.wide t n e))
+    draws_one class (code terminal.Local ∷ []) (named_local_of limits.with_left_out) naming_asked
+    (λ t n e x. naming_stands t n (place_of_name x.0 n.name) x.1.0 x.1.1 (struct_place limits.with_left_out t n e))
 
 abbrev body_asked : Known → BodyTree → List Demand
 body_asked known body = types_demands known (body_types known body)
@@ -264,7 +264,7 @@ module _ (limits : Limits) where
   draws_defined_core : Draws (defined_core limits) defined_asked
   unfolding defined_core
   draws_defined_core =
-      draws_so defined_asked (draws_pair (draws_defined limits.wide limits) (draws_labelled body_shape draws_body_core))
+      draws_so defined_asked (draws_pair (draws_defined limits.with_left_out limits) (draws_labelled body_shape draws_body_core))
       (λ us v d known.
       let all = locals_from 0 (announced v.0.0 v.1) in
       d (((known, all), none_called), ((known, all), called_after none_called (announced v.0.0 []))))

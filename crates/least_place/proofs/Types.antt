@@ -55,9 +55,9 @@ named_asked known name = type_demands known (NamedType name)
 
 draws_named : (limits : Limits) → Draws (named_local_row limits) named_asked
 draws_named limits =
-    draws_one class (code terminal.Local ∷ []) (named_local_of limits.wide) named_asked
+    draws_one class (code terminal.Local ∷ []) (named_local_of limits.with_left_out) named_asked
     (λ t n e known.
-    let at = ap Some (struct_place limits.wide t n e) in
+    let at = ap Some (struct_place limits.with_left_out t n e) in
     let nested = nests n.place (struct_measured known n.name) in
     let small = is_small n.place (is_large (struct_measured known n.name)) false in
     at_first t [] (is_struct known n) (nested ∷ small ∷ []) at (at_first t [] nested (small ∷ []) at (at_first t [] small [] at tt)))

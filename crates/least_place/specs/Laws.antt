@@ -13,4 +13,7 @@ DemandsInOrder = (text : List ℕ) (items : List ItemTree) → HasItems text ite
 
 -- no demand that does not hold stands before the first break
 abbrev pub BreaksAtTheLeastPlace : Type 0
-BreaksAtTheLeastPlace = (text : List ℕ) (items : List ItemTree) (fault : ResolveFault) → HasItems text items → first_break items ≡ Some fault → NoneBefore (place_of_refusal fault) (demands items)
+BreaksAtTheLeastPlace = (text : List ℕ) (items : List ItemTree) (fault : ResolveFault)
+    → HasItems text items
+    → first_break items ≡ Some fault
+    → NoneBefore (place_of_refusal fault) (demands items)

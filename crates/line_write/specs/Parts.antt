@@ -76,7 +76,10 @@ module _ (a : Lists) (f : Function) where
 
   -- of a `select`
   abbrev pub choice_operands : Choice → List ℕ
-  choice_operands c = type_operands c.first.ty ++ (value_operands (int 1) c.condition.value ++ (value_operands (tree a.table c.first.ty) c.first.value ++ value_operands (tree a.table c.first.ty) c.second.value))
+  choice_operands c =
+      type_operands c.first.ty
+      ++ (value_operands (int 1) c.condition.value
+      ++ (value_operands (tree a.table c.first.ty) c.first.value ++ value_operands (tree a.table c.first.ty) c.second.value))
 
   -- of two values of one type
   abbrev pub both_operands : Operand → Value → List ℕ

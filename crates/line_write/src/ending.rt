@@ -113,12 +113,16 @@ pub fn put_ending(
         Ending::ReturnVoid => put_number(operands, 0),
         Ending::Return(part) => put_some(operands, numbering, *part),
         Ending::Jump(to) => put_jump(operands, *to),
-        Ending::Branch(condition, then_to, else_to) => {
-            put_branch(operands, numbering, condition.value, *then_to, *else_to)
-        }
-        Ending::Switch(part, otherwise, cases) => {
-            put_switch(operands, numbering, *part, *otherwise, cases.as_slice())
-        }
+        Ending::Branch {
+            condition,
+            then_to,
+            else_to,
+        } => put_branch(operands, numbering, condition.value, *then_to, *else_to),
+        Ending::Switch {
+            value,
+            otherwise,
+            cases,
+        } => put_switch(operands, numbering, *value, *otherwise, cases.as_slice()),
         Ending::Unreachable => Ok(()),
     }
 }

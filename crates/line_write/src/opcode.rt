@@ -34,8 +34,8 @@ pub fn ending_opcode(ending: &Ending) -> Opcode
 {
     match ending {
         Ending::ReturnVoid | Ending::Return(_) => Opcode::Ret,
-        Ending::Jump(_) | Ending::Branch(_, _, _) => Opcode::Br,
-        Ending::Switch(_, _, _) => Opcode::Switch,
+        Ending::Jump(_) | Ending::Branch { .. } => Opcode::Br,
+        Ending::Switch { .. } => Opcode::Switch,
         Ending::Unreachable => Opcode::Unreachable,
     }
 }

@@ -13,5 +13,8 @@ use Rattle.link_stages.specs.NewIds.{AllHaveNewIds}
 pub record AreCopiedTo (parts : List Lists) (count : ℕ) (b : Lists) (tables : List Tables) : Type 0 where
   pub types : HaveTypes parts b tables
   pub ids : AllHaveNewIds parts b tables
-  pub through : (i : ℕ) (a : Lists) (t : Tables) → i < count → slice_get parts i ≡ Some a → slice_get tables i ≡ Some t → Copies (new_struct (modules parts) i) (new_global (modules parts) i) a b t
+  pub through : (i : ℕ) (a : Lists) (t : Tables) → i < count
+      → slice_get parts i ≡ Some a
+      → slice_get tables i ≡ Some t
+      → Copies (new_struct (modules parts) i) (new_global (modules parts) i) a b t
   pub none : (i : ℕ) (t : Tables) → count ≤ i → slice_get tables i ≡ Some t → t.constants ≡ []

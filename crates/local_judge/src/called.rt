@@ -16,10 +16,16 @@ use name_rules::{ResolveFault, spell_number};
 use name_table::NameTable;
 use std::alloc::{AllocError, Global};
 
+/// How many locals of a function leave its tables worth keeping. To empty a table takes time by its room, and many small
+/// functions may stand behind a large one.
+const MOST_KEPT: u64 = 1024;
+
 /// What was called so far.
 #[derive(Drop)]
 pub(crate) struct CalledNames<'a> {
     next: u64,
+    /// How many of them have written names.
+    named: u64,
     names: NameTable<'a, Place>,
 }
 
@@ -31,8 +37,24 @@ impl<'a> CalledNames<'a> {
     {
         CalledNames {
             next: 0,
+            named: 0,
             names: NameTable::new(alloc),
         }
+    }
+
+    /// Before the first of another function. The memory is kept.
+    pub(crate) fn clear(&mut self)
+        ensures next { self.new.next ≡ 0 }
+        ensures names { self.new.names ≡ [] }
+    {
+        self.next = 0;
+        self.named = 0;
+        self.names.clear();
+    }
+
+    /// Whether more were called than an emptied table is to have room for.
+    pub(crate) fn are_many(&self) -> bool {
+        self.next > MOST_KEPT || self.named > MOST_KEPT
     }
 
     /// Calls what has no name by the next number. More than 64 bits count are more than memory holds.
@@ -54,6 +76,7 @@ impl<'a> CalledNames<'a> {
             });
         }
         self.names.put(name.name.bytes(), name.place)?;
+        self.named = self.named.saturating_add(1);
         Ok(())
     }
 

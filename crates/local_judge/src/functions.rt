@@ -18,6 +18,7 @@ use crate::endings::check_ending;
 use crate::gathered::FunctionLocals;
 use crate::operations::check_operation;
 use crate::results::has_result;
+use crate::tables::LocalTables;
 use ir_instructions::{Block, Instruction};
 use ir_syntax::Parameter;
 use name_rules::ResolveFault;
@@ -137,20 +138,21 @@ fn check_parameters<'a>(
     Ok(())
 }
 
-/// The parameters and the body of a definition, in the order of the text: tells the first demand that does not hold.
+/// The parameters and the body of a definition, in the order of the text: tells the first demand that does not hold. The
+/// tables may be those of any function before.
 /// Errors: a local that is called twice or has a wrong number, a name of nothing, a constant out of range, a type that is
 /// too deep or too large (LangRef, "Identifiers").
-pub fn check_definition(
+pub fn check_definition<'a>(
     alloc: Global,
     known: &Known,
-    parameters: &[Parameter],
-    blocks: &[Block],
+    tables: &mut LocalTables<'a>,
+    parameters: &'a [Parameter],
+    blocks: &'a [Block],
 ) -> Result<(), ResolveFault>
     requires known { IsKnown known.now }
     ensures { IsJudged (definition_demands (known_of known.now) (map parameter_view parameters.now) (map block_view blocks.now)) result }
 {
-    let locals = FunctionLocals::of_function(alloc, parameters, blocks)?;
-    let mut called = CalledNames::new(alloc);
-    check_parameters(alloc, known, &mut called, parameters)?;
-    check_blocks(alloc, known, &locals, &mut called, blocks)
+    tables.begin(alloc, parameters, blocks)?;
+    check_parameters(alloc, known, &mut tables.called, parameters)?;
+    check_blocks(alloc, known, &tables.locals, &mut tables.called, blocks)
 }

@@ -1,7 +1,7 @@
 //! Gathers what the values and the blocks of a function are called, at whichever place.
 #![tactic(auto)]
 
-ghost use Rattle.std.specs.Prelude.{◌≡◌, [], ◌∷◌, map, flat_map, IfOk};
+ghost use Rattle.std.specs.Prelude.{◌≡◌, [], ◌∷◌, map, flat_map, IfOk, OnOk};
 ghost use Rattle.ir_instructions.specs.View.{instruction_view, block_view};
 ghost use Rattle.ir_syntax.specs.View.{parameter_view};
 ghost use Rattle.name_rules.specs.Locals.{announced, announced_parameter, announced_result, announced_block, local_in, locals_from, is_there};
@@ -107,19 +107,20 @@ fn add_parameters<'a>(
     Ok(behind)
 }
 
-/// What the blocks, or the values, of a function are called.
-fn names_of<'a>(
+/// What the blocks, or the values, of a function are called, whatever stood in the table before.
+fn gather_names<'a>(
+    names: &mut LocalNames<'a>,
     alloc: Global,
     block: bool,
     parameters: &'a [Parameter],
     blocks: &'a [Block],
-) -> Result<LocalNames<'a>, AllocError>
-    ensures { IfOk result (λ names. HoldsNames names block (locals_from 0 (announced (map parameter_view parameters.now) (map block_view blocks.now)))) }
+) -> Result<(), AllocError>
+    ensures { OnOk result (HoldsNames names.new block (locals_from 0 (announced (map parameter_view parameters.now) (map block_view blocks.now)))) }
 {
-    let mut names = LocalNames::new(alloc, block);
-    let behind = add_parameters(&mut names, alloc, 0, parameters)?;
-    add_blocks(&mut names, alloc, behind, blocks)?;
-    Ok(names)
+    names.clear(block);
+    let behind = add_parameters(names, alloc, 0, parameters)?;
+    add_blocks(names, alloc, behind, blocks)?;
+    Ok(())
 }
 
 /// What the values and the blocks of a function are called.
@@ -133,23 +134,31 @@ pub(crate) struct FunctionLocals<'a> {
 }
 
 impl<'a> FunctionLocals<'a> {
-    /// Those of the function with these parameters and blocks.
-    pub(crate) fn of_function(
+    /// Those of no function yet.
+    pub(crate) fn new(alloc: Global) -> Self {
+        FunctionLocals {
+            parameters: &[],
+            blocks: &[],
+            values: LocalNames::new(alloc, false),
+            labels: LocalNames::new(alloc, true),
+        }
+    }
+
+    /// Gathers those of the function with these parameters and blocks, whichever function's they were.
+    pub(crate) fn gather(
+        &mut self,
         alloc: Global,
         parameters: &'a [Parameter],
         blocks: &'a [Block],
-    ) -> Result<Self, AllocError>
-        ensures gathered { IfOk result AreGathered }
-        ensures function { IfOk result (λ locals. locals_of locals ≡ locals_from 0 (announced (map parameter_view parameters.now) (map block_view blocks.now))) }
+    ) -> Result<(), AllocError>
+        ensures gathered { OnOk result (AreGathered self.new) }
+        ensures function { OnOk result (locals_of self.new ≡ locals_from 0 (announced (map parameter_view parameters.now) (map block_view blocks.now))) }
     {
-        let values = names_of(alloc, false, parameters, blocks)?;
-        let labels = names_of(alloc, true, parameters, blocks)?;
-        Ok(FunctionLocals {
-            parameters,
-            blocks,
-            values,
-            labels,
-        })
+        gather_names(&mut self.values, alloc, false, parameters, blocks)?;
+        gather_names(&mut self.labels, alloc, true, parameters, blocks)?;
+        self.parameters = parameters;
+        self.blocks = blocks;
+        Ok(())
     }
 
     /// Whether a block, or a value, is called so.

@@ -7,7 +7,8 @@
 //! ```
 //! // `definition` is the one item of the text `define i32 @f(i32 %x) { ret i32 %y }`.
 //! let known = Known::of_items(alloc, &items)?;
-//! check_definition(alloc, &known, &definition.parameters, &definition.blocks) // an unknown name, `%y`, at 1:33
+//! let mut tables = LocalTables::new(alloc); // for this function and those behind it
+//! check_definition(alloc, &known, &mut tables, &definition.parameters, &definition.blocks) // an unknown name, `%y`, at 1:33
 //! ```
 #![tactic(auto)]
 
@@ -19,5 +20,7 @@ mod local_names;
 mod operands;
 mod operations;
 mod results;
+mod tables;
 
 pub use functions::check_definition;
+pub use tables::LocalTables;

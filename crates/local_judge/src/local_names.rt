@@ -37,6 +37,16 @@ impl<'a> LocalNames<'a> {
         }
     }
 
+    /// Takes all out, for those of the blocks or of the values of another function. The memory is kept.
+    pub(crate) fn clear(&mut self, block: bool)
+        ensures { HoldsNames self.new block [] }
+    {
+        self.block = block;
+        self.named.clear();
+        self.small.clear();
+        self.large.clear();
+    }
+
     /// Whether what is a block, or is none, belongs to these.
     fn is_alike(&self, block: bool) -> bool
         ensures { result ≡ is_alike block self.now.block }

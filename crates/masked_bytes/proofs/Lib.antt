@@ -3,3 +3,4 @@ pub mod Placed
 mod Numbers
 mod Puts
 mod Steps
+mod WordLists

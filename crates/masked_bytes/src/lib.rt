@@ -17,5 +17,6 @@
 mod bytes;
 mod mask;
 mod masked;
+mod words;
 
 pub use masked::MaskedBytes;

@@ -5,6 +5,7 @@ ghost use Rattle.masked_bytes.specs.Masked.{put};
 
 use crate::bytes::{move_bytes, put_bytes, put_many, put_number, spelled};
 use crate::mask::{clear, copy_marks, has, has_any, move_marks, no_marks, set_all};
+use crate::words::Words;
 use std::alloc::{AllocError, Global};
 use std::marker::Model;
 
@@ -13,19 +14,19 @@ use std::marker::Model;
 #[derive(Drop)]
 pub struct MaskedBytes {
     bytes: Vec<u8>,
-    marks: Vec<u64>,
+    marks: Words,
     clean: bool,
 }
 
 impl Model for MaskedBytes {
-    ghost use Rattle.std.specs.Prelude.{◌≡◌, ℕ, ◌*◌, ◌≤◌, List, Option, true, false, vec_len};
+    ghost use Rattle.std.specs.Prelude.{◌≡◌, ℕ, ◌*◌, ◌≤◌, List, Option, true, false, length, vec_len};
     ghost use Rattle.masked_bytes.specs.Masked.{masked, is_marked};
 
     ghost Value = { List (Option ℕ) };
 
-    ghost view = { λ b. masked b.marks.items b.bytes.items };
+    ghost view = { λ b. masked b.marks b.bytes.items };
 
-    ghost invariant = { λ b. (vec_len b.bytes ≤ 64 * vec_len b.marks) × (b.clean ≡ true → (k : ℕ) → is_marked b.marks.items k ≡ false) };
+    ghost invariant = { λ b. (vec_len b.bytes ≤ 64 * length b.marks) × (b.clean ≡ true → (k : ℕ) → is_marked b.marks k ≡ false) };
 }
 
 impl MaskedBytes {
@@ -46,7 +47,7 @@ impl MaskedBytes {
     {
         MaskedBytes {
             bytes: Vec::new(alloc),
-            marks: Vec::new(alloc),
+            marks: Words::one(alloc),
             clean: true,
         }
     }

@@ -4,6 +4,7 @@ use Rattle.type_table.specs.declared.layout.Layout.{Layout}
 use Rattle.type_table.specs.Layout.{layout}
 use Rattle.type_table.specs.Shape.{shape}
 use Rattle.type_table.specs.Tree.{Tree, int, ptr, void, array, struct, named, Trees, no_trees, more_trees, TreeBody, opaque_body, fields, Structs, body_of}
+use Rattle.module_arena.specs.declared.arena.TheConstants.{LEAF_LIMIT}
 use Rattle.module_arena.specs.Module.{Bytes}
 
 -- an integer type
@@ -64,10 +65,10 @@ type_layout structs t = option_and_then layout (shape structs t)
 abbrev pub lies_in_memory : Structs → Tree → Bool
 lies_in_memory structs t = is_some (type_layout structs t)
 
--- a layout of at most 65,536 leaves
+-- a layout of no more leaves than a value has that is handed on
 abbrev pub is_small_layout : Option Layout → Bool
 is_small_layout None = false
-is_small_layout (Some l) = nat_le l.leaves 65536
+is_small_layout (Some l) = nat_le l.leaves LEAF_LIMIT
 
 -- a type of values that are handed on: it lies in memory, and has at most 65,536 leaves
 abbrev pub is_passable : Structs → Tree → Bool

@@ -23,6 +23,9 @@ use type_table::{IrType, StructBody, StructId, TypeFault, TypeId, TypeTable};
 /// How many structs, variables, aliases or functions a module has at most.
 pub const COUNT_LIMIT: u32 = 262_144;
 
+/// How many leaves a value that is handed on has at most.
+pub const LEAF_LIMIT: u64 = 65_536;
+
 /// A module: its texts, and its types, constants, variables, aliases and functions under typed ids.
 #[derive(Drop)]
 pub struct Arena {
@@ -123,7 +126,7 @@ impl Arena {
         }
         let (functions, aliases) = (self.functions.len(), self.aliases.len());
         if let Some((kind, count)) = excess(self.variables.len() + 1, functions, aliases) {
-            return Err(ArenaFault::TooMany(kind, count));
+            return Err(ArenaFault::TooMany { kind, count });
         }
         let name = variable.name.copy(*self.constants.allocator())?;
         let id = VariableId::new(self.variables.len() as u32);
@@ -150,7 +153,7 @@ impl Arena {
         }
         let (variables, aliases) = (self.variables.len(), self.aliases.len());
         if let Some((kind, count)) = excess(variables, self.functions.len() + 1, aliases) {
-            return Err(ArenaFault::TooMany(kind, count));
+            return Err(ArenaFault::TooMany { kind, count });
         }
         let name = function.name.copy(*self.constants.allocator())?;
         let id = FunctionId::new(self.functions.len() as u32);
@@ -177,7 +180,7 @@ impl Arena {
         }
         let (variables, functions) = (self.variables.len(), self.functions.len());
         if let Some((kind, count)) = excess(variables, functions, self.aliases.len() + 1) {
-            return Err(ArenaFault::TooMany(kind, count));
+            return Err(ArenaFault::TooMany { kind, count });
         }
         let name = alias.name.copy(*self.constants.allocator())?;
         let id = AliasId::new(self.aliases.len() as u32);

@@ -169,12 +169,24 @@ fn copied_ending(alloc: Global, end: &Ending) -> Result<Ending, AllocError>
         Ending::ReturnVoid => Ending::ReturnVoid,
         Ending::Return(operand) => Ending::Return(*operand),
         Ending::Jump(target) => Ending::Jump(*target),
-        Ending::Branch(condition, then_to, else_to) => {
-            Ending::Branch(*condition, *then_to, *else_to)
-        }
-        Ending::Switch(operand, otherwise, cases) => {
-            Ending::Switch(*operand, *otherwise, same_items(alloc, cases)?)
-        }
+        Ending::Branch {
+            condition,
+            then_to,
+            else_to,
+        } => Ending::Branch {
+            condition: *condition,
+            then_to: *then_to,
+            else_to: *else_to,
+        },
+        Ending::Switch {
+            value,
+            otherwise,
+            cases,
+        } => Ending::Switch {
+            value: *value,
+            otherwise: *otherwise,
+            cases: same_items(alloc, cases)?,
+        },
         Ending::Unreachable => Ending::Unreachable,
     })
 }

@@ -24,9 +24,9 @@ pub enum ArenaFault {
     /// An entry has that name already.
     #[error("an entry has that name already")]
     Duplicate(GlobalId),
-    /// There would be that many, which is past the limit.
+    /// There would be `count` of that kind, which is past the limit.
     #[error("too many entries")]
-    TooMany(CountKind, u64),
+    TooMany { kind: CountKind, count: u64 },
     /// There is no memory left.
     #[error("out of memory")]
     Memory,

@@ -144,7 +144,8 @@ pub type CaseList = ItemList<Case>;
 ///
 /// ```
 /// Ending::Return(operand) // `ret i32 %x`, where that is the operand
-/// Ending::Branch(condition, BlockId::new(1), BlockId::new(2)) // `br i1 %c, label %yes, label %no`
+/// // `br i1 %c, label %yes, label %no`
+/// Ending::Branch { condition, then_to: BlockId::new(1), else_to: BlockId::new(2) }
 /// ```
 #[derive(Drop)]
 pub enum Ending {
@@ -154,10 +155,18 @@ pub enum Ending {
     Return(Operand),
     /// `br` to one block.
     Jump(BlockId),
-    /// `br` on a condition: to the first block where it is true, else to the second.
-    Branch(Operand, BlockId, BlockId),
-    /// `switch`: the value, the block for any other value, and the cases.
-    Switch(Operand, BlockId, CaseList),
+    /// `br` on a condition: to `then_to` where it is true, else to `else_to`.
+    Branch {
+        condition: Operand,
+        then_to: BlockId,
+        else_to: BlockId,
+    },
+    /// `switch`: to the target of the case that has the value, and to `otherwise` where none has it.
+    Switch {
+        value: Operand,
+        otherwise: BlockId,
+        cases: CaseList,
+    },
     /// `unreachable`
     Unreachable,
 }

@@ -1,6 +1,7 @@
 //! How many structs, variables, functions and aliases a text has.
 ghost use Rattle.std.specs.Prelude.{◌≡◌, ◌≤◌, ◌<◌, ◌+◌, ◌^◌, ◌++◌, List, Option, length, filter_map, [], ◌∷◌};
 ghost use Rattle.module_arena.specs.Known.{counted_aliases};
+ghost use Rattle.ir_syntax.specs.Counts.{most_counted};
 ghost use Rattle.ir_syntax.specs.Tree.{ItemTree};
 ghost use Rattle.ir_syntax.specs.View.{item_view, items_view};
 ghost use Rattle.name_rules.specs.Breaks.{too_many};
@@ -52,7 +53,7 @@ fn with_item(counts: ItemCounts, item: &Item) -> ItemCounts
 
 /// How many there are of each kind among these items.
 fn counts_of(items: &Items) -> ItemCounts
-    requires few { length (items_view items.now) ≤ 2 ^ 24 }
+    requires few { length (items_view items.now) ≤ most_counted }
     ensures { AreCounts result (items_view items.now) }
 {
     let mut counts = ItemCounts {
@@ -82,7 +83,7 @@ fn counted_aliases(aliases: u64, variables: u64, functions: u64) -> u64
 
 /// There are not too many of any kind.
 pub(crate) fn check_counts(items: &Items) -> Result<(), ResolveFault>
-    requires few { length (items_view items.now) ≤ 2 ^ 24 }
+    requires few { length (items_view items.now) ≤ most_counted }
     ensures { Tells (too_many (items_view items.now)) result }
 {
     let counts = counts_of(items);

@@ -16,7 +16,7 @@ ghost use Rattle.name_judge.specs.Seen.{AreFirst};
 use crate::seen::check_new;
 use ir_base::Place;
 use ir_syntax::{Declaration, Definition, Head, Parameter};
-use local_judge::check_definition;
+use local_judge::{LocalTables, check_definition};
 use name_rules::ResolveFault;
 use name_table::NameTable;
 use std::alloc::Global;
@@ -67,11 +67,12 @@ pub(crate) fn check_declaration<'a>(
     check_parameter_types(alloc, known, &declaration.formal.parameters)
 }
 
-/// A definition, behind globals of these names.
+/// A definition, behind globals of these names. The tables of locals may be those of any function before.
 pub(crate) fn check_function<'a>(
     alloc: Global,
     known: &Known,
     globals: &mut NameTable<'a, Place>,
+    tables: &mut LocalTables<'a>,
     definition: &'a Definition,
 ) -> Result<(), ResolveFault>
     requires known { IsKnown known.now }
@@ -79,5 +80,11 @@ pub(crate) fn check_function<'a>(
     ensures seen { (before : List PlacedName) → AreFirst globals.old before → OnOk result (AreFirst globals.new (before ++ definition.now.head.name ∷ [])) }
 {
     check_head(alloc, known, globals, &definition.head)?;
-    check_definition(alloc, known, &definition.parameters, &definition.blocks)
+    check_definition(
+        alloc,
+        known,
+        tables,
+        &definition.parameters,
+        &definition.blocks,
+    )
 }

@@ -14,17 +14,19 @@ use crate::globals::{check_alias, check_variable};
 use crate::seen::{Seen, check_first, nothing_seen};
 use crate::structs::check_struct;
 use ir_syntax::{Item, Items};
+use local_judge::LocalTables;
 use name_rules::ResolveFault;
 use std::alloc::Global;
 use struct_ends::StructMentions;
 use type_judge::Known;
 
-/// An item, behind what has stood in the text so far.
+/// An item, behind what has stood in the text so far. The tables of locals may be those of any function before.
 fn check_item<'a>(
     alloc: Global,
     known: &Known,
     mentions: &StructMentions,
     seen: &mut Seen<'a>,
+    tables: &mut LocalTables<'a>,
     item: &'a Item,
 ) -> Result<(), ResolveFault>
     requires known { IsKnown known.now }
@@ -46,7 +48,7 @@ fn check_item<'a>(
             check_declaration(alloc, known, &mut seen.globals, declaration)
         }
         Item::Definition { definition, .. } => {
-            check_function(alloc, known, &mut seen.globals, definition)
+            check_function(alloc, known, &mut seen.globals, tables, definition)
         }
         Item::Attributes(_) => Ok(()),
         Item::Metadata(_) => Ok(()),
@@ -61,8 +63,9 @@ pub(crate) fn check_items(alloc: Global, items: &Items) -> Result<(), ResolveFau
     let known = Known::of_items(alloc, items)?;
     let mentions = StructMentions::of_items(alloc, items)?;
     let mut seen = nothing_seen(alloc);
+    let mut tables = LocalTables::new(alloc);
     'items: for item in items.as_slice() {
-        check_item(alloc, &known, &mentions, &mut seen, item)?;
+        check_item(alloc, &known, &mentions, &mut seen, &mut tables, item)?;
     }
     Ok(())
 }

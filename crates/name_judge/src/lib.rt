@@ -11,8 +11,8 @@
 //! ```
 #![tactic(auto)]
 
-ghost use Rattle.std.specs.Prelude.{◌≤◌, ◌^◌};
-ghost use Rattle.ir_syntax.specs.Counts.{counted};
+ghost use Rattle.std.specs.Prelude.{◌≤◌};
+ghost use Rattle.ir_syntax.specs.Counts.{counted, most_counted};
 ghost use Rattle.ir_syntax.specs.View.{items_view};
 ghost use Rattle.name_rules.specs.Breaks.{first_break};
 ghost use Rattle.name_rules.specs.Demand.{Tells};
@@ -32,7 +32,7 @@ use std::alloc::Global;
 
 /// Judges the items of a text by the rules of names and numbers: tells the first break.
 pub fn judge(alloc: Global, items: &Items) -> Result<(), ResolveFault>
-    requires few { counted (items_view items.now) ≤ 2 ^ 24 }
+    requires few { counted (items_view items.now) ≤ most_counted }
     ensures { Tells (first_break (items_view items.now)) result }
 {
     check_counts(items)?;

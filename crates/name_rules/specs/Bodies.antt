@@ -58,7 +58,7 @@ instructions_in next (written ∷ more) = instruction_in next written ∷ instru
 
 -- a case of a switch
 abbrev pub case_in : CaseTree → Case
-case_in written = record { ty = type_in written.0.0; value = constant_in (type_in written.0.0) written.0.1; target = local_in written.1 }
+case_in ((ty, value), target) = record { ty = type_in ty; value = constant_in (type_in ty) value; target = local_in target }
 
 -- the end of a block
 abbrev pub ending_in : EndingTree → Ending

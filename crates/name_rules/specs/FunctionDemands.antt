@@ -110,7 +110,7 @@ module _ (known : Known) (all : Locals) where
 
   -- a case of a switch
   abbrev pub case_demands : CaseTree → List Demand
-  case_demands written = type_demands known written.0.0 ++ (constant_demands known (type_in written.0.0) written.0.1 ++ block_demand written.1 ∷ [])
+  case_demands ((ty, value), target) = type_demands known ty ++ (constant_demands known (type_in ty) value ++ block_demand target ∷ [])
 
   -- the end of a block
   abbrev pub ending_demands : EndingTree → List Demand

@@ -26,11 +26,14 @@ Always now P = (later : Growing) → Grows now later → P later.arena
 
 -- Operands in front were read; the arena got constants alone, and nothing else changed. What is found is there, and there is
 -- none only where a rule is broken. Where no rule is, and all entries are declared, it is what the operands stand for.
-pub record Finds {A B : Type 0} (has : LocalCounts → Lists → B → Type 0) (seen : Numbering → Lists → B → A) (read : Numbering → Walk → A × Walk) (old new : ModuleReader) (found : Option B) : Type 0 where
+pub record Finds {A B : Type 0} (has : LocalCounts → Lists → B → Type 0) (seen : Numbering → Lists → B → A)
+    (read : Numbering → Walk → A × Walk) (old new : ModuleReader) (found : Option B) : Type 0 where
   pub goes : Goes old new
   pub there : Always new.growing (λ a. IsThere (has new.locals a) found new.reader.walk)
   pub walk : (k : Numbering) → Numbers old k → new.reader.walk ≡ (read k old.reader.walk).1
-  pub kept : (k : Numbering) → Numbers old k → IsDeclared old k → is_broken new.reader.walk ≡ false → Always new.growing (λ a. option_map (seen k a) found ≡ Some (read k old.reader.walk).0)
+  pub kept : (k : Numbering) → Numbers old k → IsDeclared old k
+      → is_broken new.reader.walk ≡ false
+      → Always new.growing (λ a. option_map (seen k a) found ≡ Some (read k old.reader.walk).0)
 
 -- both, where both are found
 abbrev pub both : {B D : Type 0} → Option B → Option D → Option (B × D)

@@ -7,7 +7,7 @@
 //!
 //! ```
 //! -- A 0, digits 3 or 4 with a 2 between each two, and a 1: the value is the list of the digits.
-//! digits = second (word 0) (before (separated class (word 2) digit) (word 1))
+//! digits = keep_second (word 0) (keep_first (separated class (word 2) digit) (word 1))
 //!
 //! answer digits true (0 ∷ 3 ∷ 2 ∷ 4 ∷ 1 ∷ []) ≡ Ok (3 ∷ 4 ∷ [])
 //! answer digits true (0 ∷ 3 ∷ 4 ∷ 1 ∷ []) ≡ Err 2 -- the 4 is the first bad token

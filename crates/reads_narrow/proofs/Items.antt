@@ -167,7 +167,7 @@ module _ (limits : Limits) where
 
   gives_defined_core : Gives (defined_core limits) (λ v. AreNarrowParameters v.0 × AllAre IsNarrowBlock v.1)
   unfolding defined_core
-  gives_defined_core = gives_pair (gives_parameters limits.wide) (gives_labelled body_shape gives_body_core)
+  gives_defined_core = gives_pair (gives_parameters limits.with_left_out) (gives_labelled body_shape gives_body_core)
 
   gives_definition : Gives (definition_row limits) IsNarrowItem
   gives_definition =

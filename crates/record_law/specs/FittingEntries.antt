@@ -17,7 +17,9 @@ module _ (texts : Texts) (k : Numbering) where
   -- the parameters of a declaration have the numbers from 0
   abbrev pub DeclarationFits : Function → Type 0
   DeclarationFits f =
-      IsName texts f.name × IsType k f.returns × AllByRecursion (IsType k) (types_of f) × (parameters_of (zip (types_of f) (numbers_from 0 (length (types_of f)))) ≡ f.parameters) × IsAbsent f.body
+      IsName texts f.name × IsType k f.returns × AllByRecursion (IsType k) (types_of f)
+      × (parameters_of (zip (types_of f) (numbers_from 0 (length (types_of f)))) ≡ f.parameters)
+      × IsAbsent f.body
 
 -- what type an alias is said to have
 abbrev pub AliasTypeFits : Numbering → AliasType → Type 0

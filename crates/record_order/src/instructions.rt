@@ -176,9 +176,9 @@ fn note_ending(order: &mut TypeOrder<'_>, arena: &Arena, ending: &Ending) -> Res
 {
     match ending {
         Ending::Return(operand) => note_operand(order, arena, *operand),
-        Ending::Branch(operand, _, _) => note_operand(order, arena, *operand),
-        Ending::Switch(operand, _, cases) => {
-            note_operand(order, arena, *operand)?;
+        Ending::Branch { condition, .. } => note_operand(order, arena, *condition),
+        Ending::Switch { value, cases, .. } => {
+            note_operand(order, arena, *value)?;
             note_cases(order, arena, cases.as_slice())
         }
         Ending::ReturnVoid => Ok(()),

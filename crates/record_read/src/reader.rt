@@ -1,5 +1,6 @@
 //! A reader of records.
-ghost use Rattle.std.specs.Prelude.{◌≡◌, ◌≤◌, ◌<◌, ◌+◌, ◌^◌, ◌&&◌, not, nat_lt, true, false, [], length, IfOk, OnOk, OnErr};
+ghost use Rattle.std.specs.Prelude.{◌≡◌, ◌≤◌, ◌<◌, ◌+◌, ◌&&◌, not, nat_lt, true, false, [], length, IfOk, OnOk, OnErr};
+ghost use Rattle.bit_stream.specs.declared.reader.TheConstants.{LARGEST_STREAM};
 ghost use Rattle.bit_tree.specs.Read.{IsStream};
 ghost use Rattle.bit_tree.specs.Stream.{Tree, Stream};
 ghost use Rattle.record_table.specs.Walk as walk;
@@ -59,7 +60,7 @@ fn one_more(count: u64, overrun: &mut bool) -> Result<u64, AllocError>
 impl<'b> RecordReader<'b> {
     /// A reader in front of all of a stream.
     pub fn new(alloc: Global, bytes: &'b [u8]) -> RecordReader<'b>
-        requires short { length bytes.now ≤ 2 ^ 24 }
+        requires short { length bytes.now ≤ LARGEST_STREAM }
         requires judged { IsStream bytes.now }
         ensures unspent { result.spent ≡ false }
         ensures whole { (tree : Tree) → Stream bytes.now tree → IsBefore result.left (records tree) [] }

@@ -4,6 +4,7 @@ use Rattle.std.specs.Prelude.{ℕ, zero, suc, ◌+◌, ◌*◌, ◌/◌, ◌%◌
 use Rattle.ir_tables.specs.declared.opcode.Opcode.{Opcode}
 use Rattle.ir_tables.specs.declared.opcode.Opcode.TheVariants.{Add, Sub, Xor, Trunc, PtrToInt, IntToPtr, GetElementPtr}
 use Rattle.ir_tables.specs.Opcode.{opcode_code}
+use Rattle.type_table.specs.declared.measure.TheConstants.{NESTING_LIMIT}
 use Rattle.type_table.specs.Tree.{Tree, int, ptr, void, array, struct, named, Trees, no_trees, more_trees, TreeBody, opaque_body, fields, Structs, body_of}
 use Rattle.module_arena.specs.Module.{Brackets, Square, Braces, Packed, Constant, Integer, Truth, Null, Undef, Poison, ZeroInitializer, Address, ByteString, Aggregate, ElementAddress, Cast, Binary, Constants, no_constants, more_constants, Value, Local, Known}
 use Rattle.module_arena.specs.TypeTests.{is_pointer}
@@ -210,9 +211,9 @@ module _ (k : Numbering) where
   read_nested zero t w = let code = next w in by_code None code.0 t code.1
   read_nested (suc deep) t w = let code = next w in by_code (Some (read_nested deep)) code.0 t code.1
 
-  -- Constants nest at most 64 deep.
+  -- Constants nest as deep as types do.
   abbrev pub read_constant : Reads
-  read_constant t w = read_nested 64 t w
+  read_constant t w = read_nested NESTING_LIMIT t w
 
   abbrev mutual
     -- how a constant of a type is spelled

@@ -21,7 +21,9 @@ ValuesAreReadBack = (k : Numbering) (t : Tree) → Lays (ValueFits k t) (value k
 
 -- an instruction that fits is read of what it spells by its opcode, where names and numbers of locals are read back
 abbrev pub InstructionsAreReadBack : Type 0
-InstructionsAreReadBack = (texts : Texts) (k : Numbering) → ((own : ℕ) → Lays (IsLabel texts own) (label texts own)) → (own : ℕ) (i : Instruction) → InstructionFits texts k own i → (rest : List ℕ)
+InstructionsAreReadBack = (texts : Texts) (k : Numbering) → ((own : ℕ) → Lays (IsLabel texts own) (label texts own))
+    → (own : ℕ) (i : Instruction) → InstructionFits texts k own i
+    → (rest : List ℕ)
     → (instruction texts k own (operation_opcode i.operation)).read (going ((instruction texts k own (operation_opcode i.operation)).spell i ++ rest) None) ≡ (i, going rest None)
 
 -- and so is an end

@@ -132,17 +132,22 @@ is_new s n =
 
 -- VARIABLE
 abbrev pub variable_record : Sofar → Variable × Option ℕ → Answer Sofar
-variable_record s x = record_at_place s 6 (also 7 (nat_lt (length s.variables) COUNT_LIMIT) (also 4 (is_new s x.0.name) x.1)) (record s { variables = s.variables ++ x.0 ∷ [] })
+variable_record s (declared, broken) =
+    record_at_place s 6 (also 7 (nat_lt (length s.variables) COUNT_LIMIT) (also 4 (is_new s declared.name) broken))
+    (record s { variables = s.variables ++ declared ∷ [] })
 
 -- FUNCTION
 abbrev pub function_record : Sofar → (Bool × Function) × Option ℕ → Answer Sofar
-function_record s x = record_at_place s 7 (also 7 (nat_lt (length s.functions) COUNT_LIMIT) (also 4 (is_new s x.0.1.name) x.1)) (record s { functions = s.functions ++ x.0 ∷ [] })
+function_record s (declared, broken) = let (defined, head) = declared in
+    record_at_place s 7 (also 7 (nat_lt (length s.functions) COUNT_LIMIT) (also 4 (is_new s head.name) broken))
+    (record s { functions = s.functions ++ declared ∷ [] })
 
 -- the count for aliases is theirs and the greater of those of variables and functions
 abbrev pub alias_record : Sofar → Alias × Option ℕ → Answer Sofar
-alias_record s x =
-    record_at_place s 8 (also 7 (nat_le (suc (length s.aliases) + max (length s.variables) (length s.functions)) COUNT_LIMIT) (also 4 (is_new s x.0.name) x.1))
-    (record s { aliases = s.aliases ++ x.0 ∷ [] })
+alias_record s (declared, broken) =
+    record_at_place s 8
+    (also 7 (nat_le (suc (length s.aliases) + max (length s.variables) (length s.functions)) COUNT_LIMIT) (also 4 (is_new s declared.name) broken))
+    (record s { aliases = s.aliases ++ declared ∷ [] })
 
 -- SOURCE, LAYOUT or TRIPLE
 abbrev pub text_record : Sofar → ℕ → List ℕ → (Option Bytes → Sofar) → Answer Sofar

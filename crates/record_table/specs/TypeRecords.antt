@@ -118,11 +118,15 @@ definition t count = struct_body count & asking 4 is_name t.last
 abbrev pub all_fit : Types → Bool
 all_fit t = list_all is_within_limits (all_shapes t)
 
+-- what a definition calls its struct
+abbrev pub name_defined : (StructBody × Bytes) × Option ℕ → Bytes
+name_defined ((body, name), broken) = name
+
 -- the names that records give to structs, in order
 abbrev pub names_in : Texts → Records → List Bytes
 names_in t no_more = []
 names_in t (a_block id inside behind) = names_in t behind
-names_in t (a_record code operands behind) = if nat_eq code 7 then (judged (definition t 0) operands).0.1 ∷ names_in t behind else names_in t behind
+names_in t (a_record code operands behind) = if nat_eq code 7 then name_defined (judged (definition t 0) operands) ∷ names_in t behind else names_in t behind
 
 -- no two are the same
 abbrev pub are_distinct : List Bytes → Bool
@@ -156,14 +160,14 @@ at_first t at inside = record { texts = t; at = at; types = record { types = [];
 
 -- a type. None stands behind a struct
 abbrev pub type_record : Listed → IrType × Option ℕ → Answer Listed
-type_record s x = let after = with_type s.types x.0 in
-    unless_broken types_id s.at (also 7 (all_fit after) (also 5 (length s.names == 0) x.1)) (record s { at = suc s.at; types = after })
+type_record s (ty, broken) = let after = with_type s.types ty in
+    unless_broken types_id s.at (also 7 (all_fit after) (also 5 (length s.names == 0) broken)) (record s { at = suc s.at; types = after })
 
 -- a struct
 abbrev pub struct_record : Listed → (StructBody × Bytes) × Option ℕ → Answer Listed
-struct_record s x = let after = with_body s.types (length s.names) x.0.0 in
-    unless_broken types_id s.at (also 7 (all_fit after && nat_lt (length s.names) COUNT_LIMIT) (also 4 (not (list_any (bytes_eq x.0.1) s.names)) x.1))
-    (record s { at = suc s.at; types = after; names = s.names ++ x.0.1 ∷ [] })
+struct_record s ((body, name), broken) = let after = with_body s.types (length s.names) body in
+    unless_broken types_id s.at (also 7 (all_fit after && nat_lt (length s.names) COUNT_LIMIT) (also 4 (not (list_any (bytes_eq name) s.names)) broken))
+    (record s { at = suc s.at; types = after; names = s.names ++ name ∷ [] })
 
 -- the kind that has this code
 abbrev pub kind_of_code : ℕ → List TypeKind → Option TypeKind

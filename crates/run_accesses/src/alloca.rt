@@ -1,6 +1,6 @@
 //! Allocas (LangRef, "alloca Instruction").
-ghost use Rattle.std.specs.Prelude.{◌≤◌, ◌^◌};
 ghost use Rattle.ir_memory.specs.Given.{IsAlignment};
+ghost use Rattle.ir_memory.specs.Memory.{HasFreeAddresses};
 ghost use Rattle.run_rules.specs.Action.{Allocate};
 ghost use Rattle.run_stack.specs.Origins.{origin_of};
 ghost use Rattle.run_actions.specs.Operands.{IsPlace, IsThere, MayGoOn};
@@ -29,7 +29,7 @@ pub fn allocate(
     requires place { IsPlace stack.old to }
     requires there { IsThere stack.old count.now }
     requires align { IsAlignment align }
-    requires next { memory.old.next ≤ 2 ^ 61 }
+    requires next { HasFreeAddresses memory.old }
     ensures allocates { Accesses (Allocate to size align (origin_of count.now)) result stack.old stack.new memory.old memory.new }
     ensures stays { StaysAtAnEnd result stack.old stack.new memory.old memory.new }
 {

@@ -3,7 +3,7 @@ use Rattle.std.specs.Prelude.{◌≡◌, ℕ, ◌+◌, ◌≤◌, ◌<◌, ◌^�
 use Rattle.std.specs.Result.{IsErr}
 use Rattle.ir_memory.specs.declared.fault.MemoryFault.{MemoryFault}
 use Rattle.ir_memory.specs.declared.fault.MemoryFault.TheVariants as faults
-use Rattle.ir_memory.specs.Memory.{Blocks}
+use Rattle.ir_memory.specs.Memory.{Blocks, HasFreeAddresses}
 use Rattle.ir_tables.specs.declared.undefined_kind.UndefinedKind.{UndefinedKind}
 use Rattle.module_arena.specs.Lists.{Lists}
 use Rattle.module_arena.specs.View.{module_of}
@@ -67,7 +67,7 @@ pub record MayActHere (p : Loaded) (s : UnderWay) (m : Blocks) : Type 0 where
   pub ready : AreReady p s
   pub fixed : (typing_of (alone (module_of p.lists))).fixed ≤ length m.list
   pub memory : IsTypedMemory m
-  pub next : m.next ≤ 2 ^ 61
+  pub next : HasFreeAddresses m
 
 -- so the action of the body of the newest function that stands where this has come to
 pub record MayActIn (p : Loaded) (body : Decoded) (action : Action) (s : UnderWay) (m : Blocks) : Type 0 where

@@ -1,6 +1,6 @@
 //! Calls by address.
-ghost use Rattle.std.specs.Prelude.{◌≡◌, ◌≤◌, ◌^◌, ℕ, [], IfOk, List, OnOk, length};
-ghost use Rattle.ir_memory.specs.Memory.{Blocks};
+ghost use Rattle.std.specs.Prelude.{◌≡◌, ℕ, [], IfOk, List, OnOk, length};
+ghost use Rattle.ir_memory.specs.Memory.{Blocks, HasFreeAddresses};
 ghost use Rattle.module_arena.specs.View.{module_of};
 ghost use Rattle.run_actions.specs.Carried.{core_of};
 ghost use Rattle.run_body.specs.Bodies.{Decoded};
@@ -81,7 +81,7 @@ fn call_row(
     requires call { MayCall program.now stack.old call.now.parts call.now.to call.now.arguments.now (length memory.old.list) }
     requires none { written.old.items ≡ [] }
     requires memory { IsTypedMemory memory.old }
-    requires next { memory.old.next ≤ 2 ^ 61 }
+    requires next { HasFreeAddresses memory.old }
     ensures called { IfOk result (λ next. (body : Decoded) (due : List Due) → IsReady program.now (newest stack.old.frames).function body
         → called (host_of row) (signature_of body.pools program.now.lists call.now.parts) (shapes_of body.pools program.now.lists call.now.parts)
         call.now.arguments.now call.now.to (core_of stack.old.frames due memory.old) ≡ next_of next (core_of stack.new.frames due memory.new) written.new.items) }
@@ -120,7 +120,7 @@ pub fn call_address(
     requires call { MayCall program.old stack.old call.now.parts call.now.to call.now.arguments.now (length memory.old.list) }
     requires none { written.old.items ≡ [] }
     requires memory { IsTypedMemory memory.old }
-    requires next { memory.old.next ≤ 2 ^ 61 }
+    requires next { HasFreeAddresses memory.old }
     ensures called { IfOk result (λ next. (body : Decoded) (due : List Due) → IsReady program.old (newest stack.old.frames).function body
         → called_at (table (alone (module_of program.old.lists))) call.now.callee (signature_of body.pools program.old.lists call.now.parts) (shapes_of body.pools program.old.lists call.now.parts)
         call.now.arguments.now call.now.to (core_of stack.old.frames due memory.old) ≡ next_of next (core_of stack.new.frames due memory.new) written.new.items) }

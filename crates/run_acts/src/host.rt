@@ -1,7 +1,7 @@
 //! Calls of host functions.
-ghost use Rattle.std.specs.Prelude.{◌≡◌, ◌<◌, ◌≤◌, ◌^◌, ℕ, [], All, IfOk, List, OnOk, length, map};
+ghost use Rattle.std.specs.Prelude.{◌≡◌, ◌<◌, ℕ, [], All, IfOk, List, OnOk, length, map};
 ghost use Rattle.host_calls.specs.Made.{EndsOrReads};
-ghost use Rattle.ir_memory.specs.Memory.{Blocks};
+ghost use Rattle.ir_memory.specs.Memory.{Blocks, HasFreeAddresses};
 ghost use Rattle.module_arena.specs.declared.host.HostRow.TheVariants as HostRow;
 ghost use Rattle.run_actions.specs.Carried.{core_of};
 ghost use Rattle.run_host.specs.Answers.{answer_of, leaves_of};
@@ -128,7 +128,7 @@ pub(crate) fn call_host(
     requires may { MayCallHost stack.old call.now.row (map (shape_in types.now) call.now.shapes.now) call.now.arguments.now call.now.to (length memory.old.list) }
     requires none { written.old.items ≡ [] }
     requires memory { IsTypedMemory memory.old }
-    requires next { memory.old.next ≤ 2 ^ 61 }
+    requires next { HasFreeAddresses memory.old }
     ensures called { IfOk result (λ next. (due : List Due)
         → answered call.now.to (core_of stack.old.frames due memory.old) (host call.now.row (map (shape_in types.now) call.now.shapes.now) call.now.arguments.now memory.old)
         ≡ next_of next (core_of stack.new.frames due memory.new) written.new.items) }

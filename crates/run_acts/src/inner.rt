@@ -1,5 +1,6 @@
 //! Instructions that stay in their function.
-ghost use Rattle.std.specs.Prelude.{◌≡◌, ◌≤◌, ◌^◌, IfOk, OnErr, OnOk, length, true};
+ghost use Rattle.std.specs.Prelude.{◌≡◌, IfOk, OnErr, OnOk, length, true};
+ghost use Rattle.ir_memory.specs.Memory.{HasFreeAddresses};
 ghost use Rattle.module_arena.specs.Lists.{Lists};
 ghost use Rattle.run_rules.specs.Wants.{wants_memory};
 ghost use Rattle.run_flat.specs.Flat.{action_of};
@@ -55,7 +56,7 @@ pub(crate) fn act_within(
 ) -> Result<Next, AllocError>
     requires inner { is_inner action.now ≡ true }
     requires may { MayAct (length memory.old.list) pools.now action.now stack.old }
-    requires next { memory.old.next ≤ 2 ^ 61 }
+    requires next { HasFreeAddresses memory.old }
     ensures comes { IfOk result (λ next. (a : Lists) → ComesTo (action_of pools.now a action.now) next stack.old stack.new memory.old memory.new) }
     ensures stays { OnOk result (FunctionsStay stack.old stack.new) }
     ensures wants { OnErr result ((a : Lists) → wants_memory (action_of pools.now a action.now) ≡ true) }

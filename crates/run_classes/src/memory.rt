@@ -1,6 +1,7 @@
 //! Instructions that see memory.
-ghost use Rattle.std.specs.Prelude.{◌≡◌, ◌≤◌, ◌^◌, All, OnErr, length, map, take, zip};
+ghost use Rattle.std.specs.Prelude.{◌≡◌, ◌≤◌, All, OnErr, length, map, take, zip};
 ghost use Rattle.ir_memory.specs.Given.{IsAddress, IsAlignment};
+ghost use Rattle.ir_memory.specs.Memory.{HasFreeAddresses};
 ghost use Rattle.module_arena.specs.Lists.{Lists};
 ghost use Rattle.run_rules.specs.Action.{Store};
 ghost use Rattle.run_stack.specs.Origins.{origin_of};
@@ -121,7 +122,7 @@ pub fn act_on_alloca(
 ) -> Result<(), MemoryFault>
     requires is { _action.now ≡ flat.Allocate to align size count }
     requires may { MayAct (length memory.old.list) pools.now _action.now stack.old }
-    requires next { memory.old.next ≤ 2 ^ 61 }
+    requires next { HasFreeAddresses memory.old }
     ensures accesses { (a : Lists) → Accesses (action_of pools.now a _action.now) result stack.old stack.new memory.old memory.new }
     ensures frames { FramesStay result stack.old stack.new }
 {

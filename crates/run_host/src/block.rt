@@ -1,7 +1,8 @@
 //! The heap (C, "Memory management functions").
-ghost use Rattle.std.specs.Prelude.{◌≡◌, ◌≤◌, ◌^◌, [], true, IfOk, OnErr};
+ghost use Rattle.std.specs.Prelude.{◌≡◌, [], true, IfOk, OnErr};
 ghost use Rattle.ir_memory.specs.Answer.{Keeps};
 ghost use Rattle.ir_memory.specs.Given.{IsKnown};
+ghost use Rattle.ir_memory.specs.Memory.{HasFreeAddresses};
 ghost use Rattle.run_rules.specs.Access as access;
 ghost use Rattle.run_rules.specs.Host.{allocates, frees};
 ghost use Rattle.run_host.specs.Answers.{EndsTheRun, answer_of};
@@ -18,7 +19,7 @@ const HEAP_ALIGN: u32 = 16;
 
 /// A new heap block of so many bytes, for which there is room.
 fn add_heap_block(memory: &mut Memory, size: u64) -> Result<HostAnswer, AllocError>
-    requires next { memory.old.next ≤ 2 ^ 61 }
+    requires next { HasFreeAddresses memory.old }
     requires room { access.has_room size memory.old ≡ true }
     ensures answer { IfOk result (λ answer. allocates size memory.old ≡ answer_of answer memory.new []) }
     ensures refused { IfOk result (λ answer. EndsTheRun answer → memory.new ≡ memory.old) }
@@ -35,7 +36,7 @@ fn add_heap_block(memory: &mut Memory, size: u64) -> Result<HostAnswer, AllocErr
 /// A refusal leaves memory as it was.
 #[tactic(auto, using(crate::proofs::Heaps::small, crate::proofs::Heaps::no_room))]
 pub fn allocate(memory: &mut Memory, size: u128) -> Result<HostAnswer, AllocError>
-    requires { memory.old.next ≤ 2 ^ 61 }
+    requires { HasFreeAddresses memory.old }
     ensures answer { IfOk result (λ answer. allocates size memory.old ≡ answer_of answer memory.new []) }
     ensures refused { IfOk result (λ answer. EndsTheRun answer → memory.new ≡ memory.old) }
     ensures err { OnErr result (memory.new ≡ memory.old) }

@@ -12,6 +12,7 @@ use Rattle.run_rules.specs.Wants.{may_want_memory}
 use Rattle.run_program.specs.Loaded.{Loaded}
 use Rattle.run_stack.specs.UnderWay.{UnderWay, IsRunning}
 use Rattle.run_traffic.specs.Input.{Waiting}
+use Rattle.run_traffic.specs.declared.output.TheConstants.{OUTPUT_PIECE}
 use Rattle.run_acts.specs.declared.next.Next.{Next}
 use Rattle.run_acts.specs.declared.next.Next.TheVariants.{Goes, Gets, Stops}
 use Rattle.run_acts.specs.declared.next.Stop.{Stop}
@@ -50,7 +51,7 @@ pub record IsLive (steps : ℕ) (l : Living) : Type 0 where
 -- and fewer bytes are held back than are written at once
 pub record IsOnItsWay (steps : ℕ) (l : Living) (held : List ℕ) : Type 0 where
   pub live : IsLive steps l
-  pub short : length held < 65536
+  pub short : length held < OUTPUT_PIECE
 
 -- some function is under way
 abbrev pub HasFrames : Living → Type 0

@@ -5,7 +5,7 @@ ghost use Rattle.ir_eval.specs.declared.value.Scalar.TheVariants as scalar;
 ghost use Rattle.ir_memory.specs.Answer.{Keeps};
 ghost use Rattle.ir_memory.specs.declared.leaf.Leaf.TheVariants as leaf;
 ghost use Rattle.ir_memory.specs.Given.{IsAlignment, IsKnown};
-ghost use Rattle.ir_memory.specs.Memory.{byte_limit};
+ghost use Rattle.ir_memory.specs.Memory.{HasFreeAddresses, byte_limit};
 ghost use Rattle.run_entry.specs.Mains.{main_seen};
 ghost use Rattle.run_initial.specs.Constants.{bytes_at};
 ghost use Rattle.run_initial.specs.Fresh.{Puts, put};
@@ -31,7 +31,7 @@ const NULL: Pointer = Pointer {
 /// A block more for words, fresh; None exactly where too many bytes would live.
 fn add_block(memory: &mut Memory, size: u64, align: u32) -> Result<Option<Pointer>, AllocError>
     requires align { IsAlignment align }
-    requires next { memory.old.next ≤ 2 ^ 61 }
+    requires next { HasFreeAddresses memory.old }
     ensures made { IfOk result (λ block. MakesBlock size align block memory.old memory.new) }
     ensures growth { memory.new.next ≤ memory.old.next + (byte_limit + 2 ^ 17) }
 {
@@ -58,7 +58,7 @@ fn fill_string(memory: &mut Memory, block: Pointer, bytes: &[u8]) -> Result<(), 
 /// A block with a string in it, followed by a zero byte, which fresh memory has; None where too many bytes would live.
 fn place_string(memory: &mut Memory, bytes: &[u8]) -> Result<Option<Pointer>, AllocError>
     requires unsealed { memory.old.sealed ≡ false }
-    requires next { memory.old.next ≤ 2 ^ 61 }
+    requires next { HasFreeAddresses memory.old }
     ensures made { IfOk result (λ block. MakesWith (with_string bytes.now memory.old) block memory.old memory.new) }
     ensures growth { memory.new.next ≤ memory.old.next + (byte_limit + 2 ^ 17) }
 {
@@ -145,7 +145,7 @@ fn fill_row(memory: &mut Memory, block: Pointer, pointers: &[Pointer]) -> Result
 /// A block with pointers in it, followed by a null; None where too many bytes would live.
 fn place_pointers(memory: &mut Memory, pointers: &[Pointer]) -> Result<Option<Pointer>, AllocError>
     requires unsealed { memory.old.sealed ≡ false }
-    requires next { memory.old.next ≤ 2 ^ 61 }
+    requires next { HasFreeAddresses memory.old }
     requires few { length pointers.now ≤ byte_limit }
     requires known { All (IsKnown memory.old.list) pointers.now }
     ensures { IfOk result (λ block. MakesWith (with_pointers pointers.now memory.old) block memory.old memory.new) }

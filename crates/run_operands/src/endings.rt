@@ -114,12 +114,16 @@ pub fn put_ending(
         Ending::ReturnVoid => Ok(Action::Return { value: NOTHING }),
         Ending::Return(operand) => put_return(scope, pools, from, *operand),
         Ending::Jump(to) => put_jump(scope, pools, from, *to),
-        Ending::Branch(condition, then_to, else_to) => {
-            put_branch(scope, pools, from, *condition, (*then_to, *else_to))
-        }
-        Ending::Switch(operand, otherwise, cases) => {
-            put_switch(scope, pools, from, *operand, *otherwise, cases.as_slice())
-        }
+        Ending::Branch {
+            condition,
+            then_to,
+            else_to,
+        } => put_branch(scope, pools, from, *condition, (*then_to, *else_to)),
+        Ending::Switch {
+            value,
+            otherwise,
+            cases,
+        } => put_switch(scope, pools, from, *value, *otherwise, cases.as_slice()),
         Ending::Unreachable => Ok(Action::Unreachable),
     }
 }

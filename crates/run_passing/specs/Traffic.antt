@@ -10,6 +10,7 @@ use Rattle.run_rules.specs.declared.end.End.{End}
 use Rattle.run_stack.specs.UnderWay.{UnderWay, changed, newest}
 use Rattle.run_traffic.specs.Input.{Takes, Waiting, IsWaiting}
 use Rattle.run_traffic.specs.Output as output
+use Rattle.run_traffic.specs.declared.output.TheConstants.{OUTPUT_PIECE}
 
 -- a write failed: a front of what was due is written, the count rose, and the same is held as before
 pub record CouldNotPut (due held_old held_new : List ℕ) (before : Option (List ℕ)) (faults_before : ℕ) (now : Option (List ℕ)) (faults_now : ℕ) : Type 0 where
@@ -34,7 +35,7 @@ Flushes (Err Memory) old new before faults_before now faults_now = ⊥
 pub record IsPut (bytes old new : List ℕ) (before : Option (List ℕ)) (faults_before : ℕ) (now : Option (List ℕ)) (faults_now : ℕ) : Type 0 where
   pub puts : output.Puts before now old bytes new
   pub fine : faults_now ≡ faults_before
-  pub short : length old < 65536 → length new < 65536
+  pub short : length old < OUTPUT_PIECE → length new < OUTPUT_PIECE
 
 -- bytes are put behind those that are held, or a write failed
 abbrev pub Puts : Result (Unit {0}) RunFault → List ℕ → List ℕ → List ℕ → Option (List ℕ) → ℕ → Option (List ℕ) → ℕ → Type 0

@@ -1,6 +1,7 @@
 -- For `runs_are_played`: a program, what it prints and how it ends, and what an answer tells of that.
 use Rattle.std.specs.Prelude.{◌≡◌, ℕ, ◌+◌, ◌-◌, ◌<◌, ◌≤◌, Bool, true, List, [], ◌∷◌, ◌++◌, length, IfSome, Result, Ok, Err}
 use Rattle.ir_base.specs.Outside.{Rose, Lost, Added}
+use Rattle.run_traffic.specs.declared.input.TheConstants.{INPUT_PIECE}
 use Rattle.module_arena.specs.Module.{Module}
 use Rattle.run_rules.specs.Clauses.{Outside, IsFront, NoFaults}
 use Rattle.run_rules.specs.Look.{look, table}
@@ -58,7 +59,7 @@ HasPrinted p input heard put (Err Memory) = IsFront put (outcome_of p input).out
 -- before the end of what was read, or the first byte, and all its output was put.
 abbrev pub PutsBeforeItReads : Program → List ℕ → List ℕ → List ℕ → Type 0
 PutsBeforeItReads p input heard put =
-    0 < length heard → (after : State) × Reaches p input after × (length after.input + (length heard - 65536) < length input) × IsFront after.output put
+    0 < length heard → (after : State) × Reaches p input after × (length after.input + (length heard - INPUT_PIECE) < length input) × IsFront after.output put
 
 -- which counts of faults rose by an answer
 abbrev pub HasFaulted : Result End RunFault → Outside → Outside → Type 0

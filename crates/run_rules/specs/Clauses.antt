@@ -2,6 +2,8 @@
 -- A clause holds for every `rest` that the source may have left, told or not, and every `taken` that the sink may have taken before.
 use Rattle.std.specs.Prelude.{◌≡◌, ◌↔◌, ◌⊎◌, ℕ, ◌<◌, ◌≤◌, true, false, List, [], ◌++◌, length, Option, Some, None, IfSome, Result, Ok, Err}
 use Rattle.ir_base.specs.Outside.{Rose, Lost, Added}
+use Rattle.run_traffic.specs.declared.input.TheConstants.{INPUT_PIECE}
+use Rattle.run_traffic.specs.declared.output.TheConstants.{OUTPUT_PIECE}
 use Rattle.run_rules.specs.Machine.{Machine, RunFault, ReadFault, WriteFault, Memory, state_of, step_of, asks_of, may_want, again, remembered}
 use Rattle.run_rules.specs.State.{State, End}
 use Rattle.run_rules.specs.Step.{Step, GoesOn, IsOver}
@@ -41,7 +43,7 @@ pub record HasRead (old new : Machine) (t : Traffic) (after : Outside) : Type 0 
   pub asked : IsAsking old
   pub none_unused : old.unused ≡ []
   pub was_open : old.closed ≡ false
-  pub few : length t.heard ≤ 65536
+  pub few : length t.heard ≤ INPUT_PIECE
   pub none_held : new.unwritten ≡ []
   pub closes : (new.closed ≡ true) ↔ (t.heard ≡ [])
   pub at_end : new.closed ≡ true → IfSome after.left (λ rest. rest ≡ [])
@@ -60,7 +62,7 @@ IsAtEnd old new after = old.closed ≡ false → new.closed ≡ true → IfSome 
 
 -- output is gathered: none is written before 65,536 bytes are there, but before a read
 abbrev pub Gathers : Machine → Machine → Traffic → Outside → Type 0
-Gathers old new t after = (t.flushed ≡ []) ⊎ ((65536 ≤ length t.flushed) ⊎ HasRead old new t after)
+Gathers old new t after = (t.flushed ≡ []) ⊎ ((OUTPUT_PIECE ≤ length t.flushed) ⊎ HasRead old new t after)
 
 -- no step is made
 abbrev pub MakesNoStep : Machine → Machine → Type 0
@@ -80,7 +82,7 @@ pub record Stepped (old new : Machine) (before after : Outside) : Type 0 where
   pub same : new.program ≡ old.program
   pub fine : NoFaults before after
   pub gathers : Gathers old new traffic after
-  pub short : length new.unwritten < 65536
+  pub short : length new.unwritten < OUTPUT_PIECE
   pub steps : (rest taken : List ℕ) → IsRest old new rest
       → step_of old (state_of old (traffic.heard ++ rest) taken) ≡ GoesOn (state_of new rest (taken ++ traffic.flushed))
 

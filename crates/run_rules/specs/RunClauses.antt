@@ -1,6 +1,8 @@
 -- For `run` of a machine: what a call does, by its answer.
 use Rattle.std.specs.Prelude.{◌≡◌, ◌⊎◌, ℕ, ◌+◌, ◌-◌, ◌<◌, ◌≤◌, true, false, nat_lt, List, [], ◌++◌, length, Some, None, Result, Ok, Err, if◌then◌else◌}
 use Rattle.ir_base.specs.Outside.{Rose}
+use Rattle.run_traffic.specs.declared.input.TheConstants.{INPUT_PIECE}
+use Rattle.run_traffic.specs.declared.output.TheConstants.{OUTPUT_PIECE}
 use Rattle.run_rules.specs.Machine.{Machine, RunFault, ReadFault, WriteFault, Memory, state_of, look_of, step_of, advanced_of, used_up_of, run_by, asks_of}
 use Rattle.run_rules.specs.Clauses.{Outside, Traffic, Moves, MakesNoStep, IsRest, IsAtEnd, IsFront, NoFaults, Ended, CouldNotWrite, output_of, told}
 use Rattle.run_rules.specs.State.{State, End}
@@ -22,7 +24,7 @@ pub record IsBeforeByte (old : Machine) (input : List ℕ) (place : ℕ) (at : S
 abbrev pub WritesBeforeItReads : Machine → Machine → Traffic → Type 0
 WritesBeforeItReads old new t =
     (rest : List ℕ) (at : State) → IsRest old new rest → 0 < length t.heard
-    → IsBeforeByte old (t.heard ++ rest) (length t.heard - 65536) at → IsFront at.output t.flushed
+    → IsBeforeByte old (t.heard ++ rest) (length t.heard - INPUT_PIECE) at → IsFront at.output t.flushed
 
 -- the getchar at which bytes were read last: how many steps there are with it, all of which were made, the place of its byte,
 -- and the state after it, whose output is written
@@ -34,7 +36,7 @@ pub record LastRead (old new : Machine) (t : Traffic) : Type 0 where
   pub reached : (rest : List ℕ) → IsRest old new rest → advanced_of old count (state_of old (t.heard ++ rest) []) ≡ GoesOn (after rest)
   pub consumed : (rest : List ℕ) → IsRest old new rest → length (after rest).input + place < length (t.heard ++ rest)
   pub written : (rest : List ℕ) → IsRest old new rest → IsFront (after rest).output t.flushed
-  pub near : length t.heard ≤ place + 65536
+  pub near : length t.heard ≤ place + INPUT_PIECE
 
 -- no bytes were read, or what was put out before they were is written
 abbrev pub ReadsWell : Machine → Machine → Traffic → Type 0
@@ -51,7 +53,7 @@ pub record Went (old new : Machine) (t : Traffic) (before after : Outside) : Typ
 
 -- output is gathered: where fewer than 65,536 bytes of it were held back before, no more are
 abbrev pub IsShort : Machine → Machine → Type 0
-IsShort old new = length old.unwritten < 65536 → length new.unwritten < 65536
+IsShort old new = length old.unwritten < OUTPUT_PIECE → length new.unwritten < OUTPUT_PIECE
 
 -- ---- on the way
 
@@ -124,7 +126,7 @@ pub record RunCouldNotWrite (bound : ℕ) (old new : Machine) (before after : Ou
   pub read_faults : after.read_faults ≡ before.read_faults
   pub comes : (rest taken : List ℕ) → IsRest old new rest
       → (at : State) × Came bound old new traffic rest taken at × IsFront (taken ++ traffic.flushed) (output_within bound old at)
-      × (length old.unwritten < 65536 → length at.output < length (taken ++ traffic.flushed) + 65536)
+      × (length old.unwritten < OUTPUT_PIECE → length at.output < length (taken ++ traffic.flushed) + OUTPUT_PIECE)
 
 -- memory was wanted on the way, at a place where it may be
 pub record RunWantedMemory (bound : ℕ) (old new : Machine) (before after : Outside) : Type 0 where

@@ -1,7 +1,8 @@
 //! What a run of modules is: its states, its instructions, its opening and its end, of parts that are run side by side.
 //!
-//! It stands on the symbols of `linkage_rules`, on the values of `ir_eval`, on the blocks of `ir_memory`, and for host functions on
-//! `ir_intrinsics` and `ir_printf`. It promises that a run depends on nothing but what look-up, table and opening find.
+//! It stands on the symbols of `linkage_rules`, on the values of `ir_eval`, on the blocks of `ir_memory`, for host functions on
+//! `ir_intrinsics` and `ir_printf`, and for how many bytes are read or gathered at once on `run_traffic`. It promises that a run depends
+//! on nothing but what look-up, table and opening find.
 //! Definitions: `specs/State`, `Action`, `Act`, `Look`, `Opening`, `Step`, `Side`; of a machine `Machine`, `Clauses`, `RunClauses`.
 //!
 //! ```

@@ -1,6 +1,7 @@
 -- For `take` and `must_read` of `Input`: the bytes that wait, and what a read does to them.
 use Rattle.std.specs.Prelude.{◌≡◌, ◌⊎◌, ◌↔◌, ℕ, ◌≤◌, Bool, true, false, List, [], ◌∷◌, ◌++◌, length, Option, Some, None, IfSome, if◌then◌else◌}
 use Rattle.ir_base.specs.Outside.{Lost}
+use Rattle.run_traffic.specs.declared.input.TheConstants.{INPUT_PIECE}
 
 -- what was read and is not used yet, and whether nothing is read any more
 pub record Waiting : Type 0 where
@@ -23,7 +24,7 @@ IsNext (b ∷ bs) byte others = (byte ≡ Some b) × (others ≡ bs)
 -- a read has given what now waits, at most 65,536 bytes; none exactly where from now on none are read, and the source has none left
 pub record IsHeard (before now : Option (List ℕ)) (new : Waiting) : Type 0 where
   pub lost : Lost before now new.unused
-  pub few : length new.unused ≤ 65536
+  pub few : length new.unused ≤ INPUT_PIECE
   pub closes : (new.closed ≡ true) ↔ (new.unused ≡ [])
   pub at_end : new.closed ≡ true → IfSome now (λ rest. rest ≡ [])
 
@@ -31,7 +32,7 @@ pub record IsHeard (before now : Option (List ℕ)) (new : Waiting) : Type 0 whe
 -- none are read, and the source has none left
 pub record HasHeard (old new : Waiting) (heard : List ℕ) (now : Option (List ℕ)) : Type 0 where
   pub waits : IsWaiting old
-  pub few : length heard ≤ 65536
+  pub few : length heard ≤ INPUT_PIECE
   pub closes : (new.closed ≡ true) ↔ (heard ≡ [])
   pub at_end : new.closed ≡ true → IfSome now (λ rest. rest ≡ [])
 

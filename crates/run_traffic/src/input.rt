@@ -7,8 +7,8 @@ use ir_base::{Failed, Source};
 use std::alloc::{AllocError, Global};
 use std::marker::Model;
 
-// The most bytes of one read.
-const PIECE: usize = 65_536;
+/// The most bytes of one read.
+pub const INPUT_PIECE: usize = 65_536;
 
 /// Bytes that a run has read and not used yet, and whether a read has given none, after which nothing is read any more.
 #[derive(Drop)]
@@ -22,12 +22,13 @@ pub struct Input {
 impl Model for Input {
     ghost use Rattle.std.specs.Prelude.{◌≡◌, ◌≤◌, take, drop, vec_len};
     ghost use Rattle.run_traffic.specs.Input.{Waiting};
+    ghost use Rattle.run_traffic.specs.declared.input.TheConstants.{INPUT_PIECE};
 
     ghost Value = { Waiting };
 
     ghost view = { λ i. record { unused = drop i.at (take i.end i.bytes.items); closed = i.closed } };
 
-    ghost invariant = { λ i. (i.at ≤ i.end) × (i.end ≤ vec_len i.bytes) × (vec_len i.bytes ≡ 65536) };
+    ghost invariant = { λ i. (i.at ≤ i.end) × (i.end ≤ vec_len i.bytes) × (vec_len i.bytes ≡ INPUT_PIECE) };
 }
 
 impl Input {
@@ -36,7 +37,7 @@ impl Input {
         ensures { IfOk result (λ input. input ≡ record { unused = []; closed = false }) }
     {
         Ok(Input {
-            bytes: vec![in alloc; 0u8; PIECE]?,
+            bytes: vec![in alloc; 0u8; INPUT_PIECE]?,
             at: 0,
             end: 0,
             closed: false,

@@ -17,5 +17,5 @@
 mod input;
 mod output;
 
-pub use input::Input;
-pub use output::Output;
+pub use input::{INPUT_PIECE, Input};
+pub use output::{OUTPUT_PIECE, Output};

@@ -2,13 +2,14 @@
 ghost use Rattle.std.specs.Prelude.{◌≡◌, ◌+◌, ◌<◌, ◌≤◌, ◌++◌, [], length, IfOk, OnOk, OnErr};
 ghost use Rattle.ir_base.specs.Outside.{Added, Rose};
 ghost use Rattle.run_traffic.specs.Output.{Puts, WritesFront};
+ghost use Rattle.run_traffic.specs.declared.output.TheConstants.{OUTPUT_PIECE};
 
 use ir_base::{Failed, Sink, write_all};
 use std::alloc::{AllocError, Global};
 use std::marker::Model;
 
-// So many bytes are written at once.
-const FULL: usize = 65_536;
+/// Output is gathered until so many bytes of it are there, and then written.
+pub const OUTPUT_PIECE: usize = 65_536;
 
 /// Bytes that a run has put out and that are not written yet, fewer than 65,536. A clause sees the list of them.
 #[derive(Drop)]
@@ -18,12 +19,13 @@ pub struct Output {
 
 impl Model for Output {
     ghost use Rattle.std.specs.Prelude.{List, ℕ, ◌<◌, ◌≤◌, vec_len, vec_capacity};
+    ghost use Rattle.run_traffic.specs.declared.output.TheConstants.{OUTPUT_PIECE};
 
     ghost Value = { List ℕ };
 
     ghost view = { λ o. o.bytes.items };
 
-    ghost invariant = { λ o. (vec_len o.bytes < 65536) × (65536 ≤ vec_capacity o.bytes) };
+    ghost invariant = { λ o. (vec_len o.bytes < OUTPUT_PIECE) × (OUTPUT_PIECE ≤ vec_capacity o.bytes) };
 }
 
 impl Output {
@@ -32,7 +34,7 @@ impl Output {
         ensures { IfOk result (λ output. output ≡ []) }
     {
         Ok(Output {
-            bytes: Vec::with_capacity(alloc, FULL)?,
+            bytes: Vec::with_capacity(alloc, OUTPUT_PIECE)?,
         })
     }
 
@@ -47,9 +49,9 @@ impl Output {
         ensures fine { OnOk result (O.faults sink.new ≡ O.faults sink.old) }
         ensures rose { OnErr result (Rose (O.faults sink.old) (O.faults sink.new)) }
         ensures later { O.faults sink.old ≤ O.faults sink.new }
-        ensures short { length self.new < 65536 }
+        ensures short { length self.new < OUTPUT_PIECE }
     {
-        if bytes.len() < FULL - self.bytes.len() {
+        if bytes.len() < OUTPUT_PIECE - self.bytes.len() {
             self.hold(bytes);
             return Ok(());
         }
@@ -58,7 +60,7 @@ impl Output {
 
     // Holds bytes that have room behind the others.
     fn hold(&mut self, bytes: &[u8])
-        requires { length self.old + length bytes.now < 65536 }
+        requires { length self.old + length bytes.now < OUTPUT_PIECE }
         ensures { self.new ≡ self.old ++ bytes.now }
     {
         match self.bytes.extend_from_slice(bytes) {
@@ -76,10 +78,10 @@ impl Output {
         ensures fine { OnOk result (O.faults sink.new ≡ O.faults sink.old) }
         ensures rose { OnErr result (Rose (O.faults sink.old) (O.faults sink.new)) }
         ensures later { O.faults sink.old ≤ O.faults sink.new }
-        ensures short { length self.new < 65536 }
+        ensures short { length self.new < OUTPUT_PIECE }
     {
         let held = self.bytes.len();
-        let more = bytes.len().min(FULL - held);
+        let more = bytes.len().min(OUTPUT_PIECE - held);
         match self.bytes.extend_from_slice(&bytes[..more]) {
             Ok(()) => {}
             Err(_) => unreachable!(),
@@ -104,7 +106,7 @@ impl Output {
         ensures fine { OnOk result (O.faults sink.new ≡ O.faults sink.old) }
         ensures rose { OnErr result (Rose (O.faults sink.old) (O.faults sink.new)) }
         ensures later { O.faults sink.old ≤ O.faults sink.new }
-        ensures short { length self.new < 65536 }
+        ensures short { length self.new < OUTPUT_PIECE }
     {
         self.write_with(&[], sink)
     }

@@ -1,5 +1,6 @@
 //! What a reader tells.
-ghost use Rattle.std.specs.Prelude.{◌≤◌, ◌^◌, length};
+ghost use Rattle.std.specs.Prelude.{◌≤◌, length};
+ghost use Rattle.bit_stream.specs.declared.reader.TheConstants.{LARGEST_STREAM};
 
 use bit_stream::{AbbrevOp, BitFault, BitFaultKind, BitReader, Entry, StreamFault};
 use std::alloc::{AllocError, Global};
@@ -111,7 +112,7 @@ fn put_next(out: &mut String, reader: &mut BitReader) -> Result<bool, AllocError
 
 /// All entries and definitions, up to the end of the stream or its first fault.
 pub fn all(alloc: Global, bytes: &[u8]) -> Result<String, AllocError>
-    requires { length bytes.now ≤ 2 ^ 24 }
+    requires { length bytes.now ≤ LARGEST_STREAM }
 {
     let mut out = String::new(alloc);
     let mut reader = match BitReader::new(alloc, bytes) {
@@ -170,7 +171,7 @@ fn put_shortly(
 
 /// The entries that are not in BLOCKINFO, shortly.
 pub fn sums(alloc: Global, bytes: &[u8]) -> Result<String, AllocError>
-    requires { length bytes.now ≤ 2 ^ 24 }
+    requires { length bytes.now ≤ LARGEST_STREAM }
 {
     let mut out = String::new(alloc);
     let Ok(mut reader) = BitReader::new(alloc, bytes) else {
@@ -187,7 +188,7 @@ pub fn sums(alloc: Global, bytes: &[u8]) -> Result<String, AllocError>
 
 /// A number in chunks of 6 bits and one of 4 bits.
 pub fn fields(alloc: Global, bytes: &[u8]) -> Result<String, AllocError>
-    requires { length bytes.now ≤ 2 ^ 24 }
+    requires { length bytes.now ≤ LARGEST_STREAM }
 {
     let mut out = String::new(alloc);
     let Ok(mut reader) = BitReader::new(alloc, bytes) else {

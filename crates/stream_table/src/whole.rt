@@ -1,5 +1,6 @@
 //! What is read of a whole stream at once.
-ghost use Rattle.std.specs.Prelude.{◌≤◌, ◌^◌, length};
+ghost use Rattle.std.specs.Prelude.{◌≤◌, length};
+ghost use Rattle.bit_stream.specs.declared.reader.TheConstants.{LARGEST_STREAM};
 
 use crate::tell::{put_bytes, put_numbers, put_stop};
 use bit_stream::Entry;
@@ -23,7 +24,7 @@ fn put_held(out: &mut String, held: &HeldEntry) -> Result<(), AllocError> {
 
 /// The entries, or the fault.
 pub fn tree(alloc: Global, bytes: &[u8]) -> Result<String, AllocError>
-    requires { length bytes.now ≤ 2 ^ 24 }
+    requires { length bytes.now ≤ LARGEST_STREAM }
 {
     let mut out = String::new(alloc);
     match read_stream(alloc, bytes) {
@@ -39,7 +40,7 @@ pub fn tree(alloc: Global, bytes: &[u8]) -> Result<String, AllocError>
 
 /// Whether it is a tree, or the fault.
 pub fn verdict(alloc: Global, bytes: &[u8]) -> Result<String, AllocError>
-    requires { length bytes.now ≤ 2 ^ 24 }
+    requires { length bytes.now ≤ LARGEST_STREAM }
 {
     let mut out = String::new(alloc);
     match judge(alloc, bytes) {

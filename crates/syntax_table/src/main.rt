@@ -10,13 +10,10 @@ mod counts;
 mod parts;
 
 use counts::print_counts;
-use ir_syntax::{SyntaxFault, read_items};
+use ir_syntax::{LARGEST, SyntaxFault, read_items};
 use parts::print_parts;
 use std::io;
 use std::io::Read;
-
-/// The most bytes of a text: 16 MiB.
-const LARGEST: usize = 16_777_216;
 
 /// What is told of a text.
 #[derive(Clone, Copy)]

@@ -16,7 +16,7 @@ use std::slice;
 use tool_ends::Ended;
 
 /// The most bytes of one input: 16 MiB.
-const LARGEST: usize = 16_777_216;
+const LARGEST: usize = ir_lexer::LARGEST;
 
 /// The most bytes of all inputs together: 32 MiB.
 const LARGEST_TOGETHER: usize = 33_554_432;

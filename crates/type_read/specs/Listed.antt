@@ -12,7 +12,7 @@ use Rattle.record_table.specs.Fields.{Texts}
 use Rattle.record_table.specs.Walk.{going, told}
 use Rattle.record_table.specs.Faults.{Records, no_more, a_block, a_record}
 use Rattle.record_table.specs.Layout.{judged}
-use Rattle.record_table.specs.TypeRecords.{Listed, TypeKind, OfVoid, definition, names_in, kind_of_code, kinds, all_fit, are_distinct, called}
+use Rattle.record_table.specs.TypeRecords.{Listed, TypeKind, OfVoid, definition, name_defined, names_in, kind_of_code, kinds, all_fit, are_distinct, called}
 use Rattle.record_read.specs.Entries.{IsBefore}
 use Rattle.record_read.specs.Reader.{Reader, also_asked}
 use Rattle.record_read.specs.declared.fault.BitcodeFault.{BitcodeFault}
@@ -110,7 +110,7 @@ voids_in (a_record code operands behind) = void_of code ++ voids_in behind
 -- what one record adds to what is known ahead: a name that is none that is good is the first bad one, or a type
 abbrev pub GathersRecord : Texts → ℕ → List ℕ → Lists → TypesAhead → Lists → TypesAhead → Type 0
 GathersRecord t code operands old before new now =
-    ((all : List Bytes) → AreGathered old before.structs all → AreGathered new now.structs (if nat_eq code 7 then all ++ (judged (definition t 0) operands).0.1 ∷ [] else all))
+    ((all : List Bytes) → AreGathered old before.structs all → AreGathered new now.structs (if nat_eq code 7 then all ++ name_defined (judged (definition t 0) operands) ∷ [] else all))
     × (now.voids.items ≡ before.voids.items ++ void_of code)
 
 -- ---- the block of types
@@ -148,7 +148,8 @@ pub record AreSoFar (found : StructNames) (all : List Bytes) (s : Listed) (later
 
 -- the names from this record on, where those behind it are these
 abbrev pub later_names : Listed → ℕ → List ℕ → List Bytes → List Bytes
-later_names s code operands later = if nat_eq code 7 then (judged (definition s.texts (length s.types.types)) operands).0.1 ∷ later else later
+later_names s code operands later =
+    if nat_eq code 7 then name_defined (judged (definition s.texts (length s.types.types)) operands) ∷ later else later
 
 -- a record in front, none of whose operands are taken, behind what was read so far
 pub record IsOn (a : Lists) (found : StructNames) (all : List Bytes) (r : Reader) (operands : List ℕ) (s : Listed) : Type 0 where

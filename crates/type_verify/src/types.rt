@@ -12,12 +12,10 @@ ghost use Rattle.type_verify.specs.Opened.{IsOpened, opened_ids, opened_body};
 ghost use Rattle.type_verify.specs.TypeFlags.{is_free, flag_of};
 
 use crate::classes::{class_at, classes_of};
+use module_arena::LEAF_LIMIT;
 use std::alloc::{AllocError, Global};
 use std::marker::Model;
 use type_table::{IrType, StructBody, TypeId, TypeTable};
-
-/// How many leaves a value that is handed on may have.
-const LEAF_LIMIT: u64 = 65_536;
 
 /// The flag of a type, where there is one.
 fn flag_at(flags: &[bool], ty: TypeId, otherwise: bool) -> bool

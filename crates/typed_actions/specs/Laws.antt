@@ -11,5 +11,6 @@ use Rattle.typed_actions.specs.Asked.{IsAsked}
 -- the action of each instruction that is no phi, and behind which there is another or the end
 abbrev pub InstructionsAreTyped : Type 0
 InstructionsAreTyped =
-    (t : Typing) (look : ℕ → ℕ → ℕ → Action) (function : ℕ) (sc : FunctionScope) → are_good_structs sc.names.structs ≡ true → (i : Instruction) → IsAsked t look function sc i → is_phi i.operation ≡ false
+    (t : Typing) (look : ℕ → ℕ → ℕ → Action) (function : ℕ) (sc : FunctionScope) → are_good_structs sc.names.structs ≡ true
+    → (i : Instruction) → IsAsked t look function sc i → is_phi i.operation ≡ false
     → (block position : ℕ) → IsPlace t look function block (position + 1) → IsTypedAction t look function block position (instruction_in sc i)

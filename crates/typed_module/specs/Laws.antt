@@ -21,5 +21,8 @@ ValidIsTyped = (m : Module) → IsWellFormed m → IsValid m → IsTypedLook (m 
 -- so many steps after its opening a run of such a module is at a typed state, or is over
 abbrev pub RunsAreTyped : Type 0
 RunsAreTyped =
-    (m : Module) → IsWellFormed m → IsValid m → (arguments : List (List ℕ)) → AreWords arguments → (input : List ℕ) → All (λ b. b < 256) input → (c : Core) → opened (plan (m ∷ [])) arguments ≡ Ok c
+    (m : Module) → IsWellFormed m → IsValid m
+    → (arguments : List (List ℕ)) → AreWords arguments
+    → (input : List ℕ) → All (λ b. b < 256) input
+    → (c : Core) → opened (plan (m ∷ [])) arguments ≡ Ok c
     → (steps : ℕ) → IsTypedStep (typing_of (m ∷ [])) (look (m ∷ [])) (table (m ∷ [])) (advanced (look (m ∷ [])) (table (m ∷ [])) steps (begun c input))

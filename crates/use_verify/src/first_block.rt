@@ -35,8 +35,16 @@ fn goes_to_first(ending: &Ending) -> bool
 {
     match ending {
         Ending::Jump(target) => target.number() == 0,
-        Ending::Branch(_, then_to, else_to) => { (then_to.number() == 0) | (else_to.number() == 0) }
-        Ending::Switch(_, otherwise, cases) => {
+        Ending::Branch {
+            then_to,
+            else_to,
+            ..
+        } => { (then_to.number() == 0) | (else_to.number() == 0) }
+        Ending::Switch {
+            otherwise,
+            cases,
+            ..
+        } => {
             let by_case = has_case_to_first(cases.as_slice());
             (otherwise.number() == 0) | by_case
         }

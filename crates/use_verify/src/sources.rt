@@ -76,11 +76,19 @@ fn add_edges(sources: &mut [Sources], from: u32, ending: &Ending) -> Result<(), 
 {
     match ending {
         Ending::Jump(target) => add_edge(sources, from, *target),
-        Ending::Branch(_, then_to, else_to) => {
+        Ending::Branch {
+            then_to,
+            else_to,
+            ..
+        } => {
             add_edge(sources, from, *then_to)?;
             add_edge(sources, from, *else_to)
         }
-        Ending::Switch(_, otherwise, cases) => {
+        Ending::Switch {
+            otherwise,
+            cases,
+            ..
+        } => {
             add_edge(sources, from, *otherwise)?;
             add_cases(sources, from, cases.as_slice())
         }

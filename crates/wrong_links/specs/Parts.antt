@@ -133,7 +133,9 @@ takes_struct = function External i32 "g" (the_struct ∷ []) (Some (block 1 [] (
 
 -- it is called by a function type of another shape, since %T is another struct there
 abbrev pub structs_parts : List Module
-structs_parts = module_of (struct_with "T" (i32 ∷ []) ∷ []) [] (function External i32 "g" (the_struct ∷ []) None ∷ passes_struct ∷ []) ∷ module_of (struct_with "T" (int 64 ∷ []) ∷ []) [] (takes_struct ∷ []) ∷ []
+structs_parts =
+    module_of (struct_with "T" (i32 ∷ []) ∷ []) [] (function External i32 "g" (the_struct ∷ []) None ∷ passes_struct ∷ [])
+    ∷ module_of (struct_with "T" (int 64 ∷ []) ∷ []) [] (takes_struct ∷ []) ∷ []
 
 -- the first stands for both
 abbrev pub struct_shared : Module

@@ -23,7 +23,7 @@ put_switch-requires-clause-cases g c =
     let targets = subst (λ (e : the_ending.Ending). All (λ id. id < length (function_blocks f)) (targets_of e)) c.in-Switch.is c.requires.targets in
     let cases = c.in-Switch.cases in
     rw c.as_slice.ensures
-    (cases_known a f cases (behind_first (HasThis a f) c.in-Switch.part (map (as_operand a f) cases) operands) (behind_first (λ (id : ℕ). id < length (function_blocks f)) c.in-Switch.otherwise (map (λ (x : the_case.Case). x.target) cases) targets))
+    (cases_known a f cases (behind_first (HasThis a f) c.in-Switch.value (map (as_operand a f) cases) operands) (behind_first (λ (id : ℕ). id < length (function_blocks f)) c.in-Switch.otherwise (map (λ (x : the_case.Case). x.target) cases) targets))
 
 pub returns-in-Jump : goal.returns-in-Jump
 returns-in-Jump g c = rw c.in-Jump.is (c.put_jump.ensures c.args.arena.now)
@@ -33,7 +33,7 @@ returns-in-Switch g c =
     let a = c.args.arena.now in
     let f = c.args.function.now in
     rw c.in-Switch.is
-    (prints_same (ap (λ (xs : List the_case.Case). ending_phrase (m.Switch (operand_of a f c.in-Switch.part) (label_of a f c.in-Switch.otherwise) (map (case_of a f) xs)) (separator_of c.args.behind)) c.as_slice.ensures) c.put_switch.ensures)
+    (prints_same (ap (λ (xs : List the_case.Case). ending_phrase (m.Switch (operand_of a f c.in-Switch.value) (label_of a f c.in-Switch.otherwise) (map (case_of a f) xs)) (separator_of c.args.behind)) c.as_slice.ensures) c.put_switch.ensures)
 
 pub returns-in-Unreachable : goal.returns-in-Unreachable
 returns-in-Unreachable g c = rw c.in-Unreachable.is (c.put_token.ensures kind.Word)

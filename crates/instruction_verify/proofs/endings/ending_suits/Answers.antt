@@ -44,14 +44,14 @@ pub switch_suits-requires-clause-cases : goal.switch_suits-requires-clause-cases
 switch_suits-requires-clause-cases c =
     let a = c.args.judge.now in
     subst (λ (cs : List Case). All (HasCase a) cs) (sym c.as_slice.ensures)
-    (cases_known a c.in-Switch.cases (All-tail (HasOperand a) c.in-Switch.operand _ (subst (λ e. All (HasOperand a) (end_operands_of e)) c.in-Switch.is c.requires.known)))
+    (cases_known a c.in-Switch.cases (All-tail (HasOperand a) c.in-Switch.value _ (subst (λ e. All (HasOperand a) (end_operands_of e)) c.in-Switch.is c.requires.known)))
 
 pub returns-in-Switch : goal.returns-in-Switch
 returns-in-Switch c =
     let a = c.args.judge.now in
-    let t = tree a.table c.in-Switch.operand.ty in
+    let t = tree a.table c.in-Switch.value.ty in
     if_ok _ _ c.switch_suits.result c.switch_suits.ensures (λ suits told f values blocks e.
     told
-    ∙ ap (λ (cs : List Case). is_integer t && (list_all (is_case_at a c.in-Switch.operand.ty) cs && is_distinct nat_eq (flat_map (numbers_at a) cs))) c.as_slice.ensures
-    ∙ switch_told a values blocks f c.in-Switch.operand c.in-Switch.field-1 c.in-Switch.cases
+    ∙ ap (λ (cs : List Case). is_integer t && (list_all (is_case_at a c.in-Switch.value.ty) cs && is_distinct nat_eq (flat_map (numbers_at a) cs))) c.as_slice.ensures
+    ∙ switch_told a values blocks f c.in-Switch.value c.in-Switch.otherwise c.in-Switch.cases
     ∙ ap (λ x. rules.ending_suits f (ending_in a values blocks x)) (sym c.in-Switch.is))

@@ -14,7 +14,7 @@ pub cases_fact-others-requires : goal.cases_fact-others-requires
 cases_fact-others-requires c =
     let a = c.args.judge.now in
     subst (λ (cs : List Case). All (HasCase a) cs) (sym c.as_slice.ensures)
-    (cases_known a c.in-Switch.cases (All-tail (HasOperand a) c.in-Switch.operand _ (subst (λ e. All (HasOperand a) (end_operands_of e)) c.in-Switch.is c.requires)))
+    (cases_known a c.in-Switch.cases (All-tail (HasOperand a) c.in-Switch.value _ (subst (λ e. All (HasOperand a) (end_operands_of e)) c.in-Switch.is c.requires)))
 
 pub returns-in-Return : goal.returns-in-Return
 returns-in-Return c values blocks =
@@ -38,6 +38,6 @@ returns-in-Switch c values blocks =
     let others = c.cases_fact-others.ensures values blocks ∙ ap (λ (cs : List Case). operands_fact m (map (case_operand_in a values blocks) cs)) c.as_slice.ensures in
     c.and.ensures
     ∙ (λ j. both (first j) (others j))
-    ∙ joined_facts m (operand_in a values blocks c.in-Switch.operand ∷ []) (map (case_operand_in a values blocks) c.in-Switch.cases)
-    ∙ ap (λ os. operands_fact m (operand_in a values blocks c.in-Switch.operand ∷ os)) (cases_listed a values blocks c.in-Switch.cases)
+    ∙ joined_facts m (operand_in a values blocks c.in-Switch.value ∷ []) (map (case_operand_in a values blocks) c.in-Switch.cases)
+    ∙ ap (λ os. operands_fact m (operand_in a values blocks c.in-Switch.value ∷ os)) (cases_listed a values blocks c.in-Switch.cases)
     ∙ ap (λ e. operands_fact m (ending_operands (ending_in a values blocks e))) (sym c.in-Switch.is)

@@ -21,9 +21,9 @@ build_blocks-requires c =
     let a = c.args.builder.now.arena in
     let ps = map parameter_view c.args.parameters.now in
     let bs = map block_view c.args.blocks.now in
-    let locals = c.in_ok-locals.locals in
-    let values = c.in_ok-locals.ensures.values in
-    let labels = c.in_ok-locals.ensures.labels in
+    let locals = c.gather.new.locals in
+    let values = c.in_ok-gather.ensures.values in
+    let labels = c.in_ok-gather.ensures.labels in
     let each = all_viewed (CanBlock (structs a.table) (entries a) (values_of ps bs) (labels_of ps bs)) block_view c.args.blocks.now c.requires.each in
     let many = values_counted ps bs locals.values.names.items values in
     let long = length-map c.args.parameters.now parameter_view in
@@ -46,7 +46,7 @@ pub names_from-requires : goal.names_from-requires
 names_from-requires c =
     let ps = map parameter_view c.args.parameters.now in
     let bs = map block_view c.args.blocks.now in
-    let many = values_counted ps bs c.in_ok-locals.locals.values.names.items c.in_ok-locals.ensures.values in
+    let many = values_counted ps bs c.gather.new.locals.values.names.items c.in_ok-gather.ensures.values in
     let long = length-map c.args.parameters.now parameter_view in
     omega (arith, many, long)
 
@@ -55,7 +55,7 @@ returns c =
     let a = c.build_blocks.new.builder.arena in
     let ps = map parameter_view c.args.parameters.now in
     let bs = map block_view c.args.blocks.now in
-    let locals = c.in_ok-locals.locals in
+    let locals = c.gather.new.locals in
     let long = length-map c.args.parameters.now parameter_view in
     let first = c.new-first.ensures ∙ sym long in
     let body : the_body.Body = record { blocks = c.in_ok-blocks.blocks; results = c.in_ok-results.results } in
@@ -65,8 +65,8 @@ returns c =
     let in_order = built.in_order ∙ ap (λ n. upto n (sum_by block_results_count bs)) first in
     let values = locals.values.names.items in
     let labels = locals.blocks.names.items in
-    let called = c.in_ok-locals.ensures.values in
-    let named = c.in_ok-locals.ensures.labels in
+    let called = c.in_ok-gather.ensures.values in
+    let named = c.in_ok-gather.ensures.labels in
     record {
       grows = built.grows;
       known = subst (λ n. KnowsBody (length a.table.types) (length a.constants) n body) long (body_known ps bs a values labels called named body are results c.requires.few in_order);

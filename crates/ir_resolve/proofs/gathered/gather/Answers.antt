@@ -13,25 +13,25 @@ use Rattle.ir_resolve.proofs.gathered.gather.Goals as goal
 
 pub add_parameters-requires : goal.add_parameters-requires
 add_parameters-requires c =
-    let none = ap length c.new-values.ensures in
+    let none = ap length c.clear.ensures.values in
     let few = c.requires in
     omega (arith, none, few)
 
 pub loop-block-init : goal.loop-block-init
 loop-block-init c =
     let ps = map parameter_view c.args.parameters.now in
-    let named : map local_view c.add_parameters.new.self.names.items ≡ parameter_names ps = c.in_ok-next.ensures.names ∙ ap (λ xs. map local_view xs ++ parameter_names ps) c.new-values.ensures in
+    let named : map local_view c.add_parameters.new.self.names.items ≡ parameter_names ps = c.in_ok-next.ensures.names ∙ ap (λ xs. map local_view xs ++ parameter_names ps) c.clear.ensures.values in
     let behind = behind_parameters_le 0 ps in
     let long = length-map c.args.parameters.now parameter_view in
     let next = c.in_ok-next.ensures.next in
     let many = ap length named in
     let counted = length-map c.add_parameters.new.self.names.items local_view in
     let each = parameters_named 0 ps in
-    let none = ap length c.new-labels.ensures in
+    let none = ap length c.clear.ensures.blocks in
     record {
       next = next;
       values = named ∙ sym (append-nil (parameter_names ps));
-      labels = ap (map local_view) c.new-labels.ensures;
+      labels = ap (map local_view) c.clear.ensures.blocks;
       numbers = omega (arith, behind, long, next);
       few_values = omega (arith, many, counted, each, long);
       few_labels = omega (arith, none);
@@ -67,9 +67,9 @@ loop-block-preserved c =
     let le = behind_block_le c.loop-block.next tree in
     let next = one.next in
     let numbers = so_far.numbers in
-    let more = names_le c.loop-block.values.names.items c.add_block.new.values.names.items c.loop-block.next tree one.results in
+    let more = names_le c.loop-block.locals.values.names.items c.add_block.new.values.names.items c.loop-block.next tree one.results in
     let values = so_far.few_values in
-    let one_label = label_le c.loop-block.labels.names.items c.add_block.new.blocks.names.items _ one.label in
+    let one_label = label_le c.loop-block.locals.blocks.names.items c.add_block.new.blocks.names.items _ one.label in
     let labels = so_far.few_labels in
     record {
       next = next ∙ ap (λ n. next_after n (announced_block tree)) so_far.next ∙ sym (ap (λ ts. next_after first (flat_map announced_block ts)) step ∙ behind_more first done tree);

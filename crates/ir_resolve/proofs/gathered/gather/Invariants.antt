@@ -11,9 +11,9 @@ use Rattle.ir_resolve.proofs.gathered.gather.Given as goal
 abbrev pub invariant-loop-block : goal.invariant-loop-block
 invariant-loop-block l = record {
   next : l.next ≡ next_after (next_after 0 (map announced_parameter (map parameter_view l.parameters))) (flat_map announced_block (map block_view (take l.block-index l.blocks)));
-  values : map local_view l.values.names.items ≡ values_of (map parameter_view l.parameters) (map block_view (take l.block-index l.blocks));
-  labels : map local_view l.labels.names.items ≡ labels_of (map parameter_view l.parameters) (map block_view (take l.block-index l.blocks));
+  values : map local_view l.locals.values.names.items ≡ values_of (map parameter_view l.parameters) (map block_view (take l.block-index l.blocks));
+  labels : map local_view l.locals.blocks.names.items ≡ labels_of (map parameter_view l.parameters) (map block_view (take l.block-index l.blocks));
   numbers : l.next ≤ length l.parameters + sum_by block_count (map block_view (take l.block-index l.blocks));
-  few_values : length l.values.names.items ≤ length l.parameters + sum_by block_count (map block_view (take l.block-index l.blocks));
-  few_labels : length l.labels.names.items ≤ sum_by block_count (map block_view (take l.block-index l.blocks));
+  few_values : length l.locals.values.names.items ≤ length l.parameters + sum_by block_count (map block_view (take l.block-index l.blocks));
+  few_labels : length l.locals.blocks.names.items ≤ sum_by block_count (map block_view (take l.block-index l.blocks));
 }

@@ -11,7 +11,7 @@ use Rattle.line_write.proofs.ending.put_ending.Goals as goal
 pub put_switch-requires-clause-cases : goal.put_switch-requires-clause-cases
 put_switch-requires-clause-cases c =
     let a = c.args.numbering.now in
-    rw c.as_slice.ensures (cases_known a c.in-Switch.part c.in-Switch.otherwise c.in-Switch.cases (subst (λ (e : the_ending.Ending). KnowsEnd a e) c.in-Switch.is c.requires))
+    rw c.as_slice.ensures (cases_known a c.in-Switch.value c.in-Switch.otherwise c.in-Switch.cases (subst (λ (e : the_ending.Ending). KnowsEnd a e) c.in-Switch.is c.requires))
 
 pub returns-in-ReturnVoid : goal.returns-in-ReturnVoid
 returns-in-ReturnVoid c = λ f is. rw c.in-ReturnVoid.is c.put_number.ensures
@@ -35,7 +35,7 @@ pub returns-in-Switch : goal.returns-in-Switch
 returns-in-Switch c = λ f is.
     let a = c.args.numbering.now in
     let here = subst (EndStands a f) c.in-Switch.is (end_stands a f c.args.ending.now is) in
-    rw c.in-Switch.is (reworded _ _ _ _ _ (c.put_switch.ensures f is.body here.0 here.1 (rw c.as_slice.ensures here.2)) (ap (switch_operands a f c.in-Switch.part c.in-Switch.otherwise) c.as_slice.ensures ∙ switch_spelled a f c.in-Switch.part c.in-Switch.otherwise c.in-Switch.cases))
+    rw c.in-Switch.is (reworded _ _ _ _ _ (c.put_switch.ensures f is.body here.0 here.1 (rw c.as_slice.ensures here.2)) (ap (switch_operands a f c.in-Switch.value c.in-Switch.otherwise) c.as_slice.ensures ∙ switch_spelled a f c.in-Switch.value c.in-Switch.otherwise c.in-Switch.cases))
 
 pub returns-in-Unreachable : goal.returns-in-Unreachable
 returns-in-Unreachable c = λ f is. rw c.in-Unreachable.is (sym (append-nil c.args.operands.now.items))

@@ -6,5 +6,5 @@ use Rattle.masked_bytes.proofs.mask.copy_marks.Goals as goal
 pub loop-k-preserved : goal.loop-k-preserved
 loop-k-preserved c = record {
   len = c.set.ensures.len ∙ c.loop-k.invariant.len;
-  marks = λ q. step_up (λ k. is_marked c.args.others.now.items k) (λ k. is_marked c.args.words.now.items k) (is_marked c.loop-k.words.items q) _ c.has-to.result c.args.at c.args.from c.loop-k.k q c.has-to.ensures (c.loop-k.invariant.marks q) (c.set.ensures.marks q);
+  marks = λ q. step_up (λ k. is_marked c.args.others.now k) (λ k. is_marked c.args.words.now k) (is_marked c.loop-k.words q) _ c.has-to.result c.args.at c.args.from c.loop-k.k q c.has-to.ensures (c.loop-k.invariant.marks q) (c.set.ensures.marks q);
 }

@@ -1,8 +1,13 @@
-use Rattle.std.proofs.Common.{arith, ◌<◌, ◌*◌, length}
+use Rattle.std.proofs.Common.{◌/◌, ◌∙◌, ap, length, arith}
+use Rattle.std.proofs.lemmas.List.{get_or_default, length-set}
+use Rattle.masked_bytes.specs.Masked.{is_marked}
 use Rattle.masked_bytes.proofs.Marks.{marked}
 use Rattle.masked_bytes.proofs.mask.mark.Goals as goal
 
+pub returns-clause-len : goal.returns-clause-len
+returns-clause-len c = ap length c.put.ensures ∙ length-set c.args.words.now (c.args.at / 64) _
+
 pub returns-clause-marks : goal.returns-clause-marks
-returns-clause-marks c =
-    let within : c.args.at < 64 * length c.args.words.now.items = omega (arith, c.args.words.now.ok.0, c.requires) in
-    λ k. marked c.args.words.now.items c.args.at c.index-word.result.now k within c.index-word.ensures
+returns-clause-marks c = λ k.
+    ap (λ ws. is_marked ws k) c.put.ensures
+    ∙ marked c.args.words.now c.args.at c.get-word.result k c.requires (c.get-word.ensures ∙ get_or_default c.args.words.now (c.args.at / 64) 0 c.get-word.result (omega (arith, c.requires)))

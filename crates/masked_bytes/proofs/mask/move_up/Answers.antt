@@ -7,5 +7,5 @@ pub loop-left-preserved : goal.loop-left-preserved
 loop-left-preserved c = record {
   most = omega arith;
   len = c.set.ensures.len ∙ c.loop-left.invariant.len;
-  marks = λ q. step_down (λ k. is_marked c.args.words.now.items k) (λ k. is_marked c.args.words.now.items k) (is_marked c.loop-left.words.items q) _ c.has-to.result c.args.at c.args.from (c.loop-left.left - 1) c.loop-left.left c.args.count q (omega arith) (omega arith) (c.has-to.ensures ∙ outside (λ k. is_marked c.args.words.now.items k) _ (c.args.at + c.loop-left.left) (c.args.at + c.args.count) (c.args.from + (c.loop-left.left - 1)) _ (inl (omega arith)) (c.loop-left.invariant.marks (c.args.from + (c.loop-left.left - 1)))) (c.loop-left.invariant.marks q) (c.set.ensures.marks q);
+  marks = λ q. step_down (λ k. is_marked c.args.words.now k) (λ k. is_marked c.args.words.now k) (is_marked c.loop-left.words q) _ c.has-to.result c.args.at c.args.from (c.loop-left.left - 1) c.loop-left.left c.args.count q (omega arith) (omega arith) (c.has-to.ensures ∙ outside (λ k. is_marked c.args.words.now k) _ (c.args.at + c.loop-left.left) (c.args.at + c.args.count) (c.args.from + (c.loop-left.left - 1)) _ (inl (omega arith)) (c.loop-left.invariant.marks (c.args.from + (c.loop-left.left - 1)))) (c.loop-left.invariant.marks q) (c.set.ensures.marks q);
 }

@@ -18,7 +18,7 @@ put_branch-requires-clause-branch c = subst (EndSuits c.args.scope.now) c.in-Bra
 pub put_switch-requires-clause-switch : goal.put_switch-requires-clause-switch
 put_switch-requires-clause-switch c =
     let given = subst (EndSuits c.args.scope.now) c.in-Switch.is c.requires.end in
-    subst (HasSwitch c.args.scope.now c.in-Switch.operand c.in-Switch.otherwise) (sym c.as_slice.ensures) given
+    subst (HasSwitch c.args.scope.now c.in-Switch.value c.in-Switch.otherwise) (sym c.as_slice.ensures) given
 
 pub returns-in-Return-clause-action : goal.returns-in-Return-clause-action
 returns-in-Return-clause-action c = subst (λ (e : Ending). IfOk c.put_return.result (EndMeant c.args.scope.now c.put_return.new.pools c.args.from e)) (sym c.in-Return.is) c.put_return.ensures.action
@@ -31,5 +31,5 @@ returns-in-Branch-clause-action c = subst (λ (e : Ending). IfOk c.put_branch.re
 
 pub returns-in-Switch-clause-action : goal.returns-in-Switch-clause-action
 returns-in-Switch-clause-action c =
-    let meant = subst (λ (cs : List Case). IfOk c.put_switch.result (EndMeant c.args.scope.now c.put_switch.new.pools c.args.from (ending.Switch c.in-Switch.operand c.in-Switch.otherwise cs))) c.as_slice.ensures c.put_switch.ensures.action in
+    let meant = subst (λ (cs : List Case). IfOk c.put_switch.result (EndMeant c.args.scope.now c.put_switch.new.pools c.args.from (ending.Switch c.in-Switch.value c.in-Switch.otherwise cs))) c.as_slice.ensures c.put_switch.ensures.action in
     subst (λ (e : Ending). IfOk c.put_switch.result (EndMeant c.args.scope.now c.put_switch.new.pools c.args.from e)) (sym c.in-Switch.is) meant

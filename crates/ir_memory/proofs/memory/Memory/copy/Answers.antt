@@ -47,6 +47,7 @@ invariant_of-self-2 c =
       IsKept-copied (all_seen (at c.self.inside.pieces) c.self.inside.kept) c.self.inside.next c.self.inside.live _ _ c.args.count c.self.invariant.0,
       AreStarts-copied _ _ _ c.args.count (all_seen (at c.self.inside.pieces) c.self.inside.kept) c.self.invariant.1,
       c.copy_cells.ensures.sound _ c.self.invariant.2,
+      c.self.invariant.3,
     )
 
 pub returns-clause-answer : goal.returns-clause-answer

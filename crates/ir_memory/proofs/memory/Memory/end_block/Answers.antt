@@ -38,8 +38,9 @@ invariant_of-self c =
         c.self.invariant.0.3,
         AreKnown-ended (all_seen p kept) c.in-Some.index c.self.invariant.0.4,
       ),
-      AreStarts-ended _ _ (all_seen p kept) c.in-Some.index b within is c.self.invariant.1 lives c.forget.ensures,
+      AreStarts-ended _ (all_seen p kept) c.in-Some.index within c.self.invariant.1,
       c.end.ensures.sound _ c.self.invariant.2,
+      c.self.invariant.3,
     )
 
 pub returns-clause-answer : goal.returns-clause-answer

@@ -13,6 +13,7 @@ invariant_of-self c =
       IsKept-filled (all_seen (at c.self.inside.pieces) c.self.inside.kept) c.self.inside.next c.self.inside.live _ c.args.count c.args.byte c.self.invariant.0,
       AreStarts-filled _ _ c.args.count c.args.byte (all_seen (at c.self.inside.pieces) c.self.inside.kept) c.self.invariant.1,
       c.write_many.ensures.sound _ c.self.invariant.2,
+      c.self.invariant.3,
     )
 
 pub returns-clause-answer : goal.returns-clause-answer

@@ -34,6 +34,7 @@ invariant_of-self-2 c =
       IsKept-stored (all_seen (at c.self.inside.pieces) c.self.inside.kept) c.self.inside.next c.self.inside.live _ c.args.leaf c.args.value known c.self.invariant.0,
       AreStarts-stored _ _ c.args.leaf c.args.value (all_seen (at c.self.inside.pieces) c.self.inside.kept) c.self.invariant.1,
       c.write_leaf.ensures.sound _ c.self.invariant.2,
+      c.self.invariant.3,
     )
 
 pub returns-clause-answer : goal.returns-clause-answer

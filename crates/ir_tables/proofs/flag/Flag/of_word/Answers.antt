@@ -1,33 +1,24 @@
-use Rattle.std.proofs.Common.{ap, ◌∙◌, bytes_eq}
-use Rattle.std.proofs.lemmas.Option.{slice_get-get_or}
+use Rattle.std.proofs.Common.{ap, bytes_eq}
 use Rattle.std.proofs.lemmas.Slice.Eq.{bytes_eq-Decides}
 use Rattle.ir_tables.specs.Table.{words}
 use Rattle.ir_tables.specs.Flag.{flag_word, flags, flag_of_word}
-use Rattle.ir_tables.proofs.Tables.{none_has_key, place_below, only_has_key, find_absent, find_present}
+use Rattle.ir_tables.proofs.Tables.{place_below, absent_exact, absent_value, present_exact, present_value}
 use Rattle.ir_tables.proofs.FlagValues.{flag_listed}
 use Rattle.ir_tables.proofs.flag.Flag.of_word.Goals as goal
 
 pub returns-in_err-place-clause-exact : goal.returns-in_err-place-clause-exact
-returns-in_err-place-clause-exact c =
-    let none = c.from_residual.ensures in
-    let absent = none_has_key flag_word flags (words c.table.result) c.args.word.now flag_listed (ap words c.table.ensures) c.in_err-place.ensures in
-    λ flag. (λ found. absurd (cc), λ has. absurd (absent flag has))
+returns-in_err-place-clause-exact c = absent_exact flag_word flags flag_listed (ap words c.table.ensures) c.in_err-place.ensures c.from_residual.ensures
 
 pub returns-in_err-place-clause-value : goal.returns-in_err-place-clause-value
 unfolding flag_of_word
-returns-in_err-place-clause-value c =
-    c.from_residual.ensures ∙ find_absent bytes_eq bytes_eq-Decides flag_word flags c.args.word.now (none_has_key flag_word flags (words c.table.result) c.args.word.now flag_listed (ap words c.table.ensures) c.in_err-place.ensures)
+returns-in_err-place-clause-value c = absent_value bytes_eq bytes_eq-Decides flag_word flags flag_listed (ap words c.table.ensures) c.in_err-place.ensures c.from_residual.ensures
 
 pub bounds-place : goal.bounds-place
-bounds-place c = place_below flag_word flags (words c.table.result) c.args.word.now c.in_ok-place.place (ap words c.table.ensures) c.in_ok-place.ensures
+bounds-place c = place_below flag_word flags (ap words c.table.ensures) c.in_ok-place.ensures
 
 pub returns-clause-exact : goal.returns-clause-exact
-returns-clause-exact c =
-    let below = place_below flag_word flags (words c.table.result) c.args.word.now c.in_ok-place.place (ap words c.table.ensures) c.in_ok-place.ensures in
-    λ flag. only_has_key flag_word flags (words c.table.result) c.args.word.now c.in_ok-place.place flag_listed (ap words c.table.ensures) c.in_ok-place.ensures _ flag (slice_get-get_or flags c.in_ok-place.place _ below)
+returns-clause-exact c = present_exact flag_word flags _ flag_listed (ap words c.table.ensures) c.in_ok-place.ensures
 
 pub returns-clause-value : goal.returns-clause-value
 unfolding flag_of_word
-returns-clause-value c =
-    let below = place_below flag_word flags (words c.table.result) c.args.word.now c.in_ok-place.place (ap words c.table.ensures) c.in_ok-place.ensures in
-    find_present bytes_eq bytes_eq-Decides flag_word flags (words c.table.result) c.args.word.now c.in_ok-place.place flag_listed (ap words c.table.ensures) c.in_ok-place.ensures _ (slice_get-get_or flags c.in_ok-place.place _ below)
+returns-clause-value c = present_value bytes_eq bytes_eq-Decides flag_word flags _ flag_listed (ap words c.table.ensures) c.in_ok-place.ensures

@@ -1,33 +1,24 @@
-use Rattle.std.proofs.Common.{ap, ◌∙◌, nat_eq}
-use Rattle.std.proofs.lemmas.Option.{slice_get-get_or}
+use Rattle.std.proofs.Common.{ap, nat_eq}
 use Rattle.std.proofs.lemmas.Bool.Decides.{Decides-eqb}
 use Rattle.ir_tables.specs.Table.{codes_of}
 use Rattle.ir_tables.specs.UndefinedKind.{undefined_code, undefined_kinds, undefined_of_code}
-use Rattle.ir_tables.proofs.Tables.{none_has_key, place_below, only_has_key, find_absent, find_present}
+use Rattle.ir_tables.proofs.Tables.{place_below, absent_exact, absent_value, present_exact, present_value}
 use Rattle.ir_tables.proofs.UndefinedKindValues.{undefined_listed}
 use Rattle.ir_tables.proofs.undefined_kind.UndefinedKind.of_code.Goals as goal
 
 pub returns-in_err-place-clause-exact : goal.returns-in_err-place-clause-exact
-returns-in_err-place-clause-exact c =
-    let none = c.from_residual.ensures in
-    let absent = none_has_key undefined_code undefined_kinds (codes_of c.table.result) c.args.code undefined_listed (ap codes_of c.table.ensures) c.in_err-place.ensures in
-    λ kind. (λ found. absurd (cc), λ has. absurd (absent kind has))
+returns-in_err-place-clause-exact c = absent_exact undefined_code undefined_kinds undefined_listed (ap codes_of c.table.ensures) c.in_err-place.ensures c.from_residual.ensures
 
 pub returns-in_err-place-clause-value : goal.returns-in_err-place-clause-value
 unfolding undefined_of_code
-returns-in_err-place-clause-value c =
-    c.from_residual.ensures ∙ find_absent nat_eq Decides-eqb undefined_code undefined_kinds c.args.code (none_has_key undefined_code undefined_kinds (codes_of c.table.result) c.args.code undefined_listed (ap codes_of c.table.ensures) c.in_err-place.ensures)
+returns-in_err-place-clause-value c = absent_value nat_eq Decides-eqb undefined_code undefined_kinds undefined_listed (ap codes_of c.table.ensures) c.in_err-place.ensures c.from_residual.ensures
 
 pub bounds-place : goal.bounds-place
-bounds-place c = place_below undefined_code undefined_kinds (codes_of c.table.result) c.args.code c.in_ok-place.place (ap codes_of c.table.ensures) c.in_ok-place.ensures
+bounds-place c = place_below undefined_code undefined_kinds (ap codes_of c.table.ensures) c.in_ok-place.ensures
 
 pub returns-clause-exact : goal.returns-clause-exact
-returns-clause-exact c =
-    let below = place_below undefined_code undefined_kinds (codes_of c.table.result) c.args.code c.in_ok-place.place (ap codes_of c.table.ensures) c.in_ok-place.ensures in
-    λ kind. only_has_key undefined_code undefined_kinds (codes_of c.table.result) c.args.code c.in_ok-place.place undefined_listed (ap codes_of c.table.ensures) c.in_ok-place.ensures _ kind (slice_get-get_or undefined_kinds c.in_ok-place.place _ below)
+returns-clause-exact c = present_exact undefined_code undefined_kinds _ undefined_listed (ap codes_of c.table.ensures) c.in_ok-place.ensures
 
 pub returns-clause-value : goal.returns-clause-value
 unfolding undefined_of_code
-returns-clause-value c =
-    let below = place_below undefined_code undefined_kinds (codes_of c.table.result) c.args.code c.in_ok-place.place (ap codes_of c.table.ensures) c.in_ok-place.ensures in
-    find_present nat_eq Decides-eqb undefined_code undefined_kinds (codes_of c.table.result) c.args.code c.in_ok-place.place undefined_listed (ap codes_of c.table.ensures) c.in_ok-place.ensures _ (slice_get-get_or undefined_kinds c.in_ok-place.place _ below)
+returns-clause-value c = present_value nat_eq Decides-eqb undefined_code undefined_kinds _ undefined_listed (ap codes_of c.table.ensures) c.in_ok-place.ensures

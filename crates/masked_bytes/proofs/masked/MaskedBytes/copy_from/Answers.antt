@@ -80,13 +80,13 @@ returns-then-other c =
     let long = sym (length-masked _ _) ∙ ap length c.self.view_is in
     let other = sym (length-masked _ _) ∙ ap length c.other.view_is in
     rw (← c.self.view_is, ← c.other.view_is, c.put_bytes.ensures.items, c.deref.ensures.value)
-    (put-copied _ _ c.self.inside.bytes.items c.other.inside.marks.items c.other.inside.bytes.items c.args.at c.args.from c.args.count (λ k. false) (omega (arith, long)) (omega (arith, other)) c.clear.ensures.marks (λ k h. sym (c.other.invariant.1 c.if-other.true (c.args.from + k))))
+    (put-copied _ _ c.self.inside.bytes.items c.other.inside.marks c.other.inside.bytes.items c.args.at c.args.from c.args.count (λ k. false) (omega (arith, long)) (omega (arith, other)) c.clear.ensures.marks (λ k h. sym (c.other.invariant.1 c.if-other.true (c.args.from + k))))
 
 pub returns : goal.returns
 returns c =
     let long = sym (length-masked _ _) ∙ ap length c.self.view_is in
     let other = sym (length-masked _ _) ∙ ap length c.other.view_is in
-    let marks = c.other.inside.marks.items in
+    let marks = c.other.inside.marks in
     rw (← c.self.view_is, ← c.other.view_is, c.put_bytes-2.ensures.items, c.deref-2.ensures.value)
     (put-copied _ _ c.self.inside.bytes.items marks c.other.inside.bytes.items c.args.at c.args.from c.args.count (λ k. is_marked marks (c.args.from + (k - c.args.at))) (omega (arith, long)) (omega (arith, other)) c.copy_marks.ensures.marks
     (λ k h. let e : c.args.from + (c.args.at + k - c.args.at) ≡ c.args.from + k = omega arith in ap (λ n. is_marked marks n) e))

@@ -35,7 +35,7 @@ move_bytes-requires-2-clause-source c = let long = sym (length-masked _ _) ∙ a
 pub returns-then-self : goal.returns-then-self
 returns-then-self c =
     let long = sym (length-masked _ _) ∙ ap length c.self.view_is in
-    let words = c.self.inside.marks.items in
+    let words = c.self.inside.marks in
     let none = c.self.invariant.1 c.if-self.true in
     rw (← c.self.view_is, c.move_bytes.ensures.items)
     (put-copied words words c.self.inside.bytes.items words c.self.inside.bytes.items c.args.at c.args.from c.args.count (λ k. is_marked words k) (omega (arith, long)) (omega (arith, long)) (λ k. either _ (is_marked words k))
@@ -44,7 +44,7 @@ returns-then-self c =
 pub returns : goal.returns
 returns c =
     let long = sym (length-masked _ _) ∙ ap length c.self.view_is in
-    let marks = c.self.inside.marks.items in
+    let marks = c.self.inside.marks in
     rw (← c.self.view_is, c.move_bytes-2.ensures.items)
     (put-copied _ _ c.self.inside.bytes.items marks c.self.inside.bytes.items c.args.at c.args.from c.args.count (λ k. is_marked marks (c.args.from + (k - c.args.at))) (omega (arith, long)) (omega (arith, long)) c.move_marks.ensures.marks
     (λ k h. let e : c.args.from + (c.args.at + k - c.args.at) ≡ c.args.from + k = omega arith in ap (λ n. is_marked marks n) e))
