@@ -1,7 +1,7 @@
 -- The rows of what stands behind commas are read.
 use Rattle.std.proofs.Common.{◌≡◌, ℕ, List, [], ◌∷◌, refl, true, false, None}
 use Rattle.ir_lexer.specs.Ahead.{Located}
-use Rattle.phrase_rows.specs.Row.{Row, Shape, apart, labelled}
+use Rattle.phrase_rows.specs.Row.{Row, Shape, apart, keep_second, labelled}
 use Rattle.phrase_rows.specs.Reads.{Reads}
 use Rattle.phrase_rows.proofs.Plain.{reads_nothing, reads_one, reads_mapped, reads_labelled, reads_wider}
 use Rattle.phrase_rows.proofs.Chain.{reads_second, reads_before, reads_pair}
@@ -11,10 +11,10 @@ use Rattle.ir_terminals.specs.declared.limits.Limits.{Limits}
 use Rattle.ir_terminals.specs.declared.terminal.Terminal.TheVariants as terminal
 use Rattle.ir_terminals.specs.Role.{class}
 use Rattle.ir_terminals.specs.Terminal.{code}
-use Rattle.ir_terminals.specs.Tokens.{integer_row}
+use Rattle.ir_terminals.specs.Tokens.{word, integer_row}
 use Rattle.ir_constants.proofs.Grammar.{reads_word, reads_typed_value}
 use Rattle.ir_instructions.specs.Dropped.{comma_shape, commas_shape}
-use Rattle.ir_instructions.specs.Tails.{alignment_behind_row, alignment_core, alignment_row, count_behind_row, count_core, count_row, Listed, listed_step, listed_core, listed_row}
+use Rattle.ir_instructions.specs.Tails.{alignment_behind_row, alignment_core, alignment_row, count_behind_row, count_core, count_row, Listed, listed_step, listed_core, listed_row, part_begins_row}
 use Rattle.ir_instructions.proofs.DroppedGrammar.{reads_attachment, reads_attachments}
 
 pub reads_integer : Reads class integer_row integer_row.shape
@@ -49,6 +49,14 @@ reads_count_core limits =
 
 pub reads_count : (limits : Limits) → Reads class (count_row limits) commas_shape
 reads_count limits = reads_labelled (reads_count_core limits)
+
+reads_part_begins : Reads class part_begins_row part_begins_row.shape
+reads_part_begins =
+    reads_alt class (reads_mapped class _ (reads_second class reads_attachment reads_attachments refl)) (reads_nothing class true) refl refl
+
+-- a comma, and whether a part stands behind it
+pub reads_comma_part : Reads class (keep_second (word terminal.Comma) part_begins_row) (keep_second (word terminal.Comma) part_begins_row).shape
+reads_comma_part = reads_second class (reads_word terminal.Comma) reads_part_begins refl
 
 -- a part that begins with one of these
 abbrev pub part_shape : List ℕ → Shape

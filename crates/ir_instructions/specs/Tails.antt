@@ -51,3 +51,11 @@ listed_core p parts = mapped (λ s. s.0) (loop class comma_shape (listed_step p)
 -- (, PART)* (, MD)*, behind these parts
 abbrev pub listed_row : {A : Type 0} → Row Located A → List A → Row Located (List A)
 listed_row p parts = labelled commas_shape (listed_core p parts)
+
+-- behind a comma: metadata and no part, or a part
+abbrev pub part_begins_row : Row Located Bool
+part_begins_row = alt class (mapped (λ u. false) (keep_second attachment_row attachments_row)) (nothing true)
+
+-- whether another part follows: the comma before it is read, or the metadata behind the last part
+abbrev pub part_ahead_row : Row Located Bool
+part_ahead_row = alt class (keep_second (word terminal.Comma) part_begins_row) (nothing false)
