@@ -16,6 +16,7 @@ use Rattle.tool_cli.specs.Causes.{GaveUp, Stopped, IsUnread, IsPassed, RefusesOn
 use Rattle.tool_cli.specs.Analyzed.{is_analysis, is_analysis_behind, analyzes}
 use Rattle.tool_cli.specs.Output.{output_of, output_behind, output_named, FailsToWrite, IsWritten, IsWrittenOf, IsShown}
 use Rattle.tool_cli.specs.Told.{IsEndOf, IsOutcome, IsTold}
+use Rattle.tool_cli.specs.World.{failures, found}
 
 pub inputs_are : (words : List (List ℕ)) (command : Command) → IsReadAs words command → inputs_named words ≡ inputs_of command
 unfolding inputs_named
@@ -39,26 +40,26 @@ gave_wider i f (CannotRead name) why = by (is_dash name) why
 gave_wider i f Memory why = tt
 gave_wider i f ended why = absurd why
 
-stopped_so : (words : List (List ℕ)) (command : Command) (i f o w : Type 0) (ended : Ended) → IsReadAs words command → Stopped (output_of command) i ⊥ o w ended → Stopped (output_named words) i f o w ended
+stopped_so : (words : List (List ℕ)) (command : Command) (i f o w : Type 0) (ended : Ended) → IsReadAs words command → Stopped (output_of command) (failures i ⊥ o w) ended → Stopped (output_named words) (failures i f o w) ended
 stopped_so words command i f o w ended read (inl why) = inl (gave_wider i f ended why)
 stopped_so words command i f o w ended read (inr fails) = inr (subst (λ (output : Option OutputName). FailsToWrite output o w ended) (sym (output_is words command read)) fails)
 
 -- `i` and `f` say what rose before the texts were there, `i'`, `f'`, `o` and `w` what rose in all
-pub told_ok : (words : List (List ℕ)) (command : Command) (names texts : List (List ℕ)) (held : Named) (stdin : List ℕ) (ended : Ended) (i i' f f' o w : Type 0) → IsReadAs words command → names ≡ inputs_of command → (Ok texts ≡ texts_read held stdin 0 names) ⊎ IsErrAnd {T = List (List ℕ)} (Ok texts) (GaveUp i f) → IsEndOf command stdin texts ended ⊎ Stopped (output_of command) i' ⊥ o w ended → IsTold words held stdin ended ⊎ Stopped (output_named words) i' f' o w ended
+pub told_ok : (words : List (List ℕ)) (command : Command) (names texts : List (List ℕ)) (held : Named) (stdin : List ℕ) (ended : Ended) (i i' f f' o w : Type 0) → IsReadAs words command → names ≡ inputs_of command → (Ok texts ≡ texts_read held stdin 0 names) ⊎ IsErrAnd {T = List (List ℕ)} (Ok texts) (GaveUp i f) → IsEndOf command stdin texts ended ⊎ Stopped (output_of command) (failures i' ⊥ o w) ended → IsTold words held stdin ended ⊎ Stopped (output_named words) (failures i' f' o w) ended
 told_ok words command names texts held stdin ended i i' f f' o w read are (inl e) (inl work) = inl (inr (command, read, outcome command names held stdin (Ok texts) ended are e work))
 told_ok words command names texts held stdin ended i i' f f' o w read are (inr never) work = absurd never
 told_ok words command names texts held stdin ended i i' f f' o w read are (inl e) (inr stopped) = inr (stopped_so words command i' f' o w ended read stopped)
 
-pub told_err : (words : List (List ℕ)) (command : Command) (names : List (List ℕ)) (held : Named) (stdin : List ℕ) (ended : Ended) (i f o w : Type 0) → IsReadAs words command → names ≡ inputs_of command → (Err ended ≡ texts_read held stdin 0 names) ⊎ GaveUp i f ended → IsTold words held stdin ended ⊎ Stopped (output_named words) i f o w ended
+pub told_err : (words : List (List ℕ)) (command : Command) (names : List (List ℕ)) (held : Named) (stdin : List ℕ) (ended : Ended) (i f o w : Type 0) → IsReadAs words command → names ≡ inputs_of command → (Err ended ≡ texts_read held stdin 0 names) ⊎ GaveUp i f ended → IsTold words held stdin ended ⊎ Stopped (output_named words) (failures i f o w) ended
 told_err words command names held stdin ended i f o w read are (inl e) = inl (inr (command, read, outcome command names held stdin (Err ended) ended are e refl))
 told_err words command names held stdin ended i f o w read are (inr gave_up) = inr (inl gave_up)
 
-pub cause_of_unread : (own : List ℕ → Type 0) (named names : List (List ℕ)) (contents : Option Named) (left : Option (List ℕ)) (i f : Type 0) (ended : Ended) → named ≡ names → RefusesOne contents left i f names ended → (name : List ℕ) → ended ≡ CannotRead name → (IsAmong named name ⊎ own name) × IsUnread contents i f name
+pub cause_of_unread : (own : List ℕ → Type 0) (named names : List (List ℕ)) (contents : Option Named) (left : Option (List ℕ)) (i f : Type 0) (ended : Ended) → named ≡ names → RefusesOne (found contents left i f) names ended → (name : List ℕ) → ended ≡ CannotRead name → (IsAmong named name ⊎ own name) × IsUnread contents i f name
 cause_of_unread own named names contents left i f ended same why name e =
-    let cause : RefusesOne contents left i f named (CannotRead name) = rw same (rw e at why) in
+    let cause : RefusesOne (found contents left i f) named (CannotRead name) = rw same (rw e at why) in
     (inl cause.0, cause.1)
 
-pub cause_of_large : (named names : List (List ℕ)) (contents : Option Named) (left : Option (List ℕ)) (i f : Type 0) (ended : Ended) → named ≡ names → RefusesOne contents left i f names ended → (name : List ℕ) (limit : ℕ) → ended ≡ InputTooLarge name limit → IsAmong named name × IsPassed contents left name limit
+pub cause_of_large : (named names : List (List ℕ)) (contents : Option Named) (left : Option (List ℕ)) (i f : Type 0) (ended : Ended) → named ≡ names → RefusesOne (found contents left i f) names ended → (name : List ℕ) (limit : ℕ) → ended ≡ InputTooLarge name limit → IsAmong named name × IsPassed contents left name limit
 cause_of_large named names contents left i f ended same why name limit e = rw same (rw e at why)
 
 pub analyzes_is : (words : List (List ℕ)) (command : Command) → IsReadAs words command → analyzes words ≡ is_analysis command

@@ -29,6 +29,7 @@ use Rattle.tool_cli.specs.Made.{IsPart}
 use Rattle.tool_cli.specs.Output.{IsUnwrittenOrMemory}
 use Rattle.tool_cli.specs.Running.{end_told, program_of, end_of, AnswerTold, IsRunTo, IsRunFrom, IsRan, IsBeforeRun, IsPlayedOf, IsQuiet, without_input}
 use Rattle.tool_cli.specs.Told.{IsRun, IsOfRun}
+use Rattle.tool_cli.specs.World.{failures}
 
 -- ---- the answer of a run
 
@@ -75,7 +76,7 @@ run_from_input name p before after ended e runs = subst (λ (dash : Bool). Match
 
 -- ---- its end, where the input is told
 
-stopped_wider : (i i' f f' o w : Type 0) (ended : Ended) → (i → i') → (f → f') → Stopped (Some Standard) i f o w ended → Stopped (Some Standard) i' f' o w ended
+stopped_wider : (i i' f f' o w : Type 0) (ended : Ended) → (i → i') → (f → f') → Stopped (Some Standard) (failures i f o w) ended → Stopped (Some Standard) (failures i' f' o w) ended
 stopped_wider i i' f f' o w (CannotRead name) g h (inl why) = inl (wider (is_dash name) why)
   where
     wider : (dash : Bool) → MatchBool dash i f → MatchBool dash i' f'
@@ -85,16 +86,16 @@ stopped_wider i i' f f' o w Memory g h (inl why) = inl tt
 stopped_wider i i' f f' o w ended g h (inl why) = absurd why
 stopped_wider i i' f f' o w ended g h (inr fails) = inr fails
 
-end_by : (p : Program) (before after : Outside) (w : Type 0) (ended : Ended) (input : List ℕ) (answer : Result End RunFault) → before.left ≡ Some input → AnswerTold answer ended → Plays p answer before after → (ended ≡ end_told (outcome_of p input).end) ⊎ Stopped (Some Standard) (Rose before.read_faults after.read_faults) ⊥ (Rose before.write_faults after.write_faults) w ended
+end_by : (p : Program) (before after : Outside) (w : Type 0) (ended : Ended) (input : List ℕ) (answer : Result End RunFault) → before.left ≡ Some input → AnswerTold answer ended → Plays p answer before after → (ended ≡ end_told (outcome_of p input).end) ⊎ Stopped (Some Standard) (failures (Rose before.read_faults after.read_faults) ⊥ (Rose before.write_faults after.write_faults) w) ended
 end_by p before after w ended input (Ok end) left told plays = inl (told ∙ ap (λ (o : Outcome). end_told o.end) (sym (printed_over p before after input (Ok end) left plays)))
 end_by p before after w ended input (Err faults.ReadFault) left told plays = inr (inl (rw told plays.faulted.0))
 end_by p before after w ended input (Err faults.WriteFault) left told plays = inr (inr (rw told (refl, plays.faulted.0)))
 end_by p before after w ended input (Err faults.Memory) left told plays = inr (inr (rw told tt))
 
-end_from : (p : Program) (dash : Bool) (before after : Outside) (w : Type 0) (ended : Ended) (stdin : List ℕ) → (dash ≡ false → before.left ≡ Some stdin) → MatchBool dash (IsRunTo p (without_input before) (without_input after) ended) (IsRunTo p before after ended) → (ended ≡ end_told (outcome_of p (cond dash [] stdin)).end) ⊎ Stopped (Some Standard) (Rose before.read_faults after.read_faults) ⊥ (Rose before.write_faults after.write_faults) w ended
+end_from : (p : Program) (dash : Bool) (before after : Outside) (w : Type 0) (ended : Ended) (stdin : List ℕ) → (dash ≡ false → before.left ≡ Some stdin) → MatchBool dash (IsRunTo p (without_input before) (without_input after) ended) (IsRunTo p before after ended) → (ended ≡ end_told (outcome_of p (cond dash [] stdin)).end) ⊎ Stopped (Some Standard) (failures (Rose before.read_faults after.read_faults) ⊥ (Rose before.write_faults after.write_faults) w) ended
 end_from p true before after w ended stdin left runs = with_faults (end_by p (without_input before) (without_input after) w ended [] runs.0 refl runs.1 runs.2)
   where
-    with_faults : (ended ≡ end_told (outcome_of p []).end) ⊎ Stopped (Some Standard) (Rose 0 0) ⊥ (Rose before.write_faults after.write_faults) w ended → (ended ≡ end_told (outcome_of p []).end) ⊎ Stopped (Some Standard) (Rose before.read_faults after.read_faults) ⊥ (Rose before.write_faults after.write_faults) w ended
+    with_faults : (ended ≡ end_told (outcome_of p []).end) ⊎ Stopped (Some Standard) (failures (Rose 0 0) ⊥ (Rose before.write_faults after.write_faults) w) ended → (ended ≡ end_told (outcome_of p []).end) ⊎ Stopped (Some Standard) (failures (Rose before.read_faults after.read_faults) ⊥ (Rose before.write_faults after.write_faults) w) ended
     with_faults (inl told) = inl told
     with_faults (inr stopped) = inr (stopped_wider (Rose 0 0) (Rose before.read_faults after.read_faults) ⊥ ⊥ (Rose before.write_faults after.write_faults) w ended (λ rose. absurd (never_rose rose)) (λ x. x) stopped)
 end_from p false before after w ended stdin left runs = end_by p before after w ended stdin runs.0 (left refl) runs.1 runs.2
@@ -195,12 +196,12 @@ begun_from_nothing name p before after ended runs = begun_by name p (without_inp
 
 -- ---- what is told of it
 
-pub ran_told : (name : List ℕ) (bound : ℕ) (words : List (List ℕ)) (bytes stdin : List ℕ) (before after : Outside) (w : Type 0) (ended : Ended) → (is_dash name ≡ false → before.left ≡ Some stdin) → IsRan name bound words bytes before after ended → IsRun name bound words stdin bytes ended ⊎ Stopped (Some Standard) (Rose before.read_faults after.read_faults) ⊥ (Rose before.write_faults after.write_faults) w ended
+pub ran_told : (name : List ℕ) (bound : ℕ) (words : List (List ℕ)) (bytes stdin : List ℕ) (before after : Outside) (w : Type 0) (ended : Ended) → (is_dash name ≡ false → before.left ≡ Some stdin) → IsRan name bound words bytes before after ended → IsRun name bound words stdin bytes ended ⊎ Stopped (Some Standard) (failures (Rose before.read_faults after.read_faults) ⊥ (Rose before.write_faults after.write_faults) w) ended
 ran_told name bound words bytes stdin before after w ended left (inl (inl refused, same)) = inl (inl refused)
 ran_told name bound words bytes stdin before after w ended left (inl (inr none, same)) = inr (inr (rw none tt))
 ran_told name bound words bytes stdin before after w ended left (inr runs) = with_end (end_from (program_of bound words runs.meant) (is_dash name) before after w ended stdin left runs.runs)
   where
-    with_end : (ended ≡ end_of name bound words stdin runs.meant) ⊎ Stopped (Some Standard) (Rose before.read_faults after.read_faults) ⊥ (Rose before.write_faults after.write_faults) w ended → IsRun name bound words stdin bytes ended ⊎ Stopped (Some Standard) (Rose before.read_faults after.read_faults) ⊥ (Rose before.write_faults after.write_faults) w ended
+    with_end : (ended ≡ end_of name bound words stdin runs.meant) ⊎ Stopped (Some Standard) (failures (Rose before.read_faults after.read_faults) ⊥ (Rose before.write_faults after.write_faults) w) ended → IsRun name bound words stdin bytes ended ⊎ Stopped (Some Standard) (failures (Rose before.read_faults after.read_faults) ⊥ (Rose before.write_faults after.write_faults) w) ended
     with_end (inl told) = inl (inr (runs.meant, runs.is_part, told))
     with_end (inr stopped) = inr stopped
 

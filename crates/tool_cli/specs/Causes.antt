@@ -10,6 +10,7 @@ use Rattle.tool_ends.specs.declared.ended.Ended.{Ended}
 use Rattle.tool_ends.specs.declared.ended.Ended.TheVariants.{CannotRead, InputTooLarge, Memory}
 use Rattle.tool_cli.specs.declared.inputs.TheConstants.{LARGEST, LARGEST_TOGETHER}
 use Rattle.tool_cli.specs.Output.{FailsToWrite}
+use Rattle.tool_cli.specs.World.{Found, Failures}
 
 -- no bytes are left, where that is told
 abbrev pub IsEmptied : Option (List ℕ) → Type 0
@@ -55,18 +56,18 @@ RefusesFile contents rose name Memory = Unit {0}
 RefusesFile contents rose name ended = ⊥
 
 -- this end refuses the input of this name, by itself
-abbrev pub Refuses : Option Named → Option (List ℕ) → Type 0 → Type 0 → List ℕ → Ended → Type 0
-Refuses contents left input_rose files_rose name (CannotRead other) = (other ≡ name) × IsUnread contents input_rose files_rose name
-Refuses contents left input_rose files_rose name (InputTooLarge other limit) = (other ≡ name) × (limit ≡ LARGEST) × IsLarge contents left name
-Refuses contents left input_rose files_rose name Memory = Unit {0}
-Refuses contents left input_rose files_rose name ended = ⊥
+abbrev pub Refuses : Found → List ℕ → Ended → Type 0
+Refuses found name (CannotRead other) = (other ≡ name) × IsUnread found.contents found.input_rose found.files_rose name
+Refuses found name (InputTooLarge other limit) = (other ≡ name) × (limit ≡ LARGEST) × IsLarge found.contents found.left name
+Refuses found name Memory = Unit {0}
+Refuses found name ended = ⊥
 
 -- this end refuses one of the inputs of these names
-abbrev pub RefusesOne : Option Named → Option (List ℕ) → Type 0 → Type 0 → List (List ℕ) → Ended → Type 0
-RefusesOne contents left input_rose files_rose names (CannotRead name) = IsAmong names name × IsUnread contents input_rose files_rose name
-RefusesOne contents left input_rose files_rose names (InputTooLarge name limit) = IsAmong names name × IsPassed contents left name limit
-RefusesOne contents left input_rose files_rose names Memory = Unit {0}
-RefusesOne contents left input_rose files_rose names ended = ⊥
+abbrev pub RefusesOne : Found → List (List ℕ) → Ended → Type 0
+RefusesOne found names (CannotRead name) = IsAmong names name × IsUnread found.contents found.input_rose found.files_rose name
+RefusesOne found names (InputTooLarge name limit) = IsAmong names name × IsPassed found.contents found.left name limit
+RefusesOne found names Memory = Unit {0}
+RefusesOne found names ended = ⊥
 
 -- standard input was not read, or memory ran out
 abbrev pub IsStdinOrMemory : Ended → Type 0
@@ -81,5 +82,5 @@ IsUnreadOrMemory Memory = Unit {0}
 IsUnreadOrMemory ended = ⊥
 
 -- the run stopped for what is outside of it: a read or a write failed, or memory ran out
-abbrev pub Stopped : Option OutputName → Type 0 → Type 0 → Type 0 → Type 0 → Ended → Type 0
-Stopped output input_rose files_rose output_rose writes_rose ended = GaveUp input_rose files_rose ended ⊎ FailsToWrite output output_rose writes_rose ended
+abbrev pub Stopped : Option OutputName → Failures → Ended → Type 0
+Stopped output failed ended = GaveUp failed.input_rose failed.files_rose ended ⊎ FailsToWrite output failed.output_rose failed.writes_rose ended

@@ -1,3 +1,4 @@
+pub mod World
 pub mod Inputs
 pub mod Causes
 pub mod Judged

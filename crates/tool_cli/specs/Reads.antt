@@ -1,8 +1,13 @@
--- For `run_tool`: what a call that reads inputs leaves: it says so beside its answer.
-use Rattle.std.specs.Prelude.{◌≡◌, ◌⊎◌, ℕ, ◌+◌, ◌≤◌, Bool, false, List, length, Option}
+-- For `read_inputs` and `run_tool`: what a call that reads inputs leaves, and what a run does: they say so beside their answers.
+use Rattle.std.specs.Prelude.{◌≡◌, ◌⊎◌, ℕ, ◌+◌, ◌<◌, ◌≤◌, Bool, false, List, length, Option, Result, IsErrAnd, OnOk}
 use Rattle.std.specs.Bool.{MatchBool}
 use Rattle.ir_base.specs.Outside.{Rose, Lost, LostUpTo}
 use Rattle.ir_base.specs.Files.{Named}
+use Rattle.tool_ends.specs.declared.ended.Ended.{Ended}
+use Rattle.tool_cli.specs.Causes.{IsStdinOrMemory, IsUnreadOrMemory}
+use Rattle.tool_cli.specs.Inputs.{listens}
+use Rattle.tool_cli.specs.Output.{output_named, LeavesFilesBut}
+use Rattle.tool_cli.specs.World.{World}
 use Rattle.tool_cli.specs.declared.inputs.TheConstants.{LARGEST}
 
 -- standard input lost a front of its bytes, of no more than the limit of one input and one byte
@@ -23,3 +28,36 @@ pub record LeavesFiles (contents_before contents_now : Option Named) (reads_befo
   pub contents : contents_now ≡ contents_before
   pub later : reads_before ≤ reads_now
   pub writes : writes_now ≡ writes_before
+
+-- What is not to be read is as it was. Which of the two that is, the two facts say.
+pub record LeavesUnread {A B : Type 0} (no_stdin no_file : Type 0) (input_before input_now : A) (files_before files_now : B) : Type 0 where
+  -- standard input
+  pub unread : no_stdin → input_now ≡ input_before
+  -- the files
+  pub files_unread : no_file → files_now ≡ files_before
+
+-- what a call that reads inputs leaves of standard input and of the files, by its answer
+pub record LeavesInputs {T : Type 0} (before now : World) (result : Result T Ended) : Type 0 where
+  -- where all was read no read of standard input failed
+  pub input_fine : OnOk result (now.input_faults ≡ before.input_faults)
+  -- nor did a read of a file
+  pub file_fine : OnOk result (now.read_faults ≡ before.read_faults)
+  -- a fault of standard input is told, or memory ran out
+  pub input_fault : before.input_faults < now.input_faults → IsErrAnd result IsStdinOrMemory
+  -- so is one of a read of a file
+  pub file_fault : before.read_faults < now.read_faults → IsErrAnd result IsUnreadOrMemory
+  -- what standard input lost
+  pub input : LeavesInput before.left now.left before.input_faults now.input_faults
+  -- what became of the files
+  pub files : LeavesFiles before.contents now.contents before.read_faults now.read_faults before.write_faults now.write_faults
+
+-- what the run of these words leaves of standard input and of the files, by its end
+pub record LeavesBehind (words : List (List ℕ)) (before now : World) (ended : Ended) : Type 0 where
+  -- a fault of standard input is told, or memory ran out
+  pub input_fault : before.input_faults < now.input_faults → IsStdinOrMemory ended
+  -- so is one of a read of a file
+  pub file_fault : before.read_faults < now.read_faults → IsUnreadOrMemory ended
+  -- what standard input lost
+  pub input : LosesInput (listens words) before.left now.left before.input_faults now.input_faults
+  -- what became of the files
+  pub files : LeavesFilesBut (output_named words) ended before.contents now.contents before.read_faults now.read_faults before.write_faults now.write_faults

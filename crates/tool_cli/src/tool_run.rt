@@ -11,14 +11,15 @@ ghost use Rattle.tool_output.specs.Outputs.{outputs};
 ghost use Rattle.tool_ends.specs.Ended.{line_of, status_of};
 ghost use Rattle.run_rules.specs.Clauses.{outside};
 ghost use Rattle.tool_cli.specs.Inputs.{inputs_named, inputs_of, has_stdin, listens, runs, TellsAll, TellsRun};
-ghost use Rattle.tool_cli.specs.Causes.{IsEmptied, Stopped, IsUnread, IsPassed, IsStdinOrMemory, IsUnreadOrMemory};
-ghost use Rattle.tool_cli.specs.Reads.{LosesInput};
+ghost use Rattle.tool_cli.specs.Causes.{IsEmptied, Stopped, IsUnread, IsPassed};
+ghost use Rattle.tool_cli.specs.Reads.{LeavesBehind, LeavesUnread};
 ghost use Rattle.tool_cli.specs.Order.{has_file, IsInTurn, KeepsOrder, KeepsTurn};
 ghost use Rattle.tool_cli.specs.Analyzed.{analyzes, IsBeforeWork};
-ghost use Rattle.tool_cli.specs.Output.{output_named, IsUnwritten, IsUnwrittenOrMemory, IsFileUnwritten, IsShown, LeavesFilesBut, LeavesStandard, LeavesNamed};
+ghost use Rattle.tool_cli.specs.Output.{output_named, IsUnwritten, IsUnwrittenOrMemory, IsFileUnwritten, IsShown, LeavesStandard, LeavesNamed};
 ghost use Rattle.tool_cli.specs.Told.{IsTold, IsAfterReading};
 ghost use Rattle.tool_cli.specs.Headline.{RunsLinked};
 ghost use Rattle.tool_cli.specs.Running.{IsPlayed, IsUnbegun, RunsModule};
+ghost use Rattle.tool_cli.specs.World.{failures, world};
 
 use crate::inputs::{inputs_of, read_inputs};
 use crate::work::work;
@@ -45,13 +46,11 @@ fn ended_of<F: Files, I: Source, O: Sink>(
     ensures told { (held : Named) (stdin : List ℕ)
         → TellsRun words.now (F.contents files.old) (I.left input.old) held stdin
         → IsTold words.now held stdin result
-        ⊎ Stopped (output_named words.now) (Rose (I.faults input.old) (I.faults input.new)) (Rose (F.read_faults files.old) (F.read_faults files.new)) (Rose (O.faults output.old) (O.faults output.new)) (Rose (F.write_faults files.old) (F.write_faults files.new)) result }
+        ⊎ Stopped (output_named words.now) (failures (Rose (I.faults input.old) (I.faults input.new)) (Rose (F.read_faults files.old) (F.read_faults files.new)) (Rose (O.faults output.old) (O.faults output.new)) (Rose (F.write_faults files.old) (F.write_faults files.new))) result }
     ensures cannot_read { (name : List ℕ) → result ≡ Ended.CannotRead name → (IsAmong (inputs_named words.now) name ⊎ ((listens words.now ≡ true) × (name ≡ codes "-")))
         × IsUnread (F.contents files.old) (Rose (I.faults input.old) (I.faults input.new)) (Rose (F.read_faults files.old) (F.read_faults files.new)) name }
     ensures too_large { (name : List ℕ) (limit : ℕ) → result ≡ Ended.InputTooLarge name limit
         → IsAmong (inputs_named words.now) name × IsPassed (F.contents files.old) (I.left input.old) name limit }
-    ensures input_fault { I.faults input.old < I.faults input.new → IsStdinOrMemory result }
-    ensures file_fault { F.read_faults files.old < F.read_faults files.new → IsUnreadOrMemory result }
     ensures cannot_write { (name : List ℕ) → result ≡ Ended.CannotWrite name
         → IsUnwritten (output_named words.now) (Rose (O.faults output.old) (O.faults output.new)) (Rose (F.write_faults files.old) (F.write_faults files.new)) name }
     ensures output_fault { O.faults output.old < O.faults output.new → IsUnwrittenOrMemory result }
@@ -62,11 +61,14 @@ fn ended_of<F: Files, I: Source, O: Sink>(
     ensures order { KeepsOrder (inputs_named words.now) input.old input.new result }
     ensures turn { KeepsTurn (F.contents files.old) (inputs_named words.now) input.old input.new }
     ensures in_turn { (command : Command) → IsReadAs words.now command → IsInTurn (F.contents files.old) (Rose (F.read_faults files.old) (F.read_faults files.new)) (inputs_of command) result }
-    ensures unread { has_stdin (inputs_named words.now) ≡ false → listens words.now ≡ false → input.new ≡ input.old }
-    ensures files_unread { has_file (inputs_named words.now) ≡ false → LeavesNamed (output_named words.now) result → files.new ≡ files.old }
+    ensures untouched { LeavesUnread
+        ((has_stdin (inputs_named words.now) ≡ false) × (listens words.now ≡ false))
+        ((has_file (inputs_named words.now) ≡ false) × LeavesNamed (output_named words.now) result)
+        input.old input.new files.old files.new }
     ensures whole { IsAfterReading result → has_stdin (inputs_named words.now) ≡ true → IsEmptied (I.left input.new) }
-    ensures leaves_input { LosesInput (listens words.now) (I.left input.old) (I.left input.new) (I.faults input.old) (I.faults input.new) }
-    ensures leaves_files { LeavesFilesBut (output_named words.now) result (F.contents files.old) (F.contents files.new) (F.read_faults files.old) (F.read_faults files.new) (F.write_faults files.old) (F.write_faults files.new) }
+    ensures leaves { LeavesBehind words.now
+        (world (I.left input.old) (I.faults input.old) (F.contents files.old) (F.read_faults files.old) (F.write_faults files.old))
+        (world (I.left input.new) (I.faults input.new) (F.contents files.new) (F.read_faults files.new) (F.write_faults files.new)) result }
     ensures shown { (held : Named) (stdin : List ℕ)
         → TellsAll (inputs_named words.now) (F.contents files.old) (I.left input.old) held stdin
         → IsShown words.now held stdin (outputs (O.taken output.old) (F.contents files.old)) (outputs (O.taken output.new) (F.contents files.new)) result }
@@ -108,13 +110,11 @@ pub fn run_tool<F: Files, I: Source, O: Sink, E: Sink>(
     ensures told { (held : Named) (stdin : List ℕ)
         → TellsRun words.now (F.contents files.old) (I.left input.old) held stdin
         → IsTold words.now held stdin result.ended
-        ⊎ Stopped (output_named words.now) (Rose (I.faults input.old) (I.faults input.new)) (Rose (F.read_faults files.old) (F.read_faults files.new)) (Rose (O.faults output.old) (O.faults output.new)) (Rose (F.write_faults files.old) (F.write_faults files.new)) result.ended }
+        ⊎ Stopped (output_named words.now) (failures (Rose (I.faults input.old) (I.faults input.new)) (Rose (F.read_faults files.old) (F.read_faults files.new)) (Rose (O.faults output.old) (O.faults output.new)) (Rose (F.write_faults files.old) (F.write_faults files.new))) result.ended }
     ensures cannot_read { (name : List ℕ) → result.ended ≡ Ended.CannotRead name → (IsAmong (inputs_named words.now) name ⊎ ((listens words.now ≡ true) × (name ≡ codes "-")))
         × IsUnread (F.contents files.old) (Rose (I.faults input.old) (I.faults input.new)) (Rose (F.read_faults files.old) (F.read_faults files.new)) name }
     ensures too_large { (name : List ℕ) (limit : ℕ) → result.ended ≡ Ended.InputTooLarge name limit
         → IsAmong (inputs_named words.now) name × IsPassed (F.contents files.old) (I.left input.old) name limit }
-    ensures input_fault { I.faults input.old < I.faults input.new → IsStdinOrMemory result.ended }
-    ensures file_fault { F.read_faults files.old < F.read_faults files.new → IsUnreadOrMemory result.ended }
     ensures cannot_write { (name : List ℕ) → result.ended ≡ Ended.CannotWrite name
         → IsUnwritten (output_named words.now) (Rose (O.faults output.old) (O.faults output.new)) (Rose (F.write_faults files.old) (F.write_faults files.new)) name }
     ensures output_fault { O.faults output.old < O.faults output.new → IsUnwrittenOrMemory result.ended }
@@ -126,11 +126,14 @@ pub fn run_tool<F: Files, I: Source, O: Sink, E: Sink>(
     ensures order { KeepsOrder (inputs_named words.now) input.old input.new result.ended }
     ensures turn { KeepsTurn (F.contents files.old) (inputs_named words.now) input.old input.new }
     ensures in_turn { (command : Command) → IsReadAs words.now command → IsInTurn (F.contents files.old) (Rose (F.read_faults files.old) (F.read_faults files.new)) (inputs_of command) result.ended }
-    ensures unread { has_stdin (inputs_named words.now) ≡ false → listens words.now ≡ false → input.new ≡ input.old }
-    ensures files_unread { has_file (inputs_named words.now) ≡ false → LeavesNamed (output_named words.now) result.ended → files.new ≡ files.old }
+    ensures untouched { LeavesUnread
+        ((has_stdin (inputs_named words.now) ≡ false) × (listens words.now ≡ false))
+        ((has_file (inputs_named words.now) ≡ false) × LeavesNamed (output_named words.now) result.ended)
+        input.old input.new files.old files.new }
     ensures whole { IsAfterReading result.ended → has_stdin (inputs_named words.now) ≡ true → IsEmptied (I.left input.new) }
-    ensures leaves_input { LosesInput (listens words.now) (I.left input.old) (I.left input.new) (I.faults input.old) (I.faults input.new) }
-    ensures leaves_files { LeavesFilesBut (output_named words.now) result.ended (F.contents files.old) (F.contents files.new) (F.read_faults files.old) (F.read_faults files.new) (F.write_faults files.old) (F.write_faults files.new) }
+    ensures leaves { LeavesBehind words.now
+        (world (I.left input.old) (I.faults input.old) (F.contents files.old) (F.read_faults files.old) (F.write_faults files.old))
+        (world (I.left input.new) (I.faults input.new) (F.contents files.new) (F.read_faults files.new) (F.write_faults files.new)) result.ended }
     ensures shown { (held : Named) (stdin : List ℕ)
         → TellsAll (inputs_named words.now) (F.contents files.old) (I.left input.old) held stdin
         → IsShown words.now held stdin (outputs (O.taken output.old) (F.contents files.old)) (outputs (O.taken output.new) (F.contents files.new)) result.ended }
@@ -138,13 +141,13 @@ pub fn run_tool<F: Files, I: Source, O: Sink, E: Sink>(
     ensures headline { (held : Named) (stdin : List ℕ)
         → TellsRun words.now (F.contents files.old) (I.left input.old) held stdin
         → RunsLinked words.now held stdin (outputs (O.taken output.old) (F.contents files.old)) (outputs (O.taken output.new) (F.contents files.new)) result.ended
-        (Stopped (output_named words.now) (Rose (I.faults input.old) (I.faults input.new)) (Rose (F.read_faults files.old) (F.read_faults files.new)) (Rose (O.faults output.old) (O.faults output.new)) (Rose (F.write_faults files.old) (F.write_faults files.new)) result.ended) }
+        (Stopped (output_named words.now) (failures (Rose (I.faults input.old) (I.faults input.new)) (Rose (F.read_faults files.old) (F.read_faults files.new)) (Rose (O.faults output.old) (O.faults output.new)) (Rose (F.write_faults files.old) (F.write_faults files.new))) result.ended) }
     // Its second half: an input that stands for a module is run, and what it prints, and how it ends, is what parts do that it runs as.
     ensures ran { (held : Named) (stdin : List ℕ)
         → TellsRun words.now (F.contents files.old) (I.left input.old) held stdin
         → RunsModule words.now held stdin
         (outside (I.left input.old) (I.faults input.old) (O.taken output.old) (O.faults output.old)) (outside (I.left input.new) (I.faults input.new) (O.taken output.new) (O.faults output.new)) result.ended
-        (Stopped (output_named words.now) (Rose (I.faults input.old) (I.faults input.new)) (Rose (F.read_faults files.old) (F.read_faults files.new)) (Rose (O.faults output.old) (O.faults output.new)) (Rose (F.write_faults files.old) (F.write_faults files.new)) result.ended) }
+        (Stopped (output_named words.now) (failures (Rose (I.faults input.old) (I.faults input.new)) (Rose (F.read_faults files.old) (F.read_faults files.new)) (Rose (O.faults output.old) (O.faults output.new)) (Rose (F.write_faults files.old) (F.write_faults files.new))) result.ended) }
     ensures unwritten { analyzes words.now ≡ false → runs words.now ≡ false → LeavesStandard (output_named words.now) result.ended → output.new ≡ output.old }
     ensures before_work { IsBeforeWork (listens words.now) result.ended → output.new ≡ output.old }
     ensures not_begun { (command : Command) → IsReadAs words.now command → IsUnbegun command result.ended → (listens words.now ≡ true → input.new ≡ input.old) × (output.new ≡ output.old) }

@@ -1,7 +1,7 @@
-use Rattle.std.proofs.Common.{inl, inr, [], ◌∷◌, length, drop, refl, ap, ◌∙◌, arith, length-append}
+use Rattle.std.proofs.Common.{◌≡◌, inl, inr, [], ◌∷◌, length, drop, refl, ap, ◌∙◌, arith, length-append}
 use Rattle.std.proofs.lemmas.Result.{err_from_is_err_and}
 use Rattle.ir_base.specs.Outside.{Rose}
-use Rattle.tool_cli.proofs.InputsInOrder.{Unread, onto_none, refused_one, over_one, told_refused, told_over, told_on, told_at_end, stdin_on, stdin_at_end, unread_on, unread_so_far, lost_by, lost_so_far}
+use Rattle.tool_cli.proofs.InputsInOrder.{Unread, files_by, onto_none, refused_one, over_one, told_refused, told_over, told_on, told_at_end, stdin_on, stdin_at_end, unread_on, unread_so_far, lost_by, lost_so_far}
 use Rattle.tool_cli.specs.declared.inputs.TheConstants.{LARGEST_TOGETHER}
 use Rattle.tool_cli.proofs.Judging.{short_more}
 use Rattle.tool_cli.proofs.Front.{due_on, front_over, front_refused, none_due, turn_kept}
@@ -52,39 +52,49 @@ returns-in_err-text-clause-refused g c =
     (Rose (faults c.args.input.now) (faults c.read_input.new.input)) (Rose (reads c.args.files.now) (reads c.read_input.new.files)) c.in_err-text.field-0.0
     (c.loop-name.name-index, (c.loop-name-test.true, c.name-item.is)) c.loop-name.invariant.same_contents c.loop-name.invariant.input why)
 
-pub returns-in_err-text-clause-input_fault : goal.returns-in_err-text-clause-input_fault
-returns-in_err-text-clause-input_fault g c =
+pub returns-in_err-text-clause-leaves : goal.returns-in_err-text-clause-leaves
+returns-in_err-text-clause-leaves g c =
+    let left = g.I.Source.left in
+    let contents = g.F.Files.contents in
+    let reads = g.F.Files.read_faults in
+    let writes = g.F.Files.write_faults in
     let p = err_from_is_err_and c.from_residual.result c.from_residual.ensures.1 in
-    rw (p.1, p.2) (rw c.loop-name.invariant.same_faults at c.in_err-text.ensures.input_fault)
+    rw (p.1, p.2) (record {
+      input_fine = tt;
+      file_fine = tt;
+      input_fault = rw c.loop-name.invariant.same_faults at c.in_err-text.ensures.leaves.input_fault;
+      file_fault = rw c.loop-name.invariant.same_reads at c.in_err-text.ensures.leaves.file_fault;
+      input = record {
+        lost = lost_by c.args.names.now (drop c.loop-name.name-index c.args.names.now) c.args.input.now c.loop-name.input (left c.args.input.now) (left c.loop-name.input) (left c.read_input.new.input) c.loop-name.invariant.input c.read_input.ensures.leaves.input.lost;
+        later = omega (arith, c.loop-name.invariant.same_faults, c.read_input.ensures.leaves.input.later);
+      };
+      files = files_by (contents c.args.files.now) (contents c.loop-name.files) (contents c.read_input.new.files) (reads c.args.files.now) (reads c.loop-name.files) (reads c.read_input.new.files) (writes c.args.files.now) (writes c.loop-name.files) (writes c.read_input.new.files)
+          c.loop-name.invariant.same_contents c.loop-name.invariant.same_reads c.loop-name.invariant.same_writes c.read_input.ensures.leaves.files;
+    })
 
-pub returns-in_err-text-clause-file_fault : goal.returns-in_err-text-clause-file_fault
-returns-in_err-text-clause-file_fault g c =
-    let p = err_from_is_err_and c.from_residual.result c.from_residual.ensures.1 in
-    rw (p.1, p.2) (rw c.loop-name.invariant.same_reads at c.in_err-text.ensures.file_fault)
-
-pub returns-in_err-text-clause-unread : goal.returns-in_err-text-clause-unread
-returns-in_err-text-clause-unread g c =
+pub returns-in_err-text-clause-untouched : goal.returns-in_err-text-clause-untouched
+returns-in_err-text-clause-untouched g c =
     let left = g.I.Source.left in
-    let faults = g.I.Source.faults in
-    let contents = g.F.Files.contents in
-    let reads = g.F.Files.read_faults in
-    unread_on c.args.names.now c.loop-name.name-index c.name-item.result c.args.input.now c.loop-name.input c.read_input.new.input (left c.args.input.now) (left c.loop-name.input) c.loop-name-test.true c.name-item.is c.read_input.ensures.unread c.loop-name.invariant.input
+    record {
+      unread = unread_on c.args.names.now c.loop-name.name-index c.name-item.result c.args.input.now c.loop-name.input c.read_input.new.input (left c.args.input.now) (left c.loop-name.input) c.loop-name-test.true c.name-item.is c.read_input.ensures.untouched.unread c.loop-name.invariant.input;
+      files_unread = files_on c.args.names.now c.loop-name.name-index c.name-item.result c.args.files.now c.loop-name.files c.read_input.new.files c.loop-name-test.true c.name-item.is c.read_input.ensures.untouched.files_unread c.loop-name.invariant.no_file;
+    }
 
-pub returns-then-total-gt-LARGEST_TOGETHER-clause-unread : goal.returns-then-total-gt-LARGEST_TOGETHER-clause-unread
-returns-then-total-gt-LARGEST_TOGETHER-clause-unread g c =
+pub returns-then-total-gt-LARGEST_TOGETHER-clause-untouched : goal.returns-then-total-gt-LARGEST_TOGETHER-clause-untouched
+returns-then-total-gt-LARGEST_TOGETHER-clause-untouched g c =
     let left = g.I.Source.left in
-    let faults = g.I.Source.faults in
-    let contents = g.F.Files.contents in
-    let reads = g.F.Files.read_faults in
-    unread_on c.args.names.now c.loop-name.name-index c.name-item.result c.args.input.now c.loop-name.input c.read_input.new.input (left c.args.input.now) (left c.loop-name.input) c.loop-name-test.true c.name-item.is c.read_input.ensures.unread c.loop-name.invariant.input
+    record {
+      unread = unread_on c.args.names.now c.loop-name.name-index c.name-item.result c.args.input.now c.loop-name.input c.read_input.new.input (left c.args.input.now) (left c.loop-name.input) c.loop-name-test.true c.name-item.is c.read_input.ensures.untouched.unread c.loop-name.invariant.input;
+      files_unread = files_on c.args.names.now c.loop-name.name-index c.name-item.result c.args.files.now c.loop-name.files c.read_input.new.files c.loop-name-test.true c.name-item.is c.read_input.ensures.untouched.files_unread c.loop-name.invariant.no_file;
+    }
 
-pub returns-in_err-push-clause-unread : goal.returns-in_err-push-clause-unread
-returns-in_err-push-clause-unread g c =
+pub returns-in_err-push-clause-untouched : goal.returns-in_err-push-clause-untouched
+returns-in_err-push-clause-untouched g c =
     let left = g.I.Source.left in
-    let faults = g.I.Source.faults in
-    let contents = g.F.Files.contents in
-    let reads = g.F.Files.read_faults in
-    unread_on c.args.names.now c.loop-name.name-index c.name-item.result c.args.input.now c.loop-name.input c.read_input.new.input (left c.args.input.now) (left c.loop-name.input) c.loop-name-test.true c.name-item.is c.read_input.ensures.unread c.loop-name.invariant.input
+    record {
+      unread = unread_on c.args.names.now c.loop-name.name-index c.name-item.result c.args.input.now c.loop-name.input c.read_input.new.input (left c.args.input.now) (left c.loop-name.input) c.loop-name-test.true c.name-item.is c.read_input.ensures.untouched.unread c.loop-name.invariant.input;
+      files_unread = files_on c.args.names.now c.loop-name.name-index c.name-item.result c.args.files.now c.loop-name.files c.read_input.new.files c.loop-name-test.true c.name-item.is c.read_input.ensures.untouched.files_unread c.loop-name.invariant.no_file;
+    }
 
 pub returns-then-total-gt-LARGEST_TOGETHER-clause-told : goal.returns-then-total-gt-LARGEST_TOGETHER-clause-told
 returns-then-total-gt-LARGEST_TOGETHER-clause-told g c =
@@ -108,21 +118,50 @@ returns-then-total-gt-LARGEST_TOGETHER-clause-refused g c =
     (Rose (faults c.args.input.now) (faults c.read_input.new.input)) (Rose (reads c.args.files.now) (reads c.read_input.new.files)) c.too_large.result
     (c.loop-name.name-index, (c.loop-name-test.true, c.name-item.is)) (rw c.bytes-then-total-gt-LARGEST_TOGETHER.ensures at c.too_large.ensures)
 
-pub returns-then-total-gt-LARGEST_TOGETHER-clause-input_fault : goal.returns-then-total-gt-LARGEST_TOGETHER-clause-input_fault
-returns-then-total-gt-LARGEST_TOGETHER-clause-input_fault g c =
-    λ h. absurd (omega (arith, h, c.loop-name.invariant.same_faults, c.in_ok-text.ensures.input_fine))
+pub returns-then-total-gt-LARGEST_TOGETHER-clause-leaves : goal.returns-then-total-gt-LARGEST_TOGETHER-clause-leaves
+returns-then-total-gt-LARGEST_TOGETHER-clause-leaves g c =
+    let left = g.I.Source.left in
+    let contents = g.F.Files.contents in
+    let writes = g.F.Files.write_faults in
+    let faults = g.I.Source.faults in
+    let reads = g.F.Files.read_faults in
+    let fine : faults c.read_input.new.input ≡ faults c.loop-name.input = c.in_ok-text.ensures.leaves.input_fine in
+    let file_fine : reads c.read_input.new.files ≡ reads c.loop-name.files = c.in_ok-text.ensures.leaves.file_fine in
+    record {
+      input_fine = tt;
+      file_fine = tt;
+      input_fault = λ h. absurd (omega (arith, h, c.loop-name.invariant.same_faults, fine));
+      file_fault = λ h. absurd (omega (arith, h, c.loop-name.invariant.same_reads, file_fine));
+      input = record {
+        lost = lost_by c.args.names.now (drop c.loop-name.name-index c.args.names.now) c.args.input.now c.loop-name.input (left c.args.input.now) (left c.loop-name.input) (left c.read_input.new.input) c.loop-name.invariant.input c.read_input.ensures.leaves.input.lost;
+        later = omega (arith, c.loop-name.invariant.same_faults, c.read_input.ensures.leaves.input.later);
+      };
+      files = files_by (contents c.args.files.now) (contents c.loop-name.files) (contents c.read_input.new.files) (reads c.args.files.now) (reads c.loop-name.files) (reads c.read_input.new.files) (writes c.args.files.now) (writes c.loop-name.files) (writes c.read_input.new.files)
+          c.loop-name.invariant.same_contents c.loop-name.invariant.same_reads c.loop-name.invariant.same_writes c.read_input.ensures.leaves.files;
+    }
 
-pub returns-in_err-push-clause-input_fault : goal.returns-in_err-push-clause-input_fault
-returns-in_err-push-clause-input_fault g c =
-    λ h. absurd (omega (arith, h, c.loop-name.invariant.same_faults, c.in_ok-text.ensures.input_fine))
-
-pub returns-then-total-gt-LARGEST_TOGETHER-clause-file_fault : goal.returns-then-total-gt-LARGEST_TOGETHER-clause-file_fault
-returns-then-total-gt-LARGEST_TOGETHER-clause-file_fault g c =
-    λ h. absurd (omega (arith, h, c.loop-name.invariant.same_reads, c.in_ok-text.ensures.file_fine))
-
-pub returns-in_err-push-clause-file_fault : goal.returns-in_err-push-clause-file_fault
-returns-in_err-push-clause-file_fault g c =
-    λ h. absurd (omega (arith, h, c.loop-name.invariant.same_reads, c.in_ok-text.ensures.file_fine))
+pub returns-in_err-push-clause-leaves : goal.returns-in_err-push-clause-leaves
+returns-in_err-push-clause-leaves g c =
+    let left = g.I.Source.left in
+    let contents = g.F.Files.contents in
+    let writes = g.F.Files.write_faults in
+    let faults = g.I.Source.faults in
+    let reads = g.F.Files.read_faults in
+    let fine : faults c.read_input.new.input ≡ faults c.loop-name.input = c.in_ok-text.ensures.leaves.input_fine in
+    let file_fine : reads c.read_input.new.files ≡ reads c.loop-name.files = c.in_ok-text.ensures.leaves.file_fine in
+    let p = err_from_is_err_and c.from_residual-in_err-push.result c.from_residual-in_err-push.ensures.1 in
+    rw (p.1, p.2) (record {
+      input_fine = tt;
+      file_fine = tt;
+      input_fault = λ h. absurd (omega (arith, h, c.loop-name.invariant.same_faults, fine));
+      file_fault = λ h. absurd (omega (arith, h, c.loop-name.invariant.same_reads, file_fine));
+      input = record {
+        lost = lost_by c.args.names.now (drop c.loop-name.name-index c.args.names.now) c.args.input.now c.loop-name.input (left c.args.input.now) (left c.loop-name.input) (left c.read_input.new.input) c.loop-name.invariant.input c.read_input.ensures.leaves.input.lost;
+        later = omega (arith, c.loop-name.invariant.same_faults, c.read_input.ensures.leaves.input.later);
+      };
+      files = files_by (contents c.args.files.now) (contents c.loop-name.files) (contents c.read_input.new.files) (reads c.args.files.now) (reads c.loop-name.files) (reads c.read_input.new.files) (writes c.args.files.now) (writes c.loop-name.files) (writes c.read_input.new.files)
+          c.loop-name.invariant.same_contents c.loop-name.invariant.same_reads c.loop-name.invariant.same_writes c.read_input.ensures.leaves.files;
+    })
 
 pub returns-in_err-push-clause-told : goal.returns-in_err-push-clause-told
 returns-in_err-push-clause-told g c =
@@ -144,21 +183,21 @@ loop-name-preserved g c =
       count = omega (arith, ap length c.in_ok-push.ensures.ok, length-append c.loop-name.texts (c.in_ok-text.text ∷ []), c.loop-name.invariant.count);
       few = c.if-total-gt-LARGEST_TOGETHER.false;
       short = rw c.in_ok-push.ensures.ok (short_more c.loop-name.texts c.in_ok-text.text c.loop-name.invariant.short c.in_ok-text.ensures.read.few);
-      same_contents = c.read_input.ensures.leaves_files.contents ∙ c.loop-name.invariant.same_contents;
-      same_reads = c.in_ok-text.ensures.file_fine ∙ c.loop-name.invariant.same_reads;
-      same_writes = c.read_input.ensures.leaves_files.writes ∙ c.loop-name.invariant.same_writes;
-      same_faults = c.in_ok-text.ensures.input_fine ∙ c.loop-name.invariant.same_faults;
+      same_contents = c.read_input.ensures.leaves.files.contents ∙ c.loop-name.invariant.same_contents;
+      same_reads = c.in_ok-text.ensures.leaves.file_fine ∙ c.loop-name.invariant.same_reads;
+      same_writes = c.read_input.ensures.leaves.files.writes ∙ c.loop-name.invariant.same_writes;
+      same_faults = c.in_ok-text.ensures.leaves.input_fine ∙ c.loop-name.invariant.same_faults;
       input = stdin_on c.args.names.now c.loop-name.name-index c.name-item.result c.in_ok-text.text (contents c.loop-name.files) c.args.input.now c.loop-name.input c.read_input.new.input (left c.args.input.now) (left c.loop-name.input) (left c.read_input.new.input)
-          c.loop-name-test.true c.name-item.is c.in_ok-text.ensures.read c.read_input.ensures.unread (λ h. ap left (c.read_input.ensures.unread h)) c.read_input.ensures.leaves_input.lost c.loop-name.invariant.input;
-      untouched = untouched_on c.args.names.now c.loop-name.name-index c.name-item.result c.args.input.now c.loop-name.input c.read_input.new.input c.name-item.is c.read_input.ensures.unread c.loop-name.invariant.untouched;
+          c.loop-name-test.true c.name-item.is c.in_ok-text.ensures.read c.read_input.ensures.untouched.unread (λ h. ap left (c.read_input.ensures.untouched.unread h)) c.read_input.ensures.leaves.input.lost c.loop-name.invariant.input;
+      untouched = untouched_on c.args.names.now c.loop-name.name-index c.name-item.result c.args.input.now c.loop-name.input c.read_input.new.input c.name-item.is c.read_input.ensures.untouched.unread c.loop-name.invariant.untouched;
       due = λ held told.
           due_on c.args.names.now c.loop-name.name-index c.name-item.result held c.loop-name.total c.args.input.now c.loop-name.input c.loop-name-test.true c.name-item.is (c.loop-name.invariant.due held told)
           (contents c.args.files.now) (contents c.loop-name.files) (left c.loop-name.input) (left c.read_input.new.input) c.loop-name.invariant.same_contents told
-          c.in_ok-text.text c.in_ok-text.ensures.read c.read_input.new.input c.bytes.result.now c.bytes.ensures c.if-total-gt-LARGEST_TOGETHER.false c.read_input.ensures.unread;
-      no_file = files_on c.args.names.now c.loop-name.name-index c.name-item.result c.args.files.now c.loop-name.files c.read_input.new.files c.loop-name-test.true c.name-item.is c.read_input.ensures.files_unread c.loop-name.invariant.no_file;
+          c.in_ok-text.text c.in_ok-text.ensures.read c.read_input.new.input c.bytes.result.now c.bytes.ensures c.if-total-gt-LARGEST_TOGETHER.false c.read_input.ensures.untouched.unread;
+      no_file = files_on c.args.names.now c.loop-name.name-index c.name-item.result c.args.files.now c.loop-name.files c.read_input.new.files c.loop-name-test.true c.name-item.is c.read_input.ensures.untouched.files_unread c.loop-name.invariant.no_file;
       told = λ held stdin tells.
           told_on c.args.names.now c.loop-name.name-index c.name-item.result (contents c.args.files.now) (contents c.loop-name.files) (left c.args.input.now) (left c.loop-name.input) (left c.read_input.new.input) held stdin c.loop-name.total c.loop-name.texts c.push.new.self c.in_ok-text.text c.bytes.result.now
-          c.loop-name-test.true c.name-item.is c.loop-name.invariant.same_contents (c.loop-name.invariant.told held stdin tells) tells c.in_ok-text.ensures.read (λ h. ap left (c.read_input.ensures.unread h)) c.bytes.ensures c.if-total-gt-LARGEST_TOGETHER.false c.in_ok-push.ensures.ok;
+          c.loop-name-test.true c.name-item.is c.loop-name.invariant.same_contents (c.loop-name.invariant.told held stdin tells) tells c.in_ok-text.ensures.read (λ h. ap left (c.read_input.ensures.untouched.unread h)) c.bytes.ensures c.if-total-gt-LARGEST_TOGETHER.false c.in_ok-push.ensures.ok;
     }
 
 pub returns-clause-told : goal.returns-clause-told
@@ -173,13 +212,13 @@ pub returns-clause-count : goal.returns-clause-count
 returns-clause-count g c =
     omega (arith, c.loop-name.invariant.count, c.loop-name-test.false, c.loop-name.auto.name-index-end)
 
-pub returns-clause-unread : goal.returns-clause-unread
-returns-clause-unread g c =
+pub returns-clause-untouched : goal.returns-clause-untouched
+returns-clause-untouched g c =
     let left = g.I.Source.left in
-    let faults = g.I.Source.faults in
-    let contents = g.F.Files.contents in
-    let reads = g.F.Files.read_faults in
-    unread_so_far c.args.names.now (drop c.loop-name.name-index c.args.names.now) c.args.input.now c.loop-name.input (left c.args.input.now) (left c.loop-name.input) c.loop-name.invariant.input
+    record {
+      unread = unread_so_far c.args.names.now (drop c.loop-name.name-index c.args.names.now) c.args.input.now c.loop-name.input (left c.args.input.now) (left c.loop-name.input) c.loop-name.invariant.input;
+      files_unread = c.loop-name.invariant.no_file;
+    }
 
 pub returns-clause-emptied : goal.returns-clause-emptied
 returns-clause-emptied g c =
@@ -189,82 +228,28 @@ returns-clause-emptied g c =
     let reads = g.F.Files.read_faults in
     stdin_at_end c.args.names.now c.loop-name.name-index c.args.input.now c.loop-name.input (left c.args.input.now) (left c.loop-name.input) c.loop-name-test.false c.loop-name.invariant.input
 
-pub returns-clause-input_fine : goal.returns-clause-input_fine
-returns-clause-input_fine g c =
-    c.loop-name.invariant.same_faults
-
-pub returns-clause-file_fine : goal.returns-clause-file_fine
-returns-clause-file_fine g c =
-    c.loop-name.invariant.same_reads
-
-pub returns-clause-input_fault : goal.returns-clause-input_fault
-returns-clause-input_fault g c =
-    λ h. absurd (omega (arith, h, c.loop-name.invariant.same_faults))
-
-pub returns-clause-file_fault : goal.returns-clause-file_fault
-returns-clause-file_fault g c =
-    λ h. absurd (omega (arith, h, c.loop-name.invariant.same_reads))
+pub returns-clause-leaves : goal.returns-clause-leaves
+returns-clause-leaves g c =
+    let left = g.I.Source.left in
+    record {
+      input_fine = c.loop-name.invariant.same_faults;
+      file_fine = c.loop-name.invariant.same_reads;
+      input_fault = λ h. absurd (omega (arith, h, c.loop-name.invariant.same_faults));
+      file_fault = λ h. absurd (omega (arith, h, c.loop-name.invariant.same_reads));
+      input = record {
+        lost = lost_so_far c.args.names.now (drop c.loop-name.name-index c.args.names.now) c.args.input.now c.loop-name.input (left c.args.input.now) (left c.loop-name.input) c.loop-name.invariant.input;
+        later = omega (arith, c.loop-name.invariant.same_faults);
+      };
+      files = record {
+        contents = c.loop-name.invariant.same_contents;
+        later = omega (arith, c.loop-name.invariant.same_reads);
+        writes = c.loop-name.invariant.same_writes;
+      };
+    }
 
 pub returns-clause-short : goal.returns-clause-short
 returns-clause-short g c =
     c.loop-name.invariant.short
-
-pub returns-in_err-text-clause-leaves_input : goal.returns-in_err-text-clause-leaves_input
-returns-in_err-text-clause-leaves_input g c =
-    let left = g.I.Source.left in
-    record {
-      lost = lost_by c.args.names.now (drop c.loop-name.name-index c.args.names.now) c.args.input.now c.loop-name.input (left c.args.input.now) (left c.loop-name.input) (left c.read_input.new.input) c.loop-name.invariant.input c.read_input.ensures.leaves_input.lost;
-      later = omega (arith, c.loop-name.invariant.same_faults, c.read_input.ensures.leaves_input.later);
-    }
-
-pub returns-in_err-text-clause-leaves_files : goal.returns-in_err-text-clause-leaves_files
-returns-in_err-text-clause-leaves_files g c = record {
-  contents = c.read_input.ensures.leaves_files.contents ∙ c.loop-name.invariant.same_contents;
-  later = omega (arith, c.loop-name.invariant.same_reads, c.read_input.ensures.leaves_files.later);
-  writes = c.read_input.ensures.leaves_files.writes ∙ c.loop-name.invariant.same_writes;
-}
-
-pub returns-in_err-text-clause-files_unread : goal.returns-in_err-text-clause-files_unread
-returns-in_err-text-clause-files_unread g c =
-    files_on c.args.names.now c.loop-name.name-index c.name-item.result c.args.files.now c.loop-name.files c.read_input.new.files c.loop-name-test.true c.name-item.is c.read_input.ensures.files_unread c.loop-name.invariant.no_file
-
-pub returns-then-total-gt-LARGEST_TOGETHER-clause-leaves_input : goal.returns-then-total-gt-LARGEST_TOGETHER-clause-leaves_input
-returns-then-total-gt-LARGEST_TOGETHER-clause-leaves_input g c =
-    let left = g.I.Source.left in
-    record {
-      lost = lost_by c.args.names.now (drop c.loop-name.name-index c.args.names.now) c.args.input.now c.loop-name.input (left c.args.input.now) (left c.loop-name.input) (left c.read_input.new.input) c.loop-name.invariant.input c.read_input.ensures.leaves_input.lost;
-      later = omega (arith, c.loop-name.invariant.same_faults, c.read_input.ensures.leaves_input.later);
-    }
-
-pub returns-then-total-gt-LARGEST_TOGETHER-clause-leaves_files : goal.returns-then-total-gt-LARGEST_TOGETHER-clause-leaves_files
-returns-then-total-gt-LARGEST_TOGETHER-clause-leaves_files g c = record {
-  contents = c.read_input.ensures.leaves_files.contents ∙ c.loop-name.invariant.same_contents;
-  later = omega (arith, c.loop-name.invariant.same_reads, c.read_input.ensures.leaves_files.later);
-  writes = c.read_input.ensures.leaves_files.writes ∙ c.loop-name.invariant.same_writes;
-}
-
-pub returns-then-total-gt-LARGEST_TOGETHER-clause-files_unread : goal.returns-then-total-gt-LARGEST_TOGETHER-clause-files_unread
-returns-then-total-gt-LARGEST_TOGETHER-clause-files_unread g c =
-    files_on c.args.names.now c.loop-name.name-index c.name-item.result c.args.files.now c.loop-name.files c.read_input.new.files c.loop-name-test.true c.name-item.is c.read_input.ensures.files_unread c.loop-name.invariant.no_file
-
-pub returns-in_err-push-clause-leaves_input : goal.returns-in_err-push-clause-leaves_input
-returns-in_err-push-clause-leaves_input g c =
-    let left = g.I.Source.left in
-    record {
-      lost = lost_by c.args.names.now (drop c.loop-name.name-index c.args.names.now) c.args.input.now c.loop-name.input (left c.args.input.now) (left c.loop-name.input) (left c.read_input.new.input) c.loop-name.invariant.input c.read_input.ensures.leaves_input.lost;
-      later = omega (arith, c.loop-name.invariant.same_faults, c.read_input.ensures.leaves_input.later);
-    }
-
-pub returns-in_err-push-clause-leaves_files : goal.returns-in_err-push-clause-leaves_files
-returns-in_err-push-clause-leaves_files g c = record {
-  contents = c.read_input.ensures.leaves_files.contents ∙ c.loop-name.invariant.same_contents;
-  later = omega (arith, c.loop-name.invariant.same_reads, c.read_input.ensures.leaves_files.later);
-  writes = c.read_input.ensures.leaves_files.writes ∙ c.loop-name.invariant.same_writes;
-}
-
-pub returns-in_err-push-clause-files_unread : goal.returns-in_err-push-clause-files_unread
-returns-in_err-push-clause-files_unread g c =
-    files_on c.args.names.now c.loop-name.name-index c.name-item.result c.args.files.now c.loop-name.files c.read_input.new.files c.loop-name-test.true c.name-item.is c.read_input.ensures.files_unread c.loop-name.invariant.no_file
 
 pub returns-in_err-text-clause-order : goal.returns-in_err-text-clause-order
 returns-in_err-text-clause-order g c =
@@ -273,46 +258,28 @@ returns-in_err-text-clause-order g c =
     let contents = g.F.Files.contents in
     let reads = g.F.Files.read_faults in
     let p = err_from_is_err_and c.from_residual.result c.from_residual.ensures.1 in
-    rw (p.1, p.2) (order_kept c.args.names.now c.loop-name.name-index c.name-item.result c.args.input.now c.loop-name.input c.read_input.new.input c.in_err-text.field-0.0 c.loop-name-test.true c.name-item.is c.read_input.ensures.unread (refuses_only (contents c.loop-name.files) (left c.loop-name.input) (Rose (faults c.loop-name.input) (faults c.read_input.new.input)) (Rose (reads c.loop-name.files) (reads c.read_input.new.files)) c.name-item.result c.in_err-text.field-0.0 c.in_err-text.ensures.refused) c.loop-name.invariant.untouched)
+    rw (p.1, p.2) (order_kept c.args.names.now c.loop-name.name-index c.name-item.result c.args.input.now c.loop-name.input c.read_input.new.input c.in_err-text.field-0.0 c.loop-name-test.true c.name-item.is c.read_input.ensures.untouched.unread (refuses_only (contents c.loop-name.files) (left c.loop-name.input) (Rose (faults c.loop-name.input) (faults c.read_input.new.input)) (Rose (reads c.loop-name.files) (reads c.read_input.new.files)) c.name-item.result c.in_err-text.field-0.0 c.in_err-text.ensures.refused) c.loop-name.invariant.untouched)
 
 pub returns-then-total-gt-LARGEST_TOGETHER-clause-order : goal.returns-then-total-gt-LARGEST_TOGETHER-clause-order
 returns-then-total-gt-LARGEST_TOGETHER-clause-order g c =
-    order_kept c.args.names.now c.loop-name.name-index c.name-item.result c.args.input.now c.loop-name.input c.read_input.new.input c.too_large.result c.loop-name-test.true c.name-item.is c.read_input.ensures.unread (over_only c.name-item.result LARGEST_TOGETHER c.too_large.result (rw c.bytes-then-total-gt-LARGEST_TOGETHER.ensures at c.too_large.ensures)) c.loop-name.invariant.untouched
+    order_kept c.args.names.now c.loop-name.name-index c.name-item.result c.args.input.now c.loop-name.input c.read_input.new.input c.too_large.result c.loop-name-test.true c.name-item.is c.read_input.ensures.untouched.unread (over_only c.name-item.result LARGEST_TOGETHER c.too_large.result (rw c.bytes-then-total-gt-LARGEST_TOGETHER.ensures at c.too_large.ensures)) c.loop-name.invariant.untouched
 
 pub returns-in_err-push-clause-order : goal.returns-in_err-push-clause-order
 returns-in_err-push-clause-order g c =
     let p = err_from_is_err_and c.from_residual-in_err-push.result c.from_residual-in_err-push.ensures.1 in
     rw (p.1, p.2) (memory_keeps c.args.names.now c.args.input.now c.read_input.new.input)
 
-pub returns-clause-leaves_input : goal.returns-clause-leaves_input
-returns-clause-leaves_input g c =
-    let left = g.I.Source.left in
-    record {
-      lost = lost_so_far c.args.names.now (drop c.loop-name.name-index c.args.names.now) c.args.input.now c.loop-name.input (left c.args.input.now) (left c.loop-name.input) c.loop-name.invariant.input;
-      later = omega (arith, c.loop-name.invariant.same_faults);
-    }
-
-pub returns-clause-leaves_files : goal.returns-clause-leaves_files
-returns-clause-leaves_files g c = record {
-  contents = c.loop-name.invariant.same_contents;
-  later = omega (arith, c.loop-name.invariant.same_reads);
-  writes = c.loop-name.invariant.same_writes;
-}
-
-pub returns-clause-files_unread : goal.returns-clause-files_unread
-returns-clause-files_unread g c = c.loop-name.invariant.no_file
-
 pub returns-in_err-text-clause-turn : goal.returns-in_err-text-clause-turn
 returns-in_err-text-clause-turn g c = λ held refusal told first.
-    turn_kept c.args.names.now c.loop-name.name-index c.name-item.result held c.loop-name.total c.args.input.now c.loop-name.input c.loop-name-test.true c.name-item.is (c.loop-name.invariant.due held told) c.read_input.new.input c.read_input.ensures.unread refusal first
+    turn_kept c.args.names.now c.loop-name.name-index c.name-item.result held c.loop-name.total c.args.input.now c.loop-name.input c.loop-name-test.true c.name-item.is (c.loop-name.invariant.due held told) c.read_input.new.input c.read_input.ensures.untouched.unread refusal first
 
 pub returns-then-total-gt-LARGEST_TOGETHER-clause-turn : goal.returns-then-total-gt-LARGEST_TOGETHER-clause-turn
 returns-then-total-gt-LARGEST_TOGETHER-clause-turn g c = λ held refusal told first.
-    turn_kept c.args.names.now c.loop-name.name-index c.name-item.result held c.loop-name.total c.args.input.now c.loop-name.input c.loop-name-test.true c.name-item.is (c.loop-name.invariant.due held told) c.read_input.new.input c.read_input.ensures.unread refusal first
+    turn_kept c.args.names.now c.loop-name.name-index c.name-item.result held c.loop-name.total c.args.input.now c.loop-name.input c.loop-name-test.true c.name-item.is (c.loop-name.invariant.due held told) c.read_input.new.input c.read_input.ensures.untouched.unread refusal first
 
 pub returns-in_err-push-clause-turn : goal.returns-in_err-push-clause-turn
 returns-in_err-push-clause-turn g c = λ held refusal told first.
-    turn_kept c.args.names.now c.loop-name.name-index c.name-item.result held c.loop-name.total c.args.input.now c.loop-name.input c.loop-name-test.true c.name-item.is (c.loop-name.invariant.due held told) c.read_input.new.input c.read_input.ensures.unread refusal first
+    turn_kept c.args.names.now c.loop-name.name-index c.name-item.result held c.loop-name.total c.args.input.now c.loop-name.input c.loop-name-test.true c.name-item.is (c.loop-name.invariant.due held told) c.read_input.new.input c.read_input.ensures.untouched.unread refusal first
 
 pub returns-clause-turn : goal.returns-clause-turn
 returns-clause-turn g c = λ held refusal told first. (c.loop-name.invariant.due held told refusal first).1

@@ -1,4 +1,4 @@
-use Rattle.std.proofs.Common.{◌≡◌, ◌⊎◌, inr, ℕ, ◌<◌, Bool, true, false, List, codes, Option, Some, Err, refl, sym, ap, ◌∙◌, subst}
+use Rattle.std.proofs.Common.{◌≡◌, ◌⊎◌, inr, ℕ, ◌<◌, Bool, true, false, List, codes, Option, Some, Err, refl, sym, ap, ◌∙◌, subst, arith}
 use Rattle.ir_base.specs.Files.{Named}
 use Rattle.ir_base.specs.Outside.{Rose}
 use Rattle.command_line.specs.declared.command.Command.{Command}
@@ -14,8 +14,9 @@ use Rattle.tool_cli.specs.Output.{output_of, IsUnwritten, IsWritten}
 use Rattle.tool_cli.specs.Reads.{LosesInput}
 use Rattle.tool_cli.specs.Running.{IsUnbegun}
 use Rattle.tool_cli.specs.Told.{IsEndOf}
+use Rattle.tool_cli.specs.World.{failures}
 use Rattle.tool_cli.proofs.Works.{nothing_shown, early_refusal, not_before_work, run_no_large, run_no_usage}
-use Rattle.tool_cli.proofs.Delivered.{leaves_after, leaves_read}
+use Rattle.tool_cli.proofs.Delivered.{leaves_after, leaves_none, leaves_read}
 use Rattle.tool_cli.proofs.Outcomes.{inputs_are, analyzes_is, output_is, same_command, shown_ok, told_ok, told_err, cause_of_unread, cause_of_large}
 use Rattle.tool_cli.proofs.Commands.{end_over, heard, hears_no_stdin, input_cause, listens_is, loses_after, loses_none, loses_read, nothing_played, played_err, played_ok, runs_is, same_outside, stdin_unheard, unread_cause, unread_told}
 use Rattle.tool_cli.proofs.Steps.{words_fit}
@@ -37,13 +38,13 @@ returns-in-Ok-read_inputs-clause-told g c =
     let same = inputs_are c.args.words.now c.in-Ok.command c.in-Ok.ensures.command ∙ sym c.inputs_of.ensures in
     let before = outside (left c.read_inputs.new.input) (faults c.read_inputs.new.input) (taken c.args.output.now) (sinks c.args.output.now) in
     let after = outside (left c.work.new.input) (faults c.work.new.input) (taken c.work.new.output) (sinks c.work.new.output) in
-    let Done : List ℕ → ℕ → ℕ → Type 0 = λ stdin i w. IsEndOf c.in-Ok.command stdin c.in-Ok-read_inputs.texts c.work.result ⊎ Stopped (output_of c.in-Ok.command) (Rose i (faults c.work.new.input)) ⊥ (Rose (sinks c.args.output.now) (sinks c.work.new.output)) (Rose w (writes c.work.new.files)) c.work.result in
+    let Done : List ℕ → ℕ → ℕ → Type 0 = λ stdin i w. IsEndOf c.in-Ok.command stdin c.in-Ok-read_inputs.texts c.work.result ⊎ Stopped (output_of c.in-Ok.command) (failures (Rose i (faults c.work.new.input)) ⊥ (Rose (sinks c.args.output.now) (sinks c.work.new.output)) (Rose w (writes c.work.new.files))) c.work.result in
     λ held stdin tells.
     -- a program that has standard input for its own finds it as it was
-    let told : hears c.in-Ok.command ≡ true → left c.read_inputs.new.input ≡ Some stdin = λ own. ap left (c.in-Ok-read_inputs.ensures.unread (ap has_stdin c.inputs_of.ensures ∙ hears_no_stdin c.in-Ok.command own)) ∙ tells.heard (listens_is c.args.words.now c.in-Ok.command c.in-Ok.ensures.command ∙ own) in
+    let told : hears c.in-Ok.command ≡ true → left c.read_inputs.new.input ≡ Some stdin = λ own. ap left (c.in-Ok-read_inputs.ensures.untouched.unread (ap has_stdin c.inputs_of.ensures ∙ hears_no_stdin c.in-Ok.command own)) ∙ tells.heard (listens_is c.args.words.now c.in-Ok.command c.in-Ok.ensures.command ∙ own) in
     let done : Done stdin (faults c.read_inputs.new.input) (writes c.read_inputs.new.files) = end_over c.in-Ok.command c.in-Ok-read_inputs.texts stdin before after (Rose (writes c.read_inputs.new.files) (writes c.work.new.files)) c.work.result told c.work.ensures.work c.work.ensures.ran in
     -- nothing failed, and no write was counted, while inputs were read
-    let work : Done stdin (faults c.args.input.now) (writes c.args.files.now) = subst (λ (n : ℕ). Done stdin (faults c.args.input.now) n) c.in-Ok-read_inputs.ensures.leaves_files.writes (subst (λ (n : ℕ). Done stdin n (writes c.read_inputs.new.files)) c.in-Ok-read_inputs.ensures.input_fine done) in
+    let work : Done stdin (faults c.args.input.now) (writes c.args.files.now) = subst (λ (n : ℕ). Done stdin (faults c.args.input.now) n) c.in-Ok-read_inputs.ensures.leaves.files.writes (subst (λ (n : ℕ). Done stdin n (writes c.read_inputs.new.files)) c.in-Ok-read_inputs.ensures.leaves.input_fine done) in
     told_ok c.args.words.now c.in-Ok.command c.inputs_of.result.now c.in-Ok-read_inputs.texts held stdin c.work.result
     (Rose (faults c.args.input.now) (faults c.read_inputs.new.input)) (Rose (faults c.args.input.now) (faults c.work.new.input)) (Rose (reads c.args.files.now) (reads c.read_inputs.new.files)) (Rose (reads c.args.files.now) (reads c.work.new.files)) (Rose (sinks c.args.output.now) (sinks c.work.new.output)) (Rose (writes c.args.files.now) (writes c.work.new.files))
     c.in-Ok.ensures.command c.inputs_of.ensures (c.in-Ok-read_inputs.ensures.told held stdin (rw same at tells.inputs)) work
@@ -57,35 +58,40 @@ returns-in-Ok-read_inputs-clause-cannot_read g c =
     let after = outside (g.I.Source.left c.work.new.input) (faults c.work.new.input) (g.O.Sink.taken c.work.new.output) (g.O.Sink.faults c.work.new.output) in
     λ name told.
     let cause = unread_cause c.in-Ok.command c.in-Ok-read_inputs.texts mid after c.work.result c.work.ensures.of_work c.work.ensures.ran name told in
-    let rose = subst (λ (n : ℕ). Rose n (faults c.work.new.input)) c.in-Ok-read_inputs.ensures.input_fine cause.1.1 in
+    let rose = subst (λ (n : ℕ). Rose n (faults c.work.new.input)) c.in-Ok-read_inputs.ensures.leaves.input_fine cause.1.1 in
     (inr (listens_is c.args.words.now c.in-Ok.command c.in-Ok.ensures.command ∙ cause.0, cause.1.0), unread_told (contents c.args.files.now) (Rose (faults c.args.input.now) (faults c.work.new.input)) (Rose (reads c.args.files.now) (reads c.work.new.files)) name cause.1.0 rose)
 
-pub returns-in-Ok-read_inputs-clause-input_fault : goal.returns-in-Ok-read_inputs-clause-input_fault
-returns-in-Ok-read_inputs-clause-input_fault g c =
-    let faults = g.I.Source.faults in
-    let mid = outside (g.I.Source.left c.read_inputs.new.input) (faults c.read_inputs.new.input) (g.O.Sink.taken c.args.output.now) (g.O.Sink.faults c.args.output.now) in
-    let after = outside (g.I.Source.left c.work.new.input) (faults c.work.new.input) (g.O.Sink.taken c.work.new.output) (g.O.Sink.faults c.work.new.output) in
-    λ rose.
-    input_cause (hears c.in-Ok.command) mid after c.work.result (λ none. ap faults (c.work.ensures.unread none)) (heard c.in-Ok.command c.in-Ok-read_inputs.texts mid after c.work.result c.work.ensures.ran)
-    (subst (λ (n : ℕ). n < faults c.work.new.input) (sym c.in-Ok-read_inputs.ensures.input_fine) rose)
-
-pub returns-in-Ok-read_inputs-clause-leaves_input : goal.returns-in-Ok-read_inputs-clause-leaves_input
-returns-in-Ok-read_inputs-clause-leaves_input g c =
+pub returns-in-Ok-read_inputs-clause-leaves : goal.returns-in-Ok-read_inputs-clause-leaves
+returns-in-Ok-read_inputs-clause-leaves g c =
     let faults = g.I.Source.faults in
     let left = g.I.Source.left in
     let taken = g.O.Sink.taken in
     let sinks = g.O.Sink.faults in
+    let reads = g.F.Files.read_faults in
     let mid = outside (left c.read_inputs.new.input) (faults c.read_inputs.new.input) (taken c.args.output.now) (sinks c.args.output.now) in
     let after = outside (left c.work.new.input) (faults c.work.new.input) (taken c.work.new.output) (sinks c.work.new.output) in
     let none : hears c.in-Ok.command ≡ true → has_stdin c.inputs_of.result.now ≡ false = λ own. ap has_stdin c.inputs_of.ensures ∙ hears_no_stdin c.in-Ok.command own in
-    subst (λ (b : Bool). LosesInput b (left c.args.input.now) (left c.work.new.input) (faults c.args.input.now) (faults c.work.new.input)) (sym (listens_is c.args.words.now c.in-Ok.command c.in-Ok.ensures.command))
-    (loses_after (hears c.in-Ok.command) (left c.args.input.now) (faults c.args.input.now) mid after c.work.result c.in-Ok-read_inputs.ensures.leaves_input c.in-Ok-read_inputs.ensures.input_fine (λ own. ap left (c.in-Ok-read_inputs.ensures.unread (none own))) (λ quiet. (ap left (c.work.ensures.unread quiet), ap faults (c.work.ensures.unread quiet)))
-    (heard c.in-Ok.command c.in-Ok-read_inputs.texts mid after c.work.result c.work.ensures.ran))
+    let own_input = heard c.in-Ok.command c.in-Ok-read_inputs.texts mid after c.work.result c.work.ensures.ran in
+    let file_fine : reads c.read_inputs.new.files ≡ reads c.args.files.now = c.in-Ok-read_inputs.ensures.leaves.file_fine in
+    record {
+      input_fault = λ (rose : faults c.args.input.now < faults c.work.new.input).
+          input_cause (hears c.in-Ok.command) mid after c.work.result (λ quiet. ap faults (c.work.ensures.unread quiet)) own_input
+          (subst (λ (n : ℕ). n < faults c.work.new.input) (sym c.in-Ok-read_inputs.ensures.leaves.input_fine) rose);
+      file_fault = λ (rose : reads c.args.files.now < reads c.work.new.files). absurd (omega (arith, rose, c.work.ensures.reads, file_fine));
+      input =
+          subst (λ (b : Bool). LosesInput b (left c.args.input.now) (left c.work.new.input) (faults c.args.input.now) (faults c.work.new.input)) (sym (listens_is c.args.words.now c.in-Ok.command c.in-Ok.ensures.command))
+          (loses_after (hears c.in-Ok.command) (left c.args.input.now) (faults c.args.input.now) mid after c.work.result c.in-Ok-read_inputs.ensures.leaves.input c.in-Ok-read_inputs.ensures.leaves.input_fine (λ own. ap left (c.in-Ok-read_inputs.ensures.untouched.unread (none own))) (λ quiet. (ap left (c.work.ensures.unread quiet), ap faults (c.work.ensures.unread quiet)))
+          own_input);
+      files = rw (output_is c.args.words.now c.in-Ok.command c.in-Ok.ensures.command) (leaves_after _ _ _ _ _ _ _ _ _ _ _ c.in-Ok-read_inputs.ensures.leaves.files c.work.ensures.leaves_files);
+    }
 
-pub returns-in-Ok-read_inputs-clause-unread : goal.returns-in-Ok-read_inputs-clause-unread
-returns-in-Ok-read_inputs-clause-unread g c =
+pub returns-in-Ok-read_inputs-clause-untouched : goal.returns-in-Ok-read_inputs-clause-untouched
+returns-in-Ok-read_inputs-clause-untouched g c =
     let same = inputs_are c.args.words.now c.in-Ok.command c.in-Ok.ensures.command ∙ sym c.inputs_of.ensures in
-    λ none quiet. c.work.ensures.unread (rw (listens_is c.args.words.now c.in-Ok.command c.in-Ok.ensures.command) at quiet) ∙ c.in-Ok-read_inputs.ensures.unread (rw same at none)
+    record {
+      unread = λ both. c.work.ensures.unread (rw (listens_is c.args.words.now c.in-Ok.command c.in-Ok.ensures.command) at both.1) ∙ c.in-Ok-read_inputs.ensures.untouched.unread (rw same at both.0);
+      files_unread = λ both. c.work.ensures.files_unwritten (rw (output_is c.args.words.now c.in-Ok.command c.in-Ok.ensures.command) at both.1) ∙ c.in-Ok-read_inputs.ensures.untouched.files_unread (rw same at both.0);
+    }
 
 pub returns-in-Ok-read_inputs-clause-whole : goal.returns-in-Ok-read_inputs-clause-whole
 returns-in-Ok-read_inputs-clause-whole g c =
@@ -98,7 +104,7 @@ pub returns-in-Ok-read_inputs-clause-not_begun : goal.returns-in-Ok-read_inputs-
 returns-in-Ok-read_inputs-clause-not_begun g c = λ command read early.
     let same = same_command c.args.words.now command c.in-Ok.command read c.in-Ok.ensures.command in
     let left = c.work.ensures.not_begun (subst (λ (one : Command). IsUnbegun one c.work.result) same early) in
-    (λ own. left.0 ∙ c.in-Ok-read_inputs.ensures.unread (ap has_stdin c.inputs_of.ensures ∙ hears_no_stdin c.in-Ok.command (sym (listens_is c.args.words.now c.in-Ok.command c.in-Ok.ensures.command) ∙ own)), left.1)
+    (λ own. left.0 ∙ c.in-Ok-read_inputs.ensures.untouched.unread (ap has_stdin c.inputs_of.ensures ∙ hears_no_stdin c.in-Ok.command (sym (listens_is c.args.words.now c.in-Ok.command c.in-Ok.ensures.command) ∙ own)), left.1)
 
 pub returns-in-Ok-read_inputs-clause-played : goal.returns-in-Ok-read_inputs-clause-played
 returns-in-Ok-read_inputs-clause-played g c =
@@ -111,7 +117,7 @@ returns-in-Ok-read_inputs-clause-played g c =
     let before = outside (left c.args.input.now) (faults c.args.input.now) (taken c.args.output.now) (sinks c.args.output.now) in
     let after = outside (left c.work.new.input) (faults c.work.new.input) (taken c.work.new.output) (sinks c.work.new.output) in
     let own : hears c.in-Ok.command ≡ true → mid ≡ before = λ h.
-    let kept = c.in-Ok-read_inputs.ensures.unread (ap has_stdin c.inputs_of.ensures ∙ hears_no_stdin c.in-Ok.command h) in
+    let kept = c.in-Ok-read_inputs.ensures.untouched.unread (ap has_stdin c.inputs_of.ensures ∙ hears_no_stdin c.in-Ok.command h) in
     same_outside (left c.args.input.now) (left c.read_inputs.new.input) (faults c.args.input.now) (faults c.read_inputs.new.input) (taken c.args.output.now) (sinks c.args.output.now) (ap left kept) (ap faults kept) in
     λ held stdin tells.
     played_ok c.args.words.now c.in-Ok.command c.inputs_of.result.now c.in-Ok-read_inputs.texts held stdin mid before after c.work.result (Rose (faults c.args.input.now) (faults c.read_inputs.new.input)) (Rose (g.F.Files.read_faults c.args.files.now) (g.F.Files.read_faults c.read_inputs.new.files)) c.in-Ok.ensures.command c.inputs_of.ensures (c.in-Ok-read_inputs.ensures.told held stdin (rw same at tells)) own refl c.work.ensures.ran
@@ -146,28 +152,21 @@ returns-clause-too_large g c =
     (Rose (faults c.args.input.now) (faults c.read_inputs.new.input)) (Rose (reads c.args.files.now) (reads c.read_inputs.new.files))
     c.in-Err.ended same c.in-Err.ensures.refused
 
-pub returns-clause-unread : goal.returns-clause-unread
-returns-clause-unread g c =
+pub returns-clause-untouched : goal.returns-clause-untouched
+returns-clause-untouched g c =
     let same = inputs_are c.args.words.now c.in-Ok.command c.in-Ok.ensures.command ∙ sym c.inputs_of.ensures in
-    λ none quiet. c.in-Err.ensures.unread (rw same at none)
+    record {
+      unread = λ both. c.in-Err.ensures.untouched.unread (rw same at both.0);
+      files_unread = λ both. c.in-Err.ensures.untouched.files_unread (rw same at both.0);
+    }
 
 pub returns-in-Ok-read_inputs-clause-order : goal.returns-in-Ok-read_inputs-clause-order
 returns-in-Ok-read_inputs-clause-order g c = work_keeps (inputs_named c.args.words.now) c.args.input.now c.work.new.input c.work.result (hears c.in-Ok.command) c.work.ensures.of_work
-
-pub returns-in-Ok-read_inputs-clause-files_unread : goal.returns-in-Ok-read_inputs-clause-files_unread
-returns-in-Ok-read_inputs-clause-files_unread g c =
-    let same = inputs_are c.args.words.now c.in-Ok.command c.in-Ok.ensures.command ∙ sym c.inputs_of.ensures in
-    λ none early. c.work.ensures.files_unwritten (rw (output_is c.args.words.now c.in-Ok.command c.in-Ok.ensures.command) at early) ∙ c.in-Ok-read_inputs.ensures.files_unread (rw same at none)
 
 pub returns-clause-order : goal.returns-clause-order
 returns-clause-order g c =
     let same = inputs_are c.args.words.now c.in-Ok.command c.in-Ok.ensures.command ∙ sym c.inputs_of.ensures in
     rw same c.in-Err.ensures.order
-
-pub returns-clause-files_unread : goal.returns-clause-files_unread
-returns-clause-files_unread g c =
-    let same = inputs_are c.args.words.now c.in-Ok.command c.in-Ok.ensures.command ∙ sym c.inputs_of.ensures in
-    λ none early. c.in-Err.ensures.files_unread (rw same at none)
 
 pub returns-in-Ok-read_inputs-clause-shown : goal.returns-in-Ok-read_inputs-clause-shown
 returns-in-Ok-read_inputs-clause-shown g c =
@@ -181,7 +180,7 @@ returns-in-Ok-read_inputs-clause-shown g c =
     (Rose (faults c.args.input.now) (faults c.read_inputs.new.input)) (Rose (reads c.args.files.now) (reads c.read_inputs.new.files))
     c.in-Ok.ensures.command c.inputs_of.ensures (c.in-Ok-read_inputs.ensures.told held stdin (rw same at tells))
     -- no file changed while inputs were read
-    (λ plain. subst (λ (before : Option Named). IsWritten c.in-Ok.command c.in-Ok-read_inputs.texts (outputs (taken c.args.output.now) before) (outputs (taken c.work.new.output) (contents c.work.new.files)) c.work.result) c.in-Ok-read_inputs.ensures.leaves_files.contents (c.work.ensures.written plain))
+    (λ plain. subst (λ (before : Option Named). IsWritten c.in-Ok.command c.in-Ok-read_inputs.texts (outputs (taken c.args.output.now) before) (outputs (taken c.work.new.output) (contents c.work.new.files)) c.work.result) c.in-Ok-read_inputs.ensures.leaves.files.contents (c.work.ensures.written plain))
 
 pub returns-in-Ok-read_inputs-clause-cannot_write : goal.returns-in-Ok-read_inputs-clause-cannot_write
 returns-in-Ok-read_inputs-clause-cannot_write g c =
@@ -189,17 +188,13 @@ returns-in-Ok-read_inputs-clause-cannot_write g c =
     let writes = g.F.Files.write_faults in
     λ name told.
     subst (λ (output : Option OutputName). IsUnwritten output (Rose (sinks c.args.output.now) (sinks c.work.new.output)) (Rose (writes c.args.files.now) (writes c.work.new.files)) name) (sym (output_is c.args.words.now c.in-Ok.command c.in-Ok.ensures.command))
-    (subst (λ (n : ℕ). IsUnwritten (output_of c.in-Ok.command) (Rose (sinks c.args.output.now) (sinks c.work.new.output)) (Rose n (writes c.work.new.files)) name) c.in-Ok-read_inputs.ensures.leaves_files.writes (c.work.ensures.cannot_write name told))
+    (subst (λ (n : ℕ). IsUnwritten (output_of c.in-Ok.command) (Rose (sinks c.args.output.now) (sinks c.work.new.output)) (Rose n (writes c.work.new.files)) name) c.in-Ok-read_inputs.ensures.leaves.files.writes (c.work.ensures.cannot_write name told))
 
 pub returns-in-Ok-read_inputs-clause-write_fault : goal.returns-in-Ok-read_inputs-clause-write_fault
 returns-in-Ok-read_inputs-clause-write_fault g c =
     let writes = g.F.Files.write_faults in
     λ rose.
-    rw (output_is c.args.words.now c.in-Ok.command c.in-Ok.ensures.command) (c.work.ensures.write_fault (subst (λ (n : ℕ). n < writes c.work.new.files) (sym c.in-Ok-read_inputs.ensures.leaves_files.writes) rose))
-
-pub returns-in-Ok-read_inputs-clause-leaves_files : goal.returns-in-Ok-read_inputs-clause-leaves_files
-returns-in-Ok-read_inputs-clause-leaves_files g c =
-    rw (output_is c.args.words.now c.in-Ok.command c.in-Ok.ensures.command) (leaves_after _ _ _ _ _ _ _ _ _ _ _ c.in-Ok-read_inputs.ensures.leaves_files c.work.ensures.leaves_files)
+    rw (output_is c.args.words.now c.in-Ok.command c.in-Ok.ensures.command) (c.work.ensures.write_fault (subst (λ (n : ℕ). n < writes c.work.new.files) (sym c.in-Ok-read_inputs.ensures.leaves.files.writes) rose))
 
 pub returns-in-Ok-read_inputs-clause-unwritten : goal.returns-in-Ok-read_inputs-clause-unwritten
 returns-in-Ok-read_inputs-clause-unwritten g c =
@@ -218,21 +213,24 @@ returns-clause-shown g c =
     let taken = g.O.Sink.taken in
     λ held stdin tells command read plain.
     nothing_shown command (texts_read held stdin 0 (inputs_of command)) (outputs (taken c.args.output.now) (contents c.args.files.now)) (outputs (taken c.args.output.now) (contents c.read_inputs.new.files)) c.in-Err.ended
-    (early_refusal (contents c.args.files.now) (left c.args.input.now) (Rose (faults c.args.input.now) (faults c.read_inputs.new.input)) (Rose (reads c.args.files.now) (reads c.read_inputs.new.files)) c.inputs_of.result.now c.in-Err.ended c.in-Err.ensures.refused) (ap (λ (now : Option Named). outputs (taken c.args.output.now) now) c.in-Err.ensures.leaves_files.contents)
+    (early_refusal (contents c.args.files.now) (left c.args.input.now) (Rose (faults c.args.input.now) (faults c.read_inputs.new.input)) (Rose (reads c.args.files.now) (reads c.read_inputs.new.files)) c.inputs_of.result.now c.in-Err.ended c.in-Err.ensures.refused) (ap (λ (now : Option Named). outputs (taken c.args.output.now) now) c.in-Err.ensures.leaves.files.contents)
 
-pub returns-clause-leaves_files : goal.returns-clause-leaves_files
-returns-clause-leaves_files g c = leaves_read _ _ _ _ _ _ _ _ c.in-Err.ensures.leaves_files
-
-pub returns-clause-leaves_input : goal.returns-clause-leaves_input
-returns-clause-leaves_input g c =
+pub returns-clause-leaves : goal.returns-clause-leaves
+returns-clause-leaves g c =
     let faults = g.I.Source.faults in
     let left = g.I.Source.left in
-    subst (λ (b : Bool). LosesInput b (left c.args.input.now) (left c.read_inputs.new.input) (faults c.args.input.now) (faults c.read_inputs.new.input)) (sym (listens_is c.args.words.now c.in-Ok.command c.in-Ok.ensures.command))
-    (loses_read (hears c.in-Ok.command) (left c.args.input.now) (left c.read_inputs.new.input) (faults c.args.input.now) (faults c.read_inputs.new.input) c.in-Err.ensures.leaves_input (λ own. ap faults (c.in-Err.ensures.unread (ap has_stdin c.inputs_of.ensures ∙ hears_no_stdin c.in-Ok.command own))))
+    record {
+      input_fault = c.in-Err.ensures.leaves.input_fault;
+      file_fault = c.in-Err.ensures.leaves.file_fault;
+      input =
+          subst (λ (b : Bool). LosesInput b (left c.args.input.now) (left c.read_inputs.new.input) (faults c.args.input.now) (faults c.read_inputs.new.input)) (sym (listens_is c.args.words.now c.in-Ok.command c.in-Ok.ensures.command))
+          (loses_read (hears c.in-Ok.command) (left c.args.input.now) (left c.read_inputs.new.input) (faults c.args.input.now) (faults c.read_inputs.new.input) c.in-Err.ensures.leaves.input (λ own. ap faults (c.in-Err.ensures.untouched.unread (ap has_stdin c.inputs_of.ensures ∙ hears_no_stdin c.in-Ok.command own))));
+      files = leaves_read _ _ _ _ _ _ _ _ c.in-Err.ensures.leaves.files;
+    }
 
 pub returns-clause-not_begun : goal.returns-clause-not_begun
 returns-clause-not_begun g c = λ command read early.
-    (λ own. c.in-Err.ensures.unread (ap has_stdin c.inputs_of.ensures ∙ hears_no_stdin c.in-Ok.command (sym (listens_is c.args.words.now c.in-Ok.command c.in-Ok.ensures.command) ∙ own)), refl)
+    (λ own. c.in-Err.ensures.untouched.unread (ap has_stdin c.inputs_of.ensures ∙ hears_no_stdin c.in-Ok.command (sym (listens_is c.args.words.now c.in-Ok.command c.in-Ok.ensures.command) ∙ own)), refl)
 
 pub returns-clause-played : goal.returns-clause-played
 returns-clause-played g c =
@@ -245,17 +243,33 @@ returns-clause-played g c =
     let after = outside (left c.read_inputs.new.input) (faults c.read_inputs.new.input) (taken c.args.output.now) (sinks c.args.output.now) in
     let same = inputs_are c.args.words.now c.in-Ok.command c.in-Ok.ensures.command ∙ sym c.inputs_of.ensures in
     let kept : has_stdin c.inputs_of.result.now ≡ false → after ≡ before = λ none.
-    let unread = c.in-Err.ensures.unread none in
+    let unread = c.in-Err.ensures.untouched.unread none in
     same_outside (left c.args.input.now) (left c.read_inputs.new.input) (faults c.args.input.now) (faults c.read_inputs.new.input) (taken c.args.output.now) (sinks c.args.output.now) (ap left unread) (ap faults unread) in
     λ held stdin tells.
     played_err c.args.words.now c.in-Ok.command c.inputs_of.result.now (g.F.Files.contents c.args.files.now) (left c.args.input.now) (Rose (faults c.args.input.now) (faults c.read_inputs.new.input)) (Rose (reads c.args.files.now) (reads c.read_inputs.new.files)) held stdin before after
     c.in-Err.ended c.in-Ok.ensures.command c.inputs_of.ensures (c.in-Err.ensures.told held stdin (rw same at tells)) c.in-Err.ensures.refused kept refl
 
-pub returns-in-Err-Usage-clause-leaves_input : goal.returns-in-Err-Usage-clause-leaves_input
-returns-in-Err-Usage-clause-leaves_input g c = loses_none _ _ _
+pub returns-in-Err-Usage-clause-leaves : goal.returns-in-Err-Usage-clause-leaves
+returns-in-Err-Usage-clause-leaves g c = record {
+  input_fault = λ (rose : g.I.Source.faults c.args.input.now < g.I.Source.faults c.args.input.now). absurd (omega (arith, rose));
+  file_fault = λ (rose : g.F.Files.read_faults c.args.files.now < g.F.Files.read_faults c.args.files.now). absurd (omega (arith, rose));
+  input = loses_none _ _ _;
+  files = leaves_none _ _ _ _ _;
+}
 
-pub returns-in-Err-Memory-clause-leaves_input : goal.returns-in-Err-Memory-clause-leaves_input
-returns-in-Err-Memory-clause-leaves_input g c = loses_none _ _ _
+pub returns-in-Err-Usage-clause-untouched : goal.returns-in-Err-Usage-clause-untouched
+returns-in-Err-Usage-clause-untouched g c = record { unread = λ both. refl; files_unread = λ both. refl }
+
+pub returns-in-Err-Memory-clause-leaves : goal.returns-in-Err-Memory-clause-leaves
+returns-in-Err-Memory-clause-leaves g c = record {
+  input_fault = λ (rose : g.I.Source.faults c.args.input.now < g.I.Source.faults c.args.input.now). absurd (omega (arith, rose));
+  file_fault = λ (rose : g.F.Files.read_faults c.args.files.now < g.F.Files.read_faults c.args.files.now). absurd (omega (arith, rose));
+  input = loses_none _ _ _;
+  files = leaves_none _ _ _ _ _;
+}
+
+pub returns-in-Err-Memory-clause-untouched : goal.returns-in-Err-Memory-clause-untouched
+returns-in-Err-Memory-clause-untouched g c = record { unread = λ both. refl; files_unread = λ both. refl }
 
 pub returns-in-Err-Usage-clause-played : goal.returns-in-Err-Usage-clause-played
 returns-in-Err-Usage-clause-played g c =
