@@ -98,14 +98,21 @@ clash_words clash = codes "conflict: " ++ (conflict_words clash.kind ++ (codes "
 abbrev pub place_words : Place → List ℕ
 place_words place = decimal place.line ++ (codes ":" ++ decimal place.column)
 
+-- what standard error is told of an end about a name or a number at a place of an input; of another end nothing
+abbrev pub name_line : List (List ℕ) → Ended → List ℕ
+name_line words (UnknownName name place spelled) = error_line words (located name place (codes "unknown name " ++ spelled))
+name_line words (Duplicate name place first) = error_line words (located name place (codes "duplicate, first at " ++ place_words first))
+name_line words (WrongNumber name place next found) = error_line words (located name place (codes "number " ++ (decimal next ++ (codes " expected, " ++ (found ++ codes " found")))))
+name_line words ended = []
+
 -- what standard error is told of an end at a place of an input; of another end nothing
 abbrev pub placed_line : List (List ℕ) → Ended → List ℕ
 placed_line words (BadByte name place) = error_line words (located name place (codes "bad byte"))
 placed_line words (NoItemHere name place) = error_line words (located name place (codes "no item here"))
 placed_line words (LeftOutWord name place word) = error_line words (located name place (codes "left out: " ++ word))
-placed_line words (UnknownName name place spelled) = error_line words (located name place (codes "unknown name " ++ spelled))
-placed_line words (Duplicate name place first) = error_line words (located name place (codes "duplicate, first at " ++ place_words first))
-placed_line words (WrongNumber name place next found) = error_line words (located name place (codes "number " ++ (decimal next ++ (codes " expected, " ++ (found ++ codes " found")))))
+placed_line words (UnknownName name place spelled) = name_line words (UnknownName name place spelled)
+placed_line words (Duplicate name place first) = name_line words (Duplicate name place first)
+placed_line words (WrongNumber name place next found) = name_line words (WrongNumber name place next found)
 placed_line words (ConstantRange name place) = error_line words (located name place (codes "constant out of range"))
 placed_line words (TooDeep name place) = error_line words (located name place (codes "too deep"))
 placed_line words (TooLarge name place) = error_line words (located name place (codes "too large"))
@@ -121,26 +128,50 @@ line_of_record words (BadRecord name block index rule) =
     error_line words (name ++ (codes ": bad record " ++ (decimal index ++ (codes " in block " ++ (decimal block ++ (codes ", rule " ++ decimal rule))))))
 line_of_record words ended = []
 
+-- what standard error is told of a program that has no end of its own; of another end nothing
+abbrev pub program_line : List (List ℕ) → Ended → List ℕ
+program_line words StepsUsed = error_line words (codes "steps used up")
+program_line words (Undefined kind) = error_line words (codes "undefined: " ++ undefined_word kind)
+program_line words StackLimit = error_line words (codes "stack limit")
+program_line words MemoryLimit = error_line words (codes "memory limit")
+program_line words (Unresolved name) = error_line words (codes "unresolved " ++ name)
+program_line words NoMain = error_line words (codes "no main")
+program_line words ended = []
+
+-- what standard error is told of an end that one number tells; of another end nothing
+abbrev pub number_line : List (List ℕ) → Ended → List ℕ
+number_line words (Usage kind k) = error_line words (codes "usage: " ++ (kind_words kind ++ (codes " at word " ++ decimal k)))
+number_line words (InputTooLarge name limit) = error_line words (name ++ (codes ": over " ++ (decimal limit ++ codes " bytes")))
+number_line words (TooMany None kind count) = error_line words (codes "too many " ++ (count_words kind ++ (codes ": " ++ decimal count)))
+number_line words (TooMany (Some name) kind count) = error_line words (name ++ (codes ": too many " ++ (count_words kind ++ (codes ": " ++ decimal count))))
+number_line words (BitFault name fault) = error_line words (name ++ (codes ": bit " ++ (decimal fault.bit ++ (codes ": " ++ fault_words fault.kind))))
+number_line words ended = []
+
+-- what standard error is told of a module that is refused; of another end nothing
+abbrev pub verdict_line : List (List ℕ) → Ended → List ℕ
+verdict_line words (FunctionTooLarge name function size) = error_line words (name ++ (codes ": function too large: " ++ (function ++ (codes ", " ++ decimal size))))
+verdict_line words (Invalid name rule entity) = error_line words (name ++ (codes ": invalid V" ++ (decimal rule ++ (codes " at " ++ entity))))
+verdict_line words ended = []
+
 -- what standard error is told: one line, or nothing of a tool that did its work and of a program that ended
 abbrev pub line_of : List (List ℕ) → Ended → List ℕ
 line_of words ends.Ok = []
 line_of words (Exit status) = []
-line_of words StepsUsed = error_line words (codes "steps used up")
-line_of words (Undefined kind) = error_line words (codes "undefined: " ++ undefined_word kind)
-line_of words StackLimit = error_line words (codes "stack limit")
-line_of words MemoryLimit = error_line words (codes "memory limit")
-line_of words (Unresolved name) = error_line words (codes "unresolved " ++ name)
-line_of words NoMain = error_line words (codes "no main")
-line_of words (Usage kind k) = error_line words (codes "usage: " ++ (kind_words kind ++ (codes " at word " ++ decimal k)))
+line_of words StepsUsed = program_line words StepsUsed
+line_of words (Undefined kind) = program_line words (Undefined kind)
+line_of words StackLimit = program_line words StackLimit
+line_of words MemoryLimit = program_line words MemoryLimit
+line_of words (Unresolved name) = program_line words (Unresolved name)
+line_of words NoMain = program_line words NoMain
+line_of words (Usage kind k) = number_line words (Usage kind k)
 line_of words (CannotRead name) = error_line words (codes "cannot read " ++ name)
 line_of words (CannotWrite name) = error_line words (codes "cannot write " ++ name)
-line_of words (InputTooLarge name limit) = error_line words (name ++ (codes ": over " ++ (decimal limit ++ codes " bytes")))
-line_of words (TooMany None kind count) = error_line words (codes "too many " ++ (count_words kind ++ (codes ": " ++ decimal count)))
-line_of words (TooMany (Some name) kind count) = error_line words (name ++ (codes ": too many " ++ (count_words kind ++ (codes ": " ++ decimal count))))
+line_of words (InputTooLarge name limit) = number_line words (InputTooLarge name limit)
+line_of words (TooMany input kind count) = number_line words (TooMany input kind count)
 line_of words (Conflict clash) = error_line words (clash_words clash)
-line_of words (FunctionTooLarge name function size) = error_line words (name ++ (codes ": function too large: " ++ (function ++ (codes ", " ++ decimal size))))
-line_of words (Invalid name rule entity) = error_line words (name ++ (codes ": invalid V" ++ (decimal rule ++ (codes " at " ++ entity))))
-line_of words (BitFault name fault) = error_line words (name ++ (codes ": bit " ++ (decimal fault.bit ++ (codes ": " ++ fault_words fault.kind))))
+line_of words (FunctionTooLarge name function size) = verdict_line words (FunctionTooLarge name function size)
+line_of words (Invalid name rule entity) = verdict_line words (Invalid name rule entity)
+line_of words (BitFault name fault) = number_line words (BitFault name fault)
 line_of words (ForeignProducer name) = line_of_record words (ForeignProducer name)
 line_of words (BadVersion name version) = line_of_record words (BadVersion name version)
 line_of words (UnknownRecord name block code) = line_of_record words (UnknownRecord name block code)

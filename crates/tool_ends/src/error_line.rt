@@ -3,7 +3,7 @@ ghost use Rattle.std.specs.Prelude.{◌≡◌, ◌++◌, codes};
 ghost use Rattle.ir_base.specs.Outside.{Wrote};
 ghost use Rattle.command_line.specs.Tools.{line_name};
 ghost use Rattle.tool_ends.specs.declared.ended.Ended.TheVariants.{TooMany};
-ghost use Rattle.tool_ends.specs.Ended.{error_line, count_words, fault_words, line_of};
+ghost use Rattle.tool_ends.specs.Ended.{error_line, count_words, fault_words, line_of, number_line, program_line, verdict_line};
 
 use crate::clash_line::tell_clash;
 use crate::digits::Digits;
@@ -124,7 +124,7 @@ fn tell_too_many<E: Sink>(
     kind: CountKind,
     count: u64,
 ) -> Result<(), Failed>
-    ensures { Wrote (E.taken errors.old) (E.taken errors.new) (E.faults errors.old) (E.faults errors.new) (line_of words.now (TooMany name.now kind count)) }
+    ensures { Wrote (E.taken errors.old) (E.taken errors.new) (E.faults errors.old) (E.faults errors.new) (number_line words.now (TooMany name.now kind count)) }
 {
     let digits = Digits::of(count);
     let kind = count_words(kind).as_bytes();
@@ -239,12 +239,11 @@ pub(crate) fn tell_text<'t, E: Sink>(
     write_pieces(errors, &[name_of(words), b": ", text, name, b"\n"])
 }
 
-/// Writes the line of the end, by pieces and without memory. A sink that fails has taken a front of it.
-pub fn tell<E: Sink>(errors: &mut E, words: &[Text], ended: &Ended)
-    ensures { Wrote (E.taken errors.old) (E.taken errors.new) (E.faults errors.old) (E.faults errors.new) (line_of words.now ended.now) }
+// The line of a program that has no end of its own; of another end nothing.
+fn tell_program<E: Sink>(errors: &mut E, words: &[Text], ended: &Ended) -> Result<(), Failed>
+    ensures { Wrote (E.taken errors.old) (E.taken errors.new) (E.faults errors.old) (E.faults errors.new) (program_line words.now ended.now) }
 {
-    let _ = match ended {
-        Ended::Ok | Ended::Exit(_) => Ok(()),
+    match ended {
         Ended::StepsUsed => tell_text(errors, words, b"steps used up", b""),
         Ended::Undefined(kind) => {
             tell_text(errors, words, b"undefined: ", kind.word().as_bytes())
@@ -253,18 +252,38 @@ pub fn tell<E: Sink>(errors: &mut E, words: &[Text], ended: &Ended)
         Ended::MemoryLimit => tell_text(errors, words, b"memory limit", b""),
         Ended::Unresolved(name) => tell_text(errors, words, b"unresolved ", name.bytes()),
         Ended::NoMain => tell_text(errors, words, b"no main", b""),
+        _ => Ok(()),
+    }
+}
+
+// The line of an end that one number tells; of another end nothing.
+fn tell_numbered<E: Sink>(errors: &mut E, words: &[Text], ended: &Ended) -> Result<(), Failed>
+    ensures { Wrote (E.taken errors.old) (E.taken errors.new) (E.faults errors.old) (E.faults errors.new) (number_line words.now ended.now) }
+{
+    match ended {
         Ended::Usage { kind, word } => {
             let digits = Digits::of(*word);
             tell_usage(errors, words, kind.words().as_bytes(), digits.bytes())
         }
-        Ended::CannotRead(name) => tell_text(errors, words, b"cannot read ", name.bytes()),
-        Ended::CannotWrite(name) => tell_text(errors, words, b"cannot write ", name.bytes()),
         Ended::InputTooLarge { input, limit } => {
             let digits = Digits::of(*limit);
             tell_limit(errors, words, input.bytes(), digits.bytes())
         }
         Ended::TooMany { input, kind, count } => tell_too_many(errors, words, input, *kind, *count),
-        Ended::Conflict(clash) => tell_clash(errors, words, clash),
+        Ended::BitFault { input, fault } => {
+            let digits = Digits::of(fault.bit);
+            let kind = fault_words(fault.kind).as_bytes();
+            tell_bit(errors, words, input.bytes(), digits.bytes(), kind)
+        }
+        _ => Ok(()),
+    }
+}
+
+// The line of a module that is refused; of another end nothing.
+fn tell_verdict<E: Sink>(errors: &mut E, words: &[Text], ended: &Ended) -> Result<(), Failed>
+    ensures { Wrote (E.taken errors.old) (E.taken errors.new) (E.faults errors.old) (E.faults errors.new) (verdict_line words.now ended.now) }
+{
+    match ended {
         Ended::FunctionTooLarge {
             input,
             function,
@@ -287,10 +306,31 @@ pub fn tell<E: Sink>(errors: &mut E, words: &[Text], ended: &Ended)
             let digits = Digits::of(u64::from(*rule));
             tell_rule(errors, words, input.bytes(), digits.bytes(), entity.bytes())
         }
-        Ended::BitFault { input, fault } => {
-            let digits = Digits::of(fault.bit);
-            let kind = fault_words(fault.kind).as_bytes();
-            tell_bit(errors, words, input.bytes(), digits.bytes(), kind)
+        _ => Ok(()),
+    }
+}
+
+/// Writes the line of the end, by pieces and without memory. A sink that fails has taken a front of it.
+pub fn tell<E: Sink>(errors: &mut E, words: &[Text], ended: &Ended)
+    ensures { Wrote (E.taken errors.old) (E.taken errors.new) (E.faults errors.old) (E.faults errors.new) (line_of words.now ended.now) }
+{
+    let _ = match ended {
+        Ended::Ok | Ended::Exit(_) => Ok(()),
+        Ended::StepsUsed
+        | Ended::Undefined(_)
+        | Ended::StackLimit
+        | Ended::MemoryLimit
+        | Ended::Unresolved(_)
+        | Ended::NoMain => tell_program(errors, words, ended),
+        Ended::Usage { .. }
+        | Ended::InputTooLarge { .. }
+        | Ended::TooMany { .. }
+        | Ended::BitFault { .. } => tell_numbered(errors, words, ended),
+        Ended::CannotRead(name) => tell_text(errors, words, b"cannot read ", name.bytes()),
+        Ended::CannotWrite(name) => tell_text(errors, words, b"cannot write ", name.bytes()),
+        Ended::Conflict(clash) => tell_clash(errors, words, clash),
+        Ended::FunctionTooLarge { .. } | Ended::Invalid { .. } => {
+            tell_verdict(errors, words, ended)
         }
         Ended::ForeignProducer(_)
         | Ended::BadVersion { .. }

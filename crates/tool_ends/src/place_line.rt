@@ -2,7 +2,7 @@
 ghost use Rattle.std.specs.Prelude.{◌≡◌, ◌++◌, codes};
 ghost use Rattle.ir_base.specs.Outside.{Wrote};
 ghost use Rattle.tool_ends.specs.declared.ended.Ended.TheVariants.{Duplicate, WrongNumber};
-ghost use Rattle.tool_ends.specs.Ended.{error_line, located, located_by, placed_line};
+ghost use Rattle.tool_ends.specs.Ended.{error_line, located, located_by, name_line, placed_line};
 
 use crate::digits::Digits;
 use crate::ended::Ended;
@@ -179,24 +179,11 @@ fn tell_number<E: Sink>(
     )
 }
 
-/// The line of an end at a place of an input; of another end nothing.
-pub(crate) fn tell_placed<E: Sink>(
-    errors: &mut E,
-    words: &[Text],
-    ended: &Ended,
-) -> Result<(), Failed>
-    ensures { Wrote (E.taken errors.old) (E.taken errors.new) (E.faults errors.old) (E.faults errors.new) (placed_line words.now ended.now) }
+// The line of an end about a name or a number at a place of an input; of another end nothing.
+fn tell_named<E: Sink>(errors: &mut E, words: &[Text], ended: &Ended) -> Result<(), Failed>
+    ensures { Wrote (E.taken errors.old) (E.taken errors.new) (E.faults errors.old) (E.faults errors.new) (name_line words.now ended.now) }
 {
     match ended {
-        Ended::BadByte { input, place } => {
-            tell_place(errors, words, input, *place, b"bad byte", b"")
-        }
-        Ended::NoItemHere { input, place } => {
-            tell_place(errors, words, input, *place, b"no item here", b"")
-        }
-        Ended::LeftOutWord { input, place, word } => {
-            tell_place(errors, words, input, *place, b"left out: ", word.bytes())
-        }
         Ended::UnknownName {
             input,
             place,
@@ -222,6 +209,31 @@ pub(crate) fn tell_placed<E: Sink>(
             next,
             found,
         } => tell_number(errors, words, input, *place, *next, found),
+        _ => Ok(()),
+    }
+}
+
+/// The line of an end at a place of an input; of another end nothing.
+pub(crate) fn tell_placed<E: Sink>(
+    errors: &mut E,
+    words: &[Text],
+    ended: &Ended,
+) -> Result<(), Failed>
+    ensures { Wrote (E.taken errors.old) (E.taken errors.new) (E.faults errors.old) (E.faults errors.new) (placed_line words.now ended.now) }
+{
+    match ended {
+        Ended::BadByte { input, place } => {
+            tell_place(errors, words, input, *place, b"bad byte", b"")
+        }
+        Ended::NoItemHere { input, place } => {
+            tell_place(errors, words, input, *place, b"no item here", b"")
+        }
+        Ended::LeftOutWord { input, place, word } => {
+            tell_place(errors, words, input, *place, b"left out: ", word.bytes())
+        }
+        Ended::UnknownName { .. } | Ended::Duplicate { .. } | Ended::WrongNumber { .. } => {
+            tell_named(errors, words, ended)
+        }
         Ended::ConstantRange { input, place } => {
             tell_place(errors, words, input, *place, b"constant out of range", b"")
         }

@@ -1,7 +1,7 @@
 use Rattle.tool_ends.proofs.error_line.tell.Goals as goal
 
 pub returns-in-CannotRead : goal.returns-in-CannotRead
-returns-in-CannotRead g c = rw c.in-CannotRead.is (rw c.bytes-in-CannotRead.ensures at c.tell_text-in-CannotRead.ensures)
+returns-in-CannotRead g c = rw c.in-CannotRead.is (rw c.bytes.ensures at c.tell_text.ensures)
 
 pub returns-in-Memory : goal.returns-in-Memory
 returns-in-Memory g c = rw c.in-Memory.is c.tell_text-in-Memory.ensures
@@ -11,9 +11,3 @@ returns-in-CannotWrite g c = rw c.in-CannotWrite.is (rw c.bytes-in-CannotWrite.e
 
 pub returns-in-NoSuchSymbol : goal.returns-in-NoSuchSymbol
 returns-in-NoSuchSymbol g c = rw c.in-NoSuchSymbol.is (rw c.bytes-in-NoSuchSymbol.ensures at c.tell_text-in-NoSuchSymbol.ensures)
-
-pub returns-in-StackLimit : goal.returns-in-StackLimit
-returns-in-StackLimit g c = rw c.in-StackLimit.is c.tell_text-in-StackLimit.ensures
-
-pub returns-in-MemoryLimit : goal.returns-in-MemoryLimit
-returns-in-MemoryLimit g c = rw c.in-MemoryLimit.is c.tell_text-in-MemoryLimit.ensures
