@@ -1,5 +1,5 @@
 -- Texts judged one behind the other.
-use Rattle.std.proofs.Common.{◌≡◌, ◌⊎◌, inl, inr, ℕ, zero, suc, ◌+◌, ◌≤◌, ◌<◌, List, [], ◌∷◌, ◌++◌, length, drop, get_or, Option, Some, None, sym, ap, arith, add-one, drop-cons}
+use Rattle.std.proofs.Common.{◌≡◌, ◌⊎◌, inl, inr, ℕ, zero, suc, ◌+◌, ◌≤◌, ◌<◌, List, [], ◌∷◌, ◌++◌, length, drop, get_or, Option, Some, None, sym, ap, arith, add-one, drop-cons, length-drop}
 use Rattle.std.proofs.lemmas.List.{drop_all}
 use Rattle.std.specs.Prelude.{slice_get}
 use Rattle.tool_ends.specs.declared.ended.Ended.{Ended}
@@ -34,6 +34,17 @@ short_from (suc i) (t ∷ texts) all = short_from i texts all.1
 
 pub short_at : (texts : List (List ℕ)) (i : ℕ) (text : List ℕ) → AreShort texts → i < length texts → text ≡ get_or texts i text → length text ≤ LARGEST
 short_at texts i text all h e = (let s : AreShort (text ∷ drop (i + 1) texts) = rw (next_part texts i text h e) at (short_from i texts all) in s.0)
+
+-- the first of what is left from an index on is the one with that index
+pub next_left : (i : ℕ) (all : List (List ℕ)) (one : List ℕ) (left : List (List ℕ)) → one ∷ left ≡ drop i all → (one ≡ get_or all i one) × (left ≡ drop (suc i) all)
+next_left zero [] one left is = absurd cc
+next_left zero (t ∷ all) one left is = (let head : one ≡ t = cc in let tail : left ≡ all = cc in (head, tail))
+next_left (suc i) [] one left is = absurd cc
+next_left (suc i) (t ∷ all) one left is = next_left i all one left is
+
+-- and there is a first, as long as the index is one of these
+pub some_left : (i : ℕ) (all left : List (List ℕ)) → i < length all → left ≡ drop i all → length left ≡ 0 → ⊥
+some_left i all left h is none = omega (arith, h, ap length is, length-drop i all, none)
 
 pub judged_on : (names texts : List (List ℕ)) (i : ℕ) (name text : List ℕ) (found : Option Ended) → i < length texts → length names ≡ length texts → name ≡ get_or names i name → text ≡ get_or texts i text → IsPartAccepted text → ((found : Option Ended) → IsJudged (drop i names) (drop i texts) found → IsJudged names texts found) → IsJudged (drop (i + 1) names) (drop (i + 1) texts) found → IsJudged names texts found
 judged_on names texts i name text found h same n t accepted before rest =

@@ -16,7 +16,7 @@ ghost use Rattle.tool_cli.specs.Told.{clash_told, link_end, part_named, IsLinkin
 use crate::delivery::deliver;
 use crate::parts::accepted_parts;
 use command_line::OutputName;
-use ir_base::{Files, Name, Sink, Text};
+use ir_base::{Files, Name, Sink, Text, TextList};
 use linkage_rules::ConflictKind;
 use module_arena::Checked;
 use module_link::LinkFault;
@@ -81,13 +81,13 @@ fn link_refusal(alloc: Global, names: &[Text], fault: LinkFault) -> Ended
     }
 }
 
-// The module that the inputs of these names are linked to.
-fn linked(alloc: Global, names: &[Text], texts: &[Text]) -> Result<Checked, Ended>
-    requires same { length names.now ≡ length texts.now }
-    requires short { AreShort texts.now }
-    ensures made { IfOk result (λ whole. LinksTo texts.now (module_of whole)) }
-    ensures linking { OnOk result (IsLinking names.now texts.now Ended.Ok) }
-    ensures refused { IfErr result (λ ended. IsLinking names.now texts.now ended ⊎ (ended ≡ Ended.Memory)) }
+// The module that the inputs of these names are linked to. They are let go one by one.
+fn linked(alloc: Global, names: &[Text], texts: TextList) -> Result<Checked, Ended>
+    requires same { length names.now ≡ length texts }
+    requires short { AreShort texts }
+    ensures made { IfOk result (λ whole. LinksTo texts (module_of whole)) }
+    ensures linking { OnOk result (IsLinking names.now texts Ended.Ok) }
+    ensures refused { IfErr result (λ ended. IsLinking names.now texts ended ⊎ (ended ≡ Ended.Memory)) }
     ensures of_texts { IfErr result IsOfTexts }
 {
     let parts = accepted_parts(alloc, names, texts)?;
@@ -112,27 +112,28 @@ pub(crate) fn format_of(text: bool) -> OutputFormat
     }
 }
 
-/// Links the inputs of these names, in their order, and writes the bitcode of what they make to this place, or with `text` its canonical text. A conflict of
-/// two of them is told, or else a count that is past its limit.
+/// Links the inputs of these names, in their order, and writes the bitcode of what they make to this place, or with
+/// `text` its canonical text. A conflict of two of them is told, or else a count that is past its limit. Each input is let
+/// go as soon as its module is there.
 pub(crate) fn link<F: Files, O: Sink>(
     alloc: Global,
     names: &[Text],
-    texts: &[Text],
+    texts: TextList,
     place: &OutputName,
     text: bool,
     files: &mut F,
     output: &mut O,
 ) -> Ended
-    requires same { length names.now ≡ length texts.now }
-    requires short { AreShort texts.now }
-    ensures work { IsWork (commands.Link names.now place.now text) texts.now result
+    requires same { length names.now ≡ length texts }
+    requires short { AreShort texts }
+    ensures work { IsWork (commands.Link names.now place.now text) texts result
         ⊎ FailsToWrite (Some place.now) (Rose (O.faults output.old) (O.faults output.new)) (Rose (F.write_faults files.old) (F.write_faults files.new)) result }
     ensures of_work { IsOfWork result }
     ensures cannot_write { (name : List ℕ) → result ≡ Ended.CannotWrite name
         → IsUnwritten (Some place.now) (Rose (O.faults output.old) (O.faults output.new)) (Rose (F.write_faults files.old) (F.write_faults files.new)) name }
     ensures output_fault { O.faults output.old < O.faults output.new → IsUnwrittenOrMemory result }
     ensures write_fault { F.write_faults files.old < F.write_faults files.new → IsFileUnwritten (Some place.now) result }
-    ensures written { IsWritten (commands.Link names.now place.now text) texts.now (outputs (O.taken output.old) (F.contents files.old)) (outputs (O.taken output.new) (F.contents files.new)) result }
+    ensures written { IsWritten (commands.Link names.now place.now text) texts (outputs (O.taken output.old) (F.contents files.old)) (outputs (O.taken output.new) (F.contents files.new)) result }
     ensures leaves_files { LeavesFilesBut (Some place.now) result (F.contents files.old) (F.contents files.new) (F.read_faults files.old) (F.read_faults files.new) (F.write_faults files.old) (F.write_faults files.new) }
     ensures reads { F.read_faults files.new ≡ F.read_faults files.old }
     ensures unwritten { LeavesStandard (Some place.now) result → output.new ≡ output.old }

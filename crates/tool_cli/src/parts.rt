@@ -13,7 +13,7 @@ ghost use Rattle.tool_cli.specs.Told.{IsOfTexts};
 
 use crate::bitcode::accepted_bitcode;
 use crate::entity::entity_words;
-use ir_base::{Name, Text};
+use ir_base::{Name, Text, TextList};
 use ir_resolve::resolve;
 use ir_syntax::{Items, SyntaxFault, read_items};
 use module_arena::{Checked, Entity};
@@ -180,22 +180,39 @@ pub(crate) fn accepted_part(alloc: Global, name: &Text, bytes: &[u8]) -> Result<
     }
 }
 
-/// The modules that the inputs of these names stand for, in their order, where each stands for one that is valid.
+// The module that the input of this name stands for, where it is one that is valid. The input is let go as soon as that
+// is known.
+fn taken_part(alloc: Global, name: &Text, text: Text) -> Result<Checked, Ended>
+    requires { IsShort text }
+    ensures part { IfOk result (λ checked. IsPart text (module_of checked)) }
+    ensures refused { IfErr result (λ ended. IsPartRefused name.now text ended ⊎ (ended ≡ Ended.Memory)) }
+    ensures of_texts { IfErr result IsOfTexts }
+{
+    accepted_part(alloc, name, text.bytes())
+}
+
+/// The modules that the inputs of these names stand for, in their order, where each stands for one that is valid. Each
+/// input is let go as soon as its module is there.
 pub(crate) fn accepted_parts(
     alloc: Global,
     names: &[Text],
-    texts: &[Text],
+    texts: TextList,
 ) -> Result<Vec<Checked>, Ended>
-    requires same { length names.now ≡ length texts.now }
-    requires short { AreShort texts.now }
-    ensures accepted { OnOk result (AreAccepted texts.now) }
-    ensures parts { IfOk result (λ parts. AreParts texts.now (modules parts.items)) }
-    ensures refused { IfErr result (λ ended. IsFirstRefusal names.now texts.now ended ⊎ (ended ≡ Ended.Memory)) }
+    requires same { length names.now ≡ length texts }
+    requires short { AreShort texts }
+    ensures accepted { OnOk result (AreAccepted texts) }
+    ensures parts { IfOk result (λ parts. AreParts texts (modules parts.items)) }
+    ensures refused { IfErr result (λ ended. IsFirstRefusal names.now texts ended ⊎ (ended ≡ Ended.Memory)) }
     ensures of_texts { IfErr result IsOfTexts }
 {
     let mut parts = Vec::new(alloc);
-    'inputs: for index in 0..texts.len() {
-        let checked = accepted_part(alloc, &names[index], texts[index].bytes())?;
+    let mut rest = texts.into_vec().into_iter();
+    'inputs: for name in names {
+        let text = match rest.next() {
+            Some(text) => text,
+            None => unreachable!(),
+        };
+        let checked = taken_part(alloc, name, text)?;
         let Ok(()) = parts.push(checked) else {
             return Err(Ended::Memory);
         };

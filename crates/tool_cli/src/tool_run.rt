@@ -86,7 +86,7 @@ fn ended_of<F: Files, I: Source, O: Sink>(
         Err(WordsFault::Memory) => return Ended::Memory,
     };
     match read_inputs(alloc, files, input, inputs_of(&command)) {
-        Ok(texts) => work(alloc, &command, &texts, files, input, output),
+        Ok(texts) => work(alloc, &command, texts, files, input, output),
         Err(ended) => ended,
     }
 }

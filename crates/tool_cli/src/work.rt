@@ -21,33 +21,34 @@ use ir_base::{Files, Sink, Source, TextList};
 use std::alloc::Global;
 use tool_ends::Ended;
 
-/// Does what the command says with the texts of its inputs, each of at most 16 MiB. A program that is run has standard input for its own, but where its module
+/// Does what the command says with the texts of its inputs, each of at most 16 MiB. Texts that are linked are let go one
+/// by one, each when its module is there. A program that is run has standard input for its own, but where its module
 /// came from there.
 pub fn work<F: Files, I: Source, O: Sink>(
     alloc: Global,
     command: &Command,
-    texts: &TextList,
+    texts: TextList,
     files: &mut F,
     input: &mut I,
     output: &mut O,
 ) -> Ended
-    requires count { length texts.now ≡ length (inputs_of command.now) }
-    requires short { AreShort texts.now }
+    requires count { length texts ≡ length (inputs_of command.now) }
+    requires short { AreShort texts }
     requires steps { StepsFit command.now }
     // What is answered.
-    ensures work { runs_program command.now ≡ false → IsWork command.now texts.now result
+    ensures work { runs_program command.now ≡ false → IsWork command.now texts result
         ⊎ FailsToWrite (output_of command.now) (Rose (O.faults output.old) (O.faults output.new)) (Rose (F.write_faults files.old) (F.write_faults files.new)) result }
     ensures of_work { IsOfRun result (hears command.now) }
     ensures cannot_write { (name : List ℕ) → result ≡ Ended.CannotWrite name
         → IsUnwritten (output_of command.now) (Rose (O.faults output.old) (O.faults output.new)) (Rose (F.write_faults files.old) (F.write_faults files.new)) name }
     ensures output_fault { O.faults output.old < O.faults output.new → IsUnwrittenOrMemory result }
     ensures write_fault { F.write_faults files.old < F.write_faults files.new → IsFileUnwritten (output_of command.now) result }
-    ensures ran { IsRanBy command.now texts.now
+    ensures ran { IsRanBy command.now texts
         (outside (I.left input.old) (I.faults input.old) (O.taken output.old) (O.faults output.old)) (outside (I.left input.new) (I.faults input.new) (O.taken output.new) (O.faults output.new)) result }
 
     // What is read and written.
     ensures written { runs_program command.now ≡ false
-        → IsWritten command.now texts.now (outputs (O.taken output.old) (F.contents files.old)) (outputs (O.taken output.new) (F.contents files.new)) result }
+        → IsWritten command.now texts (outputs (O.taken output.old) (F.contents files.old)) (outputs (O.taken output.new) (F.contents files.new)) result }
     ensures leaves_files { LeavesFilesBut (output_of command.now) result (F.contents files.old) (F.contents files.new) (F.read_faults files.old) (F.read_faults files.new) (F.write_faults files.old) (F.write_faults files.new) }
     ensures reads { F.read_faults files.new ≡ F.read_faults files.old }
     ensures unwritten { is_analysis command.now ≡ false → runs_program command.now ≡ false → LeavesStandard (output_of command.now) result → output.new ≡ output.old }
@@ -71,15 +72,7 @@ pub fn work<F: Files, I: Source, O: Sink>(
             inputs,
             output: place,
             text,
-        } => link(
-            alloc,
-            inputs.as_slice(),
-            texts.as_slice(),
-            place,
-            *text,
-            files,
-            output,
-        ),
+        } => link(alloc, inputs.as_slice(), texts, place, *text, files, output),
         Command::Extract {
             input,
             output: place,

@@ -6,7 +6,7 @@ use Rattle.tool_cli.proofs.Delivered.{delivered_of_work, delivered_work, result_
 use Rattle.tool_cli.proofs.linking.link.Goals as goal
 
 pub returns-in-Err-clause-work : goal.returns-in-Err-clause-work
-returns-in-Err-clause-work g c = link_refused c.args.names.now c.args.texts.now c.args.place.now c.args.text _ _ _ c.in-Err.ensures.refused
+returns-in-Err-clause-work g c = link_refused c.args.names.now c.args.texts c.args.place.now c.args.text _ _ _ c.in-Err.ensures.refused
 
 pub returns-in-Err-clause-of_work : goal.returns-in-Err-clause-of_work
 returns-in-Err-clause-of_work g c = texts_of_work _ c.in-Err.ensures.of_texts
@@ -15,7 +15,7 @@ pub returns-in-Err-clause-cannot_write : goal.returns-in-Err-clause-cannot_write
 returns-in-Err-clause-cannot_write g c = λ name told. absurd (texts_written _ c.in-Err.ensures.of_texts name told)
 
 pub returns-in-Err-clause-written : goal.returns-in-Err-clause-written
-returns-in-Err-clause-written g c = silent_written (Link c.args.names.now c.args.place.now c.args.text) c.args.texts.now (outputs (g.O.Sink.taken c.args.output.now) (g.F.Files.contents c.args.files.now)) _ _ c.in-Err.ensures.of_texts refl
+returns-in-Err-clause-written g c = silent_written (Link c.args.names.now c.args.place.now c.args.text) c.args.texts (outputs (g.O.Sink.taken c.args.output.now) (g.F.Files.contents c.args.files.now)) _ _ c.in-Err.ensures.of_texts refl
 
 pub returns-in-Err-clause-leaves_files : goal.returns-in-Err-clause-leaves_files
 returns-in-Err-clause-leaves_files g c = leaves_none _ _ _ _ _
@@ -25,7 +25,7 @@ returns-clause-work g c = delivered_work (Link c.args.names.now c.args.place.now
 
 pub returns-clause-written : goal.returns-clause-written
 returns-clause-written g c =
-    let result = link_result c.args.names.now c.args.texts.now c.args.place.now c.args.text _ c.in-Ok.ensures.made in
+    let result = link_result c.args.names.now c.args.texts c.args.place.now c.args.text _ c.in-Ok.ensures.made in
     result_written (Link c.args.names.now c.args.place.now c.args.text) _ _ _ _ _ _ refl result (rw c.format_of.ensures at c.deliver.ensures.delivered)
 
 pub returns-clause-of_work : goal.returns-clause-of_work

@@ -1,4 +1,4 @@
-use Rattle.std.proofs.Common.{◌⊎◌, ℕ, List, true≢false}
+use Rattle.std.proofs.Common.{◌⊎◌, ℕ, List, refl, true≢false}
 use Rattle.command_line.specs.declared.command.Command.{Command}
 use Rattle.ir_base.specs.Outside.{Rose}
 use Rattle.run_rules.specs.Clauses.{outside}
@@ -68,14 +68,14 @@ returns-in-Link-clause-work g c =
     IsWork command texts c.link.result
     ⊎ FailsToWrite (output_of command) (Rose (g.O.Sink.faults c.args.output.now) (g.O.Sink.faults c.link.new.output)) (Rose (g.F.Files.write_faults c.args.files.now) (g.F.Files.write_faults c.link.new.files)) c.link.result in
     λ plain.
-    link_is P _ _ _ _ _ _ _ c.in-Link.is c.as_slice.ensures c.as_slice-in-Link.ensures c.link.ensures.work
+    link_is P _ _ _ c.args.texts c.args.texts _ _ c.in-Link.is c.as_slice.ensures refl c.link.ensures.work
 
 pub returns-in-Link-clause-written : goal.returns-in-Link-clause-written
 returns-in-Link-clause-written g c =
     let P : Command → List (List ℕ) → Type 0 = λ command texts.
     IsWritten command texts (outputs (g.O.Sink.taken c.args.output.now) (g.F.Files.contents c.args.files.now)) (outputs (g.O.Sink.taken c.link.new.output) (g.F.Files.contents c.link.new.files)) c.link.result in
     λ plain.
-    link_is P _ _ _ _ _ _ _ c.in-Link.is c.as_slice.ensures c.as_slice-in-Link.ensures c.link.ensures.written
+    link_is P _ _ _ c.args.texts c.args.texts _ _ c.in-Link.is c.as_slice.ensures refl c.link.ensures.written
 
 pub returns-in-Link-clause-cannot_write : goal.returns-in-Link-clause-cannot_write
 returns-in-Link-clause-cannot_write g c = rw c.in-Link.is c.link.ensures.cannot_write
@@ -174,30 +174,30 @@ pub returns-in-Lli-clause-ran : goal.returns-in-Lli-clause-ran
 returns-in-Lli-clause-ran g c =
     let before = outside (g.I.Source.left c.args.input.now) (g.I.Source.faults c.args.input.now) (g.O.Sink.taken c.args.output.now) (g.O.Sink.faults c.args.output.now) in
     let after = outside (g.I.Source.left c.run_bytes.new.input) (g.I.Source.faults c.run_bytes.new.input) (g.O.Sink.taken c.run_bytes.new.output) (g.O.Sink.faults c.run_bytes.new.output) in
-    let one = only_program c.args.command.now _ _ _ c.args.texts.now _ c.in-Lli.is c.requires.count c.at-in-Lli.ensures in
-    program_is c.args.command.now _ _ _ c.args.texts.now _ before after c.run_bytes.result c.in-Lli.is one (rw c.bytes-in-Lli.ensures at c.run_bytes.ensures.ran)
+    let one = only_program c.args.command.now _ _ _ c.args.texts _ c.in-Lli.is c.requires.count c.at-in-Lli.ensures in
+    program_is c.args.command.now _ _ _ c.args.texts _ before after c.run_bytes.result c.in-Lli.is one (rw c.bytes-in-Lli.ensures at c.run_bytes.ensures.ran)
 
 pub returns-in-Lli-clause-of_work : goal.returns-in-Lli-clause-of_work
 returns-in-Lli-clause-of_work g c =
     let before = outside (g.I.Source.left c.args.input.now) (g.I.Source.faults c.args.input.now) (g.O.Sink.taken c.args.output.now) (g.O.Sink.faults c.args.output.now) in
     let after = outside (g.I.Source.left c.run_bytes.new.input) (g.I.Source.faults c.run_bytes.new.input) (g.O.Sink.taken c.run_bytes.new.output) (g.O.Sink.faults c.run_bytes.new.output) in
-    let one = only_program c.args.command.now _ _ _ c.args.texts.now _ c.in-Lli.is c.requires.count c.at-in-Lli.ensures in
-    lli_of_run c.args.command.now _ _ _ c.args.texts.now _ before after c.run_bytes.result c.in-Lli.is one (rw c.bytes-in-Lli.ensures at c.run_bytes.ensures.ran)
+    let one = only_program c.args.command.now _ _ _ c.args.texts _ c.in-Lli.is c.requires.count c.at-in-Lli.ensures in
+    lli_of_run c.args.command.now _ _ _ c.args.texts _ before after c.run_bytes.result c.in-Lli.is one (rw c.bytes-in-Lli.ensures at c.run_bytes.ensures.ran)
 
 pub returns-in-Lli-clause-cannot_write : goal.returns-in-Lli-clause-cannot_write
 returns-in-Lli-clause-cannot_write g c =
     let before = outside (g.I.Source.left c.args.input.now) (g.I.Source.faults c.args.input.now) (g.O.Sink.taken c.args.output.now) (g.O.Sink.faults c.args.output.now) in
     let after = outside (g.I.Source.left c.run_bytes.new.input) (g.I.Source.faults c.run_bytes.new.input) (g.O.Sink.taken c.run_bytes.new.output) (g.O.Sink.faults c.run_bytes.new.output) in
     let writes = g.F.Files.write_faults c.args.files.now in
-    let one = only_program c.args.command.now _ _ _ c.args.texts.now _ c.in-Lli.is c.requires.count c.at-in-Lli.ensures in
-    lli_unwritten c.args.command.now _ _ _ c.args.texts.now _ before after (Rose writes writes) c.run_bytes.result c.in-Lli.is one (rw c.bytes-in-Lli.ensures at c.run_bytes.ensures.ran)
+    let one = only_program c.args.command.now _ _ _ c.args.texts _ c.in-Lli.is c.requires.count c.at-in-Lli.ensures in
+    lli_unwritten c.args.command.now _ _ _ c.args.texts _ before after (Rose writes writes) c.run_bytes.result c.in-Lli.is one (rw c.bytes-in-Lli.ensures at c.run_bytes.ensures.ran)
 
 pub returns-in-Lli-clause-output_fault : goal.returns-in-Lli-clause-output_fault
 returns-in-Lli-clause-output_fault g c =
     let before = outside (g.I.Source.left c.args.input.now) (g.I.Source.faults c.args.input.now) (g.O.Sink.taken c.args.output.now) (g.O.Sink.faults c.args.output.now) in
     let after = outside (g.I.Source.left c.run_bytes.new.input) (g.I.Source.faults c.run_bytes.new.input) (g.O.Sink.taken c.run_bytes.new.output) (g.O.Sink.faults c.run_bytes.new.output) in
-    let one = only_program c.args.command.now _ _ _ c.args.texts.now _ c.in-Lli.is c.requires.count c.at-in-Lli.ensures in
-    lli_output_fault c.args.command.now _ _ _ c.args.texts.now _ before after c.run_bytes.result c.in-Lli.is one (rw c.bytes-in-Lli.ensures at c.run_bytes.ensures.ran)
+    let one = only_program c.args.command.now _ _ _ c.args.texts _ c.in-Lli.is c.requires.count c.at-in-Lli.ensures in
+    lli_output_fault c.args.command.now _ _ _ c.args.texts _ before after c.run_bytes.result c.in-Lli.is one (rw c.bytes-in-Lli.ensures at c.run_bytes.ensures.ran)
 
 pub returns-in-Lli-clause-work : goal.returns-in-Lli-clause-work
 returns-in-Lli-clause-work g c = rw c.in-Lli.is (λ plain. absurd (true≢false plain))
