@@ -180,9 +180,9 @@ pub(crate) fn accepted_part(alloc: Global, name: &Text, bytes: &[u8]) -> Result<
     }
 }
 
-// The module that the input of this name stands for, where it is one that is valid. The input is let go as soon as that
-// is known.
-fn taken_part(alloc: Global, name: &Text, text: Text) -> Result<Checked, Ended>
+/// The module that the input of this name stands for, where it is one that is valid. The input is let go as soon as that
+/// is known.
+pub(crate) fn taken_part(alloc: Global, name: &Text, text: Text) -> Result<Checked, Ended>
     requires { IsShort text }
     ensures part { IfOk result (λ checked. IsPart text (module_of checked)) }
     ensures refused { IfErr result (λ ended. IsPartRefused name.now text ended ⊎ (ended ≡ Ended.Memory)) }

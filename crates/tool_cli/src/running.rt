@@ -7,7 +7,7 @@ ghost use Rattle.run_rules.specs.Clauses.{outside};
 ghost use Rattle.tool_cli.specs.Judged.{IsShort};
 ghost use Rattle.tool_cli.specs.Running.{end_told, program_of, AnswerTold, IsRunTo, IsRan, IsBeforeRun};
 
-use crate::parts::accepted_part;
+use crate::parts::taken_part;
 use command_line::is_dash;
 use ir_base::{Failed, Name, Sink, Source, Text, TextList};
 use module_arena::Checked;
@@ -95,25 +95,25 @@ fn run_program<I: Source, O: Sink>(
     }
 }
 
-/// Runs the module that the input of this name stands for, with these words, for at most so many steps. Where it came from standard input, its program has
-/// no input.
+/// Runs the module that the input of this name stands for, with these words, for at most so many steps. The input is let
+/// go before the run begins. Where it came from standard input, the program has no input.
 pub(crate) fn run_bytes<I: Source, O: Sink>(
     alloc: Global,
     name: &Text,
-    bytes: &[u8],
+    bytes: Text,
     words: &TextList,
     max_steps: u64,
     input: &mut I,
     output: &mut O,
 ) -> Ended
-    requires short { IsShort bytes.now }
+    requires short { IsShort bytes }
     requires steps { max_steps ≤ 2 ^ 32 }
-    ensures ran { IsRan name.now max_steps words.now bytes.now
+    ensures ran { IsRan name.now max_steps words.now bytes
         (outside (I.left input.old) (I.faults input.old) (O.taken output.old) (O.faults output.old)) (outside (I.left input.new) (I.faults input.new) (O.taken output.new) (O.faults output.new)) result }
     ensures unread { is_dash name.now ≡ true → input.new ≡ input.old }
     ensures not_begun { IsBeforeRun name.now result → (input.new ≡ input.old) × (output.new ≡ output.old) }
 {
-    let checked = match accepted_part(alloc, name, bytes) {
+    let checked = match taken_part(alloc, name, bytes) {
         Ok(checked) => checked,
         Err(ended) => return ended,
     };

@@ -1,5 +1,5 @@
 //! What the tools do with the texts of their inputs.
-ghost use Rattle.std.specs.Prelude.{◌≡◌, ◌⊎◌, ◌<◌, ℕ, List, length, false};
+ghost use Rattle.std.specs.Prelude.{◌≡◌, ◌⊎◌, ◌<◌, ℕ, List, length, slice_get, Some, false};
 ghost use Rattle.ir_base.specs.Outside.{Rose};
 ghost use Rattle.run_rules.specs.Clauses.{outside};
 ghost use Rattle.tool_output.specs.Outputs.{outputs};
@@ -17,13 +17,22 @@ use crate::extraction::extract_part;
 use crate::linking::link;
 use crate::running::run_bytes;
 use command_line::Command;
-use ir_base::{Files, Sink, Source, TextList};
+use ir_base::{Files, Sink, Source, Text, TextList};
 use std::alloc::Global;
 use tool_ends::Ended;
 
-/// Does what the command says with the texts of its inputs, each of at most 16 MiB. Texts that are linked are let go one
-/// by one, each when its module is there. A program that is run has standard input for its own, but where its module
-/// came from there.
+// The first of some texts.
+fn first_text(texts: TextList) -> Text
+    requires { 0 < length texts }
+    ensures { slice_get texts 0 ≡ Some result }
+{
+    let mut all = texts.into_vec();
+    all.swap_remove(0)
+}
+
+/// Does what the command says with the texts of its inputs, each of at most 16 MiB. Texts that are linked or run are let
+/// go one by one, each when its module is there. A program that is run has standard input for its own, but where its
+/// module came from there.
 pub fn work<F: Files, I: Source, O: Sink>(
     alloc: Global,
     command: &Command,
@@ -95,7 +104,7 @@ pub fn work<F: Files, I: Source, O: Sink>(
         } => run_bytes(
             alloc,
             name,
-            texts.at(0).bytes(),
+            first_text(texts),
             arguments,
             *max_steps,
             input,

@@ -8,14 +8,14 @@ use Rattle.tool_cli.proofs.running.run_bytes.Goals as goal
 pub returns-in-Err-clause-ran : goal.returns-in-Err-clause-ran
 returns-in-Err-clause-ran g c =
     let now = outside (g.I.Source.left c.args.input.now) (g.I.Source.faults c.args.input.now) (g.O.Sink.taken c.args.output.now) (g.O.Sink.faults c.args.output.now) in
-    refused_ran c.args.name.now c.args.max_steps c.args.words.now c.args.bytes.now now c.in-Err.ended c.in-Err.ensures.refused
+    refused_ran c.args.name.now c.args.max_steps c.args.words.now c.args.bytes now c.in-Err.ended c.in-Err.ensures.refused
 
 pub returns-then-is_dash-clause-ran : goal.returns-then-is_dash-clause-ran
 returns-then-is_dash-clause-ran g c =
     let before = outside (g.I.Source.left c.args.input.now) (g.I.Source.faults c.args.input.now) (g.O.Sink.taken c.args.output.now) (g.O.Sink.faults c.args.output.now) in
     let after = outside (g.I.Source.left c.args.input.now) (g.I.Source.faults c.args.input.now) (g.O.Sink.taken c.run_program.new.output) (g.O.Sink.faults c.run_program.new.output) in
     let m = module_of c.in-Ok.checked in
-    program_ran c.args.name.now c.args.max_steps c.args.words.now c.args.bytes.now m before after c.run_program.result c.in-Ok.ensures.part
+    program_ran c.args.name.now c.args.max_steps c.args.words.now c.args.bytes m before after c.run_program.result c.in-Ok.ensures.part
     (run_from_nothing c.args.name.now (program_of c.args.max_steps c.args.words.now m) before after c.run_program.result (rw c.bytes.ensures at (sym c.is_dash.ensures ∙ c.if-is_dash.true)) c.run_program.ensures)
 
 pub returns-then-is_dash-clause-not_begun : goal.returns-then-is_dash-clause-not_begun
@@ -29,7 +29,7 @@ returns-clause-ran g c =
     let before = outside (g.I.Source.left c.args.input.now) (g.I.Source.faults c.args.input.now) (g.O.Sink.taken c.args.output.now) (g.O.Sink.faults c.args.output.now) in
     let after = outside (g.I.Source.left c.run_program-else-is_dash.new.input) (g.I.Source.faults c.run_program-else-is_dash.new.input) (g.O.Sink.taken c.run_program-else-is_dash.new.output) (g.O.Sink.faults c.run_program-else-is_dash.new.output) in
     let m = module_of c.in-Ok.checked in
-    program_ran c.args.name.now c.args.max_steps c.args.words.now c.args.bytes.now m before after c.run_program-else-is_dash.result c.in-Ok.ensures.part
+    program_ran c.args.name.now c.args.max_steps c.args.words.now c.args.bytes m before after c.run_program-else-is_dash.result c.in-Ok.ensures.part
     (run_from_input c.args.name.now (program_of c.args.max_steps c.args.words.now m) before after c.run_program-else-is_dash.result (rw c.bytes.ensures at (sym c.is_dash.ensures ∙ c.if-is_dash.false)) c.run_program-else-is_dash.ensures)
 
 pub returns-clause-unread : goal.returns-clause-unread

@@ -1,4 +1,4 @@
-use Rattle.std.proofs.Common.{◌⊎◌, ℕ, List, refl, true≢false}
+use Rattle.std.proofs.Common.{◌≡◌, ◌⊎◌, ℕ, List, length, refl, true≢false, arith}
 use Rattle.command_line.specs.declared.command.Command.{Command}
 use Rattle.ir_base.specs.Outside.{Rose}
 use Rattle.run_rules.specs.Clauses.{outside}
@@ -164,8 +164,11 @@ returns-in-Extract-clause-ran g c = rw c.in-Extract.is tt
 pub returns-in-Extract-clause-not_begun : goal.returns-in-Extract-clause-not_begun
 returns-in-Extract-clause-not_begun g c = rw c.in-Extract.is (λ never. absurd never)
 
+pub first_text-requires : goal.first_text-requires
+first_text-requires g c = (let one : length c.args.texts ≡ 1 = rw c.in-Lli.is at c.requires.count in omega (arith, one))
+
 pub run_bytes-requires-clause-short : goal.run_bytes-requires-clause-short
-run_bytes-requires-clause-short g c = rw c.bytes-in-Lli.ensures (short_first _ _ c.requires.short c.at-in-Lli.ensures)
+run_bytes-requires-clause-short g c = short_first _ _ c.requires.short c.first_text.ensures
 
 pub run_bytes-requires-clause-steps : goal.run_bytes-requires-clause-steps
 run_bytes-requires-clause-steps g c = rw c.in-Lli.is at c.requires.steps
@@ -174,30 +177,30 @@ pub returns-in-Lli-clause-ran : goal.returns-in-Lli-clause-ran
 returns-in-Lli-clause-ran g c =
     let before = outside (g.I.Source.left c.args.input.now) (g.I.Source.faults c.args.input.now) (g.O.Sink.taken c.args.output.now) (g.O.Sink.faults c.args.output.now) in
     let after = outside (g.I.Source.left c.run_bytes.new.input) (g.I.Source.faults c.run_bytes.new.input) (g.O.Sink.taken c.run_bytes.new.output) (g.O.Sink.faults c.run_bytes.new.output) in
-    let one = only_program c.args.command.now _ _ _ c.args.texts _ c.in-Lli.is c.requires.count c.at-in-Lli.ensures in
-    program_is c.args.command.now _ _ _ c.args.texts _ before after c.run_bytes.result c.in-Lli.is one (rw c.bytes-in-Lli.ensures at c.run_bytes.ensures.ran)
+    let one = only_program c.args.command.now _ _ _ c.args.texts _ c.in-Lli.is c.requires.count c.first_text.ensures in
+    program_is c.args.command.now _ _ _ c.args.texts _ before after c.run_bytes.result c.in-Lli.is one c.run_bytes.ensures.ran
 
 pub returns-in-Lli-clause-of_work : goal.returns-in-Lli-clause-of_work
 returns-in-Lli-clause-of_work g c =
     let before = outside (g.I.Source.left c.args.input.now) (g.I.Source.faults c.args.input.now) (g.O.Sink.taken c.args.output.now) (g.O.Sink.faults c.args.output.now) in
     let after = outside (g.I.Source.left c.run_bytes.new.input) (g.I.Source.faults c.run_bytes.new.input) (g.O.Sink.taken c.run_bytes.new.output) (g.O.Sink.faults c.run_bytes.new.output) in
-    let one = only_program c.args.command.now _ _ _ c.args.texts _ c.in-Lli.is c.requires.count c.at-in-Lli.ensures in
-    lli_of_run c.args.command.now _ _ _ c.args.texts _ before after c.run_bytes.result c.in-Lli.is one (rw c.bytes-in-Lli.ensures at c.run_bytes.ensures.ran)
+    let one = only_program c.args.command.now _ _ _ c.args.texts _ c.in-Lli.is c.requires.count c.first_text.ensures in
+    lli_of_run c.args.command.now _ _ _ c.args.texts _ before after c.run_bytes.result c.in-Lli.is one c.run_bytes.ensures.ran
 
 pub returns-in-Lli-clause-cannot_write : goal.returns-in-Lli-clause-cannot_write
 returns-in-Lli-clause-cannot_write g c =
     let before = outside (g.I.Source.left c.args.input.now) (g.I.Source.faults c.args.input.now) (g.O.Sink.taken c.args.output.now) (g.O.Sink.faults c.args.output.now) in
     let after = outside (g.I.Source.left c.run_bytes.new.input) (g.I.Source.faults c.run_bytes.new.input) (g.O.Sink.taken c.run_bytes.new.output) (g.O.Sink.faults c.run_bytes.new.output) in
     let writes = g.F.Files.write_faults c.args.files.now in
-    let one = only_program c.args.command.now _ _ _ c.args.texts _ c.in-Lli.is c.requires.count c.at-in-Lli.ensures in
-    lli_unwritten c.args.command.now _ _ _ c.args.texts _ before after (Rose writes writes) c.run_bytes.result c.in-Lli.is one (rw c.bytes-in-Lli.ensures at c.run_bytes.ensures.ran)
+    let one = only_program c.args.command.now _ _ _ c.args.texts _ c.in-Lli.is c.requires.count c.first_text.ensures in
+    lli_unwritten c.args.command.now _ _ _ c.args.texts _ before after (Rose writes writes) c.run_bytes.result c.in-Lli.is one c.run_bytes.ensures.ran
 
 pub returns-in-Lli-clause-output_fault : goal.returns-in-Lli-clause-output_fault
 returns-in-Lli-clause-output_fault g c =
     let before = outside (g.I.Source.left c.args.input.now) (g.I.Source.faults c.args.input.now) (g.O.Sink.taken c.args.output.now) (g.O.Sink.faults c.args.output.now) in
     let after = outside (g.I.Source.left c.run_bytes.new.input) (g.I.Source.faults c.run_bytes.new.input) (g.O.Sink.taken c.run_bytes.new.output) (g.O.Sink.faults c.run_bytes.new.output) in
-    let one = only_program c.args.command.now _ _ _ c.args.texts _ c.in-Lli.is c.requires.count c.at-in-Lli.ensures in
-    lli_output_fault c.args.command.now _ _ _ c.args.texts _ before after c.run_bytes.result c.in-Lli.is one (rw c.bytes-in-Lli.ensures at c.run_bytes.ensures.ran)
+    let one = only_program c.args.command.now _ _ _ c.args.texts _ c.in-Lli.is c.requires.count c.first_text.ensures in
+    lli_output_fault c.args.command.now _ _ _ c.args.texts _ before after c.run_bytes.result c.in-Lli.is one c.run_bytes.ensures.ran
 
 pub returns-in-Lli-clause-work : goal.returns-in-Lli-clause-work
 returns-in-Lli-clause-work g c = rw c.in-Lli.is (λ plain. absurd (true≢false plain))
