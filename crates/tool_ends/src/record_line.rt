@@ -1,5 +1,6 @@
 //! The lines of ends about the records of bitcode.
 ghost use Rattle.std.specs.Prelude.{◌≡◌, ◌++◌, codes};
+ghost use Rattle.std.specs.Fmt.{decimal};
 ghost use Rattle.ir_base.specs.Outside.{Wrote};
 ghost use Rattle.tool_ends.specs.Ended.{error_line, line_of_record};
 
@@ -79,6 +80,31 @@ fn tell_bad<'t, E: Sink>(
     )
 }
 
+// The same, by the numbers.
+fn tell_bad_record<E: Sink>(
+    errors: &mut E,
+    words: &[Text],
+    name: &[u8],
+    block: u32,
+    index: u64,
+    rule: u8,
+) -> Result<(), Failed>
+    ensures { Wrote (E.taken errors.old) (E.taken errors.new) (E.faults errors.old) (E.faults errors.new)
+        (error_line words.now (name.now ++ (codes ": bad record " ++ (decimal index ++ (codes " in block " ++ (decimal block ++ (codes ", rule " ++ decimal rule))))))) }
+{
+    let index = Digits::of(index);
+    let block = Digits::of(u64::from(block));
+    let rule = Digits::of(u64::from(rule));
+    tell_bad(
+        errors,
+        words,
+        name,
+        index.bytes(),
+        block.bytes(),
+        rule.bytes(),
+    )
+}
+
 /// The line of an end about the records of an input; of another end nothing.
 pub(crate) fn tell_record<E: Sink>(
     errors: &mut E,
@@ -105,19 +131,7 @@ pub(crate) fn tell_record<E: Sink>(
             block,
             index,
             rule,
-        } => {
-            let index = Digits::of(*index);
-            let block = Digits::of(u64::from(*block));
-            let rule = Digits::of(u64::from(*rule));
-            tell_bad(
-                errors,
-                words,
-                input.bytes(),
-                index.bytes(),
-                block.bytes(),
-                rule.bytes(),
-            )
-        }
+        } => tell_bad_record(errors, words, input.bytes(), *block, *index, *rule),
         _ => Ok(()),
     }
 }
