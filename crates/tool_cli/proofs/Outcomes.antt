@@ -10,7 +10,7 @@ use Rattle.command_line.specs.Commands.{IsReadAs}
 use Rattle.command_line.specs.Options.{is_dash}
 use Rattle.tool_output.specs.Outputs.{Outputs}
 use Rattle.tool_ends.specs.declared.ended.Ended.{Ended}
-use Rattle.tool_ends.specs.declared.ended.Ended.TheVariants.{CannotRead, InputTooLarge, Memory}
+use Rattle.tool_ends.specs.declared.ended.Ended.TheVariants.{CannotRead, CannotWrite, InputTooLarge, Memory}
 use Rattle.tool_cli.specs.Inputs.{inputs_of, inputs_behind, inputs_named, runs_program, texts_read}
 use Rattle.tool_cli.specs.Causes.{GaveUp, Stopped, IsUnread, IsPassed, RefusesOne}
 use Rattle.tool_cli.specs.Analyzed.{is_analysis, is_analysis_behind, analyzes}
@@ -61,6 +61,10 @@ cause_of_unread own named names contents left i f ended same why name e =
 
 pub cause_of_large : (named names : List (List ℕ)) (contents : Option Named) (left : Option (List ℕ)) (i f : Type 0) (ended : Ended) → named ≡ names → RefusesOne (found contents left i f) names ended → (name : List ℕ) (limit : ℕ) → ended ≡ InputTooLarge name limit → IsAmong named name × IsPassed contents left name limit
 cause_of_large named names contents left i f ended same why name limit e = rw same (rw e at why)
+
+-- what refuses an input tells of no output
+pub never_unwritten : (names : List (List ℕ)) (contents : Option Named) (left : Option (List ℕ)) (i f : Type 0) (ended : Ended) → RefusesOne (found contents left i f) names ended → (name : List ℕ) → ended ≡ CannotWrite name → ⊥
+never_unwritten names contents left i f ended why name e = subst (λ (x : Ended). RefusesOne (found contents left i f) names x) e why
 
 pub analyzes_is : (words : List (List ℕ)) (command : Command) → IsReadAs words command → analyzes words ≡ is_analysis command
 unfolding analyzes

@@ -1,12 +1,14 @@
 -- For `read_inputs` and `run_tool`: what a call that reads inputs leaves, and what a run does: they say so beside their answers.
-use Rattle.std.specs.Prelude.{◌≡◌, ◌⊎◌, ℕ, ◌+◌, ◌<◌, ◌≤◌, Bool, false, List, length, Option, Result, IsErrAnd, OnOk}
+use Rattle.std.specs.Prelude.{◌≡◌, ◌⊎◌, ℕ, ◌+◌, ◌<◌, ◌≤◌, Bool, true, false, List, length, codes, Option, Result, IsErrAnd, OnOk}
 use Rattle.std.specs.Bool.{MatchBool}
+use Rattle.std.specs.List.{IsAmong}
 use Rattle.ir_base.specs.Outside.{Rose, Lost, LostUpTo}
 use Rattle.ir_base.specs.Files.{Named}
 use Rattle.tool_ends.specs.declared.ended.Ended.{Ended}
-use Rattle.tool_cli.specs.Causes.{IsStdinOrMemory, IsUnreadOrMemory}
-use Rattle.tool_cli.specs.Inputs.{listens}
-use Rattle.tool_cli.specs.Output.{output_named, LeavesFilesBut}
+use Rattle.tool_ends.specs.declared.ended.Ended.TheVariants.{CannotRead, CannotWrite, InputTooLarge}
+use Rattle.tool_cli.specs.Causes.{IsStdinOrMemory, IsUnreadOrMemory, IsUnread, IsPassed}
+use Rattle.tool_cli.specs.Inputs.{inputs_named, listens}
+use Rattle.tool_cli.specs.Output.{output_named, LeavesFilesBut, IsUnwritten, IsUnwrittenOrMemory, IsFileUnwritten}
 use Rattle.tool_cli.specs.World.{World}
 use Rattle.tool_cli.specs.declared.inputs.TheConstants.{LARGEST}
 
@@ -61,3 +63,21 @@ pub record LeavesBehind (words : List (List ℕ)) (before now : World) (ended : 
   pub input : LosesInput (listens words) before.left now.left before.input_faults now.input_faults
   -- what became of the files
   pub files : LeavesFilesBut (output_named words) ended before.contents now.contents before.read_faults now.read_faults before.write_faults now.write_faults
+
+-- why the run of these words told that an input was not read or the output not written, by its end; and that it told each write that failed.
+-- The counts are those of faults of standard output
+pub record HasCauses (words : List (List ℕ)) (before now : World) (output_before output_now : ℕ) (ended : Ended) : Type 0 where
+  -- what could not be read is an input of the words, or what a program reads; and a read of it failed, or there is no such file
+  pub cannot_read : (name : List ℕ) → ended ≡ CannotRead name
+      → (IsAmong (inputs_named words) name ⊎ ((listens words ≡ true) × (name ≡ codes "-")))
+      × IsUnread before.contents (Rose before.input_faults now.input_faults) (Rose before.read_faults now.read_faults) name
+  -- what was too large is an input of the words, and passed that limit
+  pub too_large : (name : List ℕ) (limit : ℕ) → ended ≡ InputTooLarge name limit
+      → IsAmong (inputs_named words) name × IsPassed before.contents before.left name limit
+  -- what could not be written is the output, and a write of it failed
+  pub cannot_write : (name : List ℕ) → ended ≡ CannotWrite name
+      → IsUnwritten (output_named words) (Rose output_before output_now) (Rose before.write_faults now.write_faults) name
+  -- a fault of standard output is told, or memory ran out
+  pub output_fault : output_before < output_now → IsUnwrittenOrMemory ended
+  -- so is one of a write of a file
+  pub write_fault : before.write_faults < now.write_faults → IsFileUnwritten (output_named words) ended

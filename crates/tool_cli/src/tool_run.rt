@@ -1,6 +1,5 @@
 //! The whole program, over whatever it reads and writes.
-ghost use Rattle.std.specs.Prelude.{◌≡◌, ◌⊎◌, ◌<◌, ℕ, List, [], true, false, codes};
-ghost use Rattle.std.specs.List.{IsAmong};
+ghost use Rattle.std.specs.Prelude.{◌≡◌, ◌⊎◌, ℕ, List, [], true, false};
 ghost use Rattle.ir_base.specs.Outside.{Rose, Wrote};
 ghost use Rattle.ir_base.specs.Files.{Named};
 ghost use Rattle.command_line.specs.declared.command.Command.{Command};
@@ -11,11 +10,11 @@ ghost use Rattle.tool_output.specs.Outputs.{outputs};
 ghost use Rattle.tool_ends.specs.Ended.{line_of, status_of};
 ghost use Rattle.run_rules.specs.Clauses.{outside};
 ghost use Rattle.tool_cli.specs.Inputs.{inputs_named, inputs_of, has_stdin, listens, runs, TellsAll, TellsRun};
-ghost use Rattle.tool_cli.specs.Causes.{IsEmptied, Stopped, IsUnread, IsPassed};
-ghost use Rattle.tool_cli.specs.Reads.{LeavesBehind, LeavesUnread};
+ghost use Rattle.tool_cli.specs.Causes.{IsEmptied, Stopped};
+ghost use Rattle.tool_cli.specs.Reads.{HasCauses, LeavesBehind, LeavesUnread};
 ghost use Rattle.tool_cli.specs.Order.{has_file, IsInTurn, KeepsOrder, KeepsTurn};
 ghost use Rattle.tool_cli.specs.Analyzed.{analyzes, IsBeforeWork};
-ghost use Rattle.tool_cli.specs.Output.{output_named, IsUnwritten, IsUnwrittenOrMemory, IsFileUnwritten, IsShown, LeavesStandard, LeavesNamed};
+ghost use Rattle.tool_cli.specs.Output.{output_named, IsShown, LeavesStandard, LeavesNamed};
 ghost use Rattle.tool_cli.specs.Told.{IsTold, IsAfterReading};
 ghost use Rattle.tool_cli.specs.Headline.{RunsLinked};
 ghost use Rattle.tool_cli.specs.Running.{IsPlayed, IsUnbegun, RunsModule};
@@ -47,14 +46,10 @@ fn ended_of<F: Files, I: Source, O: Sink>(
         → TellsRun words.now (F.contents files.old) (I.left input.old) held stdin
         → IsTold words.now held stdin result
         ⊎ Stopped (output_named words.now) (failures (Rose (I.faults input.old) (I.faults input.new)) (Rose (F.read_faults files.old) (F.read_faults files.new)) (Rose (O.faults output.old) (O.faults output.new)) (Rose (F.write_faults files.old) (F.write_faults files.new))) result }
-    ensures cannot_read { (name : List ℕ) → result ≡ Ended.CannotRead name → (IsAmong (inputs_named words.now) name ⊎ ((listens words.now ≡ true) × (name ≡ codes "-")))
-        × IsUnread (F.contents files.old) (Rose (I.faults input.old) (I.faults input.new)) (Rose (F.read_faults files.old) (F.read_faults files.new)) name }
-    ensures too_large { (name : List ℕ) (limit : ℕ) → result ≡ Ended.InputTooLarge name limit
-        → IsAmong (inputs_named words.now) name × IsPassed (F.contents files.old) (I.left input.old) name limit }
-    ensures cannot_write { (name : List ℕ) → result ≡ Ended.CannotWrite name
-        → IsUnwritten (output_named words.now) (Rose (O.faults output.old) (O.faults output.new)) (Rose (F.write_faults files.old) (F.write_faults files.new)) name }
-    ensures output_fault { O.faults output.old < O.faults output.new → IsUnwrittenOrMemory result }
-    ensures write_fault { F.write_faults files.old < F.write_faults files.new → IsFileUnwritten (output_named words.now) result }
+    ensures causes { HasCauses words.now
+        (world (I.left input.old) (I.faults input.old) (F.contents files.old) (F.read_faults files.old) (F.write_faults files.old))
+        (world (I.left input.new) (I.faults input.new) (F.contents files.new) (F.read_faults files.new) (F.write_faults files.new))
+        (O.faults output.old) (O.faults output.new) result }
 
     // What is read and written.
     ensures before_reading { (kind : UsageKind) (k : ℕ) → IsFirstFault words.now kind k → (input.new ≡ input.old) × (files.new ≡ files.old) × (output.new ≡ output.old) }
@@ -111,14 +106,10 @@ pub fn run_tool<F: Files, I: Source, O: Sink, E: Sink>(
         → TellsRun words.now (F.contents files.old) (I.left input.old) held stdin
         → IsTold words.now held stdin result.ended
         ⊎ Stopped (output_named words.now) (failures (Rose (I.faults input.old) (I.faults input.new)) (Rose (F.read_faults files.old) (F.read_faults files.new)) (Rose (O.faults output.old) (O.faults output.new)) (Rose (F.write_faults files.old) (F.write_faults files.new))) result.ended }
-    ensures cannot_read { (name : List ℕ) → result.ended ≡ Ended.CannotRead name → (IsAmong (inputs_named words.now) name ⊎ ((listens words.now ≡ true) × (name ≡ codes "-")))
-        × IsUnread (F.contents files.old) (Rose (I.faults input.old) (I.faults input.new)) (Rose (F.read_faults files.old) (F.read_faults files.new)) name }
-    ensures too_large { (name : List ℕ) (limit : ℕ) → result.ended ≡ Ended.InputTooLarge name limit
-        → IsAmong (inputs_named words.now) name × IsPassed (F.contents files.old) (I.left input.old) name limit }
-    ensures cannot_write { (name : List ℕ) → result.ended ≡ Ended.CannotWrite name
-        → IsUnwritten (output_named words.now) (Rose (O.faults output.old) (O.faults output.new)) (Rose (F.write_faults files.old) (F.write_faults files.new)) name }
-    ensures output_fault { O.faults output.old < O.faults output.new → IsUnwrittenOrMemory result.ended }
-    ensures write_fault { F.write_faults files.old < F.write_faults files.new → IsFileUnwritten (output_named words.now) result.ended }
+    ensures causes { HasCauses words.now
+        (world (I.left input.old) (I.faults input.old) (F.contents files.old) (F.read_faults files.old) (F.write_faults files.old))
+        (world (I.left input.new) (I.faults input.new) (F.contents files.new) (F.read_faults files.new) (F.write_faults files.new))
+        (O.faults output.old) (O.faults output.new) result.ended }
     ensures status { result.status ≡ status_of result.ended }
 
     // What is read and written.

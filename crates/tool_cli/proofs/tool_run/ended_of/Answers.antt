@@ -10,14 +10,14 @@ use Rattle.tool_cli.specs.Analyzed.{IsBeforeWork}
 use Rattle.tool_cli.specs.Causes.{IsEmptied, Stopped}
 use Rattle.tool_cli.specs.Inputs.{has_stdin, hears, input_read, inputs_of, inputs_named, listens, texts_read}
 use Rattle.tool_cli.specs.Order.{IsRefusedInFront}
-use Rattle.tool_cli.specs.Output.{output_of, IsUnwritten, IsWritten}
+use Rattle.tool_cli.specs.Output.{output_of, IsFileUnwritten, IsUnwritten, IsWritten}
 use Rattle.tool_cli.specs.Reads.{LosesInput}
 use Rattle.tool_cli.specs.Running.{IsUnbegun}
 use Rattle.tool_cli.specs.Told.{IsEndOf}
 use Rattle.tool_cli.specs.World.{failures}
 use Rattle.tool_cli.proofs.Works.{nothing_shown, early_refusal, not_before_work, run_no_large, run_no_usage}
 use Rattle.tool_cli.proofs.Delivered.{leaves_after, leaves_none, leaves_read}
-use Rattle.tool_cli.proofs.Outcomes.{inputs_are, analyzes_is, output_is, same_command, shown_ok, told_ok, told_err, cause_of_unread, cause_of_large}
+use Rattle.tool_cli.proofs.Outcomes.{inputs_are, analyzes_is, output_is, same_command, shown_ok, told_ok, told_err, cause_of_unread, cause_of_large, never_unwritten}
 use Rattle.tool_cli.proofs.Commands.{end_over, heard, hears_no_stdin, input_cause, listens_is, loses_after, loses_none, loses_read, nothing_played, played_err, played_ok, runs_is, same_outside, stdin_unheard, unread_cause, unread_told}
 use Rattle.tool_cli.proofs.Steps.{words_fit}
 use Rattle.tool_cli.proofs.Order.{work_keeps}
@@ -49,17 +49,67 @@ returns-in-Ok-read_inputs-clause-told g c =
     (Rose (faults c.args.input.now) (faults c.read_inputs.new.input)) (Rose (faults c.args.input.now) (faults c.work.new.input)) (Rose (reads c.args.files.now) (reads c.read_inputs.new.files)) (Rose (reads c.args.files.now) (reads c.work.new.files)) (Rose (sinks c.args.output.now) (sinks c.work.new.output)) (Rose (writes c.args.files.now) (writes c.work.new.files))
     c.in-Ok.ensures.command c.inputs_of.ensures (c.in-Ok-read_inputs.ensures.told held stdin (rw same at tells.inputs)) work
 
-pub returns-in-Ok-read_inputs-clause-cannot_read : goal.returns-in-Ok-read_inputs-clause-cannot_read
-returns-in-Ok-read_inputs-clause-cannot_read g c =
+pub returns-in-Ok-read_inputs-clause-causes : goal.returns-in-Ok-read_inputs-clause-causes
+returns-in-Ok-read_inputs-clause-causes g c =
     let faults = g.I.Source.faults in
     let contents = g.F.Files.contents in
     let reads = g.F.Files.read_faults in
-    let mid = outside (g.I.Source.left c.read_inputs.new.input) (faults c.read_inputs.new.input) (g.O.Sink.taken c.args.output.now) (g.O.Sink.faults c.args.output.now) in
-    let after = outside (g.I.Source.left c.work.new.input) (faults c.work.new.input) (g.O.Sink.taken c.work.new.output) (g.O.Sink.faults c.work.new.output) in
-    λ name told.
-    let cause = unread_cause c.in-Ok.command c.in-Ok-read_inputs.texts mid after c.work.result c.work.ensures.of_work c.work.ensures.ran name told in
-    let rose = subst (λ (n : ℕ). Rose n (faults c.work.new.input)) c.in-Ok-read_inputs.ensures.leaves.input_fine cause.1.1 in
-    (inr (listens_is c.args.words.now c.in-Ok.command c.in-Ok.ensures.command ∙ cause.0, cause.1.0), unread_told (contents c.args.files.now) (Rose (faults c.args.input.now) (faults c.work.new.input)) (Rose (reads c.args.files.now) (reads c.work.new.files)) name cause.1.0 rose)
+    let sinks = g.O.Sink.faults in
+    let writes = g.F.Files.write_faults in
+    let mid = outside (g.I.Source.left c.read_inputs.new.input) (faults c.read_inputs.new.input) (g.O.Sink.taken c.args.output.now) (sinks c.args.output.now) in
+    let after = outside (g.I.Source.left c.work.new.input) (faults c.work.new.input) (g.O.Sink.taken c.work.new.output) (sinks c.work.new.output) in
+    record {
+      cannot_read = λ name told.
+          let cause = unread_cause c.in-Ok.command c.in-Ok-read_inputs.texts mid after c.work.result c.work.ensures.of_work c.work.ensures.ran name told in
+          let rose = subst (λ (n : ℕ). Rose n (faults c.work.new.input)) c.in-Ok-read_inputs.ensures.leaves.input_fine cause.1.1 in
+          (inr (listens_is c.args.words.now c.in-Ok.command c.in-Ok.ensures.command ∙ cause.0, cause.1.0), unread_told (contents c.args.files.now) (Rose (faults c.args.input.now) (faults c.work.new.input)) (Rose (reads c.args.files.now) (reads c.work.new.files)) name cause.1.0 rose);
+      too_large = λ name limit told. absurd (run_no_large c.work.result (hears c.in-Ok.command) name limit c.work.ensures.of_work told);
+      cannot_write = λ name told.
+          subst (λ (output : Option OutputName). IsUnwritten output (Rose (sinks c.args.output.now) (sinks c.work.new.output)) (Rose (writes c.args.files.now) (writes c.work.new.files)) name) (sym (output_is c.args.words.now c.in-Ok.command c.in-Ok.ensures.command))
+          (subst (λ (n : ℕ). IsUnwritten (output_of c.in-Ok.command) (Rose (sinks c.args.output.now) (sinks c.work.new.output)) (Rose n (writes c.work.new.files)) name) c.in-Ok-read_inputs.ensures.leaves.files.writes (c.work.ensures.cannot_write name told));
+      output_fault = c.work.ensures.output_fault;
+      write_fault = λ (rose : writes c.args.files.now < writes c.work.new.files).
+          subst (λ (output : Option OutputName). IsFileUnwritten output c.work.result) (sym (output_is c.args.words.now c.in-Ok.command c.in-Ok.ensures.command))
+          (c.work.ensures.write_fault (subst (λ (n : ℕ). n < writes c.work.new.files) (sym c.in-Ok-read_inputs.ensures.leaves.files.writes) rose));
+    }
+
+pub returns-clause-causes : goal.returns-clause-causes
+returns-clause-causes g c =
+    let faults = g.I.Source.faults in
+    let reads = g.F.Files.read_faults in
+    let sinks = g.O.Sink.faults in
+    let writes = g.F.Files.write_faults in
+    let contents = g.F.Files.contents c.args.files.now in
+    let left = g.I.Source.left c.args.input.now in
+    let input_rose = Rose (faults c.args.input.now) (faults c.read_inputs.new.input) in
+    let files_rose = Rose (reads c.args.files.now) (reads c.read_inputs.new.files) in
+    let same = inputs_are c.args.words.now c.in-Ok.command c.in-Ok.ensures.command ∙ sym c.inputs_of.ensures in
+    let none : writes c.read_inputs.new.files ≡ writes c.args.files.now = c.in-Err.ensures.leaves.files.writes in
+    record {
+      cannot_read = cause_of_unread (λ name. (listens c.args.words.now ≡ true) × (name ≡ codes "-")) (inputs_named c.args.words.now) c.inputs_of.result.now contents left input_rose files_rose c.in-Err.ended same c.in-Err.ensures.refused;
+      too_large = cause_of_large (inputs_named c.args.words.now) c.inputs_of.result.now contents left input_rose files_rose c.in-Err.ended same c.in-Err.ensures.refused;
+      cannot_write = λ name told. absurd (never_unwritten c.inputs_of.result.now contents left input_rose files_rose c.in-Err.ended c.in-Err.ensures.refused name told);
+      output_fault = λ (rose : sinks c.args.output.now < sinks c.args.output.now). absurd (omega (arith, rose));
+      write_fault = λ (rose : writes c.args.files.now < writes c.read_inputs.new.files). absurd (omega (arith, rose, none));
+    }
+
+pub returns-in-Err-Usage-clause-causes : goal.returns-in-Err-Usage-clause-causes
+returns-in-Err-Usage-clause-causes g c = record {
+  cannot_read = λ name told. absurd (let e = told in cc);
+  too_large = λ name limit told. absurd (let e = told in cc);
+  cannot_write = λ name told. absurd (let e = told in cc);
+  output_fault = λ (rose : g.O.Sink.faults c.args.output.now < g.O.Sink.faults c.args.output.now). absurd (omega (arith, rose));
+  write_fault = λ (rose : g.F.Files.write_faults c.args.files.now < g.F.Files.write_faults c.args.files.now). absurd (omega (arith, rose));
+}
+
+pub returns-in-Err-Memory-clause-causes : goal.returns-in-Err-Memory-clause-causes
+returns-in-Err-Memory-clause-causes g c = record {
+  cannot_read = λ name told. absurd (let e = told in cc);
+  too_large = λ name limit told. absurd (let e = told in cc);
+  cannot_write = λ name told. absurd (let e = told in cc);
+  output_fault = λ (rose : g.O.Sink.faults c.args.output.now < g.O.Sink.faults c.args.output.now). absurd (omega (arith, rose));
+  write_fault = λ (rose : g.F.Files.write_faults c.args.files.now < g.F.Files.write_faults c.args.files.now). absurd (omega (arith, rose));
+}
 
 pub returns-in-Ok-read_inputs-clause-leaves : goal.returns-in-Ok-read_inputs-clause-leaves
 returns-in-Ok-read_inputs-clause-leaves g c =
@@ -134,24 +184,6 @@ returns-clause-told g c =
     (Rose (faults c.args.input.now) (faults c.read_inputs.new.input)) (Rose (reads c.args.files.now) (reads c.read_inputs.new.files)) (Rose (sinks c.args.output.now) (sinks c.args.output.now)) (Rose (writes c.args.files.now) (writes c.read_inputs.new.files))
     c.in-Ok.ensures.command c.inputs_of.ensures (c.in-Err.ensures.told held stdin (rw same at tells.inputs))
 
-pub returns-clause-cannot_read : goal.returns-clause-cannot_read
-returns-clause-cannot_read g c =
-    let faults = g.I.Source.faults in
-    let reads = g.F.Files.read_faults in
-    let same = inputs_are c.args.words.now c.in-Ok.command c.in-Ok.ensures.command ∙ sym c.inputs_of.ensures in
-    cause_of_unread (λ name. (listens c.args.words.now ≡ true) × (name ≡ codes "-")) (inputs_named c.args.words.now) c.inputs_of.result.now (g.F.Files.contents c.args.files.now) (g.I.Source.left c.args.input.now)
-    (Rose (faults c.args.input.now) (faults c.read_inputs.new.input)) (Rose (reads c.args.files.now) (reads c.read_inputs.new.files))
-    c.in-Err.ended same c.in-Err.ensures.refused
-
-pub returns-clause-too_large : goal.returns-clause-too_large
-returns-clause-too_large g c =
-    let faults = g.I.Source.faults in
-    let reads = g.F.Files.read_faults in
-    let same = inputs_are c.args.words.now c.in-Ok.command c.in-Ok.ensures.command ∙ sym c.inputs_of.ensures in
-    cause_of_large _ c.inputs_of.result.now (g.F.Files.contents c.args.files.now) (g.I.Source.left c.args.input.now)
-    (Rose (faults c.args.input.now) (faults c.read_inputs.new.input)) (Rose (reads c.args.files.now) (reads c.read_inputs.new.files))
-    c.in-Err.ended same c.in-Err.ensures.refused
-
 pub returns-clause-untouched : goal.returns-clause-untouched
 returns-clause-untouched g c =
     let same = inputs_are c.args.words.now c.in-Ok.command c.in-Ok.ensures.command ∙ sym c.inputs_of.ensures in
@@ -181,20 +213,6 @@ returns-in-Ok-read_inputs-clause-shown g c =
     c.in-Ok.ensures.command c.inputs_of.ensures (c.in-Ok-read_inputs.ensures.told held stdin (rw same at tells))
     -- no file changed while inputs were read
     (λ plain. subst (λ (before : Option Named). IsWritten c.in-Ok.command c.in-Ok-read_inputs.texts (outputs (taken c.args.output.now) before) (outputs (taken c.work.new.output) (contents c.work.new.files)) c.work.result) c.in-Ok-read_inputs.ensures.leaves.files.contents (c.work.ensures.written plain))
-
-pub returns-in-Ok-read_inputs-clause-cannot_write : goal.returns-in-Ok-read_inputs-clause-cannot_write
-returns-in-Ok-read_inputs-clause-cannot_write g c =
-    let sinks = g.O.Sink.faults in
-    let writes = g.F.Files.write_faults in
-    λ name told.
-    subst (λ (output : Option OutputName). IsUnwritten output (Rose (sinks c.args.output.now) (sinks c.work.new.output)) (Rose (writes c.args.files.now) (writes c.work.new.files)) name) (sym (output_is c.args.words.now c.in-Ok.command c.in-Ok.ensures.command))
-    (subst (λ (n : ℕ). IsUnwritten (output_of c.in-Ok.command) (Rose (sinks c.args.output.now) (sinks c.work.new.output)) (Rose n (writes c.work.new.files)) name) c.in-Ok-read_inputs.ensures.leaves.files.writes (c.work.ensures.cannot_write name told))
-
-pub returns-in-Ok-read_inputs-clause-write_fault : goal.returns-in-Ok-read_inputs-clause-write_fault
-returns-in-Ok-read_inputs-clause-write_fault g c =
-    let writes = g.F.Files.write_faults in
-    λ rose.
-    rw (output_is c.args.words.now c.in-Ok.command c.in-Ok.ensures.command) (c.work.ensures.write_fault (subst (λ (n : ℕ). n < writes c.work.new.files) (sym c.in-Ok-read_inputs.ensures.leaves.files.writes) rose))
 
 pub returns-in-Ok-read_inputs-clause-unwritten : goal.returns-in-Ok-read_inputs-clause-unwritten
 returns-in-Ok-read_inputs-clause-unwritten g c =
@@ -294,9 +312,6 @@ returns-in-Ok-read_inputs-clause-before_reading g c = λ kind k first. absurd (c
 
 pub returns-clause-before_reading : goal.returns-clause-before_reading
 returns-clause-before_reading g c = λ kind k first. absurd (c.in-Ok.ensures.command.fine kind k first.is)
-
-pub returns-in-Ok-read_inputs-clause-too_large : goal.returns-in-Ok-read_inputs-clause-too_large
-returns-in-Ok-read_inputs-clause-too_large g c = λ name limit told. absurd (run_no_large c.work.result (hears c.in-Ok.command) name limit c.work.ensures.of_work told)
 
 -- the inputs in their turn
 
