@@ -10,6 +10,7 @@ use Rattle.command_line.specs.declared.command.WordsFault.{WordsFault}
 use Rattle.command_line.specs.declared.command.WordsFault.TheVariants as faults
 use Rattle.command_line.specs.declared.tool.Tool.{Tool}
 use Rattle.command_line.specs.declared.tool.Tool.TheVariants.{LlvmAs, LlvmDis, LlvmLink, LlvmExtract, Lli, LlvmBcanalyzer}
+use Rattle.command_line.specs.declared.given.TheConstants.{DEFAULT_STEPS}
 use Rattle.command_line.specs.declared.options.PlainOption.TheVariants as flags
 use Rattle.command_line.specs.declared.options.Setting.TheVariants as settings
 use Rattle.command_line.specs.Tools.{tool_of}
@@ -33,9 +34,9 @@ abbrev pub first_number : List (List ℕ) → Option ℕ
 first_number [] = None
 first_number (value ∷ values) = Some (decimal value)
 
--- the bound on steps: 1,000,000,000 where none is given
+-- the bound on steps, with that where none is given
 abbrev pub steps_from : Option ℕ → ℕ
-steps_from None = 1000000000
+steps_from None = DEFAULT_STEPS
 steps_from (Some n) = n
 
 -- What the roles of all words give.
