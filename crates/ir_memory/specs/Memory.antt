@@ -36,6 +36,10 @@ HasFreeAddresses m = m.next ≤ 2 ^ 61
 abbrev pub byte_limit : ℕ
 byte_limit = BYTE_LIMIT
 
+-- so far a block moves the next address at most: all bytes, the greatest alignment and the gap
+abbrev pub reach : ℕ
+reach = byte_limit + 2 ^ 17
+
 -- how many bytes the live blocks have together
 abbrev pub live_bytes : List MemoryBlock → ℕ
 live_bytes [] = 0
