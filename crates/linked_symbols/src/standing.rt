@@ -11,7 +11,7 @@ ghost use Rattle.linked_symbols.specs.Places.{ArePlaced, ArePlaces, clamped, roo
 use crate::Room;
 use crate::room::room_of;
 use ir_base::ItemList;
-use linkage_rules::{Bindings, FIRST_ADDRESS, Symbol, SymbolKind, SymbolList};
+use linkage_rules::{Bindings, FIRST_ADDRESS, GAP, Symbol, SymbolKind, SymbolList};
 use module_arena::Checked;
 use std::alloc::{AllocError, Global};
 use std::marker::Model;
@@ -83,11 +83,11 @@ fn rounded(number: u64, alignment: u32) -> u64
     }
 }
 
-/// Where the next variable can lie: 16 bytes behind one of that many bytes; 2^64 - 1 where it is more.
+/// Where the next variable can lie: the gap behind one of that many bytes; 2^64 - 1 where it is more.
 fn next_behind(address: u64, size: u64) -> u64
-    ensures { result ≡ clamped (address + size + 16) }
+    ensures { result ≡ clamped (address + size + GAP) }
 {
-    address.saturating_add(size).saturating_add(16)
+    address.saturating_add(size).saturating_add(GAP)
 }
 
 /// What a variable needs in memory; None where the symbol is no variable, or no part defines it.

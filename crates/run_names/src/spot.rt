@@ -5,12 +5,9 @@ ghost use Rattle.run_names.specs.Spots.{AreAddresses, AreSpots, absent_leaf, def
 use crate::standing::is_definition;
 use ir_eval::{Pointer, Scalar};
 use ir_tables::Linkage;
-use linkage_rules::FIRST_ADDRESS;
+use linkage_rules::{FIRST_ADDRESS, GAP};
 use module_arena::{Arena, Checked, VariableId};
 use std::alloc::{AllocError, Global};
-
-/// How many addresses are left free behind a variable.
-const GAP: u64 = 16;
 
 /// Where a variable lies. Its block has the number of its spot, counted from 0.
 ///
