@@ -16,6 +16,6 @@ mod end;
 mod fault;
 mod law;
 
-pub use end::End;
+pub use end::{ABORTED, End};
 pub use fault::RunFault;
 pub use law::equal_look_ups_give_equal_runs;
