@@ -14,6 +14,7 @@ use Rattle.run_actions.specs.Edges.{case_way, way_of}
 use Rattle.run_actions.specs.Values.{arm_of, part_of}
 use Rattle.run_flat.specs.declared.action.Action.{Action}
 use Rattle.run_flat.specs.declared.action.Action.TheVariants.{Compute, Compare, Convert, Select, Freeze, Gather, Load, Store, Allocate, Displace, Call, Return, Jump, Branch, Switch, Unreachable, Passed}
+use Rattle.run_flat.specs.declared.action.TheConstants.{TERMS}
 use Rattle.run_flat.specs.declared.action.CallParts.{CallParts}
 use Rattle.run_flat.specs.declared.action.Term.{Term}
 use Rattle.run_flat.specs.declared.leaf.LeafAt.{LeafAt}
@@ -144,7 +145,7 @@ module _ (p : Pools) where
     pub leaves : All IsTermIn (spanned p.terms terms)
     pub gathered : IsGathered (spanned p.terms terms) total
     pub near : nat_abs total ≤ 2 ^ 124
-    pub few : terms.count ≤ 2 ^ 20
+    pub few : terms.count ≤ TERMS
     pub sizes : All (λ t. t.size ≤ 2 ^ 40) (spanned p.terms terms)
 
   -- what an action points to is there

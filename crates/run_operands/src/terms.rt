@@ -14,14 +14,11 @@ use crate::pooled::put_known;
 use crate::steps::{Step, push_steps};
 use ir_eval::Scalar;
 use module_arena::Operand;
-use run_flat::{LeafAt, Pools, Span, Term};
+use run_flat::{LeafAt, Pools, Span, TERMS, Term};
 use run_scopes::FunctionScope;
 use run_stack::Origin;
 use std::alloc::{AllocError, Global};
 use type_table::TypeId;
-
-/// More terms than there are room for.
-const TERMS: usize = 1_048_576;
 
 /// Puts an index there where it is had from.
 fn put_index(pools: &mut Pools, index: Origin) -> Result<LeafAt, AllocError>
