@@ -5,6 +5,7 @@ use Rattle.std.specs.List.{All}
 use Rattle.ir_eval.specs.declared.value.Scalar.{Scalar}
 use Rattle.ir_eval.specs.declared.value.Scalar.TheVariants.{Poison}
 use Rattle.module_arena.specs.Lists.{Lists}
+use Rattle.type_table.specs.declared.measure.TheConstants.{SIZE_LIMIT}
 use Rattle.run_rules.specs.Action as actions
 use Rattle.run_rules.specs.Displace.{reach, reach_of, sum_of}
 use Rattle.run_shapes.specs.Shapes.{shape_in}
@@ -146,7 +147,7 @@ module _ (p : Pools) where
     pub gathered : IsGathered (spanned p.terms terms) total
     pub near : nat_abs total ≤ 2 ^ 124
     pub few : terms.count ≤ TERMS
-    pub sizes : All (λ t. t.size ≤ 2 ^ 40) (spanned p.terms terms)
+    pub sizes : All (λ t. t.size ≤ SIZE_LIMIT) (spanned p.terms terms)
 
   -- what an action points to is there
   abbrev pub IsWithin : Action → Type 0

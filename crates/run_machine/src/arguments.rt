@@ -1,11 +1,12 @@
 //! The arguments of main.
-ghost use Rattle.std.specs.Prelude.{◌≡◌, ◌∷◌, ◌++◌, [], ◌+◌, ◌*◌, ◌^◌, ◌≤◌, All, Err, IfOk, IsOk, MatchOption, OnOk, false, length};
+ghost use Rattle.std.specs.Prelude.{◌≡◌, ◌∷◌, ◌++◌, [], ◌+◌, ◌*◌, ◌≤◌, All, Err, IfOk, IsOk, MatchOption, OnOk, false, length};
 ghost use Rattle.ir_eval.specs.Cast.{pointer_at};
 ghost use Rattle.ir_eval.specs.declared.value.Scalar.TheVariants as scalar;
 ghost use Rattle.ir_memory.specs.Answer.{Keeps};
 ghost use Rattle.ir_memory.specs.declared.leaf.Leaf.TheVariants as leaf;
 ghost use Rattle.ir_memory.specs.Given.{IsAlignment, IsKnown};
 ghost use Rattle.ir_memory.specs.Memory.{HasFreeAddresses, byte_limit, reach};
+ghost use Rattle.type_table.specs.declared.measure.TheConstants.{SIZE_LIMIT};
 ghost use Rattle.run_entry.specs.Mains.{main_seen};
 ghost use Rattle.run_initial.specs.Constants.{bytes_at};
 ghost use Rattle.run_initial.specs.Fresh.{Puts, put};
@@ -46,7 +47,7 @@ fn add_block(memory: &mut Memory, size: u64, align: u32) -> Result<Option<Pointe
 
 /// Puts bytes into a block from its start on, where no store of them is undefined: only memory may be wanting.
 fn fill_string(memory: &mut Memory, block: Pointer, bytes: &[u8]) -> Result<(), AllocError>
-    requires ends { length bytes.now ≤ 2 ^ 40 }
+    requires ends { length bytes.now ≤ SIZE_LIMIT }
     requires block { IsKnown memory.old.list block }
     requires well { IsOk (put block (bytes_at 0 bytes.now) memory.old) }
     ensures put { OnOk result (Puts block (bytes_at 0 bytes.now) memory.old memory.new) }

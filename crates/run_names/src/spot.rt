@@ -1,5 +1,6 @@
 //! Where the variables of a module lie.
 ghost use Rattle.std.specs.Prelude.{◌≡◌, ◌+◌, ◌≤◌, ◌<◌, ◌^◌, length, true, IfOk};
+ghost use Rattle.type_table.specs.declared.measure.TheConstants.{SIZE_LIMIT};
 ghost use Rattle.run_names.specs.Spots.{AreAddresses, AreSpots, absent_leaf, defines, spot_at};
 
 use crate::standing::is_definition;
@@ -35,7 +36,7 @@ fn spot_of(program: &Checked, id: VariableId, next: u64) -> Spot
     requires defined { defines program.now id ≡ true }
     requires next { next ≤ 2 ^ 59 }
     ensures spot { result ≡ spot_at program.now id next }
-    ensures size { result.size ≤ 2 ^ 40 }
+    ensures size { result.size ≤ SIZE_LIMIT }
     ensures start { result.start ≤ next + 2 ^ 16 }
 {
     let arena = program.arena();
