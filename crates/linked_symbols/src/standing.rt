@@ -4,7 +4,6 @@ ghost use Rattle.std.specs.Int.{next_multiple_of};
 ghost use Rattle.std.specs.Option.{option_map};
 ghost use Rattle.linkage_rules.specs.Grouped.{AreGroups, AreHomes, kind_of, same_kind};
 ghost use Rattle.linkage_rules.specs.Ids.{modules};
-ghost use Rattle.linkage_rules.specs.Place as place;
 ghost use Rattle.linkage_rules.specs.Symbols.{symbols};
 ghost use Rattle.linked_symbols.specs.Places.{ArePlaced, ArePlaces, clamped, room_told, rows_among, variable_room};
 
@@ -53,20 +52,12 @@ impl Places {
         &self.variables
     }
 
-    /// The function symbols in their order. The number of each, counted from 0, gives its address by `function_address`.
+    /// The function symbols in their order. The number n of each, counted from 0, gives its address, 2^62 + 16 n.
     pub fn functions(&self) -> &SymbolList
         ensures { result.now ≡ self.now.functions }
     {
         &self.functions
     }
-}
-
-/// The address of the function symbol with that number, counted from 0: 16 bytes behind the one before, the first at 2^62;
-/// 2^64 - 1 where it is more.
-pub fn function_address(number: u64) -> u64
-    ensures { result ≡ clamped (place.function_address number) }
-{
-    number.saturating_mul(16).saturating_add(1 << 62)
 }
 
 /// A number rounded up to a multiple of an alignment; 2^64 - 1 where it is more.
