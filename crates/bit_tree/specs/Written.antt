@@ -70,7 +70,10 @@ with_values id (Some t) code ns behind = values id code (operands_by t ns) (is_b
 unfoldable pub tree_of : Writer → Written → Tree
 tree_of w no_more = nothing
 tree_of w (a_block id width inside behind) =
-    block id width (length (ended (written (enter w id width) inside)) / 32) (tree_of (enter w id width) inside) (tree_of (end_block (written (enter w id width) inside)) behind)
+    block id width
+    (length (ended (written (enter w id width) inside)) / 32)
+    (tree_of (enter w id width) inside)
+    (tree_of (end_block (written (enter w id width) inside)) behind)
 tree_of w (a_definition ops behind) = with_definition (in_force w.scope + 4) (template_for ops) (tree_of (define w ops) behind)
 tree_of w (a_record code ns behind) = values 3 code ns false [] (tree_of (put_record w code ns) behind)
 tree_of w (a_short_record id code ns behind) = with_values id (template_of w.scope id) code ns (tree_of (abbreviated w id code ns) behind)

@@ -62,7 +62,9 @@ given_selection all = record {
 -- the command of a tool over words of these roles
 abbrev pub command_of : Tool → List Role → Command
 command_of LlvmAs all = commands.Assemble (input_from (others all)) (output_from (default_name (input_from (others all)) (codes ".ll") (codes ".bc")) (given_output all))
-command_of LlvmDis all = commands.Disassemble (input_from (others all)) (output_from (default_name (input_from (others all)) (codes ".bc") (codes ".ll")) (given_output all))
+command_of LlvmDis all =
+    commands.Disassemble (input_from (others all))
+    (output_from (default_name (input_from (others all)) (codes ".bc") (codes ".ll")) (given_output all))
 command_of LlvmLink all = commands.Link (others all) (output_from Standard (given_output all)) (has_flag flags.Text all)
 command_of LlvmExtract all = commands.Extract (input_from (others all)) (output_from Standard (given_output all)) (has_flag flags.Text all) (given_selection all)
 command_of Lli all = commands.Lli (input_from (others all)) (steps_from (given_steps all)) (arguments_from (others all))

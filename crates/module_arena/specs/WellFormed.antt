@@ -174,7 +174,9 @@ are_good_operands m os = list_all (λ o. is_good_type m.structs o.ty) os
 -- instructions are as their phrases, and all types are good
 abbrev pub is_good_block : Module → Block → Bool
 is_good_block m block =
-    list_all (λ i. is_instruction_of_phrase i && (are_good_operands m (operands i.operation) && list_all (is_good_type m.structs) (types_of_operation i.operation))) block.instructions
+    list_all
+    (λ i. is_instruction_of_phrase i && (are_good_operands m (operands i.operation) && list_all (is_good_type m.structs) (types_of_operation i.operation)))
+    block.instructions
     && are_good_operands m (ending_operands block.ending)
 
 -- good types, names and blocks; a body has a block
