@@ -10,6 +10,13 @@ use record_read::RecordReader;
 use std::alloc::{AllocError, Global};
 
 /// A reader of records, the arena that they are read into, and how many there are of what has an index.
+///
+/// ```
+/// // in front of the records of a module, in which so many entries are announced
+/// let growing = GrowingArena::over(alloc, Arena::new(alloc))?;
+/// let locals = LocalCounts { values: 0, blocks: 0 };
+/// ModuleReader { reader, alloc, growing, globals, locals }
+/// ```
 #[derive(Drop)]
 pub struct ModuleReader<'b> {
     pub reader: RecordReader<'b>,

@@ -36,7 +36,15 @@ untold = record { width = 0; words = 0; abbreviation = 0; has_blob = false }
 -- a reader behind the magic number, or the fault where the bytes do not begin with it
 abbrev pub opened : List ℕ → Result Reader BitFault
 opened bytes =
-    if begins bytes then Ok (record { cursor = record { at = 32; rest = drop 32 (stream_bits bytes) }; scope = top_level; stopped = None; operands = []; blob = []; told = untold; definitions = [] })
+    if begins bytes then Ok (record {
+      cursor = record { at = 32; rest = drop 32 (stream_bits bytes) };
+      scope = top_level;
+      stopped = None;
+      operands = [];
+      blob = [];
+      told = untold;
+      definitions = [];
+    })
     else Err (record { kind = BadMagic; bit = 0 })
 
 -- the reader stopped at a fault, and holds no record and no definitions

@@ -19,7 +19,7 @@ use bits::{BitCursor, BitFault};
 use std::alloc::Global;
 
 /// How many blocks may be open at once.
-const MAX_OPEN: usize = 16;
+pub const MAX_OPEN: usize = 16;
 
 /// What stands at a place: an entry, or none where it is a definition; and of a record its abbreviation id, its blob, and
 /// whether it ended in one.

@@ -8,6 +8,7 @@ use Rattle.bit_stream.specs.declared.abbreviation.AbbrevOp.{AbbrevOp}
 use Rattle.bit_stream.specs.declared.abbreviation.AbbrevOp.TheVariants.{Literal, Fixed, Vbr, Array, Char6, Blob}
 use Rattle.bit_stream.specs.declared.abbreviation.Tail.{Tail}
 use Rattle.bit_stream.specs.declared.abbreviation.Tail.TheVariants.{NoTail, Elements, Bytes}
+use Rattle.bit_stream.specs.declared.item.TheConstants.{MAX_OPEN}
 use Rattle.bit_stream.specs.Abbreviation.{AdmittedAbbreviation, is_blob}
 use Rattle.bit_stream.specs.Scope.{template_of}
 use Rattle.bit_stream.specs.Record.{names_block}
@@ -69,17 +70,20 @@ with_values id (Some t) code ns behind = values id code (operands_by t ns) (is_b
 unfoldable pub tree_of : Writer → Written → Tree
 tree_of w no_more = nothing
 tree_of w (a_block id width inside behind) =
-    block id width (length (ended (written (enter w id width) inside)) / 32) (tree_of (enter w id width) inside) (tree_of (end_block (written (enter w id width) inside)) behind)
+    block id width
+    (length (ended (written (enter w id width) inside)) / 32)
+    (tree_of (enter w id width) inside)
+    (tree_of (end_block (written (enter w id width) inside)) behind)
 tree_of w (a_definition ops behind) = with_definition (in_force w.scope + 4) (template_for ops) (tree_of (define w ops) behind)
 tree_of w (a_record code ns behind) = values 3 code ns false [] (tree_of (put_record w code ns) behind)
 tree_of w (a_short_record id code ns behind) = with_values id (template_of w.scope id) code ns (tree_of (abbreviated w id code ns) behind)
 
--- a block: at most 16 are open at once, and none is inside BLOCKINFO
+-- a block: no more are open at once than may be, and none is inside BLOCKINFO
 pub record MayEnter (w : Writer) (id width : ℕ) : Type 0 where
   pub id_small : id < 2 ^ 32
   pub low : 2 ≤ width
   pub high : width ≤ 32
-  pub shallow : length w.scope.around < 16
+  pub shallow : length w.scope.around < MAX_OPEN
   pub ordinary : is_blockinfo w.scope ≡ false
 
 -- the end of a block: it has fewer than 2 ^ 32 words

@@ -53,7 +53,10 @@ pub record Opened : Type 0 where
 
 -- open blocks whose abbreviations are read where their definitions start
 abbrev pub opened_at : List Bool → StartFrame → List StartFrame → List (ℕ × List ℕ) → Opened
-opened_at bits block around given = record { bits = bits; scope = record { block = frame_at bits block; around = map (frame_at bits) around; given = map (row_at bits) given } }
+opened_at bits block around given = record {
+  bits = bits;
+  scope = record { block = frame_at bits block; around = map (frame_at bits) around; given = map (row_at bits) given };
+}
 
 -- other blocks are open
 abbrev pub with_scope : Opened → Scope → Opened

@@ -12,13 +12,11 @@ use crate::passing::{Passed, pass_abbreviated, pass_unabbreviated};
 use crate::scope::WalkScope;
 use crate::starts::Kept;
 use bit_stream::{
-    ChunkWidth, Entry, StreamFault, bad_abbreviation, bad_block_length, nested_too_deep, template,
+    ChunkWidth, Entry, MAX_OPEN, StreamFault, bad_abbreviation, bad_block_length, nested_too_deep,
+    template,
 };
 use bits::{BitCursor, BitFault};
 use std::alloc::Global;
-
-/// How many blocks may be open at once.
-const MAX_OPEN: usize = 16;
 
 /// What stands at a place: an entry, or none where it is a definition; and the blob of a record, which is empty where it
 /// has none.

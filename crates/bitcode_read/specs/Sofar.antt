@@ -61,7 +61,9 @@ pub record IsEarly (texts : Texts) (all : Records) (known : ModuleAhead) (m : Mo
   pub no_bodies : b.bodies.items ≡ []
   pub over : IsOver no_lists m.growing
   pub gathered : AreGathered known.named known.structs (names_in texts (first_types rest))
-  pub declares : (types : ℕ) (final a : Lists) (names : List (List the_local.LocalName)) → Declares texts types final names a all → Declares texts types final names a rest
+  pub declares : (types : ℕ) (final a : Lists) (names : List (List the_local.LocalName))
+      → Declares texts types final names a all
+      → Declares texts types final names a rest
   pub foresees : (k : Numbering) (types : ℕ) (bodies : List BodyAhead) → Foresees texts k types [] bodies all → Foresees texts k types [] bodies rest
 
 -- ---- behind the types
@@ -72,7 +74,8 @@ AreDeclared base n k = (index : ℕ) → index < length k.globals → IsGlobal b
 
 -- The variables that were read: what each is set to is there, whatever constants are added later, and where all entries are declared they
 -- are those that are meant.
-pub record AreVariables (base : Lists) (g : Growing) (declared : Type 0) (vs : List the_variable.Variable) (initialisers : List (Option ℕ)) (read : List m.Variable) : Type 0 where
+pub record AreVariables (base : Lists) (g : Growing) (declared : Type 0) (vs : List the_variable.Variable)
+    (initialisers : List (Option ℕ)) (read : List m.Variable) : Type 0 where
   pub many : length initialisers ≡ length vs
   pub there : Always g (λ a. HasConstants a initialisers)
   pub are : declared → Always g (λ a. map (variable_view (trees base.table) (constants_of a)) (initialised_by vs initialisers) ≡ read)
@@ -209,7 +212,8 @@ pub record IsPast (old new : ModuleReader) (t : records.Sofar) : Type 0 where
 -- a record of that code in front, none of whose operands are taken, was read behind what was read so far
 abbrev pub ReadsPart : Texts → ModuleReader → Sofar → ℕ → Result (Unit {0}) BitcodeFault → ModuleReader → Sofar → Type 0
 ReadsPart texts old before code result new after =
-    (all : Records) (known : ModuleAhead) (s : records.Sofar) (operands : List ℕ) (behind : Records) → IsSofar texts all known old before s (a_record code operands behind)
+    (all : Records) (known : ModuleAhead) (s : records.Sofar) (operands : List ℕ) (behind : Records)
+    → IsSofar texts all known old before s (a_record code operands behind)
     → old.reader.walk ≡ going operands None → old.reader.at ≡ suc s.at
     → Answers (λ done t. IsSofar texts all known new after t behind × IsPast old new t) (records.record_in s code operands) result
 
@@ -277,7 +281,10 @@ pub record IsAtEnd (texts : Texts) (all : Records) (others : List Piece) (first 
 abbrev pub GoesOn : Texts → Records → List Piece → ℕ → Result Bool BitcodeFault → ModuleReader → Sofar → ModuleAhead → Type 0
 GoesOn texts all others first (Ok true) m b known = IsGoing texts all others first m b known
 GoesOn texts all others first (Ok false) m b known = IsAtEnd texts all others first m b known
-GoesOn texts all others first (Err given) m b known = Answers {A = records.Sofar} {B = Unit {0}} (λ done s. ⊥) (records.module_from (records.at_first texts first all) all) (Err given)
+GoesOn texts all others first (Err given) m b known =
+    Answers {A = records.Sofar} {B = Unit {0}} (λ done s. ⊥)
+    (records.module_from (records.at_first texts first all) all)
+    (Err given)
 
 -- what was read is not the end
 abbrev pub told_more : Result (Unit {0}) BitcodeFault → Result Bool BitcodeFault

@@ -35,7 +35,11 @@ pub record IsInBlock (left : List Piece) : Type 0 where
 
 -- what indices stand for outside the body: with so many values and blocks as were counted they stand for these inside
 abbrev pub NumbersOutside : ModuleReader → Numbering → Type 0
-NumbersOutside m k = (values blocks : List LocalName) → length values ≡ m.locals.values → length blocks ≡ m.locals.blocks → Numbers m (record k { values = values; blocks = blocks })
+NumbersOutside m k =
+    (values blocks : List LocalName)
+    → length values ≡ m.locals.values
+    → length blocks ≡ m.locals.blocks
+    → Numbers m (record k { values = values; blocks = blocks })
 
 -- the results of lines are called as was counted ahead
 abbrev pub AreCounted : the_texts.Texts → Numbering → bodies.Begun → ℕ → List ℕ → Type 0
@@ -52,7 +56,12 @@ ReadsOpcode x k count o old before result new after =
 -- a record in front, none of whose operands are taken, was read behind what was read so far
 abbrev pub ReadsRecord : the_texts.Texts → Numbering → ℕ → ℕ → ModuleReader → Begun → Result (Unit {0}) BitcodeFault → ModuleReader → Begun → Type 0
 ReadsRecord x k count code old before result new after =
-    Numbers old k → (s : bodies.Begun) (operands : List ℕ) → old.reader.walk ≡ going operands None → old.reader.at ≡ suc s.at → Follows count before s → AreCounted x k s code operands
+    Numbers old k
+    → (s : bodies.Begun) (operands : List ℕ)
+    → old.reader.walk ≡ going operands None
+    → old.reader.at ≡ suc s.at
+    → Follows count before s
+    → AreCounted x k s code operands
     → Answers (λ done t. IsBody k count old new before after s t) (bodies.with_record (texts_of x) k count s code operands) result
 
 -- what indices stand for in a body of these records

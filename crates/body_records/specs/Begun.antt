@@ -149,7 +149,8 @@ pub record IsBody (k : Numbering) (count : ℕ) (old new : ModuleReader) (before
   pub means : IsDeclared old k → Always old.growing (λ a. Means a k before s) → Always new.growing (λ a. Means a k after t)
 
 -- A record was read behind what was read so far, and answers as the records say.
-abbrev pub ReadsOne : Numbering → ℕ → (bodies.Begun → List ℕ → Answer bodies.Begun) → ModuleReader → Begun → Result (Unit {0}) BitcodeFault → ModuleReader → Begun → Type 0
+abbrev pub ReadsOne : Numbering → ℕ → (bodies.Begun → List ℕ → Answer bodies.Begun) → ModuleReader → Begun
+    → Result (Unit {0}) BitcodeFault → ModuleReader → Begun → Type 0
 ReadsOne k count answer old before result new after =
     Numbers old k → (s : bodies.Begun) (operands : List ℕ) → old.reader.walk ≡ going operands None → old.reader.at ≡ suc s.at → Follows count before s
     → Answers (λ done t. IsBody k count old new before after s t) (answer s operands) result

@@ -104,4 +104,8 @@ pub record ReadsLine (texts : Texts) (defined own : ℕ) (opcode : Opcode) (old 
   pub reads : Finds HasInst operation_in (operation_read texts own opcode) old new line.instruction
   pub none : is_broken new.reader.walk ≡ true → line.instruction ≡ None
   pub defines : IfSome line.instruction (λ i. result_of i ≡ ids_of defined line.name)
-  pub name : (k : Numbering) → Numbers old k → IsNameOf line.name ((instruction texts k own opcode).read old.reader.walk).0.result (name_behind texts own opcode k old.reader.walk)
+  pub name : (k : Numbering)
+      → Numbers old k
+      → IsNameOf line.name
+      ((instruction texts k own opcode).read old.reader.walk).0.result
+      (name_behind texts own opcode k old.reader.walk)

@@ -142,18 +142,25 @@ operation_opcode (InsertValue aggregate part indices) = op.InsertValue
 
 -- what an instruction does
 abbrev pub IsOperationText : ℕ → Operation → Type 0
-IsOperationText nesting (BinaryOperation code set left right) = (is_binary code ≡ true) × IsFlagSet code set × IsOperandText nesting left × IsValueText nesting left.ty right
+IsOperationText nesting (BinaryOperation code set left right) =
+    (is_binary code ≡ true) × IsFlagSet code set × IsOperandText nesting left × IsValueText nesting left.ty right
 IsOperationText nesting (Compare set predicate left right) = IsFlagSet op.ICmp set × IsOperandText nesting left × IsValueText nesting left.ty right
 IsOperationText nesting (Convert code set value to) = (is_cast code ≡ true) × IsFlagSet code set × IsOperandText nesting value × IsTypeText to nesting
 IsOperationText nesting (Select condition first second) = IsOperandText nesting condition × IsOperandText nesting first × IsOperandText nesting second
 IsOperationText nesting (Freeze value) = IsOperandText nesting value
 IsOperationText nesting (Phi ty incoming) = IsTypeText ty nesting × (is_not_empty incoming ≡ true) × AreIncomingTexts nesting ty incoming
 IsOperationText nesting (Load set ty address alignment) = IsFlagSet op.Load set × IsTypeText ty nesting × IsOperandText nesting address × IsAlignmentText alignment
-IsOperationText nesting (Store set value address alignment) = IsFlagSet op.Store set × IsOperandText nesting value × IsOperandText nesting address × IsAlignmentText alignment
+IsOperationText nesting (Store set value address alignment) =
+    IsFlagSet op.Store set × IsOperandText nesting value × IsOperandText nesting address × IsAlignmentText alignment
 IsOperationText nesting (Alloca ty count alignment) = IsTypeText ty nesting × IsCountText nesting count × IsAlignmentText alignment
-IsOperationText nesting (GetElementPtr set source base indices) = IsFlagSet op.GetElementPtr set × IsTypeText source nesting × IsOperandText nesting base × AreOperandTexts nesting indices
+IsOperationText nesting (GetElementPtr set source base indices) =
+    IsFlagSet op.GetElementPtr set
+    × IsTypeText source nesting
+    × IsOperandText nesting base
+    × AreOperandTexts nesting indices
 IsOperationText nesting (Call signature callee arguments) =
     IsTypeText signature.returns nesting × AreTypeListTexts nesting signature.parameters
     × IsValueText nesting ptr callee × AreOperandTexts nesting arguments
 IsOperationText nesting (ExtractValue aggregate indices) = IsOperandText nesting aggregate × (is_not_empty indices ≡ true) × AreSmall indices
-IsOperationText nesting (InsertValue aggregate part indices) = IsOperandText nesting aggregate × IsOperandText nesting part × (is_not_empty indices ≡ true) × AreSmall indices
+IsOperationText nesting (InsertValue aggregate part indices) =
+    IsOperandText nesting aggregate × IsOperandText nesting part × (is_not_empty indices ≡ true) × AreSmall indices

@@ -138,7 +138,10 @@ behind_all next (i ∷ more) = behind_all (behind_result next i.result) more
 abbrev pub AreExactBlocks : ℕ → List Block → Type 0
 AreExactBlocks next [] = Unit {0}
 AreExactBlocks next (b ∷ more) =
-    IsNext next b.name × AreExactInstructions (behind next b.name) b.instructions × IsExactEnding b.ending × AreExactBlocks (behind_all (behind next b.name) b.instructions) more
+    IsNext next b.name
+    × AreExactInstructions (behind next b.name) b.instructions
+    × IsExactEnding b.ending
+    × AreExactBlocks (behind_all (behind next b.name) b.instructions) more
 
 -- parameters, the first of which is the next one
 abbrev pub AreExactParameters : ℕ → List Parameter → Type 0

@@ -68,7 +68,8 @@ abbrev mutual
   constant_phrase ty (Cast code from value to) =
       opcode code ␣ in_parentheses (type_phrase from ␣ constant_phrase from value ␣ word (codes "to") ␣ type_phrase to)
   constant_phrase ty (Binary code set left_type left right_type right) =
-      opcode code ␣ flags_phrase set ␣ in_parentheses (type_phrase left_type ␣ constant_phrase left_type left ⌢ comma ␣ type_phrase right_type ␣ constant_phrase right_type right)
+      opcode code ␣ flags_phrase set
+      ␣ in_parentheses (type_phrase left_type ␣ constant_phrase left_type left ⌢ comma ␣ type_phrase right_type ␣ constant_phrase right_type right)
 
   -- each with its type
   pub constant_phrases : Constants → List Phrase

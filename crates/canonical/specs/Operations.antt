@@ -36,7 +36,13 @@ counted p (Some count) alignment = p ⌢ comma ␣ aligned (operand count) align
 -- what an instruction does
 abbrev pub operation_phrase : Operation → Phrase
 operation_phrase (BinaryOperation code set left right) = opcode code ␣ flags_phrase set ␣ operand left ⌢ comma ␣ value_phrase left.ty right
-operation_phrase (Compare set predicate left right) = opcode op.ICmp ␣ flags_phrase set ␣ word (predicate_word predicate) ␣ operand left ⌢ comma ␣ value_phrase left.ty right
+operation_phrase (Compare set predicate left right) =
+    opcode op.ICmp
+    ␣ flags_phrase set
+    ␣ word (predicate_word predicate)
+    ␣ operand left
+    ⌢ comma
+    ␣ value_phrase left.ty right
 operation_phrase (Convert code set value to) = opcode code ␣ flags_phrase set ␣ operand value ␣ word (codes "to") ␣ type_phrase to
 operation_phrase (Select condition first second) = opcode op.Select ␣ operand condition ⌢ comma ␣ operand first ⌢ comma ␣ operand second
 operation_phrase (Freeze value) = opcode op.Freeze ␣ operand value
@@ -44,8 +50,17 @@ operation_phrase (Phi ty incoming) = opcode op.Phi ␣ type_phrase ty ␣ listed
 operation_phrase (Load set ty address alignment) = opcode op.Load ␣ flags_phrase set ␣ type_phrase ty ⌢ comma ␣ aligned (operand address) alignment
 operation_phrase (Store set value address alignment) = opcode op.Store ␣ flags_phrase set ␣ operand value ⌢ comma ␣ aligned (operand address) alignment
 operation_phrase (Alloca ty count alignment) = opcode op.Alloca ␣ counted (type_phrase ty) count alignment
-operation_phrase (GetElementPtr set source base indices) = opcode op.GetElementPtr ␣ address_flags_phrase set ␣ type_phrase source ⌢ comma ␣ with_more (operand base) (map operand indices)
+operation_phrase (GetElementPtr set source base indices) =
+    opcode op.GetElementPtr
+    ␣ address_flags_phrase set
+    ␣ type_phrase source
+    ⌢ comma
+    ␣ with_more (operand base) (map operand indices)
 operation_phrase (Call signature callee arguments) =
-    opcode op.Call ␣ type_phrase signature.returns ␣ signature_phrase signature signature.variadic ␣ value_phrase ptr callee ⌢ in_parentheses (listed (map operand arguments))
+    opcode op.Call
+    ␣ type_phrase signature.returns
+    ␣ signature_phrase signature signature.variadic
+    ␣ value_phrase ptr callee
+    ⌢ in_parentheses (listed (map operand arguments))
 operation_phrase (ExtractValue aggregate indices) = opcode op.ExtractValue ␣ with_more (operand aggregate) (map natural indices)
 operation_phrase (InsertValue aggregate part indices) = opcode op.InsertValue ␣ operand aggregate ⌢ comma ␣ with_more (operand part) (map natural indices)

@@ -10,6 +10,7 @@ use Rattle.command_line.specs.declared.command.WordsFault.{WordsFault}
 use Rattle.command_line.specs.declared.command.WordsFault.TheVariants as faults
 use Rattle.command_line.specs.declared.tool.Tool.{Tool}
 use Rattle.command_line.specs.declared.tool.Tool.TheVariants.{LlvmAs, LlvmDis, LlvmLink, LlvmExtract, Lli, LlvmBcanalyzer}
+use Rattle.command_line.specs.declared.given.TheConstants.{DEFAULT_STEPS}
 use Rattle.command_line.specs.declared.options.PlainOption.TheVariants as flags
 use Rattle.command_line.specs.declared.options.Setting.TheVariants as settings
 use Rattle.command_line.specs.Tools.{tool_of}
@@ -33,9 +34,9 @@ abbrev pub first_number : List (List ℕ) → Option ℕ
 first_number [] = None
 first_number (value ∷ values) = Some (decimal value)
 
--- the bound on steps: 1,000,000,000 where none is given
+-- the bound on steps, with that where none is given
 abbrev pub steps_from : Option ℕ → ℕ
-steps_from None = 1000000000
+steps_from None = DEFAULT_STEPS
 steps_from (Some n) = n
 
 -- What the roles of all words give.
@@ -61,7 +62,9 @@ given_selection all = record {
 -- the command of a tool over words of these roles
 abbrev pub command_of : Tool → List Role → Command
 command_of LlvmAs all = commands.Assemble (input_from (others all)) (output_from (default_name (input_from (others all)) (codes ".ll") (codes ".bc")) (given_output all))
-command_of LlvmDis all = commands.Disassemble (input_from (others all)) (output_from (default_name (input_from (others all)) (codes ".bc") (codes ".ll")) (given_output all))
+command_of LlvmDis all =
+    commands.Disassemble (input_from (others all))
+    (output_from (default_name (input_from (others all)) (codes ".bc") (codes ".ll")) (given_output all))
 command_of LlvmLink all = commands.Link (others all) (output_from Standard (given_output all)) (has_flag flags.Text all)
 command_of LlvmExtract all = commands.Extract (input_from (others all)) (output_from Standard (given_output all)) (has_flag flags.Text all) (given_selection all)
 command_of Lli all = commands.Lli (input_from (others all)) (steps_from (given_steps all)) (arguments_from (others all))

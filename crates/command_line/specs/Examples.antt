@@ -30,7 +30,8 @@ unfolding word_spelling scan
 a_program_with_words = refl
 
 -- the word behind `-o` is its value, whatever it is
-pub an_output_named_by_two_dashes : roles tools.LlvmAs (codes "-o" ∷ codes "--" ∷ codes "a" ∷ []) ≡ Input (codes "a") ∷ Value settings.Output (codes "--") ∷ Open settings.Output ∷ []
+pub an_output_named_by_two_dashes : roles tools.LlvmAs (codes "-o" ∷ codes "--" ∷ codes "a" ∷ [])
+    ≡ Input (codes "a") ∷ Value settings.Output (codes "--") ∷ Open settings.Output ∷ []
 unfolding word_spelling
 an_output_named_by_two_dashes = refl
 

@@ -1,7 +1,8 @@
 -- For `read_words`: decimal numbers.
-use Rattle.std.specs.Prelude.{ℕ, ◌+◌, ◌-◌, ◌*◌, ◌^◌, Bool, false, not, ◌&&◌, ◌==◌, nat_le, List, [], ◌∷◌, length, Option, Some, None, if◌then◌else◌}
+use Rattle.std.specs.Prelude.{ℕ, ◌+◌, ◌-◌, ◌*◌, Bool, false, not, ◌&&◌, ◌==◌, nat_le, List, [], ◌∷◌, length, Option, Some, None, if◌then◌else◌}
 use Rattle.std.specs.List.{list_all}
 use Rattle.std.specs.Char.{is_ascii_digit}
+use Rattle.command_line.specs.declared.number.TheConstants.{LARGEST_NUMBER}
 
 -- the number that digits spell behind others that spell n
 abbrev pub decimal_onto : ℕ → List ℕ → ℕ
@@ -18,9 +19,9 @@ leads_with_zero [] = false
 leads_with_zero (digit ∷ []) = false
 leads_with_zero (digit ∷ next ∷ digits) = digit == 48
 
--- decimal digits, at least one, that spell at most 2 ^ 32, with no zero before other digits
+-- decimal digits, at least one, that spell at most the largest number, with no zero before other digits
 abbrev pub is_number : List ℕ → Bool
-is_number word = not (length word == 0) && not (leads_with_zero word) && (list_all is_ascii_digit word && nat_le (decimal word) (2 ^ 32))
+is_number word = not (length word == 0) && not (leads_with_zero word) && (list_all is_ascii_digit word && nat_le (decimal word) LARGEST_NUMBER)
 
 -- the number that a word is
 abbrev pub number_of : List ℕ → Option ℕ

@@ -14,6 +14,7 @@ use crate::{Command, OutputName, SelectionWords, Tool, UsageKind, WordsFault};
 use ir_base::{Name, NameList, Text, TextList};
 use std::alloc::{AllocError, Global};
 
+/// How many steps a program may take where the words tell none.
 const DEFAULT_STEPS: u64 = 1_000_000_000;
 
 #[derive(Drop)]

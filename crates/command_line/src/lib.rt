@@ -22,6 +22,7 @@ mod tool;
 mod words;
 
 pub use command::{Command, OutputName, SelectionWords, UsageKind, WordsFault};
+pub use number::LARGEST_NUMBER;
 pub use options::is_dash;
 pub use tool::{Tool, line_name, tool_of};
 pub use words::read_words;

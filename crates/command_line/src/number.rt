@@ -2,8 +2,8 @@
 ghost use Rattle.std.specs.Prelude.{◌≡◌};
 ghost use Rattle.command_line.specs.Numbers.{number_of, leads_with_zero};
 
-// The greatest number of steps that may be asked for.
-const LARGEST_NUMBER: u64 = 4_294_967_296;
+/// The greatest number of steps that may be asked for.
+pub const LARGEST_NUMBER: u64 = 4_294_967_296;
 
 fn leads_with_zero(digits: &[u8]) -> bool
     ensures { result ≡ leads_with_zero digits.now }

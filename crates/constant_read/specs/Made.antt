@@ -69,4 +69,6 @@ typed_behind k depth w = let n = next w in constants.typed (ty k) (constants.rea
 -- these constants with their types, behind the base that they are indices of
 abbrev pub AreIndices : Option TypedConst → Lists → List TypedConst → m.Constants → Type 0
 AreIndices None a parts cs = ⊥
-AreIndices (Some base) a parts cs = constants_at (trees a.table) (constants_of a) parts ≡ m.more_constants (tree a.table base.ty) (constant_at (constants_of a) base.value) cs
+AreIndices (Some base) a parts cs =
+    constants_at (trees a.table) (constants_of a) parts
+    ≡ m.more_constants (tree a.table base.ty) (constant_at (constants_of a) base.value) cs

@@ -24,7 +24,7 @@ use Rattle.record_read.specs.Reader.{IsBroken}
 use Rattle.body_ahead.specs.declared.ahead.BodyAhead.{BodyAhead}
 use Rattle.entries_ahead.specs.Bodies.{names_given}
 use Rattle.head_read.specs.Ahead.{one_where}
-use Rattle.head_read.specs.Fronts.{VariableFields, FunctionFields, AliasFields, variable_front, function_front, alias_front, kept_alias_type, function_defined}
+use Rattle.head_read.specs.Fronts.{VariableFields, FunctionFields, AliasFields, variable_front, function_front, alias_front, kept_alias_type, function_defined, name_in}
 
 -- ---- entries, of which nothing is known but what their records begin with
 
@@ -97,10 +97,6 @@ entry_count (a_record code operands behind) = one_where (is_entry (declaring cod
 -- what stands in front in a record, and the walk behind it
 abbrev pub front_of : {A : Type 0} → Layout A → List ℕ → A × Walk
 front_of l operands = l.read (going operands None)
-
--- what an entry is called, which stands first in its front
-abbrev pub name_in : {A : Type 0} → Bytes × A → Bytes
-name_in (name, rest) = name
 
 module _ (texts : Texts) (types : ℕ) (final : Lists) where
   -- An entry more is declared behind these, and those behind it; or none more is.

@@ -63,11 +63,19 @@ pub record ReadsVariable (texts : Texts) (k : Numbering) (operands : List ℕ) (
   pub good : is_good (judged (records.variable texts k) operands).0.name ≡ true
   pub front : is_broken ((variable_front texts (length k.types)).read (going operands None)).1 ≡ false
 
+-- whether the function of a record is defined
+abbrev pub told_defined : (Bool × m.Function) × Option ℕ → Bool
+told_defined ((defined, function), broken) = defined
+
+-- the function of a record, as a declaration
+abbrev pub told_function : (Bool × m.Function) × Option ℕ → m.Function
+told_function ((defined, function), broken) = function
+
 -- the record of a function is read: it is defined or not
 pub record ReadsFunction (texts : Texts) (k : Numbering) (operands : List ℕ) (old new : ModuleReader) (defined : Bool) (t : records.Sofar) : Type 0 where
   pub passes : Passes old new t
-  pub is : defined ≡ (judged (records.function texts k) operands).0.0
-  pub good : is_good (judged (records.function texts k) operands).0.1.name ≡ true
+  pub is : defined ≡ told_defined (judged (records.function texts k) operands)
+  pub good : is_good (told_function (judged (records.function texts k) operands)).name ≡ true
   pub front : (judged (function_front texts (length k.types)) operands).1 ≡ None
 
 -- The record of an alias is read. Its target is there, and where all entries are declared it is the one that is read.

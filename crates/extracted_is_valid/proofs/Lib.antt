@@ -15,5 +15,6 @@ pub mod Few
 pub mod Counted
 pub mod Names
 pub mod WellFormedButConstants
+pub mod Gathered
 pub mod Constants
 pub mod Sizes

@@ -9,7 +9,7 @@ use Rattle.extract_core.specs.declared.selection.Selection.{Selection}
 use Rattle.extract_core.specs.Selected.{is_among, keeps_function}
 use Rattle.extract_core.specs.Extracted.{kept_names, kept_linkage, declared_function, extracted_function, alias_as_function, declared_aliases, Extracted}
 use Rattle.extracted_is_valid.specs.Laws.{ExtractedIsSmall}
-use Rattle.extracted_is_valid.proofs.Constants.{made_all}
+use Rattle.extracted_is_valid.proofs.Gathered.{made_all}
 use Rattle.extracted_is_valid.proofs.Kept.{either}
 use Rattle.extracted_is_valid.proofs.Lists.{all_units, all_of_append}
 

@@ -38,6 +38,10 @@ AliasFields = Bytes × (Linkage × AliasTypeFields)
 
 -- ---- the parts of these, by their names
 
+-- what an entry is called, which stands first
+abbrev pub name_in : {A : Type 0} → Bytes × A → Bytes
+name_in (name, rest) = name
+
 -- of a variable: its linkage
 abbrev pub variable_linkage : VariableFields → Linkage
 variable_linkage (name, (linkage, (constant, (ty, alignment)))) = linkage
@@ -135,7 +139,7 @@ pub record ReadsFrontName (texts : Texts) (old new : Reader) (name : Option Byte
 -- and a name or a type only where a rule is broken.
 pub record ReadsVariable (texts : Texts) (types : ℕ) (old new : Reader) (front : VariableFront) : Type 0 where
   pub reader : new ≡ record old { walk = ((variable_front texts types).read old.walk).1 }
-  pub name : IsNameOf front.name ((variable_front texts types).read old.walk).0.0
+  pub name : IsNameOf front.name (name_in ((variable_front texts types).read old.walk).0)
   pub named : front.name ≡ None → IsBroken new.walk
   pub linkage : front.linkage ≡ variable_linkage ((variable_front texts types).read old.walk).0
   pub constant : front.constant ≡ variable_constant ((variable_front texts types).read old.walk).0
@@ -145,7 +149,7 @@ pub record ReadsVariable (texts : Texts) (types : ℕ) (old new : Reader) (front
 -- the same of a function
 pub record ReadsFunction (texts : Texts) (types : ℕ) (old new : Reader) (front : FunctionFront) : Type 0 where
   pub reader : new ≡ record old { walk = ((function_front texts types).read old.walk).1 }
-  pub name : IsNameOf front.name ((function_front texts types).read old.walk).0.0
+  pub name : IsNameOf front.name (name_in ((function_front texts types).read old.walk).0)
   pub named : front.name ≡ None → IsBroken new.walk
   pub linkage : front.linkage ≡ function_linkage ((function_front texts types).read old.walk).0
   pub defined : front.defined ≡ function_defined ((function_front texts types).read old.walk).0
@@ -156,7 +160,7 @@ pub record ReadsFunction (texts : Texts) (types : ℕ) (old new : Reader) (front
 -- the same of an alias
 pub record ReadsAlias (texts : Texts) (types : ℕ) (old new : Reader) (front : AliasFront) : Type 0 where
   pub reader : new ≡ record old { walk = ((alias_front texts types).read old.walk).1 }
-  pub name : IsNameOf front.name ((alias_front texts types).read old.walk).0.0
+  pub name : IsNameOf front.name (name_in ((alias_front texts types).read old.walk).0)
   pub named : front.name ≡ None → IsBroken new.walk
   pub linkage : front.linkage ≡ alias_linkage ((alias_front texts types).read old.walk).0
   pub ty : IsKept (IsListedType types) front.ty (alias_ty ((alias_front texts types).read old.walk).0) new.walk

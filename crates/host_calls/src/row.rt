@@ -23,10 +23,8 @@ use module_arena::HostRow;
 use run_host::{
     HostAnswer, allocate, copy, evaluate, fill, free, put_byte, put_line, string_length,
 };
+use run_rules::ABORTED;
 use std::alloc::{AllocError, Global};
-
-/// The status of a program that calls `abort`: that of a shell where a signal 6 ended it.
-const ABORTED: u8 = 134;
 
 /// What a copy or a fill gives: the functions of C give the address where they wrote, the intrinsics nothing.
 fn given(row: HostRow, arguments: &[Scalar]) -> Option<Outcome>

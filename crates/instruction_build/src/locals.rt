@@ -5,6 +5,13 @@ use crate::local_ids::LocalIds;
 use std::alloc::Global;
 
 /// The locals of a function, by their ids.
+///
+/// ```
+/// // of `define void @f(i32 %x) { .. }`
+/// let mut locals = Locals::new(alloc);
+/// locals.values.add(alloc, 0, &parameter.name)? // its id, 0
+/// locals.values.names.len() // 1
+/// ```
 #[derive(Drop)]
 pub struct Locals<'a> {
     /// What its values are called, parameters first.

@@ -49,7 +49,11 @@ holder_shape = record { first = nest_shape.first ++ expression_classes; more = [
 
 -- how constants begin
 abbrev pub constant_shape : Shape
-constant_shape = record { first = code terminal.Integer ∷ code terminal.GlobalName ∷ code terminal.ByteString ∷ simple_classes ++ holder_shape.first; more = []; empty = false }
+constant_shape = record {
+  first = code terminal.Integer ∷ code terminal.GlobalName ∷ code terminal.ByteString ∷ simple_classes ++ holder_shape.first;
+  more = [];
+  empty = false;
+}
 
 -- the constant that is one word
 abbrev pub simple_word : Terminal → Option Simple
@@ -95,11 +99,17 @@ elements_row typed = labelled list_shape (elements_core typed)
 
 -- [ (TYPE CONST),* ]
 abbrev pub array_constant_row : Row Located TypedConstantTree → Row Located ConstantTree
-array_constant_row typed = mapped (λ v. ListConstant v.0 brackets.Square (constants v.1)) (pair (word terminal.OpenBracket) (keep_first (elements_row typed) (word terminal.CloseBracket)))
+array_constant_row typed =
+    mapped
+    (λ v. ListConstant v.0 brackets.Square (constants v.1))
+    (pair (word terminal.OpenBracket) (keep_first (elements_row typed) (word terminal.CloseBracket)))
 
 -- { (TYPE CONST),* }
 abbrev pub struct_constant_row : Row Located TypedConstantTree → Row Located ConstantTree
-struct_constant_row typed = mapped (λ v. ListConstant v.0 brackets.Braces (constants v.1)) (pair (word terminal.OpenBrace) (keep_first (elements_row typed) (word terminal.CloseBrace)))
+struct_constant_row typed =
+    mapped
+    (λ v. ListConstant v.0 brackets.Braces (constants v.1))
+    (pair (word terminal.OpenBrace) (keep_first (elements_row typed) (word terminal.CloseBrace)))
 
 -- <{ (TYPE CONST),* }>
 abbrev pub packed_constant_row : Row Located TypedConstantTree → Row Located ConstantTree
@@ -139,7 +149,9 @@ conversion_row limits typed place opcode =
 abbrev pub arithmetic_row : Row Located TypedConstantTree → Place → Opcode → Row Located ConstantTree
 arithmetic_row typed place opcode =
     mapped (λ (flags, ((left_type, left), (right_type, right))). Arithmetic place opcode flags left_type left right_type right)
-    (pair (flags_row opcode) (keep_second (word terminal.OpenParenthesis) (pair (keep_first typed (word terminal.Comma)) (keep_first typed (word terminal.CloseParenthesis)))))
+    (pair (flags_row opcode)
+    (keep_second (word terminal.OpenParenthesis)
+    (pair (keep_first typed (word terminal.Comma)) (keep_first typed (word terminal.CloseParenthesis)))))
 
 -- how an expression goes on behind its opcode
 abbrev pub expression_shape : Shape
@@ -170,7 +182,9 @@ expression_row limits typed = chain (token_with_place expression_classes opcode_
 
 -- a constant that holds constants, which are these
 abbrev pub holder_step : Limits → Row Located TypedConstantTree → Row Located ConstantTree
-holder_step limits typed = alt class (array_constant_row typed) (alt class (struct_constant_row typed) (alt class (packed_constant_row typed) (expression_row limits typed)))
+holder_step limits typed =
+    alt class (array_constant_row typed)
+    (alt class (struct_constant_row typed) (alt class (packed_constant_row typed) (expression_row limits typed)))
 
 -- any constant, where those that hold constants are these
 unfoldable pub constant_core : Row Located ConstantTree → Row Located ConstantTree

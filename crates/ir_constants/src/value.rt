@@ -14,6 +14,12 @@ pub enum Value {
 }
 
 /// A value and the type that is written before it.
+///
+/// ```
+/// // `i32 %x`, where a text begins with it, and `x` is that name with its place.
+/// let ty = Type::Integer(Place { line: 1, column: 1 }, 32);
+/// TypedValue { ty, value: Value::Local(Local::Named(x)) }
+/// ```
 #[derive(Drop)]
 pub struct TypedValue {
     pub ty: Type,

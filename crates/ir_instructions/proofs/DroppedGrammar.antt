@@ -68,7 +68,7 @@ reads_function_string =
 reads_function_alignment : Reads class function_alignment_row function_alignment_row.shape
 reads_function_alignment = reads_second class (reads_word terminal.Align) (reads_dropped_word terminal.Integer) refl
 
-reads_section : Reads class section_row section_row.shape
+pub reads_section : Reads class section_row section_row.shape
 reads_section = reads_second class (reads_word terminal.Section) (reads_dropped_word terminal.Quoted) refl
 
 reads_function_list : Reads class function_list_row function_list_row.shape

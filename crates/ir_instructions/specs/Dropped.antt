@@ -16,7 +16,11 @@ dropped p = mapped (λ a. tt) p
 
 -- MNAME MNUMBER, or MNAME ! { .. }
 abbrev pub attachment_row : Row Located (Unit {0})
-attachment_row = keep_second (word terminal.MetaName) (alt class (dropped (word terminal.MetaNumber)) (keep_second (word terminal.MetaMark) (matched_row terminal.OpenBrace)))
+attachment_row =
+    keep_second (word terminal.MetaName)
+    (alt class
+    (dropped (word terminal.MetaNumber))
+    (keep_second (word terminal.MetaMark) (matched_row terminal.OpenBrace)))
 
 -- a comma and what follows it
 abbrev pub comma_shape : Shape

@@ -126,7 +126,11 @@ switch_shape = record { first = code (terminal.Opcode op.Switch) ∷ []; more = 
 
 -- switch TYPE VALUE , label LOCAL [ (TYPE CONST , label LOCAL)* ], by its parts
 unfoldable pub switch_core : Limits → Row Located EndingTree
-switch_core limits = keep_second (word (terminal.Opcode op.Switch)) (mapped (λ (value, (otherwise, cases)). Switch value otherwise cases) (pair (typed_value_row limits) (switch_targets_row limits)))
+switch_core limits =
+    keep_second (word (terminal.Opcode op.Switch))
+    (mapped
+    (λ (value, (otherwise, cases)). Switch value otherwise cases)
+    (pair (typed_value_row limits) (switch_targets_row limits)))
 
 -- switch TYPE VALUE , label LOCAL [ (TYPE CONST , label LOCAL)* ]
 abbrev pub switch_row : Limits → Row Located EndingTree

@@ -46,7 +46,10 @@ operation_over classes limits = labelled (operation_over_shape classes) (operati
 
 -- LOCAL = and an instruction that has a result
 abbrev pub assigned_row : Limits → Row Located InstructionTree
-assigned_row limits = mapped (λ v. record { result = Some v.0; operation = v.1 }) (pair (keep_first local_row (word terminal.Equals)) (operation_over result_classes limits))
+assigned_row limits =
+    mapped
+    (λ v. record { result = Some v.0; operation = v.1 })
+    (pair (keep_first local_row (word terminal.Equals)) (operation_over result_classes limits))
 
 -- an instruction whose result, where it has one, is not called by a name
 abbrev pub bare_row : Limits → Row Located InstructionTree

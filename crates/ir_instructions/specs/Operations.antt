@@ -133,7 +133,10 @@ binary_row opcode limits = labelled operation_shape (binary_core opcode limits)
 
 -- FLAG* PREDICATE TYPE VALUE , VALUE (, MD)*, by its parts
 unfoldable pub compare_core : Limits → Row Located OperationTree
-compare_core limits = mapped (λ (flags, (predicate, (left, right))). Compare flags predicate left right) (pair (flags_row op.ICmp) (pair predicate_row (operands_row limits)))
+compare_core limits =
+    mapped
+    (λ (flags, (predicate, (left, right))). Compare flags predicate left right)
+    (pair (flags_row op.ICmp) (pair predicate_row (operands_row limits)))
 
 -- FLAG* PREDICATE TYPE VALUE , VALUE (, MD)*
 abbrev pub compare_row : Limits → Row Located OperationTree
@@ -173,7 +176,10 @@ phi_row limits = labelled operation_shape (phi_core limits)
 
 -- FLAG* TYPE , TYPE VALUE (, align INT)? (, MD)*, by its parts
 unfoldable pub load_core : Limits → Row Located OperationTree
-load_core limits = mapped (λ (flags, (ty, (address, alignment))). Load flags ty address alignment) (pair (flags_row op.Load) (pair (type_row limits) (address_row limits)))
+load_core limits =
+    mapped
+    (λ (flags, (ty, (address, alignment))). Load flags ty address alignment)
+    (pair (flags_row op.Load) (pair (type_row limits) (address_row limits)))
 
 -- FLAG* TYPE , TYPE VALUE (, align INT)? (, MD)*
 abbrev pub load_row : Limits → Row Located OperationTree
@@ -181,7 +187,10 @@ load_row limits = labelled operation_shape (load_core limits)
 
 -- FLAG* TYPE VALUE , TYPE VALUE (, align INT)? (, MD)*, by its parts
 unfoldable pub store_core : Limits → Row Located OperationTree
-store_core limits = mapped (λ (flags, (value, (address, alignment))). Store flags value address alignment) (pair (flags_row op.Store) (pair (typed_value_row limits) (address_row limits)))
+store_core limits =
+    mapped
+    (λ (flags, (value, (address, alignment))). Store flags value address alignment)
+    (pair (flags_row op.Store) (pair (typed_value_row limits) (address_row limits)))
 
 -- FLAG* TYPE VALUE , TYPE VALUE (, align INT)? (, MD)*
 abbrev pub store_row : Limits → Row Located OperationTree
@@ -197,7 +206,10 @@ alloca_row limits = labelled operation_shape (alloca_core limits)
 
 -- FLAG* TYPE , TYPE VALUE (, TYPE VALUE)* (, MD)*, by its parts
 unfoldable pub element_address_core : Limits → Row Located OperationTree
-element_address_core limits = mapped (λ (flags, (source, operands)). GetElementPtr flags source operands) (pair (flags_row op.GetElementPtr) (pair (type_row limits) (operand_list_row limits)))
+element_address_core limits =
+    mapped
+    (λ (flags, (source, operands)). GetElementPtr flags source operands)
+    (pair (flags_row op.GetElementPtr) (pair (type_row limits) (operand_list_row limits)))
 
 -- FLAG* TYPE , TYPE VALUE (, TYPE VALUE)* (, MD)*
 abbrev pub element_address_row : Limits → Row Located OperationTree

@@ -14,7 +14,10 @@ use Rattle.ir_instructions.specs.Dropped.{attachment_row, attachments_row, comma
 
 -- align INT (, MD)*, or MD (, MD)*
 abbrev pub alignment_behind_row : Row Located (Option Integer)
-alignment_behind_row = alt class (keep_first (mapped Some (keep_second (word terminal.Align) integer_row)) attachments_row) (mapped (λ u. None) (keep_second attachment_row attachments_row))
+alignment_behind_row =
+    alt class
+    (keep_first (mapped Some (keep_second (word terminal.Align) integer_row)) attachments_row)
+    (mapped (λ u. None) (keep_second attachment_row attachments_row))
 
 -- (, align INT)? (, MD)*, by its parts
 unfoldable pub alignment_core : Row Located (Option Integer)
@@ -42,7 +45,10 @@ Listed A = List A × Bool
 
 -- , PART or , MD, and behind MD only that
 abbrev pub listed_step : {A : Type 0} → Row Located A → Listed A → Row Located (Listed A)
-listed_step p s = keep_second (word terminal.Comma) (cond s.1 (mapped (λ u. s) attachment_row) (alt class (mapped (λ u. (s.0, true)) attachment_row) (mapped (λ a. (s.0 ++ a ∷ [], false)) p)))
+listed_step p s =
+    keep_second (word terminal.Comma)
+    (cond s.1 (mapped (λ u. s) attachment_row)
+    (alt class (mapped (λ u. (s.0, true)) attachment_row) (mapped (λ a. (s.0 ++ a ∷ [], false)) p)))
 
 -- (, PART)* (, MD)*, behind these parts, as a loop
 unfoldable pub listed_core : {A : Type 0} → Row Located A → List A → Row Located (List A)

@@ -12,6 +12,11 @@ pub struct Instruction {
 }
 
 /// A case of a switch, and the block that it goes to.
+///
+/// ```
+/// // `i32 7, label %b`, where `value` is `i32 7` and `b` the name `b` with its place
+/// Case { value, target: Local::Named(b) }
+/// ```
 #[derive(Drop)]
 pub struct Case {
     pub value: TypedConstant,

@@ -37,6 +37,11 @@ pub struct CastParts {
 }
 
 /// A condition, and the two arms.
+///
+/// ```
+/// // of `select i1 %c, i32 %a, i32 7`, whose values are `i1 %c`, `i32 %a` and `i32 7`
+/// Box::new(alloc, Choice { condition, first, second })?
+/// ```
 #[derive(Drop)]
 pub struct Choice {
     pub condition: TypedValue,
@@ -45,6 +50,11 @@ pub struct Choice {
 }
 
 /// A value of a phi, and the block that it comes from.
+///
+/// ```
+/// // `[ %x, %entry ]`, where `x` and `entry` are these names with their places
+/// Incoming { value: Value::Local(Local::Named(x)), block: Local::Named(entry) }
+/// ```
 #[derive(Drop)]
 pub struct Incoming {
     pub value: Value,

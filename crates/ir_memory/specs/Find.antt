@@ -13,7 +13,12 @@ pub record AreStarts (starts : List ℕ) (blocks : List MemoryBlock) : Type 0 wh
   pub few : 64 * length starts < length blocks + 64
   pub rising : (p q : ℕ) → p ≤ q → q < length starts → slice_index_or starts p 0 ≤ slice_index_or starts q 0
   pub low : (k : ℕ) (d : MemoryBlock) → k < length blocks → (slice_index_or blocks k d).live ≡ true → slice_index_or starts (k / 64) 0 ≤ (slice_index_or blocks k d).start
-  pub high : (k p : ℕ) (d : MemoryBlock) → k < length blocks → (slice_index_or blocks k d).live ≡ true → k / 64 < p → p < length starts → (slice_index_or blocks k d).start + (slice_index_or blocks k d).size < slice_index_or starts p 0
+  pub high : (k p : ℕ) (d : MemoryBlock)
+      → k < length blocks
+      → (slice_index_or blocks k d).live ≡ true
+      → k / 64 < p
+      → p < length starts
+      → (slice_index_or blocks k d).start + (slice_index_or blocks k d).size < slice_index_or starts p 0
 
 -- no page starts behind the address
 abbrev pub AreBefore : List ℕ → ℕ → Type 0

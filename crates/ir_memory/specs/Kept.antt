@@ -3,15 +3,16 @@ use Rattle.std.specs.Prelude.{◌≡◌, ℕ, ◌+◌, ◌<◌, ◌≤◌, ◌^�
 use Rattle.std.specs.List.{All}
 use Rattle.ir_memory.specs.declared.cell.Cell.{Cell}
 use Rattle.ir_memory.specs.declared.cell.Cell.TheVariants as cell
+use Rattle.ir_memory.specs.declared.memory.TheConstants.{GAP}
 use Rattle.ir_memory.specs.Block.{MemoryBlock}
 use Rattle.ir_memory.specs.Memory.{live_bytes, byte_limit, first_address}
 use Rattle.ir_memory.specs.Given.{IsBlock}
 
--- where the next live block may start: 16 addresses behind a live one
+-- where the next live block may start: the gap behind a live one
 abbrev pub behind : ℕ → MemoryBlock → ℕ
-behind from b = if b.live then b.start + b.size + 16 else from
+behind from b = if b.live then b.start + b.size + GAP else from
 
--- live blocks stand in the order of their addresses, and 16 are free between two of them
+-- live blocks stand in the order of their addresses, and those of the gap are free between two of them
 abbrev pub IsPlaced : ℕ → List MemoryBlock → ℕ → Type 0
 IsPlaced from [] next = from ≤ next
 IsPlaced from (b ∷ bs) next = (b.live ≡ true → from ≤ b.start) × IsPlaced (behind from b) bs next

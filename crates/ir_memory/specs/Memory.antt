@@ -12,7 +12,7 @@ use Rattle.ir_memory.specs.declared.cell.Cell.TheVariants.{Byte}
 use Rattle.ir_memory.specs.declared.access.BlockPlace.{BlockPlace}
 use Rattle.ir_memory.specs.Cell.{size, read, leaf_cells}
 use Rattle.ir_memory.specs.Block.{is_constant, MemoryBlock, new_block, gone, holds, starts, written}
-use Rattle.ir_memory.specs.declared.memory.TheConstants.{BYTE_LIMIT, FIRST_ADDRESS}
+use Rattle.ir_memory.specs.declared.memory.TheConstants.{BYTE_LIMIT, FIRST_ADDRESS, GAP}
 
 -- all blocks, and what is left of those that have ended; where the next one may start; whether constants are sealed
 pub record Blocks : Type 0 where
@@ -36,6 +36,10 @@ HasFreeAddresses m = m.next ≤ 2 ^ 61
 abbrev pub byte_limit : ℕ
 byte_limit = BYTE_LIMIT
 
+-- so far a block moves the next address at most: all bytes, the greatest alignment and the gap
+abbrev pub reach : ℕ
+reach = byte_limit + 2 ^ 17
+
 -- how many bytes the live blocks have together
 abbrev pub live_bytes : List MemoryBlock → ℕ
 live_bytes [] = 0
@@ -45,11 +49,11 @@ live_bytes (b ∷ bs) = (if b.live then b.size else 0) + live_bytes bs
 abbrev pub round_up : ℕ → ℕ → ℕ
 round_up n align = (n + (align - 1)) / align * align
 
--- a block is placed at the next address rounded up, and 16 addresses are left free behind it
+-- a block is placed at the next address rounded up, and the addresses of the gap are left free behind it
 abbrev pub added : ℕ → ℕ → BlockKind → Blocks → Blocks
 added size align kind m =
     let start = round_up m.next align in
-    record m { list = m.list ++ new_block start size kind ∷ []; next = start + size + 16 }
+    record m { list = m.list ++ new_block start size kind ∷ []; next = start + size + GAP }
 
 -- the n-th block is changed
 abbrev pub changed : ℕ → (MemoryBlock → MemoryBlock) → List MemoryBlock → List MemoryBlock

@@ -109,7 +109,7 @@ impl Memory {
         ensures defined { (kind : UndefinedKind) → result ≢ Err (MemoryFault.Undefined kind) }
         ensures err { OnErr result (self.new ≡ self.old) }
         ensures grows { self.old.next ≤ self.new.next }
-        ensures growth { self.new.next ≤ self.old.next + (of.byte_limit + 2 ^ 17) }
+        ensures growth { self.new.next ≤ self.old.next + of.reach }
     {
         if size > BYTE_LIMIT - self.live {
             return Err(MemoryFault::MemoryLimit);

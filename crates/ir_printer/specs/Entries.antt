@@ -15,7 +15,10 @@ use Rattle.ir_printer.specs.Functions.{function_of}
 module _ (a : Lists) where
   -- the texts
   abbrev pub text_lines : Phrase
-  text_lines = each Line (text_phrases (word (codes "source_filename")) a.source ++ (text_phrases (target (codes "datalayout")) a.layout ++ text_phrases (target (codes "triple")) a.triple))
+  text_lines =
+      each Line
+      (text_phrases (word (codes "source_filename")) a.source
+      ++ (text_phrases (target (codes "datalayout")) a.layout ++ text_phrases (target (codes "triple")) a.triple))
 
   -- the variables
   abbrev pub variable_lines : List the_variable.Variable → Phrase

@@ -20,8 +20,15 @@ module _ (a : Lists) (f : Function) where
 
   -- as a declaration
   abbrev pub declared_phrase : Phrase
-  declared_phrase = word (codes "declare") ␣ head_of a.table f ⌢ in_parentheses (listed (dotted (map (λ (p : the_parameter.Parameter). type_phrase (tree a.table p.ty)) f.parameters) f.variadic))
+  declared_phrase =
+      word (codes "declare")
+      ␣ head_of a.table f
+      ⌢ in_parentheses (listed (dotted (map (λ (p : the_parameter.Parameter). type_phrase (tree a.table p.ty)) f.parameters) f.variadic))
 
   -- as a definition of its own blocks
   abbrev pub defined_phrase : Phrase
-  defined_phrase = word (codes "define") ␣ head_of a.table f ⌢ in_parentheses (listed (parameter_list a.table f.parameters)) ␣ body_of_blocks (map (block_of a f) (function_blocks f))
+  defined_phrase =
+      word (codes "define")
+      ␣ head_of a.table f
+      ⌢ in_parentheses (listed (parameter_list a.table f.parameters))
+      ␣ body_of_blocks (map (block_of a f) (function_blocks f))

@@ -8,6 +8,7 @@ use Rattle.ir_printf.specs.declared.conversion.Length.TheVariants as size
 use Rattle.ir_printf.specs.declared.conversion.Conversion.{Conversion}
 use Rattle.ir_printf.specs.declared.pattern.PatternPiece.{PatternPiece}
 use Rattle.ir_printf.specs.declared.pattern.PatternPiece.TheVariants as piece
+use Rattle.ir_printf.specs.declared.pattern.TheConstants.{MOST}
 use Rattle.ir_printf.specs.declared.pattern.BadFormat.{BadFormat}
 
 -- ---- what stands behind the `%` of a conversion, from left to right
@@ -68,11 +69,11 @@ abbrev pub decimal_after : ℕ → List ℕ → ℕ
 decimal_after number [] = number
 decimal_after number (digit ∷ digits) = decimal_after (number * 10 + (digit - 48)) digits
 
--- the number that digits write, where it is at most 4,095; no digits write 0
+-- the number that digits write, where it is no more than a width may be; no digits write 0
 unfoldable pub small_number : List ℕ → Option ℕ
-small_number digits = if nat_le (decimal_after 0 digits) 4095 then Some (decimal_after 0 digits) else None
+small_number digits = if nat_le (decimal_after 0 digits) MOST then Some (decimal_after 0 digits) else None
 
--- a precision as it is written: none, or a dot and digits, where it is at most 4,095
+-- a precision as it is written: none, or a dot and digits, where it is no more than it may be
 abbrev pub precision_in : List ℕ → Option (Option ℕ)
 precision_in [] = Some None
 precision_in (dot ∷ digits) = elim (small_number digits) [ None ↦ None | Some n ↦ Some (Some n) ]

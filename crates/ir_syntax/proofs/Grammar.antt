@@ -18,8 +18,9 @@ use Rattle.ir_terminals.specs.Terminal.{code}
 use Rattle.ir_terminals.specs.Values.{place_of_token}
 use Rattle.ir_terminals.proofs.RowsRead.{reads_word, reads_integer, reads_global_name, reads_local, reads_named_local, reads_quoted, reads_linkage, reads_matched, reads_braced}
 use Rattle.ir_constants.proofs.Grammar.{reads_type, reads_fields, reads_constant}
-use Rattle.ir_instructions.specs.Dropped.{comma_shape, section_row}
+use Rattle.ir_instructions.specs.Dropped.{comma_shape}
 use Rattle.ir_instructions.proofs.CallsGrammar.{reads_signature}
+use Rattle.ir_instructions.proofs.DroppedGrammar.{reads_section}
 use Rattle.ir_instructions.proofs.Grammar.{reads_blocks, reads_attachment, reads_parameter_attributes, reads_function_attributes, reads_convention}
 use Rattle.ir_syntax.specs.Heads.{optional_linkage_row, global_word_shape, global_word_row, global_words_row, GlobalHead, global_head_shape, global_head_core}
 use Rattle.ir_syntax.specs.Variables.{opaque_row, plain_body_row, packed_body_row, body_row, struct_row, constant_word_row, initialiser_shape, initialiser_core, initialiser_row, tail_row, tail_shape, tail_step, tails_row, variable_of, variable_rest_shape, variable_rest_core, variable_shape, variable_core}
@@ -84,9 +85,6 @@ reads_initialiser_core limits (Some _) = reads_wider class initialiser_shape (re
 
 reads_initialiser : (limits : Limits) (written : Option Linkage) → Reads class (initialiser_row limits written) initialiser_shape
 reads_initialiser limits written = reads_labelled (reads_initialiser_core limits written)
-
-reads_section : Reads class section_row section_row.shape
-reads_section = reads_second class (reads_word terminal.Section) (reads_mapped class _ (reads_word terminal.Quoted)) refl
 
 reads_tail : (alignment : Option Integer) → Reads class (tail_row alignment) tail_shape
 reads_tail None =

@@ -12,6 +12,7 @@ use Rattle.ir_terminals.specs.Values.{place_of_token}
 use Rattle.ir_terminals.specs.Tokens.{word, quoted_row}
 use Rattle.ir_terminals.specs.Brackets.{matched_row, braced_row}
 use Rattle.ir_instructions.specs.Dropped.{function_attribute_shape, comma_shape}
+use Rattle.ir_syntax.specs.declared.read.TheConstants.{NESTING_LIMIT}
 use Rattle.ir_syntax.specs.Tree.{ItemTree, SourceFilename, DataLayout, TargetTriple, Attributes, Metadata}
 use Rattle.ir_syntax.specs.Variables.{struct_row}
 use Rattle.ir_syntax.specs.Aliases.{global_row}
@@ -68,9 +69,9 @@ item_row limits = labelled item_shape (item_core limits)
 abbrev pub items_row : Limits → Row Located (List ItemTree)
 items_row limits = many class (item_row limits)
 
--- the language: types and constants nest no more than 64 deep
+-- the language: types and constants nest no deeper than the limit
 abbrev pub language : Limits
-language = record { nesting = 64; with_left_out = false }
+language = record { nesting = NESTING_LIMIT; with_left_out = false }
 
 -- these tokens are these items, and no others
 abbrev pub Items : List Located → List ItemTree → Type 0

@@ -1,5 +1,5 @@
 -- For `read_items`: the kinds of a refusal, at the first bad place.
-use Rattle.std.specs.Prelude.{◌≡◌, ◌⊎◌, ℕ, suc, true, false, List, length, take, slice_get, Some}
+use Rattle.std.specs.Prelude.{◌≡◌, ◌⊎◌, ℕ, suc, ◌+◌, true, false, List, length, take, slice_get, Some}
 use Rattle.ir_lexer.specs.Ahead.{Located}
 use Rattle.ir_terminals.specs.LeftOut.{is_left_out_as}
 use Rattle.ir_terminals.specs.Position.{text_tokens, is_cut_off, end_place, is_behind_less}
@@ -8,14 +8,15 @@ use Rattle.ir_syntax.specs.Answers.{FirstBad}
 use Rattle.ir_syntax.specs.Items.{IsViable}
 use Rattle.ir_syntax.specs.declared.read.SyntaxFault.{SyntaxFault}
 use Rattle.ir_syntax.specs.declared.read.SyntaxFault.TheVariants as faults
+use Rattle.ir_syntax.specs.declared.read.TheConstants.{NESTING_LIMIT}
 
 -- the language with one nest more
 abbrev pub deeper : Limits
-deeper = record { nesting = 65; with_left_out = false }
+deeper = record { nesting = NESTING_LIMIT + 1; with_left_out = false }
 
 -- the language in which unnamed locals name structs, and `...` ends the parameters of a definition
 abbrev pub wider : Limits
-wider = record { nesting = 64; with_left_out = true }
+wider = record { nesting = NESTING_LIMIT; with_left_out = true }
 
 -- the tokens up to and with this one
 abbrev pub through : List ℕ → ℕ → List Located

@@ -39,7 +39,11 @@ body_row limits = alt class opaque_row (alt class (plain_body_row limits) (packe
 
 -- LOCAL = type opaque, LOCAL = type { TYPE,* } or LOCAL = type <{ TYPE,* }>
 abbrev pub struct_row : Limits → Row Located ItemTree
-struct_row limits = mapped (λ v. Struct v.0 v.1) (pair (keep_first (named_local_row limits) (keep_second (word terminal.Equals) (word terminal.«Type»))) (body_row limits))
+struct_row limits =
+    mapped (λ v. Struct v.0 v.1)
+    (pair
+    (keep_first (named_local_row limits) (keep_second (word terminal.Equals) (word terminal.«Type»)))
+    (body_row limits))
 
 -- global or constant
 abbrev pub constant_word_row : Row Located Bool

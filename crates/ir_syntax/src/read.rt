@@ -38,7 +38,7 @@ pub enum SyntaxFault {
     /// The language leaves out what the token there begins or is.
     #[error("left out")]
     LeftOutWord { place: Place, word: Text },
-    /// The token there opens a type or a constant 65 deep.
+    /// The token there opens a type or a constant one deeper than they nest at most.
     #[error("too deep")]
     TooDeep(Place),
     /// Memory ran out.
@@ -57,21 +57,24 @@ impl From<AllocError> for SyntaxFault {
     }
 }
 
-/// The language: types and constants nest no more than 64 deep.
+/// How deep types and constants nest at most.
+const NESTING_LIMIT: u8 = 64;
+
+/// The language.
 const LANGUAGE: Limits = Limits {
-    nesting: 64,
+    nesting: NESTING_LIMIT,
     with_left_out: false,
 };
 
-/// The language with one nest more, in which what opens at 65 might stand.
+/// The language with one nest more, in which what opens one too deep might stand.
 const DEEPER: Limits = Limits {
-    nesting: 65,
+    nesting: NESTING_LIMIT + 1,
     with_left_out: false,
 };
 
 /// The language in which unnamed locals name structs, and `...` ends the parameters of a definition.
 const WIDER: Limits = Limits {
-    nesting: 64,
+    nesting: NESTING_LIMIT,
     with_left_out: true,
 };
 

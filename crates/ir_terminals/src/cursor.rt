@@ -20,8 +20,11 @@ use std::marker::Model;
 /// What stands next: a token with its terminal, the end of the text, or a byte at which no token begins.
 #[derive(Clone, Copy)]
 enum Front {
+    /// A token, and its terminal.
     Token(Token, Terminal),
+    /// The end of the text.
     End,
+    /// The place of a byte at which no token begins.
     Bad(Place),
 }
 

@@ -55,7 +55,11 @@ HasRoom a _ = Unit {0}
 
 -- how many variables, aliases and functions a text has
 abbrev pub counts_in : List ItemTree → Counts
-counts_in items = record { variables = length (filter_map variable_in items); aliases = length (filter_map alias_in items); functions = length (filter_map function_in items) }
+counts_in items = record {
+  variables = length (filter_map variable_in items);
+  aliases = length (filter_map alias_in items);
+  functions = length (filter_map function_in items);
+}
 
 -- the entries of the module are called as those of the items
 abbrev pub AreNamed : Module → List ItemTree → Type 0

@@ -27,7 +27,9 @@ body_at all number = slice_index_or (map (λ (s : List ℕ × TreeBody). s.1) al
 -- The structs of the arena are these, of which some may have no body yet, and its types are within the limits of the whole.
 pub record IsPartly (whole : Structs) (a : Lists) : Type 0 where
   pub names : names_of (structs a.table) ≡ names_of whole
-  pub bodies : (number : ℕ) (body : Option StructBody) → slice_get (bodies a.table) number ≡ Some body → (body ≡ None) ⊎ (tree_body (trees a.table) body ≡ body_at whole number)
+  pub bodies : (number : ℕ) (body : Option StructBody)
+      → slice_get (bodies a.table) number ≡ Some body
+      → (body ≡ None) ⊎ (tree_body (trees a.table) body ≡ body_at whole number)
   pub within : AreWithin whole a
 
 -- each struct is within the limits

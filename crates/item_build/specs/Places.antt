@@ -6,4 +6,7 @@ use Rattle.name_rules.specs.ModuleOf.{structs_in}
 
 -- the place with each number is that of an item with so many structs in front of it
 abbrev pub ArePlaces : List Item → List ℕ → Type 0
-ArePlaces items places = (number place : ℕ) → slice_get places number ≡ Some place → (place < length items) × (length (structs_in (items_view (take place items))) ≡ number)
+ArePlaces items places =
+    (number place : ℕ)
+    → slice_get places number ≡ Some place
+    → (place < length items) × (length (structs_in (items_view (take place items))) ≡ number)

@@ -10,6 +10,13 @@ use type_table::IrType;
 
 /// A shape by the numbers of its parts, which stand in `head` where a type has ids. A struct with a name has it as its label;
 /// an opaque one is a labelled `void` (LangRef, "Structure Type").
+///
+/// ```
+/// // of `%T = type { i32 }`, where `fields` has the number of the shape of `i32`
+/// Labelled { label: Some(name), head: IrType::Struct(false, fields) }
+/// // of `%T = type opaque`
+/// Labelled { label: Some(name), head: IrType::Void }
+/// ```
 #[derive(Drop)]
 pub struct Labelled {
     pub label: Option<Name>,

@@ -37,13 +37,25 @@ module _ (k : Numbering) where
   operation op.SExt = conversion op.SExt
   operation op.PtrToInt = conversion op.PtrToInt
   operation op.IntToPtr = conversion op.IntToPtr
-  operation op.Select = mapped (λ (t, (c, (a, b))). Select (operand (int 1) c) (operand t a) (operand t b)) select_parts (ty k &> λ t. value k (int 1) & value k t & value k t)
+  operation op.Select =
+      mapped
+      (λ (t, (c, (a, b))). Select (operand (int 1) c) (operand t a) (operand t b))
+      select_parts
+      (ty k &> λ t. value k (int 1) & value k t & value k t)
   operation op.Freeze = mapped (λ (t, a). Freeze (operand t a)) freeze_parts (ty k &> λ t. value k t)
   operation op.Phi = mapped (λ (t, all). Phi t all) phi_parts (ty k &> λ t. counted_some (incoming k t))
   operation op.Load = mapped (λ (f, (t, (a, align))). Load f t (operand ptr a) align) load_parts (flags op.Load & ty k & value k ptr & alignment)
-  operation op.Store = mapped (λ (f, ((t, v), (a, align))). Store f (operand t v) (operand ptr a) align) store_parts (flags op.Store & (ty k &> λ t. value k t) & value k ptr & alignment)
+  operation op.Store =
+      mapped
+      (λ (f, ((t, v), (a, align))). Store f (operand t v) (operand ptr a) align)
+      store_parts
+      (flags op.Store & (ty k &> λ t. value k t) & value k ptr & alignment)
   operation op.Alloca = mapped (λ (t, (count, align)). Alloca t count align) alloca_parts (ty k & option (typed_value k) & alignment)
-  operation op.GetElementPtr = mapped (λ (f, (t, (a, indices))). GetElementPtr f t (operand ptr a) indices) element_parts (flags op.GetElementPtr & ty k & value k ptr & counted (typed_value k))
+  operation op.GetElementPtr =
+      mapped
+      (λ (f, (t, (a, indices))). GetElementPtr f t (operand ptr a) indices)
+      element_parts
+      (flags op.GetElementPtr & ty k & value k ptr & counted (typed_value k))
   operation op.ExtractValue = mapped (λ (a, indices). ExtractValue a indices) extract_parts (typed_value k & counted_some index)
   operation op.InsertValue = mapped (λ (a, (part, indices)). InsertValue a part indices) insert_parts (typed_value k & typed_value k & counted_some index)
   operation o = computation o

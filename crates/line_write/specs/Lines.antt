@@ -53,7 +53,9 @@ module _ (a : Lists) (f : Function) where
   pub record CallStands (c : Call) : Type 0 where
     pub callee : HasValueAt a f ptr c.callee
     pub arguments : AreArgumentsIn a f (map (tree a.table) c.signature.parameters) c.arguments
-    pub result : CallResultStands (is_void (tree a.table c.signature.returns)) (option_map (value_name (trees a.table) (constants_of a) (values_in a f) (labels_in a f)) c.result)
+    pub result : CallResultStands
+        (is_void (tree a.table c.signature.returns))
+        (option_map (value_name (trees a.table) (constants_of a) (values_in a f) (labels_in a f)) c.result)
 
   -- what stands behind the name of a result and the flags
   abbrev pub PartsStand : Inst → Type 0

@@ -91,7 +91,9 @@ module _ (a : Lists) (f : Function) where
 
   -- of a `getelementptr`
   abbrev pub steps_operands : ℕ → Operand → List Operand → List ℕ
-  steps_operands source base indices = type_operands source ++ (value_operands ptr base.value ++ (counted (typed_value (inside a f))).spell (map (operand_of a f) indices))
+  steps_operands source base indices =
+      type_operands source
+      ++ (value_operands ptr base.value ++ (counted (typed_value (inside a f))).spell (map (operand_of a f) indices))
 
   -- of an `insertvalue`
   abbrev pub insertion_operands : Insertion → List ℕ
@@ -113,7 +115,9 @@ module _ (a : Lists) (f : Function) where
   -- of a call
   abbrev pub call_operands : Call → List ℕ
   call_operands c =
-      type_operands c.signature.returns ++ (result_operands c.result ++ ((bool_code c.signature.variadic ∷ []) ++ ((counted (ty (inside a f))).spell (map (tree a.table) c.signature.parameters)
+      type_operands c.signature.returns
+      ++ (result_operands c.result
+      ++ ((bool_code c.signature.variadic ∷ []) ++ ((counted (ty (inside a f))).spell (map (tree a.table) c.signature.parameters)
       ++ (value_operands ptr c.callee ++ (arguments (inside a f) (map (tree a.table) c.signature.parameters)).spell (map (operand_of a f) c.arguments)))))
 
   -- a block

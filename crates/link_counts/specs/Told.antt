@@ -1,5 +1,5 @@
 -- For `count_symbols`, `too_many_entries` and `too_many`: symbols of one kind, the counts of entries and structs, and the sizes of appended arrays.
-use Rattle.std.specs.Prelude.{ℕ, ◌^◌, List, [], ◌∷◌, Option, Some, None, nat_lt, filter, filter_map, length, if◌then◌else◌}
+use Rattle.std.specs.Prelude.{ℕ, List, [], ◌∷◌, Option, Some, None, nat_lt, filter, filter_map, length, if◌then◌else◌}
 use Rattle.std.specs.Option.{option_or}
 use Rattle.linkage_rules.specs.Conflicts.{appends}
 use Rattle.linkage_rules.specs.Entries.{Entry}
@@ -17,6 +17,7 @@ use Rattle.module_arena.specs.declared.fault.CountKind.{CountKind}
 use Rattle.module_arena.specs.declared.fault.CountKind.TheVariants.{Structs, Variables, Functions, Aliases, AppendedBytes}
 use Rattle.module_linker.specs.Counts as linking
 use Rattle.module_linker.specs.Counts.{appended_bytes}
+use Rattle.module_linker.specs.declared.limits.TheConstants.{APPENDED_LIMIT}
 use Rattle.link_counts.specs.declared.counting.SymbolCounts.{SymbolCounts}
 use Rattle.link_counts.specs.declared.limits.Count.{Count}
 
@@ -64,7 +65,7 @@ appended_of parts s = appended_at parts s (home parts s)
 -- a size that is past the limit
 abbrev pub if_long : Option ℕ → Option ℕ
 if_long None = None
-if_long (Some n) = if nat_lt (2 ^ 40) n then Some n else None
+if_long (Some n) = if nat_lt APPENDED_LIMIT n then Some n else None
 
 -- the size of a symbol, if it is a variable that is appended and past the limit
 abbrev pub too_long_of : List Module → Symbol → Option ℕ
@@ -72,4 +73,4 @@ too_long_of parts s = if same_kind kind.Variable (kind_of parts s) then if_long 
 
 -- the first such size that is past the limit
 abbrev pub first_appended : List Module → Option ℕ
-first_appended parts = first (filter (nat_lt (2 ^ 40)) (filter_map (appended_of parts) (variable_symbols parts)))
+first_appended parts = first (filter (nat_lt APPENDED_LIMIT) (filter_map (appended_of parts) (variable_symbols parts)))

@@ -12,11 +12,11 @@ ghost use Rattle.linked_symbols.specs.Places.{clamped};
 ghost use Rattle.module_linker.specs.Counts as counts;
 ghost use Rattle.link_counts.specs.Told.{appended_of, first_appended, if_long, too_long_of};
 
-use crate::limits::APPENDED_LIMIT;
 use ir_tables::Linkage;
 use linkage_rules::{Bindings, EntryId, Symbol, SymbolKind, arena_of, element_of, head_of};
 use linked_symbols::joined_length;
 use module_arena::Checked;
+use module_linker::APPENDED_LIMIT;
 
 /// Whether the elements of an entry stand behind those of other parts.
 fn is_appended(parts: &[Checked], id: EntryId) -> bool

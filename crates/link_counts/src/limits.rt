@@ -14,9 +14,6 @@ use crate::counting::{SymbolCounts, count_symbols};
 use linkage_rules::Bindings;
 use module_arena::{COUNT_LIMIT, Checked, CountKind};
 
-/// How long an appended array is at most, in elements and in bytes.
-pub(crate) const APPENDED_LIMIT: u64 = 1 << 40;
-
 /// What there are too many of, and how many; 2^64 - 1 where there are more.
 ///
 /// ```

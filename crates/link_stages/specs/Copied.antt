@@ -10,4 +10,7 @@ use Rattle.entry_copy.specs.Tables.{Tables}
 -- All types and constants of each part are copied to b under the new ids of its table.
 pub record AreCopied (parts : List Lists) (b : Lists) (tables : List Tables) : Type 0 where
   pub count : length tables ≡ length parts
-  pub each : (i : ℕ) (a : Lists) (t : Tables) → slice_get parts i ≡ Some a → slice_get tables i ≡ Some t → Copies (new_struct (modules parts) i) (new_global (modules parts) i) a b t
+  pub each : (i : ℕ) (a : Lists) (t : Tables)
+      → slice_get parts i ≡ Some a
+      → slice_get tables i ≡ Some t
+      → Copies (new_struct (modules parts) i) (new_global (modules parts) i) a b t

@@ -1,4 +1,4 @@
--- For `room_of`, `place_symbols` and `function_address`: what is told of where variables and functions stand.
+-- For `room_of` and `place_symbols`: what is told of where variables and functions stand.
 use Rattle.std.specs.Prelude.{◌≡◌, ℕ, List, map, ◌-◌, ◌^◌, max, min, Option, Some, None, filter_map, if◌then◌else◌}
 use Rattle.std.specs.Option.{option_map}
 use Rattle.module_arena.specs.Module.{Module}
@@ -43,8 +43,10 @@ pub record PlacesTold : Type 0 where
 
 -- exactly those symbols with their rooms, where they lie from the first address on
 pub record ArePlaced (rows : List (Symbol × Room)) (variables : List Placed) : Type 0 where
-  pub rooms : map {B = Symbol × the_room.Room} (λ (v : Placed). (v.symbol, v.room)) variables ≡ map {B = Symbol × the_room.Room} (λ (r : Symbol × Room). (r.0, room_told r.1)) rows
-  pub addresses : map {B = Symbol × ℕ} (λ (v : Placed). (v.symbol, v.address)) variables ≡ map {B = Symbol × ℕ} (λ (r : Symbol × ℕ). (r.0, clamped r.1)) (placed_from FIRST_ADDRESS rows)
+  pub rooms : map {B = Symbol × the_room.Room} (λ (v : Placed). (v.symbol, v.room)) variables
+      ≡ map {B = Symbol × the_room.Room} (λ (r : Symbol × Room). (r.0, room_told r.1)) rows
+  pub addresses : map {B = Symbol × ℕ} (λ (v : Placed). (v.symbol, v.address)) variables
+      ≡ map {B = Symbol × ℕ} (λ (r : Symbol × ℕ). (r.0, clamped r.1)) (placed_from FIRST_ADDRESS rows)
 
 -- exactly where the variables and functions of the parts stand, in the order of symbols
 pub record ArePlaces (parts : List Module) (p : PlacesTold) : Type 0 where

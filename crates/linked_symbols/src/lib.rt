@@ -25,4 +25,4 @@ pub use bound::Bound;
 pub use meaning::symbol_behind;
 pub use names::{Meanings, bind_names};
 pub use room::{Room, greatest_common, greatest_stated, joined_length, room_of};
-pub use standing::{Placed, PlacedList, Places, function_address, place_symbols};
+pub use standing::{Placed, PlacedList, Places, place_symbols};

@@ -4,14 +4,13 @@ ghost use Rattle.std.specs.Int.{next_multiple_of};
 ghost use Rattle.std.specs.Option.{option_map};
 ghost use Rattle.linkage_rules.specs.Grouped.{AreGroups, AreHomes, kind_of, same_kind};
 ghost use Rattle.linkage_rules.specs.Ids.{modules};
-ghost use Rattle.linkage_rules.specs.Place as place;
 ghost use Rattle.linkage_rules.specs.Symbols.{symbols};
 ghost use Rattle.linked_symbols.specs.Places.{ArePlaced, ArePlaces, clamped, room_told, rows_among, variable_room};
 
 use crate::Room;
 use crate::room::room_of;
 use ir_base::ItemList;
-use linkage_rules::{Bindings, FIRST_ADDRESS, Symbol, SymbolKind, SymbolList};
+use linkage_rules::{Bindings, FIRST_ADDRESS, GAP, Symbol, SymbolKind, SymbolList};
 use module_arena::Checked;
 use std::alloc::{AllocError, Global};
 use std::marker::Model;
@@ -53,20 +52,12 @@ impl Places {
         &self.variables
     }
 
-    /// The function symbols in their order. The number of each, counted from 0, gives its address by `function_address`.
+    /// The function symbols in their order. The number n of each, counted from 0, gives its address, 2^62 + 16 n.
     pub fn functions(&self) -> &SymbolList
         ensures { result.now ≡ self.now.functions }
     {
         &self.functions
     }
-}
-
-/// The address of the function symbol with that number, counted from 0: 16 bytes behind the one before, the first at 2^62;
-/// 2^64 - 1 where it is more.
-pub fn function_address(number: u64) -> u64
-    ensures { result ≡ clamped (place.function_address number) }
-{
-    number.saturating_mul(16).saturating_add(1 << 62)
 }
 
 /// A number rounded up to a multiple of an alignment; 2^64 - 1 where it is more.
@@ -83,11 +74,11 @@ fn rounded(number: u64, alignment: u32) -> u64
     }
 }
 
-/// Where the next variable can lie: 16 bytes behind one of that many bytes; 2^64 - 1 where it is more.
+/// Where the next variable can lie: the gap behind one of that many bytes; 2^64 - 1 where it is more.
 fn next_behind(address: u64, size: u64) -> u64
-    ensures { result ≡ clamped (address + size + 16) }
+    ensures { result ≡ clamped (address + size + GAP) }
 {
-    address.saturating_add(size).saturating_add(16)
+    address.saturating_add(size).saturating_add(GAP)
 }
 
 /// What a variable needs in memory; None where the symbol is no variable, or no part defines it.

@@ -1,6 +1,6 @@
 //! Blocks that are made and ended.
-ghost use Rattle.std.specs.Prelude.{◌+◌, ◌*◌, ◌≤◌, ◌^◌};
-ghost use Rattle.ir_memory.specs.Memory.{byte_limit, first_address};
+ghost use Rattle.std.specs.Prelude.{◌+◌, ◌*◌, ◌≤◌};
+ghost use Rattle.ir_memory.specs.Memory.{first_address, reach};
 
 use ir_eval::{Pointer, Scalar};
 use ir_memory::{BlockKind, Memory};
@@ -18,7 +18,7 @@ const LIMIT: u64 = 4_294_967_296;
 struct Run {
     memory: Memory,
     made: u64,
-    ghost low: { memory.next ≤ first_address + made * (byte_limit + 2 ^ 17) },
+    ghost low: { memory.next ≤ first_address + made * reach },
 }
 
 impl Run {

@@ -1,7 +1,7 @@
 //! Memory that answers calls one after another.
-ghost use Rattle.std.specs.Prelude.{◌≡◌, ◌+◌, ◌*◌, ◌≤◌, ◌^◌, length, IfSome, IsTrue};
+ghost use Rattle.std.specs.Prelude.{◌≡◌, ◌+◌, ◌*◌, ◌≤◌, length, IfSome, IsTrue};
 ghost use Rattle.ir_memory.specs.Given.{IsAlignment, IsAddress, HasKnown, IsKnown, IsLeaf, Fits, CanEnd};
-ghost use Rattle.ir_memory.specs.Memory.{byte_limit, first_address};
+ghost use Rattle.ir_memory.specs.Memory.{first_address, reach};
 
 use crate::answer::Answer;
 use crate::call::MemoryCall;
@@ -18,7 +18,7 @@ pub struct Run {
     memory: Memory,
     made: u64,
     ghost known: { made ≤ length memory.list },
-    ghost low: { memory.next ≤ first_address + made * (byte_limit + 2 ^ 17) },
+    ghost low: { memory.next ≤ first_address + made * reach },
 }
 
 impl Run {

@@ -153,15 +153,22 @@ module _ (types : List Tree) where
     inst_view (inst.Freeze result operand) = gives result (Operation.Freeze (operand_view operand))
     inst_view (inst.Phi result ty incoming) = gives result (Operation.Phi (type_at ty) (map incoming_view incoming))
     inst_view (inst.Load flags result ty address alignment) = gives result (Operation.Load flags (type_at ty) (operand_view address) alignment)
-    inst_view (inst.Store flags stored address alignment) = record { result = None; operation = Operation.Store flags (operand_view stored) (operand_view address) alignment }
+    inst_view (inst.Store flags stored address alignment) =
+        record {
+          result = None;
+          operation = Operation.Store flags (operand_view stored) (operand_view address) alignment;
+        }
     inst_view (inst.Alloca result ty count alignment) = gives result (Operation.Alloca (type_at ty) (option_map operand_view count) alignment)
-    inst_view (inst.GetElementPtr flags result source base indices) = gives result (Operation.GetElementPtr flags (type_at source) (operand_view base) (map operand_view indices))
+    inst_view (inst.GetElementPtr flags result source base indices) =
+        gives result (Operation.GetElementPtr flags (type_at source) (operand_view base) (map operand_view indices))
     inst_view (inst.Call call) = record {
       result = option_map value_name call.result;
       operation = Operation.Call (signature_view call.signature) (value_view call.callee) (map operand_view call.arguments);
     }
     inst_view (inst.ExtractValue result aggregate indices) = gives result (Operation.ExtractValue (operand_view aggregate) indices)
-    inst_view (inst.InsertValue result insertion) = gives result (Operation.InsertValue (operand_view insertion.aggregate) (operand_view insertion.part) insertion.indices)
+    inst_view (inst.InsertValue result insertion) =
+        gives result
+        (Operation.InsertValue (operand_view insertion.aggregate) (operand_view insertion.part) insertion.indices)
 
     -- the end of a block
     abbrev pub ending_view : the_ending.Ending → Ending

@@ -4,6 +4,7 @@ use Rattle.std.specs.Prelude.{ℕ, ◌+◌, ◌^◌, max, Bool, true, false, not
 use Rattle.std.specs.List.{list_all, list_any}
 use Rattle.std.specs.Option.{option_map_or}
 use Rattle.ir_tables.specs.Table.{is_distinct}
+use Rattle.type_table.specs.declared.measure.TheConstants.{NESTING_LIMIT, PARTS_LIMIT, SIZE_LIMIT}
 use Rattle.type_table.specs.Layout.{has_layout, size}
 use Rattle.type_table.specs.Limits.{array_length}
 use Rattle.type_table.specs.Shape.{Shape, shape, nesting, parts}
@@ -36,12 +37,12 @@ are_good_names names = list_all is_name names && is_distinct bytes_eq names
 
 -- ---- types
 
--- at most 64 deep, of at most 2^20 parts, and of at most 2^40 elements and bytes
+-- no deeper, of no more parts, and of no more elements and bytes than the limits of types
 abbrev pub is_within_limits : Option Shape → Bool
 is_within_limits None = false
 is_within_limits (Some s) =
-    nat_le (nesting s) 64
-    && (nat_le (parts s) (2 ^ 20) && (nat_le (array_length s) (2 ^ 40) && (not (has_layout s) || nat_le (size s) (2 ^ 40))))
+    nat_le (nesting s) NESTING_LIMIT
+    && (nat_le (parts s) PARTS_LIMIT && (nat_le (array_length s) SIZE_LIMIT && (not (has_layout s) || nat_le (size s) SIZE_LIMIT)))
 
 abbrev mutual
   -- widths are from 1 to 128, structs are those of the module, and the type and each type written in it is within the limits
@@ -147,9 +148,9 @@ abbrev mutual
   greatest_depth no_constants = 0
   greatest_depth (more_constants t c cs) = max (depth c) (greatest_depth cs)
 
--- a constant nests at most 64 deep, of good parts
+-- a constant nests no deeper than types do, of good parts
 abbrev pub is_good_constant : Module → Typed → Bool
-is_good_constant m (t, c) = nat_le (depth c) 64 && list_all (is_good_part m) (constants_in t c)
+is_good_constant m (t, c) = nat_le (depth c) NESTING_LIMIT && list_all (is_good_part m) (constants_in t c)
 
 -- ---- variables, aliases and functions
 
@@ -173,7 +174,9 @@ are_good_operands m os = list_all (λ o. is_good_type m.structs o.ty) os
 -- instructions are as their phrases, and all types are good
 abbrev pub is_good_block : Module → Block → Bool
 is_good_block m block =
-    list_all (λ i. is_instruction_of_phrase i && (are_good_operands m (operands i.operation) && list_all (is_good_type m.structs) (types_of_operation i.operation))) block.instructions
+    list_all
+    (λ i. is_instruction_of_phrase i && (are_good_operands m (operands i.operation) && list_all (is_good_type m.structs) (types_of_operation i.operation)))
+    block.instructions
     && are_good_operands m (ending_operands block.ending)
 
 -- good types, names and blocks; a body has a block

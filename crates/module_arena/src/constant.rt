@@ -31,6 +31,13 @@ pub struct TypedConst {
 pub type TypedConstList = ItemList<TypedConst>;
 
 /// The parts of a `getelementptr` constant.
+///
+/// ```
+/// // of `getelementptr (i32, ptr @a, i64 1)`, where `base` is `ptr @a` and `one` is `i64 1`
+/// operands.push(base)?;
+/// operands.push(one)?;
+/// ConstAddress { source: word, operands }
+/// ```
 #[derive(Drop)]
 pub struct ConstAddress {
     /// The type over which the indices step.
@@ -40,6 +47,12 @@ pub struct ConstAddress {
 }
 
 /// The operands of a binary constant.
+///
+/// ```
+/// // of `add (i32 7, i32 8)`, by the ids of `i32` and of the two constants
+/// let left = TypedConst { ty: word, value: seven };
+/// ConstPair { left, right: TypedConst { ty: word, value: eight } }
+/// ```
 #[derive(Clone, Copy)]
 pub struct ConstPair {
     pub left: TypedConst,

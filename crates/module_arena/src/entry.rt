@@ -32,6 +32,12 @@ pub enum LocalName {
 pub type LocalNameList = ItemList<LocalName>;
 
 /// A variable (LangRef, "Global Variables").
+///
+/// ```
+/// // `@a = constant i32 7, align 4`, where `word` is the id of `i32` and `seven` that of the constant 7.
+/// let (alignment, initialiser) = (Some(4), Some(seven));
+/// Variable { name, linkage: Linkage::External, constant: true, ty: word, alignment, initialiser }
+/// ```
 #[derive(Drop)]
 pub struct Variable {
     pub name: Name,
@@ -68,6 +74,10 @@ pub struct Alias {
 }
 
 /// A parameter.
+///
+/// ```
+/// Parameter { ty: word, name: LocalName::Named(name) } // `i32 %x`, where `name` is `x`
+/// ```
 #[derive(Drop)]
 pub struct Parameter {
     pub ty: TypeId,
@@ -81,6 +91,12 @@ pub type ParameterList = ItemList<Parameter>;
 pub type InstList = ItemList<Inst>;
 
 /// A block: instructions, and exactly one end.
+///
+/// ```
+/// // `entry: ret void`
+/// let name = LocalName::Named(entry);
+/// Block { name, instructions: InstList::new(alloc), end: Ending::ReturnVoid }
+/// ```
 #[derive(Drop)]
 pub struct Block {
     pub name: LocalName,

@@ -47,6 +47,11 @@ pub type IncomingList = ItemList<Incoming>;
 pub type IndexList = ItemList<u32>;
 
 /// The parts of a `select`.
+///
+/// ```
+/// // of `select i1 %c, i32 %a, i32 7`, whose operands are `i1 %c`, `i32 %a` and `i32 7`
+/// Boxed::new(alloc, Choice { condition, first, second })?
+/// ```
 #[derive(Clone, Copy)]
 pub struct Choice {
     pub condition: Operand,
@@ -55,6 +60,12 @@ pub struct Choice {
 }
 
 /// The parts of an `insertvalue`.
+///
+/// ```
+/// // of `insertvalue { i32, ptr } %s, i32 7, 0`, whose operands are `{ i32, ptr } %s` and `i32 7`
+/// indices.push(0)?;
+/// Boxed::new(alloc, Insertion { aggregate, part, indices })?
+/// ```
 #[derive(Drop)]
 pub struct Insertion {
     pub aggregate: Operand,
@@ -63,6 +74,12 @@ pub struct Insertion {
 }
 
 /// A function type, written whole.
+///
+/// ```
+/// // `i32 (ptr, ...)`
+/// parameters.push(pointer)?;
+/// Signature { returns: word, parameters, variadic: true }
+/// ```
 #[derive(Drop)]
 pub struct Signature {
     pub returns: TypeId,

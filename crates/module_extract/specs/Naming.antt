@@ -17,6 +17,12 @@ NamesOfAlias t fate x = fate ≡ Kept → (g : GlobalId) × (x.target ≡ Some g
 
 -- What is kept names entries that have new ids.
 pub record NamesAreThere (a : Lists) (fates : Fates) (t : Tables) : Type 0 where
-  pub variables : (id : ℕ) (v : Variable) (fate : Fate) → slice_get (module_of a).variables id ≡ Some v → slice_get fates.variables id ≡ Some fate → NamesOfVariable a t fate v
-  pub functions : (id : ℕ) (f : Function) (fate : Fate) → slice_get (module_of a).functions id ≡ Some f → slice_get fates.functions id ≡ Some fate → NamesOfFunction a t fate f
+  pub variables : (id : ℕ) (v : Variable) (fate : Fate)
+      → slice_get (module_of a).variables id ≡ Some v
+      → slice_get fates.variables id ≡ Some fate
+      → NamesOfVariable a t fate v
+  pub functions : (id : ℕ) (f : Function) (fate : Fate)
+      → slice_get (module_of a).functions id ≡ Some f
+      → slice_get fates.functions id ≡ Some fate
+      → NamesOfFunction a t fate f
   pub targets : (id : ℕ) (x : the_alias.Alias) (fate : Fate) → slice_get a.aliases id ≡ Some x → slice_get fates.aliases id ≡ Some fate → NamesOfAlias t fate x

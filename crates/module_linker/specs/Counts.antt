@@ -14,6 +14,7 @@ use Rattle.module_linker.specs.Structs.{struct_map}
 use Rattle.module_arena.specs.declared.arena.TheConstants.{COUNT_LIMIT}
 use Rattle.module_arena.specs.declared.fault.CountKind.{CountKind}
 use Rattle.module_arena.specs.declared.fault.CountKind.TheVariants.{Structs, Variables, Functions, Aliases, AppendedBytes}
+use Rattle.module_linker.specs.declared.limits.TheConstants.{APPENDED_LIMIT}
 
 -- how many there are of a kind
 pub record Count : Type 0 where
@@ -50,7 +51,7 @@ limit Structs = COUNT_LIMIT
 limit Variables = COUNT_LIMIT
 limit Functions = COUNT_LIMIT
 limit Aliases = COUNT_LIMIT
-limit AppendedBytes = 2 ^ 40
+limit AppendedBytes = APPENDED_LIMIT
 
 -- the first count that is past its limit, told as at most 2^64 - 1
 abbrev pub first_past : (CountKind → ℕ) → List Count → Option Count

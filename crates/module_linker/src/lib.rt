@@ -16,5 +16,7 @@
 #![tactic(auto)]
 
 mod law;
+mod limits;
 
 pub use law::{fresh_names_are_free, linking_carries_symbols, names_stay_apart, one_module_stays};
+pub use limits::APPENDED_LIMIT;

@@ -6,6 +6,7 @@ use Rattle.ir_terminals.specs.declared.values.Local.{Local}
 use Rattle.ir_terminals.specs.declared.values.Local.TheVariants as locals
 use Rattle.ir_terminals.specs.declared.values.PlacedName.{PlacedName}
 use Rattle.type_table.specs.declared.measure.Measure.{Measure}
+use Rattle.type_table.specs.declared.measure.TheConstants.{NESTING_LIMIT, PARTS_LIMIT, SIZE_LIMIT}
 use Rattle.type_table.specs.declared.layout.Layout.{Layout}
 use Rattle.name_rules.specs.declared.fault.ResolveFault.{ResolveFault}
 use Rattle.name_rules.specs.declared.fault.ResolveFault.TheVariants as faults
@@ -87,17 +88,17 @@ is_length written = ask (is_natural written) (faults.ConstantRange written.place
 -- whether it nests past the limit; what holds a struct that contains itself has no nesting
 abbrev pub is_deep : Option Measure → Bool
 is_deep None = false
-is_deep (Some measure) = nat_lt 64 measure.nesting
+is_deep (Some measure) = nat_lt NESTING_LIMIT measure.nesting
 
 -- whether a size is past its limit; what has no layout has none
 abbrev pub is_large_size : Option Layout → Bool
 is_large_size None = false
-is_large_size (Some layout) = nat_lt (2 ^ 40) layout.size
+is_large_size (Some layout) = nat_lt SIZE_LIMIT layout.size
 
 -- a size or a number of parts is past its limit
 abbrev pub is_large : Option Measure → Bool
 is_large None = false
-is_large (Some measure) = nat_lt (2 ^ 20) measure.parts || is_large_size measure.layout
+is_large (Some measure) = nat_lt PARTS_LIMIT measure.parts || is_large_size measure.layout
 
 -- it does not nest too deep
 abbrev pub nests : Place → Option Measure → Demand

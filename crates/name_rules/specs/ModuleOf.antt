@@ -69,7 +69,8 @@ variable_in _ = None
 -- the type of an alias: that of a variable, or a function type
 abbrev pub alias_type_in : AliasTypeTree → m.AliasType
 alias_type_in (PlainAlias ty) = m.PlainType (type_in ty)
-alias_type_in (FunctionAlias returns parameters variadic) = m.FunctionType (record { returns = type_in returns; parameters = map type_in parameters; variadic = variadic })
+alias_type_in (FunctionAlias returns parameters variadic) =
+    m.FunctionType (record { returns = type_in returns; parameters = map type_in parameters; variadic = variadic })
 
 -- an alias, part by part
 abbrev pub alias_of : AliasTree → m.Alias

@@ -1,11 +1,12 @@
 -- For `resolve` and `check_type`: what the types and constants that a text writes ask for.
-use Rattle.std.specs.Prelude.{Bool, false, not, ◌&&◌, ◌||◌, ◌^◌, nat_lt, bytes_eq, is_none, List, [], ◌∷◌, ◌++◌, Option}
+use Rattle.std.specs.Prelude.{Bool, false, not, ◌&&◌, ◌||◌, nat_lt, bytes_eq, is_none, List, [], ◌∷◌, ◌++◌, Option}
 use Rattle.std.specs.List.{list_any}
 use Rattle.ir_terminals.specs.declared.values.Integer.{Integer}
 use Rattle.ir_terminals.specs.declared.values.PlacedName.{PlacedName}
 use Rattle.ir_constants.specs.Tree.{TypeTree, IntegerType, PointerType, VoidType, ArrayType, StructType, NamedType, TypeTrees, no_types, more_types, types, ConstantTree, IntegerConstant, SimpleConstant, AddressConstant, BytesConstant, ListConstant, ElementAddress, Conversion, Arithmetic, ConstantTrees, no_constants, more_constants}
 use Rattle.ir_syntax.specs.Tree.{BodyTree, OpaqueBody, PlainBody, PackedBody}
 use Rattle.type_table.specs.declared.measure.Measure.{Measure}
+use Rattle.type_table.specs.declared.measure.TheConstants.{SIZE_LIMIT}
 use Rattle.type_table.specs.Tree.{Tree, Structs}
 use Rattle.module_arena.specs.Module.{Bytes}
 use Rattle.name_rules.specs.declared.fault.ResolveFault.TheVariants as faults
@@ -27,7 +28,7 @@ has_name names name = list_any (λ n. bytes_eq n name) names
 
 -- an array with so many elements, before any limit on its size, is past the limit on lengths
 abbrev pub is_long : Integer → Bool
-is_long count = nat_lt (2 ^ 40) (natural count)
+is_long count = nat_lt SIZE_LIMIT (natural count)
 
 module _ (known : Known) where
   -- the measure of a struct

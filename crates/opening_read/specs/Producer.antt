@@ -33,7 +33,9 @@ is_producer_block _ = false
 
 -- the first block is the producer's, and names this one: how many records stand in it, and what stands behind it
 abbrev pub producer_of : Records → Answer (ℕ × Records)
-producer_of (a_block id inside behind) = if nat_eq id producer_id && records.is_ours inside then (records.producer_from 0 inside >>= λ at. Ok (at, behind)) else Err ForeignProducer
+producer_of (a_block id inside behind) =
+    if nat_eq id producer_id && records.is_ours inside then (records.producer_from 0 inside >>= λ at. Ok (at, behind))
+    else Err ForeignProducer
 producer_of _ = Err ForeignProducer
 
 -- the reader stands behind it

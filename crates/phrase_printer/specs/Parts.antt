@@ -48,7 +48,9 @@ module _ (a : Lists) where
   -- a getelementptr; where a constant of its own stands at no type, any type serves
   abbrev pub element_address : ℕ → ConstAddress → Phrase
   element_address flags address =
-      constant_phrase (tree a.table address.source) (m.ElementAddress flags (tree a.table address.source) (constants_at (trees a.table) (constants_of a) address.operands))
+      constant_phrase (tree a.table address.source)
+      (m.ElementAddress flags (tree a.table address.source)
+      (constants_at (trees a.table) (constants_of a) address.operands))
 
   -- a cast
   abbrev pub cast : Opcode → TypedConst → ℕ → Phrase
@@ -59,4 +61,7 @@ module _ (a : Lists) where
   abbrev pub binary : Opcode → ℕ → ConstPair → Phrase
   binary opcode flags pair =
       constant_phrase (tree a.table pair.left.ty)
-      (m.Binary opcode flags (tree a.table pair.left.ty) (constant_at (constants_of a) pair.left.value) (tree a.table pair.right.ty) (constant_at (constants_of a) pair.right.value))
+      (m.Binary opcode flags (tree a.table pair.left.ty)
+      (constant_at (constants_of a) pair.left.value)
+      (tree a.table pair.right.ty)
+      (constant_at (constants_of a) pair.right.value))

@@ -83,7 +83,11 @@ chain {T} {A} {B} p s q = record {
   whole = λ ts b. (us : List T) × (vs : List T) × (a : A) × (ts ≡ us ++ vs) × p.whole us a × (q a).whole vs b;
   cut = λ ts. p.cut ts ⊎ ((us : List T) × (vs : List T) × (a : A) × (ts ≡ us ++ vs) × p.whole us a × (q a).cut vs);
   run = λ ts. bind (p.run ts) (λ a rest. (q a).run rest);
-  shape = record { first = cond p.shape.empty (p.shape.first ++ s.first) p.shape.first; more = cond s.empty (s.more ++ p.shape.more) s.more; empty = p.shape.empty && s.empty };
+  shape = record {
+    first = cond p.shape.empty (p.shape.first ++ s.first) p.shape.first;
+    more = cond s.empty (s.more ++ p.shape.more) s.more;
+    empty = p.shape.empty && s.empty;
+  };
 }
 
 -- the phrases of a row, with another value for each
@@ -132,7 +136,10 @@ Each {T} {A} P us (a ∷ xs) = (vs : List T) × (ws : List T) × (us ≡ vs ++ w
 -- as many as there are, of which there are no more than n
 abbrev pub run_many : {T A : Type 0} → (T → ℕ) → Row T A → ℕ → List T → Reading T (List A)
 run_many class p zero ts = Done [] ts
-run_many class p (suc n) ts = cond (begins class p.shape.first ts) (bind (p.run ts) (λ a rest. bind (run_many class p n rest) (λ xs rest. Done (a ∷ xs) rest))) (Done [] ts)
+run_many class p (suc n) ts =
+    cond (begins class p.shape.first ts)
+    (bind (p.run ts) (λ a rest. bind (run_many class p n rest) (λ xs rest. Done (a ∷ xs) rest)))
+    (Done [] ts)
 
 -- any number of a phrase
 abbrev pub many : {T A : Type 0} → (T → ℕ) → Row T A → Row T (List A)

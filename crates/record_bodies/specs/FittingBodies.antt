@@ -38,12 +38,17 @@ module _ (texts : Texts) where
     abbrev pub InstructionsFit : ℕ → List Bytes → List Instruction → Type 0
     InstructionsFit own taken [] = ⊤
     InstructionsFit own taken (i ∷ is) =
-        InstructionFits texts k own i × (are_new taken (results i.result) ≡ true) × InstructionsFit (after_all own (results i.result)) (with_names taken (results i.result)) is
+        InstructionFits texts k own i
+        × (are_new taken (results i.result) ≡ true)
+        × InstructionsFit (after_all own (results i.result)) (with_names taken (results i.result)) is
 
     -- a block: its name is new, and its lines fit
     abbrev pub BlockFits : ℕ → List Bytes → Block → Type 0
     BlockFits own taken b =
-        IsLabel texts own b.name × (are_new taken (b.name ∷ []) ≡ true) × InstructionsFit (after own b.name) (with_names taken (b.name ∷ [])) b.instructions × EndingFits k b.ending
+        IsLabel texts own b.name
+        × (are_new taken (b.name ∷ []) ≡ true)
+        × InstructionsFit (after own b.name) (with_names taken (b.name ∷ [])) b.instructions
+        × EndingFits k b.ending
 
     -- blocks one behind the other
     abbrev pub BlocksFit : ℕ → List Bytes → List Block → Type 0

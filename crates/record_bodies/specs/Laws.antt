@@ -21,5 +21,9 @@ pub record HasRead (names : List LocalName) (blocks : List Block) (answer : Answ
 -- A body that fits is read of the records that are written for it, with the names of its parameters, where names and
 -- numbers of locals are read back
 abbrev pub BodiesAreReadBack : Type 0
-BodiesAreReadBack = (texts : Texts) (k : Numbering) → ((own : ℕ) → Lays (IsLabel texts own) (label texts own)) → (f : Function) (blocks : List Block) (at : ℕ) → BodyFits texts k f blocks
+BodiesAreReadBack =
+    (texts : Texts) (k : Numbering)
+    → ((own : ℕ) → Lays (IsLabel texts own) (label texts own))
+    → (f : Function) (blocks : List Block) (at : ℕ)
+    → BodyFits texts k f blocks
     → HasRead (parameter_names f) blocks (body texts k (length f.parameters) at (records_put (put (body_lines texts k f blocks) no_more)))

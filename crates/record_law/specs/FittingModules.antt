@@ -74,7 +74,11 @@ behind_aliases vs fs all at = fold after_alias (behind_functions vs fs at) all
 module _ (s : Sofar) where
   -- a variable that fits, has a new name and is not one too many
   abbrev pub VariableFollows : Globals → Variable → Type 0
-  VariableFollows g v = VariableFits s.texts s.k v × (may_follow g.last 6 ≡ true) × (nat_lt (length g.variables) COUNT_LIMIT ≡ true) × (is_new (with_globals s g) v.name ≡ true)
+  VariableFollows g v =
+      VariableFits s.texts s.k v
+      × (may_follow g.last 6 ≡ true)
+      × (nat_lt (length g.variables) COUNT_LIMIT ≡ true)
+      × (is_new (with_globals s g) v.name ≡ true)
 
   -- a function whose record fits, with a new name, and not one too many
   abbrev pub FunctionFollows : Globals → Function → Type 0

@@ -46,7 +46,10 @@ IsNearer _ old new = length new < length old
 
 -- the same in front of any blocks and records; or memory ran out, and the reader is spent
 abbrev pub Advances : {E : Type 0} → Reader → Result NextEntry E → Reader → Type 0
-Advances old (Ok entry) new = (new.spent ≡ false) × IsNearer entry old.left new.left × ((all : Records) (others : List Piece) → IsBefore old.left all others → Gives all old entry new others)
+Advances old (Ok entry) new =
+    (new.spent ≡ false)
+    × IsNearer entry old.left new.left
+    × ((all : Records) (others : List Piece) → IsBefore old.left all others → Gives all old entry new others)
 Advances old (Err e) new = new.spent ≡ true
 
 -- what is left of a block was passed over, with its end; or memory ran out, and the reader is spent

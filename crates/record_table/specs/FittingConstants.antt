@@ -38,7 +38,9 @@ module _ (k : Numbering) where
     Fits (Address g) deep t = (is_pointer t ≡ true) × IsListed bytes_eq k.globals [] g
     Fits (ByteString bytes) deep t = (is_bytes_of (length bytes) t ≡ true) × AreBytes bytes
     Fits (Aggregate round cs) deep t =
-        (has_parts (parts_of k.structs t) (count_constants cs) ≡ true) × (brackets_of (parts_of k.structs t) ≡ round) × Below deep (λ d. AreParts cs d (parts_of k.structs t))
+        (has_parts (parts_of k.structs t) (count_constants cs) ≡ true)
+        × (brackets_of (parts_of k.structs t) ≡ round)
+        × Below deep (λ d. AreParts cs d (parts_of k.structs t))
     Fits (ElementAddress f source cs) deep t = (is_pointer t ≡ true) × AreFlagsOf GetElementPtr f × IsType k source × Below deep (λ d. AreOperands cs d)
     Fits (Cast o from c to) deep t = (is_constant_cast o ≡ true) × IsType k from × (to ≡ t) × Below deep (λ d. Fits c d from)
     Fits (Binary o f s a u b) deep t = (is_constant_binary o ≡ true) × AreFlagsOf o f × (s ≡ t) × (u ≡ t) × Below deep (λ d. Fits a d t × Fits b d t)

@@ -24,7 +24,8 @@ abbrev pub InstructionsAreReadBack : Type 0
 InstructionsAreReadBack = (texts : Texts) (k : Numbering) → ((own : ℕ) → Lays (IsLabel texts own) (label texts own))
     → (own : ℕ) (i : Instruction) → InstructionFits texts k own i
     → (rest : List ℕ)
-    → (instruction texts k own (operation_opcode i.operation)).read (going ((instruction texts k own (operation_opcode i.operation)).spell i ++ rest) None) ≡ (i, going rest None)
+    → (instruction texts k own (operation_opcode i.operation)).read (going ((instruction texts k own (operation_opcode i.operation)).spell i ++ rest) None)
+    ≡ (i, going rest None)
 
 -- and so is an end
 abbrev pub EndingsAreReadBack : Type 0

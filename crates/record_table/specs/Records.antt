@@ -44,7 +44,8 @@ types_of f = map (λ p. p.ty) f.parameters
 -- FUNCTION: whether it is defined, and the function as a declaration
 abbrev pub function : Texts → Numbering → Layout (Bool × Function)
 function texts k = mapped
-    (λ (n, (l, (d, (t, (v, ts))))). (d, record { name = n; linkage = l; returns = t; parameters = parameters_of (zip ts (numbers_from 0 (length ts))); variadic = v; body = None }))
+    (λ (n, (l, (d, (t, (v, ts))))).
+    (d, record { name = n; linkage = l; returns = t; parameters = parameters_of (zip ts (numbers_from 0 (length ts))); variadic = v; body = None }))
     (λ (d, f). (f.name, (f.linkage, (d, (f.returns, (f.variadic, types_of f))))))
     (name texts & linkage & truth & ty k & truth & counted (ty k))
 
@@ -176,7 +177,10 @@ body_block s inside (Some f) = body s.texts s.k (length f.parameters) s.at insid
 
 -- the block of types
 abbrev pub types_block : Sofar → Records → Answer Sofar
-types_block s inside = listed s.texts s.at inside >>= λ all. Ok (record s { at = all.at; last = 5; k = record s.k { types = trees all.types; structs = structs all.types } })
+types_block s inside =
+    listed s.texts s.at inside
+    >>= λ all.
+    Ok (record s { at = all.at; last = 5; k = record s.k { types = trees all.types; structs = structs all.types } })
 
 -- a block by its id
 abbrev pub block_in : Sofar → ℕ → Records → Answer Sofar

@@ -1,6 +1,7 @@
 //! How far indices reach.
 ghost use Rattle.std.specs.Prelude.{◌≡◌, ℤ, ◌+ℤ◌, ◌*◌, ◌^◌, ◌≤◌, IfSome, Some};
 ghost use Rattle.ir_eval.specs.Value.{IsInteger, IsWidth};
+ghost use Rattle.type_table.specs.declared.measure.TheConstants.{SIZE_LIMIT};
 ghost use Rattle.run_rules.specs.Displace as rules;
 ghost use Rattle.run_accesses.specs.Near.{IsNear};
 
@@ -13,9 +14,9 @@ use ir_eval::width::{reduced, signed};
 pub fn reach(index: Scalar, width: u8, size: u64) -> Option<i128>
     requires width { IsWidth width }
     requires index { IsInteger width index }
-    requires size { size ≤ 2 ^ 40 }
+    requires size { size ≤ SIZE_LIMIT }
     ensures value { result ≡ rules.reach index width size }
-    ensures near { IfSome result (IsNear (2 ^ 63 * 2 ^ 40)) }
+    ensures near { IfSome result (IsNear (2 ^ 63 * SIZE_LIMIT)) }
 {
     let Scalar::Int(number) = index else {
         return None;

@@ -26,14 +26,12 @@ use ir_tables::UndefinedKind;
 use module_arena::{Function, FunctionId, HostRow};
 use run_names::CalleeRef;
 use run_program::Program;
+use run_rules::ABORTED;
 use run_shapes::{TypeForm, form_of};
 use run_stack::Stack;
 use std::alloc::AllocError;
 use std::marker::Model;
 use type_table::{TypeId, TypeTable};
-
-/// The status of a program that calls `abort`: that of a shell where a signal 6 ended it.
-const ABORTED: u8 = 134;
 
 /// A function that is yet to be entered, by its address: a constructor; or main, with the count of its arguments and their array where
 /// it takes them.

@@ -1,5 +1,6 @@
 //! How far the terms of an address come together (LangRef, "getelementptr Instruction").
 ghost use Rattle.std.specs.Prelude.{◌≡◌, ℕ, ◌+◌, ◌*◌, ◌^◌, ◌≤◌, All, IfSome, if◌then◌else◌};
+ghost use Rattle.type_table.specs.declared.measure.TheConstants.{SIZE_LIMIT};
 ghost use Rattle.run_rules.specs.Displace as rules;
 ghost use Rattle.run_rules.specs.Frame.{read};
 ghost use Rattle.run_stack.specs.UnderWay.{newest};
@@ -18,7 +19,7 @@ use run_stack::Stack;
 fn with_term(stack: &Stack, pools: &Pools, term: &Term, before: Option<i128>) -> Option<i128>
     requires leaf { IsTermIn pools.now term.now }
     requires index { IsIndexed stack.now pools.now term.now }
-    requires size { term.now.size ≤ 2 ^ 40 }
+    requires size { term.now.size ≤ SIZE_LIMIT }
     requires near { IfSome before (IsNear (2 ^ 125)) }
     ensures value { result ≡ (if term.now.gathered then before else rules.sum_of before (rules.reach (read (newest stack.now.frames) (leaf_of pools.now term.now.index)) term.now.width term.now.size)) }
     ensures near { (most : ℕ) → IfSome before (IsNear most) → IfSome result (IsNear (most + 2 ^ 103)) }

@@ -6,6 +6,7 @@ ghost use Rattle.run_rules.specs.Displace as rules;
 ghost use Rattle.run_rules.specs.Leaves as leaves;
 ghost use Rattle.type_table.specs.Layout.{size};
 ghost use Rattle.type_table.specs.Shape.{nesting};
+ghost use Rattle.type_table.specs.declared.measure.TheConstants.{SIZE_LIMIT};
 ghost use Rattle.run_shapes.specs.Shapes.{shape_in};
 ghost use Rattle.run_constants.specs.Places.{IsPlace, index_at, offset_at, shape_at, term_reach};
 ghost use Rattle.run_constants.specs.Sound.{names_of};
@@ -65,7 +66,7 @@ fn reach_over(types: &TypeTable, ty: TypeId, index: Scalar, width: u8) -> Option
     requires width { IsWidth width }
     requires index { IsInteger width index }
     ensures value { result ≡ rules.reach index width (size (shape_in types.now ty)) }
-    ensures near { IfSome result (IsNear (2 ^ 63 * 2 ^ 40)) }
+    ensures near { IfSome result (IsNear (2 ^ 63 * SIZE_LIMIT)) }
 {
     // No type that lies in memory is larger than the limits of a table.
     let _count = types.type_count();
@@ -76,7 +77,7 @@ fn reach_over(types: &TypeTable, ty: TypeId, index: Scalar, width: u8) -> Option
 fn reach_to_field(types: &TypeTable, ty: TypeId, index: Scalar) -> Option<i128>
     requires place { IsPlace types.now (PathPlace.Inside ty) }
     ensures value { result ≡ rules.reach (Scalar.Int (offset_at (shape_in types.now ty) (rules.number_of index))) 64 1 }
-    ensures near { IfSome result (IsNear (2 ^ 63 * 2 ^ 40)) }
+    ensures near { IfSome result (IsNear (2 ^ 63 * SIZE_LIMIT)) }
 {
     let offset = element_offset(types, ty, number_of(index));
     reach(Scalar::Int(offset as u128), 64, 1)
@@ -88,7 +89,7 @@ fn reach_in(types: &TypeTable, place: PathPlace, index: Scalar, width: u8) -> Op
     requires width { IsWidth width }
     requires index { IsInteger width index }
     ensures value { result ≡ term_reach (rules.inner_term (shape_at types.now place) (index_at index width)) }
-    ensures near { IfSome result (IsNear (2 ^ 63 * 2 ^ 40)) }
+    ensures near { IfSome result (IsNear (2 ^ 63 * SIZE_LIMIT)) }
 {
     match place {
         PathPlace::Whole(ty) => reach_over(types, ty, index, width),
@@ -125,7 +126,7 @@ pub(crate) fn reached_by(types: &TypeTable, reached: Reached, index: Scalar, wid
     ensures place { IsPlace types.now result.place }
     ensures shape { shape_at types.now result.place ≡ leaves.element (shape_at types.now reached.place) (rules.number_of index) }
     ensures distance { result.distance ≡ rules.sum_of reached.distance (term_reach (rules.inner_term (shape_at types.now reached.place) (index_at index width))) }
-    ensures near { IfSome (term_reach (rules.inner_term (shape_at types.now reached.place) (index_at index width))) (IsNear (2 ^ 63 * 2 ^ 40)) }
+    ensures near { IfSome (term_reach (rules.inner_term (shape_at types.now reached.place) (index_at index width))) (IsNear (2 ^ 63 * SIZE_LIMIT)) }
 {
     let further = reach_in(types, reached.place, index, width);
     let distance = sum(reached.distance, further);

@@ -11,6 +11,7 @@ ghost use Rattle.module_arena.specs.TypeTests.{is_integer, lies_in_memory};
 ghost use Rattle.module_arena.specs.View.{module_of};
 ghost use Rattle.type_table.specs.Tree.{ptr};
 ghost use Rattle.type_table.specs.Types.{structs, tree};
+ghost use Rattle.type_table.specs.declared.measure.TheConstants.{SIZE_LIMIT};
 ghost use Rattle.run_rules.specs.Constant as rules;
 ghost use Rattle.run_rules.specs.Displace.{inner_term, known, number_in, reach_of, sum_of, terms_of};
 ghost use Rattle.run_rules.specs.Leaves.{element};
@@ -90,7 +91,7 @@ fn further(names: &Names<'_>, reached: Reached, index: TypedConst) -> Reached
     ensures place { IsPlace names.now.table result.place }
     ensures shape { shape_at names.now.table result.place ≡ element (shape_at names.now.table reached.place) (number_in (index_of names.now index)) }
     ensures distance { result.distance ≡ sum_of reached.distance (term_reach (inner_term (shape_at names.now.table reached.place) (index_of names.now index))) }
-    ensures near { IfSome (term_reach (inner_term (shape_at names.now.table reached.place) (index_of names.now index))) (IsNear (2 ^ 63 * 2 ^ 40)) }
+    ensures near { IfSome (term_reach (inner_term (shape_at names.now.table reached.place) (index_of names.now index))) (IsNear (2 ^ 63 * SIZE_LIMIT)) }
 {
     let kind = kind_of(names, index.ty);
     let leaf = leaf_at(names, kind, index.value);

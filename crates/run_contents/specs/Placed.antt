@@ -22,7 +22,11 @@ Fills false expected new = expected ≡ Err MemoryLimit
 pub record ArePlaced (a : Lists) (m : Blocks) : Type 0 where
   pub unsealed : m.sealed ≡ false
   pub many : length (rooms (alone (module_of a))) ≤ length m.list
-  pub fresh : (spots : List Spot) → AreSpots a spots → (j : ℕ) (s : Spot) → slice_get spots j ≡ Some s → slice_get m.list j ≡ Some (new_block s.start s.size (kind.Variable s.constant))
+  pub fresh : (spots : List Spot)
+      → AreSpots a spots
+      → (j : ℕ) (s : Spot)
+      → slice_get spots j ≡ Some s
+      → slice_get m.list j ≡ Some (new_block s.start s.size (kind.Variable s.constant))
 
 -- a pointer to a block of so many bytes that is as it was made, and nothing is sealed
 pub record IsNewBlock (m : Blocks) (p : Pointer) (size : ℕ) : Type 0 where

@@ -2,7 +2,7 @@
 ghost use Rattle.std.specs.Prelude.{◌≡◌, ◌+◌, ◌<◌, ◌≤◌, ◌^◌, All, IfOk, length, map, true};
 ghost use Rattle.ir_memory.specs.declared.kind.BlockKind.TheVariants as kind;
 ghost use Rattle.ir_memory.specs.Given.{IsAlignment};
-ghost use Rattle.ir_memory.specs.Memory.{HasFreeAddresses, byte_limit, no_blocks};
+ghost use Rattle.ir_memory.specs.Memory.{HasFreeAddresses, no_blocks, reach};
 ghost use Rattle.module_arena.specs.View.{module_of};
 ghost use Rattle.run_contents.specs.Placed.{ArePlaced, Fills};
 ghost use Rattle.run_names.specs.Spots.{needs};
@@ -19,7 +19,7 @@ fn add_variable(memory: &mut Memory, spot: Spot) -> Result<bool, AllocError>
     requires align { IsAlignment spot.align }
     requires next { HasFreeAddresses memory.old }
     ensures made { IfOk result (λ is_made. Fills is_made (made spot.size spot.align (kind.Variable spot.constant) memory.old) memory.new) }
-    ensures growth { memory.new.next ≤ memory.old.next + (byte_limit + 2 ^ 17) }
+    ensures growth { memory.new.next ≤ memory.old.next + reach }
 {
     let kind = BlockKind::Variable(spot.constant);
     match memory.add_block(spot.size, spot.align, kind) {

@@ -5,6 +5,7 @@ use Rattle.std.specs.List.{All}
 use Rattle.ir_eval.specs.declared.value.Scalar.{Scalar}
 use Rattle.ir_eval.specs.declared.value.Scalar.TheVariants.{Poison}
 use Rattle.module_arena.specs.Lists.{Lists}
+use Rattle.type_table.specs.declared.measure.TheConstants.{SIZE_LIMIT}
 use Rattle.run_rules.specs.Action as actions
 use Rattle.run_rules.specs.Displace.{reach, reach_of, sum_of}
 use Rattle.run_shapes.specs.Shapes.{shape_in}
@@ -14,6 +15,7 @@ use Rattle.run_actions.specs.Edges.{case_way, way_of}
 use Rattle.run_actions.specs.Values.{arm_of, part_of}
 use Rattle.run_flat.specs.declared.action.Action.{Action}
 use Rattle.run_flat.specs.declared.action.Action.TheVariants.{Compute, Compare, Convert, Select, Freeze, Gather, Load, Store, Allocate, Displace, Call, Return, Jump, Branch, Switch, Unreachable, Passed}
+use Rattle.run_flat.specs.declared.action.TheConstants.{TERMS}
 use Rattle.run_flat.specs.declared.action.CallParts.{CallParts}
 use Rattle.run_flat.specs.declared.action.Term.{Term}
 use Rattle.run_flat.specs.declared.leaf.LeafAt.{LeafAt}
@@ -144,8 +146,8 @@ module _ (p : Pools) where
     pub leaves : All IsTermIn (spanned p.terms terms)
     pub gathered : IsGathered (spanned p.terms terms) total
     pub near : nat_abs total ≤ 2 ^ 124
-    pub few : terms.count ≤ 2 ^ 20
-    pub sizes : All (λ t. t.size ≤ 2 ^ 40) (spanned p.terms terms)
+    pub few : terms.count ≤ TERMS
+    pub sizes : All (λ t. t.size ≤ SIZE_LIMIT) (spanned p.terms terms)
 
   -- what an action points to is there
   abbrev pub IsWithin : Action → Type 0

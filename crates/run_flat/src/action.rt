@@ -4,6 +4,9 @@ use crate::leaf::{LeafAt, Span};
 use ir_tables::{Flags, Opcode, Predicate};
 use type_table::TypeId;
 
+/// How many terms an address has at most.
+pub const TERMS: usize = 1_048_576;
+
 /// A term of a `getelementptr`: so many elements of a size, or so many bytes up to a field.
 ///
 /// ```

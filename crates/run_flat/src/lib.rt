@@ -18,7 +18,7 @@ mod leaf;
 mod pool;
 mod pools;
 
-pub use action::{Action, CallParts, Term};
+pub use action::{Action, CallParts, TERMS, Term};
 pub use leaf::{LeafAt, NOTHING, Span};
 pub use pool::{Pool, numbered};
 pub use pools::Pools;

@@ -29,4 +29,5 @@ module _ (names : Names) where
   abbrev pub parts_at : Bool → ℕ → ℕ → Constants → Contents
   parts_at packed at end no_constants = []
   parts_at packed at end (more_constants t c cs) =
-      value_at t c (at + field_start packed end (align (shape_of names t))) ++ parts_at packed at (field_start packed end (align (shape_of names t)) + size (shape_of names t)) cs
+      value_at t c (at + field_start packed end (align (shape_of names t)))
+      ++ parts_at packed at (field_start packed end (align (shape_of names t)) + size (shape_of names t)) cs

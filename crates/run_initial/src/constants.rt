@@ -1,5 +1,5 @@
 //! Constants that are put leaf by leaf.
-ghost use Rattle.std.specs.Prelude.{◌≡◌, ◌+◌, ◌^◌, ◌<◌, ◌≤◌, ◌∷◌, [], All, length, true};
+ghost use Rattle.std.specs.Prelude.{◌≡◌, ◌+◌, ◌<◌, ◌≤◌, ◌∷◌, [], All, length, true};
 ghost use Rattle.ir_eval.specs.declared.value.Scalar.TheVariants as scalar;
 ghost use Rattle.ir_memory.specs.declared.leaf.Leaf.TheVariants as leaf;
 ghost use Rattle.ir_memory.specs.Answer.{Keeps};
@@ -15,6 +15,7 @@ ghost use Rattle.run_shapes.specs.Shapes.{shape_in};
 ghost use Rattle.run_values.specs.Answer.{Stores};
 ghost use Rattle.type_table.specs.Layout.{end_after, have_layouts, size};
 ghost use Rattle.type_table.specs.Types.{structs, tree};
+ghost use Rattle.type_table.specs.declared.measure.TheConstants.{SIZE_LIMIT};
 
 use crate::filled::put_filled;
 use crate::leaf::{Target, further, put_leaf};
@@ -39,7 +40,7 @@ fn put_byte(memory: &mut Memory, target: Target, byte: u8) -> Result<(), MemoryF
 /// Stores bytes one behind the other, in memory that is fresh: a byte that is 0 is there already. It is refused exactly where a store is
 /// undefined, or for want of memory; then a part may be there.
 pub fn put_bytes(memory: &mut Memory, target: Target, bytes: &[u8]) -> Result<(), MemoryFault>
-    requires ends { target.offset + length bytes.now ≤ 2 ^ 40 }
+    requires ends { target.offset + length bytes.now ≤ SIZE_LIMIT }
     requires block { IsKnown memory.old.list target.block }
     ensures put { Stores (put target.block (bytes_at target.offset bytes.now) memory.old) memory.new result }
     ensures kept { Keeps memory.old memory.new }
@@ -80,7 +81,7 @@ pub fn put_constant(
 ) -> Result<(), MemoryFault>
     requires part { IsPart names.now constant }
     requires laid { lies_in_memory (structs names.now.table) (tree names.now.table constant.ty) ≡ true }
-    requires ends { target.offset + size (shape_in names.now.table constant.ty) ≤ 2 ^ 40 }
+    requires ends { target.offset + size (shape_in names.now.table constant.ty) ≤ SIZE_LIMIT }
     requires block { IsKnown memory.old.list target.block }
     requires variables { length (rooms (alone (module_of names.now))) ≤ length memory.old.list }
     ensures put { Stores (put target.block (value_at (names_of names.now) (tree names.now.table constant.ty) (constant_of names.now constant.value) target.offset) memory.old) memory.new result }
@@ -124,7 +125,7 @@ fn put_constants(
 ) -> Result<(), MemoryFault>
     requires parts { All (IsPart names.now) parts.now }
     requires laid { have_layouts (shapes_with (names_of names.now) (constants_with_types names.now parts.now)) ≡ true }
-    requires ends { target.offset + end_after packed 0 (shapes_with (names_of names.now) (constants_with_types names.now parts.now)) ≤ 2 ^ 40 }
+    requires ends { target.offset + end_after packed 0 (shapes_with (names_of names.now) (constants_with_types names.now parts.now)) ≤ SIZE_LIMIT }
     requires block { IsKnown memory.old.list target.block }
     requires variables { length (rooms (alone (module_of names.now))) ≤ length memory.old.list }
     ensures put { Stores (put target.block (parts_at (names_of names.now) packed target.offset 0 (constants_with_types names.now parts.now)) memory.old) memory.new result }

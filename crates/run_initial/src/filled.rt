@@ -1,5 +1,5 @@
 //! Values of which each leaf is filled alike: zeros and poison (LangRef, "Simple Constants", "Undefined Values", "Poison Values").
-ghost use Rattle.std.specs.Prelude.{◌≡◌, ◌+◌, ◌*◌, ◌^◌, ◌≤◌, ◌<◌, ◌∷◌, [], All, length, true};
+ghost use Rattle.std.specs.Prelude.{◌≡◌, ◌+◌, ◌*◌, ◌≤◌, ◌<◌, ◌∷◌, [], All, length, true};
 ghost use Rattle.ir_memory.specs.Answer.{Keeps};
 ghost use Rattle.ir_memory.specs.Given.{IsKnown, IsLeaf};
 ghost use Rattle.module_arena.specs.TypeTests.{lies_in_memory};
@@ -8,6 +8,7 @@ ghost use Rattle.run_rules.specs.Leaves.{field_slots, repeated, slots_at};
 ghost use Rattle.run_shapes.specs.Shapes.{shape_in, shapes_in};
 ghost use Rattle.type_table.specs.Layout.{end_after, have_layouts, size};
 ghost use Rattle.type_table.specs.Types.{structs, tree};
+ghost use Rattle.type_table.specs.declared.measure.TheConstants.{SIZE_LIMIT};
 ghost use Rattle.run_values.specs.Answer.{Stores};
 
 use crate::leaf::{Target, further, put_leaf};
@@ -41,7 +42,7 @@ pub(crate) fn put_filled(
 ) -> Result<(), MemoryFault>
     requires known { ty < length types.now.types }
     requires laid { lies_in_memory (structs types.now) (tree types.now ty) ≡ true }
-    requires ends { target.offset + size (shape_in types.now ty) ≤ 2 ^ 40 }
+    requires ends { target.offset + size (shape_in types.now ty) ≤ SIZE_LIMIT }
     requires block { IsKnown memory.old.list target.block }
     ensures put { Stores (put target.block (filled fill (slots_at (shape_in types.now ty) target.offset)) memory.old) memory.new result }
     ensures kept { Keeps memory.old memory.new }
@@ -89,7 +90,7 @@ fn put_filled_elements(
 ) -> Result<(), MemoryFault>
     requires known { element < length types.now.types }
     requires laid { lies_in_memory (structs types.now) (tree types.now element) ≡ true }
-    requires ends { target.offset + count * size (shape_in types.now element) ≤ 2 ^ 40 }
+    requires ends { target.offset + count * size (shape_in types.now element) ≤ SIZE_LIMIT }
     requires block { IsKnown memory.old.list target.block }
     ensures put { Stores (put target.block (filled fill (repeated count (slots_at (shape_in types.now element)) target.offset (size (shape_in types.now element)))) memory.old) memory.new result }
     ensures kept { Keeps memory.old memory.new }
@@ -113,7 +114,7 @@ fn put_filled_fields(
 ) -> Result<(), MemoryFault>
     requires known { All (λ ty. ty < length types.now.types) fields.now }
     requires laid { have_layouts (shapes_in types.now fields.now) ≡ true }
-    requires ends { target.offset + end_after packed 0 (shapes_in types.now fields.now) ≤ 2 ^ 40 }
+    requires ends { target.offset + end_after packed 0 (shapes_in types.now fields.now) ≤ SIZE_LIMIT }
     requires block { IsKnown memory.old.list target.block }
     ensures put { Stores (put target.block (filled fill (field_slots (shapes_in types.now fields.now) packed target.offset 0)) memory.old) memory.new result }
     ensures kept { Keeps memory.old memory.new }

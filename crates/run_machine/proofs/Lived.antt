@@ -6,7 +6,7 @@ use Rattle.std.proofs.lemmas.Option.{slice_get_within}
 use Rattle.std.proofs.lemmas.List.Elements.{All-nil, All-cons, All-head, All-tail}
 use Rattle.ir_eval.specs.declared.value.Scalar.TheVariants as scalar
 use Rattle.ir_memory.specs.declared.leaf.Leaf.TheVariants as leaf
-use Rattle.ir_memory.specs.Memory.{Blocks}
+use Rattle.ir_memory.specs.Memory.{Blocks, reach}
 use Rattle.module_arena.specs.View.{module_of}
 use Rattle.run_names.specs.Told.{alone}
 use Rattle.run_rules.specs.Action.{Action}
@@ -22,7 +22,7 @@ use Rattle.run_stack.specs.UnderWay.{UnderWay, IsRunning, changed, newest, on_ne
 use Rattle.run_traffic.specs.Input.{Waiting}
 use Rattle.typed_look.specs.Typings.{IsTypedLook}
 use Rattle.typed_runs.specs.Actions.{Typing}
-use Rattle.typed_runs.specs.States.{AreTaken, AreTypedFrames, IsTypedCore, IsTypedNext, IsTypedProgram, IsTypedState, reach}
+use Rattle.typed_runs.specs.States.{AreTaken, AreTypedFrames, IsTypedCore, IsTypedNext, IsTypedProgram, IsTypedState}
 use Rattle.typed_runs.proofs.Access.{AreBytes}
 use Rattle.typed_runs.proofs.Acts.{act_typed}
 use Rattle.typed_runs.proofs.Calls.{parts_of, whole, parts_handed}

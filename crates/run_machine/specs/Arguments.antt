@@ -6,7 +6,7 @@ use Rattle.ir_eval.specs.declared.value.Scalar.TheVariants as scalar
 use Rattle.ir_memory.specs.declared.kind.BlockKind.TheVariants as kind
 use Rattle.ir_memory.specs.declared.leaf.Leaf.TheVariants as leaf
 use Rattle.ir_memory.specs.Given.{IsKnown}
-use Rattle.ir_memory.specs.Memory.{Blocks, byte_limit}
+use Rattle.ir_memory.specs.Memory.{Blocks, byte_limit, reach}
 use Rattle.run_rules.specs.Access.{next_block}
 use Rattle.run_rules.specs.Opening.{made}
 use Rattle.run_rules.specs.Plan.{Contents}
@@ -38,12 +38,17 @@ abbrev pub MakesWith : Result (Blocks × Pointer) End → Option Pointer → Blo
 MakesWith expected (Some p) old new = Places expected p old new
 MakesWith expected None old new = expected ≡ Err MemoryLimit
 
+-- as far as the next address may be once all variables have their blocks: none ends behind 2^60, and there the greatest
+-- alignment and the gap fit
+abbrev pub behind_variables : ℕ
+behind_variables = 2 ^ 60 + 2 ^ 17
+
 -- the same of several, which are no more than bytes may live; the next address is no further off than so many blocks allow
 pub record PlacesAll (expected : Result (Blocks × List Pointer) End) (ps : List Pointer) (old new : Blocks) : Type 0 where
   pub made : expected ≡ Ok (new, ps)
   pub known : All (IsKnown new.list) ps
   pub few : length ps ≤ byte_limit
-  pub near : new.next ≤ old.next + length ps * (byte_limit + 2 ^ 17)
+  pub near : new.next ≤ old.next + length ps * reach
   pub kept : KeepsBlocks old new
 
 -- pointers in a row, from that place on

@@ -2,7 +2,7 @@
 use Rattle.std.specs.Prelude.{◌≡◌, ℕ, ◌+◌, ◌*◌, ◌^◌, ◌<◌, ◌≤◌, ⊤, Bool, List, [], ◌∷◌, length, Option, Some, None, if◌then◌else◌}
 use Rattle.module_arena.specs.View.{module_of}
 use Rattle.ir_memory.specs.declared.leaf.Leaf.TheVariants as leaf
-use Rattle.ir_memory.specs.Memory.{Blocks, no_blocks}
+use Rattle.ir_memory.specs.Memory.{Blocks, no_blocks, reach}
 use Rattle.run_names.specs.Told.{alone}
 use Rattle.run_rules.specs.Clauses.{told}
 use Rattle.run_rules.specs.Machine as rules
@@ -24,7 +24,7 @@ use Rattle.run_machine.specs.Seen.{Going, the_machine}
 use Rattle.run_machine.specs.declared.live.Turn.{Turn}
 use Rattle.run_machine.specs.declared.live.Turn.TheVariants.{Over, Came}
 use Rattle.typed_look.specs.Typings.{IsTypedLook}
-use Rattle.typed_runs.specs.States.{AreTaken, IsTypedCore, reach}
+use Rattle.typed_runs.specs.States.{AreTaken, IsTypedCore}
 
 -- what instructions see, and the bytes that the last one writes
 pub record Living : Type 0 where

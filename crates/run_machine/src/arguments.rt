@@ -1,15 +1,16 @@
 //! The arguments of main.
-ghost use Rattle.std.specs.Prelude.{◌≡◌, ◌∷◌, ◌++◌, [], ◌+◌, ◌*◌, ◌^◌, ◌≤◌, All, Err, IfOk, IsOk, MatchOption, OnOk, false, length};
+ghost use Rattle.std.specs.Prelude.{◌≡◌, ◌∷◌, ◌++◌, [], ◌+◌, ◌*◌, ◌≤◌, All, Err, IfOk, IsOk, MatchOption, OnOk, false, length};
 ghost use Rattle.ir_eval.specs.Cast.{pointer_at};
 ghost use Rattle.ir_eval.specs.declared.value.Scalar.TheVariants as scalar;
 ghost use Rattle.ir_memory.specs.Answer.{Keeps};
 ghost use Rattle.ir_memory.specs.declared.leaf.Leaf.TheVariants as leaf;
 ghost use Rattle.ir_memory.specs.Given.{IsAlignment, IsKnown};
-ghost use Rattle.ir_memory.specs.Memory.{HasFreeAddresses, byte_limit};
+ghost use Rattle.ir_memory.specs.Memory.{HasFreeAddresses, byte_limit, reach};
+ghost use Rattle.type_table.specs.declared.measure.TheConstants.{SIZE_LIMIT};
 ghost use Rattle.run_entry.specs.Mains.{main_seen};
 ghost use Rattle.run_initial.specs.Constants.{bytes_at};
 ghost use Rattle.run_initial.specs.Fresh.{Puts, put};
-ghost use Rattle.run_machine.specs.Arguments.{MakesBlock, MakesMain, MakesWith, PlacesAll, pointers_at};
+ghost use Rattle.run_machine.specs.Arguments.{MakesBlock, MakesMain, MakesWith, PlacesAll, behind_variables, pointers_at};
 ghost use Rattle.run_rules.specs.declared.end.End.TheVariants as ends;
 ghost use Rattle.run_rules.specs.Opening.{with_main, with_pointers, with_string, with_strings};
 ghost use Rattle.run_values.specs.Answer.{Stores};
@@ -33,7 +34,7 @@ fn add_block(memory: &mut Memory, size: u64, align: u32) -> Result<Option<Pointe
     requires align { IsAlignment align }
     requires next { HasFreeAddresses memory.old }
     ensures made { IfOk result (λ block. MakesBlock size align block memory.old memory.new) }
-    ensures growth { memory.new.next ≤ memory.old.next + (byte_limit + 2 ^ 17) }
+    ensures growth { memory.new.next ≤ memory.old.next + reach }
 {
     match memory.add_block(size, align, BlockKind::Variable(false)) {
         Ok(block) => Ok(Some(block)),
@@ -46,7 +47,7 @@ fn add_block(memory: &mut Memory, size: u64, align: u32) -> Result<Option<Pointe
 
 /// Puts bytes into a block from its start on, where no store of them is undefined: only memory may be wanting.
 fn fill_string(memory: &mut Memory, block: Pointer, bytes: &[u8]) -> Result<(), AllocError>
-    requires ends { length bytes.now ≤ 2 ^ 40 }
+    requires ends { length bytes.now ≤ SIZE_LIMIT }
     requires block { IsKnown memory.old.list block }
     requires well { IsOk (put block (bytes_at 0 bytes.now) memory.old) }
     ensures put { OnOk result (Puts block (bytes_at 0 bytes.now) memory.old memory.new) }
@@ -60,7 +61,7 @@ fn place_string(memory: &mut Memory, bytes: &[u8]) -> Result<Option<Pointer>, Al
     requires unsealed { memory.old.sealed ≡ false }
     requires next { HasFreeAddresses memory.old }
     ensures made { IfOk result (λ block. MakesWith (with_string bytes.now memory.old) block memory.old memory.new) }
-    ensures growth { memory.new.next ≤ memory.old.next + (byte_limit + 2 ^ 17) }
+    ensures growth { memory.new.next ≤ memory.old.next + reach }
 {
     let size = bytes.len() as u64 + 1;
     let Some(block) = add_block(memory, size, 1)? else {
@@ -78,7 +79,7 @@ fn place_strings(
     strings: &[Text],
 ) -> Result<Option<Vec<Pointer>>, AllocError>
     requires unsealed { memory.old.sealed ≡ false }
-    requires next { memory.old.next ≤ 2 ^ 60 + 2 ^ 17 }
+    requires next { memory.old.next ≤ behind_variables }
     ensures { IfOk result (λ found. MatchOption found (with_strings strings.now memory.old ≡ Err ends.MemoryLimit) (λ blocks. PlacesAll (with_strings strings.now memory.old) blocks.items memory.old memory.new)) }
 {
     let mut blocks = Vec::new(alloc);
@@ -168,7 +169,7 @@ pub fn place_main(
     arguments: &TextList,
 ) -> Result<Option<DueCall>, AllocError>
     requires unsealed { memory.old.sealed ≡ false }
-    requires next { memory.old.next ≤ 2 ^ 60 + 2 ^ 17 }
+    requires next { memory.old.next ≤ behind_variables }
     ensures { IfOk result (λ call. MakesMain (with_main (main_seen main) arguments.now memory.old) call memory.old memory.new) }
 {
     if !main.takes_arguments {

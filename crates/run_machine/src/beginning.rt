@@ -1,11 +1,12 @@
 //! Opening.
-ghost use Rattle.std.specs.Prelude.{◌≡◌, ◌++◌, ◌∷◌, ◌+◌, ◌^◌, ◌≤◌, [], IfOk, map, true};
+ghost use Rattle.std.specs.Prelude.{◌≡◌, ◌++◌, ◌∷◌, ◌≤◌, [], IfOk, map, true};
 ghost use Rattle.ir_memory.specs.Memory.{no_blocks};
 ghost use Rattle.module_arena.specs.View.{module_of};
 ghost use Rattle.run_acts.specs.Dues.{due_of};
 ghost use Rattle.run_contents.specs.Placed.{ArePlaced, Fills};
 ghost use Rattle.run_entry.specs.Mains.{main_seen};
 ghost use Rattle.run_names.specs.Told.{alone};
+ghost use Rattle.run_machine.specs.Arguments.{behind_variables};
 ghost use Rattle.run_machine.specs.Opens.{Opens};
 ghost use Rattle.run_rules.specs.Opening.{opened, opened_main, opening_core, with_variables};
 ghost use Rattle.run_rules.specs.Plan.{main_in, plan};
@@ -49,7 +50,7 @@ fn place_all(memory: &mut Memory, names: &Names<'_>) -> Result<bool, AllocError>
     requires { memory.old ≡ no_blocks }
     ensures placed { IfOk result (λ all. Fills all (with_variables (plan (alone (module_of names.now))).variables no_blocks) memory.new) }
     ensures fresh { IfOk result (λ all. all ≡ true → ArePlaced names.now memory.new) }
-    ensures near { IfOk result (λ all. all ≡ true → memory.new.next ≤ 2 ^ 60 + 2 ^ 17) }
+    ensures near { IfOk result (λ all. all ≡ true → memory.new.next ≤ behind_variables) }
 {
     // No variable ends behind 2^60.
     let _spots = names.spots();

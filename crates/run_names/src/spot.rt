@@ -1,16 +1,14 @@
 //! Where the variables of a module lie.
 ghost use Rattle.std.specs.Prelude.{◌≡◌, ◌+◌, ◌≤◌, ◌<◌, ◌^◌, length, true, IfOk};
+ghost use Rattle.type_table.specs.declared.measure.TheConstants.{SIZE_LIMIT};
 ghost use Rattle.run_names.specs.Spots.{AreAddresses, AreSpots, absent_leaf, defines, spot_at};
 
 use crate::standing::is_definition;
 use ir_eval::{Pointer, Scalar};
 use ir_tables::Linkage;
-use linkage_rules::FIRST_ADDRESS;
+use linkage_rules::{FIRST_ADDRESS, GAP};
 use module_arena::{Arena, Checked, VariableId};
 use std::alloc::{AllocError, Global};
-
-/// How many addresses are left free behind a variable.
-const GAP: u64 = 16;
 
 /// Where a variable lies. Its block has the number of its spot, counted from 0.
 ///
@@ -38,7 +36,7 @@ fn spot_of(program: &Checked, id: VariableId, next: u64) -> Spot
     requires defined { defines program.now id ≡ true }
     requires next { next ≤ 2 ^ 59 }
     ensures spot { result ≡ spot_at program.now id next }
-    ensures size { result.size ≤ 2 ^ 40 }
+    ensures size { result.size ≤ SIZE_LIMIT }
     ensures start { result.start ≤ next + 2 ^ 16 }
 {
     let arena = program.arena();

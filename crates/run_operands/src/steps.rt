@@ -1,9 +1,10 @@
 //! How far the indices of a `getelementptr` lead (LangRef, "getelementptr Instruction").
-ghost use Rattle.std.specs.Prelude.{◌≡◌, ℕ, ◌^◌, ◌<◌, ◌≤◌, ◌++◌, All, None, OnOk, length, map, true};
+ghost use Rattle.std.specs.Prelude.{◌≡◌, ℕ, ◌<◌, ◌≤◌, ◌++◌, All, None, OnOk, length, map, true};
 ghost use Rattle.ir_eval.specs.declared.value.Scalar.TheVariants as the_scalar;
 ghost use Rattle.module_arena.specs.TypeTests.{lies_in_memory};
 ghost use Rattle.type_table.specs.Layout.{size};
 ghost use Rattle.type_table.specs.Types.{structs, tree};
+ghost use Rattle.type_table.specs.declared.measure.TheConstants.{SIZE_LIMIT};
 ghost use Rattle.run_rules.specs.Action as actions;
 ghost use Rattle.run_rules.specs.Displace.{inner_term, known, number_of, terms_of};
 ghost use Rattle.run_rules.specs.Leaves.{element};
@@ -54,9 +55,9 @@ fn number_of(index: Origin) -> u128
 
 /// So many times so many bytes.
 fn known_step(count: u64, bytes: u64) -> Step
-    requires { bytes ≤ 2 ^ 40 }
+    requires { bytes ≤ SIZE_LIMIT }
     ensures term { term_of result ≡ record { index = actions.Known (the_scalar.Int count); width = 64; size = bytes } }
-    ensures small { result.size ≤ 2 ^ 40 }
+    ensures small { result.size ≤ SIZE_LIMIT }
 {
     Step {
         index: Origin::Known(Scalar::Int(u128::from(count))),
@@ -70,7 +71,7 @@ fn step_over(types: &TypeTable, ty: TypeId, index: Origin, width: u8) -> Step
     requires known { ty < length types.now.types }
     requires laid { lies_in_memory (structs types.now) (tree types.now ty) ≡ true }
     ensures term { term_of result ≡ record { index = origin_of index; width = width; size = size (shape_in types.now ty) } }
-    ensures small { result.size ≤ 2 ^ 40 }
+    ensures small { result.size ≤ SIZE_LIMIT }
 {
     // No type that lies in memory is larger than the limits of a table.
     let _count = types.type_count();
@@ -87,7 +88,7 @@ fn step_to_field(types: &TypeTable, ty: TypeId, index: Origin) -> Step
     requires laid { lies_in_memory (structs types.now) (tree types.now ty) ≡ true }
     requires none { None ≡ elements_of (shape_in types.now ty) }
     ensures term { (width : ℕ) → term_of result ≡ inner_term (shape_in types.now ty) (index_at index width) }
-    ensures small { result.size ≤ 2 ^ 40 }
+    ensures small { result.size ≤ SIZE_LIMIT }
 {
     match is_struct(types, ty) {
         true => known_step(element_offset(types, ty, number_of(index)), 1),
@@ -100,7 +101,7 @@ fn step_into(types: &TypeTable, ty: TypeId, index: Origin, width: u8) -> Step
     requires known { ty < length types.now.types }
     requires laid { lies_in_memory (structs types.now) (tree types.now ty) ≡ true }
     ensures term { term_of result ≡ inner_term (shape_in types.now ty) (index_at index width) }
-    ensures small { result.size ≤ 2 ^ 40 }
+    ensures small { result.size ≤ SIZE_LIMIT }
 {
     match elements(types, ty) {
         Some(part) => step_over(types, part, index, width),
@@ -112,7 +113,7 @@ fn step_into(types: &TypeTable, ty: TypeId, index: Origin, width: u8) -> Step
 fn step_from(types: &TypeTable, place: &StepPlace, index: Origin, width: u8) -> Step
     requires { IsPlace types.now place.now }
     ensures term { term_of result ≡ inner_term (shape_at types.now place.now) (index_at index width) }
-    ensures small { result.size ≤ 2 ^ 40 }
+    ensures small { result.size ≤ SIZE_LIMIT }
 {
     match place {
         StepPlace::Whole(ty) => step_over(types, *ty, index, width),
@@ -164,9 +165,9 @@ pub(crate) fn push_steps(
     requires known { source < length scope.now.lists.table.types }
     requires laid { lies_in_memory (structs scope.now.lists.table) (tree scope.now.lists.table source) ≡ true }
     requires indices { All (HasScalar scope.now) indices.now }
-    requires small { All (λ s. s.size ≤ 2 ^ 40) into.old.items }
+    requires small { All (λ s. s.size ≤ SIZE_LIMIT) into.old.items }
     ensures terms { OnOk result (map term_of into.new.items ≡ map term_of into.old.items ++ terms_of (shape_in scope.now.lists.table source) (map (λ o. index_in (scope_in scope.now.lists scope.now.function) (operand_of scope.now.lists scope.now.function o)) indices.now)) }
-    ensures small { OnOk result (All (λ s. s.size ≤ 2 ^ 40) into.new.items) }
+    ensures small { OnOk result (All (λ s. s.size ≤ SIZE_LIMIT) into.new.items) }
 {
     let types = scope.types();
     let mut place = StepPlace::Whole(source);

@@ -1,7 +1,8 @@
 //! The terms of `getelementptr` in the pools of a body (LangRef, "getelementptr Instruction").
-ghost use Rattle.std.specs.Prelude.{◌≡◌, ◌^◌, ◌<◌, ◌≤◌, All, IfOk, OnOk, length, map, true};
+ghost use Rattle.std.specs.Prelude.{◌≡◌, ◌<◌, ◌≤◌, All, IfOk, OnOk, length, map, true};
 ghost use Rattle.module_arena.specs.TypeTests.{lies_in_memory};
 ghost use Rattle.type_table.specs.Types.{structs, tree};
+ghost use Rattle.type_table.specs.declared.measure.TheConstants.{SIZE_LIMIT};
 ghost use Rattle.run_rules.specs.Displace.{terms_of};
 ghost use Rattle.run_rules.specs.Resolve.{index_in};
 ghost use Rattle.run_shapes.specs.Shapes.{shape_in};
@@ -14,14 +15,11 @@ use crate::pooled::put_known;
 use crate::steps::{Step, push_steps};
 use ir_eval::Scalar;
 use module_arena::Operand;
-use run_flat::{LeafAt, Pools, Span, Term};
+use run_flat::{LeafAt, Pools, Span, TERMS, Term};
 use run_scopes::FunctionScope;
 use run_stack::Origin;
 use std::alloc::{AllocError, Global};
 use type_table::TypeId;
-
-/// More terms than there are room for.
-const TERMS: usize = 1_048_576;
 
 /// Puts an index there where it is had from.
 fn put_index(pools: &mut Pools, index: Origin) -> Result<LeafAt, AllocError>
@@ -53,7 +51,7 @@ fn is_still(index: Origin) -> bool
 
 /// A term, with its index among the leaves. It is gathered where it leads nowhere: then the sum has it without it being counted.
 fn put_term(pools: &mut Pools, step: Step) -> Result<Term, AllocError>
-    requires { step.size ≤ 2 ^ 40 }
+    requires { step.size ≤ SIZE_LIMIT }
     ensures grows { OnOk result (Adds pools.old pools.new) }
     ensures term { IfOk result (IsOpen pools.new step) }
 {
@@ -68,7 +66,7 @@ fn put_term(pools: &mut Pools, step: Step) -> Result<Term, AllocError>
 
 /// Terms, with their indices among the leaves.
 fn put_terms(alloc: Global, pools: &mut Pools, steps: &[Step]) -> Result<Vec<Term>, AllocError>
-    requires { All (λ s. s.size ≤ 2 ^ 40) steps.now }
+    requires { All (λ s. s.size ≤ SIZE_LIMIT) steps.now }
     ensures grows { OnOk result (Adds pools.old pools.new) }
     ensures terms { IfOk result (λ terms. AreOpen pools.new steps.now terms.items) }
 {

@@ -16,6 +16,7 @@ use Rattle.ir_memory.specs.Memory.{Blocks, added, ended, copied, filled}
 use Rattle.module_arena.specs.declared.host.HostRow.{HostRow}
 use Rattle.module_arena.specs.declared.host.HostRow.TheVariants.{Putchar, Puts, Getchar, Exit, Abort, Malloc, Free, Memcpy, Memmove, Memset, Strlen, MemcpyI64, MemmoveI64, MemsetI64, MemcpyI32, MemmoveI32, MemsetI32, LifetimeStart, LifetimeEnd, Printf, Integer}
 use Rattle.run_rules.specs.declared.end.End.TheVariants as ends
+use Rattle.run_rules.specs.declared.end.TheConstants.{ABORTED}
 use Rattle.run_rules.specs.Access.{has_room, next_block, string_at}
 use Rattle.run_rules.specs.Answer.{Answer, Gives, Reads, Halts, HostFunction, undefined, changes}
 use Rattle.run_rules.specs.Printing.{prints}
@@ -61,7 +62,7 @@ done Puts _ m = undefined AnotherFunctionType
 done Getchar _ m = Reads
 done Exit (Int n ∷ []) m = Halts (ends.Exit (n % 256))
 done Exit _ m = undefined AnotherFunctionType
-done Abort _ m = Halts (ends.Exit 134)
+done Abort _ m = Halts (ends.Exit ABORTED)
 done Malloc (Int n ∷ []) m = allocates n m
 done Malloc _ m = undefined AnotherFunctionType
 done Free (Ptr p ∷ []) m = frees p m

@@ -32,7 +32,9 @@ abbrev mutual
   -- the leaves of fields, in a struct that begins at that offset and whose fields so far end after `end` bytes
   pub field_slots : Shapes → Bool → ℕ → ℕ → List Slot
   field_slots no_shapes packed at end = []
-  field_slots (more_shapes s ss) packed at end = slots_at s (at + field_start packed end (align s)) ++ field_slots ss packed at (field_start packed end (align s) + size s)
+  field_slots (more_shapes s ss) packed at end =
+      slots_at s (at + field_start packed end (align s))
+      ++ field_slots ss packed at (field_start packed end (align s) + size s)
 
 -- the leaves of a value, from its first byte on
 abbrev pub slots : Shape → List Slot

@@ -111,7 +111,12 @@ pub record RunCouldNotRead (bound : ℕ) (old new : Machine) (before after : Out
   pub still_open : (old.closed ≡ false) × (new.closed ≡ false)
   pub none_held : new.unwritten ≡ []
   pub comes : (rest taken : List ℕ) → IsRest old new rest
-      → (at : State) × Came bound old new traffic rest taken at × (at.steps < bound) × (asks_of old at ≡ true) × (at.input ≡ rest) × (at.output ≡ taken ++ traffic.flushed)
+      → (at : State)
+      × Came bound old new traffic rest taken at
+      × (at.steps < bound)
+      × (asks_of old at ≡ true)
+      × (at.input ≡ rest)
+      × (at.output ≡ taken ++ traffic.flushed)
 
 -- the output at a state, and of its next instruction where one is to be carried out
 abbrev pub output_within : ℕ → Machine → State → List ℕ

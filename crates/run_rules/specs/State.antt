@@ -6,6 +6,7 @@ use Rattle.ir_eval.specs.declared.value.Scalar.{Scalar}
 use Rattle.ir_memory.specs.Memory.{Blocks}
 pub use Rattle.run_rules.specs.declared.end.End.{End}
 pub use Rattle.run_rules.specs.declared.end.End.TheVariants.{Exit, Undefined, StepsUsed, StackLimit, MemoryLimit, Unresolved, NoMain}
+use Rattle.run_rules.specs.declared.weight.TheConstants.{WEIGHT_LIMIT}
 
 -- A function under way: its number among the function symbols, the place of its next instruction, the leaves of its
 -- parameters and results one after another, the blocks of its allocas, and where its caller wants the result
@@ -50,7 +51,7 @@ weight f = 1 + length f.leaves
 
 -- how much all frames may weigh
 abbrev pub weight_limit : ℕ
-weight_limit = 4194304
+weight_limit = WEIGHT_LIMIT
 
 -- what all frames weigh
 abbrev pub weights : List Frame → ℕ

@@ -2,10 +2,13 @@
 use ir_base::Name;
 use ir_tables::UndefinedKind;
 
+/// The status of a program that calls `abort`: that of a shell where a signal 6 ended it.
+pub const ABORTED: u8 = 134;
+
 /// How a run ends.
 #[derive(Drop)]
 pub enum End {
-    /// With a status: what main gives or `exit` is called with, modulo 256, or 134 of `abort`.
+    /// With a status: what main gives or `exit` is called with, modulo 256, or `ABORTED` of `abort`.
     Exit(u8),
     /// In undefined behaviour (LangRef, "Undefined Values" and each instruction's "Semantics").
     Undefined(UndefinedKind),

@@ -15,7 +15,9 @@
 mod end;
 mod fault;
 mod law;
+mod weight;
 
-pub use end::End;
+pub use end::{ABORTED, End};
 pub use fault::RunFault;
 pub use law::equal_look_ups_give_equal_runs;
+pub use weight::WEIGHT_LIMIT;

@@ -4,6 +4,7 @@ ghost use Rattle.module_arena.specs.TypeTests.{lies_in_memory};
 ghost use Rattle.run_rules.specs.Leaves as leaves;
 ghost use Rattle.type_table.specs.Layout as layouts;
 ghost use Rattle.type_table.specs.Types.{structs, tree};
+ghost use Rattle.type_table.specs.declared.measure.TheConstants.{SIZE_LIMIT};
 ghost use Rattle.run_shapes.specs.Shapes.{shape_in, shapes_in};
 
 use ir_memory::Leaf;
@@ -31,7 +32,7 @@ pub fn push_slots(
 ) -> Result<(), AllocError>
     requires known { ty < length types.now.types }
     requires laid { lies_in_memory (structs types.now) (tree types.now ty) ≡ true }
-    requires ends { at + layouts.size (shape_in types.now ty) ≤ 2 ^ 40 }
+    requires ends { at + layouts.size (shape_in types.now ty) ≤ SIZE_LIMIT }
     ensures { OnOk result (slots.new.items ≡ slots.old.items ++ leaves.slots_at (shape_in types.now ty) at) }
 {
     // What holds of each table of types.
@@ -62,7 +63,7 @@ fn push_elements(
 ) -> Result<(), AllocError>
     requires known { element < length types.now.types }
     requires laid { lies_in_memory (structs types.now) (tree types.now element) ≡ true }
-    requires ends { at + count * layouts.size (shape_in types.now element) ≤ 2 ^ 40 }
+    requires ends { at + count * layouts.size (shape_in types.now element) ≤ SIZE_LIMIT }
     ensures { OnOk result (slots.new.items ≡ slots.old.items ++ leaves.repeated count (leaves.slots_at (shape_in types.now element)) at (layouts.size (shape_in types.now element))) }
 {
     let size = layout_of(types, element).size;
@@ -83,7 +84,7 @@ fn push_fields(
 ) -> Result<(), AllocError>
     requires known { All (λ ty. ty < length types.now.types) fields.now }
     requires laid { layouts.have_layouts (shapes_in types.now fields.now) ≡ true }
-    requires ends { at + layouts.end_after packed 0 (shapes_in types.now fields.now) ≤ 2 ^ 40 }
+    requires ends { at + layouts.end_after packed 0 (shapes_in types.now fields.now) ≤ SIZE_LIMIT }
     ensures { OnOk result (slots.new.items ≡ slots.old.items ++ leaves.field_slots (shapes_in types.now fields.now) packed at 0) }
 {
     // What holds of each table of types.

@@ -11,11 +11,9 @@ use crate::origin::{Move, Origin};
 use crate::phis::assign;
 use crate::pool::{fill, make_room, read_at, read_into, write_at};
 use ir_eval::{Pointer, Scalar};
+use run_rules::WEIGHT_LIMIT;
 use std::alloc::{AllocError, Global};
 use std::marker::Model;
-
-// How much all frames may weigh: each the number of its leaves, and one more.
-const WEIGHT_LIMIT: u64 = 4_194_304;
 
 /// The frames of the functions under way. A clause sees them the newest first, and how many leaves an edge may set at once.
 ///

@@ -28,7 +28,12 @@ pub record HasGrown (numbers old new : List ℕ) : Type 0 where
 pub record IsSearched (lists : List (List ℕ)) (start next : ℕ) (queue : List ℕ) : Type 0 where
   pub sound : (number : ℕ) → stands_in queue number ≡ true → LeadsTo lists start number
   pub first : (number : ℕ) → HasNumber number (mentioned lists start) → stands_in queue number ≡ true
-  pub done : (place : ℕ) → place < next → place < length queue → (number : ℕ) → HasNumber number (mentioned lists (slice_index_or queue place 0)) → stands_in queue number ≡ true
+  pub done : (place : ℕ)
+      → place < next
+      → place < length queue
+      → (number : ℕ)
+      → HasNumber number (mentioned lists (slice_index_or queue place 0))
+      → stands_in queue number ≡ true
 
 -- the marks of exactly the numbers that the first leads to
 pub record AreReached (lists : List (List ℕ)) (start : ℕ) (marks : List Bool) : Type 0 where

@@ -26,7 +26,9 @@ names_at structs numbers = map (name_at structs) numbers
 -- each of these names only structs that stand before it, and names of no struct
 abbrev pub Follow : Structs → List Bytes → List Bytes → Type 0
 Follow structs before [] = Unit {0}
-Follow structs before (name ∷ more) = ((other : Bytes) → Names structs name other → HasName other before ⊎ (HasName other (names_of structs) → ⊥)) × Follow structs (name ∷ before) more
+Follow structs before (name ∷ more) =
+    ((other : Bytes) → Names structs name other → HasName other before ⊎ (HasName other (names_of structs) → ⊥))
+    × Follow structs (name ∷ before) more
 
 -- the numbers of distinct structs, each behind those that its fields name, the first body of a name being the one that
 -- counts; a struct that is left out names one that is left out, so that there is no such order with it

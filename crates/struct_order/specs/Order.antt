@@ -35,7 +35,9 @@ HasUnsettled settled mentions = (number : ℕ) × HasNumber number mentions × (
 -- each of these mentions only what stands before it
 abbrev pub StandBehind : List (List ℕ) → List ℕ → List ℕ → Type 0
 StandBehind lists before [] = Unit {0}
-StandBehind lists before (number ∷ more) = ((other : ℕ) → HasNumber other (mentioned lists number) → stands_in before other ≡ true) × StandBehind lists (number ∷ before) more
+StandBehind lists before (number ∷ more) =
+    ((other : ℕ) → HasNumber other (mentioned lists number) → stands_in before other ≡ true)
+    × StandBehind lists (number ∷ before) more
 
 -- the number mentions one that does not stand in the order
 abbrev pub HasLeft : List (List ℕ) → List ℕ → ℕ → Type 0

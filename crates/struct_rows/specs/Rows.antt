@@ -62,7 +62,10 @@ pub record HasRow (parts : List Module) (done : List Symbol) (s : Symbol) (row :
 -- The structs of a part have these rows.
 pub record HaveRows (parts : List Module) (done : List Symbol) (part : ℕ) (numbers : List ℕ) : Type 0 where
   pub count : length numbers ≡ length (structs_at parts part)
-  pub each : (id row : ℕ) (s : Bytes × TreeBody) → slice_get (structs_at parts part) id ≡ Some s → slice_get numbers id ≡ Some row → HasRow parts done (Local part s.0) row
+  pub each : (id row : ℕ) (s : Bytes × TreeBody)
+      → slice_get (structs_at parts part) id ≡ Some s
+      → slice_get numbers id ≡ Some row
+      → HasRow parts done (Local part s.0) row
 
 -- The next part was looked at.
 pub record AddsPart (parts : List Module) (part : ℕ) (now : Rows) (numbers : List ℕ) : Type 0 where

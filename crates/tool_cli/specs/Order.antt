@@ -46,7 +46,11 @@ KeepsTurn contents names before now = (held : Named) (refusal : Ended) → conte
 
 -- and the answer is that refusal, but for a read of a file that failed, and for want of memory
 abbrev pub IsInTurn : Option Named → Type 0 → List (List ℕ) → Ended → Type 0
-IsInTurn contents files_rose names ended = (held : Named) (refusal : Ended) → contents ≡ Some held → IsRefusedInFront held names refusal → (ended ≡ refusal) ⊎ GaveUp ⊥ files_rose ended
+IsInTurn contents files_rose names ended =
+    (held : Named) (refusal : Ended)
+    → contents ≡ Some held
+    → IsRefusedInFront held names refusal
+    → (ended ≡ refusal) ⊎ GaveUp ⊥ files_rose ended
 
 -- where the files are told, they refuse no input in front of standard input
 abbrev pub HasFineFront : Option Named → List (List ℕ) → Type 0

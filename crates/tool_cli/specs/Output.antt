@@ -88,7 +88,8 @@ KeepsFiles (Some (File name)) (CannotWrite other) before now = KeepsOthers name 
 KeepsFiles output ended before now = now ≡ before
 
 -- what a run leaves of files: none changed but the output, no count fell, and no failed write was counted but one that is told
-pub record LeavesFilesBut (output : Option OutputName) (ended : Ended) (contents_before contents_now : Option Named) (reads_before reads_now writes_before writes_now : ℕ) : Type 0 where
+pub record LeavesFilesBut (output : Option OutputName) (ended : Ended) (contents_before contents_now : Option Named)
+    (reads_before reads_now writes_before writes_now : ℕ) : Type 0 where
   pub contents : KeepsFiles output ended contents_before contents_now
   pub reads : reads_before ≤ reads_now
   pub writes : writes_before ≤ writes_now
@@ -113,7 +114,9 @@ ForResult command texts P = (bytes : List ℕ) × IsResult command texts bytes �
 abbrev pub IsWritten : Command → List (List ℕ) → Outputs → Outputs → Ended → Type 0
 IsWritten command texts before now ends.Ok = ForResult command texts (λ output bytes. IsPut output bytes before now)
 IsWritten command texts before now (CannotWrite name) = ForResult command texts (λ output bytes. IsPartlyPut output bytes before now)
-IsWritten command texts before now Memory = (now ≡ before) ⊎ ((is_analysis command ≡ true) × ForResult command texts (λ output bytes. IsPartlyPut output bytes before now))
+IsWritten command texts before now Memory =
+    (now ≡ before)
+    ⊎ ((is_analysis command ≡ true) × ForResult command texts (λ output bytes. IsPartlyPut output bytes before now))
 IsWritten command texts before now ended = now ≡ before
 
 -- of a command whose inputs give this

@@ -1,10 +1,11 @@
 -- For `run_tool`: what it comes to where a program is run.
-use Rattle.std.specs.Prelude.{◌≡◌, ◌⊎◌, ◌≤◌, ◌^◌, ℕ, List, [], ◌∷◌, codes, Some, Result, Ok, Err, if◌then◌else◌}
+use Rattle.std.specs.Prelude.{◌≡◌, ◌⊎◌, ◌≤◌, ℕ, List, [], ◌∷◌, codes, Some, Result, Ok, Err, if◌then◌else◌}
 use Rattle.std.specs.Bool.{MatchBool}
 use Rattle.ir_base.specs.Files.{Named}
 use Rattle.ir_base.specs.Outside.{Added}
 use Rattle.command_line.specs.declared.command.Command.{Command}
 use Rattle.command_line.specs.declared.command.Command.TheVariants.{Lli}
+use Rattle.command_line.specs.declared.number.TheConstants.{LARGEST_NUMBER}
 use Rattle.command_line.specs.Commands.{IsReadAs}
 use Rattle.command_line.specs.Options.{is_dash}
 use Rattle.module_arena.specs.Module.{Module}
@@ -26,7 +27,7 @@ use Rattle.tool_cli.specs.Made.{IsPart, RunsLike}
 
 -- a run makes no more steps than this
 abbrev pub StepsFit : Command → Type 0
-StepsFit (Lli input max_steps arguments) = max_steps ≤ 2 ^ 32
+StepsFit (Lli input max_steps arguments) = max_steps ≤ LARGEST_NUMBER
 StepsFit command = Unit {0}
 
 -- the program of a module, which has these words and may make so many steps

@@ -1,6 +1,7 @@
 //! Programs that `lli` runs.
-ghost use Rattle.std.specs.Prelude.{◌≡◌, ◌⊎◌, ◌≤◌, ◌^◌, true, [], Some, Err, codes};
+ghost use Rattle.std.specs.Prelude.{◌≡◌, ◌⊎◌, ◌≤◌, true, [], Some, Err, codes};
 ghost use Rattle.command_line.specs.Options.{is_dash};
+ghost use Rattle.command_line.specs.declared.number.TheConstants.{LARGEST_NUMBER};
 ghost use Rattle.module_arena.specs.View.{module_of};
 ghost use Rattle.name_rules.specs.Spelled.{spelled_global};
 ghost use Rattle.run_rules.specs.Clauses.{outside};
@@ -78,7 +79,7 @@ fn run_program<I: Source, O: Sink>(
     input: &mut I,
     output: &mut O,
 ) -> Ended
-    requires { max_steps ≤ 2 ^ 32 }
+    requires { max_steps ≤ LARGEST_NUMBER }
     ensures { IsRunTo (program_of max_steps words.now (module_of checked.now))
         (outside (I.left input.old) (I.faults input.old) (O.taken output.old) (O.faults output.old)) (outside (I.left input.new) (I.faults input.new) (O.taken output.new) (O.faults output.new)) result }
 {
@@ -107,7 +108,7 @@ pub(crate) fn run_bytes<I: Source, O: Sink>(
     output: &mut O,
 ) -> Ended
     requires short { IsShort bytes }
-    requires steps { max_steps ≤ 2 ^ 32 }
+    requires steps { max_steps ≤ LARGEST_NUMBER }
     ensures ran { IsRan name.now max_steps words.now bytes
         (outside (I.left input.old) (I.faults input.old) (O.taken output.old) (O.faults output.old)) (outside (I.left input.new) (I.faults input.new) (O.taken output.new) (O.faults output.new)) result }
     ensures unread { is_dash name.now ≡ true → input.new ≡ input.old }

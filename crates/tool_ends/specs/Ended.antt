@@ -92,7 +92,10 @@ conflict_words Constness = codes "constness"
 
 -- two entries that do not go together, in words: what is wrong, their name, and the names of the inputs
 abbrev pub clash_words : Clash → List ℕ
-clash_words clash = codes "conflict: " ++ (conflict_words clash.kind ++ (codes ": " ++ (clash.symbol ++ (codes " in " ++ (clash.one.name ++ (codes " and " ++ clash.other.name))))))
+clash_words clash =
+    codes "conflict: "
+    ++ (conflict_words clash.kind
+    ++ (codes ": " ++ (clash.symbol ++ (codes " in " ++ (clash.one.name ++ (codes " and " ++ clash.other.name))))))
 
 -- line and column
 abbrev pub place_words : Place → List ℕ

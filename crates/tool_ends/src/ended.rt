@@ -163,6 +163,11 @@ impl From<AllocError> for Ended {
 }
 
 /// The process's exit status, and what it stands for.
+///
+/// ```
+/// Report { status: 42, ended: Ended::Exit(42) } // of a program that ends with that status
+/// Report { status: 120, ended: Ended::Memory } // where memory ran out
+/// ```
 #[derive(Drop)]
 pub struct Report {
     pub status: u8,

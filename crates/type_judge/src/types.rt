@@ -17,7 +17,7 @@ use ir_constants::Type;
 use ir_terminals::{Integer, PlacedName};
 use name_rules::{ResolveFault, spell_struct};
 use std::alloc::Global;
-use type_table::Measure;
+use type_table::{Measure, NESTING_LIMIT, PARTS_LIMIT, SIZE_LIMIT};
 
 /// Whether the measure, where there is one, nests too deep.
 fn is_deep(measure: Option<Measure>) -> bool
@@ -25,7 +25,7 @@ fn is_deep(measure: Option<Measure>) -> bool
 {
     match measure {
         None => false,
-        Some(measure) => measure.nesting > 64,
+        Some(measure) => measure.nesting > NESTING_LIMIT,
     }
 }
 
@@ -36,12 +36,12 @@ pub fn is_large(measure: Option<Measure>) -> bool
     match measure {
         None => false,
         Some(measure) => {
-            if measure.parts > 1 << 20 {
+            if measure.parts > PARTS_LIMIT {
                 return true;
             }
             match measure.layout {
                 None => false,
-                Some(layout) => layout.size > 1 << 40,
+                Some(layout) => layout.size > SIZE_LIMIT,
             }
         }
     }
@@ -62,7 +62,7 @@ fn is_long(count: &Integer) -> bool
         return false;
     }
     match count.magnitude.to_u64() {
-        Some(length) => length > 1 << 40,
+        Some(length) => length > SIZE_LIMIT,
         None => true,
     }
 }

@@ -39,8 +39,12 @@ pub record ReadsName (t : Texts) (old new : Reader) (name : Option Bytes) : Type
   pub reader : new ≡ record old { walk = ((asking 4 is_name t.last).read old.walk).1 }
   pub broken : name ≡ None → IsBroken new.walk
 
+-- the name of a definition, which stands behind its body
+abbrev pub name_behind : StructBody × Bytes → Bytes
+name_behind (body, name) = name
+
 -- what a definition keeps: its body, none only where a rule is broken by then, and its name
 pub record IsDefinition (t : Texts) (count : ℕ) (w : Walk) (made : StructDefinition) : Type 0 where
   pub body : IsKept (IsBodyOf count) made.body ((struct_body count).read w).0 ((struct_body count).read w).1
-  pub name : IsNameOf made.name ((definition t count).read w).0.1
+  pub name : IsNameOf made.name (name_behind ((definition t count).read w).0)
   pub broken : made.name ≡ None → IsBroken ((definition t count).read w).1

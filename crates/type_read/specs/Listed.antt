@@ -110,7 +110,10 @@ voids_in (a_record code operands behind) = void_of code ++ voids_in behind
 -- what one record adds to what is known ahead: a name that is none that is good is the first bad one, or a type
 abbrev pub GathersRecord : Texts → ℕ → List ℕ → Lists → TypesAhead → Lists → TypesAhead → Type 0
 GathersRecord t code operands old before new now =
-    ((all : List Bytes) → AreGathered old before.structs all → AreGathered new now.structs (if nat_eq code 7 then all ++ name_defined (judged (definition t 0) operands) ∷ [] else all))
+    ((all : List Bytes)
+    → AreGathered old before.structs all
+    → AreGathered new now.structs
+    (if nat_eq code 7 then all ++ name_defined (judged (definition t 0) operands) ∷ [] else all))
     × (now.voids.items ≡ before.voids.items ++ void_of code)
 
 -- ---- the block of types
@@ -180,7 +183,9 @@ IsRefusedBy fault before (Err told) now = told ≡ Memory
 
 -- The table becomes this one where all of it is within the limits; else rule 7 is broken.
 abbrev pub AddsType : Types → Lists → Reader → Result (Unit {0}) BitcodeFault → Lists → Reader → Type 0
-AddsType after old before (Ok done) new now = (all_fit after ≡ true → new ≡ with_table old after) × (now ≡ record before { walk = also_asked 7 (all_fit after) before.walk })
+AddsType after old before (Ok done) new now =
+    (all_fit after ≡ true → new ≡ with_table old after)
+    × (now ≡ record before { walk = also_asked 7 (all_fit after) before.walk })
 AddsType after old before (Err told) new now = told ≡ Memory
 
 -- the name at that place is the first bad one

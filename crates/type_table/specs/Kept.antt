@@ -1,11 +1,12 @@
 -- For `Measure::is_too_large`, and how the code reads: what holds of the measures that a table keeps.
-use Rattle.std.specs.Prelude.{◌≡◌, ℕ, ◌^◌, ◌<◌, ◌≤◌, ◌⊎◌, Bool, true, false, List, length, All, Any, ⊤, Option, Some, None, slice_index_or, set}
+use Rattle.std.specs.Prelude.{◌≡◌, ℕ, ◌<◌, ◌≤◌, ◌⊎◌, Bool, true, false, List, length, All, Any, ⊤, Option, Some, None, slice_index_or, set}
 use Rattle.type_table.specs.declared.fault.TypeFault.{TypeFault}
 use Rattle.type_table.specs.declared.fault.TypeFault.TheVariants.{Duplicate, SelfContaining, TooDeep, TooLarge, Memory}
 use Rattle.type_table.specs.declared.ir_type.IrType.{IrType}
 use Rattle.type_table.specs.declared.ir_type.IrType.TheVariants.{Int, Ptr, Void, Array, Struct, Named}
 use Rattle.type_table.specs.declared.layout.Layout.{Layout}
 use Rattle.type_table.specs.declared.measure.Measure.{Measure}
+use Rattle.type_table.specs.declared.measure.TheConstants.{NESTING_LIMIT, PARTS_LIMIT, SIZE_LIMIT}
 use Rattle.type_table.specs.Measures.{type_measures, measure_of, Measures}
 use Rattle.type_table.specs.Tree.{body_of}
 use Rattle.type_table.specs.Types.{Types, names, structs, IsGood}
@@ -13,29 +14,29 @@ use Rattle.type_table.specs.Types.{Types, names, structs, IsGood}
 -- the size, where there is one, is within the limit
 abbrev pub HasSmallSize : Option Layout → Type 0
 HasSmallSize None = ⊤
-HasSmallSize (Some l) = l.size ≤ 2 ^ 40
+HasSmallSize (Some l) = l.size ≤ SIZE_LIMIT
 
 -- no number is past its limit
 pub record IsSmall (m : Measure) : Type 0 where
-  pub nests : m.nesting ≤ 64
-  pub parts_fit : m.parts ≤ 2 ^ 20
+  pub nests : m.nesting ≤ NESTING_LIMIT
+  pub parts_fit : m.parts ≤ PARTS_LIMIT
   pub size_fits : HasSmallSize m.layout
 
 -- there is a size, and it is past the limit
 abbrev pub HasLargeSize : Option Layout → Type 0
 HasLargeSize None = ⊥
-HasLargeSize (Some l) = 2 ^ 40 < l.size
+HasLargeSize (Some l) = SIZE_LIMIT < l.size
 
 -- a number other than the nesting is past its limit
 abbrev pub IsLarge : Measure → Type 0
-IsLarge m = (2 ^ 20 < m.parts) ⊎ HasLargeSize m.layout
+IsLarge m = (PARTS_LIMIT < m.parts) ⊎ HasLargeSize m.layout
 
 -- what is wrong with some of these measures: the first of these that is
 abbrev pub HasListFault : List Measure → TypeFault → Type 0
 HasListFault ms Duplicate = ⊥
 HasListFault ms SelfContaining = ⊥
-HasListFault ms TooDeep = Any (λ m. 64 < m.nesting) ms
-HasListFault ms TooLarge = All (λ m. m.nesting ≤ 64) ms × Any IsLarge ms
+HasListFault ms TooDeep = Any (λ m. NESTING_LIMIT < m.nesting) ms
+HasListFault ms TooLarge = All (λ m. m.nesting ≤ NESTING_LIMIT) ms × Any IsLarge ms
 HasListFault ms Memory = ⊥
 
 -- how many elements a type has if it is an array
@@ -59,7 +60,7 @@ pub record IsKept (t : Types) (struct_list type_list : List Measure) : Type 0 wh
   pub measured : IsMeasured t struct_list type_list
   pub small_structs : All IsSmall struct_list
   pub small_types : All IsSmall type_list
-  pub lengths : All (λ ty. type_length ty ≤ 2 ^ 40) t.types
+  pub lengths : All (λ ty. type_length ty ≤ SIZE_LIMIT) t.types
 
 -- where the type is a struct's name, the struct's flag is set
 abbrev pub IsFlagged : List Bool → IrType → Type 0

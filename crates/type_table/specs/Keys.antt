@@ -67,7 +67,9 @@ type_so Void Void e = refl
 type_so (Array n part) (Array m other) e =
     λ j. Array ((unsigned_Decides n m).0 (first_so (n == m) (part == other) e) j) ((unsigned_Decides part other).0 (second_so (n == m) (part == other) e) j)
 type_so (Struct packed parts) (Struct tight others) e =
-    λ j. Struct ((booleans_Decides packed tight).0 (first_so (beq packed tight) (ids_eq parts others) e) j) ((bytes_decides parts others).0 (second_so (beq packed tight) (ids_eq parts others) e) j)
+    λ j. Struct
+    ((booleans_Decides packed tight).0 (first_so (beq packed tight) (ids_eq parts others) e) j)
+    ((bytes_decides parts others).0 (second_so (beq packed tight) (ids_eq parts others) e) j)
 type_so (Named id) (Named other) e = ap Named ((unsigned_Decides id other).0 e)
 type_so _ _ e = absurd (true≢false (sym e))
 

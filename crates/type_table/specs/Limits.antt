@@ -1,7 +1,8 @@
 -- For `add` and `define_struct`: how deep and how large the types of a table may be, and why a change is refused.
-use Rattle.std.specs.Prelude.{◌≡◌, ℕ, ◌^◌, ◌<◌, ◌≤◌, List, ◌++◌, length, map, All, Any, ⊤, true, slice_index_or, [], Option, Some, None, ◌⊎◌}
+use Rattle.std.specs.Prelude.{◌≡◌, ℕ, ◌<◌, ◌≤◌, List, ◌++◌, length, map, All, Any, ⊤, true, slice_index_or, [], Option, Some, None, ◌⊎◌}
 use Rattle.type_table.specs.declared.fault.TypeFault.{TypeFault}
 use Rattle.type_table.specs.declared.fault.TypeFault.TheVariants.{Duplicate, SelfContaining, TooDeep, TooLarge, Memory}
+use Rattle.type_table.specs.declared.measure.TheConstants.{NESTING_LIMIT, PARTS_LIMIT, SIZE_LIMIT}
 use Rattle.type_table.specs.Contains.{ContainsItself}
 use Rattle.type_table.specs.Layout.{has_layout, size}
 use Rattle.type_table.specs.Shape.{Shape, int_leaf, ptr_leaf, void_leaf, opaque_leaf, array_of, struct_of, nesting, parts}
@@ -12,7 +13,7 @@ use Rattle.type_table.specs.Types.{Types, names, trees, structs}
 -- a type without a shape that holds no struct which contains itself nests without end, or deeper than any limit
 abbrev pub IsTooDeep : Option Shape → Type 0
 IsTooDeep None = ⊤
-IsTooDeep (Some s) = 64 < nesting s
+IsTooDeep (Some s) = NESTING_LIMIT < nesting s
 
 -- how many elements an array has; no other type counts
 abbrev pub array_length : Shape → ℕ
@@ -26,14 +27,14 @@ array_length (struct_of label packed ss) = 0
 -- what has no layout has no size
 abbrev pub IsTooLarge : Option Shape → Type 0
 IsTooLarge None = ⊥
-IsTooLarge (Some s) = (2 ^ 20 < parts s) ⊎ ((2 ^ 40 < array_length s) ⊎ ((has_layout s ≡ true) × (2 ^ 40 < size s)))
+IsTooLarge (Some s) = (PARTS_LIMIT < parts s) ⊎ ((SIZE_LIMIT < array_length s) ⊎ ((has_layout s ≡ true) × (SIZE_LIMIT < size s)))
 
 -- neither too deep nor too large
 pub record Fits (s : Shape) : Type 0 where
-  pub nests : nesting s ≤ 64
-  pub parts_fit : parts s ≤ 2 ^ 20
-  pub length_fits : array_length s ≤ 2 ^ 40
-  pub size_fits : has_layout s ≡ true → size s ≤ 2 ^ 40
+  pub nests : nesting s ≤ NESTING_LIMIT
+  pub parts_fit : parts s ≤ PARTS_LIMIT
+  pub length_fits : array_length s ≤ SIZE_LIMIT
+  pub size_fits : has_layout s ≡ true → size s ≤ SIZE_LIMIT
 
 -- there is a shape, and it is within the limits
 abbrev pub IsWithinLimits : Option Shape → Type 0

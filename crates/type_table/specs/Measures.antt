@@ -1,5 +1,5 @@
 -- For the calls of `Measure`: what is measured of a type, and how it is found from what is measured of its parts.
-use Rattle.std.specs.Prelude.{◌≡◌, ℕ, zero, suc, ◌+◌, ◌*◌, ◌^◌, min, max, Bool, true, false, List, [], ◌∷◌, ◌++◌, map, slice_index_or, Option, Some, None, if◌then◌else◌}
+use Rattle.std.specs.Prelude.{◌≡◌, ℕ, zero, suc, ◌+◌, ◌*◌, min, max, Bool, true, false, List, [], ◌∷◌, ◌++◌, map, slice_index_or, Option, Some, None, if◌then◌else◌}
 use Rattle.std.specs.List.{fold}
 use Rattle.std.specs.Option.{option_map}
 use Rattle.std.specs.Int.{next_multiple_of}
@@ -9,6 +9,7 @@ use Rattle.type_table.specs.declared.ir_type.StructBody.{StructBody}
 use Rattle.type_table.specs.declared.ir_type.StructBody.TheVariants.{Opaque, Plain, Packed}
 use Rattle.type_table.specs.declared.layout.Layout.{Layout}
 use Rattle.type_table.specs.declared.measure.Measure.{Measure}
+use Rattle.type_table.specs.declared.measure.TheConstants.{PARTS_LIMIT, SIZE_LIMIT}
 use Rattle.type_table.specs.Layout.{layout, field_start}
 use Rattle.type_table.specs.Shape.{Shape, int_leaf, ptr_leaf, void_leaf, nesting, parts}
 use Rattle.type_table.specs.Tree.{Tree, int, ptr, void, array, struct, named, Trees, no_trees, more_trees, TreeBody, opaque_body, fields, index_of}
@@ -19,11 +20,11 @@ capped_nesting n = min 255 n
 
 -- a count of parts, kept up to one past its limit
 abbrev pub capped_parts : ℕ → ℕ
-capped_parts n = min (2 ^ 20 + 1) n
+capped_parts n = min (PARTS_LIMIT + 1) n
 
 -- a size, kept up to one past its limit
 abbrev pub capped : ℕ → ℕ
-capped n = min (2 ^ 40 + 1) n
+capped n = min (SIZE_LIMIT + 1) n
 
 -- a layout, kept up to one past the limit on sizes
 abbrev pub capped_layout : Layout → Layout

@@ -1,6 +1,7 @@
 -- For `layout`, `offset` and `shape_eq`: the shape of a type, its tree with each struct's name replaced by the struct's body, down to the leaves.
 use Rattle.std.specs.Prelude.{ℕ, zero, suc, ◌+◌, max, Bool, List, Option, Some, None}
 use Rattle.std.specs.Option.{option_map}
+use Rattle.type_table.specs.declared.measure.TheConstants.{NESTING_LIMIT}
 use Rattle.type_table.specs.Tree.{Tree, int, ptr, void, array, struct, named, Trees, no_trees, more_trees, TreeBody, opaque_body, fields, Structs, body_of}
 
 -- the name that a struct had, where it is kept
@@ -55,13 +56,13 @@ module _ (label : List ℕ → Label) (bodies : List ℕ → TreeBody) where
   name_shape zero name = None
   name_shape (suc room) name = body_shape (name_shape room) (label name) (bodies name)
 
--- Types nest at most 64 deep. So a type has a shape unless it nests deeper, or holds a struct that contains itself
+-- Types nest no deeper than the limit. So a type has a shape unless it nests deeper, or holds a struct that contains itself
 abbrev pub shape : Structs → Tree → Option Shape
-shape structs t = expanded (name_shape (λ _. None) (body_of structs) 64) t
+shape structs t = expanded (name_shape (λ _. None) (body_of structs) NESTING_LIMIT) t
 
 -- the same, with its own name kept at each struct
 abbrev pub named_shape : Structs → Tree → Option Shape
-named_shape structs t = expanded (name_shape (λ name. Some name) (body_of structs) 64) t
+named_shape structs t = expanded (name_shape (λ name. Some name) (body_of structs) NESTING_LIMIT) t
 
 abbrev mutual
   -- how deep a shape nests: an array or a struct is one more than its deepest part

@@ -110,7 +110,7 @@ fn with_field_layout(packed: bool, sofar: Layout, field: Layout) -> Layout
 impl Measure {
     /// Whether the type nests too deep.
     pub fn is_too_deep(&self) -> bool
-        ensures { IsTrue result ↔ (64 < self.now.nesting) }
+        ensures { IsTrue result ↔ (NESTING_LIMIT < self.now.nesting) }
     {
         self.nesting > NESTING_LIMIT
     }

@@ -45,7 +45,7 @@ impl Measures {
 
     fn any_too_deep(&self) -> bool
         ensures { IsTrue result
-            ↔ Any (λ m. 64 < m.nesting) (self.now.types.items ++ self.now.structs.items) }
+            ↔ Any (λ m. NESTING_LIMIT < m.nesting) (self.now.types.items ++ self.now.structs.items) }
     {
         some_too_deep(&self.types) || some_too_deep(&self.structs)
     }
@@ -58,7 +58,7 @@ impl Measures {
 }
 
 fn some_too_deep(measures: &[Measure]) -> bool
-    ensures { IsTrue result ↔ Any (λ m. 64 < m.nesting) measures.now }
+    ensures { IsTrue result ↔ Any (λ m. NESTING_LIMIT < m.nesting) measures.now }
 {
     measures
         .iter()

@@ -290,7 +290,7 @@ impl TypeTable {
 
 /// Whether a type with that measure is too large, by its parts, its size or, for an array, its length.
 fn is_too_large(measure: &Measure, ty: &IrType) -> bool
-    ensures { IsTrue result ↔ (IsLarge measure.now ⊎ (2 ^ 40 < type_length ty.now)) }
+    ensures { IsTrue result ↔ (IsLarge measure.now ⊎ (SIZE_LIMIT < type_length ty.now)) }
 {
     measure.is_too_large() || matches!(ty, IrType::Array(length, _) if *length > SIZE_LIMIT)
 }

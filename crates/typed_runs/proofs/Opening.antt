@@ -12,7 +12,7 @@ use Rattle.ir_memory.specs.declared.leaf.Leaf.TheVariants as leaf
 use Rattle.ir_memory.specs.declared.kind.BlockKind.{BlockKind}
 use Rattle.ir_memory.specs.declared.kind.BlockKind.TheVariants as kind
 use Rattle.ir_memory.specs.Given.{IsAlignment, IsBlock}
-use Rattle.ir_memory.specs.Memory.{Blocks, no_blocks, added, live_bytes}
+use Rattle.ir_memory.specs.Memory.{Blocks, no_blocks, added, live_bytes, reach}
 use Rattle.run_rules.specs.declared.end.End.TheVariants as ends
 use Rattle.run_rules.specs.Access.{and_then, has_room, next_block, stored_slots, or_as_before}
 use Rattle.run_rules.specs.Action.{Action}
@@ -26,7 +26,7 @@ use Rattle.run_rules.specs.State.{Due, Constructor, Main, MainWith, Core}
 use Rattle.typed_runs.specs.Actions.{Typing}
 use Rattle.typed_runs.specs.Kinds.{IsOf}
 use Rattle.typed_runs.specs.Plans.{IsTypedMain, IsTypedPlan, AreWords}
-use Rattle.typed_runs.specs.States.{IsTypedMemory, AreStored, reach, IsTypedDue, AreTypedDue, IsTypedCore, IsTypedState}
+use Rattle.typed_runs.specs.States.{IsTypedMemory, AreStored, IsTypedDue, AreTypedDue, IsTypedCore, IsTypedState}
 use Rattle.run_places.specs.Places.{IsTrueMain, HasWork}
 use Rattle.typed_runs.proofs.Access.{stored_slots_typed, as_before_typed, stored_more}
 use Rattle.typed_runs.proofs.Leaves.{block_more}

@@ -11,7 +11,7 @@ use Rattle.ir_tables.specs.declared.undefined_kind.UndefinedKind.TheVariants.{An
 use Rattle.ir_eval.specs.declared.value.Scalar.{Scalar}
 use Rattle.ir_eval.specs.declared.value.Scalar.TheVariants as scalar
 use Rattle.ir_memory.specs.declared.leaf.Leaf.TheVariants as leaf
-use Rattle.ir_memory.specs.Memory.{Blocks}
+use Rattle.ir_memory.specs.Memory.{Blocks, reach}
 use Rattle.module_arena.specs.declared.host.HostRow.{HostRow}
 use Rattle.module_arena.specs.declared.host.HostRow.TheVariants.{Integer}
 use Rattle.module_arena.specs.HostRows.{host_types}
@@ -27,7 +27,7 @@ use Rattle.run_rules.specs.Step as steps
 use Rattle.run_rules.specs.Step.{Step, GoesOn, IsOver, carried, took, got, then_on, called_while_idle, counted, instruction, next_of, step, advanced}
 use Rattle.typed_runs.specs.Actions.{Typing}
 use Rattle.typed_runs.specs.Kinds.{IsOf, kinds_of_all}
-use Rattle.typed_runs.specs.States.{reach, IsTypedProgram, IsTypedCallee, AreTaken, AreTypedFrames, AreTypedDue, IsTypedDue, IsTypedCore, IsTypedState, IsTypedNext, IsTypedStep}
+use Rattle.typed_runs.specs.States.{IsTypedProgram, IsTypedCallee, AreTaken, AreTypedFrames, AreTypedDue, IsTypedDue, IsTypedCore, IsTypedState, IsTypedNext, IsTypedStep}
 use Rattle.run_places.specs.Places.{IsTrueMain, IsFunctionOf, IsBefore, HasFrame, HasWork}
 use Rattle.typed_runs.proofs.Access.{AreBytes}
 use Rattle.typed_runs.proofs.Acts.{act_typed}

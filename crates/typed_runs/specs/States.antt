@@ -6,7 +6,7 @@ use Rattle.ir_memory.specs.declared.leaf.Leaf.{Leaf}
 use Rattle.ir_memory.specs.declared.leaf.Leaf.TheVariants as leaf
 use Rattle.ir_memory.specs.Given.{IsBlock}
 use Rattle.ir_memory.specs.Kept.{IsPlaced, AreKnown}
-use Rattle.ir_memory.specs.Memory.{Blocks, live_bytes, byte_limit, first_address}
+use Rattle.ir_memory.specs.Memory.{Blocks, live_bytes, byte_limit, first_address, reach}
 use Rattle.ir_tables.specs.IntrinsicName.{has_width}
 use Rattle.ir_eval.specs.Value.{IsWidth}
 use Rattle.module_arena.specs.declared.host.HostRow.{HostRow}
@@ -38,10 +38,6 @@ IsRow _ = ⊤
 abbrev pub AreStored : ℕ → List (Slot × Scalar) → Type 0
 AreStored count [] = ⊤
 AreStored count (x ∷ xs) = IsOf count x.0.leaf x.1 × AreStored count xs
-
--- so far the next address may be moved at once: a block of all bytes, the greatest alignment and the gap
-abbrev pub reach : ℕ
-reach = byte_limit + 2 ^ 17
 
 -- memory after something was done to it: no block is lost, and the next address is not far
 pub record IsLater (m n : Blocks) : Type 0 where

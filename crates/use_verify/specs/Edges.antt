@@ -33,7 +33,9 @@ source_of sources b = slice_index_or sources b []
 
 -- the lists of the blocks of a function
 abbrev pub IsSourced : Function → List (List ℕ) → Type 0
-IsSourced f sources = (length sources ≡ length (function_blocks f)) × ((b : ℕ) → b < length (function_blocks f) → source_of sources b ≡ sources_from 0 (function_blocks f) b)
+IsSourced f sources =
+    (length sources ≡ length (function_blocks f))
+    × ((b : ℕ) → b < length (function_blocks f) → source_of sources b ≡ sources_from 0 (function_blocks f) b)
 
 -- there are no lists yet, or they are those of the blocks of a function
 abbrev pub MayBeSourced : Function → List (List ℕ) → Type 0

@@ -46,7 +46,11 @@ calls_f = main_of (gives 1 (calls i32 "f" []) ∷ []) (result 1)
 
 -- the weak one stands first
 abbrev pub winner_parts : List Module
-winner_parts = module_of [] [] (gives_number Weak 1 ∷ []) ∷ module_of [] [] (gives_number External 2 ∷ []) ∷ module_of [] [] (function External i32 "f" [] None ∷ calls_f ∷ []) ∷ []
+winner_parts =
+    module_of [] [] (gives_number Weak 1 ∷ [])
+    ∷ module_of [] [] (gives_number External 2 ∷ [])
+    ∷ module_of [] [] (function External i32 "f" [] None ∷ calls_f ∷ [])
+    ∷ []
 
 -- and counts
 abbrev pub first_kept : Module
