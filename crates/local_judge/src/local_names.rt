@@ -1,7 +1,7 @@
 //! What the values, or the blocks, of a function are called.
 #![tactic(auto)]
 
-ghost use Rattle.std.specs.Prelude.{◌≡◌, Bool, [], ◌∷◌, map, IfOk, OnOk};
+ghost use Rattle.std.specs.Prelude.{◌≡◌, ◌==◌, Bool, [], ◌∷◌, map, IfOk, OnOk};
 ghost use Rattle.module_arena.specs.Module.{Named, Numbered};
 ghost use Rattle.name_rules.specs.Locals.{Locals, local_in, is_alike, is_there, known_as};
 ghost use Rattle.local_judge.specs.Names.{Brings, HoldsNames};
@@ -11,6 +11,16 @@ use ir_base::{Place, Text};
 use ir_terminals::{Local, Number, PlacedName};
 use name_table::NameTable;
 use std::alloc::{AllocError, Global};
+
+/// Whether a number that is written is this one.
+fn is_same_number(written: &Number, number: u64) -> bool
+    ensures { result ≡ (written.now == number) }
+{
+    match written.to_u64() {
+        Some(small) => small == number,
+        None => false,
+    }
+}
 
 /// Names and numbers: those of the values of a function, or those of its blocks.
 #[derive(Drop)]
@@ -90,6 +100,23 @@ impl<'a> LocalNames<'a> {
         Ok(())
     }
 
+    /// Adds the next number, and the one that is written where that is another.
+    fn put_numbers(
+        &mut self,
+        alloc: Global,
+        next: u64,
+        block: bool,
+        number: &Number,
+    ) -> Result<(), AllocError>
+        ensures { OnOk result (Brings self.old self.new ((Numbered next, block) ∷ (Numbered number.now, block) ∷ [])) }
+    {
+        self.put_small(block, next)?;
+        if is_same_number(number, next) {
+            return Ok(());
+        }
+        self.put_number(alloc, block, number)
+    }
+
     /// Adds what is called so, or by the next number where no name is written.
     pub(crate) fn put(
         &mut self,
@@ -103,10 +130,7 @@ impl<'a> LocalNames<'a> {
         match written {
             None => self.put_small(block, next),
             Some(Local::Named(name)) => self.put_name(block, name),
-            Some(Local::Numbered(number, _)) => {
-                self.put_small(block, next)?;
-                self.put_number(alloc, block, number)
-            }
+            Some(Local::Numbered(number, _)) => self.put_numbers(alloc, next, block, number),
         }
     }
 
