@@ -6,6 +6,7 @@ ghost use Rattle.module_arena.specs.Module.{Named, Numbered};
 ghost use Rattle.name_rules.specs.Locals.{Locals, local_in, is_alike, is_there, known_as};
 ghost use Rattle.local_judge.specs.Names.{Brings, HoldsNames};
 
+use crate::small_numbers::SmallNumbers;
 use indexmap::IndexSet;
 use ir_base::{Place, Text};
 use ir_terminals::{Local, Number, PlacedName};
@@ -29,7 +30,7 @@ pub(crate) struct LocalNames<'a> {
     block: bool,
     named: NameTable<'a, Place>,
     /// The numbers below 2^64.
-    small: IndexSet<u64>,
+    small: SmallNumbers,
     /// The digits of the others.
     large: IndexSet<Text>,
 }
@@ -42,7 +43,7 @@ impl<'a> LocalNames<'a> {
         LocalNames {
             block,
             named: NameTable::new(alloc),
-            small: IndexSet::new(alloc),
+            small: SmallNumbers::new(alloc),
             large: IndexSet::new(alloc),
         }
     }
@@ -74,6 +75,16 @@ impl<'a> LocalNames<'a> {
         self.named.put(name.name.bytes(), name.place)
     }
 
+    /// Adds the next number.
+    fn put_next(&mut self, block: bool, next: u64) -> Result<(), AllocError>
+        ensures { OnOk result (Brings self.old self.new ((Numbered next, block) ∷ [])) }
+    {
+        if !self.is_alike(block) {
+            return Ok(());
+        }
+        self.small.put_next(next)
+    }
+
     /// Adds a number below 2^64.
     fn put_small(&mut self, block: bool, number: u64) -> Result<(), AllocError>
         ensures { OnOk result (Brings self.old self.new ((Numbered number, block) ∷ [])) }
@@ -81,8 +92,7 @@ impl<'a> LocalNames<'a> {
         if !self.is_alike(block) {
             return Ok(());
         }
-        self.small.insert(number)?;
-        Ok(())
+        self.small.put(number)
     }
 
     /// Adds a number of any size.
@@ -110,7 +120,7 @@ impl<'a> LocalNames<'a> {
     ) -> Result<(), AllocError>
         ensures { OnOk result (Brings self.old self.new ((Numbered next, block) ∷ (Numbered number.now, block) ∷ [])) }
     {
-        self.put_small(block, next)?;
+        self.put_next(block, next)?;
         if is_same_number(number, next) {
             return Ok(());
         }
@@ -128,7 +138,7 @@ impl<'a> LocalNames<'a> {
         ensures { OnOk result (Brings self.old self.new (map (λ name. (name, block)) (known_as next written.now))) }
     {
         match written {
-            None => self.put_small(block, next),
+            None => self.put_next(block, next),
             Some(Local::Named(name)) => self.put_name(block, name),
             Some(Local::Numbered(number, _)) => self.put_numbers(alloc, next, block, number),
         }
@@ -142,7 +152,7 @@ impl<'a> LocalNames<'a> {
             Local::Named(name) => Ok(self.named.get(name.name.bytes()).is_some()),
             Local::Numbered(number, _) => {
                 if let Some(small) = number.to_u64() {
-                    return Ok(self.small.contains(&small));
+                    return Ok(self.small.has(small));
                 }
                 let digits = number.digits(alloc)?;
                 Ok(self.large.contains(&digits))

@@ -10,8 +10,8 @@ use Rattle.local_judge.proofs.local_names.LocalNames.put_numbers.Goals as goal
 pub returns-then-is_same_number : goal.returns-then-is_same_number
 returns-then-is_same_number c =
     let same : c.args.number.now ≡ c.args.next = eqb-true c.args.number.now c.args.next (sym c.is_same_number.ensures ∙ c.if-is_same_number.true) in
-    subst (λ (number : ℕ). Brings c.args.self.now c.put_small.new.self ((Numbered c.args.next, c.args.block) ∷ (Numbered number, c.args.block) ∷ [])) (sym same)
-    (brings_twice c.args.self.now c.put_small.new.self (Numbered c.args.next, c.args.block) c.in_ok-put_small.ensures)
+    subst (λ (number : ℕ). Brings c.args.self.now c.put_next.new.self ((Numbered c.args.next, c.args.block) ∷ (Numbered number, c.args.block) ∷ [])) (sym same)
+    (brings_twice c.args.self.now c.put_next.new.self (Numbered c.args.next, c.args.block) c.in_ok-put_next.ensures)
 
 pub returns : goal.returns
-returns c = on_ok_weaker c.put_number.result (λ put. brings_both _ _ _ _ _ c.in_ok-put_small.ensures put) c.put_number.ensures
+returns c = on_ok_weaker c.put_number.result (λ put. brings_both _ _ _ _ _ c.in_ok-put_next.ensures put) c.put_number.ensures
