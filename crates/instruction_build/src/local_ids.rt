@@ -4,7 +4,6 @@ ghost use Rattle.module_arena.specs.View.{local_view};
 ghost use Rattle.name_rules.specs.Locals.{local_in, called};
 
 use crate::called::{called_so, is_written};
-use indexmap::IndexMap;
 use ir_terminals::Local;
 use module_arena::LocalName;
 use name_table::NameTable;
@@ -21,7 +20,8 @@ pub struct LocalIds<'a> {
     /// The names, the one of an id at that place.
     pub names: Vec<LocalName>,
     named: NameTable<'a, u32>,
-    numbered: IndexMap<u64, u32>,
+    /// The id of each number, at that place.
+    numbered: Vec<u32>,
 }
 
 impl<'a> LocalIds<'a> {
@@ -32,7 +32,7 @@ impl<'a> LocalIds<'a> {
         LocalIds {
             names: Vec::new(alloc),
             named: NameTable::new(alloc),
-            numbered: IndexMap::new(alloc),
+            numbered: Vec::new(alloc),
         }
     }
 
@@ -56,7 +56,9 @@ impl<'a> LocalIds<'a> {
         match written {
             Some(Local::Named(placed)) => self.named.put(placed.name.bytes(), id)?,
             Some(Local::Numbered(_, _)) | None => {
-                self.numbered.insert(next as u64, id)?;
+                // The numbers that are left out are those of the others: of the blocks, or of the values.
+                self.numbered.resize(next as usize, 0)?;
+                self.numbered.push(id)?;
             }
         }
         Ok(())
@@ -86,7 +88,7 @@ impl<'a> LocalIds<'a> {
             Local::Named(placed) => self.named.get(placed.name.bytes()),
             Local::Numbered(number, _) => {
                 let number = number.to_u64()?;
-                self.numbered.get(&number).copied()
+                self.numbered.get(number as usize).copied()
             }
         }
     }

@@ -30,6 +30,6 @@ pub use laws::{
     answers_ahead, list_or_bad, one_list, pieces_are_tokens, strings_stand_for_their_bytes,
 };
 pub use lexer::{LARGEST, Lexer};
-pub use names::{is_number, name_of};
+pub use names::{bare_name_of, is_number, name_of};
 pub use quoted::{is_quoted, unquote};
 pub use token::{BadByte, Token, TokenKind};

@@ -1,6 +1,7 @@
 //! The names that tokens spell.
-ghost use Rattle.std.specs.Prelude.{◌≡◌, ◌<◌, length, true, Some, IfOk};
-ghost use Rattle.ir_lexer.specs.Names.{has_name, is_number, bare_name, name_in};
+ghost use Rattle.std.specs.Prelude.{◌≡◌, ◌<◌, length, true, is_none, Some, IfOk, IfSome};
+ghost use Rattle.ir_base.specs.Name.{IsName};
+ghost use Rattle.ir_lexer.specs.Names.{has_name, is_number, is_quoted, bare_name, name_in};
 ghost use Rattle.ir_lexer.specs.Table.{IsToken};
 
 use crate::class::ClassSet;
@@ -28,6 +29,21 @@ pub fn is_number(label: &[u8]) -> bool
 {
     let digits = bare_name(TokenKind::Label, label);
     run_of(ClassSet::Digits, digits) == digits.len()
+}
+
+/// The bytes of the name that a label, a global name or a local name spells, as they stand in its spelling. None where it is
+/// quoted.
+pub fn bare_name_of(kind: TokenKind, spelling: &[u8]) -> Option<&[u8]>
+    requires named { has_name kind ≡ true }
+    requires token { IsToken kind spelling.now }
+    ensures quoted { is_none result ≡ is_quoted spelling.now }
+    ensures name { IfSome result (λ name. IsName name.now) }
+    ensures bytes { IfSome result (λ name. Some name.now ≡ name_in (record { kind = kind; spelling = spelling.now })) }
+{
+    if is_quoted(spelling) {
+        return None;
+    }
+    Some(bare_name(kind, spelling))
 }
 
 /// The bytes of the name that a label, a global name or a local name spells.

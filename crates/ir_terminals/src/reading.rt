@@ -16,7 +16,7 @@ use crate::number::Number;
 use crate::terminal::Terminal;
 use crate::values::{Integer, Local, PlacedName, PlacedText};
 use ir_base::Place;
-use ir_lexer::{TokenKind, is_number, name_of, unquote};
+use ir_lexer::{TokenKind, bare_name_of, is_number, name_of, unquote};
 use ir_tables::{Flag, Linkage, Predicate};
 use std::alloc::{AllocError, Global};
 
@@ -53,14 +53,27 @@ fn digits_name(alloc: Global, spelling: &[u8]) -> Result<CompactName, AllocError
     CompactName::from_slice(alloc, &spelling[1..])
 }
 
-/// The name that a token of this kind spells so.
-fn name_at(alloc: Global, kind: TokenKind, spelling: &[u8]) -> Result<CompactName, AllocError>
+/// The name that a token of this kind spells so, with quotes or without.
+#[cold]
+fn any_name_at(alloc: Global, kind: TokenKind, spelling: &[u8]) -> Result<CompactName, AllocError>
     requires named { has_name kind ≡ true }
     requires token { IsToken kind spelling.now }
     ensures { IfOk result (λ name. Some name ≡ name_in (record { kind = kind; spelling = spelling.now })) }
 {
     let name = name_of(alloc, kind, spelling)?;
     CompactName::from_slice(alloc, name.text().bytes())
+}
+
+/// The name that a token of this kind spells so. Without quotes it is copied out of the spelling at once.
+fn name_at(alloc: Global, kind: TokenKind, spelling: &[u8]) -> Result<CompactName, AllocError>
+    requires named { has_name kind ≡ true }
+    requires token { IsToken kind spelling.now }
+    ensures { IfOk result (λ name. Some name ≡ name_in (record { kind = kind; spelling = spelling.now })) }
+{
+    match bare_name_of(kind, spelling) {
+        Some(name) => CompactName::from_slice(alloc, name),
+        None => any_name_at(alloc, kind, spelling),
+    }
 }
 
 /// The bytes that the string with this spelling stands for.

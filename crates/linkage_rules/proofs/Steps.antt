@@ -1,5 +1,5 @@
 -- One step along a list.
-use Rattle.std.proofs.Common.{◌≡◌, ℕ, zero, suc, ◌+◌, Bool, true, false, cond, ◌&&◌, List, [], ◌∷◌, ◌++◌, map, length, take, drop, Option, Some, refl, sym, ap, ap₂, ◌∙◌, subst, filter, arith, All, append_assoc}
+use Rattle.std.proofs.Common.{◌≡◌, ℕ, zero, suc, ◌+◌, Bool, true, false, cond, ◌&&◌, List, [], ◌∷◌, ◌++◌, map, length, take, drop, get_or, Option, Some, refl, sym, ap, ap₂, ◌∙◌, subst, filter, arith, All, append_assoc}
 use Rattle.std.specs.Prelude.{slice_get}
 use Rattle.std.specs.List.{AllByRecursion}
 use Rattle.std.specs.Option.{option_map}
@@ -8,6 +8,7 @@ use Rattle.std.proofs.lemmas.List.Elements.{All-from_recursion, recursion_from_A
 use Rattle.std.proofs.lemmas.Option.{same_Some}
 use Rattle.module_arena.specs.Module.{Module}
 use Rattle.linkage_rules.specs.declared.entry.EntryId.{EntryId}
+use Rattle.linkage_rules.specs.declared.symbol.SymbolKind.{SymbolKind}
 use Rattle.linkage_rules.specs.Conflicts.{ConflictKind}
 use Rattle.linkage_rules.specs.Entries.{Entry, Symbol, entries_of}
 use Rattle.linkage_rules.specs.Grouped.{Rows, with_filed, IsFiled, better_of, home_among, takes_part, differ, clash_with, first_clash}
@@ -137,6 +138,12 @@ module _ (parts : List Module) (ids : List EntryId) (k : ℕ) (x : EntryId) (at 
 
   pub first_next : (kind : ConflictKind) → takes_part kind (seen parts x) ≡ false → first_clash parts kind (map (seen parts) (drop k ids)) ≡ first_clash parts kind (map (seen parts) (drop (k + 1) ids))
   first_next kind h = ap (λ l. first_clash parts kind (map (seen parts) l)) (drop_more ids k x at) ∙ first_passed parts kind x (drop (k + 1) ids) h
+
+-- what is told of the symbol at a place
+pub told_at : (known : Symbol → SymbolKind) (keys : List Symbol) (k : ℕ) (s : Symbol) (d : SymbolKind) → slice_get keys k ≡ Some s → get_or (map known keys) k d ≡ known s
+told_at known [] k s d at = absurd cc
+told_at known (x ∷ keys) zero s d at = (let same : x ≡ s = cc in ap known same)
+told_at known (x ∷ keys) (suc k) s d at = told_at known keys k s d at
 
 -- a symbol that is kept or not
 pub kept_step : (p : Symbol → Bool) (keys : List Symbol) (k : ℕ) (s : Symbol) (old so_far after : List Symbol) (b : Bool) → slice_get keys k ≡ Some s → so_far ≡ old ++ filter p (take k keys) → after ≡ so_far ++ cond b (s ∷ []) [] → b ≡ p s

@@ -1,5 +1,5 @@
 //! Entries under their symbols.
-ghost use Rattle.std.specs.Prelude.{◌≡◌, ◌<◌, filter, slice_get, All, Some, IfOk, OnOk};
+ghost use Rattle.std.specs.Prelude.{◌≡◌, ◌<◌, [], ◌∷◌, filter, slice_get, All, Some, IfOk, OnOk};
 ghost use Rattle.indexmap.specs.IndexMap.{keys, index_map_len};
 ghost use Rattle.linkage_rules.specs.Globals as globals;
 ghost use Rattle.linkage_rules.specs.Grouped.{IsFiled, group_in, with_filed, key_in};
@@ -15,6 +15,15 @@ use std::alloc::{AllocError, Global};
 /// Symbols with their entries, in the order of first entry.
 pub(crate) type Groups = IndexMap<Symbol, EntryList>;
 
+/// An entry alone, with no room for others: most symbols have one or two.
+fn alone(alloc: Global, id: EntryId) -> Result<EntryList, AllocError>
+    ensures { IfOk result (λ ids. ids ≡ id ∷ []) }
+{
+    let mut ids = Vec::with_capacity(alloc, 1)?;
+    ids.push(id)?;
+    Ok(ItemList::from_vec(ids))
+}
+
 /// Puts an entry under its symbol.
 fn file(alloc: Global, groups: &mut Groups, symbol: Symbol, id: EntryId) -> Result<(), AllocError>
     ensures { OnOk result (groups.new.entries ≡ with_filed groups.old.entries symbol id) }
@@ -23,9 +32,7 @@ fn file(alloc: Global, groups: &mut Groups, symbol: Symbol, id: EntryId) -> Resu
         groups[index].push(id)?;
         return Ok(());
     }
-    let mut ids = ItemList::new(alloc);
-    ids.push(id)?;
-    groups.insert(symbol, ids)?;
+    groups.insert(symbol, alone(alloc, id)?)?;
     Ok(())
 }
 

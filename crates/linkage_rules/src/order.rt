@@ -1,7 +1,7 @@
 //! The symbols in their order: variables and functions by first entry, then aliases by first alias.
-ghost use Rattle.std.specs.Prelude.{◌≡◌, [], ◌∷◌, ◌++◌, filter, map, false, All, IfOk, OnOk, if◌then◌else◌};
+ghost use Rattle.std.specs.Prelude.{◌≡◌, [], ◌∷◌, ◌++◌, filter, length, map, false, All, IfOk, OnOk, if◌then◌else◌};
 ghost use Rattle.std.specs.Option.{option_map, option_map_or};
-ghost use Rattle.indexmap.specs.IndexMap.{keys};
+ghost use Rattle.indexmap.specs.IndexMap.{keys, index_map_len};
 ghost use Rattle.linkage_rules.specs.Globals.{is_alias, is_variable};
 ghost use Rattle.linkage_rules.specs.Ids.{IsEntryId, modules, seen};
 ghost use Rattle.linkage_rules.specs.Lists.{first};
@@ -67,6 +67,28 @@ pub(crate) fn kind_of(
     kind_from(is_alias, is_variable)
 }
 
+/// What each of the keys is.
+fn kinds_of(
+    alloc: Global,
+    parts: &[Checked],
+    groups: &Groups,
+    homes: &[Option<EntryId>],
+    among: &Groups,
+) -> Result<Vec<SymbolKind>, AllocError>
+    requires groups { AreGroups parts.now groups.now.entries }
+    requires homes { AreHomes parts.now (keys groups.now) homes.now }
+    ensures len { IfOk result (λ kinds. length kinds.items ≡ index_map_len among.now) }
+    ensures kinds { IfOk result (λ kinds. kinds.items ≡ map (kind_of (modules parts.now)) (keys among.now)) }
+{
+    let count = among.len();
+    let mut kinds = Vec::with_capacity(alloc, count)?;
+    for index in 0..count {
+        let symbol = symbol_at(among, index);
+        kinds.push(kind_of(parts, groups, homes, symbol))?;
+    }
+    Ok(kinds)
+}
+
 /// Whether two kinds are one.
 fn is_same(kind: SymbolKind, other: SymbolKind) -> bool
     ensures { result ≡ same_kind kind other }
@@ -93,23 +115,22 @@ fn push_if(
     Ok(())
 }
 
-/// Adds those of the keys that are of one kind.
+/// Adds those of the keys that are of one kind, where it is told of each what it is.
 fn push_kind(
     alloc: Global,
-    parts: &[Checked],
-    groups: &Groups,
-    homes: &[Option<EntryId>],
     among: &Groups,
+    kinds: &[SymbolKind],
     kind: SymbolKind,
     symbols: &mut SymbolList,
 ) -> Result<(), AllocError>
-    requires groups { AreGroups parts.now groups.now.entries }
-    requires homes { AreHomes parts.now (keys groups.now) homes.now }
-    ensures { OnOk result (symbols.new ≡ symbols.old ++ filter (λ s. same_kind kind (kind_of (modules parts.now) s)) (keys among.now)) }
+    requires { length kinds.now ≡ index_map_len among.now }
+    ensures { OnOk result ((known : Symbol → SymbolKind) → kinds.now ≡ map known (keys among.now)
+        → symbols.new ≡ symbols.old ++ filter (λ s. same_kind kind (known s)) (keys among.now)) }
 {
-    for index in 0..among.len() {
+    let count = among.len();
+    for index in 0..count {
         let symbol = symbol_at(among, index);
-        let is_kept = is_same(kind, kind_of(parts, groups, homes, symbol));
+        let is_kept = is_same(kind, kinds[index]);
         push_if(alloc, is_kept, symbol, symbols)?;
     }
     Ok(())
@@ -129,32 +150,12 @@ pub(crate) fn ordered(
     ensures { IfOk result (λ all. all ≡ symbols (modules parts.now)) }
 {
     let mut all = ItemList::new(alloc);
-    push_kind(
-        alloc,
-        parts,
-        groups,
-        homes,
-        groups,
-        SymbolKind::Variable,
-        &mut all,
-    )?;
-    push_kind(
-        alloc,
-        parts,
-        groups,
-        homes,
-        groups,
-        SymbolKind::Function,
-        &mut all,
-    )?;
-    push_kind(
-        alloc,
-        parts,
-        groups,
-        homes,
-        aliases,
-        SymbolKind::Alias,
-        &mut all,
-    )?;
+    let kinds = kinds_of(alloc, parts, groups, homes, groups)?;
+    let own = kinds.as_slice();
+    push_kind(alloc, groups, own, SymbolKind::Variable, &mut all)?;
+    push_kind(alloc, groups, own, SymbolKind::Function, &mut all)?;
+    let alias_kinds = kinds_of(alloc, parts, groups, homes, aliases)?;
+    let others = alias_kinds.as_slice();
+    push_kind(alloc, aliases, others, SymbolKind::Alias, &mut all)?;
     Ok(all)
 }

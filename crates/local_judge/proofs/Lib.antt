@@ -3,3 +3,4 @@ pub mod Loops
 pub mod Named
 pub mod Calls
 pub mod Sized
+pub mod Marks

@@ -1,7 +1,7 @@
 -- What is gathered of the names of a function, name by name.
-use Rattle.std.specs.Prelude.{◌≡◌, refl, ℕ, ◌<◌, ◌≤◌, ◌^◌, ◌==◌, Bool, true, false, cond, ◌&&◌, ◌||◌, List, [], ◌∷◌, ◌++◌, map, nat_eq, bytes_eq, is_some, Option, Some, Result, Ok, Err, IfOk}
+use Rattle.std.specs.Prelude.{◌≡◌, refl, ℕ, ◌<◌, ◌≤◌, ◌^◌, ◌==◌, Bool, true, false, cond, ◌&&◌, ◌||◌, List, [], ◌∷◌, ◌++◌, map, bytes_eq, is_some, Option, Some, Result, Ok, Err, IfOk}
 use Rattle.std.proofs.Common.{ap, sym, subst, ◌∙◌, arith, append_assoc}
-use Rattle.std.proofs.lemmas.Bool.{eqb-true, eqb-false}
+use Rattle.std.proofs.lemmas.Bool.{eqb-true, eqb-false, ne_eqb}
 use Rattle.std.proofs.lemmas.List.{append-nil}
 use Rattle.std.proofs.lemmas.List.Folds.{list_any-append}
 use Rattle.std.proofs.lemmas.Slice.Eq.{bytes_eq-Decides}
@@ -15,6 +15,7 @@ use Rattle.name_rules.specs.Spelled.{decimal as spelled_decimal}
 use Rattle.name_rules.proofs.Told.{written_is_told}
 use Rattle.local_judge.specs.declared.local_names.LocalNames.{LocalNames}
 use Rattle.local_judge.specs.Names.{HoldsNames, Brings, Announces}
+use Rattle.local_judge.specs.SmallNumbers.{Adds, has_small}
 
 -- ---- truths
 
@@ -95,8 +96,28 @@ named_brings old new name place b e k s l put = record {
             ap is_some (put q) ∙ some_there (bytes_eq q name) place (value_of old.named q)
             ∙ (λ j. cond (same_both q name j) true (h.named q j))
             ∙ present (is_there all block (Named q)) (bytes_eq name q) (is_alike b block) kind ∙ sym (there_more all one block (Named q));
-        small = λ n less. ap (λ t. contains nat_eq t n) s ∙ h.small n less ∙ nothing_more (is_there all block (Numbered n)) ∙ sym (there_more all one block (Numbered n));
+        small = λ n less. ap (λ t. has_small t n) s ∙ h.small n less ∙ nothing_more (is_there all block (Numbered n)) ∙ sym (there_more all one block (Numbered n));
         large = λ n ds more w. ap (λ t. contains bytes_eq t ds) l ∙ h.large n ds more w ∙ nothing_more (is_there all block (Numbered n)) ∙ sym (there_more all one block (Numbered n));
+      };
+}
+
+-- one number below 2^64 more
+pub small_brings : (old new : LocalNames) (number : ℕ) (b : Bool) → is_alike b old.block ≡ true → new.block ≡ old.block → new.named ≡ old.named → new.large ≡ old.large → number < 2 ^ 64 → Adds old.small new.small number
+    → Brings old new ((Numbered number, b) ∷ [])
+small_brings old new number b e k s l low put = record {
+  on_ = λ block all h.
+      let kind : is_alike b block ≡ true = ap (is_alike b) (sym h.kind) ∙ e in
+      let one = (Numbered number, b) ∷ [] in
+      record {
+        kind = k ∙ h.kind;
+        named = λ q. ap (λ t. is_some (value_of t q)) s ∙ h.named q ∙ nothing_more (is_there all block (Named q)) ∙ sym (there_more all one block (Named q));
+        small = λ n less.
+            put n
+            ∙ (λ j. cond (number == n) true (h.small n less j))
+            ∙ present (is_there all block (Numbered n)) (number == n) (is_alike b block) kind ∙ sym (there_more all one block (Numbered n));
+        large = λ n ds more w.
+            ap (λ t. contains bytes_eq t ds) l ∙ h.large n ds more w
+            ∙ another (is_there all block (Numbered n)) (number == n) (is_alike b block) (ne_eqb number n (λ same. omega (arith, low, more, same))) ∙ sym (there_more all one block (Numbered n));
       };
 }
 
@@ -111,7 +132,7 @@ large_brings old new number digits b e k s l high v put = record {
         kind = k ∙ h.kind;
         named = λ q. ap (λ t. is_some (value_of t q)) s ∙ h.named q ∙ nothing_more (is_there all block (Named q)) ∙ sym (there_more all one block (Named q));
         small = λ n less.
-            ap (λ t. contains nat_eq t n) l ∙ h.small n less
+            ap (λ t. has_small t n) l ∙ h.small n less
             ∙ another (is_there all block (Numbered n)) (number == n) (is_alike b block) (more_apart number n (omega (arith, high, less))) ∙ sym (there_more all one block (Numbered n));
         large = λ n ds more w.
             put ds

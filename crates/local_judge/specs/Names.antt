@@ -1,5 +1,5 @@
 -- Says how the code reads: what a function's values and blocks are called, as it is gathered.
-use Rattle.std.specs.Prelude.{◌≡◌, ℕ, ◌<◌, ◌≤◌, ◌^◌, Bool, true, false, List, ◌++◌, map, nat_eq, bytes_eq, is_some}
+use Rattle.std.specs.Prelude.{◌≡◌, ℕ, ◌<◌, ◌≤◌, ◌^◌, Bool, true, false, List, ◌++◌, map, bytes_eq, is_some}
 use Rattle.indexmap.specs.IndexSet.{contains}
 use Rattle.ir_terminals.specs.Digits.{IsWritten}
 use Rattle.ir_instructions.specs.View.{block_view}
@@ -9,12 +9,13 @@ use Rattle.name_table.specs.Entries.{value_of}
 use Rattle.name_rules.specs.Locals.{Locals, Announced, announced, is_there, locals_from, next_after}
 use Rattle.local_judge.specs.declared.local_names.LocalNames.{LocalNames}
 use Rattle.local_judge.specs.declared.gathered.FunctionLocals.{FunctionLocals}
+use Rattle.local_judge.specs.SmallNumbers.{has_small}
 
 -- these are what the blocks, or the values, among all are called
 pub record HoldsNames (names : LocalNames) (block : Bool) (all : Locals) : Type 0 where
   pub kind : names.block ≡ block
   pub named : (name : Bytes) → is_some (value_of names.named name) ≡ is_there all block (Named name)
-  pub small : (number : ℕ) → number < 2 ^ 64 → contains nat_eq names.small number ≡ is_there all block (Numbered number)
+  pub small : (number : ℕ) → number < 2 ^ 64 → has_small names.small number ≡ is_there all block (Numbered number)
   pub large : (number : ℕ) (digits : Bytes) → 2 ^ 64 ≤ number → IsWritten number digits → contains bytes_eq names.large digits ≡ is_there all block (Numbered number)
 
 -- with these further ones

@@ -20,6 +20,7 @@ mod local_names;
 mod operands;
 mod operations;
 mod results;
+mod small_numbers;
 mod tables;
 
 pub use functions::check_definition;

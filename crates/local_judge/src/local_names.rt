@@ -1,16 +1,27 @@
 //! What the values, or the blocks, of a function are called.
 #![tactic(auto)]
 
-ghost use Rattle.std.specs.Prelude.{◌≡◌, Bool, [], ◌∷◌, map, IfOk, OnOk};
+ghost use Rattle.std.specs.Prelude.{◌≡◌, ◌==◌, Bool, [], ◌∷◌, map, IfOk, OnOk};
 ghost use Rattle.module_arena.specs.Module.{Named, Numbered};
 ghost use Rattle.name_rules.specs.Locals.{Locals, local_in, is_alike, is_there, known_as};
 ghost use Rattle.local_judge.specs.Names.{Brings, HoldsNames};
 
+use crate::small_numbers::SmallNumbers;
 use indexmap::IndexSet;
 use ir_base::{Place, Text};
 use ir_terminals::{Local, Number, PlacedName};
 use name_table::NameTable;
 use std::alloc::{AllocError, Global};
+
+/// Whether a number that is written is this one.
+fn is_same_number(written: &Number, number: u64) -> bool
+    ensures { result ≡ (written.now == number) }
+{
+    match written.to_u64() {
+        Some(small) => small == number,
+        None => false,
+    }
+}
 
 /// Names and numbers: those of the values of a function, or those of its blocks.
 #[derive(Drop)]
@@ -19,7 +30,7 @@ pub(crate) struct LocalNames<'a> {
     block: bool,
     named: NameTable<'a, Place>,
     /// The numbers below 2^64.
-    small: IndexSet<u64>,
+    small: SmallNumbers,
     /// The digits of the others.
     large: IndexSet<Text>,
 }
@@ -32,7 +43,7 @@ impl<'a> LocalNames<'a> {
         LocalNames {
             block,
             named: NameTable::new(alloc),
-            small: IndexSet::new(alloc),
+            small: SmallNumbers::new(alloc),
             large: IndexSet::new(alloc),
         }
     }
@@ -64,6 +75,16 @@ impl<'a> LocalNames<'a> {
         self.named.put(name.name.bytes(), name.place)
     }
 
+    /// Adds the next number.
+    fn put_next(&mut self, block: bool, next: u64) -> Result<(), AllocError>
+        ensures { OnOk result (Brings self.old self.new ((Numbered next, block) ∷ [])) }
+    {
+        if !self.is_alike(block) {
+            return Ok(());
+        }
+        self.small.put_next(next)
+    }
+
     /// Adds a number below 2^64.
     fn put_small(&mut self, block: bool, number: u64) -> Result<(), AllocError>
         ensures { OnOk result (Brings self.old self.new ((Numbered number, block) ∷ [])) }
@@ -71,8 +92,7 @@ impl<'a> LocalNames<'a> {
         if !self.is_alike(block) {
             return Ok(());
         }
-        self.small.insert(number)?;
-        Ok(())
+        self.small.put(number)
     }
 
     /// Adds a number of any size.
@@ -90,6 +110,23 @@ impl<'a> LocalNames<'a> {
         Ok(())
     }
 
+    /// Adds the next number, and the one that is written where that is another.
+    fn put_numbers(
+        &mut self,
+        alloc: Global,
+        next: u64,
+        block: bool,
+        number: &Number,
+    ) -> Result<(), AllocError>
+        ensures { OnOk result (Brings self.old self.new ((Numbered next, block) ∷ (Numbered number.now, block) ∷ [])) }
+    {
+        self.put_next(block, next)?;
+        if is_same_number(number, next) {
+            return Ok(());
+        }
+        self.put_number(alloc, block, number)
+    }
+
     /// Adds what is called so, or by the next number where no name is written.
     pub(crate) fn put(
         &mut self,
@@ -101,12 +138,9 @@ impl<'a> LocalNames<'a> {
         ensures { OnOk result (Brings self.old self.new (map (λ name. (name, block)) (known_as next written.now))) }
     {
         match written {
-            None => self.put_small(block, next),
+            None => self.put_next(block, next),
             Some(Local::Named(name)) => self.put_name(block, name),
-            Some(Local::Numbered(number, _)) => {
-                self.put_small(block, next)?;
-                self.put_number(alloc, block, number)
-            }
+            Some(Local::Numbered(number, _)) => self.put_numbers(alloc, next, block, number),
         }
     }
 
@@ -118,7 +152,7 @@ impl<'a> LocalNames<'a> {
             Local::Named(name) => Ok(self.named.get(name.name.bytes()).is_some()),
             Local::Numbered(number, _) => {
                 if let Some(small) = number.to_u64() {
-                    return Ok(self.small.contains(&small));
+                    return Ok(self.small.has(small));
                 }
                 let digits = number.digits(alloc)?;
                 Ok(self.large.contains(&digits))

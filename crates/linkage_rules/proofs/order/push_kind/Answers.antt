@@ -1,11 +1,26 @@
-use Rattle.std.proofs.Common.{ap, ◌∙◌}
+use Rattle.std.proofs.Common.{◌≡◌, ◌++◌, length, sym, ap, ◌∙◌, filter, get_or, append-nil, arith}
+use Rattle.std.proofs.lemmas.List.{length-map, take_all}
 use Rattle.indexmap.specs.IndexMap.{keys}
-use Rattle.linkage_rules.specs.Grouped.{same_kind, kind_of}
-use Rattle.linkage_rules.specs.Ids.{modules}
-use Rattle.linkage_rules.proofs.Steps.{kept_step}
+use Rattle.linkage_rules.specs.Grouped.{same_kind}
+use Rattle.linkage_rules.proofs.Steps.{kept_step, told_at}
 use Rattle.linkage_rules.proofs.order.push_kind.Goals as goal
 
+pub loop-index-init : goal.loop-index-init
+loop-index-init c = λ known told. sym (append-nil c.args.symbols.now)
+
 pub loop-index-preserved : goal.loop-index-preserved
-loop-index-preserved c =
-    kept_step (λ s. same_kind c.args.kind (kind_of (modules c.args.parts.now) s)) (keys c.args.among.now) c.loop-index.index c.symbol_at-symbol.result.now c.args.symbols.now c.loop-index.symbols _ _
-    c.symbol_at-symbol.ensures c.loop-index.invariant c.in_ok-push_if.ensures (c.is_same-is_kept.ensures ∙ ap (same_kind c.args.kind) c.kind_of.ensures)
+loop-index-preserved c = λ known told.
+    let all = keys c.args.among.now in
+    let k = c.loop-index.index in
+    let s = c.symbol_at-symbol.result.now in
+    let one = c.index-kinds-index.result in
+    let is : one ≡ known s = c.index-kinds-index.is ∙ ap (λ kinds. get_or kinds k one) told ∙ told_at known all k s one c.symbol_at-symbol.ensures in
+    kept_step (λ s. same_kind c.args.kind (known s)) all k s c.args.symbols.now c.loop-index.symbols _ _
+    c.symbol_at-symbol.ensures (c.loop-index.invariant known told) c.in_ok-push_if.ensures (c.is_same-is_kept.ensures ∙ ap (same_kind c.args.kind) is)
+
+pub returns : goal.returns
+returns c = λ known told.
+    let all = keys c.args.among.now in
+    let many : length all ≡ length c.args.among.now.entries = length-map c.args.among.now.entries (λ r. r.0) in
+    c.loop-index.invariant known told
+    ∙ ap (λ left. c.args.symbols.now ++ filter (λ s. same_kind c.args.kind (known s)) left) (take_all c.loop-index.index all (omega (arith, many, c.len-count.ensures.len, c.loop-index-test.false)))
