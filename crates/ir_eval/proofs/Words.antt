@@ -27,10 +27,11 @@ bounds width w =
       most = let small : width - 1 ≤ 127 = omega (arith, w.most) in pow-le-pow_right (lit≤ tt) small;
     }
 
-pub greatest_is : (width : ℕ) → IsWidth width → (2 ^ 128 - 1) / 2 ^ (128 - width) ≡ 2 ^ width - 1
-greatest_is width w =
-    let e : 128 - (128 - width) ≡ width = omega (arith, w.most) in
-    ones_shr 128 (128 - width) (omega arith) ∙ ap (λ k. 2 ^ k - 1) e
+-- the greatest number of a width, out of the greatest of a word
+pub greatest_is : (word width : ℕ) → width ≤ word → (2 ^ word - 1) / 2 ^ (word - width) ≡ 2 ^ width - 1
+greatest_is word width within =
+    let e : word - (word - width) ≡ width = omega arith in
+    ones_shr word (word - width) (omega arith) ∙ ap (λ k. 2 ^ k - 1) e
 
 -- half of the greatest number is the greatest number without a sign bit
 pub half : (width greatest : ℕ) → IsWidth width → greatest ≡ 2 ^ width - 1 → greatest / 2 + 1 ≡ 2 ^ (width - 1)

@@ -22,6 +22,7 @@ mod conversion;
 mod division;
 mod operator;
 mod shift;
+mod short;
 mod value;
 pub mod width;
 
