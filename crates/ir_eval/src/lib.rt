@@ -20,6 +20,7 @@ mod choice;
 mod comparison;
 mod conversion;
 mod division;
+mod fitting;
 mod operator;
 mod shift;
 mod short;
