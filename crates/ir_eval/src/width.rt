@@ -33,6 +33,9 @@ pub fn signed(width: u8, number: u128) -> i128
     requires number { number < 2 ^ width }
     ensures { result ≡ signed width number }
 {
+    if width <= 64 {
+        return short::signed(width, number) as i128;
+    }
     let greatest = greatest(width);
     if number <= greatest / 2 {
         number as i128
