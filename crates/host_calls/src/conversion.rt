@@ -88,7 +88,7 @@ fn converted_string(
     ensures ok { IfOk result (λ text. converted memory.now conversion.now (Ptr string) ≡ Ok text) }
     ensures why { IfErr result (IsRefusal (converted memory.now conversion.now (Ptr string))) }
 {
-    let mut bytes = Vec::new(alloc);
+    let mut bytes = Vec::with_capacity(alloc, 64)?;
     push_string(memory, string, conversion.precision, &mut bytes)?;
     let text = bytes_text(alloc, conversion, &bytes)?;
     Ok(text)

@@ -51,7 +51,7 @@ pub(crate) fn print(
     let Some(Scalar::Ptr(string)) = arguments.first() else {
         return Ok(HostAnswer::Fails(UndefinedKind::PoisonArgument));
     };
-    let mut pattern = Vec::new(alloc);
+    let mut pattern = Vec::with_capacity(alloc, 64)?;
     if let Err(fault) = push_string(memory, *string, None, &mut pattern) {
         return refused(fault);
     }

@@ -1,9 +1,10 @@
--- Exact results against what the code computes in words of 128 bits.
+-- Exact results against what the code computes in words of 64 and of 128 bits.
 use Rattle.std.proofs.Common.{◌≡◌, ℕ, ◌+◌, ◌-◌, ◌%◌, ◌^◌, ◌<◌, ◌≤◌, Bool, true, false, not, ◌&&◌, cond, ltb, ℤ, pos, negsuc, ◌-ℤ◌, Option, Some, None, refl, ap, sym, ◌∙◌, arith, inl, inr}
 use Rattle.std.proofs.lemmas.Nat.{pow_pos}
 use Rattle.std.specs.Prelude.{FitsSigned}
 use Rattle.std.specs.Option.{SomeIff, option_map_or}
-use Rattle.std.specs.Int.{w128, cast_unsigned, cast_signed}
+use Rattle.std.specs.Int.{Width, w128, cast_unsigned, cast_signed}
+use mir.Val.{hbits}
 use Rattle.std.proofs.lemmas.Int.{ints, to_z-of_z}
 use Rattle.std.proofs.lemmas.Bool.{cases_lt, le-ltb, lt-ltb}
 use Rattle.ir_tables.specs.Flags.{has_flag}
@@ -46,21 +47,20 @@ unsigned_exact width n None w past =
     elim (cases_lt n (2 ^ width)) [ inl below ↦ absurd (past (omega arith)) | inr above ↦ sym (le-ltb n (2 ^ width) above) ]
 unsigned_exact width n (Some number) w is = ap (λ x. ltb x (2 ^ width)) is.1
 
-pub signed_exact : (width : ℕ) (z : ℤ) (exact : Option ℤ) → IsWidth width → SomeIff exact (FitsSigned w128 z) z → option_map_or (fits_signed width) exact false ≡ fits_signed width z
-signed_exact width (pos n) None w past =
-    let b = bounds width w in
-    elim (cases_lt n (2 ^ (width - 1))) [ inl below ↦ absurd (past (record { sfits = omega (arith, b.most) })) | inr above ↦ sym (le-ltb _ _ above) ]
-signed_exact width (negsuc n) None w past =
-    let b = bounds width w in
-    elim (cases_lt n (2 ^ (width - 1))) [ inl below ↦ absurd (past (record { sfits = omega (arith, b.most) })) | inr above ↦ sym (le-ltb _ _ above) ]
-signed_exact width z (Some number) w is = ap (fits_signed width) is.1
+-- with sign, in words that have each number of the width
+pub signed_exact : (word : Width) (width : ℕ) (z : ℤ) (exact : Option ℤ) → 2 ^ (width - 1) ≤ 2 ^ hbits word → SomeIff exact (FitsSigned word z) z → option_map_or (fits_signed width) exact false ≡ fits_signed width z
+signed_exact word width (pos n) None room past =
+    elim (cases_lt n (2 ^ (width - 1))) [ inl below ↦ absurd (past (record { sfits = omega (arith, room) })) | inr above ↦ sym (le-ltb _ _ above) ]
+signed_exact word width (negsuc n) None room past =
+    elim (cases_lt n (2 ^ (width - 1))) [ inl below ↦ absurd (past (record { sfits = omega (arith, room) })) | inr above ↦ sym (le-ltb _ _ above) ]
+signed_exact word width z (Some number) room is = ap (fits_signed width) is.1
 
 -- an operation on two numbers with sign, as the code gives it to a checked call
-pub signed_operation : (op : ℤ → ℤ → ℤ) (width : ℕ) (x y s t : ℤ) (exact : Option ℤ) → IsWidth width → FitsSigned w128 x → FitsSigned w128 y → x ≡ s → y ≡ t → SomeIff exact (FitsSigned w128 (op (cast_signed w128 (cast_unsigned w128 x)) (cast_signed w128 (cast_unsigned w128 y)))) (op (cast_signed w128 (cast_unsigned w128 x)) (cast_signed w128 (cast_unsigned w128 y))) → option_map_or (fits_signed width) exact false ≡ fits_signed width (op s t)
-signed_operation op width x y s t exact w fits_x fits_y is_x is_y iff =
-    signed_exact width _ exact w iff
-    ∙ ap (λ z. fits_signed width (op z (cast_signed w128 (cast_unsigned w128 y)))) (to_z-of_z w128 x fits_x ∙ is_x)
-    ∙ ap (λ z. fits_signed width (op s z)) (to_z-of_z w128 y fits_y ∙ is_y)
+pub signed_operation : (word : Width) (op : ℤ → ℤ → ℤ) (width : ℕ) (x y s t : ℤ) (exact : Option ℤ) → 2 ^ (width - 1) ≤ 2 ^ hbits word → FitsSigned word x → FitsSigned word y → x ≡ s → y ≡ t → SomeIff exact (FitsSigned word (op (cast_signed word (cast_unsigned word x)) (cast_signed word (cast_unsigned word y)))) (op (cast_signed word (cast_unsigned word x)) (cast_signed word (cast_unsigned word y))) → option_map_or (fits_signed width) exact false ≡ fits_signed width (op s t)
+signed_operation word op width x y s t exact room fits_x fits_y is_x is_y iff =
+    signed_exact word width _ exact room iff
+    ∙ ap (λ z. fits_signed width (op z (cast_signed word (cast_unsigned word y)))) (to_z-of_z word x fits_x ∙ is_x)
+    ∙ ap (λ z. fits_signed width (op s z)) (to_z-of_z word y fits_y ∙ is_y)
 
 -- ---- differences
 

@@ -1,5 +1,5 @@
--- Integers of a width in words of 128 bits.
-use Rattle.std.proofs.Common.{◌≡◌, ℕ, zero, suc, ◌+◌, ◌-◌, ◌*◌, ◌/◌, ◌%◌, ◌^◌, ◌<◌, ◌≤◌, true, ltb, ℤ, pos, negsuc, ◌-ℤ◌, ap, sym, ◌∙◌, arith, inl, inr, lit≤, lit<}
+-- Integers of a width in words of 128 bits, and of up to 64 in words of 64 bits.
+use Rattle.std.proofs.Common.{◌≡◌, ℕ, zero, suc, ◌+◌, ◌-◌, ◌*◌, ◌/◌, ◌%◌, ◌^◌, ◌<◌, ◌≤◌, true, ltb, ℤ, pos, negsuc, ◌-ℤ◌, ap, sym, ◌∙◌, arith, inl, inr, lit≤}
 use Rattle.std.proofs.Math.Nat.{pow-succ', pow-le-pow_right}
 use Rattle.std.proofs.Math.Pow.{mod-mod-pow}
 use Rattle.std.proofs.lemmas.Nat.{pow_pos, pow-add, div-add-mod', mod_below, div_below, mod-mul-add}
@@ -7,9 +7,9 @@ use Rattle.std.proofs.lemmas.Int.{ints}
 use Rattle.std.proofs.lemmas.Nat.Bits.{ones_shr}
 use Rattle.std.proofs.lemmas.Bool.{cases_lt, lt-ltb, le-ltb, le-leb, lt-leb}
 use Rattle.std.specs.Prelude.{FitsSigned}
-use Rattle.std.specs.Int.{w128}
+use Rattle.std.specs.Int.{Width, w128}
 use lib.Signed.{le_z}
-use mir.Val.{of_z}
+use mir.Val.{of_z, hbits}
 use Rattle.ir_eval.specs.Value.{IsWidth, reduced, fits_signed, has_sign}
 
 -- the powers that bound the numbers of a width
@@ -27,10 +27,15 @@ bounds width w =
       most = let small : width - 1 ≤ 127 = omega (arith, w.most) in pow-le-pow_right (lit≤ tt) small;
     }
 
-pub greatest_is : (width : ℕ) → IsWidth width → (2 ^ 128 - 1) / 2 ^ (128 - width) ≡ 2 ^ width - 1
-greatest_is width w =
-    let e : 128 - (128 - width) ≡ width = omega (arith, w.most) in
-    ones_shr 128 (128 - width) (omega arith) ∙ ap (λ k. 2 ^ k - 1) e
+-- the numbers with sign of a width up to 64 are among those of a word of 64 bits
+pub short_bound : (width : ℕ) → width ≤ 64 → 2 ^ (width - 1) ≤ 2 ^ 63
+short_bound width short = let small : width - 1 ≤ 63 = omega (arith, short) in pow-le-pow_right (lit≤ tt) small
+
+-- the greatest number of a width, out of the greatest of a word
+pub greatest_is : (word width : ℕ) → width ≤ word → (2 ^ word - 1) / 2 ^ (word - width) ≡ 2 ^ width - 1
+greatest_is word width within =
+    let e : word - (word - width) ≡ width = omega arith in
+    ones_shr word (word - width) (omega arith) ∙ ap (λ k. 2 ^ k - 1) e
 
 -- half of the greatest number is the greatest number without a sign bit
 pub half : (width greatest : ℕ) → IsWidth width → greatest ≡ 2 ^ width - 1 → greatest / 2 + 1 ≡ 2 ^ (width - 1)
@@ -92,6 +97,6 @@ fits_signed_is width greatest (negsuc n) w e least =
     sym (lt-ltb n (2 ^ (width - 1)) (omega arith))
 
 -- one below the negative of a number
-pub below_zero_fits : (h : ℕ) → h < 2 ^ 127 → FitsSigned w128 (negsuc 0 -ℤ pos h)
-below_zero_fits zero small = record { sfits = lit< tt }
-below_zero_fits (suc h) small = record { sfits = omega arith }
+pub below_zero_fits : (word : Width) (h : ℕ) → h < 2 ^ hbits word → FitsSigned word (negsuc 0 -ℤ pos h)
+below_zero_fits word zero small = record { sfits = omega arith }
+below_zero_fits word (suc h) small = record { sfits = omega arith }

@@ -4,7 +4,8 @@ ghost use Rattle.ir_eval.specs.Value.{IsWidth};
 ghost use Rattle.ir_eval.specs.Arithmetic.{sum_of, difference_of, product_of};
 
 use crate::Scalar;
-use crate::width::{fits_signed, fits_unsigned, low_bits, signed};
+use crate::fitting::{difference_fits, product_fits, sum_fits};
+use crate::width::{fits_unsigned, low_bits};
 use ir_tables::{Flag, Flags};
 
 /// `add`: the sum modulo 2^width; `nuw` and `nsw` give poison where the exact sum does not fit.
@@ -17,7 +18,7 @@ pub fn sum(flags: Flags, width: u8, a: u128, b: u128) -> Scalar
     if flags.has(Flag::Nuw) && !fits_unsigned(width, a.checked_add(b)) {
         return Scalar::Poison;
     }
-    if flags.has(Flag::Nsw) && !fits_signed(width, signed(width, a).checked_add(signed(width, b))) {
+    if flags.has(Flag::Nsw) && !sum_fits(width, a, b) {
         return Scalar::Poison;
     }
     Scalar::Int(low_bits(width, a.wrapping_add(b)))
@@ -33,7 +34,7 @@ pub fn difference(flags: Flags, width: u8, a: u128, b: u128) -> Scalar
     if flags.has(Flag::Nuw) && !fits_unsigned(width, a.checked_sub(b)) {
         return Scalar::Poison;
     }
-    if flags.has(Flag::Nsw) && !fits_signed(width, signed(width, a).checked_sub(signed(width, b))) {
+    if flags.has(Flag::Nsw) && !difference_fits(width, a, b) {
         return Scalar::Poison;
     }
     Scalar::Int(low_bits(width, a.wrapping_sub(b)))
@@ -49,7 +50,7 @@ pub fn product(flags: Flags, width: u8, a: u128, b: u128) -> Scalar
     if flags.has(Flag::Nuw) && !fits_unsigned(width, a.checked_mul(b)) {
         return Scalar::Poison;
     }
-    if flags.has(Flag::Nsw) && !fits_signed(width, signed(width, a).checked_mul(signed(width, b))) {
+    if flags.has(Flag::Nsw) && !product_fits(width, a, b) {
         return Scalar::Poison;
     }
     Scalar::Int(low_bits(width, a.wrapping_mul(b)))

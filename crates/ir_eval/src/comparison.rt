@@ -1,10 +1,10 @@
 //! Comparisons.
-ghost use Rattle.std.specs.Prelude.{◌≡◌, ◌^◌, ◌<◌};
-ghost use Rattle.ir_eval.specs.Value.{IsWidth, IsInteger};
+ghost use Rattle.std.specs.Prelude.{◌≡◌, ◌^◌, ◌<◌, int_le, int_lt};
+ghost use Rattle.ir_eval.specs.Value.{IsWidth, IsInteger, signed};
 ghost use Rattle.ir_eval.specs.Compare.{holds, truth, number_of, comparison_of, compare_of, AreComparable};
 
-use crate::Scalar;
 use crate::width::{has_sign, signed};
+use crate::{Scalar, short};
 use ir_tables::Predicate;
 
 /// Whether two integers or two pointers compare so, as an integer of width 1, or poison. The width is
@@ -44,6 +44,34 @@ fn comparison(predicate: Predicate, samesign: bool, width: u8, a: u128, b: u128)
     Scalar::Int(u128::from(holds(predicate, width, a, b)))
 }
 
+/// Whether the first number is below the second, both with their signs.
+#[inline]
+fn is_below(width: u8, a: u128, b: u128) -> bool
+    requires width { IsWidth width }
+    requires a { a < 2 ^ width }
+    requires b { b < 2 ^ width }
+    ensures { result ≡ int_lt (signed width a) (signed width b) }
+{
+    if width <= 64 {
+        return short::signed(width, a) < short::signed(width, b);
+    }
+    signed(width, a) < signed(width, b)
+}
+
+/// Whether the first number is at most the second, both with their signs.
+#[inline]
+fn is_at_most(width: u8, a: u128, b: u128) -> bool
+    requires width { IsWidth width }
+    requires a { a < 2 ^ width }
+    requires b { b < 2 ^ width }
+    ensures { result ≡ int_le (signed width a) (signed width b) }
+{
+    if width <= 64 {
+        return short::signed(width, a) <= short::signed(width, b);
+    }
+    signed(width, a) <= signed(width, b)
+}
+
 fn holds(predicate: Predicate, width: u8, a: u128, b: u128) -> bool
     requires width { IsWidth width }
     requires a { a < 2 ^ width }
@@ -57,9 +85,9 @@ fn holds(predicate: Predicate, width: u8, a: u128, b: u128) -> bool
         Predicate::Uge => a >= b,
         Predicate::Ult => a < b,
         Predicate::Ule => a <= b,
-        Predicate::Sgt => signed(width, a) > signed(width, b),
-        Predicate::Sge => signed(width, a) >= signed(width, b),
-        Predicate::Slt => signed(width, a) < signed(width, b),
-        Predicate::Sle => signed(width, a) <= signed(width, b),
+        Predicate::Sgt => is_below(width, b, a),
+        Predicate::Sge => is_at_most(width, b, a),
+        Predicate::Slt => is_below(width, a, b),
+        Predicate::Sle => is_at_most(width, a, b),
     }
 }

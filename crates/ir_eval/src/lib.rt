@@ -20,8 +20,10 @@ mod choice;
 mod comparison;
 mod conversion;
 mod division;
+mod fitting;
 mod operator;
 mod shift;
+mod short;
 mod value;
 pub mod width;
 

@@ -3,12 +3,17 @@ ghost use Rattle.std.specs.Prelude.{◌≡◌, ◌-◌, ◌%◌, ◌^◌, ◌<�
 ghost use Rattle.std.specs.Option.{option_map_or};
 ghost use Rattle.ir_eval.specs.Value.{IsWidth, signed, fits_signed, reduced, has_sign};
 
+use crate::short;
+
 /// The greatest number of this width.
 #[inline]
 pub fn greatest(width: u8) -> u128
     requires { IsWidth width }
     ensures { result ≡ 2 ^ width - 1 }
 {
+    if width <= 64 {
+        return short::greatest(width) as u128;
+    }
     u128::MAX >> (128 - width)
 }
 
@@ -28,6 +33,9 @@ pub fn signed(width: u8, number: u128) -> i128
     requires number { number < 2 ^ width }
     ensures { result ≡ signed width number }
 {
+    if width <= 64 {
+        return short::signed(width, number) as i128;
+    }
     let greatest = greatest(width);
     if number <= greatest / 2 {
         number as i128

@@ -28,7 +28,21 @@ impl Model for Page {
     ghost view = { λ p. p.rows.items };
 }
 
+/// Whether a page is not full, or its first or its last block lives. Where blocks end in the order in which they began, or in the
+/// opposite order, that tells at once that a page is not spent.
+#[inline(always)]
+fn is_in_use(rows: &[KeptBlock]) -> bool {
+    if rows.len() < ROWS {
+        return true;
+    }
+    if rows[0].live {
+        return true;
+    }
+    rows[ROWS - 1].live
+}
+
 /// Whether a page is full, and all its blocks have ended.
+#[inline(never)]
 fn is_spent(rows: &[KeptBlock]) -> bool
     ensures full { result ≡ true → 64 ≤ length rows.now }
     ensures ended { result ≡ true → (k : ℕ) → row rows.now k ≡ ended_block }
@@ -100,6 +114,9 @@ impl Page {
             return;
         }
         self.rows[place] = KeptBlock::ended(alloc);
+        if is_in_use(&self.rows) {
+            return;
+        }
         if !is_spent(&self.rows) {
             return;
         }

@@ -96,7 +96,7 @@ fn precise_digits(
 {
     let digits = numeral(alloc, kind, number)?;
     match precision {
-        None => Text::from_slice(alloc, digits.as_bytes()),
+        None => Ok(Text::from_vec(digits.into_bytes())),
         Some(0) if number == 0 => Ok(Text::new(alloc)),
         Some(least) => with_zeros(alloc, least, digits.as_bytes()),
     }

@@ -42,7 +42,7 @@ pub(crate) fn give(stack: &mut Stack, to: u32, leaf: Scalar)
 /// A binary instruction on integers (LangRef, "Binary Operations", "Bitwise Binary Operations"). Widths are in bits.
 ///
 /// Refused where the instruction is undefined.
-#[inline]
+#[inline(always)]
 pub fn compute(
     stack: &mut Stack,
     to: u32,
@@ -68,7 +68,7 @@ pub fn compute(
 }
 
 /// A comparison of integers or pointers (LangRef, "icmp Instruction"). The width is in bits, that of pointers 64.
-#[inline]
+#[inline(always)]
 pub fn compare(
     stack: &mut Stack,
     to: u32,
@@ -98,7 +98,7 @@ pub fn compare(
 
 /// A cast between integers, or between integers and pointers (LangRef, "Conversion Operations"). Widths are in bits, that of pointers
 /// 64.
-#[inline]
+#[inline(always)]
 pub fn convert(
     stack: &mut Stack,
     to: u32,

@@ -46,7 +46,7 @@ fn next_of_access(done: Result<(), MemoryFault>) -> Result<Next, AllocError>
 /// An instruction of the newest frame that neither calls nor returns. What `room` has is lost.
 ///
 /// It is refused for want of memory alone, by an instruction that may want it.
-#[inline]
+#[inline(always)]
 pub(crate) fn act_within(
     stack: &mut Stack,
     memory: &mut Memory,

@@ -58,7 +58,7 @@ fn store_pairs(
 /// A load. The action serves the clauses. What `room` has is lost.
 ///
 /// Refused where the load is undefined; then the frames are as they were.
-#[inline]
+#[inline(always)]
 pub fn act_on_load(
     stack: &mut Stack,
     memory: &Memory,
@@ -83,7 +83,7 @@ pub fn act_on_load(
 /// A store. The action serves the clauses. What `room` has is lost.
 ///
 /// Refused where the store is undefined; then the frames are as they were.
-#[inline]
+#[inline(always)]
 pub fn act_on_store(
     stack: &mut Stack,
     memory: &mut Memory,

@@ -15,7 +15,7 @@ use run_stack::Stack;
 /// A binary instruction. The action serves the clauses.
 ///
 /// Refused where the instruction is undefined.
-#[inline]
+#[inline(always)]
 pub fn act_on_binary(
     stack: &mut Stack,
     pools: &Pools,
@@ -37,7 +37,7 @@ pub fn act_on_binary(
 }
 
 /// A comparison. The action serves the clauses.
-#[inline]
+#[inline(always)]
 pub fn act_on_comparison(
     stack: &mut Stack,
     pools: &Pools,
@@ -59,7 +59,7 @@ pub fn act_on_comparison(
 }
 
 /// A cast. The action serves the clauses.
-#[inline]
+#[inline(always)]
 pub fn act_on_cast(
     stack: &mut Stack,
     pools: &Pools,

@@ -15,7 +15,7 @@ use run_stack::Stack;
 /// A jump, a branch, a switch, or an end that is not to be come to.
 ///
 /// Refused where that is undefined.
-#[inline]
+#[inline(always)]
 pub fn act_on_ways(stack: &mut Stack, pools: &Pools, action: Action) -> Result<(), UndefinedKind>
     requires group { is_way action ≡ true }
     requires may { (count : ℕ) × MayAct count pools.now action stack.old }

@@ -1,6 +1,7 @@
--- For `put_steps`: terms of steps, of which those are gathered that lead nowhere.
-use Rattle.std.specs.Prelude.{◌≡◌, ◌==◌, ◌≤◌, Bool, false, List, map}
+-- For `put_steps`: terms of steps, of which those are gathered whose index is known.
+use Rattle.std.specs.Prelude.{◌≡◌, ℕ, ◌+◌, ◌*◌, ◌^◌, ◌≤◌, nat_lt, Bool, true, false, Option, Some, None, List, [], ◌∷◌, map, if◌then◌else◌}
 use Rattle.std.specs.List.{All}
+use Rattle.std.specs.Option.{option_map_or}
 use Rattle.ir_eval.specs.declared.value.Scalar.{Scalar}
 use Rattle.ir_eval.specs.declared.value.Scalar.TheVariants.{Int, Ptr, Poison}
 use Rattle.type_table.specs.declared.measure.TheConstants.{SIZE_LIMIT}
@@ -12,27 +13,49 @@ use Rattle.run_flat.specs.declared.action.Term.{Term}
 use Rattle.run_flat.specs.declared.pools.Pools.{Pools}
 use Rattle.run_flat.specs.Flat.{IsTermIn, term_of}
 
--- the leaf is the number 0
-abbrev pub is_zero : Scalar → Bool
-is_zero (Int number) = number == 0
-is_zero (Ptr p) = false
-is_zero Poison = false
+-- a number that has no sign at any width of 32 bits or more
+abbrev pub number_count : ℕ → Option ℕ
+number_count number = if nat_lt number (2 ^ 31) then Some number else None
 
--- the index is known to be 0, so that whatever it counts it leads nowhere
-abbrev pub is_still : Origin → Bool
-is_still (Held place) = false
-is_still (Known leaf) = is_zero leaf
+-- the same of a leaf
+abbrev pub leaf_count : Scalar → Option ℕ
+leaf_count (Int number) = number_count number
+leaf_count (Ptr p) = None
+leaf_count Poison = None
 
--- a term of a step is gathered where it leads nowhere, and its index is there
+-- the same of an index, where it is known
+abbrev pub index_count : Origin → Option ℕ
+index_count (Held place) = None
+index_count (Known leaf) = leaf_count leaf
+
+-- how often an index of that width counts what it counts, where that is known
+abbrev pub count_at : Origin → ℕ → Option ℕ
+count_at index width = if nat_lt width 32 then None else index_count index
+
+-- that is known
+abbrev pub is_counted : Option ℕ → Bool
+is_counted (Some count) = true
+is_counted None = false
+
+-- how many bytes a step leads over whose index is known
+unfoldable pub led : Step → ℕ
+led s = option_map_or (λ count. count * s.size) (count_at s.index s.width) 0
+
+-- all of them together
+abbrev pub led_by : List Step → ℕ
+led_by [] = 0
+led_by (s ∷ ss) = led s + led_by ss
+
+-- a term of a step is gathered where its index is known, and its index is there
 pub record IsOpen (p : Pools) (s : Step) (t : Term) : Type 0 where
   pub within : IsTermIn p t
   pub means : term_of p t ≡ steps.term_of s
-  pub apart : t.gathered ≡ is_still s.index
+  pub apart : t.gathered ≡ is_counted (count_at s.index s.width)
   pub small : t.size ≤ SIZE_LIMIT
 
 -- the same of terms of steps, one after another
 pub record AreOpen (p : Pools) (ss : List Step) (ts : List Term) : Type 0 where
   pub within : All (IsTermIn p) ts
   pub means : map (term_of p) ts ≡ map steps.term_of ss
-  pub apart : map (λ t. t.gathered) ts ≡ map (λ s. is_still s.index) ss
+  pub apart : map (λ t. t.gathered) ts ≡ map (λ s. is_counted (count_at s.index s.width)) ss
   pub small : All (λ t. t.size ≤ SIZE_LIMIT) ts

@@ -14,6 +14,7 @@
 #![tactic(auto)]
 
 mod cases;
+mod counted;
 mod endings;
 mod leaves;
 mod operands;

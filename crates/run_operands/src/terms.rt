@@ -9,11 +9,11 @@ ghost use Rattle.run_shapes.specs.Shapes.{shape_in};
 ghost use Rattle.run_stack.specs.Origins.{origin_of};
 ghost use Rattle.run_scopes.specs.Scopes.{HasScalar, operand_of, scope_in};
 ghost use Rattle.run_flat.specs.Grown.{Adds, AreTerms, IsLeaf};
-ghost use Rattle.run_operands.specs.Open.{AreOpen, IsOpen, is_still, is_zero};
+ghost use Rattle.run_operands.specs.Open.{AreOpen, IsOpen};
 
+use crate::counted::{is_counted, lead_of_all};
 use crate::pooled::put_known;
 use crate::steps::{Step, push_steps};
-use ir_eval::Scalar;
 use module_arena::Operand;
 use run_flat::{LeafAt, Pools, Span, TERMS, Term};
 use run_scopes::FunctionScope;
@@ -32,24 +32,7 @@ fn put_index(pools: &mut Pools, index: Origin) -> Result<LeafAt, AllocError>
     }
 }
 
-/// Whether a leaf is the number 0.
-fn is_zero(leaf: Scalar) -> bool
-    ensures { result ≡ is_zero leaf }
-{
-    matches!(leaf, Scalar::Int(0))
-}
-
-/// Whether an index is known to be 0, so that whatever it counts it leads nowhere.
-fn is_still(index: Origin) -> bool
-    ensures { result ≡ is_still index }
-{
-    match index {
-        Origin::Held(_) => false,
-        Origin::Known(leaf) => is_zero(leaf),
-    }
-}
-
-/// A term, with its index among the leaves. It is gathered where it leads nowhere: then the sum has it without it being counted.
+/// A term, with its index among the leaves. It is gathered where that is known: then the sum has it.
 fn put_term(pools: &mut Pools, step: Step) -> Result<Term, AllocError>
     requires { step.size ≤ SIZE_LIMIT }
     ensures grows { OnOk result (Adds pools.old pools.new) }
@@ -60,7 +43,7 @@ fn put_term(pools: &mut Pools, step: Step) -> Result<Term, AllocError>
         index,
         width: step.width,
         size: step.size,
-        gathered: is_still(step.index),
+        gathered: is_counted(step.index, step.width),
     })
 }
 
@@ -99,7 +82,7 @@ pub fn put_steps(
     }
     let terms = put_terms(scope.alloc(), pools, &steps)?;
     let span = pools.terms.append(&terms)?;
-    // Those that are gathered lead nowhere.
-    let sum = pools.sums.push(0)?;
+    let total = lead_of_all(&steps);
+    let sum = pools.sums.push(total)?;
     Ok((span, sum))
 }

@@ -11,6 +11,6 @@ returns-then-most-number c =
     let known : FitsSigned w128 c.in-Some.number = search rules in
     let number = to_z-of_z w128 c.in-Some.number known in
     let most = to_z_pos w128 (c.greatest.result / 2) (omega arith) in
-    let least = to_z-of_z w128 (negsuc 0 -ℤ pos (c.greatest.result / 2)) (below_zero_fits (c.greatest.result / 2) (omega arith)) in
+    let least = to_z-of_z w128 (negsuc 0 -ℤ pos (c.greatest.result / 2)) (below_zero_fits w128 (c.greatest.result / 2) (omega arith)) in
     let above : le_z (negsuc 0 -ℤ pos (c.greatest.result / 2)) c.in-Some.number ≡ true = rw (most, least, number) at c.if-most-number.true in
     rw (number, most, c.in-Some.is) (fits_signed_is c.args.width c.greatest.result c.in-Some.number c.requires c.greatest.ensures above)

@@ -1,0 +1,11 @@
+use Rattle.std.proofs.Common.{◌≡◌, ◌+◌, ◌*◌, ◌^◌, ◌≤◌, drop, length}
+use Rattle.run_operands.specs.Open.{led_by}
+use Rattle.run_operands.proofs.counted.lead_of_all.Given as goal
+
+-- with the steps that are left it is what all lead over, and so many steps have not made it much
+abbrev pub invariant-leads : goal.invariant-leads
+invariant-leads l = record {
+  led : l.all + led_by (drop l.step-index l.steps) ≡ led_by l.steps;
+  near : l.all ≤ l.step-index * 2 ^ 71;
+  within : l.step-index ≤ length l.steps;
+}
