@@ -46,7 +46,7 @@ pub(crate) fn assemble<F: Files, O: Sink>(
     };
     let format = OutputFormat::Bitcode;
     let ended = deliver(alloc, format, place, &accepted.checked, files, output);
-    // The program ends behind this, which gives all memory back at once: to give it back piece by piece would go over all of it again.
+    // The program ends soon, which gives all memory back at once: piece by piece would go over all of it again.
     forget(accepted);
     ended
 }
