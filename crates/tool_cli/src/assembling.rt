@@ -12,6 +12,7 @@ use crate::parts::accepted_text;
 use command_line::OutputName;
 use ir_base::{Files, Sink, Text};
 use std::alloc::Global;
+use std::mem::forget;
 use tool_ends::Ended;
 use tool_output::OutputFormat;
 
@@ -44,5 +45,8 @@ pub(crate) fn assemble<F: Files, O: Sink>(
         Err(ended) => return ended,
     };
     let format = OutputFormat::Bitcode;
-    deliver(alloc, format, place, &accepted.checked, files, output)
+    let ended = deliver(alloc, format, place, &accepted.checked, files, output);
+    // The program ends soon, which gives all memory back at once: piece by piece would go over all of it again.
+    forget(accepted);
+    ended
 }

@@ -12,6 +12,7 @@ use crate::delivery::deliver;
 use command_line::OutputName;
 use ir_base::{Files, Sink, Text};
 use std::alloc::Global;
+use std::mem::forget;
 use tool_ends::Ended;
 use tool_output::OutputFormat;
 
@@ -43,5 +44,8 @@ pub(crate) fn disassemble<F: Files, O: Sink>(
         Err(ended) => return ended,
     };
     let format = OutputFormat::CanonicalText;
-    deliver(alloc, format, place, &checked, files, output)
+    let ended = deliver(alloc, format, place, &checked, files, output);
+    // The program ends soon, which gives all memory back at once.
+    forget(checked);
+    ended
 }

@@ -22,6 +22,7 @@ use module_arena::Checked;
 use module_extract::extract;
 use name_rules::spell_global;
 use std::alloc::{AllocError, Global};
+use std::mem::forget;
 use tool_ends::Ended;
 
 // The same names in texts of their own.
@@ -92,7 +93,10 @@ fn extracted(
     ensures of_texts { IfErr result IsOfTexts }
 {
     let whole = accepted_part(alloc, name, bytes)?;
-    part_of(alloc, &whole, selection)
+    let part = part_of(alloc, &whole, selection);
+    // The program ends soon, which gives all memory back at once.
+    forget(whole);
+    part
 }
 
 /// Extracts the part that the words select of the input of this name, and writes its bitcode to this place, or with `text` its canonical text.
@@ -125,5 +129,7 @@ pub(crate) fn extract_part<F: Files, O: Sink>(
         Ok(part) => part,
         Err(ended) => return ended,
     };
-    deliver(alloc, format_of(text), place, &part, files, output)
+    let ended = deliver(alloc, format_of(text), place, &part, files, output);
+    forget(part);
+    ended
 }

@@ -22,6 +22,7 @@ use module_arena::Checked;
 use module_link::LinkFault;
 use name_rules::spell_global;
 use std::alloc::{AllocError, Global};
+use std::mem::forget;
 use tool_ends::{Clash, Ended, PartName};
 use tool_output::OutputFormat;
 
@@ -143,5 +144,8 @@ pub(crate) fn link<F: Files, O: Sink>(
         Ok(whole) => whole,
         Err(ended) => return ended,
     };
-    deliver(alloc, format_of(text), place, &whole, files, output)
+    let ended = deliver(alloc, format_of(text), place, &whole, files, output);
+    // The program ends soon, which gives all memory back at once.
+    forget(whole);
+    ended
 }

@@ -23,12 +23,12 @@ returns-in-Err-clause-leaves_files g c = leaves_none _ _ _ _ _
 pub returns-clause-work : goal.returns-clause-work
 returns-clause-work g c =
     let work = assemble_work c.args.name.now c.args.text.now c.args.place.now _ (text_assembled c.args.text.now _ _ c.in-Ok.ensures.module) in
-    delivered_work (Assemble c.args.name.now c.args.place.now) (c.args.text.now ∷ []) _ _ _ _ _ _ _ work c.deliver.ensures.delivered c.deliver.ensures.cannot_write
+    delivered_work (Assemble c.args.name.now c.args.place.now) (c.args.text.now ∷ []) _ _ _ _ _ _ _ work c.deliver-ended.ensures.delivered c.deliver-ended.ensures.cannot_write
 
 pub returns-clause-of_work : goal.returns-clause-of_work
-returns-clause-of_work g c = delivered_of_work _ _ _ _ _ c.deliver.ensures.delivered
+returns-clause-of_work g c = delivered_of_work _ _ _ _ _ c.deliver-ended.ensures.delivered
 
 pub returns-clause-written : goal.returns-clause-written
 returns-clause-written g c =
     let result = assemble_result c.args.name.now c.args.text.now c.args.place.now _ (text_assembled c.args.text.now _ _ c.in-Ok.ensures.module) in
-    result_written (Assemble c.args.name.now c.args.place.now) (c.args.text.now ∷ []) _ _ _ _ _ refl result c.deliver.ensures.delivered
+    result_written (Assemble c.args.name.now c.args.place.now) (c.args.text.now ∷ []) _ _ _ _ _ refl result c.deliver-ended.ensures.delivered

@@ -24,12 +24,12 @@ returns-in-Err-clause-leaves_files g c = leaves_none _ _ _ _ _
 pub returns-clause-work : goal.returns-clause-work
 returns-clause-work g c =
     let work = extract_work c.args.name.now c.args.bytes.now c.args.place.now c.args.text c.args.selection.now _ c.in-Ok.ensures.made in
-    delivered_work (Extract c.args.name.now c.args.place.now c.args.text c.args.selection.now) (c.args.bytes.now ∷ []) _ _ _ _ _ _ _ work c.deliver.ensures.delivered c.deliver.ensures.cannot_write
+    delivered_work (Extract c.args.name.now c.args.place.now c.args.text c.args.selection.now) (c.args.bytes.now ∷ []) _ _ _ _ _ _ _ work c.deliver-ended.ensures.delivered c.deliver-ended.ensures.cannot_write
 
 pub returns-clause-of_work : goal.returns-clause-of_work
-returns-clause-of_work g c = delivered_of_work _ _ _ _ _ c.deliver.ensures.delivered
+returns-clause-of_work g c = delivered_of_work _ _ _ _ _ c.deliver-ended.ensures.delivered
 
 pub returns-clause-written : goal.returns-clause-written
 returns-clause-written g c =
     let result = extract_result c.args.name.now c.args.bytes.now c.args.place.now c.args.text c.args.selection.now _ c.in-Ok.ensures.made in
-    result_written (Extract c.args.name.now c.args.place.now c.args.text c.args.selection.now) (c.args.bytes.now ∷ []) _ _ _ _ _ refl result (rw c.format_of.ensures at c.deliver.ensures.delivered)
+    result_written (Extract c.args.name.now c.args.place.now c.args.text c.args.selection.now) (c.args.bytes.now ∷ []) _ _ _ _ _ refl result (rw c.format_of.ensures at c.deliver-ended.ensures.delivered)

@@ -21,12 +21,12 @@ pub returns-in-Err-clause-leaves_files : goal.returns-in-Err-clause-leaves_files
 returns-in-Err-clause-leaves_files g c = leaves_none _ _ _ _ _
 
 pub returns-clause-work : goal.returns-clause-work
-returns-clause-work g c = delivered_work (Link c.args.names.now c.args.place.now c.args.text) _ _ _ _ _ _ _ _ c.in-Ok.ensures.linking c.deliver.ensures.delivered c.deliver.ensures.cannot_write
+returns-clause-work g c = delivered_work (Link c.args.names.now c.args.place.now c.args.text) _ _ _ _ _ _ _ _ c.in-Ok.ensures.linking c.deliver-ended.ensures.delivered c.deliver-ended.ensures.cannot_write
 
 pub returns-clause-written : goal.returns-clause-written
 returns-clause-written g c =
     let result = link_result c.args.names.now c.args.texts c.args.place.now c.args.text _ c.in-Ok.ensures.made in
-    result_written (Link c.args.names.now c.args.place.now c.args.text) _ _ _ _ _ _ refl result (rw c.format_of.ensures at c.deliver.ensures.delivered)
+    result_written (Link c.args.names.now c.args.place.now c.args.text) _ _ _ _ _ _ refl result (rw c.format_of.ensures at c.deliver-ended.ensures.delivered)
 
 pub returns-clause-of_work : goal.returns-clause-of_work
-returns-clause-of_work g c = delivered_of_work _ _ _ _ _ c.deliver.ensures.delivered
+returns-clause-of_work g c = delivered_of_work _ _ _ _ _ c.deliver-ended.ensures.delivered
