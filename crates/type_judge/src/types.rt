@@ -168,9 +168,9 @@ fn check_struct_name(alloc: Global, known: &Known, name: &PlacedName) -> Result<
     })
 }
 
-/// A type, and the types that are written inside it.
+/// A type of any form, and the types that are written inside it.
 #[cycle(types)]
-pub fn check_type(alloc: Global, known: &Known, ty: &Type) -> Result<(), ResolveFault>
+fn check_whole_type(alloc: Global, known: &Known, ty: &Type) -> Result<(), ResolveFault>
     requires { IsKnown known.now }
     ensures { IsJudged (type_demands (known_of known.now) (type_view ty.now)) result }
 {
@@ -180,7 +180,7 @@ pub fn check_type(alloc: Global, known: &Known, ty: &Type) -> Result<(), Resolve
             check_nesting(*place, known.measure_of(ty))?;
             check_array_size(known, *place, ty, &array.element)?;
             check_length(&array.count)?;
-            check_type(alloc, known, &array.element)
+            check_whole_type(alloc, known, &array.element)
         }
         Type::Struct(place, _, fields) => {
             check_nesting(*place, known.measure_of(ty))?;
@@ -203,7 +203,22 @@ pub fn check_types(alloc: Global, known: &Known, fields: &[Type]) -> Result<(), 
     ensures { IsJudged (types_demands (known_of known.now) (types (map type_view fields.now))) result }
 {
     'fields: for field in fields {
-        check_type(alloc, known, field)?;
+        check_whole_type(alloc, known, field)?;
     }
     Ok(())
+}
+
+/// A type, and the types that are written inside it.
+#[inline(always)]
+pub fn check_type(alloc: Global, known: &Known, ty: &Type) -> Result<(), ResolveFault>
+    requires { IsKnown known.now }
+    ensures { IsJudged (type_demands (known_of known.now) (type_view ty.now)) result }
+{
+    // Of the most types nothing is asked.
+    match ty {
+        Type::Integer(_, _) | Type::Ptr(_) | Type::Void(_) => Ok(()),
+        Type::Array(_, _) | Type::Struct(_, _, _) | Type::Named(_) => {
+            check_whole_type(alloc, known, ty)
+        }
+    }
 }

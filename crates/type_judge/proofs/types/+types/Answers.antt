@@ -16,18 +16,18 @@ pub check_types-fields-init : goal.check_types-fields-init
 check_types-fields-init t c = rw types_are (leads_start _)
 
 pub check_types-fields-preserved : goal.check_types-fields-preserved
-check_types-fields-preserved t c = leads_next (type_demands (known_of c.args.known.now)) type_view c.args.fields.now c.fields.field-index c.field-item.result _ (omega arith) c.field-item.is c.in_ok-check_type.ensures c.fields.invariant
+check_types-fields-preserved t c = leads_next (type_demands (known_of c.args.known.now)) type_view c.args.fields.now c.fields.field-index c.field-item.result _ (omega arith) c.field-item.is c.in_ok-check_whole_type.ensures c.fields.invariant
 
-pub check_types-returns-in_err-check_type : goal.check_types-returns-in_err-check_type
-check_types-returns-in_err-check_type t c =
+pub check_types-returns-in_err-check_whole_type : goal.check_types-returns-in_err-check_whole_type
+check_types-returns-in_err-check_whole_type t c =
     let p = err_from_is_err_and c.from_residual.result c.from_residual.ensures.1 in
-    rw (p.1, p.2) (leads_fails (type_demands (known_of c.args.known.now)) type_view c.args.fields.now c.fields.field-index c.field-item.result _ _ (omega arith) c.field-item.is c.in_err-check_type.ensures c.fields.invariant)
+    rw (p.1, p.2) (leads_fails (type_demands (known_of c.args.known.now)) type_view c.args.fields.now c.fields.field-index c.field-item.result _ _ (omega arith) c.field-item.is c.in_err-check_whole_type.ensures c.fields.invariant)
 
 pub check_types-returns : goal.check_types-returns
 check_types-returns t c = leads_end (type_demands (known_of c.args.known.now)) type_view c.args.fields.now c.fields.field-index _ (omega arith) c.fields.invariant
 
-pub check_type-returns-in_err-check_array_size-in-Array : goal.check_type-returns-in_err-check_array_size-in-Array
-check_type-returns-in_err-check_array_size-in-Array t c =
+pub check_whole_type-returns-in_err-check_array_size-in-Array : goal.check_whole_type-returns-in_err-check_array_size-in-Array
+check_whole_type-returns-in_err-check_array_size-in-Array t c =
     let known = known_of c.args.known.now in
     let ty = type_view c.args.ty.now in
     let array = c.in-Array.array.value in
@@ -37,8 +37,8 @@ check_type-returns-in_err-check_array_size-in-Array t c =
     array_judged known ty c.in-Array.place array.count (type_view array.element) c.measure_of.result shape c.measure_of.ensures _
     (rw (p.1, p.2) (judged_next _ _ _ c.in_ok-check_nesting-in-Array.ensures (judged_stop _ _ _ size)))
 
-pub check_type-returns-in_err-check_length-in-Array : goal.check_type-returns-in_err-check_length-in-Array
-check_type-returns-in_err-check_length-in-Array t c =
+pub check_whole_type-returns-in_err-check_length-in-Array : goal.check_whole_type-returns-in_err-check_length-in-Array
+check_whole_type-returns-in_err-check_length-in-Array t c =
     let known = known_of c.args.known.now in
     let ty = type_view c.args.ty.now in
     let array = c.in-Array.array.value in
@@ -49,20 +49,20 @@ check_type-returns-in_err-check_length-in-Array t c =
     array_judged known ty c.in-Array.place array.count (type_view array.element) c.measure_of.result shape c.measure_of.ensures _
     (rw (p.1, p.2) (judged_next _ _ _ c.in_ok-check_nesting-in-Array.ensures (judged_next _ _ _ size (judged_stop _ _ _ long))))
 
-pub check_type-returns-in_ok-check_length-in-Array : goal.check_type-returns-in_ok-check_length-in-Array
-check_type-returns-in_ok-check_length-in-Array t c =
+pub check_whole_type-returns-in_ok-check_length-in-Array : goal.check_whole_type-returns-in_ok-check_length-in-Array
+check_whole_type-returns-in_ok-check_length-in-Array t c =
     let known = known_of c.args.known.now in
     let ty = type_view c.args.ty.now in
     let array = c.in-Array.array.value in
     let shape : ty ≡ ArrayType c.in-Array.place array.count (type_view array.element) = ap type_view c.in-Array.is ∙ array_shape c.in-Array.place c.in-Array.array in
     let size = subst (λ (a : the_array.ArrayType). IsJudged (is_small c.in-Array.place (is_past known ty) (has_past known (type_view a.element)) ∷ []) (Ok tt)) c.deref.ensures c.in_ok-check_array_size-in-Array.ensures in
     let long = subst (λ (a : the_array.ArrayType). IsJudged (is_length a.count ∷ []) (Ok tt)) c.deref-in-Array.ensures c.in_ok-check_length-in-Array.ensures in
-    let rest = subst (λ (a : the_array.ArrayType). IsJudged (type_demands known (type_view a.element)) c.check_type.result) c.deref-in-Array-2.ensures c.check_type.ensures in
+    let rest = subst (λ (a : the_array.ArrayType). IsJudged (type_demands known (type_view a.element)) c.check_whole_type.result) c.deref-in-Array-2.ensures c.check_whole_type.ensures in
     array_judged known ty c.in-Array.place array.count (type_view array.element) c.measure_of.result shape c.measure_of.ensures _
     (judged_next _ _ _ c.in_ok-check_nesting-in-Array.ensures (judged_next _ _ _ size (judged_next _ _ _ long rest)))
 
-pub check_type-returns-in_err-check_size-in-Struct : goal.check_type-returns-in_err-check_size-in-Struct
-check_type-returns-in_err-check_size-in-Struct t c =
+pub check_whole_type-returns-in_err-check_size-in-Struct : goal.check_whole_type-returns-in_err-check_size-in-Struct
+check_whole_type-returns-in_err-check_size-in-Struct t c =
     let known = known_of c.args.known.now in
     let ty = type_view c.args.ty.now in
     let fields = types (map type_view c.in-Struct.fields.items) in
