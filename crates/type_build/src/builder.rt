@@ -12,18 +12,19 @@ ghost use Rattle.type_build.specs.Fitting.{AreWithin};
 ghost use Rattle.type_build.specs.Stands.{IsType, IsConstant, Grows};
 
 use crate::copies::copied_const;
+use crate::type_places::TypePlaces;
 use indexmap::IndexMap;
 use module_arena::{Arena, Const, ConstId};
 use std::alloc::{AllocError, Global};
 use type_table::{IrType, TypeFault, TypeId};
 
-/// An arena in the making. Equal types and equal constants are kept once: the maps say where they may be, and each
-/// answer of theirs is looked up in the arena.
+/// An arena in the making. Equal types and equal constants are kept once: `types` and `constants` say where they may be,
+/// and each answer of theirs is looked up in the arena.
 #[derive(Drop)]
 pub struct Builder {
     /// What is built so far.
     pub arena: Arena,
-    types: IndexMap<IrType, TypeId>,
+    types: TypePlaces,
     constants: IndexMap<Const, ConstId>,
 }
 
@@ -41,7 +42,7 @@ impl Builder {
     {
         Builder {
             arena: Arena::new(alloc),
-            types: IndexMap::new(alloc),
+            types: TypePlaces::new(alloc),
             constants: IndexMap::new(alloc),
         }
     }
@@ -50,7 +51,7 @@ impl Builder {
     fn find_type(&self, ty: &IrType) -> Option<TypeId>
         ensures { IfSome result (λ id. slice_get self.now.arena.table.types id ≡ Some ty.now) }
     {
-        let id = *self.types.get(ty)?;
+        let id = self.types.get(ty)?;
         let table = self.arena.types();
         if id.number() < table.type_count() && *table.get(id) == *ty {
             Some(id)

@@ -19,6 +19,7 @@ mod copies;
 mod functions;
 mod heads;
 mod integers;
+mod type_places;
 mod types;
 mod variables;
 

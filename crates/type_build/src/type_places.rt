@@ -1,0 +1,44 @@
+//! Where types may be in an arena in the making.
+use indexmap::IndexMap;
+use std::alloc::{AllocError, Global};
+use type_table::{IrType, TypeId};
+
+/// Where each type was put that it was told of: of `ptr` and the integer types in a list by their widths, of others in a
+/// map. Its answers are hints: who asks looks them up.
+#[derive(Drop)]
+pub(crate) struct TypePlaces {
+    /// Of `ptr` at 0, which is no width, and of each integer type at its width.
+    by_width: [Option<TypeId>; 256],
+    others: IndexMap<IrType, TypeId>,
+}
+
+impl TypePlaces {
+    /// It was told of no type.
+    pub(crate) fn new(alloc: Global) -> TypePlaces {
+        TypePlaces {
+            by_width: [None; 256],
+            others: IndexMap::new(alloc),
+        }
+    }
+
+    /// Where the type may be.
+    pub(crate) fn get(&self, ty: &IrType) -> Option<TypeId> {
+        match ty {
+            IrType::Int(width) => self.by_width[usize::from(*width)],
+            IrType::Ptr => self.by_width[0],
+            _ => Some(*self.others.get(ty)?),
+        }
+    }
+
+    /// Tells where the type is.
+    pub(crate) fn insert(&mut self, ty: IrType, id: TypeId) -> Result<(), AllocError> {
+        match ty {
+            IrType::Int(width) => self.by_width[usize::from(width)] = Some(id),
+            IrType::Ptr => self.by_width[0] = Some(id),
+            other => {
+                self.others.insert(other, id)?;
+            }
+        }
+        Ok(())
+    }
+}
