@@ -51,6 +51,7 @@ impl<'t> Model for Cursor<'t> {
 }
 
 /// What the lexer answers next.
+#[inline(always)]
 fn front_of(lexer: &mut Lexer) -> Front
     ensures { IsFrontOf lexer.old result lexer.new }
 {
@@ -62,6 +63,13 @@ fn front_of(lexer: &mut Lexer) -> Front
         Ok(None) => Front::End,
         Err(bad) => Front::Bad(bad.place),
     }
+}
+
+/// Puts what the lexer answers next where it is kept, so that it is not copied there.
+fn next_front(lexer: &mut Lexer, front: &mut Front)
+    ensures { IsFrontOf lexer.old front.new lexer.new }
+{
+    *front = front_of(lexer);
 }
 
 impl<'t> Cursor<'t> {
@@ -185,15 +193,15 @@ impl<'t> Cursor<'t> {
         requires { 0 < length (tokens_left self.old) }
         ensures { self.new ≡ stepped self.old }
     {
-        self.behind_less = is_less(self.front);
-        self.front = front_of(&mut self.lexer);
+        self.behind_less = is_less(&self.front);
+        next_front(&mut self.lexer, &mut self.front);
         self.taken += 1;
     }
 }
 
 /// Whether the token `<` stands next.
-fn is_less(front: Front) -> bool
-    ensures { result ≡ front_less front }
+fn is_less(front: &Front) -> bool
+    ensures { result ≡ front_less front.now }
 {
     match front {
         Front::Token(_, Terminal::Less) => true,

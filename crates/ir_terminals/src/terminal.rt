@@ -138,6 +138,7 @@ pub enum Terminal {
 impl Terminal {
     /// The class of the terminal: one number for each variant, whatever it holds, but one for each opcode, which is
     /// 100 and the opcode's code.
+    #[inline(always)]
     pub fn code(self) -> u8
         ensures { result ≡ code self }
     {

@@ -11,4 +11,4 @@ pub invariant_of-self : goal.invariant_of-self
 unfolding tokens_left
 invariant_of-self c =
     let some : 0 < length (tokens_left c.args.self.now) = c.requires in
-    rw c.is_less-self-inside.ensures (advanced _ _ _ _ _ _ c.self.invariant (rw (← c.self.view_is) at some) c.front_of-self-inside.ensures)
+    rw c.is_less-self-inside.ensures (advanced _ _ _ _ _ _ c.self.invariant (rw (← c.self.view_is) at some) c.next_front.ensures)
