@@ -107,6 +107,7 @@ fn nested(cursor: &mut Cursor, depth: u8) -> Result<Type, Fault>
 
 /// `TYPE` but `void`, nested no more than so deep.
 #[cycle(types)]
+#[inline(always)]
 #[tactic(auto, unfolding(crate::specs::Types::value_type_core))]
 fn value_type_at(cursor: &mut Cursor, depth: u8) -> Result<Type, Fault>
     ensures { Follows (λ limits. value_type_over limits (nest_row limits depth)) type_view cursor.old result cursor.new }

@@ -9,6 +9,7 @@ use crate::value::{TypedValue, Value};
 use ir_terminals::{Cursor, Fault, Terminal};
 
 /// `VALUE`: a local, or a constant.
+#[inline(always)]
 #[tactic(auto, unfolding(crate::specs::Values::value_core))]
 pub fn value_of(cursor: &mut Cursor) -> Result<Value, Fault>
     ensures { Follows value_row value_view cursor.old result cursor.new }
