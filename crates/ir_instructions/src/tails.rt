@@ -90,7 +90,8 @@ fn has_part(cursor: &mut Cursor) -> Result<bool, Fault>
 pub fn more_operands(cursor: &mut Cursor, first: TypedValue) -> Result<Vec<TypedValue>, Fault>
     ensures { Follows (λ limits. listed_row (typed_value_row limits) (typed_value_view first ∷ [])) (λ x. map typed_value_view x.items) cursor.old result cursor.new }
 {
-    let mut operands = Vec::new(cursor.alloc());
+    // Most addresses have a base and one index.
+    let mut operands = Vec::with_capacity(cursor.alloc(), 2)?;
     operands.push(first)?;
     'operands: while has_part(cursor)? {
         operands.push(typed_value_of(cursor)?)?;

@@ -10,7 +10,7 @@ use Rattle.ir_instructions.proofs.tails.more_operands.Goals as goal
 
 pub operands-init : goal.operands-init
 operands-init c =
-    let none = c.new-operands.ensures.items in
+    let none = c.in_ok-operands.ensures.items in
     let pushed = c.in_ok-push.ensures.items in
     let items : c.push.new.self.items ≡ c.args.first ∷ [] = rw none at pushed in
     record {
