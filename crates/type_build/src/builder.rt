@@ -11,9 +11,9 @@ ghost use Rattle.module_arena.specs.Changes.{constant_in};
 ghost use Rattle.type_build.specs.Fitting.{AreWithin};
 ghost use Rattle.type_build.specs.Stands.{IsType, IsConstant, Grows};
 
+use crate::constant_places::ConstantPlaces;
 use crate::copies::copied_const;
 use crate::type_places::TypePlaces;
-use indexmap::IndexMap;
 use module_arena::{Arena, Const, ConstId};
 use std::alloc::{AllocError, Global};
 use type_table::{IrType, TypeFault, TypeId};
@@ -25,7 +25,7 @@ pub struct Builder {
     /// What is built so far.
     pub arena: Arena,
     types: TypePlaces,
-    constants: IndexMap<Const, ConstId>,
+    constants: ConstantPlaces,
 }
 
 /// The fault of a table that takes the type.
@@ -43,7 +43,7 @@ impl Builder {
         Builder {
             arena: Arena::new(alloc),
             types: TypePlaces::new(alloc),
-            constants: IndexMap::new(alloc),
+            constants: ConstantPlaces::new(alloc),
         }
     }
 
@@ -88,7 +88,7 @@ impl Builder {
     fn find_constant(&self, constant: &Const) -> Option<ConstId>
         ensures { IfSome result (λ id. slice_get self.now.arena.constants id ≡ Some constant.now) }
     {
-        let id = *self.constants.get(constant)?;
+        let id = self.constants.get(constant)?;
         if id.number() < self.arena.const_count() && *self.arena.constant(id) == *constant {
             Some(id)
         } else {

@@ -14,6 +14,7 @@
 
 mod aliases;
 mod builder;
+mod constant_places;
 mod constants;
 mod copies;
 mod functions;
