@@ -103,6 +103,20 @@ impl BitSink {
         ensures { OnOk result (self.new ≡ self.old ++ vbr_bits 64 width value) }
     {
         let next = 1 << (width - 1);
+        if value < next {
+            return self.narrow(value, width);
+        }
+        self.chunks(value, width)
+    }
+
+    /// The same, of a number that may need several chunks.
+    #[inline(never)]
+    fn chunks(&mut self, value: u64, width: u32) -> Result<(), AllocError>
+        requires width_low { 2 ≤ width }
+        requires width_high { width ≤ 32 }
+        ensures { OnOk result (self.new ≡ self.old ++ vbr_bits 64 width value) }
+    {
+        let next = 1 << (width - 1);
         let mut rest = value;
         while rest >= next {
             self.narrow(rest & (next - 1) | next, width)?;

@@ -1,6 +1,6 @@
 use Rattle.std.proofs.Common.{◌≡◌, ◌++◌}
 use Rattle.bits.specs.Writing.{vbr_bits}
-use Rattle.bits.proofs.sink.BitSink.vbr.Given as goal
+use Rattle.bits.proofs.sink.BitSink.chunks.Given as goal
 
 abbrev pub invariant-loop-rest : goal.invariant-loop-rest
 invariant-loop-rest l = l.self ++ vbr_bits 64 l.width l.rest ≡ l.initial.self ++ vbr_bits 64 l.width l.value
