@@ -24,6 +24,12 @@ fn integer_type(word: &[u8]) -> Option<Terminal>
     ensures { result ≡ option_map of_width (width_in word.now) }
 {
     match word {
+        // Nearly all that a text has are these.
+        b"i1" => Some(Terminal::IntegerType(1)),
+        b"i8" => Some(Terminal::IntegerType(8)),
+        b"i16" => Some(Terminal::IntegerType(16)),
+        b"i32" => Some(Terminal::IntegerType(32)),
+        b"i64" => Some(Terminal::IntegerType(64)),
         [b'i', digits @ ..] if are_digits(digits) => Some(width_terminal(decimal_64(digits))),
         _ => None,
     }
