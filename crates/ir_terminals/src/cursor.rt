@@ -179,6 +179,7 @@ impl<'t> Cursor<'t> {
     }
 
     /// Whether a token of the class of the wanted terminal is next, whatever it holds.
+    #[inline(always)]
     pub fn is_class_next(&self, wanted: Terminal) -> bool
         ensures { result ≡ begins class (code wanted ∷ []) (tokens_left self.now) }
     {

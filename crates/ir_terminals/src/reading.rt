@@ -108,6 +108,7 @@ fn label_at(alloc: Global, place: Place, spelling: &[u8]) -> Result<Local, Alloc
 
 impl<'t> Cursor<'t> {
     /// Takes a token of the class of the wanted terminal, whatever it holds, and gives its place.
+    #[inline(always)]
     pub fn take_class(&mut self, wanted: Terminal) -> Result<Place, Fault>
         ensures { Follows (λ _. word wanted) (λ place. place) self.old result self.new }
     {
