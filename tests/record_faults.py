@@ -79,6 +79,17 @@ def in_types(*of):
 
 
 OPAQUE = record(DEFINE, 2, 0, 0, 1)
+LOOP = record(DEFINE, 0, 1, 0, 0, 1)
+
+
+def nested(count):
+    """The names of so many structs, and a stream of them: each holds the next, whose record stands behind it, and the last an `i8`."""
+    names = [b"%c%d" % (65 + at // 10, at % 10) for at in range(count)]
+    fields = [*range(2, count + 1), 0]
+    return names, bitcode(b"".join(names), types(
+        int_type(8), *[record(NAMED, at) for at in range(count)], *[record(DEFINE, 0, 1, field, 2 * at, 2) for at, field in enumerate(fields)]))
+
+
 TOO_LONG = record(ARRAY, 2**40 + 1, 0)
 
 # By the block and the rule that are told: streams, each with the index of the record.
@@ -233,6 +244,14 @@ FAULTS = {
         (in_types(record(NAMED, 0), record(DEFINE, 0, 1, 0, 0, 1)), 4),
         # The second of two structs that hold each other closes the circle.
         (bitcode(b"ST", types(record(NAMED, 0), record(NAMED, 1), record(DEFINE, 0, 1, 1, 0, 1), record(DEFINE, 0, 1, 0, 1, 1))), 6),
+        # The first of several records that break a rule is told, also where it breaks this one.
+        (bitcode(b"ST", types(record(NAMED, 0), LOOP, record(DEFINE, 3, 0, 1, 1))), 4),
+        (bitcode(b"ST", types(record(NAMED, 0), LOOP, record(DEFINE, 2, 0, 1, 9))), 4),
+        (in_types(record(NAMED, 0), LOOP, int_type(8)), 4),
+        (in_types(record(NAMED, 0), LOOP, record(0)), 4),
+        (in_types(record(NAMED, 0), LOOP, block(17)), 4),
+        # The first struct is 65 deep behind the record of the last but one.
+        (nested(65)[1], 132),
         # 65 deep; and 2^21 - 1 parts, each struct holding the one before it twice.
         (in_types(int_type(8), *[record(ARRAY, 1, place) for place in range(65)]), 68),
         (in_types(int_type(8), *[record(STRUCT, 0, place, place) for place in range(20)]), 23),
@@ -406,6 +425,8 @@ OTHERS = [
 SUM_NESTED = 64 * "add (i32 " + "1" + 64 * ", i32 1)"
 
 # Streams at the edge of a rule that they do not break, and their canonical texts.
+NESTED_NAMES, NESTED = nested(64)
+
 TAKEN = [
     (variable(0, 1, EXTERNAL, 1, 0, 17, 1, *integer(255)), ["@x = constant i8 -1, align 65536"]),
     (bitcode(b"x", types(int_type(128)), record(VARIABLE, 0, 1, EXTERNAL, 0, 0, 0, 1, 1, 0, 2**63)), [f"@x = global i128 {-2**127}"]),
@@ -413,6 +434,7 @@ TAKEN = [
      ["@x = external global [1099511627776 x i8]"]),
     (bitcode(b"x", types(int_type(8), *[record(ARRAY, 1, place) for place in range(64)]), record(VARIABLE, 0, 1, EXTERNAL, 0, 64, 0, 0)),
      [f"@x = external global {64 * '[1 x '}i8{64 * ']'}"]),
+    (NESTED, [*[f"%{one.decode()} = type {{ %{other.decode()} }}" for one, other in zip(NESTED_NAMES, NESTED_NAMES[1:])], f"%{NESTED_NAMES[-1].decode()} = type {{ i8 }}"]),
     (bitcode(b"x", record(SOURCE, 1, 0), types()), ['source_filename = ""']),
     (returned(I32, *(64 * [11, 1, 0]), *(65 * integer(1))), ["define i32 @f(i32 %0) {", "1:", f"  ret i32 {SUM_NESTED}", "}"]),
     # A value may be named in front of the record that gives it, where its block comes first on each path.

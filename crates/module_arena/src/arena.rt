@@ -1,8 +1,9 @@
 //! The arena.
-ghost use Rattle.std.specs.Prelude.{◌≡◌, ◌↔◌, ℕ, ◌<◌, ◌^◌, ◌-◌, ◌+◌, ◌⊎◌, [], ◌∷◌, length, slice_get, Some, None, Err, Contains, IfOk, IfErr, OnOk, OnErr, option_to_list};
+ghost use Rattle.std.specs.Prelude.{◌≡◌, ◌↔◌, ℕ, true, ◌<◌, ◌≤◌, ◌^◌, ◌-◌, ◌+◌, ◌⊎◌, [], ◌∷◌, length, slice_get, Some, None, Ok, Err, All, Contains, IfOk, IfErr, OnOk, OnErr, option_to_list};
 ghost use Rattle.std.specs.Option.{option_copied};
 ghost use Rattle.type_table.specs.Limits.{HasFault as HasTypeFault};
 ghost use Rattle.type_table.specs.Types.{with_type, with_struct, with_body as with_struct_body, IsKnown, IsKnownBody, names, bodies, trees, tree_body};
+ghost use Rattle.type_table.specs.Batch.{StaysWithin, with_bodies};
 ghost use Rattle.module_arena.specs.Lists.{Lists, no_lists, global_name, name_at};
 ghost use Rattle.module_arena.specs.Known.{Counts, counts, counted_aliases, first_excess, HasFault, HasGlobal, KnowsConst, KnowsVariable, KnowsAlias, KnowsFunction, KnowsBody, IsGood, AreDistinct};
 ghost use Rattle.module_arena.specs.Changes.{with_texts, with_table, with_constant, with_variable, with_alias, with_function, with_initialiser, with_target, with_body, variable_in, alias_in, function_in, more_variables, more_aliases, more_functions, more_structs, struct_defined, initialised, targeted, defined, blocks_in};
@@ -367,6 +368,24 @@ impl Arena {
         ensures err { OnErr result (self.new ≡ self.old) }
     {
         self.types.define_struct(id, body)
+    }
+
+    /// Gives structs without bodies these, the first of them that with this id, as the table of types does: `false`
+    /// where it was not seen that the table is within its limits behind each.
+    pub fn define_structs(
+        &mut self,
+        first: StructId,
+        given: &mut Vec<StructBody>,
+    ) -> Result<bool, AllocError>
+        requires known { first + length given.old.items ≤ length self.old.table.structs }
+        requires fields { All (IsKnownBody self.old.table) given.old.items }
+        requires undefined { (k : ℕ) → first ≤ k → k < first + length given.old.items
+            → slice_get (bodies self.old.table) k ≡ Some None }
+        ensures ok { result ≡ Ok true → self.new ≡ with_table self.old (with_bodies self.old.table first given.old.items) }
+        ensures within { result ≡ Ok true → StaysWithin self.old.table first given.old.items }
+        ensures kept { ¬ (result ≡ Ok true) → (self.new ≡ self.old) × (given.new ≡ given.old) }
+    {
+        self.types.define_structs(first, given)
     }
 
     /// The name of an entry.

@@ -16,4 +16,8 @@ pub mod GatheredAhead
 pub mod StandIns
 pub mod Named
 pub mod Recording
+pub mod Holding
+pub mod Giving
+pub mod Putting
 pub mod Reading
+pub mod Waiting

@@ -1,6 +1,6 @@
 -- A block of types in the reading: what was read so far, and what is to come.
 use Rattle.std.proofs.Common.{◌≡◌, ◌≤◌, ◌<◌, ◌&&◌, ◌^◌, ◌+◌, ℕ, zero, suc, cond, arith, List, [], ◌∷◌, ◌++◌, Option, Some, None, length, map, refl, sym, ap, subst, ◌∙◌}
-use Rattle.std.specs.Prelude.{nat_eq, true, false, Bool, Result, Ok, Err, slice_get}
+use Rattle.std.specs.Prelude.{nat_eq, true, false, Bool, Ok, Err, slice_get}
 use Rattle.std.specs.List.{list_all}
 use Rattle.std.proofs.lemmas.Bool.{and_from, and_parts}
 use Rattle.std.proofs.lemmas.List.{length-append, length-map}
@@ -13,7 +13,7 @@ use Rattle.module_arena.specs.Lists.{Lists}
 use Rattle.record_table.specs.Layout.{judged}
 use Rattle.record_table.specs.Fields.{Texts, is_name}
 use Rattle.record_table.specs.Faults.{Answer, ◌>>=◌, Records, no_more, a_block, a_record, is_block_id, misplaced, RecordFault, UnknownRecord, BadRecord}
-use Rattle.record_table.specs.TypeRecords.{Listed, TypeKind, of_kind, struct_record, at_first, listed, listed_by, listed_from, kind_of_code, kinds, are_distinct, called, stand_ins, names_in, definition}
+use Rattle.record_table.specs.TypeRecords.{Listed, at_first, listed, listed_by, listed_from, kind_of_code, kinds, are_distinct, called, stand_ins, names_in, definition}
 use Rattle.record_read.specs.declared.texts.Texts as the_texts
 use Rattle.record_read.specs.Fields.{are_bytes, texts_of}
 use Rattle.record_read.specs.Faults.{Answers, IsMisplaced, of_records}
@@ -23,16 +23,16 @@ use Rattle.record_read.specs.Reader.{Reader}
 use Rattle.record_read.specs.Entries.{IsBefore, Gives}
 use Rattle.record_read.specs.declared.entry.NextEntry.TheVariants.{Block, Record, End}
 use Rattle.type_read.specs.Fields.{is_good}
-use Rattle.type_read.specs.Listed.{AreNames, AreSoFar, IsListed, IsMore, IsNamedAs, IsOn, IsReached, IsUndefined, are_good, later_names, only_named}
+use Rattle.type_read.specs.Listed.{AreNames, AreSoFar, IsListed, IsNamedAs, IsOn, IsReached, IsUndefined, are_good, later_names, only_named}
 use Rattle.type_read.specs.declared.structs.StructNames.{StructNames}
 use Rattle.type_read.proofs.Apart.{name_apart}
 
 -- what was read so far stands for `s`, and `rest` is to come
-pub record IsReading (t : Texts) (at : ℕ) (inside : Records) (others : List Piece) (found : StructNames) (a : Lists) (r : Reader) (defined : ℕ) : Type 0 where
+pub record IsReading (t : Texts) (whole : Answer Listed) (inside : Records) (others : List Piece) (found : StructNames) (a : Lists) (r : Reader) (defined : ℕ) : Type 0 where
   pub s : Listed
   pub rest : Records
   pub before : IsBefore r.left rest (ended ∷ others)
-  pub same : listed t at inside ≡ listed_from s rest
+  pub same : whole ≡ listed_from s rest
   pub texts : s.texts ≡ t
   pub place : r.at ≡ s.at
   pub number : defined ≡ length s.names
@@ -54,28 +54,28 @@ map_names [] = refl
 map_names (n ∷ ns) = ap (λ l. n ∷ l) (map_names ns)
 
 -- what is told of a record and of what follows
-then_ok : {A B : Type 0} (a : Answer A) (x : A) (f : A → Answer B) → a ≡ Ok x → (a >>= f) ≡ f x
+pub then_ok : {A B : Type 0} (a : Answer A) (x : A) (f : A → Answer B) → a ≡ Ok x → (a >>= f) ≡ f x
 then_ok a x f is = ap (λ o. o >>= f) is
 
 -- one record behind what was read so far
-pub record IsStep (t : Texts) (at : ℕ) (inside : Records) (others : List Piece) (found : StructNames) (a : Lists) (r : Reader) (defined : ℕ) (code : ℕ) : Type 0 where
+pub record IsStep (t : Texts) (whole : Answer Listed) (inside : Records) (others : List Piece) (found : StructNames) (a : Lists) (r : Reader) (defined : ℕ) (code : ℕ) : Type 0 where
   pub s : Listed
   pub operands : List ℕ
   pub behind : Records
   pub before : IsBefore r.left behind (ended ∷ others)
-  pub same : listed t at inside ≡ (listed_by s code operands (kind_of_code code kinds) >>= λ u. listed_from u behind)
+  pub same : whole ≡ (listed_by s code operands (kind_of_code code kinds) >>= λ u. listed_from u behind)
   pub texts : s.texts ≡ t
   pub number : defined ≡ length s.names
   pub on : IsOn a found (names_in t inside) r operands s
   pub so_far : AreSoFar found (names_in t inside) s (names_in t (a_record code operands behind))
 
 -- the entry that `next` gives of what is to come
-pub step : (t : Texts) (at : ℕ) (inside : Records) (others : List Piece) (found : StructNames) (a : Lists) (r now : Reader) (defined code : ℕ) → IsReading t at inside others found a r defined
-    → ((all : Records) (rest : List Piece) → IsBefore r.left all rest → Gives all r (Record code) now rest) → IsStep t at inside others found a now defined code
-step t at inside others found a r now defined code h gives = by_rest h.rest h.same h.so_far (gives h.rest (ended ∷ others) h.before)
+pub step : (t : Texts) (whole : Answer Listed) (inside : Records) (others : List Piece) (found : StructNames) (a : Lists) (r now : Reader) (defined code : ℕ) → IsReading t whole inside others found a r defined
+    → ((all : Records) (rest : List Piece) → IsBefore r.left all rest → Gives all r (Record code) now rest) → IsStep t whole inside others found a now defined code
+step t whole inside others found a r now defined code h gives = by_rest h.rest h.same h.so_far (gives h.rest (ended ∷ others) h.before)
   where
-    by_rest : (rest : Records) → listed t at inside ≡ listed_from h.s rest → AreSoFar found (names_in t inside) h.s (names_in t rest) → Gives rest r (Record code) now (ended ∷ others)
-        → IsStep t at inside others found a now defined code
+    by_rest : (rest : Records) → whole ≡ listed_from h.s rest → AreSoFar found (names_in t inside) h.s (names_in t rest) → Gives rest r (Record code) now (ended ∷ others)
+        → IsStep t whole inside others found a now defined code
     by_rest no_more same so_far g = absurd g
     by_rest (a_block id held behind) same so_far g = absurd g
     by_rest (a_record other operands behind) same so_far g = record {
@@ -90,11 +90,21 @@ step t at inside others found a r now defined code h gives = by_rest h.rest h.sa
       so_far = subst (λ k. AreSoFar found (names_in t inside) h.s (names_in t (a_record k operands behind))) (sym g.0) so_far;
     }
 
+-- one record more was given then
+pub step_place : (t : Texts) (whole : Answer Listed) (inside : Records) (others : List Piece) (found : StructNames) (a : Lists) (r now : Reader) (defined code : ℕ) → IsReading t whole inside others found a r defined
+    → ((all : Records) (rest : List Piece) → IsBefore r.left all rest → Gives all r (Record code) now rest) → now.at ≡ suc r.at
+step_place t whole inside others found a r now defined code h gives = by_rest h.rest (gives h.rest (ended ∷ others) h.before)
+  where
+    by_rest : (rest : Records) → Gives rest r (Record code) now (ended ∷ others) → now.at ≡ suc r.at
+    by_rest no_more g = absurd g
+    by_rest (a_block id held behind) g = absurd g
+    by_rest (a_record other operands behind) g = g.1
+
 -- ---- begin and end
 
 -- nothing is read yet
 pub reading_starts : (x : the_texts.Texts) (inside : Records) (others : List Piece) (found : StructNames) (a : Lists) (r : Reader) → IsBefore r.left inside (ended ∷ others) → AreNames (texts_of x) inside found
-    → IsNamedAs found (names_in (texts_of x) inside) a → IsReading (texts_of x) r.at inside others found a r 0
+    → IsNamedAs found (names_in (texts_of x) inside) a → IsReading (texts_of x) (listed (texts_of x) r.at inside) inside others found a r 0
 reading_starts x inside others found a r before are named =
     let all = names_in (texts_of x) inside in
     record {
@@ -173,22 +183,6 @@ reading_starts x inside others found a r before are named =
     undefined_at (n ∷ ns) zero lt = refl
     undefined_at (n ∷ ns) (suc id) lt = undefined_at ns id (omega arith)
 
--- a record was read: the next is in front
-pub reading_goes : (t : Texts) (at : ℕ) (inside : Records) (others : List Piece) (found : StructNames) (a new : Lists) (r after : Reader) (defined number code : ℕ) (h : IsStep t at inside others found a r defined code) (u : Listed)
-    → listed_by h.s code h.operands (kind_of_code code kinds) ≡ Ok u → IsMore new found (names_in t inside) (names_in t h.behind) h.s u → number ≡ length u.names → after.left ≡ r.left → after.at ≡ r.at
-    → IsReading t at inside others found new after number
-reading_goes t at inside others found a new after_r after defined number code h u told more many left place = record {
-  s = u;
-  rest = h.behind;
-  before = subst (λ l. IsBefore l h.behind (ended ∷ others)) (sym left) h.before;
-  same = h.same ∙ then_ok (listed_by h.s code h.operands (kind_of_code code kinds)) u (λ v. listed_from v h.behind) told;
-  texts = more.texts ∙ h.texts;
-  place = place ∙ (h.on.at ∙ sym more.at);
-  number = many;
-  listed_is = more.listed_is;
-  so_far = more.so_far;
-}
-
 -- what a record answers, as the answer of the whole block: a refusal is the block's
 pub step_refused : {B : Type 0} (M : Unit {0} → Listed → Type 0) (N : B → Listed → Type 0) (whole one : Answer Listed) (f : Listed → Answer Listed) (given : BitcodeFault) → whole ≡ (one >>= f) → Answers N one (Err given)
     → Answers M whole (Err given)
@@ -208,7 +202,7 @@ later_is x s code operands behind texts =
     name_apart x 0 (length s.types.types) operands ∙ ap (λ t. (judged (definition t (length s.types.types)) operands).0.1) (sym texts) in
     ap (λ n. cond (nat_eq code 7) (n ∷ names_in (texts_of x) behind) (names_in (texts_of x) behind)) same
 
-module _ (x : the_texts.Texts) (at : ℕ) (inside : Records) (others : List Piece) (found : StructNames) (a : Lists) (r : Reader) (defined code : ℕ) (h : IsStep (texts_of x) at inside others found a r defined code) where
+module _ (x : the_texts.Texts) (whole : Answer Listed) (inside : Records) (others : List Piece) (found : StructNames) (a : Lists) (r : Reader) (defined code : ℕ) (h : IsStep (texts_of x) whole inside others found a r defined code) where
   -- the names behind it
   pub later_so_far : AreSoFar found (names_in (texts_of x) inside) h.s (later_names h.s code h.operands (names_in (texts_of x) h.behind))
   later_so_far = subst (AreSoFar found (names_in (texts_of x) inside) h.s) (later_is x h.s code h.operands h.behind h.texts) h.so_far
@@ -241,17 +235,6 @@ module _ (x : the_texts.Texts) (at : ℕ) (inside : Records) (others : List Piec
   pub step_given : 0 < r.at
   step_given = let place = h.on.at in omega (arith, place)
 
-  -- the record was read: the next is in front
-  pub record_goes : (new : Lists) (after : Reader) (number : ℕ)
-      → Answers (λ n u. IsMore new found (names_in (texts_of x) inside) (names_in (texts_of x) h.behind) h.s u × (n ≡ length u.names)) (listed_by h.s code h.operands (kind_of_code code kinds)) (Ok number)
-      → after.left ≡ r.left → after.at ≡ r.at → IsReading (texts_of x) at inside others found new after number
-  record_goes new after number answer left place = by_answer (listed_by h.s code h.operands (kind_of_code code kinds)) refl answer
-    where
-      by_answer : (o : Answer Listed) → listed_by h.s code h.operands (kind_of_code code kinds) ≡ o
-          → Answers (λ n u. IsMore new found (names_in (texts_of x) inside) (names_in (texts_of x) h.behind) h.s u × (n ≡ length u.names)) o (Ok number) → IsReading (texts_of x) at inside others found new after number
-      by_answer (Ok u) is ans = reading_goes (texts_of x) at inside others found a new r after defined number code h u is ans.0 ans.1 left place
-      by_answer (Err told) is ans = absurd ans
-
 -- a block where none of its kind may stand is refused so, whatever was to be read
 pub misplaced_so : {A B : Type 0} (id at : ℕ) (given : BitcodeFault) (M : B → A → Type 0) → IsMisplaced id at given → Answers {A = A} {B = B} M (misplaced id at) (Err given)
 misplaced_so {A} {B} id at given M h = by_id (is_block_id id) refl
@@ -269,11 +252,11 @@ misplaced_so {A} {B} id at given M h = by_id (is_block_id id) refl
     by_id false e = let is = rw e at h in rw e (told_so (UnknownRecord id 0) given is)
 
 -- a block among the types is refused
-pub block_refused : (t : Texts) (at : ℕ) (inside : Records) (others : List Piece) (found : StructNames) (a : Lists) (r now : Reader) (defined id : ℕ) (given : BitcodeFault) (M : Unit {0} → Listed → Type 0)
-    → IsReading t at inside others found a r defined → ((all : Records) (rest : List Piece) → IsBefore r.left all rest → Gives all r (Block id) now rest) → IsMisplaced id now.at given → Answers M (listed t at inside) (Err given)
-block_refused t at inside others found a r now defined id given M h gives bad = by_rest h.rest h.same (gives h.rest (ended ∷ others) h.before)
+pub block_refused : (t : Texts) (whole : Answer Listed) (inside : Records) (others : List Piece) (found : StructNames) (a : Lists) (r now : Reader) (defined id : ℕ) (given : BitcodeFault) (M : Unit {0} → Listed → Type 0)
+    → IsReading t whole inside others found a r defined → ((all : Records) (rest : List Piece) → IsBefore r.left all rest → Gives all r (Block id) now rest) → IsMisplaced id now.at given → Answers M whole (Err given)
+block_refused t whole inside others found a r now defined id given M h gives bad = by_rest h.rest h.same (gives h.rest (ended ∷ others) h.before)
   where
-    by_rest : (rest : Records) → listed t at inside ≡ listed_from h.s rest → Gives rest r (Block id) now (ended ∷ others) → Answers M (listed t at inside) (Err given)
+    by_rest : (rest : Records) → whole ≡ listed_from h.s rest → Gives rest r (Block id) now (ended ∷ others) → Answers M whole (Err given)
     by_rest no_more same g = absurd g
     by_rest (a_record code operands behind) same g = absurd g
     by_rest (a_block other held behind) same g =
@@ -281,56 +264,22 @@ block_refused t at inside others found a r now defined id given M h gives bad = 
         rw same (misplaced_so other h.s.at given M there)
 
 -- the end of the block
-pub reading_ends : (t : Texts) (at : ℕ) (inside : Records) (others : List Piece) (found : StructNames) (a : Lists) (r now : Reader) (defined : ℕ) → IsReading t at inside others found a r defined
+pub reading_ends : (t : Texts) (whole : Answer Listed) (inside : Records) (others : List Piece) (found : StructNames) (a : Lists) (r now : Reader) (defined : ℕ) → IsReading t whole inside others found a r defined
     → ((all : Records) (rest : List Piece) → IsBefore r.left all rest → Gives all r End now rest)
-    → Answers {B = Unit {0}} (λ _ u. IsListed a found (names_in t inside) u × (now.left ≡ others) × (now.at ≡ u.at)) (listed t at inside) (Ok tt)
-reading_ends t at inside others found a r now defined h gives = by_rest h.rest h.same (gives h.rest (ended ∷ others) h.before)
+    → Answers {B = Unit {0}} (λ _ u. IsListed a found (names_in t inside) u × (now.left ≡ others) × (now.at ≡ u.at)) whole (Ok tt)
+reading_ends t whole inside others found a r now defined h gives = by_rest h.rest h.same (gives h.rest (ended ∷ others) h.before)
   where
-    by_rest : (rest : Records) → listed t at inside ≡ listed_from h.s rest → Gives rest r End now (ended ∷ others)
-        → Answers {B = Unit {0}} (λ _ u. IsListed a found (names_in t inside) u × (now.left ≡ others) × (now.at ≡ u.at)) (listed t at inside) (Ok tt)
+    by_rest : (rest : Records) → whole ≡ listed_from h.s rest → Gives rest r End now (ended ∷ others)
+        → Answers {B = Unit {0}} (λ _ u. IsListed a found (names_in t inside) u × (now.left ≡ others) × (now.at ≡ u.at)) whole (Ok tt)
     by_rest no_more same g = rw same (h.listed_is, g.1, g.0 ∙ h.place)
     by_rest (a_block id held behind) same g = absurd g
     by_rest (a_record code operands behind) same g = absurd g
 
--- an answer in other words
-abbrev pub result_map : {A B E : Type 0} → (A → B) → Result A E → Result B E
-result_map f (Ok x) = Ok (f x)
-result_map f (Err e) = Err e
-
 -- how many names there are behind one record more
-names_counted : (all xs ys earlier later : List Bytes) (n : ℕ) → all ≡ xs ++ earlier → all ≡ ys ++ later → length earlier ≡ n + length later → length ys ≡ length xs + n
+pub names_counted : (all xs ys earlier later : List Bytes) (n : ℕ) → all ≡ xs ++ earlier → all ≡ ys ++ later → length earlier ≡ n + length later → length ys ≡ length xs + n
 names_counted all xs ys earlier later n p q e =
     let a = ap length p in
     let b = ap length q in
     let c = length-append xs earlier in
     let d = length-append ys later in
     omega (arith, a, b, c, d, e)
-
--- a record of a type, or of a struct, as one of the block: it tells how many structs there are then
-pub as_type : (s : Listed) (code : ℕ) (operands : List ℕ) (kind : TypeKind) (found : StructNames) (a new : Lists) (all later : List Bytes) (number : ℕ) (result : Result (Unit {0}) BitcodeFault) → kind_of_code code kinds ≡ Some kind
-    → AreSoFar found all s later → number ≡ length s.names → Answers (λ _ u. IsMore new found all later s u) (of_kind s operands kind) result
-    → Answers (λ n u. IsMore new found all later s u × (n ≡ length u.names)) (listed_by s code operands (kind_of_code code kinds)) (result_map (λ u. number) result)
-as_type s code operands kind found a new all later number result is so_far many h = rw is (by_answer (of_kind s operands kind) result h)
-  where
-    by_answer : (o : Answer Listed) (r : Result (Unit {0}) BitcodeFault) → Answers (λ _ u. IsMore new found all later s u) o r → Answers (λ n u. IsMore new found all later s u × (n ≡ length u.names)) o (result_map (λ u. number) r)
-    by_answer (Ok u) (Ok done) g =
-        let count = names_counted all s.names u.names later later 0 so_far.all_is g.so_far.all_is (omega arith) in
-        (g, omega (arith, count, many))
-    by_answer (Ok u) (Err given) g = g
-    by_answer (Err told) (Ok done) g = absurd g
-    by_answer (Err told) (Err given) g = g
-
-pub as_struct : (s : Listed) (code : ℕ) (operands : List ℕ) (found : StructNames) (new : Lists) (all later : List Bytes) (number : ℕ) (result : Result (Unit {0}) BitcodeFault) → code ≡ 7
-    → AreSoFar found all s ((judged (definition s.texts (length s.types.types)) operands).0.1 ∷ later) → number ≡ length s.names
-    → Answers (λ _ u. IsMore new found all later s u) (struct_record s (judged (definition s.texts (length s.types.types)) operands)) result
-    → Answers (λ n u. IsMore new found all later s u × (n ≡ length u.names)) (listed_by s code operands (kind_of_code code kinds)) (result_map (λ u. number + 1) result)
-as_struct s code operands found new all later number result is so_far many h =
-    rw is (by_answer (struct_record s (judged (definition s.texts (length s.types.types)) operands)) result h)
-  where
-    by_answer : (o : Answer Listed) (r : Result (Unit {0}) BitcodeFault) → Answers (λ _ u. IsMore new found all later s u) o r → Answers (λ n u. IsMore new found all later s u × (n ≡ length u.names)) o (result_map (λ u. number + 1) r)
-    by_answer (Ok u) (Ok done) g =
-        let count = names_counted all s.names u.names ((judged (definition s.texts (length s.types.types)) operands).0.1 ∷ later) later 1 so_far.all_is g.so_far.all_is (omega arith) in
-        (g, omega (arith, count, many))
-    by_answer (Ok u) (Err given) g = g
-    by_answer (Err told) (Ok done) g = absurd g
-    by_answer (Err told) (Err given) g = g

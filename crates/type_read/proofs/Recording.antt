@@ -1,6 +1,6 @@
 -- One record of the block of types: what is told of it, and what the arena has behind it.
 use Rattle.std.proofs.Common.{◌≡◌, ◌≤◌, ◌==◌, ◌&&◌, ◌+◌, ℕ, min, zero, suc, Bool, true, false, List, [], ◌∷◌, ◌++◌, Option, Some, None, length, set, refl, sym, ap, subst, ◌∙◌, arith}
-use Rattle.std.specs.Prelude.{nat_lt, not, is_some, bytes_eq, slice_get, Result, Ok}
+use Rattle.std.specs.Prelude.{nat_lt, not, is_some, bytes_eq, slice_get, Result, Ok, Err}
 use Rattle.std.specs.List.{list_any}
 use Rattle.std.proofs.lemmas.Bool.{and_from, and_parts, not-true, not_from_false}
 use Rattle.std.proofs.lemmas.List.{append_assoc, length_push}
@@ -16,7 +16,7 @@ use Rattle.record_table.specs.Walk.{Walk, going, stopped, told, ask, next, count
 use Rattle.record_table.specs.Layout.{Layout, asking, judged, many}
 use Rattle.record_table.specs.Fields.{byte, is_name}
 use Rattle.record_table.specs.StringTable.{is_within}
-use Rattle.record_table.specs.Faults.{also, types_id}
+use Rattle.record_table.specs.Faults.{also, types_id, unless_broken}
 use Rattle.record_table.specs.TypeRecords.{Listed, TypeKind, ir_type, struct_body, definition, of_kind, struct_record, all_fit}
 use Rattle.record_read.specs.Reader.{Reader, ReadsAs, IsAtMost, IsBrokenBy, also_asked, is_broken}
 use Rattle.record_read.specs.Faults.{Answers, Finishes}
@@ -26,7 +26,7 @@ use Rattle.record_read.specs.declared.texts.Texts.TheVariants.{Inline, Table}
 use Rattle.record_read.proofs.Asking.{still_by, next_by}
 use Rattle.record_read.specs.declared.fault.BitcodeFault.{BitcodeFault}
 use Rattle.type_read.specs.Fields.{IsTypeOf, IsDefinition, is_good}
-use Rattle.type_read.specs.Listed.{AddsType, AreSoFar, IsMore, IsOn, IsReached, NamesNext, is_first}
+use Rattle.type_read.specs.Listed.{AddsType, AreSoFar, IsMore, IsOn, IsReached, NamesNext, ReadsOne, is_first}
 use Rattle.type_read.specs.declared.structs.StructNames.{StructNames}
 use Rattle.type_read.specs.declared.definition.StructDefinition.{StructDefinition}
 use Rattle.type_read.proofs.Good.{bad_is_new, first_tells, reaches_next}
@@ -286,11 +286,44 @@ module _ (a after : Lists) (found : StructNames) (all later : List Bytes) (s : L
             let fit = and_parts (all_fit (with_body s.types (length s.names) struct_value.0.0)) (nat_lt (length s.names) 0x4_0000) held.0 in
             after_struct body body_is (add.0 (fits ∙ fit.0)) (name_good made.name refl (ap told walk_read ∙ new.1)) new.0
 
+    abbrev pub struct_after : Listed
+    struct_after = record s { at = suc s.at; types = with_body s.types (length s.names) struct_value.0.0; names = s.names ++ struct_value.0.1 ∷ [] }
+
+    true_too : (b : Bool) → (b && true) ≡ b
+    true_too true = refl
+    true_too false = refl
+
+    -- where the record breaks no rule but, maybe, 7, that alone is what is asked of it
+    pub struct_held : (named counted : Reader) (body : StructBody) → made.body ≡ Some body → NamesNext found number (is_some made.name) r1 named
+        → counted ≡ record named { walk = also_asked 7 (nat_lt number 0x4_0000) named.walk } → after ≡ with_table a (with_body a.table number body) → told counted.walk ≡ None
+        → IsMore after found all later s struct_after × (struct_record s struct_value ≡ unless_broken types_id s.at (also 7 (all_fit (with_body a.table number body)) None) struct_after)
+    struct_held named counted body has asks is same none = (
+      after_struct body body_is same (name_good made.name refl (ap told walk_read ∙ new.1)) new.0,
+      ap (λ (rules : Option ℕ). unless_broken types_id s.at rules struct_after) rules_are,
+    )
+      where
+        body_is : body ≡ struct_value.0.0
+        body_is = (rw has at kept_so.body).0
+
+        few : (nat_lt (length s.names) 0x4_0000 ≡ true) × (also 4 is_new struct_value.1 ≡ None)
+        few = also_held 7 (nat_lt (length s.names) 0x4_0000) (also 4 is_new struct_value.1) (sym (asked_told named counted asks is) ∙ none)
+
+        new : (is_new ≡ true) × (struct_value.1 ≡ None)
+        new = also_held 4 is_new struct_value.1 few.1
+
+        fits : all_fit (with_body s.types (length s.names) struct_value.0.0) ≡ all_fit (with_body a.table number body)
+        fits = sym (body_fits a found all s on.listed good number body ∙ (λ j. all_fit (with_body s.types (place_is j) (body_is j))))
+
+        rules_are : struct_rules ≡ also 7 (all_fit (with_body a.table number body)) None
+        rules_are =
+            (λ j. also 7 (fits j && few.0 j) (few.1 j))
+            ∙ ap (λ b. also 7 b None) (true_too (all_fit (with_body a.table number body)))
+
     -- no body was read: a rule is broken that is less than those of names and limits
     pub struct_none : (named counted : Reader) (result : Result (Unit {0}) BitcodeFault) → made.body ≡ None → NamesNext found number (is_some made.name) r1 named
         → counted ≡ record named { walk = also_asked 7 (nat_lt number 0x4_0000) named.walk } → counted.at ≡ suc s.at → IsBrokenBy 3 (struct_layout.read (going operands None)).1 → Finishes types_id counted result
-        → Answers (λ _ listed. IsMore after found all later s listed) (struct_record s struct_value) result
-    struct_none named counted result has asks is place low fin = finished (λ _ listed. IsMore after found all later s listed) types_id s.at counted struct_rules _ result place rules_are fin keep
+        → Answers {B = Unit {0}} (λ _ _. ⊥) (struct_record s struct_value) result
+    struct_none named counted result has asks is place low fin = finished (λ _ _. ⊥) types_id s.at counted struct_rules struct_after result place rules_are fin keep
       where
         at_most : IsAtMost 3 (also 4 is_new struct_value.1)
         at_most = also_low 3 4 is_new struct_value.1 (omega arith) (told_low 3 (struct_layout.read (going operands None)).1 (omega arith) low)
@@ -301,8 +334,8 @@ module _ (a after : Lists) (found : StructNames) (all later : List Bytes) (s : L
             ∙ (also_in_vain 3 7 (nat_lt (length s.names) 0x4_0000) (also 4 is_new struct_value.1) (omega arith) at_most
             ∙ sym (also_in_vain 3 7 struct_fits (also 4 is_new struct_value.1) (omega arith) at_most))
 
-        keep : struct_rules ≡ None → IsMore after found all later s (record s { at = suc s.at; types = with_body s.types (length s.names) struct_value.0.0; names = s.names ++ struct_value.0.1 ∷ [] })
-        keep none = absurd (none_at_most 3 struct_rules (also_low 3 7 struct_fits (also 4 is_new struct_value.1) (omega arith) at_most) none)
+        keep : struct_rules ≡ None → ⊥
+        keep none = none_at_most 3 struct_rules (also_low 3 7 struct_fits (also 4 is_new struct_value.1) (omega arith) at_most) none
 
 -- a body that is not there broke a rule that is at most 3, and the text behind it does not change that
 pub low_definition : (x : the_texts.Texts) (count : ℕ) (operands : List ℕ) (made : StructDefinition) → IsDefinition (texts_of x) count (going operands None) made → made.body ≡ None
@@ -328,3 +361,8 @@ next_at found number false before now h = ap (λ (r : Reader). r.at) h
 pub next_left : (found : StructNames) (number : ℕ) (b : Bool) (before now : Reader) → NamesNext found number b before now → (now.spent ≡ before.spent) × (now.left ≡ before.left)
 next_left found number true before now h = (ap (λ (r : Reader). r.spent) h, ap (λ (r : Reader). r.left) h)
 next_left found number false before now h = (ap (λ (r : Reader). r.spent) h, ap (λ (r : Reader). r.left) h)
+
+-- a record is read by a reader that stands where another does
+pub reads_on : {A E : Type 0} (old mid : Reader) (result : Result A E) (new : Reader) → mid.spent ≡ old.spent → mid.left ≡ old.left → mid.at ≡ old.at → ReadsOne mid result new → ReadsOne old result new
+reads_on old mid (Ok done) new spent left at reads = (reads.0 ∙ spent, reads.1 ∙ left, reads.2 ∙ at)
+reads_on old mid (Err given) new spent left at reads = tt

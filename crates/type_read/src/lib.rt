@@ -2,7 +2,8 @@
 //!
 //! It stands on `record_read` and `module_arena`. It promises that the arena has the types and structs that the block lists,
 //! under their indices, or the first record that breaks a rule. The block is gone through twice, since types name structs
-//! whose records stand behind them. Definitions: `TypeRecords` of `record_table`, and `specs/Listed`.
+//! whose records stand behind them. Definitions: `TypeRecords` of `record_table`, `specs/Listed`
+//! and `specs/Pending`.
 //!
 //! ```
 //! // in a block of types whose records are INT 32 and ARRAY 2 0
@@ -14,6 +15,7 @@
 
 mod definition;
 mod listing;
+mod pending;
 mod records;
 mod structs;
 

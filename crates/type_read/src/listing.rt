@@ -1,5 +1,5 @@
 //! The block of types, record by record.
-ghost use Rattle.std.specs.Prelude.{◌≡◌, ◌∷◌, ◌<◌, ◌^◌, ℕ, List, false, length, OnOk};
+ghost use Rattle.std.specs.Prelude.{◌≡◌, ◌∷◌, ◌+◌, ◌-◌, ◌<◌, ◌^◌, ℕ, List, false, length, OnOk};
 ghost use Rattle.bit_tree.specs.Pieces.{Piece, ended};
 ghost use Rattle.type_table.specs.Limits.{IsWithin};
 ghost use Rattle.type_table.specs.Types.{IsGood, IsKnown, IsKnownBody, with_body, with_type};
@@ -11,8 +11,10 @@ ghost use Rattle.record_read.specs.Entries.{IsBefore};
 ghost use Rattle.record_read.specs.Faults.{Answers};
 ghost use Rattle.record_read.specs.Fields.{texts_of};
 ghost use Rattle.type_read.specs.Listed.{AddsType, AreNames, AreSoFar, IsBegun, IsListed, IsMore, IsNamedAs, IsOn, IsRefusedBy, IsUndefined, NamesNext, ReadsOne, later_names};
+ghost use Rattle.type_read.specs.Pending.{IsCounted, IsPending, Puts, held};
 
 use crate::definition::{StructDefinition, read_definition};
+use crate::pending::{Pending, give, is_counted, put_body};
 use crate::records::read_type;
 use crate::structs::StructNames;
 use module_arena::{Arena, COUNT_LIMIT};
@@ -22,7 +24,7 @@ use std::alloc::Global;
 use type_table::{IrType, StructBody, StructId, TypeFault};
 
 /// What holds of the types of every arena.
-fn are_within(arena: &Arena)
+pub(crate) fn are_within(arena: &Arena)
     ensures good { IsGood arena.now.table }
     ensures within { IsWithin arena.now.table }
 {
@@ -64,7 +66,7 @@ fn add_type(
 }
 
 /// Gives a struct what it is. Rule 7 is broken where a type would be past a limit, or a struct would contain itself.
-fn define_struct(
+pub(crate) fn define_struct(
     reader: &mut RecordReader<'_>,
     arena: &mut Arena,
     id: StructId,
@@ -124,21 +126,25 @@ fn ask_new(reader: &mut RecordReader<'_>, names: StructNames, number: u32, is_ke
     }
 }
 
-/// Reads the record of the struct of that number, counted from 0.
+/// Reads the record of the struct of that number, counted from 0. Its body pends where the record breaks no rule but,
+/// maybe, 7.
 fn read_struct_record(
     reader: &mut RecordReader<'_>,
     alloc: Global,
     texts: &Texts,
     arena: &mut Arena,
     names: StructNames,
+    pending: &mut Pending,
     number: u32,
 ) -> Result<(), BitcodeFault>
     requires given { 0 < reader.old.at }
-    requires undefined { IsUndefined arena.old number }
+    requires undefined { IsUndefined (held arena.old pending.old) number }
+    requires pending { IsPending arena.old pending.old }
+    requires counted { IsCounted pending.old number (reader.old.at - 1) }
     ensures reads { ReadsOne reader.old result reader.new }
-    ensures answers { (all : List (List ℕ)) (s : types.Listed) (operands : List ℕ) → IsOn arena.old names all reader.old operands s → number ≡ length s.names → s.texts ≡ texts_of texts.now
+    ensures answers { (all : List (List ℕ)) (s : types.Listed) (operands : List ℕ) → IsOn (held arena.old pending.old) names all reader.old operands s → number ≡ length s.names → s.texts ≡ texts_of texts.now
         → (later : List (List ℕ)) → AreSoFar names all s ((judged (types.definition s.texts (length s.types.types)) operands).0.1 ∷ later)
-        → Answers (λ _ listed. IsMore arena.new names all later s listed) (types.struct_record s (judged (types.definition s.texts (length s.types.types)) operands)) result }
+        → Puts (λ _. number + 1) arena.old pending.old names all later s (types.struct_record s (judged (types.definition s.texts (length s.types.types)) operands)) result arena.new pending.new }
 {
     let count = arena.types().type_count();
     let definition = read_definition(reader, alloc, texts, count)?;
@@ -147,11 +153,12 @@ fn read_struct_record(
     reader.also(7, number < COUNT_LIMIT);
     are_within(arena);
     match body {
-        Some(body) => {
-            define_struct(reader, arena, StructId::new(number), body)?;
+        Some(body) => put_body(reader, alloc, arena, pending, number, body),
+        None => {
+            is_counted(reader);
+            give(arena, alloc, pending)?;
             reader.finish(TYPES_BLOCK)
         }
-        None => reader.finish(TYPES_BLOCK),
     }
 }
 
@@ -162,24 +169,34 @@ fn read_record(
     texts: &Texts,
     arena: &mut Arena,
     names: StructNames,
+    pending: &mut Pending,
     defined: u32,
     code: u32,
 ) -> Result<u32, BitcodeFault>
     requires given { 0 < reader.old.at }
-    requires undefined { code ≡ 7 → IsUndefined arena.old defined }
+    requires undefined { code ≡ 7 → IsUndefined (held arena.old pending.old) defined }
     requires room { code ≡ 7 → defined < 2 ^ 31 }
+    requires pending { IsPending arena.old pending.old }
+    requires counted { IsCounted pending.old defined (reader.old.at - 1) }
     ensures reads { ReadsOne reader.old result reader.new }
-    ensures answers { (all : List (List ℕ)) (s : types.Listed) (operands : List ℕ) → IsOn arena.old names all reader.old operands s → defined ≡ length s.names → s.texts ≡ texts_of texts.now
+    ensures answers { (all : List (List ℕ)) (s : types.Listed) (operands : List ℕ) → IsOn (held arena.old pending.old) names all reader.old operands s → defined ≡ length s.names → s.texts ≡ texts_of texts.now
         → (later : List (List ℕ)) → AreSoFar names all s (later_names s code operands later)
-        → Answers (λ number listed. IsMore arena.new names all later s listed × (number ≡ length listed.names)) (types.listed_by s code operands (types.kind_of_code code types.kinds)) result }
+        → Puts (λ number. number) arena.old pending.old names all later s (types.listed_by s code operands (types.kind_of_code code types.kinds)) result arena.new pending.new }
 {
     if code == DEFINE {
-        read_struct_record(reader, alloc, texts, arena, names, defined)?;
+        read_struct_record(reader, alloc, texts, arena, names, pending, defined)?;
         return Ok(defined + 1);
     }
+    is_counted(reader);
+    give(arena, alloc, pending)?;
     match TypeKind::of_code(code) {
         Some(kind) => {
             read_type_record(reader, alloc, arena, kind, defined)?;
+            *pending = Pending {
+                first: defined,
+                at: reader.at(),
+                bodies: Vec::new(alloc),
+            };
             Ok(defined)
         }
         None => Err(BitcodeFault::UnknownRecord {
@@ -206,14 +223,33 @@ pub fn read_types(
         → Answers (λ _ listed. IsListed arena.new names (types.names_in (texts_of texts.now) inside) listed × (reader.new.left ≡ others) × (reader.new.at ≡ listed.at))
         (types.listed (texts_of texts.now) reader.old.at inside) result }
 {
+    let start = reader.at();
     let mut defined: u32 = 0;
+    let mut pending = Pending {
+        first: 0,
+        at: start,
+        bodies: Vec::new(alloc),
+    };
     'records: loop {
+        is_counted(reader);
         match reader.next()? {
             NextEntry::Record(code) => {
-                defined = read_record(reader, alloc, texts, arena, names, defined, code)?;
+                defined = read_record(
+                    reader,
+                    alloc,
+                    texts,
+                    arena,
+                    names,
+                    &mut pending,
+                    defined,
+                    code,
+                )?;
             }
-            NextEntry::Block(id) => return Err(misplaced(id, reader.at())),
-            NextEntry::End => return Ok(()),
+            NextEntry::Block(id) => {
+                give(arena, alloc, &mut pending)?;
+                return Err(misplaced(id, reader.at()));
+            }
+            NextEntry::End => return give(arena, alloc, &mut pending),
         }
     }
 }

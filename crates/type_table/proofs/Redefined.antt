@@ -33,7 +33,7 @@ struct_above : (packed : Bool) (ms : List Measure) (r : ℕ) → SomeAbove r ms 
 struct_above packed ms r some = fields_above packed empty_struct ms r some
 
 -- whether two names are the same
-same_name : (a b : List ℕ) → (a ≡ b) ⊎ (a ≡ b → ⊥)
+pub same_name : (a b : List ℕ) → (a ≡ b) ⊎ (a ≡ b → ⊥)
 same_name a b = by (bytes_eq a b) refl
   where
     by : (r : Bool) → bytes_eq a b ≡ r → (a ≡ b) ⊎ (a ≡ b → ⊥)

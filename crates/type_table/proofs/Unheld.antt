@@ -66,7 +66,7 @@ module _ (t : Types) (ks kt : List Measure) (is : IsMeasured t ks kt) where
   named_at : (i : ℕ) → i < length ks → i < length (names t)
   named_at i lt = omega (arith, as_names t ks kt is, is.as_many)
 
-  stands_at : (i : ℕ) → i < length ks → get_or ks i opaque_measure ≡ tree_body_measure look (tree_body (trees t) (get_or (bodies t) i None))
+  pub stands_at : (i : ℕ) → i < length ks → get_or ks i opaque_measure ≡ tree_body_measure look (tree_body (trees t) (get_or (bodies t) i None))
   stands_at i lt =
       sym (agree t ks kt is i (named_at i lt)) ∙ is.structs_kept (get_or (names t) i [])
       ∙ ap (tree_body_measure look) (body_of-place t (get_or (names t) i []) ∙ ap (λ k. tree_body (trees t) (get_or (bodies t) k None)) (index_of-at (names t) i is.good.distinct (named_at i lt)))

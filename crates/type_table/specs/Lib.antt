@@ -1,3 +1,4 @@
+pub mod Batch
 pub mod Contains
 pub mod Kept
 pub mod Keys

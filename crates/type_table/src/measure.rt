@@ -1,5 +1,5 @@
 //! The measure of a type, and how it is found from those of its parts.
-ghost use Rattle.std.specs.Prelude.{◌≡◌, ◌↔◌, ◌<◌, ◌+◌, max, Some, IsTrue, [], ◌∷◌, OnOk, IfErr};
+ghost use Rattle.std.specs.Prelude.{◌≡◌, ◌↔◌, ◌<◌, ◌+◌, max, Some, true, IsTrue, [], ◌∷◌, OnOk, IfErr};
 ghost use Rattle.std.specs.Int.{next_multiple_of};
 ghost use Rattle.type_table.specs.Kept.{IsSmall, IsLarge, HasListFault};
 ghost use Rattle.type_table.specs.Layout.{int_align, field_start};
@@ -107,7 +107,28 @@ fn with_field_layout(packed: bool, sofar: Layout, field: Layout) -> Layout
     }
 }
 
+/// Whether two layouts are the same.
+fn is_layout(one: Layout, other: Layout) -> bool
+    ensures { result ≡ true → one ≡ other }
+{
+    one.size == other.size && one.align == other.align && one.leaves == other.leaves
+}
+
 impl Measure {
+    /// Whether the measures are the same.
+    pub(crate) fn is_same(&self, other: Measure) -> bool
+        ensures { result ≡ true → self.now ≡ other }
+    {
+        if self.nesting != other.nesting || self.parts != other.parts {
+            return false;
+        }
+        match (self.layout, other.layout) {
+            (Some(layout), Some(other_layout)) => is_layout(layout, other_layout),
+            (None, None) => true,
+            _ => false,
+        }
+    }
+
     /// Whether the type nests too deep.
     pub fn is_too_deep(&self) -> bool
         ensures { IsTrue result ↔ (NESTING_LIMIT < self.now.nesting) }

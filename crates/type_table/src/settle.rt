@@ -1,9 +1,10 @@
 //! The measures of all types and structs, in passes over the table.
-ghost use Rattle.std.specs.Prelude.{◌≡◌, ◌<◌, ◌↔◌, ◌++◌, IsTrue, All, Any, length, set, slice_index_or, IfOk, IfErr, OnOk, Some};
+ghost use Rattle.std.specs.Prelude.{◌≡◌, ℕ, ◌+◌, ◌<◌, ◌≤◌, ◌↔◌, ◌++◌, IsTrue, true, All, Any, length, set, slice_index_or, IfOk, IfErr, IfSome, OnOk, Some, None};
 ghost use Rattle.indexmap.specs.IndexMap.{values, index_map_len};
 ghost use Rattle.type_table.specs.Kept.{IsSmall, IsLarge, HasListFault};
 ghost use Rattle.type_table.specs.Outline.{offset_from};
 ghost use Rattle.type_table.specs.Measures.{empty_struct, struct_measure, measures_at, opaque_measure, type_measure, body_measure, type_measures, struct_measures, passes, deepest_nesting};
+ghost use Rattle.type_table.specs.Batch.{IsOpen, placed};
 
 use crate::measure::{Measure, NESTING_LIMIT};
 use crate::structs::StructMap;
@@ -243,4 +244,100 @@ pub(crate) fn remeasured(
     let mut start = Vec::from_slice(alloc, kept)?;
     start[index] = measure;
     settle(alloc, types, structs, start, deepest(kept))
+}
+
+/// The struct at that place, where those from the first on have these bodies.
+fn measure_one(
+    types: &[Measure],
+    had: Measure,
+    structs: &StructMap,
+    first: usize,
+    given: &[StructBody],
+    index: usize,
+) -> Measure
+    requires within { index < index_map_len structs.now }
+    requires fit { first + length given.now ≤ index_map_len structs.now }
+    ensures { result
+        ≡ body_measure types.now had (slice_index_or (placed (values structs.now) first given.now) index None) }
+{
+    if first <= index && index - first < given.len() {
+        measure_body(types, had, &given[index - first])
+    } else {
+        measure_struct(types, had, &structs[index])
+    }
+}
+
+/// The structs, from the measures of the types, where those from the first on have these bodies.
+fn measure_given(
+    alloc: Global,
+    types: &[Measure],
+    had: &[Measure],
+    structs: &StructMap,
+    first: usize,
+    given: &[StructBody],
+) -> Result<Vec<Measure>, AllocError>
+    requires as_many { length had.now ≡ index_map_len structs.now }
+    requires fit { first + length given.now ≤ index_map_len structs.now }
+    ensures { IfOk result (λ measures.
+        measures.items ≡ struct_measures types.now had.now (placed (values structs.now) first given.now)) }
+{
+    let mut measures = Vec::with_capacity(alloc, had.len())?;
+    for i in 0..had.len() {
+        let measure = measure_one(types, had[i], structs, first, given, i);
+        measures.push(measure)?;
+    }
+    Ok(measures)
+}
+
+/// Whether the measures are the same.
+fn are_same(one: &[Measure], other: &[Measure]) -> bool
+    ensures { result ≡ true → one.now ≡ other.now }
+{
+    if one.len() != other.len() {
+        return false;
+    }
+    for i in 0..one.len() {
+        if !one[i].is_same(other[i]) {
+            return false;
+        }
+    }
+    true
+}
+
+/// How many passes tell of every table within its limits that one more changes nothing.
+const MOST_PASSES: u8 = NESTING_LIMIT + 1;
+
+/// The measures of the table in which structs have these bodies, the first of them that at this place, found by passes
+/// over all of it from those that are kept of the structs, until one changes nothing. None where none was such a pass.
+pub(crate) fn at_rest(
+    alloc: Global,
+    kept: &[Measure],
+    types: &[IrType],
+    structs: &StructMap,
+    first: usize,
+    given: &[StructBody],
+) -> Result<Option<Measures>, AllocError>
+    requires as_many { length kept.now ≡ index_map_len structs.now }
+    requires fit { first + length given.now ≤ index_map_len structs.now }
+    ensures rest { IfOk result (λ found. IfSome found (λ m.
+        struct_measures m.types.items m.structs.items (placed (values structs.now) first given.now) ≡ m.structs.items)) }
+    ensures types { IfOk result (λ found. IfSome found (λ m. m.types.items ≡ type_measures m.structs.items types.now)) }
+    ensures many { IfOk result (λ found. IfSome found (λ m. length m.structs.items ≡ index_map_len structs.now)) }
+    ensures kept { IfOk result (λ found. IfSome found (λ m. (k : ℕ)
+        → IsOpen (slice_index_or (placed (values structs.now) first given.now) k None)
+        → slice_index_or m.structs.items k opaque_measure ≡ slice_index_or kept.now k opaque_measure)) }
+{
+    let mut measured = Vec::from_slice(alloc, kept)?;
+    'passes: for _pass in 0..MOST_PASSES {
+        let types_then = measure_types(alloc, &measured, types)?;
+        let again = measure_given(alloc, &types_then, &measured, structs, first, given)?;
+        if are_same(&again, &measured) {
+            return Ok(Some(Measures {
+                structs: measured,
+                types: types_then,
+            }));
+        }
+        measured = again;
+    }
+    Ok(None)
 }

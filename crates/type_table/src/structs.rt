@@ -1,6 +1,8 @@
 //! The named structs, as a map from their names to their bodies. A struct's id is its place in the map.
-ghost use Rattle.std.specs.Prelude.{◌≡◌, IsTrue, ◌<◌, ◌↔◌, [], ◌∷◌, ◌++◌, slice_get, Some, None, Contains, IsSome, IfOk, IfSome, OnOk, OnErr, AllPairs, ◌≢◌};
+ghost use Rattle.std.specs.Prelude.{◌≡◌, IsTrue, ◌+◌, ◌<◌, ◌≤◌, ◌↔◌, List, length, [], ◌∷◌, ◌++◌, slice_get, Some, None, Contains, IsSome, IfOk, IfSome, OnOk, OnErr, AllPairs, ◌≢◌};
 ghost use Rattle.indexmap.specs.IndexMap.{keys, index_map_len, set_value_at};
+ghost use Rattle.type_table.specs.declared.ir_type.IrType.{IrType};
+ghost use Rattle.type_table.specs.Batch.{with_bodies};
 
 use crate::StructBody;
 use indexmap::IndexMap;
@@ -55,6 +57,21 @@ pub(crate) fn set_body(structs: &mut StructMap, index: usize, body: StructBody)
     ensures { structs.new.entries ≡ set_value_at structs.old.entries index (Some body) }
 {
     structs[index] = Some(body);
+}
+
+/// Gives structs their bodies, the first of them that at this place.
+pub(crate) fn set_bodies(structs: &mut StructMap, first: usize, given: Vec<StructBody>)
+    requires { first + length given.items ≤ index_map_len structs.old }
+    ensures { (types : List IrType) → with_bodies (record { types = types; structs = structs.old.entries }) first given.items
+        ≡ record { types = types; structs = structs.new.entries } }
+{
+    let _count = structs.len();
+    let mut index = first;
+    let mut rest = given.into_iter();
+    'bodies: while let Some(body) = rest.next() {
+        set_body(structs, index, body);
+        index += 1;
+    }
 }
 
 /// An equal body, or none where there is none.

@@ -1,23 +1,28 @@
 //! The table of types.
-ghost use Rattle.std.specs.Prelude.{◌≡◌, IsTrue, ◌+◌, ◌<◌, ◌↔◌, ◌⊎◌, ◌^◌, ◌-◌, [], ◌∷◌, ◌++◌, length, slice_get, Some, None, Err, Contains, IfOk, IsSome, IfErr, IfSome, OnOk, OnErr, vec_len, vec_capacity};
+ghost use Rattle.std.specs.Prelude.{◌≡◌, ℕ, IsTrue, true, All, ◌+◌, ◌<◌, ◌≤◌, ◌↔◌, ◌⊎◌, ◌^◌, ◌-◌, [], ◌∷◌, ◌++◌, length, slice_get, Some, None, Ok, Err, Contains, IfOk, IsSome, IfErr, IfSome, OnOk, OnErr, vec_len, vec_capacity};
 ghost use Rattle.std.specs.Option.{option_copied, option_and_then};
 ghost use Rattle.type_table.specs.Tree.{body_of};
 ghost use Rattle.type_table.specs.Types.{Types, no_types, names, bodies, with_type, with_struct, with_body, IsKnown, IsKnownBody, IsGood, trees, tree_of, structs, shape};
 ghost use Rattle.type_table.specs.Kept.{IsLarge, type_length, flagged_by};
 ghost use Rattle.type_table.specs.Limits.{IsWithin, HasFault};
+ghost use Rattle.type_table.specs.Batch.{StaysWithin, with_bodies};
 ghost use Rattle.type_table.specs.Layout.{layout, offset};
 ghost use Rattle.type_table.specs.Outline.{head_of, parts_of};
 
 use crate::measure::{Measure, NESTING_LIMIT, SIZE_LIMIT};
 use crate::outline::{TypeOutline, parts_of_body};
-use crate::settle::{Measures, field_offset, measure_at, measure_body, measure_type, remeasured};
-use crate::structs::{StructMap, add_struct, copy_structs, has_name, name_at, place_of, set_body};
+use crate::settle::{
+    Measures, at_rest, field_offset, measure_at, measure_body, measure_type, remeasured,
+};
+use crate::structs::{
+    StructMap, add_struct, copy_structs, has_name, name_at, place_of, set_bodies, set_body,
+};
 use crate::{IrType, Layout, StructBody, StructId, TypeFault, TypeId};
 use indexmap::IndexMap;
 use ir_base::Name;
 use std::alloc::{AllocError, Global};
 use std::marker::Model;
-use std::slice;
+use std::{mem, slice};
 
 /// The types of a module and its named structs, under their ids.
 #[derive(Drop)]
@@ -171,6 +176,44 @@ impl TypeTable {
         set_body(&mut self.structs, index, body);
         self.measures = measures;
         Ok(())
+    }
+
+    /// Gives structs without bodies these, the first of them that with this id, where the table is within its limits
+    /// behind each of them, and takes the bodies then: in time linear in the table. `false` where that was not seen:
+    /// nothing changes then, and `define_struct` tells of each what is wrong.
+    pub fn define_structs(
+        &mut self,
+        first: StructId,
+        given: &mut Vec<StructBody>,
+    ) -> Result<bool, AllocError>
+        requires known { first + length given.old.items ≤ length self.old.structs }
+        requires fields { All (IsKnownBody self.old) given.old.items }
+        requires undefined { (k : ℕ) → first ≤ k → k < first + length given.old.items
+            → slice_get (bodies self.old) k ≡ Some None }
+        ensures ok { result ≡ Ok true → self.new ≡ with_bodies self.old first given.old.items }
+        ensures trees { trees self.new ≡ trees self.old }
+        ensures within { result ≡ Ok true → StaysWithin self.old first given.old.items }
+        ensures kept { ¬ (result ≡ Ok true) → (self.new ≡ self.old) × (given.new ≡ given.old) }
+    {
+        let alloc = *self.types.allocator();
+        let index = first.number() as usize;
+        let kept = &self.measures.structs;
+        let found = at_rest(alloc, kept, &self.types, &self.structs, index, given)?;
+        let Some(measures) = found else {
+            return Ok(false);
+        };
+        match measures.check() {
+            Ok(()) => {
+                set_bodies(
+                    &mut self.structs,
+                    index,
+                    mem::replace(given, Vec::new(alloc)),
+                );
+                self.measures = measures;
+                Ok(true)
+            }
+            Err(_) => Ok(false),
+        }
     }
 
     /// The type with that id.
