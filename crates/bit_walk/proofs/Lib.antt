@@ -6,7 +6,9 @@ mod Literals
 mod Operands
 mod PassedOver
 mod PassingLoops
+mod PlainRecords
 mod Records
 mod Scopes
+mod Short
 mod Walked
 mod Ways

@@ -59,7 +59,7 @@ gives_next s c ns later v d h read =
 
 -- so many values of one spelling
 
-repeated_next : (s : ValueSpelling) (k : ℕ) (c : Cursor) → 0 < k → repeated s k c ≡ (value_by s c >>= λ v d. repeated s (k - 1) d >>= λ vs e. Ok (v ∷ vs, e))
+pub repeated_next : (s : ValueSpelling) (k : ℕ) (c : Cursor) → 0 < k → repeated s k c ≡ (value_by s c >>= λ v d. repeated s (k - 1) d >>= λ vs e. Ok (v ∷ vs, e))
 unfolding repeated
 repeated_next s zero c some = absurd (omega arith)
 repeated_next s (suc k) c some = let less : suc k - 1 ≡ k = omega arith in rw less refl
@@ -72,6 +72,10 @@ repeated_value s k c some h =
 pub repeated_gives : (s : ValueSpelling) (k : ℕ) (c d : Cursor) (t : AdmittedAbbreviation) (v : ℕ) (ns : List ℕ) → 0 < k → value_by s c ≡ Ok (v, d) → Leaves (repeated s k c) ns → Gave ns (Some v) (left_by (Repeats s (k - 1)) t d)
 unfolding left_by
 repeated_gives s k c d t v ns some read h = gives_next s c ns (λ e. repeated s (k - 1) e) v d (rw (repeated_next s k c some) at h) read
+
+-- a value that was read is the next, and one fewer is left
+pub repeated_more : (s : ValueSpelling) (k : ℕ) (c d : Cursor) (v : ℕ) (ns : List ℕ) → 0 < k → value_by s c ≡ Ok (v, d) → Leaves (repeated s k c) ns → Gave ns (Some v) (repeated s (k - 1) d)
+repeated_more s k c d v ns some read h = gives_next s c ns (λ e. repeated s (k - 1) e) v d (rw (repeated_next s k c some) at h) read
 
 pub over : (t : AdmittedAbbreviation) (c : Cursor) → Leaves (left_by Over t c) []
 unfolding left_by
@@ -138,13 +142,13 @@ behind_found f g x d y e h k = rw h k
 cons_found : (f : Found ℕ) (later : Cursor → Found (List ℕ)) (v : ℕ) (vs : List ℕ) (d e : Cursor) → f ≡ Ok (v, d) → later d ≡ Ok (vs, e) → (f >>= λ v d. later d >>= λ vs e. Ok (v ∷ vs, e)) ≡ Ok (v ∷ vs, e)
 cons_found f later v vs d e h k = rw (h, k) refl
 
-same_list : (f : Found (List ℕ)) (ns ms : List ℕ) (d : Cursor) → f ≡ Ok (ns, d) → ns ≡ ms → f ≡ Ok (ms, d)
+pub same_list : (f : Found (List ℕ)) (ns ms : List ℕ) (d : Cursor) → f ≡ Ok (ns, d) → ns ≡ ms → f ≡ Ok (ms, d)
 same_list f ns ms d h same = rw same at h
 
 more_listed : (front more all : List ℕ) (v : ℕ) (vs : List ℕ) → more ≡ front ++ v ∷ [] → all ≡ more ++ vs → all ≡ front ++ (v ∷ vs)
 more_listed front more all v vs h k = k ∙ (ap (λ (l : List ℕ). l ++ vs) h ∙ append_assoc front (v ∷ []) vs)
 
-at_place : {A : Type 0} (f : Found A) (x : A) (d e : Cursor) → f ≡ Ok (x, d) → d ≡ e → f ≡ Ok (x, e)
+pub at_place : {A : Type 0} (f : Found A) (x : A) (d e : Cursor) → f ≡ Ok (x, d) → d ≡ e → f ≡ Ok (x, e)
 at_place f x d e h same = rw same at h
 
 operand_value : (b : Bool) (front more : List ℕ) (s : ValueSpelling) (c d : Cursor) → operand b front s c ≡ Ok (more, d) → (v : ℕ) × (value_by s c ≡ Ok (v, d)) × (more ≡ front ++ v ∷ [])
@@ -154,7 +158,7 @@ operand_value b front more s c d h =
     let last = not_refused _ _ (front ++ first.0 ∷ []) more first.1 d first.3 in
     (first.0, at_place (value_by s c) first.0 first.1 d first.2 last.1, sym last.0)
 
-elements_repeated : (b : Bool) (s : ValueSpelling) (n : ℕ) (front all : List ℕ) (c d : Cursor) → elements b s n front c ≡ Ok (all, d) → (ns : List ℕ) × (repeated s n c ≡ Ok (ns, d)) × (all ≡ front ++ ns)
+pub elements_repeated : (b : Bool) (s : ValueSpelling) (n : ℕ) (front all : List ℕ) (c d : Cursor) → elements b s n front c ≡ Ok (all, d) → (ns : List ℕ) × (repeated s n c ≡ Ok (ns, d)) × (all ≡ front ++ ns)
 unfolding elements repeated
 elements_repeated b s zero front all c d h = let last = found_parts front all c d h in ([], rw last.1 refl, sym last.0 ∙ sym (append-nil front))
 elements_repeated b s (suc n) front all c d h =

@@ -1,8 +1,12 @@
 -- What a walker's calls leave.
-use Rattle.std.proofs.Common.{◌≡◌, ℕ, Bool, false, List, [], Option, Some, None, refl, sym, ap, ◌∙◌}
+use Rattle.std.proofs.Common.{◌≡◌, ℕ, ◌-◌, ◌<◌, Bool, true, false, List, [], Option, Some, None, Ok, refl, sym, ap, ◌∙◌}
 use Rattle.bits.specs.Bits.{stream_bits}
 use Rattle.bits.specs.Cursor.{Cursor, Found}
+use Rattle.bit_stream.specs.declared.abbreviation.ValueSpelling.{ValueSpelling}
+use Rattle.bit_stream.specs.declared.abbreviation.ValueSpelling.TheVariants.{Chunks}
 use Rattle.bit_stream.specs.Abbreviation.{AdmittedAbbreviation}
+use Rattle.bit_stream.specs.Entry.{is_top, is_blockinfo}
+use Rattle.bit_stream.specs.Record.{value_by}
 use Rattle.bit_stream.specs.Scope.{Scope, top_level}
 use Rattle.bit_tree.specs.Stream.{Tree, Stream, opening}
 use Rattle.bit_tree.specs.Pieces.{Piece, flat}
@@ -10,9 +14,13 @@ use Rattle.bit_tree.specs.Read.{IsStream}
 use Rattle.bit_walk.specs.Starts.{Opened, IsKept}
 use Rattle.bit_walk.specs.declared.event.Event.{Event}
 use Rattle.bit_walk.specs.declared.event.Event.TheVariants.{Begun, Ended, Defined, Held}
-use Rattle.bit_walk.specs.Values.{Leaves, IsRead, Gave, list_of}
-use Rattle.bit_walk.specs.Left.{Ahead, IsAhead, IsPlace, Steps, pieces_left, operands_left}
+use Rattle.bit_walk.specs.declared.plain.PlainHead.{PlainHead}
+use Rattle.bit_walk.specs.Plain.{head_at, place_past, place_of, found_of}
+use Rattle.bit_walk.specs.Values.{Leaves, IsRead, Gave, list_of, repeated}
+use Rattle.bit_walk.specs.Left.{Ahead, IsAhead, IsPlace, IsWalking, Steps, pieces_left, operands_left}
 use Rattle.bit_walk.specs.Walker.{Walker, piece_of, Gave as Advanced, Took}
+use Rattle.bit_walk.proofs.Operands.{repeated_value, repeated_more}
+use Rattle.bit_walk.proofs.PlainRecords.{plain_step, repeated_past}
 use Rattle.bit_walk.proofs.Ways.{left_is, tree_ahead}
 
 -- the piece of an event does not look at what is left
@@ -66,3 +74,75 @@ took spent left found later has_blob blob t answer unspent read gave = rw unspen
 pub still_read : (found later : Found (List ℕ)) (answer : Option ℕ) → IsRead found → ((ns : List ℕ) → Leaves found ns → Gave ns answer later) → IsRead later
 still_read found later None read gave = ([], (gave read.0 read.1).1)
 still_read found later (Some n) read gave = let next = gave read.0 read.1 in (next.0, next.2)
+
+-- a record without an abbreviation is given, and its operands wait
+
+pub place_at : (o : Opened) (c d : Cursor) (start : Option ℕ) (t : AdmittedAbbreviation) → d ≡ c → IsPlace o c start t → IsPlace o d start t
+place_at o c d start t same h = rw same h
+
+pub left_at : (old : Walker) (spent : Bool) (s : Scope) (c d : Cursor) → old.left ≡ pieces_left spent s c → spent ≡ false → d ≡ c → old.left ≡ pieces_left false s d
+left_at old spent s c d left unspent same = left ∙ (ap (λ (b : Bool). pieces_left b s c) unspent ∙ ap (λ (e : Cursor). pieces_left false s e) (sym same))
+
+pub plain_walked : (old : Walker) (spent : Bool) (s : Scope) (c inner : Cursor) (head : PlainHead) (t : AdmittedAbbreviation) → spent ≡ false → is_top s ≡ false → is_blockinfo s ≡ false → head_at s.block.width c ≡ Ok (Some head, inner)
+    → IsAhead s c → old.left ≡ pieces_left false s c
+    → Advanced old (Some (Held (record { id = 3; code = head.code }))) (record { spent = spent; left = pieces_left spent s (place_past inner (repeated (Chunks 6) head.count inner)); operands = operands_left spent (repeated (Chunks 6) head.count inner); has_blob = false; blob = []; template = t })
+plain_walked old spent s c inner head t unspent within other h ahead left =
+    let after = place_past inner (repeated (Chunks 6) head.count inner) in
+    let operands = list_of (repeated (Chunks 6) head.count inner) in
+    let given : Option Event = Some (Held (record { id = 3; code = head.code })) in
+    rw unspent (walked old given s s c after operands false [] t ahead left (λ ps along. plain_step s c inner head ps (record { spent = false; left = []; operands = operands; has_blob = false; blob = []; template = t }) within other h along refl refl refl))
+
+-- one that waits is taken
+
+pub took_one : (spent : Bool) (s : Scope) (waiting : Option ℕ) (count v : ℕ) (inner d cursor : Cursor) (found : Found (List ℕ)) (has_blob : Bool) (blob : List ℕ) (t : AdmittedAbbreviation)
+    → waiting ≡ Some count → 0 < count → spent ≡ false → value_by (Chunks 6) inner ≡ Ok (v, d) → IsRead (found_of waiting inner found)
+    → Took (at_record spent (pieces_left spent s (place_of waiting inner cursor)) (found_of waiting inner found) has_blob blob t) (Some v)
+    (at_record spent (pieces_left spent s (place_past d (repeated (Chunks 6) (count - 1) d))) (repeated (Chunks 6) (count - 1) d) has_blob blob t)
+took_one spent s waiting count v inner d cursor found has_blob blob t waits some unspent value read =
+    let all : IsRead (repeated (Chunks 6) count inner) = rw waits at read in
+    let past = repeated_past (Chunks 6) count inner d v some value all in
+    let after = pieces_left spent s (place_past d (repeated (Chunks 6) (count - 1) d)) in
+    rw (waits, past) (took spent after (repeated (Chunks 6) count inner) (repeated (Chunks 6) (count - 1) d) has_blob blob t (Some v) unspent all (λ ns h. repeated_more (Chunks 6) count inner d v ns some value h))
+
+none_waits : (spent : Bool) (s : ValueSpelling) (k : ℕ) (c : Cursor) → k ≡ 0 → operands_left spent (repeated s k c) ≡ []
+unfolding repeated
+none_waits true s k c none = refl
+none_waits false s k c none = rw none refl
+
+pub took_none : (spent : Bool) (left : List Piece) (waiting : Option ℕ) (count : ℕ) (inner : Cursor) (found : Found (List ℕ)) (has_blob : Bool) (blob : List ℕ) (t : AdmittedAbbreviation) → waiting ≡ Some count → count ≡ 0
+    → Took (at_record spent left (found_of waiting inner found) has_blob blob t) None (at_record spent left (found_of waiting inner found) has_blob blob t)
+took_none spent left waiting count inner found has_blob blob t waits none = (rw waits (none_waits spent (Chunks 6) count inner none), refl)
+
+pub waiting_value : (waiting : Option ℕ) (count : ℕ) (inner : Cursor) (found : Found (List ℕ)) → waiting ≡ Some count → 0 < count → IsRead (found_of waiting inner found) → (n : ℕ) × (d : Cursor) × (value_by (Chunks 6) inner ≡ Ok (n, d))
+waiting_value waiting count inner found waits some read =
+    let all : IsRead (repeated (Chunks 6) count inner) = rw waits at read in
+    repeated_value (Chunks 6) count inner some all
+
+-- the walker behind it
+
+pub waits_on : (spent : Bool) (o : Opened) (waiting : Option ℕ) (count v : ℕ) (inner d cursor : Cursor) (found : Found (List ℕ)) (start : Option ℕ) (t : AdmittedAbbreviation)
+    → waiting ≡ Some count → 0 < count → spent ≡ false → value_by (Chunks 6) inner ≡ Ok (v, d)
+    → IsWalking spent o (place_of waiting inner cursor) start t (found_of waiting inner found)
+    → IsWalking spent o (place_past d (repeated (Chunks 6) (count - 1) d)) start t (repeated (Chunks 6) (count - 1) d)
+waits_on spent o waiting count v inner d cursor found start t waits some unspent value h =
+    let all : IsRead (repeated (Chunks 6) count inner) = rw waits at (h.read unspent) in
+    let place : IsPlace o (place_past inner (repeated (Chunks 6) count inner)) start t = rw waits at (h.place unspent) in
+    let past = repeated_past (Chunks 6) count inner d v some value all in
+    record {
+      place = λ _. rw past at place;
+      read = λ _. still_read (repeated (Chunks 6) count inner) (repeated (Chunks 6) (count - 1) d) (Some v) all (λ ns k. repeated_more (Chunks 6) count inner d v ns some value k);
+    }
+
+-- one whose operands do not wait
+
+pub still_walking : (spent : Bool) (o : Opened) (waiting : Option ℕ) (inner later cursor : Cursor) (found more : Found (List ℕ)) (start : Option ℕ) (t : AdmittedAbbreviation) (answer : Option ℕ) → waiting ≡ None
+    → ((ns : List ℕ) → Leaves found ns → Gave ns answer more)
+    → IsWalking spent o (place_of waiting inner cursor) start t (found_of waiting inner found)
+    → IsWalking spent o (place_of waiting later cursor) start t (found_of waiting later more)
+still_walking spent o waiting inner later cursor found more start t answer none gave h =
+    let place : spent ≡ false → IsPlace o cursor start t = rw none at h.place in
+    let read : spent ≡ false → IsRead found = rw none at h.read in
+    record {
+      place = rw none place;
+      read = rw none (λ unspent. still_read found more answer (read unspent) gave);
+    }

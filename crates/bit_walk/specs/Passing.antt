@@ -41,6 +41,15 @@ unfoldable pub pass_elements : Bool → ValueSpelling → ℕ → Option ℕ →
 pass_elements names s zero first c = Ok (first, c)
 pass_elements names s (suc n) first c = pass_operand names first s c >>= λ more d. pass_elements names s n more d
 
+-- they are passed, and this is the place behind them
+abbrev pub IsPassedTo : Found (Option ℕ) → Cursor → Type 0
+IsPassedTo found d = (first : Option ℕ) × (found ≡ Ok (first, d))
+
+-- what a call answered that passes them, and where it left its cursor
+abbrev pub IsPassed : {X : Type 0} → Result X BitFault → Cursor → Found (Option ℕ) → Type 0
+IsPassed (Ok x) left found = IsPassedTo found left
+IsPassed (Err fault) left found = found ≡ Err fault
+
 -- operands of these spellings
 unfoldable pub pass_each : Bool → List ValueSpelling → Option ℕ → Cursor → Found (Option ℕ)
 pass_each names [] first c = Ok (first, c)

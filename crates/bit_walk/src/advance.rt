@@ -90,6 +90,7 @@ fn pass_judged<'b>(
 }
 
 /// Goes past what stands in front.
+#[inline(never)]
 pub fn advance<'b>(
     cursor: &mut BitCursor<'b>,
     scope: &mut WalkScope<'b>,

@@ -9,6 +9,7 @@ ghost use Rattle.bit_walk.specs.Starts.{IsOn, IsKept};
 ghost use Rattle.bit_walk.specs.Passing.{Passed, recorded, settled, pass_by_template, pass_record, pass_inside, pass_item, IsBy};
 
 use crate::passing::{Passed, pass_abbreviated, pass_unabbreviated};
+use crate::plain::{PlainPassed, plain_passed};
 use crate::scope::WalkScope;
 use crate::starts::Kept;
 use bit_stream::{
@@ -99,6 +100,7 @@ fn next_template(cursor: &mut BitCursor, kept: &mut Kept, alloc: Global) -> Resu
 
 /// DEFINE_ABBREV behind its id, which stands at this bit.
 #[tactic(auto, using(crate::proofs::Definitions::template_here), unfolding(bit_stream::specs::Entry::define, bit_stream::specs::Entry::define_for))]
+#[inline(never)]
 fn define(
     cursor: &mut BitCursor,
     scope: &mut WalkScope,
@@ -167,6 +169,7 @@ fn by_template<'b>(
 
 /// A record behind its id, which is from 3 on and stands at this bit.
 #[tactic(auto, unfolding(crate::specs::Passing::pass_record))]
+#[inline(never)]
 fn record<'b>(
     cursor: &mut BitCursor<'b>,
     scope: &mut WalkScope<'b>,
@@ -256,4 +259,28 @@ pub fn pass_item<'b>(
         return Err(bad_abbreviation(bit).into());
     }
     Ok(WalkItem::plain(Some(Entry::Block(enter_block(cursor, scope)?))))
+}
+
+/// The same, but that nothing is told of abbreviations. A record without one is passed where it stands.
+#[inline(always)]
+pub fn pass_next<'b>(
+    cursor: &mut BitCursor<'b>,
+    scope: &mut WalkScope<'b>,
+    kept: &mut Kept,
+    alloc: Global,
+) -> Result<WalkItem<'b>, StreamFault>
+    requires on { IsOn scope.old.bits cursor.old }
+    requires kept { IsKept scope.old.bits kept.old.start kept.old.template }
+    ensures read { Ran (λ item. record { entry = item.entry; scope = scope.new.scope; operands = []; blob = item.blob.now }) cursor.new result (pass_item scope.old.scope cursor.old) }
+    ensures bits { IfOk result (λ _. scope.new.bits ≡ scope.old.bits) }
+    ensures kept { IfOk result (λ _. IsKept scope.old.bits kept.new.start kept.new.template) }
+{
+    match plain_passed(cursor, scope) {
+        Some(passed) => {
+            let PlainPassed { code, behind } = passed;
+            *cursor = behind;
+            Ok(WalkItem::plain(Some(Entry::Record(code))))
+        }
+        None => pass_item(cursor, scope, kept, alloc),
+    }
 }

@@ -20,6 +20,7 @@ mod advance;
 mod event;
 mod item;
 mod passing;
+mod plain;
 mod scope;
 mod spelling;
 mod starts;

@@ -1,11 +1,12 @@
 //! The values of a record, passed over: of its operands the first alone is kept.
-ghost use Rattle.std.specs.Prelude.{◌≡◌, ℕ, ◌-◌, ◌^◌, ◌&&◌, ◌==◌, None};
+ghost use Rattle.std.specs.Prelude.{◌≡◌, ℕ, ◌-◌, ◌^◌, ◌&&◌, ◌==◌, None, false, IfSome};
 ghost use Rattle.bits.specs.Cursor.{found_at};
 ghost use Rattle.bit_stream.specs.Record.{value_by, code_by, names_block};
-ghost use Rattle.bit_walk.specs.Passing.{with_first, is_none, pass_operand, pass_elements, pass_each, pass_counted, pass_tail, pass_unabbreviated, pass_abbreviated};
+ghost use Rattle.bit_walk.specs.Passing.{with_first, is_none, pass_operand, pass_elements, pass_each, pass_counted, pass_tail, pass_unabbreviated, pass_abbreviated, IsPassed, IsPassedTo};
 ghost use Rattle.bit_stream.specs.declared.abbreviation.ValueSpelling.TheVariants.{Chunks};
 
 use crate::spelling::WalkedSpelling;
+use crate::values::plain_spelling;
 use bit_stream::{ChunkWidth, Tail, ValueSpelling, bad_abbreviation, code_by, value_by};
 use bits::{BitCursor, BitFault};
 
@@ -65,7 +66,7 @@ fn pass_operand(
 
 /// So many operands of one spelling.
 #[inline(always)]
-fn pass_elements(
+pub fn pass_elements(
     cursor: &mut BitCursor,
     scalar: &ValueSpelling,
     count: u64,
@@ -79,6 +80,45 @@ fn pass_elements(
         first = pass_operand(cursor, *scalar, names_block, first)?;
     }
     Ok(first)
+}
+
+/// The top bit of each of nine chunks of 6 bits.
+const TOPS: u64 = 0x0020_8208_2082_0820;
+
+/// The place behind so many operands of a record without an abbreviation, where they are at most nine, and each has one
+/// chunk.
+#[inline(always)]
+fn behind_short<'b>(cursor: &BitCursor<'b>, count: u64) -> Option<BitCursor<'b>>
+    ensures { IfSome result (λ behind. IsPassedTo (pass_elements false (Chunks 6) count None cursor.now) behind) }
+{
+    if count > 9 {
+        return None;
+    }
+    let mut behind = cursor.copy();
+    let Ok(chunks) = behind.fixed(6 * count as u32) else {
+        return None;
+    };
+    if chunks & TOPS == 0 {
+        return Some(behind);
+    }
+    None
+}
+
+/// So many operands of a record without an abbreviation, whatever they are.
+#[inline(always)]
+pub fn pass_plain(cursor: &mut BitCursor, count: u64) -> Result<(), BitFault>
+    ensures { IsPassed result cursor.new (pass_elements false (Chunks 6) count None cursor.old) }
+{
+    if count == 0 {
+        return Ok(());
+    }
+    if let Some(behind) = behind_short(cursor, count) {
+        *cursor = behind;
+        return Ok(());
+    }
+    let spelling = plain_spelling();
+    pass_elements(cursor, &spelling, count, false, None)?;
+    Ok(())
 }
 
 /// Operands of these spellings.

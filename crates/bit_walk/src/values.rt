@@ -24,7 +24,7 @@ pub enum OperandStage {
 
 /// A value that is not refused.
 #[inline(always)]
-fn value(cursor: &mut BitCursor, scalar: ValueSpelling) -> u64
+pub fn value(cursor: &mut BitCursor, scalar: ValueSpelling) -> u64
     requires { (n : ℕ) × (d : Cursor) × (value_by scalar cursor.old ≡ Ok (n, d)) }
     ensures { value_by scalar cursor.old ≡ Ok (result, cursor.new) }
 {
@@ -111,6 +111,7 @@ fn next_field(
 }
 
 /// The next operand of a record, none of whose operands is refused.
+#[inline(never)]
 pub fn next_value(
     cursor: &mut BitCursor,
     stage: &mut OperandStage,
@@ -161,7 +162,7 @@ fn pass_code(cursor: &mut BitCursor, scalar: ValueSpelling)
 }
 
 /// How a record without an abbreviation spells its values.
-fn plain_spelling() -> ValueSpelling
+pub fn plain_spelling() -> ValueSpelling
     ensures { result ≡ Chunks 6 }
 {
     ValueSpelling::Chunks(ChunkWidth::new(6))

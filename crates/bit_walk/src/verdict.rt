@@ -6,7 +6,7 @@ ghost use Rattle.bit_stream.specs.declared.reader.TheConstants.{LARGEST_STREAM};
 ghost use Rattle.bit_tree.specs.Stream.{is_end, opening};
 ghost use Rattle.bit_tree.specs.Read.{Judged};
 
-use crate::item::pass_item;
+use crate::item::pass_next;
 use crate::scope::WalkScope;
 use crate::starts::Kept;
 use bit_stream::{BitReader, Entry, StreamFault};
@@ -23,7 +23,7 @@ pub fn judge(alloc: Global, bytes: &[u8]) -> Result<(), StreamFault>
     let mut scope = WalkScope::new(alloc, bytes);
     let mut kept = Kept::nothing(alloc);
     'judging: loop {
-        let item = pass_item(&mut cursor, &mut scope, &mut kept, alloc)?;
+        let item = pass_next(&mut cursor, &mut scope, &mut kept, alloc)?;
         if is_end(item.entry) {
             return Ok(());
         }

@@ -7,10 +7,11 @@ ghost use Rattle.bit_tree.specs.Read.{IsStream};
 ghost use Rattle.bit_walk.specs.Walker.{Walks, Took};
 
 use crate::advance::advance;
-use crate::event::Event;
+use crate::event::{Event, RecordHead};
+use crate::plain::{PlainRecord, behind, plain_in_front};
 use crate::scope::WalkScope;
 use crate::starts::Kept;
-use crate::values::{OperandStage, next_value};
+use crate::values::{OperandStage, next_value, plain_spelling, value};
 use bit_stream::AdmittedAbbreviation;
 use bits::BitCursor;
 use std::alloc::{AllocError, Global};
@@ -31,19 +32,23 @@ pub struct Walker<'b> {
     has_blob: bool,
     blob: &'b [u8],
     spent: bool,
+    /// Of a record without an abbreviation, where one was given last, how many operands were not taken. It is passed with the
+    /// next step: until then the cursor is where it was before.
+    waiting: Option<u64>,
     alloc: Global,
 }
 
 impl<'b> Model for Walker<'b> {
     ghost use Rattle.bit_walk.specs.Left.{pieces_left, operands_left, IsWalking};
+    ghost use Rattle.bit_walk.specs.Plain.{place_of, found_of};
     ghost use Rattle.bit_walk.specs.Values.{left_by};
     ghost use Rattle.bit_walk.specs.Walker.{Walker};
 
     ghost Value = { Walker };
 
-    ghost view = { λ w. record { spent = w.spent; left = pieces_left w.spent w.scope.scope w.cursor; operands = operands_left w.spent (left_by w.stage w.kept.template w.inner); has_blob = w.has_blob; blob = w.blob.now; template = w.kept.template } };
+    ghost view = { λ w. record { spent = w.spent; left = pieces_left w.spent w.scope.scope (place_of w.waiting w.inner w.cursor); operands = operands_left w.spent (found_of w.waiting w.inner (left_by w.stage w.kept.template w.inner)); has_blob = w.has_blob; blob = w.blob.now; template = w.kept.template } };
 
-    ghost invariant = { λ w. IsWalking w.spent w.scope w.cursor w.kept.start w.kept.template (left_by w.stage w.kept.template w.inner) };
+    ghost invariant = { λ w. IsWalking w.spent w.scope (place_of w.waiting w.inner w.cursor) w.kept.start w.kept.template (found_of w.waiting w.inner (left_by w.stage w.kept.template w.inner)) };
 }
 
 impl<'b> Walker<'b> {
@@ -66,18 +71,34 @@ impl<'b> Walker<'b> {
             has_blob: false,
             blob: &[],
             spent: false,
+            waiting: None,
             alloc,
         }
     }
 
     /// The next entry or definition, or none at the end of the stream. Operands of the record before that were not taken
     /// are passed over.
+    #[inline(always)]
     pub fn next(&mut self) -> Result<Option<Event>, AllocError>
         ensures { Walks self.old.spent self.old result self.new }
     {
         if self.spent {
             return Err(AllocError);
         }
+        let place = behind(&self.cursor, &self.inner, self.waiting);
+        if let Some(plain) = plain_in_front(&place, &self.scope) {
+            let PlainRecord { head, inner } = plain;
+            self.inner = inner;
+            self.waiting = Some(head.count);
+            self.has_blob = false;
+            self.blob = &[];
+            return Ok(Some(Event::Held(RecordHead {
+                id: 3,
+                code: head.code,
+            })));
+        }
+        self.cursor = place;
+        self.waiting = None;
         self.spent = true;
         let arrival = advance(
             &mut self.cursor,
@@ -94,17 +115,27 @@ impl<'b> Walker<'b> {
     }
 
     /// The next operand of the record that was given last, or none behind the last one and where no record was given.
+    #[inline(always)]
     pub fn next_operand(&mut self) -> Option<u64>
         ensures { Took self.old result self.new }
     {
         if self.spent {
             return None;
         }
-        next_value(
-            &mut self.inner,
-            &mut self.stage,
-            self.kept.template.template(),
-        )
+        match self.waiting {
+            Some(count) => {
+                if count == 0 {
+                    return None;
+                }
+                self.waiting = Some(count - 1);
+                Some(value(&mut self.inner, plain_spelling()))
+            }
+            None => next_value(
+                &mut self.inner,
+                &mut self.stage,
+                self.kept.template.template(),
+            ),
+        }
     }
 
     /// Whether the record that was given last ends in a blob, an empty one included.

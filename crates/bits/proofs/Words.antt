@@ -3,9 +3,9 @@ use Rattle.std.proofs.Common.{◌≡◌, ℕ, ◌+◌, ◌-◌, ◌*◌, ◌/◌
 use Rattle.std.specs.Int.{from_le_bytes}
 use Rattle.std.proofs.lemmas.List.{drop_more, drop-drop}
 use Rattle.std.proofs.Math.Nat.{mod-eq_of_lt}
-use Rattle.std.proofs.Math.Pow.{pow_mono}
+use Rattle.std.proofs.Math.Pow.{pow_mono, mod-mod-pow}
 use Rattle.std.proofs.Math.Seq.{take-add, length-take-le}
-use Rattle.std.proofs.lemmas.Nat.{pow_pos, or_shifted, shr-shr, and_mask, one_shl}
+use Rattle.std.proofs.lemmas.Nat.{pow_pos, or_shifted, shr-shr, and_mask, one_shl, field_of}
 use Rattle.bits.specs.Bits.{value, stream_bits}
 use Rattle.bits.proofs.BitsLaws.{value-lt, value-byte, length-stream_bits, value-take, value-drop, value-append, field_in_word}
 
@@ -53,3 +53,17 @@ long_field bits at w low high from to whole low_is high_is =
     let fits : high * 4294967296 < 2 ^ 64 = omega arith in
     let low_fits : low < 2 ^ 32 = omega (arith, value-take 32 (drop at bits)) in
     rw (mod-eq_of_lt fits, or_shifted high 32 low low_fits, cut, value-append, size, ← low_is, ← high_is) (omega arith)
+
+-- the first bits of a field that was read, and those behind them
+
+pub field_front : (m w field : ℕ) (bits : List Bool) → w ≤ m → w ≤ 32 → field ≡ value (take m bits) → bit_and field (1 * 2 ^ w % 2 ^ 64 - 1) ≡ value (take w bits)
+field_front m w field bits within narrow is =
+    let whole : m - w + w ≡ m = omega arith in
+    let cut : value bits % 2 ^ m % 2 ^ w ≡ value bits % 2 ^ w = ap (λ (k : ℕ). value bits % 2 ^ k % 2 ^ w) (sym whole) ∙ mod-mod-pow (value bits) (m - w) w in
+    rw (one_shl w 64 (omega arith), and_mask, is, value-take, value-take) cut
+
+pub field_back : (m w field : ℕ) (bits : List Bool) → w ≤ m → field ≡ value (take m bits) → field / 2 ^ w ≡ value (take (m - w) (drop w bits))
+field_back m w field bits within is =
+    let whole : m - w + w ≡ m = omega arith in
+    let cut : value bits % 2 ^ m / 2 ^ w ≡ value bits / 2 ^ w % 2 ^ (m - w) = ap (λ (k : ℕ). value bits % 2 ^ k / 2 ^ w) (sym whole) ∙ field_of (value bits) (m - w) w in
+    rw (is, value-take, value-take, value-drop) cut

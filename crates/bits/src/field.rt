@@ -123,6 +123,54 @@ fn in_one_chunk(bytes: &[u8], start: u64, width: u32) -> Option<u64>
     None
 }
 
+/// The number in chunks of `width` bits from bit `start` on, and how many bits it takes, where a field of 57 bits holds it.
+#[inline(always)]
+fn in_one_field(bytes: &[u8], start: u64, width: u32) -> Option<(u64, u64)>
+    requires width_low { 2 ≤ width }
+    requires width_high { width ≤ 32 }
+    requires start_in { start ≤ 8 * length bytes.now }
+    requires small { length bytes.now < 2 ^ 60 }
+    ensures { IfSome result (λ read. Ok read ≡ vbr_at width (drop start (stream_bits bytes.now))) }
+{
+    let step = u64::from(width);
+    let data_bits = width - 1;
+    let room = (bytes.len() as u64 * 8 - start).min(57);
+    let mut left = field_at(bytes, start, room as u32);
+    let mut value = 0;
+    let mut shift = 0;
+    let mut taken = 0;
+    for _ in 0..65u32 {
+        if room - taken < step {
+            return None;
+        }
+        let part = left & ((1 << width) - 1);
+        let data = part & ((1 << data_bits) - 1);
+        value |= data << shift;
+        taken += step;
+        if part >> data_bits == 0 {
+            return Some((value, taken));
+        }
+        left >>= width;
+        shift += data_bits;
+    }
+    None
+}
+
+/// The number in chunks of `width` bits from bit `start` on, and how many bits it takes. A field holds all but the largest.
+#[inline(never)]
+fn in_more_chunks(bytes: &[u8], start: u64, width: u32) -> Result<(u64, u64), BitFaultKind>
+    requires width_low { 2 ≤ width }
+    requires width_high { width ≤ 32 }
+    requires start_in { start ≤ 8 * length bytes.now }
+    requires small { length bytes.now < 2 ^ 60 }
+    ensures { result ≡ vbr_at width (drop start (stream_bits bytes.now)) }
+{
+    match in_one_field(bytes, start, width) {
+        Some(read) => Ok(read),
+        None => in_chunks(bytes, start, width),
+    }
+}
+
 /// The number in chunks of `width` bits from bit `start` on, and how many bits it takes. Most numbers have one chunk.
 #[inline(always)]
 pub fn vbr_in(bytes: &[u8], start: u64, width: u32) -> Result<(u64, u64), BitFaultKind>
@@ -134,7 +182,7 @@ pub fn vbr_in(bytes: &[u8], start: u64, width: u32) -> Result<(u64, u64), BitFau
 {
     match in_one_chunk(bytes, start, width) {
         Some(number) => Ok((number, u64::from(width))),
-        None => in_chunks(bytes, start, width),
+        None => in_more_chunks(bytes, start, width),
     }
 }
 

@@ -11,10 +11,10 @@ returns-in_err-item c =
     rw (p.1, p.2) (stops c.args.bytes.now c.judging.scope c.judging.cursor c.judging.kept.start c.judging.kept.template _ c.judging.invariant c.in_err-item.ensures.read)
 
 pub returns-then-is_end : goal.returns-then-is_end
-returns-then-is_end c = ends c.args.bytes.now c.judging.scope c.pass_item.new.scope c.judging.cursor c.pass_item.new.cursor c.in_ok-item.item.entry c.in_ok-item.item.blob.now c.judging.kept.start c.judging.kept.template c.judging.invariant c.in_ok-item.ensures.read (rw c.is_end.ensures at c.if-is_end.true)
+returns-then-is_end c = ends c.args.bytes.now c.judging.scope c.pass_next.new.scope c.judging.cursor c.pass_next.new.cursor c.in_ok-item.item.entry c.in_ok-item.item.blob.now c.judging.kept.start c.judging.kept.template c.judging.invariant c.in_ok-item.ensures.read (rw c.is_end.ensures at c.if-is_end.true)
 
 pub judging-smaller : goal.judging-smaller
-judging-smaller c = comes_nearer c.args.bytes.now c.judging.scope c.pass_item.new.scope c.judging.cursor c.pass_item.new.cursor c.in_ok-item.item.entry c.in_ok-item.item.blob.now c.judging.kept.start c.judging.kept.template c.judging.invariant c.in_ok-item.ensures.read (rw c.is_end.ensures at c.if-is_end.false)
+judging-smaller c = comes_nearer c.args.bytes.now c.judging.scope c.pass_next.new.scope c.judging.cursor c.pass_next.new.cursor c.in_ok-item.item.entry c.in_ok-item.item.blob.now c.judging.kept.start c.judging.kept.template c.judging.invariant c.in_ok-item.ensures.read (rw c.is_end.ensures at c.if-is_end.false)
 
 pub judging-preserved : goal.judging-preserved
-judging-preserved c = goes_on c.args.bytes.now c.judging.scope c.pass_item.new.scope c.judging.cursor c.pass_item.new.cursor c.in_ok-item.item.entry c.in_ok-item.item.blob.now c.judging.kept.start c.pass_item.new.kept.start c.judging.kept.template c.pass_item.new.kept.template c.judging.invariant c.in_ok-item.ensures.read c.in_ok-item.ensures.bits c.in_ok-item.ensures.kept (rw c.is_end.ensures at c.if-is_end.false)
+judging-preserved c = goes_on c.args.bytes.now c.judging.scope c.pass_next.new.scope c.judging.cursor c.pass_next.new.cursor c.in_ok-item.item.entry c.in_ok-item.item.blob.now c.judging.kept.start c.pass_next.new.kept.start c.judging.kept.template c.pass_next.new.kept.template c.judging.invariant c.in_ok-item.ensures.read c.in_ok-item.ensures.bits c.in_ok-item.ensures.kept (rw c.is_end.ensures at c.if-is_end.false)
