@@ -2,7 +2,7 @@
 use Rattle.std.proofs.Common.{◌≡◌, ℕ, ◌+◌, ◌≤◌, Bool, List, [], ◌∷◌, ◌++◌, length, take, Option, Result, Ok, Err, OnOk, sym, ap, ◌∙◌, inr, arith, append_assoc, length-append}
 use Rattle.std.proofs.lemmas.List.{append-nil, take-append-le}
 use Rattle.ir_base.specs.Outside.{Added, Wrote}
-use Rattle.bit_tree.specs.Stream.{Tree, Stream}
+use Rattle.bit_tree.specs.Stream.{StreamTree, Stream}
 use Rattle.bit_tree.specs.Pieces.{Piece, flat}
 use Rattle.bit_dump.specs.Text.{dump_text, summary}
 use Rattle.bit_dump.specs.Outline.{Outline, nothing_told, after, told, with_more, after_head, after_operand, after_operands, after_record, emptied, summed, front}
@@ -105,11 +105,11 @@ where_ok (Err e) f h = tt
 pub record IsTold (bytes : List ℕ) (whole : Bool) (before now : Option (List ℕ)) (left : List Piece) (o : Outline) : Type 0 where
   pub all : Outline
   pub tells : Tells before now all o
-  pub tree : Tree
+  pub tree : StreamTree
   pub stream : Stream bytes tree
   pub are : told all left ≡ told (nothing_told whole) (flat tree)
 
-pub begins : (bytes : List ℕ) (whole : Bool) (before : Option (List ℕ)) (left : List Piece) (o : Outline) (tree : Tree) → Stream bytes tree → left ≡ flat tree → o ≡ nothing_told whole → IsTold bytes whole before before left o
+pub begins : (bytes : List ℕ) (whole : Bool) (before : Option (List ℕ)) (left : List Piece) (o : Outline) (tree : StreamTree) → Stream bytes tree → left ≡ flat tree → o ≡ nothing_told whole → IsTold bytes whole before before left o
 begins bytes whole before left o tree stream are is = record {
   all = nothing_told whole;
   tells = record { written = []; added = added_none before; is = is };
@@ -124,14 +124,14 @@ unfolding told
 goes_on bytes whole before now later left others p o new h is tells = record { all = after h.all p; tells = tells; tree = h.tree; stream = h.stream; are = rw is at h.are }
 
 -- the text of so much is a front of the whole text
-whole_text : (bytes : List ℕ) (whole : Bool) (all : Outline) (left : List Piece) (tree : Tree) → told all left ≡ told (nothing_told whole) (flat tree) → (more : List ℕ) × (dump_text tree whole ≡ all.text ++ more)
+whole_text : (bytes : List ℕ) (whole : Bool) (all : Outline) (left : List Piece) (tree : StreamTree) → told all left ≡ told (nothing_told whole) (flat tree) → (more : List ℕ) × (dump_text tree whole ≡ all.text ++ more)
 whole_text bytes whole all left tree are =
     let more = grows all left in
     let last = summary (told (nothing_told whole) (flat tree)).tally in
     let lines : (told (nothing_told whole) (flat tree)).text ≡ all.text ++ more.0 = ap (λ (x : Outline). x.text) (sym are) ∙ more.1 in
     (more.0 ++ last, sym (summed_is whole tree) ∙ (ap (λ (l : List ℕ). l ++ last) lines ∙ append_assoc all.text more.0 last))
 
-pub wrote_front : (bytes : List ℕ) (whole : Bool) (before now : Option (List ℕ)) (all : Outline) (left : List Piece) (tree : Tree) → Stream bytes tree → told all left ≡ told (nothing_told whole) (flat tree) → TookFront before now all.text → WroteFront bytes whole before now
+pub wrote_front : (bytes : List ℕ) (whole : Bool) (before now : Option (List ℕ)) (all : Outline) (left : List Piece) (tree : StreamTree) → Stream bytes tree → told all left ≡ told (nothing_told whole) (flat tree) → TookFront before now all.text → WroteFront bytes whole before now
 wrote_front bytes whole before now all left tree stream are h =
     let text = whole_text bytes whole all left tree are in
     let took = longer before now all.text text.0 (dump_text tree whole) text.1 h in

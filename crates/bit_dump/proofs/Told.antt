@@ -4,7 +4,7 @@ use Rattle.std.specs.Prelude.{slice_get, slice_index_or}
 use Rattle.std.specs.List.{flat_map}
 use Rattle.std.proofs.lemmas.List.{append-nil, take_at, get_or_at}
 use Rattle.bit_stream.specs.Abbreviation.{ops_of}
-use Rattle.bit_tree.specs.Stream.{Tree, nothing, block, definition, values}
+use Rattle.bit_tree.specs.Stream.{StreamTree, nothing, block, definition, values}
 use Rattle.bit_tree.specs.Pieces.{Piece, begun, ended, defines, holds, flat}
 use Rattle.bit_dump.specs.Tally.{tally}
 use Rattle.bit_dump.specs.Text.{operand_text, block_line, end_line, definition_line, record_line, lines, dump_text}
@@ -94,7 +94,7 @@ operands_untold o ns untold = operands_are o ns ∙ ap (λ (l : List ℕ). with_
 
 -- trees
 
-abbrev over : Outline → Tree → Outline
+abbrev over : Outline → StreamTree → Outline
 over o tree = record { whole = o.whole; unclosed = o.unclosed; tally = tally (here o.unclosed) tree o.tally; text = o.text ++ shown o.whole (lines (length o.unclosed) tree) }
 
 -- the innermost of some blocks
@@ -108,7 +108,7 @@ innermost unclosed id = got unclosed ∙ refl where
   got unclosed = let size : length (unclosed ++ id ∷ []) - 1 ≡ length unclosed = omega (arith, length-append unclosed (id ∷ [])) in rw size (get_last unclosed)
 
 -- behind the end of a block, the outline of the block around it
-left_block : (o : Outline) (id : ℕ) (t : Tree) (width words : ℕ) → after_end (over (after_block o id width words) t) ≡ record {
+left_block : (o : Outline) (id : ℕ) (t : StreamTree) (width words : ℕ) → after_end (over (after_block o id width words) t) ≡ record {
   whole = o.whole;
   unclosed = o.unclosed;
   tally = tally (Some id) t (after_block o id width words).tally;
@@ -129,7 +129,7 @@ spread_one : (whole : Bool) (t a k : List ℕ) → (t ++ shown whole a) ++ shown
 spread_one true t a k = append_assoc t a k
 spread_one false t a k = simp append-nil
 
-pub told_tree : (o : Outline) (t : Tree) → told o (flat t) ≡ over o t
+pub told_tree : (o : Outline) (t : StreamTree) → told o (flat t) ≡ over o t
 unfolding told flat tally lines
 told_tree o nothing = rw (shown_nothing o.whole, append-nil) refl
 told_tree o (block id width words inside behind) =
@@ -150,6 +150,6 @@ told_tree o (values id code operands has_blob blob behind) =
     told_tree (after_record o id code operands has_blob (length blob)) behind ∙ ap (λ (l : List ℕ). with_text all l) (spread_one o.whole o.text (record_line n id code operands has_blob (length blob)) (lines n behind))
 
 -- the whole text
-pub summed_is : (whole : Bool) (tree : Tree) → (summed (told (nothing_told whole) (flat tree))).text ≡ dump_text tree whole
+pub summed_is : (whole : Bool) (tree : StreamTree) → (summed (told (nothing_told whole) (flat tree))).text ≡ dump_text tree whole
 unfolding dump_text
 summed_is whole tree = rw (told_tree (nothing_told whole) tree) refl

@@ -3,7 +3,7 @@ use Rattle.std.specs.Prelude.{ℕ, ◌+◌, List, [], Option, Some, None, unwrap
 use Rattle.std.specs.Ordering.{nat_cmp}
 use Rattle.std.specs.Map.{lookup}
 use Rattle.std.specs.BTreeMap.{is_at, insert_entry}
-use Rattle.bit_tree.specs.Stream.{Tree, nothing, block, definition, values}
+use Rattle.bit_tree.specs.Stream.{StreamTree, nothing, block, definition, values}
 use Rattle.bit_dump.specs.declared.counts.StreamCounts.{StreamCounts}
 use Rattle.bit_dump.specs.declared.counts.CountedKind.{CountedKind}
 use Rattle.bit_dump.specs.declared.counts.CountedKind.TheVariants.{Blocks, Records, Abbreviations}
@@ -43,7 +43,7 @@ counted kind t here = record { rows = with_one kind t.rows here; total = one_mor
 
 -- A tree that stands in this block, counted behind others. A definition counts for the block that it stands in, in
 -- BLOCKINFO too.
-unfoldable pub tally : Option ℕ → Tree → Tally → Tally
+unfoldable pub tally : Option ℕ → StreamTree → Tally → Tally
 tally here nothing t = t
 tally here (block id width words inside behind) t = tally here behind (tally (Some id) inside (counted Blocks t (Some id)))
 tally here (definition id template behind) t = tally here behind (counted Abbreviations t here)

@@ -5,7 +5,7 @@ use Rattle.std.specs.Fmt.{decimal}
 use Rattle.bit_stream.specs.declared.abbreviation.AbbrevOp.{AbbrevOp}
 use Rattle.bit_stream.specs.declared.abbreviation.AbbrevOp.TheVariants.{Literal, Fixed, Vbr, Array, Char6, Blob}
 use Rattle.bit_stream.specs.Abbreviation.{ops_of}
-use Rattle.bit_tree.specs.Stream.{Tree, nothing, block, definition, values}
+use Rattle.bit_tree.specs.Stream.{StreamTree, nothing, block, definition, values}
 use Rattle.bit_dump.specs.declared.counts.StreamCounts.{StreamCounts}
 use Rattle.bit_dump.specs.Tally.{Tally, no_tally, tally}
 
@@ -63,7 +63,7 @@ record_line depth id code operands has_blob size =
     indent depth ++ codes "record " ++ decimal code ++ codes " by " ++ decimal id ++ codes ":" ++ flat_map operand_text operands ++ blob_text has_blob size ++ codes "\n"
 
 -- the entries and definitions in the order of the stream, a line each and one more at the end of a block
-unfoldable pub lines : ℕ → Tree → List ℕ
+unfoldable pub lines : ℕ → StreamTree → List ℕ
 lines depth nothing = []
 lines depth (block id width words inside behind) = block_line depth id width words ++ lines (suc depth) inside ++ end_line depth id ++ lines depth behind
 lines depth (definition id t behind) = definition_line depth id (ops_of t) ++ lines depth behind
@@ -82,5 +82,5 @@ unfoldable pub summary : Tally → List ℕ
 summary t = flat_map row_line t.rows ++ codes "total: " ++ counts_line t.total
 
 -- the entries and definitions, where the whole is asked for, and then always the summary
-unfoldable pub dump_text : Tree → Bool → List ℕ
+unfoldable pub dump_text : StreamTree → Bool → List ℕ
 dump_text tree whole = (if whole then lines 0 tree else []) ++ summary (tally None tree no_tally)

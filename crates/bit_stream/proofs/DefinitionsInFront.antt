@@ -8,16 +8,16 @@ use Rattle.bit_stream.specs.declared.fault.StreamFault.{StreamFault}
 use Rattle.bit_stream.specs.declared.fault.StreamFault.TheVariants.{Bit, Memory}
 use Rattle.bit_stream.specs.Scope.{Scope}
 use Rattle.bit_stream.specs.Answers.{Stops}
-use Rattle.bit_stream.specs.Entry.{StreamItem, item, Next, here, refused, behind, id_at, has_blob_by, IsRecordBy}
-use Rattle.bit_stream.specs.Reader.{Reader, told_of, Reached}
+use Rattle.bit_stream.specs.Entry.{StreamItem, item, NextItem, here, refused, behind, id_at, has_blob_by, IsRecordBy}
+use Rattle.bit_stream.specs.Reader.{StreamReader, told_of, Reached}
 
-pub came_here : (s : Scope) (c d : Cursor) (i : StreamItem) (e : Entry) → item s c ≡ Ok (i, d) → i.entry ≡ Some e → Next s c (Ok (i, d))
+pub came_here : (s : Scope) (c d : Cursor) (i : StreamItem) (e : Entry) → item s c ≡ Ok (i, d) → i.entry ≡ Some e → NextItem s c (Ok (i, d))
 came_here s c d i e h is = here h is
 
-pub came_behind : (s : Scope) (c d : Cursor) (i : StreamItem) (r : Found StreamItem) → item s c ≡ Ok (i, d) → i.entry ≡ None → Next i.scope d r → Next s c r
+pub came_behind : (s : Scope) (c d : Cursor) (i : StreamItem) (r : Found StreamItem) → item s c ≡ Ok (i, d) → i.entry ≡ None → NextItem i.scope d r → NextItem s c r
 came_behind s c d i r h is k = behind h is k
 
-pub reached_none : (mid old new : Reader) (s : Scope) (c : Cursor) (e : StreamFault) → mid ≡ old → ((r : Found StreamItem) → Next s c r → Next mid.scope mid.cursor r) → Stops e (item s c) → Reached old (Err e) new
+pub reached_none : (mid old new : StreamReader) (s : Scope) (c : Cursor) (e : StreamFault) → mid ≡ old → ((r : Found StreamItem) → NextItem s c r → NextItem mid.scope mid.cursor r) → Stops e (item s c) → Reached old (Err e) new
 reached_none mid old new s c (Bit fault) same along h = rw (← same) (along (Err fault) (refused h))
 reached_none mid old new s c Memory same along h = tt
 

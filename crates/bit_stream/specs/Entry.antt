@@ -155,10 +155,10 @@ settled (Ok x) s = Ok s
 settled (Err fault) s = Err fault
 
 -- what stands at a place behind the definitions in front
-pub data Next : Scope → Cursor → Found StreamItem → Type 0 where
-  here : {s : Scope} {c d : Cursor} {i : StreamItem} {e : Entry} → item s c ≡ Ok (i, d) → i.entry ≡ Some e → Next s c (Ok (i, d))
-  refused : {s : Scope} {c : Cursor} {x : BitFault} → item s c ≡ Err x → Next s c (Err x)
-  behind : {s : Scope} {c d : Cursor} {i : StreamItem} {r : Found StreamItem} → item s c ≡ Ok (i, d) → i.entry ≡ None → Next i.scope d r → Next s c r
+pub data NextItem : Scope → Cursor → Found StreamItem → Type 0 where
+  here : {s : Scope} {c d : Cursor} {i : StreamItem} {e : Entry} → item s c ≡ Ok (i, d) → i.entry ≡ Some e → NextItem s c (Ok (i, d))
+  refused : {s : Scope} {c : Cursor} {x : BitFault} → item s c ≡ Err x → NextItem s c (Err x)
+  behind : {s : Scope} {c d : Cursor} {i : StreamItem} {r : Found StreamItem} → item s c ≡ Ok (i, d) → i.entry ≡ None → NextItem i.scope d r → NextItem s c r
 
 -- the number that was found, or 0
 abbrev pub number_of : Found ℕ → ℕ

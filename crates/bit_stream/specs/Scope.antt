@@ -9,7 +9,7 @@ use Rattle.bit_stream.specs.Abbreviation.{AdmittedAbbreviation}
 -- An open block. Its id (none where no block is open), the width of its abbreviation ids, the bit of its count of
 -- words and the count, how many of the abbreviations that were given to its id are in force in it, those that it
 -- defined itself, and, where it is a BLOCKINFO, the block that its definitions are for.
-pub record Frame : Type 0 where
+pub record BlockFrame : Type 0 where
   pub id : Option ℕ
   pub width : ℕ
   pub count_bit : ℕ
@@ -20,8 +20,8 @@ pub record Frame : Type 0 where
 
 -- the innermost block, those around it from the top level in, and the abbreviations that BLOCKINFO gave each id
 pub record Scope : Type 0 where
-  pub block : Frame
-  pub around : List Frame
+  pub block : BlockFrame
+  pub around : List BlockFrame
   pub given : List (ℕ × List AdmittedAbbreviation)
 
 -- no block is open, and an abbreviation id has two bits

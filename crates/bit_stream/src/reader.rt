@@ -1,7 +1,7 @@
 //! The reader of a stream.
 ghost use Rattle.std.specs.Prelude.{◌≡◌, ℕ, ◌+◌, ◌<◌, ◌≤◌, ◌^◌, length, Some, None, ◌≢◌, OnErr};
 ghost use Rattle.bits.specs.Reading.{fixed, vbr};
-ghost use Rattle.bit_stream.specs.Reader.{Reader, opened, Numbered, Entered, Reached, Stopped};
+ghost use Rattle.bit_stream.specs.Reader.{StreamReader, opened, Numbered, Entered, Reached, Stopped};
 ghost use Rattle.bit_stream.specs.Writer.{in_force};
 ghost use Rattle.bit_stream.specs.declared.reader.TheConstants.{LARGEST_STREAM};
 ghost use Rattle.bit_stream.specs.declared.fault.StreamFault.TheVariants.{Memory};
@@ -38,9 +38,9 @@ pub struct BitReader<'b> {
 }
 
 impl<'b> Model for BitReader<'b> {
-    ghost use Rattle.bit_stream.specs.Reader.{Reader};
+    ghost use Rattle.bit_stream.specs.Reader.{StreamReader};
 
-    ghost Value = { Reader };
+    ghost Value = { StreamReader };
 
     ghost view = { λ r. record { cursor = r.cursor; scope = r.scope; stopped = r.stopped; operands = r.operands.items; blob = r.blob.now; told = r.told; definitions = r.definitions } };
 }

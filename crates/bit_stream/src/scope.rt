@@ -13,7 +13,7 @@ use std::mem;
 
 /// An open block, or the top level.
 #[derive(Drop)]
-struct Frame {
+struct BlockFrame {
     /// None at the top level.
     id: Option<u32>,
     width: ChunkWidth,
@@ -27,10 +27,10 @@ struct Frame {
     target: Option<u64>,
 }
 
-impl Model for Frame {
-    ghost use Rattle.bit_stream.specs.Scope.{Frame};
+impl Model for BlockFrame {
+    ghost use Rattle.bit_stream.specs.Scope.{BlockFrame};
 
-    ghost Value = { Frame };
+    ghost Value = { BlockFrame };
 
     ghost view = { λ f. record { id = f.id; width = f.width; count_bit = f.count_bit; words = f.words; given = f.given; own = f.own; target = f.target } };
 }
@@ -38,8 +38,8 @@ impl Model for Frame {
 /// The blocks that are open, and the abbreviations that BLOCKINFO gave to each block id.
 #[derive(Drop)]
 pub struct Scope {
-    block: Frame,
-    around: Vec<Frame>,
+    block: BlockFrame,
+    around: Vec<BlockFrame>,
     given: BTreeMap<u64, TemplateList>,
     alloc: Global,
 }
@@ -58,7 +58,7 @@ impl Scope {
         ensures { result ≡ top_level }
     {
         Scope {
-            block: Frame {
+            block: BlockFrame {
                 id: None,
                 width: ChunkWidth::new(2),
                 count_bit: 0,
@@ -137,7 +137,7 @@ impl Scope {
             Some(list) => list.len() as u32,
             None => 0,
         };
-        let block = Frame {
+        let block = BlockFrame {
             id: Some(id),
             width,
             count_bit,

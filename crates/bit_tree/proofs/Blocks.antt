@@ -14,7 +14,7 @@ use Rattle.bit_stream.specs.Scope.{Scope, template_of}
 use Rattle.bit_stream.specs.Entry.{StreamItem, item, plain, is_top, is_blockinfo, entered, block_left, inside, enter_block, words_since, end_block as read_end}
 use Rattle.bit_stream.specs.Spelling.{chunks, aligned, template_for}
 use Rattle.bit_stream.specs.Writer.{Writer, id_bits, enter, ended, end_block, define, in_force, put_record, abbreviated}
-use Rattle.bit_tree.specs.Stream.{Tree, block, values, Stands, Holds, none, of_block}
+use Rattle.bit_tree.specs.Stream.{StreamTree, block, values, Stands, Holds, none, of_block}
 use Rattle.bit_stream.proofs.ReadBack.{fixed_reads, vbr_reads}
 use Rattle.bit_tree.specs.Written.{Written, no_more, a_block, a_definition, a_record, a_short_record, written, tree_of, with_definition, with_values, MayEnter, MayEnd, Allowed}
 use Rattle.bit_tree.proofs.Places.{align_from, pad_size}
@@ -22,7 +22,7 @@ use Rattle.bit_tree.proofs.Alike.{Alike, SameBlocks, same_blocks, same_on, alike
 use Rattle.bit_tree.proofs.Step.{Ready, After, Stepped, item_inside, id_small, id_read, define_step, put_step, abbreviated_step}
 
 -- a reader behind what was written
-pub record Arrives (s v : Scope) (c d : Cursor) (tree : Tree) : Type 0 where
+pub record Arrives (s v : Scope) (c d : Cursor) (tree : StreamTree) : Type 0 where
   pub scope : Scope
   pub alike : Alike scope v
   pub same : SameBlocks s scope
@@ -133,7 +133,7 @@ enters s v n at id width words rest alike ready same small shallow ordinary low 
     record { reads = item_enters s (record { at = at; rest = (a ++ bits) ++ rest }) _ outside some id_there ∙ enter_read s (n + length a) (at + length a) id width words rest word small depth low high few; is = refl }
 
 -- the whole block, by its bits
-block_reads : (s v : Scope) (x : Writer) (n at id width : ℕ) (m rest : List Bool) (tree : Tree) → Alike s v → Ready v → Ready x.scope → at % 32 ≡ n % 32 → id < 2 ^ 32 → length v.around < 16 → is_blockinfo v ≡ false → 2 ≤ width → width ≤ 32 → length (ended x) / 32 < 2 ^ 32
+block_reads : (s v : Scope) (x : Writer) (n at id width : ℕ) (m rest : List Bool) (tree : StreamTree) → Alike s v → Ready v → Ready x.scope → at % 32 ≡ n % 32 → id < 2 ^ 32 → length v.around < 16 → is_blockinfo v ≡ false → 2 ≤ width → width ≤ 32 → length (ended x) / 32 < 2 ^ 32
     → x.bits ≡ m → x.scope.around ≡ v.around ++ v.block ∷ []
     → ((t : Scope) → Alike t (entered v id width 0 0) → (at : ℕ) (rest : List Bool) → at % 32 ≡ 0 → Arrives t x.scope (record { at = at; rest = m ++ rest }) (record { at = at + length m; rest = rest }) tree)
     → (let a = bits_of v.block.width 1 in
@@ -218,7 +218,7 @@ none_comes w ready = record {
 }
 
 -- a call, and what was written behind it
-joined : (w new : Writer) (x y : Written) (node : Tree → Tree) → written w y ≡ written new x → tree_of w y ≡ node (tree_of new x) → Stepped w new node → Comes new x → Comes w y
+joined : (w new : Writer) (x y : Written) (node : StreamTree → StreamTree) → written w y ≡ written new x → tree_of w y ≡ node (tree_of new x) → Stepped w new node → Comes new x → Comes w y
 joined w new x y node same_writer same_tree first behind = record {
   more = first.more ++ behind.more;
   bits = rw same_writer (behind.bits ∙ (ap (λ (l : List Bool). l ++ behind.more) first.bits ∙ append_assoc w.bits first.more behind.more));

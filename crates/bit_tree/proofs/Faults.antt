@@ -12,7 +12,7 @@ use Rattle.bit_stream.specs.declared.entry.Entry.TheVariants.{Block, EndBlock, R
 use Rattle.bit_stream.specs.Scope.{Scope, top_level}
 use Rattle.bit_stream.specs.Entry.{StreamItem, item, is_top, plain, id_at, has_blob_by}
 use Rattle.bit_stream.specs.Reader.{begins}
-use Rattle.bit_tree.specs.Stream.{Tree, next_id, opening, Stream, is_end, fault_from, stream_fault, entries}
+use Rattle.bit_tree.specs.Stream.{StreamTree, next_id, opening, Stream, is_end, fault_from, stream_fault, entries}
 use Rattle.bit_tree.proofs.Leaving.{IsWide, IsEnd, Goes, what_stands, top_wide}
 use Rattle.bit_tree.specs.Pieces.{Piece, begun, ended, defines, holds, flat}
 use Rattle.bit_tree.proofs.Path.{Step, Path, stop, step, all_shown, flat_shown, from_tree, to_tree, stands, no_end, way_size}
@@ -97,13 +97,13 @@ depth_none : (s : Scope) → is_top s ≡ true → length s.around ≡ 0
 depth_none s h = eqb-true (length s.around) 0 h
 
 -- a way from the opening to the end is the stream of its tree
-pub to_stream_of : (bytes : List ℕ) (ps : List Piece) (t : Scope) (e : Cursor) → begins bytes ≡ true → Path top_level (opening bytes) ps t e → is_top t ≡ true → e.rest ≡ [] → (tree : Tree) × Stream bytes tree × (flat tree ≡ ps)
+pub to_stream_of : (bytes : List ℕ) (ps : List Piece) (t : Scope) (e : Cursor) → begins bytes ≡ true → Path top_level (opening bytes) ps t e → is_top t ≡ true → e.rest ≡ [] → (tree : StreamTree) × Stream bytes tree × (flat tree ≡ ps)
 to_stream_of bytes ps t e magic way top none =
     let tree = to_tree way top_wide refl (depth_none t top) in
     (tree.0, record { opens = magic; scope = t; cursor = e; all = tree.1; closed = top; whole = none }, tree.2)
 
 -- and its entries are those that the way shows
-pub to_stream : (bytes : List ℕ) (ps : List Piece) (t : Scope) (e : Cursor) → begins bytes ≡ true → Path top_level (opening bytes) ps t e → is_top t ≡ true → e.rest ≡ [] → (tree : Tree) × Stream bytes tree × (entries tree ≡ all_shown ps)
+pub to_stream : (bytes : List ℕ) (ps : List Piece) (t : Scope) (e : Cursor) → begins bytes ≡ true → Path top_level (opening bytes) ps t e → is_top t ≡ true → e.rest ≡ [] → (tree : StreamTree) × Stream bytes tree × (entries tree ≡ all_shown ps)
 to_stream bytes ps t e magic way top none =
     let tree = to_stream_of bytes ps t e magic way top none in
     (tree.0, tree.1, sym (flat_shown tree.0) ∙ ap all_shown tree.2)
@@ -111,7 +111,7 @@ to_stream bytes ps t e magic way top none =
 fault_of : (bytes : List ℕ) → begins bytes ≡ true → stream_fault bytes ≡ fault_from (length (stream_bits bytes)) top_level (opening bytes)
 fault_of bytes h = rw h refl
 
-pub tree_or_fault : (bytes : List ℕ) → ((tree : Tree) × Stream bytes tree) ⊎ ((x : BitFault) × (stream_fault bytes ≡ Some x))
+pub tree_or_fault : (bytes : List ℕ) → ((tree : StreamTree) × Stream bytes tree) ⊎ ((x : BitFault) × (stream_fault bytes ≡ Some x))
 tree_or_fault bytes = elim (cases_Bool (begins bytes)) [
   | inl magic ↦ elim (either_way (length (stream_bits bytes)) top_level (opening bytes) top_wide (opening_size bytes magic)) [
     | inl on ↦ let all = to_stream bytes on.pieces on.scope on.cursor magic on.way on.top on.none in inl (all.0, all.1)
@@ -120,7 +120,7 @@ tree_or_fault bytes = elim (cases_Bool (begins bytes)) [
   | inr other ↦ inr (record { kind = BadMagic; bit = 0 }, rw other refl)
 ]
 
-pub tree_no_fault : (bytes : List ℕ) (tree : Tree) → Stream bytes tree → stream_fault bytes ≡ None
+pub tree_no_fault : (bytes : List ℕ) (tree : StreamTree) → Stream bytes tree → stream_fault bytes ≡ None
 tree_no_fault bytes tree h =
     let way = from_tree h.all in
     let size = way_size way top_wide in

@@ -5,9 +5,9 @@ use Rattle.bit_stream.specs.declared.entry.Entry.{Entry}
 use Rattle.bit_stream.specs.declared.entry.Entry.TheVariants.{Block, EndBlock, Record, End}
 use Rattle.bit_stream.specs.Abbreviation.{AdmittedAbbreviation}
 use Rattle.bit_stream.specs.Scope.{Scope}
-use Rattle.bit_stream.specs.Reader.{Reader}
+use Rattle.bit_stream.specs.Reader.{StreamReader}
 use Rattle.bit_stream.specs.Entry.{StreamItem, item, is_top, plain, id_at, has_blob_by, defined_at}
-use Rattle.bit_tree.specs.Stream.{Tree, Stream, Stands, next_id, is_end}
+use Rattle.bit_tree.specs.Stream.{StreamTree, Stream, Stands, next_id, is_end}
 use Rattle.bit_tree.specs.Pieces.{Piece, begun, ended, defines, holds, flat}
 use Rattle.bit_tree.proofs.Path.{Step, Path, stop, step, from_tree, entry_of, stands, no_end}
 use Rattle.bit_tree.proofs.Faults.{end_stands}
@@ -68,5 +68,5 @@ path_front (step i {p = p} first on) (step j {p = q} other along) top none =
     let rest = path_front on way top none in
     (rest.0, cc (same.piece, rest.1))
 
-pub is_front : {bytes : List ℕ} {r : Reader} {ps : List Piece} {tree : Tree} → Came bytes r ps → Stream bytes tree → (rest : List Piece) × (flat tree ≡ ps ++ rest)
+pub is_front : {bytes : List ℕ} {r : StreamReader} {ps : List Piece} {tree : StreamTree} → Came bytes r ps → Stream bytes tree → (rest : List Piece) × (flat tree ≡ ps ++ rest)
 is_front h all = path_front h.way (from_tree all.all) all.closed all.whole

@@ -14,7 +14,7 @@ use Rattle.bit_stream.specs.declared.entry.Entry.TheVariants.{Block, EndBlock, R
 use Rattle.bit_stream.specs.Abbreviation.{AdmittedAbbreviation}
 use Rattle.bit_stream.specs.Definition.{template}
 use Rattle.bit_stream.specs.Record.{Read, unabbreviated}
-use Rattle.bit_stream.specs.Scope.{Scope, Frame, top_level, template_of}
+use Rattle.bit_stream.specs.Scope.{Scope, BlockFrame, top_level, template_of}
 use Rattle.bit_stream.specs.Entry.{StreamItem, plain, is_top, is_blockinfo, came, entered, block_left, defined, given_for, enter_sized, enter_wide, enter_named, enter_block, words_since, end_block, define_for, define, with_target, recorded, by_template, record_by, inside, item, defined_at}
 use Rattle.bit_stream.specs.Writer.{in_force}
 use Rattle.bit_stream.proofs.ReadBack.{all_take}
@@ -25,7 +25,7 @@ use Rattle.bit_tree.proofs.Ahead.{align_forward, unabbreviated_forward, abbrevia
 -- an abbreviation id has at least one bit, in each unclosed block
 pub record IsWide (s : Scope) : Type 0 where
   pub own : 1 ≤ s.block.width
-  pub around : AllByRecursion (λ (f : Frame). 1 ≤ f.width) s.around
+  pub around : AllByRecursion (λ (f : BlockFrame). 1 ≤ f.width) s.around
 
 pub top_wide : IsWide top_level
 top_wide = record { own = omega arith; around = tt }
@@ -85,7 +85,7 @@ behind s c t (Err e) g h k = refused s c t e
 entered_leaves : (s : Scope) (c : Cursor) (t : Found AdmittedAbbreviation) (id width bit words : ℕ) → IsWide s → 1 ≤ width → Leaves s c t (plain (Some (Block id)) (entered s id width bit words)) c
 entered_leaves s c t id width bit words wide low = record {
   depth = omega (arith, length-append s.around (s.block ∷ []));
-  wide = record { own = low; around = all_with (λ (f : Frame). 1 ≤ f.width) s.around s.block wide.around wide.own };
+  wide = record { own = low; around = all_with (λ (f : BlockFrame). 1 ≤ f.width) s.around s.block wide.around wide.own };
   ahead = omega arith;
   template = λ no. absurd (cc);
   next = λ no. absurd (cc);
@@ -122,7 +122,7 @@ left_leaves s c t wide unclosed =
     let most : length s.around - 1 ≤ length s.around = omega arith in
     record {
       depth = omega (arith, length-take-le (length s.around - 1) s.around most);
-      wide = record { own = all_at (λ (f : Frame). 1 ≤ f.width) s.around (length s.around - 1) s.block wide.around wide.own; around = all_take (λ (f : Frame). 1 ≤ f.width) (length s.around - 1) s.around wide.around };
+      wide = record { own = all_at (λ (f : BlockFrame). 1 ≤ f.width) s.around (length s.around - 1) s.block wide.around wide.own; around = all_take (λ (f : BlockFrame). 1 ≤ f.width) (length s.around - 1) s.around wide.around };
       ahead = omega arith;
       template = λ no. absurd (cc);
       next = λ no. absurd (cc);

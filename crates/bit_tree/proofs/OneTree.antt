@@ -6,7 +6,7 @@ use Rattle.bit_stream.specs.declared.entry.Entry.TheVariants.{Block, EndBlock, R
 use Rattle.bit_stream.specs.Abbreviation.{AdmittedAbbreviation}
 use Rattle.bit_stream.specs.Scope.{Scope}
 use Rattle.bit_stream.specs.Entry.{StreamItem, defined_at}
-use Rattle.bit_tree.specs.Stream.{Tree, Stands, Holds, none, of_block, of_definition, of_record, Stream}
+use Rattle.bit_tree.specs.Stream.{StreamTree, Stands, Holds, none, of_block, of_definition, of_record, Stream}
 use Rattle.bit_tree.proofs.Faults.{end_stands}
 
 -- one thing stands at a place
@@ -39,7 +39,7 @@ record Closed (s : Scope) (c : Cursor) : Type 0 where
   closes : closes entry ≡ true
 
 -- one tree, and one end of it
-record Same (t u : Tree) (s v : Scope) (c d : Cursor) : Type 0 where
+record Same (t u : StreamTree) (s v : Scope) (c d : Cursor) : Type 0 where
   tree : t ≡ u
   scope : s ≡ v
   cursor : c ≡ d
@@ -57,7 +57,7 @@ defined_same s c d f t u h k =
 closed_by : {s : Scope} {c d : Cursor} (i : StreamItem) → Stands s c (Some EndBlock) i d → Closed s c
 closed_by i h = record { entry = Some EndBlock; item = i; behind = _; stands = h; closes = refl }
 
-same_tree : (one : Tree) (s t u : Scope) (c d e : Cursor) (other : Tree) → Holds s c one t d → Closed t d → Holds s c other u e → Closed u e → Same one other t u d e
+same_tree : (one : StreamTree) (s t u : Scope) (c d e : Cursor) (other : StreamTree) → Holds s c one t d → Closed t d → Holds s c other u e → Closed u e → Same one other t u d e
 same_tree one s t u c d e other none h none k = record { tree = refl; scope = refl; cursor = refl }
 same_tree one s t u c d e other none h (of_block first inside last behind) k = not_both _ _ _ _ _ first h refl
 same_tree one s t u c d e other none h (of_definition first is behind) k = not_both _ _ _ _ _ first h refl
@@ -91,8 +91,8 @@ same_tree one s t u c d e other (of_record first behind) h (of_record first' beh
     let y = same_tree _ _ _ _ _ _ _ _ behind h after k in
     record { tree = cc (a.entry, a.it, y.tree); scope = y.scope; cursor = y.cursor }
 
-end_closed : (bytes : List ℕ) (tree : Tree) (h : Stream bytes tree) → Closed h.scope h.cursor
+end_closed : (bytes : List ℕ) (tree : StreamTree) (h : Stream bytes tree) → Closed h.scope h.cursor
 end_closed bytes tree h = record { entry = Some End; item = _; behind = h.cursor; stands = record { reads = end_stands h.scope h.cursor h.closed h.whole; is = refl }; closes = refl }
 
-pub one_tree : (bytes : List ℕ) (one other : Tree) → Stream bytes one → Stream bytes other → one ≡ other
+pub one_tree : (bytes : List ℕ) (one other : StreamTree) → Stream bytes one → Stream bytes other → one ≡ other
 one_tree bytes one other h k = (same_tree one _ h.scope k.scope _ h.cursor k.cursor other h.all (end_closed bytes one h) k.all (end_closed bytes other k)).tree

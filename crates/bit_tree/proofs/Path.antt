@@ -6,7 +6,7 @@ use Rattle.bit_stream.specs.declared.entry.Entry.TheVariants.{Block, EndBlock, R
 use Rattle.bit_stream.specs.Abbreviation.{AdmittedAbbreviation}
 use Rattle.bit_stream.specs.Scope.{Scope}
 use Rattle.bit_stream.specs.Entry.{StreamItem, id_at, has_blob_by, defined_at}
-use Rattle.bit_tree.specs.Stream.{Tree, nothing, block, definition, values, next_id, Stands, Holds, none, of_block, of_definition, of_record, Shown, bare, entries, is_end}
+use Rattle.bit_tree.specs.Stream.{StreamTree, nothing, block, definition, values, next_id, Stands, Holds, none, of_block, of_definition, of_record, Shown, bare, entries, is_end}
 use Rattle.bit_tree.specs.Pieces.{Piece, begun, ended, defines, holds, flat}
 use Rattle.bit_tree.proofs.Leaving.{IsWide, Goes, depths, what_stands}
 
@@ -23,13 +23,13 @@ Step s c ended i d = Stands s c (Some EndBlock) i d
 Step s c (defines id t) i d = Stands s c None i d × (defined_at s c ≡ Ok (t, d)) × (next_id s ≡ id)
 Step s c (holds id code operands has_blob blob) i d = Stands s c (Some (Record code)) i d × IsRecord s c i id operands has_blob blob
 
-block_holds : {s t u : Scope} {c d e f g : Cursor} {i j : StreamItem} {id width words : ℕ} {inside behind : Tree} → Step s c (begun id width words) i d → Holds i.scope d inside t e → Stands t e (Some EndBlock) j f → Holds j.scope f behind u g → Holds s c (block id width words inside behind) u g
+block_holds : {s t u : Scope} {c d e f g : Cursor} {i j : StreamItem} {id width words : ℕ} {inside behind : StreamTree} → Step s c (begun id width words) i d → Holds i.scope d inside t e → Stands t e (Some EndBlock) j f → Holds j.scope f behind u g → Holds s c (block id width words inside behind) u g
 block_holds first within last after = rw (← first.1, ← first.2) (of_block first.0 within last after)
 
-definition_holds : {s u : Scope} {c d g : Cursor} {i : StreamItem} {id : ℕ} {t : AdmittedAbbreviation} {behind : Tree} → Step s c (defines id t) i d → Holds i.scope d behind u g → Holds s c (definition id t behind) u g
+definition_holds : {s u : Scope} {c d g : Cursor} {i : StreamItem} {id : ℕ} {t : AdmittedAbbreviation} {behind : StreamTree} → Step s c (defines id t) i d → Holds i.scope d behind u g → Holds s c (definition id t behind) u g
 definition_holds first after = rw (← first.2) (of_definition first.0 first.1 after)
 
-pub record_holds : {s u : Scope} {c d g : Cursor} {i : StreamItem} {id code : ℕ} {operands blob : List ℕ} {has_blob : Bool} {behind : Tree} → Step s c (holds id code operands has_blob blob) i d → Holds i.scope d behind u g → Holds s c (values id code operands has_blob blob behind) u g
+pub record_holds : {s u : Scope} {c d g : Cursor} {i : StreamItem} {id code : ℕ} {operands blob : List ℕ} {has_blob : Bool} {behind : StreamTree} → Step s c (holds id code operands has_blob blob) i d → Holds i.scope d behind u g → Holds s c (values id code operands has_blob blob behind) u g
 record_holds first after = let is = first.1 in rw (← is.id, ← is.operands, ← is.has_blob, ← is.blob) (of_record first.0 after)
 
 pub data Path : Scope → Cursor → List Piece → Scope → Cursor → Type 0 where
@@ -58,14 +58,14 @@ unfolding all_shown
 shown_join [] qs = refl
 shown_join (p ∷ ps) qs = rw (shown_join ps qs, append_assoc) refl
 
-pub flat_shown : (t : Tree) → all_shown (flat t) ≡ entries t
+pub flat_shown : (t : StreamTree) → all_shown (flat t) ≡ entries t
 unfolding all_shown flat entries
 flat_shown nothing = refl
 flat_shown (block id width words inside behind) = rw (shown_join (flat inside) (ended ∷ flat behind), flat_shown inside, flat_shown behind) refl
 flat_shown (definition id t behind) = flat_shown behind
 flat_shown (values id code operands has_blob blob behind) = rw (flat_shown behind) refl
 
-pub from_tree : {s t : Scope} {c d : Cursor} {tree : Tree} → Holds s c tree t d → Path s c (flat tree) t d
+pub from_tree : {s t : Scope} {c d : Cursor} {tree : StreamTree} → Holds s c tree t d → Path s c (flat tree) t d
 unfolding flat
 from_tree none = stop
 from_tree (of_block first inside last behind) = step _ (first, refl, refl) (join (from_tree inside) (step _ last (from_tree behind)))
@@ -74,8 +74,8 @@ from_tree (of_record first behind) = step _ (first, record { id = refl; operands
 
 -- the trees of a way that leaves so many blocks: one, and one behind each of their ends
 pub data Unwound : ℕ → Scope → Cursor → List Piece → Scope → Cursor → Type 0 where
-  level : {s t : Scope} {c e : Cursor} {ps : List Piece} (tree : Tree) → Holds s c tree t e → flat tree ≡ ps → Unwound zero s c ps t e
-  ends : {k : ℕ} {s t u : Scope} {c d e f : Cursor} {j : StreamItem} {ps qs : List Piece} (tree : Tree) → Holds s c tree t d → Stands t d (Some EndBlock) j f → Unwound k j.scope f qs u e → flat tree ++ ended ∷ qs ≡ ps → Unwound (suc k) s c ps u e
+  level : {s t : Scope} {c e : Cursor} {ps : List Piece} (tree : StreamTree) → Holds s c tree t e → flat tree ≡ ps → Unwound zero s c ps t e
+  ends : {k : ℕ} {s t u : Scope} {c d e f : Cursor} {j : StreamItem} {ps qs : List Piece} (tree : StreamTree) → Holds s c tree t d → Stands t d (Some EndBlock) j f → Unwound k j.scope f qs u e → flat tree ++ ended ∷ qs ≡ ps → Unwound (suc k) s c ps u e
 
 in_front_of_record : {k : ℕ} {s t u : Scope} {c d e : Cursor} {i : StreamItem} {ps : List Piece} {id code : ℕ} {operands blob : List ℕ} {has_blob : Bool} → Step s c (holds id code operands has_blob blob) i d → i.scope ≡ t → Unwound k t d ps u e → Unwound k s c (holds id code operands has_blob blob ∷ ps) u e
 unfolding flat
@@ -90,7 +90,7 @@ in_front_of_definition {id = id} {def = def} first same (level tree h eq) = leve
 in_front_of_definition {id = id} {def = def} first same (ends tree h last rest eq) = ends (definition id def tree) (definition_holds first (rw same h)) last rest (ap (λ (q : List Piece). defines id def ∷ q) eq)
 
 -- a block, by its inside and what stands behind its end
-whole_block : {k : ℕ} {s t u v : Scope} {c d e f g : Cursor} {i j : StreamItem} {id width words : ℕ} {ps qs : List Piece} (inside : Tree) → Step s c (begun id width words) i d → Holds i.scope d inside t e → Stands t e (Some EndBlock) j f → j.scope ≡ v → flat inside ++ ended ∷ qs ≡ ps → Unwound k v f qs u g → Unwound k s c (begun id width words ∷ ps) u g
+whole_block : {k : ℕ} {s t u v : Scope} {c d e f g : Cursor} {i j : StreamItem} {id width words : ℕ} {ps qs : List Piece} (inside : StreamTree) → Step s c (begun id width words) i d → Holds i.scope d inside t e → Stands t e (Some EndBlock) j f → j.scope ≡ v → flat inside ++ ended ∷ qs ≡ ps → Unwound k v f qs u g → Unwound k s c (begun id width words ∷ ps) u g
 unfolding flat
 whole_block {id = id} {width = width} {words = words} inside first within last same is (level tree h eq) =
     level (block id width words inside tree) (block_holds first within last (rw same h)) (rw (eq, is) refl)
@@ -140,9 +140,9 @@ unwind (step i {p = holds id code operands has_blob blob} first rest) wide top =
     in_front_of_record first refl (rw (depth_at _ i first.0 refl wide) at (unwind rest (goes _ i first.0 refl wide).wide top))
 
 -- a way that comes back to where no block is open is a tree
-pub to_tree : {s t : Scope} {c e : Cursor} {ps : List Piece} → Path s c ps t e → IsWide s → length s.around ≡ 0 → length t.around ≡ 0 → (tree : Tree) × Holds s c tree t e × (flat tree ≡ ps)
+pub to_tree : {s t : Scope} {c e : Cursor} {ps : List Piece} → Path s c ps t e → IsWide s → length s.around ≡ 0 → length t.around ≡ 0 → (tree : StreamTree) × Holds s c tree t e × (flat tree ≡ ps)
 to_tree way wide first last = of_level (rw first at (unwind way wide last)) where
-  of_level : {s t : Scope} {c e : Cursor} {ps : List Piece} → Unwound zero s c ps t e → (tree : Tree) × Holds s c tree t e × (flat tree ≡ ps)
+  of_level : {s t : Scope} {c e : Cursor} {ps : List Piece} → Unwound zero s c ps t e → (tree : StreamTree) × Holds s c tree t e × (flat tree ≡ ps)
   of_level (level tree h is) = (tree, h, is)
 
 pub way_wide : {s t : Scope} {c e : Cursor} {ps : List Piece} → Path s c ps t e → IsWide s → IsWide t

@@ -16,7 +16,7 @@ use Rattle.bit_stream.specs.Scope.{Scope, template_of}
 use Rattle.bit_stream.specs.Entry.{StreamItem, item, plain, is_top, is_blockinfo, inside, define as read_definition, define_for, record_by, by_template, recorded, id_at, has_blob_by, defined_at}
 use Rattle.bit_stream.specs.Spelling.{definition_bits, template_for, record_bits, record_fits}
 use Rattle.bit_stream.specs.Writer.{Writer, id_bits, with_template, define, in_force, naming, after_record, put_record, abbreviated}
-use Rattle.bit_tree.specs.Stream.{Tree, definition, values, next_id, Stands, Holds, of_definition, of_record}
+use Rattle.bit_tree.specs.Stream.{StreamTree, definition, values, next_id, Stands, Holds, of_definition, of_record}
 use Rattle.bit_stream.proofs.ReadBack.{fixed_reads}
 use Rattle.bit_tree.specs.Written.{operands_by, blob_by, with_definition, with_values, MayDefine, MayPut, MayAbbreviate, NamesFirst}
 use Rattle.bit_tree.proofs.Values.{Sound, values_bits, written_is, unabbreviated_reads, abbreviated_reads}
@@ -30,14 +30,14 @@ pub record Ready (v : Scope) : Type 0 where
   pub wide : 2 ≤ v.block.width
 
 -- a reader behind what a call wrote
-pub record After (s v : Scope) (c d : Cursor) (node : Tree → Tree) : Type 0 where
+pub record After (s v : Scope) (c d : Cursor) (node : StreamTree → StreamTree) : Type 0 where
   pub scope : Scope
   pub alike : Alike scope v
   pub same : SameBlocks s scope
-  pub way : (behind : Tree) (u : Scope) (g : Cursor) → Holds scope d behind u g → Holds s c (node behind) u g
+  pub way : (behind : StreamTree) (u : Scope) (g : Cursor) → Holds scope d behind u g → Holds s c (node behind) u g
 
 -- a call that added these bits, which are read as this node wherever they stand
-pub record Stepped (w new : Writer) (node : Tree → Tree) : Type 0 where
+pub record Stepped (w new : Writer) (node : StreamTree → StreamTree) : Type 0 where
   pub more : List Bool
   pub bits : new.bits ≡ w.bits ++ more
   pub around : new.around ≡ w.around
@@ -50,10 +50,10 @@ pub item_inside : (s : Scope) (c d : Cursor) (id : ℕ) → is_top s ≡ false �
 unfolding item
 item_inside s c d id top h = rw (top, h) refl
 
-definition_way : {s u : Scope} {c d g : Cursor} {i : StreamItem} {t : AdmittedAbbreviation} (n : ℕ) (behind : Tree) → Stands s c None i d → defined_at s c ≡ Ok (t, d) → next_id s ≡ n → Holds i.scope d behind u g → Holds s c (definition n t behind) u g
+definition_way : {s u : Scope} {c d g : Cursor} {i : StreamItem} {t : AdmittedAbbreviation} (n : ℕ) (behind : StreamTree) → Stands s c None i d → defined_at s c ≡ Ok (t, d) → next_id s ≡ n → Holds i.scope d behind u g → Holds s c (definition n t behind) u g
 definition_way n behind first def is h = rw (← is) (of_definition first def h)
 
-record_way : {s u : Scope} {c d g : Cursor} {i : StreamItem} {code : ℕ} (n : ℕ) (b : Bool) (behind : Tree) → Stands s c (Some (Record code)) i d → id_at s c ≡ n → has_blob_by s n ≡ b → Holds i.scope d behind u g → Holds s c (values n code i.operands b i.blob behind) u g
+record_way : {s u : Scope} {c d g : Cursor} {i : StreamItem} {code : ℕ} (n : ℕ) (b : Bool) (behind : StreamTree) → Stands s c (Some (Record code)) i d → id_at s c ≡ n → has_blob_by s n ≡ b → Holds i.scope d behind u g → Holds s c (values n code i.operands b i.blob behind) u g
 record_way n b behind first is ends h = rw (← ends, ← is) (of_record first h)
 
 id_is : (s : Scope) (c d : Cursor) (n : ℕ) → fixed s.block.width c ≡ Ok (n, d) → id_at s c ≡ n

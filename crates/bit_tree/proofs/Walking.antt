@@ -13,10 +13,10 @@ use Rattle.bit_stream.specs.declared.fault.StreamFault.TheVariants.{Bit, Memory}
 use Rattle.bit_stream.specs.Abbreviation.{AdmittedAbbreviation, ops_of}
 use Rattle.bit_stream.specs.Scope.{Scope, top_level}
 use Rattle.bit_stream.specs.declared.told.LastSeen.{LastSeen}
-use Rattle.bit_stream.specs.Entry.{StreamItem, item, is_top, id_at, has_blob_by, defined_at, with_definition, Next, Passed, start, more}
-use Rattle.bit_stream.specs.Reader.{Reader, begins, untold, opened, told_of, Arrived, Entered}
+use Rattle.bit_stream.specs.Entry.{StreamItem, item, is_top, id_at, has_blob_by, defined_at, with_definition, NextItem, Passed, start, more}
+use Rattle.bit_stream.specs.Reader.{StreamReader, begins, untold, opened, told_of, Arrived, Entered}
 use Rattle.bit_tree.specs.Read.{Judged}
-use Rattle.bit_tree.specs.Stream.{Tree, Stream, Stands, next_id, is_end, opening, stream_fault}
+use Rattle.bit_tree.specs.Stream.{StreamTree, Stream, Stands, next_id, is_end, opening, stream_fault}
 use Rattle.bit_tree.specs.Pieces.{Piece, begun, ended, defines, holds, flat}
 use Rattle.bit_tree.proofs.Leaving.{IsWide, IsEnd, Goes, what_stands, top_wide}
 use Rattle.bit_tree.proofs.Path.{Step, Path, stop, step, join, then, way_wide, way_size, goes}
@@ -67,22 +67,22 @@ over {s} (more {i = i} before h is) wide =
     }
 
 -- the piece of an entry that a reader gave; the end of the stream is none
-abbrev pub entry_piece : Entry → Reader → List Piece
+abbrev pub entry_piece : Entry → StreamReader → List Piece
 entry_piece (Block id) r = begun id r.told.width r.told.words ∷ []
 entry_piece EndBlock r = ended ∷ []
 entry_piece (Record code) r = holds r.told.abbreviation code r.operands r.told.has_blob r.blob ∷ []
 entry_piece End r = []
 
 -- a reader came from the opening over these pieces
-pub record Came (bytes : List ℕ) (r : Reader) (pieces : List Piece) : Type 0 where
+pub record Came (bytes : List ℕ) (r : StreamReader) (pieces : List Piece) : Type 0 where
   pub magic : begins bytes ≡ true
   pub running : r.stopped ≡ None
   pub way : Path top_level (opening bytes) pieces r.scope r.cursor
 
-pub came_wide : {bytes : List ℕ} {r : Reader} {ps : List Piece} → Came bytes r ps → IsWide r.scope
+pub came_wide : {bytes : List ℕ} {r : StreamReader} {ps : List Piece} → Came bytes r ps → IsWide r.scope
 came_wide h = way_wide h.way top_wide
 
-pub sets_out : (bytes : List ℕ) (r : Reader) → Ok r ≡ opened bytes → Came bytes r []
+pub sets_out : (bytes : List ℕ) (r : StreamReader) → Ok r ≡ opened bytes → Came bytes r []
 sets_out bytes r h = by_test (begins bytes) refl h where
   by_test : (b : Bool) → begins bytes ≡ b → Ok r ≡ opened bytes → Came bytes r []
   by_test true magic h =
@@ -90,10 +90,10 @@ sets_out bytes r h = by_test (begins bytes) refl h where
       rw is (record { magic = magic; running = refl; way = stop })
   by_test false other h = let never = rw other at h in absurd (cc)
 
-pub arrived : {bytes : List ℕ} {r new : Reader} {entry : Entry} {ps : List Piece} → Came bytes r ps → Entered r.stopped r (Ok entry) new → (new.stopped ≡ None) × Next r.scope r.cursor (Ok (given entry new, new.cursor)) × Arrived r entry new
+pub arrived : {bytes : List ℕ} {r new : StreamReader} {entry : Entry} {ps : List Piece} → Came bytes r ps → Entered r.stopped r (Ok entry) new → (new.stopped ≡ None) × NextItem r.scope r.cursor (Ok (given entry new, new.cursor)) × Arrived r entry new
 arrived {r = r} {new = new} {entry = entry} h e = subst (λ (x : Option StreamFault). Entered x r (Ok entry) new) h.running e
 
-step_of : (s : Scope) (c : Cursor) (r new : Reader) (entry : Entry) → Stands s c (Some entry) (given entry new) new.cursor → new.told ≡ told_of r.told entry new.scope (id_at s c) (has_blob_by s (id_at s c)) → is_end (Some entry) ≡ false → Path s c (entry_piece entry new) new.scope new.cursor
+step_of : (s : Scope) (c : Cursor) (r new : StreamReader) (entry : Entry) → Stands s c (Some entry) (given entry new) new.cursor → new.told ≡ told_of r.told entry new.scope (id_at s c) (has_blob_by s (id_at s c)) → is_end (Some entry) ≡ false → Path s c (entry_piece entry new) new.scope new.cursor
 step_of s c r new (Block id) h told further = step (given (Block id) new) (h, sym (ap (λ (t : LastSeen). t.width) told), sym (ap (λ (t : LastSeen). t.words) told)) stop
 step_of s c r new EndBlock h told further = step (given EndBlock new) h stop
 step_of s c r new (Record code) h told further =
@@ -103,12 +103,12 @@ step_of s c r new (Record code) h told further =
 step_of s c r new End h told further = absurd (cc)
 
 -- a reader gave an entry: it came over the definitions in front of it, and over that
-pub record On (bytes : List ℕ) (r : Reader) (entry : Entry) (new : Reader) (ps : List Piece) : Type 0 where
+pub record On (bytes : List ℕ) (r : StreamReader) (entry : Entry) (new : StreamReader) (ps : List Piece) : Type 0 where
   pub templates : List AdmittedAbbreviation
   pub are : new.definitions ≡ map ops_of templates
   pub came : Came bytes new (ps ++ (defining (next_id r.scope) templates ++ entry_piece entry new))
 
-pub goes_over : (bytes : List ℕ) (r new : Reader) (entry : Entry) (ps : List Piece) → Came bytes r ps → Entered r.stopped r (Ok entry) new → is_end (Some entry) ≡ false → On bytes r entry new ps
+pub goes_over : (bytes : List ℕ) (r new : StreamReader) (entry : Entry) (ps : List Piece) → Came bytes r ps → Entered r.stopped r (Ok entry) new → is_end (Some entry) ≡ false → On bytes r entry new ps
 goes_over bytes r new entry ps h e further =
     let all = arrived h e in
     let there = all.2 in
@@ -116,7 +116,7 @@ goes_over bytes r new entry ps h e further =
     let last = step_of there.scope there.cursor r new entry (record { reads = there.stands; is = refl }) there.told further in
     record { templates = front.templates; are = front.are; came = record { magic = h.magic; running = all.0; way = join h.way (join front.way last) } }
 
-pub comes_nearer : (bytes : List ℕ) (r new : Reader) (entry : Entry) (ps : List Piece) → Came bytes r ps → Entered r.stopped r (Ok entry) new → is_end (Some entry) ≡ false → length new.cursor.rest < length r.cursor.rest
+pub comes_nearer : (bytes : List ℕ) (r new : StreamReader) (entry : Entry) (ps : List Piece) → Came bytes r ps → Entered r.stopped r (Ok entry) new → is_end (Some entry) ≡ false → length new.cursor.rest < length r.cursor.rest
 comes_nearer bytes r new entry ps h e further =
     let wide = came_wide h in
     let there = (arrived h e).2 in
@@ -125,7 +125,7 @@ comes_nearer bytes r new entry ps h e further =
     omega (arith, way_size front.way wide, facts.fewer)
 
 -- a field is refused
-pub comes_to_fault : (bytes : List ℕ) (r : Reader) (ps : List Piece) (x : BitFault) → Came bytes r ps → Next r.scope r.cursor (Err x) → stream_fault bytes ≡ Some x
+pub comes_to_fault : (bytes : List ℕ) (r : StreamReader) (ps : List Piece) (x : BitFault) → Came bytes r ps → NextItem r.scope r.cursor (Err x) → stream_fault bytes ≡ Some x
 comes_to_fault bytes r ps x h next =
     let on = reached next (came_wide h) in
     let way = join h.way on.way in
@@ -137,15 +137,15 @@ comes_to_fault bytes r ps x h next =
     rw h.magic (fault_on _ left way whole ∙ fault_here left on.scope on.cursor x some on.stands)
 
 -- the end of the stream: it is a tree, whose pieces are those that were passed
-pub record Whole (bytes : List ℕ) (r new : Reader) (entry : Entry) (ps : List Piece) : Type 0 where
+pub record Whole (bytes : List ℕ) (r new : StreamReader) (entry : Entry) (ps : List Piece) : Type 0 where
   pub last : entry ≡ End
   pub templates : List AdmittedAbbreviation
   pub are : new.definitions ≡ map ops_of templates
-  pub tree : Tree
+  pub tree : StreamTree
   pub stream : Stream bytes tree
   pub pieces : flat tree ≡ ps ++ defining (next_id r.scope) templates
 
-pub comes_to_end : (bytes : List ℕ) (r new : Reader) (entry : Entry) (ps : List Piece) → Came bytes r ps → Entered r.stopped r (Ok entry) new → entry ≡ End → Whole bytes r new entry ps
+pub comes_to_end : (bytes : List ℕ) (r new : StreamReader) (entry : Entry) (ps : List Piece) → Came bytes r ps → Entered r.stopped r (Ok entry) new → entry ≡ End → Whole bytes r new entry ps
 comes_to_end bytes r new entry ps h e last =
     let there = (arrived h e).2 in
     let front = over there.passed (came_wide h) in
@@ -162,9 +162,9 @@ is_last EndBlock h = absurd (cc)
 is_last (Record code) h = absurd (cc)
 is_last End h = refl
 
-pub ended_by : (bytes : List ℕ) (r new : Reader) (entry : Entry) (ps : List Piece) → Came bytes r ps → Entered r.stopped r (Ok entry) new → is_end (Some entry) ≡ true → Whole bytes r new entry ps
+pub ended_by : (bytes : List ℕ) (r new : StreamReader) (entry : Entry) (ps : List Piece) → Came bytes r ps → Entered r.stopped r (Ok entry) new → is_end (Some entry) ≡ true → Whole bytes r new entry ps
 ended_by bytes r new entry ps h e last = comes_to_end bytes r new entry ps h e (is_last entry last)
 
-pub stopped_by : (bytes : List ℕ) (r new : Reader) (ps : List Piece) (x : StreamFault) → Came bytes r ps → Entered r.stopped r (Err x) new → Judged bytes (Err x)
+pub stopped_by : (bytes : List ℕ) (r new : StreamReader) (ps : List Piece) (x : StreamFault) → Came bytes r ps → Entered r.stopped r (Err x) new → Judged bytes (Err x)
 stopped_by bytes r new ps (Bit x) h e = let all_of = subst (λ (y : Option StreamFault). Entered y r (Err (Bit x)) new) h.running e in comes_to_fault bytes r ps x h all_of.0
 stopped_by bytes r new ps Memory h e = tt

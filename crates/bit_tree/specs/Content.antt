@@ -1,7 +1,7 @@
 -- For `content_is_enough`: what a tree holds whatever it is spelled by: two spellings of the same records have one
 -- content.
 use Rattle.std.specs.Prelude.{ℕ, List}
-use Rattle.bit_tree.specs.Stream.{Tree, nothing, block, definition, values}
+use Rattle.bit_tree.specs.Stream.{StreamTree, nothing, block, definition, values}
 
 -- What stands one behind another: a block with its id and what is inside it, or a record with its code, its operands and
 -- its blob; and then what stands behind that.
@@ -11,7 +11,7 @@ pub data Content : Type 0 where
   record_of : (code : ℕ) → (operands blob : List ℕ) → (behind : Content) → Content
 
 -- the content of a tree: without widths, counts of words, definitions and abbreviation ids
-unfoldable pub content : Tree → Content
+unfoldable pub content : StreamTree → Content
 content nothing = no_content
 content (block id width words inside behind) = block_of id (content inside) (content behind)
 content (definition id t behind) = content behind

@@ -1,7 +1,7 @@
 -- For `next` of `Walker` in `bit_walk`: what a tree is one piece after another, as a stream gives it.
 use Rattle.std.specs.Prelude.{ℕ, Bool, List, [], ◌∷◌, ◌++◌}
 use Rattle.bit_stream.specs.Abbreviation.{AdmittedAbbreviation}
-use Rattle.bit_tree.specs.Stream.{Tree, nothing, block, definition, values}
+use Rattle.bit_tree.specs.Stream.{StreamTree, nothing, block, definition, values}
 
 -- a block begins or ends, or a definition or a record stands there
 pub data Piece : Type 0 where
@@ -11,7 +11,7 @@ pub data Piece : Type 0 where
   holds : (id code : ℕ) → (operands : List ℕ) → (has_blob : Bool) → (blob : List ℕ) → Piece
 
 -- what a tree is, piece by piece
-unfoldable pub flat : Tree → List Piece
+unfoldable pub flat : StreamTree → List Piece
 flat nothing = []
 flat (block id width words inside behind) = begun id width words ∷ (flat inside ++ ended ∷ flat behind)
 flat (definition id t behind) = defines id t ∷ flat behind

@@ -2,17 +2,17 @@
 use Rattle.std.specs.Prelude.{◌≡◌, ℕ, List, Some, Result, Ok, Err}
 use Rattle.bit_stream.specs.declared.fault.StreamFault.{StreamFault}
 use Rattle.bit_stream.specs.declared.fault.StreamFault.TheVariants.{Bit, Memory}
-use Rattle.bit_tree.specs.Stream.{Tree, Stream, Shown, entries, stream_fault}
+use Rattle.bit_tree.specs.Stream.{StreamTree, Stream, Shown, entries, stream_fault}
 
 -- the entries of the stream's tree, or its first fault, or memory ran out
 abbrev pub AllRead : List ℕ → Result (List Shown) StreamFault → Type 0
-AllRead bytes (Ok all) = (tree : Tree) × Stream bytes tree × (entries tree ≡ all)
+AllRead bytes (Ok all) = (tree : StreamTree) × Stream bytes tree × (entries tree ≡ all)
 AllRead bytes (Err (Bit fault)) = stream_fault bytes ≡ Some fault
 AllRead bytes (Err Memory) = Unit {0}
 
 -- the bytes are the stream of a tree
 pub record IsStream (bytes : List ℕ) : Type 0 where
-  pub tree : Tree
+  pub tree : StreamTree
   pub stream : Stream bytes tree
 
 -- the bytes are the stream of a tree, or its first fault, or memory ran out

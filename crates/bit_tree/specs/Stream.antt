@@ -16,11 +16,11 @@ use Rattle.bit_stream.specs.Writer.{in_force}
 -- What stands one behind another: a block with its id, the width of its abbreviation ids, its count of words and what is
 -- inside it; a definition with the abbreviation id that it is for; or a record with the abbreviation id that it is by, its
 -- code, its operands, whether it ends in a blob, and the blob; and then what stands behind that.
-pub data Tree : Type 0 where
-  nothing : Tree
-  block : (id width words : ℕ) → (inside behind : Tree) → Tree
-  definition : (id : ℕ) → AdmittedAbbreviation → (behind : Tree) → Tree
-  values : (id code : ℕ) → (operands : List ℕ) → (has_blob : Bool) → (blob : List ℕ) → (behind : Tree) → Tree
+pub data StreamTree : Type 0 where
+  nothing : StreamTree
+  block : (id width words : ℕ) → (inside behind : StreamTree) → StreamTree
+  definition : (id : ℕ) → AdmittedAbbreviation → (behind : StreamTree) → StreamTree
+  values : (id code : ℕ) → (operands : List ℕ) → (has_blob : Bool) → (blob : List ℕ) → (behind : StreamTree) → StreamTree
 
 -- at a place stands such an entry, or a definition where it is none
 pub record Stands (s : Scope) (c : Cursor) (entry : Option Entry) (i : StreamItem) (d : Cursor) : Type 0 where
@@ -32,20 +32,20 @@ abbrev pub next_id : Scope → ℕ
 next_id s = in_force s + 4
 
 -- from one place to another, with the blocks and abbreviations in force at each, stands a tree
-pub data Holds : Scope → Cursor → Tree → Scope → Cursor → Type 0 where
+pub data Holds : Scope → Cursor → StreamTree → Scope → Cursor → Type 0 where
   none : {s : Scope} {c : Cursor} → Holds s c nothing s c
-  of_block : {s t u : Scope} {c d e f g : Cursor} {i j : StreamItem} {id : ℕ} {inside behind : Tree}
+  of_block : {s t u : Scope} {c d e f g : Cursor} {i j : StreamItem} {id : ℕ} {inside behind : StreamTree}
       → (starts : Stands s c (Some (Block id)) i d)
       → (holds_inside : Holds i.scope d inside t e)
       → (ends : Stands t e (Some EndBlock) j f)
       → (holds_behind : Holds j.scope f behind u g)
       → Holds s c (block id i.scope.block.width i.scope.block.words inside behind) u g
-  of_definition : {s u : Scope} {c d g : Cursor} {i : StreamItem} {t : AdmittedAbbreviation} {behind : Tree}
+  of_definition : {s u : Scope} {c d g : Cursor} {i : StreamItem} {t : AdmittedAbbreviation} {behind : StreamTree}
       → (stands : Stands s c None i d)
       → (defines : defined_at s c ≡ Ok (t, d))
       → (holds_behind : Holds i.scope d behind u g)
       → Holds s c (definition (next_id s) t behind) u g
-  of_record : {s u : Scope} {c d g : Cursor} {i : StreamItem} {code : ℕ} {behind : Tree}
+  of_record : {s u : Scope} {c d g : Cursor} {i : StreamItem} {code : ℕ} {behind : StreamTree}
       → (stands : Stands s c (Some (Record code)) i d)
       → (holds_behind : Holds i.scope d behind u g)
       → Holds s c (values (id_at s c) code i.operands (has_blob_by s (id_at s c)) i.blob behind) u g
@@ -55,7 +55,7 @@ abbrev pub opening : List ℕ → Cursor
 opening bytes = record { at = 32; rest = drop 32 (stream_bits bytes) }
 
 -- the bits are a tree, from the opening to the top level where no bit is left
-pub record Stream (bytes : List ℕ) (tree : Tree) : Type 0 where
+pub record Stream (bytes : List ℕ) (tree : StreamTree) : Type 0 where
   pub opens : begins bytes ≡ true
   pub scope : Scope
   pub cursor : Cursor
@@ -98,7 +98,7 @@ abbrev pub bare : Entry → Shown
 bare entry = record { entry = entry; operands = []; blob = [] }
 
 -- the entries of a tree, in order; a definition is none
-unfoldable pub entries : Tree → List Shown
+unfoldable pub entries : StreamTree → List Shown
 entries nothing = []
 entries (block id width words inside behind) = bare (Block id) ∷ (entries inside ++ bare EndBlock ∷ entries behind)
 entries (definition id t behind) = entries behind

@@ -16,7 +16,7 @@ use Rattle.bit_stream.specs.Entry.{is_top, is_blockinfo}
 use Rattle.bit_stream.specs.Spelling.{template_for, record_fits}
 use Rattle.bit_stream.specs.Writer.{Writer, begun, enter, ended, end_block, define, in_force, put_record, abbreviated}
 use Rattle.bit_stream.specs.Law.{AreOperands}
-use Rattle.bit_tree.specs.Stream.{Tree, nothing, block, definition, values, Stream}
+use Rattle.bit_tree.specs.Stream.{StreamTree, nothing, block, definition, values, Stream}
 
 -- What is written one behind another: a block, by its id, the width of its abbreviation ids and what is written inside
 -- it; a definition, by its operands; a record, by its code and its operands, or by an abbreviation's id as well; and then
@@ -57,17 +57,17 @@ abbrev pub blob_by : AdmittedAbbreviation → List ℕ → List ℕ
 blob_by t ns = back_of t.tail (length t.operands) ns
 
 -- a definition stands in front, where it is one
-abbrev pub with_definition : ℕ → Option AdmittedAbbreviation → Tree → Tree
+abbrev pub with_definition : ℕ → Option AdmittedAbbreviation → StreamTree → StreamTree
 with_definition id None behind = behind
 with_definition id (Some t) behind = definition id t behind
 
 -- a record stands in front
-abbrev pub with_values : ℕ → Option AdmittedAbbreviation → ℕ → List ℕ → Tree → Tree
+abbrev pub with_values : ℕ → Option AdmittedAbbreviation → ℕ → List ℕ → StreamTree → StreamTree
 with_values id None code ns behind = values id code ns false [] behind
 with_values id (Some t) code ns behind = values id code (operands_by t ns) (is_blob t.tail) (blob_by t ns) behind
 
 -- the tree that is written
-unfoldable pub tree_of : Writer → Written → Tree
+unfoldable pub tree_of : Writer → Written → StreamTree
 tree_of w no_more = nothing
 tree_of w (a_block id width inside behind) =
     block id width

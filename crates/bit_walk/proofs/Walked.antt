@@ -8,7 +8,7 @@ use Rattle.bit_stream.specs.Abbreviation.{AdmittedAbbreviation}
 use Rattle.bit_stream.specs.Entry.{is_top, is_blockinfo}
 use Rattle.bit_stream.specs.Record.{value_by}
 use Rattle.bit_stream.specs.Scope.{Scope, top_level}
-use Rattle.bit_tree.specs.Stream.{Tree, Stream, opening}
+use Rattle.bit_tree.specs.Stream.{StreamTree, Stream, opening}
 use Rattle.bit_tree.specs.Pieces.{Piece, flat}
 use Rattle.bit_tree.specs.Read.{IsStream}
 use Rattle.bit_walk.specs.Starts.{Opened, IsKept}
@@ -47,7 +47,7 @@ walked old (Some event) s n c d operands has_blob blob t ahead left steps =
 pub starts : (bytes : List ℕ) (o : Opened) (c : Cursor) (start : Option ℕ) (t : AdmittedAbbreviation) → IsStream bytes → o ≡ record { bits = stream_bits bytes; scope = top_level } → c ≡ opening bytes → ((bits : List Bool) → IsKept bits start t) → IsPlace o c start t
 starts bytes o c start t judged is at kept = rw (is, at) (record { ahead = (flat judged.tree, tree_ahead bytes judged.tree judged.stream); on = refl; kept = kept (stream_bits bytes) })
 
-pub whole_left : (bytes : List ℕ) (o : Opened) (c : Cursor) (tree : Tree) → Stream bytes tree → o ≡ record { bits = stream_bits bytes; scope = top_level } → c ≡ opening bytes → pieces_left false o.scope c ≡ flat tree
+pub whole_left : (bytes : List ℕ) (o : Opened) (c : Cursor) (tree : StreamTree) → Stream bytes tree → o ≡ record { bits = stream_bits bytes; scope = top_level } → c ≡ opening bytes → pieces_left false o.scope c ≡ flat tree
 whole_left bytes o c tree stream is at = rw (is, at) (left_is (tree_ahead bytes tree stream))
 
 -- operands

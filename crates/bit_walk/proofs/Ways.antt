@@ -5,7 +5,7 @@ use Rattle.bits.specs.declared.fault.BitFault.{BitFault}
 use Rattle.bit_stream.specs.declared.entry.Entry.TheVariants.{End}
 use Rattle.bit_stream.specs.Scope.{Scope, top_level}
 use Rattle.bit_stream.specs.Entry.{StreamItem, item, is_top, plain}
-use Rattle.bit_tree.specs.Stream.{Tree, Stream, is_end, opening}
+use Rattle.bit_tree.specs.Stream.{StreamTree, Stream, is_end, opening}
 use Rattle.bit_tree.specs.Pieces.{Piece, begun, ended, defines, holds, flat}
 use Rattle.bit_tree.proofs.Leaving.{IsWide, top_wide}
 use Rattle.bit_tree.proofs.Path.{Step, Path, stop, step, from_tree, stands, no_end, goes}
@@ -42,7 +42,7 @@ from_path {s = s} {c = c} (step {d = d} i {p = p} {ps = ps} first rest) wide top
     let first_is : piece_at i.entry s c i ++ ps ≡ p ∷ ps = ap (λ (l : List Piece). l ++ ps) (piece_is s c d p i first) in
     subst (λ (l : List Piece). Ahead s c l) first_is later
 
-pub tree_ahead : (bytes : List ℕ) (tree : Tree) → Stream bytes tree → Ahead top_level (opening bytes) (flat tree)
+pub tree_ahead : (bytes : List ℕ) (tree : StreamTree) → Stream bytes tree → Ahead top_level (opening bytes) (flat tree)
 tree_ahead bytes tree h = from_path (from_tree h.all) top_wide h.closed h.whole
 
 -- what is left is computed

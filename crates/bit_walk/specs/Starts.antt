@@ -5,7 +5,7 @@ use Rattle.bit_stream.specs.declared.abbreviation.ValueSpelling.TheVariants.{Kno
 use Rattle.bit_stream.specs.declared.abbreviation.Tail.TheVariants.{NoTail}
 use Rattle.bit_stream.specs.Abbreviation.{AdmittedAbbreviation}
 use Rattle.bit_stream.specs.Definition.{template}
-use Rattle.bit_stream.specs.Scope.{Frame, Scope}
+use Rattle.bit_stream.specs.Scope.{BlockFrame, Scope}
 
 -- a bit of a stream, and what is left from there on
 abbrev pub at_bit : List Bool → ℕ → Cursor
@@ -39,7 +39,7 @@ pub record StartFrame : Type 0 where
   pub target : Option ℕ
 
 -- a block whose abbreviations are read where their definitions start
-abbrev pub frame_at : List Bool → StartFrame → Frame
+abbrev pub frame_at : List Bool → StartFrame → BlockFrame
 frame_at bits f = record { id = f.id; width = f.width; count_bit = f.count_bit; words = f.words; given = f.given; own = map (template_at bits) f.own; target = f.target }
 
 -- the abbreviations that a block id was given, read where their definitions start

@@ -16,7 +16,7 @@ use std::mem;
 
 /// An open block, or the top level.
 #[derive(Drop)]
-struct Frame {
+struct StartFrame {
     /// None at the top level.
     id: Option<u32>,
     width: ChunkWidth,
@@ -30,7 +30,7 @@ struct Frame {
     target: Option<u64>,
 }
 
-impl Model for Frame {
+impl Model for StartFrame {
     ghost use Rattle.bit_walk.specs.Starts.{StartFrame};
 
     ghost Value = { StartFrame };
@@ -42,8 +42,8 @@ impl Model for Frame {
 #[derive(Drop)]
 pub struct WalkScope<'b> {
     bytes: &'b [u8],
-    block: Frame,
-    around: Vec<Frame>,
+    block: StartFrame,
+    around: Vec<StartFrame>,
     given: Given,
     alloc: Global,
 }
@@ -69,7 +69,7 @@ impl<'b> WalkScope<'b> {
     {
         WalkScope {
             bytes,
-            block: Frame {
+            block: StartFrame {
                 id: None,
                 width: ChunkWidth::new(2),
                 count_bit: 0,
@@ -161,7 +161,7 @@ impl<'b> WalkScope<'b> {
         ensures { OnOk result (self.new ≡ with_scope self.old (entered self.old.scope id width count_bit words)) }
     {
         let given = self.given_to(u64::from(id)) as u32;
-        let block = Frame {
+        let block = StartFrame {
             id: Some(id),
             width,
             count_bit,

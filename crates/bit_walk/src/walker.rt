@@ -1,7 +1,7 @@
 //! A walker over a judged stream.
 ghost use Rattle.std.specs.Prelude.{◌≡◌, ◌≤◌, false, length};
 ghost use Rattle.bit_stream.specs.declared.reader.TheConstants.{LARGEST_STREAM};
-ghost use Rattle.bit_tree.specs.Stream.{Tree, Stream};
+ghost use Rattle.bit_tree.specs.Stream.{StreamTree, Stream};
 ghost use Rattle.bit_tree.specs.Pieces.{flat};
 ghost use Rattle.bit_tree.specs.Read.{IsStream};
 ghost use Rattle.bit_walk.specs.Walker.{Walks, Took};
@@ -57,7 +57,7 @@ impl<'b> Walker<'b> {
         requires short { length bytes.now ≤ LARGEST_STREAM }
         requires judged { IsStream bytes.now }
         ensures unspent { result.spent ≡ false }
-        ensures whole { (tree : Tree) → Stream bytes.now tree → result.left ≡ flat tree }
+        ensures whole { (tree : StreamTree) → Stream bytes.now tree → result.left ≡ flat tree }
     {
         let cursor = BitCursor::at_bit(bytes, 32);
         let scope = WalkScope::new(alloc, bytes);

@@ -8,7 +8,7 @@ use Rattle.module_arena.specs.declared.entry.LocalName as the_local
 use Rattle.module_arena.specs.declared.entry.LocalName.TheVariants as local
 use Rattle.module_arena.specs.declared.entry.Parameter as the_parameter
 use Rattle.module_arena.specs.Module.{Block, LocalName, Parameter}
-use Rattle.record_table.specs.Bodies.{Begun, Due, FirstBlock, Line, NextBlock, Parameters, after_all, at_first, body, body_from, closed_at, is_block, is_line, is_parameters, labels, parameters, results, with_end, with_instruction, with_label, with_names, with_opcode, with_parameters, with_record}
+use Rattle.record_table.specs.Bodies.{Begun, BodyDue, FirstBlock, Line, NextBlock, Parameters, after_all, at_first, body, body_from, closed_at, is_block, is_line, is_parameters, labels, parameters, results, with_end, with_instruction, with_label, with_names, with_opcode, with_parameters, with_record}
 use Rattle.record_table.specs.Faults.{Answer, Records, a_block, a_record, is_block_id, no_more}
 use Rattle.record_table.specs.Fields.{Numbering, Texts, after, label}
 use Rattle.record_table.specs.Layout.{judged}
@@ -26,7 +26,7 @@ record Stays (s t : Begun) : Type 0 where
   same : t.parameters ≡ s.parameters
   later : is_parameters t.due ≡ false
 
-line_later : (d : Due) → is_line d ≡ true → is_parameters d ≡ false
+line_later : (d : BodyDue) → is_line d ≡ true → is_parameters d ≡ false
 line_later Parameters h = absurd (false≢true h)
 line_later FirstBlock h = refl
 line_later Line h = refl
@@ -87,7 +87,7 @@ module _ (texts : Texts) (k : Numbering) (count : ℕ) where
       by false true e = (stays_label s t operands e).0
       by false false e = (stays_opcode s t code operands (opcode_of_code (code - 10)) e).0
 
-  closed_same : (s t : Begun) (d : Due) → closed_at s d ≡ Ok t → t.parameters ≡ s.parameters
+  closed_same : (s t : Begun) (d : BodyDue) → closed_at s d ≡ Ok t → t.parameters ≡ s.parameters
   closed_same s t Parameters e = absurd (cc)
   closed_same s t FirstBlock e = absurd (cc)
   closed_same s t Line e = absurd (cc)

@@ -4,7 +4,7 @@ use Rattle.std.specs.Prelude.{Ok, Err}
 use Rattle.module_arena.specs.Module.{Module}
 use Rattle.record_table.specs.Faults.{Answer, ◌>>=◌, BadRecord, ForeignProducer, Records, UnknownRecord, is_block_id, no_more, a_block, a_record, misplaced}
 use Rattle.record_table.specs.Fields.{Texts, version_1}
-use Rattle.record_table.specs.Records.{Table, at_first, is_ours, module_behind, module_block, module_from, nothing_behind, producer_from, read, table}
+use Rattle.record_table.specs.Records.{ReadTable, at_first, is_ours, module_behind, module_block, module_from, nothing_behind, producer_from, read, table}
 use Rattle.record_table.specs.StringTable.{read_only}
 use Rattle.opening_read.specs.Entering.{Entered, block_of, module_in}
 use Rattle.opening_read.specs.Producer.{producer_of}
@@ -52,7 +52,7 @@ module_is at no_more = refl
 module_is at (a_record code operands behind) = refl
 module_is at (a_block id inside behind) = by (nat_eq id 23)
   where
-    tabled : (a : Answer Table) → (a >>= λ t. module_block (read_only t.bytes) t.at behind) ≡ ((a >>= λ t. block_of (read_only t.bytes) t.at behind) >>= entered_module)
+    tabled : (a : Answer ReadTable) → (a >>= λ t. module_block (read_only t.bytes) t.at behind) ≡ ((a >>= λ t. block_of (read_only t.bytes) t.at behind) >>= entered_module)
     tabled (Ok t) = block_is (read_only t.bytes) t.at behind
     tabled (Err told) = refl
 

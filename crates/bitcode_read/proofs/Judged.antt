@@ -2,7 +2,7 @@
 use Rattle.std.proofs.Common.{◌≡◌, ℕ, List, [], ◌∷◌, refl, sym, ap, subst, ◌∙◌}
 use Rattle.std.specs.Prelude.{Result, Ok, Err, ⊤}
 use Rattle.bit_tree.specs.Pieces.{ended}
-use Rattle.bit_tree.specs.Stream.{Stream, Tree}
+use Rattle.bit_tree.specs.Stream.{Stream, StreamTree}
 use Rattle.module_arena.specs.Lists.{Lists}
 use Rattle.module_arena.specs.Module.{Module}
 use Rattle.record_table.specs.Faults.{Answer, ◌>>=◌, Records, records}
@@ -26,7 +26,7 @@ use Rattle.bitcode_read.proofs.Opened.{IsMeant, meant_by, refused_in_front, refu
 pub end_refused : (s : Sofar) (behind : Records) (given : BitcodeFault) → Answers {A = Module} {B = Unit {0}} (λ done n. ⊤) (nothing_behind s behind) (Err given) → Answers {A = Module} {B = Lists} IsModule (nothing_behind s behind) (Err given)
 end_refused s behind given told = refused_so {A = Module} {B = Unit {0}} {C = Lists} (λ done n. ⊤) IsModule (nothing_behind s behind) given told
 
-module _ (bytes : List ℕ) (tree : Tree) (stream : Stream bytes tree) (texts : the_texts.Texts) (r : Reader) (known : ModuleAhead) (o : IsOpened tree texts r known) (m : ModuleReader) (b : IsBegunOver r known m) where
+module _ (bytes : List ℕ) (tree : StreamTree) (stream : Stream bytes tree) (texts : the_texts.Texts) (r : Reader) (known : ModuleAhead) (o : IsOpened tree texts r known) (m : ModuleReader) (b : IsBegunOver r known m) where
   -- what stands in the block answers
   abbrev pub block_answer : Answer Sofar
   block_answer = module_from (at_first (texts_of texts) m.reader.at (first_module (records tree))) (first_module (records tree))

@@ -3,7 +3,7 @@ use Rattle.std.proofs.Common.{◌≡◌, ℕ, Bool, true, false, ◌&&◌, cond,
 use Rattle.std.specs.Prelude.{Ok, Err, ⊤}
 use Rattle.std.proofs.lemmas.Bool.{eqb-true}
 use Rattle.bit_tree.specs.Pieces.{ended}
-use Rattle.bit_tree.specs.Stream.{Tree}
+use Rattle.bit_tree.specs.Stream.{StreamTree}
 use Rattle.module_arena.specs.Lists.{Lists}
 use Rattle.module_arena.specs.Module.{Module}
 use Rattle.record_table.specs.Faults.{Answer, ◌>>=◌, BadRecord, ForeignProducer, Records, UnknownRecord, a_block, a_record, is_block_id, no_more, records}
@@ -93,21 +93,21 @@ entered_first at (a_block id inside behind) e h = by (nat_eq id 23) refl h
 -- ---- the stream so far
 
 -- the reader stands in the module's block
-pub record IsEntered (tree : Tree) (texts : the_texts.Texts) (r : Reader) : Type 0 where
+pub record IsEntered (tree : StreamTree) (texts : the_texts.Texts) (r : Reader) : Type 0 where
   pub p : ℕ × Records
   pub producer : producer_of (records tree) ≡ Ok p
   pub e : Entered
   pub is : module_in p.0 p.1 ≡ Ok e
   pub is_in : IsIn r texts e
 
-pub entered : (tree : Tree) (texts : the_texts.Texts) (behind r : Reader) → Answers {A = ℕ × Records} {B = Unit {0}} (λ done read. IsBehind behind read) (producer_of (records tree)) (Ok tt)
+pub entered : (tree : StreamTree) (texts : the_texts.Texts) (behind r : Reader) → Answers {A = ℕ × Records} {B = Unit {0}} (λ done read. IsBehind behind read) (producer_of (records tree)) (Ok tt)
     → ((all : Records) → IsBefore behind.left all [] → Answers {A = Entered} {B = the_texts.Texts} (IsIn r) (module_in behind.at all) (Ok texts)) → IsEntered tree texts r
 entered tree texts behind r h enters =
     let x = meant_by {A = ℕ × Records} {B = Unit {0}} (λ done read. IsBehind behind read) (producer_of (records tree)) tt h in
     let y = meant_by {A = Entered} {B = the_texts.Texts} (IsIn r) (module_in behind.at x.value.1) texts (enters x.value.1 x.meant.before) in
     record { p = x.value; producer = x.is; e = y.value; is = ap (λ n. module_in n x.value.1) (sym x.meant.at) ∙ y.is; is_in = y.meant }
 
-module _ (tree : Tree) (texts : the_texts.Texts) (r : Reader) (o : IsEntered tree texts r) where
+module _ (tree : StreamTree) (texts : the_texts.Texts) (r : Reader) (o : IsEntered tree texts r) where
   inside_is : first_module (records tree) ≡ o.e.inside
   inside_is = first_behind (records tree) o.p o.producer ∙ entered_first o.p.0 o.p.1 o.e o.is
 
@@ -156,7 +156,7 @@ rest_is_whole all behind h =
     record { all = x.value.1; before = x.meant.before }
 
 -- want of memory
-pub opens_nothing : (tree : Tree) (given : BitcodeFault) → given ≡ fault.Memory → Opens tree (Err given)
+pub opens_nothing : (tree : StreamTree) (given : BitcodeFault) → given ≡ fault.Memory → Opens tree (Err given)
 opens_nothing tree given is = out_of_memory {A = Module} {B = Lists} IsModule (read (records tree)) given is
 
 -- a refusal of the producer, or in front of the module's block

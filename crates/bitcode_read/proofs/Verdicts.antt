@@ -4,7 +4,7 @@ use Rattle.std.specs.Prelude.{IfErr, IfOk, Result, Ok, Err}
 use Rattle.bit_stream.specs.declared.fault.StreamFault.{StreamFault}
 use Rattle.bit_stream.specs.declared.fault.StreamFault.TheVariants as stream_fault
 use Rattle.bit_tree.specs.Read.{IsStream, Judged}
-use Rattle.bit_tree.specs.Stream.{Stream, Tree}
+use Rattle.bit_tree.specs.Stream.{Stream, StreamTree}
 use Rattle.bit_tree.proofs.Faults.{tree_no_fault}
 use Rattle.module_arena.specs.Lists.{Lists}
 use Rattle.module_arena.specs.Module.{Module}
@@ -21,7 +21,7 @@ use Rattle.bitcode_read.specs.Answers.{IsModule, IsReadAs, IsReadFault}
 
 -- the records of the stream answer
 abbrev pub AnswersAll : List ℕ → Result Lists BitcodeFault → Type 0
-AnswersAll bytes result = (tree : Tree) → Stream bytes tree → Answers IsModule (read (records tree)) result
+AnswersAll bytes result = (tree : StreamTree) → Stream bytes tree → Answers IsModule (read (records tree)) result
 
 spelled_by : (bytes : List ℕ) (i : IsStream bytes) (arena : Lists) (a : Answer Module) → read (records i.tree) ≡ a → Answers IsModule a (Ok arena) → Spells bytes (module_of arena)
 spelled_by bytes i arena (Ok m) is h = record { tree = i.tree; is_tree = i.stream; stands = is ∙ ap (λ (n : Module). Ok n) (sym h) }

@@ -1,6 +1,6 @@
 -- For `read`: what it answers.
 use Rattle.std.specs.Prelude.{◌≡◌, ℕ, List, Some, Result, Ok, Err, ⊤}
-use Rattle.bit_tree.specs.Stream.{Tree, Stream, stream_fault}
+use Rattle.bit_tree.specs.Stream.{StreamTree, Stream, stream_fault}
 use Rattle.module_arena.specs.Lists.{Lists}
 use Rattle.module_arena.specs.Module.{Module}
 use Rattle.module_arena.specs.View.{module_of}
@@ -16,7 +16,7 @@ IsModule arena m = module_of arena ≡ m
 
 -- the first record of the stream's tree that is refused is told
 pub record IsRefused (bytes : List ℕ) (given : BitcodeFault) : Type 0 where
-  pub tree : Tree
+  pub tree : StreamTree
   pub is_tree : Stream bytes tree
   pub told : RecordFault
   pub is_told : table.record_fault tree ≡ Some told

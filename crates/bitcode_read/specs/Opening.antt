@@ -1,7 +1,7 @@
 -- For `read`: a stream whose module's block was entered.
 use Rattle.std.specs.Prelude.{◌≡◌, ℕ, List, [], ◌∷◌, Result, Ok, Err}
 use Rattle.bit_tree.specs.Pieces.{Piece, ended}
-use Rattle.bit_tree.specs.Stream.{Tree, Stream}
+use Rattle.bit_tree.specs.Stream.{StreamTree, Stream}
 use Rattle.module_arena.specs.Lists.{Lists}
 use Rattle.module_arena.specs.Module.{Module}
 use Rattle.record_table.specs.Faults.{◌>>=◌, Records, records as records_of}
@@ -19,7 +19,7 @@ use Rattle.bitcode_read.specs.declared.opening.Opening.{Opening}
 
 -- The reader stands in the module's block, of which that is known ahead: the stream stands for what the block does, where nothing is
 -- behind it.
-pub record IsOpened (tree : Tree) (texts : the_texts.Texts) (reader : Reader) (known : ModuleAhead) : Type 0 where
+pub record IsOpened (tree : StreamTree) (texts : the_texts.Texts) (reader : Reader) (known : ModuleAhead) : Type 0 where
   pub others : List Piece
   pub behind : Records
   pub before : IsBefore reader.left (first_module (records_of tree)) (ended ∷ others)
@@ -30,12 +30,12 @@ pub record IsOpened (tree : Tree) (texts : the_texts.Texts) (reader : Reader) (k
       >>= λ s. table.nothing_behind s behind)
 
 -- it was entered, or what stands in front of it refuses the stream
-abbrev pub Opens : Tree → Result Opening BitcodeFault → Type 0
+abbrev pub Opens : StreamTree → Result Opening BitcodeFault → Type 0
 Opens tree (Ok opening) = IsOpened tree opening.texts opening.reader opening.known
 Opens tree (Err given) = Answers {A = Module} {B = Lists} IsModule (table.read (records_of tree)) (Err given)
 
 -- the same of some bytes
 pub record IsOpenedStream (bytes : List ℕ) (texts : the_texts.Texts) (reader : Reader) (known : ModuleAhead) : Type 0 where
-  pub tree : Tree
+  pub tree : StreamTree
   pub is_tree : Stream bytes tree
   pub opened : IsOpened tree texts reader known

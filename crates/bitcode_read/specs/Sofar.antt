@@ -1,7 +1,7 @@
 -- For `read`: the block of a module in the making.
 use Rattle.std.specs.Prelude.{◌≡◌, ◌⊎◌, ◌≤◌, ◌<◌, ℕ, suc, Bool, true, false, List, [], ◌∷◌, ◌++◌, map, length, drop, slice_get, slice_index_or, nat_eq, All, Option, Some, None, Result, Ok, Err, ⊤}
 use Rattle.bit_tree.specs.Pieces.{Piece, ended}
-use Rattle.bit_tree.specs.Stream.{Tree, Stream}
+use Rattle.bit_tree.specs.Stream.{StreamTree, Stream}
 use Rattle.type_table.specs.Types.{structs, trees}
 use Rattle.type_table.specs.Types as tables
 use Rattle.module_arena.specs.declared.arena.TheConstants.{COUNT_LIMIT}
@@ -263,7 +263,7 @@ pub record IsGoing (texts : Texts) (all : Records) (others : List Piece) (first 
 
 -- in front of some of the records of the block of the stream's module
 pub record IsAmong (bytes : List ℕ) (texts : Texts) (m : ModuleReader) (b : Sofar) (known : ModuleAhead) : Type 0 where
-  pub tree : Tree
+  pub tree : StreamTree
   pub is_tree : Stream bytes tree
   pub others : List Piece
   pub first : ℕ
@@ -305,7 +305,7 @@ pub record IsBegunOver (reader : Reader) (known : ModuleAhead) (new : ModuleRead
 
 -- the block of the stream's module was begun, of which that is known ahead
 pub record IsModuleBegun (bytes : List ℕ) (texts : Texts) (m : ModuleReader) (known : ModuleAhead) : Type 0 where
-  pub tree : Tree
+  pub tree : StreamTree
   pub is_tree : Stream bytes tree
   pub others : List Piece
   pub before : IsBefore m.reader.left (first_module (records_of tree)) (ended ∷ others)

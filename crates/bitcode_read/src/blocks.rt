@@ -1,7 +1,7 @@
 //! The blocks in a module's block: the types, and bodies.
 ghost use Rattle.std.specs.Prelude.{◌≡◌, ◌≤◌, ◌&&◌, nat_eq, length, true, false, slice_get, Some, OnOk, IfOk, IfErr};
 ghost use Rattle.bit_tree.specs.Read.{IsStream};
-ghost use Rattle.bit_tree.specs.Stream.{Tree, Stream};
+ghost use Rattle.bit_tree.specs.Stream.{StreamTree, Stream};
 ghost use Rattle.type_table.specs.Types as tables;
 ghost use Rattle.module_arena.specs.declared.entry.Function.{Function};
 ghost use Rattle.module_arena.specs.Known.{AreDistinct, IsGood};
@@ -54,7 +54,7 @@ fn read_types_block(
     requires held { AreBytesHeld texts.now }
     requires room { HasRoom sofar.old }
     ensures room { OnOk result (HasRoom sofar.new) }
-    ensures reads { (tree : Tree) → Stream bytes.now tree → records.may_follow sofar.old.last 5 ≡ true
+    ensures reads { (tree : StreamTree) → Stream bytes.now tree → records.may_follow sofar.old.last 5 ≡ true
         → ReadsBlock (texts_of texts.now) (first_module (records_of tree)) m.old sofar.old known.old 17 result m.new sofar.new known.new }
 {
     let gathered = mem::replace(&mut known.named, Arena::new(m.alloc));
@@ -177,7 +177,7 @@ pub(crate) fn read_block(
     requires judged { IsStream bytes.now }
     requires room { HasRoom sofar.old }
     ensures room { OnOk result (HasRoom sofar.new) }
-    ensures reads { (tree : Tree) → Stream bytes.now tree → ReadsBlock (texts_of texts.now) (first_module (records_of tree)) m.old sofar.old known.old id result m.new sofar.new known.new }
+    ensures reads { (tree : StreamTree) → Stream bytes.now tree → ReadsBlock (texts_of texts.now) (first_module (records_of tree)) m.old sofar.old known.old id result m.new sofar.new known.new }
 {
     if takes_types(id, sofar.last) {
         return read_types_block(m, bytes, texts, sofar, known);

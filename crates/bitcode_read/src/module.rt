@@ -2,7 +2,7 @@
 ghost use Rattle.std.specs.Prelude.{◌≡◌, ◌∷◌, ◌<◌, ◌≤◌, ℕ, List, true, false, length, Ok, OnOk};
 ghost use Rattle.bit_stream.specs.declared.reader.TheConstants.{LARGEST_STREAM};
 ghost use Rattle.bit_tree.specs.Pieces.{Piece, ended};
-ghost use Rattle.bit_tree.specs.Stream.{Tree, Stream};
+ghost use Rattle.bit_tree.specs.Stream.{StreamTree, Stream};
 ghost use Rattle.record_table.specs.Faults.{Records, records as records_of};
 ghost use Rattle.record_table.specs.Records as records;
 ghost use Rattle.record_read.specs.Entries.{IsBefore};
@@ -46,7 +46,7 @@ fn read_entry(
     ensures room { OnOk result (HasRoom sofar.new) }
     ensures unspent { OnOk result (m.new.reader.spent ≡ false) }
     ensures nearer { result ≡ Ok true → length m.new.reader.left < length m.old.reader.left }
-    ensures goes { (tree : Tree) (others : List Piece) (first : ℕ) → Stream bytes.now tree → IsGoing (texts_of texts.now) (first_module (records_of tree)) others first m.old sofar.old known.old
+    ensures goes { (tree : StreamTree) (others : List Piece) (first : ℕ) → Stream bytes.now tree → IsGoing (texts_of texts.now) (first_module (records_of tree)) others first m.old sofar.old known.old
         → GoesOn (texts_of texts.now) (first_module (records_of tree)) others first result m.new sofar.new known.new }
 {
     match m.reader.next()? {
@@ -71,7 +71,7 @@ fn read_entries(
     requires going { IsAmong bytes.now (texts_of texts.now) m.old sofar.old known.old }
     ensures room { OnOk result (HasRoom sofar.new) }
     ensures unspent { OnOk result (m.new.reader.spent ≡ false) }
-    ensures goes { (tree : Tree) (others : List Piece) (first : ℕ) → Stream bytes.now tree → IsGoing (texts_of texts.now) (first_module (records_of tree)) others first m.old sofar.old known.old
+    ensures goes { (tree : StreamTree) (others : List Piece) (first : ℕ) → Stream bytes.now tree → IsGoing (texts_of texts.now) (first_module (records_of tree)) others first m.old sofar.old known.old
         → GoesOn (texts_of texts.now) (first_module (records_of tree)) others first (told_end result) m.new sofar.new known.new }
 {
     'entries: loop {
@@ -106,7 +106,7 @@ pub(crate) fn read_module(
     requires held { AreBytesHeld texts.now }
     requires begun { IsModuleBegun bytes.now (texts_of texts.now) m.old known.old }
     ensures unspent { OnOk result (m.new.reader.spent ≡ false) }
-    ensures answers { (tree : Tree) (others : List Piece) → Stream bytes.now tree → IsBefore m.old.reader.left (first_module (records_of tree)) (ended ∷ others)
+    ensures answers { (tree : StreamTree) (others : List Piece) → Stream bytes.now tree → IsBefore m.old.reader.left (first_module (records_of tree)) (ended ∷ others)
         → Answers (IsWhole m.new others) (records.module_from (records.at_first (texts_of texts.now) m.old.reader.at (first_module (records_of tree))) (first_module (records_of tree))) result }
 {
     let mut sofar = Sofar::new(m.alloc);

@@ -2,7 +2,7 @@
 ghost use Rattle.std.specs.Prelude.{◌≡◌, ◌≤◌, length, true, false, IfOk};
 ghost use Rattle.bit_stream.specs.declared.reader.TheConstants.{LARGEST_STREAM};
 ghost use Rattle.bit_tree.specs.Read.{IsStream};
-ghost use Rattle.bit_tree.specs.Stream.{Tree, Stream};
+ghost use Rattle.bit_tree.specs.Stream.{StreamTree, Stream};
 ghost use Rattle.record_read.specs.Fields.{are_bytes};
 ghost use Rattle.bitcode_read.specs.Opening.{Opens};
 ghost use Rattle.bitcode_read.specs.Sofar.{AreBytesHeld};
@@ -44,7 +44,7 @@ pub(crate) fn open_stream<'b>(alloc: Global, bytes: &'b [u8]) -> Result<Opening<
     requires judged { IsStream bytes.now }
     ensures unspent { IfOk result (λ opening. opening.reader.spent ≡ false) }
     ensures held { IfOk result (λ opening. AreBytesHeld opening.texts) }
-    ensures opens { (tree : Tree) → Stream bytes.now tree → Opens tree result }
+    ensures opens { (tree : StreamTree) → Stream bytes.now tree → Opens tree result }
 {
     let mut reader = RecordReader::new(alloc, bytes);
     read_producer(&mut reader)?;

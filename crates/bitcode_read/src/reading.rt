@@ -1,7 +1,7 @@
 //! A whole stream.
 ghost use Rattle.std.specs.Prelude.{◌≡◌, ◌≤◌, [], length, false, IfErr, IfOk};
 ghost use Rattle.bit_tree.specs.Read.{IsStream};
-ghost use Rattle.bit_tree.specs.Stream.{Tree, Stream};
+ghost use Rattle.bit_tree.specs.Stream.{StreamTree, Stream};
 ghost use Rattle.module_arena.specs.Module.{Module};
 ghost use Rattle.module_arena.specs.View.{module_of};
 ghost use Rattle.module_arena.specs.WellFormed.{IsWellFormed};
@@ -104,7 +104,7 @@ fn read_opened(
     requires unspent { reader.spent ≡ false }
     requires held { AreBytesHeld texts.now }
     requires opened { IsOpenedStream bytes.now texts.now reader known.old }
-    ensures { (tree : Tree) → Stream bytes.now tree → IsOpened tree texts.now reader.entry known.old → Answers IsModule (table.read (records_of tree)) result }
+    ensures { (tree : StreamTree) → Stream bytes.now tree → IsOpened tree texts.now reader.entry known.old → Answers IsModule (table.read (records_of tree)) result }
 {
     let mut m = begin(alloc, reader, known)?;
     let sofar = read_module(&mut m, bytes, texts, known)?;
@@ -115,7 +115,7 @@ fn read_opened(
 fn read_judged(alloc: Global, bytes: &[u8]) -> Result<Arena, BitcodeFault>
     requires short { length bytes.now ≤ LARGEST_STREAM }
     requires judged { IsStream bytes.now }
-    ensures { (tree : Tree) → Stream bytes.now tree → Answers IsModule (table.read (records_of tree)) result }
+    ensures { (tree : StreamTree) → Stream bytes.now tree → Answers IsModule (table.read (records_of tree)) result }
 {
     let opening = open_stream(alloc, bytes)?;
     let Opening {

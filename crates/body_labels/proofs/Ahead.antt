@@ -14,7 +14,7 @@ use Rattle.record_table.specs.Layout.{judged}
 use Rattle.record_table.specs.Fields.{Texts, Numbering, label, after}
 use Rattle.record_table.specs.Lines.{ending, instruction, is_end}
 use Rattle.record_table.specs.Faults.{Answer, ◌>>=◌, Records, no_more, a_block, a_record, is_block_id, BadRecord, UnknownRecord}
-use Rattle.record_table.specs.Bodies.{Labels, Begun, Due, Parameters, FirstBlock, Line, NextBlock, after_all, at_first, body_from, closed_at, is_block, is_line, is_parameters, known_or, label_in, labels, labels_from, numbers_from, parameters, results, with_block, with_end, with_instruction, with_label, with_line, with_names, with_opcode, with_parameters, with_record, with_value}
+use Rattle.record_table.specs.Bodies.{Labels, Begun, BodyDue, Parameters, FirstBlock, Line, NextBlock, after_all, at_first, body_from, closed_at, is_block, is_line, is_parameters, known_or, label_in, labels, labels_from, numbers_from, parameters, results, with_block, with_end, with_instruction, with_label, with_line, with_names, with_opcode, with_parameters, with_record, with_value}
 use Rattle.body_labels.specs.Laws.{HasSoundLabels, opened, results_in, results_of}
 use Rattle.body_labels.proofs.Kept.{declared, due_line, due_parameters, names_many}
 use Rattle.body_labels.proofs.Named.{end_labels, line_labels, with_result}
@@ -43,7 +43,7 @@ module _ (texts : Texts) (k : Numbering) (count : ℕ) where
     pub same : labels_from texts k found rest ≡ all
 
   -- what was gathered ahead is what was read, and what is to come
-  abbrev pub IsAhead : Labels → Begun → Due → Records → Type 0
+  abbrev pub IsAhead : Labels → Begun → BodyDue → Records → Type 0
   IsAhead all s Parameters rest = IsFirst all s rest
   IsAhead all s FirstBlock rest = IsLater all s rest
   IsAhead all s Line rest = IsLater all s rest
@@ -115,25 +115,25 @@ module _ (texts : Texts) (k : Numbering) (count : ℕ) where
         })
 
     -- behind the parameters
-    later_of : (s : Begun) (due : Due) (rest : Records) → (due ≡ Parameters → ⊥) → IsAhead all s due rest → IsLater all s rest
+    later_of : (s : Begun) (due : BodyDue) (rest : Records) → (due ≡ Parameters → ⊥) → IsAhead all s due rest → IsLater all s rest
     later_of s Parameters rest not h = absurd (not refl)
     later_of s FirstBlock rest not h = h
     later_of s Line rest not h = h
     later_of s NextBlock rest not h = h
 
-    ahead_of : (s : Begun) (due : Due) (rest : Records) → (due ≡ Parameters → ⊥) → IsLater all s rest → IsAhead all s due rest
+    ahead_of : (s : Begun) (due : BodyDue) (rest : Records) → (due ≡ Parameters → ⊥) → IsLater all s rest → IsAhead all s due rest
     ahead_of s Parameters rest not h = absurd (not refl)
     ahead_of s FirstBlock rest not h = h
     ahead_of s Line rest not h = h
     ahead_of s NextBlock rest not h = h
 
-    block_not : (due : Due) → is_block due ≡ true → due ≡ Parameters → ⊥
+    block_not : (due : BodyDue) → is_block due ≡ true → due ≡ Parameters → ⊥
     block_not Parameters e p = cc
     block_not FirstBlock e p = cc
     block_not Line e p = cc
     block_not NextBlock e p = cc
 
-    block_closed : {A : Type 0} (due : Due) (xs : List A) → is_block due ≡ true → opened due xs ≡ []
+    block_closed : {A : Type 0} (due : BodyDue) (xs : List A) → is_block due ≡ true → opened due xs ≡ []
     block_closed Parameters xs e = refl
     block_closed FirstBlock xs e = refl
     block_closed Line xs e = absurd (cc)
@@ -162,7 +162,7 @@ module _ (texts : Texts) (k : Numbering) (count : ℕ) where
 
     -- ---- lines
 
-    line_not : (due : Due) → due ≡ Line → due ≡ Parameters → ⊥
+    line_not : (due : BodyDue) → due ≡ Line → due ≡ Parameters → ⊥
     line_not due is p = cc
 
     -- what is found behind a line, by its opcode
@@ -240,7 +240,7 @@ module _ (texts : Texts) (k : Numbering) (count : ℕ) where
             same = sym (instruction_found s l.found code operands behind o not is end l.labelled.own d.unbroken) ∙ l.same;
           }))
         where
-          more : (s : Begun) (i : Instruction) (due : Due) → due ≡ Line
+          more : (s : Begun) (i : Instruction) (due : BodyDue) → due ≡ Line
               → (s.parameters ++ (results_of s.blocks ++ results_in (opened due s.instructions))) ++ results i.result ≡ s.parameters ++ (results_of s.blocks ++ results_in (opened due (s.instructions ++ i ∷ [])))
           more s i due line =
               ap (λ d. (s.parameters ++ (results_of s.blocks ++ results_in (opened d s.instructions))) ++ results i.result) line
@@ -275,7 +275,7 @@ module _ (texts : Texts) (k : Numbering) (count : ℕ) where
       closed_all : (s t : Begun) → IsAhead all s s.due no_more → closed_at s s.due ≡ Ok t → (all.values ≡ t.parameters ++ results_of t.blocks) × (all.blocks ≡ map (λ b. b.name) t.blocks)
       closed_all s t h e = by s.due h refl e
         where
-          by : (due : Due) → IsAhead all s due no_more → s.due ≡ due → closed_at s due ≡ Ok t → (all.values ≡ t.parameters ++ results_of t.blocks) × (all.blocks ≡ map (λ b. b.name) t.blocks)
+          by : (due : BodyDue) → IsAhead all s due no_more → s.due ≡ due → closed_at s due ≡ Ok t → (all.values ≡ t.parameters ++ results_of t.blocks) × (all.blocks ≡ map (λ b. b.name) t.blocks)
           by Parameters h is e = absurd (cc)
           by FirstBlock h is e = absurd (cc)
           by Line h is e = absurd (cc)

@@ -5,7 +5,7 @@ use Rattle.module_arena.specs.Module.{LocalName}
 use Rattle.record_table.specs.Walk.{Walk, going, stopped, ask, break, stop, next, told}
 use Rattle.record_table.specs.Fields.{Texts, label, after}
 use Rattle.record_table.specs.Faults.{also, unless_broken}
-use Rattle.record_table.specs.Bodies.{Begun, Due, Parameters, FirstBlock, Line, NextBlock, are_new, declaring, is_parameters, is_line, labels_by}
+use Rattle.record_table.specs.Bodies.{Begun, BodyDue, Parameters, FirstBlock, Line, NextBlock, are_new, declaring, is_parameters, is_line, labels_by}
 use Rattle.body_labels.specs.Laws.{HasSoundLabels, IsSound, is_broken}
 use Rattle.body_labels.proofs.Lasting.{Lasts}
 
@@ -101,13 +101,13 @@ declared s names may_stand broken x t e =
     let four = also_held 4 (are_new s.taken names) broken five.1 in
     record { unbroken = four.1; may = five.0; new = four.0; same = one.1 }
 
-pub due_parameters : (d : Due) → is_parameters d ≡ true → d ≡ Parameters
+pub due_parameters : (d : BodyDue) → is_parameters d ≡ true → d ≡ Parameters
 due_parameters Parameters e = refl
 due_parameters FirstBlock e = absurd (cc)
 due_parameters Line e = absurd (cc)
 due_parameters NextBlock e = absurd (cc)
 
-pub due_line : (d : Due) → is_line d ≡ true → d ≡ Line
+pub due_line : (d : BodyDue) → is_line d ≡ true → d ≡ Line
 due_line Parameters e = absurd (cc)
 due_line FirstBlock e = absurd (cc)
 due_line Line e = refl

@@ -4,7 +4,7 @@ use Rattle.module_arena.specs.Module.{LocalName, Instruction, Block}
 use Rattle.record_table.specs.Walk.{Walk, going, stopped}
 use Rattle.record_table.specs.Fields.{Texts, Numbering, label}
 use Rattle.record_table.specs.Faults.{Records}
-use Rattle.record_table.specs.Bodies.{Begun, Due, Line, body, labels, results}
+use Rattle.record_table.specs.Bodies.{Begun, BodyDue, Line, body, labels, results}
 
 -- a rule is broken, whether or not it is known what follows
 abbrev pub is_broken : Walk → Bool
@@ -30,7 +30,7 @@ abbrev pub results_of : List Block → List LocalName
 results_of bs = flat_map (λ b. results_in b.instructions) bs
 
 -- while a line is due there is a block that has not ended
-abbrev pub opened : {A : Type 0} → Due → List A → List A
+abbrev pub opened : {A : Type 0} → BodyDue → List A → List A
 opened Line xs = xs
 opened _ xs = []
 

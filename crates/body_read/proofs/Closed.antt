@@ -33,14 +33,14 @@ use Rattle.body_read.specs.Whole.{Closes, IsClosed, IsRead, IsWhole, KeepsCounts
 use Rattle.body_read.proofs.Started.{sound_of}
 use Rattle.body_read.proofs.Told.{told_so}
 
-next_due : (d : bodies.Due) → is_next d ≡ true → d ≡ bodies.NextBlock
+next_due : (d : bodies.BodyDue) → is_next d ≡ true → d ≡ bodies.NextBlock
 next_due bodies.Parameters e = absurd (false≢true e)
 next_due bodies.FirstBlock e = absurd (false≢true e)
 next_due bodies.Line e = absurd (false≢true e)
 next_due bodies.NextBlock e = refl
 
 -- what is due is missing
-still_due : (s : bodies.Begun) (d : bodies.Due) → is_next d ≡ false → closed_at s d ≡ Err (BadRecord 12 s.at 5)
+still_due : (s : bodies.Begun) (d : bodies.BodyDue) → is_next d ≡ false → closed_at s d ≡ Err (BadRecord 12 s.at 5)
 still_due s bodies.Parameters e = refl
 still_due s bodies.FirstBlock e = refl
 still_due s bodies.Line e = refl

@@ -88,7 +88,7 @@ ReadsRecords x k count inside old (Ok done) new after = IsRead x k count inside 
 ReadsRecords x k count inside old (Err given) new after = IsRefused (bodies.body (texts_of x) k count old.reader.at inside) given
 
 -- the body may end
-abbrev pub is_next : bodies.Due → Bool
+abbrev pub is_next : bodies.BodyDue → Bool
 is_next bodies.NextBlock = true
 is_next _ = false
 

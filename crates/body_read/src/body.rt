@@ -13,7 +13,7 @@ ghost use Rattle.body_read.specs.Whole.{Closes, IsInBlock, IsWhole, KeepsCounts,
 
 use crate::records::read_record;
 use arena_read::{LocalCounts, ModuleReader};
-use body_records::{Begun, Due};
+use body_records::{Begun, BodyDue};
 use module_arena::Body;
 use record_read::{BitcodeFault, NextEntry, Texts, misplaced};
 use record_table::BODY_BLOCK;
@@ -26,12 +26,12 @@ fn fit(counts: LocalCounts)
 }
 
 /// Whether a body may end here.
-fn may_end(due: Due) -> bool
+fn may_end(due: BodyDue) -> bool
     ensures { result ≡ is_next (due_view due) }
 {
     match due {
-        Due::NextBlock => true,
-        Due::Parameters | Due::FirstBlock | Due::Line => false,
+        BodyDue::NextBlock => true,
+        BodyDue::Parameters | BodyDue::FirstBlock | BodyDue::Line => false,
     }
 }
 

@@ -50,13 +50,13 @@ passes_here a q r w is spent left at = record {
 
 -- ---- the name of a block
 
-block_closed : {A : Type 0} (due : bodies.Due) (xs : List A) → bodies.is_block due ≡ true → opened due xs ≡ []
+block_closed : {A : Type 0} (due : bodies.BodyDue) (xs : List A) → bodies.is_block due ≡ true → opened due xs ≡ []
 block_closed bodies.Parameters xs e = refl
 block_closed bodies.FirstBlock xs e = refl
 block_closed bodies.Line xs e = absurd (false≢true e)
 block_closed bodies.NextBlock xs e = refl
 
-block_not : (due : bodies.Due) → bodies.is_block due ≡ true → due ≡ bodies.Parameters → ⊥
+block_not : (due : bodies.BodyDue) → bodies.is_block due ≡ true → due ≡ bodies.Parameters → ⊥
 block_not bodies.Parameters e is = false≢true e
 block_not bodies.FirstBlock e is = cc
 block_not bodies.Line e is = false≢true e

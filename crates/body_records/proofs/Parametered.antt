@@ -18,7 +18,7 @@ use Rattle.arena_read.specs.declared.module_reader.ModuleReader.{ModuleReader}
 use Rattle.body_names.specs.Called.{AreCalled, AreNames, IsTame, ReadsNames}
 use Rattle.body_names.specs.declared.called.BodyNames.{BodyNames}
 use Rattle.body_records.specs.declared.begun.Begun.{Begun}
-use Rattle.body_records.specs.declared.begun.Due.TheVariants as due
+use Rattle.body_records.specs.declared.begun.BodyDue.TheVariants as due
 use Rattle.body_records.specs.Begun.{Follows, IsBody}
 use Rattle.body_records.proofs.Closing.{told_low, told_unbroken, vain_both}
 use Rattle.body_records.proofs.Blocked.{passes_here, tame_first}
@@ -27,7 +27,7 @@ texts_sound : (x : the_texts.Texts) → HasSoundLabels (texts_of x)
 texts_sound Inline = inline_sound
 texts_sound (Table table) = table_sound table
 
-pub due_first : (d : bodies.Due) → bodies.is_parameters d ≡ true → d ≡ bodies.Parameters
+pub due_first : (d : bodies.BodyDue) → bodies.is_parameters d ≡ true → d ≡ bodies.Parameters
 due_first bodies.Parameters e = refl
 due_first bodies.FirstBlock e = absurd (false≢true e)
 due_first bodies.Line e = absurd (false≢true e)

@@ -31,11 +31,11 @@ use Rattle.line_read.specs.Kept.{HasInst}
 use Rattle.body_names.specs.Called.{AreNames, Calls}
 use Rattle.body_names.specs.declared.called.BodyNames.{BodyNames}
 use Rattle.body_records.specs.declared.begun.Begun.{Begun}
-use Rattle.body_records.specs.declared.begun.Due as the_due
-use Rattle.body_records.specs.declared.begun.Due.TheVariants as due
+use Rattle.body_records.specs.declared.begun.BodyDue as the_due
+use Rattle.body_records.specs.declared.begun.BodyDue.TheVariants as due
 
 -- what is due
-abbrev pub due_view : the_due.Due → bodies.Due
+abbrev pub due_view : the_due.BodyDue → bodies.BodyDue
 due_view due.Parameters = bodies.Parameters
 due_view due.FirstBlock = bodies.FirstBlock
 due_view due.Line = bodies.Line

@@ -11,7 +11,7 @@ use std::mem;
 
 /// What may stand next in a body.
 #[derive(Clone, Copy)]
-pub enum Due {
+pub enum BodyDue {
     /// What the parameters are called, which stands first.
     Parameters,
     /// The first block.
@@ -22,14 +22,14 @@ pub enum Due {
     NextBlock,
 }
 
-impl Due {
+impl BodyDue {
     /// Whether the parameters may stand next.
     pub fn is_parameters(self) -> bool
         ensures { result ≡ bodies.is_parameters (due_view self) }
     {
         match self {
-            Due::Parameters => true,
-            Due::FirstBlock | Due::Line | Due::NextBlock => false,
+            BodyDue::Parameters => true,
+            BodyDue::FirstBlock | BodyDue::Line | BodyDue::NextBlock => false,
         }
     }
 
@@ -38,8 +38,8 @@ impl Due {
         ensures { result ≡ bodies.is_block (due_view self) }
     {
         match self {
-            Due::FirstBlock | Due::NextBlock => true,
-            Due::Parameters | Due::Line => false,
+            BodyDue::FirstBlock | BodyDue::NextBlock => true,
+            BodyDue::Parameters | BodyDue::Line => false,
         }
     }
 
@@ -48,8 +48,8 @@ impl Due {
         ensures { result ≡ bodies.is_line (due_view self) }
     {
         match self {
-            Due::Line => true,
-            Due::Parameters | Due::FirstBlock | Due::NextBlock => false,
+            BodyDue::Line => true,
+            BodyDue::Parameters | BodyDue::FirstBlock | BodyDue::NextBlock => false,
         }
     }
 }
@@ -57,7 +57,7 @@ impl Due {
 /// What was read of a body so far.
 #[derive(Drop)]
 pub struct Begun {
-    pub due: Due,
+    pub due: BodyDue,
     /// The id of the next parameter or result.
     pub next: u32,
     pub names: BodyNames,
@@ -81,7 +81,7 @@ impl Begun {
         ensures { StartsEmpty result }
     {
         Begun {
-            due: Due::Parameters,
+            due: BodyDue::Parameters,
             next: 0,
             names: BodyNames::new(alloc),
             name: LocalName::Numbered(0),
@@ -97,7 +97,7 @@ impl Begun {
     {
         self.name = name;
         self.instructions = Vec::new(alloc);
-        self.due = Due::Line;
+        self.due = BodyDue::Line;
     }
 
     /// One more instruction of the block that has not ended.
@@ -153,7 +153,7 @@ impl Begun {
             instructions: ItemList::from_vec(instructions),
             end,
         })?;
-        self.due = Due::NextBlock;
+        self.due = BodyDue::NextBlock;
         Ok(())
     }
 

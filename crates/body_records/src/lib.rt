@@ -17,5 +17,5 @@
 mod begun;
 mod records;
 
-pub use begun::{Begun, Due};
+pub use begun::{Begun, BodyDue};
 pub use records::{read_block, read_end, read_line, read_parameters};

@@ -4,7 +4,7 @@ ghost use Rattle.record_table.specs.Fields.{Numbering};
 ghost use Rattle.record_table.specs.Lines as lines;
 ghost use Rattle.body_records.specs.Begun.{CallsKept, Passes, ReadsBlock, ReadsEnd, ReadsInstruction, ReadsParameters};
 
-use crate::begun::{Begun, Due};
+use crate::begun::{Begun, BodyDue};
 use arena_read::ModuleReader;
 use body_names::{BodyNames, read_called, read_names};
 use call_read::{ReadLine, read_instruction};
@@ -30,7 +30,7 @@ pub fn read_parameters(
     m.reader.also(4, all_new);
     m.reader.also(5, body.due.is_parameters());
     body.next = count;
-    body.due = Due::FirstBlock;
+    body.due = BodyDue::FirstBlock;
     m.reader.finish(BODY_BLOCK)
 }
 

@@ -5,7 +5,7 @@ use Rattle.ir_lexer.specs.declared.token.TokenKind.TheVariants as kind
 use Rattle.ir_tables.specs.Linkage.{linkage_word}
 use Rattle.ir_tables.specs.declared.linkage.Linkage.{Linkage}
 use Rattle.ir_tables.specs.declared.linkage.Linkage.TheVariants as linkages
-use Rattle.phrase_rows.specs.Row.{Shape, alt, mapped, nothing, fail, loop}
+use Rattle.phrase_rows.specs.Row.{PhraseShape, alt, mapped, nothing, fail, loop}
 use Rattle.ir_terminals.specs.Role.{class, terminal}
 use Rattle.ir_terminals.specs.Terminal.{code, linkage_class}
 use Rattle.ir_terminals.specs.Tokens.{local_row, linkage_row}
@@ -111,7 +111,7 @@ module _ (limits : Limits) where
   typed_parameters [] h = tt
   typed_parameters (p ∷ ps) h = (typed_parameter p.ty h.0, typed_parameters ps h.2)
 
-  abbrev loop_shape : Shape
+  abbrev loop_shape : PhraseShape
   loop_shape = record { first = comma_shape.first; more = parameter_shape.more; empty = false }
 
   grows : (dots : Bool) (s : ParametersTree) (x : ParameterTree) (p : Phrase) → s.1 ≡ false → IsPrinted (parameter_row limits) unplaced_parameter x p → IsPrinted {X = List ParameterTree × Bool} (parameter_step dots limits s) (parts_by unplaced_parameter) (map unplaced_parameter s.0 ++ x ∷ [], false) (comma ␣ p)

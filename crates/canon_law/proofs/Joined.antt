@@ -2,7 +2,7 @@
 use Rattle.std.proofs.Common.{◌≡◌, ℕ, List, [], ◌∷◌, ◌++◌, Bool, true, false, refl, sym, ap, append_assoc, append-nil}
 use Rattle.ir_lexer.specs.Ahead.{Located, tokens_in}
 use Rattle.ir_lexer.specs.Class.{byte_class, starts_with, is_dot}
-use Rattle.ir_lexer.specs.Pieces.{Piece, Separator, Nothing, Space, Line, Indented, pieces_text, tokens_of, barred, with_none, separator_bytes}
+use Rattle.ir_lexer.specs.Pieces.{TextPiece, Separator, Nothing, Space, Line, Indented, pieces_text, tokens_of, barred, with_none, separator_bytes}
 use Rattle.ir_lexer.specs.Table.{IsToken}
 use Rattle.ir_lexer.specs.Tokens.{Spelled}
 use Rattle.ir_lexer.specs.declared.class.Class.{Class}
@@ -99,21 +99,21 @@ mark_ends k dots (b ∷ rest) h = mark_ends_at k dots b rest (is_the_mark (byte_
 pub spaced_token : (k : TokenKind) (spelling : List ℕ) → IsToken k spelling → IsSpaced (token k spelling)
 spaced_token k spelling t = record { sound = λ b rest f s. (t, ends b rest f, s) }
   where
-    ends : (b : Separator) (rest : List Piece) → Fits b rest → with_none (barred k (starts_with is_dot spelling)) (separator_bytes b ++ pieces_text rest) ≡ true
+    ends : (b : Separator) (rest : List TextPiece) → Fits b rest → with_none (barred k (starts_with is_dot spelling)) (separator_bytes b ++ pieces_text rest) ≡ true
     ends Nothing rest f = mark_ends k (starts_with is_dot spelling) (pieces_text rest) f
     ends Space rest f = (blank_ends k (starts_with is_dot spelling) (pieces_text rest)).0
     ends Line rest f = (blank_ends k (starts_with is_dot spelling) (pieces_text rest)).1
     ends Indented rest f = (blank_ends k (starts_with is_dot spelling) (32 ∷ 32 ∷ pieces_text rest)).1
 
 -- tokens in two parts: those of the first pieces, then those of the others
-abbrev pub AreParted : List Piece → List Piece → List Located → Type 0
+abbrev pub AreParted : List TextPiece → List TextPiece → List Located → Type 0
 AreParted ps qs ts = (us : List Located) × (vs : List Located) × (ts ≡ us ++ vs) × (tokens_in us ≡ tokens_of ps) × (tokens_in vs ≡ tokens_of qs)
 
-parted_behind : (p : Piece) (ps qs : List Piece) (t : Located) (ts : List Located) → t.token ≡ p.token → AreParted ps qs ts → AreParted (p ∷ ps) qs (t ∷ ts)
+parted_behind : (p : TextPiece) (ps qs : List TextPiece) (t : Located) (ts : List Located) → t.token ≡ p.token → AreParted ps qs ts → AreParted (p ∷ ps) qs (t ∷ ts)
 parted_behind p ps qs t ts first (us, vs, whole, front, rest) = (t ∷ us, vs, ap (λ (xs : List Located). t ∷ xs) whole, (λ i. first i ∷ front i), rest)
 
 -- the tokens of two lists of pieces are those of each
-pub parted : (ps qs : List Piece) (ts : List Located) → tokens_in ts ≡ tokens_of (ps ++ qs) → AreParted ps qs ts
+pub parted : (ps qs : List TextPiece) (ts : List Located) → tokens_in ts ≡ tokens_of (ps ++ qs) → AreParted ps qs ts
 parted [] qs ts e = ([], ts, refl, refl, e)
 parted (p ∷ ps) qs [] e = absurd cc
 parted (p ∷ ps) qs (t ∷ ts) e =
@@ -122,6 +122,6 @@ parted (p ∷ ps) qs (t ∷ ts) e =
     parted_behind p ps qs t ts first (parted ps qs ts rest)
 
 -- any tokens may stand somewhere
-pub somewhere : (ps : List Piece) → (ts : List Located) × (tokens_in ts ≡ tokens_of ps)
+pub somewhere : (ps : List TextPiece) → (ts : List Located) × (tokens_in ts ≡ tokens_of ps)
 somewhere [] = ([], refl)
 somewhere (p ∷ ps) = let w = somewhere ps in (record { token = p.token; place = record { line = 0; column = 0 } } ∷ w.0, ap (λ (us : List Spelled). p.token ∷ us) w.1)

@@ -1,6 +1,6 @@
 -- For `print` and `print_text`: the canonical text of a module: its pieces, and their bytes.
 use Rattle.std.specs.Prelude.{ℕ, Bool, true, false, List, [], ◌∷◌, ◌++◌, map, codes, Option, Some, None}
-use Rattle.ir_lexer.specs.Pieces.{Piece, Line, pieces_text}
+use Rattle.ir_lexer.specs.Pieces.{TextPiece, Line, pieces_text}
 use Rattle.ir_tables.specs.Linkage.{linkage_word}
 use Rattle.ir_tables.specs.declared.linkage.Linkage.{Linkage}
 use Rattle.ir_tables.specs.declared.linkage.Linkage.TheVariants.{External}
@@ -99,7 +99,7 @@ item_phrases m =
     map function_phrase m.functions)))))
 
 -- the tokens of the canonical text, in order, each with the separator that follows it
-abbrev pub canon_pieces : Module → List Piece
+abbrev pub canon_pieces : Module → List TextPiece
 canon_pieces m = each Line (item_phrases m) Line
 
 -- the canonical text

@@ -1,12 +1,12 @@
 -- For `print`: phrases to be printed: their tokens with separators, given the separator behind the last one.
 use Rattle.std.specs.Prelude.{ℕ, List, [], ◌∷◌, ◌++◌, codes}
-use Rattle.ir_lexer.specs.Pieces.{Piece, Separator, Nothing, Space}
+use Rattle.ir_lexer.specs.Pieces.{TextPiece, Separator, Nothing, Space}
 use Rattle.ir_lexer.specs.declared.token.TokenKind.{TokenKind}
 use Rattle.ir_lexer.specs.declared.token.TokenKind.TheVariants as kind
 
 -- what a phrase is, before the separator that follows it
 abbrev pub Phrase : Type 0
-Phrase = Separator → List Piece
+Phrase = Separator → List TextPiece
 
 -- no token
 abbrev pub none : Phrase

@@ -1,6 +1,6 @@
 -- Which records a tree has is known from its content.
 use Rattle.std.proofs.Common.{◌≡◌, ap, ◌∙◌, sym, refl}
-use Rattle.bit_tree.specs.Stream.{Tree, nothing, block, definition, values}
+use Rattle.bit_tree.specs.Stream.{StreamTree, nothing, block, definition, values}
 use Rattle.bit_tree.specs.Content.{Content, no_content, block_of, record_of, content}
 use Rattle.module_arena.specs.Module.{Module}
 use Rattle.record_table.specs.Faults.{Records, no_more, a_record, but_for_info, records}
@@ -13,7 +13,7 @@ records_of no_content = no_more
 records_of (block_of id inside behind) = but_for_info id (records_of inside) (records_of behind)
 records_of (record_of code operands blob behind) = a_record code operands (records_of behind)
 
-records_are : (tree : Tree) → records tree ≡ records_of (content tree)
+records_are : (tree : StreamTree) → records tree ≡ records_of (content tree)
 unfolding content
 records_are nothing = refl
 records_are (block id width words inside behind) = ap (λ (r : Records). but_for_info id r (records behind)) (records_are inside) ∙ ap (λ (r : Records). but_for_info id (records_of (content inside)) r) (records_are behind)

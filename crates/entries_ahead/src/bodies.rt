@@ -3,7 +3,7 @@ ghost use Rattle.std.specs.Prelude.{◌≡◌, ◌+◌, ◌≤◌, ◌∷◌, �
 ghost use Rattle.bit_stream.specs.declared.reader.TheConstants.{LARGEST_STREAM};
 ghost use Rattle.bit_tree.specs.Pieces.{Piece, ended};
 ghost use Rattle.bit_tree.specs.Read.{IsStream};
-ghost use Rattle.bit_tree.specs.Stream.{Tree, Stream};
+ghost use Rattle.bit_tree.specs.Stream.{StreamTree, Stream};
 ghost use Rattle.record_table.specs.Faults.{Records, records};
 ghost use Rattle.record_table.specs.Fields.{Numbering};
 ghost use Rattle.record_table.specs.Layout.{judged};
@@ -262,8 +262,8 @@ pub(crate) fn look_at_bodies(
 ) -> Result<BlockAhead, AllocError>
     requires short { length bytes.now ≤ LARGEST_STREAM }
     requires judged { IsStream bytes.now }
-    ensures foresees { (tree : Tree) (k : Numbering) → Stream bytes.now tree → AreVoids voids.now k → IfOk result (λ found. Foresees (texts_of texts.now) k types [] found.bodies.items (first_module (records tree))) }
-    ensures counted { (tree : Tree) → Stream bytes.now tree → IfOk result (λ found. found.entries ≡ entry_count (first_module (records tree))) }
+    ensures foresees { (tree : StreamTree) (k : Numbering) → Stream bytes.now tree → AreVoids voids.now k → IfOk result (λ found. Foresees (texts_of texts.now) k types [] found.bodies.items (first_module (records tree))) }
+    ensures counted { (tree : StreamTree) → Stream bytes.now tree → IfOk result (λ found. found.entries ≡ entry_count (first_module (records tree))) }
 {
     let mut reader = RecordReader::new(alloc, bytes);
     let is_there = find_module(&mut reader)?;

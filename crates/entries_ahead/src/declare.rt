@@ -2,7 +2,7 @@
 ghost use Rattle.std.specs.Prelude.{◌≡◌, ◌+◌, ◌<◌, ◌≤◌, ◌∷◌, ℕ, List, [], false, length, map, drop, None, Some, IfOk, IfSome, OnOk, if◌then◌else◌};
 ghost use Rattle.bit_tree.specs.Pieces.{Piece, ended};
 ghost use Rattle.bit_tree.specs.Read.{IsStream};
-ghost use Rattle.bit_tree.specs.Stream.{Tree, Stream};
+ghost use Rattle.bit_tree.specs.Stream.{StreamTree, Stream};
 ghost use Rattle.type_table.specs.Types.{trees};
 ghost use Rattle.bit_stream.specs.declared.reader.TheConstants.{LARGEST_STREAM};
 ghost use Rattle.record_table.specs.Faults.{Records, records};
@@ -264,7 +264,7 @@ fn declare_all(
 ) -> Result<(), AllocError>
     requires short { length bytes.now ≤ LARGEST_STREAM }
     requires judged { IsStream bytes.now }
-    ensures { (tree : Tree) → Stream bytes.now tree → count ≡ entry_count (first_module (records tree))
+    ensures { (tree : StreamTree) → Stream bytes.now tree → count ≡ entry_count (first_module (records tree))
         → OnOk result (Declares (texts_of texts.now) (length arena.old.table.types) arena.new (map names_given bodies.now) arena.old (first_module (records tree))) }
 {
     let mut reader = RecordReader::new(alloc, bytes);
@@ -287,8 +287,8 @@ pub fn declare_entries(
 ) -> Result<Vec<BodyAhead>, AllocError>
     requires short { length bytes.now ≤ LARGEST_STREAM }
     requires judged { IsStream bytes.now }
-    ensures declares { (tree : Tree) → Stream bytes.now tree → IfOk result (λ bodies. Declares (texts_of texts.now) (length arena.old.table.types) arena.new (map names_given bodies.items) arena.old (first_module (records tree))) }
-    ensures foresees { (tree : Tree) (k : Numbering) → Stream bytes.now tree → k.types ≡ trees arena.old.table
+    ensures declares { (tree : StreamTree) → Stream bytes.now tree → IfOk result (λ bodies. Declares (texts_of texts.now) (length arena.old.table.types) arena.new (map names_given bodies.items) arena.old (first_module (records tree))) }
+    ensures foresees { (tree : StreamTree) (k : Numbering) → Stream bytes.now tree → k.types ≡ trees arena.old.table
         → IfOk result (λ bodies. Foresees (texts_of texts.now) k (length arena.old.table.types) [] bodies.items (first_module (records tree))) }
 {
     let types = arena.types().type_count();

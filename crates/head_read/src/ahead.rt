@@ -3,7 +3,7 @@ ghost use Rattle.std.specs.Prelude.{◌≡◌, ◌≤◌, ◌+◌, ◌&&◌, ◌
 ghost use Rattle.bit_stream.specs.declared.reader.TheConstants.{LARGEST_STREAM};
 ghost use Rattle.bit_tree.specs.Pieces.{Piece, ended};
 ghost use Rattle.bit_tree.specs.Read.{IsStream};
-ghost use Rattle.bit_tree.specs.Stream.{Tree, Stream};
+ghost use Rattle.bit_tree.specs.Stream.{StreamTree, Stream};
 ghost use Rattle.record_table.specs.Faults.{Records, records, types_id};
 ghost use Rattle.record_read.specs.Entries.{IsBefore};
 ghost use Rattle.record_read.specs.Fields.{texts_of};
@@ -182,7 +182,7 @@ fn gather_module(
 pub fn look_ahead(alloc: Global, bytes: &[u8], texts: &Texts) -> Result<ModuleAhead, AllocError>
     requires short { length bytes.now ≤ LARGEST_STREAM }
     requires judged { IsStream bytes.now }
-    ensures { (tree : Tree) → Stream bytes.now tree → IfOk result (IsAhead (texts_of texts.now) (first_module (records tree))) }
+    ensures { (tree : StreamTree) → Stream bytes.now tree → IfOk result (IsAhead (texts_of texts.now) (first_module (records tree))) }
 {
     let mut ahead = nothing_ahead(alloc);
     let mut reader = RecordReader::new(alloc, bytes);

@@ -2,7 +2,7 @@
 use Rattle.std.proofs.Common.{◌≡◌, ℕ, ◌+◌, ◌<◌, ◌≤◌, All, List, ◌∷◌, map, length, drop, get_or, subst, sym, ap, ◌∙◌, arith}
 use Rattle.std.proofs.lemmas.List.{at_drop_more, at_drop_all, length-map, get_or-map}
 use Rattle.gathered.specs.Told.{State}
-use Rattle.ir_lexer.specs.Pieces.{Piece, Space}
+use Rattle.ir_lexer.specs.Pieces.{TextPiece, Space}
 use Rattle.module_arena.specs.declared.entry.Function.{Function}
 use Rattle.module_arena.specs.declared.instruction.Case.{Case}
 use Rattle.module_arena.specs.declared.instruction.Operand.{Operand}
@@ -17,7 +17,7 @@ use Rattle.instruction_printer.specs.Lines.{HasCase, case_of}
 
 module _ (a : Lists) (f : Function) where
   -- the pieces of these cases
-  abbrev pub all_cases : List Case → List Piece
+  abbrev pub all_cases : List Case → List TextPiece
   all_cases cases = each Space (map case_phrase (map (case_of a f) cases)) Space
 
   -- one case more is put

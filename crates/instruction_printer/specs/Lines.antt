@@ -1,6 +1,6 @@
 -- For `put_instruction` and `put_ending`: the instructions and ends of a function, by the ids of an arena.
 use Rattle.std.specs.Prelude.{ℕ, ◌<◌, List, [], ◌++◌, length, codes, Option, Some, None}
-use Rattle.ir_lexer.specs.Pieces.{Piece, Space}
+use Rattle.ir_lexer.specs.Pieces.{TextPiece, Space}
 use Rattle.type_table.specs.Types.{trees}
 use Rattle.module_arena.specs.declared.entry.Function.{Function}
 use Rattle.module_arena.specs.declared.instruction.Inst.{Inst}
@@ -35,6 +35,6 @@ module _ (a : Lists) (f : Function) where
   called_at id = value_name (trees a.table) (constants_of a) (values_in f) (labels_in f) id
 
   -- the name of a result and the mark behind it, where there is one
-  abbrev pub result_pieces : Option ℕ → List Piece
+  abbrev pub result_pieces : Option ℕ → List TextPiece
   result_pieces None = []
   result_pieces (Some id) = local (called_at id) Space ++ mark (codes "=") Space

@@ -1,7 +1,7 @@
 -- For `put_alignment`, and how the code reads: what the values and blocks of a function are called, and what stands
 -- behind an alignment.
 use Rattle.std.specs.Prelude.{ℕ, List, [], ◌++◌, map, codes, Option, Some, None}
-use Rattle.ir_lexer.specs.Pieces.{Piece, Separator, Nothing, Space}
+use Rattle.ir_lexer.specs.Pieces.{TextPiece, Separator, Nothing, Space}
 use Rattle.type_table.specs.Types.{trees}
 use Rattle.module_arena.specs.declared.entry.Function.{Function}
 use Rattle.module_arena.specs.declared.instruction.Value as the_value
@@ -39,6 +39,6 @@ before None behind = behind
 before (Some n) behind = Nothing
 
 -- , align INT, where there is an alignment
-abbrev pub alignment_pieces : Option ℕ → Separator → List Piece
+abbrev pub alignment_pieces : Option ℕ → Separator → List TextPiece
 alignment_pieces None behind = []
 alignment_pieces (Some n) behind = comma Space ++ (word (codes "align") Space ++ natural n behind)

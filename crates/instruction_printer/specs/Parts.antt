@@ -1,7 +1,7 @@
 -- For `put_dotted` and `put_ending`, and how the code reads: the parts of operations, by the ids of an arena and of a
 -- function in it.
 use Rattle.std.specs.Prelude.{ℕ, ◌<◌, true, List, map, length}
-use Rattle.ir_lexer.specs.Pieces.{Piece, Nothing}
+use Rattle.ir_lexer.specs.Pieces.{TextPiece, Nothing}
 use Rattle.type_table.specs.Types.{Types, trees, tree}
 use Rattle.module_arena.specs.declared.entry.Function.{Function}
 use Rattle.module_arena.specs.declared.instruction.Inst.{Inst}
@@ -45,7 +45,7 @@ module _ (a : Lists) (f : Function) where
   pair left right = operand (operand_of a f left) ⌢ comma ␣ value_phrase (tree a.table left.ty) (value_of a f right)
 
 -- types with a comma behind each, and three dots
-abbrev pub dotted_types : Types → List ℕ → List Piece
+abbrev pub dotted_types : Types → List ℕ → List TextPiece
 dotted_types t parts = listed (dotted (map type_phrase (map (type_at (trees t)) parts)) true) Nothing
 
 -- a function type

@@ -1,6 +1,6 @@
 -- What the values of whole phrases are like.
 use Rattle.std.proofs.Common.{◌≡◌, ℕ, List, [], ◌∷◌, ◌++◌, true, Option, Some, None, inl, inr, sym, subst}
-use Rattle.phrase_rows.specs.Row.{Row, Shape, among, nothing, fail, one, chain, mapped, joined_values, keep_second, keep_first, pair, alt, optional, many, Each, separated, loop, Steps, labelled}
+use Rattle.phrase_rows.specs.Row.{Row, PhraseShape, among, nothing, fail, one, chain, mapped, joined_values, keep_second, keep_first, pair, alt, optional, many, Each, separated, loop, Steps, labelled}
 use Rattle.ir_constants.specs.Forms.{AllAre}
 
 -- each value of a whole phrase is so
@@ -18,7 +18,7 @@ gives_any r = record { value = λ us a w. tt }
 pub gives_weaker : {T A : Type 0} {r : Row T A} {P : A → Type 0} (Q : A → Type 0) → Gives r P → ((a : A) → P a → Q a) → Gives r Q
 gives_weaker Q h k = record { value = λ us a w. k a (h.value us a w) }
 
-pub gives_fail : {T A : Type 0} (s : Shape) (P : A → Type 0) → Gives {T = T} (fail s) P
+pub gives_fail : {T A : Type 0} (s : PhraseShape) (P : A → Type 0) → Gives {T = T} (fail s) P
 gives_fail s P = record { value = λ us a w. absurd w }
 
 pub gives_nothing : {T A : Type 0} (a : A) (P : A → Type 0) → P a → Gives {T = T} (nothing a) P
@@ -30,7 +30,7 @@ gives_one class ks f P h = record { value = λ us a w. h w.0 a w.3 }
 pub gives_mapped : {T A B : Type 0} (f : A → B) {p : Row T A} {P : A → Type 0} (Q : B → Type 0) → Gives p P → ((a : A) → P a → Q (f a)) → Gives (mapped f p) Q
 gives_mapped f Q h k = record { value = λ us b w. subst Q (sym w.2) (k w.0 (h.value us w.0 w.1)) }
 
-pub gives_chain : {T A B : Type 0} {p : Row T A} (s : Shape) {q : A → Row T B} {P : A → Type 0} (Q : B → Type 0) → Gives p P → ((a : A) → P a → Gives (q a) Q) → Gives (chain p s q) Q
+pub gives_chain : {T A B : Type 0} {p : Row T A} (s : PhraseShape) {q : A → Row T B} {P : A → Type 0} (Q : B → Type 0) → Gives p P → ((a : A) → P a → Gives (q a) Q) → Gives (chain p s q) Q
 gives_chain s Q h k = record { value = λ ts b w. (k w.2 (h.value w.0 w.2 w.4)).value w.1 b w.5 }
 
 pub gives_both : {T A B C : Type 0} (f : A → B → C) {p : Row T A} {q : Row T B} {P : A → Type 0} {Q : B → Type 0} (R : C → Type 0) → Gives p P → Gives q Q → ((a : A) (b : B) → P a → Q b → R (f a b)) → Gives (joined_values f p q) R
@@ -67,10 +67,10 @@ steps_give q I h [] s last us i e = subst I (sym e.1) i
 steps_give q I h (m ∷ ms) s last us i (vs, ws, e, w, steps) = steps_give q I h ms m last ws ((h s i).value vs m w) steps
 
 -- what each step keeps
-pub gives_loop : {T S : Type 0} (class : T → ℕ) (shape : Shape) {q : S → Row T S} (I : S → Type 0) → ((s : S) → I s → Gives (q s) I) → (s : S) → I s → Gives (loop class shape q s) I
+pub gives_loop : {T S : Type 0} (class : T → ℕ) (shape : PhraseShape) {q : S → Row T S} (I : S → Type 0) → ((s : S) → I s → Gives (q s) I) → (s : S) → I s → Gives (loop class shape q s) I
 gives_loop class shape {q} I h s i = record { value = λ us last w. steps_give q I h w.0 s last us i w.1 }
 
-pub gives_labelled : {T A : Type 0} (s : Shape) {r : Row T A} {P : A → Type 0} → Gives r P → Gives (labelled s r) P
+pub gives_labelled : {T A : Type 0} (s : PhraseShape) {r : Row T A} {P : A → Type 0} → Gives r P → Gives (labelled s r) P
 gives_labelled s h = record { value = h.value }
 
 -- one more at the end of a list

@@ -1,6 +1,6 @@
 -- For `constant_of` and `typed_constant_of`: the rows of constants.
 use Rattle.std.specs.Prelude.{ℕ, zero, suc, false, List, [], ◌∷◌, ◌++◌, Option, Some, None}
-use Rattle.phrase_rows.specs.Row.{Row, Shape, fail, chain, mapped, joined_values, keep_second, keep_first, pair, alt, many, separated, labelled}
+use Rattle.phrase_rows.specs.Row.{Row, PhraseShape, fail, chain, mapped, joined_values, keep_second, keep_first, pair, alt, many, separated, labelled}
 use Rattle.ir_lexer.specs.Ahead.{Located}
 use Rattle.ir_base.specs.declared.place.Place.{Place}
 use Rattle.ir_tables.specs.declared.opcode.Opcode.{Opcode}
@@ -44,11 +44,11 @@ expression_classes =
     []
 
 -- [ { <, and those opcodes
-abbrev pub holder_shape : Shape
+abbrev pub holder_shape : PhraseShape
 holder_shape = record { first = nest_shape.first ++ expression_classes; more = []; empty = false }
 
 -- how constants begin
-abbrev pub constant_shape : Shape
+abbrev pub constant_shape : PhraseShape
 constant_shape = record {
   first = code terminal.Integer ∷ code terminal.GlobalName ∷ code terminal.ByteString ∷ simple_classes ++ holder_shape.first;
   more = [];
@@ -124,7 +124,7 @@ unfoldable pub operands_core : Row Located TypedConstantTree → Row Located (Li
 operands_core typed = joined_values (λ c cs. c ∷ cs) typed (many class (keep_second (word terminal.Comma) typed))
 
 -- how the operands of an expression begin and go on
-abbrev pub operands_shape : Shape
+abbrev pub operands_shape : PhraseShape
 operands_shape = record { first = type_shape.first; more = code terminal.Comma ∷ []; empty = false }
 
 -- TYPE CONST (, TYPE CONST)*
@@ -154,7 +154,7 @@ arithmetic_row typed place opcode =
     (pair (keep_first typed (word terminal.Comma)) (keep_first typed (word terminal.CloseParenthesis)))))
 
 -- how an expression goes on behind its opcode
-abbrev pub expression_shape : Shape
+abbrev pub expression_shape : PhraseShape
 expression_shape = record { first = flag_class ∷ code terminal.OpenParenthesis ∷ []; more = []; empty = false }
 
 -- what stands behind the opcode of an expression, by the opcode

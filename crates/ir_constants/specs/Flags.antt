@@ -1,6 +1,6 @@
 -- For `flags_of`: the flags of an opcode: which it may have, in any order, each once.
 use Rattle.std.specs.Prelude.{ℕ, true, false, not, ◌&&◌, [], ◌∷◌, cond, Option, Some, None}
-use Rattle.phrase_rows.specs.Row.{Row, Shape, one, loop, labelled}
+use Rattle.phrase_rows.specs.Row.{Row, PhraseShape, one, loop, labelled}
 use Rattle.ir_lexer.specs.Ahead.{Located}
 use Rattle.ir_tables.specs.declared.opcode.Opcode.{Opcode}
 use Rattle.ir_tables.specs.declared.flag.Flag.{Flag}
@@ -16,7 +16,7 @@ with_flag opcode flags None = None
 with_flag opcode flags (Some f) = cond (may_have opcode f && not (has_flag flags f)) (Some (flags_with flags f)) None
 
 -- how a flag begins
-abbrev pub flag_shape : Shape
+abbrev pub flag_shape : PhraseShape
 flag_shape = record { first = flag_class ∷ []; more = []; empty = false }
 
 -- FLAG
@@ -28,7 +28,7 @@ unfoldable pub flags_core : Opcode → Row Located ℕ
 flags_core opcode = loop class flag_shape (flag_step opcode) 0
 
 -- how flags begin and go on
-abbrev pub flags_shape : Shape
+abbrev pub flags_shape : PhraseShape
 flags_shape = record { first = flag_class ∷ []; more = flag_class ∷ []; empty = true }
 
 -- FLAG*, each that the opcode may have, once

@@ -1,6 +1,6 @@
 -- For `type_of`, `value_type_of` and `fields_of`: the rows of types.
 use Rattle.std.specs.Prelude.{ℕ, zero, suc, true, false, List, [], ◌∷◌}
-use Rattle.phrase_rows.specs.Row.{Row, Shape, fail, mapped, keep_second, keep_first, pair, alt, separated, labelled}
+use Rattle.phrase_rows.specs.Row.{Row, PhraseShape, fail, mapped, keep_second, keep_first, pair, alt, separated, labelled}
 use Rattle.ir_lexer.specs.Ahead.{Located}
 use Rattle.ir_terminals.specs.declared.terminal.Terminal.TheVariants as terminal
 use Rattle.ir_terminals.specs.declared.limits.Limits.{Limits}
@@ -12,15 +12,15 @@ use Rattle.ir_constants.specs.Placed.{token_with_place}
 use Rattle.ir_constants.specs.Tree.{TypeTree, IntegerType, PointerType, VoidType, ArrayType, StructType, NamedType, types}
 
 -- [ { <
-abbrev pub nest_shape : Shape
+abbrev pub nest_shape : PhraseShape
 nest_shape = record { first = code terminal.OpenBracket ∷ code terminal.OpenBrace ∷ code terminal.Less ∷ []; more = []; empty = false }
 
 -- iN, ptr, a struct's name, and those
-abbrev pub value_type_shape : Shape
+abbrev pub value_type_shape : PhraseShape
 value_type_shape = record { first = integer_type_class ∷ code terminal.Ptr ∷ code terminal.Local ∷ nest_shape.first; more = []; empty = false }
 
 -- and `void`
-abbrev pub type_shape : Shape
+abbrev pub type_shape : PhraseShape
 type_shape = record { first = code terminal.Void ∷ value_type_shape.first; more = []; empty = false }
 
 -- iN
@@ -46,7 +46,7 @@ array_row t =
     (pair (word terminal.OpenBracket) (pair integer_row (keep_second (word terminal.X) (keep_first t (word terminal.CloseBracket)))))
 
 -- a list with commas, of what begins as types do
-abbrev pub list_shape : Shape
+abbrev pub list_shape : PhraseShape
 list_shape = record { first = type_shape.first; more = code terminal.Comma ∷ type_shape.first; empty = true }
 
 -- TYPE,*

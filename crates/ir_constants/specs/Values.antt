@@ -1,6 +1,6 @@
 -- For `value_of` and `typed_value_of`: the rows of values.
 use Rattle.std.specs.Prelude.{false, [], ◌∷◌}
-use Rattle.phrase_rows.specs.Row.{Row, Shape, mapped, pair, alt, labelled}
+use Rattle.phrase_rows.specs.Row.{Row, PhraseShape, mapped, pair, alt, labelled}
 use Rattle.ir_lexer.specs.Ahead.{Located}
 use Rattle.ir_terminals.specs.declared.limits.Limits.{Limits}
 use Rattle.ir_terminals.specs.Role.{class}
@@ -12,7 +12,7 @@ use Rattle.ir_constants.specs.Constants.{constant_shape, constant_row}
 use Rattle.ir_constants.specs.Tree.{ValueTree, LocalValue, ConstantValue, TypedValueTree}
 
 -- how values begin
-abbrev pub value_shape : Shape
+abbrev pub value_shape : PhraseShape
 value_shape = record { first = code terminal.Local ∷ constant_shape.first; more = []; empty = false }
 
 -- a LOCAL or a CONST

@@ -3,7 +3,7 @@ use Rattle.std.proofs.Common.{◌≡◌, ◌+◌, ◌≤◌, List, [], ◌∷◌
 use Rattle.std.specs.List.{sum_by}
 use Rattle.std.proofs.lemmas.List.Sums.{sum_by-cons}
 use Rattle.ir_lexer.specs.Ahead.{Located}
-use Rattle.phrase_rows.specs.Row.{Row, Shape, optional}
+use Rattle.phrase_rows.specs.Row.{Row, PhraseShape, optional}
 use Rattle.phrase_rows.specs.Reads.{Reads}
 use Rattle.phrase_rows.specs.Size.{IsSized}
 use Rattle.phrase_rows.proofs.Sizes.{sized_none, sized_mapped, sized_both, sized_second, sized_before, sized_pair, sized_many, sized_labelled}
@@ -18,7 +18,7 @@ use Rattle.ir_instructions.specs.Counts.{block_count, blocks_count}
 use Rattle.ir_instructions.proofs.Grammar.{reads_instruction, reads_ending}
 
 -- a phrase that is never of no token has at least one
-sized_some : {A : Type 0} (r : Row Located A) (s : Shape) → Reads class r s → s.empty ≡ false → IsSized r (λ a. 1)
+sized_some : {A : Type 0} (r : Row Located A) (s : PhraseShape) → Reads class r s → s.empty ≡ false → IsSized r (λ a. 1)
 sized_some {A} r s h some = record { size = size }
   where
     size : (us : List Located) (a : A) → r.whole us a → 1 ≤ length us

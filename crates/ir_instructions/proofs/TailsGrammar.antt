@@ -1,7 +1,7 @@
 -- The rows of what stands behind commas are read.
 use Rattle.std.proofs.Common.{◌≡◌, ℕ, List, [], ◌∷◌, refl, true, false, None}
 use Rattle.ir_lexer.specs.Ahead.{Located}
-use Rattle.phrase_rows.specs.Row.{Row, Shape, apart, keep_second, labelled}
+use Rattle.phrase_rows.specs.Row.{Row, PhraseShape, apart, keep_second, labelled}
 use Rattle.phrase_rows.specs.Reads.{Reads}
 use Rattle.phrase_rows.proofs.Plain.{reads_nothing, reads_one, reads_mapped, reads_labelled, reads_wider}
 use Rattle.phrase_rows.proofs.Chain.{reads_second, reads_before, reads_pair}
@@ -59,7 +59,7 @@ pub reads_comma_part : Reads class (keep_second (word terminal.Comma) part_begin
 reads_comma_part = reads_second class (reads_word terminal.Comma) reads_part_begins refl
 
 -- a part that begins with one of these
-abbrev pub part_shape : List ℕ → Shape
+abbrev pub part_shape : List ℕ → PhraseShape
 part_shape first = record { first = first; more = []; empty = false }
 
 module _ {A : Type 0} (first : List ℕ) (r : Row Located A) (h : Reads class (labelled (part_shape first) r) (part_shape first)) (ok : apart (code terminal.MetaName ∷ []) first ≡ true) where

@@ -1,6 +1,6 @@
 -- For `blocks_of`: the rows of the blocks of a function.
 use Rattle.std.specs.Prelude.{false, List, ◌∷◌, ◌++◌}
-use Rattle.phrase_rows.specs.Row.{Row, Shape, mapped, joined_values, keep_second, keep_first, pair, optional, many, labelled}
+use Rattle.phrase_rows.specs.Row.{Row, PhraseShape, mapped, joined_values, keep_second, keep_first, pair, optional, many, labelled}
 use Rattle.ir_lexer.specs.Ahead.{Located}
 use Rattle.ir_terminals.specs.declared.limits.Limits.{Limits}
 use Rattle.ir_terminals.specs.declared.terminal.Terminal.TheVariants as terminal
@@ -12,7 +12,7 @@ use Rattle.ir_instructions.specs.Instructions.{instruction_shape, instructions_r
 use Rattle.ir_instructions.specs.Endings.{ending_shape, ending_row}
 
 -- how blocks begin and go on
-abbrev pub block_shape : Shape
+abbrev pub block_shape : PhraseShape
 block_shape = record { first = code terminal.Label ∷ instruction_shape.first ++ ending_shape.first; more = ending_shape.more; empty = false }
 
 -- LABEL? INST* END

@@ -1,6 +1,6 @@
 -- For `blocks_of` and `signature`: the rows of calls.
 use Rattle.std.specs.Prelude.{true, false, cond, List, [], ◌∷◌, ◌++◌, Option}
-use Rattle.phrase_rows.specs.Row.{Row, Shape, fail, chain, mapped, keep_second, keep_first, pair, alt, nothing, optional, separated, loop, labelled}
+use Rattle.phrase_rows.specs.Row.{Row, PhraseShape, fail, chain, mapped, keep_second, keep_first, pair, alt, nothing, optional, separated, loop, labelled}
 use Rattle.ir_lexer.specs.Ahead.{Located}
 use Rattle.ir_terminals.specs.declared.limits.Limits.{Limits}
 use Rattle.ir_terminals.specs.declared.terminal.Terminal.TheVariants as terminal
@@ -31,7 +31,7 @@ abbrev pub signature_types_row : Limits → Row Located SignatureTree
 signature_types_row limits = alt class (mapped (λ p. ([], true)) (word terminal.Dots)) (alt class (some_types_row limits) (nothing ([], false)))
 
 -- how a signature begins
-abbrev pub signature_shape : Shape
+abbrev pub signature_shape : PhraseShape
 signature_shape = record { first = code terminal.OpenParenthesis ∷ []; more = code terminal.OpenParenthesis ∷ []; empty = true }
 
 -- (( TYPE,* ))?, by its parts
@@ -59,7 +59,7 @@ abbrev pub argument_list_row : Limits → Row Located (List TypedValueTree)
 argument_list_row limits = labelled list_shape (argument_list_core limits)
 
 -- how arguments begin
-abbrev pub arguments_shape : Shape
+abbrev pub arguments_shape : PhraseShape
 arguments_shape = record { first = code terminal.OpenParenthesis ∷ []; more = []; empty = false }
 
 -- ( (TYPE PDROP* VALUE),* ), by its parts
@@ -71,7 +71,7 @@ abbrev pub arguments_row : Limits → Row Located (List TypedValueTree)
 arguments_row limits = labelled arguments_shape (arguments_core limits)
 
 -- how the type of a call's result begins, behind what is dropped
-abbrev pub result_type_shape : Shape
+abbrev pub result_type_shape : PhraseShape
 result_type_shape = record { first = code terminal.CallingConvention ∷ parameter_attribute_shape.first ++ type_shape.first; more = []; empty = false }
 
 -- CC? PDROP* TYPE, by its parts
@@ -83,7 +83,7 @@ abbrev pub result_type_row : Limits → Row Located TypeTree
 result_type_row limits = labelled result_type_shape (result_type_core limits)
 
 -- how the end of a call begins and goes on
-abbrev pub call_end_shape : Shape
+abbrev pub call_end_shape : PhraseShape
 call_end_shape = record { first = function_attributes_shape.first ++ commas_shape.first; more = commas_shape.more ++ function_attributes_shape.more; empty = true }
 
 -- FDROP* (, MD)*, by its parts
@@ -95,7 +95,7 @@ abbrev pub call_end_row : Row Located (Unit {0})
 call_end_row = labelled call_end_shape call_end_core
 
 -- how a callee with its arguments begins and goes on
-abbrev pub called_shape : Shape
+abbrev pub called_shape : PhraseShape
 called_shape = record { first = value_shape.first; more = call_end_shape.more; empty = false }
 
 -- VALUE ( (TYPE PDROP* VALUE),* ) FDROP* (, MD)*, by its parts
@@ -111,7 +111,7 @@ abbrev pub call_of : TypeTree × (Option SignatureTree × (ValueTree × List Typ
 call_of (returns, (signature, (callee, arguments))) = Call (record { returns = returns; signature = signature; callee = callee; arguments = arguments })
 
 -- how a call goes on behind its opcode
-abbrev pub call_shape : Shape
+abbrev pub call_shape : PhraseShape
 call_shape = record { first = result_type_shape.first; more = called_shape.more; empty = false }
 
 -- CC? PDROP* TYPE (( TYPE,* ))? VALUE ( (TYPE PDROP* VALUE),* ) FDROP* (, MD)*, behind `call`, by its parts

@@ -1,7 +1,7 @@
 -- For `attachments`, `parameter_attributes`, `function_attributes` and `convention`: what is read and dropped:
 -- metadata, attributes and calling conventions.
 use Rattle.std.specs.Prelude.{ℕ, true, false, List, [], ◌∷◌, ◌++◌}
-use Rattle.phrase_rows.specs.Row.{Row, Shape, one, mapped, keep_second, alt, optional, loop, labelled}
+use Rattle.phrase_rows.specs.Row.{Row, PhraseShape, one, mapped, keep_second, alt, optional, loop, labelled}
 use Rattle.ir_lexer.specs.Ahead.{Located}
 use Rattle.ir_terminals.specs.declared.terminal.Terminal.TheVariants as terminal
 use Rattle.ir_terminals.specs.Role.{class}
@@ -23,11 +23,11 @@ attachment_row =
     (keep_second (word terminal.MetaMark) (matched_row terminal.OpenBrace)))
 
 -- a comma and what follows it
-abbrev pub comma_shape : Shape
+abbrev pub comma_shape : PhraseShape
 comma_shape = record { first = code terminal.Comma ∷ []; more = []; empty = false }
 
 -- any number of those
-abbrev pub commas_shape : Shape
+abbrev pub commas_shape : PhraseShape
 commas_shape = record { first = comma_shape.first; more = comma_shape.first; empty = true }
 
 -- (, MD)*, by its parts
@@ -55,7 +55,7 @@ abbrev pub parameter_list_row : Row Located (Unit {0})
 parameter_list_row = keep_second (word terminal.ParameterDroppedList) (matched_row terminal.OpenParenthesis)
 
 -- how the attribute of a parameter begins
-abbrev pub parameter_attribute_shape : Shape
+abbrev pub parameter_attribute_shape : PhraseShape
 parameter_attribute_shape = record {
   first = code terminal.ParameterDropped ∷ code terminal.AttributeDropped ∷ code terminal.Align ∷ code terminal.ParameterDroppedList ∷ [];
   more = [];
@@ -71,7 +71,7 @@ unfoldable pub parameter_attributes_core : Row Located (Unit {0})
 parameter_attributes_core = loop class parameter_attribute_shape (λ u. parameter_attribute_row) tt
 
 -- how the attributes of a parameter begin and go on
-abbrev pub parameter_attributes_shape : Shape
+abbrev pub parameter_attributes_shape : PhraseShape
 parameter_attributes_shape = record { first = parameter_attribute_shape.first; more = parameter_attribute_shape.first; empty = true }
 
 -- PDROP*
@@ -112,7 +112,7 @@ function_attribute_first =
     function_word_classes ++ code terminal.Quoted ∷ code terminal.Align ∷ code terminal.Section ∷ code terminal.FunctionDroppedList ∷ code terminal.UnwindTable ∷ []
 
 -- how the attribute of a function begins and goes on
-abbrev pub function_attribute_shape : Shape
+abbrev pub function_attribute_shape : PhraseShape
 function_attribute_shape = record { first = function_attribute_first; more = code terminal.Equals ∷ code terminal.OpenParenthesis ∷ []; empty = false }
 
 -- FDROP
@@ -129,7 +129,7 @@ unfoldable pub function_attributes_core : Row Located (Unit {0})
 function_attributes_core = loop class function_attribute_shape (λ u. function_attribute_row) tt
 
 -- how the attributes of a function begin and go on
-abbrev pub function_attributes_shape : Shape
+abbrev pub function_attributes_shape : PhraseShape
 function_attributes_shape = record { first = function_attribute_first; more = function_attribute_shape.more ++ function_attribute_first; empty = true }
 
 -- FDROP*

@@ -1,6 +1,6 @@
 -- For `blocks_of`: the rows of the instructions that end a block.
 use Rattle.std.specs.Prelude.{false, List, [], ◌∷◌}
-use Rattle.phrase_rows.specs.Row.{Row, Shape, mapped, keep_second, keep_first, pair, alt, many, labelled}
+use Rattle.phrase_rows.specs.Row.{Row, PhraseShape, mapped, keep_second, keep_first, pair, alt, many, labelled}
 use Rattle.ir_lexer.specs.Ahead.{Located}
 use Rattle.ir_tables.specs.declared.opcode.Opcode.TheVariants as op
 use Rattle.ir_terminals.specs.declared.limits.Limits.{Limits}
@@ -17,7 +17,7 @@ use Rattle.ir_instructions.specs.Dropped.{comma_shape, attachments_row}
 use Rattle.ir_instructions.specs.Operations.{tail_shape}
 
 -- how a target begins
-abbrev pub target_shape : Shape
+abbrev pub target_shape : PhraseShape
 target_shape = record { first = code terminal.LabelWord ∷ []; more = []; empty = false }
 
 -- label LOCAL, by its parts
@@ -49,7 +49,7 @@ abbrev pub return_value_row : Limits → Row Located EndingTree
 return_value_row limits = labelled type_shape (return_value_core limits)
 
 -- how `ret` begins and goes on
-abbrev pub return_shape : Shape
+abbrev pub return_shape : PhraseShape
 return_shape = record { first = code (terminal.Opcode op.Ret) ∷ []; more = comma_shape.first; empty = false }
 
 -- ret void, or ret TYPE VALUE, by its parts
@@ -65,7 +65,7 @@ abbrev pub condition_row : Limits → Row Located EndingTree
 condition_row limits = mapped (λ (condition, (then_to, else_to)). Branch condition then_to else_to) (pair (typed_value_row limits) (pair next_target_row next_target_row))
 
 -- how the targets of a branch begin
-abbrev pub branch_target_shape : Shape
+abbrev pub branch_target_shape : PhraseShape
 branch_target_shape = record { first = code terminal.LabelWord ∷ type_shape.first; more = []; empty = false }
 
 -- label LOCAL, or TYPE VALUE , label LOCAL , label LOCAL, by its parts
@@ -77,7 +77,7 @@ abbrev pub branch_target_row : Limits → Row Located EndingTree
 branch_target_row limits = labelled branch_target_shape (branch_target_core limits)
 
 -- how `br` begins and goes on
-abbrev pub branch_shape : Shape
+abbrev pub branch_shape : PhraseShape
 branch_shape = record { first = code (terminal.Opcode op.Br) ∷ []; more = comma_shape.first; empty = false }
 
 -- br label LOCAL, or br TYPE VALUE , label LOCAL , label LOCAL, by its parts
@@ -101,7 +101,7 @@ abbrev pub case_list_row : Limits → Row Located (List CaseTree)
 case_list_row limits = many class (case_row limits)
 
 -- how the cases of a `switch` begin
-abbrev pub cases_shape : Shape
+abbrev pub cases_shape : PhraseShape
 cases_shape = record { first = code terminal.OpenBracket ∷ []; more = []; empty = false }
 
 -- [ (TYPE CONST , label LOCAL)* ], by its parts
@@ -121,7 +121,7 @@ abbrev pub switch_targets_row : Limits → Row Located (Local × List CaseTree)
 switch_targets_row limits = labelled tail_shape (switch_targets_core limits)
 
 -- how `switch` begins and goes on
-abbrev pub switch_shape : Shape
+abbrev pub switch_shape : PhraseShape
 switch_shape = record { first = code (terminal.Opcode op.Switch) ∷ []; more = comma_shape.first; empty = false }
 
 -- switch TYPE VALUE , label LOCAL [ (TYPE CONST , label LOCAL)* ], by its parts
@@ -137,7 +137,7 @@ abbrev pub switch_row : Limits → Row Located EndingTree
 switch_row limits = labelled switch_shape (switch_core limits)
 
 -- how `unreachable` begins and goes on
-abbrev pub unreachable_shape : Shape
+abbrev pub unreachable_shape : PhraseShape
 unreachable_shape = record { first = code (terminal.Opcode op.Unreachable) ∷ []; more = comma_shape.first; empty = false }
 
 -- unreachable, by its parts
@@ -149,7 +149,7 @@ abbrev pub unreachable_row : Row Located EndingTree
 unreachable_row = labelled unreachable_shape unreachable_core
 
 -- how the ends of blocks begin and go on
-abbrev pub ending_shape : Shape
+abbrev pub ending_shape : PhraseShape
 ending_shape = record {
   first = code (terminal.Opcode op.Ret) ∷ code (terminal.Opcode op.Br) ∷ code (terminal.Opcode op.Switch) ∷ code (terminal.Opcode op.Unreachable) ∷ [];
   more = code terminal.Comma ∷ [];

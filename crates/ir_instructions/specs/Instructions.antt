@@ -1,6 +1,6 @@
 -- For `blocks_of`: the rows of instructions.
 use Rattle.std.specs.Prelude.{ℕ, false, List, [], ◌∷◌, Some, None}
-use Rattle.phrase_rows.specs.Row.{Row, Shape, one, chain, mapped, keep_second, keep_first, pair, alt, many, labelled}
+use Rattle.phrase_rows.specs.Row.{Row, PhraseShape, one, chain, mapped, keep_second, keep_first, pair, alt, many, labelled}
 use Rattle.ir_lexer.specs.Ahead.{Located}
 use Rattle.ir_tables.specs.declared.opcode.Opcode.TheVariants as op
 use Rattle.ir_terminals.specs.declared.limits.Limits.{Limits}
@@ -33,7 +33,7 @@ abbrev pub marked_call_row : Limits → Row Located OperationTree
 marked_call_row limits = keep_second (word terminal.TailMark) (keep_second (word (terminal.Opcode op.Call)) (call_row limits))
 
 -- how operations begin and go on, whose opcodes have these classes
-abbrev pub operation_over_shape : List ℕ → Shape
+abbrev pub operation_over_shape : List ℕ → PhraseShape
 operation_over_shape classes = record { first = code terminal.TailMark ∷ classes; more = operation_shape.more; empty = false }
 
 -- an instruction with one of these opcodes, without what its result is called
@@ -56,7 +56,7 @@ abbrev pub bare_row : Limits → Row Located InstructionTree
 bare_row limits = mapped (λ o. record { result = None; operation = o }) (operation_over operation_classes limits)
 
 -- how instructions begin and go on
-abbrev pub instruction_shape : Shape
+abbrev pub instruction_shape : PhraseShape
 instruction_shape = record { first = code terminal.Local ∷ code terminal.TailMark ∷ operation_classes; more = operation_shape.more; empty = false }
 
 -- INST

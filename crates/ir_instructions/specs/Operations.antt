@@ -1,6 +1,6 @@
 -- For `blocks_of`: the rows of instructions, behind their opcodes.
 use Rattle.std.specs.Prelude.{false, List, [], ◌∷◌, ◌++◌, Option}
-use Rattle.phrase_rows.specs.Row.{Row, Shape, fail, chain, mapped, keep_second, keep_first, pair, labelled}
+use Rattle.phrase_rows.specs.Row.{Row, PhraseShape, fail, chain, mapped, keep_second, keep_first, pair, labelled}
 use Rattle.ir_lexer.specs.Ahead.{Located}
 use Rattle.ir_tables.specs.declared.opcode.Opcode.{Opcode}
 use Rattle.ir_tables.specs.declared.opcode.Opcode.TheVariants as op
@@ -20,7 +20,7 @@ use Rattle.ir_instructions.specs.Tails.{alignment_row, count_row, listed_row}
 use Rattle.ir_instructions.specs.Calls.{call_core}
 
 -- a comma, what follows it, and further commas
-abbrev pub tail_shape : Shape
+abbrev pub tail_shape : PhraseShape
 tail_shape = record { first = comma_shape.first; more = comma_shape.first; empty = false }
 
 -- , VALUE, by its parts
@@ -40,7 +40,7 @@ abbrev pub next_typed_value_row : Limits → Row Located TypedValueTree
 next_typed_value_row limits = labelled comma_shape (next_typed_value_core limits)
 
 -- how two operands of one type begin and go on
-abbrev pub operands_shape : Shape
+abbrev pub operands_shape : PhraseShape
 operands_shape = record { first = type_shape.first; more = comma_shape.first; empty = false }
 
 -- TYPE VALUE , VALUE (, MD)*, by its parts
@@ -52,7 +52,7 @@ abbrev pub operands_row : Limits → Row Located (TypedValueTree × ValueTree)
 operands_row limits = labelled operands_shape (operands_core limits)
 
 -- how the type to which a cast goes begins and goes on
-abbrev pub cast_type_shape : Shape
+abbrev pub cast_type_shape : PhraseShape
 cast_type_shape = record { first = code terminal.To ∷ []; more = comma_shape.first; empty = false }
 
 -- to TYPE (, MD)*, by its parts
@@ -88,7 +88,7 @@ abbrev pub from_block_row : Row Located Local
 from_block_row = labelled comma_shape from_block_core
 
 -- how the value of a phi begins
-abbrev pub incoming_shape : Shape
+abbrev pub incoming_shape : PhraseShape
 incoming_shape = record { first = code terminal.OpenBracket ∷ []; more = []; empty = false }
 
 -- [ VALUE , LOCAL ], by its parts
@@ -116,7 +116,7 @@ abbrev pub indices_row : Row Located (List Integer)
 indices_row = labelled tail_shape indices_core
 
 -- what may follow an opcode, and what may go on with a whole instruction
-abbrev pub operation_shape : Shape
+abbrev pub operation_shape : PhraseShape
 operation_shape = record {
   first = flag_class ∷ predicate_class ∷ code terminal.CallingConvention ∷ parameter_attribute_shape.first ++ type_shape.first;
   more = code terminal.Comma ∷ function_attribute_shape.first ++ function_attribute_shape.more;

@@ -4,7 +4,7 @@ use Rattle.ir_lexer.specs.declared.class.Class.{Class}
 use Rattle.ir_lexer.specs.declared.token.TokenKind.{TokenKind}
 use Rattle.ir_lexer.specs.Class.{byte_class, starts_with, in_word, is_c, is_quote}
 use Rattle.ir_lexer.specs.Form.{Spells, longest}
-use Rattle.ir_lexer.specs.Table.{Row, Label, Word, ByteString, kind_of, starts, tail_of, SpellsRow, IsToken}
+use Rattle.ir_lexer.specs.Table.{TokenRow, Label, Word, ByteString, kind_of, starts, tail_of, SpellsRow, IsToken}
 use Rattle.ir_lexer.specs.Tokens.{is_cut, StandsBefore}
 use Rattle.ir_lexer.specs.Front.{rows_of, or_else, first_of, unless_cut, token_from, next_token}
 use Rattle.ir_lexer.proofs.Fronts.{fits, reaches}
@@ -14,24 +14,24 @@ use Rattle.ir_lexer.proofs.Runs.{bool_cases, run_stops}
 use Rattle.ir_lexer.proofs.Rows.{quote_no_word, Among, Wins, WinsAll, Ordered, ordered, listed, StartAll, begun}
 
 -- the row that was found
-pub record Found (x : Class) (rs : List Row) (bs : List ℕ) (kind : TokenKind) (n : ℕ) : Type 0 where
-  pub row : Row
+pub record Found (x : Class) (rs : List TokenRow) (bs : List ℕ) (kind : TokenKind) (n : ℕ) : Type 0 where
+  pub row : TokenRow
   pub kind_is : kind_of row ≡ kind
   pub number : ℕ
   pub fits : longest (tail_of row) bs ≡ Some number
   pub number_is : n ≡ suc number
   pub begins : starts row x ≡ true
-  pub best : (r : Row) (m : ℕ) → Among r rs → longest (tail_of r) bs ≡ Some m → (suc m < n) ⊎ ((suc m ≡ n) × (kind_of r ≡ kind))
+  pub best : (r : TokenRow) (m : ℕ) → Among r rs → longest (tail_of r) bs ≡ Some m → (suc m < n) ⊎ ((suc m ≡ n) × (kind_of r ≡ kind))
 
 some_same : {A : Type 0} (a b : A) → Some a ≡ Some b → a ≡ b
 some_same a b h = cc
 
-wins : (r : Row) (bs : List ℕ) (rs : List Row) → WinsAll r bs rs → (s : Row) → Among s rs → Wins r bs s
+wins : (r : TokenRow) (bs : List ℕ) (rs : List TokenRow) → WinsAll r bs rs → (s : TokenRow) → Among s rs → Wins r bs s
 wins r bs [] w s a = absurd a
 wins r bs (x ∷ rs) w s (inl e) = rw e w.0
 wins r bs (x ∷ rs) w s (inr a) = wins r bs rs w.1 s a
 
-pub found : (x : Class) (rs : List Row) (bs : List ℕ) (kind : TokenKind) (n : ℕ) → StartAll x rs → Ordered bs rs → first_of rs bs ≡ Some (kind, n) → Found x rs bs kind n
+pub found : (x : Class) (rs : List TokenRow) (bs : List ℕ) (kind : TokenKind) (n : ℕ) → StartAll x rs → Ordered bs rs → first_of rs bs ≡ Some (kind, n) → Found x rs bs kind n
 found x [] bs kind n s o h = absurd cc
 found x (r ∷ rs) bs kind n s o h = go (longest (tail_of r) bs) refl h (λ g. found x rs bs kind n s.1 o.1 g)
   where
@@ -70,7 +70,7 @@ found x (r ∷ rs) bs kind n s o h = go (longest (tail_of r) bs) refl h (λ g. f
     go (Some m) e g again = first m e (some_same (kind_of r, suc m) (kind, n) g)
     go None e g again = later e (again g)
 
-pub found_none : (rs : List Row) (bs : List ℕ) → first_of rs bs ≡ None → (r : Row) → Among r rs → longest (tail_of r) bs ≡ None
+pub found_none : (rs : List TokenRow) (bs : List ℕ) → first_of rs bs ≡ None → (r : TokenRow) → Among r rs → longest (tail_of r) bs ≡ None
 found_none [] bs h r a = absurd a
 found_none (x ∷ rs) bs h r a = go (longest (tail_of x) bs) refl h a (λ g later. found_none rs bs g r later)
   where
@@ -80,13 +80,13 @@ found_none (x ∷ rs) bs h r a = go (longest (tail_of x) bs) refl h a (λ g late
     go None e g (inr later) again = again g later
 
 -- a spelling of a row that is a front of the text
-pub record InList (b : ℕ) (bs : List ℕ) (row : Row) (s : List ℕ) : Type 0 where
+pub record InList (b : ℕ) (bs : List ℕ) (row : TokenRow) (s : List ℕ) : Type 0 where
   pub number : ℕ
   pub among : Among row (rows_of (byte_class b))
   pub found : longest (tail_of row) bs ≡ Some number
   pub far : length s ≤ suc number
 
-pub in_list : (b : ℕ) (bs : List ℕ) (row : Row) (s rest : List ℕ) → SpellsRow row s → s ++ rest ≡ b ∷ bs → InList b bs row s
+pub in_list : (b : ℕ) (bs : List ℕ) (row : TokenRow) (s rest : List ℕ) → SpellsRow row s → s ++ rest ≡ b ∷ bs → InList b bs row s
 in_list b bs row [] rest h e = absurd h
 in_list b bs row (x ∷ s) rest h e =
     let xb : x ≡ b = cc in
@@ -118,7 +118,7 @@ no_nil [] b r h = cc
 no_nil (x ∷ a) b r h = cc
 
 -- a `c` alone is a word
-c_alone : (x : Class) (r : Row) → is_c x ≡ true → starts r x ≡ true → Spells (tail_of r) [] → kind_of r ≡ k.Word
+c_alone : (x : Class) (r : TokenRow) → is_c x ≡ true → starts r x ≡ true → Spells (tail_of r) [] → kind_of r ≡ k.Word
 c_alone c.LetterC Label i h s = absurd (no_nil s.inside s.byte s.rest s.parts)
 c_alone c.LetterC ByteString i h s = absurd s
 c_alone c.LetterC Word i h s = refl
@@ -131,7 +131,7 @@ whole_of b [] (suc j) l z = absurd (omega arith)
 whole_of b (y ∷ ys) (suc j) l z = refl
 
 -- before a quote a word has one byte
-word_one : (r : Row) (bs : List ℕ) (n : ℕ) → kind_of r ≡ k.Word → starts_with is_quote bs ≡ true → longest (tail_of r) bs ≡ Some n → n ≡ 0
+word_one : (r : TokenRow) (bs : List ℕ) (n : ℕ) → kind_of r ≡ k.Word → starts_with is_quote bs ≡ true → longest (tail_of r) bs ≡ Some n → n ≡ 0
 word_one Word [] n w q h = absurd cc
 word_one Word (y ∷ ys) n w q h = let z = run_stops in_word y ys (quote_no_word (byte_class y) q) in cc
 word_one _ bs n w q h = absurd cc
@@ -144,7 +144,7 @@ pub record IsNext (text : List ℕ) (kind : TokenKind) (n : ℕ) : Type 0 where
   pub whole : is_cut (take n text) (drop n text) ≡ false
   pub longest : (other : TokenKind) (s rest : List ℕ) → IsToken other s → s ++ rest ≡ text → (length s ≤ n) × (length s ≡ n → other ≡ kind)
 
-whole_next : (b : ℕ) (bs : List ℕ) (kind : TokenKind) (n : ℕ) (row : Row) → kind_of row ≡ kind → starts row (byte_class b) ≡ true → (j : ℕ) → n ≡ suc j → Spells (tail_of row) (take j bs) → suc j ≤ length (b ∷ bs) → token_from (byte_class b) bs ≡ Some (kind, n) → first_of (rows_of (byte_class b)) bs ≡ Some (kind, n) → is_cut (take n (b ∷ bs)) (drop n (b ∷ bs)) ≡ false
+whole_next : (b : ℕ) (bs : List ℕ) (kind : TokenKind) (n : ℕ) (row : TokenRow) → kind_of row ≡ kind → starts row (byte_class b) ≡ true → (j : ℕ) → n ≡ suc j → Spells (tail_of row) (take j bs) → suc j ≤ length (b ∷ bs) → token_from (byte_class b) bs ≡ Some (kind, n) → first_of (rows_of (byte_class b)) bs ≡ Some (kind, n) → is_cut (take n (b ∷ bs)) (drop n (b ∷ bs)) ≡ false
 whole_next b bs kind n row k_is begins j n_is spelled room h g =
     let cut = is_c (byte_class b) && starts_with is_quote bs in
     let one : j ≡ 0 → is_cut (b ∷ []) bs ≡ false = λ z. elim (bool_cases cut) [

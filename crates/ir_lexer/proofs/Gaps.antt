@@ -6,7 +6,7 @@ use Rattle.ir_lexer.specs.declared.class.Class.{Class}
 use Rattle.ir_lexer.specs.declared.class.Class.TheVariants as c
 use Rattle.ir_lexer.specs.declared.token.TokenKind.{TokenKind}
 use Rattle.ir_lexer.specs.Class.{byte_class, is_blank, is_semicolon, is_line_feed}
-use Rattle.ir_lexer.specs.Table.{Row, starts, IsToken}
+use Rattle.ir_lexer.specs.Table.{TokenRow, starts, IsToken}
 use Rattle.ir_lexer.specs.Tokens.{Spelled, gap_state, IsGap, IsLastGap, StandsBefore, IsLongest, Begins, IsBad}
 use Rattle.ir_lexer.specs.Front.{next_token, rows_of}
 use Rattle.ir_lexer.specs.Gap.{gap_length}
@@ -70,7 +70,7 @@ ends (x ∷ s) false = elim (bool_cases (is_blank (byte_class x))) [
 ]
 
 -- no token begins as a gap does
-not_gap : (x : Class) (r : Row) → starts r x ≡ true → (is_blank x ≡ false) × (is_semicolon x ≡ false)
+not_gap : (x : Class) (r : TokenRow) → starts r x ≡ true → (is_blank x ≡ false) × (is_semicolon x ≡ false)
 not_gap x r h = go x (listed x r h)
   where
     go : (y : Class) → Among r (rows_of y) → (is_blank y ≡ false) × (is_semicolon y ≡ false)

@@ -7,10 +7,10 @@ use Rattle.ir_lexer.specs.declared.token.TokenKind.{TokenKind}
 use Rattle.ir_lexer.specs.Class.{byte_class, in_word, starts_name, in_name, is_letter, is_digit, is_dot, is_quote, no_quote, is_colon, starts_with, is_c}
 use Rattle.ir_lexer.specs.Form.{each, run, Form, Done, One, Run, Upto, Spells, behind, longest}
 use Rattle.ir_lexer.specs.Quoted.{is_name, is_text}
-use Rattle.ir_lexer.specs.Table.{Row, Label, QuotedLabel, Word, Digits, Negative, GlobalName, QuotedGlobal, LocalName, QuotedLocal, UnnamedGlobal, UnnamedLocal, Quoted, ByteString, MetaName, MetaNumber, MetaMark, Group, RecordMark, Punctuation, Dots, kind_of, starts, tail_of, IsToken, identifier, digits, inside, string}
+use Rattle.ir_lexer.specs.Table.{TokenRow, Label, QuotedLabel, Word, Digits, Negative, GlobalName, QuotedGlobal, LocalName, QuotedLocal, UnnamedGlobal, UnnamedLocal, Quoted, ByteString, MetaName, MetaNumber, MetaMark, Group, RecordMark, Punctuation, Dots, kind_of, starts, tail_of, IsToken, identifier, digits, inside, string}
 use Rattle.ir_lexer.specs.Tokens.{Spelled, IsGap, Tokens}
 use Rattle.ir_lexer.specs.Front.{rows_of, first_of, unless_cut, next_token}
-use Rattle.ir_lexer.specs.Pieces.{barred, with_none, can_follow, Separator, Nothing, Space, Line, Indented, separator_bytes, Piece, pieces_text, tokens_of, AreSound}
+use Rattle.ir_lexer.specs.Pieces.{barred, with_none, can_follow, Separator, Nothing, Space, Line, Indented, separator_bytes, TextPiece, pieces_text, tokens_of, AreSound}
 use Rattle.ir_lexer.proofs.Runs.{bool_cases, run_append, run_stops, run_none, each_first}
 use Rattle.ir_lexer.proofs.Rows.{word_name, digit_name, dot_name, name_quote, quote_digit, name_digit, digit_letter}
 use Rattle.ir_lexer.proofs.First.{next_is}
@@ -120,7 +120,7 @@ word_next t rest h f =
     rw (no_label t rest (each_within in_word in_name word_name t h) s.0 u.0, run_exact in_word t rest h (narrower in_name in_word word_name rest s.0)) refl
 
 -- What is spelled as a row is what reading finds, where the rest can follow it.
-pub row_next : (x : Class) (r : Row) (t rest : List ℕ) → starts r x ≡ true → Spells (tail_of r) t → with_none (barred (kind_of r) (is_dot x)) rest ≡ true → first_of (rows_of x) (t ++ rest) ≡ Some (kind_of r, suc (length t))
+pub row_next : (x : Class) (r : TokenRow) (t rest : List ℕ) → starts r x ≡ true → Spells (tail_of r) t → with_none (barred (kind_of r) (is_dot x)) rest ≡ true → first_of (rows_of x) (t ++ rest) ≡ Some (kind_of r, suc (length t))
 row_next c.LetterC Label t rest b h f = rw (exact (tail_of Label) t rest h tt) refl
 row_next c.LetterC ByteString t rest b h f = rw (bytes_no_label t rest h, exact (tail_of ByteString) t rest h tt) refl
 row_next c.LetterC Word t rest b h f =
@@ -172,7 +172,7 @@ row_next c.Other Label t rest b h f = absurd cc
 row_next _ _ t rest b h f = absurd cc
 
 -- what reading finds is no word that a quote cuts off
-stays : (r : Row) (cut : Bool) (n : ℕ) → (kind_of r ≡ k.Word → cut ≡ false) → unless_cut cut (Some (kind_of r, n)) ≡ Some (kind_of r, n)
+stays : (r : TokenRow) (cut : Bool) (n : ℕ) → (kind_of r ≡ k.Word → cut ≡ false) → unless_cut cut (Some (kind_of r, n)) ≡ Some (kind_of r, n)
 stays Word cut n h = rw (h refl) refl
 stays _ cut n h = refl
 
@@ -180,7 +180,7 @@ and_false : (a b : Bool) → b ≡ false → (a && b) ≡ false
 and_false true b h = h
 and_false false b h = refl
 
-no_quote_behind : (r : Row) (dots : Bool) (t rest : List ℕ) → kind_of r ≡ k.Word → Spells (tail_of r) t → with_none (barred (kind_of r) dots) rest ≡ true → starts_with is_quote (t ++ rest) ≡ false
+no_quote_behind : (r : TokenRow) (dots : Bool) (t rest : List ℕ) → kind_of r ≡ k.Word → Spells (tail_of r) t → with_none (barred (kind_of r) dots) rest ≡ true → starts_with is_quote (t ++ rest) ≡ false
 no_quote_behind Word dots [] rest w h f = (stop is_quote [] rest (stop is_colon (is_quote ∷ []) rest (stop in_name (is_colon ∷ is_quote ∷ []) rest f).1).1).0
 no_quote_behind Word dots (y ∷ t) rest w h f = elim (bool_cases (is_quote (byte_class y))) [ inl e ↦ absurd (word_no_quote (byte_class y) e (each_first in_word y t h).0) | inr e ↦ e ]
 no_quote_behind _ dots t rest w h f = absurd cc
@@ -212,7 +212,7 @@ gap_before gap text (t ∷ ts) g h =
     (h.0, record { gap = gap ++ i.gap; parts = rw (append_assoc gap i.gap (t.spelling ++ h.0)) (ap (λ s. gap ++ s) i.parts); gap_is = (past false false gap i.gap g).state ∙ i.gap_is; token = i.token; longest = i.longest }, h.2)
 
 -- The tokens of sound pieces are their spellings, and no others.
-pub pieces_are : (ps : List Piece) → AreSound ps → Tokens (pieces_text ps) (tokens_of ps)
+pub pieces_are : (ps : List TextPiece) → AreSound ps → Tokens (pieces_text ps) (tokens_of ps)
 pieces_are [] h = (false, refl)
 pieces_are (p ∷ ps) h =
     let rest = separator_bytes p.separator ++ pieces_text ps in

@@ -9,7 +9,7 @@ use Rattle.ir_lexer.specs.Lines.{further_in_line, may_have_string, has_string_in
 use Rattle.ir_lexer.specs.Names.{has_string, is_quoted}
 use Rattle.ir_lexer.specs.Place.{place_after}
 use Rattle.ir_lexer.specs.Table as r
-use Rattle.ir_lexer.specs.Table.{Row, QuotedLabel, QuotedGlobal, QuotedLocal, Quoted, ByteString, kind_of, starts, tail_of, SpellsRow, IsToken}
+use Rattle.ir_lexer.specs.Table.{TokenRow, QuotedLabel, QuotedGlobal, QuotedLocal, Quoted, ByteString, kind_of, starts, tail_of, SpellsRow, IsToken}
 use Rattle.ir_lexer.specs.declared.class.Class.{Class}
 use Rattle.ir_lexer.specs.declared.class.Class.TheVariants as c
 use Rattle.ir_lexer.specs.declared.token.TokenKind.{TokenKind}
@@ -78,7 +78,7 @@ in_one_line (Upto p test q f) s h u =
     let behind : each in_line (h.byte ∷ h.rest) ≡ true = rw (keeps q (byte_class h.byte) h.byte_in u.1) (in_one_line f h.rest h.rest_is u.2) in
     rw h.parts (each_both in_line h.inside (h.byte ∷ h.rest) (each_keeps p h.inside h.inside_in u.0) behind)
 
-row_in_line : (row : Row) → has_string row ≡ false → InLine (One (starts row) (tail_of row))
+row_in_line : (row : TokenRow) → has_string row ≡ false → InLine (One (starts row) (tail_of row))
 row_in_line QuotedLabel h = absurd cc
 row_in_line QuotedGlobal h = absurd cc
 row_in_line QuotedLocal h = absurd cc
@@ -100,7 +100,7 @@ row_in_line r.Group h = (refl, (refl, refl))
 row_in_line r.RecordMark h = (refl, (refl, refl))
 row_in_line r.Dots h = (refl, (refl, (refl, tt)))
 
-plain_row : (row : Row) → may_have_string (kind_of row) ≡ false → has_string row ≡ false
+plain_row : (row : TokenRow) → may_have_string (kind_of row) ≡ false → has_string row ≡ false
 plain_row QuotedLabel h = absurd cc
 plain_row QuotedGlobal h = absurd cc
 plain_row QuotedLocal h = absurd cc
@@ -109,7 +109,7 @@ plain_row ByteString h = absurd cc
 plain_row _ h = refl
 
 -- a string begins with the first byte or with the second
-has_quote : (row : Row) (s : List ℕ) → has_string row ≡ true → SpellsRow row s → is_quoted s ≡ false → ⊥
+has_quote : (row : TokenRow) (s : List ℕ) → has_string row ≡ true → SpellsRow row s → is_quoted s ≡ false → ⊥
 has_quote row [] e h q = h
 has_quote QuotedLabel (b ∷ s) e h q = let k : true ≡ false = rw h.0 at q in cc
 has_quote Quoted (b ∷ s) e h q = let k : true ≡ false = rw h.0 at q in cc
@@ -121,7 +121,7 @@ has_quote ByteString (b ∷ []) e h q = h.1
 has_quote ByteString (b ∷ x ∷ s) e h q = let k = or_true (is_quote (byte_class b)) (is_quote (byte_class x)) h.1.0 in cc
 has_quote _ (b ∷ s) e h q = cc
 
-no_string : (row : Row) (s : List ℕ) → SpellsRow row s → is_quoted s ≡ false → has_string row ≡ false
+no_string : (row : TokenRow) (s : List ℕ) → SpellsRow row s → is_quoted s ≡ false → has_string row ≡ false
 no_string row s h q = elim (bool_cases (has_string row)) [ inl e ↦ absurd (has_quote row s e h q) | inr e ↦ e ]
 
 pub token_in_line : (kind : TokenKind) (s : List ℕ) → IsToken kind s → has_string_in kind s ≡ false → each in_line s ≡ true

@@ -13,7 +13,7 @@ use Rattle.ir_base.specs.Name as base
 use Rattle.ir_lexer.proofs.Strings.{name_inside, strings_stand_for}
 use Rattle.ir_lexer.proofs.Lexed.{start_name}
 use Rattle.ir_lexer.specs.Table as r
-use Rattle.ir_lexer.specs.Table.{Row, QuotedLabel, QuotedGlobal, QuotedLocal, Quoted, ByteString, kind_of, starts, tail_of, SpellsRow, IsToken}
+use Rattle.ir_lexer.specs.Table.{TokenRow, QuotedLabel, QuotedGlobal, QuotedLocal, Quoted, ByteString, kind_of, starts, tail_of, SpellsRow, IsToken}
 use Rattle.ir_lexer.specs.declared.class.Class.{Class}
 use Rattle.ir_lexer.specs.declared.class.Class.TheVariants as c
 use Rattle.ir_lexer.specs.declared.token.TokenKind.{TokenKind}
@@ -43,11 +43,11 @@ unquoted_front (Upto p test q f) s h u = go h.inside h.inside_in h.parts
     go [] e parts = rw parts (differs q (byte_class h.byte) h.byte_in u.1)
     go (b ∷ inside) e parts = rw parts (differs p (byte_class b) (each_first p b inside e).0 u.0)
 
-plain : (s : List ℕ) (row : Row) → SpellsRow row s → starts row c.Quote ≡ false → Unquoted (tail_of row) → is_quoted s ≡ false
+plain : (s : List ℕ) (row : TokenRow) → SpellsRow row s → starts row c.Quote ≡ false → Unquoted (tail_of row) → is_quoted s ≡ false
 plain [] row h a b = refl
 plain (b ∷ s) row h first tail = rw (differs (starts row) (byte_class b) h.0 first, unquoted_front (tail_of row) s h.1 tail) refl
 
-string_of : (row : Row) (s : List ℕ) → SpellsRow row s → is_quoted s ≡ true → has_string row ≡ true
+string_of : (row : TokenRow) (s : List ℕ) → SpellsRow row s → is_quoted s ≡ true → has_string row ≡ true
 string_of QuotedLabel s h q = refl
 string_of QuotedGlobal s h q = refl
 string_of QuotedLocal s h q = refl
@@ -102,7 +102,7 @@ pub or_true : (a b : Bool) → b ≡ true → cond a true b ≡ true
 or_true true b h = refl
 or_true false b h = h
 
-bare_is_name : (s : List ℕ) (row : Row) → has_name (kind_of row) ≡ true → SpellsRow row s → is_quoted s ≡ false → base.IsName (bare_name (kind_of row) s)
+bare_is_name : (s : List ℕ) (row : TokenRow) → has_name (kind_of row) ≡ true → SpellsRow row s → is_quoted s ≡ false → base.IsName (bare_name (kind_of row) s)
 bare_is_name [] row n h q = absurd h
 bare_is_name (b ∷ s) r.Label n h q =
     let l = h.1 in

@@ -5,24 +5,24 @@ use Rattle.ir_lexer.specs.declared.class.Class.TheVariants as c
 use Rattle.ir_lexer.specs.Class.{byte_class, is_letter, in_word, starts_name, in_name, is_digit, is_dot, is_quote, no_quote, is_colon}
 use Rattle.ir_lexer.specs.Form.{run, Form, Done, One, Run, more, behind, longest}
 use Rattle.ir_lexer.specs.Quoted.{is_name, is_text}
-use Rattle.ir_lexer.specs.Table.{Row, Label, QuotedLabel, Word, Digits, Negative, GlobalName, QuotedGlobal, LocalName, QuotedLocal, UnnamedGlobal, UnnamedLocal, Quoted, ByteString, MetaName, MetaNumber, MetaMark, Group, RecordMark, Punctuation, Dots, starts, tail_of, digits, inside}
+use Rattle.ir_lexer.specs.Table.{TokenRow, Label, QuotedLabel, Word, Digits, Negative, GlobalName, QuotedGlobal, LocalName, QuotedLocal, UnnamedGlobal, UnnamedLocal, Quoted, ByteString, MetaName, MetaNumber, MetaMark, Group, RecordMark, Punctuation, Dots, starts, tail_of, digits, inside}
 use Rattle.ir_lexer.specs.Front.{rows_of}
 use Rattle.ir_lexer.proofs.Runs.{run_first, run_stops, run_within}
 use Rattle.ir_lexer.proofs.Fronts.{more_is, cond_some}
 
-abbrev pub Among : Row → List Row → Type 0
+abbrev pub Among : TokenRow → List TokenRow → Type 0
 Among r [] = ⊥
 Among r (x ∷ xs) = (r ≡ x) ⊎ Among r xs
 
 -- where both rows let the bytes be, the first is longer
-abbrev pub Wins : Row → List ℕ → Row → Type 0
+abbrev pub Wins : TokenRow → List ℕ → TokenRow → Type 0
 Wins r bs s = (n m : ℕ) → longest (tail_of r) bs ≡ Some n → longest (tail_of s) bs ≡ Some m → m < n
 
-abbrev pub WinsAll : Row → List ℕ → List Row → Type 0
+abbrev pub WinsAll : TokenRow → List ℕ → List TokenRow → Type 0
 WinsAll r bs [] = Unit {0}
 WinsAll r bs (s ∷ rs) = Wins r bs s × WinsAll r bs rs
 
-abbrev pub Ordered : List ℕ → List Row → Type 0
+abbrev pub Ordered : List ℕ → List TokenRow → Type 0
 Ordered bs [] = Unit {0}
 Ordered bs (r ∷ rs) = WinsAll r bs rs × Ordered bs rs
 
@@ -159,10 +159,10 @@ quoted_text bs n m h g =
     let z : 0 ≡ j.number = let f = j.found in cc in
     omega (arith, i.number_is, j.number_is, k.number_is, x.2, y.2)
 
-parted : (r s : Row) (p q : Class → Bool) (f g : Form) → tail_of r ≡ One p f → tail_of s ≡ One q g → ((c : Class) → p c ≡ true → q c ≡ true → ⊥) → (bs : List ℕ) → Wins r bs s
+parted : (r s : TokenRow) (p q : Class → Bool) (f g : Form) → tail_of r ≡ One p f → tail_of s ≡ One q g → ((c : Class) → p c ≡ true → q c ≡ true → ⊥) → (bs : List ℕ) → Wins r bs s
 parted r s p q f g d e never bs n m h k = absurd (apart p q (longest f) (longest g) never bs n m (rw d at h) (rw e at k))
 
-mark_last : (r : Row) (p : Class → Bool) (f : Form) → tail_of r ≡ One p f → (bs : List ℕ) → Wins r bs MetaMark
+mark_last : (r : TokenRow) (p : Class → Bool) (f : Form) → tail_of r ≡ One p f → (bs : List ℕ) → Wins r bs MetaMark
 mark_last r p f e bs n m h g =
     let i = behind_is p (longest f) bs n (rw e at h) in
     let z : 0 ≡ m = cc in
@@ -186,7 +186,7 @@ ordered c.Mark bs = (tt, tt)
 ordered _ bs = tt
 
 -- a row may begin with a byte if the byte has it in its list
-pub listed : (x : Class) (r : Row) → starts r x ≡ true → Among r (rows_of x)
+pub listed : (x : Class) (r : TokenRow) → starts r x ≡ true → Among r (rows_of x)
 listed c.LetterC Label h = inl refl
 listed c.LetterC ByteString h = inr (inl refl)
 listed c.LetterC Word h = inr (inr (inl refl))
@@ -222,7 +222,7 @@ listed c.Blank Label h = absurd cc
 listed c.Other Label h = absurd cc
 listed _ _ h = absurd cc
 
-abbrev pub StartAll : Class → List Row → Type 0
+abbrev pub StartAll : Class → List TokenRow → Type 0
 StartAll x [] = Unit {0}
 StartAll x (r ∷ rs) = (starts r x ≡ true) × StartAll x rs
 

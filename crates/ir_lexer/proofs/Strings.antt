@@ -4,7 +4,7 @@ use Rattle.std.proofs.Common.{eq-eqb, ◌≡◌, ◌≢◌, ℕ, suc, ◌+◌, �
 use Rattle.std.proofs.Math.Seq.{take-append_seam}
 use Rattle.std.proofs.lemmas.Bool.{ne_eqb}
 use Rattle.ir_lexer.specs.Class.{byte_class, is_quote, no_quote, is_colon, is_at, is_percent, is_c}
-use Rattle.ir_lexer.specs.Table.{Row, QuotedLabel, QuotedGlobal, QuotedLocal, Quoted, ByteString, kind_of, SpellsRow}
+use Rattle.ir_lexer.specs.Table.{TokenRow, QuotedLabel, QuotedGlobal, QuotedLocal, Quoted, ByteString, kind_of, SpellsRow}
 use Rattle.ir_lexer.specs.Names.{has_string, has_name, IsQuoted, between_quotes}
 use Rattle.ir_lexer.specs.Form.{each, run, Done, One, IsUpto, Spells}
 use Rattle.ir_lexer.specs.Quoted.{digit_value, SpellsByte, StandsFor, with_byte, unescaped, decode, zeros, is_whole, is_clean, is_text, is_name}
@@ -170,7 +170,7 @@ no_quote_c c.LetterC h = refl
 no_quote_c _ h = absurd cc
 
 -- the spelling of a label or of a name, with a string in it
-pub name_inside : (s : List ℕ) (row : Row) → has_string row ≡ true → has_name (kind_of row) ≡ true → SpellsRow row s → HasInside is_name s
+pub name_inside : (s : List ℕ) (row : TokenRow) → has_string row ≡ true → has_name (kind_of row) ≡ true → SpellsRow row s → HasInside is_name s
 name_inside [] row w n h = absurd h
 name_inside (b ∷ s) QuotedLabel w n h = has_inside [] b s is_name (Spells (One is_colon Done)) refl h.0 h.1
 name_inside (b ∷ []) QuotedGlobal w n h = absurd h.1
@@ -185,7 +185,7 @@ inside_of_quoted s q = go s q.row q.string q.spelled
     narrow : (s : List ℕ) → HasInside is_name s → HasInside is_text s
     narrow s h = record { room = h.room; tested = name_text (between_quotes s) h.tested }
 
-    go : (s : List ℕ) (row : Row) → has_string row ≡ true → SpellsRow row s → HasInside is_text s
+    go : (s : List ℕ) (row : TokenRow) → has_string row ≡ true → SpellsRow row s → HasInside is_text s
     go [] row w h = absurd h
     go (b ∷ s) Quoted w h = has_inside [] b s is_text (Spells Done) refl h.0 h.1
     go (b ∷ []) ByteString w h = absurd h.1

@@ -2,14 +2,14 @@
 use Rattle.std.specs.Prelude.{ℕ, suc, Bool, ◌&&◌, cond, List, [], ◌∷◌, Option, Some, None}
 use Rattle.ir_lexer.specs.Class.{byte_class, starts_with, is_c, is_quote}
 use Rattle.ir_lexer.specs.Form.{longest}
-use Rattle.ir_lexer.specs.Table.{Row, Label, QuotedLabel, Word, Digits, Negative, GlobalName, QuotedGlobal, LocalName, QuotedLocal, UnnamedGlobal, UnnamedLocal, Quoted, ByteString, MetaName, MetaNumber, MetaMark, Group, RecordMark, Punctuation, Dots, kind_of, tail_of}
+use Rattle.ir_lexer.specs.Table.{TokenRow, Label, QuotedLabel, Word, Digits, Negative, GlobalName, QuotedGlobal, LocalName, QuotedLocal, UnnamedGlobal, UnnamedLocal, Quoted, ByteString, MetaName, MetaNumber, MetaMark, Group, RecordMark, Punctuation, Dots, kind_of, tail_of}
 use Rattle.ir_lexer.specs.declared.class.Class.{Class}
 use Rattle.ir_lexer.specs.declared.class.Class.TheVariants as c
 use Rattle.ir_lexer.specs.declared.token.TokenKind.{TokenKind}
 use Rattle.ir_lexer.specs.declared.token.TokenKind.TheVariants as k
 
 -- what may begin with a byte of the class, in the order in which it is tried
-abbrev pub rows_of : Class → List Row
+abbrev pub rows_of : Class → List TokenRow
 rows_of c.LetterC = Label ∷ ByteString ∷ Word ∷ []
 rows_of c.Letter = Label ∷ Word ∷ []
 rows_of c.Underscore = Label ∷ Word ∷ []
@@ -32,7 +32,7 @@ or_else kind (Some n) other = Some (kind, suc n)
 or_else kind None other = other
 
 -- the first of the rows that the bytes behind the first one let be, with its length
-abbrev pub first_of : List Row → List ℕ → Option (TokenKind × ℕ)
+abbrev pub first_of : List TokenRow → List ℕ → Option (TokenKind × ℕ)
 first_of [] bs = None
 first_of (r ∷ rs) bs = or_else (kind_of r) (longest (tail_of r) bs) (first_of rs bs)
 

@@ -5,7 +5,7 @@ use Rattle.ir_lexer.specs.declared.quoted.Escape.TheVariants.{Plain}
 use Rattle.ir_lexer.specs.Ahead.{AheadIs, ahead, answered}
 use Rattle.ir_lexer.specs.Lexer.{Lexing, rest, answer, after}
 use Rattle.ir_lexer.specs.Tokens.{Spelled, Tokens, TokensBeforeBad}
-use Rattle.ir_lexer.specs.Pieces.{Piece, AreSound, pieces_text, tokens_of}
+use Rattle.ir_lexer.specs.Pieces.{TextPiece, AreSound, pieces_text, tokens_of}
 
 -- a text has at most one list of tokens
 abbrev pub OneList : Type 0
@@ -21,7 +21,7 @@ ListOrBadNotBoth = (text : List ℕ) (ts us : List Spelled) → Tokens text ts �
 
 -- sound pieces have their spellings as tokens
 abbrev pub PiecesAreTokens : Type 0
-PiecesAreTokens = (ps : List Piece) → AreSound ps → Tokens (pieces_text ps) (tokens_of ps)
+PiecesAreTokens = (ps : List TextPiece) → AreSound ps → Tokens (pieces_text ps) (tokens_of ps)
 
 -- what reading finds between quotes is what the string stands for
 abbrev pub StringsStandForTheirBytes : Type 0

@@ -4,14 +4,14 @@ use Rattle.std.specs.Prelude.{◌≡◌, ℕ, suc, ◌-◌, Bool, true, false, c
 use Rattle.ir_lexer.specs.Class.{is_digit, is_quote, no_quote, starts_with}
 use Rattle.ir_lexer.specs.Form.{each, run}
 use Rattle.ir_lexer.specs.Quoted.{decode}
-use Rattle.ir_lexer.specs.Table.{Row, QuotedLabel, QuotedGlobal, QuotedLocal, Quoted, ByteString, SpellsRow}
+use Rattle.ir_lexer.specs.Table.{TokenRow, QuotedLabel, QuotedGlobal, QuotedLocal, Quoted, ByteString, SpellsRow}
 use Rattle.ir_lexer.specs.Tokens.{Spelled}
 use Rattle.ir_lexer.specs.declared.quoted.Escape.TheVariants.{Plain}
 use Rattle.ir_lexer.specs.declared.token.TokenKind.{TokenKind}
 use Rattle.ir_lexer.specs.declared.token.TokenKind.TheVariants as k
 
 -- whether a token of the row has a string in it
-abbrev pub has_string : Row → Bool
+abbrev pub has_string : TokenRow → Bool
 has_string QuotedLabel = true
 has_string QuotedGlobal = true
 has_string QuotedLocal = true
@@ -21,7 +21,7 @@ has_string _ = false
 
 -- the whole spelling of a token that has a string in it: `"a"`, `c"a"`, `@"a"`, `%"a"`, `"a":`
 pub record IsQuoted (spelling : List ℕ) : Type 0 where
-  pub row : Row
+  pub row : TokenRow
   pub string : has_string row ≡ true
   pub spelled : SpellsRow row spelling
 

@@ -49,21 +49,21 @@ separator_bytes Line = 10 ∷ []
 separator_bytes Indented = 10 ∷ 32 ∷ 32 ∷ []
 
 -- a token and what stands behind it
-pub record Piece : Type 0 where
+pub record TextPiece : Type 0 where
   pub token : Spelled
   pub separator : Separator
 
 -- the text that the pieces make
-abbrev pub pieces_text : List Piece → List ℕ
+abbrev pub pieces_text : List TextPiece → List ℕ
 pieces_text [] = []
 pieces_text (p ∷ ps) = p.token.spelling ++ (separator_bytes p.separator ++ pieces_text ps)
 
 -- the tokens of the pieces
-abbrev pub tokens_of : List Piece → List Spelled
+abbrev pub tokens_of : List TextPiece → List Spelled
 tokens_of [] = []
 tokens_of (p ∷ ps) = p.token ∷ tokens_of ps
 
 -- each piece is a token that can stand before what follows it
-abbrev pub AreSound : List Piece → Type 0
+abbrev pub AreSound : List TextPiece → Type 0
 AreSound [] = Unit {0}
 AreSound (p ∷ ps) = IsToken p.token.kind p.token.spelling × (can_follow p.token (separator_bytes p.separator ++ pieces_text ps) ≡ true) × AreSound ps

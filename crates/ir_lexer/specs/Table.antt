@@ -8,30 +8,30 @@ use Rattle.ir_lexer.specs.declared.token.TokenKind.{TokenKind}
 use Rattle.ir_lexer.specs.declared.token.TokenKind.TheVariants as k
 
 -- the rows of the table: some kinds of tokens have several
-pub data Row : Type 0 where
-  Label : Row
-  QuotedLabel : Row
-  Word : Row
-  Digits : Row
-  Negative : Row
-  GlobalName : Row
-  QuotedGlobal : Row
-  LocalName : Row
-  QuotedLocal : Row
-  UnnamedGlobal : Row
-  UnnamedLocal : Row
-  Quoted : Row
-  ByteString : Row
-  MetaName : Row
-  MetaNumber : Row
-  MetaMark : Row
-  Group : Row
-  RecordMark : Row
-  Punctuation : Row
-  Dots : Row
+pub data TokenRow : Type 0 where
+  Label : TokenRow
+  QuotedLabel : TokenRow
+  Word : TokenRow
+  Digits : TokenRow
+  Negative : TokenRow
+  GlobalName : TokenRow
+  QuotedGlobal : TokenRow
+  LocalName : TokenRow
+  QuotedLocal : TokenRow
+  UnnamedGlobal : TokenRow
+  UnnamedLocal : TokenRow
+  Quoted : TokenRow
+  ByteString : TokenRow
+  MetaName : TokenRow
+  MetaNumber : TokenRow
+  MetaMark : TokenRow
+  Group : TokenRow
+  RecordMark : TokenRow
+  Punctuation : TokenRow
+  Dots : TokenRow
 
 -- the kind of the tokens of a row
-abbrev pub kind_of : Row → TokenKind
+abbrev pub kind_of : TokenRow → TokenKind
 kind_of Label = k.Label
 kind_of QuotedLabel = k.Label
 kind_of Word = k.Word
@@ -54,7 +54,7 @@ kind_of Punctuation = k.Punctuation
 kind_of Dots = k.Punctuation
 
 -- what it begins with
-abbrev pub starts : Row → Class → Bool
+abbrev pub starts : TokenRow → Class → Bool
 starts Label = in_name
 starts QuotedLabel = is_quote
 starts Word = starts_word
@@ -93,7 +93,7 @@ abbrev pub string : (List ℕ → Bool) → Form
 string test = One is_quote (inside test Done)
 
 -- what comes behind the first byte
-abbrev pub tail_of : Row → Form
+abbrev pub tail_of : TokenRow → Form
 tail_of Label = Upto in_name anything is_colon Done
 tail_of QuotedLabel = inside is_name (One is_colon Done)
 tail_of Word = Run in_word
@@ -116,11 +116,11 @@ tail_of Punctuation = Done
 tail_of Dots = One is_dot (One is_dot Done)
 
 -- these bytes spell a token of the row
-abbrev pub SpellsRow : Row → List ℕ → Type 0
+abbrev pub SpellsRow : TokenRow → List ℕ → Type 0
 SpellsRow r s = Spells (One (starts r) (tail_of r)) s
 
 -- these bytes spell a token of the kind
 pub record IsToken (kind : TokenKind) (spelling : List ℕ) : Type 0 where
-  pub row : Row
+  pub row : TokenRow
   pub kind_is : kind_of row ≡ kind
   pub spelled : SpellsRow row spelling

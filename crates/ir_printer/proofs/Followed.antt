@@ -2,7 +2,7 @@
 use Rattle.std.proofs.Common.{◌≡◌, ℕ, List, [], ◌∷◌, ◌++◌, All, Some, slice_get, subst, append_assoc, refl, sym, ap, ◌∙◌}
 use Rattle.std.proofs.lemmas.Option.{get_or_from_slice_get, slice_get_within}
 use Rattle.gathered.specs.Told.{State}
-use Rattle.ir_lexer.specs.Pieces.{Piece, Separator, Line}
+use Rattle.ir_lexer.specs.Pieces.{TextPiece, Separator, Line}
 use Rattle.canonical.specs.Phrase.{Phrase, each}
 use Rattle.phrase_printer.specs.Printing.{Prints}
 use Rattle.phrase_printer.proofs.Printing.{prints_same, prints_then}
@@ -10,7 +10,7 @@ use Rattle.phrase_printer.proofs.Printing.{prints_same, prints_then}
 -- lines behind other lines
 each_then : (xs ys : List Phrase) (s : Separator) → each Line (xs ++ ys) s ≡ each Line xs s ++ each Line ys s
 each_then [] ys s = refl
-each_then (x ∷ xs) ys s = ap (λ (ps : List Piece). x Line ++ ps) (each_then xs ys s) ∙ sym (append_assoc (x Line) (each Line xs s) (each Line ys s))
+each_then (x ∷ xs) ys s = ap (λ (ps : List TextPiece). x Line ++ ps) (each_then xs ys s) ∙ sym (append_assoc (x Line) (each Line xs s) (each Line ys s))
 
 pub lines_then : (xs ys : List Phrase) (s : Separator) {u v w : State} → Prints u v (each Line xs s) → Prints v w (each Line ys s) → Prints u w (each Line (xs ++ ys) s)
 lines_then xs ys s h k = prints_same (sym (each_then xs ys s)) (prints_then (each Line xs s) (each Line ys s) h k)

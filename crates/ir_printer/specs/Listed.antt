@@ -1,6 +1,6 @@
 -- Says how the code reads: the parts of the entries of a module in canonical text, as the arena has them.
 use Rattle.std.specs.Prelude.{ℕ, ◌<◌, Bool, List, [], codes, map, length}
-use Rattle.ir_lexer.specs.Pieces.{Piece, Nothing}
+use Rattle.ir_lexer.specs.Pieces.{TextPiece, Nothing}
 use Rattle.type_table.specs.Tree.{opaque_body}
 use Rattle.type_table.specs.Types.{Types, trees, tree, structs}
 use Rattle.module_arena.specs.declared.entry.Function.{Function}
@@ -31,7 +31,7 @@ abbrev pub signature_of : Types → ℕ → List ℕ → Bool → Signature
 signature_of t returns parameters variadic = record { returns = tree t returns; parameters = map (type_at (trees t)) parameters; variadic = variadic }
 
 -- the types of parameters, and `...` where there may be more
-abbrev pub dotted_list : Types → List ℕ → Bool → List Piece
+abbrev pub dotted_list : Types → List ℕ → Bool → List TextPiece
 dotted_list t parts variadic = listed (dotted (map type_phrase (map (type_at (trees t)) parts)) variadic) Nothing
 
 -- the linkage, the return type and the name of a function
@@ -43,7 +43,7 @@ abbrev pub HasType : Types → Parameter → Type 0
 HasType t p = p.ty < length t.types
 
 -- the types of a declaration's parameters, and `...` where there may be more
-abbrev pub declared_list : Types → List Parameter → Bool → List Piece
+abbrev pub declared_list : Types → List Parameter → Bool → List TextPiece
 declared_list t parameters variadic = listed (dotted (map (λ (p : Parameter). type_phrase (tree t p.ty)) parameters) variadic) Nothing
 
 -- the parameters of a definition

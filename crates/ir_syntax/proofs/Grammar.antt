@@ -2,7 +2,7 @@
 use Rattle.std.proofs.Common.{[], ◌∷◌, Bool, true, false, cond, Option, Some, None, refl}
 use Rattle.ir_tables.specs.declared.linkage.Linkage.{Linkage}
 use Rattle.ir_tables.specs.declared.linkage.Linkage.TheVariants as linkage
-use Rattle.phrase_rows.specs.Row.{Shape, keep_second, mapped}
+use Rattle.phrase_rows.specs.Row.{PhraseShape, keep_second, mapped}
 use Rattle.phrase_rows.specs.Reads.{Reads}
 use Rattle.phrase_rows.proofs.Plain.{reads_nothing, reads_fail, reads_one, reads_mapped, reads_labelled, reads_wider}
 use Rattle.phrase_rows.proofs.Chain.{reads_chain, reads_both, reads_second, reads_before, reads_pair}
@@ -151,7 +151,7 @@ reads_parameter limits = reads_labelled (reads_parameter_core limits)
 reads_dots : (may_stand : Bool) → Reads class (dots_row may_stand) (dots_row may_stand).shape
 reads_dots may_stand = reads_one class (code terminal.Dots ∷ []) (λ t. cond may_stand (Some true) None)
 
-abbrev pub step_shape : Shape
+abbrev pub step_shape : PhraseShape
 step_shape = record { first = comma_shape.first; more = parameter_shape.more; empty = false }
 
 reads_parameter_step_at : (dots : Bool) (limits : Limits) (before : ParametersTree) (ended : Bool) → Reads class (parameter_step dots limits (before.0, ended)) step_shape

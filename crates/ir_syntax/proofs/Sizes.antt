@@ -3,7 +3,7 @@ use Rattle.std.proofs.Common.{◌≡◌, ℕ, ◌+◌, ◌≤◌, List, [], ◌�
 use Rattle.std.specs.List.{sum_by}
 use Rattle.std.proofs.lemmas.List.{length-map}
 use Rattle.std.proofs.lemmas.List.Sums.{sum_by-cons}
-use Rattle.phrase_rows.specs.Row.{Row, Shape, optional}
+use Rattle.phrase_rows.specs.Row.{Row, PhraseShape, optional}
 use Rattle.phrase_rows.specs.Reads.{Reads}
 use Rattle.phrase_rows.specs.Size.{IsSized, IsSizedFrom}
 use Rattle.phrase_rows.proofs.Sizes.{sized_none, sized_mapped, sized_both, sized_pair, sized_second, sized_before, sized_alt, sized_nothing, sized_chain, sized_loop, sized_labelled, sized_many, labelled_from, fail_from, second_from, alt_from, mapped_onto}
@@ -31,10 +31,10 @@ use Rattle.ir_syntax.specs.Answers.{HasItems}
 use Rattle.ir_syntax.proofs.Grammar.{step_shape, reads_parameter, reads_source, reads_target, reads_struct, reads_global, reads_attributes, reads_metadata_item}
 
 -- a phrase that is not empty has a token
-one_at_least : {T A : Type 0} {class : T → ℕ} {r : Row T A} {s : Shape} → Reads class r s → s.empty ≡ false → IsSized r (λ a. 1)
+one_at_least : {T A : Type 0} {class : T → ℕ} {r : Row T A} {s : PhraseShape} → Reads class r s → s.empty ≡ false → IsSized r (λ a. 1)
 one_at_least h some = record { size = at_least h some }
   where
-    at_least : {T A : Type 0} {class : T → ℕ} {r : Row T A} {s : Shape} → Reads class r s → s.empty ≡ false → (us : List T) (a : A) → r.whole us a → 1 ≤ length us
+    at_least : {T A : Type 0} {class : T → ℕ} {r : Row T A} {s : PhraseShape} → Reads class r s → s.empty ≡ false → (us : List T) (a : A) → r.whole us a → 1 ≤ length us
     at_least h some [] a w = absurd (let k = h.empty a w in cc)
     at_least h some (u ∷ us) a w = omega arith
 
@@ -105,7 +105,7 @@ blocks_sized limits =
     (sized_before (sum_by block_count) (sized_block_list limits) (sized_none (word terminal.CloseBrace)) (λ a b. omega arith)) (λ a b. omega arith)
 
 -- an item that counts as one
-sized_one_item : {r : Row Located ItemTree} {s : Shape} → Reads class r s → s.empty ≡ false → ((us : List Located) (a : ItemTree) → r.whole us a → item_count a ≡ 1) → IsSized r item_count
+sized_one_item : {r : Row Located ItemTree} {s : PhraseShape} → Reads class r s → s.empty ≡ false → ((us : List Located) (a : ItemTree) → r.whole us a → item_count a ≡ 1) → IsSized r item_count
 sized_one_item h some one = record { size = λ us a w. (let k = (one_at_least h some).size us a w in let l = one us a w in omega (arith, k, l)) }
 
 sized_declared_core : (limits : Limits) → IsSized (declared_core limits) (λ v. length v.0)

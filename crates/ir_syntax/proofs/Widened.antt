@@ -1,6 +1,6 @@
 -- Rows that read as others do, but may go on where those are refused at certain tokens.
 use Rattle.std.proofs.Common.{◌≡◌, ℕ, zero, suc, List, [], ◌∷◌, ◌++◌, length, Bool, true, false, ◌⊎◌, inl, inr, refl, sym, ap, subst, cond, Option, Some, None}
-use Rattle.phrase_rows.specs.Row.{Reading, Done, Bad, bind, Shape, Row, among, begins, nothing, fail, one, run_one, chain, mapped, joined_values, keep_second, keep_first, pair, alt, optional, many, run_many, separated, loop, run_loop, labelled}
+use Rattle.phrase_rows.specs.Row.{Reading, Done, Bad, bind, PhraseShape, Row, among, begins, nothing, fail, one, run_one, chain, mapped, joined_values, keep_second, keep_first, pair, alt, optional, many, run_many, separated, loop, run_loop, labelled}
 use Rattle.phrase_rows.specs.Reads.{Takes, Reads}
 use Rattle.phrase_rows.proofs.ListParts.{bool_cases}
 
@@ -31,7 +31,7 @@ module _ {T : Type 0} (may : T → Bool) where
       subst (λ (ls : List ℕ). IsKept may (cond (begins class ks ts) x u) (cond (begins class ls ts) y v)) (sym e) (kept_cond (begins class ks ts) x y u v h k)
 
 -- a phrase that takes a token is not read where none stands that may begin it
-bad_with : {T A : Type 0} (class : T → ℕ) {r : Row T A} {s : Shape} → Reads class r s → s.empty ≡ false → (ts : List T) → begins class s.first ts ≡ false → (x : Reading T A) → Takes r ts x → x ≡ Bad ts
+bad_with : {T A : Type 0} (class : T → ℕ) {r : Row T A} {s : PhraseShape} → Reads class r s → s.empty ≡ false → (ts : List T) → begins class s.first ts ≡ false → (x : Reading T A) → Takes r ts x → x ≡ Bad ts
 bad_with {T} class {r} {s} h some [] b (Done a rest) ([], e, w) = absurd (let k = h.empty a w in cc)
 bad_with {T} class {r} {s} h some [] b (Done a rest) (u ∷ us, e, w) = absurd cc
 bad_with {T} class {r} {s} h some [] b (Bad rest) ([], e, w) = ap Bad (sym e)
@@ -67,7 +67,7 @@ module _ {T A : Type 0} {may : T → Bool} where
   begun class ks (t ∷ ts) y b m = inr (t, ts, refl, m t b)
 
   -- what is not to be had in the narrow row is to be had in the wide one, behind the tokens that may begin it
-  pub widened_fail : (class : T → ℕ) {r : Row T A} (s : Shape) → Reads class r s → s.empty ≡ false → ((t : T) → among (class t) s.first ≡ true → may t ≡ true) → IsWidened may (fail s) r
+  pub widened_fail : (class : T → ℕ) {r : Row T A} (s : PhraseShape) → Reads class r s → s.empty ≡ false → ((t : T) → among (class t) s.first ≡ true → may t ≡ true) → IsWidened may (fail s) r
   widened_fail class {r} s h some m = record {
     kept = λ ts. elim (bool_cases (begins class s.first ts)) [
       | inl b ↦ begun class s.first ts (r.run ts) b m
@@ -75,7 +75,7 @@ module _ {T A : Type 0} {may : T → Bool} where
     ];
   }
 
-  pub widened_labelled : {p q : Row T A} {s : Shape} → IsWidened may p q → IsWidened may (labelled s p) (labelled s q)
+  pub widened_labelled : {p q : Row T A} {s : PhraseShape} → IsWidened may p q → IsWidened may (labelled s p) (labelled s q)
   widened_labelled h = record { kept = h.kept }
 
   -- either of two phrases, the first of which begin alike
@@ -84,7 +84,7 @@ module _ {T A : Type 0} {may : T → Bool} where
 
 -- one phrase after another
 module _ {T A B : Type 0} {may : T → Bool} where
-  pub widened_chain : (v w : Shape) {p q : Row T A} {r s : A → Row T B} → IsWidened may p q → ((a : A) → IsWidened may (r a) (s a)) → IsWidened may (chain p v r) (chain q w s)
+  pub widened_chain : (v w : PhraseShape) {p q : Row T A} {r s : A → Row T B} → IsWidened may p q → ((a : A) → IsWidened may (r a) (s a)) → IsWidened may (chain p v r) (chain q w s)
   widened_chain v w {p} {q} {r} {s} h k = record { kept = λ ts. kept_bind may (p.run ts) (q.run ts) (λ a rest. (r a).run rest) (λ a rest. (s a).run rest) (h.kept ts) (λ a rest. (k a).kept rest) }
 
   pub widened_mapped : {f : A → B} {p q : Row T A} → IsWidened may p q → IsWidened may (mapped f p) (mapped f q)
@@ -121,7 +121,7 @@ module _ {T A : Type 0} {may : T → Bool} (class : T → ℕ) where
   pub widened_many : {p q : Row T A} → IsWidened may p q → q.shape.first ≡ p.shape.first → IsWidened may (many class p) (many class q)
   widened_many {p} {q} h e = record { kept = λ ts. kept_many p q h e (length ts) ts }
 
-  kept_loop : (form : Shape) (p q : A → Row T A) → ((a : A) → IsWidened may (p a) (q a)) → (n : ℕ) (a : A) (ts : List T) → IsKept may (run_loop class form p n a ts) (run_loop class form q n a ts)
+  kept_loop : (form : PhraseShape) (p q : A → Row T A) → ((a : A) → IsWidened may (p a) (q a)) → (n : ℕ) (a : A) (ts : List T) → IsKept may (run_loop class form p n a ts) (run_loop class form q n a ts)
   kept_loop form p q h zero a ts = inl refl
   kept_loop form p q h (suc n) a ts =
       kept_cond may (begins class form.first ts)
@@ -131,11 +131,11 @@ module _ {T A : Type 0} {may : T → Bool} (class : T → ℕ) where
       (kept_bind may ((p a).run ts) ((q a).run ts) _ _ ((h a).kept ts) (λ m rest. kept_loop form p q h n m rest))
       (inl refl)
 
-  pub widened_loop : (form : Shape) {p q : A → Row T A} → ((a : A) → IsWidened may (p a) (q a)) → (a : A) → IsWidened may (loop class form p a) (loop class form q a)
+  pub widened_loop : (form : PhraseShape) {p q : A → Row T A} → ((a : A) → IsWidened may (p a) (q a)) → (a : A) → IsWidened may (loop class form p a) (loop class form q a)
   widened_loop form {p} {q} h a = record { kept = λ ts. kept_loop form p q h (length ts) a ts }
 
 -- none, or some with a separator between each two
 pub widened_separated : {T A S : Type 0} {may : T → Bool} (class : T → ℕ) (c : Row T S) {p q : Row T A} → IsWidened may p q → q.shape ≡ p.shape → IsWidened may (separated class c p) (separated class c q)
 widened_separated class c {p} {q} h e =
-    widened_alt class (widened_both h (widened_many class (widened_second (widened_same c) h) (ap (λ (s : Shape). cond c.shape.empty (c.shape.first ++ s.first) c.shape.first) e))) (widened_same (nothing []))
-    (ap (λ (s : Shape). cond s.empty (s.first ++ cond c.shape.empty (c.shape.first ++ s.first) c.shape.first) s.first) e)
+    widened_alt class (widened_both h (widened_many class (widened_second (widened_same c) h) (ap (λ (s : PhraseShape). cond c.shape.empty (c.shape.first ++ s.first) c.shape.first) e))) (widened_same (nothing []))
+    (ap (λ (s : PhraseShape). cond s.empty (s.first ++ cond c.shape.empty (c.shape.first ++ s.first) c.shape.first) s.first) e)

@@ -1,6 +1,6 @@
 -- For `read_items`: the rows of aliases, and of what a global name may name.
 use Rattle.std.specs.Prelude.{false, [], ◌∷◌, ◌++◌, Option, Some, None}
-use Rattle.phrase_rows.specs.Row.{Row, Shape, chain, mapped, joined_values, keep_second, pair, alt, labelled}
+use Rattle.phrase_rows.specs.Row.{Row, PhraseShape, chain, mapped, joined_values, keep_second, pair, alt, labelled}
 use Rattle.ir_lexer.specs.Ahead.{Located}
 use Rattle.ir_terminals.specs.declared.limits.Limits.{Limits}
 use Rattle.ir_terminals.specs.declared.terminal.Terminal.TheVariants as terminal
@@ -23,7 +23,7 @@ alias_type_of t None = PlainAlias t
 alias_type_of t (Some s) = FunctionAlias t s.0 s.1
 
 -- how the type of an alias begins and goes on
-abbrev pub alias_type_shape : Shape
+abbrev pub alias_type_shape : PhraseShape
 alias_type_shape = record { first = type_shape.first; more = signature_shape.first; empty = false }
 
 -- TYPE (( TYPE,* ))?, whose list may end in `...`, by its parts
@@ -47,7 +47,7 @@ abbrev pub alias_of : GlobalHead → AliasTypeTree × PlacedName → ItemTree
 alias_of h v = Alias (record { name = h.0; linkage = h.1; ty = v.0; target = v.1 })
 
 -- how `alias` begins
-abbrev pub alias_shape : Shape
+abbrev pub alias_shape : PhraseShape
 alias_shape = record { first = code terminal.«Alias» ∷ []; more = []; empty = false }
 
 -- alias ATYPE , ptr GLOBAL, behind GLOBAL = LINKAGE? GDROP*, by its parts
@@ -59,7 +59,7 @@ abbrev pub alias_row : Limits → GlobalHead → Row Located ItemTree
 alias_row limits h = labelled alias_shape (alias_core limits h)
 
 -- how an alias or a variable goes on behind its head
-abbrev pub global_behind_shape : Shape
+abbrev pub global_behind_shape : PhraseShape
 global_behind_shape = record { first = alias_shape.first ++ variable_shape.first; more = variable_shape.more; empty = false }
 
 -- an alias or a variable, behind its name and its linkage, by its parts

@@ -1,6 +1,6 @@
 -- For `read_items`: the rows of functions: declarations and definitions.
 use Rattle.std.specs.Prelude.{Bool, true, false, cond, List, [], ◌∷◌, ◌++◌, map, Some, None}
-use Rattle.phrase_rows.specs.Row.{Row, Shape, fail, one, chain, mapped, keep_second, keep_first, pair, alt, nothing, optional, loop, labelled}
+use Rattle.phrase_rows.specs.Row.{Row, PhraseShape, fail, one, chain, mapped, keep_second, keep_first, pair, alt, nothing, optional, loop, labelled}
 use Rattle.ir_lexer.specs.Ahead.{Located}
 use Rattle.ir_terminals.specs.declared.limits.Limits.{Limits}
 use Rattle.ir_terminals.specs.declared.terminal.Terminal.TheVariants as terminal
@@ -16,7 +16,7 @@ use Rattle.ir_syntax.specs.Tree.{ParameterTree, HeadTree, ItemTree, Declaration,
 use Rattle.ir_syntax.specs.Heads.{optional_linkage_row, global_word_shape, global_words_row}
 
 -- how a parameter begins and goes on
-abbrev pub parameter_shape : Shape
+abbrev pub parameter_shape : PhraseShape
 parameter_shape = record { first = type_shape.first; more = code terminal.Local ∷ parameter_attribute_shape.first; empty = false }
 
 -- TYPE PDROP* LOCAL?
@@ -45,7 +45,7 @@ parameter_step dots limits (parameters, variadic) =
     (mapped (λ p. (parameters ++ p ∷ [], false)) (parameter_row limits))))
 
 -- how further parameters begin and go on
-abbrev pub more_parameters_shape : Shape
+abbrev pub more_parameters_shape : PhraseShape
 more_parameters_shape = record { first = comma_shape.first; more = parameter_shape.more ++ comma_shape.first; empty = true }
 
 -- further parameters, each behind a comma
@@ -63,7 +63,7 @@ abbrev pub parameter_list_row : Bool → Limits → Row Located ParametersTree
 parameter_list_row dots limits = alt class (mapped (λ d. ([], d)) (dots_row dots)) (alt class (some_parameters_row dots limits) (nothing ([], false)))
 
 -- how parameters begin
-abbrev pub parameters_shape : Shape
+abbrev pub parameters_shape : PhraseShape
 parameters_shape = record { first = code terminal.OpenParenthesis ∷ []; more = []; empty = false }
 
 -- ( PARAM,* )
@@ -75,7 +75,7 @@ abbrev pub parameters_row : Bool → Limits → Row Located ParametersTree
 parameters_row dots limits = labelled parameters_shape (parameters_core dots limits)
 
 -- how the head of a function begins
-abbrev pub head_shape : Shape
+abbrev pub head_shape : PhraseShape
 head_shape = record {
   first = linkage_class ∷ global_word_shape.first ++ code terminal.CallingConvention ∷ parameter_attribute_shape.first ++ type_shape.first;
   more = [];
@@ -96,7 +96,7 @@ abbrev pub head_row : Limits → Row Located HeadTree
 head_row limits = labelled head_shape (head_core limits)
 
 -- how metadata begins
-abbrev pub attachment_shape : Shape
+abbrev pub attachment_shape : PhraseShape
 attachment_shape = record { first = code terminal.MetaName ∷ []; more = []; empty = false }
 
 -- MD*
@@ -108,7 +108,7 @@ abbrev pub parameter_types : List ParameterTree → List TypeTree
 parameter_types all = map (λ p. p.0) all
 
 -- how a declaration goes on behind its head
-abbrev pub declared_shape : Shape
+abbrev pub declared_shape : PhraseShape
 declared_shape = record { first = parameters_shape.first; more = function_attribute_shape.more ++ function_attribute_shape.first; empty = false }
 
 -- ( PARAM,* ) FDROP*, for the types, and whether `...` ends them
@@ -127,7 +127,7 @@ declaration_row limits =
     (pair (word terminal.Declare) (keep_second metadata_row (pair (head_row limits) (declared_row limits))))
 
 -- how what stands behind the parameters of a definition begins
-abbrev pub body_shape : Shape
+abbrev pub body_shape : PhraseShape
 body_shape = record { first = function_attribute_shape.first ++ code terminal.MetaName ∷ code terminal.OpenBrace ∷ []; more = []; empty = false }
 
 -- FDROP* MD* { BLOCK+ }

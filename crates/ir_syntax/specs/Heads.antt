@@ -1,6 +1,6 @@
 -- For `read_items`: what stands before the type of a variable, an alias or a function.
 use Rattle.std.specs.Prelude.{false, [], ◌∷◌, ◌++◌, Option}
-use Rattle.phrase_rows.specs.Row.{Row, Shape, keep_first, pair, alt, optional, loop, labelled}
+use Rattle.phrase_rows.specs.Row.{Row, PhraseShape, keep_first, pair, alt, optional, loop, labelled}
 use Rattle.ir_lexer.specs.Ahead.{Located}
 use Rattle.ir_tables.specs.declared.linkage.Linkage.{Linkage}
 use Rattle.ir_terminals.specs.declared.terminal.Terminal.TheVariants as terminal
@@ -15,7 +15,7 @@ abbrev pub optional_linkage_row : Row Located (Option Linkage)
 optional_linkage_row = optional class linkage_row
 
 -- how a word begins that is dropped
-abbrev pub global_word_shape : Shape
+abbrev pub global_word_shape : PhraseShape
 global_word_shape = record { first = code terminal.GlobalDropped ∷ code terminal.UnnamedAddress ∷ []; more = []; empty = false }
 
 -- GDROP
@@ -31,7 +31,7 @@ abbrev pub GlobalHead : Type 0
 GlobalHead = PlacedName × Option Linkage
 
 -- how the head of a variable or an alias begins and goes on
-abbrev pub global_head_shape : Shape
+abbrev pub global_head_shape : PhraseShape
 global_head_shape = record { first = code terminal.GlobalName ∷ []; more = linkage_class ∷ global_word_shape.first; empty = false }
 
 -- GLOBAL = LINKAGE? GDROP*, by its parts

@@ -1,6 +1,6 @@
 -- For `read_items`: the items of a text.
 use Rattle.std.specs.Prelude.{false, List, [], ◌∷◌, ◌++◌}
-use Rattle.phrase_rows.specs.Row.{Row, Shape, one, mapped, keep_second, keep_first, pair, alt, optional, many, labelled}
+use Rattle.phrase_rows.specs.Row.{Row, PhraseShape, one, mapped, keep_second, keep_first, pair, alt, optional, many, labelled}
 use Rattle.phrase_rows.specs.Reads.{Front}
 use Rattle.ir_base.specs.declared.place.Place.{Place}
 use Rattle.ir_lexer.specs.Ahead.{Located}
@@ -46,7 +46,7 @@ abbrev pub metadata_item_row : Row Located ItemTree
 metadata_item_row = mapped Metadata (keep_first metadata_name_row (keep_second (word terminal.Equals) (keep_second (optional class (word terminal.Distinct)) node_row)))
 
 -- how items begin and go on
-abbrev pub item_shape : Shape
+abbrev pub item_shape : PhraseShape
 item_shape = record {
   first =
       code terminal.SourceFilename ∷ code terminal.Target ∷ code terminal.Local ∷ code terminal.GlobalName

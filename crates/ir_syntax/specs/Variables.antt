@@ -1,6 +1,6 @@
 -- For `read_items`: the rows of variables, and of the structs that have names.
 use Rattle.std.specs.Prelude.{Bool, true, false, [], ◌∷◌, ◌++◌, Option, Some, None}
-use Rattle.phrase_rows.specs.Row.{Row, Shape, mapped, keep_second, keep_first, pair, alt, nothing, loop, labelled}
+use Rattle.phrase_rows.specs.Row.{Row, PhraseShape, mapped, keep_second, keep_first, pair, alt, nothing, loop, labelled}
 use Rattle.ir_lexer.specs.Ahead.{Located}
 use Rattle.ir_tables.specs.declared.linkage.Linkage.{Linkage}
 use Rattle.ir_tables.specs.declared.linkage.Linkage.TheVariants as linkage
@@ -50,7 +50,7 @@ abbrev pub constant_word_row : Row Located Bool
 constant_word_row = alt class (mapped (λ p. false) (word terminal.Global)) (mapped (λ p. true) (word terminal.Constant))
 
 -- how an initialiser begins
-abbrev pub initialiser_shape : Shape
+abbrev pub initialiser_shape : PhraseShape
 initialiser_shape = record { first = constant_shape.first; more = []; empty = true }
 
 -- CONST exactly where the linkage is not `external` or `extern_weak`
@@ -69,7 +69,7 @@ tail_row None = alt class (mapped Some (keep_second (word terminal.Align) intege
 tail_row (Some a) = alt class (mapped (λ u. Some a) section_row) (mapped (λ u. Some a) attachment_row)
 
 -- how what stands behind a variable's comma begins
-abbrev pub tail_shape : Shape
+abbrev pub tail_shape : PhraseShape
 tail_shape = record { first = code terminal.Align ∷ code terminal.Section ∷ code terminal.MetaName ∷ []; more = []; empty = false }
 
 -- TAIL
@@ -81,7 +81,7 @@ abbrev pub tails_row : Row Located (Option Integer)
 tails_row = loop class comma_shape tail_step None
 
 -- how what stands behind the type of a variable begins and goes on
-abbrev pub variable_rest_shape : Shape
+abbrev pub variable_rest_shape : PhraseShape
 variable_rest_shape = record { first = constant_shape.first ++ comma_shape.first; more = comma_shape.first; empty = true }
 
 -- CONST? TAIL*, for the initialiser and the alignment
@@ -98,7 +98,7 @@ variable_of (name, written) (constant, (ty, (initialiser, alignment))) =
     Variable (record { name = name; linkage = written; constant = constant; ty = ty; initialiser = initialiser; alignment = alignment })
 
 -- how a variable goes on behind its head
-abbrev pub variable_shape : Shape
+abbrev pub variable_shape : PhraseShape
 variable_shape = record { first = code terminal.Global ∷ code terminal.Constant ∷ []; more = comma_shape.first; empty = false }
 
 -- (global|constant) TYPE CONST? TAIL*, behind GLOBAL = LINKAGE? GDROP*, by its parts

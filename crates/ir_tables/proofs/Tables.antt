@@ -7,8 +7,8 @@ use Rattle.std.proofs.lemmas.Bool.Decides.{Decides-eqb}
 use Rattle.std.proofs.lemmas.Slice.Eq.{bytes_eq-Decides}
 use Rattle.std.proofs.lemmas.List.{length-map}
 use Rattle.std.proofs.lemmas.Option.{slice_get-map, slice_get_within, slice_get-get_or}
-use Rattle.ir_tables.specs.Table.{Entry, IsDistinct, is_distinct, IsTable, is_table, words, codes_of, entries, entry_of}
-use Rattle.ir_tables.specs.declared.table.Row.{Row}
+use Rattle.ir_tables.specs.Table.{WordEntry, IsDistinct, is_distinct, IsTable, is_table, words, codes_of, entries, entry_of}
+use Rattle.ir_tables.specs.declared.table.WordRow.{WordRow}
 
 pub list_any_at : {A : Type 0} (test : A → Bool) (values : List A) (i : ℕ) (value : A) → slice_get values i ≡ Some value → test value ≡ true → list_any test values ≡ true
 list_any_at test [] i value here passes = absurd (cc)
@@ -37,7 +37,7 @@ IsDistinct-tested {A} same decides (first ∷ values) tested =
     ]
 
 -- a test that computes shows that rows are a table
-pub IsTable-tested : (count : ℕ) (table : List Entry) → is_table count table ≡ true → IsTable count table
+pub IsTable-tested : (count : ℕ) (table : List WordEntry) → is_table count table ≡ true → IsTable count table
 IsTable-tested count table tested =
     let parts = and_parts _ _ tested in
     let distinct = and_parts _ _ parts.1 in
@@ -82,23 +82,23 @@ only_has_key key_of values keys key place listed e found read value here = (
       cc,
 )
 
-key_at : {K : Type 0} (read : Entry → K) (rows : List Row) (at : ℕ) (row : Row) → at < length rows → slice_get (map read (entries rows)) at ≡ Some (read (entry_of (get_or rows at row)))
+key_at : {K : Type 0} (read : WordEntry → K) (rows : List WordRow) (at : ℕ) (row : WordRow) → at < length rows → slice_get (map read (entries rows)) at ≡ Some (read (entry_of (get_or rows at row)))
 key_at read rows at row within = rw (slice_get-map, slice_get-map, slice_get-get_or rows at row within)
 
 -- a search through the places in order stops at a row with the key
-pub found_at : {K : Type 0} (read : Entry → K) (rows : List Row) (table : List Entry) (key : K) (at : ℕ) (row : Row) → table ≡ entries rows → IsDistinct (map read (entries rows)) → at < length rows → read (entry_of (get_or rows at row)) ≡ key → IsPlaceOf (map read table) key (Some at)
+pub found_at : {K : Type 0} (read : WordEntry → K) (rows : List WordRow) (table : List WordEntry) (key : K) (at : ℕ) (row : WordRow) → table ≡ entries rows → IsDistinct (map read (entries rows)) → at < length rows → read (entry_of (get_or rows at row)) ≡ key → IsPlaceOf (map read table) key (Some at)
 found_at read rows table key at row e distinct within has =
     let stands : slice_get (map read table) at ≡ Some key = rw (e, key_at read rows at row within, has) in
     λ place. (λ same. let p : at ≡ place = cc in (rw p at stands), λ other. let other' : slice_get (map read (entries rows)) place ≡ Some key = rw e at other in let stands' : slice_get (map read (entries rows)) at ≡ Some key = rw e at stands in ap Some (distinct at place key stands' other'))
 
 -- it goes on past a row with another key
-pub not_here : {K : Type 0} (read : Entry → K) (rows : List Row) (key : K) (at : ℕ) (row : Row) → at < length rows → ((k : ℕ) → k < at → slice_get (map read (entries rows)) k ≢ Some key) → read (entry_of (get_or rows at row)) ≢ key → (k : ℕ) → k < at + 1 → slice_get (map read (entries rows)) k ≢ Some key
+pub not_here : {K : Type 0} (read : WordEntry → K) (rows : List WordRow) (key : K) (at : ℕ) (row : WordRow) → at < length rows → ((k : ℕ) → k < at → slice_get (map read (entries rows)) k ≢ Some key) → read (entry_of (get_or rows at row)) ≢ key → (k : ℕ) → k < at + 1 → slice_get (map read (entries rows)) k ≢ Some key
 not_here read rows key at row within before other =
     below_more (λ k. slice_get (map read (entries rows)) k ≢ Some key) at before
     (λ same. let known = key_at read rows at row within in let e : read (entry_of (get_or rows at row)) ≡ key = cc in other e)
 
 -- and ends where no row has it
-pub found_nowhere : {K : Type 0} (read : Entry → K) (rows : List Row) (table : List Entry) (key : K) (at : ℕ) → table ≡ entries rows → length rows ≤ at → ((k : ℕ) → k < at → slice_get (map read (entries rows)) k ≢ Some key) → IsPlaceOf (map read table) key None
+pub found_nowhere : {K : Type 0} (read : WordEntry → K) (rows : List WordRow) (table : List WordEntry) (key : K) (at : ℕ) → table ≡ entries rows → length rows ≤ at → ((k : ℕ) → k < at → slice_get (map read (entries rows)) k ≢ Some key) → IsPlaceOf (map read table) key None
 found_nowhere read rows table key at e end before =
     λ place. (
       λ none. absurd (cc),

@@ -1,6 +1,6 @@
 -- For `word`, `code`, `of_word` and `of_code` of `Flag`: the flags of instructions, their words and their codes.
 use Rattle.std.specs.Prelude.{ℕ, List, [], ◌∷◌, map, find, Option, codes, bytes_eq, nat_eq}
-use Rattle.ir_tables.specs.Table.{Entry}
+use Rattle.ir_tables.specs.Table.{WordEntry}
 use Rattle.ir_tables.specs.declared.flag.Flag.{Flag}
 use Rattle.ir_tables.specs.declared.flag.Flag.TheVariants.{Nuw, Nsw, Exact, Disjoint, Nneg, Samesign, Inbounds, Nusw, Volatile}
 
@@ -33,7 +33,7 @@ abbrev pub flags : List Flag
 flags = Nuw ∷ Nsw ∷ Exact ∷ Disjoint ∷ Nneg ∷ Samesign ∷ Inbounds ∷ Nusw ∷ Volatile ∷ []
 
 -- the words and codes of all flags
-abbrev pub flag_table : List Entry
+abbrev pub flag_table : List WordEntry
 flag_table = map (λ flag. record { word = flag_word flag; code = flag_code flag }) flags
 
 -- the one with this word, and the one with this code

@@ -1,7 +1,7 @@
 -- For `word`, `code`, `of_word` and `of_code` of `Intrinsic`: the intrinsics over integers, in the order of their
 -- table.
 use Rattle.std.specs.Prelude.{ℕ, List, [], ◌∷◌, map, find, Option, codes, bytes_eq, nat_eq}
-use Rattle.ir_tables.specs.Table.{Entry}
+use Rattle.ir_tables.specs.Table.{WordEntry}
 use Rattle.ir_tables.specs.declared.intrinsic.Intrinsic.{Intrinsic}
 use Rattle.ir_tables.specs.declared.intrinsic.Intrinsic.TheVariants.{Ctpop, Bswap, Bitreverse, Ctlz, Cttz, Abs, Smin, Smax, Umin, Umax, SaddSat, UaddSat, SsubSat, UsubSat, SaddWithOverflow, UaddWithOverflow, SsubWithOverflow, UsubWithOverflow, SmulWithOverflow, UmulWithOverflow, Fshl, Fshr}
 
@@ -83,7 +83,7 @@ intrinsics =
     []
 
 -- the words and codes of all intrinsics
-abbrev pub intrinsic_table : List Entry
+abbrev pub intrinsic_table : List WordEntry
 intrinsic_table = map (λ intrinsic. record { word = intrinsic_word intrinsic; code = intrinsic_code intrinsic }) intrinsics
 
 -- the one with this word, and the one with this code

@@ -1,6 +1,6 @@
 -- For `word`, `code`, `of_word` and `of_code` of `Linkage`: the linkages, their words and their codes.
 use Rattle.std.specs.Prelude.{ℕ, List, [], ◌∷◌, map, find, Option, codes, bytes_eq, nat_eq}
-use Rattle.ir_tables.specs.Table.{Entry}
+use Rattle.ir_tables.specs.Table.{WordEntry}
 use Rattle.ir_tables.specs.declared.linkage.Linkage.{Linkage}
 use Rattle.ir_tables.specs.declared.linkage.Linkage.TheVariants.{External, Private, Internal, AvailableExternally, Linkonce, LinkonceOdr, Weak, WeakOdr, Common, Appending, ExternWeak}
 
@@ -37,7 +37,7 @@ abbrev pub linkages : List Linkage
 linkages = External ∷ Private ∷ Internal ∷ AvailableExternally ∷ Linkonce ∷ LinkonceOdr ∷ Weak ∷ WeakOdr ∷ Common ∷ Appending ∷ ExternWeak ∷ []
 
 -- the words and codes of all linkages
-abbrev pub linkage_table : List Entry
+abbrev pub linkage_table : List WordEntry
 linkage_table = map (λ linkage. record { word = linkage_word linkage; code = linkage_code linkage }) linkages
 
 -- the one with this word, and the one with this code

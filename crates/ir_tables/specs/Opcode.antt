@@ -1,6 +1,6 @@
 -- For `word`, `code`, `of_word` and `of_code` of `Opcode`: the opcodes, their words and their codes.
 use Rattle.std.specs.Prelude.{ℕ, List, [], ◌∷◌, map, find, Option, codes, bytes_eq, nat_eq}
-use Rattle.ir_tables.specs.Table.{Entry}
+use Rattle.ir_tables.specs.Table.{WordEntry}
 use Rattle.ir_tables.specs.declared.opcode.Opcode.{Opcode}
 use Rattle.ir_tables.specs.declared.opcode.Opcode.TheVariants.{Add, Sub, Mul, UDiv, SDiv, URem, SRem, Shl, LShr, AShr, And, Or, Xor, ICmp, Trunc, ZExt, SExt, PtrToInt, IntToPtr, Select, Freeze, Phi, Load, Store, Alloca, GetElementPtr, Call, ExtractValue, InsertValue, Ret, Br, Switch, Unreachable}
 
@@ -115,7 +115,7 @@ opcodes =
     []
 
 -- the words and codes of all opcodes
-abbrev pub opcode_table : List Entry
+abbrev pub opcode_table : List WordEntry
 opcode_table = map (λ opcode. record { word = opcode_word opcode; code = opcode_code opcode }) opcodes
 
 -- the one with this word, and the one with this code

@@ -1,6 +1,6 @@
 -- For `word`, `code`, `of_word` and `of_code` of `Predicate`: the predicates of `icmp`, their words and their codes.
 use Rattle.std.specs.Prelude.{ℕ, List, [], ◌∷◌, map, find, Option, codes, bytes_eq, nat_eq}
-use Rattle.ir_tables.specs.Table.{Entry}
+use Rattle.ir_tables.specs.Table.{WordEntry}
 use Rattle.ir_tables.specs.declared.predicate.Predicate.{Predicate}
 use Rattle.ir_tables.specs.declared.predicate.Predicate.TheVariants.{Eq, Ne, Ugt, Uge, Ult, Ule, Sgt, Sge, Slt, Sle}
 
@@ -35,7 +35,7 @@ abbrev pub predicates : List Predicate
 predicates = Eq ∷ Ne ∷ Ugt ∷ Uge ∷ Ult ∷ Ule ∷ Sgt ∷ Sge ∷ Slt ∷ Sle ∷ []
 
 -- the words and codes of all predicates
-abbrev pub predicate_table : List Entry
+abbrev pub predicate_table : List WordEntry
 predicate_table = map (λ predicate. record { word = predicate_word predicate; code = predicate_code predicate }) predicates
 
 -- the one with this word, and the one with this code

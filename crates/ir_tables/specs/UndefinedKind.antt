@@ -1,7 +1,7 @@
 -- For `word`, `code`, `of_word` and `of_code` of `UndefinedKind`: the kinds of undefined behaviour, their words and
 -- their codes.
 use Rattle.std.specs.Prelude.{ℕ, List, [], ◌∷◌, map, find, Option, codes, bytes_eq, nat_eq}
-use Rattle.ir_tables.specs.Table.{Entry}
+use Rattle.ir_tables.specs.Table.{WordEntry}
 use Rattle.ir_tables.specs.declared.undefined_kind.UndefinedKind.{UndefinedKind}
 use Rattle.ir_tables.specs.declared.undefined_kind.UndefinedKind.TheVariants.{DivisionByZero, DivisionOverflow, BranchOnPoison, PoisonAddress, OutsideBlock, EndedBlock, Misaligned, WriteToConstant, BadFree, Overlap, NoFunction, AnotherFunctionType, PoisonArgument, Unreachable, BadFormat}
 
@@ -62,7 +62,7 @@ undefined_kinds =
     []
 
 -- the words and codes of all kinds
-abbrev pub undefined_table : List Entry
+abbrev pub undefined_table : List WordEntry
 undefined_table = map (λ kind. record { word = undefined_word kind; code = undefined_code kind }) undefined_kinds
 
 -- the one with this word, and the one with this code

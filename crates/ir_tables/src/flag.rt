@@ -5,7 +5,7 @@ ghost use Rattle.ir_tables.specs.Flag.{flag_word, flag_code, flag_table, flag_of
 ghost use Rattle.ir_tables.specs.Flags.{has_flag, flags_with};
 
 use crate::table::{code_in, rows, values, word_in};
-use crate::{Row, Table};
+use crate::{Table, WordRow};
 use std::marker::Model;
 
 /// A flag of an instruction. Its code is a power of two, so that a set of flags is the sum of its codes.
@@ -50,7 +50,7 @@ macro_rules! flags {
 
 const COUNT: usize = 9;
 
-static ROWS: [Row; COUNT] = flags!(rows);
+static ROWS: [WordRow; COUNT] = flags!(rows);
 
 static VALUES: [Flag; COUNT] = flags!(values);
 

@@ -3,7 +3,7 @@ ghost use Rattle.std.specs.Prelude.{◌≡◌, ◌↔◌, Some};
 ghost use Rattle.ir_tables.specs.Intrinsic.{intrinsic_word, intrinsic_code, intrinsic_table, intrinsic_of_word, intrinsic_of_code};
 
 use crate::table::{code_in, rows, values, word_in};
-use crate::{Row, Table};
+use crate::{Table, WordRow};
 
 /// An intrinsic over integers (LangRef, "Standard C/C++ Library Intrinsics", "Bit Manipulation Intrinsics", "Arithmetic
 /// with Overflow Intrinsics", "Saturation Arithmetic Intrinsics"). Its word is its name between `llvm.` and its width.
@@ -86,7 +86,7 @@ macro_rules! intrinsics {
 
 const COUNT: usize = 22;
 
-static ROWS: [Row; COUNT] = intrinsics!(rows);
+static ROWS: [WordRow; COUNT] = intrinsics!(rows);
 
 pub(crate) static VALUES: [Intrinsic; COUNT] = intrinsics!(values);
 

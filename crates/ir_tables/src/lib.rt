@@ -26,5 +26,5 @@ pub use intrinsic::Intrinsic;
 pub use linkage::Linkage;
 pub use opcode::Opcode;
 pub use predicate::Predicate;
-pub use table::{Row, Table};
+pub use table::{Table, WordRow};
 pub use undefined_kind::UndefinedKind;

@@ -3,7 +3,7 @@ ghost use Rattle.std.specs.Prelude.{◌≡◌, ◌↔◌, Some};
 ghost use Rattle.ir_tables.specs.Linkage.{linkage_word, linkage_code, linkage_table, linkage_of_word, linkage_of_code};
 
 use crate::table::{code_in, rows, values, word_in};
-use crate::{Row, Table};
+use crate::{Table, WordRow};
 
 /// The linkage of a variable or a function (LangRef, "Linkage Types").
 #[derive(Clone, Copy, Debug, PartialEq, Eq)]
@@ -52,7 +52,7 @@ macro_rules! linkages {
 
 const COUNT: usize = 11;
 
-static ROWS: [Row; COUNT] = linkages!(rows);
+static ROWS: [WordRow; COUNT] = linkages!(rows);
 
 static VALUES: [Linkage; COUNT] = linkages!(values);
 

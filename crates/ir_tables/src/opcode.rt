@@ -4,7 +4,7 @@ ghost use Rattle.ir_tables.specs.MayHave.{may_have};
 ghost use Rattle.ir_tables.specs.Opcode.{opcode_word, opcode_code, opcode_table, opcode_of_word, opcode_of_code};
 
 use crate::table::{code_in, rows, values, word_in};
-use crate::{Flag, Row, Table};
+use crate::{Flag, Table, WordRow};
 
 /// The opcode of an instruction (LangRef, "Instruction Reference").
 #[derive(Clone, Copy, Debug, PartialEq, Eq)]
@@ -119,7 +119,7 @@ macro_rules! opcodes {
 
 const COUNT: usize = 33;
 
-static ROWS: [Row; COUNT] = opcodes!(rows);
+static ROWS: [WordRow; COUNT] = opcodes!(rows);
 
 static VALUES: [Opcode; COUNT] = opcodes!(values);
 

@@ -3,7 +3,7 @@ ghost use Rattle.std.specs.Prelude.{◌≡◌, ◌↔◌, Some};
 ghost use Rattle.ir_tables.specs.Predicate.{predicate_word, predicate_code, predicate_table, predicate_of_word, predicate_of_code};
 
 use crate::table::{code_in, rows, values, word_in};
-use crate::{Row, Table};
+use crate::{Table, WordRow};
 
 /// How `icmp` compares (LangRef, "icmp Instruction"): `u` reads without sign, `s` with sign.
 #[derive(Clone, Copy, Debug, PartialEq, Eq)]
@@ -49,7 +49,7 @@ macro_rules! predicates {
 
 const COUNT: usize = 10;
 
-static ROWS: [Row; COUNT] = predicates!(rows);
+static ROWS: [WordRow; COUNT] = predicates!(rows);
 
 static VALUES: [Predicate; COUNT] = predicates!(values);
 

@@ -6,7 +6,7 @@ use std::marker::Model;
 
 /// A word of the language and its code.
 #[derive(Clone, Copy, Debug, PartialEq, Eq)]
-pub struct Row {
+pub struct WordRow {
     pub word: &'static str,
     pub code: u16,
 }
@@ -14,7 +14,7 @@ pub struct Row {
 /// Exactly `N` rows, no two of which have the same word or the same code.
 ///
 /// ```
-/// static ROWS: [Row; 2] = [Row { word: "eq", code: 1 }, Row { word: "ne", code: 2 }];
+/// static ROWS: [WordRow; 2] = [WordRow { word: "eq", code: 1 }, WordRow { word: "ne", code: 2 }];
 ///
 /// let table: Table<2> = Table::new(&ROWS);
 /// table.word_of(b"ne") // Some(1)
@@ -22,14 +22,14 @@ pub struct Row {
 /// ```
 #[derive(Drop)]
 pub struct Table<'t, const N: usize> {
-    rows: &'t [Row],
+    rows: &'t [WordRow],
 }
 
 impl<'t, const N: usize> Model for Table<'t, N> {
     ghost use Rattle.std.specs.Prelude.{List};
-    ghost use Rattle.ir_tables.specs.Table.{IsTable, Entry, entries};
+    ghost use Rattle.ir_tables.specs.Table.{IsTable, WordEntry, entries};
 
-    ghost Value = { List Entry };
+    ghost Value = { List WordEntry };
 
     ghost view = { λ table. entries table.rows.now };
 
@@ -40,7 +40,7 @@ impl<'t, const N: usize> Table<'t, N> {
     ghost use Rattle.ir_tables.specs.Table.{IsTable, entries};
 
     /// The table of these rows.
-    pub fn new(rows: &'t [Row]) -> Table<'t, N>
+    pub fn new(rows: &'t [WordRow]) -> Table<'t, N>
         requires { IsTable N (entries rows.now) }
         ensures { result ≡ entries rows.now }
     {
@@ -76,7 +76,7 @@ impl<'t, const N: usize> Table<'t, N> {
 
 macro_rules! rows {
     ($type:ident: $($variant:ident $word:literal $code:literal,)*) => {
-        [$(Row { word: $word, code: $code },)*]
+        [$(WordRow { word: $word, code: $code },)*]
     };
 }
 

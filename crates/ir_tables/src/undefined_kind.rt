@@ -3,7 +3,7 @@ ghost use Rattle.std.specs.Prelude.{◌≡◌, ◌↔◌, Some};
 ghost use Rattle.ir_tables.specs.UndefinedKind.{undefined_word, undefined_code, undefined_table, undefined_of_word, undefined_of_code};
 
 use crate::table::{code_in, rows, values, word_in};
-use crate::{Row, Table};
+use crate::{Table, WordRow};
 
 /// A kind of undefined behaviour.
 #[derive(Clone, Copy, Debug, PartialEq, Eq)]
@@ -64,7 +64,7 @@ macro_rules! undefined_kinds {
 
 const COUNT: usize = 15;
 
-static ROWS: [Row; COUNT] = undefined_kinds!(rows);
+static ROWS: [WordRow; COUNT] = undefined_kinds!(rows);
 
 static VALUES: [UndefinedKind; COUNT] = undefined_kinds!(values);
 

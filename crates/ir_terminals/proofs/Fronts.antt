@@ -1,6 +1,6 @@
 -- What a cursor keeps of a text.
 use Rattle.std.proofs.Common.{◌≡◌, ℕ, zero, suc, ◌+◌, ◌<◌, ◌≤◌, Bool, false, List, [], ◌∷◌, length, drop, Option, Some, None, Result, Ok, Err, refl, sym, ap, ◌∙◌, arith, add-one}
-use Rattle.ir_lexer.specs.Ahead.{AheadIs, Located, Ahead, before_all, answered, ahead_within, ahead}
+use Rattle.ir_lexer.specs.Ahead.{AheadIs, Located, TokensAhead, before_all, answered, ahead_within, ahead}
 use Rattle.ir_lexer.specs.Lexer.{Lexing, at_start, rest, token_spelling, LiesIn, Says, answer, after}
 use Rattle.ir_lexer.specs.Place.{place_of}
 use Rattle.ir_lexer.specs.Tokens.{Begins}
@@ -59,7 +59,7 @@ pub front_end : (l new : Lexing) → Ok None ≡ answer l → new ≡ after l �
 front_end l new a n text =
     let step = rw (← a, ← n) at (ahead_step l) in
     record {
-      is_ahead = step ∙ ap (λ (all : List ℕ). let ended : Ahead = record { tokens = []; bad = false; place = place_of all new.at } in ended) (sym text);
+      is_ahead = step ∙ ap (λ (all : List ℕ). let ended : TokensAhead = record { tokens = []; bad = false; place = place_of all new.at } in ended) (sym text);
       text = text;
       sound = tt;
     }
@@ -71,9 +71,9 @@ front_bad l new bad a n text = record { is_ahead = rw (← a) at (ahead_step l);
 pub starts_at : (text : List ℕ) (l : Lexing) (front : Front) → length text ≤ LARGEST → IsFrontOf (at_start text) front l → IsAt l front 0 false
 starts_at text l front short f = record {
   short = rw f.text short;
-  tokens = no_drop_tokens (text_tokens l.text) ∙ ap text_tokens f.text ∙ ap (λ (a : Ahead). a.tokens) f.is_ahead;
-  bad = ap is_cut_off f.text ∙ ap (λ (a : Ahead). a.bad) f.is_ahead;
-  place = ap end_place f.text ∙ ap (λ (a : Ahead). a.place) f.is_ahead;
+  tokens = no_drop_tokens (text_tokens l.text) ∙ ap text_tokens f.text ∙ ap (λ (a : TokensAhead). a.tokens) f.is_ahead;
+  bad = ap is_cut_off f.text ∙ ap (λ (a : TokensAhead). a.bad) f.is_ahead;
+  place = ap end_place f.text ∙ ap (λ (a : TokensAhead). a.place) f.is_ahead;
   within = omega arith;
   sound = f.sound;
   behind_is = refl;
@@ -98,9 +98,9 @@ advanced l new (fronts.Token t x) next n behind i h f =
     let d = drop_next n (text_tokens l.text) located (ahead l).tokens i.tokens in
     rw add-one (record {
       short = rw f.text i.short;
-      tokens = ap (λ (all : List ℕ). drop (suc n) (text_tokens all)) f.text ∙ d.0 ∙ ap (λ (a : Ahead). a.tokens) f.is_ahead;
-      bad = ap is_cut_off f.text ∙ i.bad ∙ ap (λ (a : Ahead). a.bad) f.is_ahead;
-      place = ap end_place f.text ∙ i.place ∙ ap (λ (a : Ahead). a.place) f.is_ahead;
+      tokens = ap (λ (all : List ℕ). drop (suc n) (text_tokens all)) f.text ∙ d.0 ∙ ap (λ (a : TokensAhead). a.tokens) f.is_ahead;
+      bad = ap is_cut_off f.text ∙ i.bad ∙ ap (λ (a : TokensAhead). a.bad) f.is_ahead;
+      place = ap end_place f.text ∙ i.place ∙ ap (λ (a : TokensAhead). a.place) f.is_ahead;
       within = rw f.text d.1;
       sound = f.sound;
       behind_is = rw f.text (behind_next l.text n located (ahead l).tokens x i.tokens i.sound.2);

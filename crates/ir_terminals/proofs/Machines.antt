@@ -1,7 +1,7 @@
 -- Tokens that are taken one by one.
 use Rattle.std.proofs.Common.{◌≡◌, ◌<◌, List, [], ◌∷◌, length, Some, None, refl, ap, arith}
 use Rattle.ir_lexer.specs.Ahead.{Located}
-use Rattle.phrase_rows.specs.Row.{Done, Bad, Move, On, Ends, Stops, run_machine}
+use Rattle.phrase_rows.specs.Row.{Done, Bad, TokenMove, On, Ends, Stops, run_machine}
 use Rattle.ir_terminals.specs.Position.{Position, tokens_left, stepped, first_terminal}
 use Rattle.ir_terminals.specs.Role.{terminal}
 use Rattle.ir_terminals.specs.declared.terminal.Terminal.{Terminal}
@@ -33,7 +33,7 @@ shorter x p next h n =
 pub some_left : (x : Terminal) (p : Position) → Some x ≡ first_terminal (tokens_left p) → 0 < length (tokens_left p)
 some_left x p h = let f = first_is x (tokens_left p) h in omega (arith, ap length f.all)
 
-module _ {S A : Type 0} (step : S → Terminal → Move S A) where
+module _ {S A : Type 0} (step : S → Terminal → TokenMove S A) where
   pub went_on : (s m : S) (x : Terminal) (p next : Position) → Some x ≡ first_terminal (tokens_left p) → step s x ≡ On m → next ≡ stepped p → run_machine (λ s t. step s (terminal t.token)) s (tokens_left p) ≡ run_machine (λ s t. step s (terminal t.token)) m (tokens_left next)
   went_on s m x p next h e n =
       let f = first_is x (tokens_left p) h in

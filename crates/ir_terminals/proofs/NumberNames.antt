@@ -9,7 +9,7 @@ use Rattle.ir_lexer.proofs.Runs.{bool_cases, each_first}
 use Rattle.ir_lexer.specs.Class.{byte_class, is_digit}
 use Rattle.ir_lexer.specs.Form.{each}
 use Rattle.ir_lexer.specs.Table as rows
-use Rattle.ir_lexer.specs.Table.{Row, kind_of, SpellsRow, IsToken}
+use Rattle.ir_lexer.specs.Table.{TokenRow, kind_of, SpellsRow, IsToken}
 use Rattle.ir_lexer.specs.declared.token.TokenKind.TheVariants as kind
 
 zero_out : is_digit (byte_class 0) ≡ true → ⊥
@@ -34,7 +34,7 @@ spelled_number [] h = absurd h
 spelled_number (b ∷ []) h = absurd h.1
 spelled_number (b ∷ x ∷ s) h = digits_are_name x s h.1.0 h.1.1
 
-of_row : (row : Row) (s : List ℕ) → kind_of row ≡ kind.UnnamedLocal → SpellsRow row s → IsName (drop 1 s)
+of_row : (row : TokenRow) (s : List ℕ) → kind_of row ≡ kind.UnnamedLocal → SpellsRow row s → IsName (drop 1 s)
 of_row rows.UnnamedLocal s e h = spelled_number s h
 of_row _ s e h = absurd cc
 

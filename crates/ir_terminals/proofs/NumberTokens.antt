@@ -7,7 +7,7 @@ use Rattle.ir_lexer.specs.Class.{byte_class, from_to, one_of, is_digit, is_minus
 use Rattle.ir_lexer.specs.Form.{each, Spells, IsUpto}
 use Rattle.ir_lexer.specs.Names.{is_number}
 use Rattle.ir_lexer.specs.Table as rows
-use Rattle.ir_lexer.specs.Table.{Row, kind_of, digits, SpellsRow, IsToken}
+use Rattle.ir_lexer.specs.Table.{TokenRow, kind_of, digits, SpellsRow, IsToken}
 use Rattle.ir_lexer.specs.declared.class.Class.{Class}
 use Rattle.ir_lexer.specs.declared.class.Class.TheVariants as c
 use Rattle.ir_lexer.specs.declared.token.TokenKind.TheVariants as kind
@@ -86,7 +86,7 @@ unfolding byte_class
 no_minus h = cc
 
 -- an integer is a minus and digits, or digits
-behind_minus : (row : Row) (s : List ℕ) → kind_of row ≡ kind.Integer → SpellsRow row (45 ∷ s) → are_digits s ≡ true
+behind_minus : (row : TokenRow) (s : List ℕ) → kind_of row ≡ kind.Integer → SpellsRow row (45 ∷ s) → are_digits s ≡ true
 behind_minus rows.Digits s k h = absurd (no_minus h.0)
 behind_minus rows.Negative s k h = digits_form s h.1
 behind_minus _ s k h = absurd cc
@@ -97,7 +97,7 @@ digits_behind_minus (b ∷ s) n token =
     let minus : b ≡ 45 = exact_unsigned_eq b 45 n in
     behind_minus token.row s token.kind_is (rw minus at token.spelled)
 
-without_minus : (row : Row) (b : ℕ) (s : List ℕ) → kind_of row ≡ kind.Integer → (b ≡ 45 → ⊥) → SpellsRow row (b ∷ s) → are_digits (b ∷ s) ≡ true
+without_minus : (row : TokenRow) (b : ℕ) (s : List ℕ) → kind_of row ≡ kind.Integer → (b ≡ 45 → ⊥) → SpellsRow row (b ∷ s) → are_digits (b ∷ s) ≡ true
 without_minus rows.Digits b s k n h = digits_form (b ∷ s) h
 without_minus rows.Negative b s k n h = absurd (n (minus_byte b h.0))
 without_minus _ b s k n h = absurd cc
@@ -119,7 +119,7 @@ integer_read place [] negative e = rw e refl
 integer_read place (b ∷ s) negative e = elim (bool_cases (b == 45)) [ inl h ↦ rw (e, h) refl | inr h ↦ rw (e, h) refl ]
 
 -- an unnamed local is a mark and digits
-behind_mark : (row : Row) (s : List ℕ) → kind_of row ≡ kind.UnnamedLocal → SpellsRow row s → are_digits (drop 1 s) ≡ true
+behind_mark : (row : TokenRow) (s : List ℕ) → kind_of row ≡ kind.UnnamedLocal → SpellsRow row s → are_digits (drop 1 s) ≡ true
 behind_mark rows.UnnamedLocal [] k h = absurd h
 behind_mark rows.UnnamedLocal (b ∷ []) k h = absurd h.1
 behind_mark rows.UnnamedLocal (b ∷ x ∷ s) k h = digits_form (x ∷ s) h.1
@@ -136,7 +136,7 @@ mark_some (b ∷ s) token = omega arith
 upto_some : (p : Class → Bool) (test : List ℕ → Bool) (q : Class → Bool) (f : List ℕ → Type 0) (s : List ℕ) → IsUpto p test q f s → 0 < length s
 upto_some p test q f s u = omega (arith, ap length u.parts, length-append u.inside (u.byte ∷ u.rest))
 
-two_bytes : (row : Row) (s : List ℕ) → kind_of row ≡ kind.Label → SpellsRow row s → 1 < length s
+two_bytes : (row : TokenRow) (s : List ℕ) → kind_of row ≡ kind.Label → SpellsRow row s → 1 < length s
 two_bytes rows.Label [] k h = absurd h
 two_bytes rows.Label (b ∷ s) k h = omega (arith, upto_some _ _ _ _ s h.1)
 two_bytes rows.QuotedLabel [] k h = absurd h

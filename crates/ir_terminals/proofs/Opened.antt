@@ -2,7 +2,7 @@
 use Rattle.std.proofs.Common.{◌≡◌, ◌==◌, true, false, List, [], ◌∷◌, refl, ap, ◌∙◌, inl, inr}
 use Rattle.phrase_rows.proofs.ListParts.{bool_cases}
 use Rattle.ir_lexer.specs.Ahead.{Located}
-use Rattle.phrase_rows.specs.Row.{Reading, Done, Bad, Move, On, Ends, Stops, begins, run_machine}
+use Rattle.phrase_rows.specs.Row.{Reading, Done, Bad, TokenMove, On, Ends, Stops, begins, run_machine}
 use Rattle.ir_terminals.specs.Brackets.{is_same, closed, step_by, role, begun_step, matched_row, any_matched_row}
 use Rattle.ir_terminals.specs.Role.{class, terminal}
 use Rattle.ir_terminals.specs.Terminal.{code}
@@ -17,10 +17,10 @@ begun opening unclosed ts = run_machine (λ unclosed t. begun_step opening unclo
 plain : List Bracket → List Located → Reading Located (Unit {0})
 plain unclosed ts = run_machine (λ unclosed t. step_by unclosed (role (terminal t.token))) unclosed ts
 
-next_begun : Terminal → Located → List Located → Move (List Bracket) (Unit {0}) → Reading Located (Unit {0})
+next_begun : Terminal → Located → List Located → TokenMove (List Bracket) (Unit {0}) → Reading Located (Unit {0})
 next_begun opening t ts m = elim m [ On unclosed ↦ begun opening unclosed ts | Ends a ↦ Done a ts | Stops ↦ Bad (t ∷ ts) ]
 
-next_plain : Located → List Located → Move (List Bracket) (Unit {0}) → Reading Located (Unit {0})
+next_plain : Located → List Located → TokenMove (List Bracket) (Unit {0}) → Reading Located (Unit {0})
 next_plain t ts m = elim m [ On unclosed ↦ plain unclosed ts | Ends a ↦ Done a ts | Stops ↦ Bad (t ∷ ts) ]
 
 Same : Terminal → List Located → Type 0

@@ -4,7 +4,7 @@ use Rattle.ir_base.specs.declared.place.Place.{Place}
 use Rattle.ir_lexer.specs.Ahead.{Located}
 use Rattle.ir_lexer.specs.Names.{IsQuoted}
 use Rattle.ir_lexer.specs.Table as rows
-use Rattle.ir_lexer.specs.Table.{Row as LexerRow, SpellsRow, kind_of, IsToken}
+use Rattle.ir_lexer.specs.Table.{TokenRow as LexerRow, SpellsRow, kind_of, IsToken}
 use Rattle.ir_lexer.specs.Tokens.{Spelled}
 use Rattle.ir_lexer.specs.declared.token.TokenKind.{TokenKind}
 use Rattle.ir_lexer.specs.declared.token.TokenKind.TheVariants as kind

@@ -1,7 +1,7 @@
 -- For `skip_brackets` and `skip_braced` of `Cursor`: brackets and all that stands in them, as rows.
 use Rattle.std.specs.Prelude.{ℕ, ◌==◌, Bool, true, false, List, [], ◌∷◌, ◌++◌, if◌then◌else◌}
 use Rattle.ir_lexer.specs.Ahead.{Located}
-use Rattle.phrase_rows.specs.Row.{Row, Move, On, Ends, Stops, machine}
+use Rattle.phrase_rows.specs.Row.{Row, TokenMove, On, Ends, Stops, machine}
 use Rattle.ir_terminals.specs.Role.{terminal}
 use Rattle.ir_terminals.specs.Terminal.{code}
 use Rattle.ir_terminals.specs.declared.brackets.Bracket.{Bracket}
@@ -34,13 +34,13 @@ is_same brackets.Angle brackets.Angle = true
 is_same _ _ = false
 
 -- with the last bracket closed the phrase ends
-abbrev pub closed : List Bracket → Move (List Bracket) (Unit {0})
+abbrev pub closed : List Bracket → TokenMove (List Bracket) (Unit {0})
 closed [] = Ends tt
 closed (nearest ∷ outer) = On (nearest ∷ outer)
 
 -- What a token does to the brackets that are open, the nearest first: a bracket opens, or closes the nearest one, which
 -- is of its kind; another token stands in a bracket.
-abbrev pub step_by : List Bracket → Role → Move (List Bracket) (Unit {0})
+abbrev pub step_by : List Bracket → Role → TokenMove (List Bracket) (Unit {0})
 step_by unclosed (roles.Opens kind) = On (kind ∷ unclosed)
 step_by [] (roles.Closes kind) = Stops
 step_by (nearest ∷ outer) (roles.Closes kind) = if is_same nearest kind then closed outer else Stops
@@ -56,7 +56,7 @@ abbrev pub any_matched_row : Row Located (Unit {0})
 any_matched_row = machine opening_classes (λ unclosed t. step_by unclosed (role (terminal t.token))) []
 
 -- what a token does where the first one is to be of this class
-abbrev pub begun_step : Terminal → List Bracket → Terminal → Move (List Bracket) (Unit {0})
+abbrev pub begun_step : Terminal → List Bracket → Terminal → TokenMove (List Bracket) (Unit {0})
 begun_step opening [] x = if code x == code opening then step_by [] (role x) else Stops
 begun_step opening (nearest ∷ outer) x = step_by (nearest ∷ outer) (role x)
 
@@ -65,7 +65,7 @@ abbrev pub matched_row : Terminal → Row Located (Unit {0})
 matched_row opening = machine (code opening ∷ []) (λ unclosed t. begun_step opening unclosed (terminal t.token)) []
 
 -- what a token does behind the opening brace, or where that is to come
-abbrev pub brace_step : Bool → Terminal → Move Bool (Unit {0})
+abbrev pub brace_step : Bool → Terminal → TokenMove Bool (Unit {0})
 brace_step false terminals.OpenBrace = On true
 brace_step false _ = Stops
 brace_step true terminals.CloseBrace = Ends tt
@@ -82,7 +82,7 @@ nearest_first [] = []
 nearest_first (outermost ∷ inner) = nearest_first inner ++ outermost ∷ []
 
 -- what a turn says of a step that left these brackets unclosed
-abbrev pub move_of : Turn → List Bracket → Move (List Bracket) (Unit {0})
+abbrev pub move_of : Turn → List Bracket → TokenMove (List Bracket) (Unit {0})
 move_of turns.On unclosed = On unclosed
 move_of turns.Ends unclosed = Ends tt
 move_of turns.Stops unclosed = Stops

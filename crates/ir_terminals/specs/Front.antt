@@ -1,6 +1,6 @@
 -- Says how the code reads: what a cursor keeps: a lexer, and what the lexer answered last.
 use Rattle.std.specs.Prelude.{◌≡◌, ℕ, ◌≤◌, Bool, true, false, List, [], length, drop}
-use Rattle.ir_lexer.specs.Ahead.{Ahead, ahead, before_all}
+use Rattle.ir_lexer.specs.Ahead.{TokensAhead, ahead, before_all}
 use Rattle.ir_lexer.specs.Lexer.{Lexing, LiesIn, token_spelling}
 use Rattle.ir_lexer.specs.Place.{place_of}
 use Rattle.ir_lexer.specs.Table.{IsToken}
@@ -11,7 +11,7 @@ use Rattle.ir_terminals.specs.declared.cursor.Front.{Front}
 use Rattle.ir_terminals.specs.declared.cursor.Front.TheVariants as fronts
 
 -- the answer, and what is ahead of the lexer
-abbrev pub ahead_from : Lexing → Front → Ahead
+abbrev pub ahead_from : Lexing → Front → TokensAhead
 ahead_from l (fronts.Token t x) = before_all (record { token = token_spelling l.text t; place = t.place }) (ahead l)
 ahead_from l fronts.End = record { tokens = []; bad = false; place = place_of l.text l.at }
 ahead_from l (fronts.Bad place) = record { tokens = []; bad = true; place = place }

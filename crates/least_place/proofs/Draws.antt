@@ -1,7 +1,7 @@
 -- What the values of whole phrases ask for stands at the tokens of the phrases, in their order.
 use Rattle.std.proofs.Common.{◌≡◌, ℕ, List, [], ◌∷◌, ◌++◌, Option, Some, None, inl, inr, refl, sym, ap, ◌∙◌, subst, flat_map, append_assoc}
 use Rattle.std.proofs.lemmas.List.{append-nil}
-use Rattle.phrase_rows.specs.Row.{Row, Shape, nothing, fail, one, chain, mapped, joined_values, keep_second, keep_first, pair, alt, optional, many, Each, separated, loop, Steps, labelled}
+use Rattle.phrase_rows.specs.Row.{Row, PhraseShape, nothing, fail, one, chain, mapped, joined_values, keep_second, keep_first, pair, alt, optional, many, Each, separated, loop, Steps, labelled}
 use Rattle.ir_lexer.specs.Ahead.{Located}
 use Rattle.name_rules.specs.Demand.{Demand}
 use Rattle.least_place.specs.Places.{InOrder}
@@ -31,7 +31,7 @@ nothing_asked x a = []
 pub draws_any : {A : Type 0} (X : Type 0) (r : Row Located A) → Draws r (nothing_asked {A = A} {X = X})
 draws_any X r = record { value = λ us a w x. tt }
 
-pub draws_fail : {A X : Type 0} (s : Shape) (f : X → A → List Demand) → Draws (fail s) f
+pub draws_fail : {A X : Type 0} (s : PhraseShape) (f : X → A → List Demand) → Draws (fail s) f
 draws_fail s f = record { value = λ us a w. absurd w }
 
 pub draws_nothing : {A X : Type 0} (a : A) (f : X → A → List Demand) → ((x : X) → f x a ≡ []) → Draws (nothing a) f
@@ -123,19 +123,19 @@ draws_some {f} h g = draws_both (λ a all. a ∷ all) (all_asked f) h g (λ us v
 pub draws_separated : {A S X : Type 0} (class : Located → ℕ) (s : Row Located S) {p : Row Located A} {f : X → A → List Demand} → Draws p f → Draws (separated class s p) (all_asked f)
 draws_separated class s {f} h = draws_alt class (draws_some h (draws_many class (draws_second s h))) (draws_nothing [] (all_asked f) (λ x. refl))
 
-pub draws_labelled : {A X : Type 0} (s : Shape) {r : Row Located A} {f : X → A → List Demand} → Draws r f → Draws (labelled s r) f
+pub draws_labelled : {A X : Type 0} (s : PhraseShape) {r : Row Located A} {f : X → A → List Demand} → Draws r f → Draws (labelled s r) f
 draws_labelled s h = record { value = h.value }
 
 -- ---- what depends on the tokens before it
 
-pub spans_labelled : {A : Type 0} (s : Shape) {r : Row Located A} {P : List Located → A → Type 0} → Spans r P → Spans (labelled s r) P
+pub spans_labelled : {A : Type 0} (s : PhraseShape) {r : Row Located A} {P : List Located → A → Type 0} → Spans r P → Spans (labelled s r) P
 spans_labelled s h = record { value = h.value }
 
-pub spans_chain : {A B : Type 0} {p : Row Located A} (s : Shape) {q : A → Row Located B} {P : List Located → A → Type 0} (Q : List Located → B → Type 0) → Spans p P → ((us : List Located) (a : A) → P us a → Spans (q a) (λ vs b. Q (us ++ vs) b)) → Spans (chain p s q) Q
+pub spans_chain : {A B : Type 0} {p : Row Located A} (s : PhraseShape) {q : A → Row Located B} {P : List Located → A → Type 0} (Q : List Located → B → Type 0) → Spans p P → ((us : List Located) (a : A) → P us a → Spans (q a) (λ vs b. Q (us ++ vs) b)) → Spans (chain p s q) Q
 spans_chain s Q h k = record { value = λ ts b w. subst (λ all. Q all b) (sym w.3) ((k w.0 w.2 (h.value w.0 w.2 w.4)).value w.1 b w.5) }
 
 -- a choice of what follows, which asks for all that is asked
-pub draws_chosen : {A B X : Type 0} (p : Row Located A) (s : Shape) {q : A → Row Located B} (f : X → B → List Demand) → ((a : A) → Draws (q a) f) → Draws (chain p s q) f
+pub draws_chosen : {A B X : Type 0} (p : Row Located A) (s : PhraseShape) {q : A → Row Located B} (f : X → B → List Demand) → ((a : A) → Draws (q a) f) → Draws (chain p s q) f
 draws_chosen p s f h = record { value = λ ts b w x. subst (λ all. InOrder all (f x b)) (sym w.3) (preceded w.0 w.1 (f x b) ((h w.2).value w.1 b w.5 x)) }
 
 steps_span : {S : Type 0} (q : S → Row Located S) (I : List Located → S → Type 0) → ((us : List Located) (s : S) → I us s → Spans (q s) (λ vs m. I (us ++ vs) m)) → (ms : List S) (s last : S) (front us : List Located) → I front s → Steps (λ m. (q m).whole) s us ms last → I (front ++ us) last
@@ -144,7 +144,7 @@ steps_span q I h (m ∷ ms) s last front us i (vs, ws, e, w, steps) =
     subst (λ ts. I (front ++ ts) last) (sym e) (subst (λ ts. I ts last) (append_assoc front vs ws) (steps_span q I h ms m last (front ++ vs) ws ((h front s i).value vs m w) steps))
 
 -- what each step keeps
-pub spans_loop : {S : Type 0} (class : Located → ℕ) (shape : Shape) {q : S → Row Located S} (I : List Located → S → Type 0) → ((us : List Located) (s : S) → I us s → Spans (q s) (λ vs m. I (us ++ vs) m)) → (front : List Located) (s : S) → I front s → Spans (loop class shape q s) (λ us last. I (front ++ us) last)
+pub spans_loop : {S : Type 0} (class : Located → ℕ) (shape : PhraseShape) {q : S → Row Located S} (I : List Located → S → Type 0) → ((us : List Located) (s : S) → I us s → Spans (q s) (λ vs m. I (us ++ vs) m)) → (front : List Located) (s : S) → I front s → Spans (loop class shape q s) (λ us last. I (front ++ us) last)
 spans_loop class shape {q} I h front s i = record { value = λ us last w. steps_span q I h w.0 s last front us i w.1 }
 
 pub spans_any : {A : Type 0} (r : Row Located A) → Spans r (λ us a. Unit {0})

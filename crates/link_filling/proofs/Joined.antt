@@ -26,7 +26,7 @@ use Rattle.linkage_rules.specs.Ids.{modules, seen}
 use Rattle.linkage_rules.specs.Winner.{is_definition}
 use Rattle.linkage_rules.proofs.Seen.{variable_seen}
 use Rattle.linkage_rules.proofs.Steps.{all_get, take_more}
-use Rattle.linked_contents.specs.Contents.{Piece, elements_in, elements_of, pieces_of_constants}
+use Rattle.linked_contents.specs.Contents.{ContentPiece, elements_in, elements_of, pieces_of_constants}
 use Rattle.module_linker.specs.Linked.{linked_constant, linked_pieces}
 use Rattle.module_linker.specs.Structs.{linked_type}
 use Rattle.type_build.specs.Stands.{AreTyped, IsConstant, IsKnownTyped, typed_at}
@@ -53,7 +53,7 @@ typed_none b xs cs h = subst (AreTyped b xs) (sym (append-nil cs)) h
 
 module _ (parts : List Module) where
   -- as the constants of one list
-  listed : (ps : List Piece) → constants_listed (pieces_linked parts ps) ≡ linked_pieces parts ps
+  listed : (ps : List ContentPiece) → constants_listed (pieces_linked parts ps) ≡ linked_pieces parts ps
   listed [] = refl
   listed (p ∷ ps) = ap (λ cs. more_constants (linked_type parts p.part p.ty) (linked_constant parts p.part p.value) cs) (listed ps)
 
@@ -61,7 +61,7 @@ module _ (parts : List Module) where
   elements_behind : (es fs : List Entry) → elements_of_all parts (es ++ fs) ≡ elements_of_all parts es ++ elements_of_all parts fs
   elements_behind es fs =
       ap (pieces_linked parts) (flat_map-append elements_in es fs)
-      ∙ map-append {B = Tree × Constant} (λ (p : Piece). (linked_type parts p.part p.ty, linked_constant parts p.part p.value)) (flat_map elements_in es) (flat_map elements_in fs)
+      ∙ map-append {B = Tree × Constant} (λ (p : ContentPiece). (linked_type parts p.part p.ty, linked_constant parts p.part p.value)) (flat_map elements_in es) (flat_map elements_in fs)
 
 -- a constant that is no list has no elements
 pub told_none : (k : the_const.Const) → ((round : the_brackets.Brackets) (elements : List TypedConst) → k ≡ const.Aggregate round elements → ⊥) → [] ≡ elements_told k
@@ -169,7 +169,7 @@ list_known b elements known = record {
   globals_known = All-nil (HasGlobal (counts b));
 }
 
-pub list_is : (parts : List Module) (b c : Lists) (id : ℕ) (elements : List TypedConst) (ps : List Piece) → AreTyped b elements (pieces_linked parts ps) → IsConstant c id (constant_in b (const.Aggregate brackets.Square elements))
+pub list_is : (parts : List Module) (b c : Lists) (id : ℕ) (elements : List TypedConst) (ps : List ContentPiece) → AreTyped b elements (pieces_linked parts ps) → IsConstant c id (constant_in b (const.Aggregate brackets.Square elements))
     → IsConstant c id (Aggregate Square (linked_pieces parts ps))
 list_is parts b c id elements ps are h =
     subst (λ cs. IsConstant c id (Aggregate Square cs)) (constants_at-listed b elements ∙ ap constants_listed are.constants ∙ listed parts ps) h

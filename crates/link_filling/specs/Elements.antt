@@ -7,7 +7,7 @@ use Rattle.module_arena.specs.declared.constant.Const.{Const}
 use Rattle.module_arena.specs.declared.constant.Const.TheVariants as const
 use Rattle.module_arena.specs.declared.constant.TypedConst.{TypedConst}
 use Rattle.linkage_rules.specs.Entries.{Entry}
-use Rattle.linked_contents.specs.Contents.{Piece, elements_in}
+use Rattle.linked_contents.specs.Contents.{ContentPiece, elements_in}
 use Rattle.module_linker.specs.Linked.{linked_constant}
 use Rattle.module_linker.specs.Structs.{linked_type}
 use Rattle.type_build.specs.Stands.{IsConstant}
@@ -18,7 +18,7 @@ elements_told (const.Aggregate round elements) = elements
 elements_told _ = []
 
 -- what these pieces are in the linked module, with their types
-abbrev pub pieces_linked : List Module → List Piece → List (Tree × Constant)
+abbrev pub pieces_linked : List Module → List ContentPiece → List (Tree × Constant)
 pieces_linked parts ps = map {B = Tree × Constant} (λ p. (linked_type parts p.part p.ty, linked_constant parts p.part p.value)) ps
 
 -- the elements of the arrays of these entries, behind each other

@@ -11,7 +11,7 @@ use Rattle.linkage_rules.specs.Symbols.{symbols}
 use Rattle.linkage_rules.proofs.Steps.{drop_more, drop_whole}
 use Rattle.module_linker.specs.Rename.{all_names, base_of, with_given_names, new_name, renaming, shared_names}
 use Rattle.module_linker.proofs.Searches.{any_join}
-use Rattle.link_names.specs.Naming.{GivesName, HasMore, Names, SameNames, is_shared}
+use Rattle.link_names.specs.Naming.{GivesName, HasMore, TakenNames, SameNames, is_shared}
 use Rattle.link_names.proofs.FirstFree.{fresh_same}
 
 -- equal names in front of equal names
@@ -44,10 +44,10 @@ module _ (base : Bytes → Bytes) where
       ∙ named_same ss (new_name base ws ys name ∷ xs) (new_name base ws ys name ∷ ys) vs ws (one_more_same xs ys (new_name base ws ys name) given) everywhere)
 
 -- the next symbol's name, and what is named behind it
-named_next : (everywhere : List Bytes) (before now : Names) (s : Symbol) (new : Bytes) (rest : List Symbol) → SameNames before.avoided everywhere → GivesName before s new now
+named_next : (everywhere : List Bytes) (before now : TakenNames) (s : Symbol) (new : Bytes) (rest : List Symbol) → SameNames before.avoided everywhere → GivesName before s new now
     → new_ones (with_given_names base_of everywhere before.given (s ∷ rest)) ≡ new ∷ new_ones (with_given_names base_of everywhere now.given rest)
 named_next everywhere before now (Shared name) new rest avoided gives =
-    ap₂ (λ n (v : Names). n ∷ new_ones (with_given_names base_of everywhere v.given rest)) (sym gives.0) (sym gives.1)
+    ap₂ (λ n (v : TakenNames). n ∷ new_ones (with_given_names base_of everywhere v.given rest)) (sym gives.0) (sym gives.1)
 named_next everywhere before now (Local part name) new rest avoided gives =
     let one : new_name base_of everywhere before.given name ≡ new = sym (gives.0 ∙ new_name_same base_of before.given before.given before.avoided everywhere name (λ n. refl) avoided) in
     ap₂ (λ n l. n ∷ l) one
@@ -55,7 +55,7 @@ named_next everywhere before now (Local part name) new rest avoided gives =
     ∙ named_same base_of rest (new ∷ before.given) now.given everywhere everywhere (λ n. sym (gives.1 n)) (λ n. refl))
 
 -- one symbol further
-pub named_more : (everywhere : List Bytes) (before now : Names) (ss : List Symbol) (k : ℕ) (s : Symbol) (new : Bytes) (names after all : List Bytes) → slice_get ss k ≡ Some s → SameNames before.avoided everywhere → GivesName before s new now → after ≡ names ++ new ∷ []
+pub named_more : (everywhere : List Bytes) (before now : TakenNames) (ss : List Symbol) (k : ℕ) (s : Symbol) (new : Bytes) (names after all : List Bytes) → slice_get ss k ≡ Some s → SameNames before.avoided everywhere → GivesName before s new now → after ≡ names ++ new ∷ []
     → names ++ new_ones (with_given_names base_of everywhere before.given (drop k ss)) ≡ all → after ++ new_ones (with_given_names base_of everywhere now.given (drop (k + 1) ss)) ≡ all
 named_more everywhere before now ss k s new names after all at avoided gives pushed so_far =
     ap (λ l. l ++ new_ones (with_given_names base_of everywhere now.given (drop (k + 1) ss))) pushed

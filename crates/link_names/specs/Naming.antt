@@ -9,12 +9,12 @@ use Rattle.linkage_rules.specs.declared.symbol.Symbol.TheVariants.{Shared, Local
 use Rattle.module_linker.specs.Rename.{base_of, dotted, new_name}
 
 -- the names that were given, and those that no name with a number is to be
-pub record Names : Type 0 where
+pub record TakenNames : Type 0 where
   pub given : List Bytes
   pub avoided : List Bytes
 
 -- both
-abbrev pub taken : Names → List Bytes
+abbrev pub taken : TakenNames → List Bytes
 taken n = n.given ++ n.avoided
 
 -- the same names, in any order
@@ -38,7 +38,7 @@ abbrev pub AreHints : List (Bytes × ℕ) → List Bytes → Type 0
 AreHints hints names = (base : Bytes) (number : ℕ) → lookup (bytes_eq base) hints ≡ Some number → (1 ≤ number) × AllTaken names base number
 
 -- the symbol has that name: a shared one its own, and nothing more is given; a local one a new one, which is given then
-abbrev pub GivesName : Names → Symbol → Bytes → Names → Type 0
+abbrev pub GivesName : TakenNames → Symbol → Bytes → TakenNames → Type 0
 GivesName before (Shared name) new now = (new ≡ name) × (now ≡ before)
 GivesName before (Local part name) new now = (new ≡ new_name base_of before.avoided before.given name) × HasOneMore before.given new now.given
 

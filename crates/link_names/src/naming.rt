@@ -25,9 +25,9 @@ pub struct Naming {
 
 impl Model for Naming {
     ghost use Rattle.std.specs.Prelude.{◌++◌};
-    ghost use Rattle.link_names.specs.Naming.{Names, AreHints};
+    ghost use Rattle.link_names.specs.Naming.{TakenNames, AreHints};
 
-    ghost Value = { Names };
+    ghost Value = { TakenNames };
 
     ghost view = { λ n. record { given = n.given.keys; avoided = n.avoided.keys } };
 

@@ -6,8 +6,8 @@
 //!
 //! ```
 //! -- of the parts `@a = global i32 7` and `@b = global ptr @a`
-//! pieces parts (Shared (codes "a")) -- one Piece: Integer 7 at `i32`, of part 0
-//! pieces parts (Shared (codes "b")) -- one Piece: Address (codes "a") at `ptr`, of part 1
+//! pieces parts (Shared (codes "a")) -- one ContentPiece: Integer 7 at `i32`, of part 0
+//! pieces parts (Shared (codes "b")) -- one ContentPiece: Address (codes "a") at `ptr`, of part 1
 //! pieces parts (Shared (codes "c")) -- []: no part defines it
 //! ```
 #![tactic(auto)]

@@ -20,7 +20,7 @@ use Rattle.linkage_rules.specs.Entries.{Entry, part_at, same_symbol, symbol_of}
 use Rattle.linkage_rules.specs.declared.symbol.Symbol.{Symbol}
 use Rattle.linkage_rules.specs.Symbols.{is_alias_symbol, variable_symbols, function_symbols, alias_symbols}
 use Rattle.linkage_rules.specs.Winner.{definitions, home, size_in}
-use Rattle.linked_contents.specs.Contents.{Piece, elements_in, elements_of}
+use Rattle.linked_contents.specs.Contents.{ContentPiece, elements_in, elements_of}
 use Rattle.linkage_rules.specs.Place.{joined_length, greatest_stated}
 use Rattle.module_linker.proofs.Symbols.{AreOfKind, function_kinds, aliases_are, home_is}
 use Rattle.module_linker.proofs.ByKind.{get_all}
@@ -87,7 +87,7 @@ good_after m cs ds a b = record {
 }
 
 module _ (parts : List Module) (fine : AreLinkable parts) (t : Tree) where
-  listed : (x : Entry) → IsAppended parts t x → (ps : List Piece) → GoodList (link_result parts) (linked_pieces parts ps) → GoodList (link_result parts) (linked_pieces parts (elements_in x ++ ps))
+  listed : (x : Entry) → IsAppended parts t x → (ps : List ContentPiece) → GoodList (link_result parts) (linked_pieces parts ps) → GoodList (link_result parts) (linked_pieces parts (elements_in x ++ ps))
   listed x a ps rest = by_list a.list a.initialiser (in_entry parts fine t x a) a.is_list
     where
       by_list : (c : Constant) → a.variable.initialiser ≡ Some c → elements_in x ≡ elements_of x.part c → rules.is_list_of a.length (Some c) ≡ true → GoodList (link_result parts) (linked_pieces parts (elements_in x ++ ps))

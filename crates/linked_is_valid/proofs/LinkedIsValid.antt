@@ -15,7 +15,7 @@ use Rattle.linkage_rules.specs.Entries.{Entry, part_at, symbol_of}
 use Rattle.linkage_rules.specs.declared.symbol.Symbol.{Symbol}
 use Rattle.linkage_rules.specs.declared.symbol.Symbol.TheVariants.{Shared, Local}
 use Rattle.linkage_rules.specs.Winner.{definitions, home}
-use Rattle.linked_contents.specs.Contents.{Piece, elements_in, elements_of}
+use Rattle.linked_contents.specs.Contents.{ContentPiece, elements_in, elements_of}
 use Rattle.module_linker.specs.Rename.{new_global}
 use Rattle.module_linker.specs.Structs.{new_struct}
 use Rattle.module_linker.specs.Linked.{linked_pieces, link_result}
@@ -39,7 +39,7 @@ two_types t h k =
 
 module _ (parts : List Module) (fine : AreLinkable parts) (t : Tree) (constructor : same_type t rules.constructor_type ≡ true) where
   -- what an entry lists
-  listed : (x : Entry) → IsAppended parts t x → rules.is_llvm_name (name_of x.global) ≡ true → (ps : List Piece) → rules.are_constructors (link_result parts) (linked_pieces parts ps) ≡ true → rules.are_constructors (link_result parts) (linked_pieces parts (elements_in x ++ ps)) ≡ true
+  listed : (x : Entry) → IsAppended parts t x → rules.is_llvm_name (name_of x.global) ≡ true → (ps : List ContentPiece) → rules.are_constructors (link_result parts) (linked_pieces parts ps) ≡ true → rules.are_constructors (link_result parts) (linked_pieces parts (elements_in x ++ ps)) ≡ true
   listed x a llvm ps rest = by_list a.list a.initialiser (in_entry parts fine t x a) a.is_list
     where
       part : Module

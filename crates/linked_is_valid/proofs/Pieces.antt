@@ -12,7 +12,7 @@ use Rattle.module_arena.specs.Same.{same_type}
 use Rattle.module_arena.specs.TypeTests.{is_free_of_void, is_free_of_names, are_free_of_names}
 use Rattle.module_arena.specs.Constants.{constants_in, constants_of, address_in, each, parts_fit, fits}
 use Rattle.module_arena.specs.EntryRules.{is_only_called, constant_types, types_written_suit, is_constructor, are_constructors, constructor_type}
-use Rattle.linked_contents.specs.Contents.{Piece, pieces_of_constants}
+use Rattle.linked_contents.specs.Contents.{ContentPiece, pieces_of_constants}
 use Rattle.module_linker.specs.Rename.{new_global}
 use Rattle.module_linker.specs.Structs.{new_struct}
 use Rattle.module_linker.specs.Linked.{linked_pieces}
@@ -21,7 +21,7 @@ abbrev pub after : Constants → Constants → Constants
 after no_constants ds = ds
 after (more_constants t c cs) ds = more_constants t c (after cs ds)
 
-pub linked_after : (parts : List Module) (i : ℕ) (cs : Constants) (ps : List Piece) → linked_pieces parts (pieces_of_constants i cs ++ ps) ≡ after (renamed_constants (new_struct parts i) (new_global parts i) cs) (linked_pieces parts ps)
+pub linked_after : (parts : List Module) (i : ℕ) (cs : Constants) (ps : List ContentPiece) → linked_pieces parts (pieces_of_constants i cs ++ ps) ≡ after (renamed_constants (new_struct parts i) (new_global parts i) cs) (linked_pieces parts ps)
 linked_after parts i no_constants ps = refl
 linked_after parts i (more_constants t c cs) ps = ap (more_constants (renamed_tree (new_struct parts i) t) (renamed_constant (new_struct parts i) (new_global parts i) c)) (linked_after parts i cs ps)
 

@@ -7,7 +7,7 @@ use Rattle.std.proofs.lemmas.Bool.{cond-false}
 use Rattle.type_table.specs.Layout.{size}
 use Rattle.type_table.specs.Tree.{Tree, array}
 use Rattle.module_arena.specs.Module.{Bytes, Constant, Integer, Truth, Null, Undef, Poison, ZeroInitializer, Address, ByteString, Aggregate, ElementAddress, Cast, Binary, Square, Constants, no_constants, more_constants, Variable, Module}
-use Rattle.linked_contents.specs.Contents.{Piece, pieces_of_constants, elements_of, elements_in, whole, pieces_by, pieces}
+use Rattle.linked_contents.specs.Contents.{ContentPiece, pieces_of_constants, elements_of, elements_in, whole, pieces_by, pieces}
 use Rattle.linkage_rules.specs.Entries.{Entry, same_symbol, symbol_of, entries}
 use Rattle.linkage_rules.specs.declared.symbol.Symbol.{Symbol}
 use Rattle.linkage_rules.specs.Globals.{Global, OfVariable, OfFunction, OfAlias, linkage_of, element_of}
@@ -34,14 +34,14 @@ all_flat P f [] a = tt
 all_flat P f (x ∷ xs) a = all_append P (f x) (flat_map f xs) a.0 (all_flat P f xs a.1)
 
 -- the constructors that pieces of these parts are
-abbrev pub constructors_in : List Module → List Piece → List Constructor
-constructors_in ms ps = filter_map (λ (p : Piece). constructor_of (constant_value (names_in ms p.part) p.ty p.value)) ps
+abbrev pub constructors_in : List Module → List ContentPiece → List Constructor
+constructors_in ms ps = filter_map (λ (p : ContentPiece). constructor_of (constant_value (names_in ms p.part) p.ty p.value)) ps
 
 -- PIECES
 
 module _ (parts : List Module) where
   -- a piece's type and names are known
-  abbrev pub KnownPiece : Piece → Type 0
+  abbrev pub KnownPiece : ContentPiece → Type 0
   KnownPiece p = KnownTree parts p.part p.ty × ConstantIn (KnownTree parts p.part) (KnownName parts p.part) p.ty p.value
 
   constants_known : (i : ℕ) (cs : Constants) → ConstantsIn (KnownTree parts i) (KnownName parts i) cs → AllByRecursion KnownPiece (pieces_of_constants i cs)
@@ -74,7 +74,7 @@ module _ (parts : List Module) where
   whole_known : (i : ℕ) (g : Global) → IsKnown parts i g → AllByRecursion KnownPiece (whole (record { part = i; global = g }))
   whole_known i (OfVariable v) k = go v.initialiser k
     where
-      go : (o : Option Constant) → KnownTree parts i v.ty × InitialiserIn parts i v.ty o → AllByRecursion (KnownPiece) (option_map_or {U = List Piece} (λ c. record { part = i; ty = v.ty; value = c } ∷ []) o [])
+      go : (o : Option Constant) → KnownTree parts i v.ty × InitialiserIn parts i v.ty o → AllByRecursion (KnownPiece) (option_map_or {U = List ContentPiece} (λ c. record { part = i; ty = v.ty; value = c } ∷ []) o [])
       go None h = tt
       go (Some c) h = ((h.0, h.1), tt)
   whole_known i (OfFunction f) k = tt
@@ -100,7 +100,7 @@ module _ (parts : List Module) where
 
   -- PIECES OF THE RESULT
 
-  pieces_linked : (ps : List Piece) → pieces_of_constants 0 (linked_pieces parts ps) ≡ map (moved_piece parts) ps
+  pieces_linked : (ps : List ContentPiece) → pieces_of_constants 0 (linked_pieces parts ps) ≡ map (moved_piece parts) ps
   pieces_linked [] = refl
   pieces_linked (p ∷ ps) = ap (λ l. moved_piece parts p ∷ l) (pieces_linked ps)
 
@@ -123,7 +123,7 @@ module _ (parts : List Module) where
     variable_pieces true = append-nil (pieces_of_constants 0 (linked_pieces parts (flat_map elements_in es))) ∙ pieces_linked (flat_map elements_in es)
     variable_pieces false = go v.initialiser
       where
-        go : (o : Option Constant) → option_map_or {U = List Piece} (λ c. record { part = 0; ty = linked_type parts i v.ty; value = c } ∷ []) (option_map (linked_constant parts i) o) [] ≡ map (moved_piece parts) (option_map_or (λ c. record { part = i; ty = v.ty; value = c } ∷ []) o [])
+        go : (o : Option Constant) → option_map_or {U = List ContentPiece} (λ c. record { part = 0; ty = linked_type parts i v.ty; value = c } ∷ []) (option_map (linked_constant parts i) o) [] ≡ map (moved_piece parts) (option_map_or (λ c. record { part = i; ty = v.ty; value = c } ∷ []) o [])
         go None = refl
         go (Some c) = refl
 
@@ -131,9 +131,9 @@ module _ (parts : List Module) where
       → pieces_by (moved parts s (record { part = i; global = g })) (moved parts s (record { part = i; global = g }) ∷ []) ≡ map (moved_piece parts) (pieces_by (record { part = i; global = g }) (definitions parts s))
   entry_pieces s i (OfVariable v) es h lists = variable_pieces (new_name_of parts s) i v (definitions parts s) (is_appending v.linkage)
   entry_pieces s i (OfFunction f) es h lists =
-      (λ k. cond {A = List Piece} (lists k) [] []) ∙ sym (ap (map (moved_piece parts)) (cond-false (is_appending f.linkage) (flat_map elements_in (definitions parts s)) [] lists))
+      (λ k. cond {A = List ContentPiece} (lists k) [] []) ∙ sym (ap (map (moved_piece parts)) (cond-false (is_appending f.linkage) (flat_map elements_in (definitions parts s)) [] lists))
   entry_pieces s i (OfAlias a) es h lists =
-      (λ k. cond {A = List Piece} (lists k) [] []) ∙ sym (ap (map (moved_piece parts)) (cond-false (is_appending a.linkage) (flat_map elements_in (definitions parts s)) [] lists))
+      (λ k. cond {A = List ContentPiece} (lists k) [] []) ∙ sym (ap (map (moved_piece parts)) (cond-false (is_appending a.linkage) (flat_map elements_in (definitions parts s)) [] lists))
 
 module _ (parts : List Module) (fit : Fit parts) (merges : Merges parts) where
   pub pieces_same : (s : Symbol) → IsSymbol parts s → pieces (merged parts) (carry parts s) ≡ map (moved_piece parts) (pieces parts s)
@@ -145,11 +145,11 @@ module _ (parts : List Module) (fit : Fit parts) (merges : Merges parts) where
       by_home (Some e) h = entry_pieces parts s e.part e.global (definitions parts s) refl (home_is parts (λ d. AppendsLists d.part d.global) s e fit.appended h).0.0
 
   -- a piece has the same leaves
-  value_same : (p : Piece) → KnownPiece parts p → constant_value (names_in (merged parts) 0) (linked_type parts p.part p.ty) (linked_constant parts p.part p.value) ≡ constant_value (names_in parts p.part) p.ty p.value
+  value_same : (p : ContentPiece) → KnownPiece parts p → constant_value (names_in (merged parts) 0) (linked_type parts p.part p.ty) (linked_constant parts p.part p.value) ≡ constant_value (names_in parts p.part) p.ty p.value
   value_same p known =
       same_constant (names_in parts p.part) (names_in (merged parts) 0) (new_struct parts p.part) (new_global parts p.part) (KnownTree parts p.part) (KnownName parts p.part) (agree parts fit merges p.part) p.ty p.value known.1
 
-  contents_moved : (ps : List Piece) → AllByRecursion (KnownPiece parts) ps → (at : ℕ) → contents_from (merged parts) at (map (moved_piece parts) ps) ≡ contents_from parts at ps
+  contents_moved : (ps : List ContentPiece) → AllByRecursion (KnownPiece parts) ps → (at : ℕ) → contents_from (merged parts) at (map (moved_piece parts) ps) ≡ contents_from parts at ps
   contents_moved [] known at = refl
   contents_moved (p ∷ ps) known at =
       (λ k. zip (slots_at (shapes k) at) (value_same p known.0 k) ++ contents_from (merged parts) (at + size (shapes k)) (map (moved_piece parts) ps))
@@ -161,6 +161,6 @@ module _ (parts : List Module) (fit : Fit parts) (merges : Merges parts) where
   pub contents_same : (s : Symbol) → IsSymbol parts s → contents_of (merged parts) (carry parts s) ≡ contents_of parts s
   contents_same s here = ap (contents_from (merged parts) 0) (pieces_same s here) ∙ contents_moved (pieces parts s) (pieces_known parts fit s) 0
 
-  pub constructors_moved : (ps : List Piece) → AllByRecursion (KnownPiece parts) ps → constructors_in (merged parts) (map (moved_piece parts) ps) ≡ constructors_in parts ps
+  pub constructors_moved : (ps : List ContentPiece) → AllByRecursion (KnownPiece parts) ps → constructors_in (merged parts) (map (moved_piece parts) ps) ≡ constructors_in parts ps
   constructors_moved [] known = refl
   constructors_moved (p ∷ ps) known = ap₂ (λ v l. cons_option (constructor_of v) l) (value_same p known.0) (constructors_moved ps known.1)

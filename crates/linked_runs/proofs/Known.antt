@@ -5,7 +5,7 @@ use Rattle.std.specs.List.{AllByRecursion}
 use Rattle.type_table.specs.Tree.{Tree, array}
 use Rattle.module_arena.specs.Module.{Bytes, Constant, Module}
 use Rattle.module_arena.specs.UsedNames.{names_in_constant}
-use Rattle.linked_contents.specs.Contents.{Piece, elements_of}
+use Rattle.linked_contents.specs.Contents.{ContentPiece, elements_of}
 use Rattle.linkage_rules.specs.Entries.{Entry, symbol_in, symbol_of, same_symbol, entries}
 use Rattle.linkage_rules.specs.Globals.{Global, OfVariable, OfFunction, OfAlias, linkage_of, element_of, length_of}
 use Rattle.linkage_rules.specs.Linkages.{is_appending}
@@ -32,7 +32,7 @@ module _ (parts : List Module) (i : ℕ) where
   IsKnown (OfAlias a) = KnownName parts i a.target × (is_some (home parts (symbol_in parts i a.target)) ≡ true)
 
 -- the names in pieces
-abbrev pub names_in_pieces : List Piece → List Bytes
+abbrev pub names_in_pieces : List ContentPiece → List Bytes
 names_in_pieces ps = flat_map (λ p. names_in_constant p.value) ps
 
 -- all that an initialiser in part i names stands in its elements

@@ -7,7 +7,7 @@ use Rattle.std.proofs.lemmas.Bool.{cond-true, cond-false, both_ways, and_parts}
 use Rattle.module_arena.specs.Module.{Bytes, Constant, Integer, Truth, Null, Undef, Poison, ZeroInitializer, Address, ByteString, Aggregate, ElementAddress, Cast, Binary, Square, Constants, no_constants, more_constants, Module}
 use Rattle.module_arena.specs.UsedNames.{names_in_constant, names_in_constants}
 use Rattle.linkage_rules.specs.Bind.{Definition, Appended, bound_to, behind_from, behind, target_of, own_meaning, meaning}
-use Rattle.linked_contents.specs.Contents.{Piece, pieces_of_constants, elements_of, elements_in}
+use Rattle.linked_contents.specs.Contents.{ContentPiece, pieces_of_constants, elements_of, elements_in}
 use Rattle.linkage_rules.specs.Entries.{Entry, same_symbol, symbol_of, symbol_in, entries, entries_of, symbol_name}
 use Rattle.linkage_rules.specs.declared.symbol.Symbol.{Symbol}
 use Rattle.linkage_rules.specs.declared.symbol.Symbol.TheVariants.{Shared, Local}
@@ -126,13 +126,13 @@ module _ (parts : List Module) (fit : Fit parts) (merges : Merges parts) where
     alone_same m i (OfAlias a) es plain known = refl
 
     -- pieces behind each other
-    abbrev piece_uses : Piece → Bool
+    abbrev piece_uses : ContentPiece → Bool
     piece_uses p = list_any (used_before p.part) (names_in_constant p.value)
 
-    abbrev KnownNames : Piece → Type 0
+    abbrev KnownNames : ContentPiece → Type 0
     KnownNames p = AllByRecursion (KnownName parts p.part) (names_in_constant p.value)
 
-    pieces_used : (ps : List Piece) → AllByRecursion KnownNames ps → list_any used_after (names_in_constants (linked_pieces parts ps)) ≡ list_any piece_uses ps
+    pieces_used : (ps : List ContentPiece) → AllByRecursion KnownNames ps → list_any used_after (names_in_constants (linked_pieces parts ps)) ≡ list_any piece_uses ps
     pieces_used [] known = refl
     pieces_used (p ∷ ps) known =
         any_join used_after (names_in_constant (linked_constant parts p.part p.value)) (names_in_constants (linked_pieces parts ps))

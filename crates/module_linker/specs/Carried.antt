@@ -7,7 +7,7 @@ use Rattle.linkage_rules.specs.declared.symbol.Symbol.TheVariants.{Shared, Local
 use Rattle.linkage_rules.specs.Lists.{has}
 use Rattle.linkage_rules.specs.Symbols.{symbols}
 use Rattle.linkage_rules.specs.Winner.{definitions}
-use Rattle.linked_contents.specs.Contents.{Piece}
+use Rattle.linked_contents.specs.Contents.{ContentPiece}
 use Rattle.module_linker.specs.Linked.{linked_constant, linked_definition, link_result}
 use Rattle.module_linker.specs.Rename.{new_name_of}
 use Rattle.module_linker.specs.Structs.{linked_type}
@@ -34,5 +34,5 @@ abbrev pub moved : List Module → Symbol → Entry → Entry
 moved parts s e = moved_under parts s (new_name_of parts s) e
 
 -- what a piece of a variable is in the result
-abbrev pub moved_piece : List Module → Piece → Piece
+abbrev pub moved_piece : List Module → ContentPiece → ContentPiece
 moved_piece parts p = record { part = 0; ty = linked_type parts p.part p.ty; value = linked_constant parts p.part p.value }

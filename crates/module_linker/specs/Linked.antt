@@ -14,7 +14,7 @@ use Rattle.linkage_rules.specs.declared.symbol.Symbol.{Symbol}
 use Rattle.linkage_rules.specs.Winner.{definitions, home}
 use Rattle.linkage_rules.specs.Bind.{all_extern_weak}
 use Rattle.linkage_rules.specs.Place.{joined_length, greatest_stated, commons, greatest_common}
-use Rattle.linked_contents.specs.Contents.{Piece, elements_in}
+use Rattle.linked_contents.specs.Contents.{ContentPiece, elements_in}
 use Rattle.module_linker.specs.Rename.{renaming, new_global}
 use Rattle.module_linker.specs.Structs.{struct_map, new_struct, linked_type, linked_struct}
 
@@ -27,7 +27,7 @@ abbrev pub linked_block : List Module → ℕ → Block → Block
 linked_block parts i b = renamed_block (new_struct parts i) (new_global parts i) b
 
 -- constants of several parts behind each other
-abbrev pub linked_pieces : List Module → List Piece → Constants
+abbrev pub linked_pieces : List Module → List ContentPiece → Constants
 linked_pieces parts [] = no_constants
 linked_pieces parts (p ∷ ps) = more_constants (linked_type parts p.part p.ty) (linked_constant parts p.part p.value) (linked_pieces parts ps)
 

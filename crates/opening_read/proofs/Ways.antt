@@ -5,7 +5,7 @@ use Rattle.bit_tree.specs.Pieces.{Piece, ended}
 use Rattle.module_arena.specs.Module.{Module}
 use Rattle.record_table.specs.Faults.{Answer, ◌>>=◌, BadRecord, Records, no_more, a_block, a_record, misplaced}
 use Rattle.record_table.specs.Fields.{Texts, version_1}
-use Rattle.record_table.specs.Records.{Sofar, Table, nothing_behind, table}
+use Rattle.record_table.specs.Records.{Sofar, ReadTable, nothing_behind, table}
 use Rattle.record_table.specs.StringTable.{read_only}
 use Rattle.record_read.specs.declared.entry.NextEntry.{NextEntry}
 use Rattle.record_read.specs.declared.entry.NextEntry.TheVariants.{Block, Record, End}
@@ -86,32 +86,32 @@ begun at (a_block id inside behind) old now (Block given) g e = (
 )
 
 -- the table stands behind no record of the stream's
-pub table_at : (old now : Reader) (new : Reader) (pieces : List Piece) (result : Result (List ℕ) BitcodeFault) → (inside : Records) → now.at ≡ old.at → Answers {A = Table} {B = List ℕ} (IsTable new pieces) (table now.at inside) result
-    → Answers {A = Table} {B = List ℕ} (IsTable new pieces) (table old.at inside) result
-table_at old now new pieces result inside same h = subst (λ n. Answers {A = Table} {B = List ℕ} (IsTable new pieces) (table n inside) result) same h
+pub table_at : (old now : Reader) (new : Reader) (pieces : List Piece) (result : Result (List ℕ) BitcodeFault) → (inside : Records) → now.at ≡ old.at → Answers {A = ReadTable} {B = List ℕ} (IsTable new pieces) (table now.at inside) result
+    → Answers {A = ReadTable} {B = List ℕ} (IsTable new pieces) (table old.at inside) result
+table_at old now new pieces result inside same h = subst (λ n. Answers {A = ReadTable} {B = List ℕ} (IsTable new pieces) (table n inside) result) same h
 
 -- the table is refused
-pub table_refused : (at : ℕ) (all : Records) (now after new : Reader) (given : BitcodeFault) (b : IsBegun at all now) → Answers {A = Table} {B = List ℕ} (IsTable after b.pieces) (table at b.inside) (Err given)
+pub table_refused : (at : ℕ) (all : Records) (now after new : Reader) (given : BitcodeFault) (b : IsBegun at all now) → Answers {A = ReadTable} {B = List ℕ} (IsTable after b.pieces) (table at b.inside) (Err given)
     → Answers {A = Entered} {B = the_texts.Texts} (IsIn new) (module_in at all) (Err given)
 table_refused at all now after new given b h = rw b.is (by (table at b.inside) h)
   where
-    by : (a : Answer Table) → Answers {A = Table} {B = List ℕ} (IsTable after b.pieces) a (Err given) → Answers {A = Entered} {B = the_texts.Texts} (IsIn new) (a >>= λ t. block_of (read_only t.bytes) t.at b.behind) (Err given)
+    by : (a : Answer ReadTable) → Answers {A = ReadTable} {B = List ℕ} (IsTable after b.pieces) a (Err given) → Answers {A = Entered} {B = the_texts.Texts} (IsIn new) (a >>= λ t. block_of (read_only t.bytes) t.at b.behind) (Err given)
     by (Ok t) k = out_of_memory (IsIn new) (block_of (read_only t.bytes) t.at b.behind) given k
     by (Err told) k = k
 
 -- the table was read: then comes the module's block
 pub record IsTabled (at : ℕ) (all : Records) (bytes : List ℕ) (after : Reader) : Type 0 where
-  pub t : Table
+  pub t : ReadTable
   pub behind : Records
   pub before : IsBefore after.left behind []
   pub bytes_are : bytes ≡ t.bytes
   pub at_is : after.at ≡ t.at
   pub is : module_in at all ≡ block_of (read_only t.bytes) t.at behind
 
-pub tabled : (at : ℕ) (all : Records) (now after : Reader) (bytes : List ℕ) (b : IsBegun at all now) → Answers {A = Table} {B = List ℕ} (IsTable after b.pieces) (table at b.inside) (Ok bytes) → IsTabled at all bytes after
+pub tabled : (at : ℕ) (all : Records) (now after : Reader) (bytes : List ℕ) (b : IsBegun at all now) → Answers {A = ReadTable} {B = List ℕ} (IsTable after b.pieces) (table at b.inside) (Ok bytes) → IsTabled at all bytes after
 tabled at all now after bytes b h = by (table at b.inside) refl h
   where
-    by : (a : Answer Table) → table at b.inside ≡ a → Answers {A = Table} {B = List ℕ} (IsTable after b.pieces) a (Ok bytes) → IsTabled at all bytes after
+    by : (a : Answer ReadTable) → table at b.inside ≡ a → Answers {A = ReadTable} {B = List ℕ} (IsTable after b.pieces) a (Ok bytes) → IsTabled at all bytes after
     by (Err told) is k = absurd k
     by (Ok t) is k = record {
       t = t;

@@ -17,7 +17,7 @@ use std::alloc::Global;
 /// Refuses another record of the table's block: there is one.
 fn refuse_more(reader: &mut RecordReader<'_>, alloc: Global, code: u32) -> Result<(), BitcodeFault>
     requires { 0 < reader.old.at }
-    ensures { (t : records.Table) (operands : List ℕ) → reader.old.walk ≡ going operands None → reader.old.at ≡ suc t.at
+    ensures { (t : records.ReadTable) (operands : List ℕ) → reader.old.walk ≡ going operands None → reader.old.at ≡ suc t.at
         → Answers (λ done more. ⊥) (records.table_ended t (a_record code operands no_more)) result }
 {
     if code != TEXT {
@@ -59,7 +59,7 @@ fn end_of_table(reader: &mut RecordReader<'_>, alloc: Global) -> Result<(), Bitc
     requires unspent { reader.old.spent ≡ false }
     requires begun { IsInBlock reader.old.left }
     ensures unspent { OnOk result (reader.new.spent ≡ false) }
-    ensures answers { (t : records.Table) (rest : Records) (others : List Piece) → IsBefore reader.old.left rest (ended ∷ others) → reader.old.at ≡ t.at
+    ensures answers { (t : records.ReadTable) (rest : Records) (others : List Piece) → IsBefore reader.old.left rest (ended ∷ others) → reader.old.at ≡ t.at
         → Answers (λ done kept. KeepsTable reader.new others t kept) (records.table_ended t rest) result }
 {
     match reader.next()? {

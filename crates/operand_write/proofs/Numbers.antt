@@ -26,7 +26,7 @@ use Rattle.record_table.specs.Mentions.{mentioned}
 use Rattle.record_table.specs.Standing.{is_wide, HasRoom, HasCode}
 use Rattle.record_table.specs.StringTable.{has_text, joined, offset_among, offset_in}
 use Rattle.record_order.specs.Order.{Order, listed_trees, has_tree, place_in, place_of}
-use Rattle.record_order.specs.Table.{Table, Holds}
+use Rattle.record_order.specs.Table.{PlacedTexts, Holds}
 use Rattle.operand_write.specs.Numbered.{IsNumbering}
 use Rattle.operand_write.proofs.Places.{type_place_none}
 
@@ -42,7 +42,7 @@ absent (t ∷ ts) text none = by (bytes_eq t text) refl none (absent ts text)
     by false e h again = ap (λ (b : Bool). cond b 0 (length t + offset_among ts text)) e ∙ ap (λ n. length t + n) (again h) ∙ sym (length-append t (joined ts))
 
 -- where a text stands by its table
-pub offset_is : (t : Table) (texts : List (List ℕ)) (text : List ℕ) → Holds t texts → cond (bytes_eq text []) 0 (unwrap_or (value_of t.offsets text) (length t.bytes)) ≡ offset_in texts text
+pub offset_is : (t : PlacedTexts) (texts : List (List ℕ)) (text : List ℕ) → Holds t texts → cond (bytes_eq text []) 0 (unwrap_or (value_of t.offsets text) (length t.bytes)) ≡ offset_in texts text
 offset_is t texts [] holds = refl
 offset_is t texts (b ∷ bs) holds = by (value_of t.offsets (b ∷ bs)) refl (has_text texts (b ∷ bs)) refl
   where
@@ -61,7 +61,7 @@ listed_place all x = by (has_tree all x) refl
     by true e = ap (λ (b : Bool). unwrap_or (cond b (Some (place same_type all x)) None) (length all)) (sym e)
     by false e = type_place_none all x e ∙ ap (λ (b : Bool). unwrap_or (cond b (Some (place same_type all x)) None) (length all)) (sym e)
 
-pub type_place : (a : Lists) (o : Order) (t : Table) (id : ℕ) → IsNumbering a o t → place same_type (mentioned (module_of a)) (tree a.table id) ≡ unwrap_or (place_of o id) (length (listed_trees o))
+pub type_place : (a : Lists) (o : Order) (t : PlacedTexts) (id : ℕ) → IsNumbering a o t → place same_type (mentioned (module_of a)) (tree a.table id) ≡ unwrap_or (place_of o id) (length (listed_trees o))
 type_place a o t id is =
     ap (λ (all : List Tree). place same_type all (tree a.table id)) (sym is.listed)
     ∙ ap (λ (x : Types). place same_type (listed_trees o) (tree x id)) (sym is.types)

@@ -14,11 +14,11 @@ use Rattle.record_table.specs.Fields.{Texts, Numbering}
 use Rattle.record_table.specs.StringTable.{once_each}
 use Rattle.record_table.specs.Mentions.{mentioned}
 use Rattle.record_table.specs.Spelling.{numbering, texts_in, texts_of}
-use Rattle.record_order.specs.Table.{Table, Holds}
+use Rattle.record_order.specs.Table.{PlacedTexts, Holds}
 use Rattle.record_order.specs.Order.{Order, listed_trees}
 
 -- the types and texts are those of the module that the lists stand for
-pub record IsNumbering (a : Lists) (o : Order) (t : Table) : Type 0 where
+pub record IsNumbering (a : Lists) (o : Order) (t : PlacedTexts) : Type 0 where
   pub types : o.types ≡ a.table
   pub listed : listed_trees o ≡ mentioned (module_of a)
   pub texts : Holds t (once_each (texts_of (module_of a)))

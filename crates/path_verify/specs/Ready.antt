@@ -14,7 +14,7 @@ use Rattle.module_arena.specs.View.{block_view, constants_of}
 use Rattle.type_table.specs.Types.{trees}
 use Rattle.path_rows.specs.Numbers.{names_of}
 use Rattle.path_rows.specs.Reflects.{Reflects}
-use Rattle.path_rows.specs.Table.{Table}
+use Rattle.path_rows.specs.Table.{PassedRows}
 use Rattle.last_verify.specs.declared.local_type.LocalType.{LocalType}
 use Rattle.last_verify.specs.ValuesById.{AreLocalTypes, AreTypes}
 use Rattle.use_verify.specs.Uses.{AreRows, blocks_named, flow_in}
@@ -37,7 +37,7 @@ abbrev pub KnowsEnding : Lists → the_function.Function → the_ending.Ending �
 KnowsEnding a f e = All (HasOperand (length a.table.types) (length a.constants) (length (value_names f))) (end_operands_of e)
 
 -- what is known of a function, by the names of its values: where each is defined, which type it has, and which constants are the same
-pub record IsReady (a : Lists) (f : the_function.Function) (classes : List ℕ) (types : List LocalType) (rows : Table) : Type 0 where
+pub record IsReady (a : Lists) (f : the_function.Function) (classes : List ℕ) (types : List LocalType) (rows : PassedRows) : Type 0 where
   pub known : KnowsFunction (length a.table.types) (length a.constants) f
   pub apart : IsApart (names_of f)
   pub reflects : Reflects (flow_in a f) (names_of f) rows.graph

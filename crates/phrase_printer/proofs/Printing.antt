@@ -2,7 +2,7 @@
 use Rattle.std.proofs.Common.{◌≡◌, ◌⊎◌, inl, inr, ℕ, zero, suc, ◌<◌, ◌≤◌, Bool, true, false, length, List, [], ◌∷◌, ◌++◌, codes, refl, sym, ap, ◌∙◌, append-nil, append_assoc, arith}
 use Rattle.ir_base.specs.Outside.{Rose}
 use Rattle.gathered.specs.Told.{State, Tells}
-use Rattle.ir_lexer.specs.Pieces.{Piece, Separator, Nothing, Space, separator_bytes, pieces_text}
+use Rattle.ir_lexer.specs.Pieces.{TextPiece, Separator, Nothing, Space, separator_bytes, pieces_text}
 use Rattle.ir_lexer.specs.declared.token.TokenKind.{TokenKind}
 use Rattle.canonical.specs.Phrase.{Phrase, token, mark, comma, listed}
 use Rattle.canonical.specs.Types.{in_braces}
@@ -46,7 +46,7 @@ tells_none a = record {
 pub tells_same : {a b : State} {x y : List ℕ} → x ≡ y → Tells a b x → Tells a b y
 tells_same e h = rw (sym e) h
 
-text_then : (xs ys : List Piece) → pieces_text (xs ++ ys) ≡ pieces_text xs ++ pieces_text ys
+text_then : (xs ys : List TextPiece) → pieces_text (xs ++ ys) ≡ pieces_text xs ++ pieces_text ys
 text_then [] ys = refl
 text_then (p ∷ xs) ys =
     ap (λ (t : List ℕ). p.token.spelling ++ (separator_bytes p.separator ++ t)) (text_then xs ys)
@@ -54,11 +54,11 @@ text_then (p ∷ xs) ys =
     ∙ sym (append_assoc p.token.spelling (separator_bytes p.separator ++ pieces_text xs) (pieces_text ys))
 
 -- these pieces, and those behind them
-pub prints_then : (xs ys : List Piece) {a b c : State} → Prints a b xs → Prints b c ys → Prints a c (xs ++ ys)
+pub prints_then : (xs ys : List TextPiece) {a b c : State} → Prints a b xs → Prints b c ys → Prints a c (xs ++ ys)
 prints_then xs ys h k = tells_same (sym (text_then xs ys)) (tells_then h k)
 
 -- the same pieces, written otherwise
-pub prints_same : {a b : State} {xs ys : List Piece} → xs ≡ ys → Prints a b xs → Prints a b ys
+pub prints_same : {a b : State} {xs ys : List TextPiece} → xs ≡ ys → Prints a b xs → Prints a b ys
 prints_same e h = tells_same (ap pieces_text e) h
 
 -- no piece

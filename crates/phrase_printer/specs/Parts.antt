@@ -1,6 +1,6 @@
 -- For `put_typed`, and how the code reads: the parts of constants in canonical text, as the arena has them.
 use Rattle.std.specs.Prelude.{ℕ, ◌<◌, true, false, List, codes, length, if◌then◌else◌}
-use Rattle.ir_lexer.specs.Pieces.{Piece, Separator, Nothing, Space}
+use Rattle.ir_lexer.specs.Pieces.{TextPiece, Separator, Nothing, Space}
 use Rattle.ir_tables.specs.Flag.{flag_word}
 use Rattle.ir_tables.specs.Flags.{has_flag}
 use Rattle.ir_tables.specs.declared.flag.Flag.{Flag}
@@ -18,17 +18,17 @@ use Rattle.canonical.specs.Constants.{constant_phrase}
 use Rattle.phrase_printer.specs.Printing.{opening, closing}
 
 -- a flag with a space behind it, where the set has it
-abbrev pub flag_pieces : ℕ → Flag → List Piece
+abbrev pub flag_pieces : ℕ → Flag → List TextPiece
 flag_pieces set f = (if has_flag set f then word (flag_word f) else none) Space
 
 -- the bracket before so many constants
-abbrev pub bracket_opening : Brackets → ℕ → List Piece
+abbrev pub bracket_opening : Brackets → ℕ → List TextPiece
 bracket_opening Square count = mark (codes "[") Nothing
 bracket_opening Braces count = opening false count
 bracket_opening Packed count = opening true count
 
 -- the bracket behind them
-abbrev pub bracket_closing : Brackets → Separator → List Piece
+abbrev pub bracket_closing : Brackets → Separator → List TextPiece
 bracket_closing Square behind = mark (codes "]") behind
 bracket_closing Braces behind = closing false behind
 bracket_closing Packed behind = closing true behind

@@ -3,11 +3,11 @@ use Rattle.std.proofs.Common.{◌≡◌, ℕ, suc, ◌≤◌, ◌<◌, ◌-◌, 
 use Rattle.std.proofs.lemmas.List.{take-append-drop, take-append-le}
 use Rattle.std.proofs.lemmas.Bool.{cases_order}
 use Rattle.std.proofs.Math.Seq.{take-length}
-use Rattle.phrase_rows.specs.Row.{Reading, Done, Bad, Shape, Row}
+use Rattle.phrase_rows.specs.Row.{Reading, Done, Bad, PhraseShape, Row}
 use Rattle.phrase_rows.specs.Reads.{Front, Takes, tokens_behind, Reads}
 use Rattle.phrase_rows.specs.Answer.{IsFirstBad, IsAnswer, HasOneAnswer, ended, answer}
 
-module _ {T A : Type 0} (class : T → ℕ) (r : Row T A) (s : Shape) (h : Reads class r s) where
+module _ {T A : Type 0} (class : T → ℕ) (r : Row T A) (s : PhraseShape) (h : Reads class r s) where
   front_before : (us rest : List T) (j : ℕ) → Front r us → j ≤ length us → Front r (take j (us ++ rest))
   front_before us rest j f le = rw take-append-le (h.closed (take j us) (drop j us) (rw take-append-drop f))
 

@@ -1,11 +1,11 @@
 -- One phrase after another is read.
 use Rattle.std.proofs.Common.{◌≡◌, ℕ, ◌≤◌, List, [], ◌∷◌, ◌++◌, length, true, ◌⊎◌, inl, inr, refl, sym, ap, subst, ◌∙◌, append_assoc, append-nil, arith, ◌&&◌}
-use Rattle.phrase_rows.specs.Row.{Reading, Done, Bad, bind, Shape, Row, apart, chain, joined_values, keep_second, keep_first, pair, mapped}
+use Rattle.phrase_rows.specs.Row.{Reading, Done, Bad, bind, PhraseShape, Row, apart, chain, joined_values, keep_second, keep_first, pair, mapped}
 use Rattle.phrase_rows.specs.Reads.{Stops, Begins, Front, Takes, tokens_behind, Reads}
 use Rattle.phrase_rows.proofs.ListParts.{split, nil_parts, apart_out, takes_left, bind_left, stops_if, stops_and, begins_if, begins_and}
 use Rattle.phrase_rows.proofs.Plain.{reads_mapped}
 
-module _ {T A B : Type 0} (class : T → ℕ) (p : Row T A) (s : Shape) (q : A → Row T B) (hp : Reads class p p.shape) (hq : (a : A) → Reads class (q a) s) (ok : apart p.shape.more s.first ≡ true) where
+module _ {T A B : Type 0} (class : T → ℕ) (p : Row T A) (s : PhraseShape) (q : A → Row T B) (hp : Reads class p p.shape) (hq : (a : A) → Reads class (q a) s) (ok : apart p.shape.more s.first ≡ true) where
   chain_takes_second : (ts us mid : List T) (a : A) (x : Reading T B) → ts ≡ us ++ mid → p.whole us a → Takes (q a) mid x → Takes (chain p s q) ts x
   chain_takes_second ts us mid a (Done b rest) e w h = (us ++ h.0, e ∙ ap (λ (t : List T). us ++ t) h.1 ∙ sym (append_assoc us h.0 rest), (us, h.0, a, refl, w, h.2))
   chain_takes_second ts us mid a (Bad rest) e w h = (us ++ h.0, e ∙ ap (λ (t : List T). us ++ t) h.1 ∙ sym (append_assoc us h.0 rest), inr (us, h.0, a, refl, w, h.2))
@@ -90,7 +90,7 @@ module _ {T A B : Type 0} (class : T → ℕ) (p : Row T A) (s : Shape) (q : A �
     ];
   }
 
-pub reads_chain : {T A B : Type 0} (class : T → ℕ) {p : Row T A} {s : Shape} {q : A → Row T B} → Reads class p p.shape → ((a : A) → Reads class (q a) s) → apart p.shape.more s.first ≡ true → Reads class (chain p s q) (chain p s q).shape
+pub reads_chain : {T A B : Type 0} (class : T → ℕ) {p : Row T A} {s : PhraseShape} {q : A → Row T B} → Reads class p p.shape → ((a : A) → Reads class (q a) s) → apart p.shape.more s.first ≡ true → Reads class (chain p s q) (chain p s q).shape
 reads_chain class {p} {s} {q} hp hq ok = reads_chain_at class p s q hp hq ok
 
 pub reads_both : {T A B C : Type 0} (class : T → ℕ) (f : A → B → C) {p : Row T A} {q : Row T B} → Reads class p p.shape → Reads class q q.shape → apart p.shape.more q.shape.first ≡ true → Reads class (joined_values f p q) (joined_values f p q).shape

@@ -1,6 +1,6 @@
 -- Small rows over numbers, each number its own class: what they read, and what is first bad.
 use Rattle.std.proofs.Common.{◌≡◌, ◌+◌, ◌-◌, ℕ, List, [], ◌∷◌, Bool, true, false, ◌==◌, cond, inl, inr, refl, Some, None, Ok, Err}
-use Rattle.phrase_rows.specs.Row.{Row, one, keep_second, keep_first, separated, loop, Move, On, Ends, Stops, machine}
+use Rattle.phrase_rows.specs.Row.{Row, one, keep_second, keep_first, separated, loop, TokenMove, On, Ends, Stops, machine}
 use Rattle.phrase_rows.specs.Reads.{Reads}
 use Rattle.phrase_rows.specs.Answer.{IsFirstBad, answer}
 use Rattle.phrase_rows.proofs.Plain.{reads_one}
@@ -99,13 +99,13 @@ two_turns_are_whole : (turns 0).whole (5 ∷ 6 ∷ []) 6
 two_turns_are_whole = (5 ∷ 6 ∷ [], (5 ∷ [], 6 ∷ [], refl, (5, refl, refl, refl), (6 ∷ [], [], refl, (6, refl, refl, refl), (refl, refl))))
 
 -- 0s and as many 1s, each 1 behind its 0: the state is how many 0s wait
-abbrev nested_step : ℕ → ℕ → Move ℕ ℕ
+abbrev nested_step : ℕ → ℕ → TokenMove ℕ ℕ
 nested_step s t = cond (t == 0) (On (s + 1)) (cond (t == 1) (cond (s == 0) Stops (cond (s == 1) (Ends t) (On (s - 1)))) Stops)
 
 abbrev nested : Row ℕ ℕ
 nested = machine (0 ∷ []) nested_step 0
 
-zero_or_not : (a b : Bool) (x : Move ℕ ℕ) → cond a true false ≡ false → cond a x (cond b Stops Stops) ≡ Stops
+zero_or_not : (a b : Bool) (x : TokenMove ℕ ℕ) → cond a true false ≡ false → cond a x (cond b Stops Stops) ≡ Stops
 zero_or_not true b x e = absurd cc
 zero_or_not false true x e = refl
 zero_or_not false false x e = refl

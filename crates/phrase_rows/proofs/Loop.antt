@@ -1,10 +1,10 @@
 -- Any number of steps is read, each in the state that the one before gave.
 use Rattle.std.proofs.Common.{◌≡◌, ℕ, zero, suc, ◌≤◌, ◌<◌, List, [], ◌∷◌, ◌++◌, length, Bool, true, false, ◌⊎◌, inl, inr, refl, sym, ap, subst, ◌∙◌, append_assoc, append-nil, arith, length-append, cond}
-use Rattle.phrase_rows.specs.Row.{Reading, Done, Bad, bind, Shape, Row, among, apart, begins, loop, run_loop, Steps}
+use Rattle.phrase_rows.specs.Row.{Reading, Done, Bad, bind, PhraseShape, Row, among, apart, begins, loop, run_loop, Steps}
 use Rattle.phrase_rows.specs.Reads.{Stops, Begins, Front, Takes, tokens_behind, Reads}
 use Rattle.phrase_rows.proofs.ListParts.{split, nil_parts, apart_out, takes_left, bind_left, stops_left, stops_right}
 
-module _ {T S : Type 0} (class : T → ℕ) (form : Shape) (q : S → Row T S) (hq : (s : S) → Reads class (q s) form) (ok : apart form.more form.first ≡ true) (some : form.empty ≡ false) where
+module _ {T S : Type 0} (class : T → ℕ) (form : PhraseShape) (q : S → Row T S) (hq : (s : S) → Reads class (q s) form) (ok : apart form.more form.first ≡ true) (some : form.empty ≡ false) where
   loop_takes_rest : (s m : S) (ts us mid : List T) (x : Reading T S) → ts ≡ us ++ mid → (q s).whole us m → Takes (loop class form q m) mid x → Takes (loop class form q s) ts x
   loop_takes_rest s m ts us mid (Done last rest) e w (vs, d, (ms, steps)) = (us ++ vs, e ∙ ap (λ (t : List T). us ++ t) d ∙ sym (append_assoc us vs rest), (m ∷ ms, (us, vs, refl, w, steps)))
   loop_takes_rest s m ts us mid (Bad rest) e w (vs, d, (ms, last, es, bs, g, steps, c)) = (
@@ -179,19 +179,19 @@ module _ {T S : Type 0} (class : T → ℕ) (form : Shape) (q : S → Row T S) (
       step_at (Done m rest) h = let c = consumes s m (t ∷ ts) rest h in fuel (length ts) (length rest) m rest (omega arith) (omega arith)
       step_at (Bad rest) h = refl
 
-pub reads_loop : {T S : Type 0} (class : T → ℕ) {shape : Shape} {q : S → Row T S} → ((s : S) → Reads class (q s) shape) → apart shape.more shape.first ≡ true → shape.empty ≡ false → (s : S) → Reads class (loop class shape q s) (loop class shape q s).shape
+pub reads_loop : {T S : Type 0} (class : T → ℕ) {shape : PhraseShape} {q : S → Row T S} → ((s : S) → Reads class (q s) shape) → apart shape.more shape.first ≡ true → shape.empty ≡ false → (s : S) → Reads class (loop class shape q s) (loop class shape q s).shape
 reads_loop class {shape} {q} hq ok some s = reads_loop_at class shape q hq ok some s
 
 -- a loop takes one more step
-pub loop_next : {T S : Type 0} (class : T → ℕ) {shape : Shape} {q : S → Row T S} → ((s : S) → Reads class (q s) shape) → apart shape.more shape.first ≡ true → shape.empty ≡ false → (s m : S) (ts rest : List T) → begins class shape.first ts ≡ true → (q s).run ts ≡ Done m rest → (loop class shape q s).run ts ≡ (loop class shape q m).run rest
+pub loop_next : {T S : Type 0} (class : T → ℕ) {shape : PhraseShape} {q : S → Row T S} → ((s : S) → Reads class (q s) shape) → apart shape.more shape.first ≡ true → shape.empty ≡ false → (s m : S) (ts rest : List T) → begins class shape.first ts ≡ true → (q s).run ts ≡ Done m rest → (loop class shape q s).run ts ≡ (loop class shape q m).run rest
 loop_next class {shape} {q} hq ok some s m ts rest b e = loop_step_at class shape q hq ok some s ts ∙ rw b (rw e refl)
 
 -- the next step is bad
-pub loop_bad : {T S : Type 0} (class : T → ℕ) (shape : Shape) (q : S → Row T S) (s : S) (ts rest : List T) → begins class shape.first ts ≡ true → (q s).run ts ≡ Bad rest → (loop class shape q s).run ts ≡ Bad rest
+pub loop_bad : {T S : Type 0} (class : T → ℕ) (shape : PhraseShape) (q : S → Row T S) (s : S) (ts rest : List T) → begins class shape.first ts ≡ true → (q s).run ts ≡ Bad rest → (loop class shape q s).run ts ≡ Bad rest
 loop_bad class shape q s [] rest b e = absurd cc
 loop_bad class shape q s (t ∷ ts) rest b e = rw b (rw e refl)
 
 -- no more steps
-pub loop_end : {T S : Type 0} (class : T → ℕ) (shape : Shape) (q : S → Row T S) (s : S) (ts : List T) → begins class shape.first ts ≡ false → (loop class shape q s).run ts ≡ Done s ts
+pub loop_end : {T S : Type 0} (class : T → ℕ) (shape : PhraseShape) (q : S → Row T S) (s : S) (ts : List T) → begins class shape.first ts ≡ false → (loop class shape q s).run ts ≡ Done s ts
 loop_end class shape q s [] b = refl
 loop_end class shape q s (t ∷ ts) b = rw b refl

@@ -1,7 +1,7 @@
 -- The rows of no more than one token, and the same row under another value or shape, are read.
 use Rattle.std.proofs.Common.{◌≡◌, ℕ, zero, suc, List, [], ◌∷◌, ◌++◌, length, Bool, true, false, inl, inr, refl, ap, arith, length-append, cond, ◌==◌, Option, Some, None}
 use Rattle.std.proofs.lemmas.Bool.{eqb-true}
-use Rattle.phrase_rows.specs.Row.{Reading, Done, Bad, bind, Shape, Row, among, within, nothing, fail, one, run_one, mapped, deep, labelled}
+use Rattle.phrase_rows.specs.Row.{Reading, Done, Bad, bind, PhraseShape, Row, among, within, nothing, fail, one, run_one, mapped, deep, labelled}
 use Rattle.phrase_rows.specs.Reads.{Stops, Begins, Front, Takes, tokens_behind, Reads}
 use Rattle.phrase_rows.proofs.ListParts.{nil_parts, bool_cases, takes_left}
 
@@ -16,7 +16,7 @@ reads_nothing class a = record {
   closed = λ us vs f. elim f [ inl w ↦ inl (a, ((nil_parts us vs w.1.0).0, refl)) | inr c ↦ inl (a, ((nil_parts us vs c.1).0, refl)) ];
 }
 
-pub reads_fail : {T A : Type 0} (class : T → ℕ) (s : Shape) → Reads {A = A} class (fail s) s
+pub reads_fail : {T A : Type 0} (class : T → ℕ) (s : PhraseShape) → Reads {A = A} class (fail s) s
 reads_fail class s = record {
   takes = λ ts. ([], refl, refl);
   complete = λ us rest b w st. absurd w;
@@ -27,10 +27,10 @@ reads_fail class s = record {
   closed = λ us vs f. elim f [ inl w ↦ absurd w.1 | inr c ↦ inr (nil_parts us vs c).0 ];
 }
 
-pub reads_labelled : {T A : Type 0} {class : T → ℕ} {r : Row T A} {s : Shape} → Reads class r s → Reads class (labelled s r) s
+pub reads_labelled : {T A : Type 0} {class : T → ℕ} {r : Row T A} {s : PhraseShape} → Reads class r s → Reads class (labelled s r) s
 reads_labelled h = record { takes = h.takes; complete = h.complete; past = h.past; begins = h.begins; empty = h.empty; none = h.none; closed = h.closed }
 
-pub reads_deep : {T A : Type 0} (class : T → ℕ) (s : Shape) (f : Row T A → Row T A) → ((r : Row T A) → Reads class (labelled s r) s → Reads class (f (labelled s r)) s) → (n : ℕ) → Reads class (deep s f n) s
+pub reads_deep : {T A : Type 0} (class : T → ℕ) (s : PhraseShape) (f : Row T A → Row T A) → ((r : Row T A) → Reads class (labelled s r) s → Reads class (f (labelled s r)) s) → (n : ℕ) → Reads class (deep s f n) s
 reads_deep class s f h zero = reads_fail class s
 reads_deep class s f h (suc n) = h (deep s f n) (reads_labelled (reads_deep class s f h n))
 
@@ -82,7 +82,7 @@ pub mapped_left : {T A B : Type 0} (f : A → B) (x : Reading T A) → tokens_be
 mapped_left f (Done a rest) = refl
 mapped_left f (Bad rest) = refl
 
-pub reads_mapped : {T A B : Type 0} (class : T → ℕ) (f : A → B) {p : Row T A} {s : Shape} → Reads class p s → Reads class (mapped f p) s
+pub reads_mapped : {T A B : Type 0} (class : T → ℕ) (f : A → B) {p : Row T A} {s : PhraseShape} → Reads class p s → Reads class (mapped f p) s
 reads_mapped {T} {A} {B} class f {p} {s} h = record {
   takes = λ ts. mapped_takes f p ts (p.run ts) (h.takes ts);
   complete = λ us rest b w st. rw (h.complete us rest w.0 w.1 st) (rw w.2 refl);
@@ -113,7 +113,7 @@ begins_within class xs ys [] h b = tt
 begins_within class xs ys (t ∷ ts) h b = among_within (class t) xs ys h b
 
 -- a wider shape does too
-pub reads_wider : {T A : Type 0} (class : T → ℕ) {r : Row T A} {s : Shape} (w : Shape) → Reads class r s → within s.first w.first ≡ true → within s.more w.more ≡ true → (s.empty ≡ true → w.empty ≡ true) → Reads class r w
+pub reads_wider : {T A : Type 0} (class : T → ℕ) {r : Row T A} {s : PhraseShape} (w : PhraseShape) → Reads class r s → within s.first w.first ≡ true → within s.more w.more ≡ true → (s.empty ≡ true → w.empty ≡ true) → Reads class r w
 reads_wider class {r} {s} w h f m e = record {
   takes = h.takes;
   complete = λ us rest a v st. h.complete us rest a v (stops_within class s.more w.more rest m st);

@@ -2,13 +2,13 @@
 use Rattle.std.proofs.Common.{◌≡◌, ℕ, zero, suc, ◌≤◌, ◌+◌, List, [], ◌∷◌, length, true, inl, inr, refl, ap, arith, length-append, Option, Some, None}
 use Rattle.std.specs.List.{sum_by}
 use Rattle.std.proofs.lemmas.List.Sums.{sum_by-cons}
-use Rattle.phrase_rows.specs.Row.{Shape, Row, among, nothing, fail, one, chain, mapped, joined_values, keep_second, keep_first, pair, alt, optional, many, Each, separated, loop, Steps, Move, On, Ends, Stops, EndsWith, machine, labelled, deep}
+use Rattle.phrase_rows.specs.Row.{PhraseShape, Row, among, nothing, fail, one, chain, mapped, joined_values, keep_second, keep_first, pair, alt, optional, many, Each, separated, loop, Steps, TokenMove, On, Ends, Stops, EndsWith, machine, labelled, deep}
 use Rattle.phrase_rows.specs.Size.{IsSized, IsSizedFrom}
 
 pub sized_nothing : {T A : Type 0} (a : A) (f : A → ℕ) → f a ≡ 0 → IsSized {T = T} (nothing a) f
 sized_nothing a f e = record { size = λ us b w. rw w.1 (rw e (omega arith)) }
 
-pub sized_fail : {T A : Type 0} (s : Shape) (f : A → ℕ) → IsSized {T = T} (fail s) f
+pub sized_fail : {T A : Type 0} (s : PhraseShape) (f : A → ℕ) → IsSized {T = T} (fail s) f
 sized_fail s f = record { size = λ us b w. absurd w }
 
 pub sized_one : {T A : Type 0} (class : T → ℕ) (ks : List ℕ) (v : T → Option A) (f : A → ℕ) → ((t : T) (a : A) → among (class t) ks ≡ true → v t ≡ Some a → f a ≤ 1) → IsSized (one class ks v) f
@@ -29,7 +29,7 @@ mapped_from m g h le = record { size = λ us b w. rw w.2 (let k = h.size us w.0 
 pub alt_from : {T A : Type 0} (class : T → ℕ) {n : ℕ} {p q : Row T A} {f : A → ℕ} → IsSizedFrom n p f → IsSizedFrom n q f → IsSizedFrom n (alt class p q) f
 alt_from class hp hq = record { size = λ us a w. elim w [ inl v ↦ hp.size us a v | inr v ↦ hq.size us a v ] }
 
-pub labelled_from : {T A : Type 0} (s : Shape) {n : ℕ} {r : Row T A} {f : A → ℕ} → IsSizedFrom n r f → IsSizedFrom n (labelled s r) f
+pub labelled_from : {T A : Type 0} (s : PhraseShape) {n : ℕ} {r : Row T A} {f : A → ℕ} → IsSizedFrom n r f → IsSizedFrom n (labelled s r) f
 labelled_from s h = record { size = h.size }
 
 -- where the row's own phrase adds to n what its value is larger by
@@ -39,7 +39,7 @@ mapped_onto n m g h le = record { size = λ us b w. rw w.2 (let k = h.size us w.
 pub nothing_from : {T A : Type 0} (n : ℕ) (a : A) (f : A → ℕ) → f a ≤ n → IsSizedFrom {T = T} n (nothing a) f
 nothing_from n a f le = record { size = λ us b w. rw w.1 (rw w.0 (let l = le in omega (arith, l))) }
 
-pub fail_from : {T A : Type 0} (n : ℕ) (s : Shape) (f : A → ℕ) → IsSizedFrom {T = T} n (fail s) f
+pub fail_from : {T A : Type 0} (n : ℕ) (s : PhraseShape) (f : A → ℕ) → IsSizedFrom {T = T} n (fail s) f
 fail_from n s f = record { size = λ us b w. absurd w }
 
 pub one_from : {T A : Type 0} (n : ℕ) (class : T → ℕ) (ks : List ℕ) (v : T → Option A) (f : A → ℕ) → ((t : T) (a : A) → among (class t) ks ≡ true → v t ≡ Some a → f a ≤ n + 1) → IsSizedFrom n (one class ks v) f
@@ -64,7 +64,7 @@ second_from h hp hq le = record {
       omega (arith, k, l, d, ap length w.3, length-append w.0 w.1));
 }
 
-pub chain_from : {T A B : Type 0} {n : ℕ} {p : Row T A} (s : Shape) {q : A → Row T B} {f : A → ℕ} (g : B → ℕ) → IsSizedFrom n p f → ((a : A) → IsSizedFrom (f a) (q a) g) → IsSizedFrom n (chain p s q) g
+pub chain_from : {T A B : Type 0} {n : ℕ} {p : Row T A} (s : PhraseShape) {q : A → Row T B} {f : A → ℕ} (g : B → ℕ) → IsSizedFrom n p f → ((a : A) → IsSizedFrom (f a) (q a) g) → IsSizedFrom n (chain p s q) g
 chain_from s g hp hq = record {
   size = λ ts b w.
       (let k = hp.size w.0 w.2 w.4 in
@@ -72,7 +72,7 @@ chain_from s g hp hq = record {
       omega (arith, k, l, ap length w.3, length-append w.0 w.1));
 }
 
-pub sized_chain : {T A B : Type 0} {p : Row T A} (s : Shape) {q : A → Row T B} {f : A → ℕ} (g : B → ℕ) → IsSized p f → ((a : A) → IsSizedFrom (f a) (q a) g) → IsSized (chain p s q) g
+pub sized_chain : {T A B : Type 0} {p : Row T A} (s : PhraseShape) {q : A → Row T B} {f : A → ℕ} (g : B → ℕ) → IsSized p f → ((a : A) → IsSizedFrom (f a) (q a) g) → IsSized (chain p s q) g
 sized_chain s g hp hq = sized_at_zero (chain_from s g (sized_from 0 hp) hq)
 
 pub sized_both : {T A B C : Type 0} (m : A → B → C) {p : Row T A} {q : Row T B} {f : A → ℕ} {g : B → ℕ} (h : C → ℕ) → IsSized p f → IsSized q g → ((a : A) (b : B) → h (m a b) ≤ f a + g b) → IsSized (joined_values m p q) h
@@ -133,11 +133,11 @@ sized_steps q f h (m ∷ ms) s last us (vs, ws, e, w, steps) =
     let l = sized_steps q f h ms m last ws steps in
     omega (arith, k, l, ap length e, length-append vs ws)
 
-pub sized_loop : {T S : Type 0} (class : T → ℕ) (shape : Shape) {q : S → Row T S} (f : S → ℕ) → ((s : S) → IsSizedFrom (f s) (q s) f) → (s : S) → IsSizedFrom (f s) (loop class shape q s) f
+pub sized_loop : {T S : Type 0} (class : T → ℕ) (shape : PhraseShape) {q : S → Row T S} (f : S → ℕ) → ((s : S) → IsSizedFrom (f s) (q s) f) → (s : S) → IsSizedFrom (f s) (loop class shape q s) f
 sized_loop class shape {q} f h s = record { size = λ us last w. sized_steps q f h w.0 s last us w.1 }
 
-module _ {T S A : Type 0} (step : S → T → Move S A) (n : S → ℕ) (f : A → ℕ) (on : (s m : S) (t : T) → step s t ≡ On m → n m ≤ suc (n s)) (ends : (s : S) (t : T) (a : A) → step s t ≡ Ends a → f a ≤ suc (n s)) where
-  machine_size_by : (s : S) (t : T) (us : List T) (a : A) (x : Move S A) → step s t ≡ x → elim x as (λ m. Type 0) [ On m ↦ EndsWith step m us a | Ends b ↦ (us ≡ []) × (a ≡ b) | Stops ↦ ⊥ ] → ((m : S) → EndsWith step m us a → f a ≤ n m + length us) → f a ≤ n s + suc (length us)
+module _ {T S A : Type 0} (step : S → T → TokenMove S A) (n : S → ℕ) (f : A → ℕ) (on : (s m : S) (t : T) → step s t ≡ On m → n m ≤ suc (n s)) (ends : (s : S) (t : T) (a : A) → step s t ≡ Ends a → f a ≤ suc (n s)) where
+  machine_size_by : (s : S) (t : T) (us : List T) (a : A) (x : TokenMove S A) → step s t ≡ x → elim x as (λ m. Type 0) [ On m ↦ EndsWith step m us a | Ends b ↦ (us ≡ []) × (a ≡ b) | Stops ↦ ⊥ ] → ((m : S) → EndsWith step m us a → f a ≤ n m + length us) → f a ≤ n s + suc (length us)
   machine_size_by s t us a (On m) e w ih = let k = ih m w in let l = on s m t e in omega (arith, k, l)
   machine_size_by s t us a (Ends b) e w ih = rw w.1 (let l = ends s t b e in omega (arith, l))
   machine_size_by s t us a Stops e w ih = absurd w
@@ -147,16 +147,16 @@ module _ {T S A : Type 0} (step : S → T → Move S A) (n : S → ℕ) (f : A �
   machine_size (t ∷ us) s a w = machine_size_by s t us a (step s t) refl w (λ m v. machine_size us m a v)
 
 -- where each step adds no more than one
-pub sized_machine_from : {T S A : Type 0} (first : List ℕ) (step : S → T → Move S A) (n : S → ℕ) (f : A → ℕ) → ((s m : S) (t : T) → step s t ≡ On m → n m ≤ suc (n s)) → ((s : S) (t : T) (a : A) → step s t ≡ Ends a → f a ≤ suc (n s)) → (s : S) → IsSizedFrom (n s) (machine first step s) f
+pub sized_machine_from : {T S A : Type 0} (first : List ℕ) (step : S → T → TokenMove S A) (n : S → ℕ) (f : A → ℕ) → ((s m : S) (t : T) → step s t ≡ On m → n m ≤ suc (n s)) → ((s : S) (t : T) (a : A) → step s t ≡ Ends a → f a ≤ suc (n s)) → (s : S) → IsSizedFrom (n s) (machine first step s) f
 sized_machine_from first step n f on ends s = record { size = λ us a w. machine_size step n f on ends us s a w }
 
 -- where each value is no larger than one
-pub sized_machine : {T S A : Type 0} (first : List ℕ) (step : S → T → Move S A) (f : A → ℕ) → ((a : A) → f a ≤ 1) → (s : S) → IsSized (machine first step s) f
+pub sized_machine : {T S A : Type 0} (first : List ℕ) (step : S → T → TokenMove S A) (f : A → ℕ) → ((a : A) → f a ≤ 1) → (s : S) → IsSized (machine first step s) f
 sized_machine first step f le s = sized_at_zero (sized_machine_from first step (λ m. 0) f (λ s m t e. omega arith) (λ s t a e. le a) s)
 
-pub sized_labelled : {T A : Type 0} (s : Shape) {r : Row T A} {f : A → ℕ} → IsSized r f → IsSized (labelled s r) f
+pub sized_labelled : {T A : Type 0} (s : PhraseShape) {r : Row T A} {f : A → ℕ} → IsSized r f → IsSized (labelled s r) f
 sized_labelled s h = record { size = h.size }
 
-pub sized_deep : {T A : Type 0} (s : Shape) (m : Row T A → Row T A) (f : A → ℕ) → ((r : Row T A) → IsSized (labelled s r) f → IsSized (m (labelled s r)) f) → (n : ℕ) → IsSized (deep s m n) f
+pub sized_deep : {T A : Type 0} (s : PhraseShape) (m : Row T A → Row T A) (f : A → ℕ) → ((r : Row T A) → IsSized (labelled s r) f → IsSized (m (labelled s r)) f) → (n : ℕ) → IsSized (deep s m n) f
 sized_deep s m f h zero = sized_fail s f
 sized_deep s m f h (suc n) = h (deep s m n) (sized_labelled s (sized_deep s m f h n))

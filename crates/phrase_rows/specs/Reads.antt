@@ -1,6 +1,6 @@
 -- For the proof of `read_items`: what it is that a row's reader reads the row.
 use Rattle.std.specs.Prelude.{◌≡◌, ℕ, ◌≤◌, List, [], ◌∷◌, ◌++◌, length, true, false, ◌⊎◌}
-use Rattle.phrase_rows.specs.Row.{Reading, Done, Bad, Shape, Row, among}
+use Rattle.phrase_rows.specs.Row.{Reading, Done, Bad, PhraseShape, Row, among}
 
 -- a whole phrase or a cut one
 abbrev pub Front : {T A : Type 0} → Row T A → List T → Type 0
@@ -28,7 +28,7 @@ tokens_behind (Bad rest) = rest
 
 -- The reader reads the row: what it takes is taken rightly, a whole phrase before what cannot go on with it is read,
 -- and the first bad token is told.
-pub record Reads {T A : Type 0} (class : T → ℕ) (r : Row T A) (s : Shape) : Type 0 where
+pub record Reads {T A : Type 0} (class : T → ℕ) (r : Row T A) (s : PhraseShape) : Type 0 where
   pub takes : (ts : List T) → Takes r ts (r.run ts)
   -- a whole phrase before what cannot go on with it is read
   pub complete : (us rest : List T) (a : A) → r.whole us a → Stops class s.more rest → r.run (us ++ rest) ≡ Done a rest

@@ -13,7 +13,7 @@ bind (Done a rest) f = f a rest
 bind (Bad rest) f = Bad rest
 
 -- the classes of tokens that may begin a phrase, those that may go on with a whole one, and whether it may be of no token
-pub record Shape : Type 0 where
+pub record PhraseShape : Type 0 where
   pub first : List ℕ
   pub more : List ℕ
   pub empty : Bool
@@ -23,7 +23,7 @@ pub record Row (T A : Type 0) : Type 1 where
   pub whole : List T → A → Type 0
   pub cut : List T → Type 0
   pub run : List T → Reading T A
-  pub shape : Shape
+  pub shape : PhraseShape
 
 -- the class is one of these
 abbrev pub among : ℕ → List ℕ → Bool
@@ -55,7 +55,7 @@ nothing {T} {A} a = record {
 }
 
 -- not to be had
-abbrev pub fail : {T A : Type 0} → Shape → Row T A
+abbrev pub fail : {T A : Type 0} → PhraseShape → Row T A
 fail {T} {A} s = record {
   whole = λ us b. ⊥;
   cut = λ us. us ≡ [];
@@ -78,7 +78,7 @@ one {T} {A} class ks f = record {
 }
 
 -- one phrase after another, which may depend on the first one's value
-abbrev pub chain : {T A B : Type 0} → Row T A → Shape → (A → Row T B) → Row T B
+abbrev pub chain : {T A B : Type 0} → Row T A → PhraseShape → (A → Row T B) → Row T B
 chain {T} {A} {B} p s q = record {
   whole = λ ts b. (us : List T) × (vs : List T) × (a : A) × (ts ≡ us ++ vs) × p.whole us a × (q a).whole vs b;
   cut = λ ts. p.cut ts ⊎ ((us : List T) × (vs : List T) × (a : A) × (ts ≡ us ++ vs) × p.whole us a × (q a).cut vs);
@@ -160,12 +160,12 @@ Steps P s us [] last = (us ≡ []) × (last ≡ s)
 Steps {T} {S} P s us (m ∷ ms) last = (vs : List T) × (ws : List T) × (us ≡ vs ++ ws) × P s vs m × Steps P m ws ms last
 
 -- as many steps as there are, of which there are no more than n
-abbrev pub run_loop : {T S : Type 0} → (T → ℕ) → Shape → (S → Row T S) → ℕ → S → List T → Reading T S
+abbrev pub run_loop : {T S : Type 0} → (T → ℕ) → PhraseShape → (S → Row T S) → ℕ → S → List T → Reading T S
 run_loop class shape q zero s ts = Done s ts
 run_loop class shape q (suc n) s ts = cond (begins class shape.first ts) (bind ((q s).run ts) (λ m rest. run_loop class shape q n m rest)) (Done s ts)
 
 -- any number of steps, each of which may depend on the state so far and gives the next: the value is the last state
-abbrev pub loop : {T S : Type 0} → (T → ℕ) → Shape → (S → Row T S) → S → Row T S
+abbrev pub loop : {T S : Type 0} → (T → ℕ) → PhraseShape → (S → Row T S) → S → Row T S
 loop {T} {S} class shape q s = record {
   whole = λ us last. (ms : List S) × Steps (λ m. (q m).whole) s us ms last;
   cut = λ us. (ms : List S) × (last : S) × (vs : List T) × (ws : List T) × (us ≡ vs ++ ws) × Steps (λ m. (q m).whole) s vs ms last × (q last).cut ws;
@@ -174,28 +174,28 @@ loop {T} {S} class shape q s = record {
 }
 
 -- what a token does to a state: it goes on in another, it ends the phrase with a value, or it is no part of the phrase
-pub data Move (S A : Type 0) : Type 0 where
-  On : (state : S) → Move S A
-  Ends : (value : A) → Move S A
-  Stops : Move S A
+pub data TokenMove (S A : Type 0) : Type 0 where
+  On : (state : S) → TokenMove S A
+  Ends : (value : A) → TokenMove S A
+  Stops : TokenMove S A
 
 -- the steps go on through all tokens but the last, which ends them with the value
-abbrev pub EndsWith : {T S A : Type 0} → (S → T → Move S A) → S → List T → A → Type 0
+abbrev pub EndsWith : {T S A : Type 0} → (S → T → TokenMove S A) → S → List T → A → Type 0
 EndsWith step s [] a = ⊥
 EndsWith step s (t ∷ us) a = elim (step s t) as (λ m. Type 0) [ On m ↦ EndsWith step m us a | Ends b ↦ (us ≡ []) × (a ≡ b) | Stops ↦ ⊥ ]
 
 -- the steps go on through all tokens
-abbrev pub GoesOn : {T S A : Type 0} → (S → T → Move S A) → S → List T → Type 0
+abbrev pub GoesOn : {T S A : Type 0} → (S → T → TokenMove S A) → S → List T → Type 0
 GoesOn step s [] = Unit {0}
 GoesOn step s (t ∷ us) = elim (step s t) as (λ m. Type 0) [ On m ↦ GoesOn step m us | Ends b ↦ ⊥ | Stops ↦ ⊥ ]
 
 -- reads token by token, as the steps of a machine say
-abbrev pub run_machine : {T S A : Type 0} → (S → T → Move S A) → S → List T → Reading T A
+abbrev pub run_machine : {T S A : Type 0} → (S → T → TokenMove S A) → S → List T → Reading T A
 run_machine step s [] = Bad []
 run_machine step s (t ∷ ts) = elim (step s t) [ On m ↦ run_machine step m ts | Ends a ↦ Done a ts | Stops ↦ Bad (t ∷ ts) ]
 
 -- tokens one by one, until a step ends the phrase; these are the classes that may begin it
-abbrev pub machine : {T S A : Type 0} → List ℕ → (S → T → Move S A) → S → Row T A
+abbrev pub machine : {T S A : Type 0} → List ℕ → (S → T → TokenMove S A) → S → Row T A
 machine first step s = record {
   whole = EndsWith step s;
   cut = GoesOn step s;
@@ -204,10 +204,10 @@ machine first step s = record {
 }
 
 -- the same row, under a given shape
-abbrev pub labelled : {T A : Type 0} → Shape → Row T A → Row T A
+abbrev pub labelled : {T A : Type 0} → PhraseShape → Row T A → Row T A
 labelled {T} {A} s r = record { whole = r.whole; cut = r.cut; run = r.run; shape = s }
 
 -- a row that contains itself, no more than n deep
-abbrev pub deep : {T A : Type 0} → Shape → (Row T A → Row T A) → ℕ → Row T A
+abbrev pub deep : {T A : Type 0} → PhraseShape → (Row T A → Row T A) → ℕ → Row T A
 deep s f zero = fail s
 deep s f (suc n) = f (labelled s (deep s f n))

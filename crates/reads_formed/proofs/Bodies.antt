@@ -20,7 +20,7 @@ use Rattle.record_table.specs.Layout.{judged}
 use Rattle.record_table.specs.Fields.{Texts, Numbering, after, label}
 use Rattle.record_table.specs.Lines.{ending, instruction, is_end}
 use Rattle.record_table.specs.Faults.{Answer, ◌>>=◌, Records, no_more, a_block, a_record, is_block_id, BadRecord, UnknownRecord}
-use Rattle.record_table.specs.Bodies.{Begun, Due, Parameters, FirstBlock, Line, NextBlock, after_all, at_first, body, body_from, closed_at, is_block, is_line, is_parameters, labels, labels_by, parameters, results, with_end, with_instruction, with_label, with_names, with_opcode, with_parameters, with_record}
+use Rattle.record_table.specs.Bodies.{Begun, BodyDue, Parameters, FirstBlock, Line, NextBlock, after_all, at_first, body, body_from, closed_at, is_block, is_line, is_parameters, labels, labels_by, parameters, results, with_end, with_instruction, with_label, with_names, with_opcode, with_parameters, with_record}
 use Rattle.record_table.specs.Records.{parameters_of, types_of, with_body}
 use Rattle.body_labels.specs.Laws.{HasSoundLabels, opened, results_in, results_of}
 use Rattle.body_labels.proofs.Ahead.{all_read, first_ahead}
@@ -87,13 +87,13 @@ blocks_same : (bs : List Block) → results_of bs ≡ flat_map block_results bs
 blocks_same [] = refl
 blocks_same (b ∷ bs) = ap (λ (xs : List LocalName). xs ++ results_of bs) (instructions_same b.instructions) ∙ ap (λ (xs : List LocalName). block_results b ++ xs) (blocks_same bs)
 
-block_closed : {A : Type 0} (due : Due) (xs : List A) → is_block due ≡ true → opened due xs ≡ []
+block_closed : {A : Type 0} (due : BodyDue) (xs : List A) → is_block due ≡ true → opened due xs ≡ []
 block_closed Parameters xs e = refl
 block_closed FirstBlock xs e = refl
 block_closed Line xs e = absurd (cc)
 block_closed NextBlock xs e = refl
 
-block_not : (due : Due) → is_block due ≡ true → due ≡ Parameters → ⊥
+block_not : (due : BodyDue) → is_block due ≡ true → due ≡ Parameters → ⊥
 block_not Parameters e p = cc
 block_not FirstBlock e p = cc
 block_not Line e p = cc
@@ -113,7 +113,7 @@ results_more : (is : List Instruction) (i : Instruction) → flat_map result_nam
 results_more is i =
     ap (λ (xs : List LocalName). flat_map result_name is ++ xs) (results_same i.result ∙ sym (append-nil (option_to_list i.result))) ∙ sym (flat_map-append result_name is (i ∷ []))
 
-line_more : (P B : List LocalName) (name : LocalName) (is : List Instruction) (i : Instruction) (due : Due) → due ≡ Line
+line_more : (P B : List LocalName) (name : LocalName) (is : List Instruction) (i : Instruction) (due : BodyDue) → due ≡ Line
     → (P ++ (B ++ opened due (name ∷ flat_map result_name is))) ++ results i.result ≡ P ++ (B ++ opened due (name ∷ flat_map result_name (is ++ i ∷ [])))
 line_more P B name is i due line =
     ap (λ d. (P ++ (B ++ opened d (name ∷ flat_map result_name is))) ++ results i.result) line
@@ -121,7 +121,7 @@ line_more P B name is i due line =
     ∙ (ap (λ (xs : List LocalName). P ++ xs) (append_assoc B (name ∷ flat_map result_name is) (results i.result) ∙ ap (λ (xs : List LocalName). B ++ (name ∷ xs)) (results_more is i))
     ∙ ap (λ d. P ++ (B ++ opened d (name ∷ flat_map result_name (is ++ i ∷ [])))) (sym line)))
 
-end_more : (P : List LocalName) (bs : List Block) (b : Block) (due : Due) → due ≡ Line
+end_more : (P : List LocalName) (bs : List Block) (b : Block) (due : BodyDue) → due ≡ Line
     → P ++ (flat_map block_names bs ++ opened due (block_names b)) ≡ P ++ (flat_map block_names (bs ++ b ∷ []) ++ [])
 end_more P bs b due line =
     ap (λ d. P ++ (flat_map block_names bs ++ opened d (block_names b))) line
@@ -173,7 +173,7 @@ module _ (texts : Texts) (are : AreTexts texts) (m : Module) (k : Numbering) (of
         some = λ p. absurd (cc);
       })
 
-  line_not : (due : Due) → due ≡ Line → due ≡ Parameters → ⊥
+  line_not : (due : BodyDue) → due ≡ Line → due ≡ Parameters → ⊥
   line_not due is p = cc
 
   end_step : (s t : Begun) (operands : List ℕ) (o : Opcode) → is_end o ≡ true → IsSoFar s → with_end s (judged (ending k o) operands) ≡ Ok t → IsSoFar t
@@ -211,7 +211,7 @@ module _ (texts : Texts) (are : AreTexts texts) (m : Module) (k : Numbering) (of
         some = λ p. absurd (next_not s.due line p);
       })
     where
-      next_not : (due : Due) → due ≡ Line → due ≡ NextBlock → ⊥
+      next_not : (due : BodyDue) → due ≡ Line → due ≡ NextBlock → ⊥
       next_not due is p = cc
 
   line_step : (s t : Begun) (operands : List ℕ) (o : Opcode) (b : Bool) → is_end o ≡ b → IsSoFar s
@@ -239,7 +239,7 @@ module _ (texts : Texts) (are : AreTexts texts) (m : Module) (k : Numbering) (of
   closed : (s t : Begun) → IsSoFar s → closed_at s s.due ≡ Ok t → IsOver t
   closed s t h e = by s.due refl e
     where
-      by : (due : Due) → s.due ≡ due → closed_at s due ≡ Ok t → IsOver t
+      by : (due : BodyDue) → s.due ≡ due → closed_at s due ≡ Ok t → IsOver t
       by Parameters is e = absurd (cc)
       by FirstBlock is e = absurd (cc)
       by Line is e = absurd (cc)
@@ -275,7 +275,7 @@ module _ (texts : Texts) (are : AreTexts texts) (m : Module) (k : Numbering) (of
   so_far : IsSoFar texts are m k of count s
   so_far = over.so_far
 
-  over_not : (due : Due) → due ≡ NextBlock → due ≡ Parameters → ⊥
+  over_not : (due : BodyDue) → due ≡ NextBlock → due ≡ Parameters → ⊥
   over_not due is p = cc
 
   all_names : AreNames s.own s.taken (s.parameters ++ flat_map block_names s.blocks)

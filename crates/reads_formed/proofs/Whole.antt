@@ -4,7 +4,7 @@ use Rattle.std.specs.Prelude.{Ok, Err, is_some}
 use Rattle.std.specs.List.{list_all, list_any, AllByRecursion}
 use Rattle.std.proofs.lemmas.Bool.{and_from, le-leb, ltb-false}
 use Rattle.std.proofs.lemmas.List.{length-map}
-use Rattle.bit_tree.specs.Stream.{Tree}
+use Rattle.bit_tree.specs.Stream.{StreamTree}
 use Rattle.module_arena.specs.Functions.{blocks}
 use Rattle.module_arena.specs.Module.{Bytes, Variable, Alias, Function, Module}
 use Rattle.module_arena.specs.Names as arena
@@ -14,7 +14,7 @@ use Rattle.record_table.specs.Fields.{Texts, version_1}
 use Rattle.record_table.specs.Layout.{judged, to_end}
 use Rattle.record_table.specs.Fields as fields
 use Rattle.record_table.specs.StringTable.{read_only}
-use Rattle.record_table.specs.Records.{Sofar, StandFor, Table, at_first, block_in, ended, first_due, is_ours, module_behind, module_block, module_from, module_of, names_of, nothing_behind, producer_from, read, record_in, table, table_ended}
+use Rattle.record_table.specs.Records.{Sofar, StandFor, ReadTable, at_first, block_in, ended, first_due, is_ours, module_behind, module_block, module_from, module_of, names_of, nothing_behind, producer_from, read, record_in, table, table_ended}
 use Rattle.reads_formed.proofs.Good.{AreTexts}
 use Rattle.reads_formed.proofs.Tests.{all_pass, both_of, each_map, each_too}
 use Rattle.reads_formed.proofs.Texts.{bytes_read}
@@ -179,30 +179,30 @@ block_good t are at (a_block id inside behind) m e = by (nat_eq id 8) e
 
 -- ---- the string table
 
-table_kept : (t u : Table) (rest : Records) → table_ended t rest ≡ Ok u → t ≡ u
+table_kept : (t u : ReadTable) (rest : Records) → table_ended t rest ≡ Ok u → t ≡ u
 table_kept t u no_more e = cc
 table_kept t u (a_block id inside behind) e = absurd (never_misplaced id t.at (is_block_id id) u e)
 table_kept t u (a_record code operands behind) e = by (nat_eq code 1) e
   where
-    by : (b : Bool) → cond {A = Answer Table} b (unless_broken 23 t.at (also 5 false (judged (to_end fields.byte) operands).1) t) (Err (UnknownRecord 23 code)) ≡ Ok u → t ≡ u
+    by : (b : Bool) → cond {A = Answer ReadTable} b (unless_broken 23 t.at (also 5 false (judged (to_end fields.byte) operands).1) t) (Err (UnknownRecord 23 code)) ≡ Ok u → t ≡ u
     by true e = (unless_ok 23 t.at (also 5 false (judged (to_end fields.byte) operands).1) t u e).1
     by false e = absurd (cc)
 
-table_bytes : (at : ℕ) (rest : Records) (u : Table) → table at rest ≡ Ok u → arena.are_bytes u.bytes ≡ true
+table_bytes : (at : ℕ) (rest : Records) (u : ReadTable) → table at rest ≡ Ok u → arena.are_bytes u.bytes ≡ true
 table_bytes at no_more u e = absurd (cc)
 table_bytes at (a_block id inside behind) u e = absurd (never_misplaced id at (is_block_id id) u e)
 table_bytes at (a_record code operands behind) u e = by (nat_eq code 1) e
   where
-    made : Table
+    made : ReadTable
     made = record { at = suc at; bytes = (judged (to_end fields.byte) operands).0 }
 
-    by : (b : Bool) → cond {A = Answer Table} b (unless_broken 23 at (judged (to_end fields.byte) operands).1 made >>= λ t. table_ended t behind) (Err (UnknownRecord 23 code)) ≡ Ok u → arena.are_bytes u.bytes ≡ true
+    by : (b : Bool) → cond {A = Answer ReadTable} b (unless_broken 23 at (judged (to_end fields.byte) operands).1 made >>= λ t. table_ended t behind) (Err (UnknownRecord 23 code)) ≡ Ok u → arena.are_bytes u.bytes ≡ true
     by true e =
         let x = judged (to_end fields.byte) operands in
         let y = then_ok (unless_broken 23 at x.1 made) (λ t. table_ended t behind) u e in
         let one = unless_ok 23 at x.1 made y.0 y.1.0 in
         let same : made ≡ u = one.1 ∙ table_kept y.0 u behind y.1.1 in
-        subst (λ (v : Table). arena.are_bytes v.bytes ≡ true) same (judged_read (λ b. arena.are_bytes b ≡ true) (to_end fields.byte) bytes_read operands one.0)
+        subst (λ (v : ReadTable). arena.are_bytes v.bytes ≡ true) same (judged_read (λ b. arena.are_bytes b ≡ true) (to_end fields.byte) bytes_read operands one.0)
     by false e = absurd (cc)
 
 -- ---- the whole stream
@@ -228,5 +228,5 @@ read_good (a_block id inside behind) m e = by (nat_eq id 13 && is_ours inside) e
     by false e = absurd (cc)
 
 -- a module that a tree stands for
-pub stands_well : (tree : Tree) (m : Module) → StandFor tree m → IsWellFormed m
+pub stands_well : (tree : StreamTree) (m : Module) → StandFor tree m → IsWellFormed m
 stands_well tree m h = read_good (records tree) m h

@@ -1,6 +1,6 @@
 -- What the values of whole phrases are like where each token is spelled in bytes.
 use Rattle.std.proofs.Common.{◌≡◌, ℕ, List, [], ◌∷◌, ◌++◌, true, Option, Some, None, inl, inr, sym, subst}
-use Rattle.phrase_rows.specs.Row.{Row, Shape, nothing, fail, one, chain, mapped, joined_values, keep_second, keep_first, pair, alt, optional, many, Each, separated, loop, Steps, labelled}
+use Rattle.phrase_rows.specs.Row.{Row, PhraseShape, nothing, fail, one, chain, mapped, joined_values, keep_second, keep_first, pair, alt, optional, many, Each, separated, loop, Steps, labelled}
 use Rattle.ir_lexer.specs.Ahead.{Located}
 use Rattle.ir_lexer.specs.Table.{IsToken}
 use Rattle.module_arena.specs.Names.{are_bytes}
@@ -38,7 +38,7 @@ given_weaker Q h k = record { value = λ us a q w. k a (h.value us a q w) }
 pub given_also : {A : Type 0} {r : Row Located A} {P Q : A → Type 0} → Given r P → Given r Q → Given r (λ a. P a × Q a)
 given_also h g = record { value = λ us a q w. (h.value us a q w, g.value us a q w) }
 
-pub given_fail : {A : Type 0} (s : Shape) (P : A → Type 0) → Given (fail s) P
+pub given_fail : {A : Type 0} (s : PhraseShape) (P : A → Type 0) → Given (fail s) P
 given_fail s P = record { value = λ us a q w. absurd w }
 
 pub given_nothing : {A : Type 0} (a : A) (P : A → Type 0) → P a → Given (nothing a) P
@@ -50,7 +50,7 @@ given_one class ks f P h = record { value = λ us a q w. h w.0 a (subst (AllAre 
 pub given_mapped : {A B : Type 0} (f : A → B) {p : Row Located A} {P : A → Type 0} (Q : B → Type 0) → Given p P → ((a : A) → P a → Q (f a)) → Given (mapped f p) Q
 given_mapped f Q h k = record { value = λ us b q w. subst Q (sym w.2) (k w.0 (h.value us w.0 q w.1)) }
 
-pub given_chain : {A B : Type 0} {p : Row Located A} (s : Shape) {q : A → Row Located B} {P : A → Type 0} (Q : B → Type 0) → Given p P → ((a : A) → P a → Given (q a) Q) → Given (chain p s q) Q
+pub given_chain : {A B : Type 0} {p : Row Located A} (s : PhraseShape) {q : A → Row Located B} {P : A → Type 0} (Q : B → Type 0) → Given p P → ((a : A) → P a → Given (q a) Q) → Given (chain p s q) Q
 given_chain s Q h k = record { value = λ ts b all w. (k w.2 (h.value w.0 w.2 (halves ts w.0 w.1 w.3 all).0 w.4)).value w.1 b (halves ts w.0 w.1 w.3 all).1 w.5 }
 
 pub given_both : {A B C : Type 0} (f : A → B → C) {p : Row Located A} {q : Row Located B} {P : A → Type 0} {Q : B → Type 0} (R : C → Type 0) → Given p P → Given q Q → ((a : A) (b : B) → P a → Q b → R (f a b)) → Given (joined_values f p q) R
@@ -93,8 +93,8 @@ steps_given q I h (m ∷ ms) s last us i all (vs, ws, e, w, steps) =
     steps_given q I h ms m last ws ((h s i).value vs m parts.0 w) parts.1 steps
 
 -- what each step keeps
-pub given_loop : {S : Type 0} (class : Located → ℕ) (shape : Shape) {q : S → Row Located S} (I : S → Type 0) → ((s : S) → I s → Given (q s) I) → (s : S) → I s → Given (loop class shape q s) I
+pub given_loop : {S : Type 0} (class : Located → ℕ) (shape : PhraseShape) {q : S → Row Located S} (I : S → Type 0) → ((s : S) → I s → Given (q s) I) → (s : S) → I s → Given (loop class shape q s) I
 given_loop class shape {q} I h s i = record { value = λ us last all w. steps_given q I h w.0 s last us i all w.1 }
 
-pub given_labelled : {A : Type 0} (s : Shape) {r : Row Located A} {P : A → Type 0} → Given r P → Given (labelled s r) P
+pub given_labelled : {A : Type 0} (s : PhraseShape) {r : Row Located A} {P : A → Type 0} → Given r P → Given (labelled s r) P
 given_labelled s h = record { value = h.value }

@@ -8,7 +8,7 @@ use Rattle.record_table.specs.Fields.{Texts, Numbering, label, after}
 use Rattle.record_table.specs.Lines.{instruction, operation_opcode, call_parts}
 use Rattle.module_arena.specs.TypeTests.{is_void}
 use Rattle.record_table.specs.Faults.{Answer, ◌>>=◌}
-use Rattle.record_table.specs.Bodies.{Due, Line, NextBlock, is_block, after_all, with_names, Begun, with_record, with_label, body_from, results, are_new}
+use Rattle.record_table.specs.Bodies.{BodyDue, Line, NextBlock, is_block, after_all, with_names, Begun, with_record, with_label, body_from, results, are_new}
 use Rattle.record_table.specs.Spelling.{Line as OneLine, put, records_put, instruction_line, ending_line, block_lines}
 use Rattle.record_table.specs.Listed.{IsLabel}
 use Rattle.record_bodies.specs.FittingBodies.{own_behind, taken_behind, own_behind_block, taken_behind_block, InstructionsFit, BlockFits, BlocksFit}
@@ -46,7 +46,7 @@ module _ (texts : Texts) (k : Numbering) (lays_label : (own : ℕ) → Lays (IsL
   spelled_as own _ i = refl
 
   -- what is read so far in a block
-  abbrev pub in_block : ℕ → Due → ℕ → List Bytes → List LocalName → List Block → LocalName → List Instruction → Begun
+  abbrev pub in_block : ℕ → BodyDue → ℕ → List Bytes → List LocalName → List Block → LocalName → List Instruction → Begun
   in_block at due own taken parameters blocks name instructions =
       record { at = at; due = due; own = own; taken = taken; parameters = parameters; blocks = blocks; name = name; instructions = instructions }
 
@@ -65,7 +65,7 @@ module _ (texts : Texts) (k : Numbering) (lays_label : (own : ℕ) → Lays (IsL
       ∙ ap (λ all. body_from texts k count (in_block (at_behind (suc at) is) Line (own_behind own (i ∷ is)) (taken_behind taken (i ∷ is)) parameters blocks name all) (records_put behind)) (append_assoc done (i ∷ []) is)
 
   -- the name of a block
-  label_step : (at own : ℕ) (due : Due) (taken : List Bytes) (parameters : List LocalName) (blocks : List Block) (before : LocalName) (done : List Instruction) (name : LocalName)
+  label_step : (at own : ℕ) (due : BodyDue) (taken : List Bytes) (parameters : List LocalName) (blocks : List Block) (before : LocalName) (done : List Instruction) (name : LocalName)
       → is_block due ≡ true → IsLabel texts own name → are_new taken (name ∷ []) ≡ true
       → with_record texts k count (in_block at due own taken parameters blocks before done) 2 ((label texts 0).spell name)
       ≡ Ok (in_block (suc at) Line (after own name) (with_names taken (name ∷ [])) parameters blocks name [])
@@ -73,7 +73,7 @@ module _ (texts : Texts) (k : Numbering) (lays_label : (own : ℕ) → Lays (IsL
       ap (with_label (in_block at due own taken parameters blocks before done)) (judged_from texts k lays_label count (label texts own) name ((label texts 0).spell name) ((lays_label own).back name [] fit))
       ∙ (rw (may, new) refl)
 
-  block_back : (b : Block) (at own : ℕ) (due : Due) (taken : List Bytes) (parameters : List LocalName) (blocks : List Block) (before : LocalName) (done : List Instruction) (behind : Written)
+  block_back : (b : Block) (at own : ℕ) (due : BodyDue) (taken : List Bytes) (parameters : List LocalName) (blocks : List Block) (before : LocalName) (done : List Instruction) (behind : Written)
       → is_block due ≡ true → BlockFits texts k own taken b
       → body_from texts k count (in_block at due own taken parameters blocks before done) (records_put (put (block_lines texts k b) behind))
       ≡ body_from texts k count (in_block (at_behind_block at b) NextBlock (own_behind_block own b) (taken_behind_block taken b) parameters (blocks ++ b ∷ []) b.name b.instructions) (records_put behind)
@@ -91,7 +91,7 @@ module _ (texts : Texts) (k : Numbering) (lays_label : (own : ℕ) → Lays (IsL
   behind_all at own taken parameters blocks b [] = in_block (at_behind_block at b) NextBlock (own_behind_block own b) (taken_behind_block taken b) parameters (blocks ++ b ∷ []) b.name b.instructions
   behind_all at own taken parameters blocks b (c ∷ bs) = behind_all (at_behind_block at b) (own_behind_block own b) (taken_behind_block taken b) parameters (blocks ++ b ∷ []) c bs
 
-  pub blocks_back : (b : Block) (bs : List Block) (at own : ℕ) (due : Due) (taken : List Bytes) (parameters : List LocalName) (blocks : List Block) (before : LocalName) (done : List Instruction)
+  pub blocks_back : (b : Block) (bs : List Block) (at own : ℕ) (due : BodyDue) (taken : List Bytes) (parameters : List LocalName) (blocks : List Block) (before : LocalName) (done : List Instruction)
       → is_block due ≡ true → BlocksFit texts k own taken (b ∷ bs)
       → body_from texts k count (in_block at due own taken parameters blocks before done) (records_put (put (flat_map (block_lines texts k) (b ∷ bs)) no_more))
       ≡ Ok (behind_all at own taken parameters blocks b bs)

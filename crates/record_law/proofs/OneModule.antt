@@ -1,7 +1,7 @@
 -- A tree stands for one module, or a record of it is refused.
 use Rattle.std.proofs.Common.{◌≡◌, ◌⊎◌, Some, Ok, Err, refl, sym, ap, ◌∙◌, inl, inr}
 use Rattle.std.specs.List.{AllByRecursion}
-use Rattle.bit_tree.specs.Stream.{Tree}
+use Rattle.bit_tree.specs.Stream.{StreamTree}
 use Rattle.bit_tree.specs.Written.{no_more}
 use Rattle.module_arena.specs.Module.{Module}
 use Rattle.record_table.specs.Listed.{AreBytes}
@@ -15,7 +15,7 @@ by_answer : (answer : Answer Module) → ((m : Module) × (answer ≡ Ok m)) ⊎
 by_answer (Ok m) = inl (m, refl)
 by_answer (Err fault) = inr (fault, refl)
 
-pub read_or_refused : (tree : Tree) → ((m : Module) × StandFor tree m) ⊎ ((fault : RecordFault) × (record_fault tree ≡ Some fault))
+pub read_or_refused : (tree : StreamTree) → ((m : Module) × StandFor tree m) ⊎ ((fault : RecordFault) × (record_fault tree ≡ Some fault))
 read_or_refused tree = by_answer (read (records tree))
 
 -- what is read, or else this
@@ -27,7 +27,7 @@ same_answer : (m n : Module) → Path (Answer Module) (Ok m) (Ok n) → m ≡ n
 unfolding or_else
 same_answer m n e = ap (or_else m) e
 
-pub one_module : (tree : Tree) (m n : Module) → StandFor tree m → StandFor tree n → m ≡ n
+pub one_module : (tree : StreamTree) (m n : Module) → StandFor tree m → StandFor tree n → m ≡ n
 one_module tree m n one other = same_answer m n (sym one ∙ other)
 
 pub openings_back : (m : Module) → AllByRecursion AreBytes (texts_of m)

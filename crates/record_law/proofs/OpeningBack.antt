@@ -8,7 +8,7 @@ use Rattle.record_table.specs.Layout.{many, to_end, judged}
 use Rattle.record_table.specs.Fields.{byte}
 use Rattle.record_table.specs.StringTable.{has_text, with_text, once_each, joined, read_only}
 use Rattle.record_table.specs.Faults.{◌>>=◌, no_more, a_record, table_id, module_id, unless_broken}
-use Rattle.record_table.specs.Records.{Table, table, table_ended, module_block, read}
+use Rattle.record_table.specs.Records.{ReadTable, table, table_ended, module_block, read}
 use Rattle.record_table.specs.Spelling.{put_block, put_module, written_module, records_put, string_table, texts_of, texts_in}
 use Rattle.record_table.specs.Listed.{AreBytes}
 use Rattle.bit_tree.specs.Written as written
@@ -23,7 +23,7 @@ bytes_judged bytes fit =
     ap (λ (p : Bytes × Walk). (p.0, told p.1)) (ap (λ ns. many byte.read (length bytes) (going ns None)) (sym (append-nil bytes)) ∙ bytes_back bytes [] fit)
 
 pub table_back : (at : ℕ) (bytes : Bytes) → AreBytes bytes → table at (a_record 1 bytes no_more) ≡ Ok (record { at = suc at; bytes = bytes })
-table_back at bytes fit = ap (λ (x : Bytes × Option ℕ). unless_broken table_id at x.1 (record { at = suc at; bytes = x.0 }) >>= λ (t : Table). table_ended t no_more) (bytes_judged bytes fit)
+table_back at bytes fit = ap (λ (x : Bytes × Option ℕ). unless_broken table_id at x.1 (record { at = suc at; bytes = x.0 }) >>= λ (t : ReadTable). table_ended t no_more) (bytes_judged bytes fit)
 
 -- what is read of a module that is written is what is read of its block, in its table
 pub opening_back : (m : Module) → AreBytes (string_table m)

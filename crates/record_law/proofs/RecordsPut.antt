@@ -25,7 +25,7 @@ IsLong (a_definition ops behind) = IsLong behind
 IsLong (a_record code ns behind) = IsLong behind
 IsLong (a_short_record id code ns behind) = ⊥
 
-past_definition : (id : ℕ) (t : Option AdmittedAbbreviation) (behind : stream.Tree) → records (with_definition id t behind) ≡ records behind
+past_definition : (id : ℕ) (t : Option AdmittedAbbreviation) (behind : stream.StreamTree) → records (with_definition id t behind) ≡ records behind
 past_definition id None behind = refl
 past_definition id (Some t) behind = refl
 
@@ -45,7 +45,7 @@ record IsReady (w : Writer) : Type 0 where
 still_ready : (w : Writer) (code : ℕ) (text : Bytes) → IsReady w → IsReady (abbreviated w 4 code text)
 still_ready w code text ready = record { plain = rw (ready.plain, ready.plain) refl; there = rw ready.plain ready.there }
 
-bytes_put : (id : ℕ) (t : Option AdmittedAbbreviation) (code : ℕ) (ns : List ℕ) (behind : stream.Tree) → t ≡ Some (record { code = Chunks 6; operands = []; tail = Elements (Field 8) })
+bytes_put : (id : ℕ) (t : Option AdmittedAbbreviation) (code : ℕ) (ns : List ℕ) (behind : stream.StreamTree) → t ≡ Some (record { code = Chunks 6; operands = []; tail = Elements (Field 8) })
     → records (with_values id t code ns behind) ≡ one_record code ns (records behind)
 bytes_put id t code ns behind there = rw there refl
 

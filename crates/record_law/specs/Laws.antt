@@ -2,7 +2,7 @@
 use Rattle.std.specs.Prelude.{◌≡◌, ◌⊎◌, Some}
 use Rattle.std.specs.List.{AllByRecursion}
 use Rattle.bit_stream.specs.Writer.{begun}
-use Rattle.bit_tree.specs.Stream.{Tree}
+use Rattle.bit_tree.specs.Stream.{StreamTree}
 use Rattle.bit_tree.specs.Written.{no_more, tree_of}
 use Rattle.module_arena.specs.Module.{Module}
 use Rattle.record_table.specs.Listed.{AreBytes}
@@ -14,11 +14,11 @@ use Rattle.record_table.specs.Spelling.{put_block, put_module, written_module, r
 
 -- a tree stands for a module, or a first record of it is refused
 abbrev pub TreesAreReadOrRefused : Type 0
-TreesAreReadOrRefused = (tree : Tree) → ((m : Module) × StandFor tree m) ⊎ ((fault : RecordFault) × (record_fault tree ≡ Some fault))
+TreesAreReadOrRefused = (tree : StreamTree) → ((m : Module) × StandFor tree m) ⊎ ((fault : RecordFault) × (record_fault tree ≡ Some fault))
 
 -- a tree stands for one module alone
 abbrev pub TreesStandForOne : Type 0
-TreesStandForOne = (tree : Tree) (m n : Module) → StandFor tree m → StandFor tree n → m ≡ n
+TreesStandForOne = (tree : StreamTree) (m n : Module) → StandFor tree m → StandFor tree n → m ≡ n
 
 -- the tree that is written has the records that were put
 abbrev pub RecordsAreThosePut : Type 0

@@ -6,7 +6,7 @@ use Rattle.std.proofs.lemmas.List.{append-nil, length-append}
 use Rattle.name_table.specs.Entries.{value_of}
 use Rattle.module_arena.specs.Module.{Bytes}
 use Rattle.record_table.specs.StringTable.{has_text, joined, offset_among}
-use Rattle.record_order.specs.Table.{Table, Holds, Gains}
+use Rattle.record_order.specs.Table.{PlacedTexts, Holds, Gains}
 
 or_left : (a b : Bool) → a ≡ true → (a || b) ≡ true
 or_left true b h = refl
@@ -57,16 +57,16 @@ offset_last (t ∷ ts) text none = elim (bytes_eq t text) as (λ b. b ≡ bytes_
 ] refl
 
 -- nothing is added of an empty text
-pub gains_nothing : (table : Table) (text : Bytes) → text ≡ [] → Gains table table (text ∷ [])
+pub gains_nothing : (table : PlacedTexts) (text : Bytes) → text ≡ [] → Gains table table (text ∷ [])
 gains_nothing table [] e = record { holds = λ texts h. h }
 gains_nothing table (b ∷ bs) e = absurd cc
 
 -- nor of one that is there
-pub gains_known : (table : Table) (text : Bytes) (offset : ℕ) → value_of table.offsets text ≡ Some offset → Gains table table (text ∷ [])
+pub gains_known : (table : PlacedTexts) (text : Bytes) (offset : ℕ) → value_of table.offsets text ≡ Some offset → Gains table table (text ∷ [])
 gains_known table [] offset e = record { holds = λ texts h. h }
 gains_known table (b ∷ bs) offset e = record { holds = λ texts h. subst (λ (v : Bool). Holds table (cond v texts (texts ++ (b ∷ bs) ∷ []))) (sym (h.others (b ∷ bs) offset e)) h }
 
-module _ (old new : Table) (text : Bytes) (none : value_of old.offsets text ≡ None)
+module _ (old new : PlacedTexts) (text : Bytes) (none : value_of old.offsets text ≡ None)
     (offsets : (other : Bytes) → value_of new.offsets other ≡ cond (bytes_eq other text) (Some (length old.bytes)) (value_of old.offsets other))
     (bytes : new.bytes ≡ old.bytes ++ text) where
   module _ (texts : List Bytes) (h : Holds old texts) where
@@ -103,7 +103,7 @@ no_text : (texts : List Bytes) (text : Bytes) → (has_text texts text ≡ true 
 no_text texts text none = elim (has_text texts text) as (λ b. b ≡ has_text texts text → has_text texts text ≡ false) [ true ↦ (λ e. absurd (none (sym e))) | false ↦ (λ e. sym e) ] refl
 
 -- a new text stands behind all others
-pub gains_new : (old new : Table) (text : Bytes) → value_of old.offsets text ≡ None
+pub gains_new : (old new : PlacedTexts) (text : Bytes) → value_of old.offsets text ≡ None
     → ((other : Bytes) → value_of new.offsets other ≡ cond (bytes_eq other text) (Some (length old.bytes)) (value_of old.offsets other))
     → new.bytes ≡ old.bytes ++ text → (text ≡ [] → ⊥) → Gains old new (text ∷ [])
 gains_new old new [] none offsets bytes some = absurd (some refl)

@@ -16,9 +16,9 @@ pub struct TextTable<'a> {
 }
 
 impl<'a> Model for TextTable<'a> {
-    ghost use Rattle.record_order.specs.Table.{Table};
+    ghost use Rattle.record_order.specs.Table.{PlacedTexts};
 
-    ghost Value = { Table };
+    ghost Value = { PlacedTexts };
 
     ghost view = { λ t. record { offsets = t.offsets; bytes = t.bytes.items } };
 }

@@ -3,7 +3,7 @@ use Rattle.std.proofs.Common.{◌≡◌, ℕ, suc, Bool, true, false, nat_eq, Li
 use Rattle.std.proofs.lemmas.List.{append_assoc}
 use Rattle.bit_stream.specs.Abbreviation.{AdmittedAbbreviation}
 use Rattle.bit_tree.specs.Pieces.{Piece, begun, ended, defines, holds, flat}
-use Rattle.bit_tree.specs.Stream.{Tree, nothing, block, definition, values}
+use Rattle.bit_tree.specs.Stream.{StreamTree, nothing, block, definition, values}
 use Rattle.record_table.specs.Walk.{going}
 use Rattle.record_table.specs.Faults.{Records, records}
 use Rattle.record_read.specs.declared.entry.NextEntry.TheVariants.{Block, Record, End}
@@ -25,12 +25,12 @@ no_defines (p ∷ ps) rest id d h is = cc
 
 -- a block
 
-opened : (inside behind : Tree) (left rest others : List Piece) (piece first : Piece) → left ≡ rest → piece ∷ rest ≡ (first ∷ (flat inside ++ ended ∷ flat behind)) ++ others → left ≡ flat inside ++ ended ∷ (flat behind ++ others)
+opened : (inside behind : StreamTree) (left rest others : List Piece) (piece first : Piece) → left ≡ rest → piece ∷ rest ≡ (first ∷ (flat inside ++ ended ∷ flat behind)) ++ others → left ≡ flat inside ++ ended ∷ (flat behind ++ others)
 opened inside behind left rest others piece first same h =
     let tail : rest ≡ (flat inside ++ ended ∷ flat behind) ++ others = cc in
     same ∙ (tail ∙ append_assoc (flat inside) (ended ∷ flat behind) others)
 
-block_of : (t : Tree) (old new : Reader) (rest others : List Piece) (id width words : ℕ) → IsEnd others → begun id width words ∷ rest ≡ flat t ++ others → nat_eq id 0 ≡ false
+block_of : (t : StreamTree) (old new : Reader) (rest others : List Piece) (id width words : ℕ) → IsEnd others → begun id width words ∷ rest ≡ flat t ++ others → nat_eq id 0 ≡ false
     → new.left ≡ rest → new.at ≡ old.at → Gives (records t) old (Block id) new others
 unfolding flat
 block_of nothing old new rest others id width words end h other left at = absurd (no_begun others rest id width words end h)
@@ -56,7 +56,7 @@ gives_block old new now rest all others id width words h is other left at =
 
 -- a record
 
-record_of : (t : Tree) (old new : Reader) (rest others : List Piece) (id code : ℕ) (operands : List ℕ) (has_blob : Bool) (blob : List ℕ) → IsEnd others → holds id code operands has_blob blob ∷ rest ≡ flat t ++ others
+record_of : (t : StreamTree) (old new : Reader) (rest others : List Piece) (id code : ℕ) (operands : List ℕ) (has_blob : Bool) (blob : List ℕ) → IsEnd others → holds id code operands has_blob blob ∷ rest ≡ flat t ++ others
     → new.left ≡ rest → new.at ≡ suc old.at → new.walk ≡ going operands None → Gives (records t) old (Record code) new others
 unfolding flat
 record_of nothing old new rest others id code operands has_blob blob end h left at walk = absurd (no_holds others rest id code operands has_blob blob end h)
@@ -79,7 +79,7 @@ over_by : (others rest left : List Piece) → ended ∷ rest ≡ others → left
 over_by [] rest left h is = absurd (cc)
 over_by (p ∷ ps) rest left h is = let tail : rest ≡ ps = cc in is ∙ tail
 
-end_of : (t : Tree) (old new : Reader) (rest others : List Piece) → ended ∷ rest ≡ flat t ++ others → new.left ≡ rest → new.at ≡ old.at → Gives (records t) old End new others
+end_of : (t : StreamTree) (old new : Reader) (rest others : List Piece) → ended ∷ rest ≡ flat t ++ others → new.left ≡ rest → new.at ≡ old.at → Gives (records t) old End new others
 unfolding flat
 end_of nothing old new rest others h left at = (at, over_by others rest new.left h left)
 end_of (block i w n inside behind) old new rest others h left at = absurd (cc)
@@ -94,7 +94,7 @@ whole_by : (others left : List Piece) → [] ≡ others → left ≡ [] → IsOv
 whole_by [] left h is = is
 whole_by (p ∷ ps) left h is = absurd (cc)
 
-whole_of : (t : Tree) (old new : Reader) (others : List Piece) → [] ≡ flat t ++ others → new.left ≡ [] → new.at ≡ old.at → Gives (records t) old End new others
+whole_of : (t : StreamTree) (old new : Reader) (others : List Piece) → [] ≡ flat t ++ others → new.left ≡ [] → new.at ≡ old.at → Gives (records t) old End new others
 unfolding flat
 whole_of nothing old new others h left at = (at, whole_by others new.left h left)
 whole_of (block i w n inside behind) old new others h left at = absurd (cc)
@@ -107,7 +107,7 @@ gives_whole old new now all others h is left at =
 
 -- what is passed over
 
-definition_of : (t : Tree) (left rest others : List Piece) (id : ℕ) (d : AdmittedAbbreviation) → IsEnd others → defines id d ∷ rest ≡ flat t ++ others → left ≡ rest → IsBefore left (records t) others
+definition_of : (t : StreamTree) (left rest others : List Piece) (id : ℕ) (d : AdmittedAbbreviation) → IsEnd others → defines id d ∷ rest ≡ flat t ++ others → left ≡ rest → IsBefore left (records t) others
 unfolding flat
 definition_of nothing left rest others id d end h is = absurd (no_defines others rest id d end h)
 definition_of (block i w n inside behind) left rest others id d end h is = absurd (cc)
@@ -124,7 +124,7 @@ past_definition now left rest all others id d h is left_is =
 abbrev pub Goes : List Piece → List Piece → Type 0
 Goes from to = (inside : Records) (others : List Piece) → IsBefore from inside (ended ∷ others) → to ≡ others
 
-info_of : (t : Tree) (from to rest others : List Piece) (id width words : ℕ) → IsEnd others → begun id width words ∷ rest ≡ flat t ++ others → nat_eq id 0 ≡ true → from ≡ rest → Goes from to → IsBefore to (records t) others
+info_of : (t : StreamTree) (from to rest others : List Piece) (id width words : ℕ) → IsEnd others → begun id width words ∷ rest ≡ flat t ++ others → nat_eq id 0 ≡ true → from ≡ rest → Goes from to → IsBefore to (records t) others
 unfolding flat
 info_of nothing from to rest others id width words end h info is goes = absurd (no_begun others rest id width words end h)
 info_of (block i w n inside behind) from to rest others id width words end h info is goes =

@@ -1,7 +1,7 @@
 -- What a walker leaves while a block is passed over, and that what it gives is less.
 use Rattle.std.proofs.Common.{◌≡◌, ◌≤◌, ◌<◌, ◌+◌, ◌-◌, ℕ, Bool, true, false, List, ◌∷◌, ◌++◌, length, Option, Some, None, Ok, arith}
 use Rattle.bit_tree.specs.Pieces.{Piece, ended, flat}
-use Rattle.bit_tree.specs.Stream.{Tree}
+use Rattle.bit_tree.specs.Stream.{StreamTree}
 use Rattle.bit_walk.specs.Walker.{Walker, Gave, Walks, piece_of}
 use Rattle.bit_walk.specs.declared.event.Event.{Event}
 use Rattle.bit_walk.specs.declared.event.Event.TheVariants.{Begun, Ended, Defined, Held}
@@ -45,7 +45,7 @@ on_event n (Held head) old new others h more g = after_held n head.id head.code 
 pub record IsPassing (start now : Walker) (unclosed : ℕ) : Type 0 where
   pub spent : now.spent ≡ false
   pub fewer : length now.left ≤ length start.left
-  pub closes : (t : Tree) (others : List Piece) → start.left ≡ flat t ++ ended ∷ others → IsClosing unclosed now.left others
+  pub closes : (t : StreamTree) (others : List Piece) → start.left ≡ flat t ++ ended ∷ others → IsClosing unclosed now.left others
 
 -- one step
 pub passes_on : (E : Type 0) (start old new : Walker) (n m : ℕ) (given : Option Event) (event : Event) → IsPassing start old n → 0 < n → Walks {E = E} old.spent old (Ok given) new → given ≡ Some event → m ≡ open_behind event n
@@ -61,7 +61,7 @@ passes_on E start old new n m given event h more walks is count =
 
 -- the end of a stream is in no block
 pub passes_none : (E : Type 0) (start old new : Walker) (n : ℕ) (given : Option Event) → IsPassing start old n → 0 < n → Walks {E = E} old.spent old (Ok given) new → given ≡ None
-    → (new.spent ≡ false) × (length new.left ≤ length start.left) × ((t : Tree) (others : List Piece) → start.left ≡ flat t ++ ended ∷ others → new.left ≡ others)
+    → (new.spent ≡ false) × (length new.left ≤ length start.left) × ((t : StreamTree) (others : List Piece) → start.left ≡ flat t ++ ended ∷ others → new.left ≡ others)
 passes_none E start old new n given h more walks is =
     let g : Gave old None new = rw is at (gave E old.spent old new given h.spent walks) in
     (g.0, rw g.2 (omega arith), λ t others at. absurd (not_over n old.left others (h.closes t others at) more g.1))

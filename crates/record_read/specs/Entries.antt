@@ -1,7 +1,7 @@
 -- For `RecordReader::next`: the blocks and records of a tree, one behind another; BLOCKINFO and definitions are passed over.
 use Rattle.std.specs.Prelude.{◌≡◌, ◌≤◌, ◌<◌, suc, length, true, false, List, [], ◌∷◌, ◌++◌, Result, Ok, Err, None}
 use Rattle.bit_tree.specs.Pieces.{Piece, ended, flat}
-use Rattle.bit_tree.specs.Stream.{Tree}
+use Rattle.bit_tree.specs.Stream.{StreamTree}
 use Rattle.record_table.specs.Walk.{going}
 use Rattle.record_table.specs.Faults.{Records, no_more, a_block, a_record, records}
 use Rattle.record_read.specs.declared.entry.NextEntry.{NextEntry}
@@ -15,7 +15,7 @@ IsEnd (piece ∷ pieces) = piece ≡ ended
 
 -- what is left of a block, or of the stream, are these blocks and records and then its end with other pieces
 pub record IsBefore (left : List Piece) (inside : Records) (others : List Piece) : Type 0 where
-  pub tree : Tree
+  pub tree : StreamTree
   pub is : inside ≡ records tree
   pub left_is : left ≡ flat tree ++ others
   pub ends : IsEnd others

@@ -2,7 +2,7 @@
 ghost use Rattle.std.specs.Prelude.{◌≡◌, ◌≤◌, ◌<◌, ◌+◌, ◌&&◌, not, nat_lt, true, false, [], length, IfOk, OnOk, OnErr};
 ghost use Rattle.bit_stream.specs.declared.reader.TheConstants.{LARGEST_STREAM};
 ghost use Rattle.bit_tree.specs.Read.{IsStream};
-ghost use Rattle.bit_tree.specs.Stream.{Tree, Stream};
+ghost use Rattle.bit_tree.specs.Stream.{StreamTree, Stream};
 ghost use Rattle.record_table.specs.Walk as walk;
 ghost use Rattle.record_table.specs.Layout.{number};
 ghost use Rattle.record_table.specs.Faults.{records};
@@ -63,7 +63,7 @@ impl<'b> RecordReader<'b> {
         requires short { length bytes.now ≤ LARGEST_STREAM }
         requires judged { IsStream bytes.now }
         ensures unspent { result.spent ≡ false }
-        ensures whole { (tree : Tree) → Stream bytes.now tree → IsBefore result.left (records tree) [] }
+        ensures whole { (tree : StreamTree) → Stream bytes.now tree → IsBefore result.left (records tree) [] }
         ensures none { result.at ≡ 0 }
     {
         RecordReader {

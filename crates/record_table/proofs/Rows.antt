@@ -71,7 +71,7 @@ unfolding computed
 it_is_read = refl
 
 -- the tree of these blocks and records
-abbrev pub tree_of : Records → stream.Tree
+abbrev pub tree_of : Records → stream.StreamTree
 tree_of no_more = stream.nothing
 tree_of (a_block id inside behind) = stream.block id 3 0 (tree_of inside) (tree_of behind)
 tree_of (a_record code operands behind) = stream.values 3 code operands false [] (tree_of behind)

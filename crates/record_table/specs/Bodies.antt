@@ -93,25 +93,25 @@ module _ (texts : Texts) (k : Numbering) where
       labels_from (record { own = after_all 0 names; values = names; blocks = [] }) inside
 
 -- what is due: the parameters, the first block, a line of a block, or another block or the end
-pub data Due : Type 0 where
-  Parameters : Due
-  FirstBlock : Due
-  Line : Due
-  NextBlock : Due
+pub data BodyDue : Type 0 where
+  Parameters : BodyDue
+  FirstBlock : BodyDue
+  Line : BodyDue
+  NextBlock : BodyDue
 
 -- the parameters are due
-abbrev pub is_parameters : Due → Bool
+abbrev pub is_parameters : BodyDue → Bool
 is_parameters Parameters = true
 is_parameters _ = false
 
 -- a block may begin
-abbrev pub is_block : Due → Bool
+abbrev pub is_block : BodyDue → Bool
 is_block FirstBlock = true
 is_block NextBlock = true
 is_block _ = false
 
 -- a line is due
-abbrev pub is_line : Due → Bool
+abbrev pub is_line : BodyDue → Bool
 is_line Line = true
 is_line _ = false
 
@@ -119,7 +119,7 @@ is_line _ = false
 -- that are there, the parameters, the blocks that have ended, and the name and the instructions of the one that has not
 pub record Begun : Type 0 where
   pub at : ℕ
-  pub due : Due
+  pub due : BodyDue
   pub own : ℕ
   pub taken : List Bytes
   pub parameters : List LocalName
@@ -173,7 +173,7 @@ with_end s x = declaring s [] (is_line s.due) x.1
     (record s { at = suc s.at; due = NextBlock; blocks = s.blocks ++ record { name = s.name; instructions = s.instructions; ending = x.0 } ∷ [] })
 
 -- a body is over behind the end of a block; else its parameters, a block or a line of it are missing
-abbrev pub closed_at : Begun → Due → Answer Begun
+abbrev pub closed_at : Begun → BodyDue → Answer Begun
 closed_at s NextBlock = Ok s
 closed_at s _ = Err (BadRecord body_id s.at 5)
 

@@ -1,7 +1,7 @@
 -- For `read` of bitcode: what refuses a tree of blocks and records.
 use Rattle.std.specs.Prelude.{ℕ, nat_eq, Bool, true, false, List, [], ◌∷◌, Option, Some, None, Result, Ok, Err, if◌then◌else◌}
 use Rattle.std.specs.List.{list_any}
-use Rattle.bit_tree.specs.Stream.{Tree, nothing, block, definition, values}
+use Rattle.bit_tree.specs.Stream.{StreamTree, nothing, block, definition, values}
 use Rattle.record_table.specs.Walk.{least}
 
 -- Another producer; another version; a code that its block does not have (0 where there is no such block); or a record,
@@ -34,7 +34,7 @@ abbrev pub but_for_info : ℕ → Records → Records → Records
 but_for_info id inside behind = if nat_eq id 0 then behind else a_block id inside behind
 
 -- those of a tree
-abbrev pub records : Tree → Records
+abbrev pub records : StreamTree → Records
 records nothing = no_more
 records (block id width words inside behind) = but_for_info id (records inside) (records behind)
 records (definition id t behind) = records behind

@@ -241,19 +241,19 @@ module_block texts at (a_block id inside behind) =
 module_block texts at (a_record code operands behind) = Err (BadRecord module_id at 5)
 
 -- what is read of a table: how many records of the stream, and its bytes
-pub record Table : Type 0 where
+pub record ReadTable : Type 0 where
   pub at : ℕ
   pub bytes : Bytes
 
 -- a table's block has one record
-abbrev pub table_ended : Table → Records → Answer Table
+abbrev pub table_ended : ReadTable → Records → Answer ReadTable
 table_ended t no_more = Ok t
 table_ended t (a_block id inside behind) = misplaced id t.at
 table_ended t (a_record code operands behind) =
     if nat_eq code 1 then unless_broken table_id t.at (also 5 false (judged (to_end byte) operands).1) t else Err (UnknownRecord table_id code)
 
 -- a table, whose block stands behind so many records
-abbrev pub table : ℕ → Records → Answer Table
+abbrev pub table : ℕ → Records → Answer ReadTable
 table at no_more = Err (BadRecord table_id at 5)
 table at (a_block id inside behind) = misplaced id at
 table at (a_record code operands behind) =
@@ -288,7 +288,7 @@ read (a_block id inside behind) = if nat_eq id producer_id && is_ours inside the
 read (a_record code operands behind) = Err ForeignProducer
 
 -- the records of a tree stand for this module
-abbrev pub StandFor : stream.Tree → Module → Type 0
+abbrev pub StandFor : stream.StreamTree → Module → Type 0
 StandFor tree m = read (records tree) ≡ Ok m
 
 -- what refuses, where something does
@@ -297,11 +297,11 @@ fault_in (Ok m) = None
 fault_in (Err fault) = Some fault
 
 -- the first record of a tree that is refused
-abbrev pub record_fault : stream.Tree → Option RecordFault
+abbrev pub record_fault : stream.StreamTree → Option RecordFault
 record_fault tree = fault_in (read (records tree))
 
 -- the bytes are a tree whose records stand for the module, in version 1 or in version 2
 pub record Spells (bytes : List ℕ) (m : Module) : Type 0 where
-  pub tree : stream.Tree
+  pub tree : stream.StreamTree
   pub is_tree : stream.Stream bytes tree
   pub stands : StandFor tree m

@@ -10,7 +10,7 @@ use Rattle.module_arena.specs.declared.constant.TypedConst.{TypedConst}
 use Rattle.module_arena.specs.Lists.{Lists}
 use Rattle.run_accesses.specs.Near.{IsNear}
 use Rattle.run_rules.specs.Constant.{constant_indices}
-use Rattle.run_rules.specs.Displace.{Index, inner_term, inner_terms, known, number_in, reach_of, sum_of, terms_of}
+use Rattle.run_rules.specs.Displace.{TermIndex, inner_term, inner_terms, known, number_in, reach_of, sum_of, terms_of}
 use Rattle.run_rules.specs.Leaves.{element, field}
 use Rattle.run_constants.specs.declared.distance.PathPlace.TheVariants.{Whole}
 use Rattle.run_constants.specs.declared.distance.Reached.{Reached}
@@ -74,7 +74,7 @@ no_distance : (r : Option ℤ) (x : ℕ) → r ≡ Some (pos 0) → IfSome r (Is
 no_distance r x e = subst (λ (o : Option ℤ). IfSome o (IsNear x)) (sym e) (omega arith)
 
 -- an index leads further only into a part
-step_near : (s : Shape) (i : Index) (m : ℕ) (r : Option ℤ) → r ≡ term_reach (inner_term s i) → IfSome r (IsNear m) → IfSome r (IsNear ((nesting s - nesting (element s (number_in i))) * m))
+step_near : (s : Shape) (i : TermIndex) (m : ℕ) (r : Option ℤ) → r ≡ term_reach (inner_term s i) → IfSome r (IsNear m) → IfSome r (IsNear ((nesting s - nesting (element s (number_in i))) * m))
 step_near (int_leaf w) i m r e h = no_distance r _ e
 step_near ptr_leaf i m r e h = no_distance r _ e
 step_near void_leaf i m r e h = no_distance r _ e
@@ -87,7 +87,7 @@ step_near (struct_of label packed ss) i m r e h =
 -- ---- along the indices
 
 -- the indices so far have led so far that the others lead as far as all do
-pub record IsOnTheWay (t : Types) (most : ℕ) (r : Reached) (rest : List Index) (whole : Option ℤ) : Type 0 where
+pub record IsOnTheWay (t : Types) (most : ℕ) (r : Reached) (rest : List TermIndex) (whole : Option ℤ) : Type 0 where
   pub place : IsPlace t r.place
   pub nests : nesting (shape_at t r.place) ≤ 65
   pub near : IfSome r.distance (IsNear ((65 - nesting (shape_at t r.place)) * most))
@@ -100,7 +100,7 @@ split n k m le bound = go (65 - n) (n - k) (omega (arith, le, bound))
     go x y e = let parts : (x + y) * m ≡ x * m + y * m = omega arith in sym parts ∙ ap (λ (z : ℕ). z * m) (sym e)
 
 -- one index more
-pub one_further : (t : Types) (most : ℕ) (r q : Reached) (i : Index) (rest : List Index) (whole : Option ℤ) → IsOnTheWay t most r (i ∷ rest) whole
+pub one_further : (t : Types) (most : ℕ) (r q : Reached) (i : TermIndex) (rest : List TermIndex) (whole : Option ℤ) → IsOnTheWay t most r (i ∷ rest) whole
     → IsPlace t q.place → shape_at t q.place ≡ element (shape_at t r.place) (number_in i) → q.distance ≡ sum_of r.distance (term_reach (inner_term (shape_at t r.place) i))
     → IfSome (term_reach (inner_term (shape_at t r.place) i)) (IsNear most) → IsOnTheWay t most q rest whole
 one_further t most r q i rest whole way placed shape summed near =
@@ -124,21 +124,21 @@ one_further t most r q i rest whole way placed shape summed near =
     }
 
 -- before the first index
-pub at_first : (t : Types) (most ty : ℕ) (r : Reached) (is : List Index) → IsPlace t (Whole ty) → nesting (shape_in t ty) ≤ 64 → r ≡ record { place = Whole ty; distance = Some (pos 0) } → IsOnTheWay t most r is (reach_of known (terms_of (shape_in t ty) is))
+pub at_first : (t : Types) (most ty : ℕ) (r : Reached) (is : List TermIndex) → IsPlace t (Whole ty) → nesting (shape_in t ty) ≤ 64 → r ≡ record { place = Whole ty; distance = Some (pos 0) } → IsOnTheWay t most r is (reach_of known (terms_of (shape_in t ty) is))
 at_first t most ty r is placed few e =
     subst (λ (q : Reached). IsOnTheWay t most q is (reach_of known (terms_of (shape_in t ty) is))) (sym e)
     (record { place = placed; nests = omega (arith, few); near = omega arith; sum = sum_start (reach_of known (inner_terms (array_of 0 (shape_in t ty)) is)) ∙ ap (reach_of known) (as_elements is) })
   where
-    as_elements : (is : List Index) → inner_terms (array_of 0 (shape_in t ty)) is ≡ terms_of (shape_in t ty) is
+    as_elements : (is : List TermIndex) → inner_terms (array_of 0 (shape_in t ty)) is ≡ terms_of (shape_in t ty) is
     as_elements [] = refl
     as_elements (i ∷ is) = refl
 
 -- behind the last
-pub at_the_end : (t : Types) (most : ℕ) (r : Reached) (rest : List Index) (whole : Option ℤ) → rest ≡ [] → IsOnTheWay t most r rest whole → r.distance ≡ whole
-at_the_end t most r rest whole none way = sym (sum_end r.distance) ∙ ap (λ (is : List Index). sum_of r.distance (reach_of known (inner_terms (shape_at t r.place) is))) (sym none) ∙ way.sum
+pub at_the_end : (t : Types) (most : ℕ) (r : Reached) (rest : List TermIndex) (whole : Option ℤ) → rest ≡ [] → IsOnTheWay t most r rest whole → r.distance ≡ whole
+at_the_end t most r rest whole none way = sym (sum_end r.distance) ∙ ap (λ (is : List TermIndex). sum_of r.distance (reach_of known (inner_terms (shape_at t r.place) is))) (sym none) ∙ way.sum
 
 -- what is reached so far is near enough for a sum
-pub so_far : (t : Types) (r : Reached) (rest : List Index) (whole : Option ℤ) → IsOnTheWay t (2 ^ 63 * 2 ^ 40) r rest whole → IfSome r.distance (IsNear (2 ^ 125))
+pub so_far : (t : Types) (r : Reached) (rest : List TermIndex) (whole : Option ℤ) → IsOnTheWay t (2 ^ 63 * 2 ^ 40) r rest whole → IfSome r.distance (IsNear (2 ^ 125))
 so_far t r rest whole way = near_weaker r.distance _ (2 ^ 125) (bound (65 - nesting (shape_at t r.place)) (omega arith)) way.near
   where
     bound : (n : ℕ) → n ≤ 65 → n * (2 ^ 63 * 2 ^ 40) ≤ 2 ^ 125
@@ -147,7 +147,7 @@ so_far t r rest whole way = near_weaker r.distance _ (2 ^ 125) (bound (65 - nest
 -- ---- the indices of a constant
 
 -- what constants are as indices
-abbrev pub indices_of : Lists → List TypedConst → List Index
+abbrev pub indices_of : Lists → List TypedConst → List TermIndex
 indices_of a parts = constant_indices (names_of a) (constants_with_types a parts)
 
 pub indices_from : (a : Lists) (parts : List TypedConst) (k : ℕ) (part : TypedConst) → k < length parts → part ≡ get_or parts k part → indices_of a (drop k parts) ≡ indices_of a (part ∷ drop (k + 1) parts)

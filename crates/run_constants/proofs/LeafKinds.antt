@@ -29,7 +29,7 @@ use Rattle.run_names.specs.Told.{alone}
 use Rattle.run_names.proofs.Arena.{structs_are}
 use Rattle.run_rules.specs.Constant.{Names, constant_value, element_address, one_leaf, shape_of}
 use Rattle.run_rules.specs.Constant as rules
-use Rattle.run_rules.specs.Displace.{Index, displaced, displaced_by, known, leaves_block, moved_to, reach_of, terms_of}
+use Rattle.run_rules.specs.Displace.{TermIndex, displaced, displaced_by, known, leaves_block, moved_to, reach_of, terms_of}
 use Rattle.run_rules.specs.Leaves.{zero_leaf}
 use Rattle.run_rules.specs.Look as look
 use Rattle.run_shapes.specs.Shapes.{shape_in}
@@ -140,7 +140,7 @@ displaced_pointer bounds inbounds (scalar.Ptr p) (Some d) = go (if inbounds then
     go : (o : Option (ℕ × ℕ)) → IsPointer (displaced_by p d o)
     go o = choice (leaves_block p _ o) (moved_to p _)
 
-pub moved_pointer : (names : Names) (inbounds : Bool) (source : Shape) (is : List Index) → IsPointer (element_address names inbounds source is)
+pub moved_pointer : (names : Names) (inbounds : Bool) (source : Shape) (is : List TermIndex) → IsPointer (element_address names inbounds source is)
 moved_pointer names inbounds source [] = tt
 moved_pointer names inbounds source (base ∷ is) = displaced_pointer names.bounds inbounds (known base.origin) (reach_of known (terms_of source is))
 

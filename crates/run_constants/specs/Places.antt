@@ -8,7 +8,7 @@ use Rattle.type_table.specs.Shape.{Shape, void_leaf, array_of}
 use Rattle.type_table.specs.Types.{Types, structs, tree}
 use Rattle.run_rules.specs.Action.{Known, Term}
 use Rattle.run_rules.specs.Constant.{constant_value, one_leaf, width_of}
-use Rattle.run_rules.specs.Displace.{Index, known, reach}
+use Rattle.run_rules.specs.Displace.{TermIndex, known, reach}
 use Rattle.run_shapes.specs.Shapes.{offset_in, shape_in}
 use Rattle.run_constants.specs.declared.distance.PathPlace.{PathPlace}
 use Rattle.run_constants.specs.declared.distance.PathPlace.TheVariants.{Whole, Inside, Nowhere}
@@ -27,7 +27,7 @@ IsPlace t (Inside ty) = (ty < length t.types) × (lies_in_memory (structs t) (tr
 IsPlace t Nowhere = ⊤
 
 -- an index that is known
-abbrev pub index_at : Scalar → ℕ → Index
+abbrev pub index_at : Scalar → ℕ → TermIndex
 index_at leaf width = record { origin = Known leaf; width = width }
 
 -- where a field begins; 0 where there is none
@@ -39,5 +39,5 @@ abbrev pub term_reach : Term → Option ℤ
 term_reach t = reach (known t.index) t.width t.size
 
 -- a constant as an index
-abbrev pub index_of : Lists → TypedConst → Index
+abbrev pub index_of : Lists → TypedConst → TermIndex
 index_of a part = index_at (one_leaf (constant_value (names_of a) (tree a.table part.ty) (constant_of a part.value))) (width_of (names_of a) (tree a.table part.ty))

@@ -24,7 +24,7 @@ use Rattle.module_arena.proofs.Parts.{valid_variable}
 use Rattle.linkage_rules.specs.Entries.{Entry, symbol_of}
 use Rattle.linkage_rules.specs.Linkages.{is_appending}
 use Rattle.linkage_rules.specs.Winner.{definitions, home, is_definition}
-use Rattle.linked_contents.specs.Contents.{Piece, elements_in, elements_of, whole, pieces_by, pieces_of_constants}
+use Rattle.linked_contents.specs.Contents.{ContentPiece, elements_in, elements_of, whole, pieces_by, pieces_of_constants}
 use Rattle.run_constants.proofs.LeafKinds.{shape_is}
 use Rattle.run_constants.proofs.Sounds.{back_all, front_all, list_sound}
 use Rattle.run_constants.proofs.Standing.{initialiser_stands}
@@ -146,7 +146,7 @@ module _ (a : Lists) (well_formed : IsWellFormed (module_of a)) (valid : IsValid
     where
       by_list : (b : Bool) → is_list c ≡ b → is_appending v.linkage ≡ true → contents_from parts 0 (elements_of 0 c ++ []) ≡ (if true && not b then [] else value_at (names_of a) t c 0)
       by_list true e grows = list_held c sound grows e
-      by_list false e grows = ap (λ (l : List Piece). contents_from parts 0 (l ++ [])) (no_elements 0 c e)
+      by_list false e grows = ap (λ (l : List ContentPiece). contents_from parts 0 (l ++ [])) (no_elements 0 c e)
 
       go : (b : Bool) → is_appending v.linkage ≡ b
           → contents_from parts 0 (if b then flat_map elements_in (its_entry ∷ []) else whole its_entry) ≡ (if b && not (is_list c) then [] else value_at (names_of a) t c 0)

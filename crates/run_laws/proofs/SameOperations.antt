@@ -14,7 +14,7 @@ use Rattle.type_table.specs.Shape.{Shape}
 use Rattle.type_table.specs.Tree.{Tree, ptr}
 use Rattle.run_rules.specs.Action.{Origin, Action, Signature}
 use Rattle.run_rules.specs.Constant.{Names, shape_of}
-use Rattle.run_rules.specs.Displace.{Index, terms_of}
+use Rattle.run_rules.specs.Displace.{TermIndex, terms_of}
 use Rattle.run_rules.specs.Leaves.{slots, is_pointer, part, leaves_before_part, width}
 use Rattle.run_rules.specs.Resolve.{index_in, operation_in}
 use Rattle.run_rules.specs.Scope.{FunctionScope, Placed, value_in, operand_in, one_origin, scalar_in}
@@ -80,7 +80,7 @@ module _ (old new : Names) (structs globals : Bytes → Bytes) (T : Tree → Typ
   same_type : (o : Operand) → OperandIn T G o → shape_of new (renamed_tree structs o.ty) ≡ shape_of old o.ty
   same_type o h = agree.same_shape o.ty h.0
 
-  abbrev index : List Origin → Shape → Index
+  abbrev index : List Origin → Shape → TermIndex
   index origins s = record { origin = one_origin origins; width = width s }
 
   same_indices : (os : List Operand) → OperandsIn T G os → map (index_in after) (map (renamed_operand structs globals) os) ≡ map (index_in before) os

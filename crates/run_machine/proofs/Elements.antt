@@ -31,7 +31,7 @@ use Rattle.linkage_rules.specs.Globals.{OfVariable, OfFunction, OfAlias, name_of
 use Rattle.linkage_rules.specs.Linkages.{is_appending, is_available_externally, is_local}
 use Rattle.linkage_rules.specs.SymbolLaws.{symbol_exact}
 use Rattle.linkage_rules.specs.Winner.{best, definitions, home, is_definition}
-use Rattle.linked_contents.specs.Contents.{Piece, elements_in, pieces, pieces_by, pieces_of_constants, whole}
+use Rattle.linked_contents.specs.Contents.{ContentPiece, elements_in, pieces, pieces_by, pieces_of_constants, whole}
 use Rattle.linked_contents.specs.Contents as contents
 use Rattle.run_constants.proofs.Sounds.{all_parts, list_sound}
 use Rattle.run_constants.specs.Sound.{IsSound, constant_of, constants_with_types}
@@ -103,7 +103,7 @@ initialiser_within a id number v good at has =
 -- the pieces of a list in brackets
 pieces_seen : (a : Lists) (es : List TypedConst) → map (piece_of a) es ≡ pieces_of_constants 0 (constants_with_types a es)
 pieces_seen a [] = refl
-pieces_seen a (c ∷ cs) = ap (λ (l : List Piece). piece_of a c ∷ l) (pieces_seen a cs)
+pieces_seen a (c ∷ cs) = ap (λ (l : List ContentPiece). piece_of a c ∷ l) (pieces_seen a cs)
 
 module _ (a : Lists) (well_formed : IsWellFormed (module_of a)) (valid : IsValid (module_of a)) where
   abbrev m : Module
@@ -113,7 +113,7 @@ module _ (a : Lists) (well_formed : IsWellFormed (module_of a)) (valid : IsValid
   parts = m ∷ []
 
   -- what is held by the list, from its entries and where it is defined
-  abbrev held_by : List Entry → Option Entry → List Piece
+  abbrev held_by : List Entry → Option Entry → List ContentPiece
   held_by es o = option_map_or (λ e. pieces_by e es) o []
 
   -- ---- no such list

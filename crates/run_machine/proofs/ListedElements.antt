@@ -7,7 +7,7 @@ use Rattle.std.proofs.lemmas.List.Elements.{filter_map-append}
 use Rattle.module_arena.specs.declared.constant.TypedConst.{TypedConst}
 use Rattle.module_arena.specs.Lists.{Lists}
 use Rattle.module_arena.specs.View.{module_of}
-use Rattle.linked_contents.specs.Contents.{Piece}
+use Rattle.linked_contents.specs.Contents.{ContentPiece}
 use Rattle.run_names.specs.Told.{alone}
 use Rattle.run_rules.specs.Constant.{constant_value}
 use Rattle.run_rules.specs.Look.{names_in}
@@ -35,7 +35,7 @@ module _ (a : Lists) (elements : List TypedConst) (k : ℕ) (x : TypedConst) (fo
 -- ---- all of them
 
 -- the constructor that a piece is
-abbrev piece_seen : Lists → Piece → Option plans.Constructor
+abbrev piece_seen : Lists → ContentPiece → Option plans.Constructor
 piece_seen a p = constructor_of (constant_value (names_in (alone (module_of a)) p.part) p.ty p.value)
 
 pieces_same : (a : Lists) (es : List TypedConst) → filter_map (constructor_at a) es ≡ filter_map (piece_seen a) (map (piece_of a) es)
@@ -46,4 +46,4 @@ pub all_constructors : (a : Lists) (es : List TypedConst) → AreElements a (Som
 all_constructors a es h = ap in_order (pieces_same a es ∙ ap (filter_map (piece_seen a)) h.0)
 
 pub no_constructors : (a : Lists) → AreElements a None → [] ≡ constructors (alone (module_of a))
-no_constructors a none = sym (ap (λ (l : List Piece). in_order (filter_map (piece_seen a) l)) none)
+no_constructors a none = sym (ap (λ (l : List ContentPiece). in_order (filter_map (piece_seen a) l)) none)

@@ -7,7 +7,7 @@ use Rattle.module_arena.specs.declared.constant.TypedConst.{TypedConst}
 use Rattle.module_arena.specs.Lists.{Lists}
 use Rattle.module_arena.specs.View.{module_of}
 use Rattle.type_table.specs.Types.{tree}
-use Rattle.linked_contents.specs.Contents.{Piece, pieces}
+use Rattle.linked_contents.specs.Contents.{ContentPiece, pieces}
 use Rattle.run_constants.specs.Sound.{IsPart, constant_of, names_of}
 use Rattle.run_names.specs.Told.{alone}
 use Rattle.run_rules.specs.Constant.{constant_value}
@@ -20,7 +20,7 @@ abbrev pub constructor_seen : Constructor → plans.Constructor
 constructor_seen c = (c.priority, c.address)
 
 -- a constant of the module, with its type, as a piece of what a variable holds
-abbrev pub piece_of : Lists → TypedConst → Piece
+abbrev pub piece_of : Lists → TypedConst → ContentPiece
 piece_of a c = record { part = 0; ty = tree a.table c.ty; value = constant_of a c.value }
 
 -- the constructor that such a constant is, if any

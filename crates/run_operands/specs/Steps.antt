@@ -4,7 +4,7 @@ use Rattle.module_arena.specs.TypeTests.{lies_in_memory}
 use Rattle.type_table.specs.Shape.{Shape, void_leaf, array_of}
 use Rattle.type_table.specs.Types.{Types, structs, tree}
 use Rattle.run_rules.specs.Action as actions
-use Rattle.run_rules.specs.Displace.{Index}
+use Rattle.run_rules.specs.Displace.{TermIndex}
 use Rattle.run_shapes.specs.Shapes.{shape_in}
 use Rattle.run_stack.specs.declared.origin.Origin.{Origin}
 use Rattle.run_stack.specs.Origins.{origin_of}
@@ -17,7 +17,7 @@ abbrev pub term_of : Step → actions.Term
 term_of s = record { index = origin_of s.index; width = s.width; size = s.size }
 
 -- an index, as it is written
-abbrev pub index_at : Origin → ℕ → Index
+abbrev pub index_at : Origin → ℕ → TermIndex
 index_at o width = record { origin = origin_of o; width = width }
 
 -- the shape into which the next index leads. The first counts whole values, as if these were the elements of an array

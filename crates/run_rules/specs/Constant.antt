@@ -13,7 +13,7 @@ use Rattle.module_arena.specs.Module.{Bytes, Constant, Integer, Truth, Null, Und
 use Rattle.type_table.specs.Shape.{Shape, shape, void_leaf}
 use Rattle.type_table.specs.Tree.{Tree, Structs}
 use Rattle.run_rules.specs.Action.{Known}
-use Rattle.run_rules.specs.Displace.{Index, displaced, known, reach_of, terms_of}
+use Rattle.run_rules.specs.Displace.{TermIndex, displaced, known, reach_of, terms_of}
 use Rattle.run_rules.specs.Leaves.{zeros, poisons, width}
 
 -- what the names of a part mean: the bodies of its structs, the addresses of its globals; and the bounds of variables
@@ -41,7 +41,7 @@ or_poison (Ok leaf) = leaf
 or_poison (Err kind) = scalar.Poison
 
 -- a constant getelementptr, whose first operand is the base
-abbrev pub element_address : Names → Bool → Shape → List Index → Scalar
+abbrev pub element_address : Names → Bool → Shape → List TermIndex → Scalar
 element_address names inbounds source [] = scalar.Poison
 element_address names inbounds source (base ∷ indices) = displaced names.bounds inbounds (known base.origin) (reach_of known (terms_of source indices))
 
@@ -71,6 +71,6 @@ module _ (names : Names) where
     constant_values (more_constants t c cs) = constant_value t c ++ constant_values cs
 
     -- constants as indices of a getelementptr
-    pub constant_indices : Constants → List Index
+    pub constant_indices : Constants → List TermIndex
     constant_indices no_constants = []
     constant_indices (more_constants t c cs) = record { origin = Known (one_leaf (constant_value t c)); width = width_of names t } ∷ constant_indices cs

@@ -61,7 +61,7 @@ reach_of leaf [] = Some (pos 0)
 reach_of leaf (t ∷ ts) = sum_of (reach (leaf t.index) t.width t.size) (reach_of leaf ts)
 
 -- an index as it is written
-pub record Index : Type 0 where
+pub record TermIndex : Type 0 where
   pub origin : Origin
   pub width : ℕ
 
@@ -72,11 +72,11 @@ number_of (Ptr p) = 0
 number_of Poison = 0
 
 -- which element or field an index names, where it is known
-abbrev pub number_in : Index → ℕ
+abbrev pub number_in : TermIndex → ℕ
 number_in i = number_of (known i.origin)
 
 -- an index into an array counts elements. A field is so many bytes away
-abbrev pub inner_term : Shape → Index → Term
+abbrev pub inner_term : Shape → TermIndex → Term
 inner_term (array_of n s) i = record { index = i.origin; width = i.width; size = size s }
 inner_term (struct_of label packed ss) i = record { index = Known (Int (unwrap_or (field_offset packed 0 ss (number_in i)) 0)); width = 64; size = 1 }
 inner_term (int_leaf w) i = record { index = Known (Int 0); width = 64; size = 0 }
@@ -85,11 +85,11 @@ inner_term void_leaf i = record { index = Known (Int 0); width = 64; size = 0 }
 inner_term (opaque_leaf label) i = record { index = Known (Int 0); width = 64; size = 0 }
 
 -- each index goes into the part that the one before it names
-abbrev pub inner_terms : Shape → List Index → List Term
+abbrev pub inner_terms : Shape → List TermIndex → List Term
 inner_terms s [] = []
 inner_terms s (i ∷ is) = inner_term s i ∷ inner_terms (element s (number_in i)) is
 
 -- how far the indices lead into a source of that shape: the first one counts whole values
-abbrev pub terms_of : Shape → List Index → List Term
+abbrev pub terms_of : Shape → List TermIndex → List Term
 terms_of s [] = []
 terms_of s (i ∷ is) = record { index = i.origin; width = i.width; size = size s } ∷ inner_terms s is

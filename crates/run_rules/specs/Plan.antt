@@ -11,7 +11,7 @@ use Rattle.module_arena.specs.UsedNames.{names_in_variable, names_in_function}
 use Rattle.module_arena.specs.Module.{Bytes, Module}
 use Rattle.type_table.specs.Layout.{size}
 use Rattle.linkage_rules.specs.Bind.{Bound, Unresolved, meaning}
-use Rattle.linked_contents.specs.Contents.{Piece, pieces}
+use Rattle.linked_contents.specs.Contents.{ContentPiece, pieces}
 use Rattle.linkage_rules.specs.Globals.{Global, OfVariable, OfFunction, OfAlias, linkage_of, is_constant}
 use Rattle.linkage_rules.specs.Linkages.{is_appending}
 use Rattle.linkage_rules.specs.Place.{rooms, Room, address}
@@ -107,7 +107,7 @@ abbrev pub Contents : Type 0
 Contents = List (Slot × Scalar)
 
 -- pieces one behind the other, each looked up in its part
-abbrev pub contents_from : List Module → ℕ → List Piece → Contents
+abbrev pub contents_from : List Module → ℕ → List ContentPiece → Contents
 contents_from parts at [] = []
 contents_from parts at (p ∷ ps) =
     zip (slots_at (shape_of (names_in parts p.part) p.ty) at) (constant_value (names_in parts p.part) p.ty p.value)

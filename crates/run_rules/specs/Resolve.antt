@@ -13,7 +13,7 @@ use Rattle.type_table.specs.Layout.{size, align, leaves}
 use Rattle.type_table.specs.Tree.{Tree, ptr}
 use Rattle.run_rules.specs.Action.{Origin, Move, Edge, Signature, Action}
 use Rattle.run_rules.specs.Constant.{Names, shape_of, width_of, constant_value, one_leaf}
-use Rattle.run_rules.specs.Displace.{Index, terms_of, number_of}
+use Rattle.run_rules.specs.Displace.{TermIndex, terms_of, number_of}
 use Rattle.run_rules.specs.Leaves.{slots, is_pointer, part, leaves_before_part}
 use Rattle.run_rules.specs.Scope.{FunctionScope, place_in, block_in, value_in, operand_in, scalar_in, scalar_of}
 
@@ -26,7 +26,7 @@ abbrev pub alignment_in : Names → Option ℕ → Tree → ℕ
 alignment_in names stated t = unwrap_or stated (align (shape_of names t))
 
 -- an index of getelementptr
-abbrev pub index_in : FunctionScope → Operand → Index
+abbrev pub index_in : FunctionScope → Operand → TermIndex
 index_in sc o = record { origin = scalar_in sc o; width = width_of sc.names o.ty }
 
 -- how many leaves a part of an operand has

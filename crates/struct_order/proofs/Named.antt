@@ -13,7 +13,7 @@ use Rattle.module_arena.specs.Module.{Bytes}
 use Rattle.name_table.specs.Entries.{value_of}
 use Rattle.name_rules.specs.Measured.{names_of, body_names}
 use Rattle.struct_order.specs.Order.{mentioned, HasNumber, stands_in, StandBehind, IsOrder, mention_lists, AreWithin}
-use Rattle.struct_order.specs.Dependency.{HasName, Names, name_at, names_at, Follow, IsDependencyOrder}
+use Rattle.struct_order.specs.Dependency.{HasName, NamesOther, name_at, names_at, Follow, IsDependencyOrder}
 use Rattle.struct_order.specs.Mentions.{number_from, AreNumbers, numbers_of, is_number, mentions_of, lists_from}
 use Rattle.struct_order.proofs.Gathered.{length-lists}
 
@@ -181,7 +181,7 @@ module _ (structs : Structs) (table : List (Bytes × ℕ)) (are : AreNumbers tab
           zero_more k = omega arith
 
   -- a name in the body of such a struct that is one of a struct is mentioned
-  names_mentioned : (number : ℕ) (other : Bytes) (t : ℕ) → number < length structs → IsFirst number → Names structs (name_at structs number) other → value_of table other ≡ Some t → HasNumber t (mentioned (lists_from table 0 structs) number)
+  names_mentioned : (number : ℕ) (other : Bytes) (t : ℕ) → number < length structs → IsFirst number → NamesOther structs (name_at structs number) other → value_of table other ≡ Some t → HasNumber t (mentioned (lists_from table 0 structs) number)
   names_mentioned number other t within is h e =
       subst (λ ns. HasNumber t ns) (sym (own_mentions number within is))
       (is_mentioned table (body_names (get_or structs number nothing).1) other t (subst (λ body. HasName other (body_names body)) (own_body number is) h) e)
@@ -198,7 +198,7 @@ module _ (structs : Structs) (table : List (Bytes × ℕ)) (are : AreNumbers tab
       own : (number < length structs) × IsFirst number
       own = firsts number (ap (λ b. b || stands_in order number) (eq-eqb number number refl))
 
-      by : (other : Bytes) → Names structs (name_at structs number) other → (o : Option ℕ) → value_of table other ≡ o → HasName other (names_at structs before) ⊎ (HasName other (names_of structs) → ⊥)
+      by : (other : Bytes) → NamesOther structs (name_at structs number) other → (o : Option ℕ) → value_of table other ≡ o → HasName other (names_at structs before) ⊎ (HasName other (names_of structs) → ⊥)
       by other h (Some t) e =
           let there = behind.0 t (names_mentioned number other t own.0 own.1 h e) in
           inl (subst (λ name. HasName name (names_at structs before)) (found_number other t e).2 (in_names structs before t there))
@@ -224,10 +224,10 @@ module _ (structs : Structs) (table : List (Bytes × ℕ)) (are : AreNumbers tab
       firsts number here = stands_first order number is.behind (within number here) here
 
       left : (name : Bytes) → HasName name (names_of structs) → (HasName name (names_at structs order) → ⊥)
-          → (other : Bytes) × Names structs name other × HasName other (names_of structs) × (HasName other (names_at structs order) → ⊥)
+          → (other : Bytes) × NamesOther structs name other × HasName other (names_of structs) × (HasName other (names_at structs order) → ⊥)
       left name h out = by (some_found 0 structs name h)
         where
-          by : ((n : ℕ) × (number_from 0 structs name ≡ Some n)) → (other : Bytes) × Names structs name other × HasName other (names_of structs) × (HasName other (names_at structs order) → ⊥)
+          by : ((n : ℕ) × (number_from 0 structs name ≡ Some n)) → (other : Bytes) × NamesOther structs name other × HasName other (names_of structs) × (HasName other (names_at structs order) → ⊥)
           by (n, e) =
               let own : value_of table name ≡ Some n = are.each name ∙ e in
               let at = found_number name n own in
@@ -237,7 +237,7 @@ module _ (structs : Structs) (table : List (Bytes × ℕ)) (are : AreNumbers tab
               let from = written table (body_names (get_or structs n nothing).1) lack.0 (subst (λ ns. HasNumber lack.0 ns) (own_mentions n at.0 is_first) lack.1) in
               let there = found_number from.0 lack.0 from.2 in (
                 from.0,
-                subst (λ k. Names structs k from.0) at.2 (subst (λ body. HasName from.0 (body_names body)) (sym (own_body n is_first)) from.1),
+                subst (λ k. NamesOther structs k from.0) at.2 (subst (λ body. HasName from.0 (body_names body)) (sym (own_body n is_first)) from.1),
                 subst (λ k. HasName k (names_of structs)) there.2 (has_at (names_of structs) lack.0 (omega (arith, there.0, length-map structs (λ (s : Bytes × TreeBody). s.0)))),
                 λ k.
                     (let r = from_names structs order from.0 k in

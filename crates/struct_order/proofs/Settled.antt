@@ -14,7 +14,7 @@ use Rattle.name_rules.proofs.Levels.{level, stays}
 use Rattle.name_rules.proofs.Cycles.{in_first, in_second}
 use Rattle.name_rules.proofs.Ordered.{Follows, order_there, is_fixed, left_out, IsThere}
 use Rattle.struct_order.specs.Order.{stands_in}
-use Rattle.struct_order.specs.Dependency.{HasName, Names, name_at, names_at, Follow, IsDependencyOrder}
+use Rattle.struct_order.specs.Dependency.{HasName, NamesOther, name_at, names_at, Follow, IsDependencyOrder}
 use Rattle.struct_order.specs.Mentions.{number_from, AreNumbers}
 use Rattle.struct_order.specs.Measuring.{measure_at, found_in, bodies_of, with_measure, with_measures}
 use Rattle.struct_order.proofs.Named.{found_at, from_names, in_names, has_at}
@@ -135,7 +135,7 @@ module _ (structs : Structs) (numbers : List (Bytes × ℕ)) (are : AreNumbers n
     own_body number here = ap (λ i. get_or (bodies_of structs) i opaque_body) (sym (is.first number here))
 
     measure_is : (before : List ℕ) (measures : List (Option Measure)) (number : ℕ) → IsFound before measures → ((n : ℕ) → stands_in before n ≡ true → stands_in order n ≡ true) → stands_in order number ≡ true
-        → ((other : Bytes) → Names structs (name_at structs number) other → HasName other (names_at structs before) ⊎ (HasName other (names_of structs) → ⊥))
+        → ((other : Bytes) → NamesOther structs (name_at structs number) other → HasName other (names_at structs before) ⊎ (HasName other (names_of structs) → ⊥))
         → body_measured (found_in numbers measures) (get_or (bodies_of structs) number opaque_body) ≡ level structs count (name_at structs number)
     measure_is before measures number found sub here follow =
         ap (body_measured (found_in numbers measures)) (own_body number here)
@@ -147,7 +147,7 @@ module _ (structs : Structs) (numbers : List (Bytes × ℕ)) (are : AreNumbers n
     or_parts false b e = (refl, e)
 
     step : (before : List ℕ) (measures : List (Option Measure)) (number : ℕ) → IsFound before measures → ((n : ℕ) → stands_in before n ≡ true → stands_in order n ≡ true) → stands_in order number ≡ true
-        → ((other : Bytes) → Names structs (name_at structs number) other → HasName other (names_at structs before) ⊎ (HasName other (names_of structs) → ⊥))
+        → ((other : Bytes) → NamesOther structs (name_at structs number) other → HasName other (names_at structs before) ⊎ (HasName other (names_of structs) → ⊥))
         → IsFound (number ∷ before) (with_measure numbers (bodies_of structs) measures number)
     step before measures number found sub here follow = record {
       size = length-set measures number value ∙ found.size;

@@ -12,8 +12,8 @@ HasName name [] = ⊥
 HasName name (first ∷ more) = (name ≡ first) ⊎ HasName name more
 
 -- a field of the first struct names the second
-abbrev pub Names : Structs → Bytes → Bytes → Type 0
-Names structs name other = HasName other (body_names (body_of structs name))
+abbrev pub NamesOther : Structs → Bytes → Bytes → Type 0
+NamesOther structs name other = HasName other (body_names (body_of structs name))
 
 -- the name of the struct with that number, counted from 0 in the order of the text
 abbrev pub name_at : Structs → ℕ → Bytes
@@ -27,7 +27,7 @@ names_at structs numbers = map (name_at structs) numbers
 abbrev pub Follow : Structs → List Bytes → List Bytes → Type 0
 Follow structs before [] = Unit {0}
 Follow structs before (name ∷ more) =
-    ((other : Bytes) → Names structs name other → HasName other before ⊎ (HasName other (names_of structs) → ⊥))
+    ((other : Bytes) → NamesOther structs name other → HasName other before ⊎ (HasName other (names_of structs) → ⊥))
     × Follow structs (name ∷ before) more
 
 -- the numbers of distinct structs, each behind those that its fields name, the first body of a name being the one that
@@ -38,4 +38,4 @@ pub record IsDependencyOrder (structs : Structs) (order : List ℕ) : Type 0 whe
   pub distinct : IsDistinct nat_eq order
   pub follow : Follow structs [] (names_at structs order)
   pub left : (name : Bytes) → HasName name (names_of structs) → (HasName name (names_at structs order) → ⊥)
-      → (other : Bytes) × Names structs name other × HasName other (names_of structs) × (HasName other (names_at structs order) → ⊥)
+      → (other : Bytes) × NamesOther structs name other × HasName other (names_of structs) × (HasName other (names_at structs order) → ⊥)

@@ -20,7 +20,7 @@ use Rattle.module_linker.specs.Structs.{same_struct, struct_map, struct_symbols,
 use Rattle.module_linker.proofs.Apart.{Apart, apart_firsts, none_at}
 use Rattle.module_linker.proofs.StructRows.{Key, first_keys, key, key_exact, key_self, same_key, struct_keys}
 use Rattle.labelled_shapes.specs.Shapes.{shapes_of}
-use Rattle.link_names.specs.Naming.{HasMore, Names, SameNames}
+use Rattle.link_names.specs.Naming.{HasMore, TakenNames, SameNames}
 use Rattle.struct_rows.specs.Numbers.{AreNewStructs, IsNewStruct, all_struct_names, new_struct_names, so_far}
 use Rattle.struct_rows.specs.Rows.{AreRows, AreShapesOf, HasRow, HaveRows, first_of_each, names_given}
 use Rattle.struct_rows.specs.declared.rows.Rows.{Rows}
@@ -72,12 +72,12 @@ module _ (ms : List Module) where
 
 -- ---- before the first part, and behind the last
 
-pub rows_none : (ms : List Module) (rows : Rows) (naming : Names) → rows.found.keys ≡ [] → rows.names ≡ [] → rows.naming ≡ naming → naming.given ≡ [] → SameNames naming.avoided (all_struct_names ms) → AreRows ms [] rows
+pub rows_none : (ms : List Module) (rows : Rows) (naming : TakenNames) → rows.found.keys ≡ [] → rows.names ≡ [] → rows.naming ≡ naming → naming.given ≡ [] → SameNames naming.avoided (all_struct_names ms) → AreRows ms [] rows
 rows_none ms rows naming found names same given avoided = record {
   found = subst (λ (l : List ℕ). AreShapesOf ms (shapes_of rows.shapes) l []) (sym found) tt;
   names = names;
-  given = λ m. ap (λ (v : Names). has bytes_eq v.given m) same ∙ ap (λ (l : List Bytes). has bytes_eq l m) given;
-  avoided = λ m. ap (λ (v : Names). has bytes_eq v.avoided m) same ∙ avoided m;
+  given = λ m. ap (λ (v : TakenNames). has bytes_eq v.given m) same ∙ ap (λ (l : List Bytes). has bytes_eq l m) given;
+  avoided = λ m. ap (λ (v : TakenNames). has bytes_eq v.avoided m) same ∙ avoided m;
 }
 
 pub added_none : (ps : List Lists) (rows : Rows) (numbers : List (List ℕ)) → numbers ≡ [] → AreRows (modules ps) [] rows → AreAdded ps 0 rows numbers

@@ -21,7 +21,7 @@ use Rattle.module_linker.proofs.Merged.{given_after, named_append}
 use Rattle.module_linker.proofs.StructRows.{key, key_exact, same_key}
 use Rattle.type_table.specs.Shape.{Shape}
 use Rattle.labelled_shapes.specs.Shapes.{AreApart, shapes_of}
-use Rattle.link_names.specs.Naming.{Names}
+use Rattle.link_names.specs.Naming.{TakenNames}
 use Rattle.link_structs.specs.Shapes.{AreKept}
 use Rattle.struct_rows.specs.Numbers.{all_struct_names}
 use Rattle.struct_rows.specs.Rows.{AreRows, AreShapesOf, HasName, HasRow, IsNamedAs, IsShapeOf, first_of_each, names_given, top_label}
@@ -46,8 +46,8 @@ module _ (parts : List Module) where
   rows_kept done before now kept found naming names h = record {
     found = subst (λ (l : List ℕ). AreShapesOf parts (shapes_of now.shapes) l (first_of_each parts done)) (sym found) (shapes_kept (shapes_of before.shapes) (shapes_of now.shapes) kept before.found.keys (first_of_each parts done) h.found);
     names = names ∙ h.names;
-    given = λ m. ap (λ (v : Names). has bytes_eq v.given m) naming ∙ h.given m;
-    avoided = λ m. ap (λ (v : Names). has bytes_eq v.avoided m) naming ∙ h.avoided m;
+    given = λ m. ap (λ (v : TakenNames). has bytes_eq v.given m) naming ∙ h.given m;
+    avoided = λ m. ap (λ (v : TakenNames). has bytes_eq v.avoided m) naming ∙ h.avoided m;
   }
 
   module _ (all : List Shape) where
@@ -148,8 +148,8 @@ module _ (parts : List Module) (done : List Symbol) (before now : Rows) (i : ℕ
   row_again h shapes found firsts named = record {
     found = shapes_are parts (shapes_of before.shapes) (shapes_of now.shapes) before.found.keys now.found.keys old new shapes found firsts h.found;
     names = named.names ∙ h.names ∙ ap (names_given parts) (sym firsts);
-    given = λ m. ap (λ (v : Names). has bytes_eq v.given m) named.naming ∙ h.given m ∙ ap (λ (l : List Symbol). has bytes_eq (given_after (λ n. n) (everywhere parts) [] l) m) (sym firsts);
-    avoided = λ m. ap (λ (v : Names). has bytes_eq v.avoided m) named.naming ∙ h.avoided m;
+    given = λ m. ap (λ (v : TakenNames). has bytes_eq v.given m) named.naming ∙ h.given m ∙ ap (λ (l : List Symbol). has bytes_eq (given_after (λ n. n) (everywhere parts) [] l) m) (sym firsts);
+    avoided = λ m. ap (λ (v : TakenNames). has bytes_eq v.avoided m) named.naming ∙ h.avoided m;
   }
 
   -- it is one with none

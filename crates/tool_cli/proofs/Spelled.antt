@@ -52,7 +52,7 @@ ok_same m n answer one other = cc
 
 pub spells_once : (bytes : List ℕ) (m n : Module) → Spells bytes m → Spells bytes n → m ≡ n
 spells_once bytes m n one other =
-    ok_same m n (read (records one.tree)) one.stands (subst (λ (tree : stream.Tree). StandFor tree n) (sym (one_tree bytes one.tree other.tree one.is_tree other.is_tree)) other.stands)
+    ok_same m n (read (records one.tree)) one.stands (subst (λ (tree : stream.StreamTree). StandFor tree n) (sym (one_tree bytes one.tree other.tree one.is_tree other.is_tree)) other.stands)
 
 -- ---- disassembling
 

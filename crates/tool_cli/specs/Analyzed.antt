@@ -2,7 +2,7 @@
 use Rattle.std.specs.Prelude.{◌≡◌, ◌⊎◌, ◌&&◌, ℕ, Bool, true, false, List, drop, Option, Some, None}
 use Rattle.ir_base.specs.Outside.{Added}
 use Rattle.bits.specs.declared.fault.BitFault.{BitFault as TheFault}
-use Rattle.bit_tree.specs.Stream.{Tree, Stream, stream_fault}
+use Rattle.bit_tree.specs.Stream.{StreamTree, Stream, stream_fault}
 use Rattle.bit_dump.specs.Dumped.{WroteFront}
 use Rattle.bit_dump.specs.Text.{dump_text}
 use Rattle.command_line.specs.declared.command.Command.{Command}
@@ -23,13 +23,13 @@ is_analysis command = false
 -- is refused
 abbrev pub IsAnalysis : List ℕ → List ℕ → Ended → Type 0
 IsAnalysis name bytes ended =
-    ((tree : Tree) × Stream bytes tree × (ended ≡ ends.Ok))
+    ((tree : StreamTree) × Stream bytes tree × (ended ≡ ends.Ok))
     ⊎ ((fault : TheFault) × (stream_fault bytes ≡ Some fault) × (ended ≡ BitFault name fault))
 
 -- What standard output then took: the text of the tree; nothing where a field is refused; a front of the text where a
 -- write failed or memory ran out, which may also be before anything was written.
 abbrev pub IsDumped : List ℕ → Bool → Option (List ℕ) → Option (List ℕ) → Ended → Type 0
-IsDumped bytes whole before now ends.Ok = (tree : Tree) × Stream bytes tree × Added before now (dump_text tree whole)
+IsDumped bytes whole before now ends.Ok = (tree : StreamTree) × Stream bytes tree × Added before now (dump_text tree whole)
 IsDumped bytes whole before now (CannotWrite name) = WroteFront bytes whole before now
 IsDumped bytes whole before now Memory = (now ≡ before) ⊎ WroteFront bytes whole before now
 IsDumped bytes whole before now ended = now ≡ before

@@ -10,7 +10,7 @@ use Rattle.tool_ends.specs.declared.ended.Ended.{Ended}
 use Rattle.tool_ends.specs.declared.ended.Ended.TheVariants.{CannotRead, InputTooLarge, Memory}
 use Rattle.tool_cli.specs.declared.inputs.TheConstants.{LARGEST, LARGEST_TOGETHER}
 use Rattle.tool_cli.specs.Output.{FailsToWrite}
-use Rattle.tool_cli.specs.World.{Found, Failures}
+use Rattle.tool_cli.specs.World.{FoundInput, Failures}
 
 -- no bytes are left, where that is told
 abbrev pub IsEmptied : Option (List ℕ) → Type 0
@@ -56,14 +56,14 @@ RefusesFile contents rose name Memory = Unit {0}
 RefusesFile contents rose name ended = ⊥
 
 -- this end refuses the input of this name, by itself
-abbrev pub Refuses : Found → List ℕ → Ended → Type 0
+abbrev pub Refuses : FoundInput → List ℕ → Ended → Type 0
 Refuses found name (CannotRead other) = (other ≡ name) × IsUnread found.contents found.input_rose found.files_rose name
 Refuses found name (InputTooLarge other limit) = (other ≡ name) × (limit ≡ LARGEST) × IsLarge found.contents found.left name
 Refuses found name Memory = Unit {0}
 Refuses found name ended = ⊥
 
 -- this end refuses one of the inputs of these names
-abbrev pub RefusesOne : Found → List (List ℕ) → Ended → Type 0
+abbrev pub RefusesOne : FoundInput → List (List ℕ) → Ended → Type 0
 RefusesOne found names (CannotRead name) = IsAmong names name × IsUnread found.contents found.input_rose found.files_rose name
 RefusesOne found names (InputTooLarge name limit) = IsAmong names name × IsPassed found.contents found.left name limit
 RefusesOne found names Memory = Unit {0}

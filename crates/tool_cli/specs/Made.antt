@@ -1,7 +1,7 @@
 -- For `run_tool`: the result of a command over its inputs, which is what it writes.
 use Rattle.std.specs.Prelude.{◌≡◌, ℕ, Bool, true, false, List, [], ◌∷◌, None}
 use Rattle.std.specs.Bool.{MatchBool}
-use Rattle.bit_tree.specs.Stream.{Tree, Stream}
+use Rattle.bit_tree.specs.Stream.{StreamTree, Stream}
 use Rattle.bit_dump.specs.Text.{dump_text}
 use Rattle.command_line.specs.declared.command.Command.{Command}
 use Rattle.command_line.specs.declared.command.Command.TheVariants.{Assemble, Disassemble, Link, Extract, Analyze}
@@ -94,5 +94,5 @@ IsResult (Assemble input output) (text ∷ []) bytes = (m : Module) × Assembles
 IsResult (Disassemble input output) (bytes ∷ []) text = (m : Module) × IsBitcodeOf bytes m × (text ≡ written CanonicalText m)
 IsResult (Link inputs output text) texts bytes = (m : Module) × LinksTo texts m × (bytes ≡ written (format_of text) m)
 IsResult (Extract input output text selection) (stream ∷ []) bytes = (m : Module) × ExtractsTo stream selection m × (bytes ≡ written (format_of text) m)
-IsResult (Analyze input dump) (stream ∷ []) bytes = (tree : Tree) × Stream stream tree × (bytes ≡ dump_text tree dump)
+IsResult (Analyze input dump) (stream ∷ []) bytes = (tree : StreamTree) × Stream stream tree × (bytes ≡ dump_text tree dump)
 IsResult command texts bytes = ⊥

@@ -26,7 +26,7 @@ world left input_faults contents read_faults write_faults = record {
 }
 
 -- what the refusal of an input speaks of
-pub record Found : Type 1 where
+pub record FoundInput : Type 1 where
   -- what the files held
   pub contents : Option Named
   -- what was left of standard input
@@ -37,7 +37,7 @@ pub record Found : Type 1 where
   pub files_rose : Type 0
 
 -- the same, as a clause names it
-abbrev pub found : Option Named → Option (List ℕ) → Type 0 → Type 0 → Found
+abbrev pub found : Option Named → Option (List ℕ) → Type 0 → Type 0 → FoundInput
 found contents left input_rose files_rose = record { contents = contents; left = left; input_rose = input_rose; files_rose = files_rose }
 
 -- which reads and writes failed in a run

@@ -14,7 +14,7 @@ use Rattle.module_arena.specs.ValueRules.{index_of_operand}
 use Rattle.module_arena.specs.WellFormed.{is_good_type, are_good_structs}
 use Rattle.run_rules.specs.Action.{Action}
 use Rattle.run_rules.specs.Constant.{shape_of}
-use Rattle.run_rules.specs.Displace.{Index, number_in, inner_term, inner_terms, terms_of}
+use Rattle.run_rules.specs.Displace.{TermIndex, number_in, inner_term, inner_terms, terms_of}
 use Rattle.run_rules.specs.Leaves.{element}
 use Rattle.run_rules.specs.Resolve.{index_in}
 use Rattle.run_rules.specs.Scope.{FunctionScope, scalar_of}
@@ -25,10 +25,10 @@ use Rattle.typed_actions.proofs.Scalars.{pointer_width, pointer_leaf, width_leaf
 
 module _ (t : Typing) (look : ℕ → ℕ → ℕ → Action) (n : ℕ) where
   -- an index is an integer of its width
-  abbrev IsGoodIndex : Index → Type 0
+  abbrev IsGoodIndex : TermIndex → Type 0
   IsGoodIndex i = IsWidth i.width × IsOrigin t look n (leaf.Int i.width) i.origin
 
-  inner_term_typed : (s : Shape) (i : Index) → IsLaid s → IsGoodIndex i → IsTerm t look n (inner_term s i)
+  inner_term_typed : (s : Shape) (i : TermIndex) → IsLaid s → IsGoodIndex i → IsTerm t look n (inner_term s i)
   inner_term_typed (int_leaf w) i laid h = (pointer_width, lit< tt)
   inner_term_typed ptr_leaf i laid h = (pointer_width, lit< tt)
   inner_term_typed void_leaf i laid h = (pointer_width, lit< tt)
@@ -36,11 +36,11 @@ module _ (t : Typing) (look : ℕ → ℕ → ℕ → Action) (n : ℕ) where
   inner_term_typed (array_of k s) i laid h = h
   inner_term_typed (struct_of label packed ss) i laid h = (pointer_width, offset_small packed ss (number_in i) laid.0)
 
-  inner_typed : (s : Shape) (is : List Index) → IsLaid s → AllByRecursion IsGoodIndex is → AllByRecursion (IsTerm t look n) (inner_terms s is)
+  inner_typed : (s : Shape) (is : List TermIndex) → IsLaid s → AllByRecursion IsGoodIndex is → AllByRecursion (IsTerm t look n) (inner_terms s is)
   inner_typed s [] laid h = tt
   inner_typed s (i ∷ is) laid h = (inner_term_typed s i laid h.0, inner_typed (element s (number_in i)) is (element_laid s (number_in i) laid) h.1)
 
-  terms_typed : (s : Shape) (is : List Index) → IsLaid s → AllByRecursion IsGoodIndex is → AllByRecursion (IsTerm t look n) (terms_of s is)
+  terms_typed : (s : Shape) (is : List TermIndex) → IsLaid s → AllByRecursion IsGoodIndex is → AllByRecursion (IsTerm t look n) (terms_of s is)
   terms_typed s [] laid h = tt
   terms_typed s (i ∷ is) laid h = (h.0, inner_typed s is laid h.1)
 

@@ -21,7 +21,7 @@ use Rattle.linkage_rules.specs.Globals.{OfVariable, linkage_of}
 use Rattle.linkage_rules.specs.Linkages.{is_appending}
 use Rattle.linkage_rules.specs.Place.{rooms}
 use Rattle.linkage_rules.specs.Winner.{is_definition, definitions, home}
-use Rattle.linked_contents.specs.Contents.{Piece, pieces_of_constants, elements_of, elements_in, whole, pieces_by, pieces}
+use Rattle.linked_contents.specs.Contents.{ContentPiece, pieces_of_constants, elements_of, elements_in, whole, pieces_by, pieces}
 use Rattle.run_places.proofs.Together.{all_append, all_filter, home_is}
 use Rattle.run_rules.specs.Constant.{Names, shape_of, constant_value}
 use Rattle.run_rules.specs.Leaves.{Slot, slots_at}
@@ -75,10 +75,10 @@ module _ (m : Module) (well_formed : IsWellFormed m) (valid : IsValid m) where
   names = names_in parts 0
 
   -- a piece has the leaves of its type
-  abbrev HasLeaves : Piece → Type 0
+  abbrev HasLeaves : ContentPiece → Type 0
   HasLeaves p = AllZip (IsOf count) (kinds_of (shape_of (names_in parts p.part) p.ty)) (constant_value (names_in parts p.part) p.ty p.value)
 
-  contents_stored : (ps : List Piece) (at : ℕ) → AllByRecursion HasLeaves ps → AreStored count (contents_from parts at ps)
+  contents_stored : (ps : List ContentPiece) (at : ℕ) → AllByRecursion HasLeaves ps → AreStored count (contents_from parts at ps)
   contents_stored [] at h = tt
   contents_stored (p ∷ ps) at h =
       let s = shape_of (names_in parts p.part) p.ty in

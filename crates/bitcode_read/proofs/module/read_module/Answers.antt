@@ -1,6 +1,6 @@
 use Rattle.std.proofs.Common.{sym, ap, ◌∙◌, subst, length, arith}
 use Rattle.std.proofs.lemmas.Result.{err_from_is_err_and}
-use Rattle.bit_tree.specs.Stream.{Tree}
+use Rattle.bit_tree.specs.Stream.{StreamTree}
 use Rattle.bit_tree.proofs.OneTree.{one_tree}
 use Rattle.record_table.specs.Faults.{records}
 use Rattle.record_read.specs.Fields.{texts_of}
@@ -31,7 +31,7 @@ pub returns-clause-answers : goal.returns-clause-answers
 returns-clause-answers c = λ tree others stream before.
     let w = c.requires.begun in
     let new = c.new-sofar.ensures in
-    let known : IsAhead (texts_of c.args.texts.now) (first_module (records tree)) c.args.known.now = subst (λ (t : Tree). IsAhead (texts_of c.args.texts.now) (first_module (records t)) c.args.known.now) (one_tree c.args.bytes.now w.tree tree w.is_tree stream) w.is_known in
+    let known : IsAhead (texts_of c.args.texts.now) (first_module (records tree)) c.args.known.now = subst (λ (t : StreamTree). IsAhead (texts_of c.args.texts.now) (first_module (records t)) c.args.known.now) (one_tree c.args.bytes.now w.tree tree w.is_tree stream) w.is_known in
     let begin = goes_begin (texts_of c.args.texts.now) (first_module (records tree)) others c.args.m.now c.new-sofar.result c.args.known.now before known w.over new.last new.texts new.entries new.bodies in
     c.whole.ensures (first_module (records tree)) others c.args.m.now.reader.at c.read_entries.new.known (c.in_ok-read_entries.ensures.goes tree others c.args.m.now.reader.at stream begin)
 
@@ -40,7 +40,7 @@ returns-in_err-read_entries-clause-answers c = λ tree others stream before.
     let p = err_from_is_err_and c.from_residual.result c.from_residual.ensures.1 in
     let w = c.requires.begun in
     let new = c.new-sofar.ensures in
-    let known : IsAhead (texts_of c.args.texts.now) (first_module (records tree)) c.args.known.now = subst (λ (t : Tree). IsAhead (texts_of c.args.texts.now) (first_module (records t)) c.args.known.now) (one_tree c.args.bytes.now w.tree tree w.is_tree stream) w.is_known in
+    let known : IsAhead (texts_of c.args.texts.now) (first_module (records tree)) c.args.known.now = subst (λ (t : StreamTree). IsAhead (texts_of c.args.texts.now) (first_module (records t)) c.args.known.now) (one_tree c.args.bytes.now w.tree tree w.is_tree stream) w.is_known in
     let begin = goes_begin (texts_of c.args.texts.now) (first_module (records tree)) others c.args.m.now c.new-sofar.result c.args.known.now before known w.over new.last new.texts new.entries new.bodies in
     rw (p.1, p.2)
     (goes_refused (texts_of c.args.texts.now) (first_module (records tree)) others c.args.m.now.reader.at c.read_entries.new.m c.read_entries.new.sofar c.read_entries.new.known _ _

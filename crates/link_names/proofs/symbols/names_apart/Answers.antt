@@ -4,7 +4,7 @@ use Rattle.module_arena.specs.Module.{Bytes}
 use Rattle.linkage_rules.specs.Ids.{modules}
 use Rattle.linkage_rules.specs.Lists.{has}
 use Rattle.module_linker.specs.Rename.{all_names, base_of, with_given_names, renaming, shared_names}
-use Rattle.link_names.specs.Naming.{Names}
+use Rattle.link_names.specs.Naming.{TakenNames}
 use Rattle.link_names.proofs.Given.{named_all, named_end, named_more, new_ones, same_behind_none}
 use Rattle.link_names.proofs.symbols.names_apart.Goals as goal
 
@@ -12,13 +12,13 @@ pub loop-symbol-init : goal.loop-symbol-init
 loop-symbol-init c =
     let ms = modules c.args.parts.now in
     let ss = c.args.symbols.now in
-    let none_given = c.avoid_all.ensures.given ∙ ap (λ (v : Names). v.given) c.new-naming.ensures in
+    let none_given = c.avoid_all.ensures.given ∙ ap (λ (v : TakenNames). v.given) c.new-naming.ensures in
     record {
       joined = ap (λ (l : List Bytes). l ++ new_ones (with_given_names base_of (all_names ms) c.give_shared.new.naming.given ss)) c.new-names.ensures
           ∙ named_all ms ss c.give_shared.new.naming.given c.requires (same_behind_none c.avoid_all.new.naming.given (shared_names ss) c.give_shared.new.naming.given none_given c.in_ok-give_shared.ensures.given);
       avoided = λ name.
           ap (λ l. has bytes_eq l name) c.give_shared.ensures.avoided
-          ∙ same_behind_none c.new-naming.result.avoided (all_names ms) c.avoid_all.new.naming.avoided (ap (λ (v : Names). v.avoided) c.new-naming.ensures) c.in_ok-avoid_all.ensures.avoided name;
+          ∙ same_behind_none c.new-naming.result.avoided (all_names ms) c.avoid_all.new.naming.avoided (ap (λ (v : TakenNames). v.avoided) c.new-naming.ensures) c.in_ok-avoid_all.ensures.avoided name;
     }
 
 pub loop-symbol-preserved : goal.loop-symbol-preserved

@@ -16,7 +16,7 @@ use Rattle.module_arena.specs.Lists.{name_at}
 use Rattle.module_arena.specs.TypeTests.{is_integer, lies_in_memory}
 use Rattle.module_arena.specs.View.{module_of}
 use Rattle.run_rules.specs.Constant as rules
-use Rattle.run_rules.specs.Displace.{Index, displaced, inner_term, known, number_of, reach_of, sum_of, terms_of}
+use Rattle.run_rules.specs.Displace.{TermIndex, displaced, inner_term, known, number_of, reach_of, sum_of, terms_of}
 use Rattle.ir_tables.specs.Flags.{has_flag}
 use Rattle.ir_tables.specs.declared.flag.Flag.TheVariants.{Inbounds}
 use Rattle.run_rules.specs.Leaves as leaves
@@ -174,9 +174,9 @@ further-returns t c =
       shape = subst (λ (x : Types). shape_at x q.place ≡ leaves.element (shape_at x p) (number_of v)) e c.reached_by.ensures.shape ∙ ap (λ (u : Scalar). leaves.element (shape_at a.table p) (number_of u)) leaf;
       distance =
           subst (λ (x : Types). q.distance ≡ sum_of d (term_reach (inner_term (shape_at x p) (index_at v w)))) e c.reached_by.ensures.distance
-          ∙ ap (λ (i : Index). sum_of d (term_reach (inner_term (shape_at a.table p) i))) index;
+          ∙ ap (λ (i : TermIndex). sum_of d (term_reach (inner_term (shape_at a.table p) i))) index;
       near =
-          subst (λ (i : Index). IfSome (term_reach (inner_term (shape_at a.table p) i)) (IsNear (2 ^ 63 * 2 ^ 40))) index
+          subst (λ (i : TermIndex). IfSome (term_reach (inner_term (shape_at a.table p) i)) (IsNear (2 ^ 63 * 2 ^ 40))) index
           (subst (λ (x : Types). IfSome (term_reach (inner_term (shape_at x p) (index_at v w))) (IsNear (2 ^ 63 * 2 ^ 40))) e c.reached_by.ensures.near);
     }
 
@@ -206,7 +206,7 @@ distance_of-indices-preserved t c =
     let others = indices_of a (drop (k + 1) c.args.indices.now) in
     let whole = reach_of known (terms_of (shape_in a.table c.args.source) (indices_of a c.args.indices.now)) in
     let from = indices_from a c.args.indices.now k part c.indices-test.true c.index-item.is in
-    let way = subst (λ (is : List Index). IsOnTheWay a.table (2 ^ 63 * 2 ^ 40) c.indices.reached is whole) from c.indices.invariant in
+    let way = subst (λ (is : List TermIndex). IsOnTheWay a.table (2 ^ 63 * 2 ^ 40) c.indices.reached is whole) from c.indices.invariant in
     one_further a.table (2 ^ 63 * 2 ^ 40) c.indices.reached c.further-reached.result (index_of a part) others whole way
     c.further-reached.ensures.place c.further-reached.ensures.shape c.further-reached.ensures.distance c.further-reached.ensures.near
 

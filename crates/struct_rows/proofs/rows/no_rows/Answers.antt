@@ -1,6 +1,6 @@
 use Rattle.std.proofs.Common.{ap, ◌∙◌}
 use Rattle.linkage_rules.specs.Ids.{modules}
-use Rattle.link_names.specs.Naming.{Names}
+use Rattle.link_names.specs.Naming.{TakenNames}
 use Rattle.struct_rows.specs.Numbers.{all_struct_names}
 use Rattle.struct_rows.proofs.Ending.{rows_none, same_behind_none}
 use Rattle.struct_rows.proofs.rows.no_rows.Goals as goal
@@ -11,5 +11,5 @@ returns c =
     let first = c.new-naming.result in
     let naming = c.avoid_all.new.naming in
     rows_none ms c.new.result naming c.new.ensures.found c.new.ensures.names c.new.ensures.naming
-    (c.avoid_all.ensures.given ∙ ap (λ (v : Names). v.given) c.new-naming.ensures)
-    (same_behind_none first.avoided (all_struct_names ms) naming.avoided (ap (λ (v : Names). v.avoided) c.new-naming.ensures) c.in_ok-avoid_all.ensures.avoided)
+    (c.avoid_all.ensures.given ∙ ap (λ (v : TakenNames). v.given) c.new-naming.ensures)
+    (same_behind_none first.avoided (all_struct_names ms) naming.avoided (ap (λ (v : TakenNames). v.avoided) c.new-naming.ensures) c.in_ok-avoid_all.ensures.avoided)

@@ -2,14 +2,14 @@ use Rattle.std.proofs.Common.{ap, refl, ◌∙◌}
 use Rattle.std.proofs.lemmas.Result.{err_from_is_err_and}
 use Rattle.bit_stream.specs.declared.told.LastSeen.{LastSeen}
 use Rattle.bit_stream.specs.Entry.{start, more, id_at, has_blob_by}
-use Rattle.bit_stream.specs.Reader.{Reader, told_of}
+use Rattle.bit_stream.specs.Reader.{StreamReader, told_of}
 use Rattle.bit_stream.proofs.Progress.{fewer_left}
 use Rattle.bit_stream.proofs.DefinitionsInFront.{came_here, came_behind, reached_none, told_there}
 use Rattle.bit_stream.proofs.reader.BitReader.read_entry.Goals as goal
 
 pub loop-item-init : goal.loop-item-init
 loop-item-init c = record {
-  running = ap (λ (r : Reader). r.stopped) c.self.view_is ∙ c.requires;
+  running = ap (λ (r : StreamReader). r.stopped) c.self.view_is ∙ c.requires;
   next = λ r h. h;
   passed = rw c.new.ensures start;
   told = refl;
@@ -20,7 +20,7 @@ returns-in_err-item c =
     let p = err_from_is_err_and c.from_residual.result c.from_residual.ensures.1 in
     record {
       reached = rw (p.1, p.2) (reached_none _ _ _ c.loop-item.self-inside.scope c.loop-item.self-inside.cursor _ c.self.view_is c.loop-item.invariant.next c.in_err-item.ensures.read);
-      told = rw p.1 (c.loop-item.invariant.told ∙ ap (λ (r : Reader). r.told) c.self.view_is);
+      told = rw p.1 (c.loop-item.invariant.told ∙ ap (λ (r : StreamReader). r.told) c.self.view_is);
     }
 
 pub returns-in-Some : goal.returns-in-Some

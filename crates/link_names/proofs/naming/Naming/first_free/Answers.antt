@@ -1,7 +1,7 @@
 use Rattle.std.proofs.Common.{◌≡◌, ◌+◌, ◌≤◌, true, length, length-append, sym, ap, ◌∙◌, bytes_eq, arith, rules}
 use Rattle.linkage_rules.specs.Lists.{has}
 use Rattle.module_linker.specs.Rename.{dotted}
-use Rattle.link_names.specs.Naming.{Names, taken}
+use Rattle.link_names.specs.Naming.{TakenNames, taken}
 use Rattle.link_names.proofs.FirstFree.{taken_more, taken_fewer, last_free}
 use Rattle.link_names.proofs.naming.Naming.first_free.Goals as goal
 
@@ -25,7 +25,7 @@ returns-clause-free c =
     let names = taken c.args.self.now in
     let last = c.len.result + c.len-2.result + 1 in
     let end : last ≤ c.numbers.number = c.numbers-test.false in
-    let given : c.len.result ≡ length c.args.self.now.given = c.len.ensures.len ∙ ap (λ (v : Names). length v.given) c.self.view_is in
-    let avoided : c.len-2.result ≡ length c.args.self.now.avoided = c.len-2.ensures.len ∙ ap (λ (v : Names). length v.avoided) c.self.view_is in
+    let given : c.len.result ≡ length c.args.self.now.given = c.len.ensures.len ∙ ap (λ (v : TakenNames). length v.given) c.self.view_is in
+    let avoided : c.len-2.result ≡ length c.args.self.now.avoided = c.len-2.ensures.len ∙ ap (λ (v : TakenNames). length v.avoided) c.self.view_is in
     let all : last ≡ length names + 1 = omega (arith, given, avoided, length-append c.args.self.now.given c.args.self.now.avoided) in
     ap (has bytes_eq names) c.in_ok-dotted.ensures ∙ last_free names c.args.base.now last c.numbers.number all end c.numbers.invariant.before
