@@ -13,8 +13,8 @@ use Rattle.ir_lexer.proofs.TokenLists.{begins_less}
 use Rattle.ir_terminals.specs.Front.{ahead_from, IsFrontOf, IsAt, front_less}
 use Rattle.ir_terminals.specs.Position.{Position, text_tokens, is_cut_off, end_place, tokens_left, is_less, is_behind_less}
 use Rattle.ir_terminals.specs.Role.{terminal}
-use Rattle.ir_terminals.specs.declared.cursor.Front.{Front}
-use Rattle.ir_terminals.specs.declared.cursor.Front.TheVariants as fronts
+use Rattle.ir_terminals.specs.declared.cursor.NextTerminal.{NextTerminal}
+use Rattle.ir_terminals.specs.declared.cursor.NextTerminal.TheVariants as fronts
 use Rattle.ir_terminals.specs.declared.limits.Limits.{Limits}
 use Rattle.ir_terminals.specs.declared.terminal.Terminal.{Terminal}
 
@@ -68,7 +68,7 @@ pub front_bad : (l new : Lexing) (bad : BadByte) → Err bad ≡ answer l → ne
 front_bad l new bad a n text = record { is_ahead = rw (← a) at (ahead_step l); text = text; sound = tt }
 
 -- at the first token
-pub starts_at : (text : List ℕ) (l : Lexing) (front : Front) → length text ≤ LARGEST → IsFrontOf (at_start text) front l → IsAt l front 0 false
+pub starts_at : (text : List ℕ) (l : Lexing) (front : NextTerminal) → length text ≤ LARGEST → IsFrontOf (at_start text) front l → IsAt l front 0 false
 starts_at text l front short f = record {
   short = rw f.text short;
   tokens = no_drop_tokens (text_tokens l.text) ∙ ap text_tokens f.text ∙ ap (λ (a : TokensAhead). a.tokens) f.is_ahead;
@@ -92,7 +92,7 @@ behind_next : (text : List ℕ) (n : ℕ) (t : Located) (more : List Located) (x
 behind_next text n t more x e f = rw (e, f) refl
 
 -- behind one more token
-pub advanced : (l new : Lexing) (front next : Front) (n : ℕ) (behind : Bool) → IsAt l front n behind → 0 < length (drop n (text_tokens l.text)) → IsFrontOf l next new → IsAt new next (n + 1) (front_less front)
+pub advanced : (l new : Lexing) (front next : NextTerminal) (n : ℕ) (behind : Bool) → IsAt l front n behind → 0 < length (drop n (text_tokens l.text)) → IsFrontOf l next new → IsAt new next (n + 1) (front_less front)
 advanced l new (fronts.Token t x) next n behind i h f =
     let located : Located = record { token = token_spelling l.text t; place = t.place } in
     let d = drop_next n (text_tokens l.text) located (ahead l).tokens i.tokens in
@@ -109,7 +109,7 @@ advanced l new fronts.End next n behind i h f = absurd (not_fewer _ i.tokens h)
 advanced l new (fronts.Bad place) next n behind i h f = absurd (not_fewer _ i.tokens h)
 
 -- what a cursor has left
-pub left_is : (p : Position) (limits : Limits) (l : Lexing) (front : Front) (n : ℕ) (behind : Bool) → record { limits = limits; text = l.text; taken = n } ≡ p → IsAt l front n behind → tokens_left p ≡ (ahead_from l front).tokens
+pub left_is : (p : Position) (limits : Limits) (l : Lexing) (front : NextTerminal) (n : ℕ) (behind : Bool) → record { limits = limits; text = l.text; taken = n } ≡ p → IsAt l front n behind → tokens_left p ≡ (ahead_from l front).tokens
 unfolding tokens_left
 left_is p limits l front n behind e i = rw (← e) i.tokens
 

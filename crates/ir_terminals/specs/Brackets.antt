@@ -8,8 +8,8 @@ use Rattle.ir_terminals.specs.declared.brackets.Bracket.{Bracket}
 use Rattle.ir_terminals.specs.declared.brackets.Bracket.TheVariants as brackets
 use Rattle.ir_terminals.specs.declared.brackets.Role.{Role}
 use Rattle.ir_terminals.specs.declared.brackets.Role.TheVariants as roles
-use Rattle.ir_terminals.specs.declared.brackets.Turn.{Turn}
-use Rattle.ir_terminals.specs.declared.brackets.Turn.TheVariants as turns
+use Rattle.ir_terminals.specs.declared.brackets.BracketTurn.{BracketTurn}
+use Rattle.ir_terminals.specs.declared.brackets.BracketTurn.TheVariants as turns
 use Rattle.ir_terminals.specs.declared.terminal.Terminal.{Terminal}
 use Rattle.ir_terminals.specs.declared.terminal.Terminal.TheVariants as terminals
 
@@ -82,7 +82,7 @@ nearest_first [] = []
 nearest_first (outermost ∷ inner) = nearest_first inner ++ outermost ∷ []
 
 -- what a turn says of a step that left these brackets unclosed
-abbrev pub move_of : Turn → List Bracket → TokenMove (List Bracket) (Unit {0})
+abbrev pub move_of : BracketTurn → List Bracket → TokenMove (List Bracket) (Unit {0})
 move_of turns.On unclosed = On unclosed
 move_of turns.Ends unclosed = Ends tt
 move_of turns.Stops unclosed = Stops

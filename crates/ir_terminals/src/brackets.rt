@@ -35,7 +35,7 @@ enum Role {
 
 /// Whether all brackets are closed behind a token, or some are open, or it closes none that is open.
 #[derive(Clone, Copy)]
-enum Turn {
+enum BracketTurn {
     /// Some are open behind the token.
     On,
     /// All are closed behind it.
@@ -61,34 +61,34 @@ fn role_of(terminal: Terminal) -> Role
 }
 
 /// Closes the bracket that was opened last, which is to be of this kind.
-fn close(unclosed: &mut Vec<Bracket>, bracket: Bracket) -> Turn
+fn close(unclosed: &mut Vec<Bracket>, bracket: Bracket) -> BracketTurn
     ensures { step_by (nearest_first unclosed.old.items) (Closes bracket) ≡ move_of result (nearest_first unclosed.new.items) }
 {
     match unclosed.pop() {
         Some(last) if last == bracket => {
             if unclosed.is_empty() {
-                Turn::Ends
+                BracketTurn::Ends
             } else {
-                Turn::On
+                BracketTurn::On
             }
         }
-        _ => Turn::Stops,
+        _ => BracketTurn::Stops,
     }
 }
 
 /// What a token does to the brackets that are open, of which the last is the nearest.
-fn turn_of(unclosed: &mut Vec<Bracket>, role: Role) -> Result<Turn, Fault>
+fn turn_of(unclosed: &mut Vec<Bracket>, role: Role) -> Result<BracketTurn, Fault>
     ensures step { IfOk result (λ turn. step_by (nearest_first unclosed.old.items) role ≡ move_of turn (nearest_first unclosed.new.items)) }
     ensures memory { IfErr result (λ fault. fault ≡ Memory) }
 {
     match role {
         Role::Opens(bracket) => {
             unclosed.push(bracket)?;
-            Ok(Turn::On)
+            Ok(BracketTurn::On)
         }
         Role::Closes(bracket) => Ok(close(unclosed, bracket)),
-        Role::Neither if unclosed.is_empty() => Ok(Turn::Stops),
-        Role::Neither => Ok(Turn::On),
+        Role::Neither if unclosed.is_empty() => Ok(BracketTurn::Stops),
+        Role::Neither => Ok(BracketTurn::On),
     }
 }
 
@@ -101,12 +101,12 @@ impl<'t> Cursor<'t> {
         'tokens: while let Some(terminal) = self.terminal() {
             let turn = turn_of(&mut unclosed, role_of(terminal))?;
             match turn {
-                Turn::On => self.advance(),
-                Turn::Ends => {
+                BracketTurn::On => self.advance(),
+                BracketTurn::Ends => {
                     self.advance();
                     return Ok(());
                 }
-                Turn::Stops => return Err(Fault::Refused),
+                BracketTurn::Stops => return Err(Fault::Refused),
             }
         }
         Err(Fault::Refused)

@@ -19,7 +19,7 @@ use std::marker::Model;
 
 /// What stands next: a token with its terminal, the end of the text, or a byte at which no token begins.
 #[derive(Clone, Copy)]
-enum Front {
+enum NextTerminal {
     /// A token, and its terminal.
     Token(Token, Terminal),
     /// The end of the text.
@@ -34,7 +34,7 @@ pub struct Cursor<'t> {
     alloc: Global,
     limits: Limits,
     lexer: Lexer<'t>,
-    front: Front,
+    front: NextTerminal,
     taken: usize,
     behind_less: bool,
 }
@@ -52,21 +52,21 @@ impl<'t> Model for Cursor<'t> {
 
 /// What the lexer answers next.
 #[inline(always)]
-fn front_of(lexer: &mut Lexer) -> Front
+fn front_of(lexer: &mut Lexer) -> NextTerminal
     ensures { IsFrontOf lexer.old result lexer.new }
 {
     match lexer.next() {
         Ok(Some(token)) => {
             let terminal = terminal_of(token.kind, lexer.spelling(&token));
-            Front::Token(token, terminal)
+            NextTerminal::Token(token, terminal)
         }
-        Ok(None) => Front::End,
-        Err(bad) => Front::Bad(bad.place),
+        Ok(None) => NextTerminal::End,
+        Err(bad) => NextTerminal::Bad(bad.place),
     }
 }
 
 /// Puts what the lexer answers next where it is kept, so that it is not copied there.
-fn next_front(lexer: &mut Lexer, front: &mut Front)
+fn next_front(lexer: &mut Lexer, front: &mut NextTerminal)
     ensures { IsFrontOf lexer.old front.new lexer.new }
 {
     *front = front_of(lexer);
@@ -120,9 +120,9 @@ impl<'t> Cursor<'t> {
         ensures { result ≡ first_terminal (tokens_left self.now) }
     {
         match self.front {
-            Front::Token(_, terminal) => Some(terminal),
-            Front::End => None,
-            Front::Bad(_) => None,
+            NextTerminal::Token(_, terminal) => Some(terminal),
+            NextTerminal::End => None,
+            NextTerminal::Bad(_) => None,
         }
     }
 
@@ -131,9 +131,9 @@ impl<'t> Cursor<'t> {
         ensures { result ≡ first_kind (tokens_left self.now) }
     {
         match self.front {
-            Front::Token(token, _) => Some(token.kind),
-            Front::End => None,
-            Front::Bad(_) => None,
+            NextTerminal::Token(token, _) => Some(token.kind),
+            NextTerminal::End => None,
+            NextTerminal::Bad(_) => None,
         }
     }
 
@@ -143,9 +143,9 @@ impl<'t> Cursor<'t> {
         ensures token { IsFirstToken (tokens_left self.now) }
     {
         match self.front {
-            Front::Token(token, _) => self.lexer.spelling(&token),
-            Front::End => &[],
-            Front::Bad(_) => &[],
+            NextTerminal::Token(token, _) => self.lexer.spelling(&token),
+            NextTerminal::End => &[],
+            NextTerminal::Bad(_) => &[],
         }
     }
 
@@ -154,9 +154,9 @@ impl<'t> Cursor<'t> {
         ensures { result ≡ first_place self.now (tokens_left self.now) }
     {
         match self.front {
-            Front::Token(token, _) => token.place,
-            Front::End => self.lexer.place(),
-            Front::Bad(place) => place,
+            NextTerminal::Token(token, _) => token.place,
+            NextTerminal::End => self.lexer.place(),
+            NextTerminal::Bad(place) => place,
         }
     }
 
@@ -165,9 +165,9 @@ impl<'t> Cursor<'t> {
         ensures { result ≡ is_bad_next self.now (tokens_left self.now) }
     {
         match self.front {
-            Front::Token(_, _) => false,
-            Front::End => false,
-            Front::Bad(_) => true,
+            NextTerminal::Token(_, _) => false,
+            NextTerminal::End => false,
+            NextTerminal::Bad(_) => true,
         }
     }
 
@@ -201,11 +201,11 @@ impl<'t> Cursor<'t> {
 }
 
 /// Whether the token `<` stands next.
-fn is_less(front: &Front) -> bool
+fn is_less(front: &NextTerminal) -> bool
     ensures { result ≡ front_less front.now }
 {
     match front {
-        Front::Token(_, Terminal::Less) => true,
+        NextTerminal::Token(_, Terminal::Less) => true,
         _ => false,
     }
 }

@@ -8,7 +8,7 @@ use Rattle.linkage_rules.specs.declared.symbol.SymbolKind.{SymbolKind}
 use Rattle.linkage_rules.specs.declared.symbol.SymbolKind.TheVariants.{Variable, Function, Alias}
 use Rattle.module_arena.specs.Lists.{Lists}
 use Rattle.link_stages.specs.Parts.{IsResolved}
-use Rattle.link_filling.specs.declared.origins.Origin.{Origin}
+use Rattle.link_filling.specs.declared.origins.SymbolOrigin.{SymbolOrigin}
 
 -- the entries of a variable; of what is of another kind none
 abbrev pub entries_of_kind : SymbolKind → List EntryId → List EntryId
@@ -22,11 +22,11 @@ entries_kept None es = []
 entries_kept (Some home) es = entries_of_kind home.kind es
 
 -- what is kept of a symbol: its home, and the entries of a variable
-abbrev pub origin_in : Resolved → Symbol → Origin
+abbrev pub origin_in : Resolved → Symbol → SymbolOrigin
 origin_in r s = record { home = home_in r.groups r.homes s; entries = entries_kept (home_in r.groups r.homes s) (group_in r.groups s) }
 
 -- This is kept of the symbol with that number.
-pub record IsOrigin (parts : List Lists) (number : ℕ) (x : Origin) : Type 0 where
+pub record IsOrigin (parts : List Lists) (number : ℕ) (x : SymbolOrigin) : Type 0 where
   pub resolved_as : Resolved
   pub symbol : Symbol
   pub resolved : IsResolved parts resolved_as

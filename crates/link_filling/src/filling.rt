@@ -13,7 +13,7 @@ ghost use Rattle.link_filling.specs.Origins.{IsOrigin};
 
 use crate::bodies::define;
 use crate::initialisers::initialise;
-use crate::origins::{Origin, origin_at, origins_of};
+use crate::origins::{SymbolOrigin, origin_at, origins_of};
 use crate::targets::target;
 use entry_copy::Copier;
 use linkage_rules::Bindings;
@@ -26,7 +26,7 @@ fn define_symbol(
     copiers: &[Copier],
     alloc: Global,
     parts: &[Checked],
-    origin: &Origin,
+    origin: &SymbolOrigin,
     into: &mut Builder,
     number: usize,
     id: GlobalId,

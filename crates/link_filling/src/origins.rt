@@ -8,7 +8,7 @@ use std::alloc::{AllocError, Global};
 
 /// Where a symbol is defined, and all entries of one that is defined as a variable.
 #[derive(Drop)]
-pub(crate) struct Origin {
+pub(crate) struct SymbolOrigin {
     pub(crate) home: Option<EntryId>,
     pub(crate) entries: EntryList,
 }
@@ -27,19 +27,23 @@ fn entries_kept<'a>(bindings: &'a Bindings, symbol: &Symbol, home: Option<EntryI
 }
 
 /// What is kept of a symbol.
-fn origin_of(alloc: Global, bindings: &Bindings, symbol: &Symbol) -> Result<Origin, AllocError>
+fn origin_of(
+    alloc: Global,
+    bindings: &Bindings,
+    symbol: &Symbol,
+) -> Result<SymbolOrigin, AllocError>
     ensures { IfOk result (λ origin. origin ≡ origin_in bindings.now symbol.now) }
 {
     let home = bindings.home(symbol);
     let entries = Vec::from_slice(alloc, entries_kept(bindings, symbol, home))?;
-    Ok(Origin {
+    Ok(SymbolOrigin {
         home,
         entries: EntryList::from_vec(entries),
     })
 }
 
 /// What is kept of all symbols, in their order. The table by which they are found is let go.
-pub(crate) fn origins_of(alloc: Global, bindings: Bindings) -> Result<Vec<Origin>, AllocError>
+pub(crate) fn origins_of(alloc: Global, bindings: Bindings) -> Result<Vec<SymbolOrigin>, AllocError>
     ensures { IfOk result (λ origins. origins.items ≡ map (origin_in bindings) bindings.symbols) }
 {
     let symbols = bindings.symbols();
@@ -52,7 +56,7 @@ pub(crate) fn origins_of(alloc: Global, bindings: Bindings) -> Result<Vec<Origin
 }
 
 /// The origin of the symbol with that number.
-pub(crate) fn origin_at(origins: &[Origin], number: usize) -> &Origin
+pub(crate) fn origin_at(origins: &[SymbolOrigin], number: usize) -> &SymbolOrigin
     requires { number < length origins.now }
     ensures { slice_get origins.now number ≡ Some result.now }
 {

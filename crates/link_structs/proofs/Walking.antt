@@ -10,7 +10,7 @@ use Rattle.type_table.specs.Types.{Types, trees, trees_at}
 use Rattle.labelled_shapes.specs.Shapes.{shapes_at}
 use Rattle.link_structs.specs.Shapes.{AreKept, IsNumber, AreNumbers, struct_shape, type_shape}
 use Rattle.link_structs.specs.Walked.{AreOf, Remembers, IsWalked, Finds, FindsAll, Keeps}
-use Rattle.link_structs.specs.declared.walk.Walk.{Walk}
+use Rattle.link_structs.specs.declared.walk.ShapeWalk.{ShapeWalk}
 use Rattle.link_structs.proofs.Shaped.{look}
 
 -- ---- numbers stay
@@ -32,7 +32,7 @@ numbers_more all (n ∷ numbers) (p ∷ os) number o h k = (h.0, numbers_more al
 
 -- ---- what is remembered
 
-pub remembers_kept : (t : Types) (walk : Walk) (before now : List Shape) → AreKept before now → Remembers t walk before → Remembers t walk now
+pub remembers_kept : (t : Types) (walk : ShapeWalk) (before now : List Shape) → AreKept before now → Remembers t walk before → Remembers t walk now
 remembers_kept t walk before now kept h = record {
   good = h.good;
   within = h.within;
@@ -42,11 +42,11 @@ remembers_kept t walk before now kept h = record {
   structs = λ id number e. number_kept before now kept number (struct_shape t id) (h.structs id number e);
 }
 
-pub walked_none : (t : Types) (walk : Walk) (all : List Shape) → Remembers t walk all → IsWalked t all walk all
+pub walked_none : (t : Types) (walk : ShapeWalk) (all : List Shape) → Remembers t walk all → IsWalked t all walk all
 walked_none t walk all h = record { kept = λ number s e. e; remembers = h }
 
 -- a shape that is kept after others were looked at
-pub found_then : (t : Types) (before mid now : List Shape) (walk : Walk) (number : ℕ) (s : Shape) (o : Option Shape)
+pub found_then : (t : Types) (before mid now : List Shape) (walk : ShapeWalk) (number : ℕ) (s : Shape) (o : Option Shape)
     → IsWalked t before walk mid → Keeps mid now number s → o ≡ Some s → Finds t before walk now number o
 found_then t before mid now walk number s o h k e = record {
   walked = record {
@@ -56,11 +56,11 @@ found_then t before mid now walk number s o h k e = record {
   is = (s, k.is, e);
 }
 
-pub found_as : {E : Type 0} (t : Types) (before now : List Shape) (walk : Walk) (o p : Option Shape) (r : Result ℕ E)
+pub found_as : {E : Type 0} (t : Types) (before now : List Shape) (walk : ShapeWalk) (o p : Option Shape) (r : Result ℕ E)
     → p ≡ o → IfOk r (λ number. Finds t before walk now number o) → IfOk r (λ number. Finds t before walk now number p)
 found_as t before now walk o p r e h = subst (λ (x : Option Shape). IfOk r (λ number. Finds t before walk now number x)) (sym e) h
 
-pub if_found : {E : Type 0} (t : Types) (before mid now : List Shape) (walk : Walk) (s : Shape) (o : Option Shape) (r : Result ℕ E)
+pub if_found : {E : Type 0} (t : Types) (before mid now : List Shape) (walk : ShapeWalk) (s : Shape) (o : Option Shape) (r : Result ℕ E)
     → IsWalked t before walk mid → IfOk r (λ number. Keeps mid now number s) → o ≡ Some s → IfOk r (λ number. Finds t before walk now number o)
 if_found t before mid now walk s o (Err e) h k is = tt
 if_found t before mid now walk s o (Ok number) h k is = found_then t before mid now walk number s o h k is
@@ -138,7 +138,7 @@ of_more all shape found i number are is id other h = go (set_other found i id (S
     go (inl e) = subst (λ k. IsNumber all other (shape k)) (sym e.0) (subst (λ n. IsNumber all n (shape i)) (inner number other e.1) is)
     go (inr e) = are id other e
 
-pub type_noted : (t : Types) (before now : List Shape) (walk then : Walk) (ty number : ℕ) → Finds t before walk now number (type_shape t ty)
+pub type_noted : (t : Types) (before now : List Shape) (walk then : ShapeWalk) (ty number : ℕ) → Finds t before walk now number (type_shape t ty)
     → then.types.items ≡ set walk.types.items ty (Some number) → then.structs.items ≡ walk.structs.items → Finds t before then now number (type_shape t ty)
 type_noted t before now walk then ty number h types structs =
     let r = h.walked.remembers in
@@ -157,7 +157,7 @@ type_noted t before now walk then ty number h types structs =
       is = h.is;
     }
 
-pub struct_noted : (t : Types) (before now : List Shape) (walk then : Walk) (id number : ℕ) → Finds t before walk now number (struct_shape t id)
+pub struct_noted : (t : Types) (before now : List Shape) (walk then : ShapeWalk) (id number : ℕ) → Finds t before walk now number (struct_shape t id)
     → then.structs.items ≡ set walk.structs.items id (Some number) → then.types.items ≡ walk.types.items → Finds t before then now number (struct_shape t id)
 struct_noted t before now walk then id number h structs types =
     let r = h.walked.remembers in
@@ -177,16 +177,16 @@ struct_noted t before now walk then id number h structs types =
     }
 
 -- what was remembered is found
-pub found_again : (t : Types) (walk : Walk) (all : List Shape) (number : ℕ) (o : Option Shape) → Remembers t walk all → IsNumber all number o → Finds t all walk all number o
+pub found_again : (t : Types) (walk : ShapeWalk) (all : List Shape) (number : ℕ) (o : Option Shape) → Remembers t walk all → IsNumber all number o → Finds t all walk all number o
 found_again t walk all number o h is = record { walked = walked_none t walk all h; is = is }
 
 -- ---- one behind the other
 
-pub all_none : (t : Types) (walk : Walk) (all : List Shape) (numbers parts : List ℕ) → numbers ≡ [] → Remembers t walk all → FindsAll t all walk all numbers (map (type_shape t) (take 0 parts))
+pub all_none : (t : Types) (walk : ShapeWalk) (all : List Shape) (numbers parts : List ℕ) → numbers ≡ [] → Remembers t walk all → FindsAll t all walk all numbers (map (type_shape t) (take 0 parts))
 all_none t walk all numbers parts e h = record { walked = walked_none t walk all h; are = subst (λ (ns : List ℕ). AreNumbers all ns []) (sym e) tt }
 
 -- the next of some types
-pub finds_more : (t : Types) (before mid now : List Shape) (walk then : Walk) (numbers parts : List ℕ) (i part number : ℕ)
+pub finds_more : (t : Types) (before mid now : List Shape) (walk then : ShapeWalk) (numbers parts : List ℕ) (i part number : ℕ)
     → i < length parts → part ≡ get_or parts i part → FindsAll t before walk mid numbers (map (type_shape t) (take i parts))
     → Finds t mid then now number (type_shape t part) → FindsAll t before then now (numbers ++ number ∷ []) (map (type_shape t) (take (i + 1) parts))
 finds_more t before mid now walk then numbers parts i part number lt is h k = record {
@@ -196,7 +196,7 @@ finds_more t before mid now walk then numbers parts i part number lt is h k = re
       (numbers_more now numbers (map (type_shape t) (take i parts)) number (type_shape t part) (numbers_kept mid now k.walked.kept numbers (map (type_shape t) (take i parts)) h.are) k.is);
 }
 
-pub finds_all : (t : Types) (before now : List Shape) (walk : Walk) (numbers parts : List ℕ) (i : ℕ)
+pub finds_all : (t : Types) (before now : List Shape) (walk : ShapeWalk) (numbers parts : List ℕ) (i : ℕ)
     → length parts ≤ i → FindsAll t before walk now numbers (map (type_shape t) (take i parts)) → FindsAll t before walk now numbers (map (type_shape t) parts)
 finds_all t before now walk numbers parts i le h = subst (λ (ps : List ℕ). FindsAll t before walk now numbers (map (type_shape t) ps)) (take_all i parts le) h
 

@@ -1,4 +1,4 @@
--- For `struct_number` of `Walk`: the shapes of a table's types and structs, and numbers of shapes.
+-- For `struct_number` of `ShapeWalk`: the shapes of a table's types and structs, and numbers of shapes.
 use Rattle.std.specs.Prelude.{◌≡◌, ℕ, Bool, List, [], ◌∷◌, Option, Some, None, slice_get, slice_index_or}
 use Rattle.std.specs.Option.{option_map}
 use Rattle.type_table.specs.Shape.{Label, Shape, all_expanded, name_shape, named_shape, struct_of}

@@ -9,8 +9,8 @@
 //! ```
 //! // of two parts with `%T = type { i32 }` each
 //! let mut shapes = ShapeSet::new(alloc);
-//! let mut walk = Walk::new(alloc, first)?;
-//! let mut other_walk = Walk::new(alloc, second)?;
+//! let mut walk = ShapeWalk::new(alloc, first)?;
+//! let mut other_walk = ShapeWalk::new(alloc, second)?;
 //! walk.struct_number(alloc, first, &mut shapes, id)? // the number of that shape in the set
 //! other_walk.struct_number(alloc, second, &mut shapes, other_id)? // the same: these are one struct of the linked module
 //! ```
@@ -18,4 +18,4 @@
 
 mod walk;
 
-pub use walk::Walk;
+pub use walk::ShapeWalk;

@@ -14,7 +14,7 @@ use type_table::{IrType, StructBody, StructId, TypeId, TypeList, TypeTable};
 
 /// What is known of one part: the numbers of the shapes of its types and structs, where they were looked at.
 #[derive(Drop)]
-pub struct Walk {
+pub struct ShapeWalk {
     types: Vec<Option<u64>>,
     structs: Vec<Option<u64>>,
 }
@@ -50,12 +50,12 @@ fn fields_of(from: &TypeTable, id: StructId) -> Option<(bool, &TypeList)>
     }
 }
 
-impl Walk {
+impl ShapeWalk {
     /// Nothing was looked at yet. Only memory may be wanting.
-    pub fn new(alloc: Global, from: &TypeTable) -> Result<Walk, AllocError>
+    pub fn new(alloc: Global, from: &TypeTable) -> Result<ShapeWalk, AllocError>
         ensures { IfOk result (λ walk. (shapes : List Shape) → Remembers from.now walk shapes) }
     {
-        Ok(Walk {
+        Ok(ShapeWalk {
             types: vec![in alloc; None; from.type_count() as usize]?,
             structs: vec![in alloc; None; from.struct_count() as usize]?,
         })

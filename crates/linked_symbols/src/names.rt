@@ -16,12 +16,12 @@ use std::alloc::{AllocError, Global};
 use std::marker::Model;
 
 /// The names of a part, with what they mean.
-type Names = IndexMap<Name, Bound>;
+type BoundNames = IndexMap<Name, Bound>;
 
 /// What the names of some parts mean.
 #[derive(Drop)]
 pub struct Meanings {
-    names: Vec<Names>,
+    names: Vec<BoundNames>,
 }
 
 impl Model for Meanings {
@@ -51,7 +51,7 @@ fn names_of(
     bindings: &Bindings,
     absent: &Absent,
     part: u64,
-) -> Result<Names, AllocError>
+) -> Result<BoundNames, AllocError>
     requires absent { AreAbsent (modules parts.now) absent.now.entries }
     requires part { part < length parts.now }
     requires groups { AreGroups parts.now bindings.now.groups }

@@ -8,7 +8,7 @@ use Rattle.record_read.specs.declared.entry.NextEntry.{NextEntry}
 use Rattle.record_read.specs.declared.entry.NextEntry.TheVariants as entry
 use Rattle.record_read.specs.Entries.{IsBefore}
 use Rattle.record_read.specs.Reader.{Reader}
-use Rattle.opening_read.specs.declared.producer.Front.{Front}
+use Rattle.opening_read.specs.declared.producer.ProducerFront.{ProducerFront}
 
 -- whether the next operand is that number, and what is left behind it
 abbrev pub TakesThat : ℕ → List ℕ → Bool → Walk → Type 0
@@ -55,7 +55,7 @@ behind_first (a_block id inside behind) = behind_first behind
 behind_first (a_record code operands behind) = behind
 
 -- what stands in front in the producer's block, and the reader behind it, if it is this producer's
-pub record FindsFront (inside : Records) (others : List Piece) (front : Front) (old new : Reader) : Type 0 where
+pub record FindsFront (inside : Records) (others : List Piece) (front : ProducerFront) (old new : Reader) : Type 0 where
   pub ours : front.is_ours ≡ records.is_ours inside
   pub block : front.block ≡ first_block inside
   pub before : front.is_ours ≡ true → IsBefore new.left (behind_first inside) (ended ∷ others)

@@ -17,7 +17,7 @@ use std::alloc::AllocError;
 /// What stands in front in the producer's block: whether its first record names this producer, and the block with which it
 /// begins, where it begins with one.
 #[derive(Clone, Copy)]
-struct Front {
+struct ProducerFront {
     is_ours: bool,
     block: Option<u32>,
 }
@@ -81,7 +81,7 @@ fn first_of(block: Option<u32>, id: u32) -> Option<u32>
 }
 
 /// Goes behind the first record of the block that was begun, blocks before it passed over, and tells what stands in front.
-fn read_front(reader: &mut RecordReader<'_>) -> Result<Front, AllocError>
+fn read_front(reader: &mut RecordReader<'_>) -> Result<ProducerFront, AllocError>
     requires { reader.old.spent ≡ false }
     ensures unspent { OnOk result (reader.new.spent ≡ false) }
     ensures finds { (inside : Records) (others : List Piece) → IsBefore reader.old.left inside (ended ∷ others) → IfOk result (λ front. FindsFront inside others front reader.old reader.new) }
@@ -91,14 +91,14 @@ fn read_front(reader: &mut RecordReader<'_>) -> Result<Front, AllocError>
         match reader.next()? {
             NextEntry::Record(code) => {
                 let is_ours = is_naming(reader, code);
-                return Ok(Front { is_ours, block });
+                return Ok(ProducerFront { is_ours, block });
             }
             NextEntry::Block(id) => {
                 block = first_of(block, id);
                 reader.pass_block()?;
             }
             NextEntry::End => {
-                return Ok(Front {
+                return Ok(ProducerFront {
                     is_ours: false,
                     block,
                 });

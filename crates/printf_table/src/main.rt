@@ -8,7 +8,7 @@
 mod written;
 
 use std::io;
-use written::{Written, written_of};
+use written::{WrittenLine, written_of};
 
 fn main(rt: HostRuntime) -> io::Result<()> {
     for line in rt.lines(rt.alloc()) {
@@ -18,13 +18,13 @@ fn main(rt: HostRuntime) -> io::Result<()> {
             .split_once('\t')
             .unwrap_or((line.as_str(), ""));
         match written_of(rt.alloc(), pattern.as_bytes(), arguments)? {
-            Written::Text(text) => {
+            WrittenLine::Text(text) => {
                 print!(rt; "[")?;
                 rt.stdout().write_all(text.bytes())?;
                 println!(rt; "]")?;
             }
-            Written::BadFormat(at) => println!(rt; "bad format at {at}")?,
-            Written::NoArgument => println!(rt; "no argument")?,
+            WrittenLine::BadFormat(at) => println!(rt; "bad format at {at}")?,
+            WrittenLine::NoArgument => println!(rt; "no argument")?,
         }
     }
     Ok(())

@@ -9,7 +9,7 @@ use ir_printf::{
 use std::alloc::{AllocError, Global};
 
 /// What a line comes to.
-pub enum Written {
+pub enum WrittenLine {
     /// What the pattern and its arguments write.
     Text(Text),
     /// The place of a `%` that begins no conversion.
@@ -19,7 +19,11 @@ pub enum Written {
 }
 
 /// What the pattern writes with these arguments, which tabs separate.
-pub fn written_of(alloc: Global, pattern: &[u8], arguments: &str) -> Result<Written, AllocError> {
+pub fn written_of(
+    alloc: Global,
+    pattern: &[u8],
+    arguments: &str,
+) -> Result<WrittenLine, AllocError> {
     let mut arguments = arguments.split('\t');
     let mut text = Text::new(alloc);
     let mut at = 0;
@@ -38,13 +42,13 @@ pub fn written_of(alloc: Global, pattern: &[u8], arguments: &str) -> Result<Writ
                 }
                 match converted(alloc, &conversion, arguments.next().unwrap_or(""))? {
                     Some(part) => text.extend(part.bytes())?,
-                    None => return Ok(Written::NoArgument),
+                    None => return Ok(WrittenLine::NoArgument),
                 }
             }
-            Err(fault) => return Ok(Written::BadFormat(fault.at)),
+            Err(fault) => return Ok(WrittenLine::BadFormat(fault.at)),
         }
     }
-    Ok(Written::Text(text))
+    Ok(WrittenLine::Text(text))
 }
 
 // What a conversion writes of an argument, and None where it takes a number and there is none.

@@ -15,7 +15,7 @@ use type_table::{TypeId, TypeTable};
 
 /// A function type as a call has it: the ids of its types, and whether it has further arguments.
 #[derive(Clone, Copy)]
-struct Written<'t> {
+struct CallType<'t> {
     returns: TypeId,
     parameters: &'t [TypeId],
     variadic: bool,
@@ -24,7 +24,7 @@ struct Written<'t> {
 /// Whether the function type is that one.
 fn is_type(
     types: &TypeTable,
-    written: &Written<'_>,
+    written: &CallType<'_>,
     returns: Wanted,
     parameters: &[Wanted],
     variadic: bool,
@@ -79,7 +79,7 @@ fn has_short_form(row: HostRow) -> bool
 }
 
 /// Whether the function type is that of an intrinsic over integers.
-fn fits_integer(types: &TypeTable, written: &Written<'_>, which: Intrinsic, width: u8) -> bool
+fn fits_integer(types: &TypeTable, written: &CallType<'_>, which: Intrinsic, width: u8) -> bool
     requires returns { written.now.returns < length types.now.types }
     requires parameters { All (λ ty. ty < length types.now.types) written.now.parameters.now }
     ensures { result ≡ same_signature (written_as types.now written.now.returns written.now.parameters.now written.now.variadic)
@@ -116,7 +116,7 @@ fn fits_integer(types: &TypeTable, written: &Written<'_>, which: Intrinsic, widt
 }
 
 /// Whether the function type is one of a row with a name of its own.
-fn fits_fixed(types: &TypeTable, written: &Written<'_>, row: HostRow) -> bool
+fn fits_fixed(types: &TypeTable, written: &CallType<'_>, row: HostRow) -> bool
     requires returns { written.now.returns < length types.now.types }
     requires parameters { All (λ ty. ty < length types.now.types) written.now.parameters.now }
     ensures { result ≡ fits_forms row (written_as types.now written.now.returns written.now.parameters.now written.now.variadic) }
@@ -139,7 +139,7 @@ pub fn fits_row(
     requires parameters { All (λ ty. ty < length types.now.types) parameters.now }
     ensures { result ≡ list_any (same_signature (written_as types.now returns parameters.now variadic)) (map (signature_in no_names) (host_types row)) }
 {
-    let written = Written {
+    let written = CallType {
         returns,
         parameters,
         variadic,

@@ -16,7 +16,7 @@ use std::alloc::{AllocError, Global};
 
 /// What stands on a line: the words of the instruction, and the words behind it.
 #[derive(Drop)]
-struct Row {
+struct ScalarRow {
     op: Option<Opcode>,
     predicate: Option<Predicate>,
     flags: Flags,
@@ -51,8 +51,8 @@ fn result_of_row(
     })
 }
 
-fn read_row(alloc: Global, words: &str) -> Result<Row, AllocError> {
-    let mut row = Row {
+fn read_row(alloc: Global, words: &str) -> Result<ScalarRow, AllocError> {
+    let mut row = ScalarRow {
         op: None,
         predicate: None,
         flags: Flags::empty(),
@@ -134,7 +134,7 @@ fn is_cast(op: Opcode, from: u8, to: u8, operand: Scalar) -> bool
     }
 }
 
-fn computed(row: &Row, op: Opcode) -> Option<Result<Scalar, UndefinedKind>>
+fn computed(row: &ScalarRow, op: Opcode) -> Option<Result<Scalar, UndefinedKind>>
     requires { IsTrue (is_binary op) }
 {
     let [width, a, b] = row.operands.as_slice() else {
@@ -148,7 +148,7 @@ fn computed(row: &Row, op: Opcode) -> Option<Result<Scalar, UndefinedKind>>
     }
 }
 
-fn compared(row: &Row, predicate: Predicate) -> Option<Result<Scalar, UndefinedKind>> {
+fn compared(row: &ScalarRow, predicate: Predicate) -> Option<Result<Scalar, UndefinedKind>> {
     let [width, a, b] = row.operands.as_slice() else {
         return None;
     };
@@ -169,7 +169,7 @@ fn compared_pointers(predicate: Predicate, a: Pointer, b: Pointer) -> Scalar {
     compare(predicate, false, 64, Scalar::Ptr(a), Scalar::Ptr(b))
 }
 
-fn converted(row: &Row, op: Opcode) -> Option<Result<Scalar, UndefinedKind>> {
+fn converted(row: &ScalarRow, op: Opcode) -> Option<Result<Scalar, UndefinedKind>> {
     let [from, to, operand] = row.operands.as_slice() else {
         return None;
     };

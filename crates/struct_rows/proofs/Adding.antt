@@ -19,10 +19,10 @@ use Rattle.type_table.specs.Shape.{Shape}
 use Rattle.labelled_shapes.specs.Shapes.{AreApart, shapes_of}
 use Rattle.link_structs.specs.Shapes.{struct_shape}
 use Rattle.link_structs.specs.Walked.{Finds, Remembers}
-use Rattle.link_structs.specs.declared.walk.Walk.{Walk}
+use Rattle.link_structs.specs.declared.walk.ShapeWalk.{ShapeWalk}
 use Rattle.struct_rows.specs.Numbers.{so_far}
 use Rattle.struct_rows.specs.Rows.{AddsPart, AreRows, HasName, HasRow, HaveRows, IsNamedAs, IsShapeOf}
-use Rattle.struct_rows.specs.declared.rows.Rows.{Rows}
+use Rattle.struct_rows.specs.declared.rows.GrowingRows.{GrowingRows}
 use Rattle.struct_rows.proofs.Parts.{at_more, name_at, part_symbols, rows_stay, shape_is, so_far_more, struct_count_is, symbol_at}
 use Rattle.struct_rows.proofs.Rowed.{row_added, row_is, row_stays, rows_kept}
 
@@ -33,7 +33,7 @@ abbrev pub up_to : List Module → ℕ → ℕ → List Symbol
 up_to ms part number = so_far ms part ++ take number (part_symbols ms part)
 
 -- The first so many structs of a part were looked at.
-pub record AreAdding (ms : List Module) (part number : ℕ) (t : Types) (walk : Walk) (now : Rows) (numbers : List ℕ) : Type 0 where
+pub record AreAdding (ms : List Module) (part number : ℕ) (t : Types) (walk : ShapeWalk) (now : GrowingRows) (numbers : List ℕ) : Type 0 where
   pub rows : AreRows ms (up_to ms part number) now
   pub remembers : Remembers t walk (shapes_of now.shapes)
   pub one_each : length numbers ≡ number
@@ -45,7 +45,7 @@ no_row row id numbers e h = none id (ap (λ (l : List ℕ). slice_get l id) (sym
     none : (n : ℕ) → slice_get [] n ≡ Some row → ⊥
     none n h = cc
 
-pub adding_none : (ms : List Module) (part : ℕ) (t : Types) (walk : Walk) (rows : Rows) (numbers : List ℕ) → numbers ≡ [] → AreRows ms (so_far ms part) rows → Remembers t walk (shapes_of rows.shapes) → AreAdding ms part 0 t walk rows numbers
+pub adding_none : (ms : List Module) (part : ℕ) (t : Types) (walk : ShapeWalk) (rows : GrowingRows) (numbers : List ℕ) → numbers ≡ [] → AreRows ms (so_far ms part) rows → Remembers t walk (shapes_of rows.shapes) → AreAdding ms part 0 t walk rows numbers
 adding_none ms part t walk rows numbers none h remembers = record {
   rows = subst (λ (d : List Symbol). AreRows ms d rows) (sym (append-nil (so_far ms part))) h;
   remembers = remembers;
@@ -58,7 +58,7 @@ module _ (ps : List Lists) (part : ℕ) (a : Lists) (at : slice_get ps part ≡ 
   ms = modules ps
 
   -- one struct more
-  module _ (number : ℕ) (name : Bytes) (called : slice_get (names a.table) number ≡ Some name) (earlier walk : Walk) (before found now : Rows) (numbers : List ℕ) (shape row : ℕ)
+  module _ (number : ℕ) (name : Bytes) (called : slice_get (names a.table) number ≡ Some name) (earlier walk : ShapeWalk) (before found now : GrowingRows) (numbers : List ℕ) (shape row : ℕ)
       (h : AreAdding ms part number a.table earlier before numbers)
       (finds : Finds a.table (shapes_of before.shapes) walk (shapes_of found.shapes) shape (struct_shape a.table number))
       (same_found : found.found.keys ≡ before.found.keys) (same_naming : found.naming ≡ before.naming) (same_names : found.names ≡ before.names)
@@ -103,7 +103,7 @@ module _ (ps : List Lists) (part : ℕ) (a : Lists) (at : slice_get ps part ≡ 
     }
 
   -- all of them
-  pub adding_all : (number : ℕ) (walk : Walk) (rows : Rows) (numbers : List ℕ) → number ≡ length a.table.structs → AreAdding ms part number a.table walk rows numbers → AddsPart ms part rows numbers
+  pub adding_all : (number : ℕ) (walk : ShapeWalk) (rows : GrowingRows) (numbers : List ℕ) → number ≡ length a.table.structs → AreAdding ms part number a.table walk rows numbers → AddsPart ms part rows numbers
   adding_all number walk rows numbers end h =
       let count = struct_count_is ps part a at in
       let symbols = length-map (structs_at ms part) (λ (s : Bytes × TreeBody). Local part s.0) in
@@ -121,13 +121,13 @@ module _ (ps : List Lists) (part : ℕ) (a : Lists) (at : slice_get ps part ≡ 
 -- ---- the parts
 
 -- The first so many parts were looked at.
-pub record AreAdded (ps : List Lists) (part : ℕ) (now : Rows) (numbers : List (List ℕ)) : Type 0 where
+pub record AreAdded (ps : List Lists) (part : ℕ) (now : GrowingRows) (numbers : List (List ℕ)) : Type 0 where
   pub rows : AreRows (modules ps) (so_far (modules ps) part) now
   pub one_each : length numbers ≡ part
   pub each : (i : ℕ) (list : List ℕ) → slice_get numbers i ≡ Some list → HaveRows (modules ps) (so_far (modules ps) part) i list
   pub sound : All IsSound (take part ps)
 
-pub added_more : (ps : List Lists) (part : ℕ) (a : Lists) (before now : Rows) (numbers : List (List ℕ)) (list : List ℕ) → slice_get ps part ≡ Some a → IsSound a
+pub added_more : (ps : List Lists) (part : ℕ) (a : Lists) (before now : GrowingRows) (numbers : List (List ℕ)) (list : List ℕ) → slice_get ps part ≡ Some a → IsSound a
     → AreAdded ps part before numbers → AddsPart (modules ps) part now list → AreAdded ps (part + 1) now (numbers ++ list ∷ [])
 added_more ps part a before now numbers list at sound h adds = record {
   rows = adds.rows;

@@ -23,7 +23,7 @@ use Rattle.labelled_shapes.specs.Shapes.{shapes_of}
 use Rattle.link_names.specs.Naming.{HasMore, TakenNames, SameNames}
 use Rattle.struct_rows.specs.Numbers.{AreNewStructs, IsNewStruct, all_struct_names, new_struct_names, so_far}
 use Rattle.struct_rows.specs.Rows.{AreRows, AreShapesOf, HasRow, HaveRows, first_of_each, names_given}
-use Rattle.struct_rows.specs.declared.rows.Rows.{Rows}
+use Rattle.struct_rows.specs.declared.rows.GrowingRows.{GrowingRows}
 use Rattle.struct_rows.proofs.Adding.{AreAdded}
 
 -- what a list with something done to each has at a place
@@ -72,7 +72,7 @@ module _ (ms : List Module) where
 
 -- ---- before the first part, and behind the last
 
-pub rows_none : (ms : List Module) (rows : Rows) (naming : TakenNames) → rows.found.keys ≡ [] → rows.names ≡ [] → rows.naming ≡ naming → naming.given ≡ [] → SameNames naming.avoided (all_struct_names ms) → AreRows ms [] rows
+pub rows_none : (ms : List Module) (rows : GrowingRows) (naming : TakenNames) → rows.found.keys ≡ [] → rows.names ≡ [] → rows.naming ≡ naming → naming.given ≡ [] → SameNames naming.avoided (all_struct_names ms) → AreRows ms [] rows
 rows_none ms rows naming found names same given avoided = record {
   found = subst (λ (l : List ℕ). AreShapesOf ms (shapes_of rows.shapes) l []) (sym found) tt;
   names = names;
@@ -80,7 +80,7 @@ rows_none ms rows naming found names same given avoided = record {
   avoided = λ m. ap (λ (v : TakenNames). has bytes_eq v.avoided m) same ∙ avoided m;
 }
 
-pub added_none : (ps : List Lists) (rows : Rows) (numbers : List (List ℕ)) → numbers ≡ [] → AreRows (modules ps) [] rows → AreAdded ps 0 rows numbers
+pub added_none : (ps : List Lists) (rows : GrowingRows) (numbers : List (List ℕ)) → numbers ≡ [] → AreRows (modules ps) [] rows → AreAdded ps 0 rows numbers
 added_none ps rows numbers none h = record {
   rows = h;
   one_each = ap (λ l. length l) none;
@@ -95,7 +95,7 @@ added_none ps rows numbers none h = record {
 pub same_behind_none : (old names now : List Bytes) → old ≡ [] → HasMore old names now → SameNames now names
 same_behind_none old names now none more name = more name ∙ ap (λ (l : List Bytes). has bytes_eq (names ++ l) name) none ∙ ap (λ (l : List Bytes). has bytes_eq l name) (append-nil names)
 
-module _ (ps : List Lists) (part : ℕ) (rows : Rows) (numbers : List (List ℕ)) (end : part ≡ length ps) (h : AreAdded ps part rows numbers) where
+module _ (ps : List Lists) (part : ℕ) (rows : GrowingRows) (numbers : List (List ℕ)) (end : part ≡ length ps) (h : AreAdded ps part rows numbers) where
   many : part ≡ length (modules ps)
   many = end ∙ sym (length-map ps module_of)
 

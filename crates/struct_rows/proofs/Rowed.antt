@@ -25,7 +25,7 @@ use Rattle.link_names.specs.Naming.{TakenNames}
 use Rattle.link_structs.specs.Shapes.{AreKept}
 use Rattle.struct_rows.specs.Numbers.{all_struct_names}
 use Rattle.struct_rows.specs.Rows.{AreRows, AreShapesOf, HasName, HasRow, IsNamedAs, IsShapeOf, first_of_each, names_given, top_label}
-use Rattle.struct_rows.specs.declared.rows.Rows.{Rows}
+use Rattle.struct_rows.specs.declared.rows.GrowingRows.{GrowingRows}
 use Rattle.struct_rows.proofs.Firsts.{firsts_before, firsts_more, still_at, with_one}
 use Rattle.struct_rows.proofs.Fresh.{new_name_same}
 
@@ -42,7 +42,7 @@ module _ (parts : List Module) where
   shapes_kept before now kept (number ∷ numbers) (s ∷ ss) h = (shape_kept before now kept number s h.0, shapes_kept before now kept numbers ss h.1)
 
   -- rows stay where more shapes have numbers
-  pub rows_kept : (done : List Symbol) (before now : Rows) → AreKept (shapes_of before.shapes) (shapes_of now.shapes) → now.found.keys ≡ before.found.keys → now.naming ≡ before.naming → now.names ≡ before.names → AreRows parts done before → AreRows parts done now
+  pub rows_kept : (done : List Symbol) (before now : GrowingRows) → AreKept (shapes_of before.shapes) (shapes_of now.shapes) → now.found.keys ≡ before.found.keys → now.naming ≡ before.naming → now.names ≡ before.names → AreRows parts done before → AreRows parts done now
   rows_kept done before now kept found naming names h = record {
     found = subst (λ (l : List ℕ). AreShapesOf parts (shapes_of now.shapes) l (first_of_each parts done)) (sym found) (shapes_kept (shapes_of before.shapes) (shapes_of now.shapes) kept before.found.keys (first_of_each parts done) h.found);
     names = names ∙ h.names;
@@ -133,7 +133,7 @@ shapes_are parts all now numbers numbers' ss ss' a n s h =
     subst (λ (l : List Shape). AreShapesOf parts l numbers' ss') (sym a)
     (subst (λ (l : List ℕ). AreShapesOf parts all l ss') (sym n) (subst (λ (l : List Symbol). AreShapesOf parts all numbers l) (sym s) h))
 
-module _ (parts : List Module) (done : List Symbol) (before now : Rows) (i : ℕ) (name : Bytes) (number : ℕ) where
+module _ (parts : List Module) (done : List Symbol) (before now : GrowingRows) (i : ℕ) (name : Bytes) (number : ℕ) where
   abbrev s : Symbol
   s = Local i name
 

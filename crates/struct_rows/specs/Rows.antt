@@ -13,7 +13,7 @@ use Rattle.type_table.specs.Tree.{TreeBody}
 use Rattle.labelled_shapes.specs.Shapes.{shapes_of}
 use Rattle.link_names.specs.Naming.{HasOneMore, SameNames}
 use Rattle.struct_rows.specs.Numbers.{all_struct_names, so_far}
-use Rattle.struct_rows.specs.declared.rows.Rows.{Rows}
+use Rattle.struct_rows.specs.declared.rows.GrowingRows.{GrowingRows}
 
 -- the name on top of a shape
 abbrev pub top_label : Shape → Label
@@ -47,7 +47,7 @@ abbrev pub names_given : List Module → List Symbol → List Bytes
 names_given parts ss = map (λ row. row.1) (with_given_names (λ name. name) (all_struct_names parts) [] ss)
 
 -- There is a row for each of the structs that were looked at, and it has its name.
-pub record AreRows (parts : List Module) (done : List Symbol) (rows : Rows) : Type 0 where
+pub record AreRows (parts : List Module) (done : List Symbol) (rows : GrowingRows) : Type 0 where
   pub found : AreShapesOf parts (shapes_of rows.shapes) rows.found.keys (first_of_each parts done)
   pub names : rows.names ≡ names_given parts (first_of_each parts done)
   pub given : SameNames rows.naming.given (given_after (λ name. name) (all_struct_names parts) [] (first_of_each parts done))
@@ -68,12 +68,12 @@ pub record HaveRows (parts : List Module) (done : List Symbol) (part : ℕ) (num
       → HasRow parts done (Local part s.0) row
 
 -- The next part was looked at.
-pub record AddsPart (parts : List Module) (part : ℕ) (now : Rows) (numbers : List ℕ) : Type 0 where
+pub record AddsPart (parts : List Module) (part : ℕ) (now : GrowingRows) (numbers : List ℕ) : Type 0 where
   pub rows : AreRows parts (so_far parts (part + 1)) now
   pub places : HaveRows parts (so_far parts (part + 1)) part numbers
 
 -- One row more is named: by its own name, or where that is given by a new one.
-pub record HasName (before : Rows) (name : Bytes) (now : Rows) : Type 0 where
+pub record HasName (before : GrowingRows) (name : Bytes) (now : GrowingRows) : Type 0 where
   pub new : Bytes
   pub is : new ≡ new_name (λ n. n) before.naming.avoided before.naming.given name
   pub given : HasOneMore before.naming.given new now.naming.given
@@ -81,6 +81,6 @@ pub record HasName (before : Rows) (name : Bytes) (now : Rows) : Type 0 where
   pub names : now.names ≡ before.names ++ new ∷ []
 
 -- The rows are named as before.
-pub record IsNamedAs (before now : Rows) : Type 0 where
+pub record IsNamedAs (before now : GrowingRows) : Type 0 where
   pub naming : now.naming ≡ before.naming
   pub names : now.names ≡ before.names

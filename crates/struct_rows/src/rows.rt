@@ -13,7 +13,7 @@ use indexmap::IndexSet;
 use ir_base::{ItemList, Name, NameList, NumberList};
 use labelled_shapes::ShapeSet;
 use link_names::Naming;
-use link_structs::Walk;
+use link_structs::ShapeWalk;
 use linkage_rules::arena_of;
 use module_arena::Checked;
 use std::alloc::{AllocError, Global};
@@ -30,7 +30,7 @@ pub struct StructRows {
 
 /// The rows in the making.
 #[derive(Drop)]
-struct Rows {
+struct GrowingRows {
     shapes: ShapeSet,
     /// The number of the shape of each row.
     found: IndexSet<u64>,
@@ -38,15 +38,15 @@ struct Rows {
     names: NameList,
 }
 
-impl Rows {
+impl GrowingRows {
     /// No rows.
-    fn new(alloc: Global, naming: Naming) -> Rows
+    fn new(alloc: Global, naming: Naming) -> GrowingRows
         ensures shapes { shapes_of result.shapes ≡ [] }
         ensures found { result.found.keys ≡ [] }
         ensures naming { result.naming ≡ naming }
         ensures names { result.names ≡ [] }
     {
-        Rows {
+        GrowingRows {
             shapes: ShapeSet::new(alloc),
             found: IndexSet::new(alloc),
             naming,
@@ -89,7 +89,7 @@ impl Rows {
     fn into_names(self) -> NameList
         ensures { result ≡ self.names }
     {
-        let Rows {
+        let GrowingRows {
             shapes: _,
             found: _,
             naming: _,
@@ -110,7 +110,7 @@ impl Rows {
         ensures { IfOk result (λ numbers. AddsPart (modules parts.now) part self.new numbers) }
     {
         let from = arena_of(parts, part).types();
-        let mut walk = Walk::new(alloc, from)?;
+        let mut walk = ShapeWalk::new(alloc, from)?;
         let mut numbers = NumberList::new(alloc);
         'structs: for number in 0..from.struct_count() {
             let id = StructId::new(number);
@@ -123,17 +123,17 @@ impl Rows {
 }
 
 /// No rows yet: the names that no struct with a new name is to have are known.
-fn no_rows(alloc: Global, parts: &[Checked]) -> Result<Rows, AllocError>
+fn no_rows(alloc: Global, parts: &[Checked]) -> Result<GrowingRows, AllocError>
     ensures { IfOk result (λ rows. AreRows (modules parts.now) [] rows) }
 {
     let mut naming = Naming::new(alloc);
     avoid_all(alloc, parts, &mut naming)?;
-    Ok(Rows::new(alloc, naming))
+    Ok(GrowingRows::new(alloc, naming))
 }
 
 /// The rows of the structs of all parts, part by part.
 fn add_parts(
-    rows: &mut Rows,
+    rows: &mut GrowingRows,
     alloc: Global,
     parts: &[Checked],
 ) -> Result<ItemList<NumberList>, AllocError>

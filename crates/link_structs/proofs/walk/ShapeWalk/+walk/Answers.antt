@@ -8,7 +8,7 @@ use Rattle.link_structs.specs.Shapes.{AreNumbers, IsNumber, fields_shape, struct
 use Rattle.link_structs.specs.Walked.{FindsAll}
 use Rattle.link_structs.proofs.Shaped.{array_depth, below_top, depth, fields_depth, fields_is, opaque_is, struct_shaped, top, type_is, type_knows, type_shaped}
 use Rattle.link_structs.proofs.Walking.{all_below_more, all_none, array_found, finds_all, finds_more, found_again, found_as, if_found, number_below, numbers_below, struct_found, struct_noted, type_noted, walked_none}
-use Rattle.link_structs.proofs.walk.Walk.+walk.Goals as goal
+use Rattle.link_structs.proofs.walk.ShapeWalk.+walk.Goals as goal
 
 -- ---- some types
 

@@ -3,7 +3,7 @@ use Rattle.std.proofs.lemmas.List.{length-replicate}
 use Rattle.type_table.specs.Shape.{Shape}
 use Rattle.link_structs.specs.Shapes.{struct_shape, type_shape}
 use Rattle.link_structs.specs.Walked.{AreOf}
-use Rattle.link_structs.proofs.walk.Walk.new.Goals as goal
+use Rattle.link_structs.proofs.walk.ShapeWalk.new.Goals as goal
 
 none_here : (k : ℕ) → Some None ≡ Some (Some k) → ⊥
 none_here k e = cc

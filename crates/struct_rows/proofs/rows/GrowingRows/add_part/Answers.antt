@@ -5,7 +5,7 @@ use Rattle.labelled_shapes.specs.Shapes.{shapes_of}
 use Rattle.link_structs.specs.Shapes.{struct_shape}
 use Rattle.link_structs.specs.Walked.{Finds}
 use Rattle.struct_rows.proofs.Adding.{AreAdding, adding_all, adding_more, adding_none}
-use Rattle.struct_rows.proofs.rows.Rows.add_part.Goals as goal
+use Rattle.struct_rows.proofs.rows.GrowingRows.add_part.Goals as goal
 
 pub structs-init : goal.structs-init
 structs-init c =

@@ -3,7 +3,7 @@ use Rattle.labelled_shapes.specs.Shapes.{shapes_of}
 use Rattle.link_structs.specs.Shapes.{struct_shape, type_shape}
 use Rattle.link_structs.specs.Walked.{FindsAll}
 use Rattle.link_structs.proofs.Shaped.{depth, top}
-use Rattle.link_structs.proofs.walk.Walk.+walk.Given as goal
+use Rattle.link_structs.proofs.walk.ShapeWalk.+walk.Given as goal
 
 abbrev pub decreases-type_number : goal.decreases-type_number
 decreases-type_number l = 6 * depth (type_shape l.from.now l.ty) + 4

@@ -1,7 +1,7 @@
 use Rattle.std.proofs.Common.{◌≡◌, ℕ, Bool, true, false, not, List, Some, refl, sym, ap, ◌∙◌, nat_eq}
 use Rattle.std.specs.Prelude.{slice_get}
 use Rattle.std.proofs.lemmas.Bool.{eqb-true}
-use Rattle.struct_rows.proofs.rows.Rows.row_of.Goals as goal
+use Rattle.struct_rows.proofs.rows.GrowingRows.row_of.Goals as goal
 
 -- the number at the row
 here_is : (keys : List ℕ) (row shape : ℕ) → (k : ℕ) × (slice_get keys row ≡ Some k) × (nat_eq shape k ≡ true) → slice_get keys row ≡ Some shape

@@ -1,4 +1,4 @@
-use Rattle.struct_rows.proofs.rows.Rows.name_row.Goals as goal
+use Rattle.struct_rows.proofs.rows.GrowingRows.name_row.Goals as goal
 
 pub returns-clause-named : goal.returns-clause-named
 returns-clause-named c = record {
