@@ -14,7 +14,7 @@ use Rattle.module_arena.specs.EntryRules.{is_only_called, takes_no_intrinsic, co
 use Rattle.module_arena.specs.Same.{same_type}
 use Rattle.module_arena.specs.TypeTests.{is_integer, is_pointer, opened}
 use Rattle.constant_verify.specs.declared.constants.ConstFact.{ConstFact}
-use Rattle.constant_verify.specs.ConstantFacts.{typed_list, parts_in, are_types, have_types, fits_outside, fits_within, own_operands_fit, own_address_passes, all_pass, both, const_fact, part_fact, own_fact}
+use Rattle.constant_verify.specs.ConstantFacts.{typed_list, parts_in, are_types, have_types, fits_outside, fits_within, own_operands_fit, own_address_passes, all_pass, both_constant_facts, const_fact, part_fact, own_fact}
 use Rattle.std.proofs.lemmas.Bool.{false_from_ne_true}
 use Rattle.std.proofs.lemmas.Bool.Decides.{Decides-ltb}
 use Rattle.std.proofs.lemmas.Grind.{fold-append}
@@ -228,7 +228,7 @@ and_assoc true y z = refl
 and_assoc false y z = refl
 
 module _ (m : Module) where
-  gathered : (f : ConstFact) (ps : List Typed) → fold both f (map (part_fact m) ps) ≡ record {
+  gathered : (f : ConstFact) (ps : List Typed) → fold both_constant_facts f (map (part_fact m) ps) ≡ record {
     takes_no_intrinsic = f.takes_no_intrinsic && list_all (λ (p : Typed). takes_no_intrinsic m void p.1) ps;
     types_suit = f.types_suit && list_all (λ (p : Typed). constant_types_suit m.structs void p.1) ps;
     parts_fit = f.parts_fit && list_all (λ (p : Typed). fits m.structs p.0 p.1) ps;
@@ -239,21 +239,21 @@ module _ (m : Module) where
     parts_fit = sym (and_true f.parts_fit) j;
   }
   gathered f (p ∷ ps) =
-      gathered (both f (part_fact m p)) ps
+      gathered (both_constant_facts f (part_fact m p)) ps
       ∙ (λ j. record {
         takes_no_intrinsic = and_assoc f.takes_no_intrinsic (takes_no_intrinsic m void p.1) (list_all (λ (q : Typed). takes_no_intrinsic m void q.1) ps) j;
         types_suit = and_assoc f.types_suit (constant_types_suit m.structs void p.1) (list_all (λ (q : Typed). constant_types_suit m.structs void q.1) ps) j;
         parts_fit = and_assoc f.parts_fit (fits m.structs p.0 p.1) (list_all (λ (q : Typed). fits m.structs q.0 q.1) ps) j;
       })
 
-  pub fact_told : (c : Constant) → const_fact m c ≡ both (own_fact m c) (fold both all_pass (map (part_fact m) (parts_in c)))
+  pub fact_told : (c : Constant) → const_fact m c ≡ both_constant_facts (own_fact m c) (fold both_constant_facts all_pass (map (part_fact m) (parts_in c)))
   fact_told c =
       (λ j. record {
         takes_no_intrinsic = addresses_told m c j;
         types_suit = types_told m.structs c j;
         parts_fit = fits_within m.structs c;
       })
-      ∙ ap (both (own_fact m c)) (sym (gathered all_pass (parts_in c)))
+      ∙ ap (both_constant_facts (own_fact m c)) (sym (gathered all_pass (parts_in c)))
 
 -- a fact by its id
 pub fact_here : (m : Module) (cs : List Constant) (facts seen : List ConstFact) (id : ℕ) (f : ConstFact) → f ≡ get_or seen id all_pass → seen ≡ facts → facts ≡ map (const_fact m) cs
@@ -267,8 +267,8 @@ own_structs a = refl
 
 -- one fact more
 pub facts_next : {X : Type 0} (f : X → ConstFact) (xs : List X) (i : ℕ) (x : X) → slice_get xs i ≡ Some x
-    → fold both all_pass (map f (take (i + 1) xs)) ≡ both (fold both all_pass (map f (take i xs))) (f x)
+    → fold both_constant_facts all_pass (map f (take (i + 1) xs)) ≡ both_constant_facts (fold both_constant_facts all_pass (map f (take i xs))) (f x)
 facts_next f xs i x e =
-    ap (λ ys. fold both all_pass (map f ys)) (take_next xs i x e)
-    ∙ ap (fold both all_pass) (map-append f (take i xs) (x ∷ []))
-    ∙ fold-append both all_pass (map f (take i xs)) (f x ∷ [])
+    ap (λ ys. fold both_constant_facts all_pass (map f ys)) (take_next xs i x e)
+    ∙ ap (fold both_constant_facts all_pass) (map-append f (take i xs) (x ∷ []))
+    ∙ fold-append both_constant_facts all_pass (map f (take i xs)) (f x ∷ [])

@@ -15,7 +15,7 @@ use Rattle.module_arena.specs.Module.Constant.{Null}
 use Rattle.module_arena.specs.Constants.{Typed, fits}
 use Rattle.module_arena.specs.View.{constant_at, constants_of, module_of}
 use Rattle.constant_verify.specs.declared.constants.ConstFact.{ConstFact}
-use Rattle.constant_verify.specs.ConstantFacts.{all_pass, both, const_fact, own_fact, part_fact, part_fact_at, typed_at, parts_in, fits_outside, fits_within, own_address_passes, own_operands_fit}
+use Rattle.constant_verify.specs.ConstantFacts.{all_pass, both_constant_facts, const_fact, own_fact, part_fact, part_fact_at, typed_at, parts_in, fits_outside, fits_within, own_address_passes, own_operands_fit}
 use Rattle.constant_verify.proofs.ConstantsKnown.{fact_told, fits_told, own_structs}
 use Rattle.constant_verify.proofs.PartsTold.{parts_listed}
 
@@ -23,11 +23,11 @@ mapped_twice : (a : Lists) (xs : List TypedConst) → map (part_fact (module_of 
 mapped_twice a [] = refl
 mapped_twice a (x ∷ xs) = ap (λ fs. part_fact_at a x ∷ fs) (mapped_twice a xs)
 
-pub fact_whole : (a : Lists) (c : the_const.Const) (own within : ConstFact) → own ≡ own_fact (module_of a) (constant_in a c) → within ≡ fold both all_pass (map (part_fact_at a) (typed_in c))
-    → both own within ≡ const_fact (module_of a) (constant_in a c)
+pub fact_whole : (a : Lists) (c : the_const.Const) (own within : ConstFact) → own ≡ own_fact (module_of a) (constant_in a c) → within ≡ fold both_constant_facts all_pass (map (part_fact_at a) (typed_in c))
+    → both_constant_facts own within ≡ const_fact (module_of a) (constant_in a c)
 fact_whole a c own within e w =
-    (λ j. both (e j) (w j))
-    ∙ ap (λ fs. both (own_fact (module_of a) (constant_in a c)) (fold both all_pass fs)) (sym (ap (map (part_fact (module_of a))) (parts_listed a c) ∙ mapped_twice a (typed_in c)))
+    (λ j. both_constant_facts (e j) (w j))
+    ∙ ap (λ fs. both_constant_facts (own_fact (module_of a) (constant_in a c)) (fold both_constant_facts all_pass fs)) (sym (ap (map (part_fact (module_of a))) (parts_listed a c) ∙ mapped_twice a (typed_in c)))
     ∙ sym (fact_told (module_of a) (constant_in a c))
 
 pub mapped_next : {X Y : Type 0} (f : X → Y) (xs : List X) (i : ℕ) (x : X) → slice_get xs i ≡ Some x → map f (take i xs) ++ f x ∷ [] ≡ map f (take (i + 1) xs)

@@ -106,8 +106,8 @@ abbrev pub all_pass : ConstFact
 all_pass = record { takes_no_intrinsic = true; types_suit = true; parts_fit = true }
 
 -- what holds of both
-abbrev pub both : ConstFact → ConstFact → ConstFact
-both f g = record {
+abbrev pub both_constant_facts : ConstFact → ConstFact → ConstFact
+both_constant_facts f g = record {
   takes_no_intrinsic = f.takes_no_intrinsic && g.takes_no_intrinsic;
   types_suit = f.types_suit && g.types_suit;
   parts_fit = f.parts_fit && g.parts_fit;

@@ -10,7 +10,7 @@ ghost use Rattle.module_arena.specs.Mentions.{typed_in};
 ghost use Rattle.module_arena.specs.TypeTests.{is_passable, is_free_of_void};
 ghost use Rattle.module_arena.specs.View.{constants_of, module_of};
 ghost use Rattle.constant_verify.specs.FunctionIds.{is_function};
-ghost use Rattle.constant_verify.specs.ConstantFacts.{all_pass, both, own_fact, own_address_passes, part_fact_at, const_fact, typed_at};
+ghost use Rattle.constant_verify.specs.ConstantFacts.{all_pass, both_constant_facts, own_fact, own_address_passes, part_fact_at, const_fact, typed_at};
 
 use crate::fits::{fits_outside, operands_fit};
 use module_arena::{Arena, Const, ConstId, GlobalId, TypedConst};
@@ -43,7 +43,7 @@ impl ConstFact {
 
     /// What holds of both.
     fn and(self, other: ConstFact) -> ConstFact
-        ensures { result ≡ both self other }
+        ensures { result ≡ both_constant_facts self other }
     {
         ConstFact {
             takes_no_intrinsic: self.takes_no_intrinsic & other.takes_no_intrinsic,
@@ -202,7 +202,7 @@ fn parts_fact(
     requires facts { facts.now ≡ map (const_fact (module_of arena.now)) (take (length facts.now) (constants_of arena.now)) }
     requires few { length facts.now ≤ length arena.now.constants }
     requires known { All (λ x. (x.ty < length arena.now.table.types) × (x.value < length facts.now)) parts.now }
-    ensures { result ≡ fold both all_pass (map (part_fact_at arena.now) parts.now) }
+    ensures { result ≡ fold both_constant_facts all_pass (map (part_fact_at arena.now) parts.now) }
 {
     let mut all = ConstFact::all_pass();
     for part in parts {
@@ -222,7 +222,7 @@ fn fact_within(
     requires facts { facts.now ≡ map (const_fact (module_of arena.now)) (take (length facts.now) (constants_of arena.now)) }
     requires few { length facts.now ≤ length arena.now.constants }
     requires known { All (λ x. (x.ty < length arena.now.table.types) × (x.value < length facts.now)) (typed_in constant.now) }
-    ensures { result ≡ fold both all_pass (map (part_fact_at arena.now) (typed_in constant.now)) }
+    ensures { result ≡ fold both_constant_facts all_pass (map (part_fact_at arena.now) (typed_in constant.now)) }
 {
     match constant {
         Const::Aggregate(_, elements) => parts_fact(arena, types, facts, elements.as_slice()),

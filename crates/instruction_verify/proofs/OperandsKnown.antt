@@ -14,14 +14,14 @@ use Rattle.module_arena.specs.TypeTests.{is_passable}
 use Rattle.module_arena.specs.ValueRules.{value_fits}
 use Rattle.module_arena.specs.View.{constant_at, constants_of, module_of}
 use Rattle.module_arena.specs.declared.instruction.Value.TheVariants as value
-use Rattle.instruction_verify.specs.OperandFacts.{all_pass, both, operand_fact, operand_in, operands_fact}
+use Rattle.instruction_verify.specs.OperandFacts.{all_pass, both_operand_facts, operand_fact, operand_in, operands_fact}
 use Rattle.instruction_verify.specs.declared.operands.OperandFact.{OperandFact}
 
 and_true : (b : Bool) → (b && true) ≡ b
 and_true true = refl
 and_true false = refl
 
-pub both_pass : (f : OperandFact) → both f all_pass ≡ f
+pub both_pass : (f : OperandFact) → both_operand_facts f all_pass ≡ f
 both_pass f = λ j. record {
   takes_no_intrinsic = and_true f.takes_no_intrinsic j;
   types_suit = and_true f.types_suit j;
@@ -34,7 +34,7 @@ module _ (m : Module) where
   one_fact o = sym (both_pass (operand_fact m o))
 
   -- some operands behind others
-  pub joined_facts : (xs ys : List Operand) → both (operands_fact m xs) (operands_fact m ys) ≡ operands_fact m (xs ++ ys)
+  pub joined_facts : (xs ys : List Operand) → both_operand_facts (operands_fact m xs) (operands_fact m ys) ≡ operands_fact m (xs ++ ys)
   joined_facts xs ys = λ j. record {
     takes_no_intrinsic = sym (list_all-append (λ (o : Operand). value_takes_no_intrinsic m o.ty o.value) xs ys) j;
     types_suit = sym (list_all-append (λ (o : Operand). is_passable m.structs o.ty && value_types_suit m.structs o.ty o.value) xs ys) j;
@@ -43,10 +43,10 @@ module _ (m : Module) where
 
   -- one operand more
   pub next_fact : {X : Type 0} (f : X → Operand) (xs : List X) (i : ℕ) (x : X) → i < length xs → x ≡ get_or xs i x
-      → both (operands_fact m (map f (take i xs))) (operand_fact m (f x)) ≡ operands_fact m (map f (take (i + 1) xs))
+      → both_operand_facts (operands_fact m (map f (take i xs))) (operand_fact m (f x)) ≡ operands_fact m (map f (take (i + 1) xs))
   next_fact f xs i x lt is =
       let at : slice_get xs i ≡ Some x = slice_get-get_or xs i x lt ∙ ap Some (sym is) in
-      ap (both (operands_fact m (map f (take i xs)))) (one_fact (f x))
+      ap (both_operand_facts (operands_fact m (map f (take i xs)))) (one_fact (f x))
       ∙ joined_facts (map f (take i xs)) (f x ∷ [])
       ∙ ap (operands_fact m) (mapped_next f xs i x at)
 

@@ -27,8 +27,8 @@ abbrev pub all_pass : OperandFact
 all_pass = record { takes_no_intrinsic = true; types_suit = true; fits = true }
 
 -- what holds of both
-abbrev pub both : OperandFact → OperandFact → OperandFact
-both f g = record {
+abbrev pub both_operand_facts : OperandFact → OperandFact → OperandFact
+both_operand_facts f g = record {
   takes_no_intrinsic = f.takes_no_intrinsic && g.takes_no_intrinsic;
   types_suit = f.types_suit && g.types_suit;
   fits = f.fits && g.fits;

@@ -5,7 +5,7 @@ ghost use Rattle.module_arena.specs.Module.{LocalName};
 ghost use Rattle.module_arena.specs.Mentions.{end_operands_of};
 ghost use Rattle.module_arena.specs.Operations.{ending_operands, operands};
 ghost use Rattle.module_arena.specs.View.{module_of};
-ghost use Rattle.instruction_verify.specs.OperandFacts.{HasCase, HasConstant, HasInst, HasOperand, all_pass, both, case_operand_in, ending_in, instruction_in, operand_fact, operand_in, operands_fact, phi_operand_in};
+ghost use Rattle.instruction_verify.specs.OperandFacts.{HasCase, HasConstant, HasInst, HasOperand, all_pass, both_operand_facts, case_operand_in, ending_in, instruction_in, operand_fact, operand_in, operands_fact, phi_operand_in};
 
 use constant_verify::Judge;
 use module_arena::{Case, Ending, Incoming, Inst, Operand, Value};
@@ -37,7 +37,7 @@ impl OperandFact {
 
     /// What holds of both.
     fn and(self, other: OperandFact) -> OperandFact
-        ensures { result ≡ both self other }
+        ensures { result ≡ both_operand_facts self other }
     {
         OperandFact {
             takes_no_intrinsic: self.takes_no_intrinsic & other.takes_no_intrinsic,

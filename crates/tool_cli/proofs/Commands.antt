@@ -18,7 +18,7 @@ use Rattle.tool_cli.specs.Output.{output_of, FailsToWrite, IsUnwritten, IsUnwrit
 use Rattle.tool_cli.specs.Reads.{LeavesInput, LosesInput}
 use Rattle.tool_cli.specs.Running.{IsRan, IsRanBy, IsBeforeRun, IsPlayed, IsPlayedOf, IsQuiet, IsUnbegun, IsUnreadOf, without_input}
 use Rattle.tool_cli.specs.Told.{IsEndOf, IsOfRun, IsOfWork, IsWork}
-use Rattle.tool_cli.specs.World.{failures, found}
+use Rattle.tool_cli.specs.World.{failures, found_input}
 use Rattle.tool_cli.proofs.Outcomes.{same_command, given_ok}
 use Rattle.tool_cli.proofs.Programs.{ran_told, ran_input, ran_lost, ran_of_run, ran_output_fault, ran_unread, ran_unwritten, ran_played, lost_none, quiet_after}
 
@@ -184,24 +184,24 @@ nothing_played name bound arguments (Ok bytes) now = inl (inr (inr refl), quiet_
 nothing_played name bound arguments (Err refusal) now = (inr (inr refl), quiet_after name now now now (λ file. refl) refl refl)
 
 -- one input was refused, for what is outside of it
-unread_of : (contents : Option Named) (left : Option (List ℕ)) (i f : Type 0) (name : List ℕ) (ended : Ended) → GaveUp i f ended → RefusesOne (found contents left i f) (name ∷ []) ended → IsUnreadOf name ended
+unread_of : (contents : Option Named) (left : Option (List ℕ)) (i f : Type 0) (name : List ℕ) (ended : Ended) → GaveUp i f ended → RefusesOne (found_input contents left i f) (name ∷ []) ended → IsUnreadOf name ended
 unread_of contents left i f name (CannotRead other) gave_up why = inl (ap CannotRead (only_one name other why.0))
 unread_of contents left i f name Memory gave_up why = inr refl
 unread_of contents left i f name ended gave_up why = absurd gave_up
 
 -- or as what it gives
-refused_played : (contents : Option Named) (left : Option (List ℕ)) (i f : Type 0) (name : List ℕ) (bound : ℕ) (arguments : List (List ℕ)) (given : Result (List ℕ) Ended) (before after : Outside) (ended : Ended) → (Err ended ≡ read_on given (λ text. Ok [])) ⊎ GaveUp i f ended → RefusesOne (found contents left i f) (name ∷ []) ended → IsQuiet name before after → IsPlayedOf name bound arguments given before after ended
+refused_played : (contents : Option Named) (left : Option (List ℕ)) (i f : Type 0) (name : List ℕ) (bound : ℕ) (arguments : List (List ℕ)) (given : Result (List ℕ) Ended) (before after : Outside) (ended : Ended) → (Err ended ≡ read_on given (λ text. Ok [])) ⊎ GaveUp i f ended → RefusesOne (found_input contents left i f) (name ∷ []) ended → IsQuiet name before after → IsPlayedOf name bound arguments given before after ended
 refused_played contents left i f name bound arguments (Ok bytes) before after ended (inl e) why quiet = absurd (let h : Err ended ≡ Ok (bytes ∷ []) = e in cc)
 refused_played contents left i f name bound arguments (Ok bytes) before after ended (inr gave_up) why quiet = inl (inr (unread_of contents left i f name ended gave_up why), quiet)
 refused_played contents left i f name bound arguments (Err refusal) before after ended (inl e) why quiet = (inl (err_same ended refusal (Err refusal) e refl), quiet)
 refused_played contents left i f name bound arguments (Err refusal) before after ended (inr gave_up) why quiet = (inr (unread_of contents left i f name ended gave_up why), quiet)
 
 -- an input was refused before
-pub played_err : (words : List (List ℕ)) (command : Command) (names : List (List ℕ)) (contents : Option Named) (left : Option (List ℕ)) (i f : Type 0) (held : Named) (stdin : List ℕ) (before after : Outside) (ended : Ended) → IsReadAs words command → names ≡ inputs_of command → (Err ended ≡ texts_read held stdin 0 names) ⊎ GaveUp i f ended → RefusesOne (found contents left i f) names ended → (has_stdin names ≡ false → after ≡ before) → without_input after ≡ without_input before → IsPlayed words held stdin before after ended
+pub played_err : (words : List (List ℕ)) (command : Command) (names : List (List ℕ)) (contents : Option Named) (left : Option (List ℕ)) (i f : Type 0) (held : Named) (stdin : List ℕ) (before after : Outside) (ended : Ended) → IsReadAs words command → names ≡ inputs_of command → (Err ended ≡ texts_read held stdin 0 names) ⊎ GaveUp i f ended → RefusesOne (found_input contents left i f) names ended → (has_stdin names ≡ false → after ≡ before) → without_input after ≡ without_input before → IsPlayed words held stdin before after ended
 played_err words command names contents left i f held stdin before after ended read are given why unread same_output = λ name bound arguments is.
     let one : names ≡ name ∷ [] = are ∙ ap inputs_of (same_command words command (Lli name bound arguments) read is) in
     let Given : List (List ℕ) → Type 0 = λ ns. (Err ended ≡ texts_read held stdin 0 ns) ⊎ GaveUp i f ended in
-    let Why : List (List ℕ) → Type 0 = λ ns. RefusesOne (found contents left i f) ns ended in
+    let Why : List (List ℕ) → Type 0 = λ ns. RefusesOne (found_input contents left i f) ns ended in
     let file : is_dash name ≡ false → after ≡ before = λ e. unread (ap has_stdin one ∙ ap (λ dash. dash || false) e) in
     refused_played contents left i f name bound arguments (input_read held stdin 0 name) before after ended (subst Given one given) (subst Why one why) (quiet_after name after before after file same_output refl)
 

@@ -11,7 +11,7 @@ use Rattle.tool_ends.specs.declared.ended.Ended.{Ended}
 use Rattle.tool_ends.specs.declared.ended.Ended.TheVariants.{CannotRead, InputTooLarge, Memory}
 use Rattle.tool_cli.specs.Inputs.{content, stdin_after, Tells, alone, together, input_read}
 use Rattle.tool_cli.specs.Causes.{IsEmptied, HasRead, GaveUp, Refuses}
-use Rattle.tool_cli.specs.World.{found}
+use Rattle.tool_cli.specs.World.{found_input}
 use Rattle.tool_cli.specs.declared.inputs.TheConstants.{LARGEST, LARGEST_TOGETHER}
 
 alone_ok : (name text : List ℕ) → length text ≤ LARGEST → alone name (Some text) ≡ Ok text
@@ -92,7 +92,7 @@ large_by : (dash : Bool) (contents : Option Named) (left : Option (List ℕ)) (h
 large_by true contents left held stdin name told large = (stdin, (refl, rw told at large))
 large_by false contents left held stdin name told large = over_some (held name) (rw told at large)
 
-pub refusal_told : (contents : Option Named) (left : Option (List ℕ)) (held : Named) (stdin name : List ℕ) (before : ℕ) (i f : Type 0) (ended : Ended) → Tells contents left held stdin name → Refuses (found contents left i f) name ended → (input_read held stdin before name ≡ Err ended) ⊎ GaveUp i f ended
+pub refusal_told : (contents : Option Named) (left : Option (List ℕ)) (held : Named) (stdin name : List ℕ) (before : ℕ) (i f : Type 0) (ended : Ended) → Tells contents left held stdin name → Refuses (found_input contents left i f) name ended → (input_read held stdin before name ≡ Err ended) ⊎ GaveUp i f ended
 refusal_told contents left held stdin name before i f (CannotRead other) told why =
     elim (unread_by (is_dash name) contents left held stdin name i f told why.1) [
       | inl missing ↦ inl (missing_gives held stdin name before missing ∙ ap (λ n. Err (CannotRead n)) (sym why.0))

@@ -9,7 +9,7 @@ use Rattle.tool_ends.specs.declared.ended.Ended.TheVariants.{CannotRead, InputTo
 use Rattle.tool_cli.specs.Inputs.{content, input_read, read_on, texts_read, with_text, Tells}
 use Rattle.tool_cli.specs.Causes.{GaveUp, HasRead, Refuses}
 use Rattle.tool_cli.specs.Order.{before_stdin, IsRefusedInFront}
-use Rattle.tool_cli.specs.World.{found}
+use Rattle.tool_cli.specs.World.{found_input}
 use Rattle.tool_cli.proofs.Contents.{content_read, input_ok, input_over, refusal_told}
 use Rattle.tool_cli.proofs.InputsInOrder.{next_name, none_behind}
 use Rattle.tool_cli.specs.declared.inputs.TheConstants.{LARGEST_TOGETHER}
@@ -54,7 +54,7 @@ tells_file : (contents : Option Named) (left : Option (List ℕ)) (held : Named)
 tells_file contents left held name is told = subst (λ (b : Bool). MatchBool b (left ≡ Some []) (contents ≡ Some held)) (sym is) told
 
 -- a file is not refused for a read of standard input
-file_refused : (contents : Option Named) (left : Option (List ℕ)) (i f : Type 0) (name : List ℕ) (ended : Ended) → is_dash name ≡ false → Refuses (found contents left i f) name ended → Refuses (found contents left ⊥ f) name ended
+file_refused : (contents : Option Named) (left : Option (List ℕ)) (i f : Type 0) (name : List ℕ) (ended : Ended) → is_dash name ≡ false → Refuses (found_input contents left i f) name ended → Refuses (found_input contents left ⊥ f) name ended
 file_refused contents left i f name (CannotRead other) is why =
     (why.0, subst (λ (b : Bool). MatchBool b ⊥ (f ⊎ IsMissing contents name)) (sym is) (subst (λ (b : Bool). MatchBool b i (f ⊎ IsMissing contents name)) is why.1))
 file_refused contents left i f name (InputTooLarge other limit) is why = why
@@ -85,7 +85,7 @@ module _ {A : Type 0} (names : List (List ℕ)) (i : ℕ) (name : List ℕ) (hel
   turn_kept now same refusal first = same (file_next refusal first) ∙ (due refusal first).1
 
   module _ (contents contents_now : Option Named) (left left_now : Option (List ℕ)) (still : contents_now ≡ contents) (told : contents ≡ Some held) where
-    pub front_refused : (p f : Type 0) (ended refusal : Ended) → Refuses (found contents_now left p f) name ended → IsRefusedInFront held names refusal → (ended ≡ refusal) ⊎ GaveUp ⊥ f ended
+    pub front_refused : (p f : Type 0) (ended refusal : Ended) → Refuses (found_input contents_now left p f) name ended → IsRefusedInFront held names refusal → (ended ≡ refusal) ⊎ GaveUp ⊥ f ended
     front_refused p f ended refusal why first =
         go
         (refusal_told contents_now left held [] name total ⊥ f ended (tells_file contents_now left held name (file_next refusal first) (still ∙ told))

@@ -13,7 +13,7 @@ use Rattle.tool_ends.specs.declared.ended.Ended.TheVariants.{CannotRead, InputTo
 use Rattle.tool_cli.specs.Inputs.{content, has_stdin, stdin_after, Tells, TellsAll, input_read, with_text, read_on, texts_read}
 use Rattle.tool_cli.specs.Causes.{IsEmptied, HasRead, GaveUp, Refuses, RefusesOne}
 use Rattle.tool_cli.specs.Reads.{LeavesFiles}
-use Rattle.tool_cli.specs.World.{found}
+use Rattle.tool_cli.specs.World.{found_input}
 use Rattle.tool_cli.proofs.Contents.{content_read, input_ok, input_over, left_told, refusal_told}
 use Rattle.tool_cli.specs.declared.inputs.TheConstants.{LARGEST, LARGEST_TOGETHER}
 
@@ -148,7 +148,7 @@ over_at_first names others before now left left_now (Emptied has none lost) larg
 unread_by : (dash : Bool) (contents contents_now : Option Named) (i f : Type 0) (name : List ℕ) → contents_now ≡ contents → MatchBool dash i (f ⊎ IsMissing contents_now name) → MatchBool dash i (f ⊎ IsMissing contents name)
 unread_by dash contents contents_now i f name e why = rw e at why
 
-pub refused_one : {A : Type 0} (names others : List (List ℕ)) (name : List ℕ) (before now : A) (contents contents_now : Option Named) (left left_now : Option (List ℕ)) (i f : Type 0) (ended : Ended) → IsAmong names name → contents_now ≡ contents → Stdin names others before now left left_now → Refuses (found contents_now left_now i f) name ended → RefusesOne (found contents left i f) names ended
+pub refused_one : {A : Type 0} (names others : List (List ℕ)) (name : List ℕ) (before now : A) (contents contents_now : Option Named) (left left_now : Option (List ℕ)) (i f : Type 0) (ended : Ended) → IsAmong names name → contents_now ≡ contents → Stdin names others before now left left_now → Refuses (found_input contents_now left_now i f) name ended → RefusesOne (found_input contents left i f) names ended
 refused_one names others name before now contents contents_now left left_now i f (CannotRead other) among e stdin why =
     rw why.0 (among, unread_by (is_dash name) contents contents_now i f name e why.1)
 refused_one names others name before now contents contents_now left left_now i f (InputTooLarge other limit) among e stdin why =
@@ -170,7 +170,7 @@ told_by : (names texts : List (List ℕ)) (i : ℕ) (held : Named) (stdin now na
 told_by names texts i held stdin now name total ended p q next whole (inl e) = inl (sym (whole ∙ turn_err held now name total texts ended (drop i names) (drop (i + 1) names) next e))
 told_by names texts i held stdin now name total ended p q next whole (inr gave_up) = inr gave_up
 
-pub told_refused : (names : List (List ℕ)) (i : ℕ) (name : List ℕ) (contents contents_now : Option Named) (left left_now : Option (List ℕ)) (held : Named) (stdin : List ℕ) (total : ℕ) (texts : List (List ℕ)) (ended : Ended) (p q : Type 0) → i < length names → name ≡ get_or names i name → contents_now ≡ contents → GoesOn names i left left_now held stdin total texts → TellsAll names contents left held stdin → Refuses (found contents_now left_now p q) name ended → (Err ended ≡ texts_read held stdin 0 names) ⊎ GaveUp p q ended
+pub told_refused : (names : List (List ℕ)) (i : ℕ) (name : List ℕ) (contents contents_now : Option Named) (left left_now : Option (List ℕ)) (held : Named) (stdin : List ℕ) (total : ℕ) (texts : List (List ℕ)) (ended : Ended) (p q : Type 0) → i < length names → name ≡ get_or names i name → contents_now ≡ contents → GoesOn names i left left_now held stdin total texts → TellsAll names contents left held stdin → Refuses (found_input contents_now left_now p q) name ended → (Err ended ≡ texts_read held stdin 0 names) ⊎ GaveUp p q ended
 told_refused names i name contents contents_now left left_now held stdin total texts ended p q h e same on tells why =
     told_by names texts i held stdin on.0 name total ended p q (next_name names i name h e) on.1.1
     (refusal_told contents_now left_now held on.0 name total p q ended (tells_now names name contents contents_now left left_now held stdin on.0 (i, (h, e)) same on.1.0 tells) why)
@@ -225,6 +225,6 @@ unread_on names i name before mid now left_before left_mid h e same stdin none =
     same (not_dash (is_dash name) (λ dash. let has = sym (stdin_among names name (i, (h, e)) dash) ∙ none in absurd (let x = has in cc)))
     ∙ unread_so_far names (drop i names) before mid left_before left_mid stdin none
 
-pub over_one : (names : List (List ℕ)) (name : List ℕ) (contents : Option Named) (left : Option (List ℕ)) (p q : Type 0) (ended : Ended) → IsAmong names name → (ended ≡ InputTooLarge name LARGEST_TOGETHER) ⊎ (ended ≡ Memory) → RefusesOne (found contents left p q) names ended
+pub over_one : (names : List (List ℕ)) (name : List ℕ) (contents : Option Named) (left : Option (List ℕ)) (p q : Type 0) (ended : Ended) → IsAmong names name → (ended ≡ InputTooLarge name LARGEST_TOGETHER) ⊎ (ended ≡ Memory) → RefusesOne (found_input contents left p q) names ended
 over_one names name contents left p q ended among (inl is) = rw is (among, inr refl)
 over_one names name contents left p q ended among (inr none) = rw none tt

@@ -8,7 +8,7 @@ use Rattle.tool_ends.specs.declared.ended.Ended.TheVariants.{CannotRead, InputTo
 use Rattle.tool_cli.specs.Causes.{Refuses}
 use Rattle.tool_cli.specs.Order.{has_file, behind_stdin, refused_input, IsBeforeStdin, KeepsOrder}
 use Rattle.tool_cli.specs.Told.{IsOfRun}
-use Rattle.tool_cli.specs.World.{found}
+use Rattle.tool_cli.specs.World.{found_input}
 
 -- The names behind standard input.
 
@@ -45,7 +45,7 @@ pub order_kept : {A : Type 0} (names : List (List ℕ)) (i : ℕ) (name : List �
 order_kept names i name before mid now ended h e same only (inl was) = λ other is stands. same (ap is_dash (sym (only other is)) ∙ stands.0) ∙ was
 order_kept names i name before mid now ended h e same only (inr all) = λ other is stands. absurd (stands.1 (rw (only other is) (all i (omega arith) h name e)))
 
-pub refuses_only : (contents : Option Named) (left : Option (List ℕ)) (i f : Type 0) (name : List ℕ) (ended : Ended) → Refuses (found contents left i f) name ended → (other : List ℕ) → refused_input ended ≡ Some other → other ≡ name
+pub refuses_only : (contents : Option Named) (left : Option (List ℕ)) (i f : Type 0) (name : List ℕ) (ended : Ended) → Refuses (found_input contents left i f) name ended → (other : List ℕ) → refused_input ended ≡ Some other → other ≡ name
 refuses_only contents left i f name (CannotRead o) why other is = (let same : other ≡ o = cc in same ∙ why.0)
 refuses_only contents left i f name (InputTooLarge o limit) why other is = (let same : other ≡ o = cc in same ∙ why.0)
 refuses_only contents left i f name ended why other is = absurd (let h = is in cc)

@@ -16,7 +16,7 @@ use Rattle.tool_cli.specs.Causes.{GaveUp, Stopped, IsUnread, IsPassed, RefusesOn
 use Rattle.tool_cli.specs.Analyzed.{is_analysis, is_analysis_behind, analyzes}
 use Rattle.tool_cli.specs.Output.{output_of, output_behind, output_named, FailsToWrite, IsWritten, IsWrittenOf, IsShown}
 use Rattle.tool_cli.specs.Told.{IsEndOf, IsOutcome, IsTold}
-use Rattle.tool_cli.specs.World.{failures, found}
+use Rattle.tool_cli.specs.World.{failures, found_input}
 
 pub inputs_are : (words : List (List ℕ)) (command : Command) → IsReadAs words command → inputs_named words ≡ inputs_of command
 unfolding inputs_named
@@ -54,17 +54,17 @@ pub told_err : (words : List (List ℕ)) (command : Command) (names : List (List
 told_err words command names held stdin ended i f o w read are (inl e) = inl (inr (command, read, outcome command names held stdin (Err ended) ended are e refl))
 told_err words command names held stdin ended i f o w read are (inr gave_up) = inr (inl gave_up)
 
-pub cause_of_unread : (own : List ℕ → Type 0) (named names : List (List ℕ)) (contents : Option Named) (left : Option (List ℕ)) (i f : Type 0) (ended : Ended) → named ≡ names → RefusesOne (found contents left i f) names ended → (name : List ℕ) → ended ≡ CannotRead name → (IsAmong named name ⊎ own name) × IsUnread contents i f name
+pub cause_of_unread : (own : List ℕ → Type 0) (named names : List (List ℕ)) (contents : Option Named) (left : Option (List ℕ)) (i f : Type 0) (ended : Ended) → named ≡ names → RefusesOne (found_input contents left i f) names ended → (name : List ℕ) → ended ≡ CannotRead name → (IsAmong named name ⊎ own name) × IsUnread contents i f name
 cause_of_unread own named names contents left i f ended same why name e =
-    let cause : RefusesOne (found contents left i f) named (CannotRead name) = rw same (rw e at why) in
+    let cause : RefusesOne (found_input contents left i f) named (CannotRead name) = rw same (rw e at why) in
     (inl cause.0, cause.1)
 
-pub cause_of_large : (named names : List (List ℕ)) (contents : Option Named) (left : Option (List ℕ)) (i f : Type 0) (ended : Ended) → named ≡ names → RefusesOne (found contents left i f) names ended → (name : List ℕ) (limit : ℕ) → ended ≡ InputTooLarge name limit → IsAmong named name × IsPassed contents left name limit
+pub cause_of_large : (named names : List (List ℕ)) (contents : Option Named) (left : Option (List ℕ)) (i f : Type 0) (ended : Ended) → named ≡ names → RefusesOne (found_input contents left i f) names ended → (name : List ℕ) (limit : ℕ) → ended ≡ InputTooLarge name limit → IsAmong named name × IsPassed contents left name limit
 cause_of_large named names contents left i f ended same why name limit e = rw same (rw e at why)
 
 -- what refuses an input tells of no output
-pub never_unwritten : (names : List (List ℕ)) (contents : Option Named) (left : Option (List ℕ)) (i f : Type 0) (ended : Ended) → RefusesOne (found contents left i f) names ended → (name : List ℕ) → ended ≡ CannotWrite name → ⊥
-never_unwritten names contents left i f ended why name e = subst (λ (x : Ended). RefusesOne (found contents left i f) names x) e why
+pub never_unwritten : (names : List (List ℕ)) (contents : Option Named) (left : Option (List ℕ)) (i f : Type 0) (ended : Ended) → RefusesOne (found_input contents left i f) names ended → (name : List ℕ) → ended ≡ CannotWrite name → ⊥
+never_unwritten names contents left i f ended why name e = subst (λ (x : Ended). RefusesOne (found_input contents left i f) names x) e why
 
 pub analyzes_is : (words : List (List ℕ)) (command : Command) → IsReadAs words command → analyzes words ≡ is_analysis command
 unfolding analyzes

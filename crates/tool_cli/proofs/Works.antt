@@ -19,7 +19,7 @@ use Rattle.tool_cli.specs.Causes.{RefusesOne}
 use Rattle.tool_cli.specs.Analyzed.{IsAnalysis, IsDumped, IsBeforeWork}
 use Rattle.tool_cli.specs.Output.{output_of, IsUnwritten, FailsToWrite, IsWritten, IsWrittenOf}
 use Rattle.tool_cli.specs.Told.{IsWork, IsOfTexts, IsOfWork, IsOfRun}
-use Rattle.tool_cli.specs.World.{found}
+use Rattle.tool_cli.specs.World.{found_input}
 use Rattle.tool_cli.proofs.Delivered.{fails_wider}
 
 some_same : {a b : List ℕ} → Some a ≡ Some b → a ≡ b
@@ -103,7 +103,7 @@ pub nothing_shown : (command : Command) (given : Result (List (List ℕ)) Ended)
 nothing_shown command (Ok texts) before now ended early same = nothing_written command texts before now ended early same
 nothing_shown command (Err refusal) before now ended early same = same
 
-pub early_refusal : (contents : Option Named) (left : Option (List ℕ)) (i f : Type 0) (names : List (List ℕ)) (ended : Ended) → RefusesOne (found contents left i f) names ended → IsEarly ended
+pub early_refusal : (contents : Option Named) (left : Option (List ℕ)) (i f : Type 0) (names : List (List ℕ)) (ended : Ended) → RefusesOne (found_input contents left i f) names ended → IsEarly ended
 early_refusal contents left i f names ends.Ok why = why
 early_refusal contents left i f names (CannotWrite name) why = why
 early_refusal contents left i f names ended why = tt

@@ -37,8 +37,8 @@ pub record FoundInput : Type 1 where
   pub files_rose : Type 0
 
 -- the same, as a clause names it
-abbrev pub found : Option Named → Option (List ℕ) → Type 0 → Type 0 → FoundInput
-found contents left input_rose files_rose = record { contents = contents; left = left; input_rose = input_rose; files_rose = files_rose }
+abbrev pub found_input : Option Named → Option (List ℕ) → Type 0 → Type 0 → FoundInput
+found_input contents left input_rose files_rose = record { contents = contents; left = left; input_rose = input_rose; files_rose = files_rose }
 
 -- which reads and writes failed in a run
 pub record Failures : Type 1 where

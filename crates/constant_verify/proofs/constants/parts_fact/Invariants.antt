@@ -1,7 +1,7 @@
 use Rattle.std.proofs.Common.{◌≡◌, map, take}
 use Rattle.std.specs.List.{fold}
-use Rattle.constant_verify.specs.ConstantFacts.{all_pass, both, part_fact_at}
+use Rattle.constant_verify.specs.ConstantFacts.{all_pass, both_constant_facts, part_fact_at}
 use Rattle.constant_verify.proofs.constants.parts_fact.Given as goal
 
 abbrev pub invariant-loop-part : goal.invariant-loop-part
-invariant-loop-part l = l.all ≡ fold both all_pass (map (part_fact_at l.arena) (take l.part-index l.parts))
+invariant-loop-part l = l.all ≡ fold both_constant_facts all_pass (map (part_fact_at l.arena) (take l.part-index l.parts))

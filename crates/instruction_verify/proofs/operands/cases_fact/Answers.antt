@@ -1,7 +1,7 @@
 use Rattle.std.proofs.Common.{◌∙◌, ap, arith, map}
 use Rattle.std.proofs.lemmas.List.{take_all}
 use Rattle.module_arena.specs.View.{module_of}
-use Rattle.instruction_verify.specs.OperandFacts.{both, operands_fact, case_operand_in}
+use Rattle.instruction_verify.specs.OperandFacts.{both_operand_facts, operands_fact, case_operand_in}
 use Rattle.instruction_verify.proofs.OperandsKnown.{next_fact}
 use Rattle.instruction_verify.proofs.operands.cases_fact.Goals as goal
 
@@ -9,7 +9,7 @@ pub cases-preserved : goal.cases-preserved
 cases-preserved c values blocks =
     let a = c.args.judge.now in
     c.and-all.ensures
-    ∙ (λ j. both (c.cases.invariant values blocks j) (c.value_fact.ensures values blocks j))
+    ∙ (λ j. both_operand_facts (c.cases.invariant values blocks j) (c.value_fact.ensures values blocks j))
     ∙ next_fact (module_of a) (case_operand_in a values blocks) c.args.cases.now c.cases.case-index c.case-item.result (omega arith) c.case-item.is
 
 pub returns : goal.returns

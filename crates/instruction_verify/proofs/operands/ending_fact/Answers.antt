@@ -5,7 +5,7 @@ use Rattle.module_arena.specs.Operations.{ending_operands}
 use Rattle.module_arena.specs.View.{module_of}
 use Rattle.module_arena.specs.declared.instruction.Case.{Case}
 use Rattle.module_arena.specs.declared.instruction.Operand.{Operand}
-use Rattle.instruction_verify.specs.OperandFacts.{HasCase, HasOperand, both, case_operand_in, ending_in, operand_in, operands_fact}
+use Rattle.instruction_verify.specs.OperandFacts.{HasCase, HasOperand, both_operand_facts, case_operand_in, ending_in, operand_in, operands_fact}
 use Rattle.instruction_verify.proofs.CasesTold.{cases_known, cases_listed}
 use Rattle.instruction_verify.proofs.OperandsKnown.{joined_facts}
 use Rattle.instruction_verify.proofs.operands.ending_fact.Goals as goal
@@ -37,7 +37,7 @@ returns-in-Switch c values blocks =
     let first = c.operands_fact-in-Switch.ensures values blocks ∙ ap (λ (os : List Operand). operands_fact m (map (operand_in a values blocks) os)) c.from_ref-in-Switch.ensures.value in
     let others = c.cases_fact-others.ensures values blocks ∙ ap (λ (cs : List Case). operands_fact m (map (case_operand_in a values blocks) cs)) c.as_slice.ensures in
     c.and.ensures
-    ∙ (λ j. both (first j) (others j))
+    ∙ (λ j. both_operand_facts (first j) (others j))
     ∙ joined_facts m (operand_in a values blocks c.in-Switch.value ∷ []) (map (case_operand_in a values blocks) c.in-Switch.cases)
     ∙ ap (λ os. operands_fact m (operand_in a values blocks c.in-Switch.value ∷ os)) (cases_listed a values blocks c.in-Switch.cases)
     ∙ ap (λ e. operands_fact m (ending_operands (ending_in a values blocks e))) (sym c.in-Switch.is)

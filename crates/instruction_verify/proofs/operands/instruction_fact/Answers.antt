@@ -6,7 +6,7 @@ use Rattle.module_arena.specs.declared.instruction.Choice.{Choice}
 use Rattle.module_arena.specs.declared.instruction.Insertion.{Insertion}
 use Rattle.module_arena.specs.declared.instruction.Operand.{Operand}
 use Rattle.module_arena.specs.declared.instruction.Incoming.{Incoming}
-use Rattle.instruction_verify.specs.OperandFacts.{HasConstant, HasOperand, both, instruction_in, operand_in, operands_fact, phi_operand_in}
+use Rattle.instruction_verify.specs.OperandFacts.{HasConstant, HasOperand, both_operand_facts, instruction_in, operand_in, operands_fact, phi_operand_in}
 use Rattle.std.proofs.lemmas.List.Elements.{All-tail}
 use Rattle.module_arena.specs.Mentions.{bare_values_of, operands_of}
 use Rattle.instruction_verify.proofs.CasesTold.{incoming_listed, values_known}
@@ -94,7 +94,7 @@ returns-in-GetElementPtr c values blocks =
     let base = c.operands_fact-in-GetElementPtr.ensures values blocks ∙ ap (λ (os : List Operand). operands_fact m (map f os)) c.from_ref-in-GetElementPtr.ensures.value in
     let others = c.operands_fact-others.ensures values blocks ∙ ap (λ (os : List Operand). operands_fact m (map f os)) c.as_slice-in-GetElementPtr.ensures in
     c.and.ensures
-    ∙ (λ j. both (base j) (others j))
+    ∙ (λ j. both_operand_facts (base j) (others j))
     ∙ joined_facts m (f c.in-GetElementPtr.base ∷ []) (map f c.in-GetElementPtr.indices)
     ∙ ap (λ i. operands_fact m (operands (instruction_in a values blocks i).operation)) (sym c.in-GetElementPtr.is)
 
