@@ -92,15 +92,15 @@ if_local _ t = None
 abbrev pub local_of : Located → Option Local
 local_of t = if_local t.token.kind t
 
--- the name of a struct that a token is; with wide limits a number is one too
+-- the name of a struct that a token is; with what is left out a number is one too
 abbrev pub if_named : Bool → TokenKind → Located → Option PlacedName
-if_named wide kind.LocalName t = name_at t
-if_named wide kind.UnnamedLocal t = cond wide (Some (placed_name t.place (drop 1 t.token.spelling))) None
-if_named wide _ t = None
+if_named with_left_out kind.LocalName t = name_at t
+if_named with_left_out kind.UnnamedLocal t = cond with_left_out (Some (placed_name t.place (drop 1 t.token.spelling))) None
+if_named with_left_out _ t = None
 
--- the name of a local; where it is wide, an unnamed one's digits are its name
+-- the name of a local; with what is left out, an unnamed one's digits are its name
 abbrev pub named_local_of : Bool → Located → Option PlacedName
-named_local_of wide t = if_named wide t.token.kind t
+named_local_of with_left_out t = if_named with_left_out t.token.kind t
 
 -- the label that a token is, if its kind is that
 abbrev pub if_label : TokenKind → Located → Option Local

@@ -51,16 +51,16 @@ global_place t n e = by t.token.kind e
     by _ e = absurd cc
 
 -- the name of a struct
-pub struct_place : (wide : Bool) (t : Located) (n : PlacedName) → named_local_of wide t ≡ Some n → n.place ≡ t.place
-struct_place wide t n e = by t.token.kind e
+pub struct_place : (with_left_out : Bool) (t : Located) (n : PlacedName) → named_local_of with_left_out t ≡ Some n → n.place ≡ t.place
+struct_place with_left_out t n e = by t.token.kind e
   where
     unnamed : (w : Bool) → cond w (Some (placed_name t.place (drop 1 t.token.spelling))) None ≡ Some n → n.place ≡ t.place
     unnamed true e = subst (λ (x : PlacedName). x.place ≡ t.place) (some_once (placed_name t.place (drop 1 t.token.spelling)) n e) refl
     unnamed false e = absurd cc
 
-    by : (k : TokenKind) → if_named wide k t ≡ Some n → n.place ≡ t.place
+    by : (k : TokenKind) → if_named with_left_out k t ≡ Some n → n.place ≡ t.place
     by kind.LocalName e = name_place t n e
-    by kind.UnnamedLocal e = unnamed wide e
+    by kind.UnnamedLocal e = unnamed with_left_out e
     by _ e = absurd cc
 
 named_place : (t : Located) (l : Local) → named_at t ≡ Some l → place_of_local l ≡ t.place

@@ -1,4 +1,4 @@
--- The lemmas by which a row of a grammar is read, to be searched; `before` and `pair` are found by that of `both`.
+-- The lemmas by which a row of a grammar is read, to be searched; `keep_first` and `pair` are found by that of `joined_values`.
 use Rattle.phrase_rows.proofs.Plain.{reads_nothing, reads_one, reads_mapped, reads_labelled}
 use Rattle.phrase_rows.proofs.Chain.{reads_both, reads_second}
 use Rattle.phrase_rows.proofs.Alt.{reads_alt, reads_optional}

@@ -13,5 +13,5 @@ returns-in_ok-name-in-Some-LocalName c =
 pub returns-in_ok-name-in-Some-UnnamedLocal :
     goal.returns-in_ok-name-in-Some-UnnamedLocal
 returns-in_ok-name-in-Some-UnnamedLocal c =
-    let wide : c.args.self.now.limits.with_left_out ≡ true = sym (ap (λ (l : Limits). l.with_left_out) c.limits.ensures) ∙ c.if-limits.true in
-    took_kind (4 ∷ []) (if_named c.args.self.now.limits.with_left_out) kind.UnnamedLocal _ c.args.self.now _ (λ s. refl) (rw c.in-Some-UnnamedLocal.field-0-is at c.in-Some-UnnamedLocal.ensures) c.advance-in-Some-UnnamedLocal.ensures (λ t place token. rw (wide, place, token, ← c.place-place.ensures, ← c.spelling.ensures.bytes, c.in_ok-name-in-Some-UnnamedLocal.ensures) refl)
+    let with_left_out : c.args.self.now.limits.with_left_out ≡ true = sym (ap (λ (l : Limits). l.with_left_out) c.limits.ensures) ∙ c.if-limits.true in
+    took_kind (4 ∷ []) (if_named c.args.self.now.limits.with_left_out) kind.UnnamedLocal _ c.args.self.now _ (λ s. refl) (rw c.in-Some-UnnamedLocal.field-0-is at c.in-Some-UnnamedLocal.ensures) c.advance-in-Some-UnnamedLocal.ensures (λ t place token. rw (with_left_out, place, token, ← c.place-place.ensures, ← c.spelling.ensures.bytes, c.in_ok-name-in-Some-UnnamedLocal.ensures) refl)
