@@ -46,5 +46,5 @@ counted kind t here = record { rows = with_one kind t.rows here; total = one_mor
 unfoldable pub tally : Option ℕ → StreamTree → Tally → Tally
 tally here nothing t = t
 tally here (block id width words inside behind) t = tally here behind (tally (Some id) inside (counted Blocks t (Some id)))
-tally here (definition id template behind) t = tally here behind (counted Abbreviations t here)
+tally here (definition id abbreviation behind) t = tally here behind (counted Abbreviations t here)
 tally here (values id code operands has_blob blob behind) t = tally here behind (counted Records t here)

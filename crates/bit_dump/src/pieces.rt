@@ -108,7 +108,7 @@ pub fn tell<S: Sink>(
             spill(outline, sink)
         }
         Event::Defined(id) => {
-            let operands = walker.template().abbreviation(alloc)?;
+            let operands = walker.admitted().abbreviation(alloc)?;
             outline.define(id, &operands)?;
             spill(outline, sink)
         }

@@ -14,7 +14,7 @@ use Rattle.bit_stream.specs.declared.definition.Encoding.{Encoding}
 use Rattle.bit_stream.specs.declared.definition.Encoding.TheVariants.{AsField, AsChunks, AsArray, AsLetter, AsBlob}
 use Rattle.bit_stream.specs.declared.definition.DefinitionPart.{DefinitionPart}
 use Rattle.bit_stream.specs.declared.definition.DefinitionPart.TheVariants.{Value, End}
-use Rattle.bit_stream.specs.Definition.{field_width, chunk_width, encoding_of, encoding, scalar_by, literal, first_operand, element, element_of, part_by, part, parts, by_part, template}
+use Rattle.bit_stream.specs.Definition.{field_width, chunk_width, encoding_of, encoding, scalar_by, literal, first_operand, element, element_of, part_by, part, parts, by_part, defined_abbreviation}
 
 -- where something was read, at least n bits fewer are left
 pub record Forward {A : Type 0} (n : ℕ) (c : Cursor) (f : Found A) : Type 0 where
@@ -157,8 +157,8 @@ parts_forward zero front c = forward_here _ c
 parts_forward (suc n) front c = bind_first 0 c (part (suc n) c) _ (part_forward (suc n) c) (λ p d.
     by_part_forward d p _ _ (λ s. parts_forward n (front ++ s ∷ []) d) (λ t. forward_here _ d))
 
-pub template_forward : (c : Cursor) → Forward 1 c (template c)
-unfolding template
-template_forward c = bind_then 1 c (vbr 5 c) _ (vbr_forward 5 c) (λ count d.
+pub abbreviation_forward : (c : Cursor) → Forward 1 c (defined_abbreviation c)
+unfolding defined_abbreviation
+abbreviation_forward c = bind_then 1 c (vbr 5 c) _ (vbr_forward 5 c) (λ count d.
     forward_if 1 d _ _ _ (forward_none 1 d _) (bind_first 1 d (first_operand d) _ (first_operand_forward d) (λ code e.
     bind_first 0 e (parts (count - 1) [] e) _ (parts_forward (count - 1) [] e) (λ rest f. forward_here _ f))))

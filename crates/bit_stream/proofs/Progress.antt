@@ -9,11 +9,11 @@ use Rattle.bit_stream.specs.Answers.{refuse}
 use Rattle.bit_stream.specs.declared.entry.Entry.{Entry}
 use Rattle.bit_stream.specs.declared.entry.Entry.TheVariants.{Block, End}
 use Rattle.bit_stream.specs.Abbreviation.{AdmittedAbbreviation}
-use Rattle.bit_stream.specs.Definition.{template}
+use Rattle.bit_stream.specs.Definition.{defined_abbreviation}
 use Rattle.bit_stream.specs.Record.{Read, unabbreviated}
-use Rattle.bit_stream.specs.Scope.{Scope, template_of}
-use Rattle.bit_stream.specs.Entry.{StreamItem, plain, is_top, is_blockinfo, came, entered, enter_sized, enter_wide, enter_named, enter_block, end_block, define_for, define, by_template, record_by, inside, item}
-use Rattle.bit_stream.proofs.Forward.{Forward, fixed_forward_any, template_forward}
+use Rattle.bit_stream.specs.Scope.{Scope, abbreviation_of}
+use Rattle.bit_stream.specs.Entry.{StreamItem, plain, is_top, is_blockinfo, came, entered, enter_sized, enter_wide, enter_named, enter_block, end_block, define_for, define, by_abbreviation, record_by, inside, item}
+use Rattle.bit_stream.proofs.Forward.{Forward, fixed_forward_any, abbreviation_forward}
 
 -- what is found is an entry
 record Shown (f : Found StreamItem) : Type 0 where
@@ -66,7 +66,7 @@ came_shown r c (Err e) = shown_none e
 
 record_by_shown : (id bit : ℕ) (s : Scope) (c : Cursor) → Shown (record_by id bit s c)
 unfolding record_by
-record_by_shown id bit s c = shown_if _ _ _ (shown_bind (unabbreviated (is_blockinfo s) c) _ (λ r d. came_shown r d _)) (shown_bind (by_template (template_of s id) bit (is_blockinfo s) c) _ (λ r d. came_shown r d _))
+record_by_shown id bit s c = shown_if _ _ _ (shown_bind (unabbreviated (is_blockinfo s) c) _ (λ r d. came_shown r d _)) (shown_bind (by_abbreviation (abbreviation_of s id) bit (is_blockinfo s) c) _ (λ r d. came_shown r d _))
 
 progress_shown : (c : Cursor) (f : Found StreamItem) → Shown f → Progress c f
 progress_shown c (Ok x) h = record { is = λ none. absurd (h.is none) }
@@ -84,11 +84,11 @@ taken c (Err e) to h = record { is = tt }
 define_for_progress : (id : Option ℕ) (bit : ℕ) (s : Scope) (c : Cursor) → Progress c (define_for id bit s c)
 unfolding define_for
 define_for_progress None bit s c = record { is = tt }
-define_for_progress (Some id) bit s c = taken c (template c) _ (template_forward c)
+define_for_progress (Some id) bit s c = taken c (defined_abbreviation c) _ (abbreviation_forward c)
 
 define_progress : (bit : ℕ) (s : Scope) (c : Cursor) → Progress c (define bit s c)
 unfolding define
-define_progress bit s c = progress_if c _ _ _ (define_for_progress _ bit s c) (taken c (template c) _ (template_forward c))
+define_progress bit s c = progress_if c _ _ _ (define_for_progress _ bit s c) (taken c (defined_abbreviation c) _ (abbreviation_forward c))
 
 inside_progress : (id bit : ℕ) (s : Scope) (c : Cursor) → Progress c (inside id bit s c)
 unfolding inside

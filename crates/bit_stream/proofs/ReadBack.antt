@@ -13,12 +13,12 @@ use Rattle.bits.proofs.RoundTrip.{fixed_back, vbr_back}
 use Rattle.bit_stream.specs.declared.entry.Entry.TheVariants.{Record}
 use Rattle.bit_stream.specs.declared.abbreviation.ValueSpelling.{ValueSpelling}
 use Rattle.bit_stream.specs.declared.abbreviation.ValueSpelling.TheVariants.{Known, Field, Chunks, Letter}
-use Rattle.bit_stream.specs.Scope.{Scope, template_of}
+use Rattle.bit_stream.specs.Scope.{Scope, abbreviation_of}
 use Rattle.bit_stream.specs.declared.abbreviation.Tail.{Tail}
 use Rattle.bit_stream.specs.declared.abbreviation.Tail.TheVariants.{NoTail, Elements, Bytes}
 use Rattle.bit_stream.specs.Abbreviation.{AdmittedAbbreviation}
 use Rattle.bit_stream.specs.Record.{letters, value_by, code_by, operand, elements, each, counted, tail_by, Read, unabbreviated, abbreviated}
-use Rattle.bit_stream.specs.Entry.{item, inside, by_template, record_by, recorded, is_top, is_blockinfo}
+use Rattle.bit_stream.specs.Entry.{item, inside, by_abbreviation, record_by, recorded, is_top, is_blockinfo}
 use Rattle.bit_stream.specs.Spelling.{chunks, is_letter, letter_number, fits, value_bits, all_fit, all_bits, record_bits, each_fit, each_bits, tail_fits, with_tail, record_fits, with_record}
 use Rattle.bit_stream.specs.Law.{ReadsAs, AreOperands, RecordIsReadBack, AbbreviatedIsReadBack, IsSound, is_sound, is_sound_tail}
 
@@ -226,9 +226,9 @@ abbreviated_reads t code ns sound fit small operands at rest =
     let whole : (code_bits ++ (front_bits ++ rest_bits)) ++ rest ≡ code_bits ++ (front_bits ++ (rest_bits ++ rest)) = simp append_assoc in
     rw (whole, one, two, three, take-append-drop k ns, place) refl
 
-inside_abbreviated : (s : Scope) (id bit : ℕ) (t : AdmittedAbbreviation) (c d : Cursor) (r : Read) → 4 ≤ id → template_of s id ≡ Some t → is_blockinfo s ≡ false → abbreviated false t c ≡ Ok (r, d)
+inside_abbreviated : (s : Scope) (id bit : ℕ) (t : AdmittedAbbreviation) (c d : Cursor) (r : Read) → 4 ≤ id → abbreviation_of s id ≡ Some t → is_blockinfo s ≡ false → abbreviated false t c ≡ Ok (r, d)
     → inside id bit s c ≡ Ok (record { entry = Some (Record r.code); scope = s; operands = r.operands; blob = r.blob }, d)
-unfolding inside record_by by_template recorded
+unfolding inside record_by by_abbreviation recorded
 inside_abbreviated s id bit t c d r low there plain h =
     let a : (id == 0) ≡ false = ne_eqb id 0 (λ e. omega arith) in
     let b : (id == 1) ≡ false = ne_eqb id 1 (λ e. omega arith) in

@@ -1,4 +1,4 @@
--- For `template`, and how the code reads: what a call that may want memory answers, beside what reading finds.
+-- For `defined_abbreviation`, and how the code reads: what a call that may want memory answers, beside what reading finds.
 use Rattle.std.specs.Prelude.{◌≡◌, ℕ, Result, Ok, Err}
 use Rattle.bits.specs.Cursor.{Cursor, Found}
 use Rattle.bits.specs.declared.fault.BitFaultKind.TheVariants.{BadAbbreviation}

@@ -1,4 +1,4 @@
--- For `template`: the definition of an abbreviation (LLVM Bitcode File Format, "DEFINE_ABBREV Encoding").
+-- For `defined_abbreviation`: the definition of an abbreviation (LLVM Bitcode File Format, "DEFINE_ABBREV Encoding").
 use Rattle.std.specs.Prelude.{ℕ, zero, suc, ◌-◌, List, [], ◌∷◌, ◌++◌, Ok, if◌then◌else◌, ◌==◌, ◌||◌, nat_lt}
 use Rattle.bits.specs.Cursor.{Cursor, Found, ◌>>=◌}
 use Rattle.bits.specs.Reading.{fixed, vbr}
@@ -94,7 +94,7 @@ parts (suc n) front c = part (suc n) c >>= λ p d.
     by_part p (λ s. parts n (front ++ s ∷ []) d) (λ t. Ok ((front, t), d))
 
 -- the whole definition: from 1 to 64 operands
-unfoldable pub template : Cursor → Found AdmittedAbbreviation
-template c = vbr 5 c >>= λ count d.
+unfoldable pub defined_abbreviation : Cursor → Found AdmittedAbbreviation
+defined_abbreviation c = vbr 5 c >>= λ count d.
     if count == 0 || nat_lt 64 count then refuse c.at
     else (first_operand d >>= λ code e. parts (count - 1) [] e >>= λ rest f. Ok (record { code = code; operands = rest.0; tail = rest.1 }, f))

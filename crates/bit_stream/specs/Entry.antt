@@ -10,9 +10,9 @@ use Rattle.bit_stream.specs.declared.item.TheConstants.{MAX_OPEN}
 use Rattle.bit_stream.specs.declared.abbreviation.AbbrevOp.{AbbrevOp}
 use Rattle.bit_stream.specs.Abbreviation.{AdmittedAbbreviation, ops_of, ends_in_blob}
 use Rattle.bit_stream.specs.Answers.{refuse}
-use Rattle.bit_stream.specs.Definition.{template}
+use Rattle.bit_stream.specs.Definition.{defined_abbreviation}
 use Rattle.bit_stream.specs.Record.{Read, unabbreviated, abbreviated}
-use Rattle.bit_stream.specs.Scope.{Scope, given_to, give, template_of}
+use Rattle.bit_stream.specs.Scope.{Scope, given_to, give, abbreviation_of}
 
 -- what stands at a place: an entry, or none where it is a definition; the blocks that are open behind it; and the
 -- operands and the blob, where it is a record
@@ -99,13 +99,13 @@ end_block s c = align c >>= λ _ d.
 -- DEFINE_ABBREV behind its id, which stands at this bit
 unfoldable pub define_for : Option ℕ → ℕ → Scope → Cursor → Found StreamItem
 define_for None bit s c = refuse bit
-define_for (Some id) bit s c = template c >>= λ t d. Ok (plain None (given_for s id t), d)
+define_for (Some id) bit s c = defined_abbreviation c >>= λ t d. Ok (plain None (given_for s id t), d)
 
 -- a definition: in BLOCKINFO for the block id that its record names, else for the block in which it stands
 unfoldable pub define : ℕ → Scope → Cursor → Found StreamItem
 define bit s c =
     if is_blockinfo s then define_for s.block.target bit s c
-    else (template c >>= λ t d. Ok (plain None (defined s t), d))
+    else (defined_abbreviation c >>= λ t d. Ok (plain None (defined s t), d))
 
 -- A record of code 1 in BLOCKINFO names by its first operand the block that definitions are for from then on. Without
 -- an operand it is refused, at its abbreviation id, which stands at this bit.
@@ -123,15 +123,15 @@ came r c (Ok s) = Ok (record { entry = Some (Record r.code); scope = s; operands
 came r c (Err fault) = Err fault
 
 -- the values of a record by an abbreviation, whose id stands at this bit
-unfoldable pub by_template : Option AdmittedAbbreviation → ℕ → Bool → Cursor → Found Read
-by_template None bit in_blockinfo c = refuse bit
-by_template (Some t) bit in_blockinfo c = abbreviated in_blockinfo t c
+unfoldable pub by_abbreviation : Option AdmittedAbbreviation → ℕ → Bool → Cursor → Found Read
+by_abbreviation None bit in_blockinfo c = refuse bit
+by_abbreviation (Some t) bit in_blockinfo c = abbreviated in_blockinfo t c
 
 -- a record behind its abbreviation id, which stands at this bit: 3 is UNABBREV_RECORD
 unfoldable pub record_by : ℕ → ℕ → Scope → Cursor → Found StreamItem
 record_by id bit s c =
     if id == 3 then (unabbreviated (is_blockinfo s) c >>= λ r d. came r d (recorded bit s r.code r.operands))
-    else (by_template (template_of s id) bit (is_blockinfo s) c >>= λ r d. came r d (recorded bit s r.code r.operands))
+    else (by_abbreviation (abbreviation_of s id) bit (is_blockinfo s) c >>= λ r d. came r d (recorded bit s r.code r.operands))
 
 -- what stands behind an abbreviation id in a block; the id stands at this bit
 unfoldable pub inside : ℕ → ℕ → Scope → Cursor → Found StreamItem
@@ -171,11 +171,11 @@ id_at s c = number_of (fixed s.block.width c)
 
 -- whether a record behind such an abbreviation id ends in a blob: the ids below 4 are of no abbreviation
 abbrev pub has_blob_by : Scope → ℕ → Bool
-has_blob_by s id = nat_le 4 id && ends_in_blob (template_of s id)
+has_blob_by s id = nat_le 4 id && ends_in_blob (abbreviation_of s id)
 
 -- the abbreviation that is defined behind an abbreviation id
 unfoldable pub defined_at : Scope → Cursor → Found AdmittedAbbreviation
-defined_at s c = fixed s.block.width c >>= λ _ d. template d
+defined_at s c = fixed s.block.width c >>= λ _ d. defined_abbreviation d
 
 -- the operands of a definition that was found, behind those of others
 abbrev pub with_definition : List (List AbbrevOp) → Found AdmittedAbbreviation → List (List AbbrevOp)

@@ -9,7 +9,7 @@ use Rattle.bit_stream.specs.declared.abbreviation.ValueSpelling.TheVariants.{Kno
 use Rattle.bit_stream.specs.declared.abbreviation.Tail.{Tail}
 use Rattle.bit_stream.specs.declared.abbreviation.Tail.TheVariants.{NoTail, Elements, Bytes}
 use Rattle.bit_stream.specs.Abbreviation.{AdmittedAbbreviation}
-use Rattle.bit_stream.specs.Scope.{Scope, template_of}
+use Rattle.bit_stream.specs.Scope.{Scope, abbreviation_of}
 use Rattle.bit_stream.specs.Entry.{StreamItem, item, is_top, is_blockinfo}
 use Rattle.bit_stream.specs.Spelling.{record_bits, record_fits, with_record}
 
@@ -59,6 +59,6 @@ pub record IsSound (t : AdmittedAbbreviation) : Type 0 where
 -- a record by an abbreviation without a blob
 abbrev pub AbbreviatedIsReadBack : Type 0
 AbbreviatedIsReadBack = (s : Scope) (id : ℕ) (t : AdmittedAbbreviation) (code : ℕ) (ns : List ℕ) → IsInBlock s
-    → 4 ≤ id → id < 2 ^ s.block.width → template_of s id ≡ Some t → IsSound t
+    → 4 ≤ id → id < 2 ^ s.block.width → abbreviation_of s id ≡ Some t → IsSound t
     → record_fits (Some t) code ns ≡ true → code < 2 ^ 32 → AreOperands ns
     → ReadsAs (item s) (with_record (Some t) code ns (bits_of s.block.width id)) (record_item s code ns)

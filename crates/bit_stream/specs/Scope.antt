@@ -1,4 +1,4 @@
--- For `new` and `template` of `Scope`, and all calls of `BitReader` and `BitWriter`: the blocks that are open at a
+-- For `new` and `abbreviation` of `Scope`, and all calls of `BitReader` and `BitWriter`: the blocks that are open at a
 -- place of a stream, and the abbreviations that are in force there.
 use Rattle.std.specs.Prelude.{ℕ, ◌-◌, List, [], ◌∷◌, ◌++◌, Option, Some, None, if◌then◌else◌, nat_lt, slice_get, unwrap_or}
 use Rattle.std.specs.Ordering.{nat_cmp}
@@ -44,7 +44,7 @@ given_here s = given_by s.given s.block.id where
   given_by table (Some id) = given_to table id
 
 -- the abbreviation of an id from 4 on: first those that were given, then the block's own
-abbrev pub template_of : Scope → ℕ → Option AdmittedAbbreviation
-template_of s id =
+abbrev pub abbreviation_of : Scope → ℕ → Option AdmittedAbbreviation
+abbreviation_of s id =
     if nat_lt (id - 4) s.block.given then slice_get (given_here s) (id - 4)
     else slice_get s.block.own (id - 4 - s.block.given)

@@ -59,9 +59,9 @@ rest_of front (Blob ∷ []) = Some (front, Bytes)
 rest_of front (op ∷ ops) = with_scalar (scalar_of op) (λ s. rest_of (front ++ s ∷ []) ops)
 
 -- the abbreviation that these operands define, where the format admits them
-unfoldable pub template_for : List AbbrevOp → Option AdmittedAbbreviation
-template_for [] = None
-template_for (op ∷ ops) = if nat_lt 64 (suc (length ops)) then None
+unfoldable pub abbreviation_for : List AbbrevOp → Option AdmittedAbbreviation
+abbreviation_for [] = None
+abbreviation_for (op ∷ ops) = if nat_lt 64 (suc (length ops)) then None
     else with_scalar (scalar_of op) (λ code. option_map (λ rest. record { code = code; operands = rest.0; tail = rest.1 }) (rest_of [] ops))
 
 -- one of the 64 characters, and its number

@@ -4,9 +4,9 @@ use Rattle.std.specs.Prelude.{◌≡◌, ℕ, ◌+◌, ◌-◌, ◌/◌, ◌%◌
 use Rattle.bits.specs.Bits.{bits_of}
 use Rattle.bit_stream.specs.declared.abbreviation.AbbrevOp.{AbbrevOp}
 use Rattle.bit_stream.specs.Abbreviation.{AdmittedAbbreviation}
-use Rattle.bit_stream.specs.Scope.{Scope, top_level, given_to, template_of}
+use Rattle.bit_stream.specs.Scope.{Scope, top_level, given_to, abbreviation_of}
 use Rattle.bit_stream.specs.Entry.{is_blockinfo, entered, block_left, defined, given_for, targeting}
-use Rattle.bit_stream.specs.Spelling.{chunks, definition_bits, template_for, record_bits, with_record, aligned}
+use Rattle.bit_stream.specs.Spelling.{chunks, definition_bits, abbreviation_for, record_bits, with_record, aligned}
 
 -- The bits behind the count of words of the innermost open block, or of the whole stream where none is open; the bits
 -- of each block around it, from the stream in, up to the count of words of the block inside it; the abbreviations in
@@ -57,16 +57,16 @@ defined_in s None t = s
 defined_in s (Some id) t = given_for s id t
 
 -- an abbreviation is defined, where the definition is one: in BLOCKINFO for its target, else for the innermost block
-abbrev pub with_template : Scope → Option AdmittedAbbreviation → Scope
-with_template s None = s
-with_template s (Some t) = if is_blockinfo s then defined_in s s.block.target t else defined s t
+abbrev pub with_abbreviation : Scope → Option AdmittedAbbreviation → Scope
+with_abbreviation s None = s
+with_abbreviation s (Some t) = if is_blockinfo s then defined_in s s.block.target t else defined s t
 
 -- the definition of an abbreviation is written
 abbrev pub define : Writer → List AbbrevOp → Writer
 define w ops = record {
   bits = w.bits ++ id_bits w 2 ++ definition_bits ops;
   around = w.around;
-  scope = with_template w.scope (template_for ops);
+  scope = with_abbreviation w.scope (abbreviation_for ops);
   spent = w.spent;
 }
 
@@ -100,7 +100,7 @@ put_record w code operands = record {
 -- a record is written by the abbreviation with this id
 abbrev pub abbreviated : Writer → ℕ → ℕ → List ℕ → Writer
 abbreviated w id code operands = record {
-  bits = with_record (template_of w.scope id) code operands (w.bits ++ id_bits w id);
+  bits = with_record (abbreviation_of w.scope id) code operands (w.bits ++ id_bits w id);
   around = w.around;
   scope = after_record w.scope code operands;
   spent = w.spent;

@@ -2,7 +2,7 @@
 ghost use Rattle.std.specs.Prelude.{◌≡◌, ℕ, ◌≤◌};
 ghost use Rattle.bits.specs.Cursor.{found_at};
 ghost use Rattle.bit_stream.specs.Answers.{Ran};
-ghost use Rattle.bit_stream.specs.Definition.{field_width, chunk_width, encoding, scalar_by, literal, first_operand, element, part_by, part, parts, template};
+ghost use Rattle.bit_stream.specs.Definition.{field_width, chunk_width, encoding, scalar_by, literal, first_operand, element, part_by, part, parts, defined_abbreviation};
 
 use crate::StreamFault;
 use crate::abbreviation::{AdmittedAbbreviation, ChunkWidth, FieldWidth, Tail, ValueSpelling};
@@ -189,9 +189,12 @@ fn parts(
 }
 
 /// The definition in front.
-#[tactic(auto, unfolding(crate::specs::Definition::template))]
-pub fn template(cursor: &mut BitCursor, alloc: Global) -> Result<AdmittedAbbreviation, StreamFault>
-    ensures { Ran (λ template. template) cursor.new result (template cursor.old) }
+#[tactic(auto, unfolding(crate::specs::Definition::defined_abbreviation))]
+pub fn defined_abbreviation(
+    cursor: &mut BitCursor,
+    alloc: Global,
+) -> Result<AdmittedAbbreviation, StreamFault>
+    ensures { Ran (λ abbreviation. abbreviation) cursor.new result (defined_abbreviation cursor.old) }
 {
     let bit = cursor.at();
     let count = cursor.vbr(5)?;

@@ -1,16 +1,16 @@
 //! What stands at a place of a stream: an entry or a definition.
 ghost use Rattle.std.specs.Prelude.{◌≡◌, ℕ, ◌<◌, ◌≤◌, ◌^◌, ◌++◌, ◌∷◌, [], length, Some, None, Ok, IfOk};
 ghost use Rattle.bit_stream.specs.Answers.{Ran};
-ghost use Rattle.bit_stream.specs.Scope.{template_of};
+ghost use Rattle.bit_stream.specs.Scope.{abbreviation_of};
 ghost use Rattle.bit_stream.specs.Record.{Read};
-ghost use Rattle.bit_stream.specs.Entry.{is_blockinfo, StreamItem, plain, enter_block, end_block, define_for, define, recorded, settled, by_template, record_by, inside, item, id_at, has_blob_by, defined_at, with_definition, with_item, IsRecordBy};
+ghost use Rattle.bit_stream.specs.Entry.{is_blockinfo, StreamItem, plain, enter_block, end_block, define_for, define, recorded, settled, by_abbreviation, record_by, inside, item, id_at, has_blob_by, defined_at, with_definition, with_item, IsRecordBy};
 ghost use Rattle.bit_stream.specs.Abbreviation.{ends_in_blob, ops_of};
-ghost use Rattle.bit_stream.specs.Definition.{template};
+ghost use Rattle.bit_stream.specs.Definition.{defined_abbreviation};
 ghost use Rattle.bit_stream.specs.declared.entry.Entry.TheVariants.{Block, EndBlock, Record};
 
 use crate::StreamFault;
 use crate::abbreviation::{AbbreviationList, AdmittedAbbreviation, ChunkWidth};
-use crate::definition::template;
+use crate::definition::defined_abbreviation;
 use crate::entry::Entry;
 use crate::fault::{bad_abbreviation, bad_block_length, nested_too_deep};
 use crate::record::{RecordOpening, abbreviated, unabbreviated};
@@ -91,17 +91,17 @@ fn end_block(cursor: &mut BitCursor, scope: &mut Scope) -> Result<(), StreamFaul
 }
 
 /// The definition in front, which is added to those that are there.
-fn next_template(
+fn next_definition(
     cursor: &mut BitCursor,
     definitions: &mut AbbreviationList,
     alloc: Global,
 ) -> Result<AdmittedAbbreviation, StreamFault>
-    ensures read { Ran (λ template. template) cursor.new result (template cursor.old) }
-    ensures told { IfOk result (λ template. definitions.new ≡ definitions.old ++ ops_of template ∷ []) }
+    ensures read { Ran (λ abbreviation. abbreviation) cursor.new result (defined_abbreviation cursor.old) }
+    ensures told { IfOk result (λ abbreviation. definitions.new ≡ definitions.old ++ ops_of abbreviation ∷ []) }
 {
-    let template = template(cursor, alloc)?;
-    definitions.push(template.abbreviation(alloc)?)?;
-    Ok(template)
+    let abbreviation = defined_abbreviation(cursor, alloc)?;
+    definitions.push(abbreviation.abbreviation(alloc)?)?;
+    Ok(abbreviation)
 }
 
 /// DEFINE_ABBREV behind its id, which stands at this bit.
@@ -114,15 +114,15 @@ fn define(
     bit: u64,
 ) -> Result<(), StreamFault>
     ensures read { Ran (λ _. plain None scope.new) cursor.new result (define bit scope.old cursor.old) }
-    ensures told { IfOk result (λ _. definitions.new ≡ with_definition definitions.old (template cursor.old)) }
+    ensures told { IfOk result (λ _. definitions.new ≡ with_definition definitions.old (defined_abbreviation cursor.old)) }
 {
     if scope.is_blockinfo() {
         let Some(id) = scope.target() else {
             return Err(bad_abbreviation(bit).into());
         };
-        scope.give(id, next_template(cursor, definitions, alloc)?)?;
+        scope.give(id, next_definition(cursor, definitions, alloc)?)?;
     } else {
-        scope.define(next_template(cursor, definitions, alloc)?)?;
+        scope.define(next_definition(cursor, definitions, alloc)?)?;
     }
     Ok(())
 }
@@ -142,8 +142,8 @@ fn recorded(scope: &mut Scope, code: u32, operands: &[u64], bit: u64) -> Result<
 }
 
 /// A record by the abbreviation of an id from 4 on, which stands at this bit.
-#[tactic(auto, unfolding(crate::specs::Entry::by_template))]
-fn by_template<'b>(
+#[tactic(auto, unfolding(crate::specs::Entry::by_abbreviation))]
+fn by_abbreviation<'b>(
     cursor: &mut BitCursor<'b>,
     scope: &Scope,
     operands: &mut Vec<u64>,
@@ -152,11 +152,11 @@ fn by_template<'b>(
 ) -> Result<RecordOpening<'b>, StreamFault>
     requires id_in { 4 ≤ id }
     requires none { operands.old.items ≡ [] }
-    ensures read { Ran (λ head. record { code = head.code; operands = operands.new.items; blob = head.blob.now }) cursor.new result (by_template (template_of scope.now id) bit (is_blockinfo scope.now) cursor.old) }
-    ensures has_blob { IfOk result (λ head. head.has_blob ≡ ends_in_blob (template_of scope.now id)) }
+    ensures read { Ran (λ head. record { code = head.code; operands = operands.new.items; blob = head.blob.now }) cursor.new result (by_abbreviation (abbreviation_of scope.now id) bit (is_blockinfo scope.now) cursor.old) }
+    ensures has_blob { IfOk result (λ head. head.has_blob ≡ ends_in_blob (abbreviation_of scope.now id)) }
 {
-    match scope.template(id) {
-        Some(template) => abbreviated(cursor, operands, template, scope.is_blockinfo()),
+    match scope.abbreviation(id) {
+        Some(abbreviation) => abbreviated(cursor, operands, abbreviation, scope.is_blockinfo()),
         None => Err(bad_abbreviation(bit).into()),
     }
 }
@@ -178,7 +178,7 @@ fn record<'b>(
     let head = if id == 3 {
         unabbreviated(cursor, operands, scope.is_blockinfo())?
     } else {
-        by_template(cursor, scope, operands, id, bit)?
+        by_abbreviation(cursor, scope, operands, id, bit)?
     };
     recorded(scope, head.code, operands, bit)?;
     Ok(head)
@@ -199,7 +199,7 @@ fn inside<'b>(
     requires none { operands.old.items ≡ [] }
     ensures read { Ran (λ item. record { entry = item.entry; scope = scope.new; operands = operands.new.items; blob = item.blob.now }) cursor.new result (inside id bit scope.old cursor.old) }
     ensures told { IfOk result (λ item. IsRecordBy item.entry item.id item.has_blob scope.old id) }
-    ensures definitions { IfOk result (λ item. definitions.new ≡ with_item definitions.old item.entry (template cursor.old)) }
+    ensures definitions { IfOk result (λ item. definitions.new ≡ with_item definitions.old item.entry (defined_abbreviation cursor.old)) }
 {
     match id {
         0 => {

@@ -20,6 +20,7 @@
 #![tactic(auto)]
 
 mod abbreviation;
+mod admitted;
 mod definition;
 mod entry;
 mod fault;
@@ -29,7 +30,6 @@ mod reader;
 mod record;
 mod scope;
 mod spelling;
-mod templates;
 mod told;
 mod writer;
 
@@ -37,7 +37,7 @@ pub use abbreviation::{
     AbbrevOp, Abbreviation, AbbreviationList, AdmittedAbbreviation, ChunkWidth, Tail, ValueSpelling,
 };
 pub use bits::{BitFault, BitFaultKind};
-pub use definition::template;
+pub use definition::defined_abbreviation;
 pub use entry::Entry;
 pub use fault::{StreamFault, bad_abbreviation, bad_block_length, nested_too_deep};
 pub use item::MAX_OPEN;

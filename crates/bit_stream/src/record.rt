@@ -172,20 +172,20 @@ pub fn unabbreviated<'b>(
 pub fn abbreviated<'b>(
     cursor: &mut BitCursor<'b>,
     operands: &mut Vec<u64>,
-    template: &AdmittedAbbreviation,
+    abbreviation: &AdmittedAbbreviation,
     in_blockinfo: bool,
 ) -> Result<RecordOpening<'b>, StreamFault>
     requires { operands.old.items ≡ [] }
-    ensures read { Ran (λ head. record { code = head.code; operands = operands.new.items; blob = head.blob.now }) cursor.new result (abbreviated in_blockinfo template.now cursor.old) }
-    ensures has_blob { IfOk result (λ head. head.has_blob ≡ is_blob template.now.tail) }
+    ensures read { Ran (λ head. record { code = head.code; operands = operands.new.items; blob = head.blob.now }) cursor.new result (abbreviated in_blockinfo abbreviation.now cursor.old) }
+    ensures has_blob { IfOk result (λ head. head.has_blob ≡ is_blob abbreviation.now.tail) }
 {
-    let code = code_by(cursor, template.code)?;
+    let code = code_by(cursor, abbreviation.code)?;
     let names_block = in_blockinfo && code == 1;
-    add_each(cursor, operands, &template.operands, names_block)?;
-    let blob = add_tail(cursor, operands, template.tail, names_block)?;
+    add_each(cursor, operands, &abbreviation.operands, names_block)?;
+    let blob = add_tail(cursor, operands, abbreviation.tail, names_block)?;
     Ok(RecordOpening {
         code,
         blob,
-        has_blob: template.tail.is_blob(),
+        has_blob: abbreviation.tail.is_blob(),
     })
 }

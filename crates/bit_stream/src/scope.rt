@@ -1,11 +1,11 @@
 //! The blocks that are open, and the abbreviations that are in force in them.
 ghost use Rattle.std.specs.Prelude.{◌≡◌, ℕ, ◌<◌, ◌≤◌, ◌^◌, [], ◌++◌, ◌∷◌, length, Some, None, OnOk, option_copied, ◌==◌};
-ghost use Rattle.bit_stream.specs.Scope.{Scope, top_level, template_of};
+ghost use Rattle.bit_stream.specs.Scope.{Scope, top_level, abbreviation_of};
 ghost use Rattle.bit_stream.specs.Writer.{in_force};
 ghost use Rattle.bit_stream.specs.Entry.{is_top, is_blockinfo, entered, block_left, defined, given_for, targeting};
 
 use crate::abbreviation::{AdmittedAbbreviation, ChunkWidth};
-use crate::templates::TemplateList;
+use crate::admitted::AdmittedList;
 use std::alloc::{AllocError, Global};
 use std::collections::BTreeMap;
 use std::marker::Model;
@@ -22,7 +22,7 @@ struct BlockFrame {
     words: u32,
     /// How many of the abbreviations that were given to its id are in force.
     given: u32,
-    own: TemplateList,
+    own: AdmittedList,
     /// In a BLOCKINFO, the block that definitions are for.
     target: Option<u64>,
 }
@@ -40,7 +40,7 @@ impl Model for BlockFrame {
 pub struct Scope {
     block: BlockFrame,
     around: Vec<BlockFrame>,
-    given: BTreeMap<u64, TemplateList>,
+    given: BTreeMap<u64, AdmittedList>,
     alloc: Global,
 }
 
@@ -64,7 +64,7 @@ impl Scope {
                 count_bit: 0,
                 words: 0,
                 given: 0,
-                own: TemplateList::new(alloc),
+                own: AdmittedList::new(alloc),
                 target: None,
             },
             around: Vec::new(alloc),
@@ -143,7 +143,7 @@ impl Scope {
             count_bit,
             words,
             given,
-            own: TemplateList::new(self.alloc),
+            own: AdmittedList::new(self.alloc),
             target: None,
         };
         let outer = mem::replace(&mut self.block, block);
@@ -161,22 +161,22 @@ impl Scope {
     }
 
     /// Adds a definition of the block's own.
-    pub fn define(&mut self, template: AdmittedAbbreviation) -> Result<(), AllocError>
-        ensures { OnOk result (self.new ≡ defined self.old template) }
+    pub fn define(&mut self, abbreviation: AdmittedAbbreviation) -> Result<(), AllocError>
+        ensures { OnOk result (self.new ≡ defined self.old abbreviation) }
     {
         let block = &mut self.block;
-        block.own.push(template)
+        block.own.push(abbreviation)
     }
 
     /// Adds a definition for a block id.
-    pub fn give(&mut self, id: u64, template: AdmittedAbbreviation) -> Result<(), AllocError>
-        ensures { OnOk result (self.new ≡ given_for self.old id template) }
+    pub fn give(&mut self, id: u64, abbreviation: AdmittedAbbreviation) -> Result<(), AllocError>
+        ensures { OnOk result (self.new ≡ given_for self.old id abbreviation) }
     {
         let mut list = match self.given.remove(&id) {
             Some(list) => list,
-            None => TemplateList::new(self.alloc),
+            None => AdmittedList::new(self.alloc),
         };
-        list.push(template)?;
+        list.push(abbreviation)?;
         self.given.insert(id, list)?;
         Ok(())
     }
@@ -208,9 +208,9 @@ impl Scope {
     }
 
     /// The abbreviation of an id from 4 on.
-    pub fn template(&self, id: u64) -> Option<&AdmittedAbbreviation>
+    pub fn abbreviation(&self, id: u64) -> Option<&AdmittedAbbreviation>
         requires { 4 ≤ id }
-        ensures { option_copied result ≡ template_of self.now id }
+        ensures { option_copied result ≡ abbreviation_of self.now id }
     {
         let index = (id - 4) as usize;
         let block = &self.block;

@@ -2,7 +2,7 @@
 ghost use Rattle.std.specs.Prelude.{◌≡◌, ℕ, ◌<◌, ◌≤◌, ◌+◌, ◌++◌, true, List, length, OnOk, IfOk, option_map, IsSome, Some, None};
 ghost use Rattle.bits.specs.Bits.{bits_of};
 ghost use Rattle.std.specs.List.{flat_map};
-ghost use Rattle.bit_stream.specs.Spelling.{chunks, operand_bits, definition_bits, scalar_of, element_scalar, rest_of, template_for, is_letter, letter_number, fits, value_bits, all_fit, all_bits, record_bits, each_fit, each_bits, tail_fits, with_tail, record_fits, with_record};
+ghost use Rattle.bit_stream.specs.Spelling.{chunks, operand_bits, definition_bits, scalar_of, element_scalar, rest_of, abbreviation_for, is_letter, letter_number, fits, value_bits, all_fit, all_bits, record_bits, each_fit, each_bits, tail_fits, with_tail, record_fits, with_record};
 
 use crate::AbbrevOp;
 use crate::abbreviation::{AdmittedAbbreviation, ChunkWidth, FieldWidth, Tail, ValueSpelling};
@@ -120,12 +120,12 @@ fn rest_of(operands: &mut Vec<ValueSpelling>, rest: &[AbbrevOp]) -> Result<Optio
 }
 
 /// The abbreviation that these operands define, where the format admits them.
-#[tactic(auto, unfolding(crate::specs::Spelling::template_for))]
-pub fn template_for(
+#[tactic(auto, unfolding(crate::specs::Spelling::abbreviation_for))]
+pub fn abbreviation_for(
     alloc: Global,
     operands: &[AbbrevOp],
 ) -> Result<Option<AdmittedAbbreviation>, AllocError>
-    ensures { IfOk result (λ template. template ≡ template_for operands.now) }
+    ensures { IfOk result (λ abbreviation. abbreviation ≡ abbreviation_for operands.now) }
 {
     let [first, more @ ..] = operands else {
         return Ok(None);
@@ -237,15 +237,15 @@ fn put_tail(sink: &mut BitSink, tail: &Tail, numbers: &[u64]) -> Result<(), Allo
 #[tactic(auto, unfolding(crate::specs::Spelling::record_fits, crate::specs::Spelling::with_record))]
 pub fn put_abbreviated(
     sink: &mut BitSink,
-    template: &AdmittedAbbreviation,
+    abbreviation: &AdmittedAbbreviation,
     code: u32,
     operands: &[u64],
 ) -> Result<(), AllocError>
-    requires { record_fits (Some template.now) code operands.now ≡ true }
-    ensures { OnOk result (sink.new ≡ with_record (Some template.now) code operands.now sink.old) }
+    requires { record_fits (Some abbreviation.now) code operands.now ≡ true }
+    ensures { OnOk result (sink.new ≡ with_record (Some abbreviation.now) code operands.now sink.old) }
 {
-    let count = template.operands.len();
-    put_value(sink, &template.code, u64::from(code))?;
-    put_each(sink, &template.operands, &operands[..count])?;
-    put_tail(sink, &template.tail, &operands[count..])
+    let count = abbreviation.operands.len();
+    put_value(sink, &abbreviation.code, u64::from(code))?;
+    put_each(sink, &abbreviation.operands, &operands[..count])?;
+    put_tail(sink, &abbreviation.tail, &operands[count..])
 }

@@ -2,14 +2,14 @@
 ghost use Rattle.std.specs.Prelude.{◌≡◌, ℕ, ◌+◌, ◌-◌, ◌<◌, ◌≤◌, ◌^◌, ◌++◌, ◌≢◌, true, false, length, [], IfOk, OnOk, IsSome, Some, List};
 ghost use Rattle.bits.specs.Bits.{bits_of, stream_bits};
 ghost use Rattle.bits.specs.Writing.{vbr_bits, byte_pad};
-ghost use Rattle.bit_stream.specs.Scope.{template_of};
-ghost use Rattle.bit_stream.specs.Spelling.{template_for, record_fits};
-ghost use Rattle.bit_stream.specs.Writer.{begun, write, enter, end_block, define, in_force, with_template, after_record, abbreviated as with_abbreviated, put_record, Writes};
+ghost use Rattle.bit_stream.specs.Scope.{abbreviation_of};
+ghost use Rattle.bit_stream.specs.Spelling.{abbreviation_for, record_fits};
+ghost use Rattle.bit_stream.specs.Writer.{begun, write, enter, end_block, define, in_force, with_abbreviation, after_record, abbreviated as with_abbreviated, put_record, Writes};
 
 use crate::Abbreviation;
 use crate::abbreviation::{AdmittedAbbreviation, ChunkWidth};
 use crate::scope::Scope;
-use crate::spelling::{put_abbreviated, put_definition, put_record, template_for};
+use crate::spelling::{abbreviation_for, put_abbreviated, put_definition, put_record};
 use bits::{BitSink, WholeWords};
 use ir_base::Text;
 use std::alloc::{AllocError, Global};
@@ -141,7 +141,7 @@ impl BitWriter {
     /// the block that the last record of code 1 named.
     pub fn define_abbreviation(&mut self, abbreviation: &Abbreviation) -> Result<u32, AllocError>
         requires open { self.old.spent ≡ false → 0 < length self.old.around }
-        requires admitted { IsSome (template_for abbreviation.now) }
+        requires admitted { IsSome (abbreviation_for abbreviation.now) }
         requires room { self.old.spent ≡ false → in_force self.old.scope + 4 < 2 ^ 32 }
         ensures id { IfOk result (λ id. id ≡ in_force self.old.scope + 4) }
         ensures written { Writes self.old.spent self.old (define self.old abbreviation.now) result self.new }
@@ -151,13 +151,13 @@ impl BitWriter {
         }
         self.spent = true;
         let operands = abbreviation.as_slice();
-        let Some(template) = template_for(self.alloc, operands)? else {
+        let Some(admitted) = abbreviation_for(self.alloc, operands)? else {
             unreachable!()
         };
         put_id(&mut self.bits, self.scope.width(), DEFINE_ABBREV)?;
         put_definition(&mut self.bits, operands)?;
         let id = self.scope.in_force() as u32 + 4;
-        add_definition(&mut self.scope, template)?;
+        add_definition(&mut self.scope, admitted)?;
         self.spent = false;
         Ok(id)
     }
@@ -169,7 +169,7 @@ impl BitWriter {
         requires open { self.old.spent ≡ false → 0 < length self.old.around }
         requires low { 4 ≤ id }
         requires narrow { self.old.spent ≡ false → id < 2 ^ self.old.scope.block.width }
-        requires fits { self.old.spent ≡ false → record_fits (template_of self.old.scope id) code operands.now ≡ true }
+        requires fits { self.old.spent ≡ false → record_fits (abbreviation_of self.old.scope id) code operands.now ≡ true }
         ensures { Writes self.old.spent self.old (with_abbreviated self.old id code operands.now) result self.new }
     {
         if self.spent {
@@ -177,10 +177,10 @@ impl BitWriter {
         }
         self.spent = true;
         self.bits.fixed(u64::from(id), self.scope.width().bits())?;
-        let Some(template) = self.scope.template(u64::from(id)) else {
+        let Some(abbreviation) = self.scope.abbreviation(u64::from(id)) else {
             unreachable!()
         };
-        put_abbreviated(&mut self.bits, template, code, operands)?;
+        put_abbreviated(&mut self.bits, abbreviation, code, operands)?;
         after_record(&mut self.scope, code, operands);
         self.spent = false;
         Ok(())
@@ -224,14 +224,14 @@ fn after_record(scope: &mut Scope, code: u32, operands: &[u64])
 }
 
 /// A definition of the block's own or, in BLOCKINFO, for the block that it names.
-fn add_definition(scope: &mut Scope, template: AdmittedAbbreviation) -> Result<(), AllocError>
-    ensures { OnOk result (scope.new ≡ with_template scope.old (Some template)) }
+fn add_definition(scope: &mut Scope, abbreviation: AdmittedAbbreviation) -> Result<(), AllocError>
+    ensures { OnOk result (scope.new ≡ with_abbreviation scope.old (Some abbreviation)) }
 {
     if !scope.is_blockinfo() {
-        return scope.define(template);
+        return scope.define(abbreviation);
     }
     match scope.target() {
-        Some(id) => scope.give(id, template),
+        Some(id) => scope.give(id, abbreviation),
         None => Ok(()),
     }
 }

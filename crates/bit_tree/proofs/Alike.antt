@@ -5,10 +5,10 @@ use Rattle.std.proofs.lemmas.Bool.{lt-leb}
 use Rattle.std.proofs.lemmas.List.{take_at, get_or_at}
 use Rattle.bits.specs.declared.fault.BitFault.{BitFault}
 use Rattle.bit_stream.specs.Abbreviation.{AdmittedAbbreviation}
-use Rattle.bit_stream.specs.Scope.{Scope, template_of}
+use Rattle.bit_stream.specs.Scope.{Scope, abbreviation_of}
 use Rattle.bit_stream.specs.Record.{names_block}
 use Rattle.bit_stream.specs.Entry.{is_top, is_blockinfo, entered, block_left, with_target, recorded}
-use Rattle.bit_stream.specs.Writer.{with_template, given_count, in_force, naming, after_record}
+use Rattle.bit_stream.specs.Writer.{with_abbreviation, given_count, in_force, naming, after_record}
 use Rattle.bit_stream.specs.declared.abbreviation.Tail.{Tail}
 use Rattle.bit_stream.specs.declared.abbreviation.Tail.TheVariants.{NoTail, Elements, Bytes}
 use Rattle.bit_tree.specs.Written.{NamesFirst, front_of}
@@ -44,8 +44,8 @@ alike_top s v h = ap (λ (n : ℕ). n == 0) h.depth
 pub alike_blockinfo : (s v : Scope) → Alike s v → is_blockinfo s ≡ is_blockinfo v
 alike_blockinfo s v h = rw h.id refl
 
-pub alike_template : (s v : Scope) (id : ℕ) → Alike s v → template_of s id ≡ template_of v id
-alike_template s v id h = rw (h.given, h.own, h.table, h.id) refl
+pub alike_abbreviation : (s v : Scope) (id : ℕ) → Alike s v → abbreviation_of s id ≡ abbreviation_of v id
+alike_abbreviation s v id h = rw (h.given, h.own, h.table, h.id) refl
 
 alike_count : (s v : Scope) (o : Option ℕ) → s.given ≡ v.given → given_count s o ≡ given_count v o
 alike_count s v None h = refl
@@ -56,23 +56,23 @@ alike_in_force s v h = rw (alike_blockinfo s v h, h.target, alike_count s v v.bl
 
 -- definitions
 
-pub alike_defined : (s v : Scope) (t : AdmittedAbbreviation) → Alike s v → Alike (with_template s (Some t)) (with_template v (Some t))
+pub alike_defined : (s v : Scope) (t : AdmittedAbbreviation) → Alike s v → Alike (with_abbreviation s (Some t)) (with_abbreviation v (Some t))
 alike_defined s v t h = by_block (is_blockinfo v) refl where
-  by_target : (o : Option ℕ) → v.block.target ≡ o → is_blockinfo v ≡ true → Alike (with_template s (Some t)) (with_template v (Some t))
+  by_target : (o : Option ℕ) → v.block.target ≡ o → is_blockinfo v ≡ true → Alike (with_abbreviation s (Some t)) (with_abbreviation v (Some t))
   by_target None none info = rw (alike_blockinfo s v h, info, h.target, none) (record { id = h.id; width = h.width; given = h.given; own = h.own; target = refl; table = h.table; depth = h.depth })
   by_target (Some id) some info = rw (alike_blockinfo s v h, info, h.target, some) (record { id = h.id; width = h.width; given = h.given; own = h.own; target = refl; table = rw h.table refl; depth = h.depth })
 
-  by_block : (b : Bool) → is_blockinfo v ≡ b → Alike (with_template s (Some t)) (with_template v (Some t))
+  by_block : (b : Bool) → is_blockinfo v ≡ b → Alike (with_abbreviation s (Some t)) (with_abbreviation v (Some t))
   by_block true info = by_target v.block.target refl info
   by_block false plain = rw (alike_blockinfo s v h, plain) (record { id = h.id; width = h.width; given = h.given; own = rw h.own refl; target = h.target; table = h.table; depth = h.depth })
 
-pub same_defined : (s : Scope) (t : AdmittedAbbreviation) → SameBlocks s (with_template s (Some t))
+pub same_defined : (s : Scope) (t : AdmittedAbbreviation) → SameBlocks s (with_abbreviation s (Some t))
 same_defined s t = by_block (is_blockinfo s) refl where
-  by_target : (o : Option ℕ) → s.block.target ≡ o → is_blockinfo s ≡ true → SameBlocks s (with_template s (Some t))
+  by_target : (o : Option ℕ) → s.block.target ≡ o → is_blockinfo s ≡ true → SameBlocks s (with_abbreviation s (Some t))
   by_target None none info = rw (info, none) (record { around = refl; count_bit = refl; words = refl })
   by_target (Some id) some info = rw (info, some) (record { around = refl; count_bit = refl; words = refl })
 
-  by_block : (b : Bool) → is_blockinfo s ≡ b → SameBlocks s (with_template s (Some t))
+  by_block : (b : Bool) → is_blockinfo s ≡ b → SameBlocks s (with_abbreviation s (Some t))
   by_block true info = by_target s.block.target refl info
   by_block false plain = rw plain (record { around = refl; count_bit = refl; words = refl })
 

@@ -10,9 +10,9 @@ use Rattle.bits.specs.Cursor.{Cursor}
 use Rattle.bits.specs.Reading.{fixed}
 use Rattle.bits.proofs.BitsLaws.{length-bits_of}
 use Rattle.bit_stream.specs.declared.entry.Entry.TheVariants.{Block, EndBlock}
-use Rattle.bit_stream.specs.Scope.{Scope, template_of}
+use Rattle.bit_stream.specs.Scope.{Scope, abbreviation_of}
 use Rattle.bit_stream.specs.Entry.{StreamItem, item, plain, is_top, is_blockinfo, entered, block_left, inside, enter_block, words_since, end_block as read_end}
-use Rattle.bit_stream.specs.Spelling.{chunks, aligned, template_for}
+use Rattle.bit_stream.specs.Spelling.{chunks, aligned, abbreviation_for}
 use Rattle.bit_stream.specs.Writer.{Writer, id_bits, enter, ended, end_block, define, in_force, put_record, abbreviated}
 use Rattle.bit_tree.specs.Stream.{StreamTree, block, values, Stands, Holds, none, of_block}
 use Rattle.bit_stream.proofs.ReadBack.{fixed_reads, vbr_reads}
@@ -244,10 +244,10 @@ comes (a_block id width inside behind) w ready all =
     joined w (end_block (written (enter w id width) inside)) behind (a_block id width inside behind) (λ y. block id width (length (ended (written (enter w id width) inside)) / 32) (tree_of (enter w id width) inside) y) refl refl step (comes behind (end_block (written (enter w id width) inside)) step.ready all.3)
 comes (a_definition ops behind) w ready all =
     let step = define_step w ops ready all.0 in
-    joined w (define w ops) behind (a_definition ops behind) (λ y. with_definition (in_force w.scope + 4) (template_for ops) y) refl refl step (comes behind (define w ops) step.ready all.1)
+    joined w (define w ops) behind (a_definition ops behind) (λ y. with_definition (in_force w.scope + 4) (abbreviation_for ops) y) refl refl step (comes behind (define w ops) step.ready all.1)
 comes (a_record code ns behind) w ready all =
     let step = put_step w code ns ready all.0 in
     joined w (put_record w code ns) behind (a_record code ns behind) (λ y. values 3 code ns false [] y) refl refl step (comes behind (put_record w code ns) step.ready all.1)
 comes (a_short_record id code ns behind) w ready all =
     let step = abbreviated_step w id code ns ready all.0 in
-    joined w (abbreviated w id code ns) behind (a_short_record id code ns behind) (λ y. with_values id (template_of w.scope id) code ns y) refl refl step (comes behind (abbreviated w id code ns) step.ready all.1)
+    joined w (abbreviated w id code ns) behind (a_short_record id code ns behind) (λ y. with_values id (abbreviation_of w.scope id) code ns y) refl refl step (comes behind (abbreviated w id code ns) step.ready all.1)

@@ -18,8 +18,8 @@ use Rattle.bit_stream.specs.declared.definition.Encoding.{Encoding}
 use Rattle.bit_stream.specs.declared.definition.Encoding.TheVariants.{AsField, AsChunks, AsArray, AsLetter, AsBlob}
 use Rattle.bit_stream.specs.declared.definition.DefinitionPart.TheVariants.{Value, End}
 use Rattle.bit_stream.specs.Abbreviation.{AdmittedAbbreviation}
-use Rattle.bit_stream.specs.Definition.{field_width, chunk_width, encoding_of, encoding, scalar_by, literal, first_operand, element_of, element, part_by, part, parts, template}
-use Rattle.bit_stream.specs.Spelling.{chunks, operand_bits, definition_bits, scalar_of, element_scalar, rest_of, template_for}
+use Rattle.bit_stream.specs.Definition.{field_width, chunk_width, encoding_of, encoding, scalar_by, literal, first_operand, element_of, element, part_by, part, parts, defined_abbreviation}
+use Rattle.bit_stream.specs.Spelling.{chunks, operand_bits, definition_bits, scalar_of, element_scalar, rest_of, abbreviation_for}
 use Rattle.bit_stream.specs.Law.{ReadsAs, is_sound}
 use Rattle.bit_tree.specs.Written.{is_number}
 use Rattle.bit_tree.proofs.Values.{Sound, sound_tail}
@@ -280,11 +280,11 @@ rest_at front (Char6 ∷ ops) rest small is = rest_more front Char6 ops rest Let
 -- the whole definition
 pub record Admitted (ops : List AbbrevOp) (t : AdmittedAbbreviation) : Type 0 where
   pub sound : Sound t
-  pub reads : ReadsAs template (definition_bits ops) t
+  pub reads : ReadsAs defined_abbreviation (definition_bits ops) t
 
 admitted_by : (op : AbbrevOp) (ops : List AbbrevOp) (code : ValueSpelling) (rest : List ValueSpelling × Tail) → length ops < 64 → is_number op ≡ true → scalar_of op ≡ Some code → Rest [] ops rest
     → Admitted (op ∷ ops) (record { code = code; operands = rest.0; tail = rest.1 })
-unfolding template definition_bits
+unfolding defined_abbreviation definition_bits
 admitted_by op ops code rest few small is behind = record {
   sound = record { code = scalar_sound op code is; operands = behind.sound refl; tail = behind.tail };
   reads = λ at bits. (
@@ -300,8 +300,8 @@ admitted_by op ops code rest few small is behind = record {
       rw (whole, vbr_reads 5 k (omega arith) (omega arith) at (here ++ (more ++ bits)), some, within, first_reads op code small is (at + length count) (more ++ bits), less, behind.reads (at + length count + length here) bits, place) refl);
 }
 
-pub admitted : (ops : List AbbrevOp) (t : AdmittedAbbreviation) → list_all is_number ops ≡ true → template_for ops ≡ Some t → Admitted ops t
-unfolding template_for
+pub admitted : (ops : List AbbrevOp) (t : AdmittedAbbreviation) → list_all is_number ops ≡ true → abbreviation_for ops ≡ Some t → Admitted ops t
+unfolding abbreviation_for
 admitted [] t small is = absurd (cc)
 admitted (op ∷ ops) t small is = by_count (nat_lt 64 (suc (length ops))) refl where
   by_rest : (code : ValueSpelling) (o : Option (List ValueSpelling × Tail)) → scalar_of op ≡ Some code → rest_of [] ops ≡ o → length ops < 64 → (option_map (λ rest. record { code = code; operands = rest.0; tail = rest.1 }) (rest_of [] ops) ≡ Some t) → Admitted (op ∷ ops) t

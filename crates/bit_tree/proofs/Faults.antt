@@ -58,7 +58,7 @@ ends_behind s c d i p first on = record { pieces = p ∷ on.pieces; scope = on.s
 
 -- the piece that stands here
 pub piece_by : (s : Scope) (c d : Cursor) (i : StreamItem) (e : Option Entry) → item s c ≡ Ok (i, d) → i.entry ≡ e → Goes s c i d → (p : Piece) × Step s c p i d
-piece_by s c d i None h is on = let def = on.template is in (defines (next_id s) def.0, (record { reads = h; is = is }, def.1, refl))
+piece_by s c d i None h is on = let def = on.abbreviation is in (defines (next_id s) def.0, (record { reads = h; is = is }, def.1, refl))
 piece_by s c d i (Some (Block id)) h is on = (begun id i.scope.block.width i.scope.block.words, (record { reads = h; is = is }, refl, refl))
 piece_by s c d i (Some EndBlock) h is on = (ended, record { reads = h; is = is })
 piece_by s c d i (Some (Record code)) h is on = (holds (id_at s c) code i.operands (has_blob_by s (id_at s c)) i.blob, (record { reads = h; is = is }, record { id = refl; operands = refl; has_blob = refl; blob = refl }))

@@ -12,14 +12,14 @@ use Rattle.bit_stream.specs.Answers.{refuse}
 use Rattle.bit_stream.specs.declared.entry.Entry.{Entry}
 use Rattle.bit_stream.specs.declared.entry.Entry.TheVariants.{Block, EndBlock, Record, End}
 use Rattle.bit_stream.specs.Abbreviation.{AdmittedAbbreviation}
-use Rattle.bit_stream.specs.Definition.{template}
+use Rattle.bit_stream.specs.Definition.{defined_abbreviation}
 use Rattle.bit_stream.specs.Record.{Read, unabbreviated}
-use Rattle.bit_stream.specs.Scope.{Scope, BlockFrame, top_level, template_of}
-use Rattle.bit_stream.specs.Entry.{StreamItem, plain, is_top, is_blockinfo, came, entered, block_left, defined, given_for, enter_sized, enter_wide, enter_named, enter_block, words_since, end_block, define_for, define, with_target, recorded, by_template, record_by, inside, item, defined_at}
+use Rattle.bit_stream.specs.Scope.{Scope, BlockFrame, top_level, abbreviation_of}
+use Rattle.bit_stream.specs.Entry.{StreamItem, plain, is_top, is_blockinfo, came, entered, block_left, defined, given_for, enter_sized, enter_wide, enter_named, enter_block, words_since, end_block, define_for, define, with_target, recorded, by_abbreviation, record_by, inside, item, defined_at}
 use Rattle.bit_stream.specs.Writer.{in_force}
 use Rattle.bit_stream.proofs.ReadBack.{all_take}
 use Rattle.bit_tree.proofs.Numbered.{in_force_given, in_force_defined}
-use Rattle.bit_stream.proofs.Forward.{Forward, forward_none, fixed_forward_any, fixed_forward, vbr_forward, template_forward}
+use Rattle.bit_stream.proofs.Forward.{Forward, forward_none, fixed_forward_any, fixed_forward, vbr_forward, abbreviation_forward}
 use Rattle.bit_tree.proofs.Ahead.{align_forward, unabbreviated_forward, abbreviated_forward}
 
 -- an abbreviation id has at least one bit, in each unclosed block
@@ -60,7 +60,7 @@ pub record Leaves (s : Scope) (c : Cursor) (defined : Found AdmittedAbbreviation
   pub depth : depths (length s.around) i.entry (length i.scope.around)
   pub wide : IsWide i.scope
   pub ahead : length d.rest ≤ length c.rest
-  pub template : i.entry ≡ None → (t : AdmittedAbbreviation) × (defined ≡ Ok (t, d))
+  pub abbreviation : i.entry ≡ None → (t : AdmittedAbbreviation) × (defined ≡ Ok (t, d))
   pub next : i.entry ≡ None → in_force i.scope ≡ in_force s + 1
   pub bare : is_record i.entry ≡ false → (i.operands ≡ []) × (i.blob ≡ [])
 
@@ -75,7 +75,7 @@ on_test s c t true x y h k = h refl
 on_test s c t false x y h k = k refl
 
 nearer : (s : Scope) (c d : Cursor) (t : Found AdmittedAbbreviation) (f : Found StreamItem) → length d.rest ≤ length c.rest → Leads s d t f → Leads s c t f
-nearer s c d t (Ok x) le h = let all : Leaves s d t x.0 x.1 = h.is in record { is = record { depth = all.depth; wide = all.wide; ahead = omega (arith, all.ahead); template = all.template; next = all.next; bare = all.bare } }
+nearer s c d t (Ok x) le h = let all : Leaves s d t x.0 x.1 = h.is in record { is = record { depth = all.depth; wide = all.wide; ahead = omega (arith, all.ahead); abbreviation = all.abbreviation; next = all.next; bare = all.bare } }
 nearer s c d t (Err e) le h = refused s c t e
 
 behind : {A : Type 0} (s : Scope) (c : Cursor) (t : Found AdmittedAbbreviation) (f : Found A) (g : A → Cursor → Found StreamItem) → Forward 0 c f → ((x : A) (d : Cursor) → Leads s d t (g x d)) → Leads s c t (f >>= g)
@@ -87,7 +87,7 @@ entered_leaves s c t id width bit words wide low = record {
   depth = omega (arith, length-append s.around (s.block ∷ []));
   wide = record { own = low; around = all_with (λ (f : BlockFrame). 1 ≤ f.width) s.around s.block wide.around wide.own };
   ahead = omega arith;
-  template = λ no. absurd (cc);
+  abbreviation = λ no. absurd (cc);
   next = λ no. absurd (cc);
   bare = λ _. (refl, refl);
 }
@@ -124,7 +124,7 @@ left_leaves s c t wide unclosed =
       depth = omega (arith, length-take-le (length s.around - 1) s.around most);
       wide = record { own = all_at (λ (f : BlockFrame). 1 ≤ f.width) s.around (length s.around - 1) s.block wide.around wide.own; around = all_take (λ (f : BlockFrame). 1 ≤ f.width) (length s.around - 1) s.around wide.around };
       ahead = omega arith;
-      template = λ no. absurd (cc);
+      abbreviation = λ no. absurd (cc);
       next = λ no. absurd (cc);
       bare = λ _. (refl, refl);
     }
@@ -138,18 +138,18 @@ end_block_leaves s t c wide unclosed =
 
 -- a definition
 definition_leaves : (s : Scope) (c : Cursor) (to : AdmittedAbbreviation → Scope) → ((x : AdmittedAbbreviation) → (length (to x).around ≡ length s.around) × IsWide (to x) × (in_force (to x) ≡ in_force s + 1)) → (f : Found AdmittedAbbreviation) → Forward 1 c f → Leads s c f (f >>= λ x d. Ok (plain None (to x), d))
-definition_leaves s c to kept (Ok x) h = let ahead : length x.1.rest + 1 ≤ length c.rest = h.is in record { is = record { depth = (kept x.0).0; wide = (kept x.0).1; ahead = omega arith; template = λ _. (x.0, refl); next = λ _. (kept x.0).2; bare = λ _. (refl, refl) } }
+definition_leaves s c to kept (Ok x) h = let ahead : length x.1.rest + 1 ≤ length c.rest = h.is in record { is = record { depth = (kept x.0).0; wide = (kept x.0).1; ahead = omega arith; abbreviation = λ _. (x.0, refl); next = λ _. (kept x.0).2; bare = λ _. (refl, refl) } }
 definition_leaves s c to kept (Err e) h = refused s c (Err e) e
 
-define_for_leaves : (id : Option ℕ) (bit : ℕ) (s : Scope) (c : Cursor) → IsWide s → is_blockinfo s ≡ true → s.block.target ≡ id → Leads s c (template c) (define_for id bit s c)
+define_for_leaves : (id : Option ℕ) (bit : ℕ) (s : Scope) (c : Cursor) → IsWide s → is_blockinfo s ≡ true → s.block.target ≡ id → Leads s c (defined_abbreviation c) (define_for id bit s c)
 unfolding define_for
-define_for_leaves None bit s c wide info target = refused s c (template c) _
-define_for_leaves (Some id) bit s c wide info target = definition_leaves s c (λ t. given_for s id t) (λ t. (refl, record { own = wide.own; around = wide.around }, in_force_given s id t info target)) (template c) (template_forward c)
+define_for_leaves None bit s c wide info target = refused s c (defined_abbreviation c) _
+define_for_leaves (Some id) bit s c wide info target = definition_leaves s c (λ t. given_for s id t) (λ t. (refl, record { own = wide.own; around = wide.around }, in_force_given s id t info target)) (defined_abbreviation c) (abbreviation_forward c)
 
-define_leaves : (bit : ℕ) (s : Scope) (c : Cursor) → IsWide s → Leads s c (template c) (define bit s c)
+define_leaves : (bit : ℕ) (s : Scope) (c : Cursor) → IsWide s → Leads s c (defined_abbreviation c) (define bit s c)
 unfolding define
-define_leaves bit s c wide = on_test s c (template c) (is_blockinfo s) _ _ (λ info. define_for_leaves s.block.target bit s c wide info refl)
-    (λ other. definition_leaves s c (λ t. defined s t) (λ t. (refl, record { own = wide.own; around = wide.around }, in_force_defined s t other)) (template c) (template_forward c))
+define_leaves bit s c wide = on_test s c (defined_abbreviation c) (is_blockinfo s) _ _ (λ info. define_for_leaves s.block.target bit s c wide info refl)
+    (λ other. definition_leaves s c (λ t. defined s t) (λ t. (refl, record { own = wide.own; around = wide.around }, in_force_defined s t other)) (defined_abbreviation c) (abbreviation_forward c))
 
 -- a record
 abbrev Kept : Scope → Result Scope BitFault → Type 0
@@ -168,26 +168,26 @@ unfolding recorded
 recorded_keeps bit s code operands wide = kept_if s _ (with_target bit s operands) (Ok s) (named_keeps bit s operands wide) (refl, wide)
 
 came_leaves : (s : Scope) (r : Read) (c : Cursor) (t : Found AdmittedAbbreviation) (u : Result Scope BitFault) → Kept s u → Leads s c t (came r c u)
-came_leaves s r c t (Ok u) kept = record { is = record { depth = kept.0; wide = kept.1; ahead = omega arith; template = λ no. absurd (cc); next = λ no. absurd (cc); bare = λ no. absurd (cc) } }
+came_leaves s r c t (Ok u) kept = record { is = record { depth = kept.0; wide = kept.1; ahead = omega arith; abbreviation = λ no. absurd (cc); next = λ no. absurd (cc); bare = λ no. absurd (cc) } }
 came_leaves s r c t (Err e) kept = refused s c t e
 
-by_template_forward : (u : Option AdmittedAbbreviation) (bit : ℕ) (b : Bool) (c : Cursor) → Forward 0 c (by_template u bit b c)
-unfolding by_template
-by_template_forward None bit b c = forward_none 0 c _
-by_template_forward (Some u) bit b c = abbreviated_forward b u c
+by_abbreviation_forward : (u : Option AdmittedAbbreviation) (bit : ℕ) (b : Bool) (c : Cursor) → Forward 0 c (by_abbreviation u bit b c)
+unfolding by_abbreviation
+by_abbreviation_forward None bit b c = forward_none 0 c _
+by_abbreviation_forward (Some u) bit b c = abbreviated_forward b u c
 
 record_by_leaves : (id bit : ℕ) (s : Scope) (t : Found AdmittedAbbreviation) (c : Cursor) → IsWide s → Leads s c t (record_by id bit s c)
 unfolding record_by
 record_by_leaves id bit s t c wide = on_test s c t (id == 3) _ _
     (λ _. behind s c t (unabbreviated (is_blockinfo s) c) (λ r d. came r d (recorded bit s r.code r.operands)) (unabbreviated_forward (is_blockinfo s) c) (λ r d. came_leaves s r d t _ (recorded_keeps bit s r.code r.operands wide)))
-    (λ _. behind s c t (by_template (template_of s id) bit (is_blockinfo s) c) (λ r d. came r d (recorded bit s r.code r.operands)) (by_template_forward (template_of s id) bit (is_blockinfo s) c) (λ r d. came_leaves s r d t _ (recorded_keeps bit s r.code r.operands wide)))
+    (λ _. behind s c t (by_abbreviation (abbreviation_of s id) bit (is_blockinfo s) c) (λ r d. came r d (recorded bit s r.code r.operands)) (by_abbreviation_forward (abbreviation_of s id) bit (is_blockinfo s) c) (λ r d. came_leaves s r d t _ (recorded_keeps bit s r.code r.operands wide)))
 
-inside_leaves : (id bit : ℕ) (s : Scope) (c : Cursor) → IsWide s → is_top s ≡ false → Leads s c (template c) (inside id bit s c)
+inside_leaves : (id bit : ℕ) (s : Scope) (c : Cursor) → IsWide s → is_top s ≡ false → Leads s c (defined_abbreviation c) (inside id bit s c)
 unfolding inside
 inside_leaves id bit s c wide unclosed =
-    on_test s c (template c) (id == 0) (end_block s c) _ (λ _. end_block_leaves s (template c) c wide unclosed) (λ _.
-    on_test s c (template c) (id == 1) (if is_blockinfo s then refuse bit else enter_block s c) _ (λ _. on_test s c (template c) (is_blockinfo s) (refuse bit) (enter_block s c) (λ _. refused s c (template c) _) (λ _. enter_block_leaves s (template c) c wide)) (λ _.
-    on_test s c (template c) (id == 2) (define bit s c) (record_by id bit s c) (λ _. define_leaves bit s c wide) (λ _. record_by_leaves id bit s (template c) c wide)))
+    on_test s c (defined_abbreviation c) (id == 0) (end_block s c) _ (λ _. end_block_leaves s (defined_abbreviation c) c wide unclosed) (λ _.
+    on_test s c (defined_abbreviation c) (id == 1) (if is_blockinfo s then refuse bit else enter_block s c) _ (λ _. on_test s c (defined_abbreviation c) (is_blockinfo s) (refuse bit) (enter_block s c) (λ _. refused s c (defined_abbreviation c) _) (λ _. enter_block_leaves s (defined_abbreviation c) c wide)) (λ _.
+    on_test s c (defined_abbreviation c) (id == 2) (define bit s c) (record_by id bit s c) (λ _. define_leaves bit s c wide) (λ _. record_by_leaves id bit s (defined_abbreviation c) c wide)))
 
 -- the end of the stream
 pub record IsEnd (s : Scope) (c : Cursor) (i : StreamItem) (d : Cursor) : Type 0 where
@@ -200,19 +200,19 @@ pub record Goes (s : Scope) (c : Cursor) (i : StreamItem) (d : Cursor) : Type 0 
   pub depth : depths (length s.around) i.entry (length i.scope.around)
   pub wide : IsWide i.scope
   pub fewer : length d.rest < length c.rest
-  pub template : i.entry ≡ None → (t : AdmittedAbbreviation) × (defined_at s c ≡ Ok (t, d))
+  pub abbreviation : i.entry ≡ None → (t : AdmittedAbbreviation) × (defined_at s c ≡ Ok (t, d))
   pub next : i.entry ≡ None → in_force i.scope ≡ in_force s + 1
   pub bare : is_record i.entry ≡ false → (i.operands ≡ []) × (i.blob ≡ [])
 
 record Facts (s : Scope) (c : Cursor) (f : Found StreamItem) : Type 0 where
   is : IfOk f (λ x. IsEnd s c x.0 x.1 ⊎ Goes s c x.0 x.1)
 
-goes_from : (s : Scope) (c d : Cursor) (f : Found StreamItem) → defined_at s c ≡ template d → length d.rest < length c.rest → Leads s d (template d) f → Facts s c f
-goes_from s c d (Ok x) same less h = let all : Leaves s d (template d) x.0 x.1 = h.is in
-    record { is = inr (record { depth = all.depth; wide = all.wide; fewer = omega (arith, all.ahead); template = λ no. let t = all.template no in (t.0, rw same t.1); next = all.next; bare = all.bare }) }
+goes_from : (s : Scope) (c d : Cursor) (f : Found StreamItem) → defined_at s c ≡ defined_abbreviation d → length d.rest < length c.rest → Leads s d (defined_abbreviation d) f → Facts s c f
+goes_from s c d (Ok x) same less h = let all : Leaves s d (defined_abbreviation d) x.0 x.1 = h.is in
+    record { is = inr (record { depth = all.depth; wide = all.wide; fewer = omega (arith, all.ahead); abbreviation = λ no. let t = all.abbreviation no in (t.0, rw same t.1); next = all.next; bare = all.bare }) }
 goes_from s c d (Err e) same less h = record { is = tt }
 
-behind_id : (s : Scope) (c : Cursor) (f : Found ℕ) (g : ℕ → Cursor → Found StreamItem) → fixed s.block.width c ≡ f → IsWide s → Forward s.block.width c f → ((id : ℕ) (d : Cursor) → Leads s d (template d) (g id d)) → Facts s c (f >>= g)
+behind_id : (s : Scope) (c : Cursor) (f : Found ℕ) (g : ℕ → Cursor → Found StreamItem) → fixed s.block.width c ≡ f → IsWide s → Forward s.block.width c f → ((id : ℕ) (d : Cursor) → Leads s d (defined_abbreviation d) (g id d)) → Facts s c (f >>= g)
 unfolding defined_at
 behind_id s c (Ok x) g is wide h k = let ahead : length x.1.rest + s.block.width ≤ length c.rest = h.is in goes_from s c x.1 (g x.0 x.1) (rw is refl) (omega (arith, wide.own)) (k x.0 x.1)
 behind_id s c (Err e) g is wide h k = record { is = tt }
@@ -229,8 +229,8 @@ item_facts s c wide =
     facts_if s c (is_top s && (length c.rest == 0)) first (fixed s.block.width c >>= more)
     (λ both. let parts = and_parts (is_top s) (length c.rest == 0) both in record { is = inl (record { top = parts.0; none = eqb-true (length c.rest) 0 parts.1; entry = refl }) })
     (behind_id s c (fixed s.block.width c) more refl wide (fixed_forward s.block.width c) (λ id d.
-    on_test s d (template d) (is_top s) (if id == 1 then enter_block s d else refuse c.at) (inside id c.at s d)
-    (λ _. on_test s d (template d) (id == 1) (enter_block s d) (refuse c.at) (λ _. enter_block_leaves s (template d) d wide) (λ _. refused s d (template d) _))
+    on_test s d (defined_abbreviation d) (is_top s) (if id == 1 then enter_block s d else refuse c.at) (inside id c.at s d)
+    (λ _. on_test s d (defined_abbreviation d) (id == 1) (enter_block s d) (refuse c.at) (λ _. enter_block_leaves s (defined_abbreviation d) d wide) (λ _. refused s d (defined_abbreviation d) _))
     (λ unclosed. inside_leaves id c.at s d wide unclosed)))
 
 pub what_stands : (s : Scope) (c d : Cursor) (i : StreamItem) → IsWide s → item s c ≡ Ok (i, d) → IsEnd s c i d ⊎ Goes s c i d

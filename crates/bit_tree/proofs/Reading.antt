@@ -34,7 +34,7 @@ reached (here h is) wide = record { pieces = []; scope = _; cursor = _; way = st
 reached (refused h) wide = record { pieces = []; scope = _; cursor = _; way = stop; silent = refl; stands = h }
 reached {s = s} (behind {i = i} h is more) wide =
     let on = goes None i (record { reads = h; is = is }) refl wide in
-    let def = on.template is in
+    let def = on.abbreviation is in
     let later = reached more on.wide in
     record { pieces = defines (next_id s) def.0 ∷ later.pieces; scope = later.scope; cursor = later.cursor; way = step i (record { reads = h; is = is }, def.1, refl) later.way; silent = later.silent; stands = later.stands }
 

@@ -6,7 +6,7 @@ use Rattle.std.specs.Ordering.{nat_cmp, match_ordering}
 use Rattle.std.specs.Map.{lookup, remove_entry}
 use Rattle.std.specs.BTreeMap.{is_at, insert_entry}
 use Rattle.bit_stream.specs.Abbreviation.{AdmittedAbbreviation}
-use Rattle.bit_stream.specs.Scope.{Scope, top_level, given_to, given_here, template_of}
+use Rattle.bit_stream.specs.Scope.{Scope, top_level, given_to, given_here, abbreviation_of}
 use Rattle.bit_stream.specs.Entry.{defined, given_for}
 use Rattle.bit_tree.proofs.Values.{Sound}
 
@@ -67,8 +67,8 @@ either true x y t is h k = h is
 either false x y t is h k = k is
 
 -- the abbreviation of an id
-pub template_sound : (s : Scope) (id : ℕ) (t : AdmittedAbbreviation) → IsSound s → template_of s id ≡ Some t → Sound t
-template_sound s id t sound is = either (nat_lt (id - 4) s.block.given) (slice_get (given_here s) (id - 4)) (slice_get s.block.own (id - 4 - s.block.given)) t is
+pub abbreviation_sound : (s : Scope) (id : ℕ) (t : AdmittedAbbreviation) → IsSound s → abbreviation_of s id ≡ Some t → Sound t
+abbreviation_sound s id t sound is = either (nat_lt (id - 4) s.block.given) (slice_get (given_here s) (id - 4)) (slice_get s.block.own (id - 4 - s.block.given)) t is
     (at_of (given_here s) (id - 4) t (here_sound s s.block.id refl sound.table))
     (at_of s.block.own (id - 4 - s.block.given) t sound.own)
 

@@ -10,19 +10,19 @@ use Rattle.bit_stream.specs.declared.entry.Entry.TheVariants.{Record}
 use Rattle.bit_stream.specs.declared.abbreviation.AbbrevOp.{AbbrevOp}
 use Rattle.bit_stream.specs.declared.abbreviation.Tail.TheVariants.{NoTail}
 use Rattle.bit_stream.specs.Abbreviation.{AdmittedAbbreviation, is_blob}
-use Rattle.bit_stream.specs.Definition.{template}
+use Rattle.bit_stream.specs.Definition.{defined_abbreviation}
 use Rattle.bit_stream.specs.Record.{Read, names_block, unabbreviated, abbreviated as read_abbreviated}
-use Rattle.bit_stream.specs.Scope.{Scope, template_of}
-use Rattle.bit_stream.specs.Entry.{StreamItem, item, plain, is_top, is_blockinfo, inside, define as read_definition, define_for, record_by, by_template, recorded, id_at, has_blob_by, defined_at}
-use Rattle.bit_stream.specs.Spelling.{definition_bits, template_for, record_bits, record_fits}
-use Rattle.bit_stream.specs.Writer.{Writer, id_bits, with_template, define, in_force, naming, after_record, put_record, abbreviated}
+use Rattle.bit_stream.specs.Scope.{Scope, abbreviation_of}
+use Rattle.bit_stream.specs.Entry.{StreamItem, item, plain, is_top, is_blockinfo, inside, define as read_definition, define_for, record_by, by_abbreviation, recorded, id_at, has_blob_by, defined_at}
+use Rattle.bit_stream.specs.Spelling.{definition_bits, abbreviation_for, record_bits, record_fits}
+use Rattle.bit_stream.specs.Writer.{Writer, id_bits, with_abbreviation, define, in_force, naming, after_record, put_record, abbreviated}
 use Rattle.bit_tree.specs.Stream.{StreamTree, definition, values, next_id, Stands, Holds, of_definition, of_record}
 use Rattle.bit_stream.proofs.ReadBack.{fixed_reads}
 use Rattle.bit_tree.specs.Written.{operands_by, blob_by, with_definition, with_values, MayDefine, MayPut, MayAbbreviate, NamesFirst}
 use Rattle.bit_tree.proofs.Values.{Sound, values_bits, written_is, unabbreviated_reads, abbreviated_reads}
 use Rattle.bit_tree.proofs.Defined.{admitted}
-use Rattle.bit_tree.proofs.Sound.{IsSound, template_sound, defined_sound, given_sound}
-use Rattle.bit_tree.proofs.Alike.{Alike, SameBlocks, alike_top, alike_blockinfo, alike_in_force, alike_template, alike_defined, same_defined, alike_recorded, same_recorded, recorded_is, fine_names}
+use Rattle.bit_tree.proofs.Sound.{IsSound, abbreviation_sound, defined_sound, given_sound}
+use Rattle.bit_tree.proofs.Alike.{Alike, SameBlocks, alike_top, alike_blockinfo, alike_in_force, alike_abbreviation, alike_defined, same_defined, alike_recorded, same_recorded, recorded_is, fine_names}
 
 -- what holds of a writer between its calls
 pub record Ready (v : Scope) : Type 0 where
@@ -74,31 +74,31 @@ some_is : {A : Type 0} (o : Option A) → IsSome o → (x : A) × (o ≡ Some x)
 some_is None h = absurd (cc)
 some_is (Some x) h = (x, refl)
 
-definition_read : (bit : ℕ) (s : Scope) (c d : Cursor) (t : AdmittedAbbreviation) → (is_blockinfo s ≡ true → IsSome s.block.target) → template c ≡ Ok (t, d) → read_definition bit s c ≡ Ok (plain None (with_template s (Some t)), d)
+definition_read : (bit : ℕ) (s : Scope) (c d : Cursor) (t : AdmittedAbbreviation) → (is_blockinfo s ≡ true → IsSome s.block.target) → defined_abbreviation c ≡ Ok (t, d) → read_definition bit s c ≡ Ok (plain None (with_abbreviation s (Some t)), d)
 unfolding read_definition define_for
 definition_read bit s c d t named h = by_block (is_blockinfo s) refl where
-  by_block : (b : Bool) → is_blockinfo s ≡ b → read_definition bit s c ≡ Ok (plain None (with_template s (Some t)), d)
+  by_block : (b : Bool) → is_blockinfo s ≡ b → read_definition bit s c ≡ Ok (plain None (with_abbreviation s (Some t)), d)
   by_block true info = let target = some_is s.block.target (named info) in rw (info, target.1, h) refl
   by_block false other = rw (other, h) refl
 
-ready_defined : (v : Scope) (t : AdmittedAbbreviation) → Ready v → Sound t → Ready (with_template v (Some t))
+ready_defined : (v : Scope) (t : AdmittedAbbreviation) → Ready v → Sound t → Ready (with_abbreviation v (Some t))
 ready_defined v t ready sound = by_block (is_blockinfo v) refl where
-  by_target : (o : Option ℕ) → v.block.target ≡ o → is_blockinfo v ≡ true → Ready (with_template v (Some t))
+  by_target : (o : Option ℕ) → v.block.target ≡ o → is_blockinfo v ≡ true → Ready (with_abbreviation v (Some t))
   by_target None absent info = rw (info, absent) (record { sound = record { own = ready.sound.own; table = ready.sound.table }; wide = ready.wide })
   by_target (Some id) some info = rw (info, some) (let k = given_sound v id t ready.sound sound in record { sound = record { own = k.own; table = k.table }; wide = ready.wide })
 
-  by_block : (b : Bool) → is_blockinfo v ≡ b → Ready (with_template v (Some t))
+  by_block : (b : Bool) → is_blockinfo v ≡ b → Ready (with_abbreviation v (Some t))
   by_block true info = by_target v.block.target refl info
   by_block false other = rw other (record { sound = defined_sound v t ready.sound sound; wide = ready.wide })
 
-scopes_defined : (v : Scope) (t : AdmittedAbbreviation) → (with_template v (Some t)).around ≡ v.around
+scopes_defined : (v : Scope) (t : AdmittedAbbreviation) → (with_abbreviation v (Some t)).around ≡ v.around
 scopes_defined v t = (same_defined v t).around
 
-pub define_step : (w : Writer) (ops : List AbbrevOp) → Ready w.scope → MayDefine w ops → Stepped w (define w ops) (λ x. with_definition (in_force w.scope + 4) (template_for ops) x)
+pub define_step : (w : Writer) (ops : List AbbrevOp) → Ready w.scope → MayDefine w ops → Stepped w (define w ops) (λ x. with_definition (in_force w.scope + 4) (abbreviation_for ops) x)
 unfolding inside defined_at
-define_step w ops ready may = by_template (some_is (template_for ops) may.admitted) where
-  by_template : (t : AdmittedAbbreviation) × (template_for ops ≡ Some t) → Stepped w (define w ops) (λ x. with_definition (in_force w.scope + 4) (template_for ops) x)
-  by_template t =
+define_step w ops ready may = by_abbreviation (some_is (abbreviation_for ops) may.admitted) where
+  by_abbreviation : (t : AdmittedAbbreviation) × (abbreviation_for ops ≡ Some t) → Stepped w (define w ops) (λ x. with_definition (in_force w.scope + 4) (abbreviation_for ops) x)
+  by_abbreviation t =
       let ok = admitted ops t.0 may.numbers t.1 in
       let more = id_bits w 2 ++ definition_bits ops in
       rw t.1 (record {
@@ -118,7 +118,7 @@ define_step w ops ready may = by_template (some_is (template_for ops) may.admitt
             let read = item_inside s c _ 2 top id ∙ definition_read at s _ d t.0 named body in
             let def : defined_at s c ≡ Ok (t.0, d) = rw (id, body) refl in
             record {
-              scope = with_template s (Some t.0);
+              scope = with_abbreviation s (Some t.0);
               alike = alike_defined s w.scope t.0 alike;
               same = same_defined s t.0;
               way = λ behind u g h. (let next : next_id s ≡ in_force w.scope + 4 = rw (alike_in_force s w.scope alike) refl in definition_way _ behind (record { reads = read; is = refl }) def next h);
@@ -166,9 +166,9 @@ put_step w code ns ready may =
           });
     }
 
-abbreviated_item : (id bit : ℕ) (s : Scope) (c d : Cursor) (t : AdmittedAbbreviation) (r : Read) (u : Scope) → 4 ≤ id → template_of s id ≡ Some t → read_abbreviated (is_blockinfo s) t c ≡ Ok (r, d) → recorded bit s r.code r.operands ≡ Ok u
+abbreviated_item : (id bit : ℕ) (s : Scope) (c d : Cursor) (t : AdmittedAbbreviation) (r : Read) (u : Scope) → 4 ≤ id → abbreviation_of s id ≡ Some t → read_abbreviated (is_blockinfo s) t c ≡ Ok (r, d) → recorded bit s r.code r.operands ≡ Ok u
     → inside id bit s c ≡ Ok (record { entry = Some (Record r.code); scope = u; operands = r.operands; blob = r.blob }, d)
-unfolding inside record_by by_template
+unfolding inside record_by by_abbreviation
 abbreviated_item id bit s c d t r u low there h k =
     let a : (id == 0) ≡ false = ne_eqb id 0 (λ e. omega arith) in
     let b : (id == 1) ≡ false = ne_eqb id 1 (λ e. omega arith) in
@@ -181,13 +181,13 @@ unfolding record_fits
 no_fit code ns h = cc
 
 -- a record by this abbreviation
-short_step : (w : Writer) (id code : ℕ) (ns : List ℕ) (t : AdmittedAbbreviation) → template_of w.scope id ≡ Some t → Ready w.scope → MayPut w code ns (operands_by t ns) → 4 ≤ id → id < 2 ^ w.scope.block.width → record_fits (Some t) code ns ≡ true
+short_step : (w : Writer) (id code : ℕ) (ns : List ℕ) (t : AdmittedAbbreviation) → abbreviation_of w.scope id ≡ Some t → Ready w.scope → MayPut w code ns (operands_by t ns) → 4 ≤ id → id < 2 ^ w.scope.block.width → record_fits (Some t) code ns ≡ true
     → Stepped w (abbreviated w id code ns) (λ x. values id code (operands_by t ns) (is_blob t.tail) (blob_by t ns) x)
 short_step w id code ns t there ready may low narrow fits =
     let n = length (w.bits ++ id_bits w id) in
     let body_bits = values_bits n t code ns in
     let more = id_bits w id ++ body_bits in
-    let sound = template_sound w.scope id t ready.sound there in
+    let sound = abbreviation_sound w.scope id t ready.sound there in
     record {
       more = more;
       bits = rw there (written_is t code ns (w.bits ++ id_bits w id)) ∙ append_assoc w.bits (id_bits w id) body_bits;
@@ -204,9 +204,9 @@ short_step w id code ns t there ready may low narrow fits =
           let id_there = id_read s w.scope id at body_bits rest alike narrow in
           let body = rw place at (abbreviated_reads n (is_blockinfo s) t code ns sound fits may.code_small may.numbers (fine_names (names_block (is_blockinfo s) code) (operands_by t ns) names) (at + length (id_bits w id)) rest word) in
           let top : is_top s ≡ false = alike_top s w.scope alike ∙ may.inside in
-          let in_force_here : template_of s id ≡ Some t = alike_template s w.scope id alike ∙ there in
+          let in_force_here : abbreviation_of s id ≡ Some t = alike_abbreviation s w.scope id alike ∙ there in
           let ends : has_blob_by s id ≡ is_blob t.tail = rw (le-leb 4 id low, in_force_here) refl in
-          let read = item_inside s c _ id top id_there ∙ abbreviated_item id at s _ d t _ (after_record s code ns) low (alike_template s w.scope id alike ∙ there) body (recorded_is at s code t.tail (length t.operands) ns names) in
+          let read = item_inside s c _ id top id_there ∙ abbreviated_item id at s _ d t _ (after_record s code ns) low (alike_abbreviation s w.scope id alike ∙ there) body (recorded_is at s code t.tail (length t.operands) ns names) in
           record {
             scope = after_record s code ns;
             alike = alike_recorded s w.scope code ns alike;
@@ -215,11 +215,11 @@ short_step w id code ns t there ready may low narrow fits =
           });
     }
 
-pub abbreviated_step : (w : Writer) (id code : ℕ) (ns : List ℕ) → Ready w.scope → MayAbbreviate w id code ns → Stepped w (abbreviated w id code ns) (λ x. with_values id (template_of w.scope id) code ns x)
-abbreviated_step w id code ns ready may = by_template (template_of w.scope id) refl where
-  by_template : (o : Option AdmittedAbbreviation) → template_of w.scope id ≡ o → Stepped w (abbreviated w id code ns) (λ x. with_values id (template_of w.scope id) code ns x)
-  by_template None absent = absurd (no_fit code ns (rw absent at may.fits))
-  by_template (Some t) there =
+pub abbreviated_step : (w : Writer) (id code : ℕ) (ns : List ℕ) → Ready w.scope → MayAbbreviate w id code ns → Stepped w (abbreviated w id code ns) (λ x. with_values id (abbreviation_of w.scope id) code ns x)
+abbreviated_step w id code ns ready may = by_abbreviation (abbreviation_of w.scope id) refl where
+  by_abbreviation : (o : Option AdmittedAbbreviation) → abbreviation_of w.scope id ≡ o → Stepped w (abbreviated w id code ns) (λ x. with_values id (abbreviation_of w.scope id) code ns x)
+  by_abbreviation None absent = absurd (no_fit code ns (rw absent at may.fits))
+  by_abbreviation (Some t) there =
       let put = rw there at may.put in
       let fits = rw there at may.fits in
       subst (λ (o : Option AdmittedAbbreviation). Stepped w (abbreviated w id code ns) (λ x. with_values id o code ns x)) (sym there) (short_step w id code ns t there ready put may.low may.narrow fits)

@@ -44,26 +44,26 @@ with_one front f ts t d is are = rw (is, are, map_one_more ts t) refl
 
 -- the way over definitions alone
 pub record Defining (s : Scope) (c : Cursor) (definitions : List (List AbbrevOp)) (t : Scope) (d : Cursor) : Type 0 where
-  pub templates : List AdmittedAbbreviation
-  pub are : definitions ≡ map ops_of templates
-  pub way : Path s c (defining (next_id s) templates) t d
-  pub next : next_id t ≡ next_id s + length templates
+  pub abbreviations : List AdmittedAbbreviation
+  pub are : definitions ≡ map ops_of abbreviations
+  pub way : Path s c (defining (next_id s) abbreviations) t d
+  pub next : next_id t ≡ next_id s + length abbreviations
 
 pub over : {s t : Scope} {c d : Cursor} {definitions : List (List AbbrevOp)} → Passed s c definitions t d → IsWide s → Defining s c definitions t d
 unfolding defining
-over {s} start wide = record { templates = []; are = refl; way = stop; next = omega arith }
+over {s} start wide = record { abbreviations = []; are = refl; way = stop; next = omega arith }
 over {s} (more {i = i} before h is) wide =
     let so_far = over before wide in
     let here : Stands _ _ None i _ = record { reads = h; is = is } in
     let on = goes None i here refl (way_wide so_far.way wide) in
-    let def = on.template is in
+    let def = on.abbreviation is in
     let count = on.next is in
     let one : List AdmittedAbbreviation = def.0 ∷ [] in
     record {
-      templates = so_far.templates ++ one;
+      abbreviations = so_far.abbreviations ++ one;
       are = with_one _ _ _ _ _ def.1 so_far.are;
-      way = rw (defining_one_more (next_id s) so_far.templates def.0) (then (defines (next_id s + length so_far.templates) def.0) i so_far.way (here, def.1, so_far.next));
-      next = omega (arith, count, so_far.next, length-append so_far.templates one);
+      way = rw (defining_one_more (next_id s) so_far.abbreviations def.0) (then (defines (next_id s + length so_far.abbreviations) def.0) i so_far.way (here, def.1, so_far.next));
+      next = omega (arith, count, so_far.next, length-append so_far.abbreviations one);
     }
 
 -- the piece of an entry that a reader gave; the end of the stream is none
@@ -104,9 +104,9 @@ step_of s c r new End h told further = absurd (cc)
 
 -- a reader gave an entry: it came over the definitions in front of it, and over that
 pub record On (bytes : List ℕ) (r : StreamReader) (entry : Entry) (new : StreamReader) (ps : List Piece) : Type 0 where
-  pub templates : List AdmittedAbbreviation
-  pub are : new.definitions ≡ map ops_of templates
-  pub came : Came bytes new (ps ++ (defining (next_id r.scope) templates ++ entry_piece entry new))
+  pub abbreviations : List AdmittedAbbreviation
+  pub are : new.definitions ≡ map ops_of abbreviations
+  pub came : Came bytes new (ps ++ (defining (next_id r.scope) abbreviations ++ entry_piece entry new))
 
 pub goes_over : (bytes : List ℕ) (r new : StreamReader) (entry : Entry) (ps : List Piece) → Came bytes r ps → Entered r.stopped r (Ok entry) new → is_end (Some entry) ≡ false → On bytes r entry new ps
 goes_over bytes r new entry ps h e further =
@@ -114,7 +114,7 @@ goes_over bytes r new entry ps h e further =
     let there = all.2 in
     let front = over there.passed (came_wide h) in
     let last = step_of there.scope there.cursor r new entry (record { reads = there.stands; is = refl }) there.told further in
-    record { templates = front.templates; are = front.are; came = record { magic = h.magic; running = all.0; way = join h.way (join front.way last) } }
+    record { abbreviations = front.abbreviations; are = front.are; came = record { magic = h.magic; running = all.0; way = join h.way (join front.way last) } }
 
 pub comes_nearer : (bytes : List ℕ) (r new : StreamReader) (entry : Entry) (ps : List Piece) → Came bytes r ps → Entered r.stopped r (Ok entry) new → is_end (Some entry) ≡ false → length new.cursor.rest < length r.cursor.rest
 comes_nearer bytes r new entry ps h e further =
@@ -139,11 +139,11 @@ comes_to_fault bytes r ps x h next =
 -- the end of the stream: it is a tree, whose pieces are those that were passed
 pub record Whole (bytes : List ℕ) (r new : StreamReader) (entry : Entry) (ps : List Piece) : Type 0 where
   pub last : entry ≡ End
-  pub templates : List AdmittedAbbreviation
-  pub are : new.definitions ≡ map ops_of templates
+  pub abbreviations : List AdmittedAbbreviation
+  pub are : new.definitions ≡ map ops_of abbreviations
   pub tree : StreamTree
   pub stream : Stream bytes tree
-  pub pieces : flat tree ≡ ps ++ defining (next_id r.scope) templates
+  pub pieces : flat tree ≡ ps ++ defining (next_id r.scope) abbreviations
 
 pub comes_to_end : (bytes : List ℕ) (r new : StreamReader) (entry : Entry) (ps : List Piece) → Came bytes r ps → Entered r.stopped r (Ok entry) new → entry ≡ End → Whole bytes r new entry ps
 comes_to_end bytes r new entry ps h e last =
@@ -152,7 +152,7 @@ comes_to_end bytes r new entry ps h e last =
     let way = join h.way front.way in
     let end = ends_at there.scope there.cursor new.cursor (given entry new) (what_stands there.scope there.cursor new.cursor (given entry new) (way_wide way top_wide) there.stands) (ap (λ (x : Entry). Some x) last) in
     let tree = to_stream_of bytes _ there.scope there.cursor h.magic way end.0 end.1 in
-    record { last = last; templates = front.templates; are = front.are; tree = tree.0; stream = tree.1; pieces = tree.2 }
+    record { last = last; abbreviations = front.abbreviations; are = front.are; tree = tree.0; stream = tree.1; pieces = tree.2 }
 
 -- what the reader's call says of a judged stream
 

@@ -10,10 +10,10 @@ use Rattle.bit_stream.specs.declared.abbreviation.Tail.{Tail}
 use Rattle.bit_stream.specs.declared.abbreviation.Tail.TheVariants.{NoTail, Elements, Bytes}
 use Rattle.bit_stream.specs.declared.item.TheConstants.{MAX_OPEN}
 use Rattle.bit_stream.specs.Abbreviation.{AdmittedAbbreviation, is_blob}
-use Rattle.bit_stream.specs.Scope.{template_of}
+use Rattle.bit_stream.specs.Scope.{abbreviation_of}
 use Rattle.bit_stream.specs.Record.{names_block}
 use Rattle.bit_stream.specs.Entry.{is_top, is_blockinfo}
-use Rattle.bit_stream.specs.Spelling.{template_for, record_fits}
+use Rattle.bit_stream.specs.Spelling.{abbreviation_for, record_fits}
 use Rattle.bit_stream.specs.Writer.{Writer, begun, enter, ended, end_block, define, in_force, put_record, abbreviated}
 use Rattle.bit_stream.specs.Law.{AreOperands}
 use Rattle.bit_tree.specs.Stream.{StreamTree, nothing, block, definition, values, Stream}
@@ -74,9 +74,9 @@ tree_of w (a_block id width inside behind) =
     (length (ended (written (enter w id width) inside)) / 32)
     (tree_of (enter w id width) inside)
     (tree_of (end_block (written (enter w id width) inside)) behind)
-tree_of w (a_definition ops behind) = with_definition (in_force w.scope + 4) (template_for ops) (tree_of (define w ops) behind)
+tree_of w (a_definition ops behind) = with_definition (in_force w.scope + 4) (abbreviation_for ops) (tree_of (define w ops) behind)
 tree_of w (a_record code ns behind) = values 3 code ns false [] (tree_of (put_record w code ns) behind)
-tree_of w (a_short_record id code ns behind) = with_values id (template_of w.scope id) code ns (tree_of (abbreviated w id code ns) behind)
+tree_of w (a_short_record id code ns behind) = with_values id (abbreviation_of w.scope id) code ns (tree_of (abbreviated w id code ns) behind)
 
 -- a block: no more are open at once than may be, and none is inside BLOCKINFO
 pub record MayEnter (w : Writer) (id width : ℕ) : Type 0 where
@@ -103,7 +103,7 @@ is_number Blob = true
 pub record MayDefine (w : Writer) (ops : List AbbrevOp) : Type 0 where
   pub inside : is_top w.scope ≡ false
   pub numbers : list_all is_number ops ≡ true
-  pub admitted : IsSome (template_for ops)
+  pub admitted : IsSome (abbreviation_for ops)
   pub named : is_blockinfo w.scope ≡ true → IsSome w.scope.block.target
 
 -- an id of a block is first
@@ -125,10 +125,10 @@ operands_of (Some t) ns = operands_by t ns
 
 -- a record by an abbreviation that it fits
 pub record MayAbbreviate (w : Writer) (id code : ℕ) (ns : List ℕ) : Type 0 where
-  pub put : MayPut w code ns (operands_of (template_of w.scope id) ns)
+  pub put : MayPut w code ns (operands_of (abbreviation_of w.scope id) ns)
   pub low : 4 ≤ id
   pub narrow : id < 2 ^ w.scope.block.width
-  pub fits : record_fits (template_of w.scope id) code ns ≡ true
+  pub fits : record_fits (abbreviation_of w.scope id) code ns ≡ true
 
 -- each call may be made
 unfoldable pub Allowed : Writer → Written → Type 0

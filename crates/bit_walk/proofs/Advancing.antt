@@ -8,7 +8,7 @@ use Rattle.bits.specs.declared.fault.BitFault.{BitFault}
 use Rattle.bit_stream.specs.declared.entry.Entry.{Entry}
 use Rattle.bit_stream.specs.declared.entry.Entry.TheVariants.{Block, EndBlock, Record, End}
 use Rattle.bit_stream.specs.Abbreviation.{AdmittedAbbreviation, is_blob}
-use Rattle.bit_stream.specs.Scope.{Scope, template_of}
+use Rattle.bit_stream.specs.Scope.{Scope, abbreviation_of}
 use Rattle.bit_stream.specs.Entry.{StreamItem, item, id_at, number_of, has_blob_by, defined_at}
 use Rattle.bit_tree.specs.Stream.{next_id}
 use Rattle.bit_tree.specs.Pieces.{Piece, holds}
@@ -64,7 +64,7 @@ step_ended s n c d b ps w left h =
     let x = there s n c d (Some EndBlock) b ps left h in
     (x.others, x.are, x.ahead)
 
-pub step_defined : (s n : Scope) (c d : Cursor) (b : List ℕ) (ps : List Piece) (w : Walker) → Ahead s c ps → Passes s n c d None b → defined_at s c ≡ Ok (w.template, d) → Steps ps (Some (Defined (next_id s))) w n d
+pub step_defined : (s n : Scope) (c d : Cursor) (b : List ℕ) (ps : List Piece) (w : Walker) → Ahead s c ps → Passes s n c d None b → defined_at s c ≡ Ok (w.abbreviation, d) → Steps ps (Some (Defined (next_id s))) w n d
 step_defined s n c d b ps w left h def =
     let x = there s n c d None b ps left h in
     (x.others, rw def at x.are, x.ahead)
@@ -77,13 +77,13 @@ step_over s n c d b ps w left h =
     (end.0, rw scope at end.1)
 
 -- a record by this abbreviation, or without one
-blob_is : (s : Scope) (id : ℕ) (t : AdmittedAbbreviation) → (4 ≤ id → template_of s id ≡ Some t) → (nat_le 4 id && is_blob t.tail) ≡ has_blob_by s id
+blob_is : (s : Scope) (id : ℕ) (t : AdmittedAbbreviation) → (4 ≤ id → abbreviation_of s id ≡ Some t) → (nat_le 4 id && is_blob t.tail) ≡ has_blob_by s id
 blob_is s id t by = elim (cases_Bool (nat_le 4 id)) [
   | inl far ↦ rw (far, by (leb-true 4 id far)) refl
   | inr near ↦ rw near refl
 ]
 
-pub operands_there : (s n : Scope) (c d : Cursor) (code : ℕ) (b : List ℕ) (t : AdmittedAbbreviation) → Passes s n c d (Some (Record code)) b → (4 ≤ id_at s c → template_of s (id_at s c) ≡ Some t) → (ns : List ℕ) × Leaves (operands_at s.block.width t c) ns
+pub operands_there : (s n : Scope) (c d : Cursor) (code : ℕ) (b : List ℕ) (t : AdmittedAbbreviation) → Passes s n c d (Some (Record code)) b → (4 ≤ id_at s c → abbreviation_of s (id_at s c) ≡ Some t) → (ns : List ℕ) × Leaves (operands_at s.block.width t c) ns
 operands_there s n c d code b t h by =
     let x = passes s c d _ h in
     (x.0.operands, operands_left s c d x.0 code t x.1 (ap (λ (i : StreamItem). i.entry) x.2) by)
@@ -91,7 +91,7 @@ operands_there s n c d code b t h by =
 same_holds : (id code : ℕ) (ns ms : List ℕ) (b e : Bool) (k l : List ℕ) → ns ≡ ms → b ≡ e → k ≡ l → holds id code ns b k ≡ holds id code ms e l
 same_holds id code ns ms b e k l h g f = rw (h, g, f) refl
 
-pub step_held : (s n : Scope) (c d : Cursor) (code : ℕ) (b : List ℕ) (t : AdmittedAbbreviation) (ps : List Piece) (w : Walker) → Ahead s c ps → Passes s n c d (Some (Record code)) b → (4 ≤ id_at s c → template_of s (id_at s c) ≡ Some t)
+pub step_held : (s n : Scope) (c d : Cursor) (code : ℕ) (b : List ℕ) (t : AdmittedAbbreviation) (ps : List Piece) (w : Walker) → Ahead s c ps → Passes s n c d (Some (Record code)) b → (4 ≤ id_at s c → abbreviation_of s (id_at s c) ≡ Some t)
     → ((ns : List ℕ) → Leaves (operands_at s.block.width t c) ns → w.operands ≡ ns) → w.has_blob ≡ (nat_le 4 (number_of (fixed s.block.width c)) && is_blob t.tail) → w.blob ≡ b
     → Steps ps (Some (Held (record { id = number_of (fixed s.block.width c); code = code }))) w n d
 unfolding id_at

@@ -12,23 +12,23 @@ use Rattle.bits.specs.Cursor.{Cursor}
 use Rattle.bits.specs.Reading.{vbr, vbr_from}
 use Rattle.bits.proofs.BitsLaws.{length-stream_bits}
 use Rattle.bit_stream.specs.Abbreviation.{AdmittedAbbreviation}
-use Rattle.bit_stream.specs.Definition.{template}
+use Rattle.bit_stream.specs.Definition.{defined_abbreviation}
 use Rattle.bit_stream.specs.Scope.{given_to}
-use Rattle.bit_walk.specs.Starts.{at_bit, IsOn, no_template, or_none, template_at, row_at}
+use Rattle.bit_walk.specs.Starts.{at_bit, IsOn, no_abbreviation, or_none, abbreviation_at, row_at}
 
 -- no definition starts behind the end
-no_definition : (at : ℕ) → or_none (template (record { at = at; rest = [] })) ≡ no_template
-unfolding template vbr vbr_from
+no_definition : (at : ℕ) → or_none (defined_abbreviation (record { at = at; rest = [] })) ≡ no_abbreviation
+unfolding defined_abbreviation vbr vbr_from
 no_definition at = refl
 
-pub beyond : (bytes : List ℕ) (bit : ℕ) → 8 * length bytes < bit → template_at (stream_bits bytes) bit ≡ no_template
+pub beyond : (bytes : List ℕ) (bit : ℕ) → 8 * length bytes < bit → abbreviation_at (stream_bits bytes) bit ≡ no_abbreviation
 beyond bytes bit far =
     let none : drop bit (stream_bits bytes) ≡ [] = drop_all bit (stream_bits bytes) (omega (arith, length-stream_bits bytes)) in
     rw none (no_definition bit)
 
 -- what was read at a place is the definition that starts there
-pub template_here : (bits : List Bool) (c d : Cursor) (t : AdmittedAbbreviation) (start : ℕ) → IsOn bits c → template c ≡ Ok (t, d) → start ≡ c.at → template_at bits start ≡ t
-template_here bits c d t start on h same =
+pub abbreviation_here : (bits : List Bool) (c d : Cursor) (t : AdmittedAbbreviation) (start : ℕ) → IsOn bits c → defined_abbreviation c ≡ Ok (t, d) → start ≡ c.at → abbreviation_at bits start ≡ t
+abbreviation_here bits c d t start on h same =
     let here : at_bit bits c.at ≡ c = λ i. record { at = c.at; rest = sym on i } in
     rw (same, here, h) refl
 
@@ -47,13 +47,13 @@ over_ordering f Less x y z = refl
 over_ordering f Equal x y z = refl
 over_ordering f Greater x y z = refl
 
-pub lookup_at : (bits : List Bool) (test : ℕ → Bool) (rows : List (ℕ × List ℕ)) → lookup test (map (row_at bits) rows) ≡ option_map (map (template_at bits)) (lookup test rows)
+pub lookup_at : (bits : List Bool) (test : ℕ → Bool) (rows : List (ℕ × List ℕ)) → lookup test (map (row_at bits) rows) ≡ option_map (map (abbreviation_at bits)) (lookup test rows)
 lookup_at bits test [] = refl
-lookup_at bits test (e ∷ es) = rw (lookup_at bits test es) (sym (over_cond (option_map (map (template_at bits))) (test e.0) (Some e.1) (lookup test es)))
+lookup_at bits test (e ∷ es) = rw (lookup_at bits test es) (sym (over_cond (option_map (map (abbreviation_at bits))) (test e.0) (Some e.1) (lookup test es)))
 
-pub given_at : (bits : List Bool) (rows : List (ℕ × List ℕ)) (id : ℕ) → given_to (map (row_at bits) rows) id ≡ map (template_at bits) (unwrap_or (lookup (is_at (nat_cmp id)) rows) [])
+pub given_at : (bits : List Bool) (rows : List (ℕ × List ℕ)) (id : ℕ) → given_to (map (row_at bits) rows) id ≡ map (abbreviation_at bits) (unwrap_or (lookup (is_at (nat_cmp id)) rows) [])
 given_at bits rows id = rw (lookup_at bits (is_at (nat_cmp id)) rows) (of_option (lookup (is_at (nat_cmp id)) rows)) where
-  of_option : (o : Option (List ℕ)) → unwrap_or (option_map (map (template_at bits)) o) [] ≡ map (template_at bits) (unwrap_or o [])
+  of_option : (o : Option (List ℕ)) → unwrap_or (option_map (map (abbreviation_at bits)) o) [] ≡ map (abbreviation_at bits) (unwrap_or o [])
   of_option None = refl
   of_option (Some l) = refl
 
@@ -61,7 +61,7 @@ pub remove_at : (bits : List Bool) (test : ℕ → Bool) (rows : List (ℕ × Li
 remove_at bits test [] = refl
 remove_at bits test (e ∷ es) = over_cond (map (row_at bits)) (test e.0) es (e ∷ remove_entry test es) ∙ rw (remove_at bits test es) refl
 
-pub insert_at : (bits : List Bool) (rows : List (ℕ × List ℕ)) (id : ℕ) (l : List ℕ) → map (row_at bits) (insert_entry nat_cmp rows id l) ≡ insert_entry nat_cmp (map (row_at bits) rows) id (map (template_at bits) l)
+pub insert_at : (bits : List Bool) (rows : List (ℕ × List ℕ)) (id : ℕ) (l : List ℕ) → map (row_at bits) (insert_entry nat_cmp rows id l) ≡ insert_entry nat_cmp (map (row_at bits) rows) id (map (abbreviation_at bits) l)
 insert_at bits [] id l = refl
 insert_at bits (e ∷ es) id l = over_ordering (map (row_at bits)) (nat_cmp id e.0) ((id, l) ∷ e ∷ es) ((e.0, l) ∷ es) (e ∷ insert_entry nat_cmp es id l) ∙ rw (insert_at bits es id l) refl
 

@@ -17,10 +17,10 @@ use Rattle.bit_stream.specs.declared.definition.DefinitionPart.{DefinitionPart}
 use Rattle.bit_stream.specs.declared.definition.DefinitionPart.TheVariants.{Value, End as Last}
 use Rattle.bit_stream.specs.Abbreviation.{AdmittedAbbreviation}
 use Rattle.bit_stream.specs.Answers.{refuse}
-use Rattle.bit_stream.specs.Definition.{field_width, chunk_width, encoding_of, encoding, scalar_by, literal, first_operand, element, element_of, part_by, part, parts, by_part, template}
+use Rattle.bit_stream.specs.Definition.{field_width, chunk_width, encoding_of, encoding, scalar_by, literal, first_operand, element, element_of, part_by, part, parts, by_part, defined_abbreviation}
 use Rattle.bit_stream.specs.Record.{Read as Values, value_by, code_by, operand, elements, each, counted, tail_by, names_block, unabbreviated, abbreviated}
-use Rattle.bit_stream.specs.Scope.{Scope, template_of}
-use Rattle.bit_stream.specs.Entry.{StreamItem, plain, is_top, is_blockinfo, came, entered, block_left, enter_sized, enter_wide, enter_named, enter_block, end_block, define_for, define, by_template, record_by, inside, item}
+use Rattle.bit_stream.specs.Scope.{Scope, abbreviation_of}
+use Rattle.bit_stream.specs.Entry.{StreamItem, plain, is_top, is_blockinfo, came, entered, block_left, enter_sized, enter_wide, enter_named, enter_block, end_block, define_for, define, by_abbreviation, record_by, inside, item}
 use Rattle.bit_walk.specs.Starts.{IsOn}
 
 -- reading from a place in these bits stays in them
@@ -145,9 +145,9 @@ parts_on bits zero front c = here bits _ c
 parts_on bits (suc n) front c = bind bits c (part (suc n) c) _ (part_on bits (suc n) c) (λ p d.
     by_part_on bits d p _ _ (λ s. parts_on bits n (front ++ s ∷ []) d) (λ t. here bits _ d))
 
-template_on : (bits : List Bool) (c : Cursor) → On bits c (template c)
-unfolding template
-template_on bits c = bind bits c (vbr 5 c) _ (vbr_on bits 5 c) (λ count d.
+abbreviation_on : (bits : List Bool) (c : Cursor) → On bits c (defined_abbreviation c)
+unfolding defined_abbreviation
+abbreviation_on bits c = bind bits c (vbr 5 c) _ (vbr_on bits 5 c) (λ count d.
     on_if bits d _ _ _ (none bits d _) (bind bits d (first_operand d) _ (first_operand_on bits d) (λ code e.
     bind bits e (parts (count - 1) [] e) _ (parts_on bits (count - 1) [] e) (λ rest f. here bits _ f))))
 
@@ -226,26 +226,26 @@ end_block_on bits s c = bind bits c (align c) _ (align_on bits c) (λ _ d. on_if
 define_for_on : (bits : List Bool) (id : Option ℕ) (bit : ℕ) (s : Scope) (c : Cursor) → On bits c (define_for id bit s c)
 unfolding define_for
 define_for_on bits None bit s c = none bits c _
-define_for_on bits (Some id) bit s c = bind bits c (template c) _ (template_on bits c) (λ t d. here bits _ d)
+define_for_on bits (Some id) bit s c = bind bits c (defined_abbreviation c) _ (abbreviation_on bits c) (λ t d. here bits _ d)
 
 define_on : (bits : List Bool) (bit : ℕ) (s : Scope) (c : Cursor) → On bits c (define bit s c)
 unfolding define
-define_on bits bit s c = on_if bits c _ _ _ (define_for_on bits _ bit s c) (bind bits c (template c) _ (template_on bits c) (λ t d. here bits _ d))
+define_on bits bit s c = on_if bits c _ _ _ (define_for_on bits _ bit s c) (bind bits c (defined_abbreviation c) _ (abbreviation_on bits c) (λ t d. here bits _ d))
 
 came_on : (bits : List Bool) (r : Values) (c : Cursor) (s : Result Scope BitFault) → On bits c (came r c s)
 came_on bits r c (Ok s) = here bits _ c
 came_on bits r c (Err e) = none bits c e
 
-by_template_on : (bits : List Bool) (o : Option AdmittedAbbreviation) (bit : ℕ) (b : Bool) (c : Cursor) → On bits c (by_template o bit b c)
-unfolding by_template
-by_template_on bits None bit b c = none bits c _
-by_template_on bits (Some t) bit b c = abbreviated_on bits b t c
+by_abbreviation_on : (bits : List Bool) (o : Option AdmittedAbbreviation) (bit : ℕ) (b : Bool) (c : Cursor) → On bits c (by_abbreviation o bit b c)
+unfolding by_abbreviation
+by_abbreviation_on bits None bit b c = none bits c _
+by_abbreviation_on bits (Some t) bit b c = abbreviated_on bits b t c
 
 record_by_on : (bits : List Bool) (id bit : ℕ) (s : Scope) (c : Cursor) → On bits c (record_by id bit s c)
 unfolding record_by
 record_by_on bits id bit s c = on_if bits c (id == 3) _ _
     (bind bits c (unabbreviated (is_blockinfo s) c) _ (unabbreviated_on bits (is_blockinfo s) c) (λ r d. came_on bits r d _))
-    (bind bits c (by_template (template_of s id) bit (is_blockinfo s) c) _ (by_template_on bits (template_of s id) bit (is_blockinfo s) c) (λ r d. came_on bits r d _))
+    (bind bits c (by_abbreviation (abbreviation_of s id) bit (is_blockinfo s) c) _ (by_abbreviation_on bits (abbreviation_of s id) bit (is_blockinfo s) c) (λ r d. came_on bits r d _))
 
 inside_on : (bits : List Bool) (id bit : ℕ) (s : Scope) (c : Cursor) → On bits c (inside id bit s c)
 unfolding inside

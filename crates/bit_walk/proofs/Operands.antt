@@ -12,8 +12,8 @@ use Rattle.bit_stream.specs.declared.abbreviation.Tail.{Tail}
 use Rattle.bit_stream.specs.declared.abbreviation.Tail.TheVariants.{NoTail, Elements, Bytes}
 use Rattle.bit_stream.specs.Abbreviation.{AdmittedAbbreviation}
 use Rattle.bit_stream.specs.Record.{Read, value_by, code_by, operand, elements, each, counted, tail_by, names_block, unabbreviated, abbreviated}
-use Rattle.bit_stream.specs.Scope.{Scope, template_of}
-use Rattle.bit_stream.specs.Entry.{StreamItem, is_blockinfo, came, by_template, record_by}
+use Rattle.bit_stream.specs.Scope.{Scope, abbreviation_of}
+use Rattle.bit_stream.specs.Entry.{StreamItem, is_blockinfo, came, by_abbreviation, record_by}
 use Rattle.bit_walk.specs.declared.values.OperandStage.TheVariants.{Fields, Repeats, Over}
 use Rattle.bit_walk.specs.Values.{repeated, listed, left_by, operands_at, Leaves, IsRead, Gave}
 
@@ -234,12 +234,12 @@ came_operands : (r : Read) (c d : Cursor) (u : Result Scope BitFault) (i : Strea
 came_operands r c d (Ok s) i h = let last = found_parts _ i c d h in ap (λ (x : StreamItem). x.operands) (sym last.0)
 came_operands r c d (Err e) i h = absurd (cc)
 
-by_template_left : (o : Option AdmittedAbbreviation) (bit : ℕ) (b : Bool) (t : AdmittedAbbreviation) (c d : Cursor) (r : Read) → o ≡ Some t → by_template o bit b c ≡ Ok (r, d) → Leaves (code_by t.code c >>= λ _ e. listed t.operands t.tail e) r.operands
-unfolding by_template
-by_template_left None bit b t c d r is h = absurd (cc)
-by_template_left (Some u) bit b t c d r is h = let same : u ≡ t = cc in rw same at (abbreviated_left b u c d r h)
+by_abbreviation_left : (o : Option AdmittedAbbreviation) (bit : ℕ) (b : Bool) (t : AdmittedAbbreviation) (c d : Cursor) (r : Read) → o ≡ Some t → by_abbreviation o bit b c ≡ Ok (r, d) → Leaves (code_by t.code c >>= λ _ e. listed t.operands t.tail e) r.operands
+unfolding by_abbreviation
+by_abbreviation_left None bit b t c d r is h = absurd (cc)
+by_abbreviation_left (Some u) bit b t c d r is h = let same : u ≡ t = cc in rw same at (abbreviated_left b u c d r h)
 
-pub record_left : (id bit : ℕ) (s : Scope) (t : AdmittedAbbreviation) (c d : Cursor) (i : StreamItem) → 3 ≤ id → (4 ≤ id → template_of s id ≡ Some t) → record_by id bit s c ≡ Ok (i, d) → Leaves (behind_id id t c) i.operands
+pub record_left : (id bit : ℕ) (s : Scope) (t : AdmittedAbbreviation) (c d : Cursor) (i : StreamItem) → 3 ≤ id → (4 ≤ id → abbreviation_of s id ≡ Some t) → record_by id bit s c ≡ Ok (i, d) → Leaves (behind_id id t c) i.operands
 unfolding record_by
 record_left id bit s t c d i low by h = elim (cases_Bool (id == 3)) [
   | inl is ↦
@@ -248,9 +248,9 @@ record_left id bit s t c d i low by h = elim (cases_Bool (id == 3)) [
       rw (is, same) (unabbreviated_left (is_blockinfo s) c all.1 all.0 all.2)
   | inr differs ↦
       let other : 4 ≤ id = omega (arith, eqb-false id 3 differs) in
-      let all = bound (by_template (template_of s id) bit (is_blockinfo s) c) _ i d (rw differs at h) in
+      let all = bound (by_abbreviation (abbreviation_of s id) bit (is_blockinfo s) c) _ i d (rw differs at h) in
       let same = came_operands all.0 all.1 d _ i all.3 in
-      rw (differs, same) (by_template_left (template_of s id) bit (is_blockinfo s) t c all.1 all.0 (by other) all.2)
+      rw (differs, same) (by_abbreviation_left (abbreviation_of s id) bit (is_blockinfo s) t c all.1 all.0 (by other) all.2)
 ]
 
 -- where its operands begin

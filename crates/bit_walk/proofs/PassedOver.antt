@@ -13,12 +13,12 @@ use Rattle.bit_stream.specs.declared.abbreviation.Tail.{Tail}
 use Rattle.bit_stream.specs.declared.abbreviation.Tail.TheVariants.{NoTail, Elements, Bytes}
 use Rattle.bit_stream.specs.Abbreviation.{AdmittedAbbreviation}
 use Rattle.bit_stream.specs.Answers.{refuse}
-use Rattle.bit_stream.specs.Definition.{template}
+use Rattle.bit_stream.specs.Definition.{defined_abbreviation}
 use Rattle.bit_stream.specs.Record.{Read, value_by, code_by, operand, elements, each, counted, tail_by, names_block, unabbreviated, abbreviated}
-use Rattle.bit_stream.specs.Scope.{Scope, template_of}
-use Rattle.bit_stream.specs.Entry.{StreamItem, plain, is_top, is_blockinfo, came, entered, block_left, defined, given_for, enter_sized, enter_wide, enter_named, enter_block, words_since, end_block, define_for, define, recorded, by_template, record_by, inside, item}
+use Rattle.bit_stream.specs.Scope.{Scope, abbreviation_of}
+use Rattle.bit_stream.specs.Entry.{StreamItem, plain, is_top, is_blockinfo, came, entered, block_left, defined, given_for, enter_sized, enter_wide, enter_named, enter_block, words_since, end_block, define_for, define, recorded, by_abbreviation, record_by, inside, item}
 use Rattle.bit_walk.specs.Passing as passing
-use Rattle.bit_walk.specs.Passing.{Passed, first_of, with_first, is_none, pass_operand, pass_elements, pass_each, pass_counted, pass_tail, pass_unabbreviated, pass_abbreviated, pass_by_template, pass_record, pass_inside, pass_item}
+use Rattle.bit_walk.specs.Passing.{Passed, first_of, with_first, is_none, pass_operand, pass_elements, pass_each, pass_counted, pass_tail, pass_unabbreviated, pass_abbreviated, pass_by_abbreviation, pass_record, pass_inside, pass_item}
 
 -- what is found, by what is kept of it
 abbrev kept : {A B : Type 0} → (A → B) → Found A → Found B
@@ -84,10 +84,10 @@ abbreviated_is b t c = behind passed_of (code_by t.code c) _ _ (λ code d.
     along first_of passed_of (each (names_block b code) t.operands [] d) _ _ _ (each_is (names_block b code) t.operands [] d) (λ front e.
     along first_and passed_of (tail_by (names_block b code) t.tail front e) _ _ _ (tail_is (names_block b code) t.tail front e) (λ all f. refl)))
 
-by_template_is : (o : Option AdmittedAbbreviation) (bit : ℕ) (b : Bool) (c : Cursor) → kept passed_of (by_template o bit b c) ≡ pass_by_template o bit b c
-unfolding by_template pass_by_template
-by_template_is None bit b c = refl
-by_template_is (Some t) bit b c = abbreviated_is b t c
+by_abbreviation_is : (o : Option AdmittedAbbreviation) (bit : ℕ) (b : Bool) (c : Cursor) → kept passed_of (by_abbreviation o bit b c) ≡ pass_by_abbreviation o bit b c
+unfolding by_abbreviation pass_by_abbreviation
+by_abbreviation_is None bit b c = refl
+by_abbreviation_is (Some t) bit b c = abbreviated_is b t c
 
 -- what stands at a place
 
@@ -110,7 +110,7 @@ record_is : (id bit : ℕ) (s : Scope) (c : Cursor) → kept bare (record_by id 
 unfolding record_by pass_record
 record_is id bit s c = either bare (id == 3) _ _ _ _
     (along passed_of bare (unabbreviated (is_blockinfo s) c) _ _ _ (unabbreviated_is (is_blockinfo s) c) (λ r d. came_by bit s r d))
-    (along passed_of bare (by_template (template_of s id) bit (is_blockinfo s) c) _ _ _ (by_template_is (template_of s id) bit (is_blockinfo s) c) (λ r d. came_by bit s r d))
+    (along passed_of bare (by_abbreviation (abbreviation_of s id) bit (is_blockinfo s) c) _ _ _ (by_abbreviation_is (abbreviation_of s id) bit (is_blockinfo s) c) (λ r d. came_by bit s r d))
 
 enter_sized_is : (s : Scope) (id width : ℕ) (c : Cursor) → kept bare (enter_sized s id width c) ≡ enter_sized s id width c
 enter_sized_is s id width c = behind bare (align c) (λ _ d. fixed 32 d >>= λ words e. Ok (plain (Some (Block id)) (entered s id width d.at words), e)) (λ _ d. fixed 32 d >>= λ words e. Ok (plain (Some (Block id)) (entered s id width d.at words), e)) (λ _ d.
@@ -138,8 +138,8 @@ end_block_is s c =
     behind bare (align c) (λ _ d. ended d) (λ _ d. ended d) (λ _ d.
     either bare (words_since s.block.count_bit d.at == s.block.words) (Ok (plain (Some EndBlock) (block_left s), d)) (Err (record { kind = BadBlockLength; bit = s.block.count_bit })) (Ok (plain (Some EndBlock) (block_left s), d)) (Err (record { kind = BadBlockLength; bit = s.block.count_bit })) refl refl)
 
-defined_is : (c : Cursor) (to : AdmittedAbbreviation → Scope) → kept bare (template c >>= λ t d. Ok (plain None (to t), d)) ≡ (template c >>= λ t d. Ok (plain None (to t), d))
-defined_is c to = behind bare (template c) (λ t d. Ok (plain None (to t), d)) (λ t d. Ok (plain None (to t), d)) (λ t d. refl)
+defined_is : (c : Cursor) (to : AdmittedAbbreviation → Scope) → kept bare (defined_abbreviation c >>= λ t d. Ok (plain None (to t), d)) ≡ (defined_abbreviation c >>= λ t d. Ok (plain None (to t), d))
+defined_is c to = behind bare (defined_abbreviation c) (λ t d. Ok (plain None (to t), d)) (λ t d. Ok (plain None (to t), d)) (λ t d. refl)
 
 define_for_is : (id : Option ℕ) (bit : ℕ) (s : Scope) (c : Cursor) → kept bare (define_for id bit s c) ≡ define_for id bit s c
 unfolding define_for

@@ -10,8 +10,8 @@ use Rattle.bit_stream.specs.declared.entry.Entry.{Entry}
 use Rattle.bit_stream.specs.declared.entry.Entry.TheVariants.{Block, EndBlock, Record, End}
 use Rattle.bit_stream.specs.Abbreviation.{AdmittedAbbreviation}
 use Rattle.bit_stream.specs.Answers.{refuse}
-use Rattle.bit_stream.specs.Definition.{template}
-use Rattle.bit_stream.specs.Scope.{Scope, template_of}
+use Rattle.bit_stream.specs.Definition.{defined_abbreviation}
+use Rattle.bit_stream.specs.Scope.{Scope, abbreviation_of}
 use Rattle.bit_stream.specs.Entry.{StreamItem, plain, is_top, is_blockinfo, entered, block_left, enter_sized, enter_wide, enter_named, enter_block, end_block, define_for, define, record_by, inside, item, id_at}
 use Rattle.bit_walk.specs.Values.{operands_at, Leaves}
 use Rattle.bit_walk.proofs.Operands.{bound, found_parts, record_left}
@@ -74,9 +74,9 @@ ended_entry s c d i code h is =
     let entry : Some EndBlock ≡ i.entry = ap (λ (x : StreamItem). x.entry) last.0 in
     never_record EndBlock code (entry ∙ is) refl
 
-templated_entry : (c d : Cursor) (to : AdmittedAbbreviation → Scope) (i : StreamItem) (code : ℕ) → (template c >>= λ t e. Ok (plain None (to t), e)) ≡ Ok (i, d) → i.entry ≡ Some (Record code) → ⊥
-templated_entry c d to i code h is =
-    let def = bound (template c) (λ t e. Ok (plain None (to t), e)) i d h in
+definition_entry : (c d : Cursor) (to : AdmittedAbbreviation → Scope) (i : StreamItem) (code : ℕ) → (defined_abbreviation c >>= λ t e. Ok (plain None (to t), e)) ≡ Ok (i, d) → i.entry ≡ Some (Record code) → ⊥
+definition_entry c d to i code h is =
+    let def = bound (defined_abbreviation c) (λ t e. Ok (plain None (to t), e)) i d h in
     let last = found_parts (plain None (to def.0)) i def.1 d def.3 in
     let entry : None ≡ i.entry = ap (λ (x : StreamItem). x.entry) last.0 in
     never_some code (entry ∙ is)
@@ -84,13 +84,13 @@ templated_entry c d to i code h is =
 defined_for_entry : (id : Option ℕ) (bit : ℕ) (s : Scope) (c d : Cursor) (i : StreamItem) (code : ℕ) → define_for id bit s c ≡ Ok (i, d) → i.entry ≡ Some (Record code) → ⊥
 unfolding define_for
 defined_for_entry None bit s c d i code h is = absurd (cc)
-defined_for_entry (Some id) bit s c d i code h is = templated_entry c d _ i code h is
+defined_for_entry (Some id) bit s c d i code h is = definition_entry c d _ i code h is
 
 defined_entry : (bit : ℕ) (s : Scope) (c d : Cursor) (i : StreamItem) (code : ℕ) → define bit s c ≡ Ok (i, d) → i.entry ≡ Some (Record code) → ⊥
 unfolding define
 defined_entry bit s c d i code h is = elim (cases_Bool (is_blockinfo s)) [
   | inl info ↦ defined_for_entry s.block.target bit s c d i code (rw info at h) is
-  | inr other ↦ templated_entry c d _ i code (rw other at h) is
+  | inr other ↦ definition_entry c d _ i code (rw other at h) is
 ]
 
 record_inside : (id bit : ℕ) (s : Scope) (c d : Cursor) (i : StreamItem) (code : ℕ) → inside id bit s c ≡ Ok (i, d) → i.entry ≡ Some (Record code) → (3 ≤ id) × (record_by id bit s c ≡ Ok (i, d))
@@ -142,10 +142,10 @@ record_behind s c d i code h is =
     ]
 
 -- by the abbreviation of its id, or without one
-pub operands_left : (s : Scope) (c d : Cursor) (i : StreamItem) (code : ℕ) (t : AdmittedAbbreviation) → item s c ≡ Ok (i, d) → i.entry ≡ Some (Record code) → (4 ≤ id_at s c → template_of s (id_at s c) ≡ Some t) → Leaves (operands_at s.block.width t c) i.operands
+pub operands_left : (s : Scope) (c d : Cursor) (i : StreamItem) (code : ℕ) (t : AdmittedAbbreviation) → item s c ≡ Ok (i, d) → i.entry ≡ Some (Record code) → (4 ≤ id_at s c → abbreviation_of s (id_at s c) ≡ Some t) → Leaves (operands_at s.block.width t c) i.operands
 unfolding operands_at id_at
 operands_left s c d i code t h is by =
     let there = record_behind s c d i code h is in
-    let of_id : 4 ≤ there.id → template_of s there.id ≡ Some t = rw there.reads at by in
+    let of_id : 4 ≤ there.id → abbreviation_of s there.id ≡ Some t = rw there.reads at by in
     let left = record_left there.id c.at s t there.place d i there.low of_id there.stands in
     (left.0, rw there.reads left.1)

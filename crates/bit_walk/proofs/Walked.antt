@@ -25,15 +25,15 @@ use Rattle.bit_walk.proofs.Ways.{left_is, tree_ahead}
 
 -- the piece of an event does not look at what is left
 same_piece : (event : Event) (spent other : Bool) (left more : List Piece) (operands : List ℕ) (has_blob : Bool) (blob : List ℕ) (t : AdmittedAbbreviation)
-    → piece_of event (record { spent = spent; left = left; operands = operands; has_blob = has_blob; blob = blob; template = t }) ≡ piece_of event (record { spent = other; left = more; operands = operands; has_blob = has_blob; blob = blob; template = t })
+    → piece_of event (record { spent = spent; left = left; operands = operands; has_blob = has_blob; blob = blob; abbreviation = t }) ≡ piece_of event (record { spent = other; left = more; operands = operands; has_blob = has_blob; blob = blob; abbreviation = t })
 same_piece (Begun head) spent other left more operands has_blob blob t = refl
 same_piece Ended spent other left more operands has_blob blob t = refl
 same_piece (Defined id) spent other left more operands has_blob blob t = refl
 same_piece (Held head) spent other left more operands has_blob blob t = refl
 
 pub walked : (old : Walker) (event : Option Event) (s n : Scope) (c d : Cursor) (operands : List ℕ) (has_blob : Bool) (blob : List ℕ) (t : AdmittedAbbreviation) → IsAhead s c → old.left ≡ pieces_left false s c
-    → ((ps : List Piece) → Ahead s c ps → Steps ps event (record { spent = false; left = []; operands = operands; has_blob = has_blob; blob = blob; template = t }) n d)
-    → Advanced old event (record { spent = false; left = pieces_left false n d; operands = operands; has_blob = has_blob; blob = blob; template = t })
+    → ((ps : List Piece) → Ahead s c ps → Steps ps event (record { spent = false; left = []; operands = operands; has_blob = has_blob; blob = blob; abbreviation = t }) n d)
+    → Advanced old event (record { spent = false; left = pieces_left false n d; operands = operands; has_blob = has_blob; blob = blob; abbreviation = t })
 walked old None s n c d operands has_blob blob t ahead left steps =
     let last = steps ahead.0 ahead.1 in
     (refl, left ∙ (left_is ahead.1 ∙ last.0), left_is last.1)
@@ -56,14 +56,14 @@ pub read_list : (found : Found (List ℕ)) (ns : List ℕ) → Leaves found ns �
 read_list found ns h = rw h.1 refl
 
 abbrev at_record : Bool → List Piece → Found (List ℕ) → Bool → List ℕ → AdmittedAbbreviation → Walker
-at_record spent left found has_blob blob t = record { spent = spent; left = left; operands = operands_left spent found; has_blob = has_blob; blob = blob; template = t }
+at_record spent left found has_blob blob t = record { spent = spent; left = left; operands = operands_left spent found; has_blob = has_blob; blob = blob; abbreviation = t }
 
 took_unspent : (left : List Piece) (found later : Found (List ℕ)) (has_blob : Bool) (blob : List ℕ) (t : AdmittedAbbreviation) (answer : Option ℕ) → IsRead found → ((ns : List ℕ) → Leaves found ns → Gave ns answer later) → Took (at_record false left found has_blob blob t) answer (at_record false left later has_blob blob t)
 took_unspent left found later has_blob blob t None read gave =
     let last = gave read.0 read.1 in
     let none : list_of found ≡ [] = read_list found read.0 read.1 ∙ last.0 in
     let later_none : list_of later ≡ list_of found = read_list later [] last.1 ∙ sym none in
-    (none, ap (λ (l : List ℕ). record { spent = false; left = left; operands = l; has_blob = has_blob; blob = blob; template = t }) later_none)
+    (none, ap (λ (l : List ℕ). record { spent = false; left = left; operands = l; has_blob = has_blob; blob = blob; abbreviation = t }) later_none)
 took_unspent left found later has_blob blob t (Some n) read gave =
     let next = gave read.0 read.1 in
     (read_list found read.0 read.1 ∙ (next.1 ∙ rw (read_list later next.0 next.2) refl), refl)
@@ -85,12 +85,12 @@ left_at old spent s c d left unspent same = left ∙ (ap (λ (b : Bool). pieces_
 
 pub plain_walked : (old : Walker) (spent : Bool) (s : Scope) (c inner : Cursor) (head : PlainHead) (t : AdmittedAbbreviation) → spent ≡ false → is_top s ≡ false → is_blockinfo s ≡ false → head_at s.block.width c ≡ Ok (Some head, inner)
     → IsAhead s c → old.left ≡ pieces_left false s c
-    → Advanced old (Some (Held (record { id = 3; code = head.code }))) (record { spent = spent; left = pieces_left spent s (place_past inner (repeated (Chunks 6) head.count inner)); operands = operands_left spent (repeated (Chunks 6) head.count inner); has_blob = false; blob = []; template = t })
+    → Advanced old (Some (Held (record { id = 3; code = head.code }))) (record { spent = spent; left = pieces_left spent s (place_past inner (repeated (Chunks 6) head.count inner)); operands = operands_left spent (repeated (Chunks 6) head.count inner); has_blob = false; blob = []; abbreviation = t })
 plain_walked old spent s c inner head t unspent within other h ahead left =
     let after = place_past inner (repeated (Chunks 6) head.count inner) in
     let operands = list_of (repeated (Chunks 6) head.count inner) in
     let given : Option Event = Some (Held (record { id = 3; code = head.code })) in
-    rw unspent (walked old given s s c after operands false [] t ahead left (λ ps along. plain_step s c inner head ps (record { spent = false; left = []; operands = operands; has_blob = false; blob = []; template = t }) within other h along refl refl refl))
+    rw unspent (walked old given s s c after operands false [] t ahead left (λ ps along. plain_step s c inner head ps (record { spent = false; left = []; operands = operands; has_blob = false; blob = []; abbreviation = t }) within other h along refl refl refl))
 
 -- one that waits is taken
 

@@ -13,7 +13,7 @@ use Rattle.bit_stream.specs.declared.abbreviation.Tail.TheVariants.{NoTail, Elem
 use Rattle.bit_stream.specs.Abbreviation.{AdmittedAbbreviation}
 use Rattle.bit_stream.specs.Answers.{refuse}
 use Rattle.bit_stream.specs.Record.{value_by, code_by, names_block}
-use Rattle.bit_stream.specs.Scope.{Scope, template_of}
+use Rattle.bit_stream.specs.Scope.{Scope, abbreviation_of}
 use Rattle.bit_stream.specs.Entry.{StreamItem, plain, is_top, is_blockinfo, targeting, enter_block, end_block, define}
 
 -- the first of some operands
@@ -83,9 +83,9 @@ pass_abbreviated info t c = code_by t.code c >>= λ code d.
     pass_tail (names_block info code) t.tail front e >>= λ all f. Ok (record { code = code; first = all.0; blob = all.1 }, f)
 
 -- by an abbreviation that may not be there, whose id stands at this bit
-unfoldable pub pass_by_template : Option AdmittedAbbreviation → ℕ → Bool → Cursor → Found Passed
-pass_by_template None bit info c = refuse bit
-pass_by_template (Some t) bit info c = pass_abbreviated info t c
+unfoldable pub pass_by_abbreviation : Option AdmittedAbbreviation → ℕ → Bool → Cursor → Found Passed
+pass_by_abbreviation None bit info c = refuse bit
+pass_by_abbreviation (Some t) bit info c = pass_abbreviated info t c
 
 -- in BLOCKINFO a record of code 1 names a block by its first operand
 abbrev pub with_target : ℕ → Scope → Option ℕ → Result Scope BitFault
@@ -105,7 +105,7 @@ came r c (Err fault) = Err fault
 unfoldable pub pass_record : ℕ → ℕ → Scope → Cursor → Found StreamItem
 pass_record id bit s c =
     if id == 3 then (pass_unabbreviated (is_blockinfo s) c >>= λ r d. came r d (recorded bit s r.code r.first))
-    else (pass_by_template (template_of s id) bit (is_blockinfo s) c >>= λ r d. came r d (recorded bit s r.code r.first))
+    else (pass_by_abbreviation (abbreviation_of s id) bit (is_blockinfo s) c >>= λ r d. came r d (recorded bit s r.code r.first))
 
 -- the entry with that abbreviation id, inside a block, is passed over
 unfoldable pub pass_inside : ℕ → ℕ → Scope → Cursor → Found StreamItem
@@ -133,5 +133,5 @@ abbrev pub IsBy : Option Entry → AdmittedAbbreviation → Found AdmittedAbbrev
 IsBy None t defined d s id = defined ≡ Ok (t, d)
 IsBy (Some (Block block)) t defined d s id = Unit {0}
 IsBy (Some EndBlock) t defined d s id = Unit {0}
-IsBy (Some (Record code)) t defined d s id = 4 ≤ id → template_of s id ≡ Some t
+IsBy (Some (Record code)) t defined d s id = 4 ≤ id → abbreviation_of s id ≡ Some t
 IsBy (Some End) t defined d s id = Unit {0}

@@ -4,7 +4,7 @@ use Rattle.bits.specs.Cursor.{Cursor, Found}
 use Rattle.bit_stream.specs.declared.abbreviation.ValueSpelling.TheVariants.{Known}
 use Rattle.bit_stream.specs.declared.abbreviation.Tail.TheVariants.{NoTail}
 use Rattle.bit_stream.specs.Abbreviation.{AdmittedAbbreviation}
-use Rattle.bit_stream.specs.Definition.{template}
+use Rattle.bit_stream.specs.Definition.{defined_abbreviation}
 use Rattle.bit_stream.specs.Scope.{BlockFrame, Scope}
 
 -- a bit of a stream, and what is left from there on
@@ -16,17 +16,17 @@ abbrev pub IsOn : List Bool → Cursor → Type 0
 IsOn bits c = c.rest ≡ drop c.at bits
 
 -- the abbreviation of no operands, for a bit where no definition starts
-abbrev pub no_template : AdmittedAbbreviation
-no_template = record { code = Known 0; operands = []; tail = NoTail }
+abbrev pub no_abbreviation : AdmittedAbbreviation
+no_abbreviation = record { code = Known 0; operands = []; tail = NoTail }
 
 -- the abbreviation that was read, or one of nothing
 abbrev pub or_none : Found AdmittedAbbreviation → AdmittedAbbreviation
 or_none (Ok x) = x.0
-or_none (Err fault) = no_template
+or_none (Err fault) = no_abbreviation
 
 -- the abbreviation whose definition starts at a bit, behind its id
-abbrev pub template_at : List Bool → ℕ → AdmittedAbbreviation
-template_at bits bit = or_none (template (at_bit bits bit))
+abbrev pub abbreviation_at : List Bool → ℕ → AdmittedAbbreviation
+abbreviation_at bits bit = or_none (defined_abbreviation (at_bit bits bit))
 
 -- an open block, with the starts of its own definitions
 pub record StartFrame : Type 0 where
@@ -40,11 +40,11 @@ pub record StartFrame : Type 0 where
 
 -- a block whose abbreviations are read where their definitions start
 abbrev pub frame_at : List Bool → StartFrame → BlockFrame
-frame_at bits f = record { id = f.id; width = f.width; count_bit = f.count_bit; words = f.words; given = f.given; own = map (template_at bits) f.own; target = f.target }
+frame_at bits f = record { id = f.id; width = f.width; count_bit = f.count_bit; words = f.words; given = f.given; own = map (abbreviation_at bits) f.own; target = f.target }
 
 -- the abbreviations that a block id was given, read where their definitions start
 abbrev pub row_at : List Bool → ℕ × List ℕ → ℕ × List AdmittedAbbreviation
-row_at bits row = (row.0, map (template_at bits) row.1)
+row_at bits row = (row.0, map (abbreviation_at bits) row.1)
 
 -- the open blocks of a stream, and its bits
 pub record Opened : Type 0 where
@@ -64,4 +64,4 @@ with_scope o s = record { bits = o.bits; scope = s }
 
 -- what is kept of an abbreviation that was read is that one
 abbrev pub IsKept : List Bool → Option ℕ → AdmittedAbbreviation → Type 0
-IsKept bits start t = IfSome start (λ bit. t ≡ template_at bits bit)
+IsKept bits start t = IfSome start (λ bit. t ≡ abbreviation_at bits bit)

@@ -14,13 +14,13 @@ pub record Walker : Type 0 where
   pub operands : List ℕ
   pub has_blob : Bool
   pub blob : List ℕ
-  pub template : AdmittedAbbreviation
+  pub abbreviation : AdmittedAbbreviation
 
 -- what an event is, by what the walker holds behind it
 abbrev pub piece_of : Event → Walker → Piece
 piece_of (Begun block) w = begun block.id block.width block.words
 piece_of Ended w = ended
-piece_of (Defined id) w = defines id w.template
+piece_of (Defined id) w = defines id w.abbreviation
 piece_of (Held head) w = holds head.id head.code w.operands w.has_blob w.blob
 
 -- the next entry or definition was given and the others are left, or none was left

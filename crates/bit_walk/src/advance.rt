@@ -49,23 +49,23 @@ fn plain<'b>(event: Option<Event>, inner: BitCursor<'b>) -> Arrival<'b>
 fn held<'b>(
     place: BitCursor<'b>,
     width: ChunkWidth,
-    template: &AdmittedAbbreviation,
+    abbreviation: &AdmittedAbbreviation,
     code: u32,
     blob: &'b [u8],
 ) -> Arrival<'b>
-    requires { IsRead (operands_at width template.now place) }
+    requires { IsRead (operands_at width abbreviation.now place) }
     ensures event { result.event ≡ Some (Held (record { id = number_of (fixed width place.entry); code = code })) }
-    ensures left { (ns : List ℕ) → Leaves (operands_at width template.now place.entry) ns → Leaves (left_by result.stage template.now result.inner) ns }
-    ensures has_blob { result.has_blob ≡ (nat_le 4 (number_of (fixed width place.entry)) && is_blob template.now.tail) }
+    ensures left { (ns : List ℕ) → Leaves (operands_at width abbreviation.now place.entry) ns → Leaves (left_by result.stage abbreviation.now result.inner) ns }
+    ensures has_blob { result.has_blob ≡ (nat_le 4 (number_of (fixed width place.entry)) && is_blob abbreviation.now.tail) }
     ensures blob { result.blob.now ≡ blob.now }
 {
     let mut inner = place;
-    let start = begin(&mut inner, width, template);
+    let start = begin(&mut inner, width, abbreviation);
     Arrival {
         event: Some(Event::Held(RecordHead { id: start.id, code })),
         inner,
         stage: start.stage,
-        has_blob: start.id >= 4 && template.tail.is_blob(),
+        has_blob: start.id >= 4 && abbreviation.tail.is_blob(),
         blob,
     }
 }
@@ -77,10 +77,10 @@ fn pass_judged<'b>(
     kept: &mut Kept,
     alloc: Global,
 ) -> Result<WalkItem<'b>, AllocError>
-    requires { IsPlace scope.old cursor.old kept.old.start kept.old.template }
+    requires { IsPlace scope.old cursor.old kept.old.start kept.old.abbreviation }
     ensures read { IfOk result (λ item. pass_item scope.old.scope cursor.old ≡ Ok (record { entry = item.entry; scope = scope.new.scope; operands = []; blob = item.blob.now }, cursor.new)) }
-    ensures by { IfOk result (λ item. IsBy item.entry kept.new.template (defined_at scope.old.scope cursor.old) cursor.new scope.old.scope (id_at scope.old.scope cursor.old)) }
-    ensures place { IfOk result (λ _. IsPlace scope.new cursor.new kept.new.start kept.new.template) }
+    ensures by { IfOk result (λ item. IsBy item.entry kept.new.abbreviation (defined_at scope.old.scope cursor.old) cursor.new scope.old.scope (id_at scope.old.scope cursor.old)) }
+    ensures place { IfOk result (λ _. IsPlace scope.new cursor.new kept.new.start kept.new.abbreviation) }
 {
     match pass_item(cursor, scope, kept, alloc) {
         Ok(item) => Ok(item),
@@ -97,10 +97,10 @@ pub fn advance<'b>(
     kept: &mut Kept,
     alloc: Global,
 ) -> Result<Arrival<'b>, AllocError>
-    requires { IsPlace scope.old cursor.old kept.old.start kept.old.template }
-    ensures place { IfOk result (λ _. IsPlace scope.new cursor.new kept.new.start kept.new.template) }
-    ensures read { IfOk result (λ a. IsRead (left_by a.stage kept.new.template a.inner)) }
-    ensures gave { IfOk result (λ a. (ps : List Piece) → Ahead scope.old.scope cursor.old ps → Steps ps a.event (record { spent = false; left = []; operands = list_of (left_by a.stage kept.new.template a.inner); has_blob = a.has_blob; blob = a.blob.now; template = kept.new.template }) scope.new.scope cursor.new) }
+    requires { IsPlace scope.old cursor.old kept.old.start kept.old.abbreviation }
+    ensures place { IfOk result (λ _. IsPlace scope.new cursor.new kept.new.start kept.new.abbreviation) }
+    ensures read { IfOk result (λ a. IsRead (left_by a.stage kept.new.abbreviation a.inner)) }
+    ensures gave { IfOk result (λ a. (ps : List Piece) → Ahead scope.old.scope cursor.old ps → Steps ps a.event (record { spent = false; left = []; operands = list_of (left_by a.stage kept.new.abbreviation a.inner); has_blob = a.has_blob; blob = a.blob.now; abbreviation = kept.new.abbreviation }) scope.new.scope cursor.new) }
 {
     let place = cursor.copy();
     let width = scope.width();
@@ -115,7 +115,7 @@ pub fn advance<'b>(
             Entry::Record(code) => Ok(held(
                 place,
                 width,
-                kept.template.template(),
+                kept.abbreviation.admitted(),
                 code,
                 item.blob,
             )),

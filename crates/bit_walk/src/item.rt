@@ -1,20 +1,20 @@
 //! What stands at a place of a stream, passed over without holding its operands.
 ghost use Rattle.std.specs.Prelude.{◌≡◌, ℕ, ◌<◌, ◌≤◌, ◌^◌, [], length, Some, None, Ok, IfOk};
 ghost use Rattle.bit_stream.specs.Answers.{Ran};
-ghost use Rattle.bit_stream.specs.Scope.{template_of};
+ghost use Rattle.bit_stream.specs.Scope.{abbreviation_of};
 ghost use Rattle.bit_stream.specs.Entry.{is_blockinfo, StreamItem, plain, enter_block, end_block, define_for, define, id_at, defined_at};
-ghost use Rattle.bit_stream.specs.Definition.{template};
+ghost use Rattle.bit_stream.specs.Definition.{defined_abbreviation};
 ghost use Rattle.bit_stream.specs.declared.entry.Entry.TheVariants.{Block, EndBlock, Record};
 ghost use Rattle.bit_walk.specs.Starts.{IsOn, IsKept};
-ghost use Rattle.bit_walk.specs.Passing.{Passed, recorded, settled, pass_by_template, pass_record, pass_inside, pass_item, IsBy};
+ghost use Rattle.bit_walk.specs.Passing.{Passed, recorded, settled, pass_by_abbreviation, pass_record, pass_inside, pass_item, IsBy};
 
 use crate::passing::{Passed, pass_abbreviated, pass_unabbreviated};
 use crate::plain::{PlainPassed, plain_passed};
 use crate::scope::WalkScope;
 use crate::starts::Kept;
 use bit_stream::{
-    ChunkWidth, Entry, MAX_OPEN, StreamFault, bad_abbreviation, bad_block_length, nested_too_deep,
-    template,
+    ChunkWidth, Entry, MAX_OPEN, StreamFault, bad_abbreviation, bad_block_length,
+    defined_abbreviation, nested_too_deep,
 };
 use bits::{BitCursor, BitFault};
 use std::alloc::Global;
@@ -84,8 +84,12 @@ fn end_block(cursor: &mut BitCursor, scope: &mut WalkScope) -> Result<(), Stream
 }
 
 /// The definition in front, which is kept. It answers the bit where it starts.
-fn next_template(cursor: &mut BitCursor, kept: &mut Kept, alloc: Global) -> Result<u32, StreamFault>
-    ensures read { Ran (λ _. kept.new.template) cursor.new result (template cursor.old) }
+fn next_definition(
+    cursor: &mut BitCursor,
+    kept: &mut Kept,
+    alloc: Global,
+) -> Result<u32, StreamFault>
+    ensures read { Ran (λ _. kept.new.abbreviation) cursor.new result (defined_abbreviation cursor.old) }
     ensures start { IfOk result (λ start. start ≡ cursor.old.at) }
     ensures kept { IfOk result (λ start. kept.new.start ≡ Some start) }
 {
@@ -93,13 +97,13 @@ fn next_template(cursor: &mut BitCursor, kept: &mut Kept, alloc: Global) -> Resu
     if bit >= 1 << 32 {
         return Err(StreamFault::Memory);
     }
-    let template = template(cursor, alloc)?;
-    kept.keep(alloc, bit as u32, template)?;
+    let abbreviation = defined_abbreviation(cursor, alloc)?;
+    kept.keep(alloc, bit as u32, abbreviation)?;
     Ok(bit as u32)
 }
 
 /// DEFINE_ABBREV behind its id, which stands at this bit.
-#[tactic(auto, using(crate::proofs::Definitions::template_here), unfolding(bit_stream::specs::Entry::define, bit_stream::specs::Entry::define_for))]
+#[tactic(auto, using(crate::proofs::Definitions::abbreviation_here), unfolding(bit_stream::specs::Entry::define, bit_stream::specs::Entry::define_for))]
 #[inline(never)]
 fn define(
     cursor: &mut BitCursor,
@@ -111,17 +115,17 @@ fn define(
     requires on { IsOn scope.old.bits cursor.old }
     ensures read { Ran (λ _. plain None scope.new.scope) cursor.new result (define bit scope.old.scope cursor.old) }
     ensures bits { IfOk result (λ _. scope.new.bits ≡ scope.old.bits) }
-    ensures by { IfOk result (λ _. template cursor.old ≡ Ok (kept.new.template, cursor.new)) }
-    ensures kept { IfOk result (λ _. IsKept scope.old.bits kept.new.start kept.new.template) }
+    ensures by { IfOk result (λ _. defined_abbreviation cursor.old ≡ Ok (kept.new.abbreviation, cursor.new)) }
+    ensures kept { IfOk result (λ _. IsKept scope.old.bits kept.new.start kept.new.abbreviation) }
 {
     if scope.is_blockinfo() {
         let Some(id) = scope.target() else {
             return Err(bad_abbreviation(bit).into());
         };
-        let start = next_template(cursor, kept, alloc)?;
+        let start = next_definition(cursor, kept, alloc)?;
         scope.give(id, start)?;
     } else {
-        let start = next_template(cursor, kept, alloc)?;
+        let start = next_definition(cursor, kept, alloc)?;
         scope.define(start)?;
     }
     Ok(())
@@ -143,8 +147,8 @@ fn recorded(scope: &mut WalkScope, code: u32, first: Option<u64>, bit: u64) -> R
 }
 
 /// A record by the abbreviation of an id from 4 on, which stands at this bit.
-#[tactic(auto, unfolding(crate::specs::Passing::pass_by_template))]
-fn by_template<'b>(
+#[tactic(auto, unfolding(crate::specs::Passing::pass_by_abbreviation))]
+fn by_abbreviation<'b>(
     cursor: &mut BitCursor<'b>,
     scope: &WalkScope<'b>,
     kept: &mut Kept,
@@ -153,15 +157,15 @@ fn by_template<'b>(
     bit: u64,
 ) -> Result<Passed<'b>, StreamFault>
     requires id_in { 4 ≤ id }
-    requires kept { IsKept scope.now.bits kept.old.start kept.old.template }
-    ensures read { Ran (λ passed. record { code = passed.code; first = passed.first; blob = passed.blob.now }) cursor.new result (pass_by_template (template_of scope.now.scope id) bit (is_blockinfo scope.now.scope) cursor.old) }
-    ensures by { IfOk result (λ _. template_of scope.now.scope id ≡ Some kept.new.template) }
-    ensures kept { IfOk result (λ _. IsKept scope.now.bits kept.new.start kept.new.template) }
+    requires kept { IsKept scope.now.bits kept.old.start kept.old.abbreviation }
+    ensures read { Ran (λ passed. record { code = passed.code; first = passed.first; blob = passed.blob.now }) cursor.new result (pass_by_abbreviation (abbreviation_of scope.now.scope id) bit (is_blockinfo scope.now.scope) cursor.old) }
+    ensures by { IfOk result (λ _. abbreviation_of scope.now.scope id ≡ Some kept.new.abbreviation) }
+    ensures kept { IfOk result (λ _. IsKept scope.now.bits kept.new.start kept.new.abbreviation) }
 {
     match scope.start_of(id) {
         Some(start) => {
             kept.fetch(alloc, scope.bytes(), start)?;
-            Ok(pass_abbreviated(cursor, &kept.template, scope.is_blockinfo())?)
+            Ok(pass_abbreviated(cursor, &kept.abbreviation, scope.is_blockinfo())?)
         }
         None => Err(bad_abbreviation(bit).into()),
     }
@@ -179,16 +183,16 @@ fn record<'b>(
     bit: u64,
 ) -> Result<Passed<'b>, StreamFault>
     requires id_in { 3 ≤ id }
-    requires kept { IsKept scope.old.bits kept.old.start kept.old.template }
+    requires kept { IsKept scope.old.bits kept.old.start kept.old.abbreviation }
     ensures read { Ran (λ passed. record { entry = Some (Record passed.code); scope = scope.new.scope; operands = []; blob = passed.blob.now }) cursor.new result (pass_record id bit scope.old.scope cursor.old) }
     ensures bits { IfOk result (λ _. scope.new.bits ≡ scope.old.bits) }
-    ensures by { IfOk result (λ _. 4 ≤ id → template_of scope.old.scope id ≡ Some kept.new.template) }
-    ensures kept { IfOk result (λ _. IsKept scope.old.bits kept.new.start kept.new.template) }
+    ensures by { IfOk result (λ _. 4 ≤ id → abbreviation_of scope.old.scope id ≡ Some kept.new.abbreviation) }
+    ensures kept { IfOk result (λ _. IsKept scope.old.bits kept.new.start kept.new.abbreviation) }
 {
     let passed = if id == 3 {
         pass_unabbreviated(cursor, scope.is_blockinfo())?
     } else {
-        by_template(cursor, scope, kept, alloc, id, bit)?
+        by_abbreviation(cursor, scope, kept, alloc, id, bit)?
     };
     recorded(scope, passed.code, passed.first, bit)?;
     Ok(passed)
@@ -205,11 +209,11 @@ fn inside<'b>(
     bit: u64,
 ) -> Result<WalkItem<'b>, StreamFault>
     requires on { IsOn scope.old.bits cursor.old }
-    requires kept { IsKept scope.old.bits kept.old.start kept.old.template }
+    requires kept { IsKept scope.old.bits kept.old.start kept.old.abbreviation }
     ensures read { Ran (λ item. record { entry = item.entry; scope = scope.new.scope; operands = []; blob = item.blob.now }) cursor.new result (pass_inside id bit scope.old.scope cursor.old) }
     ensures bits { IfOk result (λ _. scope.new.bits ≡ scope.old.bits) }
-    ensures by { IfOk result (λ item. IsBy item.entry kept.new.template (template cursor.old) cursor.new scope.old.scope id) }
-    ensures kept { IfOk result (λ _. IsKept scope.old.bits kept.new.start kept.new.template) }
+    ensures by { IfOk result (λ item. IsBy item.entry kept.new.abbreviation (defined_abbreviation cursor.old) cursor.new scope.old.scope id) }
+    ensures kept { IfOk result (λ _. IsKept scope.old.bits kept.new.start kept.new.abbreviation) }
 {
     match id {
         0 => {
@@ -241,11 +245,11 @@ pub fn pass_item<'b>(
     alloc: Global,
 ) -> Result<WalkItem<'b>, StreamFault>
     requires on { IsOn scope.old.bits cursor.old }
-    requires kept { IsKept scope.old.bits kept.old.start kept.old.template }
+    requires kept { IsKept scope.old.bits kept.old.start kept.old.abbreviation }
     ensures read { Ran (λ item. record { entry = item.entry; scope = scope.new.scope; operands = []; blob = item.blob.now }) cursor.new result (pass_item scope.old.scope cursor.old) }
     ensures bits { IfOk result (λ _. scope.new.bits ≡ scope.old.bits) }
-    ensures by { IfOk result (λ item. IsBy item.entry kept.new.template (defined_at scope.old.scope cursor.old) cursor.new scope.old.scope (id_at scope.old.scope cursor.old)) }
-    ensures kept { IfOk result (λ _. IsKept scope.old.bits kept.new.start kept.new.template) }
+    ensures by { IfOk result (λ item. IsBy item.entry kept.new.abbreviation (defined_at scope.old.scope cursor.old) cursor.new scope.old.scope (id_at scope.old.scope cursor.old)) }
+    ensures kept { IfOk result (λ _. IsKept scope.old.bits kept.new.start kept.new.abbreviation) }
 {
     let bit = cursor.at();
     if scope.depth() > 0 {
@@ -270,10 +274,10 @@ pub fn pass_next<'b>(
     alloc: Global,
 ) -> Result<WalkItem<'b>, StreamFault>
     requires on { IsOn scope.old.bits cursor.old }
-    requires kept { IsKept scope.old.bits kept.old.start kept.old.template }
+    requires kept { IsKept scope.old.bits kept.old.start kept.old.abbreviation }
     ensures read { Ran (λ item. record { entry = item.entry; scope = scope.new.scope; operands = []; blob = item.blob.now }) cursor.new result (pass_item scope.old.scope cursor.old) }
     ensures bits { IfOk result (λ _. scope.new.bits ≡ scope.old.bits) }
-    ensures kept { IfOk result (λ _. IsKept scope.old.bits kept.new.start kept.new.template) }
+    ensures kept { IfOk result (λ _. IsKept scope.old.bits kept.new.start kept.new.abbreviation) }
 {
     match plain_passed(cursor, scope) {
         Some(passed) => {

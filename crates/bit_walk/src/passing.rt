@@ -212,11 +212,11 @@ pub fn pass_abbreviated<'b>(
 ) -> Result<Passed<'b>, BitFault>
     ensures { found_at (λ passed. record { code = passed.code; first = passed.first; blob = passed.blob.now }) result cursor.new ≡ pass_abbreviated in_blockinfo spelling.now cursor.old }
 {
-    let template = spelling.template();
-    let code = code_by(cursor, template.code)?;
+    let abbreviation = spelling.admitted();
+    let code = code_by(cursor, abbreviation.code)?;
     let names_block = in_blockinfo && code == 1;
     let front = pass_fields(cursor, spelling, names_block)?;
-    let rest = pass_tail(cursor, template.tail, names_block, front)?;
+    let rest = pass_tail(cursor, abbreviation.tail, names_block, front)?;
     Ok(Passed {
         code,
         first: rest.first,

@@ -1,11 +1,11 @@
 //! The blocks that are open, and where the abbreviations that are in force in them are defined.
 ghost use Rattle.std.specs.Prelude.{◌≡◌, ℕ, ◌<◌, ◌≤◌, ◌^◌, length, OnOk, option_map, slice_get};
 ghost use Rattle.bits.specs.Bits.{stream_bits};
-ghost use Rattle.bit_stream.specs.Scope.{top_level, given_to, given_here, template_of};
+ghost use Rattle.bit_stream.specs.Scope.{top_level, given_to, given_here, abbreviation_of};
 ghost use Rattle.bit_stream.specs.Writer.{in_force};
 ghost use Rattle.bit_stream.specs.Entry.{is_blockinfo, entered, block_left, defined, given_for, targeting};
 ghost use Rattle.bit_stream.specs.declared.reader.TheConstants.{LARGEST_STREAM};
-ghost use Rattle.bit_walk.specs.Starts.{Opened, with_scope, template_at};
+ghost use Rattle.bit_walk.specs.Starts.{Opened, with_scope, abbreviation_at};
 
 use crate::starts::StartList;
 use bit_stream::ChunkWidth;
@@ -186,7 +186,7 @@ impl<'b> WalkScope<'b> {
 
     /// Adds a definition of the block's own, which starts at this bit.
     pub fn define(&mut self, start: u32) -> Result<(), AllocError>
-        ensures { OnOk result (self.new ≡ with_scope self.old (defined self.old.scope (template_at self.old.bits start))) }
+        ensures { OnOk result (self.new ≡ with_scope self.old (defined self.old.scope (abbreviation_at self.old.bits start))) }
     {
         let block = &mut self.block;
         block.own.push(start)
@@ -194,7 +194,7 @@ impl<'b> WalkScope<'b> {
 
     /// Adds a definition for a block id, which starts at this bit.
     pub fn give(&mut self, id: u64, start: u32) -> Result<(), AllocError>
-        ensures { OnOk result (self.new ≡ with_scope self.old (given_for self.old.scope id (template_at self.old.bits start))) }
+        ensures { OnOk result (self.new ≡ with_scope self.old (given_for self.old.scope id (abbreviation_at self.old.bits start))) }
     {
         self.given.give(id, start)?;
         Ok(())
@@ -225,7 +225,7 @@ impl<'b> WalkScope<'b> {
 
     /// Where the abbreviation with this index is defined, among those that were given to the block's id.
     fn given_start(&self, index: usize) -> Option<u32>
-        ensures { option_map (template_at self.now.bits) result ≡ slice_get (given_here self.now.scope) index }
+        ensures { option_map (abbreviation_at self.now.bits) result ≡ slice_get (given_here self.now.scope) index }
     {
         let block = &self.block;
         match block.id {
@@ -237,7 +237,7 @@ impl<'b> WalkScope<'b> {
     /// Where the abbreviation of an id from 4 on is defined.
     pub fn start_of(&self, id: u64) -> Option<u32>
         requires { 4 ≤ id }
-        ensures { option_map (template_at self.now.bits) result ≡ template_of self.now.scope id }
+        ensures { option_map (abbreviation_at self.now.bits) result ≡ abbreviation_of self.now.scope id }
     {
         let index = (id - 4) as usize;
         let block = &self.block;

@@ -1,6 +1,6 @@
 //! An abbreviation that was read, and which of its operands a record by it spells with bits.
 ghost use Rattle.std.specs.Prelude.{◌≡◌, ◌++◌, filter, IfOk, OnOk};
-ghost use Rattle.bit_walk.specs.Starts.{no_template};
+ghost use Rattle.bit_walk.specs.Starts.{no_abbreviation};
 ghost use Rattle.bit_walk.specs.Spelling.{has_bits, spelled_out};
 
 use bit_stream::{AdmittedAbbreviation, Tail, ValueSpelling};
@@ -11,7 +11,7 @@ use std::marker::Model;
 /// where these stand, so nothing of them has to be read where only the first operand is wanted.
 #[derive(Drop)]
 pub struct WalkedSpelling {
-    template: AdmittedAbbreviation,
+    abbreviation: AdmittedAbbreviation,
     read: Vec<ValueSpelling>,
 }
 
@@ -22,35 +22,35 @@ impl Model for WalkedSpelling {
 
     ghost Value = { AdmittedAbbreviation };
 
-    ghost view = { λ s. s.template };
+    ghost view = { λ s. s.abbreviation };
 
-    ghost invariant = { λ s. s.read.items ≡ spelled_out s.template.operands };
+    ghost invariant = { λ s. s.read.items ≡ spelled_out s.abbreviation.operands };
 }
 
 impl WalkedSpelling {
     /// That of an abbreviation.
-    pub fn new(alloc: Global, template: AdmittedAbbreviation) -> Result<Self, AllocError>
-        ensures { IfOk result (λ spelling. spelling ≡ template) }
+    pub fn new(alloc: Global, abbreviation: AdmittedAbbreviation) -> Result<Self, AllocError>
+        ensures { IfOk result (λ spelling. spelling ≡ abbreviation) }
     {
-        let read = spelled_out(alloc, &template.operands)?;
-        Ok(WalkedSpelling { template, read })
+        let read = spelled_out(alloc, &abbreviation.operands)?;
+        Ok(WalkedSpelling { abbreviation, read })
     }
 
     /// The abbreviation of no operands.
     pub fn nothing(alloc: Global) -> Self
-        ensures { result ≡ no_template }
+        ensures { result ≡ no_abbreviation }
     {
         WalkedSpelling {
-            template: no_template(alloc),
+            abbreviation: no_abbreviation(alloc),
             read: Vec::new(alloc),
         }
     }
 
     /// The abbreviation.
-    pub fn template(&self) -> &AdmittedAbbreviation
+    pub fn admitted(&self) -> &AdmittedAbbreviation
         ensures { result.now ≡ self.now }
     {
-        &self.template
+        &self.abbreviation
     }
 
     /// The spellings of its operands, but for the literals behind the first.
@@ -62,8 +62,8 @@ impl WalkedSpelling {
 }
 
 /// The abbreviation of no operands.
-pub fn no_template(alloc: Global) -> AdmittedAbbreviation
-    ensures { result ≡ no_template }
+pub fn no_abbreviation(alloc: Global) -> AdmittedAbbreviation
+    ensures { result ≡ no_abbreviation }
 {
     AdmittedAbbreviation {
         code: ValueSpelling::Known(0),

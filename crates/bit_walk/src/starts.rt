@@ -2,10 +2,10 @@
 ghost use Rattle.std.specs.Prelude.{◌≡◌, ◌≤◌, ◌^◌, ◌<◌, ◌*◌, [], ◌++◌, ◌∷◌, Bool, List, Some, length, OnOk, IfOk, slice_get};
 ghost use Rattle.bits.specs.Bits.{stream_bits};
 ghost use Rattle.bit_stream.specs.declared.reader.TheConstants.{LARGEST_STREAM};
-ghost use Rattle.bit_walk.specs.Starts.{no_template, template_at, IsKept};
+ghost use Rattle.bit_walk.specs.Starts.{no_abbreviation, abbreviation_at, IsKept};
 
-use crate::spelling::{WalkedSpelling, no_template};
-use bit_stream::{AdmittedAbbreviation, StreamFault, template};
+use crate::spelling::{WalkedSpelling, no_abbreviation};
+use bit_stream::{AdmittedAbbreviation, StreamFault, defined_abbreviation};
 use bits::BitCursor;
 use std::alloc::{AllocError, Global};
 use std::marker::Model;
@@ -68,18 +68,22 @@ impl StartList {
 
 /// The abbreviation whose definition starts at a bit, or that of no operands where none does.
 #[tactic(auto, using(crate::proofs::Definitions::beyond))]
-fn template_at(alloc: Global, bytes: &[u8], bit: u32) -> Result<AdmittedAbbreviation, AllocError>
+fn abbreviation_at(
+    alloc: Global,
+    bytes: &[u8],
+    bit: u32,
+) -> Result<AdmittedAbbreviation, AllocError>
     requires { length bytes.now ≤ LARGEST_STREAM }
-    ensures { IfOk result (λ template. template ≡ template_at (stream_bits bytes.now) bit) }
+    ensures { IfOk result (λ abbreviation. abbreviation ≡ abbreviation_at (stream_bits bytes.now) bit) }
 {
     let bit = u64::from(bit);
     if bit > 8 * bytes.len() as u64 {
-        return Ok(no_template(alloc));
+        return Ok(no_abbreviation(alloc));
     }
     let mut cursor = BitCursor::at_bit(bytes, bit);
-    match template(&mut cursor, alloc) {
-        Ok(template) => Ok(template),
-        Err(StreamFault::Bit(_)) => Ok(no_template(alloc)),
+    match defined_abbreviation(&mut cursor, alloc) {
+        Ok(abbreviation) => Ok(abbreviation),
+        Err(StreamFault::Bit(_)) => Ok(no_abbreviation(alloc)),
         Err(StreamFault::Memory) => Err(AllocError),
     }
 }
@@ -88,34 +92,34 @@ fn template_at(alloc: Global, bytes: &[u8], bit: u32) -> Result<AdmittedAbbrevia
 #[derive(Drop)]
 pub struct Kept {
     pub start: Option<u32>,
-    pub template: WalkedSpelling,
+    pub abbreviation: WalkedSpelling,
 }
 
 impl Kept {
     /// None was read.
     pub fn nothing(alloc: Global) -> Self
-        ensures { (bits : List Bool) → IsKept bits result.start result.template }
+        ensures { (bits : List Bool) → IsKept bits result.start result.abbreviation }
     {
         Kept {
             start: None,
-            template: WalkedSpelling::nothing(alloc),
+            abbreviation: WalkedSpelling::nothing(alloc),
         }
     }
 
     /// Keeps the abbreviation whose definition starts at a bit.
     pub fn fetch(&mut self, alloc: Global, bytes: &[u8], bit: u32) -> Result<(), AllocError>
         requires short { length bytes.now ≤ LARGEST_STREAM }
-        requires kept { IsKept (stream_bits bytes.now) self.old.start self.old.template }
-        ensures kept { OnOk result (IsKept (stream_bits bytes.now) self.new.start self.new.template) }
-        ensures fetched { OnOk result (self.new.template ≡ template_at (stream_bits bytes.now) bit) }
+        requires kept { IsKept (stream_bits bytes.now) self.old.start self.old.abbreviation }
+        ensures kept { OnOk result (IsKept (stream_bits bytes.now) self.new.start self.new.abbreviation) }
+        ensures fetched { OnOk result (self.new.abbreviation ≡ abbreviation_at (stream_bits bytes.now) bit) }
     {
         if let Some(start) = self.start {
             if start == bit {
                 return Ok(());
             }
         }
-        let template = template_at(alloc, bytes, bit)?;
-        self.keep(alloc, bit, template)
+        let abbreviation = abbreviation_at(alloc, bytes, bit)?;
+        self.keep(alloc, bit, abbreviation)
     }
 
     /// Keeps an abbreviation whose definition starts at this bit.
@@ -123,14 +127,14 @@ impl Kept {
         &mut self,
         alloc: Global,
         bit: u32,
-        template: AdmittedAbbreviation,
+        abbreviation: AdmittedAbbreviation,
     ) -> Result<(), AllocError>
         ensures start { OnOk result (self.new.start ≡ Some bit) }
-        ensures template { OnOk result (self.new.template ≡ template) }
+        ensures abbreviation { OnOk result (self.new.abbreviation ≡ abbreviation) }
     {
         *self = Kept {
             start: Some(bit),
-            template: WalkedSpelling::new(alloc, template)?,
+            abbreviation: WalkedSpelling::new(alloc, abbreviation)?,
         };
         Ok(())
     }

@@ -52,10 +52,10 @@ fn next_repeated(
     stage: &mut OperandStage,
     scalar: &ValueSpelling,
     left: u64,
-    template: &AdmittedAbbreviation,
+    abbreviation: &AdmittedAbbreviation,
 ) -> Option<u64>
     requires { IsRead (repeated scalar.now left cursor.old) }
-    ensures { (ns : List ℕ) → Leaves (repeated scalar.now left cursor.old) ns → Gave ns result (left_by stage.new template.now cursor.new) }
+    ensures { (ns : List ℕ) → Leaves (repeated scalar.now left cursor.old) ns → Gave ns result (left_by stage.new abbreviation.now cursor.new) }
 {
     if left == 0 {
         *stage = OperandStage::Over;
@@ -70,10 +70,10 @@ fn next_of_tail(
     cursor: &mut BitCursor,
     stage: &mut OperandStage,
     tail: Tail,
-    template: &AdmittedAbbreviation,
+    abbreviation: &AdmittedAbbreviation,
 ) -> Option<u64>
     requires { IsRead (listed [] tail cursor.old) }
-    ensures { (ns : List ℕ) → Leaves (listed [] tail cursor.old) ns → Gave ns result (left_by stage.new template.now cursor.new) }
+    ensures { (ns : List ℕ) → Leaves (listed [] tail cursor.old) ns → Gave ns result (left_by stage.new abbreviation.now cursor.new) }
 {
     match tail {
         Tail::NoTail => {
@@ -86,7 +86,7 @@ fn next_of_tail(
         }
         Tail::Elements(scalar) => {
             let left = count(cursor);
-            next_repeated(cursor, stage, &scalar, left, template)
+            next_repeated(cursor, stage, &scalar, left, abbreviation)
         }
     }
 }
@@ -96,17 +96,17 @@ fn next_field(
     cursor: &mut BitCursor,
     stage: &mut OperandStage,
     index: usize,
-    template: &AdmittedAbbreviation,
+    abbreviation: &AdmittedAbbreviation,
 ) -> Option<u64>
-    requires { IsRead (left_by (Fields index) template.now cursor.old) }
-    ensures { (ns : List ℕ) → Leaves (left_by (Fields index) template.now cursor.old) ns → Gave ns result (left_by stage.new template.now cursor.new) }
+    requires { IsRead (left_by (Fields index) abbreviation.now cursor.old) }
+    ensures { (ns : List ℕ) → Leaves (left_by (Fields index) abbreviation.now cursor.old) ns → Gave ns result (left_by stage.new abbreviation.now cursor.new) }
 {
-    match template.operands.as_slice().get(index) {
+    match abbreviation.operands.as_slice().get(index) {
         Some(scalar) => {
             *stage = OperandStage::Fields(index + 1);
             Some(value(cursor, *scalar))
         }
-        None => next_of_tail(cursor, stage, template.tail, template),
+        None => next_of_tail(cursor, stage, abbreviation.tail, abbreviation),
     }
 }
 
@@ -115,15 +115,19 @@ fn next_field(
 pub fn next_value(
     cursor: &mut BitCursor,
     stage: &mut OperandStage,
-    template: &AdmittedAbbreviation,
+    abbreviation: &AdmittedAbbreviation,
 ) -> Option<u64>
-    requires { IsRead (left_by stage.old template.now cursor.old) }
-    ensures { (ns : List ℕ) → Leaves (left_by stage.old template.now cursor.old) ns → Gave ns result (left_by stage.new template.now cursor.new) }
+    requires { IsRead (left_by stage.old abbreviation.now cursor.old) }
+    ensures { (ns : List ℕ) → Leaves (left_by stage.old abbreviation.now cursor.old) ns → Gave ns result (left_by stage.new abbreviation.now cursor.new) }
 {
     match *stage {
-        OperandStage::Fields(index) => next_field(cursor, stage, index, template),
+        OperandStage::Fields(index) => next_field(cursor, stage, index, abbreviation),
         OperandStage::Repeats(scalar, left) => next_repeated(
-            cursor, stage, &scalar, left, template,
+            cursor,
+            stage,
+            &scalar,
+            left,
+            abbreviation,
         ),
         OperandStage::Over => None,
     }
@@ -170,10 +174,14 @@ pub fn plain_spelling() -> ValueSpelling
 
 /// Goes past the abbreviation id and the code of a record in front, which is not refused. It is by this abbreviation
 /// where its id is not 3.
-pub fn begin(cursor: &mut BitCursor, width: ChunkWidth, template: &AdmittedAbbreviation) -> Start
-    requires { IsRead (operands_at width template.now cursor.old) }
+pub fn begin(
+    cursor: &mut BitCursor,
+    width: ChunkWidth,
+    abbreviation: &AdmittedAbbreviation,
+) -> Start
+    requires { IsRead (operands_at width abbreviation.now cursor.old) }
     ensures id { result.id ≡ number_of (fixed width cursor.old) }
-    ensures left { (ns : List ℕ) → Leaves (operands_at width template.now cursor.old) ns → Leaves (left_by result.stage template.now cursor.new) ns }
+    ensures left { (ns : List ℕ) → Leaves (operands_at width abbreviation.now cursor.old) ns → Leaves (left_by result.stage abbreviation.now cursor.new) ns }
 {
     let id = field(cursor, width) as u32;
     if id == 3 {
@@ -184,7 +192,7 @@ pub fn begin(cursor: &mut BitCursor, width: ChunkWidth, template: &AdmittedAbbre
             stage: OperandStage::Repeats(plain_spelling(), left),
         };
     }
-    pass_code(cursor, template.code);
+    pass_code(cursor, abbreviation.code);
     Start {
         id,
         stage: OperandStage::Fields(0),

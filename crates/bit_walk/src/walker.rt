@@ -46,9 +46,9 @@ impl<'b> Model for Walker<'b> {
 
     ghost Value = { Walker };
 
-    ghost view = { λ w. record { spent = w.spent; left = pieces_left w.spent w.scope.scope (place_of w.waiting w.inner w.cursor); operands = operands_left w.spent (found_of w.waiting w.inner (left_by w.stage w.kept.template w.inner)); has_blob = w.has_blob; blob = w.blob.now; template = w.kept.template } };
+    ghost view = { λ w. record { spent = w.spent; left = pieces_left w.spent w.scope.scope (place_of w.waiting w.inner w.cursor); operands = operands_left w.spent (found_of w.waiting w.inner (left_by w.stage w.kept.abbreviation w.inner)); has_blob = w.has_blob; blob = w.blob.now; abbreviation = w.kept.abbreviation } };
 
-    ghost invariant = { λ w. IsWalking w.spent w.scope (place_of w.waiting w.inner w.cursor) w.kept.start w.kept.template (found_of w.waiting w.inner (left_by w.stage w.kept.template w.inner)) };
+    ghost invariant = { λ w. IsWalking w.spent w.scope (place_of w.waiting w.inner w.cursor) w.kept.start w.kept.abbreviation (found_of w.waiting w.inner (left_by w.stage w.kept.abbreviation w.inner)) };
 }
 
 impl<'b> Walker<'b> {
@@ -133,7 +133,7 @@ impl<'b> Walker<'b> {
             None => next_value(
                 &mut self.inner,
                 &mut self.stage,
-                self.kept.template.template(),
+                self.kept.abbreviation.admitted(),
             ),
         }
     }
@@ -153,9 +153,9 @@ impl<'b> Walker<'b> {
     }
 
     /// The abbreviation of the definition that was given last.
-    pub fn template(&self) -> &AdmittedAbbreviation
-        ensures { result.now ≡ self.now.template }
+    pub fn admitted(&self) -> &AdmittedAbbreviation
+        ensures { result.now ≡ self.now.abbreviation }
     {
-        self.kept.template.template()
+        self.kept.abbreviation.admitted()
     }
 }

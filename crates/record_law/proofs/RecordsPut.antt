@@ -4,9 +4,9 @@ use Rattle.std.specs.Prelude.{⊤, filter_map}
 use Rattle.bit_stream.specs.declared.abbreviation.ValueSpelling.TheVariants.{Field, Chunks}
 use Rattle.bit_stream.specs.declared.abbreviation.Tail.TheVariants.{Elements}
 use Rattle.bit_stream.specs.Abbreviation.{AdmittedAbbreviation}
-use Rattle.bit_stream.specs.Scope.{template_of}
+use Rattle.bit_stream.specs.Scope.{abbreviation_of}
 use Rattle.bit_stream.specs.Entry.{is_blockinfo}
-use Rattle.bit_stream.specs.Spelling.{template_for, rest_of}
+use Rattle.bit_stream.specs.Spelling.{abbreviation_for, rest_of}
 use Rattle.bit_stream.specs.Writer.{Writer, begun, enter, end_block, define, put_record, abbreviated, in_force}
 use Rattle.bit_tree.specs.Stream as stream
 use Rattle.bit_tree.specs.Written.{Written, no_more, a_block, a_definition, a_record, a_short_record, written, tree_of, with_definition, with_values}
@@ -33,14 +33,14 @@ long_put : (w : Writer) (all : Written) → IsLong all → records (tree_of w al
 unfolding IsLong tree_of
 long_put w no_more long = refl
 long_put w (a_block id width inside behind) long = rw (long_put (enter w id width) inside long.0, long_put (end_block (written (enter w id width) inside)) behind long.1) refl
-long_put w (a_definition ops behind) long = past_definition (in_force w.scope + 4) (template_for ops) (tree_of (define w ops) behind) ∙ long_put (define w ops) behind long
+long_put w (a_definition ops behind) long = past_definition (in_force w.scope + 4) (abbreviation_for ops) (tree_of (define w ops) behind) ∙ long_put (define w ops) behind long
 long_put w (a_record code ns behind) long = rw (long_put (put_record w code ns) behind long) refl
 long_put w (a_short_record id code ns behind) long = elim long [ ]
 
 -- the abbreviation of texts is in force
 record IsReady (w : Writer) : Type 0 where
   plain : is_blockinfo w.scope ≡ false
-  there : template_of w.scope 4 ≡ Some (record { code = Chunks 6; operands = []; tail = Elements (Field 8) })
+  there : abbreviation_of w.scope 4 ≡ Some (record { code = Chunks 6; operands = []; tail = Elements (Field 8) })
 
 still_ready : (w : Writer) (code : ℕ) (text : Bytes) → IsReady w → IsReady (abbreviated w 4 code text)
 still_ready w code text ready = record { plain = rw (ready.plain, ready.plain) refl; there = rw ready.plain ready.there }
@@ -53,7 +53,7 @@ short_put : (w : Writer) (code : ℕ) (ns : List ℕ) (behind : Written) → IsR
     → records (tree_of w (a_short_record 4 code ns behind)) ≡ records_put (a_short_record 4 code ns behind)
 unfolding tree_of
 short_put w code ns behind ready then =
-    bytes_put 4 (template_of w.scope 4) code ns (tree_of (abbreviated w 4 code ns) behind) ready.there ∙ ap (one_record code ns) (then (abbreviated w 4 code ns) (still_ready w code ns ready))
+    bytes_put 4 (abbreviation_of w.scope 4) code ns (tree_of (abbreviated w 4 code ns) behind) ready.there ∙ ap (one_record code ns) (then (abbreviated w 4 code ns) (still_ready w code ns ready))
 
 lines_long : (lines : List Line) (behind : Written) → IsLong behind → IsLong (put lines behind)
 unfolding IsLong
@@ -79,7 +79,7 @@ in_table : Writer
 in_table = define (enter behind_producer 23 3) of_bytes
 
 in_table_ready : IsReady in_table
-unfolding in_table behind_producer template_for rest_of
+unfolding in_table behind_producer abbreviation_for rest_of
 in_table_ready = record { plain = refl; there = refl }
 
 behind_table : Bytes → Writer
@@ -94,7 +94,7 @@ unfolding IsLong
 module_put m = long_put (behind_table (string_table m)) (put_block module_id (put_module (texts_in m) m) no_more) (module_long (texts_in m) m, tt)
 
 pub all_put : (m : Module) → records (tree_of begun (written_module m)) ≡ records_put (written_module m)
-unfolding tree_of written template_for rest_of in_table behind_producer behind_table
+unfolding tree_of written abbreviation_for rest_of in_table behind_producer behind_table
 all_put m =
     ap (λ x. a_block_of 13 (one_record 1 producer nothing_more) (a_block_of 23 x (records (tree_of (behind_table (string_table m)) (put_block module_id (put_module (texts_in m) m) no_more))))) (table_put (string_table m))
     ∙ ap (λ x. a_block_of 13 (one_record 1 producer nothing_more) (a_block_of 23 (one_record 1 (string_table m) nothing_more) x)) (module_put m)

@@ -38,7 +38,7 @@ open_behind (Held head) n = n
 on_event : (n : ℕ) (event : Event) (old new : Walker) (others : List Piece) → IsClosing n old.left others → 0 < n → Gave old (Some event) new → IsClosing (open_behind event n) new.left others
 on_event n (Begun head) old new others h more g = after_begun n head.id head.width head.words old.left new.left others h more g.1
 on_event n Ended old new others h more g = after_ended n old.left new.left others h more g.1
-on_event n (Defined id) old new others h more g = after_defined n id new.template old.left new.left others h more g.1
+on_event n (Defined id) old new others h more g = after_defined n id new.abbreviation old.left new.left others h more g.1
 on_event n (Held head) old new others h more g = after_held n head.id head.code new.operands new.has_blob new.blob old.left new.left others h more g.1
 
 -- a walker that set out inside a block, of which so many blocks are to be closed

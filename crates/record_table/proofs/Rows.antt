@@ -31,7 +31,7 @@ the_bytes_of_1 = 0x42 ∷ 0x43 ∷ 0xC0 ∷ 0xDE ∷ 0x35 ∷ 0x0C ∷ 0x00 ∷ 
 
 -- all that a row computes with
 unfoldable pub computed : Bool
-unfolding written bytes_of bits_of value vbr_bits spelled.record_bits spelled.with_record spelled.template_for spelled.rest_of spelled.with_tail spelled.definition_bits spelled.value_bits spelled.each_bits opcode_of_code predicate_of_code linkage_of_code next many option_by either_by place label_by integer parts typed of_form read_nested value_by arguments_by known_type labels_by numbers_from name_shape label_at may_have
+unfolding written bytes_of bits_of value vbr_bits spelled.record_bits spelled.with_record spelled.abbreviation_for spelled.rest_of spelled.with_tail spelled.definition_bits spelled.value_bits spelled.each_bits opcode_of_code predicate_of_code linkage_of_code next many option_by either_by place label_by integer parts typed of_form read_nested value_by arguments_by known_type labels_by numbers_from name_shape label_at may_have
 computed = true
 
 abbrev bytes_written : Written → List ℕ

@@ -39,7 +39,7 @@ fn text_abbreviation(alloc: Global) -> Result<Abbreviation, AllocError>
 }
 
 /// The first block of a module: one record, by an abbreviation that the block defines.
-#[tactic(auto, unfolding(bit_stream::specs::Spelling::template_for, bit_stream::specs::Spelling::rest_of, bit_stream::specs::Spelling::record_fits, bit_stream::specs::Spelling::each_fit, bit_stream::specs::Spelling::tail_fits))]
+#[tactic(auto, unfolding(bit_stream::specs::Spelling::abbreviation_for, bit_stream::specs::Spelling::rest_of, bit_stream::specs::Spelling::record_fits, bit_stream::specs::Spelling::each_fit, bit_stream::specs::Spelling::tail_fits))]
 fn first_block(alloc: Global) -> Result<Text, AllocError> {
     let abbreviation = text_abbreviation(alloc)?;
     let mut writer = BitWriter::new(alloc)?;

@@ -9,29 +9,29 @@ use Rattle.bits.proofs.BitsLaws.{length-bits_of}
 use Rattle.bit_stream.specs.Abbreviation.{AdmittedAbbreviation}
 use Rattle.bit_stream.specs.declared.abbreviation.ValueSpelling.TheVariants.{Field, Chunks}
 use Rattle.bit_stream.specs.declared.abbreviation.Tail.TheVariants.{Elements}
-use Rattle.bit_stream.specs.Scope.{Scope, template_of}
+use Rattle.bit_stream.specs.Scope.{Scope, abbreviation_of}
 use Rattle.bit_stream.specs.Record.{names_block}
 use Rattle.bit_stream.specs.Entry.{defined, is_top, is_blockinfo}
-use Rattle.bit_stream.specs.Spelling.{template_for, rest_of, record_fits, each_fit, tail_fits, value_bits, each_bits, all_bits, chunks, with_record, with_tail}
-use Rattle.bit_stream.specs.Writer.{Writer, enter, end_block, define, abbreviated, id_bits, with_template}
+use Rattle.bit_stream.specs.Spelling.{abbreviation_for, rest_of, record_fits, each_fit, tail_fits, value_bits, each_bits, all_bits, chunks, with_record, with_tail}
+use Rattle.bit_stream.specs.Writer.{Writer, enter, end_block, define, abbreviated, id_bits, with_abbreviation}
 use Rattle.bit_tree.specs.Written.{no_more, a_definition, a_short_record, MayDefine, MayAbbreviate, Allowed}
 use Rattle.written_size.specs.Plain.{MayBlock, of_bytes}
 use Rattle.written_size.proofs.Grows.{size}
 use Rattle.written_size.proofs.Kept.{left_is, entered_inside}
 
 -- bytes behind a code
-abbrev template : AdmittedAbbreviation
-template = record { code = Chunks 6; operands = []; tail = Elements (Field 8) }
+abbrev byte_abbreviation : AdmittedAbbreviation
+byte_abbreviation = record { code = Chunks 6; operands = []; tail = Elements (Field 8) }
 
-admitted : template_for of_bytes ≡ Some template
-unfolding template_for rest_of
+admitted : abbreviation_for of_bytes ≡ Some byte_abbreviation
+unfolding abbreviation_for rest_of
 admitted = refl
 
 bytes_fit : (ns : List ℕ) → AllByRecursion (λ (n : ℕ). n < 256) ns → list_all (λ n. nat_lt n (2 ^ 8)) ns ≡ true
 bytes_fit [] all = refl
 bytes_fit (n ∷ ns) all = and_from (nat_lt n (2 ^ 8)) (list_all (λ n. nat_lt n (2 ^ 8)) ns) (lt-ltb n 256 all.0) (bytes_fit ns all.1)
 
-fitting : (ns : List ℕ) → AllByRecursion (λ (n : ℕ). n < 256) ns → record_fits (Some template) 1 ns ≡ true
+fitting : (ns : List ℕ) → AllByRecursion (λ (n : ℕ). n < 256) ns → record_fits (Some byte_abbreviation) 1 ns ≡ true
 unfolding record_fits each_fit tail_fits
 fitting ns all = and_from _ _ (and_from _ true (le-leb 0 (length ns) (omega arith)) refl) (bytes_fit ns all)
 
@@ -45,7 +45,7 @@ unfolding value_bits
 bytes_count [] = omega arith
 bytes_count (n ∷ ns) = let others = bytes_count ns in omega (arith, others, length-append (bits_of 8 n) (all_bits (Field 8) ns), length-bits_of 8 n)
 
-record_count : (ns : List ℕ) (bits : List Bool) → length ns ≤ length (with_record (Some template) 1 ns bits)
+record_count : (ns : List ℕ) (bits : List Bool) → length ns ≤ length (with_record (Some byte_abbreviation) 1 ns bits)
 unfolding with_record with_tail each_bits
 record_count ns bits =
     let a = bytes_count ns in
@@ -55,11 +55,11 @@ module _ (w : Writer) (id width : ℕ) (may : MayBlock id width) (none_given : w
   abbrev shaped : Writer
   shaped = define (enter w id width) of_bytes
 
-  shaped_is : shaped.scope ≡ defined (enter w id width).scope template
-  shaped_is = ap (with_template (enter w id width).scope) admitted ∙ rw may.ordinary refl
+  shaped_is : shaped.scope ≡ defined (enter w id width).scope byte_abbreviation
+  shaped_is = ap (with_abbreviation (enter w id width).scope) admitted ∙ rw may.ordinary refl
 
-  found : template_of shaped.scope 4 ≡ Some template
-  found = ap (λ (s : Scope). template_of s 4) shaped_is ∙ rw none_given refl
+  found : abbreviation_of shaped.scope 4 ≡ Some byte_abbreviation
+  found = ap (λ (s : Scope). abbreviation_of s 4) shaped_is ∙ rw none_given refl
 
   inside : is_top shaped.scope ≡ false
   inside = ap is_top shaped_is ∙ entered_inside w.scope id width
@@ -109,5 +109,5 @@ module _ (w : Writer) (id width : ℕ) (may : MayBlock id width) (none_given : w
 
   pub bytes_kept : (ns : List ℕ) → (end_block (abbreviated shaped 4 1 ns)).scope ≡ w.scope
   bytes_kept ns =
-      let kept : (abbreviated shaped 4 1 ns).scope ≡ defined (enter w id width).scope template = rw ordinary shaped_is in
+      let kept : (abbreviated shaped 4 1 ns).scope ≡ defined (enter w id width).scope byte_abbreviation = rw ordinary shaped_is in
       left_is w.scope (abbreviated shaped 4 1 ns).scope (ap (λ (s : Scope). s.around) kept) (ap (λ (s : Scope). s.given) kept)

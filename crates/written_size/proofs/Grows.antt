@@ -10,7 +10,7 @@ use Rattle.bit_stream.specs.declared.abbreviation.ValueSpelling.TheVariants.{Chu
 use Rattle.bit_stream.specs.declared.abbreviation.Tail.{Tail}
 use Rattle.bit_stream.specs.declared.abbreviation.Tail.TheVariants.{NoTail, Elements, Bytes}
 use Rattle.bit_stream.specs.Abbreviation.{AdmittedAbbreviation}
-use Rattle.bit_stream.specs.Scope.{template_of}
+use Rattle.bit_stream.specs.Scope.{abbreviation_of}
 use Rattle.bit_stream.specs.Spelling.{chunks, all_bits, value_bits, each_bits, record_bits, definition_bits, aligned, with_tail, with_record}
 use Rattle.bit_stream.specs.declared.abbreviation.AbbrevOp.{AbbrevOp}
 use Rattle.bit_stream.specs.Writer.{Writer, enter, ended, end_block, define, put_record, abbreviated, id_bits}
@@ -158,7 +158,7 @@ record_longer (Some t) code ns bits =
 
 pub abbreviated_grows : (w : Writer) (id code : ℕ) (ns : List ℕ) → size w ≤ size (abbreviated w id code ns)
 abbreviated_grows w id code ns =
-    let a = record_longer (template_of w.scope id) code ns (w.bits ++ id_bits w id) in
+    let a = record_longer (abbreviation_of w.scope id) code ns (w.bits ++ id_bits w id) in
     let b = longer w.bits (id_bits w id) in
     omega (arith, a, b)
 

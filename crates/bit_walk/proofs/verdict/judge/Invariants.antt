@@ -3,7 +3,7 @@ use Rattle.bit_walk.proofs.Judging.{Comes}
 use Rattle.bit_walk.proofs.verdict.judge.Given as goal
 
 abbrev pub invariant-judging : goal.invariant-judging
-invariant-judging l = Comes l.bytes l.scope l.cursor l.kept.start l.kept.template
+invariant-judging l = Comes l.bytes l.scope l.cursor l.kept.start l.kept.abbreviation
 
 abbrev pub decreases-judging : goal.decreases-judging
 decreases-judging l = length l.cursor.rest

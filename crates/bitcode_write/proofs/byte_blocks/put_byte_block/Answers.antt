@@ -1,5 +1,5 @@
 use Rattle.std.proofs.Common.{List, Option, ap, is_some, ℕ, ◌+◌, ◌∙◌, ◌≡◌}
-use Rattle.bit_stream.specs.Scope.{template_of}
+use Rattle.bit_stream.specs.Scope.{abbreviation_of}
 use Rattle.bit_stream.specs.Spelling.{record_fits}
 use Rattle.bit_stream.specs.Writer.{Writer, abbreviated, define, in_force}
 use Rattle.bitcode_write.proofs.ByteBlock.{admitted, fitting, found, none_in_force, whole}
@@ -21,7 +21,7 @@ abbreviated-requires-clause-fits c = λ unspent.
     let four : c.in_ok-abbreviation.abbreviation ≡ 4 = c.in_ok-abbreviation.ensures.id ∙ ap (λ (x : Writer). in_force x.scope + 4) entered ∙ ap (λ (n : ℕ). n + 4) (none_in_force w id c.requires.outside c.requires.ordinary) in
     let shaped = wrote_ok _ c.enter.new.self.writer.spent _ _ _ _ (ap (λ (x : Writer). x.spent) entered ∙ c.requires.outside.unspent) c.in_ok-abbreviation.ensures.written in
     let same = shaped ∙ ap (λ (ops : List AbbrevOp). define c.enter.new.self.writer ops) c.in_ok-shape.ensures ∙ ap (λ (x : Writer). define x of_bytes) entered in
-    rw four (ap (λ (t : Option AdmittedAbbreviation). record_fits t 1 c.args.bytes.now) (ap (λ (x : Writer). template_of x.scope 4) same ∙ found w id c.requires.outside c.requires.ordinary) ∙ fitting c.args.bytes.now c.requires.bytes)
+    rw four (ap (λ (t : Option AdmittedAbbreviation). record_fits t 1 c.args.bytes.now) (ap (λ (x : Writer). abbreviation_of x.scope 4) same ∙ found w id c.requires.outside c.requires.ordinary) ∙ fitting c.args.bytes.now c.requires.bytes)
 
 pub returns-clause-put : goal.returns-clause-put
 returns-clause-put c =

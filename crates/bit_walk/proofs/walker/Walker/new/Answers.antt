@@ -5,8 +5,8 @@ use Rattle.bit_walk.proofs.walker.Walker.new.Goals as goal
 
 pub invariant_of-result : goal.invariant_of-result
 invariant_of-result c = record {
-  place = λ _. starts c.args.bytes.now c.new-scope.result c.at_bit-cursor.result c.nothing-kept.result.start c.nothing-kept.result.template c.requires.judged c.new-scope.ensures c.at_bit-cursor.ensures c.nothing-kept.ensures;
-  read = λ _. ([], over c.nothing-kept.result.template c.new.result);
+  place = λ _. starts c.args.bytes.now c.new-scope.result c.at_bit-cursor.result c.nothing-kept.result.start c.nothing-kept.result.abbreviation c.requires.judged c.new-scope.ensures c.at_bit-cursor.ensures c.nothing-kept.ensures;
+  read = λ _. ([], over c.nothing-kept.result.abbreviation c.new.result);
 }
 
 pub returns-clause-whole : goal.returns-clause-whole

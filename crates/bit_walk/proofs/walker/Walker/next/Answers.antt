@@ -11,25 +11,25 @@ pub returns-in-Some : goal.returns-in-Some
 returns-in-Some c =
     let unspent = c.if-self.false in
     let spent = ap (λ (w : Walker). w.spent) (sym c.self.view_is) ∙ unspent in
-    let placed = place_at c.self.inside.scope _ c.behind-place.result c.self.inside.kept.start c.self.inside.kept.template c.behind-place.ensures (c.self.invariant.place unspent) in
+    let placed = place_at c.self.inside.scope _ c.behind-place.result c.self.inside.kept.start c.self.inside.kept.abbreviation c.behind-place.ensures (c.self.invariant.place unspent) in
     let left = left_at c.args.self.now c.self.inside.spent c.self.inside.scope.scope _ c.behind-place.result (ap (λ (w : Walker). w.left) (sym c.self.view_is)) unspent c.behind-place.ensures in
-    rw spent (plain_walked c.args.self.now c.self.inside.spent c.self.inside.scope.scope c.behind-place.result c.in-Some.plain.inner c.in-Some.plain.head c.self.inside.kept.template unspent c.in-Some.ensures.within c.in-Some.ensures.other c.in-Some.ensures.head placed.ahead left)
+    rw spent (plain_walked c.args.self.now c.self.inside.spent c.self.inside.scope.scope c.behind-place.result c.in-Some.plain.inner c.in-Some.plain.head c.self.inside.kept.abbreviation unspent c.in-Some.ensures.within c.in-Some.ensures.other c.in-Some.ensures.head placed.ahead left)
 
 pub invariant_of-self : goal.invariant_of-self
 invariant_of-self c =
-    let placed = place_at c.self.inside.scope _ c.behind-place.result c.self.inside.kept.start c.self.inside.kept.template c.behind-place.ensures (c.self.invariant.place c.if-self.false) in
+    let placed = place_at c.self.inside.scope _ c.behind-place.result c.self.inside.kept.start c.self.inside.kept.abbreviation c.behind-place.ensures (c.self.invariant.place c.if-self.false) in
     record {
-      place = λ _. plain_place c.self.inside.scope c.behind-place.result c.in-Some.plain.inner c.in-Some.plain.head c.self.inside.kept.start c.self.inside.kept.template c.in-Some.ensures.within c.in-Some.ensures.other c.in-Some.ensures.head placed;
-      read = λ _. plain_read c.self.inside.scope c.behind-place.result c.in-Some.plain.inner c.in-Some.plain.head c.self.inside.kept.start c.self.inside.kept.template c.in-Some.ensures.within c.in-Some.ensures.other c.in-Some.ensures.head placed;
+      place = λ _. plain_place c.self.inside.scope c.behind-place.result c.in-Some.plain.inner c.in-Some.plain.head c.self.inside.kept.start c.self.inside.kept.abbreviation c.in-Some.ensures.within c.in-Some.ensures.other c.in-Some.ensures.head placed;
+      read = λ _. plain_read c.self.inside.scope c.behind-place.result c.in-Some.plain.inner c.in-Some.plain.head c.self.inside.kept.start c.self.inside.kept.abbreviation c.in-Some.ensures.within c.in-Some.ensures.other c.in-Some.ensures.head placed;
     }
 
 pub advance-requires : goal.advance-requires
-advance-requires c = place_at c.self.inside.scope _ c.behind-place.result c.self.inside.kept.start c.self.inside.kept.template c.behind-place.ensures (c.self.invariant.place c.if-self.false)
+advance-requires c = place_at c.self.inside.scope _ c.behind-place.result c.self.inside.kept.start c.self.inside.kept.abbreviation c.behind-place.ensures (c.self.invariant.place c.if-self.false)
 
 pub returns : goal.returns
 returns c =
     let unspent = c.if-self.false in
     let spent = ap (λ (w : Walker). w.spent) (sym c.self.view_is) ∙ unspent in
-    let placed = place_at c.self.inside.scope _ c.behind-place.result c.self.inside.kept.start c.self.inside.kept.template c.behind-place.ensures (c.self.invariant.place unspent) in
+    let placed = place_at c.self.inside.scope _ c.behind-place.result c.self.inside.kept.start c.self.inside.kept.abbreviation c.behind-place.ensures (c.self.invariant.place unspent) in
     let left = left_at c.args.self.now c.self.inside.spent c.self.inside.scope.scope _ c.behind-place.result (ap (λ (w : Walker). w.left) (sym c.self.view_is)) unspent c.behind-place.ensures in
     rw spent (walked c.args.self.now c.in_ok-arrival.arrival.event c.self.inside.scope.scope c.advance.new.scope.scope c.behind-place.result c.advance.new.cursor _ _ _ _ placed.ahead left c.in_ok-arrival.ensures.gave)

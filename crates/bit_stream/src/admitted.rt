@@ -10,11 +10,11 @@ const MOST: usize = 1 << 30;
 
 /// Some abbreviations, in order.
 #[derive(Drop)]
-pub struct TemplateList {
+pub struct AdmittedList {
     items: Vec<AdmittedAbbreviation>,
 }
 
-impl Model for TemplateList {
+impl Model for AdmittedList {
     ghost use Rattle.std.specs.Prelude.{List, ◌≤◌, ◌^◌, length};
     ghost use Rattle.bit_stream.specs.Abbreviation.{AdmittedAbbreviation};
 
@@ -25,12 +25,12 @@ impl Model for TemplateList {
     ghost invariant = { λ list. length list.items.items ≤ 2 ^ 30 };
 }
 
-impl TemplateList {
+impl AdmittedList {
     /// No abbreviations.
     pub fn new(alloc: Global) -> Self
         ensures { result ≡ [] }
     {
-        TemplateList {
+        AdmittedList {
             items: Vec::new(alloc),
         }
     }
@@ -51,13 +51,13 @@ impl TemplateList {
     }
 
     /// Adds one at the end. Where the list is full there is no memory for it.
-    pub fn push(&mut self, template: AdmittedAbbreviation) -> Result<(), AllocError>
-        ensures { OnOk result (self.new ≡ self.old ++ template ∷ []) }
+    pub fn push(&mut self, abbreviation: AdmittedAbbreviation) -> Result<(), AllocError>
+        ensures { OnOk result (self.new ≡ self.old ++ abbreviation ∷ []) }
     {
         if self.items.len() >= MOST {
             return Err(AllocError);
         }
-        self.items.push(template)?;
+        self.items.push(abbreviation)?;
         Ok(())
     }
 }
