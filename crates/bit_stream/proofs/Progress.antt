@@ -10,7 +10,7 @@ use Rattle.bit_stream.specs.declared.entry.Entry.{Entry}
 use Rattle.bit_stream.specs.declared.entry.Entry.TheVariants.{Block, End}
 use Rattle.bit_stream.specs.Abbreviation.{AdmittedAbbreviation}
 use Rattle.bit_stream.specs.Definition.{defined_abbreviation}
-use Rattle.bit_stream.specs.Record.{Read, unabbreviated}
+use Rattle.bit_stream.specs.Record.{ReadRecord, unabbreviated}
 use Rattle.bit_stream.specs.Scope.{Scope, abbreviation_of}
 use Rattle.bit_stream.specs.Entry.{StreamItem, plain, is_top, is_blockinfo, came, entered, enter_sized, enter_wide, enter_named, enter_block, end_block, define_for, define, by_abbreviation, record_by, inside, item}
 use Rattle.bit_stream.proofs.Forward.{Forward, fixed_forward_any, abbreviation_forward}
@@ -60,7 +60,7 @@ end_block_shown : (s : Scope) (c : Cursor) → Shown (end_block s c)
 unfolding end_block
 end_block_shown s c = shown_bind (align c) _ (λ _ d. shown_if _ _ _ (shown_entry _ _ d refl) (shown_none _))
 
-came_shown : (r : Read) (c : Cursor) (s : Result Scope BitFault) → Shown (came r c s)
+came_shown : (r : ReadRecord) (c : Cursor) (s : Result Scope BitFault) → Shown (came r c s)
 came_shown r c (Ok s) = shown_entry _ _ c refl
 came_shown r c (Err e) = shown_none e
 

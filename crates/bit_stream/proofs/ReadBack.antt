@@ -17,7 +17,7 @@ use Rattle.bit_stream.specs.Scope.{Scope, abbreviation_of}
 use Rattle.bit_stream.specs.declared.abbreviation.Tail.{Tail}
 use Rattle.bit_stream.specs.declared.abbreviation.Tail.TheVariants.{NoTail, Elements, Bytes}
 use Rattle.bit_stream.specs.Abbreviation.{AdmittedAbbreviation}
-use Rattle.bit_stream.specs.Record.{letters, value_by, code_by, operand, elements, each, counted, tail_by, Read, unabbreviated, abbreviated}
+use Rattle.bit_stream.specs.Record.{letters, value_by, code_by, operand, elements, each, counted, tail_by, ReadRecord, unabbreviated, abbreviated}
 use Rattle.bit_stream.specs.Entry.{item, inside, by_abbreviation, record_by, recorded, is_top, is_blockinfo}
 use Rattle.bit_stream.specs.Spelling.{chunks, is_letter, letter_number, fits, value_bits, all_fit, all_bits, record_bits, each_fit, each_bits, tail_fits, with_tail, record_fits, with_record}
 use Rattle.bit_stream.specs.Law.{ReadsAs, AreOperands, RecordIsReadBack, AbbreviatedIsReadBack, IsSound, is_sound, is_sound_tail}
@@ -141,7 +141,7 @@ item_inside : (s : Scope) (c d : Cursor) (id : ℕ) → is_top s ≡ false → f
 unfolding item
 item_inside s c d id top h = rw (top, h) refl
 
-inside_record : (s : Scope) (bit : ℕ) (c d : Cursor) (r : Read) → is_blockinfo s ≡ false → unabbreviated false c ≡ Ok (r, d)
+inside_record : (s : Scope) (bit : ℕ) (c d : Cursor) (r : ReadRecord) → is_blockinfo s ≡ false → unabbreviated false c ≡ Ok (r, d)
     → inside 3 bit s c ≡ Ok (record { entry = Some (Record r.code); scope = s; operands = r.operands; blob = r.blob }, d)
 unfolding inside record_by recorded
 inside_record s bit c d r plain h = rw (plain, h) refl
@@ -226,7 +226,7 @@ abbreviated_reads t code ns sound fit small operands at rest =
     let whole : (code_bits ++ (front_bits ++ rest_bits)) ++ rest ≡ code_bits ++ (front_bits ++ (rest_bits ++ rest)) = simp append_assoc in
     rw (whole, one, two, three, take-append-drop k ns, place) refl
 
-inside_abbreviated : (s : Scope) (id bit : ℕ) (t : AdmittedAbbreviation) (c d : Cursor) (r : Read) → 4 ≤ id → abbreviation_of s id ≡ Some t → is_blockinfo s ≡ false → abbreviated false t c ≡ Ok (r, d)
+inside_abbreviated : (s : Scope) (id bit : ℕ) (t : AdmittedAbbreviation) (c d : Cursor) (r : ReadRecord) → 4 ≤ id → abbreviation_of s id ≡ Some t → is_blockinfo s ≡ false → abbreviated false t c ≡ Ok (r, d)
     → inside id bit s c ≡ Ok (record { entry = Some (Record r.code); scope = s; operands = r.operands; blob = r.blob }, d)
 unfolding inside record_by by_abbreviation recorded
 inside_abbreviated s id bit t c d r low there plain h =

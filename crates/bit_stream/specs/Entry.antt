@@ -11,7 +11,7 @@ use Rattle.bit_stream.specs.declared.abbreviation.AbbrevOp.{AbbrevOp}
 use Rattle.bit_stream.specs.Abbreviation.{AdmittedAbbreviation, ops_of, ends_in_blob}
 use Rattle.bit_stream.specs.Answers.{refuse}
 use Rattle.bit_stream.specs.Definition.{defined_abbreviation}
-use Rattle.bit_stream.specs.Record.{Read, unabbreviated, abbreviated}
+use Rattle.bit_stream.specs.Record.{ReadRecord, unabbreviated, abbreviated}
 use Rattle.bit_stream.specs.Scope.{Scope, given_to, give, abbreviation_of}
 
 -- what stands at a place: an entry, or none where it is a definition; the blocks that are open behind it; and the
@@ -118,12 +118,12 @@ unfoldable pub recorded : ℕ → Scope → ℕ → List ℕ → Result Scope Bi
 recorded bit s code operands = if is_blockinfo s && (code == 1) then with_target bit s operands else Ok s
 
 -- a record was read, and left these blocks open
-abbrev pub came : Read → Cursor → Result Scope BitFault → Found StreamItem
+abbrev pub came : ReadRecord → Cursor → Result Scope BitFault → Found StreamItem
 came r c (Ok s) = Ok (record { entry = Some (Record r.code); scope = s; operands = r.operands; blob = r.blob }, c)
 came r c (Err fault) = Err fault
 
 -- the values of a record by an abbreviation, whose id stands at this bit
-unfoldable pub by_abbreviation : Option AdmittedAbbreviation → ℕ → Bool → Cursor → Found Read
+unfoldable pub by_abbreviation : Option AdmittedAbbreviation → ℕ → Bool → Cursor → Found ReadRecord
 by_abbreviation None bit in_blockinfo c = refuse bit
 by_abbreviation (Some t) bit in_blockinfo c = abbreviated in_blockinfo t c
 
@@ -196,7 +196,7 @@ IsRecordBy (Some (Record code)) id blob s found = (id ≡ found) × (blob ≡ ha
 IsRecordBy (Some End) id blob s found = Unit {0}
 
 -- from one place to another stand only definitions, with these operands
-pub data Passed : Scope → Cursor → List (List AbbrevOp) → Scope → Cursor → Type 0 where
-  start : {s : Scope} {c : Cursor} → Passed s c [] s c
+pub data OnlyDefinitions : Scope → Cursor → List (List AbbrevOp) → Scope → Cursor → Type 0 where
+  start : {s : Scope} {c : Cursor} → OnlyDefinitions s c [] s c
   more : {s t : Scope} {c d e : Cursor} {i : StreamItem} {front : List (List AbbrevOp)}
-      → Passed s c front t d → item t d ≡ Ok (i, e) → i.entry ≡ None → Passed s c (with_definition front (defined_at t d)) i.scope e
+      → OnlyDefinitions s c front t d → item t d ≡ Ok (i, e) → i.entry ≡ None → OnlyDefinitions s c (with_definition front (defined_at t d)) i.scope e

@@ -11,7 +11,7 @@ use Rattle.bit_stream.specs.declared.abbreviation.AbbrevOp.{AbbrevOp}
 use Rattle.bit_stream.specs.declared.entry.Entry.TheVariants.{Block, EndBlock, Record, End}
 use Rattle.bit_stream.specs.declared.told.LastSeen.{LastSeen}
 use Rattle.bit_stream.specs.Scope.{Scope, top_level}
-use Rattle.bit_stream.specs.Entry.{item, NextItem, Passed, id_at, has_blob_by}
+use Rattle.bit_stream.specs.Entry.{item, NextItem, OnlyDefinitions, id_at, has_blob_by}
 
 -- Its place, the blocks that are open there, why it stopped if it did, and what the last entry held if that was a
 -- record; what is told of the block that was entered last and of the record that was read last; and the operands of each
@@ -77,7 +77,7 @@ told_of old End new id blob = old
 pub record Arrived (old : StreamReader) (entry : Entry) (new : StreamReader) : Type 0 where
   pub scope : Scope
   pub cursor : Cursor
-  pub passed : Passed old.scope old.cursor new.definitions scope cursor
+  pub passed : OnlyDefinitions old.scope old.cursor new.definitions scope cursor
   pub stands : item scope cursor ≡ Ok (record { entry = Some entry; scope = new.scope; operands = new.operands; blob = new.blob }, new.cursor)
   pub told : new.told ≡ told_of old.told entry new.scope (id_at scope cursor) (has_blob_by scope (id_at scope cursor))
 

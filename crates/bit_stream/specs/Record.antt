@@ -52,7 +52,7 @@ tail_by names_block (Elements s) front c = counted names_block s front c >>= λ 
 tail_by names_block Bytes front c = blob c >>= λ bytes d. Ok ((front, bytes), d)
 
 -- a record: its code, its operands and its blob
-pub record Read : Type 0 where
+pub record ReadRecord : Type 0 where
   pub code : ℕ
   pub operands : List ℕ
   pub blob : List ℕ
@@ -62,12 +62,12 @@ abbrev pub names_block : Bool → ℕ → Bool
 names_block in_blockinfo code = in_blockinfo && (code == 1)
 
 -- a record without an abbreviation: its code, how many operands it has, and these, each in chunks of 6 bits
-unfoldable pub unabbreviated : Bool → Cursor → Found Read
+unfoldable pub unabbreviated : Bool → Cursor → Found ReadRecord
 unabbreviated in_blockinfo c = code_by (Chunks 6) c >>= λ code d.
     counted (names_block in_blockinfo code) (Chunks 6) [] d >>= λ all e. Ok (record { code = code; operands = all; blob = [] }, e)
 
 -- a record by an abbreviation: its code, its operands one by one, and its tail
-unfoldable pub abbreviated : Bool → AdmittedAbbreviation → Cursor → Found Read
+unfoldable pub abbreviated : Bool → AdmittedAbbreviation → Cursor → Found ReadRecord
 abbreviated in_blockinfo t c = code_by t.code c >>= λ code d.
     each (names_block in_blockinfo code) t.operands [] d >>= λ front e.
     tail_by (names_block in_blockinfo code) t.tail front e >>= λ all f. Ok (record { code = code; operands = all.0; blob = all.1 }, f)

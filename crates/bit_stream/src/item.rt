@@ -2,7 +2,7 @@
 ghost use Rattle.std.specs.Prelude.{◌≡◌, ℕ, ◌<◌, ◌≤◌, ◌^◌, ◌++◌, ◌∷◌, [], length, Some, None, Ok, IfOk};
 ghost use Rattle.bit_stream.specs.Answers.{Ran};
 ghost use Rattle.bit_stream.specs.Scope.{abbreviation_of};
-ghost use Rattle.bit_stream.specs.Record.{Read};
+ghost use Rattle.bit_stream.specs.Record.{ReadRecord};
 ghost use Rattle.bit_stream.specs.Entry.{is_blockinfo, StreamItem, plain, enter_block, end_block, define_for, define, recorded, settled, by_abbreviation, record_by, inside, item, id_at, has_blob_by, defined_at, with_definition, with_item, IsRecordBy};
 ghost use Rattle.bit_stream.specs.Abbreviation.{ends_in_blob, ops_of};
 ghost use Rattle.bit_stream.specs.Definition.{defined_abbreviation};

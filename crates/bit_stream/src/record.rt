@@ -3,7 +3,7 @@ ghost use Rattle.std.specs.Prelude.{◌≡◌, ℕ, ◌<◌, ◌^◌, [], ◌&&�
 ghost use Rattle.bits.specs.Cursor.{found_at};
 ghost use Rattle.bit_stream.specs.Abbreviation.{is_blob};
 ghost use Rattle.bit_stream.specs.Answers.{Ran};
-ghost use Rattle.bit_stream.specs.Record.{letters, value_by, code_by, operand, elements, each, counted, tail_by, Read, names_block, unabbreviated, abbreviated};
+ghost use Rattle.bit_stream.specs.Record.{letters, value_by, code_by, operand, elements, each, counted, tail_by, ReadRecord, names_block, unabbreviated, abbreviated};
 ghost use Rattle.bit_stream.specs.declared.abbreviation.ValueSpelling.TheVariants.{Chunks};
 
 use crate::StreamFault;

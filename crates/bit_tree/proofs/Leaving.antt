@@ -13,7 +13,7 @@ use Rattle.bit_stream.specs.declared.entry.Entry.{Entry}
 use Rattle.bit_stream.specs.declared.entry.Entry.TheVariants.{Block, EndBlock, Record, End}
 use Rattle.bit_stream.specs.Abbreviation.{AdmittedAbbreviation}
 use Rattle.bit_stream.specs.Definition.{defined_abbreviation}
-use Rattle.bit_stream.specs.Record.{Read, unabbreviated}
+use Rattle.bit_stream.specs.Record.{ReadRecord, unabbreviated}
 use Rattle.bit_stream.specs.Scope.{Scope, BlockFrame, top_level, abbreviation_of}
 use Rattle.bit_stream.specs.Entry.{StreamItem, plain, is_top, is_blockinfo, came, entered, block_left, defined, given_for, enter_sized, enter_wide, enter_named, enter_block, words_since, end_block, define_for, define, with_target, recorded, by_abbreviation, record_by, inside, item, defined_at}
 use Rattle.bit_stream.specs.Writer.{in_force}
@@ -167,7 +167,7 @@ recorded_keeps : (bit : ℕ) (s : Scope) (code : ℕ) (operands : List ℕ) → 
 unfolding recorded
 recorded_keeps bit s code operands wide = kept_if s _ (with_target bit s operands) (Ok s) (named_keeps bit s operands wide) (refl, wide)
 
-came_leaves : (s : Scope) (r : Read) (c : Cursor) (t : Found AdmittedAbbreviation) (u : Result Scope BitFault) → Kept s u → Leads s c t (came r c u)
+came_leaves : (s : Scope) (r : ReadRecord) (c : Cursor) (t : Found AdmittedAbbreviation) (u : Result Scope BitFault) → Kept s u → Leads s c t (came r c u)
 came_leaves s r c t (Ok u) kept = record { is = record { depth = kept.0; wide = kept.1; ahead = omega arith; abbreviation = λ no. absurd (cc); next = λ no. absurd (cc); bare = λ no. absurd (cc) } }
 came_leaves s r c t (Err e) kept = refused s c t e
 

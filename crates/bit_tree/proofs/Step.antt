@@ -11,7 +11,7 @@ use Rattle.bit_stream.specs.declared.abbreviation.AbbrevOp.{AbbrevOp}
 use Rattle.bit_stream.specs.declared.abbreviation.Tail.TheVariants.{NoTail}
 use Rattle.bit_stream.specs.Abbreviation.{AdmittedAbbreviation, is_blob}
 use Rattle.bit_stream.specs.Definition.{defined_abbreviation}
-use Rattle.bit_stream.specs.Record.{Read, names_block, unabbreviated, abbreviated as read_abbreviated}
+use Rattle.bit_stream.specs.Record.{ReadRecord, names_block, unabbreviated, abbreviated as read_abbreviated}
 use Rattle.bit_stream.specs.Scope.{Scope, abbreviation_of}
 use Rattle.bit_stream.specs.Entry.{StreamItem, item, plain, is_top, is_blockinfo, inside, define as read_definition, define_for, record_by, by_abbreviation, recorded, id_at, has_blob_by, defined_at}
 use Rattle.bit_stream.specs.Spelling.{definition_bits, abbreviation_for, record_bits, record_fits}
@@ -134,7 +134,7 @@ ready_recorded v code ns ready = by_test (is_blockinfo v && (code == 1)) ns wher
   by_test true (n ∷ ns) = record { sound = record { own = ready.sound.own; table = ready.sound.table }; wide = ready.wide }
   by_test false ns = ready
 
-unabbreviated_item : (bit : ℕ) (s : Scope) (c d : Cursor) (r : Read) (t : Scope) → unabbreviated (is_blockinfo s) c ≡ Ok (r, d) → recorded bit s r.code r.operands ≡ Ok t
+unabbreviated_item : (bit : ℕ) (s : Scope) (c d : Cursor) (r : ReadRecord) (t : Scope) → unabbreviated (is_blockinfo s) c ≡ Ok (r, d) → recorded bit s r.code r.operands ≡ Ok t
     → inside 3 bit s c ≡ Ok (record { entry = Some (Record r.code); scope = t; operands = r.operands; blob = r.blob }, d)
 unfolding inside record_by
 unabbreviated_item bit s c d r t h k = rw (h, k) refl
@@ -166,7 +166,7 @@ put_step w code ns ready may =
           });
     }
 
-abbreviated_item : (id bit : ℕ) (s : Scope) (c d : Cursor) (t : AdmittedAbbreviation) (r : Read) (u : Scope) → 4 ≤ id → abbreviation_of s id ≡ Some t → read_abbreviated (is_blockinfo s) t c ≡ Ok (r, d) → recorded bit s r.code r.operands ≡ Ok u
+abbreviated_item : (id bit : ℕ) (s : Scope) (c d : Cursor) (t : AdmittedAbbreviation) (r : ReadRecord) (u : Scope) → 4 ≤ id → abbreviation_of s id ≡ Some t → read_abbreviated (is_blockinfo s) t c ≡ Ok (r, d) → recorded bit s r.code r.operands ≡ Ok u
     → inside id bit s c ≡ Ok (record { entry = Some (Record r.code); scope = u; operands = r.operands; blob = r.blob }, d)
 unfolding inside record_by by_abbreviation
 abbreviated_item id bit s c d t r u low there h k =

@@ -11,7 +11,7 @@ use Rattle.bit_stream.specs.declared.abbreviation.ValueSpelling.TheVariants.{Fie
 use Rattle.bit_stream.specs.declared.abbreviation.Tail.{Tail}
 use Rattle.bit_stream.specs.declared.abbreviation.Tail.TheVariants.{NoTail, Elements, Bytes}
 use Rattle.bit_stream.specs.Abbreviation.{AdmittedAbbreviation}
-use Rattle.bit_stream.specs.Record.{code_by, operand, elements, each, counted, tail_by, names_block, Read, unabbreviated, abbreviated}
+use Rattle.bit_stream.specs.Record.{code_by, operand, elements, each, counted, tail_by, names_block, ReadRecord, unabbreviated, abbreviated}
 use Rattle.bit_stream.specs.Spelling.{chunks, fits, value_bits, all_fit, all_bits, record_bits, each_fit, each_bits, tail_fits, with_tail, record_fits, with_record}
 use Rattle.bit_stream.specs.Law.{ReadsAs, AreOperands, is_sound}
 use Rattle.bit_stream.proofs.ReadBack.{vbr_reads, value_reads, then_reads, all_take, all_drop}
@@ -176,7 +176,7 @@ written_is t code ns bits =
     let size : length ((bits ++ front) ++ inside) ≡ length bits + length front + length inside = omega (arith, length-append (bits ++ front) inside, length-append bits front) in
     rw (with_tail_is t.tail (drop k ns) ((bits ++ front) ++ inside), size) (simp append_assoc)
 
-abbrev as_record : ℕ → List ℕ × List ℕ → Read
+abbrev as_record : ℕ → List ℕ × List ℕ → ReadRecord
 as_record code all = record { code = code; operands = all.0; blob = all.1 }
 
 ends_as : (code : ℕ) (t : Tail) (k : ℕ) (ns : List ℕ) → as_record code (ends_with t (take k ns) (drop k ns)) ≡ record { code = code; operands = front_of t k ns; blob = back_of t k ns }

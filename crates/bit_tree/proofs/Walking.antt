@@ -13,7 +13,7 @@ use Rattle.bit_stream.specs.declared.fault.StreamFault.TheVariants.{Bit, Memory}
 use Rattle.bit_stream.specs.Abbreviation.{AdmittedAbbreviation, ops_of}
 use Rattle.bit_stream.specs.Scope.{Scope, top_level}
 use Rattle.bit_stream.specs.declared.told.LastSeen.{LastSeen}
-use Rattle.bit_stream.specs.Entry.{StreamItem, item, is_top, id_at, has_blob_by, defined_at, with_definition, NextItem, Passed, start, more}
+use Rattle.bit_stream.specs.Entry.{StreamItem, item, is_top, id_at, has_blob_by, defined_at, with_definition, NextItem, OnlyDefinitions, start, more}
 use Rattle.bit_stream.specs.Reader.{StreamReader, begins, untold, opened, told_of, Arrived, Entered}
 use Rattle.bit_tree.specs.Read.{Judged}
 use Rattle.bit_tree.specs.Stream.{StreamTree, Stream, Stands, next_id, is_end, opening, stream_fault}
@@ -49,7 +49,7 @@ pub record Defining (s : Scope) (c : Cursor) (definitions : List (List AbbrevOp)
   pub way : Path s c (defining (next_id s) abbreviations) t d
   pub next : next_id t ≡ next_id s + length abbreviations
 
-pub over : {s t : Scope} {c d : Cursor} {definitions : List (List AbbrevOp)} → Passed s c definitions t d → IsWide s → Defining s c definitions t d
+pub over : {s t : Scope} {c d : Cursor} {definitions : List (List AbbrevOp)} → OnlyDefinitions s c definitions t d → IsWide s → Defining s c definitions t d
 unfolding defining
 over {s} start wide = record { abbreviations = []; are = refl; way = stop; next = omega arith }
 over {s} (more {i = i} before h is) wide =

@@ -18,7 +18,7 @@ use Rattle.bit_stream.specs.declared.definition.DefinitionPart.TheVariants.{Valu
 use Rattle.bit_stream.specs.Abbreviation.{AdmittedAbbreviation}
 use Rattle.bit_stream.specs.Answers.{refuse}
 use Rattle.bit_stream.specs.Definition.{field_width, chunk_width, encoding_of, encoding, scalar_by, literal, first_operand, element, element_of, part_by, part, parts, by_part, defined_abbreviation}
-use Rattle.bit_stream.specs.Record.{Read as Values, value_by, code_by, operand, elements, each, counted, tail_by, names_block, unabbreviated, abbreviated}
+use Rattle.bit_stream.specs.Record.{ReadRecord as Values, value_by, code_by, operand, elements, each, counted, tail_by, names_block, unabbreviated, abbreviated}
 use Rattle.bit_stream.specs.Scope.{Scope, abbreviation_of}
 use Rattle.bit_stream.specs.Entry.{StreamItem, plain, is_top, is_blockinfo, came, entered, block_left, enter_sized, enter_wide, enter_named, enter_block, end_block, define_for, define, by_abbreviation, record_by, inside, item}
 use Rattle.bit_walk.specs.Starts.{IsOn}

@@ -11,7 +11,7 @@ use Rattle.bit_stream.specs.declared.abbreviation.ValueSpelling.TheVariants.{Chu
 use Rattle.bit_stream.specs.declared.abbreviation.Tail.{Tail}
 use Rattle.bit_stream.specs.declared.abbreviation.Tail.TheVariants.{NoTail, Elements, Bytes}
 use Rattle.bit_stream.specs.Abbreviation.{AdmittedAbbreviation}
-use Rattle.bit_stream.specs.Record.{Read, value_by, code_by, operand, elements, each, counted, tail_by, names_block, unabbreviated, abbreviated}
+use Rattle.bit_stream.specs.Record.{ReadRecord, value_by, code_by, operand, elements, each, counted, tail_by, names_block, unabbreviated, abbreviated}
 use Rattle.bit_stream.specs.Scope.{Scope, abbreviation_of}
 use Rattle.bit_stream.specs.Entry.{StreamItem, is_blockinfo, came, by_abbreviation, record_by}
 use Rattle.bit_walk.specs.declared.values.OperandStage.TheVariants.{Fields, Repeats, Over}
@@ -206,7 +206,7 @@ behind_id id t d =
     if id == 3 then (code_by (Chunks 6) d >>= λ _ e. vbr 6 e >>= λ n f. repeated (Chunks 6) n f)
     else (code_by t.code d >>= λ _ e. listed t.operands t.tail e)
 
-unabbreviated_left : (b : Bool) (c d : Cursor) (r : Read) → unabbreviated b c ≡ Ok (r, d) → Leaves (code_by (Chunks 6) c >>= λ _ e. vbr 6 e >>= λ n f. repeated (Chunks 6) n f) r.operands
+unabbreviated_left : (b : Bool) (c d : Cursor) (r : ReadRecord) → unabbreviated b c ≡ Ok (r, d) → Leaves (code_by (Chunks 6) c >>= λ _ e. vbr 6 e >>= λ n f. repeated (Chunks 6) n f) r.operands
 unfolding unabbreviated counted
 unabbreviated_left b c d r h =
     let code = bound (code_by (Chunks 6) c) _ r d h in
@@ -214,11 +214,11 @@ unabbreviated_left b c d r h =
     let last = found_parts _ r all.1 d all.3 in
     let count = bound (vbr 6 code.1) _ all.0 all.1 all.2 in
     let rest = elements_repeated (names_block b code.0) (Chunks 6) count.0 [] all.0 count.1 all.1 count.3 in
-    let same : rest.0 ≡ r.operands = sym rest.2 ∙ ap (λ (x : Read). x.operands) last.0 in
+    let same : rest.0 ≡ r.operands = sym rest.2 ∙ ap (λ (x : ReadRecord). x.operands) last.0 in
     let values = same_list (repeated (Chunks 6) count.0 count.1) rest.0 r.operands all.1 rest.1 same in
     (all.1, behind_found (code_by (Chunks 6) c) _ code.0 code.1 r.operands all.1 code.2 (behind_found (vbr 6 code.1) (λ n f. repeated (Chunks 6) n f) count.0 count.1 r.operands all.1 count.2 values))
 
-abbreviated_left : (b : Bool) (t : AdmittedAbbreviation) (c d : Cursor) (r : Read) → abbreviated b t c ≡ Ok (r, d) → Leaves (code_by t.code c >>= λ _ e. listed t.operands t.tail e) r.operands
+abbreviated_left : (b : Bool) (t : AdmittedAbbreviation) (c d : Cursor) (r : ReadRecord) → abbreviated b t c ≡ Ok (r, d) → Leaves (code_by t.code c >>= λ _ e. listed t.operands t.tail e) r.operands
 unfolding abbreviated
 abbreviated_left b t c d r h =
     let code = bound (code_by t.code c) _ r d h in
@@ -226,15 +226,15 @@ abbreviated_left b t c d r h =
     let all = bound (tail_by (names_block b code.0) t.tail front.0 front.1) _ r d front.3 in
     let last = found_parts _ r all.1 d all.3 in
     let rest = each_listed (names_block b code.0) t.operands t.tail [] front.0 all.0 code.1 front.1 all.1 front.2 all.2 in
-    let same : rest.0 ≡ r.operands = sym rest.2 ∙ ap (λ (x : Read). x.operands) last.0 in
+    let same : rest.0 ≡ r.operands = sym rest.2 ∙ ap (λ (x : ReadRecord). x.operands) last.0 in
     let values = same_list (listed t.operands t.tail code.1) rest.0 r.operands rest.1.0 rest.1.1 same in
     (rest.1.0, behind_found (code_by t.code c) (λ _ e. listed t.operands t.tail e) code.0 code.1 r.operands rest.1.0 code.2 values)
 
-came_operands : (r : Read) (c d : Cursor) (u : Result Scope BitFault) (i : StreamItem) → came r c u ≡ Ok (i, d) → i.operands ≡ r.operands
+came_operands : (r : ReadRecord) (c d : Cursor) (u : Result Scope BitFault) (i : StreamItem) → came r c u ≡ Ok (i, d) → i.operands ≡ r.operands
 came_operands r c d (Ok s) i h = let last = found_parts _ i c d h in ap (λ (x : StreamItem). x.operands) (sym last.0)
 came_operands r c d (Err e) i h = absurd (cc)
 
-by_abbreviation_left : (o : Option AdmittedAbbreviation) (bit : ℕ) (b : Bool) (t : AdmittedAbbreviation) (c d : Cursor) (r : Read) → o ≡ Some t → by_abbreviation o bit b c ≡ Ok (r, d) → Leaves (code_by t.code c >>= λ _ e. listed t.operands t.tail e) r.operands
+by_abbreviation_left : (o : Option AdmittedAbbreviation) (bit : ℕ) (b : Bool) (t : AdmittedAbbreviation) (c d : Cursor) (r : ReadRecord) → o ≡ Some t → by_abbreviation o bit b c ≡ Ok (r, d) → Leaves (code_by t.code c >>= λ _ e. listed t.operands t.tail e) r.operands
 unfolding by_abbreviation
 by_abbreviation_left None bit b t c d r is h = absurd (cc)
 by_abbreviation_left (Some u) bit b t c d r is h = let same : u ≡ t = cc in rw same at (abbreviated_left b u c d r h)

@@ -14,7 +14,7 @@ use Rattle.bit_stream.specs.declared.abbreviation.Tail.TheVariants.{NoTail, Elem
 use Rattle.bit_stream.specs.Abbreviation.{AdmittedAbbreviation}
 use Rattle.bit_stream.specs.Answers.{refuse}
 use Rattle.bit_stream.specs.Definition.{defined_abbreviation}
-use Rattle.bit_stream.specs.Record.{Read, value_by, code_by, operand, elements, each, counted, tail_by, names_block, unabbreviated, abbreviated}
+use Rattle.bit_stream.specs.Record.{ReadRecord, value_by, code_by, operand, elements, each, counted, tail_by, names_block, unabbreviated, abbreviated}
 use Rattle.bit_stream.specs.Scope.{Scope, abbreviation_of}
 use Rattle.bit_stream.specs.Entry.{StreamItem, plain, is_top, is_blockinfo, came, entered, block_left, defined, given_for, enter_sized, enter_wide, enter_named, enter_block, words_since, end_block, define_for, define, recorded, by_abbreviation, record_by, inside, item}
 use Rattle.bit_walk.specs.Passing as passing
@@ -70,7 +70,7 @@ tail_is b NoTail front c = refl
 tail_is b (Elements s) front c = along first_of first_and (counted b s front c) _ _ _ (counted_is b s front c) (λ all d. refl)
 tail_is b Bytes front c = behind first_and (blob c) _ _ (λ all d. refl)
 
-abbrev passed_of : Read → Passed
+abbrev passed_of : ReadRecord → Passed
 passed_of r = record { code = r.code; first = first_of r.operands; blob = r.blob }
 
 unabbreviated_is : (b : Bool) (c : Cursor) → kept passed_of (unabbreviated b c) ≡ pass_unabbreviated b c
@@ -99,11 +99,11 @@ unfolding recorded passing.recorded
 recorded_is bit s code [] = refl
 recorded_is bit s code (n ∷ ns) = refl
 
-came_is : (r : Read) (c : Cursor) (t : Result Scope BitFault) → kept bare (came r c t) ≡ passing.came (passed_of r) c t
+came_is : (r : ReadRecord) (c : Cursor) (t : Result Scope BitFault) → kept bare (came r c t) ≡ passing.came (passed_of r) c t
 came_is r c (Ok t) = refl
 came_is r c (Err e) = refl
 
-came_by : (bit : ℕ) (s : Scope) (r : Read) (c : Cursor) → kept bare (came r c (recorded bit s r.code r.operands)) ≡ passing.came (passed_of r) c (passing.recorded bit s r.code (first_of r.operands))
+came_by : (bit : ℕ) (s : Scope) (r : ReadRecord) (c : Cursor) → kept bare (came r c (recorded bit s r.code r.operands)) ≡ passing.came (passed_of r) c (passing.recorded bit s r.code (first_of r.operands))
 came_by bit s r c = rw (recorded_is bit s r.code r.operands) (came_is r c (passing.recorded bit s r.code (first_of r.operands)))
 
 record_is : (id bit : ℕ) (s : Scope) (c : Cursor) → kept bare (record_by id bit s c) ≡ pass_record id bit s c

@@ -9,7 +9,7 @@ use Rattle.bit_stream.specs.declared.entry.Entry.TheVariants.{Record}
 use Rattle.bit_stream.specs.declared.abbreviation.ValueSpelling.{ValueSpelling}
 use Rattle.bit_stream.specs.declared.abbreviation.ValueSpelling.TheVariants.{Chunks}
 use Rattle.bit_stream.specs.Abbreviation.{AdmittedAbbreviation}
-use Rattle.bit_stream.specs.Record.{Read, value_by, code_by, elements, counted, names_block, unabbreviated}
+use Rattle.bit_stream.specs.Record.{ReadRecord, value_by, code_by, elements, counted, names_block, unabbreviated}
 use Rattle.bit_stream.specs.Scope.{Scope}
 use Rattle.bit_stream.specs.Entry.{StreamItem, item, inside, record_by, recorded, came, is_top, is_blockinfo, id_at}
 use Rattle.bit_tree.specs.Pieces.{Piece, holds}
@@ -102,11 +102,11 @@ record PlainItem (s : Scope) (d inner : Cursor) (i : StreamItem) (head : PlainHe
   values : repeated (Chunks 6) head.count inner ≡ Ok (i.operands, d)
 
 -- behind its values
-abbrev behind_values : ℕ → List ℕ → Cursor → Found Read
+abbrev behind_values : ℕ → List ℕ → Cursor → Found ReadRecord
 behind_values code all f = Ok (record { code = code; operands = all; blob = [] }, f)
 
 -- its values
-record PlainValues (inner d : Cursor) (head : PlainHead) (r : Read) : Type 0 where
+record PlainValues (inner d : Cursor) (head : PlainHead) (r : ReadRecord) : Type 0 where
   code : r.code ≡ head.code
   blob : r.blob ≡ []
   values : repeated (Chunks 6) head.count inner ≡ Ok (r.operands, d)
@@ -115,21 +115,21 @@ counted_values : (b : Bool) (count : ℕ) (all : List ℕ) (c d e : Cursor) → 
 unfolding counted
 counted_values b count all c d e read h = rw read at h
 
-counted_behind : (b : Bool) (code : ℕ) (r : Read) (c e d : Cursor) → code_by (Chunks 6) c ≡ Ok (code, e) → unabbreviated b c ≡ Ok (r, d)
+counted_behind : (b : Bool) (code : ℕ) (r : ReadRecord) (c e d : Cursor) → code_by (Chunks 6) c ≡ Ok (code, e) → unabbreviated b c ≡ Ok (r, d)
     → (counted (names_block b code) (Chunks 6) [] e >>= λ all f. behind_values code all f) ≡ Ok (r, d)
 unfolding unabbreviated
 counted_behind b code r c e d read h = rw read at h
 
-plain_values : (b : Bool) (width : ℕ) (place inner : Cursor) (head : PlainHead) (r : Read) (d : Cursor) → (h : HeadIs width place inner head) → unabbreviated b h.behind ≡ Ok (r, d) → PlainValues inner d head r
+plain_values : (b : Bool) (width : ℕ) (place inner : Cursor) (head : PlainHead) (r : ReadRecord) (d : Cursor) → (h : HeadIs width place inner head) → unabbreviated b h.behind ≡ Ok (r, d) → PlainValues inner d head r
 plain_values b width place inner head r d h reads =
     let more = bound (counted (names_block b head.code) (Chunks 6) [] h.middle) (λ all f. behind_values head.code all f) r d (counted_behind b head.code r h.behind h.middle d h.code reads) in
     let all = elements_repeated (names_block b head.code) (Chunks 6) head.count [] more.0 inner more.1 (counted_values (names_block b head.code) head.count more.0 h.middle inner more.1 h.count more.2) in
-    let one : Read = record { code = head.code; operands = more.0; blob = [] } in
+    let one : ReadRecord = record { code = head.code; operands = more.0; blob = [] } in
     let last = found_parts one r more.1 d more.3 in
-    let operands : all.0 ≡ r.operands = sym all.2 ∙ ap (λ (x : Read). x.operands) last.0 in
+    let operands : all.0 ≡ r.operands = sym all.2 ∙ ap (λ (x : ReadRecord). x.operands) last.0 in
     record {
-      code = sym (ap (λ (x : Read). x.code) last.0);
-      blob = sym (ap (λ (x : Read). x.blob) last.0);
+      code = sym (ap (λ (x : ReadRecord). x.code) last.0);
+      blob = sym (ap (λ (x : ReadRecord). x.blob) last.0);
       values = at_place (repeated (Chunks 6) head.count inner) r.operands more.1 d (same_list (repeated (Chunks 6) head.count inner) all.0 r.operands more.1 all.1 operands) last.1;
     }
 
@@ -137,7 +137,7 @@ behind_head : (s : Scope) (c inner d : Cursor) (i : StreamItem) (head : PlainHea
 unfolding item inside
 behind_head s c inner d i head within h reads = rw (within, h.id) at reads
 
-came_plain : (bit : ℕ) (s : Scope) (r : Read) (c d : Cursor) (i : StreamItem) → is_blockinfo s ≡ false → came r c (recorded bit s r.code r.operands) ≡ Ok (i, d) → came r c (Ok s) ≡ Ok (i, d)
+came_plain : (bit : ℕ) (s : Scope) (r : ReadRecord) (c d : Cursor) (i : StreamItem) → is_blockinfo s ≡ false → came r c (recorded bit s r.code r.operands) ≡ Ok (i, d) → came r c (Ok s) ≡ Ok (i, d)
 unfolding recorded
 came_plain bit s r c d i other h = rw other at h
 

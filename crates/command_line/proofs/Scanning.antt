@@ -14,7 +14,7 @@ use Rattle.command_line.specs.declared.options.Setting.{Setting}
 use Rattle.command_line.specs.declared.options.Setting.TheVariants as settings
 use Rattle.command_line.specs.Options as options
 use Rattle.command_line.specs.Tools.{takes_one, needs_file}
-use Rattle.command_line.specs.Options.{Spelled, word_spelling, is_dash}
+use Rattle.command_line.specs.Options.{SeenWord, word_spelling, is_dash}
 use Rattle.command_line.specs.Numbers.{is_number}
 use Rattle.command_line.specs.Roles.{Role, Unknown, Lone, Full, Open, Value, Marker, Input, Argument, role, role_by, awaited, others, is_empty, is_program, is_marked, values, has_dash}
 use Rattle.command_line.specs.Reading.{Wrong, Fails, nothing_given, given_by, first_kind, scan_by, scan, turn, turn_by, spelled_turn, taking, with_setting, with_flag, with_output, with_steps}
@@ -177,7 +177,7 @@ turn_open tool before word (value ∷ behind) settings.MaxSteps e = open_steps t
 
 -- Any word.
 
-turned_by : (tool : Tool) (before : List Role) (word : List ℕ) (behind : List (List ℕ)) → (program marked : Bool) (spelling : Spelled) → role tool before word ≡ role_by None program marked spelling word → Turned tool before (word ∷ behind) (turn_by (given_by tool before) program marked spelling word (first behind) (1 + length before))
+turned_by : (tool : Tool) (before : List Role) (word : List ℕ) (behind : List (List ℕ)) → (program marked : Bool) (spelling : SeenWord) → role tool before word ≡ role_by None program marked spelling word → Turned tool before (word ∷ behind) (turn_by (given_by tool before) program marked spelling word (first behind) (1 + length before))
 turned_by tool before word behind true marked spelling e = one_more tool before word behind (Argument word) _ e refl refl refl
 turned_by tool before word behind false true spelling e = turn_input tool before word behind e _ _ refl refl
 turned_by tool before word behind false false options.Marker e = one_more tool before word behind Marker _ e refl refl refl

@@ -67,17 +67,17 @@ abbrev pub value_part : List ℕ → Option (List ℕ)
 value_part option = value_behind option (equals_sign option)
 
 -- what a word is where an option may stand
-pub data Spelled : Type 0 where
-  Marker : Spelled
+pub data SeenWord : Type 0 where
+  Marker : SeenWord
   -- an option without a value, one with its value behind `=`, and one whose value is the next word
-  Lone : PlainOption → Spelled
-  Full : Setting → List ℕ → Spelled
-  Open : Setting → Spelled
-  Unknown : Spelled
-  Input : Spelled
+  Lone : PlainOption → SeenWord
+  Full : Setting → List ℕ → SeenWord
+  Open : Setting → SeenWord
+  Unknown : SeenWord
+  Input : SeenWord
 
 -- an option of the tool, with the value behind its `=` where it has one
-abbrev pub option_named : Tool → Option PlainOption → Option Setting → Option (List ℕ) → Spelled
+abbrev pub option_named : Tool → Option PlainOption → Option Setting → Option (List ℕ) → SeenWord
 option_named tool (Some flag) setting None = if has tool flag then Lone flag else Unknown
 option_named tool (Some flag) setting (Some value) = Unknown
 option_named tool None (Some setting) None = if takes tool setting then Open setting else Unknown
@@ -85,19 +85,19 @@ option_named tool None (Some setting) (Some value) = if takes tool setting then 
 option_named tool None None value = Unknown
 
 -- what a word is, by what stands behind its dashes, or that it has none
-abbrev pub spelled_behind : Tool → Option (List ℕ) → Spelled
+abbrev pub spelled_behind : Tool → Option (List ℕ) → SeenWord
 spelled_behind tool None = Input
 spelled_behind tool (Some option) = option_named tool (flag_named (name_part option)) (setting_named (name_part option)) (value_part option)
 
 -- what a word is, whatever stands before it
-unfoldable pub word_spelling : Tool → List ℕ → Spelled
+unfoldable pub word_spelling : Tool → List ℕ → SeenWord
 word_spelling tool word =
     if is_dash word then Input
     else if is_marker word then Marker
     else spelled_behind tool (undashed word)
 
 -- the code's answer without its reference
-abbrev pub seen : WordSpelling → Spelled
+abbrev pub seen : WordSpelling → SeenWord
 seen spellings.Marker = Marker
 seen (spellings.Lone flag) = Lone flag
 seen (spellings.Full setting value) = Full setting value.now

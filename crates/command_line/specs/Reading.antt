@@ -17,7 +17,7 @@ use Rattle.command_line.specs.declared.options.Setting.{Setting}
 use Rattle.command_line.specs.declared.options.Setting.TheVariants as settings
 use Rattle.command_line.specs.Tools.{tool_of, takes_one, needs_file}
 use Rattle.command_line.specs.Options as options
-use Rattle.command_line.specs.Options.{Spelled, word_spelling, is_dash}
+use Rattle.command_line.specs.Options.{SeenWord, word_spelling, is_dash}
 use Rattle.command_line.specs.Numbers.{is_number, decimal}
 use Rattle.command_line.specs.Outputs.{output_name, output_from, default_name}
 use Rattle.command_line.specs.Roles.{Role, role, is_empty, is_marked, is_program, others, has_flag, has_dash}
@@ -148,7 +148,7 @@ taking count (Ok given) = Ok (given, count)
 taking count (Err wrong) = Err wrong
 
 -- a turn over a word by what it is spelled as
-abbrev pub spelled_turn : GivenWords → Spelled → List ℕ → Option (List ℕ) → ℕ → Result (GivenWords × ℕ) Wrong
+abbrev pub spelled_turn : GivenWords → SeenWord → List ℕ → Option (List ℕ) → ℕ → Result (GivenWords × ℕ) Wrong
 spelled_turn given options.Marker word next at = Ok (record given { marked = true }, 1)
 spelled_turn given (options.Lone flag) word next at = Ok (with_flag given flag, 1)
 spelled_turn given (options.Full setting value) word next at = taking 1 (with_setting given setting value at at)
@@ -158,7 +158,7 @@ spelled_turn given options.Unknown word next at = Err (UnknownOption, at)
 spelled_turn given options.Input word next at = taking 1 (with_input given word at)
 
 -- a turn over a word by what stands before it
-abbrev pub turn_by : GivenWords → Bool → Bool → Spelled → List ℕ → Option (List ℕ) → ℕ → Result (GivenWords × ℕ) Wrong
+abbrev pub turn_by : GivenWords → Bool → Bool → SeenWord → List ℕ → Option (List ℕ) → ℕ → Result (GivenWords × ℕ) Wrong
 turn_by given true marked spelling word next at = Ok (record given { others = given.others ++ word ∷ [] }, 1)
 turn_by given false true spelling word next at = taking 1 (with_input given word at)
 turn_by given false false spelling word next at = spelled_turn given spelling word next at

@@ -6,7 +6,7 @@ use Rattle.command_line.specs.declared.options.PlainOption.{PlainOption}
 use Rattle.command_line.specs.declared.options.Setting.{Setting}
 use Rattle.command_line.specs.Tools.{same_flag, same_setting}
 use Rattle.command_line.specs.Options as options
-use Rattle.command_line.specs.Options.{Spelled, word_spelling, is_dash}
+use Rattle.command_line.specs.Options.{SeenWord, word_spelling, is_dash}
 
 -- what a word is, given what the words before it are
 pub data Role : Type 0 where
@@ -53,7 +53,7 @@ is_program tools.Lli no_others = not no_others
 is_program tool no_others = false
 
 -- the role of a word that nothing before it decides
-abbrev pub role_spelled : Spelled → List ℕ → Role
+abbrev pub role_spelled : SeenWord → List ℕ → Role
 role_spelled options.Marker word = Marker
 role_spelled (options.Lone flag) word = Lone flag
 role_spelled (options.Full setting value) word = Full setting value
@@ -62,7 +62,7 @@ role_spelled options.Unknown word = Unknown
 role_spelled options.Input word = Input word
 
 -- The first line that fits: the value of the option before it, a word of the program, an input behind `--`, what it is written as.
-abbrev pub role_by : Option Setting → Bool → Bool → Spelled → List ℕ → Role
+abbrev pub role_by : Option Setting → Bool → Bool → SeenWord → List ℕ → Role
 role_by (Some setting) program marked spelling word = Value setting word
 role_by None true marked spelling word = Argument word
 role_by None false true spelling word = Input word

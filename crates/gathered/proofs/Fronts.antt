@@ -3,7 +3,7 @@ use Rattle.std.proofs.Common.{◌≡◌, ℕ, suc, ◌+◌, ◌≤◌, false, Li
 use Rattle.std.proofs.lemmas.List.{take-append-le, length-append}
 use Rattle.std.proofs.lemmas.Bool.{MatchBool-at_false}
 use Rattle.ir_base.specs.Outside.{Added}
-use Rattle.gathered.specs.Told.{State, AddedFront, Gathers, Says}
+use Rattle.gathered.specs.Told.{GatherState, AddedFront, Gathers, Says}
 
 take_behind : (a b : List ℕ) (count : ℕ) → take (length a + count) (a ++ b) ≡ a ++ take count b
 take_behind [] b count = let e : 0 + count ≡ count = omega arith in rw e refl
@@ -30,7 +30,7 @@ front_more start now text bytes f = record {
 }
 
 -- all that was held is written
-pub gathers_written : (start : Option (List ℕ)) (before now : State) (text : List ℕ) → Added before.taken now.taken before.pending.held → now.pending.held ≡ [] → Gathers start before text → Gathers start now text
+pub gathers_written : (start : Option (List ℕ)) (before now : GatherState) (text : List ℕ) → Added before.taken now.taken before.pending.held → now.pending.held ≡ [] → Gathers start before text → Gathers start now text
 gathers_written start before now text added none g = record {
   written = text;
   is = sym (ap (λ (t : List ℕ). text ++ t) none ∙ append-nil text);
@@ -38,7 +38,7 @@ gathers_written start before now text added none g = record {
 }
 
 -- nothing was held, and these bytes are written
-pub gathers_through : (start : Option (List ℕ)) (before now : State) (text bytes : List ℕ) → before.pending.held ≡ [] → now.pending.held ≡ [] → Added before.taken now.taken bytes → Gathers start before text → Gathers start now (text ++ bytes)
+pub gathers_through : (start : Option (List ℕ)) (before now : GatherState) (text bytes : List ℕ) → before.pending.held ≡ [] → now.pending.held ≡ [] → Added before.taken now.taken bytes → Gathers start before text → Gathers start now (text ++ bytes)
 gathers_through start before now text bytes none still added g = record {
   written = text ++ bytes;
   is = sym (ap (λ (t : List ℕ). (text ++ bytes) ++ t) still ∙ append-nil (text ++ bytes));
@@ -46,16 +46,16 @@ gathers_through start before now text bytes none still added g = record {
 }
 
 -- a front of what was held is written
-pub front_written : (start : Option (List ℕ)) (before : State) (now : Option (List ℕ)) (text : List ℕ) (count : ℕ) → count ≤ length before.pending.held → Added before.taken now (take count before.pending.held) → Gathers start before text → AddedFront start now text
+pub front_written : (start : Option (List ℕ)) (before : GatherState) (now : Option (List ℕ)) (text : List ℕ) (count : ℕ) → count ≤ length before.pending.held → Added before.taken now (take count before.pending.held) → Gathers start before text → AddedFront start now text
 front_written start before now text count within added g = rw g.is (front_behind start before.taken now g.written before.pending.held count within g.added added)
 
 -- nothing was held, and a front of these bytes is written
-pub front_through : (start : Option (List ℕ)) (before : State) (now : Option (List ℕ)) (text bytes : List ℕ) (count : ℕ) → before.pending.held ≡ [] → count ≤ length bytes → Added before.taken now (take count bytes) → Gathers start before text → AddedFront start now (text ++ bytes)
+pub front_through : (start : Option (List ℕ)) (before : GatherState) (now : Option (List ℕ)) (text bytes : List ℕ) (count : ℕ) → before.pending.held ≡ [] → count ≤ length bytes → Added before.taken now (take count bytes) → Gathers start before text → AddedFront start now (text ++ bytes)
 front_through start before now text bytes count none within added g =
     front_behind start before.taken now text bytes count within (rw (g.is ∙ ap (λ (t : List ℕ). g.written ++ t) none ∙ append-nil g.written) g.added) added
 
 -- ---- by whether a write failed
 
 -- no write had failed, so the rest is held
-pub gathers : (start : Option (List ℕ)) (s : State) (text : List ℕ) → s.pending.failed ≡ false → Says start s text → Gathers start s text
+pub gathers : (start : Option (List ℕ)) (s : GatherState) (text : List ℕ) → s.pending.failed ≡ false → Says start s text → Gathers start s text
 gathers start s text fine said = MatchBool-at_false _ _ fine said

@@ -1,7 +1,7 @@
 -- The cases of a switch, put one behind the other.
 use Rattle.std.proofs.Common.{◌≡◌, ℕ, ◌+◌, ◌<◌, ◌≤◌, All, List, ◌∷◌, map, length, drop, get_or, subst, sym, ap, ◌∙◌, arith}
 use Rattle.std.proofs.lemmas.List.{at_drop_more, at_drop_all, length-map, get_or-map}
-use Rattle.gathered.specs.Told.{State}
+use Rattle.gathered.specs.Told.{GatherState}
 use Rattle.ir_lexer.specs.Pieces.{TextPiece, Space}
 use Rattle.module_arena.specs.declared.entry.Function.{Function}
 use Rattle.module_arena.specs.declared.instruction.Case.{Case}
@@ -21,14 +21,14 @@ module _ (a : Lists) (f : Function) where
   all_cases cases = each Space (map case_phrase (map (case_of a f) cases)) Space
 
   -- one case more is put
-  pub cases_more : (cases : List Case) (place : ℕ) (case : Case) {x y z : State} → place < length cases → case ≡ get_or cases place case → Prints x y (case_phrase (case_of a f case) Space) → Prints y z (all_cases (drop (place + 1) cases)) → Prints x z (all_cases (drop place cases))
+  pub cases_more : (cases : List Case) (place : ℕ) (case : Case) {x y z : GatherState} → place < length cases → case ≡ get_or cases place case → Prints x y (case_phrase (case_of a f case) Space) → Prints y z (all_cases (drop (place + 1) cases)) → Prints x z (all_cases (drop place cases))
   cases_more cases place case lt read h k =
       let rest = drop (place + 1) cases in
       prints_same (ap (λ (x : Case). all_cases (x ∷ rest)) read ∙ sym (at_drop_more all_cases cases place case lt))
       (prints_then (case_phrase (case_of a f case) Space) (all_cases rest) h k)
 
   -- at the end no case is left
-  pub cases_end : (cases : List Case) (place : ℕ) (now : State) → length cases ≤ place → Prints now now (all_cases (drop place cases))
+  pub cases_end : (cases : List Case) (place : ℕ) (now : GatherState) → length cases ≤ place → Prints now now (all_cases (drop place cases))
   cases_end cases place now le = prints_same (sym (at_drop_all all_cases cases place le)) (prints_none now)
 
   -- a case as an operand

@@ -1,7 +1,7 @@
 -- Phrases with commas between them, put one behind the other.
 use Rattle.std.proofs.Common.{◌≡◌, ℕ, zero, suc, ◌+◌, ◌-◌, ◌<◌, ◌≤◌, List, [], ◌∷◌, length, drop, get_or, refl, sym, ap, ◌∙◌, arith}
 use Rattle.std.proofs.lemmas.List.{at_drop_more, at_drop_all, length-drop}
-use Rattle.gathered.specs.Told.{State}
+use Rattle.gathered.specs.Told.{GatherState}
 use Rattle.ir_lexer.specs.Pieces.{Separator}
 use Rattle.canonical.specs.Phrase.{Phrase, listed}
 use Rattle.phrase_printer.specs.Printing.{Prints, separator_before, comma_before}
@@ -13,7 +13,7 @@ module _ {A : Type 0} (phrase : A → Phrase) (all : List A → List Phrase) (no
   many (x ∷ xs) = ap length (more x xs) ∙ ap suc (many xs)
 
   -- one part more is put
-  pub part_put : (parts : List A) (place : ℕ) (part : A) (before behind : Separator) {w x y z : State} → place < length parts → part ≡ get_or parts place part
+  pub part_put : (parts : List A) (place : ℕ) (part : A) (before behind : Separator) {w x y z : GatherState} → place < length parts → part ≡ get_or parts place part
       → before ≡ separator_before (length parts - 1 - place) behind
       → Prints w x (phrase part before)
       → Prints x y (comma_before (length parts - 1 - place))
@@ -29,7 +29,7 @@ module _ {A : Type 0} (phrase : A → Phrase) (all : List A → List Phrase) (no
       k)
 
   -- at the end no part is left
-  pub parts_put : (parts : List A) (place : ℕ) (behind : Separator) (now : State) → length parts ≤ place → Prints now now (listed (all (drop place parts)) behind)
+  pub parts_put : (parts : List A) (place : ℕ) (behind : Separator) (now : GatherState) → length parts ≤ place → Prints now now (listed (all (drop place parts)) behind)
   parts_put parts place behind now le =
       prints_same (ap (λ (ps : List Phrase). listed ps behind) (sym none) ∙ sym (at_drop_all (λ (ps : List A). listed (all ps) behind) parts place le)) (prints_none now)
 

@@ -2,7 +2,7 @@
 use Rattle.std.proofs.Common.{◌≡◌, ℕ, [], ◌++◌, codes, Option, Some, None, append_assoc, refl, ap}
 use Rattle.std.specs.Prelude.{option_to_list}
 use Rattle.std.specs.Option.{option_map}
-use Rattle.gathered.specs.Told.{State}
+use Rattle.gathered.specs.Told.{GatherState}
 use Rattle.ir_lexer.specs.Pieces.{Separator, Space}
 use Rattle.module_arena.specs.declared.entry.Function.{Function}
 use Rattle.module_arena.specs.declared.instruction.Inst.{Inst}
@@ -45,14 +45,14 @@ module _ (a : Lists) (f : Function) where
   result_is (inst.ExtractValue result aggregate indices) r e = ap name_of (only r (Some result) e)
   result_is (inst.InsertValue result insertion) r e = ap name_of (only r (Some result) e)
 
-  assigned_put : (p : Phrase) (behind : Separator) (r : Option ℕ) {x y z : State} → Prints x y (result_pieces a f r) → Prints y z (p behind) → Prints x z (assigned (name_of r) p behind)
+  assigned_put : (p : Phrase) (behind : Separator) (r : Option ℕ) {x y z : GatherState} → Prints x y (result_pieces a f r) → Prints y z (p behind) → Prints x z (assigned (name_of r) p behind)
   assigned_put p behind None h k = prints_then [] (p behind) h k
   assigned_put p behind (Some id) h k =
       let name = local (called_at a f id) Space in
       prints_same (append_assoc name (mark (codes "=") Space) (p behind)) (prints_then (name ++ mark (codes "=") Space) (p behind) h k)
 
   -- a result and what stands behind it are the instruction
-  pub instruction_put : (behind : Separator) (i : Inst) (r : Option ℕ) → option_to_list r ≡ result_of i → {x y z : State} → Prints x y (result_pieces a f r) → Prints y z (operation_phrase (operation_of a f i) behind) → Prints x z (instruction_phrase (instruction_of a f i) behind)
+  pub instruction_put : (behind : Separator) (i : Inst) (r : Option ℕ) → option_to_list r ≡ result_of i → {x y z : GatherState} → Prints x y (result_pieces a f r) → Prints y z (operation_phrase (operation_of a f i) behind) → Prints x z (instruction_phrase (instruction_of a f i) behind)
   instruction_put behind i r e h k =
       let p = operation_phrase (operation_of a f i) in
       prints_same (ap (λ (n : Option LocalName). assigned n p behind) (result_is i r e)) (assigned_put p behind r h k)

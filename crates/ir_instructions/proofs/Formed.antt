@@ -18,7 +18,7 @@ use Rattle.ir_constants.proofs.Gives.{Gives, gives_any, gives_weaker, gives_fail
 use Rattle.ir_constants.proofs.Formed.{gives_flags, gives_value, gives_typed_value, gives_typed_constant}
 use Rattle.ir_instructions.specs.Tree.{OperationTree}
 use Rattle.ir_instructions.specs.Dropped.{comma_shape, commas_shape, attachment_row, attachments_row, parameter_attributes_row}
-use Rattle.ir_instructions.specs.Tails.{Listed, listed_step, listed_core, listed_row, alignment_row, alignment_behind_row, count_behind_row, count_core, count_row}
+use Rattle.ir_instructions.specs.Tails.{ListedParts, listed_step, listed_core, listed_row, alignment_row, alignment_behind_row, count_behind_row, count_core, count_row}
 use Rattle.ir_instructions.specs.Calls.{signature_row, argument_core, argument_row, argument_list_core, argument_list_row, arguments_shape, arguments_core, arguments_row, result_type_row, call_end_row, called_shape, called_core, called_row, call_shape, call_core, call_row}
 use Rattle.ir_instructions.specs.Operations.{tail_shape, next_value_core, next_value_row, next_typed_value_core, next_typed_value_row, operands_shape, operands_core, operands_row, cast_type_row, arms_core, arms_row, address_core, address_row, from_block_row, incoming_shape, incoming_core, incoming_row, operand_list_core, operand_list_row, indices_core, indices_row, operation_shape, binary_core, compare_core, cast_core, select_core, freeze_core, phi_core, load_core, store_core, alloca_core, element_address_core, extract_core, insert_core, operation_core, operation_behind}
 use Rattle.ir_instructions.specs.Instructions.{result_classes, operation_classes, marked_call_row, operation_over_shape, operation_over_core, operation_over, assigned_row, bare_row, instruction_shape, instruction_core, instruction_row, instructions_row}
@@ -43,7 +43,7 @@ module _ {A : Type 0} (p : Row Located A) (P : A → Type 0) (h : Gives p P) whe
       (gives_mapped _ (λ s. AreSome P s.0) (gives_any attachment_row) (λ u y. x))
       (gives_mapped _ (λ s. AreSome P s.0) h (λ a y. (not_empty_more parts a, all_more P parts a x.1 y))))
 
-  listed_given : (s : Listed A) → AreSome P s.0 → Gives (listed_step p s) (λ m. AreSome P m.0)
+  listed_given : (s : ListedParts A) → AreSome P s.0 → Gives (listed_step p s) (λ m. AreSome P m.0)
   listed_given (parts, closed) x = listed_by parts closed x
 
   gives_listed_core : (parts : List A) → AreSome P parts → Gives (listed_core p parts) (AreSome P)

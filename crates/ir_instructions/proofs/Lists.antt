@@ -17,7 +17,7 @@ use Rattle.ir_terminals.specs.Tokens.{word}
 use Rattle.ir_constants.specs.Tree.{TypeTree}
 use Rattle.ir_constants.specs.Types.{type_row}
 use Rattle.ir_instructions.specs.Dropped.{attachment_row, attachments_core, attachments_row, comma_shape}
-use Rattle.ir_instructions.specs.Tails.{Listed, listed_step, listed_core, listed_row, part_begins_row, part_ahead_row}
+use Rattle.ir_instructions.specs.Tails.{ListedParts, listed_step, listed_core, listed_row, part_begins_row, part_ahead_row}
 use Rattle.ir_instructions.specs.Calls.{signature_step}
 use Rattle.ir_instructions.proofs.TailsGrammar.{part_shape, reads_comma_part, reads_listed_step}
 use Rattle.ir_instructions.proofs.CallsGrammar.{reads_signature_step}
@@ -36,15 +36,15 @@ many_moved row view reads ok some limits later xs ys x ts rest all l e b f h =
     rw l (rw e (rw (map-append view xs (x ∷ [])) (sym (many_next class (reads limits) (ok limits) (some limits) (map view xs) (view x) ts rest b f) ∙ h)))
 
 -- the parts of a loop that has ended
-abbrev parts_read : {A : Type 0} → Reading Located (Listed A) → Reading Located (List A)
+abbrev parts_read : {A : Type 0} → Reading Located (ListedParts A) → Reading Located (List A)
 parts_read x = bind x (λ s rest. Done s.0 rest)
 
 module _ {A : Type 0} (p : Row Located A) (parts : List A) where
   -- these parts, where metadata was read
-  abbrev as_closed : Reading Located (Unit {0}) → Reading Located (Listed A)
+  abbrev as_closed : Reading Located (Unit {0}) → Reading Located (ListedParts A)
   as_closed x = bind x (λ u rest. Done (parts, true) rest)
 
-  abbrev closed_loop : ℕ → List Located → Reading Located (Listed A)
+  abbrev closed_loop : ℕ → List Located → Reading Located (ListedParts A)
   closed_loop n ts = run_loop class comma_shape (listed_step p) n (parts, true) ts
 
   abbrev metadata_loop : ℕ → Unit {0} → List Located → Reading Located (Unit {0})
@@ -78,7 +78,7 @@ module _ {A : Type 0} (p : Row Located A) (parts : List A) where
   abbrev pub listed_on : List Located → Reading Located (List A)
   listed_on ts = bind (part_ahead_row.run ts) listed_behind
 
-  abbrev steps_behind : Reading Located (Listed A) → Reading Located (List A)
+  abbrev steps_behind : Reading Located (ListedParts A) → Reading Located (List A)
   steps_behind x = parts_read (bind x (λ s rest. (loop class comma_shape (listed_step p) s).run rest))
 
   metadata_all : (x : Reading Located (Unit {0})) → parts_read (as_closed x) ≡ bind (bind x (λ u rest. Done false rest)) listed_behind

@@ -14,7 +14,7 @@ use Rattle.ir_terminals.specs.Terminal.{code}
 use Rattle.ir_terminals.specs.Tokens.{word, integer_row}
 use Rattle.ir_constants.proofs.Grammar.{reads_word, reads_typed_value}
 use Rattle.ir_instructions.specs.Dropped.{comma_shape, commas_shape}
-use Rattle.ir_instructions.specs.Tails.{alignment_behind_row, alignment_core, alignment_row, count_behind_row, count_core, count_row, Listed, listed_step, listed_core, listed_row, part_begins_row}
+use Rattle.ir_instructions.specs.Tails.{alignment_behind_row, alignment_core, alignment_row, count_behind_row, count_core, count_row, ListedParts, listed_step, listed_core, listed_row, part_begins_row}
 use Rattle.ir_instructions.proofs.DroppedGrammar.{reads_attachment, reads_attachments}
 
 pub reads_integer : Reads class integer_row integer_row.shape
@@ -63,12 +63,12 @@ abbrev pub part_shape : List ℕ → PhraseShape
 part_shape first = record { first = first; more = []; empty = false }
 
 module _ {A : Type 0} (first : List ℕ) (r : Row Located A) (h : Reads class (labelled (part_shape first) r) (part_shape first)) (ok : apart (code terminal.MetaName ∷ []) first ≡ true) where
-  reads_listed_step_at : (s : Listed A) → Reads class (listed_step (labelled (part_shape first) r) s) comma_shape
+  reads_listed_step_at : (s : ListedParts A) → Reads class (listed_step (labelled (part_shape first) r) s) comma_shape
   reads_listed_step_at (parts, true) = reads_second class (reads_word terminal.Comma) (reads_mapped class _ reads_attachment) refl
   reads_listed_step_at (parts, false) =
       reads_second class (reads_word terminal.Comma) (reads_alt class (reads_mapped class _ reads_attachment) (reads_mapped class _ h) ok refl) refl
 
-pub reads_listed_step : {A : Type 0} (first : List ℕ) (r : Row Located A) → Reads class (labelled (part_shape first) r) (part_shape first) → apart (code terminal.MetaName ∷ []) first ≡ true → (s : Listed A) → Reads class (listed_step (labelled (part_shape first) r) s) comma_shape
+pub reads_listed_step : {A : Type 0} (first : List ℕ) (r : Row Located A) → Reads class (labelled (part_shape first) r) (part_shape first) → apart (code terminal.MetaName ∷ []) first ≡ true → (s : ListedParts A) → Reads class (listed_step (labelled (part_shape first) r) s) comma_shape
 reads_listed_step first r h ok s = reads_listed_step_at first r h ok s
 
 reads_listed_core : {A : Type 0} (first : List ℕ) (r : Row Located A) → Reads class (labelled (part_shape first) r) (part_shape first) → apart (code terminal.MetaName ∷ []) first ≡ true → (parts : List A) → Reads class (listed_core (labelled (part_shape first) r) parts) commas_shape

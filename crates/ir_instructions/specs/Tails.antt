@@ -40,11 +40,11 @@ abbrev pub count_row : Limits → Row Located (Option TypedValueTree × Option I
 count_row limits = labelled commas_shape (count_core limits)
 
 -- the parts so far, and whether metadata has begun
-abbrev pub Listed : Type 0 → Type 0
-Listed A = List A × Bool
+abbrev pub ListedParts : Type 0 → Type 0
+ListedParts A = List A × Bool
 
 -- , PART or , MD, and behind MD only that
-abbrev pub listed_step : {A : Type 0} → Row Located A → Listed A → Row Located (Listed A)
+abbrev pub listed_step : {A : Type 0} → Row Located A → ListedParts A → Row Located (ListedParts A)
 listed_step p s =
     keep_second (word terminal.Comma)
     (cond s.1 (mapped (λ u. s) attachment_row)

@@ -1,7 +1,7 @@
 -- The lines of a module, one behind the other.
 use Rattle.std.proofs.Common.{◌≡◌, ℕ, List, [], ◌∷◌, ◌++◌, All, Some, slice_get, subst, append_assoc, refl, sym, ap, ◌∙◌}
 use Rattle.std.proofs.lemmas.Option.{get_or_from_slice_get, slice_get_within}
-use Rattle.gathered.specs.Told.{State}
+use Rattle.gathered.specs.Told.{GatherState}
 use Rattle.ir_lexer.specs.Pieces.{TextPiece, Separator, Line}
 use Rattle.canonical.specs.Phrase.{Phrase, each}
 use Rattle.phrase_printer.specs.Printing.{Prints}
@@ -12,7 +12,7 @@ each_then : (xs ys : List Phrase) (s : Separator) → each Line (xs ++ ys) s ≡
 each_then [] ys s = refl
 each_then (x ∷ xs) ys s = ap (λ (ps : List TextPiece). x Line ++ ps) (each_then xs ys s) ∙ sym (append_assoc (x Line) (each Line xs s) (each Line ys s))
 
-pub lines_then : (xs ys : List Phrase) (s : Separator) {u v w : State} → Prints u v (each Line xs s) → Prints v w (each Line ys s) → Prints u w (each Line (xs ++ ys) s)
+pub lines_then : (xs ys : List Phrase) (s : Separator) {u v w : GatherState} → Prints u v (each Line xs s) → Prints v w (each Line ys s) → Prints u w (each Line (xs ++ ys) s)
 lines_then xs ys s h k = prints_same (sym (each_then xs ys s)) (prints_then (each Line xs s) (each Line ys s) h k)
 
 -- three lists, and others behind them

@@ -3,7 +3,7 @@ use Rattle.std.proofs.Common.{◌≡◌, ℕ, zero, suc, ◌+◌, ◌-◌, ◌<�
 use Rattle.std.proofs.lemmas.List.{at_drop_more, at_drop_all, length-drop, length_push}
 use Rattle.std.proofs.lemmas.List.{length-map, get_or-map}
 use Rattle.std.proofs.lemmas.Option.{get_or_from_slice_get, slice_get_within}
-use Rattle.gathered.specs.Told.{State}
+use Rattle.gathered.specs.Told.{GatherState}
 use Rattle.ir_lexer.specs.Pieces.{Nothing}
 use Rattle.type_table.specs.Tree.{opaque_body}
 use Rattle.type_table.specs.declared.ir_type.StructBody.{StructBody}
@@ -47,7 +47,7 @@ mapped t (x ∷ xs) = ap suc (mapped t xs)
 
 module _ (t : Types) (variadic : Bool) where
   -- one type more is put
-  pub declared_more : (parts : List Parameter) (place others : ℕ) (d : Parameter) {w x y z : State} → place < length parts → others ≡ length parts - 1 - place + dots variadic
+  pub declared_more : (parts : List Parameter) (place others : ℕ) (d : Parameter) {w x y z : GatherState} → place < length parts → others ≡ length parts - 1 - place + dots variadic
       → Prints w x (type_phrase (tree t (get_or parts place d).ty) Nothing) → Prints x y (comma_before others)
       → Prints y z (declared_list t (drop (place + 1) parts) variadic) → Prints w z (declared_list t (drop place parts) variadic)
   declared_more parts place others d lt is h j k =
@@ -59,7 +59,7 @@ module _ (t : Types) (variadic : Bool) where
       (prints_part p (dotted ps variadic) Nothing (prints_same (ap p (sym (nothing_before (length (dotted ps variadic))))) h) (prints_same (ap comma_before count) j) k)
 
   -- at the end the dots are left, where there are any
-  pub declared_end : (parts : List Parameter) (place : ℕ) {y z : State} → length parts ≤ place → Prints y z (listed (dotted [] variadic) Nothing) → Prints y z (declared_list t (drop place parts) variadic)
+  pub declared_end : (parts : List Parameter) (place : ℕ) {y z : GatherState} → length parts ≤ place → Prints y z (listed (dotted [] variadic) Nothing) → Prints y z (declared_list t (drop place parts) variadic)
   declared_end parts place le h = prints_same (sym (at_drop_all (λ (qs : List Parameter). declared_list t qs variadic) parts place le)) h
 
 -- a struct by its name and its body

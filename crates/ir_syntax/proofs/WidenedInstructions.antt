@@ -12,7 +12,7 @@ use Rattle.ir_terminals.specs.Tokens.{word, local_row, label_row, predicate_row}
 use Rattle.ir_constants.specs.Flags.{flags_row}
 use Rattle.ir_instructions.specs.Tree.{SignatureTree, ReturnVoid, Jump}
 use Rattle.ir_instructions.specs.Dropped.{attachment_row, attachments_row, comma_shape, commas_shape, parameter_attributes_row, convention_row}
-use Rattle.ir_instructions.specs.Tails.{alignment_behind_row, alignment_row, count_behind_row, count_core, count_row, Listed, listed_step, listed_core, listed_row}
+use Rattle.ir_instructions.specs.Tails.{alignment_behind_row, alignment_row, count_behind_row, count_core, count_row, ListedParts, listed_step, listed_core, listed_row}
 use Rattle.ir_instructions.specs.Calls.{signature_step, some_types_row, signature_types_row, signature_core, signature_row, argument_core, argument_row, argument_list_core, argument_list_row, arguments_core, arguments_row, result_type_core, result_type_row, call_end_row, called_core, called_row, call_core, call_row}
 use Rattle.ir_instructions.specs.Operations.{next_value_core, next_value_row, next_typed_value_core, next_typed_value_row, operands_core, operands_row, cast_type_core, cast_type_row, arms_core, arms_row, address_core, address_row, from_block_row, incoming_core, incoming_row, operand_list_core, operand_list_row, indices_row, operation_shape, binary_core, binary_row, compare_core, cast_core, cast_row, select_core, freeze_core, phi_core, load_core, store_core, alloca_core, element_address_core, extract_core, insert_core, operation_core}
 use Rattle.ir_instructions.specs.Endings.{target_row, next_target_row, return_value_core, return_value_row, return_core, return_row, condition_row, branch_target_core, branch_target_row, branch_core, branch_row, case_core, case_row, cases_core, cases_row, switch_targets_core, switch_targets_row, switch_core, switch_row, unreachable_row, ending_core, ending_row}
@@ -23,7 +23,7 @@ use Rattle.ir_syntax.proofs.WidenedConstants.{IsWider, widened_word, widened_typ
 
 -- parts behind commas
 module _ {A : Type 0} {may : Located → Bool} {p q : Row Located A} (h : IsWidened may p q) where
-  widened_listed_step : (s : Listed A) → IsWidened may (listed_step p s) (listed_step q s)
+  widened_listed_step : (s : ListedParts A) → IsWidened may (listed_step p s) (listed_step q s)
   widened_listed_step (parts, true) = widened_same (listed_step p (parts, true))
   widened_listed_step (parts, false) =
       widened_second (widened_word terminal.Comma) (widened_alt class (widened_same (mapped (λ u. (parts, true)) attachment_row)) (widened_mapped h) refl)

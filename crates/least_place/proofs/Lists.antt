@@ -6,15 +6,15 @@ use Rattle.ir_terminals.specs.declared.terminal.Terminal.TheVariants as terminal
 use Rattle.ir_terminals.specs.Role.{class}
 use Rattle.ir_terminals.specs.Tokens.{word}
 use Rattle.ir_instructions.specs.Dropped.{comma_shape, commas_shape, attachment_row}
-use Rattle.ir_instructions.specs.Tails.{Listed, listed_step, listed_core, listed_row}
+use Rattle.ir_instructions.specs.Tails.{ListedParts, listed_step, listed_core, listed_row}
 use Rattle.name_rules.specs.Demand.{Demand}
 use Rattle.least_place.proofs.Draws.{Draws, Drawn, Spans, all_asked, spans_draws, draws_spans, spans_labelled, spans_chain, spans_loop, spans_any, spans_mapped, spans_second, spans_alt, Adds, adds_further, adds_none, adds_one, spans_added, alone}
 
 module _ {A X : Type 0} (p : Row Located A) (f : X → A → List Demand) (h : Draws p f) where
-  abbrev Longer : List A → List Located → Listed A → Type 0
+  abbrev Longer : List A → List Located → ListedParts A → Type 0
   Longer parts us s = Adds (all_asked f) parts us s.0
 
-  further : (parts : List A) (us vs : List Located) (s : Listed A) → Longer parts vs s → Longer parts (us ++ vs) s
+  further : (parts : List A) (us vs : List Located) (s : ListedParts A) → Longer parts vs s → Longer parts (us ++ vs) s
   further parts us vs s x = adds_further (all_asked f) parts s.0 us vs x
 
   listed_adds : (parts : List A) (closed : Bool) → Spans (listed_step p (parts, closed)) (Longer parts)
@@ -26,10 +26,10 @@ module _ {A X : Type 0} (p : Row Located A) (f : X → A → List Demand) (h : D
       (spans_mapped _ (Longer parts) (spans_any attachment_row) (λ us u x. adds_none (all_asked f) parts us))
       (spans_mapped _ (Longer parts) (spans_draws f h) (λ us a d. adds_one f parts us a d)))
 
-  abbrev Kept : List Located → Listed A → Type 0
+  abbrev Kept : List Located → ListedParts A → Type 0
   Kept us s = Drawn (all_asked f) us s.0
 
-  listed_kept : (us : List Located) (s : Listed A) → Kept us s → Spans (listed_step p s) (λ vs m. Kept (us ++ vs) m)
+  listed_kept : (us : List Located) (s : ListedParts A) → Kept us s → Spans (listed_step p s) (λ vs m. Kept (us ++ vs) m)
   listed_kept us (parts, closed) d = spans_added (λ s. s.0) (all_asked f) parts us d (listed_adds parts closed)
 
   spans_listed : (us : List Located) (parts : List A) → Drawn (all_asked f) us parts → Spans (listed_core p parts) (λ vs all. Drawn (all_asked f) (us ++ vs) all)

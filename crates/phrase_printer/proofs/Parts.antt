@@ -3,7 +3,7 @@ use Rattle.std.proofs.Common.{◌≡◌, ℕ, zero, suc, ◌+◌, ◌-◌, ◌<�
 use Rattle.std.specs.Option.{option_map}
 use Rattle.std.proofs.lemmas.Option.{get_or_from_slice_get, slice_get-map}
 use Rattle.std.proofs.lemmas.List.{at_drop_more, at_drop_all, length-drop}
-use Rattle.gathered.specs.Told.{State}
+use Rattle.gathered.specs.Told.{GatherState}
 use Rattle.ir_lexer.specs.Pieces.{Separator, Nothing, Space}
 use Rattle.ir_tables.specs.declared.opcode.Opcode.{Opcode}
 use Rattle.type_table.specs.Tree.{Tree}
@@ -55,7 +55,7 @@ many_phrases a [] = refl
 many_phrases a (part ∷ parts) = ap suc (many_phrases a parts)
 
 -- one part more is put
-pub part_put : (a : Lists) (parts : List TypedConst) (place : ℕ) (part : TypedConst) (before behind : Separator) {w x y z : State} → place < length parts → part ≡ get_or parts place part
+pub part_put : (a : Lists) (parts : List TypedConst) (place : ℕ) (part : TypedConst) (before behind : Separator) {w x y z : GatherState} → place < length parts → part ≡ get_or parts place part
     → before ≡ separator_before (length parts - 1 - place) behind
     → Prints w x (phrase a part before)
     → Prints x y (comma_before (length parts - 1 - place))
@@ -71,11 +71,11 @@ part_put a parts place part before behind lt read is h j k =
     k)
 
 -- at the end no part is left
-pub parts_put : (a : Lists) (parts : List TypedConst) (place : ℕ) (behind : Separator) (now : State) → length parts ≤ place → Prints now now (listed (phrases a (drop place parts)) behind)
+pub parts_put : (a : Lists) (parts : List TypedConst) (place : ℕ) (behind : Separator) (now : GatherState) → length parts ≤ place → Prints now now (listed (phrases a (drop place parts)) behind)
 parts_put a parts place behind now le = prints_same (sym (at_drop_all (λ (ps : List TypedConst). listed (phrases a ps) behind) parts place le)) (prints_none now)
 
 -- constants in their brackets
-pub brackets_put : (brackets : Brackets) (ps : List Phrase) (behind : Separator) {w x y z : State} → Prints w x (bracket_opening brackets (length ps)) → Prints x y (listed ps (last_in brackets)) → Prints y z (bracket_closing brackets behind) → Prints w z (in_brackets brackets ps behind)
+pub brackets_put : (brackets : Brackets) (ps : List Phrase) (behind : Separator) {w x y z : GatherState} → Prints w x (bracket_opening brackets (length ps)) → Prints x y (listed ps (last_in brackets)) → Prints y z (bracket_closing brackets behind) → Prints w z (in_brackets brackets ps behind)
 brackets_put Square ps behind h j k = prints_then (bracket_opening Square (length ps)) (listed ps Nothing ++ bracket_closing Square behind) h (prints_then (listed ps Nothing) (bracket_closing Square behind) j k)
 brackets_put Braces ps behind h j k = prints_braces false ps behind h j k
 brackets_put Packed ps behind h j k = prints_braces true ps behind h j k
@@ -83,16 +83,16 @@ brackets_put Packed ps behind h j k = prints_braces true ps behind h j k
 -- ---- whole phrases
 
 -- in parentheses
-pub parentheses_put : (p : Phrase) (behind : Separator) {w x y z : State} → Prints w x (mark (codes "(") Nothing) → Prints x y (p Nothing) → Prints y z (mark (codes ")") behind) → Prints w z (in_parentheses p behind)
+pub parentheses_put : (p : Phrase) (behind : Separator) {w x y z : GatherState} → Prints w x (mark (codes "(") Nothing) → Prints x y (p Nothing) → Prints y z (mark (codes ")") behind) → Prints w z (in_parentheses p behind)
 parentheses_put p behind h j k = prints_then (mark (codes "(") Nothing) (p Nothing ++ mark (codes ")") behind) h (prints_then (p Nothing) (mark (codes ")") behind) j k)
 
 -- a constant behind its type
-pub typed_put : (ty : Tree) (c : Constant) (behind : Separator) {w x y : State} → Prints w x (type_phrase ty Space) → Prints x y (constant_phrase ty c behind) → Prints w y (typed_constant ty c behind)
+pub typed_put : (ty : Tree) (c : Constant) (behind : Separator) {w x y : GatherState} → Prints w x (type_phrase ty Space) → Prints x y (constant_phrase ty c behind) → Prints w y (typed_constant ty c behind)
 typed_put ty c behind h j = prints_then (type_phrase ty Space) (constant_phrase ty c behind) h j
 
 module _ (a : Lists) (behind : Separator) where
   -- a getelementptr
-  pub element_put : (flags : ℕ) (address : ConstAddress) {s t u v w x y z : State} → Prints s t (word (codes "getelementptr") Space) → Prints t u (address_flags_phrase flags Space) → Prints u v (mark (codes "(") Nothing)
+  pub element_put : (flags : ℕ) (address : ConstAddress) {s t u v w x y z : GatherState} → Prints s t (word (codes "getelementptr") Space) → Prints t u (address_flags_phrase flags Space) → Prints u v (mark (codes "(") Nothing)
       → Prints v w (type_phrase (tree a.table address.source) Nothing) → Prints w x (comma Space) → Prints x y (listed (phrases a address.operands) Nothing) → Prints y z (mark (codes ")") behind)
       → Prints s z (element_address a flags address behind)
   element_put flags address h1 h2 h3 h4 h5 h6 h7 =
@@ -105,7 +105,7 @@ module _ (a : Lists) (behind : Separator) where
       h7))
 
   -- a cast
-  pub cast_put : (code : Opcode) (operand : TypedConst) (to : ℕ) {s t u v w x y : State} → Prints s t (opcode code Space) → Prints t u (mark (codes "(") Nothing) → Prints u v (phrase a operand Space) → Prints v w (word (codes "to") Space)
+  pub cast_put : (code : Opcode) (operand : TypedConst) (to : ℕ) {s t u v w x y : GatherState} → Prints s t (opcode code Space) → Prints t u (mark (codes "(") Nothing) → Prints u v (phrase a operand Space) → Prints v w (word (codes "to") Space)
       → Prints w x (type_phrase (tree a.table to) Nothing) → Prints x y (mark (codes ")") behind)
       → Prints s y (cast a code operand to behind)
   cast_put code operand to h1 h2 h3 h4 h5 h6 =
@@ -120,7 +120,7 @@ module _ (a : Lists) (behind : Separator) where
       h6)
 
   -- a sum, a difference or an exclusive or
-  pub binary_put : (code : Opcode) (flags : ℕ) (pair : ConstPair) {s t u v w x y z : State} → Prints s t (opcode code Space) → Prints t u (flags_phrase flags Space) → Prints u v (mark (codes "(") Nothing) → Prints v w (phrase a pair.left Nothing)
+  pub binary_put : (code : Opcode) (flags : ℕ) (pair : ConstPair) {s t u v w x y z : GatherState} → Prints s t (opcode code Space) → Prints t u (flags_phrase flags Space) → Prints u v (mark (codes "(") Nothing) → Prints v w (phrase a pair.left Nothing)
       → Prints w x (comma Space) → Prints x y (phrase a pair.right Nothing) → Prints y z (mark (codes ")") behind)
       → Prints s z (binary a code flags pair behind)
   binary_put code flags pair h1 h2 h3 h4 h5 h6 h7 =

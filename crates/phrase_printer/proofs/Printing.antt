@@ -1,7 +1,7 @@
 -- What was put one behind the other.
 use Rattle.std.proofs.Common.{◌≡◌, ◌⊎◌, inl, inr, ℕ, zero, suc, ◌<◌, ◌≤◌, Bool, true, false, length, List, [], ◌∷◌, ◌++◌, codes, refl, sym, ap, ◌∙◌, append-nil, append_assoc, arith}
 use Rattle.ir_base.specs.Outside.{Rose}
-use Rattle.gathered.specs.Told.{State, Tells}
+use Rattle.gathered.specs.Told.{GatherState, Tells}
 use Rattle.ir_lexer.specs.Pieces.{TextPiece, Separator, Nothing, Space, separator_bytes, pieces_text}
 use Rattle.ir_lexer.specs.declared.token.TokenKind.{TokenKind}
 use Rattle.canonical.specs.Phrase.{Phrase, token, mark, comma, listed}
@@ -16,7 +16,7 @@ rose_later : (a b c : ℕ) → a ≤ b → Rose b c → Rose a c
 rose_later a b c le (inl less) = inl (omega (arith, le, less))
 rose_later a b c le (inr most) = inr most
 
-failed_then : (a b c : State) (x y : List ℕ) → Tells a b x → Tells b c y → (b.pending.failed ≡ true) ⊎ Rose b.faults c.faults → (a.pending.failed ≡ true) ⊎ Rose a.faults c.faults
+failed_then : (a b c : GatherState) (x y : List ℕ) → Tells a b x → Tells b c y → (b.pending.failed ≡ true) ⊎ Rose b.faults c.faults → (a.pending.failed ≡ true) ⊎ Rose a.faults c.faults
 failed_then a b c x y h k (inr rose) = inr (rose_later a.faults b.faults c.faults h.later rose)
 failed_then a b c x y h k (inl failed) = by_first (h.cause failed)
   where
@@ -25,7 +25,7 @@ failed_then a b c x y h k (inl failed) = by_first (h.cause failed)
     by_first (inr rose) = inr (rose_further a.faults b.faults c.faults k.later rose)
 
 -- these bytes, and those behind them
-pub tells_then : {a b c : State} {x y : List ℕ} → Tells a b x → Tells b c y → Tells a c (x ++ y)
+pub tells_then : {a b c : GatherState} {x y : List ℕ} → Tells a b x → Tells b c y → Tells a c (x ++ y)
 tells_then {a} {b} {c} {x} {y} h k = record {
   says = λ start text said. rw (sym (append_assoc text x y)) (k.says start (text ++ x) (h.says start text said));
   cause = λ failed. failed_then a b c x y h k (k.cause failed);
@@ -34,7 +34,7 @@ tells_then {a} {b} {c} {x} {y} h k = record {
 }
 
 -- nothing
-pub tells_none : (a : State) → Tells a a []
+pub tells_none : (a : GatherState) → Tells a a []
 tells_none a = record {
   says = λ start text said. rw (append-nil text) said;
   cause = λ failed. inl failed;
@@ -43,7 +43,7 @@ tells_none a = record {
 }
 
 -- the same bytes, written otherwise
-pub tells_same : {a b : State} {x y : List ℕ} → x ≡ y → Tells a b x → Tells a b y
+pub tells_same : {a b : GatherState} {x y : List ℕ} → x ≡ y → Tells a b x → Tells a b y
 tells_same e h = rw (sym e) h
 
 text_then : (xs ys : List TextPiece) → pieces_text (xs ++ ys) ≡ pieces_text xs ++ pieces_text ys
@@ -54,28 +54,28 @@ text_then (p ∷ xs) ys =
     ∙ sym (append_assoc p.token.spelling (separator_bytes p.separator ++ pieces_text xs) (pieces_text ys))
 
 -- these pieces, and those behind them
-pub prints_then : (xs ys : List TextPiece) {a b c : State} → Prints a b xs → Prints b c ys → Prints a c (xs ++ ys)
+pub prints_then : (xs ys : List TextPiece) {a b c : GatherState} → Prints a b xs → Prints b c ys → Prints a c (xs ++ ys)
 prints_then xs ys h k = tells_same (sym (text_then xs ys)) (tells_then h k)
 
 -- the same pieces, written otherwise
-pub prints_same : {a b : State} {xs ys : List TextPiece} → xs ≡ ys → Prints a b xs → Prints a b ys
+pub prints_same : {a b : GatherState} {xs ys : List TextPiece} → xs ≡ ys → Prints a b xs → Prints a b ys
 prints_same e h = tells_same (ap pieces_text e) h
 
 -- no piece
-pub prints_none : (a : State) → Prints a a []
+pub prints_none : (a : GatherState) → Prints a a []
 prints_none a = tells_none a
 
 -- a token by its spelling and what stands behind it
-pub prints_token : (kind : TokenKind) {a b c : State} {spelling : List ℕ} (behind : Separator) → Tells a b spelling → Tells b c (separator_bytes behind) → Prints a c (token kind spelling behind)
+pub prints_token : (kind : TokenKind) {a b c : GatherState} {spelling : List ℕ} (behind : Separator) → Tells a b spelling → Tells b c (separator_bytes behind) → Prints a c (token kind spelling behind)
 prints_token kind {a} {b} {c} {spelling} behind h k = tells_same (ap (λ (t : List ℕ). spelling ++ t) (sym (append-nil (separator_bytes behind)))) (tells_then h k)
 
 -- a part of a list and what stands before the others, and the others
-pub prints_part : (p : Phrase) (ps : List Phrase) (behind : Separator) {a b c d : State} → Prints a b (p (separator_before (length ps) behind)) → Prints b c (comma_before (length ps)) → Prints c d (listed ps behind) → Prints a d (listed (p ∷ ps) behind)
+pub prints_part : (p : Phrase) (ps : List Phrase) (behind : Separator) {a b c d : GatherState} → Prints a b (p (separator_before (length ps) behind)) → Prints b c (comma_before (length ps)) → Prints c d (listed ps behind) → Prints a d (listed (p ∷ ps) behind)
 prints_part p [] behind h j k = prints_then (p behind) [] h (prints_then [] [] j k)
 prints_part p (q ∷ qs) behind h j k = prints_then (p Nothing) (comma Space ++ listed (q ∷ qs) behind) h (prints_then (comma Space) (listed (q ∷ qs) behind) j k)
 
 -- the fields of a struct in its brackets
-pub prints_braces : (packed : Bool) (ps : List Phrase) (behind : Separator) {a b c d : State} → Prints a b (opening packed (length ps)) → Prints b c (listed ps Space) → Prints c d (closing packed behind) → Prints a d (in_braces packed ps behind)
+pub prints_braces : (packed : Bool) (ps : List Phrase) (behind : Separator) {a b c d : GatherState} → Prints a b (opening packed (length ps)) → Prints b c (listed ps Space) → Prints c d (closing packed behind) → Prints a d (in_braces packed ps behind)
 prints_braces false [] behind h j k = prints_then (opening false 0) (closing false behind) h (prints_then [] (closing false behind) j k)
 prints_braces false (p ∷ ps) behind h j k = prints_then (opening false 1) (listed (p ∷ ps) Space ++ closing false behind) h (prints_then (listed (p ∷ ps) Space) (closing false behind) j k)
 prints_braces true [] behind h j k = prints_then (opening true 0) (closing true behind) h (prints_then [] (closing true behind) j k)

@@ -1,6 +1,6 @@
 -- Flags, put one behind the other.
 use Rattle.std.proofs.Common.{ℕ, List, [], ◌∷◌}
-use Rattle.gathered.specs.Told.{State}
+use Rattle.gathered.specs.Told.{GatherState}
 use Rattle.ir_lexer.specs.Pieces.{Space}
 use Rattle.ir_tables.specs.declared.flag.Flag.{Flag}
 use Rattle.canonical.specs.Phrase.{each}
@@ -11,9 +11,9 @@ use Rattle.phrase_printer.specs.Parts.{flag_pieces}
 
 module _ (set : ℕ) where
   -- a flag, and those behind it
-  pub flag_then : (f : Flag) (fs : List Flag) {a b c : State} → Prints a b (flag_pieces set f) → Prints b c (each Space (flag_words set fs) Space) → Prints a c (each Space (flag_words set (f ∷ fs)) Space)
+  pub flag_then : (f : Flag) (fs : List Flag) {a b c : GatherState} → Prints a b (flag_pieces set f) → Prints b c (each Space (flag_words set fs) Space) → Prints a c (each Space (flag_words set (f ∷ fs)) Space)
   flag_then f fs h k = prints_then (flag_pieces set f) (each Space (flag_words set fs) Space) h k
 
   -- no flag
-  pub no_flag : (a : State) → Prints a a (each Space (flag_words set []) Space)
+  pub no_flag : (a : GatherState) → Prints a a (each Space (flag_words set []) Space)
   no_flag a = prints_none a

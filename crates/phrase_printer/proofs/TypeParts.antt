@@ -2,7 +2,7 @@
 use Rattle.std.proofs.Common.{◌≡◌, ℕ, zero, suc, ◌+◌, ◌-◌, ◌<◌, ◌≤◌, max, Bool, All, List, [], ◌∷◌, ◌++◌, codes, length, drop, get_or, slice_get, slice_index_or, Some, refl, sym, ap, ◌∙◌, subst, arith}
 use Rattle.std.proofs.lemmas.List.{at_drop_more, at_drop_all, length-drop}
 use Rattle.std.proofs.lemmas.Option.{get_or_from_slice_get, slice_get_within}
-use Rattle.gathered.specs.Told.{State}
+use Rattle.gathered.specs.Told.{GatherState}
 use Rattle.ir_lexer.specs.Pieces.{Separator, Nothing, Space}
 use Rattle.type_table.specs.declared.ir_type.IrType.{IrType}
 use Rattle.type_table.specs.declared.ir_type.IrType.TheVariants.{Void}
@@ -60,11 +60,11 @@ module _ (t : Types) (good : IsGood t) (ty : ℕ) (x : IrType) (at : slice_get t
   knows_here = subst (Knows ty (length t.structs)) same (type_known t good ty within)
 
   -- what is put of the type as it stands in the table is put of its tree
-  pub prints_here : (behind : Separator) {a b : State} → Prints a b (type_phrase (tree_of (names t) (trees t) x) behind) → Prints a b (type_phrase (tree t ty) behind)
+  pub prints_here : (behind : Separator) {a b : GatherState} → Prints a b (type_phrase (tree_of (names t) (trees t) x) behind) → Prints a b (type_phrase (tree t ty) behind)
   prints_here behind h = rw tree_here h
 
 -- one part more is put
-pub part_put : (t : Types) (parts : List ℕ) (place part : ℕ) (before behind : Separator) {a b c d : State} → place < length parts → part ≡ get_or parts place part
+pub part_put : (t : Types) (parts : List ℕ) (place part : ℕ) (before behind : Separator) {a b c d : GatherState} → place < length parts → part ≡ get_or parts place part
     → before ≡ separator_before (length parts - 1 - place) behind
     → Prints a b (type_phrase (tree t part) before)
     → Prints b c (comma_before (length parts - 1 - place))
@@ -80,15 +80,15 @@ part_put t parts place part before behind lt read is h j k =
     k)
 
 -- at the end no part is left
-pub parts_put : (t : Types) (parts : List ℕ) (place : ℕ) (behind : Separator) (now : State) → length parts ≤ place → Prints now now (listed (phrases t (drop place parts)) behind)
+pub parts_put : (t : Types) (parts : List ℕ) (place : ℕ) (behind : Separator) (now : GatherState) → length parts ≤ place → Prints now now (listed (phrases t (drop place parts)) behind)
 parts_put t parts place behind now le = prints_same (sym (at_drop_all (λ (ps : List ℕ). listed (phrases t ps) behind) parts place le)) (prints_none now)
 
 -- the fields of a struct in its brackets
-pub fields_put : (t : Types) (packed : Bool) (parts : List ℕ) (behind : Separator) {a b c d : State} → Prints a b (opening packed (length parts)) → Prints b c (listed (phrases t parts) Space) → Prints c d (closing packed behind) → Prints a d (in_braces packed (phrases t parts) behind)
+pub fields_put : (t : Types) (packed : Bool) (parts : List ℕ) (behind : Separator) {a b c d : GatherState} → Prints a b (opening packed (length parts)) → Prints b c (listed (phrases t parts) Space) → Prints c d (closing packed behind) → Prints a d (in_braces packed (phrases t parts) behind)
 fields_put t packed parts behind h j k = prints_braces packed (phrases t parts) behind (prints_same (ap (opening packed) (sym (many_phrases t parts))) h) j k
 
 -- an array in its brackets
-pub array_put : (count : ℕ) (element : Tree) (behind : Separator) {a b c d e f : State} → Prints a b (mark (codes "[") Nothing) → Prints b c (natural count Space) → Prints c d (word (codes "x") Space) → Prints d e (type_phrase element Nothing) → Prints e f (mark (codes "]") behind) → Prints a f (type_phrase (array count element) behind)
+pub array_put : (count : ℕ) (element : Tree) (behind : Separator) {a b c d e f : GatherState} → Prints a b (mark (codes "[") Nothing) → Prints b c (natural count Space) → Prints c d (word (codes "x") Space) → Prints d e (type_phrase element Nothing) → Prints e f (mark (codes "]") behind) → Prints a f (type_phrase (array count element) behind)
 array_put count element behind h i j k l =
     let parts = natural count Space ++ (word (codes "x") Space ++ type_phrase element Nothing) in
     prints_then (mark (codes "[") Nothing) (parts ++ mark (codes "]") behind) h
@@ -97,5 +97,5 @@ array_put count element behind h i j k l =
     l)
 
 -- the name of a struct
-pub named_put : (t : Types) (id : ℕ) (name : List ℕ) (behind : Separator) {a b : State} → slice_get (names t) id ≡ Some name → Prints a b (named_local name behind) → Prints a b (type_phrase (named (slice_index_or (names t) id [])) behind)
+pub named_put : (t : Types) (id : ℕ) (name : List ℕ) (behind : Separator) {a b : GatherState} → slice_get (names t) id ≡ Some name → Prints a b (named_local name behind) → Prints a b (type_phrase (named (slice_index_or (names t) id [])) behind)
 named_put t id name behind at h = prints_same (ap (λ (n : List ℕ). named_local n behind) (sym (get_or_from_slice_get (names t) id name [] at))) h

@@ -1,7 +1,7 @@
 -- For `put_type`, `put_global` and the other calls that put phrases: what it is to put pieces of canonical text, and the pieces that
 -- stand round the parts of a list.
 use Rattle.std.specs.Prelude.{List, [], ◌++◌, ℕ, zero, suc, Bool, true, false, codes}
-use Rattle.gathered.specs.Told.{State, Tells}
+use Rattle.gathered.specs.Told.{GatherState, Tells}
 use Rattle.ir_lexer.specs.Pieces.{TextPiece, Separator, Nothing, Space, Line, Indented, pieces_text}
 use Rattle.canonical.specs.Phrase.{mark, comma}
 use Rattle.phrase_printer.specs.declared.separator.Separator as the_separator
@@ -15,7 +15,7 @@ separator_of separator.Line = Line
 separator_of separator.Indented = Indented
 
 -- the bytes of these pieces were put
-abbrev pub Prints : State → State → List TextPiece → Type 0
+abbrev pub Prints : GatherState → GatherState → List TextPiece → Type 0
 Prints before now pieces = Tells before now (pieces_text pieces)
 
 -- what stands behind a part of a list before so many others: nothing, for a comma comes next

@@ -14,7 +14,7 @@ use Rattle.ir_constants.specs.Values.{typed_value_row}
 use Rattle.ir_constants.specs.Forms.{AllAre}
 use Rattle.ir_constants.proofs.Gives.{Gives, gives_any, gives_weaker, gives_fail, gives_nothing, gives_mapped, gives_chain, gives_second, gives_before, gives_pair, gives_alt, gives_loop, gives_labelled, all_more}
 use Rattle.ir_instructions.specs.Dropped.{comma_shape, commas_shape, attachment_row, attachments_row}
-use Rattle.ir_instructions.specs.Tails.{Listed, listed_step, listed_core, listed_row, alignment_row, alignment_behind_row, count_core}
+use Rattle.ir_instructions.specs.Tails.{ListedParts, listed_step, listed_core, listed_row, alignment_row, alignment_behind_row, count_core}
 use Rattle.ir_instructions.specs.Calls.{call_shape}
 use Rattle.ir_instructions.specs.Operations.{tail_shape, next_value_core, next_value_row, next_typed_value_core, next_typed_value_row, operands_shape, operands_core, operands_row, cast_type_shape, cast_type_core, cast_type_row, arms_core, arms_row, address_core, address_row, from_block_row, incoming_shape, incoming_core, incoming_row, operand_list_core, operand_list_row, indices_row, operation_shape, binary_core, compare_core, cast_core, select_core, freeze_core, phi_core, load_core, store_core, alloca_core, element_address_core, extract_core, insert_core, operation_core}
 use Rattle.ir_instructions.specs.Instructions.{operation_over_shape, operation_over_core, operation_over}
@@ -33,7 +33,7 @@ module _ {A : Type 0} (p : Row Located A) (P : A → Type 0) (h : Gives p P) whe
       (gives_mapped _ (λ s. AllAre P s.0) (gives_any attachment_row) (λ u y. x))
       (gives_mapped _ (λ s. AllAre P s.0) h (λ a y. all_more P parts a x y)))
 
-  listed_given : (s : Listed A) → AllAre P s.0 → Gives (listed_step p s) (λ m. AllAre P m.0)
+  listed_given : (s : ListedParts A) → AllAre P s.0 → Gives (listed_step p s) (λ m. AllAre P m.0)
   listed_given (parts, closed) x = listed_by parts closed x
 
   gives_listed_core : (parts : List A) → AllAre P parts → Gives (listed_core p parts) (AllAre P)

@@ -20,7 +20,7 @@ use Rattle.ir_constants.specs.Forms.{AllAre}
 use Rattle.ir_constants.proofs.Gives.{IfThere, all_more}
 use Rattle.ir_instructions.specs.Tree.{SignatureTree, IncomingTree, OperationTree, Binary, Compare, Cast, Select, Freeze, Phi, Load, Store, Alloca, GetElementPtr, Call, ExtractValue, InsertValue, InstructionTree, CaseTree, EndingTree, ReturnVoid, Return, Jump, Branch, Switch, Unreachable, BlockTree}
 use Rattle.ir_instructions.specs.Dropped.{comma_shape, commas_shape, attachment_row, attachments_row, parameter_attributes_row, convention_row}
-use Rattle.ir_instructions.specs.Tails.{Listed, listed_step, listed_core, listed_row, alignment_row, alignment_behind_row, count_core}
+use Rattle.ir_instructions.specs.Tails.{ListedParts, listed_step, listed_core, listed_row, alignment_row, alignment_behind_row, count_core}
 use Rattle.ir_instructions.specs.Calls.{signature_step, some_types_row, signature_types_row, signature_shape, signature_core, signature_row, argument_core, argument_list_core, arguments_shape, arguments_core, result_type_shape, result_type_core, call_end_row, called_shape, called_core, call_shape, call_core}
 use Rattle.ir_instructions.specs.Operations.{tail_shape, next_value_core, next_value_row, next_typed_value_core, next_typed_value_row, operands_shape, operands_core, operands_row, cast_type_shape, cast_type_core, cast_type_row, arms_core, arms_row, address_core, address_row, from_block_row, incoming_shape, incoming_core, incoming_row, operand_list_core, operand_list_row, indices_row, operation_shape, binary_core, compare_core, cast_core, select_core, freeze_core, phi_core, load_core, store_core, alloca_core, element_address_core, extract_core, insert_core, operation_core}
 use Rattle.ir_instructions.specs.Instructions.{result_classes, operation_classes, operation_over_shape, operation_over_core, operation_over, instruction_shape, instruction_core, instructions_row}
@@ -113,7 +113,7 @@ module _ {A : Type 0} (p : Row Located A) (P : A → Type 0) (h : Given p P) whe
       (given_mapped _ (λ s. AllAre P s.0) (given_any attachment_row) (λ u y. x))
       (given_mapped _ (λ s. AllAre P s.0) h (λ a y. all_more P parts a x y)))
 
-  listed_given : (s : Listed A) → AllAre P s.0 → Given (listed_step p s) (λ m. AllAre P m.0)
+  listed_given : (s : ListedParts A) → AllAre P s.0 → Given (listed_step p s) (λ m. AllAre P m.0)
   listed_given (parts, closed) x = listed_by parts closed x
 
   given_listed_core : (parts : List A) → AllAre P parts → Given (listed_core p parts) (AllAre P)

@@ -1,5 +1,5 @@
 use Rattle.std.proofs.Common.{map, drop}
-use Rattle.gathered.specs.Told.{State, state}
+use Rattle.gathered.specs.Told.{GatherState, state}
 use Rattle.ir_lexer.specs.Pieces.{Space}
 use Rattle.canonical.specs.Instructions.{case_phrase}
 use Rattle.canonical.specs.Phrase.{each}
@@ -12,4 +12,4 @@ abbrev pub invariant-parts : goal.invariant-parts
 invariant-parts g l =
     let at_first = state l.fn.out (g.S.Sink.taken l.fn.sink) (g.S.Sink.faults l.fn.sink) in
     let here = state l.out (g.S.Sink.taken l.sink) (g.S.Sink.faults l.sink) in
-    (now : State) → Prints here now (each Space (map case_phrase (map (case_of l.arena l.function) (drop l.place l.cases))) Space) → Prints at_first now (each Space (map case_phrase (map (case_of l.arena l.function) l.cases)) Space)
+    (now : GatherState) → Prints here now (each Space (map case_phrase (map (case_of l.arena l.function) (drop l.place l.cases))) Space) → Prints at_first now (each Space (map case_phrase (map (case_of l.arena l.function) l.cases)) Space)

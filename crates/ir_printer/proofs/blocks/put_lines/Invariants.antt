@@ -1,5 +1,5 @@
 use Rattle.std.proofs.Common.{drop}
-use Rattle.gathered.specs.Told.{State, state}
+use Rattle.gathered.specs.Told.{GatherState, state}
 use Rattle.ir_lexer.specs.Pieces.{Separator, Indented}
 use Rattle.canonical.specs.Phrase.{each}
 use Rattle.ir_printer.proofs.Lines.{lines}
@@ -11,4 +11,4 @@ abbrev pub invariant-parts : goal.invariant-parts
 invariant-parts g l =
     let at_first = state l.fn.out (g.S.Sink.taken l.fn.sink) (g.S.Sink.faults l.fn.sink) in
     let here = state l.out (g.S.Sink.taken l.sink) (g.S.Sink.faults l.sink) in
-    (s : Separator) (now : State) → Prints here now (each Indented (lines l.arena l.function (drop l.place l.instructions)) s) → Prints at_first now (each Indented (lines l.arena l.function l.instructions) s)
+    (s : Separator) (now : GatherState) → Prints here now (each Indented (lines l.arena l.function (drop l.place l.instructions)) s) → Prints at_first now (each Indented (lines l.arena l.function l.instructions) s)

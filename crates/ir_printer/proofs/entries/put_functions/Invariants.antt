@@ -1,5 +1,5 @@
 use Rattle.std.proofs.Common.{drop}
-use Rattle.gathered.specs.Told.{State, state}
+use Rattle.gathered.specs.Told.{GatherState, state}
 use Rattle.ir_lexer.specs.Pieces.{Separator}
 use Rattle.phrase_printer.specs.Printing.{Prints}
 use Rattle.ir_printer.specs.Entries.{function_lines}
@@ -10,4 +10,4 @@ abbrev pub invariant-parts : goal.invariant-parts
 invariant-parts g l =
     let at_first = state l.fn.out (g.S.Sink.taken l.fn.sink) (g.S.Sink.faults l.fn.sink) in
     let here = state l.out (g.S.Sink.taken l.sink) (g.S.Sink.faults l.sink) in
-    (s : Separator) (now : State) → Prints here now (function_lines l.arena (drop l.place l.arena.functions) s) → Prints at_first now (function_lines l.arena l.arena.functions s)
+    (s : Separator) (now : GatherState) → Prints here now (function_lines l.arena (drop l.place l.arena.functions) s) → Prints at_first now (function_lines l.arena l.arena.functions s)

@@ -1,5 +1,5 @@
 use Rattle.std.proofs.Common.{drop, map}
-use Rattle.gathered.specs.Told.{State, state}
+use Rattle.gathered.specs.Told.{GatherState, state}
 use Rattle.ir_lexer.specs.Pieces.{Separator, Line}
 use Rattle.type_table.specs.Types.{structs}
 use Rattle.canonical.specs.Canonical.{struct_phrase}
@@ -12,4 +12,4 @@ abbrev pub invariant-parts : goal.invariant-parts
 invariant-parts g l =
     let at_first = state l.fn.out (g.S.Sink.taken l.fn.sink) (g.S.Sink.faults l.fn.sink) in
     let here = state l.out (g.S.Sink.taken l.sink) (g.S.Sink.faults l.sink) in
-    (s : Separator) (now : State) → Prints here now (each Line (map struct_phrase (drop l.place (structs l.types))) s) → Prints at_first now (each Line (map struct_phrase (structs l.types)) s)
+    (s : Separator) (now : GatherState) → Prints here now (each Line (map struct_phrase (drop l.place (structs l.types))) s) → Prints at_first now (each Line (map struct_phrase (structs l.types)) s)

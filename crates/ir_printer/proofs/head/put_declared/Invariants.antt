@@ -1,5 +1,5 @@
 use Rattle.std.proofs.Common.{drop}
-use Rattle.gathered.specs.Told.{State, state}
+use Rattle.gathered.specs.Told.{GatherState, state}
 use Rattle.phrase_printer.specs.Printing.{Prints}
 use Rattle.ir_printer.specs.Listed.{declared_list}
 use Rattle.ir_printer.proofs.head.put_declared.Given as goal
@@ -9,4 +9,4 @@ abbrev pub invariant-parts : goal.invariant-parts
 invariant-parts g l =
     let at_first = state l.fn.out (g.S.Sink.taken l.fn.sink) (g.S.Sink.faults l.fn.sink) in
     let here = state l.out (g.S.Sink.taken l.sink) (g.S.Sink.faults l.sink) in
-    (now : State) → Prints here now (declared_list l.types (drop l.place l.parameters) l.variadic) → Prints at_first now (declared_list l.types l.parameters l.variadic)
+    (now : GatherState) → Prints here now (declared_list l.types (drop l.place l.parameters) l.variadic) → Prints at_first now (declared_list l.types l.parameters l.variadic)

@@ -1,5 +1,5 @@
 use Rattle.std.proofs.Common.{drop}
-use Rattle.gathered.specs.Told.{State, state}
+use Rattle.gathered.specs.Told.{GatherState, state}
 use Rattle.canonical.specs.Phrase.{listed}
 use Rattle.phrase_printer.specs.Printing.{separator_of, Prints}
 use Rattle.ir_printer.specs.Listed.{parameter_list}
@@ -11,4 +11,4 @@ invariant-parts g l =
     let at_first = state l.fn.out (g.S.Sink.taken l.fn.sink) (g.S.Sink.faults l.fn.sink) in
     let here = state l.out (g.S.Sink.taken l.sink) (g.S.Sink.faults l.sink) in
     let all = parameter_list l.types in
-    (now : State) → Prints here now (listed (all (drop l.place l.parameters)) (separator_of l.behind)) → Prints at_first now (listed (all l.parameters) (separator_of l.behind))
+    (now : GatherState) → Prints here now (listed (all (drop l.place l.parameters)) (separator_of l.behind)) → Prints at_first now (listed (all l.parameters) (separator_of l.behind))

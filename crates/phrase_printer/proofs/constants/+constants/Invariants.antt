@@ -1,5 +1,5 @@
 use Rattle.std.proofs.Common.{◌+◌, ◌*◌, max, drop}
-use Rattle.gathered.specs.Told.{State, state}
+use Rattle.gathered.specs.Told.{GatherState, state}
 use Rattle.canonical.specs.Phrase.{listed}
 use Rattle.phrase_printer.specs.Printing.{separator_of, Prints}
 use Rattle.phrase_printer.proofs.Parts.{top, phrases}
@@ -28,4 +28,4 @@ abbrev pub invariant-put_constants-parts : goal.invariant-put_constants-parts
 invariant-put_constants-parts g l =
     let at_first = state l.fn.out (g.S.Sink.taken l.fn.sink) (g.S.Sink.faults l.fn.sink) in
     let here = state l.out (g.S.Sink.taken l.sink) (g.S.Sink.faults l.sink) in
-    (now : State) → Prints here now (listed (phrases l.arena (drop l.place l.parts)) (separator_of l.behind)) → Prints at_first now (listed (phrases l.arena l.parts) (separator_of l.behind))
+    (now : GatherState) → Prints here now (listed (phrases l.arena (drop l.place l.parts)) (separator_of l.behind)) → Prints at_first now (listed (phrases l.arena l.parts) (separator_of l.behind))

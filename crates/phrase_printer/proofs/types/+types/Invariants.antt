@@ -1,5 +1,5 @@
 use Rattle.std.proofs.Common.{◌+◌, ◌*◌, drop}
-use Rattle.gathered.specs.Told.{State, state}
+use Rattle.gathered.specs.Told.{GatherState, state}
 use Rattle.canonical.specs.Phrase.{listed}
 use Rattle.phrase_printer.specs.Printing.{separator_of, Prints}
 use Rattle.phrase_printer.proofs.TypeParts.{top, phrases}
@@ -16,4 +16,4 @@ abbrev pub invariant-put_types-parts : goal.invariant-put_types-parts
 invariant-put_types-parts g l =
     let at_first = state l.fn.out (g.S.Sink.taken l.fn.sink) (g.S.Sink.faults l.fn.sink) in
     let here = state l.out (g.S.Sink.taken l.sink) (g.S.Sink.faults l.sink) in
-    (now : State) → Prints here now (listed (phrases l.types (drop l.place l.parts)) (separator_of l.behind)) → Prints at_first now (listed (phrases l.types l.parts) (separator_of l.behind))
+    (now : GatherState) → Prints here now (listed (phrases l.types (drop l.place l.parts)) (separator_of l.behind)) → Prints at_first now (listed (phrases l.types l.parts) (separator_of l.behind))

@@ -1,13 +1,13 @@
 use Rattle.std.proofs.Common.{◌≡◌, None, length}
 use Rattle.bits.specs.Cursor.{Found}
-use Rattle.bit_stream.specs.Entry.{StreamItem, NextItem, Passed}
+use Rattle.bit_stream.specs.Entry.{StreamItem, NextItem, OnlyDefinitions}
 use Rattle.bit_stream.proofs.reader.BitReader.read_entry.Given as goal
 
 abbrev pub invariant-loop-item : goal.invariant-loop-item
 invariant-loop-item l = record {
   running : l.self-inside.stopped ≡ None;
   next : (r : Found StreamItem) → NextItem l.self-inside.scope l.self-inside.cursor r → NextItem l.initial.self-inside.scope l.initial.self-inside.cursor r;
-  passed : Passed l.initial.self-inside.scope l.initial.self-inside.cursor l.self-inside.definitions l.self-inside.scope l.self-inside.cursor;
+  passed : OnlyDefinitions l.initial.self-inside.scope l.initial.self-inside.cursor l.self-inside.definitions l.self-inside.scope l.self-inside.cursor;
   told : l.self-inside.told ≡ l.initial.self-inside.told;
 }
 
