@@ -15,19 +15,20 @@ use crate::entries::judge_function;
 use constant_verify::Judge;
 use last_verify::LocalType;
 use module_arena::{FunctionId, Operand};
-use path_rows::Steps;
+use path_rows::{Spare, Steps};
 use std::alloc::Global;
 use std::sync::ledger::Ledger;
 use type_verify::VerifyFault;
 
 /// What the rules say of a function and all in it. `classes` has a number for each constant of the module, one for two exactly where
-/// they are the same; what `value_types` and `operands` have does not matter.
+/// they are the same; what `value_types`, `operands` and `spare` have does not matter.
 fn judge_one<L: Ledger>(
     alloc: Global,
     judge: &Judge<'_>,
     classes: &[u64],
     value_types: &mut Vec<LocalType>,
     operands: &mut Vec<Operand>,
+    spare: &mut Spare,
     id: FunctionId,
     turns: &mut Steps<L>,
 ) -> Result<(), VerifyFault>
@@ -39,7 +40,16 @@ fn judge_one<L: Ledger>(
     ensures turns { (f : the_function.Function) → slice_get judge.now.functions id ≡ Some f → turns.new ≤ turns.old + turns_of (function_in judge.now f) }
 {
     judge_function(alloc, judge, id)?;
-    judge_body(alloc, judge, classes, value_types, operands, id, turns)
+    judge_body(
+        alloc,
+        judge,
+        classes,
+        value_types,
+        operands,
+        spare,
+        id,
+        turns,
+    )
 }
 
 /// What the rules say of all functions, in their order; `classes` are those of the constants.
@@ -58,6 +68,7 @@ pub(crate) fn judge_functions<L: Ledger>(
     // Each function fills them anew, in the room that those before it have left.
     let mut value_types = Vec::new(alloc);
     let mut operands = Vec::new(alloc);
+    let mut spare = Spare::new(alloc);
     let count = judge.arena().function_count();
     'functions: for number in 0..count {
         judge_one(
@@ -66,6 +77,7 @@ pub(crate) fn judge_functions<L: Ledger>(
             classes,
             &mut value_types,
             &mut operands,
+            &mut spare,
             FunctionId::new(number),
             turns,
         )?;
