@@ -15,7 +15,7 @@ use entry_copy::Copier;
 use module_arena::Arena;
 use std::alloc::{AllocError, Global};
 use type_build::Builder;
-use type_table::{StructBody, StructId};
+use type_table::{IrType, StructBody, StructId, TypeId};
 
 /// Gives the struct with that id, which has none, this body.
 fn give_body(
@@ -77,6 +77,77 @@ fn define_struct(
     }
 }
 
+/// Before a type is copied that is the name of a struct, gives the struct its body, unless it has it.
+fn before_type(
+    copier: &mut Copier,
+    alloc: Global,
+    from: &Arena,
+    into: &mut Builder,
+    ty: TypeId,
+) -> Result<(), AllocError>
+    requires known { ty < length from.now.table.types }
+    requires partly { IsPartly (structs from.now.table) into.old.arena }
+    requires copies { CopiesTypes own from.now into.old.arena copier.old }
+    ensures module { OnOk result (module_of into.new.arena ≡ with_structs (module_of into.old.arena) (structs into.new.arena.table)) }
+    ensures entries { OnOk result (entries into.new.arena ≡ entries into.old.arena) }
+    ensures others { OnOk result (copier.new ≡ with_types copier.old copier.new.types) }
+    ensures partly { OnOk result (IsPartly (structs from.now.table) into.new.arena) }
+    ensures copies { OnOk result (CopiesTypes own from.now into.new.arena copier.new) }
+{
+    // Each type of a table has its parts in the table.
+    let _good = from.types().type_count();
+    match from.types().get(ty) {
+        IrType::Named(id) => define_struct(copier, alloc, from, into, *id),
+        _ => Ok(()),
+    }
+}
+
+/// Copies the types up to that one. A struct has its body before a type is its name, so that no measure is taken twice where
+/// the name of a struct stands behind the types of its fields.
+fn copy_type(
+    copier: &mut Copier,
+    alloc: Global,
+    from: &Arena,
+    into: &mut Builder,
+    ty: TypeId,
+) -> Result<(), AllocError>
+    requires known { ty < length from.now.table.types }
+    requires partly { IsPartly (structs from.now.table) into.old.arena }
+    requires copies { CopiesTypes own from.now into.old.arena copier.old }
+    ensures module { OnOk result (module_of into.new.arena ≡ with_structs (module_of into.old.arena) (structs into.new.arena.table)) }
+    ensures entries { OnOk result (entries into.new.arena ≡ entries into.old.arena) }
+    ensures others { OnOk result (copier.new ≡ with_types copier.old copier.new.types) }
+    ensures partly { OnOk result (IsPartly (structs from.now.table) into.new.arena) }
+    ensures copies { OnOk result (CopiesTypes own from.now into.new.arena copier.new) }
+{
+    // There is a number behind that of each type, and the types are within the limits.
+    let _count = from.types().type_count();
+    before_type(copier, alloc, from, into, ty)?;
+    copier.copy_types(alloc, from, into, ty.number() + 1)?;
+    Ok(())
+}
+
+/// Copies all types, and gives each struct whose name is one of them its body before. The structs are named.
+fn copy_types(
+    copier: &mut Copier,
+    alloc: Global,
+    from: &Arena,
+    into: &mut Builder,
+) -> Result<(), AllocError>
+    requires partly { IsPartly (structs from.now.table) into.old.arena }
+    requires copies { CopiesTypes own from.now into.old.arena copier.old }
+    ensures module { OnOk result (module_of into.new.arena ≡ with_structs (module_of into.old.arena) (structs into.new.arena.table)) }
+    ensures entries { OnOk result (entries into.new.arena ≡ entries into.old.arena) }
+    ensures others { OnOk result (copier.new ≡ with_types copier.old copier.new.types) }
+    ensures partly { OnOk result (IsPartly (structs from.now.table) into.new.arena) }
+    ensures copies { OnOk result (CopiesTypes own from.now into.new.arena copier.new) }
+{
+    'copied: for number in 0..from.types().type_count() {
+        copy_type(copier, alloc, from, into, TypeId::new(number))?;
+    }
+    Ok(())
+}
+
 /// Gives the structs, which are named, their bodies.
 fn define_structs(
     copier: &mut Copier,
@@ -98,8 +169,9 @@ fn define_structs(
     Ok(())
 }
 
-/// Copies the structs into an arena without types: each has its id, its name and its body there. The types that they name
-/// are copied with them, by a copier that has copied nothing and keeps the ids of structs. Only memory may be wanting.
+/// Copies the structs into an arena without types: each has its id, its name and its body there. The types are copied with
+/// them, by a copier that has copied nothing and keeps the ids of structs. Where the name of each struct stands behind the
+/// types of its fields, as in what is built of a text, the time is linear in the table. Only memory may be wanting.
 pub fn copy_structs(
     copier: &mut Copier,
     alloc: Global,
@@ -115,5 +187,6 @@ pub fn copy_structs(
     ensures copies { OnOk result (CopiesTypes own from.now into.new.arena copier.new) }
 {
     name_structs(alloc, from, into)?;
+    copy_types(copier, alloc, from, into)?;
     define_structs(copier, alloc, from, into)
 }

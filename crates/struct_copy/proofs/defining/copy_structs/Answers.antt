@@ -7,11 +7,11 @@ use Rattle.entry_copy.proofs.Starting.{no_types_copied, structs_keep_names}
 use Rattle.struct_copy.proofs.StructsNamed.{names_named}
 use Rattle.struct_copy.proofs.defining.copy_structs.Goals as goal
 
-pub define_structs-requires-clause-partly : goal.define_structs-requires-clause-partly
-define_structs-requires-clause-partly c = partly_named (structs c.args.from.now.table) c.name_structs.new.into.arena c.in_ok-name_structs.ensures.table
+pub copy_types-requires-clause-partly : goal.copy_types-requires-clause-partly
+copy_types-requires-clause-partly c = partly_named (structs c.args.from.now.table) c.name_structs.new.into.arena c.in_ok-name_structs.ensures.table
 
-pub define_structs-requires-clause-copies : goal.define_structs-requires-clause-copies
-define_structs-requires-clause-copies c =
+pub copy_types-requires-clause-copies : goal.copy_types-requires-clause-copies
+copy_types-requires-clause-copies c =
     let a = c.args.from.now in
     let b = c.name_structs.new.into.arena in
     subst (CopiesTypes own a b) (sym c.requires.new)
