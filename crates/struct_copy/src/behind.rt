@@ -1,5 +1,5 @@
 //! How many of the first types a struct asks for.
-ghost use Rattle.std.specs.Prelude.{◌≡◌, ◌+◌, ◌-◌, ◌^◌, ◌<◌, ◌≤◌, max, All, Some};
+ghost use Rattle.std.specs.Prelude.{◌≡◌, ℕ, ◌+◌, ◌-◌, ◌^◌, ◌<◌, ◌≤◌, max, All, Some};
 ghost use Rattle.type_table.specs.Types.{KnowsBody};
 
 use type_table::{StructBody, TypeId};
@@ -21,6 +21,7 @@ fn behind(count: u64, fields: &[TypeId]) -> u64
     requires { All (λ id. id < count) fields.now }
     ensures upto { result ≤ count }
     ensures past { All (λ id. id < result) fields.now }
+    ensures least { (fewer : ℕ) → All (λ id. id < fewer) fields.now → result ≤ fewer }
 {
     let mut behind = 0;
     for field in fields {
@@ -34,6 +35,7 @@ pub fn behind_body(count: u64, body: &StructBody) -> u64
     requires { KnowsBody count (Some body.now) }
     ensures upto { result ≤ count }
     ensures past { KnowsBody result (Some body.now) }
+    ensures least { (fewer : ℕ) → KnowsBody fewer (Some body.now) → result ≤ fewer }
 {
     match body {
         StructBody::Opaque => 0,

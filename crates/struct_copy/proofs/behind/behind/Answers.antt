@@ -18,6 +18,11 @@ loop-field-preserved c =
       upto = omega (arith, below, old, most);
       past = All-more P xs i x test (All-weaker (λ (id : ℕ). id < c.loop-field.behind) P (λ id lt. omega (arith, lt, most)) (take i xs) c.loop-field.invariant.past)
           (subst P c.field-item.is (omega (arith, most)));
+      least = λ fewer all. (
+          let under = at_item (λ (id : ℕ). id < fewer) xs i x test c.field-item.is all in
+          let before = c.loop-field.invariant.least fewer all in
+          omega (arith, under, before, most)
+          );
     }
 
 pub returns-clause-past : goal.returns-clause-past
