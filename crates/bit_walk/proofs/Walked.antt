@@ -18,7 +18,7 @@ use Rattle.bit_walk.specs.declared.plain.PlainHead.{PlainHead}
 use Rattle.bit_walk.specs.Plain.{head_at, place_past, place_of, found_of}
 use Rattle.bit_walk.specs.Values.{Leaves, IsRead, Gave, list_of, repeated}
 use Rattle.bit_walk.specs.Left.{Ahead, IsAhead, IsPlace, IsWalking, Steps, pieces_left, operands_left}
-use Rattle.bit_walk.specs.Walker.{Walker, piece_of, Gave as Advanced, Took}
+use Rattle.bit_walk.specs.Walker.{Walker, piece_of, IsBare, Gave as Advanced, Took}
 use Rattle.bit_walk.proofs.Operands.{repeated_value, repeated_more}
 use Rattle.bit_walk.proofs.PlainRecords.{plain_step, repeated_past}
 use Rattle.bit_walk.proofs.Ways.{left_is, tree_ahead}
@@ -30,6 +30,15 @@ same_piece (Begun head) spent other left more operands has_blob blob t = refl
 same_piece Ended spent other left more operands has_blob blob t = refl
 same_piece (Defined id) spent other left more operands has_blob blob t = refl
 same_piece (Held head) spent other left more operands has_blob blob t = refl
+
+-- nor does whether it is bare
+pub still_bare : (event : Option Event) (left : List Piece) (operands : List ℕ) (has_blob : Bool) (blob : List ℕ) (t : AdmittedAbbreviation)
+    → IsBare event (record { spent = false; left = []; operands = operands; has_blob = has_blob; blob = blob; abbreviation = t }) → IsBare event (record { spent = false; left = left; operands = operands; has_blob = has_blob; blob = blob; abbreviation = t })
+still_bare None left operands has_blob blob t h = h
+still_bare (Some (Begun head)) left operands has_blob blob t h = h
+still_bare (Some Ended) left operands has_blob blob t h = h
+still_bare (Some (Defined id)) left operands has_blob blob t h = h
+still_bare (Some (Held head)) left operands has_blob blob t h = h
 
 pub walked : (old : Walker) (event : Option Event) (s n : Scope) (c d : Cursor) (operands : List ℕ) (has_blob : Bool) (blob : List ℕ) (t : AdmittedAbbreviation) → IsAhead s c → old.left ≡ pieces_left false s c
     → ((ps : List Piece) → Ahead s c ps → Steps ps event (record { spent = false; left = []; operands = operands; has_blob = has_blob; blob = blob; abbreviation = t }) n d)

@@ -1,13 +1,14 @@
 -- For `next` and `next_operand` of `Walker`: a walker over a judged stream, what is left of it, and what its calls
 -- give.
-use Rattle.std.specs.Prelude.{◌≡◌, ℕ, Bool, true, false, List, [], ◌∷◌, Option, Some, None, Result, Ok, Err, IsErr}
+use Rattle.std.specs.Prelude.{◌≡◌, ℕ, Bool, true, false, List, [], ◌∷◌, Option, Some, None, Result, Ok, Err, IsErr, Unit}
 use Rattle.bit_stream.specs.Abbreviation.{AdmittedAbbreviation}
 use Rattle.bit_tree.specs.Pieces.{Piece, begun, ended, defines, holds}
 use Rattle.bit_walk.specs.declared.event.Event.{Event}
 use Rattle.bit_walk.specs.declared.event.Event.TheVariants.{Begun, Ended, Defined, Held}
 
 -- Whether it is spent; the entries and definitions that are left, in the order of the stream; of the record that was given
--- last the operands that are left, whether it ends in a blob, and the blob; and the abbreviation that was defined last.
+-- last the operands that are left, whether it ends in a blob, and the blob; and, behind a definition, the abbreviation that it
+-- defines.
 pub record Walker : Type 0 where
   pub spent : Bool
   pub left : List Piece
@@ -22,6 +23,14 @@ piece_of (Begun block) w = begun block.id block.width block.words
 piece_of Ended w = ended
 piece_of (Defined id) w = defines id w.abbreviation
 piece_of (Held head) w = holds head.id head.code w.operands w.has_blob w.blob
+
+-- where no record was given last, there are no operands and there is no blob
+abbrev pub IsBare : Option Event → Walker → Type 0
+IsBare None w = (w.operands ≡ []) × (w.has_blob ≡ false) × (w.blob ≡ [])
+IsBare (Some (Begun block)) w = (w.operands ≡ []) × (w.has_blob ≡ false) × (w.blob ≡ [])
+IsBare (Some Ended) w = (w.operands ≡ []) × (w.has_blob ≡ false) × (w.blob ≡ [])
+IsBare (Some (Defined id)) w = (w.operands ≡ []) × (w.has_blob ≡ false) × (w.blob ≡ [])
+IsBare (Some (Held head)) w = Unit {0}
 
 -- the next entry or definition was given and the others are left, or none was left
 abbrev pub Gave : Walker → Option Event → Walker → Type 0

@@ -7,6 +7,7 @@ ghost use Rattle.bit_tree.specs.Pieces.{Piece};
 ghost use Rattle.bit_walk.specs.Left.{Ahead, IsPlace, Steps};
 ghost use Rattle.bit_walk.specs.Passing.{pass_item, IsBy};
 ghost use Rattle.bit_walk.specs.Values.{operands_at, left_by, Leaves, IsRead, list_of};
+ghost use Rattle.bit_walk.specs.Walker.{IsBare};
 ghost use Rattle.bit_walk.specs.declared.event.Event.TheVariants.{Begun, Held};
 ghost use Rattle.bit_walk.specs.declared.values.OperandStage.TheVariants.{Over};
 
@@ -100,6 +101,7 @@ pub fn advance<'b>(
     requires { IsPlace scope.old cursor.old kept.old.start kept.old.abbreviation }
     ensures place { IfOk result (λ _. IsPlace scope.new cursor.new kept.new.start kept.new.abbreviation) }
     ensures read { IfOk result (λ a. IsRead (left_by a.stage kept.new.abbreviation a.inner)) }
+    ensures bare { IfOk result (λ a. IsBare a.event (record { spent = false; left = []; operands = list_of (left_by a.stage kept.new.abbreviation a.inner); has_blob = a.has_blob; blob = a.blob.now; abbreviation = kept.new.abbreviation })) }
     ensures gave { IfOk result (λ a. (ps : List Piece) → Ahead scope.old.scope cursor.old ps → Steps ps a.event (record { spent = false; left = []; operands = list_of (left_by a.stage kept.new.abbreviation a.inner); has_blob = a.has_blob; blob = a.blob.now; abbreviation = kept.new.abbreviation }) scope.new.scope cursor.new) }
 {
     let place = cursor.copy();

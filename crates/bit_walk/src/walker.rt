@@ -1,10 +1,10 @@
 //! A walker over a judged stream.
-ghost use Rattle.std.specs.Prelude.{◌≡◌, ◌≤◌, false, length};
+ghost use Rattle.std.specs.Prelude.{◌≡◌, ◌≤◌, false, length, IfOk, None};
 ghost use Rattle.bit_stream.specs.declared.reader.TheConstants.{LARGEST_STREAM};
 ghost use Rattle.bit_tree.specs.Stream.{StreamTree, Stream};
 ghost use Rattle.bit_tree.specs.Pieces.{flat};
 ghost use Rattle.bit_tree.specs.Read.{IsStream};
-ghost use Rattle.bit_walk.specs.Walker.{Walks, Took};
+ghost use Rattle.bit_walk.specs.Walker.{Walks, Took, IsBare};
 
 use crate::advance::advance;
 use crate::event::{Event, RecordHead};
@@ -57,6 +57,7 @@ impl<'b> Walker<'b> {
         requires short { length bytes.now ≤ LARGEST_STREAM }
         requires judged { IsStream bytes.now }
         ensures unspent { result.spent ≡ false }
+        ensures bare { IsBare None result }
         ensures whole { (tree : StreamTree) → Stream bytes.now tree → result.left ≡ flat tree }
     {
         let cursor = BitCursor::at_bit(bytes, 32);
@@ -80,7 +81,8 @@ impl<'b> Walker<'b> {
     /// are passed over.
     #[inline(always)]
     pub fn next(&mut self) -> Result<Option<Event>, AllocError>
-        ensures { Walks self.old.spent self.old result self.new }
+        ensures walks { Walks self.old.spent self.old result self.new }
+        ensures bare { IfOk result (λ event. IsBare event self.new) }
     {
         if self.spent {
             return Err(AllocError);
@@ -152,7 +154,7 @@ impl<'b> Walker<'b> {
         self.blob
     }
 
-    /// The abbreviation of the definition that was given last.
+    /// Behind a definition, the abbreviation that it defines; behind anything else it tells nothing.
     pub fn admitted(&self) -> &AdmittedAbbreviation
         ensures { result.now ≡ self.now.abbreviation }
     {

@@ -4,6 +4,7 @@ use Rattle.ir_tables.specs.declared.opcode.Opcode.{Opcode}
 use Rattle.type_table.specs.Types.{trees}
 use Rattle.module_arena.specs.declared.entry.Block as the_block
 use Rattle.module_arena.specs.declared.entry.LocalName as the_local
+use Rattle.module_arena.specs.declared.entry.LocalName.TheVariants as the_name
 use Rattle.module_arena.specs.declared.instruction.Ending as the_ending
 use Rattle.module_arena.specs.declared.instruction.Inst.{Inst}
 use Rattle.module_arena.specs.Known.{KnowsBlock, upto}
@@ -50,6 +51,7 @@ pub record StartsEmpty (b : Begun) : Type 0 where
   pub own : b.names.own ≡ 0
   pub taken : b.names.taken.keys ≡ []
   pub strange : b.names.strange ≡ false
+  pub name : b.name ≡ the_name.Numbered 0
   pub instructions : b.instructions.items ≡ []
   pub blocks : b.blocks.items ≡ []
   pub results : b.results.items ≡ []
@@ -90,6 +92,7 @@ CallsKept old (Some name) is_new new = Calls old (Some name) is_new new
 pub record Ends (old : Begun) (end : the_ending.Ending) (new : Begun) : Type 0 where
   pub instructions : new.instructions.items ≡ []
   pub blocks : new.blocks.items ≡ old.blocks.items ++ record { name = old.name; instructions = old.instructions.items; end = end } ∷ []
+  pub name : new.name ≡ the_name.Numbered 0
   pub rest : new ≡ record old { due = due.NextBlock; name = new.name; instructions = new.instructions; blocks = new.blocks }
 
 -- ---- what it is

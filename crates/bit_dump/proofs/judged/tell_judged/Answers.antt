@@ -25,7 +25,7 @@ returns-in_err-next g c =
 
 pub returns-in-None : goal.returns-in-None
 returns-in-None g c =
-    let gave = rw (c.telling.invariant.unspent, c.in-None.is) at c.in_ok-next.ensures in
+    let gave = rw (c.telling.invariant.unspent, c.in-None.is) at c.in_ok-next.ensures.walks in
     record {
       told = closes c.args.bytes.now c.args.whole (g.S.Sink.taken c.args.sink.now) (g.S.Sink.taken c.telling.sink) (g.S.Sink.taken c.finish.new.sink) c.telling.outline c.telling.walker.left c.finish.result c.telling.invariant.told gave.1 c.finish.ensures.told;
       counted = subst (λ (n : ℕ). Counted n (g.S.Sink.faults c.finish.new.sink) c.finish.result) c.telling.invariant.faults c.finish.ensures.counted;
@@ -34,13 +34,13 @@ returns-in-None g c =
 pub returns-in_err-tell-in-Some-clause-told : goal.returns-in_err-tell-in-Some-clause-told
 returns-in_err-tell-in-Some-clause-told g c =
     let p = err_from_is_err_and c.from_residual-in_err-tell-in-Some.result c.from_residual-in_err-tell-in-Some.ensures.1 in
-    let gave = rw (c.telling.invariant.unspent, c.in-Some.is) at c.in_ok-next.ensures in
+    let gave = rw (c.telling.invariant.unspent, c.in-Some.is) at c.in_ok-next.ensures.walks in
     let so_far = c.telling.invariant.told in
     rw (p.1, p.2) (halts c.args.bytes.now c.args.whole (g.S.Sink.taken c.args.sink.now) (g.S.Sink.taken c.telling.sink) (g.S.Sink.taken c.tell.new.sink) c.telling.walker.left c.next.new.self.left (piece_of c.in-Some.event c.next.new.self) c.telling.outline c.tell.new.outline c.in_err-tell-in-Some.field-0.0 so_far gave.1 (c.in_err-tell-in-Some.ensures.told (g.S.Sink.taken c.args.sink.now) so_far.all so_far.tells))
 
 pub telling-preserved : goal.telling-preserved
 telling-preserved g c =
-    let gave = rw (c.telling.invariant.unspent, c.in-Some.is) at c.in_ok-next.ensures in
+    let gave = rw (c.telling.invariant.unspent, c.in-Some.is) at c.in_ok-next.ensures.walks in
     let so_far = c.telling.invariant.told in
     record {
       told = rw c.in_ok-tell-in-Some.ensures.left (goes_on c.args.bytes.now c.args.whole (g.S.Sink.taken c.args.sink.now) (g.S.Sink.taken c.telling.sink) (g.S.Sink.taken c.tell.new.sink) c.telling.walker.left c.next.new.self.left (piece_of c.in-Some.event c.next.new.self) c.telling.outline c.tell.new.outline so_far gave.1 (c.in_ok-tell-in-Some.ensures.told (g.S.Sink.taken c.args.sink.now) so_far.all so_far.tells));
@@ -50,7 +50,7 @@ telling-preserved g c =
 
 pub telling-smaller : goal.telling-smaller
 telling-smaller g c =
-    let gave = rw (c.telling.invariant.unspent, c.in-Some.is) at c.in_ok-next.ensures in
+    let gave = rw (c.telling.invariant.unspent, c.in-Some.is) at c.in_ok-next.ensures.walks in
     let before : length c.telling.walker.left ≡ suc (length c.next.new.self.left) = ap length gave.1 in
     let now : length c.tell.new.walker.left ≡ length c.next.new.self.left = ap length c.in_ok-tell-in-Some.ensures.left in
     omega arith

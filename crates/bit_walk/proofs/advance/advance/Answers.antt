@@ -1,4 +1,4 @@
-use Rattle.std.proofs.Common.{[], false}
+use Rattle.std.proofs.Common.{[], false, tt}
 use Rattle.bit_walk.specs.Values.{left_by, list_of}
 use Rattle.bit_walk.proofs.Operands.{over}
 use Rattle.bit_walk.proofs.Walked.{read_list}
@@ -14,6 +14,9 @@ held-requires c =
 pub returns-in-None-clause-read : goal.returns-in-None-clause-read
 returns-in-None-clause-read c = rw c.plain.ensures.stage ([], over c.pass_judged.new.kept.abbreviation c.plain.result.inner)
 
+pub returns-in-None-clause-bare : goal.returns-in-None-clause-bare
+returns-in-None-clause-bare c = rw (c.plain.ensures.event, c.plain.ensures.stage) (read_list _ [] (over c.pass_judged.new.kept.abbreviation c.plain.result.inner), c.plain.ensures.has_blob, c.plain.ensures.blob)
+
 pub returns-in-None-clause-gave : goal.returns-in-None-clause-gave
 returns-in-None-clause-gave c = λ ps h. (
     let passed = rw c.in-None.is at c.in_ok-item.ensures.read in
@@ -23,6 +26,9 @@ returns-in-None-clause-gave c = λ ps h. (
 pub returns-in-Block-clause-read : goal.returns-in-Block-clause-read
 returns-in-Block-clause-read c = rw c.plain-in-Block.ensures.stage ([], over c.pass_judged.new.kept.abbreviation c.plain-in-Block.result.inner)
 
+pub returns-in-Block-clause-bare : goal.returns-in-Block-clause-bare
+returns-in-Block-clause-bare c = rw (c.plain-in-Block.ensures.event, c.plain-in-Block.ensures.stage) (read_list _ [] (over c.pass_judged.new.kept.abbreviation c.plain-in-Block.result.inner), c.plain-in-Block.ensures.has_blob, c.plain-in-Block.ensures.blob)
+
 pub returns-in-Block-clause-gave : goal.returns-in-Block-clause-gave
 returns-in-Block-clause-gave c = λ ps h. (
     let passed = rw (c.in-Some.is, c.in-Block.is) at c.in_ok-item.ensures.read in
@@ -31,6 +37,9 @@ returns-in-Block-clause-gave c = λ ps h. (
 pub returns-in-EndBlock-clause-read : goal.returns-in-EndBlock-clause-read
 returns-in-EndBlock-clause-read c = rw c.plain-in-EndBlock.ensures.stage ([], over c.pass_judged.new.kept.abbreviation c.plain-in-EndBlock.result.inner)
 
+pub returns-in-EndBlock-clause-bare : goal.returns-in-EndBlock-clause-bare
+returns-in-EndBlock-clause-bare c = rw (c.plain-in-EndBlock.ensures.event, c.plain-in-EndBlock.ensures.stage) (read_list _ [] (over c.pass_judged.new.kept.abbreviation c.plain-in-EndBlock.result.inner), c.plain-in-EndBlock.ensures.has_blob, c.plain-in-EndBlock.ensures.blob)
+
 pub returns-in-EndBlock-clause-gave : goal.returns-in-EndBlock-clause-gave
 returns-in-EndBlock-clause-gave c = λ ps h. (
     let passed = rw (c.in-Some.is, c.in-EndBlock.is) at c.in_ok-item.ensures.read in
@@ -38,6 +47,9 @@ returns-in-EndBlock-clause-gave c = λ ps h. (
 
 pub returns-in-End-clause-read : goal.returns-in-End-clause-read
 returns-in-End-clause-read c = rw c.plain-in-End.ensures.stage ([], over c.pass_judged.new.kept.abbreviation c.plain-in-End.result.inner)
+
+pub returns-in-End-clause-bare : goal.returns-in-End-clause-bare
+returns-in-End-clause-bare c = rw (c.plain-in-End.ensures.event, c.plain-in-End.ensures.stage) (read_list _ [] (over c.pass_judged.new.kept.abbreviation c.plain-in-End.result.inner), c.plain-in-End.ensures.has_blob, c.plain-in-End.ensures.blob)
 
 pub returns-in-End-clause-gave : goal.returns-in-End-clause-gave
 returns-in-End-clause-gave c = λ ps h. (
@@ -51,6 +63,9 @@ returns-in-Record-clause-read c =
     let there = operands_there c.args.scope.now.scope c.pass_judged.new.scope.scope c.args.cursor.now c.pass_judged.new.cursor c.in-Record.code c.in_ok-item.item.blob.now c.pass_judged.new.kept.abbreviation passed by in
     let left = rw (c.width-width.ensures, c.copy-place.ensures, c.admitted.ensures) at c.held.ensures.left in
     (there.0, left there.0 there.1)
+
+pub returns-in-Record-clause-bare : goal.returns-in-Record-clause-bare
+returns-in-Record-clause-bare c = rw c.held.ensures.event tt
 
 pub returns-in-Record-clause-gave : goal.returns-in-Record-clause-gave
 returns-in-Record-clause-gave c = λ ps h. (

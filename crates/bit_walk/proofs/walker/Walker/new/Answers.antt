@@ -1,6 +1,6 @@
-use Rattle.std.proofs.Common.{[]}
+use Rattle.std.proofs.Common.{[], refl}
 use Rattle.bit_walk.proofs.Operands.{over}
-use Rattle.bit_walk.proofs.Walked.{starts, whole_left}
+use Rattle.bit_walk.proofs.Walked.{starts, whole_left, read_list}
 use Rattle.bit_walk.proofs.walker.Walker.new.Goals as goal
 
 pub invariant_of-result : goal.invariant_of-result
@@ -11,3 +11,6 @@ invariant_of-result c = record {
 
 pub returns-clause-whole : goal.returns-clause-whole
 returns-clause-whole c = λ tree stream. whole_left c.args.bytes.now c.new-scope.result c.at_bit-cursor.result tree stream c.new-scope.ensures c.at_bit-cursor.ensures
+
+pub returns-clause-bare : goal.returns-clause-bare
+returns-clause-bare c = (read_list _ [] (over c.nothing-kept.result.abbreviation c.new.result), refl, refl)

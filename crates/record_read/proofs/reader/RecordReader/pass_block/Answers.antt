@@ -21,27 +21,27 @@ invariant_of-self-in_err-unclosed-in-Some-Begun c = c.pieces.invariant.2
 pub pieces-preserved-in-Some-Begun : goal.pieces-preserved-in-Some-Begun
 pieces-preserved-in-Some-Begun c =
     let is : c.in_ok-next.field-0 ≡ Some (Begun c.in-Some-Begun.field-0-0) = cc in
-    (passes_on _ _ _ _ c.pieces.unclosed _ _ (Begun c.in-Some-Begun.field-0-0) c.pieces.invariant.0 (omega arith) c.in_ok-next.ensures is c.in_ok-unclosed-in-Some-Begun.ensures.more, c.pieces.invariant.1, c.pieces.invariant.2, c.in_ok-unclosed-in-Some-Begun.ensures.stays ∙ c.pieces.invariant.3)
+    (passes_on _ _ _ _ c.pieces.unclosed _ _ (Begun c.in-Some-Begun.field-0-0) c.pieces.invariant.0 (omega arith) c.in_ok-next.ensures.walks is c.in_ok-unclosed-in-Some-Begun.ensures.more, c.pieces.invariant.1, c.pieces.invariant.2, c.in_ok-unclosed-in-Some-Begun.ensures.stays ∙ c.pieces.invariant.3)
 
 pub pieces-preserved-in-Some-Ended : goal.pieces-preserved-in-Some-Ended
 pieces-preserved-in-Some-Ended c =
     let is : c.in_ok-next.field-0 ≡ Some Ended = cc in
-    (passes_on _ _ _ _ c.pieces.unclosed _ _ Ended c.pieces.invariant.0 (omega arith) c.in_ok-next.ensures is refl, c.pieces.invariant.1, c.pieces.invariant.2, c.pieces.invariant.3)
+    (passes_on _ _ _ _ c.pieces.unclosed _ _ Ended c.pieces.invariant.0 (omega arith) c.in_ok-next.ensures.walks is refl, c.pieces.invariant.1, c.pieces.invariant.2, c.pieces.invariant.3)
 
 pub pieces-preserved-in-Some-Held : goal.pieces-preserved-in-Some-Held
 pieces-preserved-in-Some-Held c =
     let is : c.in_ok-next.field-0 ≡ Some (Held c.in-Some-Held.field-0-0) = cc in
-    (passes_on _ _ _ _ c.pieces.unclosed _ _ (Held c.in-Some-Held.field-0-0) c.pieces.invariant.0 (omega arith) c.in_ok-next.ensures is refl, c.pieces.invariant.1, c.pieces.invariant.2, c.pieces.invariant.3)
+    (passes_on _ _ _ _ c.pieces.unclosed _ _ (Held c.in-Some-Held.field-0-0) c.pieces.invariant.0 (omega arith) c.in_ok-next.ensures.walks is refl, c.pieces.invariant.1, c.pieces.invariant.2, c.pieces.invariant.3)
 
 pub pieces-preserved : goal.pieces-preserved
 pieces-preserved c =
     let is : c.in_ok-next.field-0 ≡ Some (Defined c.in-Some-Defined.field-0-0) = cc in
-    (passes_on _ _ _ _ c.pieces.unclosed _ _ (Defined c.in-Some-Defined.field-0-0) c.pieces.invariant.0 (omega arith) c.in_ok-next.ensures is refl, c.pieces.invariant.1, c.pieces.invariant.2, c.pieces.invariant.3)
+    (passes_on _ _ _ _ c.pieces.unclosed _ _ (Defined c.in-Some-Defined.field-0-0) c.pieces.invariant.0 (omega arith) c.in_ok-next.ensures.walks is refl, c.pieces.invariant.1, c.pieces.invariant.2, c.pieces.invariant.3)
 
 pub invariant_of-self-in-None : goal.invariant_of-self-in-None
 invariant_of-self-in-None c = c.pieces.invariant.2
 
 pub returns-in-None : goal.returns-in-None
 returns-in-None c =
-    let none = passes_none _ _ _ _ c.pieces.unclosed _ c.pieces.invariant.0 (omega arith) c.in_ok-next.ensures c.in-None.is in
+    let none = passes_none _ _ _ _ c.pieces.unclosed _ c.pieces.invariant.0 (omega arith) c.in_ok-next.ensures.walks c.in-None.is in
     rw (← c.self.view_is) (or_from _ _ c.pieces.invariant.3 none.0, c.pieces.invariant.1, none.1, λ inside others before. none.2 before.tree others before.left_is)
