@@ -140,10 +140,13 @@ module _ (parts : List Module) (ids : List EntryId) (k : ℕ) (x : EntryId) (at 
   first_next kind h = ap (λ l. first_clash parts kind (map (seen parts) l)) (drop_more ids k x at) ∙ first_passed parts kind x (drop (k + 1) ids) h
 
 -- what is told of the symbol at a place
-pub told_at : (known : Symbol → SymbolKind) (keys : List Symbol) (k : ℕ) (s : Symbol) (d : SymbolKind) → slice_get keys k ≡ Some s → get_or (map known keys) k d ≡ known s
-told_at known [] k s d at = absurd cc
-told_at known (x ∷ keys) zero s d at = (let same : x ≡ s = cc in ap known same)
-told_at known (x ∷ keys) (suc k) s d at = told_at known keys k s d at
+told_among : (known : Symbol → SymbolKind) (keys : List Symbol) (k : ℕ) (s : Symbol) (d : SymbolKind) → slice_get keys k ≡ Some s → get_or (map known keys) k d ≡ known s
+told_among known [] k s d at = absurd cc
+told_among known (x ∷ keys) zero s d at = (let same : x ≡ s = cc in ap known same)
+told_among known (x ∷ keys) (suc k) s d at = told_among known keys k s d at
+
+pub told_at : (known : Symbol → SymbolKind) (kinds : List SymbolKind) (keys : List Symbol) (k : ℕ) (s : Symbol) (d : SymbolKind) → kinds ≡ map known keys → slice_get keys k ≡ Some s → get_or kinds k d ≡ known s
+told_at known kinds keys k s d told at = ap (λ (l : List SymbolKind). get_or l k d) told ∙ told_among known keys k s d at
 
 -- a symbol that is kept or not
 pub kept_step : (p : Symbol → Bool) (keys : List Symbol) (k : ℕ) (s : Symbol) (old so_far after : List Symbol) (b : Bool) → slice_get keys k ≡ Some s → so_far ≡ old ++ filter p (take k keys) → after ≡ so_far ++ cond b (s ∷ []) [] → b ≡ p s

@@ -1,4 +1,4 @@
-use Rattle.std.proofs.Common.{◌≡◌, ◌++◌, length, sym, ap, ◌∙◌, filter, get_or, append-nil, arith}
+use Rattle.std.proofs.Common.{◌≡◌, ◌++◌, length, sym, ap, ◌∙◌, filter, append-nil, arith}
 use Rattle.std.proofs.lemmas.List.{length-map, take_all}
 use Rattle.indexmap.specs.IndexMap.{keys}
 use Rattle.linkage_rules.specs.Grouped.{same_kind}
@@ -13,10 +13,8 @@ loop-index-preserved c = λ known told.
     let all = keys c.args.among.now in
     let k = c.loop-index.index in
     let s = c.symbol_at-symbol.result.now in
-    let one = c.index-kinds-index.result in
-    let is : one ≡ known s = c.index-kinds-index.is ∙ ap (λ kinds. get_or kinds k one) told ∙ told_at known all k s one c.symbol_at-symbol.ensures in
     kept_step (λ s. same_kind c.args.kind (known s)) all k s c.args.symbols.now c.loop-index.symbols _ _
-    c.symbol_at-symbol.ensures (c.loop-index.invariant known told) c.in_ok-push_if.ensures (c.is_same-is_kept.ensures ∙ ap (same_kind c.args.kind) is)
+    c.symbol_at-symbol.ensures (c.loop-index.invariant known told) c.in_ok-push_if.ensures (c.is_same-is_kept.ensures ∙ ap (same_kind c.args.kind) (told_at known c.args.kinds.now all k s _ told c.symbol_at-symbol.ensures))
 
 pub returns : goal.returns
 returns c = λ known told.
