@@ -1,6 +1,6 @@
 -- For `next` and `next_operand` of `Walker`: a walker over a judged stream, what is left of it, and what its calls
 -- give.
-use Rattle.std.specs.Prelude.{◌≡◌, ℕ, Bool, true, false, List, [], ◌∷◌, Option, Some, None, Result, Ok, Err, IsErr, Unit}
+use Rattle.std.specs.Prelude.{◌≡◌, ℕ, Bool, true, false, List, [], ◌∷◌, Option, Some, None, Result, Ok, Err, IsErr}
 use Rattle.bit_stream.specs.Abbreviation.{AdmittedAbbreviation}
 use Rattle.bit_tree.specs.Pieces.{Piece, begun, ended, defines, holds}
 use Rattle.bit_walk.specs.declared.event.Event.{Event}

@@ -1,4 +1,4 @@
-use Rattle.std.proofs.Common.{[], false, tt}
+use Rattle.std.proofs.Common.{[], false}
 use Rattle.bit_walk.specs.Values.{left_by, list_of}
 use Rattle.bit_walk.proofs.Operands.{over}
 use Rattle.bit_walk.proofs.Walked.{read_list}
@@ -27,7 +27,7 @@ pub returns-in-Block-clause-read : goal.returns-in-Block-clause-read
 returns-in-Block-clause-read c = rw c.plain-in-Block.ensures.stage ([], over c.pass_judged.new.kept.abbreviation c.plain-in-Block.result.inner)
 
 pub returns-in-Block-clause-bare : goal.returns-in-Block-clause-bare
-returns-in-Block-clause-bare c = rw (c.plain-in-Block.ensures.event, c.plain-in-Block.ensures.stage) (read_list _ [] (over c.pass_judged.new.kept.abbreviation c.plain-in-Block.result.inner), c.plain-in-Block.ensures.has_blob, c.plain-in-Block.ensures.blob)
+returns-in-Block-clause-bare c = rw (c.plain-in-Block.ensures.event, c.block.ensures, c.plain-in-Block.ensures.stage) (read_list _ [] (over c.pass_judged.new.kept.abbreviation c.plain-in-Block.result.inner), c.plain-in-Block.ensures.has_blob, c.plain-in-Block.ensures.blob)
 
 pub returns-in-Block-clause-gave : goal.returns-in-Block-clause-gave
 returns-in-Block-clause-gave c = λ ps h. (
