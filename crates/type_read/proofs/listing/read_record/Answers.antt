@@ -1,4 +1,4 @@
-use Rattle.std.proofs.Common.{◌≡◌, ◌⊎◌, inl, inr, false, nat_eq, sym, subst, refl, ◌∙◌, arith}
+use Rattle.std.proofs.Common.{◌≡◌, ◌+◌, ◌⊎◌, inl, inr, false, nat_eq, sym, subst, refl, ◌∙◌, arith}
 use Rattle.std.specs.Prelude.{Err}
 use Rattle.std.proofs.lemmas.Bool.{ne_eqb}
 use Rattle.std.proofs.lemmas.Result.{err_from_is_err_and}
@@ -14,7 +14,7 @@ use Rattle.type_read.proofs.listing.read_record.Goals as goal
 pub returns-then-code-eq-DEFINE-clause-answers : goal.returns-then-code-eq-DEFINE-clause-answers
 returns-then-code-eq-DEFINE-clause-answers c = λ all s operands on number texts later so_far.
     let here = rw c.if-code-eq-DEFINE.true at so_far in
-    as_struct s c.args.code operands (λ answer. PutsRecord c.args.arena.now _ c.args.pending.now _ c.args.names all later s answer _) c.if-code-eq-DEFINE.true (c.in_ok-read_struct_record.ensures.answers all s operands on number texts later here)
+    as_struct s c.args.code operands (λ answer. PutsRecord c.args.arena.now c.read_struct_record.new.arena c.args.pending.now c.read_struct_record.new.pending c.args.names all later s answer (c.args.defined + 1)) c.if-code-eq-DEFINE.true (c.in_ok-read_struct_record.ensures.answers all s operands on number texts later here)
 
 pub returns-in_err-read_struct_record-clause-answers : goal.returns-in_err-read_struct_record-clause-answers
 returns-in_err-read_struct_record-clause-answers c = λ all s operands on number texts later so_far.
@@ -43,8 +43,8 @@ returns-in_ok-read_type_record-in-Some-clause-answers c = λ all s operands on n
     let there = subst (λ a. IsOn a c.args.names all c.args.reader.now operands s) (sym given.0) on in
     let reads = c.in_ok-read_type_record-in-Some.ensures.reads in
     let none : Pending = record { first = c.args.defined; at = c.at.result; bodies = c.new.result } in
-    as_type s c.args.code operands (kind_view c.in-Some.kind) (λ answer. PutsRecord c.args.arena.now _ c.args.pending.now none c.args.names all later s answer c.args.defined) (sym c.in-Some.ensures)
-    (type_put c.args.arena.now _ c.args.pending.now none c.args.names all later s (of_kind s operands (kind_view c.in-Some.kind)) c.args.defined given.1 here number
+    as_type s c.args.code operands (kind_view c.in-Some.kind) (λ answer. PutsRecord c.args.arena.now c.read_type_record.new.arena c.args.pending.now none c.args.names all later s answer c.args.defined) (sym c.in-Some.ensures)
+    (type_put c.args.arena.now c.read_type_record.new.arena c.args.pending.now none c.args.names all later s (of_kind s operands (kind_view c.in-Some.kind)) c.args.defined given.1 here number
     refl (c.at.ensures ∙ reads.2 ∙ on.at) c.new.ensures.items
     (c.in_ok-read_type_record-in-Some.ensures.answers c.args.names all s operands there number later here))
 

@@ -114,8 +114,8 @@ returns-in_err-give-in-Block-clause-answers c = λ inside others before are name
     let h = c.records.invariant.1 inside others before are named in
     rw (p.1, p.2) (held_refused _ _ inside others _ _ _ c.records.reader _ h _ _ c.in_err-give-in-Block.ensures)
 
-pub returns-in_ok-give-in-Block-clause-answers : goal.returns-in_ok-give-in-Block-clause-answers
-returns-in_ok-give-in-Block-clause-answers c = λ inside others before are named.
+pub returns-in-Block-clause-answers : goal.returns-in-Block-clause-answers
+returns-in-Block-clause-answers c = λ inside others before are named.
     let next = gone c.records.reader c.next.new.self c.in_ok-code.field-0 (Block c.in-Block.id) c.in_ok-code.ensures c.in-Block.is in
     let h = c.records.invariant.1 inside others before are named in
     waiting_block _ _ inside others _ _ _ c.records.reader _ h _ c.next.new.self c.in-Block.id _ next.2 c.in_ok-give-in-Block.ensures.1

@@ -58,4 +58,4 @@ returns-in_err-give-in-Err-clause-puts c =
 
 pub returns-in_ok-give-in-Err-clause-puts : goal.returns-in_ok-give-in-Err-clause-puts
 returns-in_ok-give-in-Err-clause-puts c =
-    put_spent c.args.arena.now c.args.pending.now c.args.number c.args.body c.args.reader.now _ _ c.in-Err.fault c.in_ok-give-in-Err.ensures.1 (sym c.is_broken.ensures ∙ c.if-is_broken.false) c.in-Err.ensures.told
+    put_spent c.args.arena.now c.args.pending.now c.args.number c.args.body c.args.reader.now c.give-in-Err.new.arena c.give-in-Err.new.pending c.in-Err.fault c.in_ok-give-in-Err.ensures.1 (sym c.is_broken.ensures ∙ c.if-is_broken.false) c.in-Err.ensures.told
