@@ -53,6 +53,12 @@ abbrev pub noted : ℕ → Walk → Walk
 noted rule (going rest broken) = going rest (least rule broken)
 noted rule (stopped broken) = stopped (least rule broken)
 
+-- the record has ended: one operand that was left was taken, and breaks rule 1
+abbrev pub behind_end : Walk → Walk
+behind_end (going [] broken) = going [] broken
+behind_end (going (n ∷ rest) broken) = going rest (least 1 broken)
+behind_end (stopped broken) = stopped broken
+
 -- the record as a whole breaks the rule where this is false
 abbrev pub also_asked : ℕ → Bool → Walk → Walk
 also_asked rule true w = w

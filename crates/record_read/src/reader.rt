@@ -6,7 +6,7 @@ ghost use Rattle.bit_tree.specs.Stream.{StreamTree, Stream};
 ghost use Rattle.record_table.specs.Walk as walk;
 ghost use Rattle.record_table.specs.Layout.{number};
 ghost use Rattle.record_table.specs.Faults.{records};
-ghost use Rattle.record_read.specs.Reader.{Reads, Takes, also_asked, is_broken, is_stopped, noted};
+ghost use Rattle.record_read.specs.Reader.{Reads, Takes, also_asked, behind_end, is_broken, is_stopped, noted};
 ghost use Rattle.record_read.specs.Faults.{Finishes};
 ghost use Rattle.record_read.specs.Entries.{IsBefore, Advances, Passes};
 
@@ -229,6 +229,7 @@ impl<'b> RecordReader<'b> {
     /// The least rule that the record breaks. Where operands are left at its end there are too many, which breaks rule 1.
     pub fn told(&mut self) -> Option<u8>
         ensures told { result ≡ walk.told self.old.walk }
+        ensures walk { self.new.walk ≡ behind_end self.old.walk }
         ensures left { self.new.left ≡ self.old.left }
         ensures spent { self.new.spent ≡ self.old.spent }
         ensures at { self.new.at ≡ self.old.at }
@@ -243,6 +244,7 @@ impl<'b> RecordReader<'b> {
     pub fn finish(&mut self, block: u32) -> Result<(), BitcodeFault>
         requires { 0 < self.old.at }
         ensures told { Finishes block self.old result }
+        ensures walk { self.new.walk ≡ behind_end self.old.walk }
         ensures left { self.new.left ≡ self.old.left }
         ensures spent { self.new.spent ≡ self.old.spent }
         ensures at { self.new.at ≡ self.old.at }
