@@ -57,7 +57,8 @@ fn head_at(cursor: &mut BitCursor, width: ChunkWidth) -> Result<Option<PlainHead
     Ok(Some(PlainHead { code, count }))
 }
 
-/// The record without an abbreviation in front, where one stands there in a block that is not BLOCKINFO.
+/// A record without an abbreviation that stands in front, in a block that is not BLOCKINFO. None says nothing: the longer way finds
+/// what is there then.
 #[inline(always)]
 pub fn plain_in_front<'b>(cursor: &BitCursor<'b>, scope: &WalkScope<'b>) -> Option<PlainRecord<'b>>
     ensures within { IfSome result (λ _. is_top scope.now.scope ≡ false) }
@@ -87,8 +88,8 @@ pub struct PlainPassed<'b> {
     pub behind: BitCursor<'b>,
 }
 
-/// The record without an abbreviation in front, passed over, where one stands there in a block that is not BLOCKINFO and
-/// nothing of it is refused.
+/// A record without an abbreviation that stands in front, in a block that is not BLOCKINFO, passed over; nothing of it is refused. None
+/// says nothing: the longer way finds what is there then.
 #[inline(always)]
 pub fn plain_passed<'b>(cursor: &BitCursor<'b>, scope: &WalkScope<'b>) -> Option<PlainPassed<'b>>
     ensures { IfSome result (λ passed. pass_item scope.now.scope cursor.now ≡ Ok (record { entry = Some (Record passed.code); scope = scope.now.scope; operands = []; blob = [] }, passed.behind)) }

@@ -96,7 +96,7 @@ impl BitSink {
         Ok(())
     }
 
-    /// Adds the number in chunks of `width` bits, as few as it has. Where memory runs out, some may be added.
+    /// Adds the number in chunks of `width` bits, as few as it has. Where memory runs out, what the sink has is not told.
     pub fn vbr(&mut self, value: u64, width: u32) -> Result<(), AllocError>
         requires width_low { 2 ≤ width }
         requires width_high { width ≤ 32 }

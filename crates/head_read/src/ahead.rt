@@ -16,8 +16,8 @@ use record_table::{ALIAS, FUNCTION, MODULE_BLOCK, TYPES_BLOCK, VARIABLE};
 use std::alloc::{AllocError, Global};
 use type_read::{StructNames, gather_types};
 
-/// What is known ahead of a module's block: how many entries it has, and its structs, with an arena that has their names up
-/// to the first bad one and nothing else.
+/// What is known ahead of a module's block: how many entries it has, and its structs, with an arena that has their names, where none is
+/// bad, and nothing else.
 #[derive(Drop)]
 pub struct ModuleAhead {
     pub counts: GlobalCounts,

@@ -62,7 +62,7 @@ fn alignment_code(align: Option<u32>) -> u64
     }
 }
 
-/// Appends 0, or one more than the binary logarithm of an alignment in bytes, which is a power of two.
+/// Appends 0, or one more than the binary logarithm of an alignment in bytes, which is a power of two of at most 65,536.
 pub fn put_alignment(operands: &mut Vec<u64>, align: Option<u32>) -> Result<(), AllocError>
     ensures { HasCode align → OnOk result (operands.new.items ≡ operands.old.items ++ alignment.spell align) }
 {

@@ -121,7 +121,7 @@ fn flags_of(opcode: Opcode, number: u64) -> Option<Flags>
     }
 }
 
-/// A set of flags that the opcode may have. Another breaks rule 3; no flags stand for it.
+/// A set of flags that the opcode may have. Another breaks rule 3; which flags stand for it is not told.
 pub fn read_flags(reader: &mut RecordReader<'_>, opcode: Opcode) -> Flags
     ensures kept { IsBroken reader.new.walk ⊎ (result ≡ ((fields.flags opcode).read reader.old.walk).0) }
     ensures reader { reader.new ≡ record reader.old { walk = ((fields.flags opcode).read reader.old.walk).1 } }

@@ -1,5 +1,5 @@
 //! A reader of records.
-ghost use Rattle.std.specs.Prelude.{◌≡◌, ◌≤◌, ◌<◌, ◌+◌, ◌&&◌, not, nat_lt, true, false, [], length, IfOk, OnOk, OnErr};
+ghost use Rattle.std.specs.Prelude.{◌≡◌, ◌≤◌, ◌<◌, ◌+◌, ◌&&◌, not, nat_lt, true, false, None, [], length, IfOk, OnOk, OnErr};
 ghost use Rattle.bit_stream.specs.declared.reader.TheConstants.{LARGEST_STREAM};
 ghost use Rattle.bit_tree.specs.Read.{IsStream};
 ghost use Rattle.bit_tree.specs.Stream.{StreamTree, Stream};
@@ -65,6 +65,7 @@ impl<'b> RecordReader<'b> {
         ensures unspent { result.spent ≡ false }
         ensures whole { (tree : StreamTree) → Stream bytes.now tree → IsBefore result.left (records tree) [] }
         ensures none { result.at ≡ 0 }
+        ensures bare { result.walk ≡ walk.going [] None }
     {
         RecordReader {
             walker: Walker::new(alloc, bytes),

@@ -152,8 +152,8 @@ fn gather_record(
     }
 }
 
-/// Goes through the block of types that was begun, and gives an empty arena the structs' names, up to the first bad one. The
-/// reader stands behind the block then. It refuses nothing.
+/// Goes through the block of types that was begun, and gives an empty arena the structs' names, where none is bad. The reader stands
+/// behind the block then. It refuses nothing.
 pub fn gather_types(
     reader: &mut RecordReader<'_>,
     alloc: Global,
