@@ -107,6 +107,11 @@ impl ChunkWidth {
 }
 
 /// How one value is spelled.
+///
+/// ```
+/// ValueSpelling::Field(FieldWidth::new(1)) // in one bit
+/// ValueSpelling::Chunks(ChunkWidth::new(6)) // in chunks of 6 bits
+/// ```
 #[derive(Clone, Copy)]
 pub enum ValueSpelling {
     /// Not at all: it is this value.
@@ -134,6 +139,10 @@ impl ValueSpelling {
 }
 
 /// What follows the values of a record that are spelled one by one.
+///
+/// ```
+/// Tail::Elements(ValueSpelling::Letter) // a count, and so many characters, 6 bits each
+/// ```
 #[derive(Clone, Copy)]
 pub enum Tail {
     /// Nothing.

@@ -8,6 +8,11 @@ use std::alloc::{AllocError, AllocFailed};
 use thiserror::Error;
 
 /// A fault of the stream, or want of memory.
+///
+/// ```
+/// // of the bytes 42 43 C0 alone, which are too few
+/// StreamFault::Bit(BitFault { kind: BitFaultKind::BadMagic, bit: 0 })
+/// ```
 #[derive(Clone, Copy, Debug, Error)]
 pub enum StreamFault {
     /// A field of the stream, by its kind and its first bit.

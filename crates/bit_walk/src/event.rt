@@ -1,6 +1,11 @@
 //! What a walker gives.
 
 /// A block that begins: its id, how many bits the abbreviation ids inside it have, and its count of words.
+///
+/// ```
+/// // of a block of id 8 whose abbreviation ids have 3 bits, and which has 20 words of 32 bits
+/// BlockHead { id: 8, width: 3, words: 20 }
+/// ```
 #[derive(Clone, Copy)]
 pub struct BlockHead {
     pub id: u32,
@@ -9,6 +14,10 @@ pub struct BlockHead {
 }
 
 /// A record that stands there: its abbreviation id, which is 3 where it has none, and its code.
+///
+/// ```
+/// RecordHead { id: 3, code: 1 } // of a record of code 1 without an abbreviation
+/// ```
 #[derive(Clone, Copy)]
 pub struct RecordHead {
     pub id: u32,
@@ -16,6 +25,11 @@ pub struct RecordHead {
 }
 
 /// An entry or a definition of a stream.
+///
+/// ```
+/// Event::Begun(BlockHead { id: 8, width: 3, words: 20 })
+/// Event::Defined(4) // the first abbreviation of a block
+/// ```
 #[derive(Clone, Copy)]
 pub enum Event {
     /// A block begins.

@@ -96,6 +96,13 @@ pub struct SelectionWords {
 /// What the program is to do. Standard input as an input is the text `-`. `text` says that canonical
 /// text is written in place of bitcode. `arguments` begin with the module's name as written. `dump` says
 /// that the whole tree is told, and not its counts alone.
+///
+/// ```
+/// // `llvm-as a.ll -o -`, whose input is `a.ll`
+/// Command::Assemble { input, output: OutputName::Standard }
+/// // `lli a.ll b`, whose input is `a.ll` and whose arguments are `a.ll` and `b`
+/// Command::Lli { input, max_steps: 1_000_000_000, arguments }
+/// ```
 #[derive(Drop)]
 pub enum Command {
     /// `llvm-as`: the text of a module as bitcode.

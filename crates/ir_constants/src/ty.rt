@@ -4,6 +4,13 @@ use ir_base::Place;
 use ir_terminals::{Integer, PlacedName};
 
 /// A type, with the place of its first token (LangRef, "Type System").
+///
+/// ```
+/// // `i32`, where a text begins with it
+/// Type::Integer(Place { line: 1, column: 1 }, 32)
+/// // `<{ i8, ptr }>` at a place, whose fields are `i8` and `ptr`
+/// Type::Struct(place, true, fields)
+/// ```
 #[derive(Drop)]
 #[cycle(ty)]
 pub enum Type {

@@ -5,6 +5,11 @@ use crate::ty::Type;
 use ir_terminals::Local;
 
 /// What an instruction works on: a parameter, a result or a constant.
+///
+/// ```
+/// Value::Local(Local::Named(x)) // `%x`, where `x` is that name with its place
+/// Value::Constant(Constant::Simple(Simple::Null, place)) // `null` at that place
+/// ```
 #[derive(Drop)]
 pub enum Value {
     /// A parameter or a result, by what it is called.

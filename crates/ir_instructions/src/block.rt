@@ -24,6 +24,11 @@ pub struct Case {
 }
 
 /// A condition, and where it goes: to the first block where it is true, else to the second.
+///
+/// ```
+/// // of `br i1 %c, label %a, label %b`, whose condition is `i1 %c`, where `a` and `b` are these names with their places
+/// Branch { condition, then_to: Local::Named(a), else_to: Local::Named(b) }
+/// ```
 #[derive(Drop)]
 pub struct Branch {
     pub condition: TypedValue,
@@ -32,6 +37,15 @@ pub struct Branch {
 }
 
 /// The value of a switch, the block for any other value, and the cases.
+///
+/// ```
+/// // of `switch i32 %x, label %a [ i32 7, label %b ]`, where `a` is that name with its place
+/// Switch {
+///     value, // `i32 %x`
+///     otherwise: Local::Named(a),
+///     cases, // `i32 7, label %b` alone
+/// }
+/// ```
 #[derive(Drop)]
 pub struct Switch {
     pub value: TypedValue,
@@ -40,6 +54,11 @@ pub struct Switch {
 }
 
 /// How a block ends (LangRef, "Terminator Instructions").
+///
+/// ```
+/// Ending::Return(Box::new(alloc, value)?) // `ret i32 0`, whose value is `i32 0`
+/// Ending::Jump(Local::Named(a)) // `br label %a`, where `a` is that name with its place
+/// ```
 #[derive(Drop)]
 pub enum Ending {
     /// `ret void`
@@ -57,6 +76,11 @@ pub enum Ending {
 }
 
 /// A block: what it is called where that is written, its instructions, and its end.
+///
+/// ```
+/// // `a: ret void`, where `a` is that name with its place
+/// Block { label: Some(Local::Named(a)), instructions: Vec::new(alloc), ending: Ending::ReturnVoid }
+/// ```
 #[derive(Drop)]
 pub struct Block {
     pub label: Option<Local>,

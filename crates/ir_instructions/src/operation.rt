@@ -5,6 +5,11 @@ use ir_tables::{Flags, Opcode, Predicate};
 use ir_terminals::{Integer, Local};
 
 /// The parameters that a call or an alias writes, and whether `...` ends them.
+///
+/// ```
+/// // `(ptr, ...)` of `call i32 (ptr, ...) @printf(ptr %p)`, whose parameters are `ptr` alone
+/// Signature { parameters, variadic: true }
+/// ```
 #[derive(Drop)]
 pub struct Signature {
     pub parameters: Vec<Type>,
@@ -12,6 +17,16 @@ pub struct Signature {
 }
 
 /// A call (LangRef, "'call' Instruction").
+///
+/// ```
+/// // `call i32 @f(i32 %a)`, where `f` is that name with its place
+/// Call {
+///     returns, // `i32`
+///     signature: None,
+///     callee: Value::Constant(Constant::Global(f)),
+///     arguments, // `i32 %a` alone
+/// }
+/// ```
 #[derive(Drop)]
 pub struct Call {
     /// The return type.
@@ -69,6 +84,11 @@ pub struct Phi {
 }
 
 /// What a load reads, from where, and the alignment where it is written.
+///
+/// ```
+/// // of `load i32, ptr %p`, whose type is `i32` and whose address is `ptr %p`
+/// Load { ty, address, alignment: None }
+/// ```
 #[derive(Drop)]
 pub struct Load {
     pub ty: Type,
@@ -77,6 +97,11 @@ pub struct Load {
 }
 
 /// What a store writes, to where, and the alignment where it is written.
+///
+/// ```
+/// // of `store i32 7, ptr %p`, whose value is `i32 7` and whose address is `ptr %p`
+/// Store { value, address, alignment: None }
+/// ```
 #[derive(Drop)]
 pub struct Store {
     pub value: TypedValue,
@@ -107,6 +132,15 @@ pub struct Extraction {
 }
 
 /// The whole that a part is put into, the part, and at least one index.
+///
+/// ```
+/// // of `insertvalue { i32, i1 } %s, i32 7, 0`
+/// Insertion {
+///     value, // `{ i32, i1 } %s`
+///     part, // `i32 7`
+///     indices, // `0` alone
+/// }
+/// ```
 #[derive(Drop)]
 pub struct Insertion {
     pub value: TypedValue,
@@ -115,6 +149,11 @@ pub struct Insertion {
 }
 
 /// What an instruction does, one variant a phrase, with the parts of the phrase in their order.
+///
+/// ```
+/// Operation::Freeze(Box::new(alloc, value)?) // `freeze i32 %x`, whose value is `i32 %x`
+/// Operation::Call(Box::new(alloc, call)?) // `call i32 @f(i32 %a)`, which is that call
+/// ```
 #[derive(Drop)]
 pub enum Operation {
     /// An operation on two operands.

@@ -37,6 +37,11 @@ pub enum TokenKind {
 }
 
 /// A token: what it is, the place of its first byte, and where its bytes start and end in the text, counted from 0.
+///
+/// ```
+/// // `@main`, where a text begins with it
+/// Token { kind: TokenKind::GlobalName, place: Place { line: 1, column: 1 }, start: 0, end: 5 }
+/// ```
 #[derive(Clone, Copy)]
 pub struct Token {
     pub kind: TokenKind,

@@ -18,6 +18,18 @@ pub enum WrittenBody {
 }
 
 /// A variable (LangRef, "Global Variables").
+///
+/// ```
+/// // `@a = constant i32 7`, where `a` is that name with its place
+/// Variable {
+///     name: a,
+///     linkage: None,
+///     constant: true,
+///     ty, // `i32`
+///     initialiser: Some(seven), // `7`
+///     alignment: None,
+/// }
+/// ```
 #[derive(Drop)]
 pub struct Variable {
     pub name: PlacedName,
@@ -32,6 +44,11 @@ pub struct Variable {
 }
 
 /// What an alias stands for.
+///
+/// ```
+/// AliasType::Plain(ty) // of `@b = alias i32, ptr @a`, whose type is `i32`
+/// AliasType::Function { returns, signature } // of `@g = alias i32 (ptr), ptr @f`: `i32` and `(ptr)`
+/// ```
 #[derive(Drop)]
 pub enum AliasType {
     /// A variable of this type.
@@ -41,6 +58,16 @@ pub enum AliasType {
 }
 
 /// An alias (LangRef, "Aliases").
+///
+/// ```
+/// // `@b = alias i32, ptr @a`, where `a` and `b` are these names with their places
+/// Alias {
+///     name: b,
+///     linkage: None,
+///     ty: AliasType::Plain(ty), // `i32`
+///     target: a,
+/// }
+/// ```
 #[derive(Drop)]
 pub struct Alias {
     pub name: PlacedName,
@@ -52,6 +79,11 @@ pub struct Alias {
 }
 
 /// A parameter of a function, and what it is called where that is written.
+///
+/// ```
+/// // `i32 %x`, whose type is `i32`, where `x` is that name with its place
+/// Parameter { ty, name: Some(Local::Named(x)) }
+/// ```
 #[derive(Drop)]
 pub struct Parameter {
     pub ty: Type,
@@ -75,6 +107,11 @@ pub struct FormalParameters {
 }
 
 /// A function without its body. What its parameters are called says nothing.
+///
+/// ```
+/// // of `declare i32 @f(ptr, ...)`, whose head is `i32 @f` and whose parameters are `ptr` alone
+/// Declaration { head, formal: FormalParameters { parameters, variadic: true } }
+/// ```
 #[derive(Drop)]
 pub struct Declaration {
     pub head: Head,
@@ -82,6 +119,11 @@ pub struct Declaration {
 }
 
 /// A function with its body, which is at least one block.
+///
+/// ```
+/// // of `define void @f() { ret void }`, whose head is `void @f` and whose one block is `ret void`
+/// Definition { head, parameters: Vec::new(alloc), blocks }
+/// ```
 #[derive(Drop)]
 pub struct Definition {
     pub head: Head,
@@ -90,6 +132,11 @@ pub struct Definition {
 }
 
 /// An item, with the place of its first token where no name has it.
+///
+/// ```
+/// Item::Struct { name: s, body: WrittenBody::Opaque } // `%s = type opaque`, where `s` is that name with its place
+/// Item::Variable(Box::new(alloc, variable)?) // `@a = constant i32 7`, which is that variable
+/// ```
 #[derive(Drop)]
 pub enum Item {
     /// `source_filename`: the name of the source that the module was made from.

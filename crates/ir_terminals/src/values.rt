@@ -31,6 +31,12 @@ pub struct PlacedName {
 }
 
 /// The bytes that a string stands for, and the place of the string.
+///
+/// ```
+/// // `"a.c"`, written at 1:19: the bytes between the quotes
+/// let place = Place { line: 1, column: 19 };
+/// PlacedText { text: CompactText::from_slice(alloc, b"a.c")?, place }
+/// ```
 #[derive(Drop)]
 pub struct PlacedText {
     pub text: CompactText,
@@ -38,6 +44,11 @@ pub struct PlacedText {
 }
 
 /// What a local value or a label is called: by a name, or by a number, with the place of the token.
+///
+/// ```
+/// Local::Named(x) // `%x`, or the label `x:`, where `x` is that name with its place
+/// Local::Numbered(number, place) // `%0`, or the label `0:`, where the number is 0
+/// ```
 #[derive(Drop)]
 pub enum Local {
     /// A name.

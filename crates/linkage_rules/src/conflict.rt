@@ -19,6 +19,11 @@ pub enum ConflictKind {
 }
 
 /// Why symbols were not resolved.
+///
+/// ```
+/// // of `define void @f()` in the first and in the third part, whose name is `f`
+/// SymbolFault::Conflict { kind: ConflictKind::TwoStrong, name, one: 0, other: 2 }
+/// ```
 #[derive(Debug, Drop, Error)]
 pub enum SymbolFault {
     /// Two entries of that name are in conflict, of an earlier and of a later part, which are counted from 0.

@@ -10,6 +10,11 @@ use std::alloc::{AllocError, Global};
 use std::hash::{Hash, Hasher};
 
 /// What a name is of: one thing of all parts, or what one part keeps to itself.
+///
+/// ```
+/// Symbol::Shared(name) // of `define i32 @main()`, whose name is `main`
+/// Symbol::Local(1, name) // of `@a = internal global i32 7` in the second part, whose name is `a`
+/// ```
 #[derive(Drop)]
 pub enum Symbol {
     /// A name that all parts share.

@@ -3,6 +3,11 @@ use crate::LocalName;
 use ir_base::Name;
 
 /// What of a module is at fault. It has names and no ids, so that it can be told when the arena is gone.
+///
+/// ```
+/// Entity::Global(name) // of `@x`, where the name is `x`
+/// Entity::Instruction(0, name) // the first instruction of the function of that name
+/// ```
 #[derive(Drop)]
 pub enum Entity {
     /// The module itself.

@@ -9,6 +9,10 @@ use ir_tables::Linkage;
 use type_table::{TypeId, TypeList};
 
 /// What a global name stands for.
+///
+/// ```
+/// GlobalId::Variable(a) // what `@a` stands for, where `a` is the id of a variable of that name
+/// ```
 #[derive(Clone, Copy, Debug, PartialEq, Eq, Hash)]
 pub enum GlobalId {
     /// A variable.
@@ -20,6 +24,11 @@ pub enum GlobalId {
 }
 
 /// What a parameter, a block or a result is called within its function.
+///
+/// ```
+/// LocalName::Named(name) // of `%x`, or of the label `x:`, where the name is `x`
+/// LocalName::Numbered(0) // of `%0`
+/// ```
 #[derive(Drop)]
 pub enum LocalName {
     /// A name.
@@ -50,6 +59,11 @@ pub struct Variable {
 }
 
 /// What an alias says of its target.
+///
+/// ```
+/// AliasType::Plain(word) // of `@b = alias i32, ptr @a`, where `word` is the id of `i32`
+/// AliasType::Function(word, parameters, false) // of `@g = alias i32 (ptr), ptr @f`: `ptr` alone
+/// ```
 #[derive(Drop)]
 pub enum AliasType {
     /// The type of a variable.

@@ -19,6 +19,10 @@ pub enum CountKind {
 }
 
 /// Why a call of an arena was refused. A refused call leaves the arena as it was.
+///
+/// ```
+/// ArenaFault::Duplicate(GlobalId::Function(f)) // where a second entry would have the name of the function `f`
+/// ```
 #[derive(Clone, Copy, Debug, Error)]
 pub enum ArenaFault {
     /// An entry has that name already.

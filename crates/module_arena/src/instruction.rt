@@ -6,6 +6,11 @@ use ir_tables::{Flags, Opcode, Predicate};
 use type_table::{TypeId, TypeList};
 
 /// What an instruction works on: a parameter or result of its function, or a constant.
+///
+/// ```
+/// Value::Local(ValueId::new(0)) // the first parameter, or the first result where there are no parameters
+/// Value::Known(seven) // `7`, where that is the id of the constant
+/// ```
 #[derive(Clone, Copy, PartialEq, Eq)]
 pub enum Value {
     /// A parameter or a result.

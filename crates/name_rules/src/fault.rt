@@ -5,6 +5,11 @@ use std::alloc::{AllocError, AllocFailed};
 use thiserror::Error;
 
 /// Why the items of a text are no module, at the first place where they are none.
+///
+/// ```
+/// // of `@a = global i32 @b`, where nothing is called `@b`
+/// ResolveFault::UnknownName { place: Place { line: 1, column: 17 }, spelled }
+/// ```
 #[derive(Debug, Drop, Error)]
 pub enum ResolveFault {
     /// More structs, variables, functions or aliases than a module may have, and how many there are.

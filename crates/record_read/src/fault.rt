@@ -9,6 +9,10 @@ use std::alloc::{AllocError, AllocFailed};
 use thiserror::Error;
 
 /// Why bitcode is refused.
+///
+/// ```
+/// BitcodeFault::BadVersion(3) // where the block of a module says version 3
+/// ```
 #[derive(Clone, Copy, Debug, Error)]
 pub enum BitcodeFault {
     /// A field of the container.

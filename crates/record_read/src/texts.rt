@@ -12,6 +12,10 @@ use module_arena::LocalName;
 use std::alloc::{AllocError, Global};
 
 /// How texts stand in the records of a version.
+///
+/// ```
+/// Texts::Table(text) // of `ab`, in which an offset of 1 and a size of 1 are `b`
+/// ```
 #[derive(Drop)]
 pub enum Texts {
     /// Version 1: byte by byte, in the records themselves.

@@ -53,6 +53,11 @@ pub struct CallParts {
 
 /// What an instruction comes to once each name, type and layout in it is known. `to` is the place in the frame of the result's
 /// first leaf, widths are in bits, sizes and alignments in bytes. An edge is a place among the edges. It takes at most 40 bytes.
+///
+/// ```
+/// Action::Jump { edge: 0 } // `br label %b`, where that is the first edge of its body
+/// Action::Return { value: NOTHING } // `ret void`
+/// ```
 #[derive(Clone, Copy)]
 pub enum Action {
     /// A binary instruction on integers.

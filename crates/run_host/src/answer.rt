@@ -10,6 +10,11 @@ use std::alloc::AllocError;
 
 /// What a host function answers. The bytes that it writes are handed on apart. That input is read, and that the program exits, is
 /// told by the choice of the row.
+///
+/// ```
+/// HostAnswer::Exits(3) // of `exit` at 3, or 259
+/// HostAnswer::Gives(None) // of `free` at null
+/// ```
 #[derive(Clone, Copy)]
 pub enum HostAnswer {
     /// It returns: the leaves of its result, if it has one.

@@ -6,6 +6,11 @@ use ir_tables::UndefinedKind;
 pub const ABORTED: u8 = 134;
 
 /// How a run ends.
+///
+/// ```
+/// End::Exit(3) // where main gives 3, or 259
+/// End::Unresolved(name) // where a name is used that is declared alone, and that no host function has
+/// ```
 #[derive(Drop)]
 pub enum End {
     /// With a status: what main gives or `exit` is called with, modulo 256, or `ABORTED` of `abort`.

@@ -11,6 +11,11 @@ use module_arena::CountKind;
 use std::alloc::AllocError;
 
 /// What a run of a tool ended with. Each but `Ok` and `Exit` has one line on standard error.
+///
+/// ```
+/// Ended::Exit(3) // of `lli` at a program whose main gives 3
+/// Ended::BadByte { input, place: Place { line: 1, column: 1 } } // where the input of that name begins with `?`
+/// ```
 #[derive(Drop)]
 pub enum Ended {
     /// The tool did its work.

@@ -4,6 +4,11 @@ use module_arena::Entity;
 use std::alloc::AllocError;
 
 /// Why a module was refused. It has names and no ids, so that it can be told when the arena is gone.
+///
+/// ```
+/// // where rule 7 does not hold of `@a = global i32 7, align 3`, whose name is `a`
+/// VerifyFault::Invalid { rule: 7, entity: Entity::Global(name) }
+/// ```
 #[derive(Drop)]
 pub enum VerifyFault {
     /// Blocks times values of the function of that name pass 2^31: the product.
