@@ -71,7 +71,7 @@ fn fault_told(dash: Text, fault: RunFault) -> Ended
 }
 
 // Runs the program of a module with these words, for at most so many steps.
-fn run_program<I: Source, O: Sink>(
+fn run_checked<I: Source, O: Sink>(
     alloc: Global,
     checked: &Checked,
     words: &TextList,
@@ -120,8 +120,8 @@ pub(crate) fn run_bytes<I: Source, O: Sink>(
     };
     if is_dash(name.bytes()) {
         let mut nothing = NoInput;
-        run_program(alloc, &checked, words, max_steps, &mut nothing, output)
+        run_checked(alloc, &checked, words, max_steps, &mut nothing, output)
     } else {
-        run_program(alloc, &checked, words, max_steps, input, output)
+        run_checked(alloc, &checked, words, max_steps, input, output)
     }
 }

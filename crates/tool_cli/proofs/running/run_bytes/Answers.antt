@@ -13,24 +13,24 @@ returns-in-Err-clause-ran g c =
 pub returns-then-is_dash-clause-ran : goal.returns-then-is_dash-clause-ran
 returns-then-is_dash-clause-ran g c =
     let before = outside (g.I.Source.left c.args.input.now) (g.I.Source.faults c.args.input.now) (g.O.Sink.taken c.args.output.now) (g.O.Sink.faults c.args.output.now) in
-    let after = outside (g.I.Source.left c.args.input.now) (g.I.Source.faults c.args.input.now) (g.O.Sink.taken c.run_program.new.output) (g.O.Sink.faults c.run_program.new.output) in
+    let after = outside (g.I.Source.left c.args.input.now) (g.I.Source.faults c.args.input.now) (g.O.Sink.taken c.run_checked.new.output) (g.O.Sink.faults c.run_checked.new.output) in
     let m = module_of c.in-Ok.checked in
-    program_ran c.args.name.now c.args.max_steps c.args.words.now c.args.bytes m before after c.run_program.result c.in-Ok.ensures.part
-    (run_from_nothing c.args.name.now (program_of c.args.max_steps c.args.words.now m) before after c.run_program.result (rw c.bytes.ensures at (sym c.is_dash.ensures ∙ c.if-is_dash.true)) c.run_program.ensures)
+    program_ran c.args.name.now c.args.max_steps c.args.words.now c.args.bytes m before after c.run_checked.result c.in-Ok.ensures.part
+    (run_from_nothing c.args.name.now (program_of c.args.max_steps c.args.words.now m) before after c.run_checked.result (rw c.bytes.ensures at (sym c.is_dash.ensures ∙ c.if-is_dash.true)) c.run_checked.ensures)
 
 pub returns-then-is_dash-clause-not_begun : goal.returns-then-is_dash-clause-not_begun
 returns-then-is_dash-clause-not_begun g c =
     let before = outside (g.I.Source.left c.args.input.now) (g.I.Source.faults c.args.input.now) (g.O.Sink.taken c.args.output.now) (g.O.Sink.faults c.args.output.now) in
-    let after = outside (g.I.Source.left c.args.input.now) (g.I.Source.faults c.args.input.now) (g.O.Sink.taken c.run_program.new.output) (g.O.Sink.faults c.run_program.new.output) in
-    λ early. absurd (begun_from_nothing c.args.name.now (program_of c.args.max_steps c.args.words.now (module_of c.in-Ok.checked)) before after c.run_program.result c.run_program.ensures early)
+    let after = outside (g.I.Source.left c.args.input.now) (g.I.Source.faults c.args.input.now) (g.O.Sink.taken c.run_checked.new.output) (g.O.Sink.faults c.run_checked.new.output) in
+    λ early. absurd (begun_from_nothing c.args.name.now (program_of c.args.max_steps c.args.words.now (module_of c.in-Ok.checked)) before after c.run_checked.result c.run_checked.ensures early)
 
 pub returns-clause-ran : goal.returns-clause-ran
 returns-clause-ran g c =
     let before = outside (g.I.Source.left c.args.input.now) (g.I.Source.faults c.args.input.now) (g.O.Sink.taken c.args.output.now) (g.O.Sink.faults c.args.output.now) in
-    let after = outside (g.I.Source.left c.run_program-else-is_dash.new.input) (g.I.Source.faults c.run_program-else-is_dash.new.input) (g.O.Sink.taken c.run_program-else-is_dash.new.output) (g.O.Sink.faults c.run_program-else-is_dash.new.output) in
+    let after = outside (g.I.Source.left c.run_checked-else-is_dash.new.input) (g.I.Source.faults c.run_checked-else-is_dash.new.input) (g.O.Sink.taken c.run_checked-else-is_dash.new.output) (g.O.Sink.faults c.run_checked-else-is_dash.new.output) in
     let m = module_of c.in-Ok.checked in
-    program_ran c.args.name.now c.args.max_steps c.args.words.now c.args.bytes m before after c.run_program-else-is_dash.result c.in-Ok.ensures.part
-    (run_from_input c.args.name.now (program_of c.args.max_steps c.args.words.now m) before after c.run_program-else-is_dash.result (rw c.bytes.ensures at (sym c.is_dash.ensures ∙ c.if-is_dash.false)) c.run_program-else-is_dash.ensures)
+    program_ran c.args.name.now c.args.max_steps c.args.words.now c.args.bytes m before after c.run_checked-else-is_dash.result c.in-Ok.ensures.part
+    (run_from_input c.args.name.now (program_of c.args.max_steps c.args.words.now m) before after c.run_checked-else-is_dash.result (rw c.bytes.ensures at (sym c.is_dash.ensures ∙ c.if-is_dash.false)) c.run_checked-else-is_dash.ensures)
 
 pub returns-clause-unread : goal.returns-clause-unread
 returns-clause-unread g c = λ dash. absurd (true≢false (sym dash ∙ rw c.bytes.ensures at (sym c.is_dash.ensures ∙ c.if-is_dash.false)))
@@ -38,5 +38,5 @@ returns-clause-unread g c = λ dash. absurd (true≢false (sym dash ∙ rw c.byt
 pub returns-clause-not_begun : goal.returns-clause-not_begun
 returns-clause-not_begun g c =
     let before = outside (g.I.Source.left c.args.input.now) (g.I.Source.faults c.args.input.now) (g.O.Sink.taken c.args.output.now) (g.O.Sink.faults c.args.output.now) in
-    let after = outside (g.I.Source.left c.run_program-else-is_dash.new.input) (g.I.Source.faults c.run_program-else-is_dash.new.input) (g.O.Sink.taken c.run_program-else-is_dash.new.output) (g.O.Sink.faults c.run_program-else-is_dash.new.output) in
-    λ early. absurd (begun_from_input c.args.name.now (program_of c.args.max_steps c.args.words.now (module_of c.in-Ok.checked)) before after c.run_program-else-is_dash.result (rw c.bytes.ensures at (sym c.is_dash.ensures ∙ c.if-is_dash.false)) c.run_program-else-is_dash.ensures early)
+    let after = outside (g.I.Source.left c.run_checked-else-is_dash.new.input) (g.I.Source.faults c.run_checked-else-is_dash.new.input) (g.O.Sink.taken c.run_checked-else-is_dash.new.output) (g.O.Sink.faults c.run_checked-else-is_dash.new.output) in
+    λ early. absurd (begun_from_input c.args.name.now (program_of c.args.max_steps c.args.words.now (module_of c.in-Ok.checked)) before after c.run_checked-else-is_dash.result (rw c.bytes.ensures at (sym c.is_dash.ensures ∙ c.if-is_dash.false)) c.run_checked-else-is_dash.ensures early)

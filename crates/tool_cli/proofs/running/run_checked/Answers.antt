@@ -4,7 +4,7 @@ use Rattle.run_rules.specs.Clauses.{outside}
 use Rattle.run_rules.specs.declared.fault.RunFault.TheVariants as faults
 use Rattle.tool_cli.specs.Running.{program_of}
 use Rattle.tool_cli.proofs.Programs.{ended_run}
-use Rattle.tool_cli.proofs.running.run_program.Goals as goal
+use Rattle.tool_cli.proofs.running.run_checked.Goals as goal
 
 pub returns-in-Err : goal.returns-in-Err
 returns-in-Err g c =
