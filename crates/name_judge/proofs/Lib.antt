@@ -1,6 +1,6 @@
 mod Firsts
 mod Counted
 mod InOrder
-mod SeenMore
+mod SeenItem
 mod Parameters
 mod Bodies

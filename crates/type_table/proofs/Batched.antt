@@ -10,7 +10,7 @@ use Rattle.type_table.specs.Kept.{IsFlagged, IsKept, IsSmall, IsTable, type_leng
 use Rattle.type_table.specs.Measures.{measure_of, opaque_measure, struct_measures, tree_body_measure, type_measures}
 use Rattle.type_table.specs.Types.{Types, IsKnownBody, bodies, names, tree_body, trees}
 use Rattle.type_table.specs.Batch.{IsOpen, StaysWithin, placed, with_bodies}
-use Rattle.type_table.proofs.AtRest.{kept_at_rest}
+use Rattle.type_table.proofs.SettledMeasures.{kept_at_rest}
 use Rattle.type_table.proofs.Given.{AreUndefined, bodies-given, good-given, many-given, stays_within, types-given}
 use Rattle.type_table.proofs.Judged.{within_kept}
 use Rattle.type_table.proofs.Placed.{placed-other}

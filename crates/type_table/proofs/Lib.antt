@@ -1,5 +1,5 @@
 pub mod Added
-pub mod AtRest
+pub mod SettledMeasures
 pub mod Batched
 pub mod Before
 pub mod Caps

@@ -8,7 +8,7 @@ use Rattle.ir_syntax.specs.declared.item.Declaration as the_declaration
 use Rattle.ir_syntax.specs.declared.item.Definition as the_definition
 use Rattle.ir_syntax.specs.View.{item_view, body_view}
 use Rattle.name_rules.specs.Breaks.{struct_name, global_name, source_place, layout_place, triple_place}
-use Rattle.name_judge.proofs.SeenMore.{none_seen, global_seen, struct_seen, source_seen, layout_seen, triple_seen, on_ok_two}
+use Rattle.name_judge.proofs.SeenItem.{none_seen, global_seen, struct_seen, source_seen, layout_seen, triple_seen, on_ok_two}
 use Rattle.name_judge.proofs.items.check_item.Goals as goal
 
 pub returns-in-SourceFilename-clause-seen : goal.returns-in-SourceFilename-clause-seen
