@@ -1,4 +1,4 @@
-pub mod Others
+pub mod OtherBlocks
 pub mod Aligned
 pub mod Rooms
 pub mod Made

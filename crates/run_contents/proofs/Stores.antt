@@ -27,7 +27,7 @@ use Rattle.run_initial.specs.Fresh.{Puts, to_store}
 use Rattle.run_initial.proofs.Sounds as sounds
 use Rattle.run_contents.specs.Held.{held}
 use Rattle.run_contents.proofs.Holdings.{held_is, held_order, held_stored}
-use Rattle.run_contents.proofs.Others.{KeepsOthers, stored_others}
+use Rattle.run_contents.proofs.OtherBlocks.{KeepsOthers, stored_others}
 use Rattle.run_contents.proofs.Placed.{ArePlacedFrom}
 use Rattle.run_contents.proofs.Rooms.{IsOf, pointer_is, row, row_at, row_symbol, size_is}
 

@@ -18,7 +18,7 @@ use Rattle.run_rules.specs.Access.{has_room, next_block}
 use Rattle.run_rules.specs.Opening.{made}
 use Rattle.run_rules.specs.Plan.{Contents}
 use Rattle.run_initial.specs.Fresh.{Puts, to_store}
-use Rattle.run_contents.proofs.Others.{KeepsOthers, stored_others}
+use Rattle.run_contents.proofs.OtherBlocks.{KeepsOthers, stored_others}
 use Rattle.run_machine.specs.Arguments.{KeepsBlocks}
 
 front_same : {A : Type 0} (xs ys : List A) (j : ℕ) → j < length xs → slice_get (xs ++ ys) j ≡ slice_get xs j
