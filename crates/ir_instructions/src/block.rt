@@ -1,4 +1,4 @@
-//! Blocks, as a text writes them.
+//! Blocks, as a text writes them. `Block`, `Case` and `Ending` of `module_arena` are those of an arena.
 
 use crate::operation::Operation;
 use ir_constants::{TypedConstant, TypedValue};

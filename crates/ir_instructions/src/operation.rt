@@ -1,4 +1,4 @@
-//! Instructions that do not end a block, as a text writes them.
+//! Instructions that do not end a block, as a text writes them. `Call` of `module_arena` is that of an arena.
 
 use ir_constants::{Type, TypedValue, Value};
 use ir_tables::{Flags, Opcode, Predicate};

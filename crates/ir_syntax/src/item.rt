@@ -1,4 +1,4 @@
-//! Items, as a text writes them.
+//! Items, as a text writes them. `Variable`, `Alias` and `AliasType` of `module_arena` are those of an arena.
 
 use ir_base::{ItemList, Place};
 use ir_constants::{Constant, Type};

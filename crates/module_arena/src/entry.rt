@@ -1,4 +1,5 @@
-//! Variables, aliases and functions.
+//! Variables, aliases, functions and blocks of an arena, by the ids of their parts. Those of a text are in `ir_syntax` and
+//! `ir_instructions`.
 
 ghost use Rattle.std.specs.Prelude.{◌≡◌, ◌<◌, ◌^◌, length, slice_get, Some};
 ghost use Rattle.module_arena.specs.Lists.{value_names, function_blocks};
