@@ -2,6 +2,7 @@
 use Rattle.std.proofs.Common.{◌≡◌, ℕ, zero, suc, ◌-◌, ◌<◌, Bool, true, false, List, [], ◌∷◌, ◌++◌, Option, Some, None, Ok, Err, refl, sym, ap, ◌∙◌, inl, inr}
 use Rattle.std.specs.Prelude.{◌==◌}
 use Rattle.std.proofs.lemmas.Bool.{cases_Bool, eqb-true}
+use Rattle.std.proofs.lemmas.Option.{same_Some}
 use Rattle.bits.specs.Cursor.{Cursor, Found, ◌>>=◌}
 use Rattle.bits.specs.Reading.{fixed, vbr}
 use Rattle.bits.specs.declared.fault.BitFault.{BitFault}
@@ -59,9 +60,6 @@ record HeadIs (width : ℕ) (c inner : Cursor) (head : PlainHead) : Type 0 where
   code : code_by (Chunks 6) behind ≡ Ok (head.code, middle)
   count : vbr 6 middle ≡ Ok (head.count, inner)
 
-some_same : (one other : PlainHead) → Some one ≡ Some other → one ≡ other
-some_same one other h = cc
-
 never_none : (head : PlainHead) → let none : Option PlainHead = None in none ≡ Some head → ⊥
 never_none head h = absurd (cc)
 
@@ -72,7 +70,7 @@ parts_behind width id c d inner head read h = elim (cases_Bool (id == 3)) [
       let count = bound (vbr 6 code.1) _ (Some head) inner code.3 in
       let one : PlainHead = record { code = code.0; count = count.0 } in
       let last = found_parts (Some one) (Some head) count.1 inner count.3 in
-      let same : one ≡ head = some_same one head last.0 in
+      let same : one ≡ head = same_Some one head last.0 in
       let code_same : code.0 ≡ head.code = ap (λ (x : PlainHead). x.code) same in
       let count_same : count.0 ≡ head.count = ap (λ (x : PlainHead). x.count) same in
       record {

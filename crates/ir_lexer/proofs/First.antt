@@ -1,5 +1,6 @@
 -- The token that reading finds is the longest, and where it finds none, none begins.
 use Rattle.std.proofs.Common.{◌&&◌, ◌≡◌, ℕ, zero, suc, ◌≤◌, ◌<◌, List, [], ◌∷◌, ◌++◌, length, take, drop, Bool, true, false, ◌⊎◌, inl, inr, refl, sym, ap, ◌∙◌, arith, Option, Some, None}
+use Rattle.std.proofs.lemmas.Option.{same_Some}
 use Rattle.ir_lexer.specs.declared.class.Class.{Class}
 use Rattle.ir_lexer.specs.declared.token.TokenKind.{TokenKind}
 use Rattle.ir_lexer.specs.Class.{byte_class, starts_with, in_word, is_c, is_quote}
@@ -22,9 +23,6 @@ pub record Found (x : Class) (rs : List TokenRow) (bs : List ℕ) (kind : TokenK
   pub number_is : n ≡ suc number
   pub begins : starts row x ≡ true
   pub best : (r : TokenRow) (m : ℕ) → Among r rs → longest (tail_of r) bs ≡ Some m → (suc m < n) ⊎ ((suc m ≡ n) × (kind_of r ≡ kind))
-
-some_same : {A : Type 0} (a b : A) → Some a ≡ Some b → a ≡ b
-some_same a b h = cc
 
 wins : (r : TokenRow) (bs : List ℕ) (rs : List TokenRow) → WinsAll r bs rs → (s : TokenRow) → Among s rs → Wins r bs s
 wins r bs [] w s a = absurd a
@@ -67,7 +65,7 @@ found x (r ∷ rs) bs kind n s o h = go (longest (tail_of r) bs) refl h (λ g. f
     }
 
     go : (o2 : Option ℕ) → longest (tail_of r) bs ≡ o2 → or_else (kind_of r) o2 (first_of rs bs) ≡ Some (kind, n) → (first_of rs bs ≡ Some (kind, n) → Found x rs bs kind n) → Found x (r ∷ rs) bs kind n
-    go (Some m) e g again = first m e (some_same (kind_of r, suc m) (kind, n) g)
+    go (Some m) e g again = first m e (same_Some (kind_of r, suc m) (kind, n) g)
     go None e g again = later e (again g)
 
 pub found_none : (rs : List TokenRow) (bs : List ℕ) → first_of rs bs ≡ None → (r : TokenRow) → Among r rs → longest (tail_of r) bs ≡ None

@@ -4,7 +4,7 @@ use Rattle.std.specs.Prelude.{slice_get}
 use Rattle.std.proofs.lemmas.Bool.{false≢true}
 use Rattle.std.proofs.lemmas.List.{get_or-map, length-map, length-take}
 use Rattle.std.proofs.lemmas.List.Elements.{All-drop, All-take, All-weaker}
-use Rattle.std.proofs.lemmas.Option.{get_or_from_slice_get, slice_get_within}
+use Rattle.std.proofs.lemmas.Option.{get_or_from_slice_get, slice_get_within, same_Some}
 use Rattle.ir_memory.specs.declared.leaf.Leaf.TheVariants as leaf
 use Rattle.module_arena.specs.Lists.{Lists}
 use Rattle.run_rules.specs.Action as actions
@@ -24,7 +24,6 @@ use Rattle.run_flat.specs.declared.pools.Pools.{Pools}
 use Rattle.run_flat.specs.Flat.{action_of, AreCasesIn, cases_of, edge_at, HasItsMoves, IsEdgeIn, leaf_of}
 use Rattle.run_flat.specs.Spans.{spanned}
 use Rattle.typed_runs.specs.Actions.{IsEdge, IsMove}
-use Rattle.typed_runs.proofs.Leaves.{some_same}
 use Rattle.run_classes.specs.Groups.{is_way}
 use Rattle.run_classes.specs.May.{MayAct}
 use Rattle.run_classes.proofs.Placed.{had, origin_there, place_there}
@@ -57,7 +56,7 @@ module _ (count : ℕ) (p : Pools) (action : Action) (s : UnderWay) (may : MayAc
   -- an edge
   pub edge_may : (place : ℕ) (e : Edge) → IsEdgeIn p place → slice_get p.edges place ≡ Some e → way_of p.moves e ≡ edge_at p place → IsMeantEdge (edge_at p place) → IsWay s p.moves e
   edge_may place e has there means is =
-      let same : has.edge ≡ e = some_same has.edge e (sym has.there ∙ there) in
+      let same : has.edge ≡ e = same_Some has.edge e (sym has.there ∙ there) in
       let at : get_or p.edges place e ≡ e = get_or_from_slice_get p.edges place e e there in
       way_may e (subst (HasItsMoves p) same has.moves) (subst (λ (x : Edge). x.end - x.first ≤ s.widest) at (may.narrow.edges place e (slice_get_within p.edges place e there)))
       (subst IsMeantEdge (sym means) is)

@@ -3,6 +3,7 @@ use Rattle.std.proofs.Common.{◌≡◌, ℕ, zero, suc, List, [], ◌∷◌, �
 use Rattle.std.specs.Prelude.{slice_get, if◌then◌else◌}
 use Rattle.std.specs.List.{AllByRecursion, list_any, list_all}
 use Rattle.std.proofs.lemmas.Bool.{and_parts, or_right}
+use Rattle.std.proofs.lemmas.Option.{same_Some}
 use Rattle.ir_tables.specs.Table.{is_distinct}
 use Rattle.ir_tables.specs.declared.linkage.Linkage.{Linkage}
 use Rattle.ir_tables.specs.declared.linkage.Linkage.TheVariants.{Private, Internal, External, ExternWeak}
@@ -23,7 +24,7 @@ use Rattle.run_places.proofs.Together.{all_map, all_append, AreOfKind, GoTogethe
 use Rattle.linkage_rules.specs.SymbolLaws.{name_self, symbol_exact}
 use Rattle.run_rules.specs.NeverStuck.{NeverStuck}
 use Rattle.linkage_rules.specs.Entries.{symbol_name}
-use Rattle.run_places.proofs.Options.{some_same, none_some}
+use Rattle.run_places.proofs.Options.{none_some}
 use Rattle.run_places.proofs.Parts.{AreValid, all_from_places}
 use Rattle.run_places.proofs.Valid as valid_parts
 
@@ -31,7 +32,7 @@ use Rattle.run_places.proofs.Valid as valid_parts
 
 mapped_at : {X Y : Type 0} (g : X → Y) (xs : List X) (k : ℕ) (x : X) → slice_get xs k ≡ Some x → slice_get (map g xs) k ≡ Some (g x)
 mapped_at g [] k x e = none_some x e
-mapped_at g (y ∷ ys) zero x e = ap (λ z. Some (g z)) (some_same y x e)
+mapped_at g (y ∷ ys) zero x e = ap (λ z. Some (g z)) (same_Some y x e)
 mapped_at g (y ∷ ys) (suc k) x e = mapped_at g ys k x e
 
 behind_at : {X : Type 0} (xs ys : List X) (k : ℕ) (y : X) → slice_get ys k ≡ Some y → (j : ℕ) × (slice_get (xs ++ ys) j ≡ Some y)
@@ -40,7 +41,7 @@ behind_at (x ∷ xs) ys k y e = let r = behind_at xs ys k y e in (suc r.0, r.1)
 
 named : (xs : List Bytes) (n : Bytes) (k : ℕ) (x : Bytes) → slice_get xs k ≡ Some x → n ≡ x → list_any (bytes_eq n) xs ≡ true
 named [] n k x e q = none_some x e
-named (y ∷ ys) n zero x e q = ap (λ t. t || list_any (bytes_eq n) ys) (ap (bytes_eq n) (some_same y x e ∙ sym q) ∙ name_self n)
+named (y ∷ ys) n zero x e q = ap (λ t. t || list_any (bytes_eq n) ys) (ap (bytes_eq n) (same_Some y x e ∙ sym q) ∙ name_self n)
 named (y ∷ ys) n (suc k) x e q = or_right (bytes_eq n y) (list_any (bytes_eq n) ys) (named ys n k x e q)
 
 front_at : {X : Type 0} (xs ys : List X) (k : ℕ) (x : X) → slice_get xs k ≡ Some x → slice_get (xs ++ ys) k ≡ Some x
@@ -62,7 +63,7 @@ apart [] ys i j x y h e g q = none_some x e
 apart (a ∷ xs) ys zero j x y h e g q =
     let p = and_parts (not (list_any (bytes_eq a) (xs ++ ys))) (is_distinct bytes_eq (xs ++ ys)) h in
     let r = behind_at xs ys j y g in
-    twice (list_any (bytes_eq a) (xs ++ ys)) (named (xs ++ ys) a r.0 y r.1 (some_same a x e ∙ q)) p.0
+    twice (list_any (bytes_eq a) (xs ++ ys)) (named (xs ++ ys) a r.0 y r.1 (same_Some a x e ∙ q)) p.0
 apart (a ∷ xs) ys (suc i) j x y h e g q = apart xs ys i j x y (and_parts (not (list_any (bytes_eq a) (xs ++ ys))) (is_distinct bytes_eq (xs ++ ys)) h).1 e g q
 
 front_distinct : (xs ys : List Bytes) → is_distinct bytes_eq (xs ++ ys) ≡ true → (i j : ℕ) (x y : Bytes) → slice_get xs i ≡ Some x → slice_get xs j ≡ Some y → x ≡ y → i ≡ j
@@ -70,10 +71,10 @@ front_distinct [] ys h i j x y e g q = none_some x e
 front_distinct (a ∷ xs) ys h zero zero x y e g q = refl
 front_distinct (a ∷ xs) ys h zero (suc j) x y e g q =
     let p = and_parts (not (list_any (bytes_eq a) (xs ++ ys))) (is_distinct bytes_eq (xs ++ ys)) h in
-    absurd (twice (list_any (bytes_eq a) (xs ++ ys)) (named (xs ++ ys) a j y (front_at xs ys j y g) (some_same a x e ∙ q)) p.0)
+    absurd (twice (list_any (bytes_eq a) (xs ++ ys)) (named (xs ++ ys) a j y (front_at xs ys j y g) (same_Some a x e ∙ q)) p.0)
 front_distinct (a ∷ xs) ys h (suc i) zero x y e g q =
     let p = and_parts (not (list_any (bytes_eq a) (xs ++ ys))) (is_distinct bytes_eq (xs ++ ys)) h in
-    absurd (twice (list_any (bytes_eq a) (xs ++ ys)) (named (xs ++ ys) a i x (front_at xs ys i x e) (some_same a y g ∙ sym q)) p.0)
+    absurd (twice (list_any (bytes_eq a) (xs ++ ys)) (named (xs ++ ys) a i x (front_at xs ys i x e) (same_Some a y g ∙ sym q)) p.0)
 front_distinct (a ∷ xs) ys h (suc i) (suc j) x y e g q =
     ap suc (front_distinct xs ys (and_parts (not (list_any (bytes_eq a) (xs ++ ys))) (is_distinct bytes_eq (xs ++ ys)) h).1 i j x y e g q)
 
@@ -149,7 +150,7 @@ module _ (m : Module) (well_formed : IsWellFormed m) (valid : IsValid m) where
   same_alias : (a b : Alias) → IsIn (OfAlias a) → IsIn (OfAlias b) → a.name ≡ b.name → a ≡ b
   same_alias a b is in_b q =
       let i : is.0 ≡ in_b.0 = front_distinct (alias_names m) (function_names m) distinct_rest is.0 in_b.0 a.name b.name (alias_at is.0 a is.1) (alias_at in_b.0 b in_b.1) q in
-      some_same a b (sym is.1 ∙ ap (slice_get m.aliases) i ∙ in_b.1)
+      same_Some a b (sym is.1 ∙ ap (slice_get m.aliases) i ∙ in_b.1)
 
   same_kind : (g h : Global) → IsIn g → IsIn h → name_of g ≡ name_of h → is_variable h ≡ is_variable g
   same_kind (OfVariable v) (OfVariable w) is k q = refl
@@ -172,7 +173,7 @@ module _ (m : Module) (well_formed : IsWellFormed m) (valid : IsValid m) where
       }
 
   pub is_valid : AreValid parts
-  is_valid zero x e = subst (λ (y : Module). IsWellFormed y × IsValid y) (some_same m x e) (well_formed, valid)
+  is_valid zero x e = subst (λ (y : Module). IsWellFormed y × IsValid y) (same_Some m x e) (well_formed, valid)
   is_valid (suc i) x e = none_some x e
 
   -- no run of a well-formed, valid module gets stuck

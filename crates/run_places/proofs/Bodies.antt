@@ -5,6 +5,7 @@ use Rattle.std.specs.List.{All, list_all, list_any, position_or_len}
 use Rattle.std.specs.Option.{option_map_or}
 use Rattle.std.proofs.lemmas.Bool.{and_parts}
 use Rattle.std.proofs.lemmas.List.Elements.{All-nil, All-cons}
+use Rattle.std.proofs.lemmas.Option.{same_Some}
 use Rattle.module_arena.specs.Module.{LocalName, Operation, Instruction, Case, Ending, Block}
 use Rattle.module_arena.specs.Operations.{targets}
 use Rattle.module_arena.specs.Same.{same_local}
@@ -15,7 +16,7 @@ use Rattle.run_rules.specs.Resolve.{operation_in, instruction_in, is_phi, phis, 
 use Rattle.run_rules.specs.Scope.{FunctionScope, place_in, block_in}
 use Rattle.run_places.specs.Bodies.{is_phi_instruction, IsLaidOut}
 use Rattle.run_places.specs.Places.{IsThere, LeadsOn, GoesOnFrom}
-use Rattle.run_places.proofs.Options.{some_same, none_some}
+use Rattle.run_places.proofs.Options.{none_some}
 use Rattle.run_places.proofs.Search.{IsFound, found_at, position_at, all_before, ends_at}
 
 module _ (sc : FunctionScope) where
@@ -64,7 +65,7 @@ module _ (sc : FunctionScope) where
     where
       go : (b : Bool) → is_phi x.operation ≡ b → slice_get (x ∷ is) (length (if b then x ∷ phis is else [])) ≡ Some i → (slice_get is (length (phis is)) ≡ Some i → is_phi_instruction i ≡ false) → is_phi_instruction i ≡ false
       go true p k more = more k
-      go false p k more = subst (λ (y : Instruction). is_phi_instruction y ≡ false) (some_same x i k) p
+      go false p k more = subst (λ (y : Instruction). is_phi_instruction y ≡ false) (same_Some x i k) p
 
   all_phis : (is : List Instruction) → slice_get is (length (phis is)) ≡ None → length (phis is) ≡ length is
   all_phis [] e = refl

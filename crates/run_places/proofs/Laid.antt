@@ -4,6 +4,7 @@ use Rattle.std.specs.Prelude.{slice_get}
 use Rattle.std.specs.List.{list_all, list_any}
 use Rattle.std.specs.Option.{option_map_or}
 use Rattle.std.proofs.lemmas.Bool.{and_parts}
+use Rattle.std.proofs.lemmas.Option.{same_Some}
 use Rattle.module_arena.specs.Module.{LocalName, Incoming, Operation, Instruction, Block, Function, Module}
 use Rattle.module_arena.specs.Flow.{flow_of, predecessors}
 use Rattle.module_arena.specs.Forms.{is_not_empty, is_instruction_of_phrase, is_operation_of_phrase, has_result_of_phrase}
@@ -20,7 +21,7 @@ use Rattle.module_arena.proofs.SameNames.{same_self}
 use Rattle.ir_tables.specs.Table.{is_distinct}
 use Rattle.run_rules.specs.Resolve.{is_phi}
 use Rattle.run_places.specs.Bodies.{is_phi_instruction, IsLaidOut}
-use Rattle.run_places.proofs.Options.{some_same, none_some}
+use Rattle.run_places.proofs.Options.{none_some}
 use Rattle.run_places.proofs.Search.{all_at}
 
 -- ---- lists
@@ -28,7 +29,7 @@ use Rattle.run_places.proofs.Search.{all_at}
 module _ {X Y : Type 0} where
   all_of_part : (p : Y → Bool) (g : X → List Y) (xs : List X) (k : ℕ) (x : X) → list_all p (flat_map g xs) ≡ true → slice_get xs k ≡ Some x → list_all p (g x) ≡ true
   all_of_part p g [] k x h e = none_some x e
-  all_of_part p g (y ∷ ys) zero x h e = subst (λ z. list_all p (g z) ≡ true) (some_same y x e) (front p (g y) (flat_map g ys) h)
+  all_of_part p g (y ∷ ys) zero x h e = subst (λ z. list_all p (g z) ≡ true) (same_Some y x e) (front p (g y) (flat_map g ys) h)
     where
       front : (p : Y → Bool) (as_ bs : List Y) → list_all p (as_ ++ bs) ≡ true → list_all p as_ ≡ true
       front p [] bs h = refl
@@ -154,7 +155,7 @@ module _ (m : Module) (well_formed : IsWellFormed m) (valid : IsValid m) (n : �
 
   no_way_in : (bs : List Block) (b : Block) → AllHold (entry_demands f bs) → slice_get bs 0 ≡ Some b → length (predecessors (flow_of f) b.name) ≡ 0
   no_way_in [] b h e = none_some b e
-  no_way_in (c ∷ bs) b h e = subst (λ (z : Block). length (predecessors (flow_of f) z.name) ≡ 0) (some_same c b e) (eqb-true (length (predecessors (flow_of f) c.name)) 0 h.0)
+  no_way_in (c ∷ bs) b h e = subst (λ (z : Block). length (predecessors (flow_of f) z.name) ≡ 0) (same_Some c b e) (eqb-true (length (predecessors (flow_of f) c.name)) 0 h.0)
 
   pub laid_out : is_some f.body ≡ true → IsLaidOut (blocks f)
   laid_out defined =

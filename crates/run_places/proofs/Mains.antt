@@ -8,6 +8,7 @@ use Rattle.std.specs.Option.{option_map, option_map_or}
 use Rattle.linkage_rules.specs.declared.symbol.Symbol.{Symbol}
 use Rattle.linkage_rules.specs.Entries.{Entry, same_symbol, symbol_of, entries, entries_from}
 use Rattle.std.proofs.lemmas.Bool.{or_right, or_parts}
+use Rattle.std.proofs.lemmas.Option.{same_Some}
 use Rattle.ir_tables.specs.declared.linkage.Linkage.{Linkage}
 use Rattle.ir_tables.specs.declared.linkage.Linkage.TheVariants.{Appending}
 use Rattle.module_arena.specs.EntryRules as entry_rules
@@ -26,7 +27,7 @@ use Rattle.linkage_rules.specs.Winner.{home}
 use Rattle.run_rules.specs.Calls.{Nothing}
 use Rattle.run_places.proofs.Laid.{any_of_mapped}
 use Rattle.run_places.proofs.Search.{IsFound, found_at}
-use Rattle.run_places.proofs.Options.{some_same, none_some}
+use Rattle.run_places.proofs.Options.{none_some}
 use Rattle.run_places.proofs.Parts.{AreValid, all_from_places}
 use Rattle.linkage_rules.specs.Place.{Room, room, rooms, place, placed_from, addressed_from, function_address}
 use Rattle.run_rules.specs.Look.{function_number, code_of, callee_by, callee_numbered, defined_by, table}
@@ -123,7 +124,7 @@ no_function_appends m n f v e = sym (same_appending f.linkage) ∙ not_true (ent
 
 any_there : {X Y : Type 0} (test : Y → Bool) (g : X → Y) (xs : List X) (k : ℕ) (x : X) → slice_get xs k ≡ Some x → test (g x) ≡ true → list_any test (map g xs) ≡ true
 any_there test g [] k x e h = none_some x e
-any_there test g (y ∷ ys) zero x e h = ap (λ t. t || list_any test (map g ys)) (ap (λ z. test (g z)) (some_same y x e) ∙ h)
+any_there test g (y ∷ ys) zero x e h = ap (λ t. t || list_any test (map g ys)) (ap (λ z. test (g z)) (same_Some y x e) ∙ h)
 any_there test g (y ∷ ys) (suc k) x e h = or_right (test (g y)) (list_any test (map g ys)) (any_there test g ys k x e h)
 
 none_roomed : (parts : List Module) (test : Symbol → Bool) (ss : List Symbol) → list_any test ss ≡ false

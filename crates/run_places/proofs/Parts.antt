@@ -4,6 +4,7 @@ use Rattle.std.specs.Prelude.{slice_get, ⊤, option_and_then, if◌then◌else�
 use Rattle.std.specs.List.{AllByRecursion}
 use Rattle.std.specs.Option.{option_map_or}
 use Rattle.std.proofs.lemmas.Bool.{and_parts}
+use Rattle.std.proofs.lemmas.Option.{same_Some}
 use Rattle.module_arena.specs.Functions.{body}
 use Rattle.module_arena.specs.declared.host.HostRow.{HostRow}
 use Rattle.module_arena.specs.HostRows.{host_row}
@@ -29,7 +30,7 @@ use Rattle.run_places.specs.Bodies.{IsLaidOut}
 use Rattle.run_places.specs.Places.{IsThere, GoesOnFrom, IsConnected, BeginsWell}
 use Rattle.run_places.proofs.Bodies.{body_connected, body_begins}
 use Rattle.run_places.proofs.Laid.{laid_out}
-use Rattle.run_places.proofs.Options.{some_same, none_some}
+use Rattle.run_places.proofs.Options.{none_some}
 
 -- each part is well formed and valid
 abbrev pub AreValid : List Module → Type 0
@@ -71,7 +72,7 @@ module _ (parts : List Module) (valid : AreValid parts) where
   defined_good e (OfVariable v) d q h is k = none_some d k
   defined_good e (OfFunction f) d q h is k =
       let written = (and_parts (is_written e.global) (not (is_available_externally (linkage_of e.global))) is).0 in
-      subst (λ (x : Defined). IsLaidOut (blocks_of x.1)) (some_same (e.part, f) d k) (h (ap is_written (sym q) ∙ written))
+      subst (λ (x : Defined). IsLaidOut (blocks_of x.1)) (same_Some (e.part, f) d k) (h (ap is_written (sym q) ∙ written))
   defined_good e (OfAlias a) d q h is k = none_some d k
 
   -- of the symbol with that number

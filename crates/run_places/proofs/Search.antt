@@ -3,7 +3,8 @@ use Rattle.std.proofs.Common.{◌≡◌, ℕ, zero, suc, ◌+◌, ◌<◌, List,
 use Rattle.std.specs.Prelude.{slice_get, find, position}
 use Rattle.std.specs.List.{list_all, list_any, position_or_len}
 use Rattle.std.proofs.lemmas.Bool.{and_parts}
-use Rattle.run_places.proofs.Options.{some_same, none_some}
+use Rattle.std.proofs.lemmas.Option.{same_Some}
+use Rattle.run_places.proofs.Options.{none_some}
 
 module _ {X : Type 0} where
   -- the first that passes, and its place
@@ -38,13 +39,13 @@ module _ {X : Type 0} where
 
   pub all_at : (test : X → Bool) (xs : List X) (k : ℕ) (x : X) → list_all test xs ≡ true → slice_get xs k ≡ Some x → test x ≡ true
   all_at test [] k x h e = none_some x e
-  all_at test (y ∷ ys) zero x h e = subst (λ z. test z ≡ true) (some_same y x e) (and_parts (test y) (list_all test ys) h).0
+  all_at test (y ∷ ys) zero x h e = subst (λ z. test z ≡ true) (same_Some y x e) (and_parts (test y) (list_all test ys) h).0
   all_at test (y ∷ ys) (suc k) x h e = all_at test ys k x (and_parts (test y) (list_all test ys) h).1 e
 
   -- what all before a place pass
   pub all_before : (test : X → Bool) (xs : List X) (k : ℕ) (x : X) → list_all test (take (suc k) xs) ≡ true → slice_get xs k ≡ Some x → test x ≡ true
   all_before test [] k x h e = none_some x e
-  all_before test (y ∷ ys) zero x h e = subst (λ z. test z ≡ true) (some_same y x e) (and_parts (test y) true h).0
+  all_before test (y ∷ ys) zero x h e = subst (λ z. test z ≡ true) (same_Some y x e) (and_parts (test y) true h).0
   all_before test (y ∷ ys) (suc k) x h e = all_before test ys k x (and_parts (test y) (list_all test (take (suc k) ys)) h).1 e
 
   -- behind the last there is nothing

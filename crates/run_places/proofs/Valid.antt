@@ -1,6 +1,7 @@
 -- A run of valid parts that go together never gets stuck.
 use Rattle.std.proofs.Common.{◌≡◌, ℕ, List, refl, sym, ap, ◌∙◌, subst, Bool, true, false, Option, Some, None, unwrap_or}
 use Rattle.std.specs.Prelude.{option_and_then, if◌then◌else◌}
+use Rattle.std.proofs.lemmas.Option.{same_Some}
 use Rattle.module_arena.specs.HostRows.{signature_of}
 use Rattle.module_arena.specs.Module.{Module}
 use Rattle.linkage_rules.specs.Bind.{behind}
@@ -19,7 +20,7 @@ use Rattle.run_rules.specs.Resolve.{signature_in}
 use Rattle.run_rules.specs.Side.{begun}
 use Rattle.run_places.specs.Places.{IsFunctionOf}
 use Rattle.run_places.proofs.Begins.{IsCalled, begins_fine}
-use Rattle.run_places.proofs.Options.{some_same, none_some}
+use Rattle.run_places.proofs.Options.{none_some}
 use Rattle.run_places.proofs.Mains.{number, has_address, has_code}
 use Rattle.run_places.proofs.Parts.{AreValid, connected}
 use Rattle.run_places.proofs.Placed.{finds_a_place}
@@ -36,8 +37,8 @@ module _ (parts : List Module) (valid : AreValid parts) (together : GoTogether p
       go : (a : Bool) → same_signature s plain_main ≡ a → (b : Bool) → same_signature s main_with_arguments ≡ b
           → (if a then Some (record { address = address; takes_arguments = false }) else (if b then Some (record { address = address; takes_arguments = true }) else None)) ≡ Some x
           → IsCalled (look parts) (table parts) x.address x.takes_arguments
-      go true p b q e = typed_main plain_main address false (h plain_main p) x (some_same (record { address = address; takes_arguments = false }) x e)
-      go false p true q e = typed_main main_with_arguments address true (h main_with_arguments q) x (some_same (record { address = address; takes_arguments = true }) x e)
+      go true p b q e = typed_main plain_main address false (h plain_main p) x (same_Some (record { address = address; takes_arguments = false }) x e)
+      go false p true q e = typed_main main_with_arguments address true (h main_with_arguments q) x (same_Some (record { address = address; takes_arguments = true }) x e)
       go false p false q e = none_some x e
 
   by_function : (e : Entry) (g : Global) → home parts (behind parts main_symbol) ≡ Some e → e.global ≡ g → (x : Main) → option_and_then (main_by parts) (defined_by e g) ≡ Some x

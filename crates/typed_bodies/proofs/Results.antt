@@ -4,6 +4,7 @@ use Rattle.std.specs.Prelude.{slice_get, find}
 use Rattle.std.specs.List.{list_any}
 use Rattle.std.specs.Option.{option_map_or}
 use Rattle.std.proofs.lemmas.Bool.{and_parts, and_from, or_parts}
+use Rattle.std.proofs.lemmas.Option.{same_Some}
 use Rattle.ir_tables.specs.Table.{is_distinct}
 use Rattle.type_table.specs.Layout.{leaves}
 use Rattle.type_table.specs.Shape.{Shape}
@@ -15,7 +16,7 @@ use Rattle.module_arena.proofs.SameNames.{same_self}
 use Rattle.run_rules.specs.Constant.{Names, shape_of}
 use Rattle.run_rules.specs.Scope.{Placed, Typed, placed_from, parameters_of, result_shape, result_of, results_of, blocks_of, locals_of, scope_of, local_in, place_in}
 use Rattle.typed_runs.specs.Kinds.{AreAt, kinds_of}
-use Rattle.typed_runs.proofs.Leaves.{some_same, none_some}
+use Rattle.typed_runs.proofs.Leaves.{none_some}
 use Rattle.typed_look.specs.Typings.{frame_kinds}
 use Rattle.typed_look.proofs.Locals.{local_at}
 use Rattle.typed_bodies.proofs.Lists.{any_there, behind_at, in_flat, mapped_at, mapped_append}
@@ -44,7 +45,7 @@ found_there : (xs : List Typed) (place j : ℕ) (x : Typed) → AreDistinct (map
 found_there [] place j x d e = none_some x e
 found_there (y ∷ xs) place zero x d e =
     let mine : Placed = record { name = y.0; shape = y.1; place = place } in
-    let same : y ≡ x = some_same y x e in
+    let same : y ≡ x = same_Some y x e in
     let own : same_local y.0 x.0 ≡ true = ap (λ (z : Typed). same_local y.0 z.0) (sym same) ∙ same_self y.0 in
     (mine, ap (λ b. cond b (Some mine) (find (λ (l : Placed). same_local l.name x.0) (placed_from (place + leaves y.1) xs))) own, ap (λ (z : Typed). z.1) same)
 found_there (y ∷ xs) place (suc j) x d e =

@@ -4,6 +4,7 @@ use Rattle.std.specs.Prelude.{slice_get, option_and_then, if◌then◌else◌}
 use Rattle.std.specs.List.{list_all}
 use Rattle.std.specs.Option.{option_map_or}
 use Rattle.std.proofs.lemmas.Bool.{and_parts}
+use Rattle.std.proofs.lemmas.Option.{same_Some}
 use Rattle.ir_memory.specs.declared.leaf.Leaf.{Leaf}
 use Rattle.module_arena.specs.EntryRules.{return_suits}
 use Rattle.module_arena.specs.declared.host.HostRow.{HostRow}
@@ -29,7 +30,7 @@ use Rattle.run_rules.specs.Scope.{Typed, results_of, blocks_of, locals_of}
 use Rattle.typed_runs.specs.Kinds.{kinds_of, kinds_of_all}
 use Rattle.typed_runs.specs.States.{IsTypedCallee}
 use Rattle.typed_look.specs.Typings.{frame_kinds, typing_of}
-use Rattle.typed_runs.proofs.Leaves.{some_same, none_some}
+use Rattle.typed_runs.proofs.Leaves.{none_some}
 use Rattle.run_places.proofs.Mains.{OnFunction, functions_all}
 use Rattle.run_places.proofs.Parts.{AreValid, code_begins}
 use Rattle.typed_look.proofs.Rows.{row_is}
@@ -84,7 +85,7 @@ module _ (parts : List Module) (valid : AreValid parts) where
       by_global e (OfVariable v) q h is k = none_some d k
       by_global e (OfFunction f) q h is k =
           let written = (and_parts (is_written e.global) (not (is_available_externally (linkage_of e.global))) is).0 in
-          subst (λ (x : Defined). x.1.variadic ≡ false) (some_same (e.part, f) d k) (h (ap is_written (sym q) ∙ written))
+          subst (λ (x : Defined). x.1.variadic ≡ false) (same_Some (e.part, f) d k) (h (ap is_written (sym q) ∙ written))
       by_global e (OfAlias a) q h is k = none_some d k
 
       entry : (s : Symbol) (o : Option Entry) → home parts s ≡ o → option_and_then (λ e. defined_by e e.global) o ≡ Some d → d.1.variadic ≡ false

@@ -3,6 +3,7 @@ use Rattle.std.proofs.Common.{◌≡◌, ℕ, zero, suc, ◌+◌, List, [], ◌�
 use Rattle.std.specs.Prelude.{slice_get, find}
 use Rattle.std.specs.List.{range_with_len}
 use Rattle.std.proofs.lemmas.List.{length-append}
+use Rattle.std.proofs.lemmas.Option.{same_Some}
 use Rattle.ir_memory.specs.declared.leaf.Leaf.{Leaf}
 use Rattle.type_table.specs.Layout.{leaves}
 use Rattle.module_arena.specs.Module.{LocalName, Function}
@@ -13,7 +14,7 @@ use Rattle.run_rules.specs.Scope.{Placed, Typed, placed_from, locals_of, scope_o
 use Rattle.typed_runs.specs.Actions.{Typing, AreOrigins}
 use Rattle.typed_runs.specs.Kinds.{AreAt, kinds_of, kinds_of_all}
 use Rattle.typed_look.specs.Typings.{frame_kinds}
-use Rattle.typed_runs.proofs.Leaves.{some_same, none_some}
+use Rattle.typed_runs.proofs.Leaves.{none_some}
 use Rattle.typed_look.proofs.Widths.{kinds_length}
 
 -- what stands behind others, and in front of others
@@ -56,7 +57,7 @@ placed_at front (x ∷ xs) name l e = go (same_local x.0 name) e (λ k. placed_a
     go : (b : Bool) → cond b (Some mine) (find (λ (l : Placed). same_local l.name name) (placed_from (length front + leaves x.1) xs)) ≡ Some l
         → (find (λ (l : Placed). same_local l.name name) (placed_from (length (front ++ kinds_of x.1)) xs) ≡ Some l → AreAt ((front ++ kinds_of x.1) ++ others) l.place (kinds_of l.shape))
         → AreAt (front ++ (kinds_of x.1 ++ others)) l.place (kinds_of l.shape)
-    go true k more = subst (λ (y : Placed). AreAt (front ++ (kinds_of x.1 ++ others)) y.place (kinds_of y.shape)) (some_same mine l k) (in_the_middle front (kinds_of x.1) others)
+    go true k more = subst (λ (y : Placed). AreAt (front ++ (kinds_of x.1 ++ others)) y.place (kinds_of y.shape)) (same_Some mine l k) (in_the_middle front (kinds_of x.1) others)
     go false k more =
         subst (λ ks. AreAt ks l.place (kinds_of l.shape)) (append_assoc front (kinds_of x.1) others)
         (more (subst (λ n. find (λ (l : Placed). same_local l.name name) (placed_from n xs) ≡ Some l) (sym next) k))

@@ -2,6 +2,7 @@
 use Rattle.std.proofs.Common.{◌≡◌, ℕ, zero, suc, List, [], ◌∷◌, refl, sym, ap, ◌∙◌, Bool, true, false, Option, Some, None, is_some, true≢false, unwrap_or, if◌then◌else◌, nat_lt}
 use Rattle.std.specs.Prelude.{option_and_then}
 use Rattle.std.specs.Option.{option_map}
+use Rattle.std.proofs.lemmas.Option.{same_Some}
 use Rattle.type_table.specs.Shape.{Shape, void_leaf, array_of, struct_of, Shapes, with_first, expanded, all_expanded, body_shape, name_shape, shape}
 use Rattle.type_table.specs.Tree.{Tree, int, ptr, void, array, struct, named, Trees, no_trees, more_trees, TreeBody, opaque_body, fields, Structs, body_of}
 use Rattle.type_table.proofs.Outlined.{name_keeps}
@@ -9,7 +10,7 @@ use Rattle.type_table.proofs.Rooms.{unmapped, unjoined, name_shape-suc}
 use Rattle.module_arena.specs.TypeTests.{struct_of_body, opened, field_type, part_type, part_at}
 use Rattle.run_rules.specs.Constant.{Names, shape_of}
 use Rattle.run_rules.specs.Leaves.{element, field, part}
-use Rattle.typed_runs.proofs.Leaves.{some_same, none_some}
+use Rattle.typed_runs.proofs.Leaves.{none_some}
 use Rattle.typed_look.proofs.Operands.{PartsHaveShapes}
 
 module _ (f g : List ℕ → Option Shape) (keep : (n : List ℕ) (x : Shape) → f n ≡ Some x → g n ≡ Some x) where
@@ -56,7 +57,7 @@ module _ (names : Names) where
   field_shaped no_trees xs k u e h = none_some u h
   field_shaped (more_trees t ts) xs zero u e h =
       let inside = unjoined (expanded (rooms names.structs 64) t) (all_expanded (rooms names.structs 64) ts) xs e in
-      ap (shape names.structs) (sym (some_same t u h)) ∙ inside.2 ∙ ap (λ (ss : Shapes). Some (field ss zero)) inside.4
+      ap (shape names.structs) (sym (same_Some t u h)) ∙ inside.2 ∙ ap (λ (ss : Shapes). Some (field ss zero)) inside.4
   field_shaped (more_trees t ts) xs (suc k) u e h =
       let inside = unjoined (expanded (rooms names.structs 64) t) (all_expanded (rooms names.structs 64) ts) xs e in
       field_shaped ts inside.1 k u inside.3 h ∙ ap (λ (ss : Shapes). Some (field ss (suc k))) inside.4
@@ -72,13 +73,13 @@ module _ (names : Names) where
       go false q = none_some u q
       go true q =
           let inside = unmapped (array_of n) (expanded (rooms names.structs 64) t) s e in
-          ap (shape names.structs) (sym (some_same t u q)) ∙ inside.1 ∙ ap (λ (x : Shape). Some (element x k)) inside.2
+          ap (shape names.structs) (sym (same_Some t u q)) ∙ inside.1 ∙ ap (λ (x : Shape). Some (element x k)) inside.2
   element_shaped (struct packed ts) s k u e h =
       let inside = unmapped (struct_of None packed) (all_expanded (rooms names.structs 64) ts) s e in
       field_shaped ts inside.0 k u inside.1 h ∙ ap (λ (x : Shape). Some (element x k)) inside.2
 
   part_shaped : (indices : List ℕ) (t u : Tree) (s : Shape) → shape names.structs t ≡ Some s → part_at names.structs t indices ≡ Some u → shape names.structs u ≡ Some (part s indices)
-  part_shaped [] t u s e h = ap (shape names.structs) (sym (some_same t u h)) ∙ e
+  part_shaped [] t u s e h = ap (shape names.structs) (sym (same_Some t u h)) ∙ e
   part_shaped (k ∷ ks) t u s e h = go (part_type (opened names.structs t) k) refl h (λ v x q p. part_shaped ks v u x q p)
     where
       go : (o : Option Tree) → part_type (opened names.structs t) k ≡ o → option_and_then (λ part. part_at names.structs part ks) o ≡ Some u

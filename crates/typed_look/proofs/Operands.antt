@@ -3,6 +3,7 @@ use Rattle.std.proofs.Common.{◌≡◌, ℕ, ◌+◌, List, [], ◌∷◌, ◌+
 use Rattle.std.specs.Prelude.{find, ⊤}
 use Rattle.std.specs.List.{AllZip, AllByRecursion}
 use Rattle.std.specs.Option.{option_map_or}
+use Rattle.std.proofs.lemmas.Option.{same_Some}
 use Rattle.type_table.specs.Layout.{leaves}
 use Rattle.type_table.specs.Shape.{shape}
 use Rattle.type_table.specs.Tree.{Tree, Structs}
@@ -21,7 +22,7 @@ use Rattle.run_rules.specs.Scope.{Placed, Typed, placed_from, parameters_of, res
 use Rattle.typed_runs.specs.Actions.{Typing, AreOrigins}
 use Rattle.typed_runs.specs.Kinds.{kinds_of}
 use Rattle.typed_look.specs.Typings.{frame_kinds}
-use Rattle.typed_runs.proofs.Leaves.{some_same, none_some}
+use Rattle.typed_runs.proofs.Leaves.{none_some}
 use Rattle.typed_look.proofs.Locals.{local_had}
 
 -- the part of a shape has the shape of the part
@@ -39,23 +40,23 @@ AllHaveShapes structs bs = AllByRecursion (λ (b : Block). AllByRecursion (λ (i
 module _ (names : Names) (parted : PartsHaveShapes names) where
   -- a result has the shape of its type
   result_shaped : (o : Operation) (t : Tree) → HasShapes names.structs o → result_type names.structs o ≡ Some t → result_shape names o ≡ shape_of names t
-  result_shaped (Operation.BinaryOperation opcode flags left right) t has e = ap (shape_of names) (some_same left.ty t e)
-  result_shaped (Operation.Compare flags predicate left right) t has e = ap (shape_of names) (some_same _ t e)
-  result_shaped (Operation.Convert opcode flags value to) t has e = ap (shape_of names) (some_same to t e)
-  result_shaped (Operation.Select condition first second) t has e = ap (shape_of names) (some_same first.ty t e)
-  result_shaped (Operation.Freeze value) t has e = ap (shape_of names) (some_same value.ty t e)
-  result_shaped (Operation.Phi ty incoming) t has e = ap (shape_of names) (some_same ty t e)
-  result_shaped (Operation.Load flags ty address alignment) t has e = ap (shape_of names) (some_same ty t e)
+  result_shaped (Operation.BinaryOperation opcode flags left right) t has e = ap (shape_of names) (same_Some left.ty t e)
+  result_shaped (Operation.Compare flags predicate left right) t has e = ap (shape_of names) (same_Some _ t e)
+  result_shaped (Operation.Convert opcode flags value to) t has e = ap (shape_of names) (same_Some to t e)
+  result_shaped (Operation.Select condition first second) t has e = ap (shape_of names) (same_Some first.ty t e)
+  result_shaped (Operation.Freeze value) t has e = ap (shape_of names) (same_Some value.ty t e)
+  result_shaped (Operation.Phi ty incoming) t has e = ap (shape_of names) (same_Some ty t e)
+  result_shaped (Operation.Load flags ty address alignment) t has e = ap (shape_of names) (same_Some ty t e)
   result_shaped (Operation.Store flags value address alignment) t has e = none_some t e
-  result_shaped (Operation.Alloca ty count alignment) t has e = ap (shape_of names) (some_same _ t e)
-  result_shaped (Operation.GetElementPtr flags source base indices) t has e = ap (shape_of names) (some_same _ t e)
+  result_shaped (Operation.Alloca ty count alignment) t has e = ap (shape_of names) (same_Some _ t e)
+  result_shaped (Operation.GetElementPtr flags source base indices) t has e = ap (shape_of names) (same_Some _ t e)
   result_shaped (Operation.Call signature callee arguments) t has e = go (is_void signature.returns) e
     where
       go : (b : Bool) → (if b then None else Some signature.returns) ≡ Some t → shape_of names signature.returns ≡ shape_of names t
       go true k = none_some t k
-      go false k = ap (shape_of names) (some_same signature.returns t k)
+      go false k = ap (shape_of names) (same_Some signature.returns t k)
   result_shaped (Operation.ExtractValue aggregate indices) t has e = parted aggregate.ty t indices has e
-  result_shaped (Operation.InsertValue aggregate new indices) t has e = ap (shape_of names) (some_same aggregate.ty t e)
+  result_shaped (Operation.InsertValue aggregate new indices) t has e = ap (shape_of names) (same_Some aggregate.ty t e)
 
   -- a definition and the parameter or result that it is
   abbrev IsSame : Definition → Typed → Type 0
@@ -69,7 +70,7 @@ module _ (names : Names) (parted : PartsHaveShapes names) where
 
   parameters_same : (ps : List Parameter) → AllZip IsSame (map parameter_definition ps) (map (λ (p : Parameter). (p.name, shape_of names p.ty)) ps)
   parameters_same [] = tt
-  parameters_same (p ∷ ps) = ((refl, λ t e. ap (shape_of names) (some_same p.ty t e)), parameters_same ps)
+  parameters_same (p ∷ ps) = ((refl, λ t e. ap (shape_of names) (same_Some p.ty t e)), parameters_same ps)
 
   result_same : (o : Option LocalName) (operation : Operation) → HasShapes names.structs operation
       → AllZip IsSame (map (λ name. (name, result_type names.structs operation)) (option_to_list o)) (option_map_or {U = List Typed} (λ name. (name, result_shape names operation) ∷ []) o [])

@@ -4,6 +4,7 @@ use Rattle.std.specs.Prelude.{find}
 use Rattle.std.specs.Fmt.{decimal}
 use Rattle.std.specs.List.{starts_with, AllByRecursion}
 use Rattle.std.proofs.lemmas.Bool.{and_parts}
+use Rattle.std.proofs.lemmas.Option.{same_Some}
 use Rattle.ir_tables.specs.declared.intrinsic.Intrinsic.{Intrinsic}
 use Rattle.ir_tables.specs.Intrinsic.{intrinsics}
 use Rattle.ir_tables.specs.IntrinsicName.{has_width, name_front}
@@ -12,7 +13,7 @@ use Rattle.module_arena.specs.declared.host.HostRow.TheVariants.{Integer}
 use Rattle.module_arena.specs.HostRows.{counted, width_named, row_at, row_among, first_row, fixed_name, host_rows, host_row}
 use Rattle.module_arena.specs.Module.{Bytes}
 use Rattle.typed_runs.specs.States.{IsRow}
-use Rattle.typed_runs.proofs.Leaves.{some_same, none_some}
+use Rattle.typed_runs.proofs.Leaves.{none_some}
 
 -- what a search through numbers in a row finds
 found_among : (q : ℕ → Bool) (first count w : ℕ) → find q (counted first count) ≡ Some w → (first ≤ w) × (w < first + count) × (q w ≡ true)
@@ -21,7 +22,7 @@ found_among q first zero w e = none_some w e
 found_among q first (suc count) w e = by (q first) refl (found_among q (first + 1) count w) e
   where
     by : (b : Bool) → q first ≡ b → (find q (counted (first + 1) count) ≡ Some w → (first + 1 ≤ w) × (w < first + 1 + count) × (q w ≡ true)) → cond b (Some first) (find q (counted (first + 1) count)) ≡ Some w → (first ≤ w) × (w < first + suc count) × (q w ≡ true)
-    by true is rest e = let same : first ≡ w = some_same first w e in (omega (arith, same), omega (arith, same), ap q (sym same) ∙ is)
+    by true is rest e = let same : first ≡ w = same_Some first w e in (omega (arith, same), omega (arith, same), ap q (sym same) ∙ is)
     by false is rest e = let r = rest e in (omega (arith, r.0), omega (arith, r.1), r.2)
 
 -- the name at a width
@@ -44,14 +45,14 @@ among_is name (w ∷ ws) row e = by (width_named name w) refl (among_is name ws 
   where
     by : (o : Option ℕ) → width_named name w ≡ o → (row_among name ws ≡ Some row → IsRow row) → row_at w o (row_among name ws) ≡ Some row → IsRow row
     by None was rest e = rest e
-    by (Some n) was rest e = subst IsRow (some_same (Integer w n) row e) (width_is name w n was)
+    by (Some n) was rest e = subst IsRow (same_Some (Integer w n) row e) (width_is name w n was)
 
 found_all : {A : Type 0} (P : A → Type 0) (p : A → Bool) (xs : List A) (x : A) → AllByRecursion P xs → find p xs ≡ Some x → P x
 found_all P p [] x all e = none_some x e
 found_all P p (y ∷ xs) x all e = by (p y) (found_all P p xs x all.1) e
   where
     by : (b : Bool) → (find p xs ≡ Some x → P x) → cond b (Some y) (find p xs) ≡ Some x → P x
-    by true rest e = subst P (some_same y x e) all.0
+    by true rest e = subst P (same_Some y x e) all.0
     by false rest e = rest e
 
 all_rows : AllByRecursion IsRow host_rows
@@ -63,4 +64,4 @@ row_is name row e = by (find (λ row. bytes_eq (fixed_name row) name) host_rows)
   where
     by : (o : Option HostRow) → find (λ row. bytes_eq (fixed_name row) name) host_rows ≡ o → first_row o (row_among name intrinsics) ≡ Some row → IsRow row
     by None was e = among_is name intrinsics row e
-    by (Some r) was e = subst IsRow (some_same r row e) (found_all IsRow (λ row. bytes_eq (fixed_name row) name) host_rows r all_rows was)
+    by (Some r) was e = subst IsRow (same_Some r row e) (found_all IsRow (λ row. bytes_eq (fixed_name row) name) host_rows r all_rows was)

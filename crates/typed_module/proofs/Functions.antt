@@ -2,6 +2,7 @@
 use Rattle.std.proofs.Common.{◌≡◌, ℕ, List, [], ◌∷◌, refl, subst, Option, Some, None}
 use Rattle.std.specs.Prelude.{slice_get, ⊤, option_and_then}
 use Rattle.std.specs.List.{AllByRecursion}
+use Rattle.std.proofs.lemmas.Option.{same_Some}
 use Rattle.module_arena.specs.Module.{Module}
 use Rattle.linkage_rules.specs.Bind.{behind}
 use Rattle.linkage_rules.specs.declared.symbol.Symbol.{Symbol}
@@ -11,7 +12,7 @@ use Rattle.linkage_rules.specs.Symbols.{function_symbols}
 use Rattle.linkage_rules.specs.Winner.{home}
 use Rattle.run_places.proofs.Together.{home_is}
 use Rattle.run_rules.specs.Look.{Defined, defined_by, defined, function_at}
-use Rattle.typed_runs.proofs.Leaves.{some_same, none_some}
+use Rattle.typed_runs.proofs.Leaves.{none_some}
 use Rattle.typed_plan.proofs.Entries.{entries_all}
 
 module _ (m : Module) where
@@ -32,7 +33,7 @@ module _ (m : Module) where
 
   defined_here : (e : Entry) (g : Global) (d : Defined) → IsHere e.part g → defined_by e g ≡ Some d → IsOwn d
   defined_here e (OfVariable v) d h k = none_some d k
-  defined_here e (OfFunction f) d h k = subst IsOwn (some_same (e.part, f) d k) h
+  defined_here e (OfFunction f) d h k = subst IsOwn (same_Some (e.part, f) d k) h
   defined_here e (OfAlias a) d h k = none_some d k
 
   pub function_here : (n : ℕ) (d : Defined) → function_at parts n ≡ Some d → IsOwn d

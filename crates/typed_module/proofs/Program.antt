@@ -3,6 +3,7 @@ use Rattle.std.proofs.Common.{◌≡◌, ℕ, zero, suc, ◌+◌, List, [], ◌�
 use Rattle.std.specs.Prelude.{slice_get, if◌then◌else◌}
 use Rattle.std.specs.List.{AllByRecursion}
 use Rattle.std.specs.Option.{option_map_or}
+use Rattle.std.proofs.lemmas.Option.{same_Some}
 use Rattle.module_arena.specs.Functions.{body}
 use Rattle.module_arena.specs.Module.{Operation, Instruction, Block, Function, Module}
 use Rattle.module_arena.specs.Valid.{IsValid}
@@ -19,7 +20,7 @@ use Rattle.run_rules.specs.Resolve.{operation_in, instruction_in, ending_in, is_
 use Rattle.run_rules.specs.Scope.{FunctionScope, scope_of, blocks_of, place_in}
 use Rattle.typed_runs.specs.Actions.{Typing, IsTypedAction}
 use Rattle.typed_runs.specs.Kinds.{kinds_of}
-use Rattle.typed_runs.proofs.Leaves.{some_same, none_some}
+use Rattle.typed_runs.proofs.Leaves.{none_some}
 use Rattle.typed_look.specs.Typings.{frame_kinds, typing_of, IsTypedLook}
 use Rattle.typed_look.proofs.Callees.{callees_typed}
 use Rattle.typed_actions.specs.Asked.{IsAsked}
@@ -38,7 +39,7 @@ same_blocks (Some bs) = refl
 
 all_there : {X : Type 0} (P : X → Type 0) (xs : List X) (k : ℕ) (x : X) → AllByRecursion P xs → slice_get xs k ≡ Some x → P x
 all_there P [] k x h e = none_some x e
-all_there P (y ∷ ys) zero x h e = subst P (some_same y x e) h.0
+all_there P (y ∷ ys) zero x h e = subst P (same_Some y x e) h.0
 all_there P (y ∷ ys) (suc k) x h e = all_there P ys k x h.1 e
 
 -- an action is of no phi, and goes on to the next

@@ -1,6 +1,7 @@
 -- Where main lies is a function of the type that it is called with.
 use Rattle.std.proofs.Common.{◌≡◌, ℕ, List, [], ◌∷◌, refl, sym, ap, ◌∙◌, subst, Bool, true, false, Option, Some, None, unwrap_or}
 use Rattle.std.specs.Prelude.{option_and_then, if◌then◌else◌}
+use Rattle.std.proofs.lemmas.Option.{same_Some}
 use Rattle.module_arena.specs.HostRows.{signature_of}
 use Rattle.module_arena.specs.Module.{Module}
 use Rattle.module_arena.specs.Valid.{IsValid}
@@ -23,7 +24,7 @@ use Rattle.run_rules.specs.Plan.{Main, main_of, main_symbol, main_by, main_in}
 use Rattle.run_rules.specs.Resolve.{signature_in}
 use Rattle.typed_runs.specs.Actions.{Typing}
 use Rattle.typed_runs.specs.Plans.{IsTypedMain}
-use Rattle.typed_runs.proofs.Leaves.{some_same, none_some}
+use Rattle.typed_runs.proofs.Leaves.{none_some}
 
 module _ (t : Typing) (parts : List Module) (valid : AreValid parts) (together : GoTogether parts) where
   abbrev IsTyped : Main → Type 0
@@ -34,8 +35,8 @@ module _ (t : Typing) (parts : List Module) (valid : AreValid parts) (together :
     where
       go : (a : Bool) → same_signature s plain_main ≡ a → (b : Bool) → same_signature s main_with_arguments ≡ b
           → (if a then Some (record { address = address; takes_arguments = false }) else (if b then Some (record { address = address; takes_arguments = true }) else None)) ≡ Some x → IsTyped x
-      go true p b q e = subst IsTyped (some_same (record { address = address; takes_arguments = false }) x e) (h plain_main p)
-      go false p true q e = subst IsTyped (some_same (record { address = address; takes_arguments = true }) x e) (h main_with_arguments q)
+      go true p b q e = subst IsTyped (same_Some (record { address = address; takes_arguments = false }) x e) (h plain_main p)
+      go false p true q e = subst IsTyped (same_Some (record { address = address; takes_arguments = true }) x e) (h main_with_arguments q)
       go false p false q e = none_some x e
 
   by_function : (e : Entry) (g : Global) → home parts (behind parts main_symbol) ≡ Some e → e.global ≡ g → (x : Main) → option_and_then (main_by parts) (defined_by e g) ≡ Some x → IsTyped x

@@ -4,6 +4,7 @@ use Rattle.std.specs.Prelude.{slice_get, if◌then◌else◌}
 use Rattle.std.specs.List.{AllByRecursion, AllZip, list_all}
 use Rattle.std.specs.Option.{option_map_or}
 use Rattle.std.proofs.lemmas.Bool.{and_parts}
+use Rattle.std.proofs.lemmas.Option.{same_Some}
 use Rattle.ir_eval.specs.declared.value.Scalar.{Scalar}
 use Rattle.type_table.specs.Layout.{size}
 use Rattle.type_table.specs.Tree.{Tree, no_trees, more_trees}
@@ -29,7 +30,7 @@ use Rattle.run_rules.specs.Look.{names_in}
 use Rattle.run_rules.specs.Plan.{Contents, contents_from, contents_of}
 use Rattle.typed_runs.specs.Kinds.{IsOf, kinds_of}
 use Rattle.typed_runs.specs.States.{AreStored}
-use Rattle.typed_runs.proofs.Leaves.{some_same, none_some}
+use Rattle.typed_runs.proofs.Leaves.{none_some}
 use Rattle.typed_look.proofs.Constants.{is_sound, AreSound, constant_typed}
 use Rattle.typed_types.proofs.Sounds.{constant_sound}
 use Rattle.typed_types.proofs.Within.{same_kinds}
@@ -46,7 +47,7 @@ back_all p (x ∷ xs) ys h = back_all p xs ys (and_parts (p x) (list_all p (xs +
 
 all_of_part : {X Y : Type 0} (p : Y → Bool) (g : X → List Y) (xs : List X) (k : ℕ) (x : X) → list_all p (flat_map g xs) ≡ true → slice_get xs k ≡ Some x → list_all p (g x) ≡ true
 all_of_part p g [] k x h e = none_some x e
-all_of_part p g (y ∷ ys) zero x h e = subst (λ z. list_all p (g z) ≡ true) (some_same y x e) (front_all p (g y) (flat_map g ys) h)
+all_of_part p g (y ∷ ys) zero x h e = subst (λ z. list_all p (g z) ≡ true) (same_Some y x e) (front_all p (g y) (flat_map g ys) h)
 all_of_part p g (y ∷ ys) (suc k) x h e = all_of_part p g ys k x (back_all p (g y) (flat_map g ys) h) e
 
 flat_all : {X Y : Type 0} (P : Y → Type 0) (g : X → List Y) (xs : List X) → AllByRecursion (λ x. AllByRecursion P (g x)) xs → AllByRecursion P (flat_map g xs)

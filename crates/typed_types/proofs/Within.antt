@@ -2,6 +2,7 @@
 use Rattle.std.proofs.Common.{◌≡◌, ℕ, zero, suc, ◌+◌, ◌*◌, ◌<◌, List, [], ◌∷◌, ◌++◌, length, map, refl, sym, ap, ◌∙◌, subst, arith, Bool, true, false, Option, Some, None, is_some, unwrap_or, append_assoc, true≢false, ltb-true, nat_lt}
 use Rattle.std.specs.Prelude.{⊤, option_and_then, if◌then◌else◌}
 use Rattle.std.proofs.lemmas.List.{length-append}
+use Rattle.std.proofs.lemmas.Option.{same_Some}
 use Rattle.ir_memory.specs.declared.leaf.Leaf.{Leaf}
 use Rattle.type_table.specs.Layout.{size, align, field_start, leaves}
 use Rattle.type_table.specs.Shape.{Shape, int_leaf, ptr_leaf, void_leaf, opaque_leaf, array_of, struct_of, Shapes, no_shapes, more_shapes, expanded, all_expanded, name_shape, shape}
@@ -10,7 +11,7 @@ use Rattle.type_table.proofs.Rooms.{unmapped, unjoined}
 use Rattle.module_arena.specs.TypeTests.{opened, field_type, part_type, part_at}
 use Rattle.run_rules.specs.Leaves.{Slot, repeated, slots_at, field_slots, element, field, part, leaves_before, leaves_before_field, leaves_before_part}
 use Rattle.typed_runs.specs.Kinds.{kinds_of}
-use Rattle.typed_runs.proofs.Leaves.{some_same, none_some}
+use Rattle.typed_runs.proofs.Leaves.{none_some}
 use Rattle.typed_look.proofs.Opened.{opened_shape}
 use Rattle.typed_look.proofs.Widths.{kinds_length}
 
@@ -154,7 +155,7 @@ module _ (structs : Structs) where
       let inside = unjoined (expanded rooms t) (all_expanded rooms ts) (more_shapes x xs) e in
       let whole = inside.4 in
       let first : inside.0 ≡ x = cc in
-      (tt, ap (shape structs) (sym (some_same t u h)) ∙ inside.2 ∙ ap (λ (s : Shape). Some s) first)
+      (tt, ap (shape structs) (sym (same_Some t u h)) ∙ inside.2 ∙ ap (λ (s : Shape). Some s) first)
   field_is (more_trees t ts) (more_shapes x xs) (suc k) u e h =
       let inside = unjoined (expanded rooms t) (all_expanded rooms ts) (more_shapes x xs) e in
       let whole = inside.4 in
@@ -172,7 +173,7 @@ module _ (structs : Structs) where
       go false i q = none_some u q
       go true i q =
           let inside = unmapped (array_of n) (expanded rooms t) s e in
-          subst (λ x. IsElement x k u) inside.2 (record { has = ltb-true k n i; shaped = ap (shape structs) (sym (some_same t u q)) ∙ inside.1 })
+          subst (λ x. IsElement x k u) inside.2 (record { has = ltb-true k n i; shaped = ap (shape structs) (sym (same_Some t u q)) ∙ inside.1 })
   element_is (struct packed ts) s k u e h =
       let inside = unmapped (struct_of None packed) (all_expanded rooms ts) s e in
       let r = field_is ts inside.0 k u inside.1 h in

@@ -1,19 +1,16 @@
 -- Entries for one block are equal where each is equal to the last one before it.
 use Rattle.std.proofs.Common.{◌≡◌, ◌≢◌, ℕ, suc, ◌+◌, ◌<◌, Bool, true, false, not, ◌&&◌, ◌||◌, List, [], ◌∷◌, length, set, get_or, slice_get, Some, refl, sym, ap, ◌∙◌, subst, inl, inr, arith}
-use Rattle.std.specs.Prelude.{nat_lt, slice_index_or, unwrap_or}
+use Rattle.std.specs.Prelude.{nat_lt, slice_index_or}
 use Rattle.std.specs.List.{list_all}
 use Rattle.std.proofs.lemmas.Bool.{and_parts, cases_eq, cases_lt, eq-eqb, eqb-true, ne_eqb, lt-ltb, ltb-true, false≢true}
 use Rattle.std.proofs.lemmas.Grind.{get_or-set_at}
 use Rattle.std.proofs.lemmas.List.{get_or-set_other}
 use Rattle.std.proofs.lemmas.List.Folds.{list_all_at}
-use Rattle.std.proofs.lemmas.Option.{slice_get-get_or, slice_get_within, get_or_from_slice_get}
+use Rattle.std.proofs.lemmas.Option.{slice_get-get_or, slice_get_within, get_or_from_slice_get, same_Some}
 use Rattle.module_arena.specs.declared.instruction.Incoming.{Incoming}
 use Rattle.module_arena.specs.declared.instruction.Value.{Value}
 use Rattle.module_arena.specs.declared.instruction.Value.TheVariants as value
 use Rattle.use_verify.specs.Agreeing.{agree_at, agree_both, agree_by, entries_agree_by, same_by}
-
-some_same : {A : Type 0} (x y : A) → Some x ≡ Some y → x ≡ y
-some_same x y e = ap (λ o. unwrap_or o x) e
 
 -- ---- values
 
@@ -90,7 +87,7 @@ module _ (classes : List ℕ) (incoming : List Incoming) where
               same_both classes r.1.value y.value e.value (sym s ∙ ap (λ n. agree_at classes incoming n i) k ∙ checks) r.4
           | inr more ↦
               let is : j ≡ i = omega (arith, l, more) in
-              let own : y ≡ e = some_same y e (sym at ∙ ap (slice_get incoming) (sym is) ∙ here) in
+              let own : y ≡ e = same_Some y e (sym at ∙ ap (slice_get incoming) (sym is) ∙ here) in
               ap (λ (z : Incoming). same_by classes y.value z.value) (sym own) ∙ same_self classes y.value
         ]
 
@@ -99,7 +96,7 @@ module _ (classes : List ℕ) (incoming : List Incoming) where
           | inl less ↦ let r = before j e less here in (omega (arith, r.0), r.1, r.2, r.3, r.4)
           | inr more ↦
               let is : j ≡ i = omega (arith, l, more) in
-              let own : y ≡ e = some_same y e (sym at ∙ ap (slice_get incoming) (sym is) ∙ here) in
+              let own : y ≡ e = same_Some y e (sym at ∙ ap (slice_get incoming) (sym is) ∙ here) in
               absurd (other (ap (λ (z : Incoming). z.block) (sym own)))
         ]
 
@@ -124,7 +121,7 @@ module _ (classes : List ℕ) (incoming : List Incoming) where
         | inl same ↦
             let r = lasts p a (slice_get_within incoming p a at_a) at_a in
             let s = lasts q b (slice_get_within incoming q b at_b) at_b in
-            let one : r.1 ≡ s.1 = some_same r.1 s.1 (sym r.2 ∙ ap (λ n. slice_get incoming (slice_index_or last n 0)) same ∙ s.2) in
+            let one : r.1 ≡ s.1 = same_Some r.1 s.1 (sym r.2 ∙ ap (λ n. slice_get incoming (slice_index_or last n 0)) same ∙ s.2) in
             let equal = same_both classes s.1.value a.value b.value (ap (λ (z : Incoming). same_by classes z.value a.value) (sym one) ∙ r.4) s.4 in
             (λ j. not (eq-eqb a.block b.block same j) || equal j)
         | inr other ↦ ap (λ (t : Bool). not t || same_by classes a.value b.value) (ne_eqb a.block b.block other)

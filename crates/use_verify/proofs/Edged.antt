@@ -1,9 +1,10 @@
 -- The edges to a block, one block after the other.
 use Rattle.std.proofs.Common.{◌≡◌, ℕ, zero, suc, ◌+◌, ◌<◌, Bool, true, false, List, [], ◌∷◌, ◌++◌, map, length, take, set, get_or, slice_get, Option, Some, refl, sym, ap, ◌∙◌, subst, inl, inr, arith}
-use Rattle.std.specs.Prelude.{◌==◌, cond, filter, unwrap_or, MatchOption, ⊤}
+use Rattle.std.specs.Prelude.{◌==◌, cond, filter, MatchOption, ⊤}
 use Rattle.std.proofs.lemmas.Bool.{cases_eq, eq-eqb, ne_eqb}
 use Rattle.std.proofs.lemmas.Grind.{get_or-set_at}
 use Rattle.std.proofs.lemmas.List.{append_assoc, get_or-set_other, map-append, take_more}
+use Rattle.std.proofs.lemmas.Option.{same_Some}
 use Rattle.module_arena.specs.Mentions.{targets_of}
 use Rattle.module_arena.specs.declared.entry.Block.{Block}
 use Rattle.use_verify.specs.Edges.{edges_to, source_of, sources_from}
@@ -23,16 +24,13 @@ edges_append from to (x ∷ xs) ys = by (x == to) (edges_append from to xs ys)
     by true rest = ap (λ (zs : List ℕ). from ∷ zs) rest
     by false rest = rest
 
-some_same : {A : Type 0} (x y : A) → Some x ≡ Some y → x ≡ y
-some_same x y e = ap (λ o. unwrap_or o x) e
-
 -- the edges of one block more
 more_by : (first to : ℕ) (bs : List Block) (i : ℕ) (b : Block) → slice_get bs i ≡ Some b
     → sources_from first (take i bs) to ++ edges_to (first + i) (targets_of b.end) to ≡ sources_from first (take (suc i) bs) to
 more_by first to [] i b at = absurd (subst (λ (o : Option Block). MatchOption o ⊤ (λ z. ⊥)) at tt)
 more_by first to (x ∷ bs) zero b at =
     let here : first + 0 ≡ first = omega arith in
-    (λ j. edges_to (here j) (targets_of (sym (some_same x b at) j).end) to) ∙ sym (append_none (edges_to first (targets_of x.end) to))
+    (λ j. edges_to (here j) (targets_of (sym (same_Some x b at) j).end) to) ∙ sym (append_none (edges_to first (targets_of x.end) to))
 more_by first to (x ∷ bs) (suc i) b at =
     let next : first + suc i ≡ first + 1 + i = omega arith in
     append_assoc (edges_to first (targets_of x.end) to) (sources_from (first + 1) (take i bs) to) (edges_to (first + suc i) (targets_of b.end) to)

@@ -6,7 +6,7 @@ use Rattle.std.specs.Option.{option_map, option_map_or}
 use Rattle.std.proofs.lemmas.Bool.{cases_eq, eq-eqb, ne_eqb}
 use Rattle.std.proofs.lemmas.List.{length-append, length-map}
 use Rattle.std.proofs.lemmas.List.Elements.{All-head, All-tail}
-use Rattle.std.proofs.lemmas.Option.{slice_get-get_or, get_or_from_slice_get}
+use Rattle.std.proofs.lemmas.Option.{slice_get-get_or, get_or_from_slice_get, same_Some}
 use Rattle.type_table.specs.Tree.{Tree}
 use Rattle.type_table.specs.Types.{trees}
 use Rattle.module_arena.proofs.Numbered.{IsApart}
@@ -29,9 +29,6 @@ use Rattle.module_arena.specs.declared.instruction.Case as the_case
 use Rattle.module_arena.specs.declared.instruction.Ending.{Ending}
 use Rattle.module_arena.specs.declared.instruction.Ending.TheVariants as ending
 use Rattle.use_verify.specs.Uses.{ask, blocks_named, flow_in}
-
-some_same : {A : Type 0} (x y : A) → Some x ≡ Some y → x ≡ y
-some_same x y e = ap (λ o. unwrap_or o x) e
 
 -- ---- names by their numbers
 
@@ -157,7 +154,7 @@ module _ (a : Lists) (f : the_function.Function) where
     where
       by : (bs : List the_block.Block) → slice_get bs 0 ≡ Some first → entry_asked first ≡ entry_demands (function_in a f) (map (block_view (trees a.table) (constants_of a) (called ++ map local_view b.results) (map (λ (x : the_block.Block). local_view x.name) b.blocks)) bs)
       by [] z = absurd (subst (λ (o : Option the_block.Block). MatchOption o ⊤ (λ z. ⊥)) z tt)
-      by (x ∷ bs) z = ap entry_asked (sym (some_same x first z))
+      by (x ∷ bs) z = ap entry_asked (sym (same_Some x first z))
 
   -- a function without blocks is asked nothing
   pub nothing_asked : length (function_blocks f) ≡ 0 → [] ≡ entry_demands (function_in a f) (blocks (function_in a f))

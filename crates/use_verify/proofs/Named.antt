@@ -1,9 +1,9 @@
 -- The names and lengths of the blocks of a function of an arena, and the ends of its blocks.
 use Rattle.std.proofs.Common.{◌≡◌, ℕ, zero, suc, ◌<◌, Bool, true, false, List, [], ◌∷◌, ◌++◌, map, length, slice_get, Option, Some, None, refl, sym, ap, ◌∙◌, subst, arith}
-use Rattle.std.specs.Prelude.{find, cond, slice_index_or, unwrap_or, MatchOption, ⊤}
+use Rattle.std.specs.Prelude.{find, cond, slice_index_or, MatchOption, ⊤}
 use Rattle.std.specs.Option.{option_map, option_map_or}
 use Rattle.std.proofs.lemmas.List.{length-map, length-append}
-use Rattle.std.proofs.lemmas.Option.{slice_get-get_or}
+use Rattle.std.proofs.lemmas.Option.{slice_get-get_or, same_Some}
 use Rattle.type_table.specs.Tree.{Tree}
 use Rattle.type_table.specs.Types.{trees}
 use Rattle.module_arena.proofs.Numbered as numbered
@@ -83,9 +83,6 @@ module _ (a : Lists) (f : the_function.Function) where
 
 -- ---- the end of a block, by its number
 
-some_same : {A : Type 0} (x y : A) → Some x ≡ Some y → x ≡ y
-some_same x y e = ap (λ o. unwrap_or o x) e
-
 abbrev IsApart : List FlowBlock → Type 0
 IsApart fs = (i j : ℕ) (name : LocalName) → slice_get (block_names fs) i ≡ Some name → slice_get (block_names fs) j ≡ Some name → i ≡ j
 
@@ -98,7 +95,7 @@ length_in fs name = option_map_or (λ (b : FlowBlock). length b.results) (find (
 found : (fs : List FlowBlock) (k : ℕ) (name : LocalName) → IsApart fs → slice_get (block_names fs) k ≡ Some name → length_in fs name ≡ slice_index_or (map (λ (b : FlowBlock). length b.results) fs) k 0
 found [] k name apart at = absurd (subst (λ (o : Option LocalName). MatchOption o ⊤ (λ z. ⊥)) at tt)
 found (g ∷ fs) zero name apart at =
-    let same : same_local g.name name ≡ true = ap (same_local g.name) (sym (some_same g.name name at)) ∙ same_self g.name in
+    let same : same_local g.name name ≡ true = ap (same_local g.name) (sym (same_Some g.name name at)) ∙ same_self g.name in
     ap (λ (t : Bool). option_map_or (λ (b : FlowBlock). length b.results) (cond t (Some g) (find (λ (b : FlowBlock). same_local b.name name) fs)) 0) same
 found (g ∷ fs) (suc k) name apart at = by (same_local g.name name) refl ∙ found fs k name (apart_rest g fs apart) at
   where
@@ -118,7 +115,7 @@ length_told f id b at = by (function_blocks f) id at
   where
     by : (bs : List the_block.Block) (k : ℕ) → slice_get bs k ≡ Some b → length b.instructions ≡ slice_index_or (map (λ (x : the_block.Block). length x.instructions) bs) k 0
     by [] k e = absurd (subst (λ (o : Option the_block.Block). MatchOption o ⊤ (λ z. ⊥)) e tt)
-    by (c ∷ bs) zero e = ap (λ (x : the_block.Block). length x.instructions) (sym (some_same c b e))
+    by (c ∷ bs) zero e = ap (λ (x : the_block.Block). length x.instructions) (sym (same_Some c b e))
     by (c ∷ bs) (suc k) e = by bs k e
 
 -- no block has the name of another
