@@ -4,6 +4,7 @@ use Rattle.std.specs.Cmp.Lexicographic.{same_text}
 use Rattle.std.specs.List.{list_any, AllByRecursion}
 use Rattle.std.proofs.lemmas.Bool.{and_parts, or_parts}
 use Rattle.std.proofs.lemmas.Cmp.{nat_list_eq_equiv}
+use Rattle.extracted_is_valid.proofs.Bodies.{flip}
 use Rattle.ir_tables.specs.Table.{is_distinct}
 use Rattle.module_arena.specs.Module.{Bytes}
 
@@ -25,10 +26,6 @@ any_append p (x ∷ xs) ys = ap (λ b. p x || b) (any_append p xs ys) ∙ go (p 
     go : (b : Bool) → (b || (list_any p xs || list_any p ys)) ≡ ((b || list_any p xs) || list_any p ys)
     go true = refl
     go false = refl
-
-flip : (b : Bool) → not b ≡ true → b ≡ false
-flip false h = refl
-flip true h = cc
 
 -- no name of the first is among the second
 abbrev pub Cross : List Bytes → List Bytes → Type 0

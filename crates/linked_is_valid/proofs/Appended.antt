@@ -5,6 +5,7 @@ use Rattle.std.specs.Option.{option_map_or}
 use Rattle.std.specs.List.{list_all, AllByRecursion}
 use Rattle.std.proofs.lemmas.List.Sums.{sum_by-cons}
 use Rattle.std.proofs.lemmas.Bool.{and_from, and_parts, cases_Bool, eqb-false, false≢true}
+use Rattle.linked_is_valid.proofs.Linking.{flip}
 use Rattle.type_table.specs.Tree.{Tree, int, ptr, void, array, struct, named}
 use Rattle.module_arena.specs.Module.{Bytes, Constant, Constants, Variable, Module}
 use Rattle.module_arena.specs.Module.Brackets.{Square, Braces, Packed}
@@ -85,10 +86,6 @@ is_appended parts x has holds a =
     let v_appends : rules.is_appending v.0.linkage ≡ true = appending_same v.0.linkage ∙ ap (λ g. is_appending (linkage_of g)) (sym v.1) ∙ a in
     let l = list_parts v.0.ty v.0.initialiser (when_true (rules.is_appending v.0.linkage) _ v_holds.1.1.0 v_appends) in
     (l.1, record { variable = v.0; is = v.1; has = subst (HasAt (part_at parts x.part)) v.1 has; holds = v_holds; appends = v_appends; length = l.0; type = l.3; free = l.4.1.0; list = l.2; initialiser = l.4.0; is_list = l.4.1.1 })
-
-flip : (b : Bool) → not b ≡ true → b ≡ false
-flip false h = refl
-flip true h = cc
 
 -- ELEMENTS OF ONE PART
 

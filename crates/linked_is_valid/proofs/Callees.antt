@@ -41,7 +41,7 @@ use Rattle.linked_is_valid.proofs.Renaming.{EntryOf, find_entry, good_at, entrie
 abbrev stands : ℕ → (Global → Bool) → Entry → Bool
 stands i q e = nat_eq i e.part && q e.global
 
-any_front : {A : Type 0} (test : A → Bool) (xs ys : List A) → list_any test xs ≡ true → list_any test (xs ++ ys) ≡ true
+pub any_front : {A : Type 0} (test : A → Bool) (xs ys : List A) → list_any test xs ≡ true → list_any test (xs ++ ys) ≡ true
 any_front test [] ys h = cc
 any_front test (x ∷ xs) ys h = go (or_cases (test x) _ h) (any_front test xs ys)
   where
@@ -49,7 +49,7 @@ any_front test (x ∷ xs) ys h = go (or_cases (test x) _ h) (any_front test xs y
     go (inl k) more = or_left _ _ k
     go (inr k) more = or_right (test x) _ (more k)
 
-any_back : {A : Type 0} (test : A → Bool) (xs ys : List A) → list_any test ys ≡ true → list_any test (xs ++ ys) ≡ true
+pub any_back : {A : Type 0} (test : A → Bool) (xs ys : List A) → list_any test ys ≡ true → list_any test (xs ++ ys) ≡ true
 any_back test [] ys h = h
 any_back test (x ∷ xs) ys h = or_right (test x) _ (any_back test xs ys h)
 

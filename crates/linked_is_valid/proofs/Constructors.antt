@@ -30,9 +30,9 @@ use Rattle.linked_is_valid.proofs.PartEntries.{EntryHolds}
 use Rattle.linked_is_valid.proofs.Linking.{entry_named, function_there}
 use Rattle.linked_is_valid.specs.Laws.{AreLinkable}
 use Rattle.linked_is_valid.proofs.Renaming.{entries_hold, together, row_of_name, linked_at}
-use Rattle.linked_is_valid.proofs.Callees.{entry_where}
+use Rattle.linked_is_valid.proofs.Callees.{entry_where, any_front, any_back}
 use Rattle.linked_is_valid.proofs.Strong.{one_entry}
-use Rattle.linked_is_valid.proofs.Targets.{own_symbol, targets_kept}
+use Rattle.linked_is_valid.proofs.Targets.{own_symbol, targets_kept, any_map}
 
 any_follow : {A : Type 0} (p q : A → Bool) (xs : List A) → ((x : A) → p x ≡ true → q x ≡ true) → list_any p xs ≡ true → list_any q xs ≡ true
 any_follow p q [] f h = cc
@@ -41,22 +41,6 @@ any_follow p q (x ∷ xs) f h = go (or_cases (p x) _ h) (any_follow p q xs f)
     go : (p x ≡ true) ⊎ (list_any p xs ≡ true) → (list_any p xs ≡ true → list_any q xs ≡ true) → (q x || list_any q xs) ≡ true
     go (inl e) more = or_left (q x) _ (f x e)
     go (inr e) more = or_right (q x) _ (more e)
-
-any_map : {A B : Type 0} (f : A → B) (test : B → Bool) (xs : List A) → list_any test (map f xs) ≡ list_any (λ x. test (f x)) xs
-any_map f test [] = refl
-any_map f test (x ∷ xs) = ap (λ b. test (f x) || b) (any_map f test xs)
-
-any_front : {A : Type 0} (test : A → Bool) (xs ys : List A) → list_any test xs ≡ true → list_any test (xs ++ ys) ≡ true
-any_front test [] ys h = cc
-any_front test (x ∷ xs) ys h = go (or_cases (test x) _ h) (any_front test xs ys)
-  where
-    go : (test x ≡ true) ⊎ (list_any test xs ≡ true) → (list_any test xs ≡ true → list_any test (xs ++ ys) ≡ true) → list_any test (x ∷ xs ++ ys) ≡ true
-    go (inl k) more = or_left _ _ k
-    go (inr k) more = or_right (test x) _ (more k)
-
-any_back : {A : Type 0} (test : A → Bool) (xs ys : List A) → list_any test ys ≡ true → list_any test (xs ++ ys) ≡ true
-any_back test [] ys h = h
-any_back test (x ∷ xs) ys h = or_right (test x) _ (any_back test xs ys h)
 
 -- a function of that name
 abbrev is_function_of : Bytes → Global → Bool

@@ -4,6 +4,7 @@ use Rattle.std.specs.Prelude.{slice_get, slice_index_or}
 use Rattle.std.specs.List.{AllByRecursion}
 use Rattle.std.specs.Option.{option_map_or}
 use Rattle.std.proofs.lemmas.Bool.{and_from, and_parts, and_right, both_ways, false_from_ne_true}
+use Rattle.linked_is_valid.proofs.Linking.{flip}
 use Rattle.ir_tables.specs.declared.linkage.Linkage.{Linkage}
 use Rattle.ir_tables.specs.declared.linkage.Linkage.TheVariants.{External, Private, Internal, Common, Appending, ExternWeak, AvailableExternally, Linkonce, LinkonceOdr, Weak, WeakOdr}
 use Rattle.module_arena.specs.Module.{Variable, Alias, Function, Module, empty_module}
@@ -163,10 +164,6 @@ function_plain m f h defined = false_from_ne_true _ (λ e. go (is_llvm_name f.na
     go : (b : Bool) → b ≡ true → (not b || option_map_or (λ row. is_declared_as row f) (host_row f.name) false) ≡ true → ⊥
     go true e h = by_row (host_row f.name) h
     go false e h = cc
-
-flip : (b : Bool) → not b ≡ true → b ≡ false
-flip false h = refl
-flip true h = cc
 
 -- nor has an alias
 pub alias_plain : (m : Module) (a : Alias) → AllHold (alias_demands m a) → is_llvm_name a.name ≡ false

@@ -2,7 +2,7 @@
 use Rattle.std.proofs.Common.{◌≡◌, ℕ, zero, suc, Bool, true, false, not, ◌||◌, ◌⊎◌, inl, inr, List, [], ◌∷◌, ◌++◌, map, filter_map, Option, Some, None, refl, sym, ap, ap₂, ◌∙◌, subst, option_map, is_some, bytes_eq}
 use Rattle.std.specs.Prelude.{slice_get}
 use Rattle.std.specs.List.{list_any, list_all}
-use Rattle.std.proofs.lemmas.Bool.{and_from, and_parts, or_left, or_right, or_cases, cases_Bool, both_ways, cond-true, cond-false}
+use Rattle.std.proofs.lemmas.Bool.{and_from, and_parts, or_left, or_right, cases_Bool, both_ways, cond-true, cond-false}
 use Rattle.std.proofs.lemmas.Option.{same_Some, slice_get-map}
 use Rattle.ir_tables.specs.declared.linkage.Linkage.{Linkage}
 use Rattle.ir_tables.specs.declared.linkage.Linkage.TheVariants.{External, Private, Internal, Common, Appending, ExternWeak, AvailableExternally, Linkonce, LinkonceOdr, Weak, WeakOdr}
@@ -27,7 +27,7 @@ use Rattle.linked_is_valid.proofs.PartEntries.{HasAt, EntryHolds, entries_at}
 use Rattle.linked_is_valid.proofs.Known.{test_at}
 use Rattle.linked_is_valid.specs.Laws.{AreLinkable}
 use Rattle.linked_is_valid.proofs.Renaming.{good_at, entries_hold, row_of_name, linked_at}
-use Rattle.linked_is_valid.proofs.Callees.{entry_where, local_symbol, shared_symbol}
+use Rattle.linked_is_valid.proofs.Callees.{entry_where, local_symbol, shared_symbol, any_front, any_back}
 use Rattle.linked_is_valid.proofs.Strong.{one_entry, lasting_home}
 use Rattle.linked_is_valid.proofs.LinkedRows.{TargetsKept}
 
@@ -37,19 +37,7 @@ lasts true name (OfVariable v) = is_lasting_variable name v
 lasts false name (OfFunction f) = is_lasting_function name f
 lasts _ name _ = false
 
-any_front : {A : Type 0} (test : A → Bool) (xs ys : List A) → list_any test xs ≡ true → list_any test (xs ++ ys) ≡ true
-any_front test [] ys h = cc
-any_front test (x ∷ xs) ys h = go (or_cases (test x) _ h) (any_front test xs ys)
-  where
-    go : (test x ≡ true) ⊎ (list_any test xs ≡ true) → (list_any test xs ≡ true → list_any test (xs ++ ys) ≡ true) → list_any test (x ∷ xs ++ ys) ≡ true
-    go (inl k) more = or_left _ _ k
-    go (inr k) more = or_right (test x) _ (more k)
-
-any_back : {A : Type 0} (test : A → Bool) (xs ys : List A) → list_any test ys ≡ true → list_any test (xs ++ ys) ≡ true
-any_back test [] ys h = h
-any_back test (x ∷ xs) ys h = or_right (test x) _ (any_back test xs ys h)
-
-any_map : {A B : Type 0} (f : A → B) (test : B → Bool) (xs : List A) → list_any test (map f xs) ≡ list_any (λ x. test (f x)) xs
+pub any_map : {A B : Type 0} (f : A → B) (test : B → Bool) (xs : List A) → list_any test (map f xs) ≡ list_any (λ x. test (f x)) xs
 any_map f test [] = refl
 any_map f test (x ∷ xs) = ap (λ b. test (f x) || b) (any_map f test xs)
 

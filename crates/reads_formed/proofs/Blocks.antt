@@ -1,8 +1,9 @@
 -- What holds of the operands of lines holds of the blocks that are made of them.
-use Rattle.std.proofs.Common.{◌≡◌, Bool, true, ◌&&◌, List, [], ◌∷◌, ◌++◌, flat_map, Option, Some, None, refl}
+use Rattle.std.proofs.Common.{◌≡◌, Bool, true, ◌&&◌, List, [], ◌∷◌, flat_map, Option, Some, None, refl}
 use Rattle.std.specs.Option.{option_map_or}
 use Rattle.std.specs.List.{list_all, AllByRecursion}
-use Rattle.std.proofs.lemmas.Bool.{and_parts, and_from}
+use Rattle.std.proofs.lemmas.Bool.{and_from}
+use Rattle.reads_formed.proofs.Lists.{all_both}
 use Rattle.type_table.specs.Tree.{Tree, ptr}
 use Rattle.module_arena.specs.Forms.{is_instruction_of_phrase}
 use Rattle.module_arena.specs.Module.{Value, Local, Known, Operand, Operation, Instruction, Block, Module}
@@ -16,10 +17,6 @@ use Rattle.reads_formed.proofs.Unbroken.{OfSome}
 use Rattle.reads_formed.proofs.Good.{IsOf}
 use Rattle.reads_formed.proofs.Fields.{IsOperand, IsValue}
 use Rattle.reads_formed.proofs.Lines.{IsEnd, IsOperation}
-
-all_both : {A : Type 0} (p : A → Bool) (xs ys : List A) → list_all p xs ≡ true → list_all p ys ≡ true → list_all p (xs ++ ys) ≡ true
-all_both p [] ys h k = k
-all_both p (x ∷ xs) ys h k = let q = and_parts (p x) (list_all p xs) h in and_from (p x) (list_all p (xs ++ ys)) q.0 (all_both p xs ys q.1 k)
 
 -- what is so of each part is so of all parts
 pub all_flat : {A B : Type 0} (p : B → Bool) (f : A → List B) (xs : List A) → AllByRecursion (λ x. list_all p (f x) ≡ true) xs → list_all p (flat_map f xs) ≡ true

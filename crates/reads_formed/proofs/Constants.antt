@@ -3,6 +3,7 @@ use Rattle.std.proofs.Common.{◌≡◌, ◌≤◌, ◌+◌, ◌^◌, ◌*◌, �
 use Rattle.std.specs.Prelude.{find}
 use Rattle.std.specs.List.{list_all, AllByRecursion}
 use Rattle.std.proofs.lemmas.Bool.{and_parts, and_from, le-leb}
+use Rattle.reads_formed.proofs.Lists.{all_both}
 use Rattle.ir_tables.specs.declared.opcode.Opcode.{Opcode}
 use Rattle.ir_tables.specs.declared.opcode.Opcode.TheVariants as op
 use Rattle.ir_tables.specs.Opcode.{opcode_code}
@@ -34,10 +35,6 @@ pub record IsConst (m : Module) (most : ℕ) (t : Tree) (c : Constant) : Type 0 
 pub record AreConsts (m : Module) (most : ℕ) (cs : Constants) : Type 0 where
   pub deep : greatest_depth cs ≤ most
   pub parts_good : list_all (is_good_part m) (constants_of cs) ≡ true
-
-all_both : {A : Type 0} (p : A → Bool) (xs ys : List A) → list_all p xs ≡ true → list_all p ys ≡ true → list_all p (xs ++ ys) ≡ true
-all_both p [] ys h k = k
-all_both p (x ∷ xs) ys h k = let q = and_parts (p x) (list_all p xs) h in and_from (p x) (list_all p (xs ++ ys)) q.0 (all_both p xs ys q.1 k)
 
 -- one part of a constant
 part_good : (m : Module) (t : Tree) (c : Constant) → is_good_type m.structs t ≡ true → list_all (is_good_type m.structs) (type_in_constant c) ≡ true → is_in_range t c ≡ true

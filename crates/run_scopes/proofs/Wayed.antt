@@ -1,5 +1,5 @@
 -- Ways into blocks: blocks and entries of phis are found by their ids, and moves are appended.
-use Rattle.std.proofs.Common.{◌≡◌, ℕ, zero, suc, ◌+◌, ◌<◌, ◌≤◌, Bool, true, false, cond, List, [], ◌∷◌, ◌++◌, All, append_assoc, append-nil, length, take, drop, get_or, map, flat_map, find, Option, Some, refl, sym, ap, ◌∙◌, subst, arith, unwrap_or, eqb-true, eq-eqb}
+use Rattle.std.proofs.Common.{◌≡◌, ℕ, suc, ◌+◌, ◌<◌, ◌≤◌, Bool, true, false, cond, List, [], ◌∷◌, ◌++◌, All, append_assoc, append-nil, length, take, drop, get_or, map, flat_map, find, Option, Some, refl, sym, ap, ◌∙◌, subst, arith, unwrap_or, eqb-true, eq-eqb}
 use Rattle.std.specs.Prelude.{nat_eq, position, slice_get, IfSome}
 use Rattle.std.specs.List.{position_or_len}
 use Rattle.std.specs.Option.{option_map_or}
@@ -10,6 +10,7 @@ use Rattle.std.proofs.lemmas.List.{drop_all, length-map, length-take, map-append
 use Rattle.std.proofs.lemmas.List.Folds.{find_at}
 use Rattle.std.proofs.lemmas.List.Sums.{position_or_len_is}
 use Rattle.std.proofs.lemmas.Option.{get_or_from_slice_get, slice_get-get_or, slice_get_within}
+use Rattle.run_names.proofs.Listed.{mapped_at}
 use Rattle.type_table.specs.Tree.{Tree}
 use Rattle.module_arena.specs.declared.instruction.Incoming.{Incoming}
 use Rattle.module_arena.specs.declared.instruction.Inst.{Inst}
@@ -33,11 +34,6 @@ use Rattle.run_scopes.specs.Ways.{GainsMoves, HasEntry, entry_from, gets}
 use Rattle.run_scopes.proofs.Viewed.{blocks_all, labels_are}
 
 -- ---- found by names that no other has
-
-mapped_at : {A B : Type 0} (g : A → B) (xs : List A) (k : ℕ) (x : A) → slice_get xs k ≡ Some x → slice_get (map g xs) k ≡ Some (g x)
-mapped_at g [] k x e = absurd cc
-mapped_at g (y ∷ xs) zero x e = let same : y ≡ x = cc in ap (λ z. Some (g z)) same
-mapped_at g (y ∷ xs) (suc k) x e = mapped_at g xs k x e
 
 module _ (bs : List m.Block) (k : ℕ) (b : m.Block) (apart : AreApart (map (λ (x : m.Block). x.name) bs)) (at : slice_get bs k ≡ Some b) where
   abbrev named : m.Block → Bool

@@ -5,6 +5,7 @@ use Rattle.std.specs.List.{AllByRecursion, list_all}
 use Rattle.std.specs.Option.{option_map_or}
 use Rattle.std.proofs.lemmas.List.{length-append, length-map}
 use Rattle.std.proofs.lemmas.List.Elements.{All-head, recursion_from_All}
+use Rattle.run_names.proofs.Listed.{mapped_at}
 use Rattle.type_table.specs.Tree.{Structs, ptr}
 use Rattle.type_table.specs.Types.{structs}
 use Rattle.module_arena.specs.declared.entry.Block as the_block
@@ -34,7 +35,7 @@ use Rattle.run_scopes.specs.Scopes.{block_of, function_of, instruction_of}
 use Rattle.run_scopes.proofs.Viewed.{blocks_all}
 use Rattle.run_suits.proofs.Asked.{EndingAsked, InstructionAsked, ending_asked, instruction_asked}
 use Rattle.run_suits.proofs.Had.{IsHad, all_had, ending_of, ending_operands_seen, operands_known, operands_seen, typed_operands}
-use Rattle.run_suits.proofs.Listed.{back_of, front_of, item_of, mapped_at, part_of, part_passes, upto_below}
+use Rattle.run_suits.proofs.Listed.{back_of, front_of, item_of, part_of, part_passes, upto_below}
 use Rattle.run_suits.proofs.Values.{IsChecked}
 
 -- ---- ids

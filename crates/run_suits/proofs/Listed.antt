@@ -1,9 +1,8 @@
 -- What holds of each item of a list, and of the parts of a list that is made part by part.
-use Rattle.std.proofs.Common.{◌≡◌, ℕ, zero, suc, ◌+◌, ◌<◌, ◌≤◌, All, List, [], ◌∷◌, ◌++◌, get_or, map, flat_map, Bool, true, Some, sym, ap, ◌∙◌, subst, arith}
+use Rattle.std.proofs.Common.{◌≡◌, ℕ, zero, suc, ◌+◌, ◌<◌, ◌≤◌, All, List, [], ◌∷◌, ◌++◌, get_or, flat_map, Bool, true, Some, sym, ap, ◌∙◌, subst, arith}
 use Rattle.std.specs.Prelude.{slice_get}
 use Rattle.std.specs.List.{AllByRecursion, list_all}
-use Rattle.std.specs.Option.{option_map}
-use Rattle.std.proofs.lemmas.Option.{get_or_from_slice_get, none-some, same_Some, slice_get-get_or, slice_get-map, slice_get_within}
+use Rattle.std.proofs.lemmas.Option.{get_or_from_slice_get, none-some, same_Some, slice_get-get_or, slice_get_within}
 use Rattle.module_arena.specs.Known.{upto}
 use Rattle.run_constants.proofs.Sounds.{back_all, front_all}
 
@@ -34,10 +33,6 @@ pub part_passes : {X Y : Type 0} (p : X → Bool) (g : Y → List X) (ys : List 
 part_passes p g [] k y h at = absurd (none-some y at)
 part_passes p g (z ∷ ys) zero y h at = ap (λ x. list_all p (g x)) (sym (same_Some z y at)) ∙ front_all p (g z) (flat_map g ys) h
 part_passes p g (z ∷ ys) (suc k) y h at = part_passes p g ys k y (back_all p (g z) (flat_map g ys) h) at
-
--- what stands in a mapped list
-pub mapped_at : {X Y : Type 0} (g : X → Y) (xs : List X) (k : ℕ) (x : X) → slice_get xs k ≡ Some x → slice_get (map g xs) k ≡ Some (g x)
-mapped_at g xs k x at = slice_get-map g xs k ∙ ap (option_map g) at
 
 -- so many numbers from the first on are below what is behind them
 pub upto_below : (first count bound : ℕ) → first + count ≤ bound → AllByRecursion (λ n. n < bound) (upto first count)
