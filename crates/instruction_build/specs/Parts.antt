@@ -1,7 +1,6 @@
 -- Says how the code reads: the parts of an instruction over the locals of a function: what an arena can take, and what
 -- its ids stand for.
 use Rattle.std.specs.Prelude.{◌≡◌, ℕ, ◌<◌, List, [], ◌∷◌, length, slice_index_or}
-use Rattle.ir_terminals.specs.declared.values.Local.{Local}
 use Rattle.ir_constants.specs.Tree.{ValueTree, TypedValueTree}
 use Rattle.ir_instructions.specs.Tree.{IncomingTree, CaseTree}
 use Rattle.type_table.specs.Types.{structs}
@@ -12,7 +11,7 @@ use Rattle.module_arena.specs.Lists.{Lists}
 use Rattle.module_arena.specs.Module.{LocalName, Numbered, Incoming, Case, Signature}
 use Rattle.type_build.specs.Holding.{entries}
 use Rattle.type_build.specs.Stands.{IsType, AreTypes, IsConstant}
-use Rattle.buildable.specs.Bodies.{CanValue, CanOperand, CanTarget, CanIncoming, CanCase}
+use Rattle.buildable.specs.Bodies.{CanValue, CanOperand, CanIncoming, CanCase}
 use Rattle.instruction_build.specs.declared.locals.Locals.{Locals}
 use Rattle.instruction_build.specs.Meant.{IsValue}
 use Rattle.instruction_build.specs.Named.{called_of}
@@ -35,10 +34,6 @@ module _ (a : Lists) (locals : Locals) where
   -- the operand that is written
   abbrev pub TakesOperand : TypedValueTree → Type 0
   TakesOperand written = CanOperand (structs a.table) (entries a) (value_names locals) (block_names locals) written
-
-  -- the block that is written
-  abbrev pub TakesTarget : Local → Type 0
-  TakesTarget written = CanTarget (structs a.table) (entries a) (value_names locals) (block_names locals) written
 
   -- the value of a phi that is written
   abbrev pub TakesIncoming : IncomingTree → Type 0

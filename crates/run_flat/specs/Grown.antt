@@ -1,9 +1,8 @@
 -- For all calls that put parts of instructions into `Pools`: that pools only grow, and what was put where.
-use Rattle.std.specs.Prelude.{◌≡◌, ℕ, Bool, List, [], ◌++◌, map}
+use Rattle.std.specs.Prelude.{◌≡◌, ℕ, Bool, List, [], map}
 use Rattle.module_arena.specs.Lists.{Lists}
 use Rattle.run_rules.specs.Action as actions
 use Rattle.run_rules.specs.Leaves.{Slot}
-use Rattle.run_stack.specs.Origins.{origin_of, move_of}
 use Rattle.run_actions.specs.Values.{arm_of, part_of}
 use Rattle.run_flat.specs.declared.action.Action.{Action}
 use Rattle.run_flat.specs.declared.leaf.LeafAt.{LeafAt}
@@ -35,14 +34,6 @@ pub record Grows (old new : Pools) : Type 0 where
 pub record Adds (old new : Pools) : Type 0 where
   pub grows : Grows old new
   pub calls : new.calls ≡ old.calls
-
--- the origins have gained these
-abbrev pub HasOrigins : Pools → Pools → List actions.Origin → Type 0
-HasOrigins old new origins = map origin_of new.origins ≡ map origin_of old.origins ++ origins
-
--- the moves have gained these
-abbrev pub HasMoves : Pools → Pools → List actions.Move → Type 0
-HasMoves old new moves = map move_of new.moves ≡ map move_of old.moves ++ moves
 
 -- a leaf is had from there
 pub record IsLeaf (p : Pools) (leaf : LeafAt) (origin : actions.Origin) : Type 0 where
