@@ -1,12 +1,13 @@
 //! Abbreviations that are in force.
-ghost use Rattle.std.specs.Prelude.{◌≡◌, ◌≤◌, ◌^◌, [], ◌++◌, ◌∷◌, length, OnOk, option_copied, slice_get};
+ghost use Rattle.std.specs.Prelude.{◌≡◌, ◌≤◌, [], ◌++◌, ◌∷◌, length, OnOk, option_copied, slice_get};
+ghost use Rattle.bit_stream.specs.declared.admitted.TheConstants.{MOST_ABBREVIATIONS};
 
 use crate::abbreviation::AdmittedAbbreviation;
 use std::alloc::{AllocError, Global};
 use std::marker::Model;
 
 /// How many abbreviations a list holds at most: more than a stream of 2^30 bytes defines.
-const MOST: usize = 1 << 30;
+const MOST_ABBREVIATIONS: usize = 1 << 30;
 
 /// Some abbreviations, in order.
 #[derive(Drop)]
@@ -15,14 +16,15 @@ pub struct AdmittedList {
 }
 
 impl Model for AdmittedList {
-    ghost use Rattle.std.specs.Prelude.{List, ◌≤◌, ◌^◌, length};
+    ghost use Rattle.std.specs.Prelude.{List, ◌≤◌, length};
+    ghost use Rattle.bit_stream.specs.declared.admitted.TheConstants.{MOST_ABBREVIATIONS};
     ghost use Rattle.bit_stream.specs.Abbreviation.{AdmittedAbbreviation};
 
     ghost Value = { List AdmittedAbbreviation };
 
     ghost view = { λ list. list.items.items };
 
-    ghost invariant = { λ list. length list.items.items ≤ 2 ^ 30 };
+    ghost invariant = { λ list. length list.items.items ≤ MOST_ABBREVIATIONS };
 }
 
 impl AdmittedList {
@@ -38,7 +40,7 @@ impl AdmittedList {
     /// How many there are.
     pub fn len(&self) -> usize
         ensures value { result ≡ length self.now }
-        ensures few { result ≤ 2 ^ 30 }
+        ensures few { result ≤ MOST_ABBREVIATIONS }
     {
         self.items.len()
     }
@@ -54,7 +56,7 @@ impl AdmittedList {
     pub fn push(&mut self, abbreviation: AdmittedAbbreviation) -> Result<(), AllocError>
         ensures { OnOk result (self.new ≡ self.old ++ abbreviation ∷ []) }
     {
-        if self.items.len() >= MOST {
+        if self.items.len() >= MOST_ABBREVIATIONS {
             return Err(AllocError);
         }
         self.items.push(abbreviation)?;

@@ -20,7 +20,7 @@ use std::marker::Model;
 pub const LARGEST_STREAM: usize = 16_777_216;
 
 /// The bytes 42 43 C0 DE, as a number.
-const MAGIC: u64 = 0xdec0_4342;
+pub(crate) const MAGIC: u64 = 0xdec0_4342;
 
 /// A reader of the entries of a stream, in order, or of its fields.
 ///

@@ -8,6 +8,7 @@ ghost use Rattle.bit_stream.specs.Writer.{begun, write, enter, end_block, define
 
 use crate::Abbreviation;
 use crate::abbreviation::{AdmittedAbbreviation, ChunkWidth};
+use crate::reader::MAGIC;
 use crate::scope::Scope;
 use crate::spelling::{abbreviation_for, put_abbreviated, put_definition, put_record};
 use bits::{BitSink, WholeWords};
@@ -15,9 +16,6 @@ use ir_base::Text;
 use std::alloc::{AllocError, Global};
 use std::marker::Model;
 use std::mem;
-
-/// The bytes 42 43 C0 DE, as a number.
-const MAGIC: u64 = 0xdec0_4342;
 
 // The abbreviation ids that every block has.
 const END_BLOCK: u64 = 0;
