@@ -5,6 +5,7 @@ ghost use Rattle.bit_stream.specs.Scope.{top_level, given_to, given_here, abbrev
 ghost use Rattle.bit_stream.specs.Writer.{in_force};
 ghost use Rattle.bit_stream.specs.Entry.{is_blockinfo, entered, block_left, defined, given_for, targeting};
 ghost use Rattle.bit_stream.specs.declared.reader.TheConstants.{LARGEST_STREAM};
+ghost use Rattle.given_starts.specs.declared.given.TheConstants.{MOST_DEFINITIONS};
 ghost use Rattle.bit_walk.specs.Starts.{Opened, with_scope, abbreviation_at};
 
 use crate::starts::StartList;
@@ -145,7 +146,7 @@ impl<'b> WalkScope<'b> {
     /// How many abbreviations were given to a block id.
     fn given_to(&self, id: u64) -> usize
         ensures value { result ≡ length (given_to self.now.scope.given id) }
-        ensures few { result ≤ 2 ^ 30 }
+        ensures few { result ≤ MOST_DEFINITIONS }
     {
         self.given.count(id)
     }

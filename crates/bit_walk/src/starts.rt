@@ -1,17 +1,16 @@
 //! Abbreviations by the bits where their definitions start, a few bytes each.
-ghost use Rattle.std.specs.Prelude.{◌≡◌, ◌≤◌, ◌^◌, ◌<◌, ◌*◌, [], ◌++◌, ◌∷◌, Bool, List, Some, length, OnOk, IfOk, slice_get};
+ghost use Rattle.std.specs.Prelude.{◌≡◌, ◌≤◌, ◌<◌, ◌*◌, [], ◌++◌, ◌∷◌, Bool, List, Some, length, OnOk, IfOk, slice_get};
 ghost use Rattle.bits.specs.Bits.{stream_bits};
 ghost use Rattle.bit_stream.specs.declared.reader.TheConstants.{LARGEST_STREAM};
+ghost use Rattle.given_starts.specs.declared.given.TheConstants.{MOST_DEFINITIONS};
 ghost use Rattle.bit_walk.specs.Starts.{no_abbreviation, abbreviation_at, IsKept};
 
 use crate::spelling::{WalkedSpelling, no_abbreviation};
 use bit_stream::{AdmittedAbbreviation, StreamFault, defined_abbreviation};
 use bits::BitCursor;
+use given_starts::MOST_DEFINITIONS;
 use std::alloc::{AllocError, Global};
 use std::marker::Model;
-
-/// How many definitions a list holds at most: more than a stream of 2^30 bytes has.
-const MOST: usize = 1 << 30;
 
 /// The bits where some definitions start, in order.
 #[derive(Drop)]
@@ -20,13 +19,14 @@ pub struct StartList {
 }
 
 impl Model for StartList {
-    ghost use Rattle.std.specs.Prelude.{List, ℕ, ◌≤◌, ◌^◌, length};
+    ghost use Rattle.std.specs.Prelude.{List, ℕ, ◌≤◌, length};
+    ghost use Rattle.given_starts.specs.declared.given.TheConstants.{MOST_DEFINITIONS};
 
     ghost Value = { List ℕ };
 
     ghost view = { λ list. list.bits.items };
 
-    ghost invariant = { λ list. length list.bits.items ≤ 2 ^ 30 };
+    ghost invariant = { λ list. length list.bits.items ≤ MOST_DEFINITIONS };
 }
 
 impl StartList {
@@ -42,7 +42,7 @@ impl StartList {
     /// How many there are.
     pub fn len(&self) -> usize
         ensures value { result ≡ length self.now }
-        ensures few { result ≤ 2 ^ 30 }
+        ensures few { result ≤ MOST_DEFINITIONS }
     {
         self.bits.len()
     }
@@ -58,7 +58,7 @@ impl StartList {
     pub fn push(&mut self, bit: u32) -> Result<(), AllocError>
         ensures { OnOk result (self.new ≡ self.old ++ bit ∷ []) }
     {
-        if self.bits.len() >= MOST {
+        if self.bits.len() >= MOST_DEFINITIONS {
             return Err(AllocError);
         }
         self.bits.push(bit)?;

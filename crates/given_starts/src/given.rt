@@ -1,5 +1,6 @@
 //! The definitions that were given to block ids.
-ghost use Rattle.std.specs.Prelude.{◌≡◌, ◌≤◌, ◌^◌, [], length, OnOk, OnErr, slice_get};
+ghost use Rattle.std.specs.Prelude.{◌≡◌, ◌≤◌, [], length, OnOk, OnErr, slice_get};
+ghost use Rattle.given_starts.specs.declared.given.TheConstants.{MOST_DEFINITIONS};
 ghost use Rattle.given_starts.specs.Given.{starts_of, with_start};
 
 use crate::merging::merge;
@@ -9,7 +10,7 @@ use std::alloc::{AllocError, Global};
 use std::marker::Model;
 
 /// How many definitions a table holds at most: more than a stream of 2^30 bytes has.
-const MOST: usize = 1 << 30;
+pub const MOST_DEFINITIONS: usize = 1 << 30;
 
 /// How many rows wait at most until they are merged into the others, so that each is moved only so often.
 const MOST_RECENT: usize = 2048;
@@ -23,14 +24,15 @@ pub struct Given {
 }
 
 impl Model for Given {
-    ghost use Rattle.std.specs.Prelude.{List, ℕ, ◌+◌, ◌≤◌, ◌^◌, ◌++◌, length};
+    ghost use Rattle.std.specs.Prelude.{List, ℕ, ◌+◌, ◌≤◌, ◌++◌, length};
+    ghost use Rattle.given_starts.specs.declared.given.TheConstants.{MOST_DEFINITIONS};
     ghost use Rattle.given_starts.specs.Rows.{IsAscending, table_of};
 
     ghost Value = { List (ℕ × List ℕ) };
 
     ghost view = { λ g. table_of (g.sorted.items ++ g.recent.items) };
 
-    ghost invariant = { λ g. IsAscending g.sorted.items × IsAscending g.recent.items × (length g.sorted.items + length g.recent.items ≤ 2 ^ 30) };
+    ghost invariant = { λ g. IsAscending g.sorted.items × IsAscending g.recent.items × (length g.sorted.items + length g.recent.items ≤ MOST_DEFINITIONS) };
 }
 
 impl Given {
@@ -47,7 +49,7 @@ impl Given {
     /// How many definitions were given to an id.
     pub fn count(&self, id: u64) -> usize
         ensures value { result ≡ length (starts_of self.now id) }
-        ensures few { result ≤ 2 ^ 30 }
+        ensures few { result ≤ MOST_DEFINITIONS }
     {
         rows_of(self.sorted.as_slice(), id).len() + rows_of(self.recent.as_slice(), id).len()
     }
@@ -71,7 +73,7 @@ impl Given {
         ensures err { OnErr result (self.new ≡ self.old) }
     {
         self.settle()?;
-        if self.sorted.len() + self.recent.len() >= MOST {
+        if self.sorted.len() + self.recent.len() >= MOST_DEFINITIONS {
             return Err(AllocError);
         }
         let place = count_through(self.recent.as_slice(), id);

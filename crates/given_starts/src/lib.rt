@@ -18,4 +18,4 @@ mod merging;
 mod row;
 mod search;
 
-pub use given::Given;
+pub use given::{Given, MOST_DEFINITIONS};
