@@ -13,6 +13,7 @@ use Rattle.run_rules.specs.Plan.{Contents}
 use Rattle.run_rules.specs.declared.end.End.{End}
 use Rattle.run_rules.specs.declared.end.End.TheVariants.{MemoryLimit}
 use Rattle.run_rules.specs.State.{Due}
+use Rattle.run_names.specs.Spots.{variables_end}
 use Rattle.run_acts.specs.Dues.{due_of}
 use Rattle.run_acts.specs.declared.due.DueCall.{DueCall}
 
@@ -38,10 +39,10 @@ abbrev pub MakesWith : Result (Blocks × Pointer) End → Option Pointer → Blo
 MakesWith expected (Some p) old new = Places expected p old new
 MakesWith expected None old new = expected ≡ Err MemoryLimit
 
--- as far as the next address may be once all variables have their blocks: none ends behind 2^60, and there the greatest
--- alignment and the gap fit
+-- as far as the next address may be once all variables have their blocks: none ends further on than there are addresses
+-- of variables, and behind them the greatest alignment and the gap fit
 abbrev pub behind_variables : ℕ
-behind_variables = 2 ^ 60 + 2 ^ 17
+behind_variables = variables_end + 2 ^ 17
 
 -- the same of several, which are no more than bytes may live; the next address is no further off than so many blocks allow
 pub record PlacesAll (expected : Result (Blocks × List Pointer) End) (ps : List Pointer) (old new : Blocks) : Type 0 where

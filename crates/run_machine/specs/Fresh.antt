@@ -1,5 +1,5 @@
 -- For `open` of `Machine`: a run that was opened.
-use Rattle.std.specs.Prelude.{◌≡◌, ◌^◌, ◌≤◌}
+use Rattle.std.specs.Prelude.{◌≡◌, ◌≤◌}
 use Rattle.module_arena.specs.View.{module_of}
 use Rattle.run_names.specs.Told.{alone}
 use Rattle.run_program.specs.Loaded.{Loaded, nothing_ready}
@@ -7,11 +7,11 @@ use Rattle.run_acts.specs.Acting.{look_in, table_in, typing_in}
 use Rattle.run_machine.specs.declared.beginning.OpenRun.{OpenRun}
 use Rattle.run_machine.specs.Opens.{core_opened}
 use Rattle.typed_look.specs.Typings.{IsTypedLook}
-use Rattle.typed_runs.specs.States.{IsTypedCore}
+use Rattle.typed_runs.specs.States.{IsTypedCore, opened_reach}
 
 -- nothing is decoded yet, and all that was opened is typed
 pub record IsOpenRun (p : Loaded) (o : OpenRun) : Type 0 where
   pub fresh : p ≡ nothing_ready p.lists
   pub typed : IsTypedLook (alone (module_of p.lists))
   pub core : IsTypedCore (typing_in p.lists) (look_in p.lists) (table_in p.lists) (core_opened o)
-  pub next : o.memory.next ≤ 2 ^ 59
+  pub next : o.memory.next ≤ opened_reach

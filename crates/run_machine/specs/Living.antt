@@ -1,5 +1,5 @@
 -- For `step` and `run` of `Machine`: what holds of a run that is not over, and how a clause sees it.
-use Rattle.std.specs.Prelude.{◌≡◌, ℕ, ◌+◌, ◌*◌, ◌^◌, ◌<◌, ◌≤◌, ⊤, Bool, List, [], ◌∷◌, length, Option, Some, None, if◌then◌else◌}
+use Rattle.std.specs.Prelude.{◌≡◌, ℕ, ◌+◌, ◌*◌, ◌<◌, ◌≤◌, ⊤, Bool, List, [], ◌∷◌, length, Option, Some, None, if◌then◌else◌}
 use Rattle.module_arena.specs.View.{module_of}
 use Rattle.ir_memory.specs.declared.leaf.Leaf.TheVariants as leaf
 use Rattle.ir_memory.specs.Memory.{Blocks, no_blocks, reach}
@@ -24,7 +24,7 @@ use Rattle.run_machine.specs.Seen.{Going, the_machine}
 use Rattle.run_machine.specs.declared.live.Turn.{Turn}
 use Rattle.run_machine.specs.declared.live.Turn.TheVariants.{Over, Came}
 use Rattle.typed_look.specs.Typings.{IsTypedLook}
-use Rattle.typed_runs.specs.States.{AreTaken, IsTypedCore}
+use Rattle.typed_runs.specs.States.{AreTaken, IsTypedCore, opened_reach}
 
 -- what instructions see, and the bytes that the last one writes
 pub record Living : Type 0 where
@@ -45,7 +45,7 @@ core_of_living l = record { frames = l.stack.frames; due = l.due; memory = l.mem
 pub record IsLive (steps : ℕ) (l : Living) : Type 0 where
   pub typed : IsTypedLook (alone (module_of l.program.lists))
   pub core : IsTypedCore (typing_in l.program.lists) (look_in l.program.lists) (table_in l.program.lists) (core_of_living l)
-  pub next : l.memory.next ≤ 2 ^ 59 + steps * reach
+  pub next : l.memory.next ≤ opened_reach + steps * reach
   pub ready : AreReady l.program l.stack
 
 -- and fewer bytes are held back than are written at once

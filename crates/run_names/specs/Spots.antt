@@ -60,9 +60,13 @@ variable_symbol a id = symbol_in (module_of a ∷ []) 0 (name_at a (global.Varia
 abbrev pub bounds_of : Spot → ℕ × ℕ
 bounds_of s = (s.start, s.start + s.size)
 
--- no spot ends further on than there are addresses of variables
+-- as far as there are addresses of variables
+abbrev pub variables_end : ℕ
+variables_end = 2 ^ 60
+
+-- no spot ends further on than that
 abbrev pub AreWithin : List Spot → Type 0
-AreWithin spots = (k : ℕ) (s : Spot) → slice_get spots k ≡ Some s → s.start + s.size ≤ 2 ^ 60
+AreWithin spots = (k : ℕ) (s : Spot) → slice_get spots k ≡ Some s → s.start + s.size ≤ variables_end
 
 -- the spots of all variables that are defined: what opening needs of them, which symbols they are, and where they lie
 pub record AreSpots (a : Lists) (spots : List Spot) : Type 0 where

@@ -23,6 +23,10 @@ use Rattle.run_places.specs.Places.{IsTrueMain, IsBefore, HasWork}
 use Rattle.typed_runs.specs.Actions.{Typing, IsPlace, IsTypedAction}
 use Rattle.typed_runs.specs.Kinds.{IsOf, AreAt, kinds_of, kinds_of_all}
 
+-- as far as the next address may be once a run is opened
+abbrev pub opened_reach : ℕ
+opened_reach = 2 ^ 59
+
 -- memory: blocks in order below the next address, however far that is, no more bytes live than may, and each block known
 pub record IsTypedMemory (m : Blocks) : Type 0 where
   pub placed : IsPlaced first_address m.list m.next
@@ -100,7 +104,7 @@ module _ (t : Typing) (look : ℕ → ℕ → ℕ → Action) (table : ℕ → C
     pub core : IsTypedCore s.core
     pub input : All (λ b. b < 256) s.input
     pub output : All (λ b. b < 256) s.output
-    pub next : s.core.memory.next ≤ 2 ^ 59 + s.steps * reach
+    pub next : s.core.memory.next ≤ opened_reach + s.steps * reach
 
   -- after an instruction the core is typed; a byte of the input is wanted where an i32 belongs
   abbrev pub IsTypedNext : Blocks → Next → Type 0
