@@ -3,30 +3,26 @@ ghost use Rattle.std.specs.Prelude.{◌≡◌, ◌<◌, ◌^◌, ◌&&◌, true,
 ghost use Rattle.std.specs.List.{list_all};
 ghost use Rattle.ir_terminals.specs.Digits.{are_digits, below, decimal, IsWritten};
 
-// The number that the digits write, where it fits the type.
-macro_rules! decimal {
-    ($type:ident: $digits:ident) => {{
-        let mut number: $type = 0;
-        for digit in $digits {
-            let value = $type::from(digit.saturating_sub(b'0'));
-            number = number.checked_mul(10)?.checked_add(value)?;
-        }
-        Some(number)
-    }};
+/// The number that the digits write, where it is below 2^128.
+pub(crate) fn decimal_128(digits: &[u8]) -> Option<u128>
+    ensures { result ≡ below (2 ^ 128) (decimal digits.now) }
+{
+    let mut number: u128 = 0;
+    for digit in digits {
+        let value = u128::from(digit.saturating_sub(b'0'));
+        number = number.checked_mul(10)?.checked_add(value)?;
+    }
+    Some(number)
 }
 
 /// The number that the digits write, where it is below 2^64.
 pub(crate) fn decimal_64(digits: &[u8]) -> Option<u64>
     ensures { result ≡ below (2 ^ 64) (decimal digits.now) }
 {
-    decimal!(u64: digits)
-}
-
-/// The number that the digits write, where it is below 2^128.
-pub(crate) fn decimal_128(digits: &[u8]) -> Option<u128>
-    ensures { result ≡ below (2 ^ 128) (decimal digits.now) }
-{
-    decimal!(u128: digits)
+    match decimal_128(digits) {
+        Some(number) if number < 1 << 64 => Some(number as u64),
+        _ => None,
+    }
 }
 
 /// The same digits, of which some other than zero, without the zeros before them.
