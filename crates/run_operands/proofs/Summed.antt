@@ -12,13 +12,16 @@ use Rattle.std.proofs.lemmas.Option.{slice_get-get_or}
 use Rattle.ir_eval.specs.Value.{reduced, signed}
 use Rattle.ir_eval.specs.declared.value.Scalar.{Scalar}
 use Rattle.ir_eval.specs.declared.value.Scalar.TheVariants as scalar
+use Rattle.type_table.specs.declared.measure.TheConstants.{SIZE_LIMIT}
 use Rattle.run_rules.specs.Action as actions
 use Rattle.run_rules.specs.Displace.{reach, reach_of, sum_of}
 use Rattle.run_stack.specs.declared.origin.Origin.{Origin}
 use Rattle.run_stack.specs.declared.origin.Origin.TheVariants.{Held, Known}
 use Rattle.run_stack.specs.Origins.{origin_of}
+use Rattle.run_operands.specs.declared.counted.TheConstants.{NO_SIGN_BELOW}
 use Rattle.run_operands.specs.declared.steps.Step.{Step}
 use Rattle.run_operands.specs.Steps as steps
+use Rattle.run_flat.specs.declared.action.TheConstants.{TERMS}
 use Rattle.run_flat.specs.declared.action.Term.{Term}
 use Rattle.run_flat.specs.declared.leaf.Span.{Span}
 use Rattle.run_flat.specs.declared.pools.Pools.{Pools}
@@ -58,7 +61,7 @@ unfolding led
 led_none s e = ap (λ (o : Option ℕ). option_map_or (λ (count : ℕ). count * s.size) o 0) e
 
 -- a number without a sign, of at most 64 bits, counts as it is
-counted : (n width size : ℕ) → n < 2 ^ 31 → 32 ≤ width → reach (scalar.Int n) width size ≡ Some (pos (n * size))
+counted : (n width size : ℕ) → n < NO_SIGN_BELOW → 32 ≤ width → reach (scalar.Int n) width size ≡ Some (pos (n * size))
 counted n width size small wide =
     let enough : 31 ≤ width - 1 = omega (arith, wide) in
     let most : 2 ^ 31 ≤ 2 ^ (width - 1) = pow_mono enough in
@@ -73,12 +76,12 @@ module _ (read : actions.Origin → Scalar) (known : (leaf : Scalar) → read (a
   wide_reach : (index : Origin) (width size n : ℕ) → 32 ≤ width → index_count index ≡ Some n → reach (read (origin_of index)) width size ≡ Some (pos (n * size))
   wide_reach (Held place) width size n wide e = absurd (cc)
   wide_reach (Known (scalar.Int m)) width size n wide e =
-      elim (cases_lt m (2 ^ 31)) [
+      elim (cases_lt m NO_SIGN_BELOW) [
         | inl small ↦
-            let h = rw (lt-ltb m (2 ^ 31) small) at e in
+            let h = rw (lt-ltb m NO_SIGN_BELOW small) at e in
             let same : m ≡ n = cc in
             ap (λ (v : Scalar). reach v width size) (known (scalar.Int m)) ∙ counted m width size small wide ∙ ap (λ (k : ℕ). Some (pos (k * size))) same
-        | inr large ↦ let h = rw (le-ltb m (2 ^ 31) large) at e in absurd (cc)
+        | inr large ↦ let h = rw (le-ltb m NO_SIGN_BELOW large) at e in absurd (cc)
       ]
   wide_reach (Known (scalar.Ptr p)) width size n wide e = absurd (cc)
   wide_reach (Known scalar.Poison) width size n wide e = absurd (cc)
@@ -152,7 +155,7 @@ open_more p q ss k x d ts t g lt is o h =
           map-append (λ (y : Term). y.gathered) ts (t ∷ [])
           ∙ (λ j. h.apart j ++ o.apart j ∷ [])
           ∙ sym (ap (map (λ (y : Step). is_counted (count_at y.index y.width))) front ∙ map-append (λ (y : Step). is_counted (count_at y.index y.width)) (take k ss) (x ∷ []));
-      small = All-push (λ (y : Term). y.size ≤ 2 ^ 40) ts t h.small o.small;
+      small = All-push (λ (y : Term). y.size ≤ SIZE_LIMIT) ts t h.small o.small;
     }
 
 pub open_none : (p : Pools) (ss : List Step) → AreOpen p (take 0 ss) []
@@ -160,7 +163,7 @@ open_none p ss = record { within = λ k d lt. absurd (omega (arith, lt)); means 
 
 -- terms that were put, with the sum of those that are gathered
 pub terms_put : (p : Pools) (all : List Term) (sums : List ℤ) (total : ℤ) (ss : List Step) (terms : List Term) (span : Span) (sum : ℕ) (meant : List actions.Term) → AreOpen p ss terms → all ≡ p.terms ++ terms → IsBetween (length p.terms) (length all) span
-    → sums ≡ p.sums ++ total ∷ [] → total ≡ pos (led_by ss) → led_by ss ≤ 2 ^ 91 → sum ≡ length p.sums → length terms ≤ 2 ^ 20 → map steps.term_of ss ≡ meant → AreTerms (record p { terms = all; sums = sums }) span sum meant
+    → sums ≡ p.sums ++ total ∷ [] → total ≡ pos (led_by ss) → led_by ss ≤ TERMS * (NO_SIGN_BELOW * SIZE_LIMIT) → sum ≡ length p.sums → length terms ≤ TERMS → map steps.term_of ss ≡ meant → AreTerms (record p { terms = all; sums = sums }) span sum meant
 terms_put p all sums total ss terms span sum meant o e between last is small place few same =
     let q : Pools = record p { terms = all; sums = sums } in
     let middle : Pools = record p { terms = all } in
@@ -180,7 +183,7 @@ terms_put p all sums total ss terms span sum meant o e between last is small pla
         gathered = subst (λ (ts : List Term). IsGathered q ts total) (sym here) (subst (IsGathered q terms) (sym is) reached);
         near = subst (λ (z : ℤ). nat_abs z ≤ 2 ^ 124) (sym is) far;
         few = omega (arith, many, begins, ends, few);
-        sizes = subst (All (λ (t : Term). t.size ≤ 2 ^ 40)) (sym here) o.small;
+        sizes = subst (All (λ (t : Term). t.size ≤ SIZE_LIMIT)) (sym here) o.small;
       };
       means = ap (map (term_of q)) here ∙ terms_same p q grown terms o.within ∙ o.means ∙ same;
     }

@@ -1,5 +1,5 @@
 -- For `put_steps`: terms of steps, of which those are gathered whose index is known.
-use Rattle.std.specs.Prelude.{◌≡◌, ℕ, ◌+◌, ◌*◌, ◌^◌, ◌≤◌, nat_lt, Bool, true, false, Option, Some, None, List, [], ◌∷◌, map, if◌then◌else◌}
+use Rattle.std.specs.Prelude.{◌≡◌, ℕ, ◌+◌, ◌*◌, ◌≤◌, nat_lt, Bool, true, false, Option, Some, None, List, [], ◌∷◌, map, if◌then◌else◌}
 use Rattle.std.specs.List.{All}
 use Rattle.std.specs.Option.{option_map_or}
 use Rattle.ir_eval.specs.declared.value.Scalar.{Scalar}
@@ -7,6 +7,7 @@ use Rattle.ir_eval.specs.declared.value.Scalar.TheVariants.{Int, Ptr, Poison}
 use Rattle.type_table.specs.declared.measure.TheConstants.{SIZE_LIMIT}
 use Rattle.run_stack.specs.declared.origin.Origin.{Origin}
 use Rattle.run_stack.specs.declared.origin.Origin.TheVariants.{Held, Known}
+use Rattle.run_operands.specs.declared.counted.TheConstants.{NO_SIGN_BELOW}
 use Rattle.run_operands.specs.declared.steps.Step.{Step}
 use Rattle.run_operands.specs.Steps as steps
 use Rattle.run_flat.specs.declared.action.Term.{Term}
@@ -15,7 +16,7 @@ use Rattle.run_flat.specs.Flat.{IsTermIn, term_of}
 
 -- a number that has no sign at any width of 32 bits or more
 abbrev pub number_count : ℕ → Option ℕ
-number_count number = if nat_lt number (2 ^ 31) then Some number else None
+number_count number = if nat_lt number NO_SIGN_BELOW then Some number else None
 
 -- the same of a leaf
 abbrev pub leaf_count : Scalar → Option ℕ

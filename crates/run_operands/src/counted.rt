@@ -1,17 +1,23 @@
 //! Steps of a `getelementptr` whose index is known, and how far they lead together.
-ghost use Rattle.std.specs.Prelude.{◌≡◌, ◌*◌, ◌^◌, ◌<◌, ◌≤◌, All, IfSome, length, pos};
+ghost use Rattle.std.specs.Prelude.{◌≡◌, ◌*◌, ◌<◌, ◌≤◌, All, IfSome, length, pos};
+ghost use Rattle.type_table.specs.declared.measure.TheConstants.{SIZE_LIMIT};
+ghost use Rattle.run_flat.specs.declared.action.TheConstants.{TERMS};
+ghost use Rattle.run_operands.specs.declared.counted.TheConstants.{NO_SIGN_BELOW};
 ghost use Rattle.run_operands.specs.Open.{count_at, index_count, is_counted, leaf_count, led, led_by, number_count};
 
 use crate::steps::Step;
 use ir_eval::Scalar;
 use run_stack::Origin;
 
+/// Numbers below this have no sign at any width of 32 bits or more.
+const NO_SIGN_BELOW: u128 = 2_147_483_648;
+
 /// A number that has no sign at any width of 32 bits or more.
 fn number_count(number: u128) -> Option<u32>
     ensures value { result ≡ number_count number }
-    ensures below { IfSome result (λ count. count < 2 ^ 31) }
+    ensures below { IfSome result (λ count. count < NO_SIGN_BELOW) }
 {
-    if number < 2_147_483_648 {
+    if number < NO_SIGN_BELOW {
         return Some(number as u32);
     }
     None
@@ -20,7 +26,7 @@ fn number_count(number: u128) -> Option<u32>
 /// The same of a leaf.
 fn leaf_count(leaf: Scalar) -> Option<u32>
     ensures value { result ≡ leaf_count leaf }
-    ensures below { IfSome result (λ count. count < 2 ^ 31) }
+    ensures below { IfSome result (λ count. count < NO_SIGN_BELOW) }
 {
     match leaf {
         Scalar::Int(number) => number_count(number),
@@ -32,7 +38,7 @@ fn leaf_count(leaf: Scalar) -> Option<u32>
 /// The same of an index, where it is known.
 fn index_count(index: Origin) -> Option<u32>
     ensures value { result ≡ index_count index }
-    ensures below { IfSome result (λ count. count < 2 ^ 31) }
+    ensures below { IfSome result (λ count. count < NO_SIGN_BELOW) }
 {
     match index {
         Origin::Held(_) => None,
@@ -44,7 +50,7 @@ fn index_count(index: Origin) -> Option<u32>
 /// of 32 bits or more: these have no sign, and reach as far as they say.
 fn count_at(index: Origin, width: u8) -> Option<u32>
     ensures value { result ≡ count_at index width }
-    ensures below { IfSome result (λ count. count < 2 ^ 31) }
+    ensures below { IfSome result (λ count. count < NO_SIGN_BELOW) }
 {
     if width < 32 {
         return None;
@@ -64,19 +70,19 @@ pub(crate) fn is_counted(index: Origin, width: u8) -> bool
 
 /// So many times so many bytes.
 fn product(count: u32, size: u64) -> u128
-    requires count { count < 2 ^ 31 }
-    requires size { size ≤ 2 ^ 40 }
+    requires count { count < NO_SIGN_BELOW }
+    requires size { size ≤ SIZE_LIMIT }
     ensures value { result ≡ count * size }
-    ensures near { result ≤ 2 ^ 71 }
+    ensures near { result ≤ NO_SIGN_BELOW * SIZE_LIMIT }
 {
     count as u128 * size as u128
 }
 
 /// How many bytes a step leads over whose index is known, and 0 of another.
 fn lead(step: Step) -> u128
-    requires { step.size ≤ 2 ^ 40 }
+    requires { step.size ≤ SIZE_LIMIT }
     ensures value { result ≡ led step }
-    ensures near { result ≤ 2 ^ 71 }
+    ensures near { result ≤ NO_SIGN_BELOW * SIZE_LIMIT }
 {
     match count_at(step.index, step.width) {
         Some(count) => product(count, step.size),
@@ -86,10 +92,10 @@ fn lead(step: Step) -> u128
 
 /// How many bytes all those steps together lead over whose index is known.
 pub(crate) fn lead_of_all(steps: &[Step]) -> i128
-    requires sizes { All (λ s. s.size ≤ 2 ^ 40) steps.now }
-    requires few { length steps.now ≤ 2 ^ 20 }
+    requires sizes { All (λ s. s.size ≤ SIZE_LIMIT) steps.now }
+    requires few { length steps.now ≤ TERMS }
     ensures value { result ≡ pos (led_by steps.now) }
-    ensures near { led_by steps.now ≤ 2 ^ 91 }
+    ensures near { led_by steps.now ≤ TERMS * (NO_SIGN_BELOW * SIZE_LIMIT) }
 {
     let mut all: u128 = 0;
     'leads: for step in steps {

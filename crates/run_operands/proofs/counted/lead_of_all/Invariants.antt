@@ -1,4 +1,6 @@
-use Rattle.std.proofs.Common.{◌≡◌, ◌+◌, ◌*◌, ◌^◌, ◌≤◌, drop, length}
+use Rattle.std.proofs.Common.{◌≡◌, ◌+◌, ◌*◌, ◌≤◌, drop, length}
+use Rattle.type_table.specs.declared.measure.TheConstants.{SIZE_LIMIT}
+use Rattle.run_operands.specs.declared.counted.TheConstants.{NO_SIGN_BELOW}
 use Rattle.run_operands.specs.Open.{led_by}
 use Rattle.run_operands.proofs.counted.lead_of_all.Given as goal
 
@@ -6,6 +8,6 @@ use Rattle.run_operands.proofs.counted.lead_of_all.Given as goal
 abbrev pub invariant-leads : goal.invariant-leads
 invariant-leads l = record {
   led : l.all + led_by (drop l.step-index l.steps) ≡ led_by l.steps;
-  near : l.all ≤ l.step-index * 2 ^ 71;
+  near : l.all ≤ l.step-index * (NO_SIGN_BELOW * SIZE_LIMIT);
   within : l.step-index ≤ length l.steps;
 }

@@ -1,6 +1,7 @@
-use Rattle.std.proofs.Common.{◌^◌, ◌≤◌, List, All, ap, sym, ◌∙◌, subst, arith}
+use Rattle.std.proofs.Common.{◌≤◌, List, All, ap, sym, ◌∙◌, subst, arith}
 use Rattle.std.proofs.lemmas.List.Elements.{All-push}
 use Rattle.module_arena.specs.declared.instruction.Operand.{Operand}
+use Rattle.type_table.specs.declared.measure.TheConstants.{SIZE_LIMIT}
 use Rattle.type_table.specs.Types.{Types}
 use Rattle.run_rules.specs.Displace.{inner_term, known, number_of}
 use Rattle.run_rules.specs.Leaves.{element, width}
@@ -38,7 +39,7 @@ indices-preserved c =
       terms =
           one_further (λ (o : Operand). index_in (scope_in a s.function) (operand_of a s.function o)) c.args.indices.now c.indices.operand-index x x (shape_at a.table place) (shape_at a.table c.place_behind-place.result)
           c.indices.into.items c.push.new.self.items c.step_from-step.result _ c.indices-test.true c.operand-item.is term shape c.in_ok-push.ensures.items c.indices.invariant.terms;
-      small = subst (λ (l : List Step). All (λ (t : Step). t.size ≤ 2 ^ 40) l) (sym c.in_ok-push.ensures.items) (All-push (λ (t : Step). t.size ≤ 2 ^ 40) c.indices.into.items c.step_from-step.result c.indices.invariant.small c.step_from-step.ensures.small);
+      small = subst (λ (l : List Step). All (λ (t : Step). t.size ≤ SIZE_LIMIT) l) (sym c.in_ok-push.ensures.items) (All-push (λ (t : Step). t.size ≤ SIZE_LIMIT) c.indices.into.items c.step_from-step.result c.indices.invariant.small c.step_from-step.ensures.small);
     }
 
 pub returns-clause-terms : goal.returns-clause-terms

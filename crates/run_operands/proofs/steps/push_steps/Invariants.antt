@@ -1,4 +1,5 @@
-use Rattle.std.proofs.Common.{◌≡◌, ◌^◌, ◌≤◌, ◌++◌, All, drop, map}
+use Rattle.std.proofs.Common.{◌≡◌, ◌≤◌, ◌++◌, All, drop, map}
+use Rattle.type_table.specs.declared.measure.TheConstants.{SIZE_LIMIT}
 use Rattle.type_table.specs.Shape.{array_of}
 use Rattle.run_rules.specs.Displace.{inner_terms}
 use Rattle.run_rules.specs.Resolve.{index_in}
@@ -15,5 +16,5 @@ invariant-indices l = record {
       ++ inner_terms (shape_at l.scope.lists.table l.place) (map (λ o. index_in (scope_in l.scope.lists l.scope.function) (operand_of l.scope.lists l.scope.function o)) (drop l.operand-index l.indices))
       ≡ map term_of l.fn.into.items
       ++ inner_terms (array_of 0 (shape_in l.scope.lists.table l.fn.source)) (map (λ o. index_in (scope_in l.scope.lists l.scope.function) (operand_of l.scope.lists l.scope.function o)) l.indices);
-  small : All (λ s. s.size ≤ 2 ^ 40) l.into.items;
+  small : All (λ s. s.size ≤ SIZE_LIMIT) l.into.items;
 }
