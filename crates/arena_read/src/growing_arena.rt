@@ -5,6 +5,7 @@ ghost use Rattle.type_table.specs.Types.{IsKnown, with_type};
 ghost use Rattle.module_arena.specs.Changes.{constant_in, with_constant, with_table};
 ghost use Rattle.module_arena.specs.Known.{KnowsConst, counts};
 ghost use Rattle.module_arena.specs.View.{module_of};
+ghost use Rattle.arena_read.specs.declared.recent.TheConstants.{SLOT_COUNT};
 ghost use Rattle.arena_read.specs.Growing.{AddsConstant, IsConstant, IsOver, IsType};
 
 use crate::recent::Recent;
@@ -71,7 +72,7 @@ fn is_at(arena: &Arena, id: ConstId, constant: &Const) -> bool
 
 /// Where the constant is, if it was added lately.
 fn remembered(arena: &Arena, recent: &Recent, slot: usize, constant: &Const) -> Option<ConstId>
-    requires { slot < 16384 }
+    requires { slot < SLOT_COUNT }
     ensures { IfSome result (λ id. IsConstant arena.now id (constant_in arena.now constant.now)) }
 {
     let id = recent.get(slot)?;

@@ -17,7 +17,7 @@ use std::alloc::AllocError;
 use type_table::TypeId;
 
 /// One more than the greatest number that an operand holds.
-const HALF: u128 = 1 << 64;
+pub(crate) const HALF: u128 = 1 << 64;
 
 /// Whether the number has at most so many bits.
 fn fits(number: u128, width: u8) -> bool

@@ -1,20 +1,19 @@
 //! Constants that may be used again.
 ghost use Rattle.std.specs.Prelude.{◌≡◌, ◌<◌, IfSome, vec_len};
+ghost use Rattle.arena_read.specs.declared.recent.TheConstants.{SLOT_COUNT};
 
+use crate::leaves::HALF;
 use module_arena::{Const, ConstId, GlobalId};
 use std::alloc::{AllocError, Global};
 
 /// How many constants are remembered.
 const SLOT_COUNT: usize = 16_384;
 
-/// One more than the greatest number of 64 bits.
-const HALF: u128 = 1 << 64;
-
 /// For some short constants, the id of one that was added lately. Whether it is the wanted one is asked of the arena.
 #[derive(Drop)]
 pub(crate) struct Recent {
     slots: Vec<Option<ConstId>>,
-    ghost all: { vec_len slots ≡ 16384 },
+    ghost all: { vec_len slots ≡ SLOT_COUNT },
 }
 
 /// A number that entries differ in where they can.
@@ -51,7 +50,7 @@ impl Recent {
 
     /// Where a constant is remembered, if it is short.
     pub(crate) fn slot_of(constant: &Const) -> Option<usize>
-        ensures { IfSome result (λ slot. slot < 16384) }
+        ensures { IfSome result (λ slot. slot < SLOT_COUNT) }
     {
         let key = key_of(constant)?;
         Some(((key ^ (key >> 20)) % SLOT_COUNT as u64) as usize)
@@ -59,14 +58,14 @@ impl Recent {
 
     /// The constant that is remembered there.
     pub(crate) fn get(&self, slot: usize) -> Option<ConstId>
-        requires { slot < 16384 }
+        requires { slot < SLOT_COUNT }
     {
         self.slots[slot]
     }
 
     /// Remembers a constant there.
     pub(crate) fn set(&mut self, slot: usize, id: ConstId)
-        requires { slot < 16384 }
+        requires { slot < SLOT_COUNT }
     {
         self.slots[slot] = Some(id);
     }
