@@ -4,6 +4,7 @@ use Rattle.std.specs.Prelude.{slice_get}
 use Rattle.std.specs.Option.{option_map_or}
 use Rattle.std.specs.List.{AllByRecursion}
 use Rattle.std.proofs.lemmas.Bool.{and_from, and_parts, or_right, both_ways, cond-true}
+use Rattle.linkage_rules.proofs.Gathered.{all_joined}
 use Rattle.type_table.specs.Tree.{Tree, array}
 use Rattle.type_table.specs.Shape.{Shape, array_of, nesting, shape}
 use Rattle.type_table.specs.Layout.{size, has_layout}
@@ -30,7 +31,7 @@ use Rattle.module_linker.specs.Structs.{new_struct, linked_type}
 use Rattle.module_linker.specs.Linked.{linked_pieces, linked_definition, link_result}
 use Rattle.module_linker.proofs.Bound.{symbol_at}
 use Rattle.linked_is_valid.specs.Laws.{AreLinkable, LinkedIsWellFormed}
-use Rattle.linked_is_valid.proofs.Lists.{all_tests, all_tested, all_of_append}
+use Rattle.linked_is_valid.proofs.Lists.{all_tests, all_tested}
 use Rattle.linked_is_valid.proofs.Types.{KnownTree, nameless_same, shape_same}
 use Rattle.linked_is_valid.proofs.Known.{AllGood, GoodParts, good_variable, variable_constants, variable_type_known, all_at}
 use Rattle.linked_is_valid.proofs.Good.{good_type_kept, constant_good}
@@ -83,7 +84,7 @@ record GoodList (m : Module) (cs : Constants) : Type 0 where
 good_after : (m : Module) (cs ds : Constants) → GoodList m cs → GoodList m ds → GoodList m (after cs ds)
 good_after m cs ds a b = record {
   shallow = subst IsShallow (sym (depth_after cs ds)) (both_shallow (greatest_depth cs) (greatest_depth ds) a.shallow b.shallow);
-  good = subst (GoodParts m) (sym (constants_after cs ds)) (all_of_append _ (constants_of cs) (constants_of ds) a.good b.good);
+  good = subst (GoodParts m) (sym (constants_after cs ds)) (all_joined _ (constants_of cs) (constants_of ds) a.good b.good);
 }
 
 module _ (parts : List Module) (fine : AreLinkable parts) (t : Tree) where

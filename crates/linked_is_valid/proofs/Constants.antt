@@ -3,6 +3,7 @@ use Rattle.std.proofs.Common.{◌≡◌, ℕ, Bool, true, false, ◌&&◌, List,
 use Rattle.std.specs.Prelude.{if◌then◌else◌, nat_lt, nat_eq, ◌-◌, ⊤}
 use Rattle.std.specs.List.{list_all, AllByRecursion}
 use Rattle.std.proofs.lemmas.Bool.{and_from, and_parts}
+use Rattle.linkage_rules.proofs.Gathered.{all_joined}
 use Rattle.ir_tables.specs.declared.opcode.Opcode.{Opcode}
 use Rattle.ir_tables.specs.declared.opcode.Opcode.TheVariants.{Trunc, ZExt, SExt, PtrToInt, IntToPtr}
 use Rattle.type_table.specs.Tree.{Tree, int, ptr, void, array, struct, named, Trees, no_trees, more_trees, Structs}
@@ -15,7 +16,7 @@ use Rattle.module_arena.specs.Same.{same_type}
 use Rattle.module_arena.specs.TypeTests.{is_integer, is_integer_of, is_pointer, is_free_of_void, is_passable, opened, field_type, is_type}
 use Rattle.module_arena.specs.Constants.{Typed, constants_in, constants_of, address_in, is_cast_between, Index, written_number, indexed, leads_to_part, indices_fit, index_constants, element_operands_fit, Expected, each, these, as_written, nothing, expected, is_bytes_of, fits, parts_fit, is_pointer_constant}
 use Rattle.module_arena.specs.EntryRules.{constant_types, types_written_suit, constant_types_suit}
-use Rattle.linked_is_valid.proofs.Lists.{map_append, all_of_append, all_kept}
+use Rattle.linked_is_valid.proofs.Lists.{map_append, all_kept}
 use Rattle.linked_is_valid.proofs.Types.{KnownTree, AllKnown, KnownPart, KeepsStructs, integer_same, width_same, pointer_same, void_free_same, sameness_kept, field_same, field_known, opened_same, opened_known, memory_same, passable_same}
 
 abbrev mutual
@@ -57,12 +58,12 @@ mutual
   within_known structs t (ElementAddress flags source operands) k l = ((k, l), all_within_known structs operands l.1)
   within_known structs t (Cast opcode from value to) k l = ((k, l), within_known structs from value l.0 l.1)
   within_known structs t (Binary opcode flags a left b right) k l =
-      ((k, l), all_of_append (KnownTyped structs) (constants_in a left) (constants_in b right) (within_known structs a left l.0 l.1.0) (within_known structs b right l.1.1.0 l.1.1.1))
+      ((k, l), all_joined (KnownTyped structs) (constants_in a left) (constants_in b right) (within_known structs a left l.0 l.1.0) (within_known structs b right l.1.1.0 l.1.1.1))
 
   pub all_within_known : (structs : Structs) (cs : Constants) → KnownConstants structs cs → AllByRecursion (KnownTyped structs) (constants_of cs)
   all_within_known structs no_constants k = tt
   all_within_known structs (more_constants t c cs) k =
-      all_of_append (KnownTyped structs) (constants_in t c) (constants_of cs) (within_known structs t c k.0 k.1.0) (all_within_known structs cs k.1.1)
+      all_joined (KnownTyped structs) (constants_in t c) (constants_of cs) (within_known structs t c k.0 k.1.0) (all_within_known structs cs k.1.1)
 
 module _ (names globals : Bytes → Bytes) where
   abbrev pub renamed_typed : Typed → Typed

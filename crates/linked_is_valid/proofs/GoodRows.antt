@@ -4,6 +4,7 @@ use Rattle.std.specs.Prelude.{slice_get}
 use Rattle.std.specs.Option.{option_or}
 use Rattle.std.specs.List.{AllByRecursion}
 use Rattle.std.proofs.lemmas.Bool.{and_from, and_parts, cases_Bool, both_ways, cond-false}
+use Rattle.linkage_rules.proofs.Gathered.{all_joined}
 use Rattle.module_arena.specs.Module.{Bytes, Variable, Function, Module}
 use Rattle.module_arena.specs.Functions.{blocks}
 use Rattle.module_arena.specs.WellFormed.{is_good_text, is_good_variable, is_good_alias, is_good_function, is_good_constant, known_of_block, known_of_variable, IsWellFormed}
@@ -22,7 +23,7 @@ use Rattle.module_linker.specs.Linked.{linked_constant, joined_type, joined_init
 use Rattle.module_linker.proofs.Merged.{Row}
 use Rattle.module_linker.proofs.Bound.{has_first}
 use Rattle.linked_is_valid.specs.Laws.{AreLinkable}
-use Rattle.linked_is_valid.proofs.Lists.{all_follow, all_tested, all_of_append}
+use Rattle.linked_is_valid.proofs.Lists.{all_follow, all_tested}
 use Rattle.linked_is_valid.proofs.Known.{AllGood}
 use Rattle.linked_is_valid.proofs.Entries.{renamed_variable}
 use Rattle.linked_is_valid.proofs.PartEntries.{HasAt, EntryHolds, entries_at}
@@ -105,13 +106,13 @@ module _ (parts : List Module) (fine : AreLinkable parts) (appended : AppendedGo
 
 variables_good : (m : Module) (gs : List Global) → AllByRecursion (EntryGood m) gs → AllByRecursion (λ v. is_good_variable m v ≡ true) (filter_map variable_if gs) × AllGood m (flat_map known_of_variable (filter_map variable_if gs))
 variables_good m [] a = (tt, tt)
-variables_good m (OfVariable v ∷ gs) a = let rest = variables_good m gs a.1 in ((a.0.0, rest.0), all_of_append _ (known_of_variable v) (flat_map known_of_variable (filter_map variable_if gs)) a.0.1 rest.1)
+variables_good m (OfVariable v ∷ gs) a = let rest = variables_good m gs a.1 in ((a.0.0, rest.0), all_joined _ (known_of_variable v) (flat_map known_of_variable (filter_map variable_if gs)) a.0.1 rest.1)
 variables_good m (OfFunction f ∷ gs) a = variables_good m gs a.1
 variables_good m (OfAlias b ∷ gs) a = variables_good m gs a.1
 
 functions_good : (m : Module) (gs : List Global) → AllByRecursion (EntryGood m) gs → AllByRecursion (λ f. is_good_function m f ≡ true) (filter_map function_if gs) × AllGood m (flat_map (λ (f : Function). flat_map known_of_block (blocks f)) (filter_map function_if gs))
 functions_good m [] a = (tt, tt)
-functions_good m (OfFunction f ∷ gs) a = let rest = functions_good m gs a.1 in ((a.0.0, rest.0), all_of_append _ (flat_map known_of_block (blocks f)) (flat_map (λ (h : Function). flat_map known_of_block (blocks h)) (filter_map function_if gs)) a.0.1 rest.1)
+functions_good m (OfFunction f ∷ gs) a = let rest = functions_good m gs a.1 in ((a.0.0, rest.0), all_joined _ (flat_map known_of_block (blocks f)) (flat_map (λ (h : Function). flat_map known_of_block (blocks h)) (filter_map function_if gs)) a.0.1 rest.1)
 functions_good m (OfVariable v ∷ gs) a = functions_good m gs a.1
 functions_good m (OfAlias b ∷ gs) a = functions_good m gs a.1
 
@@ -148,5 +149,5 @@ linked_is_well_formed parts fine few appended =
       variables = all_tested (is_good_variable m) m.variables vs.0;
       aliases = all_tested (is_good_alias m) m.aliases (aliases_good m (linked_globals parts) all);
       functions = all_tested (is_good_function m) m.functions fs.0;
-      constants = all_tested (is_good_constant m) _ (all_of_append _ (flat_map known_of_variable m.variables) (flat_map (λ (f : Function). flat_map known_of_block (blocks f)) m.functions) vs.1 fs.1);
+      constants = all_tested (is_good_constant m) _ (all_joined _ (flat_map known_of_variable m.variables) (flat_map (λ (f : Function). flat_map known_of_block (blocks f)) m.functions) vs.1 fs.1);
     }

@@ -6,6 +6,7 @@ use Rattle.std.specs.Int.Digits.{digits_of}
 use Rattle.std.proofs.lemmas.Int.Digits.{all_below_base_digits_of}
 use Rattle.std.proofs.lemmas.Bool.{and_from, and_parts, cases_Bool, cond-true, cond-false, not_from_false}
 use Rattle.std.proofs.lemmas.Option.{slice_get-map}
+use Rattle.linkage_rules.proofs.Gathered.{all_joined}
 use Rattle.ir_tables.specs.Table.{is_distinct}
 use Rattle.type_table.proofs.Rooms.{unmapped}
 use Rattle.module_arena.specs.Module.{Bytes, Module}
@@ -31,7 +32,7 @@ use Rattle.module_linker.proofs.Merged.{Row, names, linked_name}
 use Rattle.module_linker.proofs.Result.{globals_merged}
 use Rattle.type_table.specs.Tree.{Structs}
 use Rattle.linked_is_valid.specs.Laws.{AreLinkable}
-use Rattle.linked_is_valid.proofs.Lists.{map_map, all_follow, all_tests, all_tested, all_of_map, all_of_append, all_in_front, all_behind}
+use Rattle.linked_is_valid.proofs.Lists.{map_map, all_follow, all_tests, all_tested, all_of_map, all_in_front, all_behind}
 use Rattle.linked_is_valid.proofs.Linking.{names_of, apart_parts, apart_together, cross_back, cross_front, Cross}
 use Rattle.linked_is_valid.proofs.Renaming.{together}
 use Rattle.linked_is_valid.proofs.Callees.{local_symbol, shared_symbol}
@@ -107,7 +108,7 @@ module _ (parts : List Module) (fine : AreLinkable parts) (digits : (n : ℕ) �
   struct_symbols_good : (i : ℕ) (ms : List Module) → AllByRecursion IsWellFormed ms → AllByRecursion (λ s. is_name (symbol_name s) ≡ true) (structs_from i ms)
   struct_symbols_good i [] a = tt
   struct_symbols_good i (m ∷ ms) a =
-      all_of_append _ (map (λ s. Local i s.0) m.structs) (structs_from (suc i) ms)
+      all_joined _ (map (λ s. Local i s.0) m.structs) (structs_from (suc i) ms)
       (each m.structs (and_parts (list_all is_name (struct_names m)) _ a.0.struct_names).0)
       (struct_symbols_good (suc i) ms a.1)
     where
@@ -134,8 +135,8 @@ module _ (parts : List Module) (fine : AreLinkable parts) (digits : (n : ℕ) �
       let rest = all_behind _ (variable_names m) (alias_names m ++ function_names m) good in
       let as_ = all_in_front _ (alias_names m) (function_names m) rest in
       let fs = all_behind _ (alias_names m) (function_names m) rest in
-      all_of_append _ (map (λ g. let e : Entry = record { part = i; global = g } in e) (globals m)) (entries_from (suc i) ms)
-      (placed (globals m) (subst (AllByRecursion (λ n. is_name n ≡ true)) (sym (names_of m.variables m.functions m.aliases)) (all_of_append _ (variable_names m ++ function_names m) (alias_names m) (all_of_append _ (variable_names m) (function_names m) vs fs) as_)))
+      all_joined _ (map (λ g. let e : Entry = record { part = i; global = g } in e) (globals m)) (entries_from (suc i) ms)
+      (placed (globals m) (subst (AllByRecursion (λ n. is_name n ≡ true)) (sym (names_of m.variables m.functions m.aliases)) (all_joined _ (variable_names m ++ function_names m) (alias_names m) (all_joined _ (variable_names m) (function_names m) vs fs) as_)))
       (entry_names (suc i) ms a.1)
     where
       placed : (gs : List Global) → AllByRecursion (λ n. is_name n ≡ true) (map name_of gs) → AllByRecursion (λ e. is_name (name_of e.global) ≡ true) (map (λ g. let e : Entry = record { part = i; global = g } in e) gs)
@@ -175,6 +176,6 @@ module _ (parts : List Module) (fine : AreLinkable parts) (digits : (n : ℕ) �
       let both = all_in_front _ (variable_names m ++ function_names m) (alias_names m) good in
       and_from _ _
       (all_tested is_name (global_names m)
-      (all_of_append _ (variable_names m) (alias_names m ++ function_names m) (all_in_front _ (variable_names m) (function_names m) both)
-      (all_of_append _ (alias_names m) (function_names m) (all_behind _ (variable_names m ++ function_names m) (alias_names m) good) (all_behind _ (variable_names m) (function_names m) both))))
+      (all_joined _ (variable_names m) (alias_names m ++ function_names m) (all_in_front _ (variable_names m) (function_names m) both)
+      (all_joined _ (alias_names m) (function_names m) (all_behind _ (variable_names m ++ function_names m) (alias_names m) good) (all_behind _ (variable_names m) (function_names m) both))))
       (apart_distinct (global_names m) (in_order (variable_names m) (function_names m) (alias_names m) (subst (Apart bytes_eq) (sym merged_names) (names parts))))

@@ -5,6 +5,7 @@ use Rattle.std.specs.List.{AllByRecursion}
 use Rattle.std.specs.Map.{lookup}
 use Rattle.std.proofs.lemmas.Bool.{and_from, and_parts, or_left, or_right}
 use Rattle.std.proofs.lemmas.Option.{slice_get-map}
+use Rattle.linkage_rules.proofs.Gathered.{all_joined}
 use Rattle.type_table.specs.Tree.{named, TreeBody, opaque_body, fields, Structs, body_of}
 use Rattle.module_arena.specs.Module.{Bytes, Module, empty_module}
 use Rattle.module_arena.specs.Renamed.{renamed_body}
@@ -22,7 +23,7 @@ use Rattle.module_linker.specs.Structs.{structs_from, struct_symbols, same_struc
 use Rattle.module_linker.specs.Linked.{link_result}
 use Rattle.module_linker.proofs.StructRows.{Key, same_key, key_self, key_exact, key, first_keys, first_structs, struct_keys}
 use Rattle.linked_is_valid.specs.Laws.{AreLinkable}
-use Rattle.linked_is_valid.proofs.Lists.{map_map, all_follow, all_tests, all_tested, all_of_map, all_of_append}
+use Rattle.linked_is_valid.proofs.Lists.{map_map, all_follow, all_tests, all_tested, all_of_map}
 use Rattle.linked_is_valid.proofs.Types.{has_struct}
 use Rattle.linked_is_valid.proofs.Known.{body_has}
 use Rattle.linked_is_valid.proofs.Good.{types_good, good_type_kept}
@@ -47,7 +48,7 @@ own_structs i m look at (s ∷ structs) f = (
 structs_are : (i : ℕ) (ms : List Module) (look : ℕ → Module) → ((k : ℕ) → look (i + k) ≡ slice_index_or ms k empty_module) → AllByRecursion (IsStructOf look) (structs_from i ms)
 structs_are i [] look same = tt
 structs_are i (m ∷ ms) look same =
-    all_of_append _ (map (λ s. Local i s.0) m.structs) (structs_from (suc i) ms)
+    all_joined _ (map (λ s. Local i s.0) m.structs) (structs_from (suc i) ms)
     (own_structs i m look (ap look zero_more ∙ same 0) m.structs (λ name h. h))
     (structs_are (suc i) ms look (λ k. ap look (moved k) ∙ same (suc k)))
   where

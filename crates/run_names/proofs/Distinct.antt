@@ -3,15 +3,12 @@ use Rattle.std.proofs.Common.{◌≡◌, List, [], ◌∷◌, ◌++◌, Bool, tr
 use Rattle.std.specs.Prelude.{⊤}
 use Rattle.std.specs.List.{AllByRecursion, list_any}
 use Rattle.std.proofs.lemmas.Bool.{and_parts, or_parts}
+use Rattle.linkage_rules.proofs.Gathered.{all_joined}
 use Rattle.ir_tables.specs.Table.{is_distinct}
 
 not_is : (b : Bool) → not b ≡ true → b ≡ false
 not_is true h = sym h
 not_is false h = refl
-
-all_apart : {A : Type 0} (P : A → Type 0) (xs ys : List A) → AllByRecursion P xs → AllByRecursion P ys → AllByRecursion P (xs ++ ys)
-all_apart P [] ys h g = g
-all_apart P (x ∷ xs) ys h g = (h.0, all_apart P xs ys h.1 g)
 
 all_front : {A : Type 0} (P : A → Type 0) (xs ys : List A) → AllByRecursion P (xs ++ ys) → AllByRecursion P xs × AllByRecursion P ys
 all_front P [] ys h = (tt, h)
@@ -45,7 +42,7 @@ module _ {A : Type 0} (same : A → A → Bool) where
 
   pub joined : (xs ys : List A) → Distinct xs → Distinct ys → Cross xs ys → Distinct (xs ++ ys)
   joined [] ys h g c = g
-  joined (x ∷ xs) ys h g c = (all_apart (λ y. same x y ≡ false) xs ys h.0 c.0, joined xs ys h.1 g c.1)
+  joined (x ∷ xs) ys h g c = (all_joined (λ y. same x y ≡ false) xs ys h.0 c.0, joined xs ys h.1 g c.1)
 
   module _ (turned : (x y : A) → same x y ≡ false → same y x ≡ false) where
     none_crossed : (ys : List A) → Cross ys []
@@ -69,4 +66,4 @@ module _ {A : Type 0} (same : A → A → Bool) where
       where
         both : (ws : List A) → Cross ws (ys ++ zs) → Cross ws (zs ++ ys)
         both [] c = tt
-        both (w ∷ ws) c = let f = all_front (λ y. same w y ≡ false) ys zs c.0 in (all_apart (λ y. same w y ≡ false) zs ys f.1 f.0, both ws c.1)
+        both (w ∷ ws) c = let f = all_front (λ y. same w y ≡ false) ys zs c.0 in (all_joined (λ y. same w y ≡ false) zs ys f.1 f.0, both ws c.1)

@@ -17,10 +17,6 @@ at_place P [] k x h at = cc
 at_place P (y ∷ xs) zero x h at = subst P (same_Some y x at) h.0
 at_place P (y ∷ xs) (suc k) x h at = at_place P xs k x h.1 at
 
-pub all_append : {A : Type 0} (P : A → Type 0) (xs ys : List A) → AllByRecursion P xs → AllByRecursion P ys → AllByRecursion P (xs ++ ys)
-all_append P [] ys a b = b
-all_append P (x ∷ xs) ys a b = (a.0, all_append P xs ys a.1 b)
-
 pub front_at : {X : Type 0} (xs ys : List X) (k : ℕ) (x : X) → slice_get xs k ≡ Some x → slice_get (xs ++ ys) k ≡ Some x
 front_at [] ys k x e = cc
 front_at (y ∷ xs) ys zero x e = e

@@ -5,6 +5,7 @@ use Rattle.std.specs.List.{AllByRecursion, list_all, list_any}
 use Rattle.std.proofs.lemmas.Bool.{and_parts, cond-true, cond-false, or_right}
 use Rattle.std.proofs.lemmas.List.{map-append}
 use Rattle.std.proofs.lemmas.Option.{same_Some}
+use Rattle.linkage_rules.proofs.Gathered.{all_joined}
 use Rattle.ir_tables.specs.Table.{is_distinct}
 use Rattle.ir_tables.specs.declared.linkage.Linkage.{Linkage}
 use Rattle.ir_tables.specs.declared.linkage.Linkage.TheVariants.{External, Private, Internal}
@@ -20,7 +21,7 @@ use Rattle.linkage_rules.specs.Linkages.{is_local, is_available_externally}
 use Rattle.linkage_rules.specs.SymbolLaws.{name_self, name_exact, symbol_exact, symbol_self}
 use Rattle.linkage_rules.specs.Symbols.{function_symbols, is_alias_symbol, plain_entries, variable_symbols}
 use Rattle.linkage_rules.specs.Winner.{is_definition}
-use Rattle.run_names.proofs.Listed.{all_from_places, all_append, at_place, any_there, none_there, front_at, behind_at, mapped_at}
+use Rattle.run_names.proofs.Listed.{all_from_places, at_place, any_there, none_there, front_at, behind_at, mapped_at}
 use Rattle.run_names.proofs.Apart.{AreApart, same_entry, all_first, own_kind, same_filter}
 use Rattle.run_names.proofs.Distinct.{Distinct, distinct_is, reordered}
 
@@ -164,8 +165,8 @@ module _ (m : Module) where
       → ((k : ℕ) (f : Function) → slice_get m.functions k ≡ Some f → P (entry (OfFunction f))) → ((k : ℕ) (x : Alias) → slice_get m.aliases k ≡ Some x → P (entry (OfAlias x))) → AllByRecursion P (entries (m ∷ []))
   entries_have P hv hf ha =
       subst (AllByRecursion P) (sym parted)
-      (all_append P variable_entries (function_entries ++ alias_entries) (all_of_kind P OfVariable m.variables hv)
-      (all_append P function_entries alias_entries (all_of_kind P OfFunction m.functions hf) (all_of_kind P OfAlias m.aliases ha)))
+      (all_joined P variable_entries (function_entries ++ alias_entries) (all_of_kind P OfVariable m.variables hv)
+      (all_joined P function_entries alias_entries (all_of_kind P OfFunction m.functions hf) (all_of_kind P OfAlias m.aliases ha)))
 
 module _ (m : Module) (well_formed : IsWellFormed m) (defined : AllByRecursion (λ (e : Entry). is_alias e.global ≡ true → is_definition e ≡ true) (entries (m ∷ []))) where
   abbrev parts : List Module

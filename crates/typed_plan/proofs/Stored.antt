@@ -31,19 +31,11 @@ use Rattle.run_rules.specs.Plan.{Contents, contents_from, contents_of}
 use Rattle.typed_runs.specs.Kinds.{IsOf, kinds_of}
 use Rattle.typed_runs.specs.States.{AreStored}
 use Rattle.typed_runs.proofs.Leaves.{none_some}
-use Rattle.typed_look.proofs.Constants.{is_sound, AreSound, constant_typed}
+use Rattle.typed_look.proofs.Constants.{is_sound, AreSound, constant_typed, front_all, back_all}
 use Rattle.typed_types.proofs.Sounds.{constant_sound}
 use Rattle.typed_types.proofs.Within.{same_kinds}
 use Rattle.typed_plan.proofs.Addresses.{address_typed}
 use Rattle.typed_plan.proofs.Entries.{first_part, entries_all}
-
-front_all : {X : Type 0} (p : X → Bool) (xs ys : List X) → list_all p (xs ++ ys) ≡ true → list_all p xs ≡ true
-front_all p [] ys h = refl
-front_all p (x ∷ xs) ys h = let q = and_parts (p x) (list_all p (xs ++ ys)) h in subst (λ b. (b && list_all p xs) ≡ true) (sym q.0) (front_all p xs ys q.1)
-
-back_all : {X : Type 0} (p : X → Bool) (xs ys : List X) → list_all p (xs ++ ys) ≡ true → list_all p ys ≡ true
-back_all p [] ys h = h
-back_all p (x ∷ xs) ys h = back_all p xs ys (and_parts (p x) (list_all p (xs ++ ys)) h).1
 
 all_of_part : {X Y : Type 0} (p : Y → Bool) (g : X → List Y) (xs : List X) (k : ℕ) (x : X) → list_all p (flat_map g xs) ≡ true → slice_get xs k ≡ Some x → list_all p (g x) ≡ true
 all_of_part p g [] k x h e = none_some x e
