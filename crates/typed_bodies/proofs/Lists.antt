@@ -4,7 +4,7 @@ use Rattle.std.specs.Prelude.{slice_get}
 use Rattle.std.specs.List.{list_all, list_any}
 use Rattle.std.proofs.lemmas.Bool.{and_parts, and_from, or_right}
 use Rattle.std.proofs.lemmas.Option.{same_Some}
-use Rattle.typed_runs.proofs.Leaves.{none_some}
+use Rattle.run_places.proofs.Options.{none_some}
 
 module _ {X : Type 0} where
   pub front_all : (p : X → Bool) (xs ys : List X) → list_all p (xs ++ ys) ≡ true → list_all p xs ≡ true

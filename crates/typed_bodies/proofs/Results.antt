@@ -5,6 +5,7 @@ use Rattle.std.specs.List.{list_any}
 use Rattle.std.specs.Option.{option_map_or}
 use Rattle.std.proofs.lemmas.Bool.{and_parts, and_from, or_parts}
 use Rattle.std.proofs.lemmas.Option.{same_Some}
+use Rattle.run_places.proofs.Options.{none_some}
 use Rattle.ir_tables.specs.Table.{is_distinct}
 use Rattle.type_table.specs.Layout.{leaves}
 use Rattle.type_table.specs.Shape.{Shape}
@@ -16,7 +17,6 @@ use Rattle.module_arena.proofs.SameNames.{same_self}
 use Rattle.run_rules.specs.Constant.{Names, shape_of}
 use Rattle.run_rules.specs.Scope.{Placed, Typed, placed_from, parameters_of, result_shape, result_of, results_of, blocks_of, locals_of, scope_of, local_in, place_in}
 use Rattle.typed_runs.specs.Kinds.{AreAt, kinds_of}
-use Rattle.typed_runs.proofs.Leaves.{none_some}
 use Rattle.typed_look.specs.Typings.{frame_kinds}
 use Rattle.typed_look.proofs.Locals.{local_at}
 use Rattle.typed_bodies.proofs.Lists.{any_there, behind_at, in_flat, mapped_at, mapped_append}

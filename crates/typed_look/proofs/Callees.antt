@@ -5,6 +5,7 @@ use Rattle.std.specs.List.{list_all}
 use Rattle.std.specs.Option.{option_map_or}
 use Rattle.std.proofs.lemmas.Bool.{and_parts}
 use Rattle.std.proofs.lemmas.Option.{same_Some}
+use Rattle.run_places.proofs.Options.{none_some}
 use Rattle.ir_memory.specs.declared.leaf.Leaf.{Leaf}
 use Rattle.module_arena.specs.EntryRules.{return_suits}
 use Rattle.module_arena.specs.declared.host.HostRow.{HostRow}
@@ -30,7 +31,6 @@ use Rattle.run_rules.specs.Scope.{Typed, results_of, blocks_of, locals_of}
 use Rattle.typed_runs.specs.Kinds.{kinds_of, kinds_of_all}
 use Rattle.typed_runs.specs.States.{IsTypedCallee}
 use Rattle.typed_look.specs.Typings.{frame_kinds, typing_of}
-use Rattle.typed_runs.proofs.Leaves.{none_some}
 use Rattle.run_places.proofs.Mains.{OnFunction, functions_all}
 use Rattle.run_places.proofs.Parts.{AreValid, code_begins}
 use Rattle.typed_look.proofs.Rows.{row_is}

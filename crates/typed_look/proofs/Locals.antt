@@ -4,6 +4,7 @@ use Rattle.std.specs.Prelude.{slice_get, find}
 use Rattle.std.specs.List.{range_with_len}
 use Rattle.std.proofs.lemmas.List.{length-append}
 use Rattle.std.proofs.lemmas.Option.{same_Some}
+use Rattle.run_places.proofs.Options.{none_some}
 use Rattle.ir_memory.specs.declared.leaf.Leaf.{Leaf}
 use Rattle.type_table.specs.Layout.{leaves}
 use Rattle.module_arena.specs.Module.{LocalName, Function}
@@ -14,7 +15,6 @@ use Rattle.run_rules.specs.Scope.{Placed, Typed, placed_from, locals_of, scope_o
 use Rattle.typed_runs.specs.Actions.{Typing, AreOrigins}
 use Rattle.typed_runs.specs.Kinds.{AreAt, kinds_of, kinds_of_all}
 use Rattle.typed_look.specs.Typings.{frame_kinds}
-use Rattle.typed_runs.proofs.Leaves.{none_some}
 use Rattle.typed_look.proofs.Widths.{kinds_length}
 
 -- what stands behind others, and in front of others

@@ -3,6 +3,7 @@ use Rattle.std.proofs.Common.{◌≡◌, ℕ, zero, suc, List, [], ◌∷◌, re
 use Rattle.std.specs.Prelude.{option_and_then}
 use Rattle.std.specs.Option.{option_map}
 use Rattle.std.proofs.lemmas.Option.{same_Some}
+use Rattle.run_places.proofs.Options.{none_some}
 use Rattle.type_table.specs.Shape.{Shape, void_leaf, array_of, struct_of, Shapes, with_first, expanded, all_expanded, body_shape, name_shape, shape}
 use Rattle.type_table.specs.Tree.{Tree, int, ptr, void, array, struct, named, Trees, no_trees, more_trees, TreeBody, opaque_body, fields, Structs, body_of}
 use Rattle.type_table.proofs.Outlined.{name_keeps}
@@ -10,7 +11,6 @@ use Rattle.type_table.proofs.Rooms.{unmapped, unjoined, name_shape-suc}
 use Rattle.module_arena.specs.TypeTests.{struct_of_body, opened, field_type, part_type, part_at}
 use Rattle.run_rules.specs.Constant.{Names, shape_of}
 use Rattle.run_rules.specs.Leaves.{element, field, part}
-use Rattle.typed_runs.proofs.Leaves.{none_some}
 use Rattle.typed_look.proofs.Operands.{PartsHaveShapes}
 
 module _ (f g : List ℕ → Option Shape) (keep : (n : List ℕ) (x : Shape) → f n ≡ Some x → g n ≡ Some x) where

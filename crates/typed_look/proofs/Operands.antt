@@ -4,6 +4,7 @@ use Rattle.std.specs.Prelude.{find, ⊤}
 use Rattle.std.specs.List.{AllZip, AllByRecursion}
 use Rattle.std.specs.Option.{option_map_or}
 use Rattle.std.proofs.lemmas.Option.{same_Some}
+use Rattle.run_places.proofs.Options.{none_some}
 use Rattle.type_table.specs.Layout.{leaves}
 use Rattle.type_table.specs.Shape.{shape}
 use Rattle.type_table.specs.Tree.{Tree, Structs}
@@ -22,7 +23,6 @@ use Rattle.run_rules.specs.Scope.{Placed, Typed, placed_from, parameters_of, res
 use Rattle.typed_runs.specs.Actions.{Typing, AreOrigins}
 use Rattle.typed_runs.specs.Kinds.{kinds_of}
 use Rattle.typed_look.specs.Typings.{frame_kinds}
-use Rattle.typed_runs.proofs.Leaves.{none_some}
 use Rattle.typed_look.proofs.Locals.{local_had}
 
 -- the part of a shape has the shape of the part

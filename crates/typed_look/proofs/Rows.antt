@@ -5,6 +5,7 @@ use Rattle.std.specs.Fmt.{decimal}
 use Rattle.std.specs.List.{starts_with, AllByRecursion}
 use Rattle.std.proofs.lemmas.Bool.{and_parts}
 use Rattle.std.proofs.lemmas.Option.{same_Some}
+use Rattle.run_places.proofs.Options.{none_some}
 use Rattle.ir_tables.specs.declared.intrinsic.Intrinsic.{Intrinsic}
 use Rattle.ir_tables.specs.Intrinsic.{intrinsics}
 use Rattle.ir_tables.specs.IntrinsicName.{has_width, name_front}
@@ -13,7 +14,6 @@ use Rattle.module_arena.specs.declared.host.HostRow.TheVariants.{Integer}
 use Rattle.module_arena.specs.HostRows.{counted, width_named, row_at, row_among, first_row, fixed_name, host_rows, host_row}
 use Rattle.module_arena.specs.Module.{Bytes}
 use Rattle.typed_runs.specs.States.{IsRow}
-use Rattle.typed_runs.proofs.Leaves.{none_some}
 
 -- what a search through numbers in a row finds
 found_among : (q : ℕ → Bool) (first count w : ℕ) → find q (counted first count) ≡ Some w → (first ≤ w) × (w < first + count) × (q w ≡ true)

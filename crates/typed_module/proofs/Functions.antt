@@ -3,6 +3,7 @@ use Rattle.std.proofs.Common.{◌≡◌, ℕ, List, [], ◌∷◌, refl, subst, 
 use Rattle.std.specs.Prelude.{slice_get, ⊤, option_and_then}
 use Rattle.std.specs.List.{AllByRecursion}
 use Rattle.std.proofs.lemmas.Option.{same_Some}
+use Rattle.run_places.proofs.Options.{none_some}
 use Rattle.module_arena.specs.Module.{Module}
 use Rattle.linkage_rules.specs.Bind.{behind}
 use Rattle.linkage_rules.specs.declared.symbol.Symbol.{Symbol}
@@ -12,7 +13,6 @@ use Rattle.linkage_rules.specs.Symbols.{function_symbols}
 use Rattle.linkage_rules.specs.Winner.{home}
 use Rattle.run_places.proofs.Together.{home_is}
 use Rattle.run_rules.specs.Look.{Defined, defined_by, defined, function_at}
-use Rattle.typed_runs.proofs.Leaves.{none_some}
 use Rattle.typed_plan.proofs.Entries.{entries_all}
 
 module _ (m : Module) where

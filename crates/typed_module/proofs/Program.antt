@@ -4,6 +4,7 @@ use Rattle.std.specs.Prelude.{slice_get, if◌then◌else◌}
 use Rattle.std.specs.List.{AllByRecursion}
 use Rattle.std.specs.Option.{option_map_or}
 use Rattle.std.proofs.lemmas.Option.{same_Some}
+use Rattle.run_places.proofs.Options.{none_some}
 use Rattle.module_arena.specs.Functions.{body}
 use Rattle.module_arena.specs.Module.{Operation, Instruction, Block, Function, Module}
 use Rattle.module_arena.specs.Valid.{IsValid}
@@ -20,7 +21,6 @@ use Rattle.run_rules.specs.Resolve.{operation_in, instruction_in, ending_in, is_
 use Rattle.run_rules.specs.Scope.{FunctionScope, scope_of, blocks_of, place_in}
 use Rattle.typed_runs.specs.Actions.{Typing, IsTypedAction}
 use Rattle.typed_runs.specs.Kinds.{kinds_of}
-use Rattle.typed_runs.proofs.Leaves.{none_some}
 use Rattle.typed_look.specs.Typings.{frame_kinds, typing_of, IsTypedLook}
 use Rattle.typed_look.proofs.Callees.{callees_typed}
 use Rattle.typed_actions.specs.Asked.{IsAsked}

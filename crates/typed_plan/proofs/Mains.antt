@@ -2,6 +2,7 @@
 use Rattle.std.proofs.Common.{◌≡◌, ℕ, List, [], ◌∷◌, refl, sym, ap, ◌∙◌, subst, Bool, true, false, Option, Some, None, unwrap_or}
 use Rattle.std.specs.Prelude.{option_and_then, if◌then◌else◌}
 use Rattle.std.proofs.lemmas.Option.{same_Some}
+use Rattle.run_places.proofs.Options.{none_some}
 use Rattle.module_arena.specs.HostRows.{signature_of}
 use Rattle.module_arena.specs.Module.{Module}
 use Rattle.module_arena.specs.Valid.{IsValid}
@@ -24,7 +25,6 @@ use Rattle.run_rules.specs.Plan.{Main, main_of, main_symbol, main_by, main_in}
 use Rattle.run_rules.specs.Resolve.{signature_in}
 use Rattle.typed_runs.specs.Actions.{Typing}
 use Rattle.typed_runs.specs.Plans.{IsTypedMain}
-use Rattle.typed_runs.proofs.Leaves.{none_some}
 
 module _ (t : Typing) (parts : List Module) (valid : AreValid parts) (together : GoTogether parts) where
   abbrev IsTyped : Main → Type 0

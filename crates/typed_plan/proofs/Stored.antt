@@ -5,6 +5,7 @@ use Rattle.std.specs.List.{AllByRecursion, AllZip, list_all}
 use Rattle.std.specs.Option.{option_map_or}
 use Rattle.std.proofs.lemmas.Bool.{and_parts}
 use Rattle.std.proofs.lemmas.Option.{same_Some}
+use Rattle.run_places.proofs.Options.{none_some}
 use Rattle.ir_eval.specs.declared.value.Scalar.{Scalar}
 use Rattle.type_table.specs.Layout.{size}
 use Rattle.type_table.specs.Tree.{Tree, no_trees, more_trees}
@@ -30,7 +31,6 @@ use Rattle.run_rules.specs.Look.{names_in}
 use Rattle.run_rules.specs.Plan.{Contents, contents_from, contents_of}
 use Rattle.typed_runs.specs.Kinds.{IsOf, kinds_of}
 use Rattle.typed_runs.specs.States.{AreStored}
-use Rattle.typed_runs.proofs.Leaves.{none_some}
 use Rattle.typed_look.proofs.Constants.{is_sound, AreSound, constant_typed, front_all, back_all}
 use Rattle.typed_types.proofs.Sounds.{constant_sound}
 use Rattle.typed_types.proofs.Within.{same_kinds}

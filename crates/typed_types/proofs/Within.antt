@@ -3,6 +3,7 @@ use Rattle.std.proofs.Common.{◌≡◌, ℕ, zero, suc, ◌+◌, ◌*◌, ◌<�
 use Rattle.std.specs.Prelude.{⊤, option_and_then, if◌then◌else◌}
 use Rattle.std.proofs.lemmas.List.{length-append}
 use Rattle.std.proofs.lemmas.Option.{same_Some}
+use Rattle.run_places.proofs.Options.{none_some}
 use Rattle.ir_memory.specs.declared.leaf.Leaf.{Leaf}
 use Rattle.type_table.specs.Layout.{size, align, field_start, leaves}
 use Rattle.type_table.specs.Shape.{Shape, int_leaf, ptr_leaf, void_leaf, opaque_leaf, array_of, struct_of, Shapes, no_shapes, more_shapes, expanded, all_expanded, name_shape, shape}
@@ -11,7 +12,6 @@ use Rattle.type_table.proofs.Rooms.{unmapped, unjoined}
 use Rattle.module_arena.specs.TypeTests.{opened, field_type, part_type, part_at}
 use Rattle.run_rules.specs.Leaves.{Slot, repeated, slots_at, field_slots, element, field, part, leaves_before, leaves_before_field, leaves_before_part}
 use Rattle.typed_runs.specs.Kinds.{kinds_of}
-use Rattle.typed_runs.proofs.Leaves.{none_some}
 use Rattle.typed_look.proofs.Opened.{opened_shape}
 use Rattle.typed_look.proofs.Widths.{kinds_length}
 
