@@ -17,9 +17,9 @@ use Rattle.ir_terminals.specs.Tokens.{word}
 use Rattle.ir_constants.specs.Tree.{TypeTree}
 use Rattle.ir_constants.specs.Types.{type_row}
 use Rattle.ir_instructions.specs.Dropped.{attachment_row, attachments_core, attachments_row, comma_shape}
-use Rattle.ir_instructions.specs.Tails.{ListedParts, listed_step, listed_core, listed_row, part_begins_row, part_ahead_row}
+use Rattle.ir_instructions.specs.Tails.{ListedParts, listed_step, listed_core, listed_row, part_shape, part_begins_row, part_ahead_row}
 use Rattle.ir_instructions.specs.Calls.{signature_step}
-use Rattle.ir_instructions.proofs.TailsGrammar.{part_shape, reads_comma_part, reads_listed_step}
+use Rattle.ir_instructions.proofs.TailsGrammar.{reads_comma_part, reads_listed_step}
 use Rattle.ir_instructions.proofs.CallsGrammar.{reads_signature_step}
 
 -- a row reads the same under the same limits

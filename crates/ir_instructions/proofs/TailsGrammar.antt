@@ -1,7 +1,7 @@
 -- The rows of what stands behind commas are read.
 use Rattle.std.proofs.Common.{◌≡◌, ℕ, List, [], ◌∷◌, refl, true, false, None}
 use Rattle.ir_lexer.specs.Ahead.{Located}
-use Rattle.phrase_rows.specs.Row.{Row, PhraseShape, apart, keep_second, labelled}
+use Rattle.phrase_rows.specs.Row.{Row, apart, keep_second, labelled}
 use Rattle.phrase_rows.specs.Reads.{Reads}
 use Rattle.phrase_rows.proofs.Plain.{reads_nothing, reads_one, reads_mapped, reads_labelled, reads_wider}
 use Rattle.phrase_rows.proofs.Chain.{reads_second, reads_before, reads_pair}
@@ -14,7 +14,7 @@ use Rattle.ir_terminals.specs.Terminal.{code}
 use Rattle.ir_terminals.specs.Tokens.{word, integer_row}
 use Rattle.ir_constants.proofs.Grammar.{reads_word, reads_typed_value}
 use Rattle.ir_instructions.specs.Dropped.{comma_shape, commas_shape}
-use Rattle.ir_instructions.specs.Tails.{alignment_behind_row, alignment_core, alignment_row, count_behind_row, count_core, count_row, ListedParts, listed_step, listed_core, listed_row, part_begins_row}
+use Rattle.ir_instructions.specs.Tails.{alignment_behind_row, alignment_core, alignment_row, count_behind_row, count_core, count_row, ListedParts, listed_step, listed_core, listed_row, part_shape, part_begins_row}
 use Rattle.ir_instructions.proofs.DroppedGrammar.{reads_attachment, reads_attachments}
 
 pub reads_integer : Reads class integer_row integer_row.shape
@@ -57,10 +57,6 @@ reads_part_begins =
 -- a comma, and whether a part stands behind it
 pub reads_comma_part : Reads class (keep_second (word terminal.Comma) part_begins_row) (keep_second (word terminal.Comma) part_begins_row).shape
 reads_comma_part = reads_second class (reads_word terminal.Comma) reads_part_begins refl
-
--- a part that begins with one of these
-abbrev pub part_shape : List ℕ → PhraseShape
-part_shape first = record { first = first; more = []; empty = false }
 
 module _ {A : Type 0} (first : List ℕ) (r : Row Located A) (h : Reads class (labelled (part_shape first) r) (part_shape first)) (ok : apart (code terminal.MetaName ∷ []) first ≡ true) where
   reads_listed_step_at : (s : ListedParts A) → Reads class (listed_step (labelled (part_shape first) r) s) comma_shape

@@ -1,7 +1,7 @@
 -- For `blocks_of`: what stands behind commas at the end of an instruction: alignments, further parts, and metadata,
 -- which comes last.
-use Rattle.std.specs.Prelude.{Bool, true, false, cond, List, [], ◌∷◌, ◌++◌, Option, Some, None}
-use Rattle.phrase_rows.specs.Row.{Row, mapped, keep_second, keep_first, pair, alt, nothing, loop, labelled}
+use Rattle.std.specs.Prelude.{ℕ, Bool, true, false, cond, List, [], ◌∷◌, ◌++◌, Option, Some, None}
+use Rattle.phrase_rows.specs.Row.{PhraseShape, Row, mapped, keep_second, keep_first, pair, alt, nothing, loop, labelled}
 use Rattle.ir_lexer.specs.Ahead.{Located}
 use Rattle.ir_terminals.specs.declared.limits.Limits.{Limits}
 use Rattle.ir_terminals.specs.declared.terminal.Terminal.TheVariants as terminal
@@ -38,6 +38,10 @@ count_core limits = alt class (keep_second (word terminal.Comma) (count_behind_r
 -- (, TYPE VALUE)? (, align INT)? (, MD)*
 abbrev pub count_row : Limits → Row Located (Option TypedValueTree × Option Integer)
 count_row limits = labelled commas_shape (count_core limits)
+
+-- a part that begins with one of these
+abbrev pub part_shape : List ℕ → PhraseShape
+part_shape first = record { first = first; more = []; empty = false }
 
 -- the parts so far, and whether metadata has begun
 abbrev pub ListedParts : Type 0 → Type 0

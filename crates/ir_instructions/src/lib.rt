@@ -20,6 +20,7 @@ mod calls;
 mod endings;
 mod footprint;
 mod instructions;
+mod listed;
 mod metadata;
 mod operation;
 mod operations;

@@ -4,6 +4,7 @@ ghost use Rattle.ir_instructions.specs.View.{operation_view};
 ghost use Rattle.ir_terminals.specs.Follows.{Follows};
 
 use crate::calls::call;
+use crate::listed::more_parts;
 use crate::metadata::attachments;
 use crate::operation::{
     Address, Alloca, CastParts, Choice, Extraction, Insertion, Load, Operation, Phi, Store,
@@ -11,7 +12,7 @@ use crate::operation::{
 use crate::parts::{
     address, arms, cast_type, incoming, indices, next_typed_value, operand_list, operands,
 };
-use crate::tails::{count, more_incoming};
+use crate::tails::count;
 use ir_constants::{flags_of, type_of, typed_value_of};
 use ir_tables::Opcode;
 use ir_terminals::{Cursor, Fault};
@@ -93,7 +94,7 @@ fn phi(cursor: &mut Cursor) -> Result<Operation, Fault>
 {
     let ty = type_of(cursor)?;
     let first = incoming(cursor)?;
-    let incoming = more_incoming(cursor, first)?;
+    let incoming = more_parts(cursor, first)?;
     Ok(Operation::Phi(Box::new(cursor.alloc(), Phi { ty, incoming })?))
 }
 

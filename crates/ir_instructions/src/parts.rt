@@ -5,9 +5,10 @@ ghost use Rattle.ir_instructions.specs.Operations.{next_value_row, next_typed_va
 ghost use Rattle.ir_instructions.specs.View.{incoming_view, operands_view};
 ghost use Rattle.ir_terminals.specs.Follows.{Follows};
 
+use crate::listed::more_parts;
 use crate::metadata::attachments;
 use crate::operation::{Incoming, Operands};
-use crate::tails::{alignment, more_indices, more_operands};
+use crate::tails::alignment;
 use ir_constants::{Type, TypedValue, Value, type_of, typed_value_of, value_of};
 use ir_terminals::{Cursor, Fault, Integer, Local, Terminal};
 
@@ -100,7 +101,7 @@ pub fn operand_list(cursor: &mut Cursor) -> Result<Vec<TypedValue>, Fault>
     ensures { Follows operand_list_row (λ x. map typed_value_view x.items) cursor.old result cursor.new }
 {
     let first = next_typed_value(cursor)?;
-    more_operands(cursor, first)
+    more_parts(cursor, first)
 }
 
 /// `, INT (, INT)* (, MD)*`
@@ -110,5 +111,5 @@ pub fn indices(cursor: &mut Cursor) -> Result<Vec<Integer>, Fault>
 {
     cursor.take_class(Terminal::Comma)?;
     let first = cursor.integer()?;
-    more_indices(cursor, first)
+    more_parts(cursor, first)
 }
