@@ -1,7 +1,8 @@
 -- What is asked of an instruction that stands at the newest frame of a typed run, class by class.
-use Rattle.std.proofs.Common.{◌≡◌, ℕ, ◌+◌, ◌^◌, ◌<◌, ◌≤◌, All, List, [], ◌∷◌, length, map, Some, Result, Ok, Err, refl, sym, ap, ◌∙◌, subst, arith}
+use Rattle.std.proofs.Common.{◌≡◌, ℕ, ◌+◌, ◌^◌, ◌<◌, ◌≤◌, All, List, [], ◌∷◌, length, map, Some, Result, Ok, Err, refl, sym, ap, ◌∙◌, subst, inl, inr, ◌⊎◌, arith}
 use Rattle.std.specs.Prelude.{IfOk, OnErr, OnOk, ◌++◌, false, nat_lt, slice_get, true}
 use Rattle.std.specs.List.{AllZip}
+use Rattle.std.proofs.lemmas.Bool.{false≢true}
 use Rattle.std.proofs.lemmas.List.{length-map}
 use Rattle.std.proofs.lemmas.List.Elements.{All-cons, All-tail}
 use Rattle.std.proofs.lemmas.Simd.{map-map}
@@ -27,6 +28,7 @@ use Rattle.run_actions.specs.Operands as operands
 use Rattle.run_actions.specs.Operands.{HasPlaces, IsThere, MayGoOn}
 use Rattle.run_flat.specs.declared.action.Action.{Action}
 use Rattle.run_flat.specs.declared.action.Action.TheVariants.{Call, Return, Passed}
+use Rattle.run_flat.specs.declared.action.Action.TheVariants as flat
 use Rattle.run_flat.specs.declared.action.CallParts.{CallParts}
 use Rattle.run_flat.specs.declared.leaf.LeafAt.{LeafAt}
 use Rattle.run_flat.specs.declared.leaf.Span.{Span}
@@ -48,7 +50,7 @@ use Rattle.run_classes.proofs.Wide.{origins_there}
 use Rattle.run_acts.specs.Made.{AreReady, FitBelow, IsFunctionReady, MayCall, shapes_of, StaysReady}
 use Rattle.run_acts.specs.declared.next.Next.{Next}
 use Rattle.run_acts.specs.Said.{next_of}
-use Rattle.run_acts.specs.Acting.{ActsFor, CameTo, ComesTo, is_inner, look_in, MayActHere, MayActIn, table_in, typing_in, WantsHere}
+use Rattle.run_acts.specs.Acting.{ActsFor, CameTo, ComesTo, is_inner, is_outer, IsOuter, look_in, MayActHere, MayActIn, table_in, typing_in, WantsHere}
 
 -- ---- the newest frame
 
@@ -313,6 +315,38 @@ is_inner_else p b (Call to callee call) s m may calls returns = absurd (calls to
 is_inner_else p b (Return value) s m may calls returns = absurd (returns value refl)
 is_inner_else p b Passed s m may calls returns = absurd (typed p b Passed s m may)
 is_inner_else p b _ s m may calls returns = refl
+
+-- an action that calls or returns is due where one is
+pub outer_here : (p : Loaded) (b : Decoded) (action : Action) (s : UnderWay) (m : Blocks) → MayActIn p b action s m → is_outer (action_of b.pools p.lists action) ≡ true → IsOuter p s
+outer_here p b action s m may outer = ap is_outer (sym may.means) ∙ outer
+
+-- by what was matched
+pub outer_matched : (b : Decoded) (a : Lists) (action : Action) → ((to : ℕ) × (callee : LeafAt) × (call : ℕ) × (action ≡ Call to callee call)) ⊎ ((value : Span) × (action ≡ Return value)) → is_outer (action_of b.pools a action) ≡ true
+outer_matched b a action (inl h) = ap (λ (x : Action). is_outer (action_of b.pools a x)) h.3
+outer_matched b a action (inr h) = ap (λ (x : Action). is_outer (action_of b.pools a x)) h.1
+
+-- and no other is
+pub none_outer : (p : Loaded) (b : Decoded) (action : Action) (s : UnderWay) (m : Blocks) → MayActIn p b action s m → IsOuter p s → ((to : ℕ) (callee : LeafAt) (call : ℕ) → action ≡ Call to callee call → ⊥) → ((value : Span) → action ≡ Return value → ⊥) → ⊥
+none_outer p b action s m may outer calls returns = go action (ap is_outer may.means ∙ outer) calls returns
+  where
+    go : (x : Action) → is_outer (action_of b.pools p.lists x) ≡ true → ((to : ℕ) (callee : LeafAt) (call : ℕ) → x ≡ Call to callee call → ⊥) → ((value : Span) → x ≡ Return value → ⊥) → ⊥
+    go (Call to callee call) e calls returns = calls to callee call refl
+    go (Return value) e calls returns = returns value refl
+    go (flat.Compute to opcode flags width left right) e calls returns = false≢true e
+    go (flat.Compare to predicate samesign width left right) e calls returns = false≢true e
+    go (flat.Convert to opcode flags from_width to_width value) e calls returns = false≢true e
+    go (flat.Select to condition arms) e calls returns = false≢true e
+    go (flat.Freeze to parts) e calls returns = false≢true e
+    go (flat.Gather to value) e calls returns = false≢true e
+    go (flat.Load to align address slots) e calls returns = false≢true e
+    go (flat.Store align address slots value) e calls returns = false≢true e
+    go (flat.Allocate to align size count) e calls returns = false≢true e
+    go (flat.Displace to inbounds base terms sum) e calls returns = false≢true e
+    go (flat.Jump edge) e calls returns = false≢true e
+    go (flat.Branch condition then_edge else_edge) e calls returns = false≢true e
+    go (flat.Switch value otherwise cases) e calls returns = false≢true e
+    go flat.Unreachable e calls returns = false≢true e
+    go Passed e calls returns = false≢true e
 
 -- ---- a program that is as it was
 

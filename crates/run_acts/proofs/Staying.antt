@@ -28,17 +28,18 @@ use Rattle.run_classes.specs.Ends.{FramesStay}
 use Rattle.run_classes.proofs.Going.{All-unmap}
 use Rattle.run_program.specs.Loaded.{Loaded}
 use Rattle.run_acts.specs.declared.next.Next as code
+use Rattle.run_acts.specs.declared.next.Next.TheVariants as answer
 use Rattle.run_acts.specs.Made.{AreReady, IsFunctionReady}
-use Rattle.run_acts.specs.Acting.{AnswersMemory, FunctionsStay, is_inner}
+use Rattle.run_acts.specs.Acting.{AnswersMemory, ComesTo, FunctionsStay, is_inner}
 
 -- the functions of frames
 abbrev functions : List Frame → List ℕ
 functions fs = map (λ (f : Frame). f.function) fs
 
--- where it goes on, they are those that were
+-- where it goes on, they are those that were; it asks for no byte
 abbrev Stays : Frame → Core → Next → Type 0
 Stays f c (Goes d written) = functions d.frames ≡ f.function ∷ functions c.frames
-Stays f c (Gets to d) = ⊤
+Stays f c (Gets to d) = ⊥
 Stays f c (Stops end) = ⊤
 
 module _ (f : Frame) (c : Core) where
@@ -102,6 +103,12 @@ module _ (p : Pools) (a : Lists) (action : Action) (inner : is_inner action ≡ 
       let stays = inner_stays (newest old.frames) (core_of (older old.frames) [] m) (λ address. Nothing) p a action inner in
       subst (Stays (newest old.frames) (core_of (older old.frames) [] m)) e stays ∙ whole old.frames running
 
+  -- none asks for a byte
+  pub asks_none : (to : ℕ) (m n : Blocks) → ComesTo (action_of p a action) (answer.Gets to) old new m n → ⊥
+  asks_none to m n h =
+      let stays = inner_stays (newest old.frames) (core_of (older old.frames) [] m) (λ address. Nothing) p a action inner in
+      subst (Stays (newest old.frames) (core_of (older old.frames) [] m)) (h (λ address. Nothing) []) stays
+
   pub carried_stays : Blocks → IsCarriedOut (action_of p a action) old new → FunctionsStay old new
   carried_stays m h = record { functions = goes_stays m m (h.goes (λ address. Nothing) [] m); width = h.width }
 
@@ -123,6 +130,10 @@ module _ (p : Pools) (a : Lists) (action : Action) (inner : is_inner action ≡ 
   accesses_stay m n (Err faults.MemoryLimit) next e h same = subst (λ (x : Result code.Next AllocError). OnOk x (FunctionsStay old new)) (sym e) (same_stays same)
   accesses_stay m n (Err faults.Memory) (Ok next) e h same = absurd (false≢true e)
   accesses_stay m n (Err faults.Memory) (Err refused) e h same = tt
+
+-- where nothing is done, they are the same
+pub none_stays : (s : UnderWay) → FunctionsStay s s
+none_stays s = record { functions = refl; width = refl }
 
 -- ---- bodies stay there
 

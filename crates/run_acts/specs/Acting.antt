@@ -1,5 +1,5 @@
--- For `act`: what is asked of frames, memory and a program so that an instruction can be carried out, and what is said of it.
-use Rattle.std.specs.Prelude.{◌≡◌, ℕ, ◌+◌, ◌≤◌, ◌<◌, ◌^◌, Bool, true, false, List, [], map, length, Result, Ok, Err}
+-- For `act_inside` and `call_or_return`: what is asked of frames, memory and a program so that an instruction can be carried out, and what is said of it.
+use Rattle.std.specs.Prelude.{◌≡◌, ℕ, ◌+◌, ◌≤◌, ◌<◌, ◌^◌, Bool, true, false, List, [], map, length, Option, Some, None, Result, Ok, Err}
 use Rattle.std.specs.Result.{IsErr}
 use Rattle.ir_memory.specs.declared.fault.MemoryFault.{MemoryFault}
 use Rattle.ir_memory.specs.declared.fault.MemoryFault.TheVariants as faults
@@ -25,7 +25,7 @@ use Rattle.typed_look.specs.Typings.{IsTypedLook, typing_of}
 use Rattle.typed_runs.specs.Actions.{Typing}
 use Rattle.typed_runs.specs.States.{AreTypedFrames, IsTypedMemory}
 use Rattle.run_acts.specs.declared.next.Next.{Next}
-use Rattle.run_acts.specs.declared.next.Next.TheVariants.{Goes, Stops}
+use Rattle.run_acts.specs.declared.next.Next.TheVariants.{Goes, Gets, Stops}
 use Rattle.run_acts.specs.declared.next.Stop.TheVariants as stops
 use Rattle.run_acts.specs.Made.{AreReady}
 use Rattle.run_acts.specs.Said.{next_of}
@@ -98,6 +98,22 @@ pub record FunctionsStay (old new : UnderWay) : Type 0 where
 abbrev pub ActsFor : Loaded → List Due → Next → UnderWay → UnderWay → Blocks → Blocks → List ℕ → Type 0
 ActsFor p due next old new m n written =
     instruction (look_in p.lists) (table_in p.lists) old.frames due m ≡ next_of next (core_of new.frames due n) written
+
+-- it calls or returns
+abbrev pub is_outer : actions.Action → Bool
+is_outer (actions.Call to signature callee shapes arguments) = true
+is_outer (actions.Return value) = true
+is_outer _ = false
+
+-- so does the instruction that is due
+abbrev pub IsOuter : Loaded → UnderWay → Type 0
+IsOuter p s = is_outer (look_in p.lists (newest s.frames).function (newest s.frames).block (newest s.frames).position) ≡ true
+
+-- the same of an instruction that neither calls nor returns: it goes on or stops the run, and writes nothing; or it does, and nothing
+-- is done
+abbrev pub ActsInside : Loaded → Option Next → UnderWay → UnderWay → Blocks → Blocks → Type 0
+ActsInside p None old new m n = (new ≡ old) × (n ≡ m) × IsOuter p old
+ActsInside p (Some next) old new m n = ((due : List Due) → ActsFor p due next old new m n []) × ((to : ℕ) → ¬ (next ≡ Gets to))
 
 -- the instruction that is due may want memory
 abbrev pub WantsHere : Loaded → UnderWay → Type 0

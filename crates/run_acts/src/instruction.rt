@@ -1,27 +1,28 @@
-//! One instruction.
+//! One instruction: one that calls or returns, or one that stays in its function.
 ghost use Rattle.std.specs.Prelude.{◌≡◌, [], IfOk, List, OnErr, OnOk};
 ghost use Rattle.run_rules.specs.State.{Due};
 ghost use Rattle.run_program.specs.Loaded.{Keeps};
 ghost use Rattle.run_acts.specs.Made.{StaysReady};
 ghost use Rattle.run_acts.specs.Said.{IsLast};
-ghost use Rattle.run_acts.specs.Acting.{ActsFor, MayActHere, WantsHere};
+ghost use Rattle.run_acts.specs.Acting.{ActsFor, ActsInside, FunctionsStay, IsOuter, MayActHere, WantsHere};
 
 use crate::calls::{act_on_call, act_on_return};
 use crate::inner::act_within;
 use crate::next::Next;
 use crate::room::Buffers;
+use ir_eval::Scalar;
 use ir_memory::Memory;
 use run_flat::Action;
 use run_program::Program;
 use run_stack::Stack;
 use std::alloc::AllocError;
 
-/// Carries out the instruction of the newest frame; `is_last` tells that nothing is due. What it writes is put into the room, in which
-/// nothing is.
+/// Carries out the call or the return of the newest frame; `is_last` tells that nothing is due. What it writes is put into the room, in
+/// which nothing is.
 ///
 /// It is refused for want of memory alone, by an instruction that may want it.
 #[inline(always)]
-pub fn act(
+pub fn call_or_return(
     program: &mut Program<'_>,
     stack: &mut Stack,
     memory: &mut Memory,
@@ -29,6 +30,7 @@ pub fn act(
     room: &mut Buffers,
 ) -> Result<Next, AllocError>
     requires may { MayActHere program.old stack.old memory.old }
+    requires outer { IsOuter program.old stack.old }
     requires none { room.old.written.items ≡ [] }
     ensures acts { IfOk result (λ next. (due : List Due) → IsLast due is_last → ActsFor program.old due next stack.old stack.new memory.old memory.new room.new.written.items) }
     ensures ready { OnOk result (StaysReady program.old stack.old program.new stack.new) }
@@ -36,13 +38,40 @@ pub fn act(
     ensures wants { OnErr result (WantsHere program.old stack.old) }
 {
     let decoded = program.body(stack.function());
-    let pools = decoded.pools();
     let flat = decoded.action(stack.block(), stack.position());
     match *flat {
         Action::Call { to, callee, call } => {
             act_on_call(program, stack, memory, to, callee, call, room)
         }
         Action::Return { value } => act_on_return(program, stack, memory, value, is_last, room),
-        _ => act_within(stack, memory, pools, flat, &mut room.leaves),
+        _ => unreachable!(),
+    }
+}
+
+/// Carries out the instruction of the newest frame where it neither calls nor returns. None where it does: then nothing is done. It
+/// writes nothing, and asks for no byte. What `room` has is lost.
+///
+/// It is refused for want of memory alone, by an instruction that may want it.
+#[inline(always)]
+pub fn act_inside(
+    program: &Program<'_>,
+    stack: &mut Stack,
+    memory: &mut Memory,
+    room: &mut Vec<Scalar>,
+) -> Result<Option<Next>, AllocError>
+    requires may { MayActHere program.now stack.old memory.old }
+    ensures acts { IfOk result (λ next. ActsInside program.now next stack.old stack.new memory.old memory.new) }
+    ensures stays { OnOk result (FunctionsStay stack.old stack.new) }
+    ensures wants { OnErr result (WantsHere program.now stack.old) }
+{
+    let decoded = program.body(stack.function());
+    let pools = decoded.pools();
+    let flat = decoded.action(stack.block(), stack.position());
+    match *flat {
+        Action::Call { .. } | Action::Return { .. } => Ok(None),
+        _ => {
+            let next = act_within(stack, memory, pools, flat, room)?;
+            Ok(Some(next))
+        }
     }
 }

@@ -9,7 +9,8 @@
 //!
 //! ```
 //! // where the newest frame, the only one, is that of main, and stands at `ret i32 3`
-//! act(&mut program, &mut stack, &mut memory, true, &mut room)? // Next::Stops(Stop::Exit(3))
+//! act_inside(&program, &mut stack, &mut memory, &mut room.leaves)? // None: it returns
+//! call_or_return(&mut program, &mut stack, &mut memory, true, &mut room)? // Next::Stops(Stop::Exit(3))
 //! ```
 #![tactic(auto)]
 
@@ -26,7 +27,7 @@ mod room;
 
 pub use address::{FrameCall, call_address};
 pub use due::{DueCall, DueCalls, call_due};
-pub use instruction::act;
+pub use instruction::{act_inside, call_or_return};
 pub use leave::return_value;
 pub use next::{Next, Stop};
 pub use room::Buffers;

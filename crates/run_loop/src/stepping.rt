@@ -4,6 +4,7 @@ ghost use Rattle.run_rules.specs.Machine.{Machine};
 ghost use Rattle.run_rules.specs.Clauses.{outside, StepAnswers};
 ghost use Rattle.run_rules.specs.RunClauses.{RunAnswers};
 ghost use Rattle.run_loop.specs.Halts.{Finishes};
+ghost use Rattle.run_loop.specs.Stretches.{Stretches};
 
 use ir_base::{Sink, Source};
 use run_rules::{End, RunFault};
@@ -26,6 +27,18 @@ pub trait Stepping {
         requires { (machine self.old).steps < 2 ^ 32 }
         ensures { StepAnswers result (machine self.old) (machine self.new) (outside (I.left input.old) (I.faults input.old) (O.taken output.old) (O.faults output.old)) (outside (I.left input.new) (I.faults input.new) (O.taken output.new) (O.faults output.new)) };
 
+    /// Some steps in one go, or none, up to the bound, which read nothing and put nothing out: None where the run goes on, or its end. It
+    /// is refused where, at a step's end of the run, a write failed, or where memory was wanted for a step.
+    fn go_on<I: Source, O: Sink>(
+        &mut self,
+        bound: u64,
+        input: &I,
+        output: &mut O,
+    ) -> Result<Option<End>, RunFault>
+        requires few { (machine self.old).steps < bound }
+        requires bound { bound ≤ 2 ^ 32 }
+        ensures { Stretches bound result (machine self.old) (machine self.new) (outside (I.left input.now) (I.faults input.now) (O.taken output.old) (O.faults output.old)) (outside (I.left input.now) (I.faults input.now) (O.taken output.new) (O.faults output.new)) };
+
     /// No step is left: what is due is entered, and the end is that, or that steps are used up. Nothing is read.
     fn halt<I: Source, O: Sink>(&mut self, input: &I, output: &mut O) -> Result<End, RunFault>
         ensures { Finishes result (machine self.old) (machine self.new) (outside (I.left input.now) (I.faults input.now) (O.taken output.old) (O.faults output.old)) (outside (I.left input.now) (I.faults input.now) (O.taken output.new) (O.faults output.new)) };
@@ -44,10 +57,17 @@ pub fn run<M: Stepping, I: Source, O: Sink>(
     ensures { RunAnswers bound result (M.machine machine.old) (M.machine machine.new) (outside (I.left input.old) (I.faults input.old) (O.taken output.old) (O.faults output.old)) (outside (I.left input.new) (I.faults input.new) (O.taken output.new) (O.faults output.new)) }
 {
     'running: while machine.steps() < bound {
-        match machine.step(input, output) {
+        match machine.go_on(bound, input, output) {
             Ok(None) => {}
             Ok(Some(end)) => return Ok(end),
             Err(fault) => return Err(fault),
+        }
+        if machine.steps() < bound {
+            match machine.step(input, output) {
+                Ok(None) => {}
+                Ok(Some(end)) => return Ok(end),
+                Err(fault) => return Err(fault),
+            }
         }
     }
     machine.halt(input, output)

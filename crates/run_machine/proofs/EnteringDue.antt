@@ -174,6 +174,13 @@ pub all_entered : (old now : Living) → Entering old now → IsRunning now.stac
 all_entered old now h has =
     record { lists = h.lists; enters = λ s c. h.enters s c ∙ not_idle (table_in old.program.lists) now.due now.stack.frames (record s { core = core_of_living now }) has }
 
+pub is_entered : (l : Living) → IsRunning l.stack.frames → IsEntered l l
+is_entered l has =
+    record {
+      lists = refl;
+      enters = λ s c. enters_from (table_in l.program.lists) (core_of_living l) s c ∙ not_idle (table_in l.program.lists) l.due l.stack.frames (record s { core = core_of_living l }) has;
+    }
+
 pub nothing_due : (old now : Living) → Entering old now → now.due ≡ [] → IsEntered old now
 nothing_due old now h none =
     record { lists = h.lists; enters = λ s c. h.enters s c ∙ none_due (table_in old.program.lists) now.due now.stack.frames (record s { core = core_of_living now }) none }

@@ -14,6 +14,7 @@ pub mod Gets
 pub mod Lived
 pub mod EnteringDue
 pub mod Onward
+pub mod Stretches
 pub mod Begun
 pub mod Valid
 pub mod AnsweredRun

@@ -38,6 +38,10 @@ pub record Living : Type 0 where
 abbrev pub core_of_living : Living → Core
 core_of_living l = record { frames = l.stack.frames; due = l.due; memory = l.memory }
 
+-- what instructions see, where the last one wrote nothing
+abbrev pub living_of : Loaded → UnderWay → List Due → Blocks → Living
+living_of p s due m = record { program = p; stack = s; memory = m; due = due; written = [] }
+
 -- ---- what holds
 
 -- of a run that is not over, after so many steps: each action and each address of the program is typed; so is what instructions see;

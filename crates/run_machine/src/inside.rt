@@ -2,6 +2,7 @@
 ghost use Rattle.run_machine.specs.Seen.{the_machine};
 
 use crate::live::{Live, Turn};
+use crate::stretch::StretchEnd;
 use ir_base::{Sink, Source};
 use ir_tables::UndefinedKind;
 use run_acts::Next;
@@ -78,6 +79,34 @@ impl<'m> Stepping for Inside<'m> {
                 self.is_over = false;
                 Ok(None)
             }
+        }
+    }
+
+    #[inline(always)]
+    fn go_on<I: Source, O: Sink>(
+        &mut self,
+        bound: u64,
+        _input: &I,
+        output: &mut O,
+    ) -> Result<Option<End>, RunFault> {
+        if self.is_over {
+            return Ok(None);
+        }
+        // Until the stretch is whole.
+        self.is_over = true;
+        let stretch = self.live.go_on(bound - self.steps);
+        self.steps += stretch.count;
+        match stretch.end {
+            StretchEnd::Waits => {
+                self.is_over = false;
+                Ok(None)
+            }
+            StretchEnd::Stops(stop) => {
+                let told = finish(stop.end(), &mut self.output, output)?;
+                self.steps += 1;
+                Ok(Some(told))
+            }
+            StretchEnd::Wants => Err(RunFault::Memory),
         }
     }
 

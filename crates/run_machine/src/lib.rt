@@ -28,6 +28,7 @@ mod machine;
 mod opening;
 mod order;
 mod running;
+mod stretch;
 
 pub use arguments::place_main;
 pub use beginning::{OpenRun, open_run};

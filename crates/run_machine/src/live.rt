@@ -1,12 +1,15 @@
 //! What instructions see of a run.
-ghost use Rattle.std.specs.Prelude.{◌≡◌, ◌==◌, ◌^◌, ◌<◌, ℕ, [], IfOk, length, OnErr, OnOk, true};
+ghost use Rattle.std.specs.Prelude.{◌≡◌, ◌==◌, ◌+◌, ◌^◌, ◌<◌, ◌≤◌, ℕ, [], IfOk, length, OnErr, OnOk, true};
 ghost use Rattle.run_machine.specs.Living.{Acts, Enters, HasFrames, IsLive, may_want_in, StaysEntered, StaysIn, StaysLive, TakesNumber, Turns};
+ghost use Rattle.run_acts.specs.Acting.{IsOuter};
+ghost use Rattle.run_machine.specs.Stretch.{LeavesOff, StaysBehind, Walks};
 ghost use Rattle.run_passing.specs.Traffic.{Gets};
 ghost use Rattle.run_rules.specs.Clauses.{outside};
 
+use crate::stretch::{Stretch, StretchEnd, walk};
 use ir_base::{Sink, Source};
 use ir_memory::Memory;
-use run_acts::{Buffers, DueCalls, Next, Stop, act, call_due};
+use run_acts::{Buffers, DueCalls, Next, Stop, call_due, call_or_return};
 use run_passing::get;
 use run_program::Program;
 use run_rules::RunFault;
@@ -104,8 +107,33 @@ impl<'m> Live<'m> {
         ensures kept { OnErr result (self.new.program.lists ≡ self.old.program.lists) }
     {
         self.room.written.clear();
+        let stretch = self.go_on(1);
+        match stretch.end {
+            StretchEnd::Stops(stop) => Ok(Next::Stops(stop)),
+            StretchEnd::Wants => Err(AllocError),
+            StretchEnd::Waits => {
+                if stretch.count == 1 {
+                    return Ok(Next::Goes);
+                }
+                self.cross()
+            }
+        }
+    }
+
+    // Carries out the call or the return that is due in the newest function. What it writes stands in the room, in which nothing is.
+    #[inline(always)]
+    fn cross(&mut self) -> Result<Next, AllocError>
+        requires frames { HasFrames self.old }
+        requires outer { IsOuter self.old.program self.old.stack }
+        requires none { self.old.written ≡ [] }
+        requires live { (steps : ℕ) × IsLive steps self.old × (steps < 2 ^ 32) }
+        ensures acted { IfOk result (λ next. Acts next self.old self.new) }
+        ensures live { (steps : ℕ) → IsLive steps self.old → IfOk result (λ next. StaysLive steps next self.new) }
+        ensures wants { OnErr result (may_want_in self.old ≡ true) }
+        ensures kept { OnErr result (self.new.program.lists ≡ self.old.program.lists) }
+    {
         let is_last = self.due.is_empty();
-        act(
+        call_or_return(
             &mut self.program,
             &mut self.stack,
             &mut self.memory,
@@ -130,6 +158,30 @@ impl<'m> Live<'m> {
         }
         let next = self.act()?;
         Ok(Turn::Came(next))
+    }
+
+    /// Carries out instructions of the newest frame, as long as each goes on and neither calls nor returns, but no more than `most`.
+    /// Where no function is under way there is none.
+    #[inline(always)]
+    pub fn go_on(&mut self, most: u64) -> Stretch
+        requires { (steps : ℕ) × IsLive steps self.old × (steps + most ≤ 2 ^ 32) }
+        ensures few { result.count ≤ most }
+        ensures further { LeavesOff most result.count result.end self.new.program self.new.stack }
+        ensures walks { Walks result self.old self.new }
+        ensures live { (steps : ℕ) → IsLive steps self.old → StaysBehind steps result self.new }
+        ensures written { self.new.written ≡ self.old.written }
+    {
+        if self.is_idle() {
+            let end = StretchEnd::Waits;
+            return Stretch { count: 0, end };
+        }
+        walk(
+            &self.program,
+            &mut self.stack,
+            &mut self.memory,
+            &mut self.room.leaves,
+            most,
+        )
     }
 
     /// What the last instruction writes.

@@ -11,9 +11,9 @@ use Rattle.run_acts.specs.Said.{IsLast}
 use Rattle.run_classes.specs.May.{MayAct}
 use Rattle.run_classes.proofs.Placed.{on_err, on_ok}
 use Rattle.run_acts.specs.Acting.{ActsFor, ComesTo, FunctionsStay, MayActIn, WantsHere}
-use Rattle.run_acts.proofs.AskedCalls.{acts_for, comes_for, if_ok, is_inner_else, keeps_itself, may_act, may_act_in, some_body, stands, wanted, wants_for, written_none}
+use Rattle.run_acts.proofs.AskedCalls.{acts_for, if_ok, keeps_itself, may_act_in, none_outer, some_body, stands, wanted, wants_for, written_none}
 use Rattle.run_acts.proofs.Staying.{ready_still}
-use Rattle.run_acts.proofs.instruction.act.Goals as goal
+use Rattle.run_acts.proofs.instruction.call_or_return.Goals as goal
 
 -- ---- the instruction
 
@@ -129,10 +129,10 @@ returns-in-Return-clause-wants c =
     in
     on_err c.act_on_return.result _ (WantsHere p s) (λ wants. wants_for p b.result.now action s m may (wants b.result.now may)) c.act_on_return.ensures.wants
 
--- ---- any other
+-- ---- none else is due
 
-pub act_within-requires : goal.act_within-requires
-act_within-requires c =
+pub unreachable-requires : goal.unreachable-requires
+unreachable-requires c =
     let p = c.args.program.now in
     let s = c.args.stack.now in
     let m = c.args.memory.now in
@@ -142,49 +142,4 @@ act_within-requires c =
     may_act_in p s m c.requires.may c.function.result c.function.ensures b.result.now b.ensures.ready b.ensures.body c.block.result c.position.result c.block.ensures c.position.ensures x.result.now x.ensures.action x.ensures.within
     x.ensures.fits
     in
-    record {
-      inner = is_inner_else p b.result.now x.result.now s m may c.in_default.not-Call c.in_default.not-Return;
-      may = subst (λ (q : Pools). MayAct (length m.list) q x.result.now s) (sym c.pools-pools.ensures) (may_act p b.result.now x.result.now s m may);
-      next = c.requires.may.next;
-    }
-
-pub returns-in_default-clause-acts : goal.returns-in_default-clause-acts
-returns-in_default-clause-acts c =
-    let p = c.args.program.now in
-    let s = c.args.stack.now in
-    let m = c.args.memory.now in
-    let b = c.body-decoded in
-    let x = c.action-flat in
-    let new = c.act_within.new in
-    let may =
-    may_act_in p s m c.requires.may c.function.result c.function.ensures b.result.now b.ensures.ready b.ensures.body c.block.result c.position.result c.block.ensures c.position.ensures x.result.now x.ensures.action x.ensures.within
-    x.ensures.fits
-    in
-    if_ok c.act_within.result _ (λ (next : Next). (due : List Due) → IsLast due c.args.is_last → ActsFor p due next s new.stack m new.memory c.args.room.now.written.items)
-    (λ next comes due last.
-    comes_for p b.result.now x.result.now s m may due next new.stack new.memory c.args.room.now.written.items c.requires.none
-    (subst (λ (q : Pools). ComesTo (action_of q p.lists x.result.now) next s new.stack m new.memory) c.pools-pools.ensures (comes p.lists))) c.act_within.ensures.comes
-
-pub returns-in_default-clause-ready : goal.returns-in_default-clause-ready
-returns-in_default-clause-ready c =
-    let p = c.args.program.now in
-    let s = c.args.stack.now in
-    let new = c.act_within.new.stack in
-    on_ok c.act_within.result (FunctionsStay s new) (StaysReady p s p new) (ready_still p s new) c.act_within.ensures.stays
-
-pub returns-in_default-clause-keeps : goal.returns-in_default-clause-keeps
-returns-in_default-clause-keeps c = keeps_itself c.args.program.now
-
-pub returns-in_default-clause-wants : goal.returns-in_default-clause-wants
-returns-in_default-clause-wants c =
-    let p = c.args.program.now in
-    let s = c.args.stack.now in
-    let m = c.args.memory.now in
-    let b = c.body-decoded in
-    let x = c.action-flat in
-    let may =
-    may_act_in p s m c.requires.may c.function.result c.function.ensures b.result.now b.ensures.ready b.ensures.body c.block.result c.position.result c.block.ensures c.position.ensures x.result.now x.ensures.action x.ensures.within
-    x.ensures.fits
-    in
-    on_err c.act_within.result _ (WantsHere p s)
-    (λ wants. wants_for p b.result.now x.result.now s m may (subst (λ (q : Pools). wants_memory (action_of q p.lists x.result.now) ≡ true) c.pools-pools.ensures (wants p.lists))) c.act_within.ensures.wants
+    none_outer p b.result.now x.result.now s m may c.requires.outer c.in_default.not-Call c.in_default.not-Return
