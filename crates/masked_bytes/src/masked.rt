@@ -1,5 +1,5 @@
 //! Bytes of which some are poison.
-ghost use Rattle.std.specs.Prelude.{◌≡◌, ◌+◌, ◌<◌, ◌≤◌, ◌^◌, IfOk, IfSome, Some, None, [], length, replicate, slice_range, slice_index_or};
+ghost use Rattle.std.specs.Prelude.{◌≡◌, ◌≢◌, ℕ, ◌+◌, ◌<◌, ◌≤◌, ◌^◌, IfOk, IfSome, Some, None, [], length, replicate, slice_range, slice_index_or, true};
 ghost use Rattle.masked_bytes.specs.Masked as of;
 ghost use Rattle.masked_bytes.specs.Masked.{put};
 
@@ -58,6 +58,14 @@ impl MaskedBytes {
         ensures { result ≡ length self.now }
     {
         self.bytes.len()
+    }
+
+    /// Whether none of them is poison, as far as one test tells: false where one is, or has been since they were made.
+    #[inline(always)]
+    pub fn is_clean(&self) -> bool
+        ensures { result ≡ true → (k : ℕ) → k < length self.now → slice_index_or self.now k None ≢ None }
+    {
+        self.clean
     }
 
     /// The byte at a place, or None exactly where it is poison.
