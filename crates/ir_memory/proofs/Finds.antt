@@ -19,7 +19,7 @@ use Rattle.ir_memory.specs.Find.{HasOnly, IsOnly}
 abbrev pub Touches : (MemoryBlock → Bool) → ℕ → Type 0
 Touches test address = (b : MemoryBlock) → test b ≡ true → (b.live ≡ true) × (b.start ≤ address) × (address ≤ b.start + b.size)
 
-false_or_true : (b : Bool) → (P : Type 0) → (b ≡ true → P) → (b ≡ false → P) → P
+pub false_or_true : (b : Bool) → (P : Type 0) → (b ≡ true → P) → (b ≡ false → P) → P
 false_or_true true P f g = f refl
 false_or_true false P f g = g refl
 

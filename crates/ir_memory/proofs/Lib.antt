@@ -11,3 +11,4 @@ mod Places
 mod Answering
 mod Numbers
 mod Paged
+mod Plain

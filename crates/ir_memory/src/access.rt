@@ -1,9 +1,10 @@
 //! The checks of an access, in their order.
-ghost use Rattle.std.specs.Prelude.{◌≡◌, ℕ, ◌+◌, ◌%◌, ◌<◌, ◌≤◌, ◌&&◌, not, nat_eq, is_some, IfSome, IfOk, length, true, slice_index_or};
+ghost use Rattle.std.specs.Prelude.{◌≡◌, ℕ, ◌+◌, ◌%◌, ◌<◌, ◌≤◌, ◌&&◌, not, nat_eq, is_some, Bool, IfSome, IfOk, Ok, Some, length, true, slice_index_or};
+ghost use Rattle.ir_eval.specs.declared.value.Scalar.TheVariants.{Ptr};
 ghost use Rattle.ir_memory.specs.Memory as of;
 ghost use Rattle.ir_memory.specs.Kept.{IsPlaced};
 ghost use Rattle.ir_memory.specs.Given.{IsKnown, IsAddress, IsAlignment};
-ghost use Rattle.ir_memory.specs.Seen.{at, all_seen};
+ghost use Rattle.ir_memory.specs.Seen.{at, all_seen, IsRoom, IsSound};
 ghost use Rattle.ir_memory.specs.declared.kept.KeptBlock.{KeptBlock as Kept};
 ghost use Rattle.ir_memory.specs.Block.{is_constant};
 ghost use Rattle.ir_memory.specs.Find.{AreStarts, HasOnly, IsOnly, place_there};
@@ -143,5 +144,39 @@ pub fn access(
     Ok(BlockPlace {
         index,
         offset: (pointer.address - block.start) as usize,
+    })
+}
+
+/// The place of an access of at least one byte that is in order, where few steps tell that: in a block of the pointer's own that is no
+/// constant to be written and is known to have no poison. None says nothing of the access. Pieces serve the clauses.
+#[inline(always)]
+pub fn plain_access(
+    kept: &BlockTable,
+    _pieces: &Pieces,
+    asked: Request,
+    pointer: Pointer,
+) -> Option<BlockPlace>
+    requires sound { (next : ℕ) × IsSound (at _pieces.now) kept.now next }
+    requires known { IsKnown (all_seen (at _pieces.now) kept.now) pointer }
+    requires some { 1 ≤ asked.count }
+    requires align { IsAlignment asked.align }
+    ensures value { IfSome result (λ p. (next : ℕ) (sealed : Bool) → of.access (record { list = all_seen (at _pieces.now) kept.now; next = next; sealed = sealed }) asked.count asked.align asked.writes (Ptr pointer) ≡ Ok (Some p)) }
+    ensures room { IfSome result (λ p. IsRoom kept.now p asked.count) }
+{
+    let index = pointer.block?;
+    let block = kept.row(index as usize)?;
+    let offset = block.offset_of(pointer.address, asked.count)?;
+    if !is_aligned(pointer.address, asked.align) {
+        return None;
+    }
+    if is_fixed(block, true, asked.writes) {
+        return None;
+    }
+    if !block.bytes.is_clean() {
+        return None;
+    }
+    Some(BlockPlace {
+        index: index as usize,
+        offset,
     })
 }

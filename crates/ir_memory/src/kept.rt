@@ -1,5 +1,5 @@
 //! One block as memory keeps it.
-ghost use Rattle.std.specs.Prelude.{◌≡◌, ◌≢◌, ◌+◌, ◌&&◌, nat_le, IfOk, ℕ, Option, true, false};
+ghost use Rattle.std.specs.Prelude.{◌≡◌, ◌≢◌, ◌+◌, ◌^◌, ◌<◌, ◌≤◌, ◌&&◌, nat_le, IfOk, IfSome, ℕ, Option, true, false};
 ghost use Rattle.ir_memory.specs.Block as block;
 ghost use Rattle.ir_memory.specs.Seen.{fresh, ended_block, seen};
 ghost use Rattle.pointer_pieces.specs.declared.piece.PointerPiece.{PointerPiece};
@@ -89,6 +89,24 @@ impl KeptBlock {
             && self.start <= address
             && address - self.start <= self.size
             && count <= self.size - (address - self.start)
+    }
+
+    /// How far so many bytes from an address on lie behind the start, where they are bytes of the block. One that has bytes ends
+    /// below 2^64.
+    #[inline(always)]
+    pub fn offset_of(&self, address: u64, count: u64) -> Option<usize>
+        requires { 0 < self.now.size → self.now.start + self.now.size < 2 ^ 64 }
+        ensures { IfSome result (λ offset. (self.now.start + offset ≡ address) × (offset + count ≤ self.now.size)) }
+    {
+        if count > self.size {
+            return None;
+        }
+        // An address before the start is as far behind it as no block reaches.
+        let offset = address.wrapping_sub(self.start);
+        if offset > self.size - count {
+            return None;
+        }
+        Some(offset as usize)
     }
 
     /// Whether it is a live block of that kind that starts there.

@@ -1,5 +1,7 @@
 //! All blocks of a run.
-ghost use Rattle.std.specs.Prelude.{◌≡◌, ◌≢◌, ℕ, ◌+◌, ◌<◌, ◌≤◌, ◌^◌, ◌↔◌, IfOk, IfSome, OnOk, OnErr, length, true, IsOk, slice_index_or, slice_set, Some, Ok, Err};
+ghost use Rattle.std.specs.Prelude.{◌≡◌, ◌≢◌, ℕ, ◌+◌, ◌*◌, ◌<◌, ◌≤◌, ◌^◌, ◌↔◌, IfOk, IfSome, OnOk, OnErr, length, true, false, IsOk, slice_index_or, slice_set, Some, Ok, Err};
+ghost use Rattle.ir_eval.specs.declared.value.Scalar.TheVariants as scalar;
+ghost use Rattle.ir_memory.specs.declared.leaf.Leaf.TheVariants as leaves;
 ghost use Rattle.ir_memory.specs.Memory as of;
 ghost use Rattle.ir_memory.specs.Memory.{HasFreeAddresses, live_bytes, round_up};
 ghost use Rattle.ir_memory.specs.Kept.{IsPlaced, AreKnown};
@@ -10,10 +12,10 @@ ghost use Rattle.ir_memory.specs.Seen.{at, all_seen, IsRoom, IsSound};
 ghost use Rattle.ir_memory.specs.declared.kept.KeptBlock.{KeptBlock as Kept};
 ghost use Rattle.ir_memory.specs.Cell.{size, leaf_cells};
 
-use crate::access::{BlockPlace, Request, access, started};
+use crate::access::{BlockPlace, Request, access, plain_access, started};
 use crate::copy::{copy_cells, meets};
 use crate::kept::KeptBlock;
-use crate::read::read_at;
+use crate::read::{has_pieces, read_at};
 use crate::starts::{forget, note};
 use crate::table::BlockTable;
 use crate::write::{clear, write_many, write_number, write_pointer, write_poison};
@@ -226,6 +228,56 @@ impl Memory {
         )?;
         write_leaf(&mut self.kept, &mut self.pieces, place, leaf, value)?;
         Ok(())
+    }
+
+    /// What `load` gives of an integer of so many bytes, where few steps tell it: the pointer has a block, no poison is known in it,
+    /// and no piece of a pointer stands among the bytes. None says nothing of the load.
+    #[inline(always)]
+    pub fn load_plain(&self, pointer: Pointer, count: usize, align: u32) -> Option<u128>
+        requires pointer { IsKnown self.now.list pointer }
+        requires some { 1 ≤ count }
+        requires few { count ≤ 8 }
+        requires align { IsAlignment align }
+        ensures value { IfSome result (λ n. of.loaded self.now (scalar.Ptr pointer) (leaves.Int (8 * count)) align ≡ Ok (scalar.Int n)) }
+        ensures fits { IfSome result (λ n. n < 256 ^ count) }
+    {
+        let asked = Request {
+            count: count as u64,
+            align,
+            writes: false,
+        };
+        let place = plain_access(&self.kept, &self.pieces, asked, pointer)?;
+        let block = self.kept.get(place.index);
+        let from = block.start + place.offset as u64;
+        if has_pieces(&self.pieces, block.mixed, from, from + count as u64) {
+            return None;
+        }
+        block.bytes.number(place.offset, count)
+    }
+
+    /// Writes an integer of so many bytes as `store` does, where few steps tell the store: the pointer has a block, which is no
+    /// constant, and no poison is known in it. Where it answers false, it says nothing of the store, and memory is unchanged.
+    #[tactic(auto, using(crate::proofs::Known::count_steps))]
+    #[inline(always)]
+    pub fn store_plain(&mut self, pointer: Pointer, count: usize, align: u32, number: u128) -> bool
+        requires pointer { IsKnown self.old.list pointer }
+        requires some { 1 ≤ count }
+        requires few { count ≤ 8 }
+        requires align { IsAlignment align }
+        ensures stored { result ≡ true → of.stored (scalar.Ptr pointer) (leaves.Int (8 * count)) align (scalar.Int number) self.old ≡ Ok self.new }
+        ensures unchanged { result ≡ false → self.new ≡ self.old }
+        ensures kept { Keeps self.old self.new }
+    {
+        let asked = Request {
+            count: count as u64,
+            align,
+            writes: true,
+        };
+        let Some(place) = plain_access(&self.kept, &self.pieces, asked, pointer) else {
+            return false;
+        };
+        write_number(&mut self.kept, &mut self.pieces, place, count, number);
+        true
     }
 
     /// Writes one byte at so many addresses. It is refused exactly where the access is undefined.

@@ -59,15 +59,26 @@ fn read_pointer(block: &KeptBlock, pieces: &Pieces, offset: usize) -> Scalar
     read_pieces(block, pieces, offset, Leaf::Ptr)
 }
 
+/// Whether a piece stands in a range.
+#[cold]
+#[inline(never)]
+fn meets_pieces(pieces: &Pieces, from: u64, to: u64) -> bool
+    requires { from ≤ to }
+    ensures none { result ≡ false → (q : ℕ) → from ≤ q → q < to → at pieces.now q ≡ None }
+    ensures some { result ≡ true → (q : ℕ) × (from ≤ q) × (q < to) × IsSome (at pieces.now q) }
+{
+    !pieces.is_clear(from, to)
+}
+
 /// Whether a piece stands in a range of a block, which may be mixed.
 #[inline(always)]
-fn has_pieces(pieces: &Pieces, mixed: bool, from: u64, to: u64) -> bool
+pub fn has_pieces(pieces: &Pieces, mixed: bool, from: u64, to: u64) -> bool
     requires order { from ≤ to }
     requires unmixed { mixed ≡ false → (q : ℕ) → from ≤ q → q < to → at pieces.now q ≡ None }
     ensures none { result ≡ false → (q : ℕ) → from ≤ q → q < to → at pieces.now q ≡ None }
     ensures some { result ≡ true → (q : ℕ) × (from ≤ q) × (q < to) × IsSome (at pieces.now q) }
 {
-    mixed && !pieces.is_clear(from, to)
+    mixed && meets_pieces(pieces, from, to)
 }
 
 /// The leaf at a place where pieces may stand.

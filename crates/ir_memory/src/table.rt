@@ -1,5 +1,5 @@
 //! All blocks by their numbers.
-ghost use Rattle.std.specs.Prelude.{◌≡◌, ◌≢◌, ℕ, ◌+◌, ◌<◌, ◌++◌, ◌∷◌, [], length, slice_index_or, slice_set, true, OnOk, OnErr};
+ghost use Rattle.std.specs.Prelude.{◌≡◌, ◌≢◌, ℕ, ◌+◌, ◌<◌, ◌++◌, ◌∷◌, [], length, slice_index_or, slice_set, true, MatchOption, OnOk, OnErr};
 ghost use Rattle.ir_memory.specs.Numbered.{IsPaged, kept_in};
 ghost use Rattle.ir_memory.specs.Seen.{ended_block};
 ghost use Rattle.ir_memory.specs.Lending.{LendsBlock};
@@ -99,6 +99,20 @@ impl BlockTable {
             return page.at(place);
         }
         &self.ended
+    }
+
+    /// The block of a number where a row is kept for it, and None only where it has ended.
+    #[inline(always)]
+    pub fn row(&self, index: usize) -> Option<&KeptBlock>
+        requires { index < length self.now }
+        ensures { MatchOption result (slice_index_or self.now index ended_block ≡ ended_block) (λ b. b.now ≡ slice_index_or self.now index b.now) }
+    {
+        let page = &self.pages[index / ROWS];
+        let place = index % ROWS;
+        if place < page.len() {
+            return Some(page.at(place));
+        }
+        None
     }
 
     /// The live block of a number, to be changed.

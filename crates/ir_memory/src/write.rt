@@ -13,6 +13,16 @@ use ir_eval::Pointer;
 use pointer_pieces::Pieces;
 use std::alloc::AllocError;
 
+/// Removes the pieces of a range.
+#[cold]
+#[inline(never)]
+fn clear_pieces(pieces: &mut Pieces, from: u64, to: u64)
+    requires { from ≤ to }
+    ensures { (q : ℕ) → at pieces.new q ≡ without from to (at pieces.old) q }
+{
+    pieces.clear(from, to);
+}
+
 /// Removes the pieces of a range of a block, which may be mixed.
 #[inline(always)]
 pub fn clear(pieces: &mut Pieces, mixed: bool, from: u64, to: u64)
@@ -21,7 +31,7 @@ pub fn clear(pieces: &mut Pieces, mixed: bool, from: u64, to: u64)
     ensures { (q : ℕ) → at pieces.new q ≡ without from to (at pieces.old) q }
 {
     if mixed {
-        pieces.clear(from, to);
+        clear_pieces(pieces, from, to);
     }
 }
 

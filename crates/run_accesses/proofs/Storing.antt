@@ -1,5 +1,5 @@
 -- What is stored carries an action out, and where memory is wanted for it.
-use Rattle.std.proofs.Common.{◌≡◌, ℕ, zero, suc, ◌<◌, Bool, true, false, ◌||◌, List, [], ◌∷◌, ◌++◌, length, map, Result, Ok, Err, refl, sym, ap, ◌∙◌, arith}
+use Rattle.std.proofs.Common.{◌≡◌, ℕ, zero, suc, ◌<◌, Bool, true, false, ◌||◌, List, [], ◌∷◌, ◌++◌, length, map, Result, Ok, Err, refl, sym, ap, ap₂, ◌∙◌, arith}
 use Rattle.std.specs.Prelude.{nat_eq, nat_lt, zip}
 use Rattle.std.specs.List.{list_any}
 use Rattle.std.proofs.lemmas.Bool.{lt-ltb}
@@ -106,6 +106,11 @@ many_want slots leaves b same more =
     let long = zip_long slots leaves same in
     let less : 1 < length (zip slots leaves) = omega (arith, long, more) in
     ap (λ w. w || b) (lt-ltb 1 (length (zip slots leaves)) less)
+
+-- one leaf, and its slot
+pub alone : (s : UnderWay) (slots : List Slot) (value : List Origin) (slot : Slot) (o : Origin) (v : Scalar) → slots ≡ slot ∷ [] → value ≡ o ∷ [] → v ≡ leaf_of s o → zip slots (map (leaf_of s) value) ≡ (slot, v) ∷ []
+alone s slots value slot o v one_slot one_leaf is =
+    ap₂ (λ (slots : List Slot) (value : List Origin). zip slots (map (leaf_of s) value)) one_slot one_leaf ∙ ap (λ (v : Scalar). (slot, v) ∷ []) (sym is)
 
 -- a store of leaves one after another, where memory may be wanted
 pub all_stored : (address : Scalar) (align : ℕ) (value : List (Slot × Scalar)) (old new : Blocks) (r : Result (Unit {0}) MemoryFault) → Stores (stored_value address align value old) new r

@@ -4,3 +4,4 @@ pub mod Bytes
 pub mod Ends
 pub mod Fitting
 pub mod Refusals
+pub mod Alone

@@ -1,8 +1,9 @@
 //! Whole values in the memory of a run: leaves that lie behind one another, strings, allocas that end, and room for a block.
 //!
 //! It stands on `ir_memory`, `ir_eval` and the definitions of `run_rules` and `typed_runs`. It promises that a value is loaded and
-//! stored leaf by leaf as a run's load and store are defined, that the bytes of a string are those before its first zero, and that
-//! no want of memory is told where there was room. Definitions: `specs/Answer`, `specs/Strings`; `Access` and `Printing` of `run_rules`.
+//! stored leaf by leaf as a run's load and store are defined, that what few steps tell of one integer is that too, that the bytes of
+//! a string are those before its first zero, and that no want of memory is told where there was room. Definitions: `specs/Answer`,
+//! `specs/Strings`; `Access` and `Printing` of `run_rules`.
 //!
 //! ```
 //! block_size(&memory, 3, 8) // Some(24), where so many more bytes may live
@@ -22,8 +23,8 @@ mod store;
 mod string;
 
 pub use alloca::release;
-pub use load::{load_leaf, load_value};
+pub use load::{load_leaf, load_plain, load_value};
 pub use room::{block_size, has_room};
 pub use slot::Slot;
-pub use store::{store_leaf, store_value};
+pub use store::{store_leaf, store_plain, store_value};
 pub use string::push_string;

@@ -1,15 +1,16 @@
 //! Loads of whole values (LangRef, "load").
-ghost use Rattle.std.specs.Prelude.{◌≡◌, ◌+◌, ◌<◌, [], ◌∷◌, ◌++◌, List, All, Ok, Err, IfErr, OnOk, OnErr, length, vec_len, vec_capacity};
+ghost use Rattle.std.specs.Prelude.{◌≡◌, ◌+◌, ◌*◌, ◌<◌, ◌≤◌, [], ◌∷◌, ◌++◌, List, All, Ok, Err, IfErr, IfSome, OnOk, OnErr, length, vec_len, vec_capacity};
 ghost use Rattle.ir_eval.specs.declared.value.Scalar.{Scalar as Leaves};
 ghost use Rattle.ir_eval.specs.declared.value.Scalar.TheVariants as scalar;
 ghost use Rattle.ir_memory.specs.Given.{IsAddress, IsAlignment, IsKnown, IsLeaf};
+ghost use Rattle.ir_memory.specs.declared.leaf.Leaf.TheVariants as kinds;
 ghost use Rattle.run_rules.specs.Access.{in_front, loaded_slots, loaded_value};
 ghost use Rattle.run_values.specs.Answer.{Loads, WantsRoom};
 
 use crate::Slot;
 use crate::displaced::behind;
 use ir_eval::{Pointer, Scalar};
-use ir_memory::{Memory, MemoryFault};
+use ir_memory::{Leaf, Memory, MemoryFault};
 use ir_tables::UndefinedKind;
 
 /// Loads a value of one leaf. It is refused exactly where the load is undefined, and wants no memory.
@@ -30,6 +31,51 @@ pub fn load_leaf(
     };
     let place = Scalar::Ptr(behind(pointer, slot.offset()));
     memory.load(place, slot.leaf(), align)
+}
+
+/// The integer of so many bytes that a value is, where few steps tell its load. Where the count is written out, the load is compiled for it.
+#[inline(always)]
+fn integer_at(
+    memory: &Memory,
+    pointer: Pointer,
+    align: u32,
+    slot: Slot,
+    count: usize,
+) -> Option<u128>
+    requires pointer { IsKnown memory.now.list pointer }
+    requires align { IsAlignment align }
+    requires leaf { slot.leaf ≡ kinds.Int (8 * count) }
+    requires some { 1 ≤ count }
+    requires few { count ≤ 8 }
+    ensures { IfSome result (λ n. loaded_value memory.now (scalar.Ptr pointer) align (slot ∷ []) ≡ Ok (scalar.Int n ∷ [])) }
+{
+    memory.load_plain(behind(pointer, slot.offset()), count, align)
+}
+
+/// Loads a value that is one integer of 8, 16, 32 or 64 bits, where few steps tell the load. None says nothing of it.
+#[inline(always)]
+pub fn load_plain(memory: &Memory, pointer: Pointer, align: u32, slot: Slot) -> Option<u128>
+    requires pointer { IsKnown memory.now.list pointer }
+    requires align { IsAlignment align }
+    ensures { IfSome result (λ n. loaded_value memory.now (scalar.Ptr pointer) align (slot ∷ []) ≡ Ok (scalar.Int n ∷ [])) }
+{
+    let Leaf::Int(width) = slot.leaf() else {
+        return None;
+    };
+    // Widths are told apart in two halves, since a table of all four would take more steps.
+    if width < 32 {
+        match width {
+            8 => integer_at(memory, pointer, align, slot, 1),
+            16 => integer_at(memory, pointer, align, slot, 2),
+            _ => None,
+        }
+    } else {
+        match width {
+            32 => integer_at(memory, pointer, align, slot, 4),
+            64 => integer_at(memory, pointer, align, slot, 8),
+            _ => None,
+        }
+    }
 }
 
 /// Adds the leaves of a value in their order, up to one whose load is undefined. The first is accessed with that alignment, the

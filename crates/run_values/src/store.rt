@@ -1,7 +1,9 @@
 //! Stores of whole values (LangRef, "store").
-ghost use Rattle.std.specs.Prelude.{◌≡◌, [], ◌∷◌, All, length, zip};
+ghost use Rattle.std.specs.Prelude.{◌≡◌, ◌*◌, ◌≤◌, [], ◌∷◌, All, Ok, true, false, length, zip};
+ghost use Rattle.ir_eval.specs.declared.value.Scalar.TheVariants as scalar;
 ghost use Rattle.ir_memory.specs.Answer.{Answers, IsInteger, Keeps, NeedsNone};
 ghost use Rattle.ir_memory.specs.Given.{IsAddress, IsAlignment, IsKnown, IsLeaf};
+ghost use Rattle.ir_memory.specs.declared.leaf.Leaf.TheVariants as kinds;
 ghost use Rattle.run_rules.specs.Access.{stored_slots, stored_value};
 ghost use Rattle.typed_runs.specs.Kinds.{IsOf};
 ghost use Rattle.typed_runs.specs.States.{AreStored};
@@ -10,7 +12,7 @@ ghost use Rattle.run_values.specs.Answer.{Stores};
 use crate::Slot;
 use crate::displaced::behind;
 use ir_eval::{Pointer, Scalar};
-use ir_memory::{Memory, MemoryFault};
+use ir_memory::{Leaf, Memory, MemoryFault};
 use ir_tables::UndefinedKind;
 
 /// Stores a value of one leaf. It is refused exactly where the store is undefined, and then memory is unchanged; memory is wanted
@@ -36,6 +38,63 @@ pub fn store_leaf(
     };
     let place = Scalar::Ptr(behind(pointer, slot.offset()));
     memory.store(place, slot.leaf(), align, value)
+}
+
+/// Stores an integer of so many bytes, where few steps tell the store. Where the count is written out, the store is compiled for it.
+#[inline(always)]
+fn store_integer(
+    memory: &mut Memory,
+    pointer: Pointer,
+    align: u32,
+    slot: Slot,
+    count: usize,
+    number: u128,
+) -> bool
+    requires pointer { IsKnown memory.old.list pointer }
+    requires align { IsAlignment align }
+    requires leaf { slot.leaf ≡ kinds.Int (8 * count) }
+    requires some { 1 ≤ count }
+    requires few { count ≤ 8 }
+    ensures stored { result ≡ true → stored_value (scalar.Ptr pointer) align ((slot, scalar.Int number) ∷ []) memory.old ≡ Ok memory.new }
+    ensures unchanged { result ≡ false → memory.new ≡ memory.old }
+    ensures kept { Keeps memory.old memory.new }
+{
+    memory.store_plain(behind(pointer, slot.offset()), count, align, number)
+}
+
+/// Stores a value that is one integer of 8, 16, 32 or 64 bits, where few steps tell the store. Where it answers false, it says nothing of
+/// the store, and memory is unchanged.
+#[inline(always)]
+pub fn store_plain(
+    memory: &mut Memory,
+    pointer: Pointer,
+    align: u32,
+    slot: Slot,
+    number: u128,
+) -> bool
+    requires pointer { IsKnown memory.old.list pointer }
+    requires align { IsAlignment align }
+    ensures stored { result ≡ true → stored_value (scalar.Ptr pointer) align ((slot, scalar.Int number) ∷ []) memory.old ≡ Ok memory.new }
+    ensures unchanged { result ≡ false → memory.new ≡ memory.old }
+    ensures kept { Keeps memory.old memory.new }
+{
+    let Leaf::Int(width) = slot.leaf() else {
+        return false;
+    };
+    // In two halves, as of a load.
+    if width < 32 {
+        match width {
+            8 => store_integer(memory, pointer, align, slot, 1, number),
+            16 => store_integer(memory, pointer, align, slot, 2, number),
+            _ => false,
+        }
+    } else {
+        match width {
+            32 => store_integer(memory, pointer, align, slot, 4, number),
+            64 => store_integer(memory, pointer, align, slot, 8, number),
+            _ => false,
+        }
+    }
 }
 
 /// Stores leaves in their order, up to one whose store is undefined. The first is accessed with that alignment, the others with 1.

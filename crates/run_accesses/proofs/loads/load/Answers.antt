@@ -1,12 +1,19 @@
-use Rattle.std.proofs.Common.{◌≡◌, ℕ, ◌+◌, ◌<◌, ◌≤◌, ◌++◌, length, sym, ap, ◌∙◌, subst}
+use Rattle.std.proofs.Common.{◌≡◌, ◌+◌, ◌≤◌, [], ◌∷◌, length, ap, ◌∙◌, sym, arith}
+use Rattle.ir_eval.specs.declared.value.Scalar.TheVariants.{Int}
+use Rattle.run_rules.specs.Access.{loaded_value}
 use Rattle.run_stack.specs.UnderWay.{newest}
-use Rattle.run_accesses.proofs.Loading.{value_long}
+use Rattle.run_accesses.proofs.Loading.{loaded, value_long}
 use Rattle.run_accesses.proofs.loads.load.Goals as goal
 
-pub give_all-requires-clause-places : goal.give_all-requires-clause-places
-give_all-requires-clause-places c =
+pub give-requires-clause-place : goal.give-requires-clause-place
+give-requires-clause-place c =
     let a = c.args in
-    let read = c.in-Ok.ensures.value in
-    let long : length c.deref.result.now ≡ length a.slots.now =
-    ap length (c.deref.ensures.value ∙ read.2 ∙ ap (λ l. l ++ read.0) c.clear.ensures.items) ∙ value_long a.memory.now c.read-address.result a.align a.slots.now read.0 read.1 in
-    subst (λ (n : ℕ). 0 < n → a.to + n ≤ length (newest a.stack.now.frames).leaves) (sym long) c.requires.places
+    let one : 1 ≡ length a.slots.now = value_long a.memory.now c.read-place.result a.align a.slots.now (Int c.in-Some.number ∷ []) c.in-Some.ensures in
+    let there : a.to + length a.slots.now ≤ length (newest a.stack.now.frames).leaves = c.requires.places (omega (arith, one)) in
+    omega (arith, there, one)
+
+pub returns-in-Some-clause-loads : goal.returns-in-Some-clause-loads
+returns-in-Some-clause-loads c =
+    let a = c.args in
+    loaded a.to a.align a.address.now a.slots.now a.stack.now c.give.new.stack a.memory.now (Int c.in-Some.number ∷ []) c.requires.on.running c.give.ensures
+    (ap (λ v. loaded_value a.memory.now v a.align a.slots.now) (sym c.read-place.ensures) ∙ c.in-Some.ensures)
