@@ -21,20 +21,20 @@ use tool_output::OutputFormat;
 pub(crate) fn assemble<F: Files, O: Sink>(
     alloc: Global,
     name: &Text,
-    text: &[u8],
+    text: Text,
     place: &OutputName,
     files: &mut F,
     output: &mut O,
 ) -> Ended
-    requires { IsShort text.now }
-    ensures work { IsWork (commands.Assemble name.now place.now) (text.now ∷ []) result
+    requires { IsShort text }
+    ensures work { IsWork (commands.Assemble name.now place.now) (text ∷ []) result
         ⊎ FailsToWrite (Some place.now) (Rose (O.faults output.old) (O.faults output.new)) (Rose (F.write_faults files.old) (F.write_faults files.new)) result }
     ensures of_work { IsOfWork result }
     ensures cannot_write { (name : List ℕ) → result ≡ Ended.CannotWrite name
         → IsUnwritten (Some place.now) (Rose (O.faults output.old) (O.faults output.new)) (Rose (F.write_faults files.old) (F.write_faults files.new)) name }
     ensures output_fault { O.faults output.old < O.faults output.new → IsUnwrittenOrMemory result }
     ensures write_fault { F.write_faults files.old < F.write_faults files.new → IsFileUnwritten (Some place.now) result }
-    ensures written { IsWritten (commands.Assemble name.now place.now) (text.now ∷ []) (outputs (O.taken output.old) (F.contents files.old)) (outputs (O.taken output.new) (F.contents files.new)) result }
+    ensures written { IsWritten (commands.Assemble name.now place.now) (text ∷ []) (outputs (O.taken output.old) (F.contents files.old)) (outputs (O.taken output.new) (F.contents files.new)) result }
     ensures leaves_files { LeavesFilesBut (Some place.now) result (F.contents files.old) (F.contents files.new) (F.read_faults files.old) (F.read_faults files.new) (F.write_faults files.old) (F.write_faults files.new) }
     ensures reads { F.read_faults files.new ≡ F.read_faults files.old }
     ensures unwritten { LeavesStandard (Some place.now) result → output.new ≡ output.old }

@@ -84,12 +84,12 @@ fn part_of(alloc: Global, checked: &Checked, selection: &SelectionWords) -> Resu
 fn extracted(
     alloc: Global,
     name: &Text,
-    bytes: &[u8],
+    bytes: Text,
     selection: &SelectionWords,
 ) -> Result<Checked, Ended>
-    requires { IsShort bytes.now }
-    ensures made { IfOk result (λ part. ExtractsTo bytes.now selection.now (module_of part)) }
-    ensures work { IfErr result (λ ended. IsExtraction name.now selection.now bytes.now ended ⊎ (ended ≡ Ended.Memory)) }
+    requires { IsShort bytes }
+    ensures made { IfOk result (λ part. ExtractsTo bytes selection.now (module_of part)) }
+    ensures work { IfErr result (λ ended. IsExtraction name.now selection.now bytes ended ⊎ (ended ≡ Ended.Memory)) }
     ensures of_texts { IfErr result IsOfTexts }
 {
     let whole = accepted_part(alloc, name, bytes)?;
@@ -104,22 +104,22 @@ fn extracted(
 pub(crate) fn extract_part<F: Files, O: Sink>(
     alloc: Global,
     name: &Text,
-    bytes: &[u8],
+    bytes: Text,
     selection: &SelectionWords,
     place: &OutputName,
     text: bool,
     files: &mut F,
     output: &mut O,
 ) -> Ended
-    requires { IsShort bytes.now }
-    ensures work { IsWork (commands.Extract name.now place.now text selection.now) (bytes.now ∷ []) result
+    requires { IsShort bytes }
+    ensures work { IsWork (commands.Extract name.now place.now text selection.now) (bytes ∷ []) result
         ⊎ FailsToWrite (Some place.now) (Rose (O.faults output.old) (O.faults output.new)) (Rose (F.write_faults files.old) (F.write_faults files.new)) result }
     ensures of_work { IsOfWork result }
     ensures cannot_write { (name : List ℕ) → result ≡ Ended.CannotWrite name
         → IsUnwritten (Some place.now) (Rose (O.faults output.old) (O.faults output.new)) (Rose (F.write_faults files.old) (F.write_faults files.new)) name }
     ensures output_fault { O.faults output.old < O.faults output.new → IsUnwrittenOrMemory result }
     ensures write_fault { F.write_faults files.old < F.write_faults files.new → IsFileUnwritten (Some place.now) result }
-    ensures written { IsWritten (commands.Extract name.now place.now text selection.now) (bytes.now ∷ []) (outputs (O.taken output.old) (F.contents files.old)) (outputs (O.taken output.new) (F.contents files.new)) result }
+    ensures written { IsWritten (commands.Extract name.now place.now text selection.now) (bytes ∷ []) (outputs (O.taken output.old) (F.contents files.old)) (outputs (O.taken output.new) (F.contents files.new)) result }
     ensures leaves_files { LeavesFilesBut (Some place.now) result (F.contents files.old) (F.contents files.new) (F.read_faults files.old) (F.read_faults files.new) (F.write_faults files.old) (F.write_faults files.new) }
     ensures reads { F.read_faults files.new ≡ F.read_faults files.old }
     ensures unwritten { LeavesStandard (Some place.now) result → output.new ≡ output.old }

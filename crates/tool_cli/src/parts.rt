@@ -1,9 +1,15 @@
 //! The inputs of tools that work on modules: which are accepted, and how the others are refused.
-ghost use Rattle.std.specs.Prelude.{◌≡◌, ◌⊎◌, length, IfOk, IfErr, OnOk};
+ghost use Rattle.std.specs.Prelude.{◌≡◌, ◌⊎◌, ◌≤◌, List, true, length, IfOk, IfErr, OnOk};
 ghost use Rattle.linkage_rules.specs.Ids.{modules};
 ghost use Rattle.module_arena.specs.EntityView.{entity_view};
 ghost use Rattle.module_arena.specs.Module.{Module};
+ghost use Rattle.module_arena.specs.Names.{are_bytes};
 ghost use Rattle.module_arena.specs.View.{module_of};
+ghost use Rattle.ir_syntax.specs.Answers.{HasItems};
+ghost use Rattle.ir_syntax.specs.Counts.{counted, most_counted};
+ghost use Rattle.ir_syntax.specs.Forms.{AreItemsFormed};
+ghost use Rattle.ir_syntax.specs.Refusal.{IsRefused};
+ghost use Rattle.ir_syntax.specs.Tree.{ItemTree};
 ghost use Rattle.ir_syntax.specs.View.{items_view};
 ghost use Rattle.name_rules.specs.Reads.{Reads};
 ghost use Rattle.name_rules.specs.Spelled.{spelled_global};
@@ -140,16 +146,39 @@ pub(crate) struct Accepted {
     pub(crate) checked: Checked,
 }
 
-/// The items and the module of the text of the input of this name, where it has a module that is valid.
-pub(crate) fn accepted_text(alloc: Global, name: &Text, text: &[u8]) -> Result<Accepted, Ended>
-    requires { IsShort text.now }
-    ensures module { IfOk result (λ accepted. IsTextOf text.now (items_view accepted.items) (module_of accepted.checked)) }
+// What holds of all bytes: each is one.
+fn each_is_byte(bytes: &[u8])
+    ensures { are_bytes bytes.now ≡ true }
+{
+    let _count = bytes.len();
+}
+
+// The items of a text, which is let go as soon as they are there.
+fn items_of(alloc: Global, text: Text) -> Result<Items, SyntaxFault>
+    requires { IsShort text }
+    ensures bytes { are_bytes text ≡ true }
+    ensures items { IfOk result (λ items. HasItems text (items_view items)) }
+    ensures one { IfOk result (λ items. (others : List ItemTree) → HasItems text others → others ≡ items_view items) }
+    ensures count { IfOk result (λ items. counted (items_view items) ≤ most_counted) }
+    ensures shape { IfOk result (λ items. AreItemsFormed (items_view items)) }
+    ensures refused { IfErr result (λ fault. IsRefused text fault ⊎ (fault ≡ SyntaxFault.Memory)) }
+{
+    let read = text.bytes();
+    each_is_byte(read);
+    read_items(alloc, read)
+}
+
+/// The items and the module of the text of the input of this name, where it has a module that is valid. The text is let go
+/// before its module is made.
+pub(crate) fn accepted_text(alloc: Global, name: &Text, text: Text) -> Result<Accepted, Ended>
+    requires { IsShort text }
+    ensures module { IfOk result (λ accepted. IsTextOf text (items_view accepted.items) (module_of accepted.checked)) }
     // A text has no other module.
-    ensures one { IfOk result (λ accepted. (m : Module) → Reads text.now m → m ≡ module_of accepted.checked) }
-    ensures refused { IfErr result (λ ended. IsTextRefused name.now text.now ended ⊎ (ended ≡ Ended.Memory)) }
+    ensures one { IfOk result (λ accepted. (m : Module) → Reads text m → m ≡ module_of accepted.checked) }
+    ensures refused { IfErr result (λ ended. IsTextRefused name.now text ended ⊎ (ended ≡ Ended.Memory)) }
     ensures of_texts { IfErr result IsOfTexts }
 {
-    let items = match read_items(alloc, text) {
+    let items = match items_of(alloc, text) {
         Ok(items) => items,
         Err(fault) => return Err(refusal_told(alloc, name, fault)),
     };
@@ -163,36 +192,27 @@ pub(crate) fn accepted_text(alloc: Global, name: &Text, text: &[u8]) -> Result<A
     }
 }
 
-/// The module that the input of this name stands for, where it is one that is valid: as bitcode where the input begins as that does, and else as a text.
-pub(crate) fn accepted_part(alloc: Global, name: &Text, bytes: &[u8]) -> Result<Checked, Ended>
-    requires { IsShort bytes.now }
-    ensures part { IfOk result (λ checked. IsPart bytes.now (module_of checked)) }
-    ensures refused { IfErr result (λ ended. IsPartRefused name.now bytes.now ended ⊎ (ended ≡ Ended.Memory)) }
+/// The module that the input of this name stands for, where it is one that is valid: as bitcode where the input begins as that
+/// does, and else as a text. The input is let go as soon as it was read.
+pub(crate) fn accepted_part(alloc: Global, name: &Text, input: Text) -> Result<Checked, Ended>
+    requires { IsShort input }
+    ensures part { IfOk result (λ checked. IsPart input (module_of checked)) }
+    ensures refused { IfErr result (λ ended. IsPartRefused name.now input ended ⊎ (ended ≡ Ended.Memory)) }
     ensures of_texts { IfErr result IsOfTexts }
 {
-    if is_bitcode(bytes) {
-        return accepted_bitcode(alloc, name, bytes);
+    let read = input.bytes();
+    if is_bitcode(read) {
+        return accepted_bitcode(alloc, name, read);
     }
     // The items of a text are let go as soon as its module is there.
-    match accepted_text(alloc, name, bytes) {
+    match accepted_text(alloc, name, input) {
         Ok(accepted) => Ok(accepted.checked),
         Err(ended) => Err(ended),
     }
 }
 
-/// The module that the input of this name stands for, where it is one that is valid. The input is let go as soon as that
-/// is known.
-pub(crate) fn taken_part(alloc: Global, name: &Text, text: Text) -> Result<Checked, Ended>
-    requires { IsShort text }
-    ensures part { IfOk result (λ checked. IsPart text (module_of checked)) }
-    ensures refused { IfErr result (λ ended. IsPartRefused name.now text ended ⊎ (ended ≡ Ended.Memory)) }
-    ensures of_texts { IfErr result IsOfTexts }
-{
-    accepted_part(alloc, name, text.bytes())
-}
-
 /// The modules that the inputs of these names stand for, in their order, where each stands for one that is valid. Each
-/// input is let go as soon as its module is there.
+/// input is let go as soon as it was read.
 pub(crate) fn accepted_parts(
     alloc: Global,
     names: &[Text],
@@ -212,7 +232,7 @@ pub(crate) fn accepted_parts(
             Some(text) => text,
             None => unreachable!(),
         };
-        let checked = taken_part(alloc, name, text)?;
+        let checked = accepted_part(alloc, name, text)?;
         let Ok(()) = parts.push(checked) else {
             return Err(Ended::Memory);
         };

@@ -30,9 +30,8 @@ fn first_text(texts: TextList) -> Text
     all.swap_remove(0)
 }
 
-/// Does what the command says with the texts of its inputs, each of at most 16 MiB. Texts that are linked or run are let
-/// go one by one, each when its module is there. A program that is run has standard input for its own, but where its
-/// module came from there.
+/// Does what the command says with the texts of its inputs, each of at most 16 MiB. Texts of modules are let go one by one, each
+/// when it was read. A program that is run has standard input for its own, but where its module came from there.
 pub fn work<F: Files, I: Source, O: Sink>(
     alloc: Global,
     command: &Command,
@@ -72,7 +71,7 @@ pub fn work<F: Files, I: Source, O: Sink>(
         Command::Assemble {
             input,
             output: place,
-        } => assemble(alloc, input, texts.at(0).bytes(), place, files, output),
+        } => assemble(alloc, input, first_text(texts), place, files, output),
         Command::Disassemble {
             input,
             output: place,
@@ -90,7 +89,7 @@ pub fn work<F: Files, I: Source, O: Sink>(
         } => extract_part(
             alloc,
             input,
-            texts.at(0).bytes(),
+            first_text(texts),
             selection,
             place,
             *text,

@@ -21,8 +21,8 @@ unreachable-requires c =
     let lt : c.inputs.name-index < length c.args.texts = omega (arith, c.inputs-test.true, c.requires.same) in
     some_left c.inputs.name-index c.args.texts (into_iter_items c.inputs.rest) lt c.inputs.invariant.left (sym c.inputs.rest.rest.ok.0 ∙ c.in-None.ensures.cases.0)
 
-pub taken_part-requires : goal.taken_part-requires
-taken_part-requires c =
+pub accepted_part-requires : goal.accepted_part-requires
+accepted_part-requires c =
     let lt : c.inputs.name-index < length c.args.texts = omega (arith, c.inputs-test.true, c.requires.same) in
     let next = next_left c.inputs.name-index c.args.texts c.in-Some.text (into_iter_items c.next.new.self) (sym c.in-Some.ensures.items ∙ c.inputs.invariant.left) in
     short_at c.args.texts c.inputs.name-index c.in-Some.text c.requires.short lt next.0

@@ -29,8 +29,11 @@ returns-in-Analyze-clause-written g c = λ plain. analysis_written _ _ _ _ _ _ _
 pub returns-in-Analyze-clause-leaves_files : goal.returns-in-Analyze-clause-leaves_files
 returns-in-Analyze-clause-leaves_files g c = leaves_none _ _ _ _ _
 
+pub first_text-requires : goal.first_text-requires
+first_text-requires g c = (let one : length c.args.texts ≡ 1 = rw c.in-Assemble.is at c.requires.count in omega (arith, one))
+
 pub assemble-requires : goal.assemble-requires
-assemble-requires g c = rw c.bytes-in-Assemble.ensures (short_first _ _ c.requires.short c.at-in-Assemble.ensures)
+assemble-requires g c = short_first _ _ c.requires.short c.first_text.ensures
 
 pub returns-in-Assemble-clause-work : goal.returns-in-Assemble-clause-work
 returns-in-Assemble-clause-work g c =
@@ -38,14 +41,14 @@ returns-in-Assemble-clause-work g c =
     IsWork command texts c.assemble.result
     ⊎ FailsToWrite (output_of command) (Rose (g.O.Sink.faults c.args.output.now) (g.O.Sink.faults c.assemble.new.output)) (Rose (g.F.Files.write_faults c.args.files.now) (g.F.Files.write_faults c.assemble.new.files)) c.assemble.result in
     λ plain.
-    assemble_is P _ _ _ _ _ c.in-Assemble.is (only_text _ _ _ _ _ c.in-Assemble.is c.requires.count c.at-in-Assemble.ensures) (rw c.bytes-in-Assemble.ensures at c.assemble.ensures.work)
+    assemble_is P _ _ _ _ _ c.in-Assemble.is (only_text _ _ _ _ _ c.in-Assemble.is c.requires.count c.first_text.ensures) c.assemble.ensures.work
 
 pub returns-in-Assemble-clause-written : goal.returns-in-Assemble-clause-written
 returns-in-Assemble-clause-written g c =
     let P : Command → List (List ℕ) → Type 0 = λ command texts.
     IsWritten command texts (outputs (g.O.Sink.taken c.args.output.now) (g.F.Files.contents c.args.files.now)) (outputs (g.O.Sink.taken c.assemble.new.output) (g.F.Files.contents c.assemble.new.files)) c.assemble.result in
     λ plain.
-    assemble_is P _ _ _ _ _ c.in-Assemble.is (only_text _ _ _ _ _ c.in-Assemble.is c.requires.count c.at-in-Assemble.ensures) (rw c.bytes-in-Assemble.ensures at c.assemble.ensures.written)
+    assemble_is P _ _ _ _ _ c.in-Assemble.is (only_text _ _ _ _ _ c.in-Assemble.is c.requires.count c.first_text.ensures) c.assemble.ensures.written
 
 pub returns-in-Assemble-clause-cannot_write : goal.returns-in-Assemble-clause-cannot_write
 returns-in-Assemble-clause-cannot_write g c = rw c.in-Assemble.is c.assemble.ensures.cannot_write
@@ -92,8 +95,11 @@ returns-in-Link-clause-unwritten g c = rw c.in-Link.is (λ analysis plain early.
 pub returns-in-Link-clause-files_unwritten : goal.returns-in-Link-clause-files_unwritten
 returns-in-Link-clause-files_unwritten g c = rw c.in-Link.is c.link.ensures.files_unwritten
 
+pub first_text-in-Extract-requires : goal.first_text-in-Extract-requires
+first_text-in-Extract-requires g c = (let one : length c.args.texts ≡ 1 = rw c.in-Extract.is at c.requires.count in omega (arith, one))
+
 pub extract_part-requires : goal.extract_part-requires
-extract_part-requires g c = rw c.bytes-in-Extract.ensures (short_first _ _ c.requires.short c.at-in-Extract.ensures)
+extract_part-requires g c = short_first _ _ c.requires.short c.first_text-in-Extract.ensures
 
 pub returns-in-Extract-clause-work : goal.returns-in-Extract-clause-work
 returns-in-Extract-clause-work g c =
@@ -101,14 +107,14 @@ returns-in-Extract-clause-work g c =
     IsWork command texts c.extract_part.result
     ⊎ FailsToWrite (output_of command) (Rose (g.O.Sink.faults c.args.output.now) (g.O.Sink.faults c.extract_part.new.output)) (Rose (g.F.Files.write_faults c.args.files.now) (g.F.Files.write_faults c.extract_part.new.files)) c.extract_part.result in
     λ plain.
-    extract_is P _ _ _ _ _ _ _ c.in-Extract.is (only_input _ _ _ _ _ _ _ c.in-Extract.is c.requires.count c.at-in-Extract.ensures) (rw c.bytes-in-Extract.ensures at c.extract_part.ensures.work)
+    extract_is P _ _ _ _ _ _ _ c.in-Extract.is (only_input _ _ _ _ _ _ _ c.in-Extract.is c.requires.count c.first_text-in-Extract.ensures) c.extract_part.ensures.work
 
 pub returns-in-Extract-clause-written : goal.returns-in-Extract-clause-written
 returns-in-Extract-clause-written g c =
     let P : Command → List (List ℕ) → Type 0 = λ command texts.
     IsWritten command texts (outputs (g.O.Sink.taken c.args.output.now) (g.F.Files.contents c.args.files.now)) (outputs (g.O.Sink.taken c.extract_part.new.output) (g.F.Files.contents c.extract_part.new.files)) c.extract_part.result in
     λ plain.
-    extract_is P _ _ _ _ _ _ _ c.in-Extract.is (only_input _ _ _ _ _ _ _ c.in-Extract.is c.requires.count c.at-in-Extract.ensures) (rw c.bytes-in-Extract.ensures at c.extract_part.ensures.written)
+    extract_is P _ _ _ _ _ _ _ c.in-Extract.is (only_input _ _ _ _ _ _ _ c.in-Extract.is c.requires.count c.first_text-in-Extract.ensures) c.extract_part.ensures.written
 
 pub returns-in-Extract-clause-cannot_write : goal.returns-in-Extract-clause-cannot_write
 returns-in-Extract-clause-cannot_write g c = rw c.in-Extract.is c.extract_part.ensures.cannot_write
@@ -164,11 +170,11 @@ returns-in-Extract-clause-ran g c = rw c.in-Extract.is tt
 pub returns-in-Extract-clause-not_begun : goal.returns-in-Extract-clause-not_begun
 returns-in-Extract-clause-not_begun g c = rw c.in-Extract.is (λ never. absurd never)
 
-pub first_text-requires : goal.first_text-requires
-first_text-requires g c = (let one : length c.args.texts ≡ 1 = rw c.in-Lli.is at c.requires.count in omega (arith, one))
+pub first_text-in-Lli-requires : goal.first_text-in-Lli-requires
+first_text-in-Lli-requires g c = (let one : length c.args.texts ≡ 1 = rw c.in-Lli.is at c.requires.count in omega (arith, one))
 
 pub run_bytes-requires-clause-short : goal.run_bytes-requires-clause-short
-run_bytes-requires-clause-short g c = short_first _ _ c.requires.short c.first_text.ensures
+run_bytes-requires-clause-short g c = short_first _ _ c.requires.short c.first_text-in-Lli.ensures
 
 pub run_bytes-requires-clause-steps : goal.run_bytes-requires-clause-steps
 run_bytes-requires-clause-steps g c = rw c.in-Lli.is at c.requires.steps
@@ -177,14 +183,14 @@ pub returns-in-Lli-clause-ran : goal.returns-in-Lli-clause-ran
 returns-in-Lli-clause-ran g c =
     let before = outside (g.I.Source.left c.args.input.now) (g.I.Source.faults c.args.input.now) (g.O.Sink.taken c.args.output.now) (g.O.Sink.faults c.args.output.now) in
     let after = outside (g.I.Source.left c.run_bytes.new.input) (g.I.Source.faults c.run_bytes.new.input) (g.O.Sink.taken c.run_bytes.new.output) (g.O.Sink.faults c.run_bytes.new.output) in
-    let one = only_program c.args.command.now _ _ _ c.args.texts _ c.in-Lli.is c.requires.count c.first_text.ensures in
+    let one = only_program c.args.command.now _ _ _ c.args.texts _ c.in-Lli.is c.requires.count c.first_text-in-Lli.ensures in
     program_is c.args.command.now _ _ _ c.args.texts _ before after c.run_bytes.result c.in-Lli.is one c.run_bytes.ensures.ran
 
 pub returns-in-Lli-clause-of_work : goal.returns-in-Lli-clause-of_work
 returns-in-Lli-clause-of_work g c =
     let before = outside (g.I.Source.left c.args.input.now) (g.I.Source.faults c.args.input.now) (g.O.Sink.taken c.args.output.now) (g.O.Sink.faults c.args.output.now) in
     let after = outside (g.I.Source.left c.run_bytes.new.input) (g.I.Source.faults c.run_bytes.new.input) (g.O.Sink.taken c.run_bytes.new.output) (g.O.Sink.faults c.run_bytes.new.output) in
-    let one = only_program c.args.command.now _ _ _ c.args.texts _ c.in-Lli.is c.requires.count c.first_text.ensures in
+    let one = only_program c.args.command.now _ _ _ c.args.texts _ c.in-Lli.is c.requires.count c.first_text-in-Lli.ensures in
     lli_of_run c.args.command.now _ _ _ c.args.texts _ before after c.run_bytes.result c.in-Lli.is one c.run_bytes.ensures.ran
 
 pub returns-in-Lli-clause-cannot_write : goal.returns-in-Lli-clause-cannot_write
@@ -192,14 +198,14 @@ returns-in-Lli-clause-cannot_write g c =
     let before = outside (g.I.Source.left c.args.input.now) (g.I.Source.faults c.args.input.now) (g.O.Sink.taken c.args.output.now) (g.O.Sink.faults c.args.output.now) in
     let after = outside (g.I.Source.left c.run_bytes.new.input) (g.I.Source.faults c.run_bytes.new.input) (g.O.Sink.taken c.run_bytes.new.output) (g.O.Sink.faults c.run_bytes.new.output) in
     let writes = g.F.Files.write_faults c.args.files.now in
-    let one = only_program c.args.command.now _ _ _ c.args.texts _ c.in-Lli.is c.requires.count c.first_text.ensures in
+    let one = only_program c.args.command.now _ _ _ c.args.texts _ c.in-Lli.is c.requires.count c.first_text-in-Lli.ensures in
     lli_unwritten c.args.command.now _ _ _ c.args.texts _ before after (Rose writes writes) c.run_bytes.result c.in-Lli.is one c.run_bytes.ensures.ran
 
 pub returns-in-Lli-clause-output_fault : goal.returns-in-Lli-clause-output_fault
 returns-in-Lli-clause-output_fault g c =
     let before = outside (g.I.Source.left c.args.input.now) (g.I.Source.faults c.args.input.now) (g.O.Sink.taken c.args.output.now) (g.O.Sink.faults c.args.output.now) in
     let after = outside (g.I.Source.left c.run_bytes.new.input) (g.I.Source.faults c.run_bytes.new.input) (g.O.Sink.taken c.run_bytes.new.output) (g.O.Sink.faults c.run_bytes.new.output) in
-    let one = only_program c.args.command.now _ _ _ c.args.texts _ c.in-Lli.is c.requires.count c.first_text.ensures in
+    let one = only_program c.args.command.now _ _ _ c.args.texts _ c.in-Lli.is c.requires.count c.first_text-in-Lli.ensures in
     lli_output_fault c.args.command.now _ _ _ c.args.texts _ before after c.run_bytes.result c.in-Lli.is one c.run_bytes.ensures.ran
 
 pub returns-in-Lli-clause-work : goal.returns-in-Lli-clause-work
