@@ -28,9 +28,11 @@ use Rattle.module_linker.specs.Structs.{linked_type, new_struct}
 use Rattle.type_build.specs.Parameters.{without_body}
 use Rattle.type_build.proofs.Declaring.{map_twice}
 use Rattle.entry_copy.specs.Copies.{IsBody, blocks_of}
+use Rattle.entry_copy.specs.Tables.{Tables}
 use Rattle.link_stages.specs.Filled.{defined_as, with_blocks}
 use Rattle.link_filling.specs.Definitions.{definition_of, entries_defined}
-use Rattle.link_filling.proofs.Bare.{function_found}
+use Rattle.link_filling.specs.Filling.{IsBare, IsBareEntry}
+use Rattle.link_filling.proofs.Bare.{function_bare, function_found}
 
 -- what the parameters of a function are called
 abbrev pub parameter_names : the_function.Function → List LocalName
@@ -103,3 +105,10 @@ module _ (parts : List Lists) (home : EntryId) (a : Lists) (there : slice_get pa
           ap (λ l. record (module_of b) { functions = l }) (blocks_there (module_of b).functions new (function_in b g) (blocks_in b copy) whole (function_found b new g found) blocks)
           ∙ sym (ap (λ (o : Option Body). with_blocks (module_of b) new (option_map (map (linked_block (modules parts) home.part)) (option_map (blocks_of a (parameter_names f)) o))) given)
           ∙ sym (ap (defined_as (module_of b) (global.Function new)) (function_written ids other))
+
+-- a function that is declared is there, without its body
+pub bare_function : (parts : List Lists) (tables : List Tables) (home : EntryId) (ids : List EntryId) (name : Bytes) (a b : Lists) (t : Tables) (id : ℕ) (h : IsBareEntry parts tables home ids name a b t (global.Function id)) (is : home.kind ≡ kind.Function)
+    (f : the_function.Function) (at : slice_get a.functions home.number ≡ Some f)
+    → (g : the_function.Function) × (slice_get b.functions id ≡ Some g) × (function_in b g ≡ without_body (linked_here parts home a h.there is f at name))
+bare_function parts tables home ids name a b t id h is f at =
+    function_bare b id (linked_here parts home a h.there is f at name) (subst (IsBare b (global.Function id)) (function_written parts home a h.there is f at ids name) h.is_bare)

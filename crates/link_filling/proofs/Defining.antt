@@ -1,5 +1,6 @@
 -- The symbol at a place is defined, or has no definition.
-use Rattle.std.proofs.Common.{◌≡◌, ℕ, ◌+◌, List, take, slice_get, Some, None, OnOk, Result, Ok, Err, refl, sym, subst, ap, ◌∙◌}
+use Rattle.std.proofs.Common.{◌≡◌, ℕ, ◌+◌, ◌<◌, List, length, take, slice_get, Some, None, OnOk, Result, Ok, Err, refl, sym, subst, ap, ◌∙◌, arith}
+use Rattle.std.proofs.lemmas.Option.{slice_get_within}
 use Rattle.linkage_rules.specs.declared.entry.EntryId.{EntryId}
 use Rattle.linkage_rules.specs.declared.symbol.Symbol.{Symbol}
 use Rattle.linkage_rules.specs.Globals.{Global}
@@ -18,7 +19,7 @@ use Rattle.link_stages.specs.Declared.{ids_of}
 use Rattle.link_stages.specs.Filled.{defined_as}
 use Rattle.link_stages.specs.Parts.{IsResolved}
 use Rattle.link_filling.specs.Definitions.{definition_of}
-use Rattle.link_filling.specs.Filling.{IsBare, IsFilling, KeepsCopied, aliases_among}
+use Rattle.link_filling.specs.Filling.{IsBare, IsBareEntry, IsFilling, KeepsCopied, aliases_among}
 use Rattle.link_filling.proofs.Homes.{IsOfKind, definition_here, global_here, home_is_entry, kind_same, linked_there, name_here, nothing_to_define}
 use Rattle.link_filling.proofs.Keeping.{keeps_itself, untargeted_still}
 use Rattle.link_filling.proofs.Steps.{aliases_no_fewer, bare_there, filled_more, id_is, next_alias, one_alias_more}
@@ -63,6 +64,23 @@ module _ (parts : List Lists) (r : Resolved) (resolved : IsResolved parts r) (k 
     kind_here =
         subst (λ i. IsOfKind i home.kind) (sym (id_is parts k b tables h written id there is))
         (kind_same parts home home_known (group_in r.groups s) name_of_it (take k (linked_globals (modules parts))))
+
+    -- its home is in one of the parts, each of which has a table
+    pub home_within : home.part < length parts
+    home_within = slice_get_within parts home.part home_known.0 home_known.1
+
+    pub table_within : home.part < length tables
+    table_within = let within = home_within in let count = h.copied.count in omega (arith, within, count)
+
+    -- of what is declared all is known that its definition takes
+    pub bare_of_part : (a : Lists) (t : Tables) → slice_get parts home.part ≡ Some a → slice_get tables home.part ≡ Some t → IsBareEntry parts tables home (group_in r.groups s) name_of_it a b t id
+    bare_of_part a t at_home by_table = record {
+      there = at_home;
+      copied_by = by_table;
+      copied = h.copied;
+      new_ids = h.new_ids;
+      is_bare = bare_definition;
+    }
 
     module _ (c : Lists) (made : module_of c ≡ defined_as (module_of b) id (definition_of parts home (group_in r.groups s) name_of_it)) (keeps : KeepsCopied b c) where
       -- a variable or a function

@@ -1,8 +1,7 @@
 -- One entry more of the linked module is defined.
-use Rattle.std.proofs.Common.{◌≡◌, ℕ, ◌+◌, ◌<◌, ◌≤◌, List, [], ◌∷◌, ◌++◌, length, get_or, map, take, drop, filter_map, slice_get, Some, refl, sym, ap, ◌∙◌, append_assoc, append-nil, arith}
+use Rattle.std.proofs.Common.{◌≡◌, ℕ, ◌+◌, ◌≤◌, List, [], ◌∷◌, ◌++◌, length, map, take, drop, filter_map, slice_get, Some, refl, sym, ap, ◌∙◌, append_assoc, append-nil, arith}
 use Rattle.std.specs.Prelude.{option_to_list}
 use Rattle.std.proofs.lemmas.List.{length-append}
-use Rattle.std.proofs.lemmas.Option.{slice_get-get_or}
 use Rattle.linkage_rules.specs.Globals.{Global, OfAlias, OfFunction, OfVariable}
 use Rattle.linkage_rules.specs.Ids.{global_at, modules}
 use Rattle.linkage_rules.proofs.Steps.{drop_more, drop_whole, take_more, take_whole}
@@ -29,13 +28,6 @@ all_filled parts k e =
     ∙ ap (λ l. with_globals (ground parts) (l ++ map bare (drop (length L) L))) (take_whole L)
     ∙ ap (λ l. with_globals (ground parts) (L ++ map bare l)) (drop_whole L)
     ∙ ap (with_globals (ground parts)) (append-nil L)
-
--- an id that is read at a place stands there
-pub id_there : (ids new : List GlobalId) (k : ℕ) (d : GlobalId) → new ≡ ids → k < length new → slice_get ids k ≡ Some (get_or new k d)
-id_there ids new k d same lt = ap (λ l. slice_get l k) (sym same) ∙ slice_get-get_or new k d lt
-
-pub id_read : (ids new : List GlobalId) (k : ℕ) (x : GlobalId) → new ≡ ids → k < length new → x ≡ get_or new k x → slice_get ids k ≡ Some x
-id_read ids new k x same lt is = id_there ids new k x same lt ∙ ap Some (sym is)
 
 module _ (parts : List Lists) (k : ℕ) (b : Lists) (tables : List Tables) (h : IsFilling parts k b tables) (g : Global) (id : GlobalId) (here : slice_get (linked_globals (modules parts)) k ≡ Some g)
     (at : slice_get (ids_of (modules parts)) k ≡ Some id) where

@@ -1,7 +1,8 @@
 -- For `define_symbols`, and how the code reads: the linked module whose first entries are defined, and all others declared.
-use Rattle.std.specs.Prelude.{◌≡◌, ℕ, List, length, filter_map, take, Some}
+use Rattle.std.specs.Prelude.{◌≡◌, ℕ, List, length, filter_map, take, slice_get, Some}
 use Rattle.linkage_rules.specs.Globals.{Global}
 use Rattle.linkage_rules.specs.Ids.{modules, global_at}
+use Rattle.linkage_rules.specs.declared.entry.EntryId.{EntryId}
 use Rattle.module_arena.specs.Lists.{Lists, global_name}
 use Rattle.module_arena.specs.Module.{Bytes, Module}
 use Rattle.module_arena.specs.View.{module_of}
@@ -14,10 +15,20 @@ use Rattle.link_stages.specs.Copied.{AreCopied}
 use Rattle.link_stages.specs.Declared.{bare}
 use Rattle.link_stages.specs.Filled.{filled_to}
 use Rattle.link_stages.specs.NewIds.{AllHaveNewIds}
+use Rattle.link_filling.specs.Definitions.{definition_of}
 
 -- the entry with that id is declared as this one, and not defined
 abbrev pub IsBare : Lists → GlobalId → Global → Type 0
 IsBare b id g = global_at (module_of b) id ≡ Some (bare g)
+
+-- The entry with that id is declared in b, and not defined, as what these entries with that home are under that name: a is the part of the
+-- home, which t copied to b, as the tables did all parts.
+pub record IsBareEntry (parts : List Lists) (tables : List Tables) (home : EntryId) (ids : List EntryId) (name : Bytes) (a b : Lists) (t : Tables) (id : GlobalId) : Type 0 where
+  pub there : slice_get parts home.part ≡ Some a
+  pub copied_by : slice_get tables home.part ≡ Some t
+  pub copied : AreCopied parts b tables
+  pub new_ids : AllHaveNewIds parts b tables
+  pub is_bare : IsBare b id (definition_of parts home ids name)
 
 -- What is copied to b is copied to c as well, and its entries keep their names.
 pub record KeepsCopied (b c : Lists) : Type 0 where

@@ -2,3 +2,4 @@ pub mod Definitions
 pub mod Elements
 pub mod Filling
 pub mod Origins
+pub mod Standing

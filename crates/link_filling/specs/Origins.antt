@@ -32,3 +32,7 @@ pub record IsOrigin (parts : List Lists) (number : ℕ) (x : SymbolOrigin) : Typ
   pub resolved : IsResolved parts resolved_as
   pub at : slice_get resolved_as.symbols number ≡ Some symbol
   pub is : x ≡ origin_in resolved_as symbol
+
+-- These are kept of all symbols.
+abbrev pub AreOrigins : List Lists → List SymbolOrigin → Type 0
+AreOrigins parts xs = (k : ℕ) (x : SymbolOrigin) → slice_get xs k ≡ Some x → IsOrigin parts k x

@@ -3,7 +3,7 @@
 //!
 //! It stands on the stages of `link_stages`: on entries that are declared, and on constants that the copiers of `entry_copy`
 //! copied. It promises that exactly the linked module is made of them. Definitions: `specs/Definitions`, `specs/Elements`,
-//! `specs/Filling` and `specs/Origins`, `Filled` of `link_stages` and `Linked` of `module_linker`.
+//! `specs/Filling`, `specs/Origins` and `specs/Standing`, `Filled` of `link_stages` and `Linked` of `module_linker`.
 //!
 //! ```
 //! // of the parts `declare void @f()` and `define void @f() { ret void }`, with `declare void @f()` in the new arena
@@ -17,6 +17,7 @@ mod filling;
 mod initialisers;
 mod origins;
 mod sources;
+mod standing;
 mod targets;
 
 pub use filling::define_symbols;

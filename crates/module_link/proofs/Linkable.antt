@@ -5,6 +5,7 @@ use Rattle.linkage_rules.specs.Conflicts.{first_conflict}
 use Rattle.linkage_rules.specs.Ids.{modules}
 use Rattle.linked_is_valid.specs.Laws.{AreLinkable, LinkedIsWellFormed}
 use Rattle.module_arena.specs.Lists.{Lists}
+use Rattle.module_arena.specs.Module.{Module}
 use Rattle.module_arena.specs.Sound.{IsSound}
 use Rattle.module_arena.specs.Valid.{IsValid}
 use Rattle.module_arena.specs.WellFormed.{IsWellFormed}
@@ -28,3 +29,6 @@ pub can_link : (parts : List Lists) → All IsSound parts → first_conflict (mo
 can_link parts sound agree few law =
     let all = all_sound parts sound in
     record { good = all.0; valid = all.1; agree = agree; few = few; whole = law (modules parts) (are_linkable parts sound agree) few }
+
+pub still_linkable : (parts : List Module) → CanLink parts → AreLinkable parts
+still_linkable parts can = record { good = can.good; valid = can.valid; agree = can.agree }

@@ -8,26 +8,34 @@ ghost use Rattle.module_arena.specs.View.{module_of};
 ghost use Rattle.module_linker.specs.Counts as counts;
 ghost use Rattle.module_linker.specs.Linked.{link_result};
 ghost use Rattle.run_rules.specs.Same.{RunAlike};
+ghost use Rattle.struct_rows.specs.Numbers.{AreNewStructs, new_struct_names};
+ghost use Rattle.link_stages.specs.Parts.{CanLink, IsResolved};
 ghost use Rattle.module_link.specs.Faults.{HasFault};
 
 use crate::LinkFault;
 use crate::making::linked;
 use link_counts::too_many;
-use linkage_rules::resolve_symbols;
+use linkage_rules::{Bindings, resolve_symbols};
 use linked_is_valid::linking_keeps_modules;
 use linked_runs::linking_is_right;
 use module_arena::Checked;
 use std::alloc::Global;
-use struct_rows::struct_rows;
+use struct_rows::{StructRows, struct_rows};
 
-/// The module that is made of some parts, or why there is none.
-fn link_all(alloc: Global, parts: &[Checked]) -> Result<Checked, LinkFault>
-    ensures agree { OnOk result (first_conflict (modules parts.now) ≡ None) }
-    ensures few { OnOk result (counts.too_many (modules parts.now) ≡ None) }
+/// The symbols and the structs of parts that can be linked.
+#[derive(Drop)]
+struct Linkable {
+    bindings: Bindings,
+    rows: StructRows,
+}
+
+/// The symbols and the structs of some parts, or why these are not linked.
+fn resolved(alloc: Global, parts: &[Checked]) -> Result<Linkable, LinkFault>
+    ensures can { OnOk result (CanLink (modules parts.now)) }
+    ensures symbols { IfOk result (λ found. IsResolved parts.now found.bindings) }
+    ensures names { IfOk result (λ found. found.rows.names ≡ new_struct_names (modules parts.now)) }
+    ensures numbers { IfOk result (λ found. AreNewStructs (modules parts.now) found.rows.numbers) }
     ensures fault { IfErr result (HasFault (modules parts.now)) }
-    ensures module { IfOk result (λ whole. module_of whole ≡ link_result (modules parts.now)) }
-    ensures small { AllByRecursion (λ m. first_too_large m ≡ None) (modules parts.now) → IfOk result (λ whole. first_too_large (module_of whole) ≡ None) }
-    ensures runs { IfOk result (λ whole. RunAlike (module_of whole ∷ []) (modules parts.now)) }
 {
     let bindings = resolve_symbols(alloc, parts)?;
     let rows = struct_rows(alloc, parts)?;
@@ -38,11 +46,9 @@ fn link_all(alloc: Global, parts: &[Checked]) -> Result<Checked, LinkFault>
         }),
         None => {}
     }
-    // What is made of parts that have no conflict and pass no count is well formed and valid, and runs as they do.
+    // What is made of parts that have no conflict and pass no count is well formed.
     linking_keeps_modules();
-    linking_is_right();
-    let whole = linked(alloc, parts, bindings, &rows)?;
-    Ok(Checked::seal(whole))
+    Ok(Linkable { bindings, rows })
 }
 
 /// Links parts, in their order, to one module (the tool `llvm-link`; LangRef, "Linkage Types"). It has one entry for each
@@ -62,5 +68,13 @@ pub fn link(alloc: Global, parts: Vec<Checked>) -> Result<Checked, LinkFault>
     ensures small { AllByRecursion (λ m. first_too_large m ≡ None) (modules parts.items) → IfOk result (λ whole. first_too_large (module_of whole) ≡ None) }
     ensures runs { IfOk result (λ whole. RunAlike (module_of whole ∷ []) (modules parts.items)) }
 {
-    link_all(alloc, parts.as_slice())
+    let Linkable { bindings, rows } = match resolved(alloc, parts.as_slice()) {
+        Ok(found) => found,
+        Err(fault) => return Err(fault),
+    };
+    // What is made of them is valid, and runs as they do.
+    linking_keeps_modules();
+    linking_is_right();
+    let whole = linked(alloc, parts, bindings, &rows)?;
+    Ok(Checked::seal(whole))
 }

@@ -6,15 +6,16 @@ use Rattle.module_arena.specs.declared.entry.GlobalId.TheVariants as global
 use Rattle.link_stages.specs.Filled.{defined_as}
 use Rattle.link_filling.specs.Definitions.{definition_of}
 use Rattle.link_filling.specs.Filling.{IsBare}
-use Rattle.link_filling.proofs.Defining.{alias_defined, alias_untargeted, bare_definition, home_known, kind_here, left_declared, name_of_it, plain_defined, three_ok}
+use Rattle.link_filling.proofs.Defining.{bare_definition, home_known, home_within, kind_here, left_declared, name_of_it, plain_defined, table_within, three_ok}
 use Rattle.link_filling.proofs.Homes.{IsOfKind}
 use Rattle.link_filling.proofs.Kept.{home_kept, variable_kept}
+use Rattle.link_filling.proofs.Next.{plain_id}
 use Rattle.link_filling.proofs.filling.define_symbol.Goals as goal
 
-pub returns-in_default : goal.returns-in_default
-returns-in_default c =
+pub returns-in-None : goal.returns-in-None
+returns-in-None c =
     let o = c.requires.origin in
-    left_declared c.args.parts.now o.resolved_as o.resolved c.args.number o.symbol o.at c.args.into.now.arena c.args.copiers.now c.requires.filling c.args.id c.requires.id (home_kept c.args.parts.now c.args.number c.args.origin.now o None c.in_default.is)
+    left_declared c.args.parts.now o.resolved_as o.resolved c.args.number o.symbol o.at c.args.into.now.arena c.args.copiers.now c.requires.filling c.args.id c.requires.id (home_kept c.args.parts.now c.args.number c.args.origin.now o None c.in-None.is)
 
 pub initialise-requires-clause-home : goal.initialise-requires-clause-home
 initialise-requires-clause-home c =
@@ -80,90 +81,44 @@ returns-in-Variable c =
     ∙ ap (λ i. defined_as (module_of b) i (definition_of parts home (group_in r.groups s) name)) (sym c.in-Variable.is)) keeps aliases)
     (c.initialise.ensures.module name) c.initialise.ensures.keeps c.initialise.ensures.aliases
 
-pub define-requires-clause-home : goal.define-requires-clause-home
-define-requires-clause-home c =
+pub arena_of-arena-requires : goal.arena_of-arena-requires
+arena_of-arena-requires c =
     let o = c.requires.origin in
-    home_known c.args.parts.now o.resolved_as o.resolved c.args.number o.symbol o.at c.args.into.now.arena c.args.copiers.now c.requires.filling c.args.id c.requires.id c.in-Some.home (home_kept c.args.parts.now c.args.number c.args.origin.now o (Some c.in-Some.home) c.in-Some.is)
+    home_within c.args.parts.now o.resolved_as o.resolved c.args.number o.symbol o.at c.args.into.now.arena c.args.copiers.now c.requires.filling c.args.id c.requires.id c.in-Some.home (home_kept c.args.parts.now c.args.number c.args.origin.now o (Some c.in-Some.home) c.in-Some.is)
 
-pub define-requires-clause-function : goal.define-requires-clause-function
-define-requires-clause-function c =
+pub copier_of-copier-requires : goal.copier_of-copier-requires
+copier_of-copier-requires c =
     let o = c.requires.origin in
-    subst (λ i. IsOfKind i c.in-Some.home.kind) c.in-Function.is
-    (kind_here c.args.parts.now o.resolved_as o.resolved c.args.number o.symbol o.at c.args.into.now.arena c.args.copiers.now c.requires.filling c.args.id c.requires.id c.in-Some.home (home_kept c.args.parts.now c.args.number c.args.origin.now o (Some c.in-Some.home) c.in-Some.is))
+    table_within c.args.parts.now o.resolved_as o.resolved c.args.number o.symbol o.at c.args.into.now.arena c.args.copiers.now c.requires.filling c.args.id c.requires.id c.in-Some.home (home_kept c.args.parts.now c.args.number c.args.origin.now o (Some c.in-Some.home) c.in-Some.is)
 
-pub define-requires-clause-declared : goal.define-requires-clause-declared
-define-requires-clause-declared c =
-    let parts = c.args.parts.now in
-    let b = c.args.into.now.arena in
-    let o = c.requires.origin in
-    let r = o.resolved_as in
-    let s = o.symbol in
-    let home = c.in-Some.home in
-    let found = home_kept c.args.parts.now c.args.number c.args.origin.now o (Some home) c.in-Some.is in
-    let name = name_of_it parts r o.resolved c.args.number s o.at b c.args.copiers.now c.requires.filling c.args.id c.requires.id home found in (
-      group_in r.groups s,
-      name,
-      subst (λ i. IsBare b i (definition_of parts home (group_in r.groups s) name)) c.in-Function.is (bare_definition parts r o.resolved c.args.number s o.at b c.args.copiers.now c.requires.filling c.args.id c.requires.id home found),
-    )
+pub define_in-requires-clause-plain : goal.define_in-requires-clause-plain
+define_in-requires-clause-plain c = plain_id c.args.id (λ n is. c.in_default.not-Variable n is)
 
-pub returns-in-Function : goal.returns-in-Function
-returns-in-Function c =
-    let parts = c.args.parts.now in
-    let b = c.args.into.now.arena in
-    let new = c.define.new.into.arena in
-    let o = c.requires.origin in
-    let r = o.resolved_as in
-    let s = o.symbol in
-    let home = c.in-Some.home in
-    let found = home_kept c.args.parts.now c.args.number c.args.origin.now o (Some home) c.in-Some.is in
-    let name = name_of_it parts r o.resolved c.args.number s o.at b c.args.copiers.now c.requires.filling c.args.id c.requires.id home found in
-    three_ok c.define.result
-    (λ made keeps aliases.
-    plain_defined parts r o.resolved c.args.number s o.at b c.args.copiers.now c.requires.filling c.args.id c.requires.id home found new
-    (made ∙ ap (λ i. defined_as (module_of b) i (definition_of parts home (group_in r.groups s) name)) (sym c.in-Function.is)) keeps aliases)
-    (c.define.ensures.module (group_in r.groups s) name) c.define.ensures.keeps c.define.ensures.aliases
+pub define_in-requires-clause-next : goal.define_in-requires-clause-next
+define_in-requires-clause-next c = (
+  c.args.parts.now,
+  c.args.copiers.now,
+  c.args.number,
+  record {
+    origin = c.args.origin.now;
+    kept = c.requires.origin;
+    at_home = c.in-Some.is;
+    is = c.requires.id;
+    filling = c.requires.filling;
+    there = c.arena_of-arena.ensures.arena;
+    copied_by = c.copier_of-copier.ensures;
+  },
+)
 
-pub target-requires-clause-home : goal.target-requires-clause-home
-target-requires-clause-home c =
-    let o = c.requires.origin in
-    home_known c.args.parts.now o.resolved_as o.resolved c.args.number o.symbol o.at c.args.into.now.arena c.args.copiers.now c.requires.filling c.args.id c.requires.id c.in-Some.home (home_kept c.args.parts.now c.args.number c.args.origin.now o (Some c.in-Some.home) c.in-Some.is)
-
-pub target-requires-clause-alias : goal.target-requires-clause-alias
-target-requires-clause-alias c =
-    let o = c.requires.origin in
-    subst (λ i. IsOfKind i c.in-Some.home.kind) c.in-Alias.is
-    (kind_here c.args.parts.now o.resolved_as o.resolved c.args.number o.symbol o.at c.args.into.now.arena c.args.copiers.now c.requires.filling c.args.id c.requires.id c.in-Some.home (home_kept c.args.parts.now c.args.number c.args.origin.now o (Some c.in-Some.home) c.in-Some.is))
-
-pub target-requires-clause-untargeted : goal.target-requires-clause-untargeted
-target-requires-clause-untargeted c =
-    let o = c.requires.origin in
-    alias_untargeted c.args.parts.now o.resolved_as o.resolved c.args.number o.symbol o.at c.args.into.now.arena c.args.copiers.now c.requires.filling c.args.id c.requires.id c.in-Some.home (home_kept c.args.parts.now c.args.number c.args.origin.now o (Some c.in-Some.home) c.in-Some.is) c.in-Alias.id c.in-Alias.is
-
-pub target-requires-clause-declared : goal.target-requires-clause-declared
-target-requires-clause-declared c =
-    let parts = c.args.parts.now in
-    let b = c.args.into.now.arena in
-    let o = c.requires.origin in
-    let r = o.resolved_as in
-    let s = o.symbol in
-    let home = c.in-Some.home in
-    let found = home_kept c.args.parts.now c.args.number c.args.origin.now o (Some home) c.in-Some.is in
-    let name = name_of_it parts r o.resolved c.args.number s o.at b c.args.copiers.now c.requires.filling c.args.id c.requires.id home found in (
-      group_in r.groups s,
-      name,
-      subst (λ i. IsBare b i (definition_of parts home (group_in r.groups s) name)) c.in-Alias.is (bare_definition parts r o.resolved c.args.number s o.at b c.args.copiers.now c.requires.filling c.args.id c.requires.id home found),
-    )
-
-pub returns-in-Alias : goal.returns-in-Alias
-returns-in-Alias c =
-    let parts = c.args.parts.now in
-    let b = c.args.into.now.arena in
-    let new = c.target.new.into.arena in
-    let o = c.requires.origin in
-    let r = o.resolved_as in
-    let s = o.symbol in
-    let home = c.in-Some.home in
-    let found = home_kept c.args.parts.now c.args.number c.args.origin.now o (Some home) c.in-Some.is in
-    let name = name_of_it parts r o.resolved c.args.number s o.at b c.args.copiers.now c.requires.filling c.args.id c.requires.id home found in
-    alias_defined parts r o.resolved c.args.number s o.at b c.args.copiers.now c.requires.filling c.args.id c.requires.id home found new
-    (c.target.ensures.module (group_in r.groups s) name ∙ ap (λ i. defined_as (module_of b) i (definition_of parts home (group_in r.groups s) name)) (sym c.in-Alias.is)) c.target.ensures.keeps c.in-Alias.id c.in-Alias.is c.target.ensures.untargeted
+pub returns-in_default : goal.returns-in_default
+returns-in_default c =
+    c.define_in.ensures c.args.parts.now c.args.copiers.now c.args.number
+    (record {
+      origin = c.args.origin.now;
+      kept = c.requires.origin;
+      at_home = c.in-Some.is;
+      is = c.requires.id;
+      filling = c.requires.filling;
+      there = c.arena_of-arena.ensures.arena;
+      copied_by = c.copier_of-copier.ensures;
+    })

@@ -1,42 +1,53 @@
-use Rattle.std.proofs.Common.{◌≡◌, length, ap, ◌∙◌, arith}
+use Rattle.std.proofs.Common.{List, length, sym, subst, ap, ◌∙◌}
 use Rattle.std.proofs.lemmas.List.{length-map}
 use Rattle.linkage_rules.specs.Ids.{modules}
+use Rattle.module_arena.specs.Lists.{Lists}
 use Rattle.module_linker.specs.Linked.{linked_globals}
-use Rattle.link_filling.specs.Origins.{origin_in}
+use Rattle.link_stages.specs.Declared.{ids_of}
+use Rattle.link_filling.specs.Filling.{IsFilling}
+use Rattle.link_filling.specs.Origins.{AreOrigins, origin_in}
 use Rattle.link_filling.proofs.Filled.{ids_count}
 use Rattle.link_filling.proofs.Homes.{as_many}
 use Rattle.link_filling.proofs.Kept.{origin_there}
 use Rattle.link_filling.proofs.Steps.{all_filled}
 use Rattle.link_filling.proofs.filling.define_symbols.Goals as goal
 
-pub numbers-init : goal.numbers-init
-numbers-init c = record {
-  upto = omega arith;
-  filling = record {
-    made = c.requires.declared;
-    untargeted = c.requires.untargeted;
-    copied = c.requires.copied;
-    new_ids = c.requires.new;
-  };
-}
+pub define_first-requires-clause-origins : goal.define_first-requires-clause-origins
+define_first-requires-clause-origins c =
+    subst (λ (ps : List Lists). AreOrigins ps c.as_slice-kept.result.now) (sym c.as_slice-all.ensures.value)
+    (λ k x at. origin_there c.args.parts.items c.args.bindings c.as_slice-kept.result.now k x c.requires.resolved (c.as_slice-kept.ensures.value ∙ c.in_ok-origins.ensures) at)
 
-pub origin_at-origin-requires : goal.origin_at-origin-requires
-origin_at-origin-requires c =
-    let parts = c.args.parts.now in
-    let r = c.args.bindings in
-    let many = as_many parts r c.requires.resolved in
-    let kept : length c.deref.result.now ≡ length r.symbols = ap length (c.deref.ensures.value ∙ c.in_ok-origins.ensures) ∙ length-map r.symbols (origin_in r) in
-    let ids = ap length c.requires.ids ∙ ids_count 0 0 0 (linked_globals (modules parts)) in
-    omega (arith, many, kept, ids, c.numbers-test.true)
+pub define_first-requires-clause-many : goal.define_first-requires-clause-many
+define_first-requires-clause-many c =
+    ap length (c.as_slice-kept.ensures.value ∙ c.in_ok-origins.ensures) ∙ length-map c.args.bindings.symbols (origin_in c.args.bindings) ∙ as_many c.args.parts.items c.args.bindings c.requires.resolved
+    ∙ sym (ap length c.requires.ids ∙ ids_count 0 0 0 (linked_globals (modules c.args.parts.items)))
 
-pub define_symbol-requires-clause-origin : goal.define_symbol-requires-clause-origin
-define_symbol-requires-clause-origin c =
-    origin_there c.args.parts.now c.args.bindings c.deref.result.now c.numbers.number c.origin_at-origin.result.now c.requires.resolved (c.deref.ensures.value ∙ c.in_ok-origins.ensures) c.origin_at-origin.ensures
+pub define_first-requires-clause-ids : goal.define_first-requires-clause-ids
+define_first-requires-clause-ids c = c.requires.ids ∙ sym (ap (λ (ps : List Lists). ids_of (modules ps)) c.as_slice-all.ensures.value)
+
+pub define_first-requires-clause-filling : goal.define_first-requires-clause-filling
+define_first-requires-clause-filling c =
+    subst (λ (ps : List Lists). IsFilling ps 0 c.args.into.now.arena c.args.copiers.now) (sym c.as_slice-all.ensures.value) (record {
+      made = c.requires.declared;
+      untargeted = c.requires.untargeted;
+      copied = c.requires.copied;
+      new_ids = c.requires.new;
+    })
+
+pub define_rest-requires-clause-origins : goal.define_rest-requires-clause-origins
+define_rest-requires-clause-origins c = λ k x at.
+    origin_there c.args.parts.items c.args.bindings c.as_slice-kept.result.now k x c.requires.resolved (c.as_slice-kept.ensures.value ∙ c.in_ok-origins.ensures) at
+
+pub define_rest-requires-clause-many : goal.define_rest-requires-clause-many
+define_rest-requires-clause-many c =
+    ap length (c.as_slice-kept.ensures.value ∙ c.in_ok-origins.ensures) ∙ length-map c.args.bindings.symbols (origin_in c.args.bindings) ∙ as_many c.args.parts.items c.args.bindings c.requires.resolved
+    ∙ sym (ap length c.requires.ids ∙ ids_count 0 0 0 (linked_globals (modules c.args.parts.items)))
+
+pub define_rest-requires-clause-filling : goal.define_rest-requires-clause-filling
+define_rest-requires-clause-filling c =
+    subst (λ (ps : List Lists). IsFilling ps c.behind_variables-first.result c.define_first.new.into.arena c.args.copiers.now) c.as_slice-all.ensures.value c.in_ok-define_first.ensures
 
 pub returns : goal.returns
 returns c =
-    let parts = c.args.parts.now in
-    let upto = c.numbers.invariant.upto in
-    let ids = ap length c.requires.ids ∙ ids_count 0 0 0 (linked_globals (modules parts)) in
-    let end : c.numbers.number ≡ length (linked_globals (modules parts)) = omega (arith, upto, ids, c.numbers-test.false) in
-    c.numbers.invariant.filling.made ∙ all_filled (modules parts) c.numbers.number end
+    let ms = modules c.args.parts.items in
+    c.in_ok-define_rest.ensures.made ∙ all_filled ms (length c.args.new.now) (ap length c.requires.ids ∙ ids_count 0 0 0 (linked_globals ms))

@@ -1,20 +1,33 @@
-use Rattle.std.proofs.Common.{◌≡◌, List, [], All, ap, ◌∙◌}
-use Rattle.std.proofs.lemmas.List.Elements.{All-weaker}
-use Rattle.entry_copy.specs.Tables.{Tables, tables_of, with_types}
+use Rattle.std.proofs.Common.{◌≡◌, List, ap, ◌∙◌, subst}
+use Rattle.linkage_rules.specs.Ids.{modules}
+use Rattle.module_arena.specs.Lists.{Lists}
+use Rattle.link_stages.specs.Copied.{AreCopied}
+use Rattle.link_stages.specs.Declared.{declared, ids_of}
+use Rattle.link_stages.specs.NewIds.{AllHaveNewIds}
 use Rattle.module_link.proofs.making.linked.Goals as goal
 
--- where nothing but structs and types is known, no constant is
-none_known : (ts : List Tables) → All (λ (t : Tables). t ≡ with_types (tables_of t.structs) t.types) ts → All (λ (t : Tables). t.constants ≡ []) ts
-none_known ts h = All-weaker (λ (t : Tables). t ≡ with_types (tables_of t.structs) t.types) (λ (t : Tables). t.constants ≡ []) (λ t e. ap (λ (x : Tables). x.constants) e) ts h
+pub declare_module-requires-clause-can : goal.declare_module-requires-clause-can
+declare_module-requires-clause-can c = rw c.as_slice-all.ensures.value c.requires.can
 
-pub declare_entries-requires-clause-types : goal.declare_entries-requires-clause-types
-declare_entries-requires-clause-types c = rw c.deref.ensures.value c.in_ok-copiers.ensures.types
+pub declare_module-requires-clause-resolved : goal.declare_module-requires-clause-resolved
+declare_module-requires-clause-resolved c = rw c.as_slice-all.ensures.value c.requires.resolved
 
-pub define_entries-requires-clause-types : goal.define_entries-requires-clause-types
-define_entries-requires-clause-types c = rw c.deref_mut.ensures.value (rw c.deref.ensures.value at c.in_ok-ids.ensures.types)
+pub declare_module-requires-clause-names : goal.declare_module-requires-clause-names
+declare_module-requires-clause-names c = rw c.as_slice-all.ensures.value c.requires.names
 
-pub define_entries-requires-clause-none : goal.define_entries-requires-clause-none
-define_entries-requires-clause-none c = rw c.deref_mut.ensures.value (none_known c.in_ok-copiers.copiers.items c.in_ok-copiers.ensures.nothing_else)
+pub declare_module-requires-clause-numbers : goal.declare_module-requires-clause-numbers
+declare_module-requires-clause-numbers c = rw c.as_slice-all.ensures.value c.requires.numbers
 
-pub define_entries-requires-clause-ids : goal.define_entries-requires-clause-ids
-define_entries-requires-clause-ids c = c.deref-2.ensures.value ∙ c.in_ok-ids.ensures.ids
+pub define_symbols-requires-clause-declared : goal.define_symbols-requires-clause-declared
+define_symbols-requires-clause-declared c = c.in_ok-made.ensures.module ∙ ap (λ (ps : List Lists). declared (modules ps)) c.as_slice-all.ensures.value
+
+pub define_symbols-requires-clause-copied : goal.define_symbols-requires-clause-copied
+define_symbols-requires-clause-copied c =
+    rw c.deref.ensures.value (subst (λ (ps : List Lists). AreCopied ps c.in_ok-made.made.arena c.in_ok-made.made.copiers.items) c.as_slice-all.ensures.value c.in_ok-made.ensures.copied)
+
+pub define_symbols-requires-clause-new : goal.define_symbols-requires-clause-new
+define_symbols-requires-clause-new c =
+    rw c.deref.ensures.value (subst (λ (ps : List Lists). AllHaveNewIds ps c.in_ok-made.made.arena c.in_ok-made.made.copiers.items) c.as_slice-all.ensures.value c.in_ok-made.ensures.new)
+
+pub define_symbols-requires-clause-ids : goal.define_symbols-requires-clause-ids
+define_symbols-requires-clause-ids c = c.deref-2.ensures.value ∙ c.in_ok-made.ensures.ids ∙ ap (λ (ps : List Lists). ids_of (modules ps)) c.as_slice-all.ensures.value

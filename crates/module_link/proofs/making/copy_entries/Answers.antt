@@ -1,6 +1,6 @@
 use Rattle.std.proofs.Common.{◌≡◌, Some, slice_get, ◌∙◌, subst}
 use Rattle.link_ids.proofs.Stays.{constants_stay, types_stay}
-use Rattle.module_link.proofs.making.define_entries.Goals as goal
+use Rattle.module_link.proofs.making.copy_entries.Goals as goal
 
 pub set_new_ids-requires-clause-one_each : goal.set_new_ids-requires-clause-one_each
 set_new_ids-requires-clause-one_each c = c.requires.types.count
@@ -15,9 +15,9 @@ copy_constants-requires-clause-ids c = c.in_ok-set_new_ids.ensures.ids c.args.in
 pub copy_constants-requires-clause-none : goal.copy_constants-requires-clause-none
 copy_constants-requires-clause-none c = constants_stay c.args.copiers.now c.set_new_ids.new.copiers c.in_ok-set_new_ids.ensures.others c.requires.none
 
-pub define_symbols-requires-clause-declared : goal.define_symbols-requires-clause-declared
-define_symbols-requires-clause-declared c = c.in_ok-copy_constants.ensures.grows.same ∙ c.requires.declared
+pub returns-clause-module : goal.returns-clause-module
+returns-clause-module c = c.in_ok-copy_constants.ensures.grows.same ∙ c.requires.declared
 
-pub define_symbols-requires-clause-untargeted : goal.define_symbols-requires-clause-untargeted
-define_symbols-requires-clause-untargeted c = λ id x le at.
+pub returns-clause-untargeted : goal.returns-clause-untargeted
+returns-clause-untargeted c = λ id x le at.
     c.requires.untargeted id x le (subst (λ l. slice_get l id ≡ Some x) c.in_ok-copy_constants.ensures.grows.aliases at)

@@ -1,0 +1,51 @@
+-- For `define_symbols`, and how the code reads: which parts still stand while functions and aliases are defined.
+use Rattle.std.specs.Prelude.{◌≡◌, ℕ, ◌<◌, ◌≤◌, Bool, true, false, List, length, map, slice_get, Option, Some}
+use Rattle.linkage_rules.specs.Ids.{modules}
+use Rattle.linkage_rules.specs.declared.entry.EntryId.{EntryId}
+use Rattle.module_arena.specs.Lists.{Lists}
+use Rattle.module_arena.specs.declared.entry.GlobalId.{GlobalId}
+use Rattle.module_arena.specs.declared.entry.GlobalId.TheVariants as global
+use Rattle.entry_copy.specs.Tables.{Tables}
+use Rattle.link_stages.specs.Declared.{ids_of}
+use Rattle.link_filling.specs.Filling.{IsFilling}
+use Rattle.link_filling.specs.Origins.{IsOrigin}
+use Rattle.link_filling.specs.declared.origins.SymbolOrigin.{SymbolOrigin}
+use Rattle.link_filling.specs.declared.standing.Standing.{Standing}
+
+-- Of the first so many symbols none is defined in a part behind the number that is told of it.
+abbrev pub AreLast : ℕ → List SymbolOrigin → List ℕ → Type 0
+AreLast count origins last = (m : ℕ) (x : SymbolOrigin) (home : EntryId) (l : ℕ) → m < count → slice_get origins m ≡ Some x → x.home ≡ Some home → slice_get last home.part ≡ Some l → m ≤ l
+
+-- Each part stands in which the symbol with that number or a later one is defined.
+abbrev pub StandFrom : ℕ → List Lists → List SymbolOrigin → List (Option Lists) → Type 0
+StandFrom number parts origins standing = (m : ℕ) (x : SymbolOrigin) (home : EntryId) → number ≤ m → slice_get origins m ≡ Some x → x.home ≡ Some home → slice_get standing home.part ≡ slice_get (map Some parts) home.part
+
+-- These stand of the parts, and it is known how long each is needed.
+pub record AreStanding (number : ℕ) (parts : List Lists) (origins : List SymbolOrigin) (s : Standing) : Type 0 where
+  pub parts_there : StandFrom number parts origins s.parts.items
+  pub last : AreLast (length origins) origins s.last.items
+
+-- whether an id is that of a variable
+abbrev pub is_variable : GlobalId → Bool
+is_variable (global.Variable n) = true
+is_variable (global.Function n) = false
+is_variable (global.Alias n) = false
+
+-- an id that is not
+abbrev pub IsPlainId : GlobalId → Type 0
+IsPlainId id = is_variable id ≡ false
+
+-- from that number on no id is that of a variable
+abbrev pub ArePlainFrom : ℕ → List GlobalId → Type 0
+ArePlainFrom first ids = (k : ℕ) (id : GlobalId) → first ≤ k → slice_get ids k ≡ Some id → IsPlainId id
+
+-- The symbol with that number is the next that is defined in b, under that id, and defined in that home: a is the part of the home, which
+-- t copied to b.
+pub record IsNext (parts : List Lists) (tables : List Tables) (number : ℕ) (home : EntryId) (id : GlobalId) (a b : Lists) (t : Tables) : Type 0 where
+  pub origin : SymbolOrigin
+  pub kept : IsOrigin parts number origin
+  pub at_home : origin.home ≡ Some home
+  pub is : slice_get (ids_of (modules parts)) number ≡ Some id
+  pub filling : IsFilling parts number b tables
+  pub there : slice_get parts home.part ≡ Some a
+  pub copied_by : slice_get tables home.part ≡ Some t
