@@ -108,11 +108,15 @@ module _ (words bs : List ℕ) (at count : ℕ) (within : at + count ≤ length 
       ∙ ap (λ n. unless (is_marked words n) (get_or (slice_range bs at (at + count)) k 0)) e
       ∙ ap (λ t. unless t (get_or (slice_range bs at (at + count)) k 0)) marked)
 
+-- bytes under a mask without a mark
+pub unmarked : (words bs : List ℕ) → ((k : ℕ) → is_marked words k ≡ false) → masked words bs ≡ map (λ b. Some b) bs
+unmarked words bs none =
+    placed-same (λ k b. unless (is_marked words k) b) (λ k b. Some b) 0 0 bs (λ k b h. ap (λ t. unless t b) (none (0 + k)))
+    ∙ placed-map (λ x. Some x) 0 bs
+
 pub zeros : (words : List ℕ) (n : ℕ) → ((k : ℕ) → is_marked words k ≡ false) → masked words (replicate n 0) ≡ replicate n (Some 0)
 zeros words n none =
-    placed-same (λ k b. unless (is_marked words k) b) (λ k b. Some b) 0 0 (replicate n 0) (λ k b h. ap (λ t. unless t b) (none (0 + k)))
-    ∙ placed-map (λ x. Some x) 0 (replicate n 0)
-    ∙ map-some-replicate n 0
+    unmarked words (replicate n 0) none ∙ map-some-replicate n 0
 
 pub got : (words bs : List ℕ) (at : ℕ) (t : Bool) → at < length bs → t ≡ is_marked words at → get_or (masked words bs) at None ≡ unless t (get_or bs at 0)
 got words bs at t h e =

@@ -1,5 +1,5 @@
 //! Bytes of which some are poison.
-ghost use Rattle.std.specs.Prelude.{◌≡◌, ◌≢◌, ℕ, ◌+◌, ◌<◌, ◌≤◌, ◌^◌, IfOk, IfSome, Some, None, [], length, replicate, slice_range, slice_index_or, true};
+ghost use Rattle.std.specs.Prelude.{◌≡◌, ◌≢◌, ℕ, ◌+◌, ◌<◌, ◌≤◌, ◌^◌, IfOk, IfSome, Some, None, [], length, map, replicate, slice_range, slice_index_or, true};
 ghost use Rattle.masked_bytes.specs.Masked as of;
 ghost use Rattle.masked_bytes.specs.Masked.{put};
 
@@ -78,6 +78,17 @@ impl MaskedBytes {
         } else {
             Some(self.bytes[at])
         }
+    }
+
+    /// All of them as they lie, where none is poison; None where one may be.
+    #[inline(always)]
+    pub fn plain(&self) -> Option<&[u8]>
+        ensures { IfSome result (λ bytes. self.now ≡ map (λ byte. Some byte) bytes.now) }
+    {
+        if !self.clean {
+            return None;
+        }
+        Some(self.bytes.as_slice())
     }
 
     /// The number that so many of them spell, the least byte first, or None exactly where one is poison.
