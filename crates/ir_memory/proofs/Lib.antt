@@ -12,3 +12,4 @@ mod Answering
 mod Numbers
 mod Paged
 mod Plain
+mod PlainBytes

@@ -9,3 +9,4 @@ pub mod Seen
 pub mod Lending
 pub mod Numbered
 pub mod Rows
+pub mod Plain

@@ -3,7 +3,8 @@
 //! It stands on the values of `ir_eval`, the kinds of undefined behaviour of `ir_tables`, `masked_bytes` and
 //! `pointer_pieces`. Its promise: each call changes memory and answers as the definition over plain lists of
 //! blocks and cells says, and a call that refuses leaves memory as it was. Definitions: `specs/Cell`,
-//! `specs/Block`, `specs/Memory`; what may be handed in: `specs/Given`; what an answer says: `specs/Answer`.
+//! `specs/Block`, `specs/Memory`; what may be handed in: `specs/Given`; what an answer says: `specs/Answer`; bytes that are
+//! told as they lie: `specs/Plain`.
 //!
 //! ```
 //! let mut memory = Memory::new(alloc);
@@ -11,6 +12,7 @@
 //! let address = Scalar::Ptr(block);
 //! memory.store(address, Leaf::Int(32), 4, Scalar::Int(513))?;
 //! memory.load(address, Leaf::Int(8), 1) // Ok(Scalar::Int(1)): the lowest byte stands first
+//! memory.plain_bytes(block) // Some(&[1, 2, 0, 0, 0, 0, 0, 0])
 //! memory.load(address, Leaf::Int(128), 1) // Err(UndefinedKind::OutsideBlock)
 //! memory.end_block(address, BlockKind::Stack)?;
 //! memory.load(address, Leaf::Int(32), 4) // Err(UndefinedKind::EndedBlock)

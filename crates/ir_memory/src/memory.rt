@@ -1,5 +1,5 @@
 //! All blocks of a run.
-ghost use Rattle.std.specs.Prelude.{◌≡◌, ◌≢◌, ℕ, ◌+◌, ◌*◌, ◌<◌, ◌≤◌, ◌^◌, ◌↔◌, IfOk, IfSome, OnOk, OnErr, length, true, false, IsOk, slice_index_or, slice_set, Some, Ok, Err};
+ghost use Rattle.std.specs.Prelude.{◌≡◌, ◌≢◌, ℕ, ◌+◌, ◌*◌, ◌<◌, ◌≤◌, ◌^◌, ◌↔◌, IfOk, IfSome, OnOk, OnErr, drop, length, true, false, IsOk, slice_index, slice_index_or, slice_set, Some, Ok, Err};
 ghost use Rattle.ir_eval.specs.declared.value.Scalar.TheVariants as scalar;
 ghost use Rattle.ir_memory.specs.declared.leaf.Leaf.TheVariants as leaves;
 ghost use Rattle.ir_memory.specs.Memory as of;
@@ -11,6 +11,7 @@ ghost use Rattle.ir_memory.specs.Answer.{Answers, NeedsNone, IsInteger, Keeps};
 ghost use Rattle.ir_memory.specs.Seen.{at, all_seen, IsRoom, IsSound};
 ghost use Rattle.ir_memory.specs.declared.kept.KeptBlock.{KeptBlock as Kept};
 ghost use Rattle.ir_memory.specs.Cell.{size, leaf_cells};
+ghost use Rattle.ir_memory.specs.Plain.{LoadsBytes};
 
 use crate::access::{BlockPlace, Request, access, plain_access, started};
 use crate::copy::{copy_cells, meets};
@@ -193,6 +194,29 @@ impl Memory {
         Ok(read_at(&self.kept, &self.pieces, place, leaf))
     }
 
+    /// The bytes from a pointer on up to the end of its block, as they lie there: loads of one byte at a time give the same. None
+    /// where the pointer has no block, is not in its block, or the block has ended; and where the block may hold poison or pieces of
+    /// pointers.
+    #[inline(always)]
+    pub fn plain_bytes(&self, pointer: Pointer) -> Option<&[u8]>
+        requires { IsKnown self.now.list pointer }
+        ensures loads { IfSome result (λ bytes. LoadsBytes self.now pointer bytes.now) }
+        ensures within { IfSome result (λ bytes. pointer.address + length bytes.now < 2 ^ 64) }
+        ensures few { IfSome result (λ bytes. length bytes.now ≤ live_bytes self.now.list) }
+    {
+        let index = pointer.block?;
+        let block = self.kept.get(index as usize);
+        if block.mixed {
+            return None;
+        }
+        if !block.is_home(pointer.address, 1) {
+            return None;
+        }
+        let bytes = block.bytes.plain()?;
+        let offset = (pointer.address - block.start) as usize;
+        Some(bytes_from(bytes, offset))
+    }
+
     /// Writes a leaf at an address (LangRef, "store"). It is refused exactly where the access is undefined.
     #[tactic(auto, using(crate::proofs::Known::count_steps))]
     #[inline(always)]
@@ -373,6 +397,16 @@ impl Memory {
         )?;
         Ok(())
     }
+}
+
+/// The bytes behind so many.
+#[inline(always)]
+fn bytes_from(bytes: &[u8], offset: usize) -> &[u8]
+    requires { offset ≤ length bytes.now }
+    ensures value { result.now ≡ drop offset bytes.now }
+    ensures fits { (k : ℕ) → slice_index bytes.now k < 256 }
+{
+    &bytes[offset..]
 }
 
 /// Writes a leaf at a place. Where memory is refused, nothing changes; it is asked for only by pointers.
