@@ -1,6 +1,6 @@
--- For `number_text` and `bytes_text`: what a conversion writes.
+-- For `number_text`, `bytes_text`, `put_number` and `put_bytes`: what a conversion writes.
 use Rattle.std.specs.Prelude.{ℕ, ◌+◌, ◌-◌, ◌%◌, ◌^◌, ◌≡◌, ◌==◌, ◌&&◌, nat_le, Bool, true, false, not, List, [], ◌∷◌, ◌++◌, take, length, replicate, Option, Some, None, is_none, if◌then◌else◌}
-use Rattle.std.specs.Fmt.{digits}
+use Rattle.std.specs.Fmt.{decimal, digits}
 use Rattle.ir_printf.specs.declared.conversion.ConversionKind.{ConversionKind}
 use Rattle.ir_printf.specs.declared.conversion.ConversionKind.TheVariants as kind
 use Rattle.ir_printf.specs.declared.conversion.Length.{Length}
@@ -74,6 +74,20 @@ abbrev pub printed_number : Conversion → ℕ → List ℕ
 printed_number conversion bits =
     filled conversion (sign conversion (is_negative conversion.kind conversion.length bits))
     (precise_digits conversion.kind conversion.precision (magnitude conversion.kind conversion.length bits))
+
+-- a conversion to decimal that neither a width nor a precision fills
+abbrev pub fills_nothing : ConversionKind → ℕ → Option ℕ → Bool
+fills_nothing kind.Signed width precision = width == 0 && is_none precision
+fills_nothing kind.Unsigned width precision = width == 0 && is_none precision
+fills_nothing _ width precision = false
+
+-- it writes no more than a sign and digits
+abbrev pub is_short : Conversion → Bool
+is_short conversion = fills_nothing conversion.kind conversion.width conversion.precision
+
+-- the sign and the digits
+abbrev pub short_number : Conversion → ℕ → List ℕ
+short_number conversion bits = sign conversion (is_negative conversion.kind conversion.length bits) ++ decimal (magnitude conversion.kind conversion.length bits)
 
 -- ---- bytes
 

@@ -1,9 +1,11 @@
 //! What conversions write.
 ghost use Rattle.std.specs.Prelude.{◌≡◌, ◌⊎◌, ◌+◌, ◌-◌, ◌<◌, ◌^◌, ◌++◌, length, replicate, string_bytes, IfOk, OnOk, OnErr, IsTrue};
-ghost use Rattle.ir_printf.specs.Printed.{bits_of, cut, is_signed, is_negative, magnitude, numeral, with_zeros, precise_digits, sign, fills_with_zeros, filled, printed_number, precise_bytes, spaced, printed_bytes, is_number, is_long, AreBytesFor};
+ghost use Rattle.std.specs.Fmt.{decimal};
+ghost use Rattle.ir_printf.specs.Printed.{bits_of, cut, is_signed, is_negative, magnitude, numeral, with_zeros, precise_digits, sign, fills_with_zeros, filled, printed_number, precise_bytes, spaced, printed_bytes, is_number, is_long, is_short, short_number, AreBytesFor};
 
 use crate::{Conversion, ConversionKind, Length};
 use ir_base::Text;
+use itoa::Buffer;
 use std::alloc::{AllocError, Global};
 
 /// The argument, cut to the bits that the length tells.
@@ -164,6 +166,67 @@ pub fn number_text(alloc: Global, conversion: &Conversion, bits: u64) -> Result<
     )
 }
 
+/// Whether a conversion writes a number in decimal, which nothing fills.
+fn is_short(conversion: &Conversion) -> bool
+    ensures { result ≡ is_short conversion.now }
+{
+    match conversion.kind {
+        ConversionKind::Signed | ConversionKind::Unsigned => {
+            conversion.width == 0 && conversion.precision.is_none()
+        }
+        _ => false,
+    }
+}
+
+/// Adds a sign, and a number in decimal, or nothing where memory is wanted.
+fn put_decimal(front: &[u8], number: u64, into: &mut Vec<u8>) -> Result<(), AllocError>
+    ensures ok { OnOk result (into.new.items ≡ into.old.items ++ (front.now ++ decimal number)) }
+    ensures err { OnErr result (into.new.items ≡ into.old.items) }
+{
+    let before = into.len();
+    into.extend_from_slice(front)?;
+    let mut buffer = Buffer::new();
+    let digits = buffer.format(number).as_bytes();
+    match into.extend_from_slice(digits) {
+        Ok(()) => Ok(()),
+        Err(fault) => {
+            into.truncate(before);
+            Err(fault)
+        }
+    }
+}
+
+/// Adds what a short conversion writes of a number, or nothing where memory is wanted.
+fn put_short(conversion: &Conversion, bits: u64, into: &mut Vec<u8>) -> Result<(), AllocError>
+    ensures ok { OnOk result (into.new.items ≡ into.old.items ++ short_number conversion.now bits) }
+    ensures err { OnErr result (into.new.items ≡ into.old.items) }
+{
+    let is_negative = is_negative(conversion.kind, conversion.length, bits);
+    let number = magnitude(conversion.kind, conversion.length, bits);
+    put_decimal(sign(conversion, is_negative), number, into)
+}
+
+/// Adds what `number_text` gives behind other bytes, or nothing where memory is wanted. Of a number in decimal that nothing fills no
+/// copy is kept elsewhere meanwhile.
+pub fn put_number(
+    alloc: Global,
+    conversion: &Conversion,
+    bits: u64,
+    into: &mut Vec<u8>,
+) -> Result<(), AllocError>
+    requires number { IsTrue (is_number conversion.now.kind) }
+    requires fits { IsTrue (is_long conversion.now.length) ⊎ (bits < 2 ^ 32) }
+    ensures ok { OnOk result (into.new.items ≡ into.old.items ++ printed_number conversion.now bits) }
+    ensures err { OnErr result (into.new.items ≡ into.old.items) }
+{
+    if is_short(conversion) {
+        return put_short(conversion, bits, into);
+    }
+    let text = number_text(alloc, conversion, bits)?;
+    into.extend_from_slice(text.bytes())?;
+    Ok(())
+}
+
 /// The bytes that the precision allows.
 fn precise_bytes<'b>(conversion: &Conversion, bytes: &'b [u8]) -> &'b [u8]
     ensures { result.now ≡ precise_bytes conversion.now.kind conversion.now.precision bytes.now }
@@ -191,4 +254,26 @@ pub fn bytes_text(alloc: Global, conversion: &Conversion, bytes: &[u8]) -> Resul
         text.extend(shown)?;
     }
     Ok(text)
+}
+
+/// Adds what `bytes_text` gives behind other bytes, or nothing where memory is wanted. Of bytes that nothing fills, no copy is kept
+/// elsewhere meanwhile.
+pub fn put_bytes(
+    alloc: Global,
+    conversion: &Conversion,
+    bytes: &[u8],
+    into: &mut Vec<u8>,
+) -> Result<(), AllocError>
+    requires { AreBytesFor conversion.now.kind bytes.now }
+    ensures ok { OnOk result (into.new.items ≡ into.old.items ++ printed_bytes conversion.now bytes.now) }
+    ensures err { OnErr result (into.new.items ≡ into.old.items) }
+{
+    let width = conversion.width;
+    if width == 0 {
+        into.extend_from_slice(precise_bytes(conversion, bytes))?;
+        return Ok(());
+    }
+    let text = bytes_text(alloc, conversion, bytes)?;
+    into.extend_from_slice(text.bytes())?;
+    Ok(())
 }
