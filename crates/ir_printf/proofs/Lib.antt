@@ -1,3 +1,4 @@
 pub mod Decimals
 pub mod Joined
 pub mod Short
+mod Letters

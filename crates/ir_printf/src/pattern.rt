@@ -1,5 +1,5 @@
 //! The pieces of a pattern.
-ghost use Rattle.std.specs.Prelude.{◌≡◌, ◌+◌, ◌<◌, ◌≤◌, length, IfOk, IfSome, OnSome};
+ghost use Rattle.std.specs.Prelude.{◌≡◌, ◌+◌, ◌<◌, ◌≤◌, length, Some, IfOk, IfSome, OnSome};
 ghost use Rattle.std.specs.List.{prefix_len};
 ghost use Rattle.std.specs.Option.{option_map};
 ghost use Rattle.ir_printf.specs.Pattern.{is_flag, begins_with, flags_size, digits_size, precision_size, length_in, kind_of, kind_at, small_number, precision_in, has_byte, may_have, written_conversion, conversion_in, conversion_size, width_end, precision_end, length_end, is_literal, piece_at, piece_end, ReadsWhole};
@@ -227,6 +227,25 @@ fn written_conversion(bytes: &[u8], ends: Ends) -> Option<Conversion>
     })
 }
 
+/// The conversion that a letter tells alone, where it stands first: without flags, a width, a precision and a length.
+fn plain_conversion(bytes: &[u8]) -> Option<Conversion>
+    ensures conversion { IfSome result (λ c. written_conversion bytes.now ≡ Some c) }
+    ensures end { OnSome result (length_end bytes.now ≡ 0) }
+    ensures within { OnSome result (0 < length bytes.now) }
+{
+    let kind = kind_at(bytes, 0)?;
+    Some(Conversion {
+        kind,
+        left: false,
+        zero: false,
+        plus: false,
+        space: false,
+        width: 0,
+        precision: None,
+        length: Length::Word,
+    })
+}
+
 /// The conversion with which the bytes behind a `%` begin, and how many of them it takes.
 #[tactic(auto, unfolding(crate::specs::Pattern::conversion_in, crate::specs::Pattern::conversion_size))]
 fn conversion_in(bytes: &[u8]) -> Option<(Conversion, usize)>
@@ -236,6 +255,9 @@ fn conversion_in(bytes: &[u8]) -> Option<(Conversion, usize)>
 {
     if begins_with(b'%', bytes) {
         return Some((PERCENT, 1));
+    }
+    if let Some(conversion) = plain_conversion(bytes) {
+        return Some((conversion, 1));
     }
     let ends = ends_of(bytes);
     let conversion = written_conversion(bytes, ends)?;
