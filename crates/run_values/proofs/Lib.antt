@@ -5,3 +5,4 @@ pub mod Ends
 pub mod Fitting
 pub mod Refusals
 pub mod Alone
+mod Plain

@@ -1,5 +1,5 @@
--- For `push_string`: strings of which no more than so many bytes are read, whatever is told where none of these is zero.
-use Rattle.std.specs.Prelude.{ℕ, zero, suc, Bool, true, false, List, ◌++◌, Result, Ok, Err}
+-- For `push_string` and `plain_string`: strings of which no more than so many bytes are read, whatever is told where none of these is zero.
+use Rattle.std.specs.Prelude.{ℕ, zero, suc, Bool, true, false, not, nat_eq, List, ◌++◌, Result, Ok, Err}
 use Rattle.ir_tables.specs.declared.undefined_kind.UndefinedKind.{UndefinedKind}
 use Rattle.ir_tables.specs.declared.undefined_kind.UndefinedKind.TheVariants.{PoisonArgument}
 use Rattle.ir_eval.specs.declared.value.Pointer.{Pointer}
@@ -37,3 +37,7 @@ with_bytes bytes (Err kind) = Err kind
 abbrev pub string_ended : List ℕ → Bool → StringTold → StringTold
 string_ended bytes true rest = Ok bytes
 string_ended bytes false rest = with_bytes bytes rest
+
+-- a byte that does not end a string
+abbrev pub is_inside : ℕ → Bool
+is_inside byte = not (nat_eq byte 0)

@@ -11,6 +11,8 @@
 //! let slots = [Slot::new(0, Leaf::Int(8)), Slot::new(4, Leaf::Int(32))]; // those of `{ i8, i32 }`
 //! store_value(&mut memory, address, 4, &slots, &[Scalar::Int(1), Scalar::Int(2)])?;
 //! load_value(&memory, address, 4, &slots, &mut leaves)?; // adds Scalar::Int(1) and Scalar::Int(2)
+//!
+//! plain_string(&memory, pointer) // Some(b"many"), where these bytes and a zero lie in a block that has only bytes
 //! ```
 #![tactic(auto)]
 
@@ -27,4 +29,4 @@ pub use load::{load_leaf, load_plain, load_value};
 pub use room::{block_size, has_room};
 pub use slot::Slot;
 pub use store::{store_leaf, store_plain, store_value};
-pub use string::push_string;
+pub use string::{plain_string, push_string};

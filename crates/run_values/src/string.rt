@@ -1,9 +1,11 @@
 //! Strings in memory (C, "strings"): bytes up to a zero.
-ghost use Rattle.std.specs.Prelude.{◌≡◌, ◌++◌, ℕ, List, Ok, IfOk, IfErr, OnOk, OnErr};
+ghost use Rattle.std.specs.Prelude.{◌≡◌, ◌≤◌, ◌++◌, ℕ, List, Ok, None, IfOk, IfErr, IfSome, OnOk, OnErr, length};
+ghost use Rattle.std.specs.List.{prefix_len};
 ghost use Rattle.ir_memory.specs.Given.{IsKnown};
+ghost use Rattle.run_rules.specs.Access.{string_at};
 ghost use Rattle.run_rules.specs.Printing.{string_for};
 ghost use Rattle.run_values.specs.Answer.{IsRefusal, Loads};
-ghost use Rattle.run_values.specs.Strings.{StringTold, byte_in, string_ended, string_then};
+ghost use Rattle.run_values.specs.Strings.{StringTold, byte_in, is_inside, string_ended, string_then};
 
 use crate::displaced::behind;
 use ir_eval::{Pointer, Scalar};
@@ -45,7 +47,7 @@ fn push_bytes(
     Ok(false)
 }
 
-/// Adds the bytes of a string where no byte is to be read behind so many, or else of a whole string.
+/// Adds the bytes of a string, which are read one by one: none behind so many, or else those of a whole string.
 fn push_up_to(
     memory: &Memory,
     pointer: Pointer,
@@ -73,6 +75,60 @@ fn push_up_to(
     }
 }
 
+/// How many bytes stand before the first zero.
+fn inside_count(bytes: &[u8]) -> usize
+    ensures count { result ≡ prefix_len is_inside bytes.now }
+    ensures within { result ≤ length bytes.now }
+{
+    bytes.iter().take_while(|byte| **byte != 0).count()
+}
+
+/// The string at a pointer, its bytes before the first zero, where it can be told as it lies in memory: in a block that may hold
+/// neither poison nor pieces of pointers. None elsewhere, and where the string is undefined.
+pub fn plain_string(memory: &Memory, pointer: Pointer) -> Option<&[u8]>
+    requires { IsKnown memory.now.list pointer }
+    ensures { IfSome result (λ bytes. string_at memory.now pointer ≡ Ok bytes.now) }
+{
+    let bytes = memory.plain_bytes(pointer)?;
+    let count = inside_count(bytes);
+    if count == bytes.len() {
+        return None;
+    }
+    Some(&bytes[..count])
+}
+
+/// Adds the bytes of a whole string, at once where it lies in memory as it is told.
+fn push_whole(memory: &Memory, pointer: Pointer, into: &mut Vec<u8>) -> Result<(), MemoryFault>
+    requires { IsKnown memory.now.list pointer }
+    ensures ok { OnOk result ((bytes : List ℕ) × (string_for memory.now None pointer ≡ Ok bytes) × (into.new.items ≡ into.old.items ++ bytes)) }
+    ensures err { OnErr result ((bytes : List ℕ) × (into.new.items ≡ into.old.items ++ bytes)) }
+    ensures why { IfErr result (IsRefusal (string_for memory.now None pointer)) }
+{
+    let Some(bytes) = plain_string(memory, pointer) else {
+        return push_up_to(memory, pointer, None, into);
+    };
+    into.extend_from_slice(bytes)?;
+    Ok(())
+}
+
+/// Adds the bytes of a string where no byte is to be read behind so many, or else of a whole string.
+fn push_told(
+    memory: &Memory,
+    pointer: Pointer,
+    precision: Option<u32>,
+    into: &mut Vec<u8>,
+) -> Result<(), MemoryFault>
+    requires { IsKnown memory.now.list pointer }
+    ensures ok { OnOk result ((bytes : List ℕ) × (string_for memory.now precision pointer ≡ Ok bytes) × (into.new.items ≡ into.old.items ++ bytes)) }
+    ensures err { OnErr result ((bytes : List ℕ) × (into.new.items ≡ into.old.items ++ bytes)) }
+    ensures why { IfErr result (IsRefusal (string_for memory.now precision pointer)) }
+{
+    match precision {
+        None => push_whole(memory, pointer, into),
+        Some(_) => push_up_to(memory, pointer, precision, into),
+    }
+}
+
 /// Adds the bytes of the string at a pointer, those before its first zero. With a precision no byte is read behind so many (C,
 /// "The fprintf function", `s`). Where the string is undefined, or memory is wanted, nothing is added.
 pub fn push_string(
@@ -85,7 +141,7 @@ pub fn push_string(
     ensures { Loads (string_for memory.now precision pointer) into.old.items into.new.items result }
 {
     let before = into.len();
-    let done = push_up_to(memory, pointer, precision, into);
+    let done = push_told(memory, pointer, precision, into);
     if done.is_err() {
         into.truncate(before);
     }
