@@ -4,3 +4,4 @@ pub mod Typed
 pub mod Told
 pub mod ByLeaves
 pub mod Walked
+pub mod Put

@@ -1,5 +1,5 @@
 -- Says how the code reads: the arguments of `printf`, by their leaves.
-use Rattle.std.specs.Prelude.{◌≡◌, ℕ, ◌≤◌, ⊤, Bool, true, false, List, [], ◌∷◌, drop, length, map, Option, Some, None, Ok}
+use Rattle.std.specs.Prelude.{◌≡◌, ℕ, ◌%◌, ◌≤◌, ⊤, Bool, true, false, List, [], ◌∷◌, drop, length, map, Option, Some, None, Ok, if◌then◌else◌}
 use Rattle.ir_eval.specs.declared.value.Scalar.{Scalar}
 use Rattle.ir_memory.specs.Memory.{Blocks}
 use Rattle.ir_memory.specs.declared.leaf.Leaf.{Leaf}
@@ -9,6 +9,7 @@ use Rattle.ir_printf.specs.declared.conversion.ConversionKind.{ConversionKind}
 use Rattle.ir_printf.specs.declared.conversion.ConversionKind.TheVariants as kind
 use Rattle.ir_printf.specs.declared.conversion.Length.{Length}
 use Rattle.ir_printf.specs.declared.conversion.Length.TheVariants as size
+use Rattle.ir_printf.specs.Printed.{is_number, printed_bytes, printed_number}
 use Rattle.run_rules.specs.Printing.{Rest, then_bytes, written_conversion}
 use Rattle.type_table.specs.Shape.{Shape, int_leaf, ptr_leaf, void_leaf}
 use Rattle.typed_runs.specs.Kinds.{IsOf}
@@ -30,6 +31,10 @@ leaf_for _ span = leaf.Int 32
 abbrev pub takes_argument : ConversionKind → Bool
 takes_argument kind.Percent = false
 takes_argument _ = true
+
+-- what a conversion writes of a number: its digits, or the byte that it tells
+abbrev pub number_bytes : Conversion → ℕ → List ℕ
+number_bytes c number = if is_number c.kind then printed_number c number else printed_bytes c (number % 256 ∷ [])
 
 -- as far as each argument is one leaf, the leaf is of its kind
 abbrev pub AreOf : ℕ → List (Option Leaf) → List Scalar → Type 0

@@ -1,22 +1,21 @@
 //! What a conversion of `printf` writes of its argument (C, "The fprintf function").
-ghost use Rattle.std.specs.Prelude.{◌≡◌, ◌%◌, [], ◌∷◌, Ok, Err, IfErr, IfOk, IfSome, Some, true, if◌then◌else◌, length};
+ghost use Rattle.std.specs.Prelude.{◌≡◌, ℕ, List, ◌++◌, Ok, Err, IfErr, IfOk, IfSome, OnErr, OnOk, Some, true, if◌then◌else◌, length};
 ghost use Rattle.ir_eval.specs.declared.value.Scalar.TheVariants.{Ptr};
 ghost use Rattle.ir_memory.specs.Given.{IsKnown};
 ghost use Rattle.ir_printf.specs.declared.conversion.ConversionKind.TheVariants as ConversionKind;
-ghost use Rattle.ir_printf.specs.Printed.{is_number, printed_bytes, printed_number};
+ghost use Rattle.ir_printf.specs.Printed.{is_number};
 ghost use Rattle.ir_tables.specs.declared.undefined_kind.UndefinedKind.TheVariants.{BadFormat};
 ghost use Rattle.linkage_rules.specs.SameShape.{same_shape};
-ghost use Rattle.run_rules.specs.Printing.{converted, shape_for};
+ghost use Rattle.run_rules.specs.Printing.{converted, shape_for, string_for};
 ghost use Rattle.run_values.specs.Answer.{IsRefusal, Loads};
 ghost use Rattle.typed_runs.specs.Kinds.{IsNumberOf, IsOf};
-ghost use Rattle.host_calls.specs.Printing.{leaf_for, shape_from, takes_argument};
+ghost use Rattle.host_calls.specs.Printing.{leaf_for, number_bytes, shape_from, takes_argument};
 
-use ir_base::Text;
 use ir_eval::{Pointer, Scalar};
 use ir_memory::{Leaf, Memory, MemoryFault};
-use ir_printf::{Conversion, ConversionKind, Length, bytes_text, number_text};
+use ir_printf::{Conversion, ConversionKind, Length, put_bytes, put_number};
 use ir_tables::UndefinedKind;
-use run_values::push_string;
+use run_values::{plain_string, push_string};
 use std::alloc::{AllocError, Global};
 
 /// The leaf of the argument that a conversion takes.
@@ -59,59 +58,130 @@ fn is_number(kind: ConversionKind) -> bool
     )
 }
 
-/// What a conversion writes of a number.
-fn converted_number(
+/// Adds the digits of a number, or the byte that it tells, or nothing where memory is wanted.
+fn put_digits(
     alloc: Global,
     conversion: &Conversion,
     number: u128,
-) -> Result<Text, AllocError>
+    written: &mut Vec<u8>,
+) -> Result<(), AllocError>
     requires takes { takes_argument conversion.now.kind ≡ true }
     requires number { IsNumberOf number (leaf_for conversion.now.kind conversion.now.length) }
-    ensures { IfOk result (λ text. text ≡ (if is_number conversion.now.kind then printed_number conversion.now number else printed_bytes conversion.now (number % 256 ∷ []))) }
+    ensures ok { OnOk result (written.new.items ≡ written.old.items ++ number_bytes conversion.now number) }
+    ensures err { OnErr result (written.new.items ≡ written.old.items) }
 {
     if is_number(conversion.kind) {
-        number_text(alloc, conversion, number as u64)
+        put_number(alloc, conversion, number as u64, written)
     } else {
-        bytes_text(alloc, conversion, &[(number % 256) as u8])
+        put_bytes(alloc, conversion, &[(number % 256) as u8], written)
     }
 }
 
-/// What a conversion of a string writes of the string at a pointer.
-fn converted_string(
+/// Adds what a conversion writes of a number.
+fn put_converted_number(
+    alloc: Global,
+    conversion: &Conversion,
+    number: u128,
+    written: &mut Vec<u8>,
+) -> Result<(), MemoryFault>
+    requires takes { takes_argument conversion.now.kind ≡ true }
+    requires number { IsNumberOf number (leaf_for conversion.now.kind conversion.now.length) }
+    ensures ok { OnOk result (written.new.items ≡ written.old.items ++ number_bytes conversion.now number) }
+    ensures err { OnErr result (written.new.items ≡ written.old.items) }
+    ensures why { IfErr result (λ fault. fault ≡ MemoryFault.Memory) }
+{
+    put_digits(alloc, conversion, number, written)?;
+    Ok(())
+}
+
+/// The string that a conversion writes, where it lies in memory as it is told, and no precision ends it.
+fn whole_string<'m>(
+    memory: &'m Memory,
+    conversion: &Conversion,
+    string: Pointer,
+) -> Option<&'m [u8]>
+    requires { IsKnown memory.now.list string }
+    ensures { IfSome result (λ bytes. string_for memory.now conversion.now.precision string ≡ Ok bytes.now) }
+{
+    match conversion.precision {
+        None => plain_string(memory, string),
+        Some(_) => None,
+    }
+}
+
+/// A copy of the string that a conversion writes.
+fn copied_string(
     alloc: Global,
     memory: &Memory,
     conversion: &Conversion,
     string: Pointer,
-) -> Result<Text, MemoryFault>
-    requires known { IsKnown memory.now.list string }
-    requires bytes { conversion.now.kind ≡ ConversionKind.Bytes }
-    ensures ok { IfOk result (λ text. converted memory.now conversion.now (Ptr string) ≡ Ok text) }
-    ensures why { IfErr result (IsRefusal (converted memory.now conversion.now (Ptr string))) }
+) -> Result<Vec<u8>, MemoryFault>
+    requires { IsKnown memory.now.list string }
+    ensures ok { IfOk result (λ bytes. string_for memory.now conversion.now.precision string ≡ Ok bytes.items) }
+    ensures why { IfErr result (IsRefusal (string_for memory.now conversion.now.precision string)) }
 {
     let mut bytes = Vec::with_capacity(alloc, 64)?;
     push_string(memory, string, conversion.precision, &mut bytes)?;
-    let text = bytes_text(alloc, conversion, &bytes)?;
-    Ok(text)
+    Ok(bytes)
 }
 
-/// What a conversion writes of its argument.
-fn converted_text(
+/// Adds what a conversion of a string writes of the string at a pointer, which is copied first.
+fn put_copied(
+    alloc: Global,
+    memory: &Memory,
+    conversion: &Conversion,
+    string: Pointer,
+    written: &mut Vec<u8>,
+) -> Result<(), MemoryFault>
+    requires known { IsKnown memory.now.list string }
+    requires bytes { conversion.now.kind ≡ ConversionKind.Bytes }
+    ensures ok { OnOk result ((bytes : List ℕ) × (converted memory.now conversion.now (Ptr string) ≡ Ok bytes) × (written.new.items ≡ written.old.items ++ bytes)) }
+    ensures err { OnErr result (written.new.items ≡ written.old.items) }
+    ensures why { IfErr result (IsRefusal (converted memory.now conversion.now (Ptr string))) }
+{
+    let bytes = copied_string(alloc, memory, conversion, string)?;
+    put_bytes(alloc, conversion, bytes.as_slice(), written)?;
+    Ok(())
+}
+
+/// Adds what a conversion of a string writes of the string at a pointer.
+fn put_string(
+    alloc: Global,
+    memory: &Memory,
+    conversion: &Conversion,
+    string: Pointer,
+    written: &mut Vec<u8>,
+) -> Result<(), MemoryFault>
+    requires known { IsKnown memory.now.list string }
+    requires bytes { conversion.now.kind ≡ ConversionKind.Bytes }
+    ensures ok { OnOk result ((bytes : List ℕ) × (converted memory.now conversion.now (Ptr string) ≡ Ok bytes) × (written.new.items ≡ written.old.items ++ bytes)) }
+    ensures err { OnErr result (written.new.items ≡ written.old.items) }
+    ensures why { IfErr result (IsRefusal (converted memory.now conversion.now (Ptr string))) }
+{
+    let Some(bytes) = whole_string(memory, conversion, string) else {
+        return put_copied(alloc, memory, conversion, string, written);
+    };
+    put_bytes(alloc, conversion, bytes, written)?;
+    Ok(())
+}
+
+/// Adds what a conversion writes of its argument.
+fn put_converted(
     alloc: Global,
     memory: &Memory,
     conversion: &Conversion,
     argument: Scalar,
-) -> Result<Text, MemoryFault>
+    written: &mut Vec<u8>,
+) -> Result<(), MemoryFault>
     requires takes { takes_argument conversion.now.kind ≡ true }
     requires typed { IsOf (length memory.now.list) (leaf_for conversion.now.kind conversion.now.length) argument }
-    ensures ok { IfOk result (λ text. converted memory.now conversion.now argument ≡ Ok text) }
+    ensures ok { OnOk result ((bytes : List ℕ) × (converted memory.now conversion.now argument ≡ Ok bytes) × (written.new.items ≡ written.old.items ++ bytes)) }
+    ensures err { OnErr result (written.new.items ≡ written.old.items) }
     ensures why { IfErr result (IsRefusal (converted memory.now conversion.now argument)) }
 {
     match argument {
-        Scalar::Int(number) => {
-            let text = converted_number(alloc, conversion, number)?;
-            Ok(text)
-        }
-        Scalar::Ptr(string) => converted_string(alloc, memory, conversion, string),
+        Scalar::Int(number) => put_converted_number(alloc, conversion, number, written),
+        Scalar::Ptr(string) => put_string(alloc, memory, conversion, string, written),
         Scalar::Poison => Err(MemoryFault::Undefined(UndefinedKind::PoisonArgument)),
     }
 }
@@ -132,7 +202,5 @@ pub(crate) fn put_argument(
     if !is_leaf(kind, leaf_for(conversion.kind, conversion.length)) {
         return Err(MemoryFault::Undefined(UndefinedKind::BadFormat));
     }
-    let text = converted_text(alloc, memory, conversion, argument)?;
-    written.extend_from_slice(text.bytes())?;
-    Ok(())
+    put_converted(alloc, memory, conversion, argument, written)
 }

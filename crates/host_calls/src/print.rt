@@ -10,7 +10,7 @@ use ir_eval::Scalar;
 use ir_memory::{Leaf, Memory};
 use ir_tables::UndefinedKind;
 use run_host::{HostAnswer, refused};
-use run_values::push_string;
+use run_values::{plain_string, push_string};
 use std::alloc::{AllocError, Global};
 
 /// Writes a pattern that was read, whose arguments are there: the result is the count of bytes modulo 2^32. Nothing is written where
@@ -51,6 +51,14 @@ pub(crate) fn print(
     let Some(Scalar::Ptr(string)) = arguments.first() else {
         return Ok(HostAnswer::Fails(UndefinedKind::PoisonArgument));
     };
+    if let Some(pattern) = plain_string(memory, *string) {
+        let format = Format {
+            pattern,
+            kinds: &kinds[1..],
+            arguments: &arguments[1..],
+        };
+        return print_format(alloc, memory, &format, written);
+    }
     let mut pattern = Vec::with_capacity(alloc, 64)?;
     if let Err(fault) = push_string(memory, *string, None, &mut pattern) {
         return refused(fault);
