@@ -1,11 +1,12 @@
 //! The function types of host functions.
-ghost use Rattle.std.specs.Prelude.{◌≡◌, ◌<◌, All, [], ◌∷◌, false, length, map};
+ghost use Rattle.std.specs.Prelude.{◌≡◌, ◌<◌, ◌&&◌, All, [], ◌∷◌, false, length, map};
 ghost use Rattle.std.specs.List.{list_any};
 ghost use Rattle.module_arena.specs.HostRows.{fixed, host_types, integer_parameters, integer_returns};
 ghost use Rattle.run_rules.specs.Calls.{same_signature};
 ghost use Rattle.run_rules.specs.Look.{no_names};
 ghost use Rattle.run_rules.specs.Resolve.{signature_in};
 ghost use Rattle.run_types.specs.Wanted.{fits_forms, first_type, has_short_form, is_typed, shape_wanted, written_as};
+ghost use Rattle.type_table.specs.Shape.{ptr_leaf, void_leaf};
 
 use crate::wanted::{Wanted, are_wanted, is_wanted};
 use Wanted::{Int, Pair, Ptr, Void};
@@ -115,6 +116,18 @@ fn fits_integer(types: &TypeTable, written: &CallType<'_>, which: Intrinsic, wid
     }
 }
 
+/// Whether the function may be called with a pointer alone, and is.
+fn fits_short(types: &TypeTable, written: &CallType<'_>, row: HostRow) -> bool
+    requires returns { written.now.returns < length types.now.types }
+    requires parameters { All (λ ty. ty < length types.now.types) written.now.parameters.now }
+    ensures { result ≡ (has_short_form row && is_typed (written_as types.now written.now.returns written.now.parameters.now written.now.variadic) void_leaf (ptr_leaf ∷ []) false) }
+{
+    if !has_short_form(row) {
+        return false;
+    }
+    is_type(types, written, Void, &[Ptr], false)
+}
+
 /// Whether the function type is one of a row with a name of its own.
 fn fits_fixed(types: &TypeTable, written: &CallType<'_>, row: HostRow) -> bool
     requires returns { written.now.returns < length types.now.types }
@@ -123,8 +136,8 @@ fn fits_fixed(types: &TypeTable, written: &CallType<'_>, row: HostRow) -> bool
 {
     let (returns, parameters) = types_of(row);
     let first = is_type(types, written, returns, parameters, is_variadic(row));
-    let short = is_type(types, written, Void, &[Ptr], false);
-    first | (has_short_form(row) & short)
+    let short = fits_short(types, written, row);
+    first | short
 }
 
 /// Whether a function type, by the ids of its types, is one with which a host function can be called.

@@ -1,5 +1,4 @@
-use Rattle.std.proofs.Common.{◌≡◌, ◌&&◌, ◌||◌, [], ◌∷◌, false, ◌∙◌}
-use Rattle.type_table.specs.Shape.{ptr_leaf, void_leaf}
+use Rattle.std.proofs.Common.{◌≡◌, ◌||◌, ◌∙◌}
 use Rattle.run_types.specs.Wanted.{first_type, is_typed, written_as}
 use Rattle.run_types.proofs.row.fits_fixed.Goals as goal
 
@@ -10,5 +9,4 @@ returns c =
     let types = first_type c.args.row in
     let first : c.is_type-first.result ≡ is_typed used types.returns types.parameters types.variadic =
     c.is_type-first.ensures ∙ (λ j. is_typed used (c.types_of-returns.ensures.returns j) (c.types_of-returns.ensures.parameters j) (c.is_variadic.ensures j)) in
-    let short : c.is_type-short.result ≡ is_typed used void_leaf (ptr_leaf ∷ []) false = c.is_type-short.ensures in
-    λ j. first j || (c.has_short_form.ensures j && short j)
+    λ j. first j || c.fits_short-short.ensures j
