@@ -28,35 +28,36 @@ use run_types::only_leaf;
 use std::alloc::{AllocError, Global};
 use type_table::{TypeId, TypeTable};
 
-/// What each argument is, where it is one leaf.
+/// What each argument is, where it is one leaf, is put into `kinds`.
 fn only_leaves(
-    alloc: Global,
     types: &TypeTable,
     shapes: &[TypeId],
-) -> Result<Vec<Option<Leaf>>, AllocError>
-    requires { All (λ ty. ty < length types.now.types) shapes.now }
-    ensures { IfOk result (λ leaves. leaves.items ≡ map (λ ty. leaf_of (shape_in types.now ty)) shapes.now) }
+    kinds: &mut Vec<Option<Leaf>>,
+) -> Result<(), AllocError>
+    requires types { All (λ ty. ty < length types.now.types) shapes.now }
+    requires none { kinds.old.items ≡ [] }
+    ensures { OnOk result (kinds.new.items ≡ map (λ ty. leaf_of (shape_in types.now ty)) shapes.now) }
 {
-    let mut leaves = Vec::new(alloc);
     'arguments: for ty in shapes {
-        leaves.push(only_leaf(types, *ty))?;
+        kinds.push(only_leaf(types, *ty))?;
     }
-    Ok(leaves)
+    Ok(())
 }
 
-/// What `printf` asks of its arguments: what each is, where it is one leaf. Of another function it is not asked.
+/// What `printf` asks of its arguments is put into `kinds`: what each is, where it is one leaf. Of another function it is not asked.
 fn leaves_asked(
-    alloc: Global,
     types: &TypeTable,
     row: HostRow,
     shapes: &[TypeId],
-) -> Result<Vec<Option<Leaf>>, AllocError>
-    requires { All (λ ty. ty < length types.now.types) shapes.now }
-    ensures { IfOk result (λ leaves. row ≡ HostRow.Printf → leaves.items ≡ map leaf_of (map (shape_in types.now) shapes.now)) }
+    kinds: &mut Vec<Option<Leaf>>,
+) -> Result<(), AllocError>
+    requires types { All (λ ty. ty < length types.now.types) shapes.now }
+    requires none { kinds.old.items ≡ [] }
+    ensures { OnOk result (row ≡ HostRow.Printf → kinds.new.items ≡ map leaf_of (map (shape_in types.now) shapes.now)) }
 {
     match row {
-        HostRow::Printf => only_leaves(alloc, types, shapes),
-        _ => Ok(Vec::new(alloc)),
+        HostRow::Printf => only_leaves(types, shapes, kinds),
+        _ => Ok(()),
     }
 }
 
@@ -112,7 +113,7 @@ pub(crate) struct HostCall<'c> {
 }
 
 /// A call of a host function by one of its types, on behalf of the newest frame, which stands behind the call already. What is written
-/// is put into `written`, in which nothing is.
+/// is put into `written`, in which nothing is. What `kinds` has is lost.
 ///
 /// It is refused for want of memory alone.
 pub(crate) fn call_host(
@@ -121,6 +122,7 @@ pub(crate) fn call_host(
     stack: &mut Stack,
     memory: &mut Memory,
     call: &HostCall<'_>,
+    kinds: &mut Vec<Option<Leaf>>,
     written: &mut Vec<u8>,
 ) -> Result<Next, AllocError>
     requires row { IsRow call.now.row }
@@ -134,7 +136,15 @@ pub(crate) fn call_host(
         ≡ next_of next (core_of stack.new.frames due memory.new) written.new.items) }
     ensures ready { OnOk result ((p : Loaded) → StaysReady p stack.old p stack.new) }
 {
-    let leaves = leaves_asked(alloc, types, call.row, call.shapes)?;
-    let answer = host_calls::call(alloc, call.row, &leaves, call.arguments, memory, written)?;
+    kinds.clear();
+    leaves_asked(types, call.row, call.shapes, kinds)?;
+    let answer = host_calls::call(
+        alloc,
+        call.row,
+        kinds.as_slice(),
+        call.arguments,
+        memory,
+        written,
+    )?;
     Ok(take_answer(stack, call.to, answer))
 }

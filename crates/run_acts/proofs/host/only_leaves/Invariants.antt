@@ -5,4 +5,4 @@ use Rattle.run_acts.proofs.host.only_leaves.Given as goal
 
 -- so far each is told
 abbrev pub invariant-arguments : goal.invariant-arguments
-invariant-arguments l = l.leaves.items ≡ map (λ ty. leaf_of (shape_in l.types ty)) (take l.ty-index l.shapes)
+invariant-arguments l = l.kinds.items ≡ map (λ ty. leaf_of (shape_in l.types ty)) (take l.ty-index l.shapes)
