@@ -193,7 +193,7 @@ pub(crate) fn accepted_text(alloc: Global, name: &Text, text: Text) -> Result<Ac
 }
 
 /// The module that the input of this name stands for, where it is one that is valid: as bitcode where the input begins as that
-/// does, and else as a text. The input is let go as soon as it was read.
+/// does, and else as a text. A text is let go as soon as it was read, bitcode as soon as its module was judged.
 pub(crate) fn accepted_part(alloc: Global, name: &Text, input: Text) -> Result<Checked, Ended>
     requires { IsShort input }
     ensures part { IfOk result (λ checked. IsPart input (module_of checked)) }
@@ -212,7 +212,7 @@ pub(crate) fn accepted_part(alloc: Global, name: &Text, input: Text) -> Result<C
 }
 
 /// The modules that the inputs of these names stand for, in their order, where each stands for one that is valid. Each
-/// input is let go as soon as it was read.
+/// input is let go by then.
 pub(crate) fn accepted_parts(
     alloc: Global,
     names: &[Text],

@@ -30,8 +30,8 @@ fn first_text(texts: TextList) -> Text
     all.swap_remove(0)
 }
 
-/// Does what the command says with the texts of its inputs, each of at most 16 MiB. Texts of modules are let go one by one, each
-/// when it was read. A program that is run has standard input for its own, but where its module came from there.
+/// Does what the command says with the texts of its inputs, each of at most 16 MiB. A text of a module is let go when it was
+/// read. A program that is run has standard input for its own, but where its module came from there.
 pub fn work<F: Files, I: Source, O: Sink>(
     alloc: Global,
     command: &Command,

@@ -95,8 +95,8 @@ returns-in-Link-clause-unwritten g c = rw c.in-Link.is (λ analysis plain early.
 pub returns-in-Link-clause-files_unwritten : goal.returns-in-Link-clause-files_unwritten
 returns-in-Link-clause-files_unwritten g c = rw c.in-Link.is c.link.ensures.files_unwritten
 
-pub first_text-in-Extract-requires : goal.first_text-in-Extract-requires
-first_text-in-Extract-requires g c = (let one : length c.args.texts ≡ 1 = rw c.in-Extract.is at c.requires.count in omega (arith, one))
+pub first_text-requires-in-Extract : goal.first_text-requires-in-Extract
+first_text-requires-in-Extract g c = (let one : length c.args.texts ≡ 1 = rw c.in-Extract.is at c.requires.count in omega (arith, one))
 
 pub extract_part-requires : goal.extract_part-requires
 extract_part-requires g c = short_first _ _ c.requires.short c.first_text-in-Extract.ensures
@@ -170,8 +170,8 @@ returns-in-Extract-clause-ran g c = rw c.in-Extract.is tt
 pub returns-in-Extract-clause-not_begun : goal.returns-in-Extract-clause-not_begun
 returns-in-Extract-clause-not_begun g c = rw c.in-Extract.is (λ never. absurd never)
 
-pub first_text-in-Lli-requires : goal.first_text-in-Lli-requires
-first_text-in-Lli-requires g c = (let one : length c.args.texts ≡ 1 = rw c.in-Lli.is at c.requires.count in omega (arith, one))
+pub first_text-requires-in-Lli : goal.first_text-requires-in-Lli
+first_text-requires-in-Lli g c = (let one : length c.args.texts ≡ 1 = rw c.in-Lli.is at c.requires.count in omega (arith, one))
 
 pub run_bytes-requires-clause-short : goal.run_bytes-requires-clause-short
 run_bytes-requires-clause-short g c = short_first _ _ c.requires.short c.first_text-in-Lli.ensures
