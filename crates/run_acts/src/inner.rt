@@ -1,9 +1,11 @@
 //! Instructions that stay in their function.
-ghost use Rattle.std.specs.Prelude.{◌≡◌, IfOk, OnErr, OnOk, length, true};
+ghost use Rattle.std.specs.Prelude.{◌≡◌, ℕ, IfOk, OnErr, OnOk, length, true};
 ghost use Rattle.ir_memory.specs.Memory.{HasFreeAddresses};
 ghost use Rattle.module_arena.specs.Lists.{Lists};
 ghost use Rattle.run_rules.specs.Wants.{wants_memory};
+ghost use Rattle.run_actions.specs.Carried.{IsCarriedOut};
 ghost use Rattle.run_flat.specs.Flat.{action_of};
+ghost use Rattle.run_classes.specs.Groups.{is_value};
 ghost use Rattle.run_classes.specs.May.{MayAct};
 ghost use Rattle.run_acts.specs.Acting.{AnswersMemory, AnswersWith, ComesTo, FunctionsStay, is_inner};
 
@@ -41,6 +43,23 @@ fn next_of_access(done: Result<(), MemoryFault>) -> Result<Next, AllocError>
         Err(MemoryFault::MemoryLimit) => Ok(Next::Stops(Stop::MemoryLimit)),
         Err(MemoryFault::Memory) => Err(AllocError),
     }
+}
+
+/// A select, a freeze, or parts of values put together. It stands apart so that no other instruction makes room for a copy of the action.
+/// What `room` has is lost.
+#[inline(never)]
+fn act_on_many(
+    stack: &mut Stack,
+    pools: &Pools,
+    action: &Action,
+    room: &mut Vec<Scalar>,
+) -> Result<(), AllocError>
+    requires group { is_value action.now ≡ true }
+    requires may { (count : ℕ) × MayAct count pools.now action.now stack.old }
+    ensures ok { OnOk result ((a : Lists) → IsCarriedOut (action_of pools.now a action.now) stack.old stack.new) }
+    ensures wants { OnErr result ((a : Lists) → wants_memory (action_of pools.now a action.now) ≡ true) }
+{
+    act_on_values(stack, pools, *action, room)
 }
 
 /// An instruction of the newest frame that neither calls nor returns. What `room` has is lost.
@@ -133,7 +152,7 @@ pub(crate) fn act_within(
         Action::Jump { .. } | Action::Branch { .. } | Action::Switch { .. } | Action::Unreachable =>
             { Ok(next_of(act_on_ways(stack, pools, *action))) }
         Action::Select { .. } | Action::Freeze { .. } | Action::Gather { .. } => {
-            act_on_values(stack, pools, *action, room)?;
+            act_on_many(stack, pools, action, room)?;
             Ok(Next::Goes)
         }
         Action::Call { .. } | Action::Return { .. } | Action::Passed => unreachable!(),

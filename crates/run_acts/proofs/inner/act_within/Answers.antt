@@ -140,14 +140,14 @@ returns-in-Displace-clause-stays c =
 
 -- ---- many leaves
 
-pub act_on_values-requires-clause-may : goal.act_on_values-requires-clause-may
-act_on_values-requires-clause-may c = (length c.args.memory.now.list, c.requires.may)
+pub act_on_many-requires-clause-may : goal.act_on_many-requires-clause-may
+act_on_many-requires-clause-may c = (length c.args.memory.now.list, c.requires.may)
 
-pub returns-in_ok-act_on_values-in-Select-clause-comes : goal.returns-in_ok-act_on_values-in-Select-clause-comes
-returns-in_ok-act_on_values-in-Select-clause-comes c = λ lists.
-    carried_comes (action_of c.args.pools.now lists c.args.action.now) c.args.stack.now c.act_on_values.new.stack c.args.memory.now (c.in_ok-act_on_values-in-Select.ensures.ok lists)
+pub returns-in_ok-act_on_many-in-Select-clause-comes : goal.returns-in_ok-act_on_many-in-Select-clause-comes
+returns-in_ok-act_on_many-in-Select-clause-comes c = λ lists.
+    carried_comes (action_of c.args.pools.now lists c.args.action.now) c.args.stack.now c.act_on_many.new.stack c.args.memory.now (c.in_ok-act_on_many-in-Select.ensures.ok lists)
 
-pub returns-in_ok-act_on_values-in-Select-clause-stays : goal.returns-in_ok-act_on_values-in-Select-clause-stays
-returns-in_ok-act_on_values-in-Select-clause-stays c =
+pub returns-in_ok-act_on_many-in-Select-clause-stays : goal.returns-in_ok-act_on_many-in-Select-clause-stays
+returns-in_ok-act_on_many-in-Select-clause-stays c =
     let may = c.requires.may in
-    carried_stays c.args.pools.now may.lists c.args.action.now c.requires.inner c.args.stack.now c.act_on_values.new.stack may.running c.args.memory.now (c.in_ok-act_on_values-in-Select.ensures.ok may.lists)
+    carried_stays c.args.pools.now may.lists c.args.action.now c.requires.inner c.args.stack.now c.act_on_many.new.stack may.running c.args.memory.now (c.in_ok-act_on_many-in-Select.ensures.ok may.lists)
