@@ -50,7 +50,7 @@ use Rattle.run_classes.proofs.Wide.{origins_there}
 use Rattle.run_acts.specs.Made.{AreReady, FitBelow, IsFunctionReady, MayCall, shapes_of, StaysReady}
 use Rattle.run_acts.specs.declared.next.Next.{Next}
 use Rattle.run_acts.specs.Said.{next_of}
-use Rattle.run_acts.specs.Acting.{ActsFor, CameTo, ComesTo, is_inner, is_outer, IsOuter, look_in, MayActHere, MayActIn, table_in, typing_in, WantsHere}
+use Rattle.run_acts.specs.Acting.{ActsFor, CameTo, ComesTo, is_inner, is_outer, IsOuter, look_in, MayActBy, MayActHere, MayActIn, table_in, typing_in, WantsHere}
 
 -- ---- the newest frame
 
@@ -62,6 +62,12 @@ module _ (t : Typing) (look : ℕ → ℕ → ℕ → actions.Action) (table : �
 newest_ready : (p : Loaded) (widest : ℕ) (fs : List Frame) → IsRunning fs → All (λ (f : Frame). IsFunctionReady p widest f.function) fs → IsFunctionReady p widest (newest fs).function
 newest_ready p widest [] running h = absurd running
 newest_ready p widest (f ∷ fs) running h = h 0 f (omega arith)
+
+-- its body is there
+pub newest_body : (p : Loaded) (s : UnderWay) → IsRunning s.frames → AreReady p s → (function : ℕ) → function ≡ (newest s.frames).function → (b : Decoded) × IsReady p function b
+newest_body p s running ready function function_is =
+    let there = newest_ready p s.widest s.frames running ready in
+    (there.body, subst (λ (n : ℕ). IsReady p n there.body) (sym function_is) there.ready)
 
 -- no edge sets more leaves than more
 pub narrow_more : (p : Pools) (least most : ℕ) → least ≤ most → AreNarrow p least → AreNarrow p most
@@ -84,7 +90,7 @@ module _ (p : Loaded) (s : UnderWay) (m : Blocks) (here : MayActHere p s m) wher
   module _ (function : ℕ) (function_is : function ≡ (newest s.frames).function) where
     -- its body is there
     pub some_body : (b : Decoded) × IsReady p function b
-    some_body = (body_there.body, subst (λ (n : ℕ). IsReady p n body_there.body) (sym function_is) body_there.ready)
+    some_body = newest_body p s here.running here.ready function function_is
 
     module _ (b : Decoded) (ready : IsReady p function b) (is_body : IsBody p function b) (block position : ℕ) (block_is : block ≡ (newest s.frames).block) (position_is : position ≡ (newest s.frames).position) where
       looked : look_of b block position ≡ look_in p.lists (newest s.frames).function (newest s.frames).block (newest s.frames).position
@@ -107,6 +113,19 @@ module _ (p : Loaded) (s : UnderWay) (m : Blocks) (here : MayActHere p s m) wher
             within = within;
             room = subst (λ (n : ℕ). n + 1 < 2 ^ 32) position_is fits;
           }
+
+-- the same by the body
+module _ (p : Loaded) (b : Decoded) (s : UnderWay) (m : Blocks) (by : MayActBy p b s m) (block position : ℕ) (block_is : block ≡ (newest s.frames).block) (position_is : position ≡ (newest s.frames).position) where
+  pub stands_by : is_stuck (look_of b block position) ≡ false
+  stands_by = stands p s m by.here (newest s.frames).function refl b by.ready by.is_body block position block_is position_is
+
+  pub may_act_by : (action : Action) → action_of b.pools b.lists action ≡ look_of b block position → IsWithin b.pools action → position + 1 < 2 ^ 32 → MayActIn p b action s m
+  may_act_by = may_act_in p s m by.here (newest s.frames).function refl b by.ready by.is_body block position block_is position_is
+
+-- that is what is asked of the body that was found
+pub by_found : (p : Loaded) (s : UnderWay) (m : Blocks) → MayActHere p s m → (function : ℕ) → function ≡ (newest s.frames).function → (b : Decoded) → IsReady p function b → IsBody p function b → MayActBy p b s m
+by_found p s m here function function_is b ready is_body =
+    record { here = here; ready = subst (λ (n : ℕ). IsReady p n b) function_is ready; is_body = subst (λ (n : ℕ). IsBody p n b) function_is is_body }
 
 -- ---- the definition at a frame
 

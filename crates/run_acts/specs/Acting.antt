@@ -69,6 +69,12 @@ pub record MayActHere (p : Loaded) (s : UnderWay) (m : Blocks) : Type 0 where
   pub memory : IsTypedMemory m
   pub next : HasFreeAddresses m
 
+-- this is the body of the newest function
+pub record MayActBy (p : Loaded) (body : Decoded) (s : UnderWay) (m : Blocks) : Type 0 where
+  pub here : MayActHere p s m
+  pub ready : IsReady p (newest s.frames).function body
+  pub is_body : IsBody p (newest s.frames).function body
+
 -- so the action of the body of the newest function that stands where this has come to
 pub record MayActIn (p : Loaded) (body : Decoded) (action : Action) (s : UnderWay) (m : Blocks) : Type 0 where
   pub here : MayActHere p s m

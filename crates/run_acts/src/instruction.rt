@@ -1,10 +1,10 @@
 //! One instruction: one that calls or returns, or one that stays in its function.
 ghost use Rattle.std.specs.Prelude.{◌≡◌, [], IfOk, List, OnErr, OnOk};
 ghost use Rattle.run_rules.specs.State.{Due};
-ghost use Rattle.run_program.specs.Loaded.{Keeps};
+ghost use Rattle.run_program.specs.Loaded.{Keeps, Loaded};
 ghost use Rattle.run_acts.specs.Made.{StaysReady};
 ghost use Rattle.run_acts.specs.Said.{IsLast};
-ghost use Rattle.run_acts.specs.Acting.{ActsFor, ActsInside, FunctionsStay, IsOuter, MayActHere, WantsHere};
+ghost use Rattle.run_acts.specs.Acting.{ActsFor, ActsInside, FunctionsStay, IsOuter, MayActBy, MayActHere, WantsHere};
 
 use crate::calls::{act_on_call, act_on_return};
 use crate::inner::act_within;
@@ -12,6 +12,7 @@ use crate::next::Next;
 use crate::room::Buffers;
 use ir_eval::Scalar;
 use ir_memory::Memory;
+use run_body::ActionBody;
 use run_flat::Action;
 use run_program::Program;
 use run_stack::Stack;
@@ -48,23 +49,22 @@ pub fn call_or_return(
     }
 }
 
-/// Carries out the instruction of the newest frame where it neither calls nor returns. None where it does: then nothing is done. It
-/// writes nothing, and asks for no byte. What `room` has is lost.
+/// Carries out the instruction of the newest frame, in whose function's body it stands, where it neither calls nor returns. None where
+/// it does: then nothing is done. It writes nothing, and asks for no byte. What `room` has is lost.
 ///
 /// It is refused for want of memory alone, by an instruction that may want it.
 #[inline(always)]
 pub fn act_inside(
-    program: &Program<'_>,
+    decoded: &ActionBody<'_>,
     stack: &mut Stack,
     memory: &mut Memory,
     room: &mut Vec<Scalar>,
 ) -> Result<Option<Next>, AllocError>
-    requires may { MayActHere program.now stack.old memory.old }
-    ensures acts { IfOk result (λ next. ActsInside program.now next stack.old stack.new memory.old memory.new) }
+    requires may { (p : Loaded) × MayActBy p decoded.now stack.old memory.old }
+    ensures acts { IfOk result (λ next. (p : Loaded) → MayActBy p decoded.now stack.old memory.old → ActsInside p next stack.old stack.new memory.old memory.new) }
     ensures stays { OnOk result (FunctionsStay stack.old stack.new) }
-    ensures wants { OnErr result (WantsHere program.now stack.old) }
+    ensures wants { OnErr result ((p : Loaded) → MayActBy p decoded.now stack.old memory.old → WantsHere p stack.old) }
 {
-    let decoded = program.body(stack.function());
     let pools = decoded.pools();
     let flat = decoded.action(stack.block(), stack.position());
     match *flat {

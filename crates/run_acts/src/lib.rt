@@ -9,7 +9,7 @@
 //!
 //! ```
 //! // where the newest frame, the only one, is that of main, and stands at `ret i32 3`
-//! act_inside(&program, &mut stack, &mut memory, &mut room.leaves)? // None: it returns
+//! act_inside(program.body(stack.function()), &mut stack, &mut memory, &mut room.leaves)? // None: it returns
 //! call_or_return(&mut program, &mut stack, &mut memory, true, &mut room)? // Next::Stops(Stop::Exit(3))
 //! ```
 #![tactic(auto)]

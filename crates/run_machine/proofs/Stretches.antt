@@ -16,24 +16,24 @@ use Rattle.run_rules.specs.Step.{next_of}
 use Rattle.run_rules.specs.Wants.{may_want_memory}
 use Rattle.run_loop.specs.Stretches.{Stretches, WentOn}
 use Rattle.run_program.specs.Loaded.{Loaded}
-use Rattle.run_stack.specs.UnderWay.{UnderWay, IsRunning}
+use Rattle.run_stack.specs.UnderWay.{UnderWay, IsRunning, newest}
 use Rattle.run_traffic.specs.Input.{Waiting}
 use Rattle.run_traffic.proofs.Written.{added_none}
 use Rattle.run_acts.specs.declared.next.Next.{Next}
 use Rattle.run_acts.specs.declared.next.Next.TheVariants.{Goes, Stops}
 use Rattle.run_acts.specs.declared.next.Stop.{Stop}
-use Rattle.run_acts.specs.Acting.{ActsInside, FunctionsStay, WantsHere, look_in, table_in}
+use Rattle.run_acts.specs.Acting.{ActsInside, FunctionsStay, MayActHere, WantsHere, look_in, table_in}
 use Rattle.run_acts.specs.Said as said
 use Rattle.run_acts.specs.Said.{end_of}
 use Rattle.run_acts.proofs.Staying.{ready_still}
 use Rattle.run_passing.specs.Traffic.{Finishes, IsFlushed, IsPut}
 use Rattle.run_machine.specs.Living.{Acts, Comes, IsLive, Living, core_of_living, inside_seen, living_of, may_want_in}
-use Rattle.run_machine.specs.Stretch.{ComesThen, StaysAt, StaysBehind, Walked, Walks}
+use Rattle.run_machine.specs.Stretch.{ComesThen, MayWalk, StaysAt, StaysBehind, Walked, Walks}
 use Rattle.run_machine.specs.declared.stretch.Stretch.{Stretch}
 use Rattle.run_machine.specs.declared.stretch.StretchEnd.{StretchEnd}
 use Rattle.run_machine.specs.declared.stretch.StretchEnd.TheVariants as ends
 use Rattle.run_machine.proofs.EnteringDue.{comes_from, is_entered}
-use Rattle.run_machine.proofs.Lived.{act_live}
+use Rattle.run_machine.proofs.Lived.{act_live, may_act_here}
 use Rattle.run_machine.proofs.Onward.{stop_ended, stop_fails, wants, went_on}
 
 -- ---- on the way
@@ -44,11 +44,24 @@ still_running [] gs e h = absurd h
 still_running (f ∷ fs) [] e h = cc
 still_running (f ∷ fs) (g ∷ gs) e h = tt
 
--- so many instructions were carried out: a function is under way still, and all holds of the run that held before
+-- and so is the newest
+abbrev first : List ℕ → ℕ
+first [] = 0
+first (n ∷ ns) = n
+
+newest_first : (fs : List Frame) → first (map (λ (f : Frame). f.function) fs) ≡ (newest fs).function
+newest_first [] = refl
+newest_first (f ∷ fs) = refl
+
+newest_still : (fs gs : List Frame) → map (λ (f : Frame). f.function) gs ≡ map (λ (f : Frame). f.function) fs → (newest gs).function ≡ (newest fs).function
+newest_still fs gs e = sym (newest_first gs) ∙ ap first e ∙ newest_first fs
+
+-- so many instructions were carried out, all of one function: it is under way still, and all holds of the run that held before
 pub record Walking (p : Loaded) (count : ℕ) (s : UnderWay) (m : Blocks) (t : UnderWay) (n : Blocks) : Type 0 where
   pub walked : (due : List Due) → Walked (look_in p.lists) (table_in p.lists) count (core_of_living (living_of p s due m)) (core_of_living (living_of p t due n))
   pub live : (steps : ℕ) (due : List Due) → IsLive steps (living_of p s due m) → IsLive (steps + count) (living_of p t due n)
   pub running : IsRunning t.frames
+  pub function : (newest t.frames).function ≡ (newest s.frames).function
 
 pub none_walked : (p : Loaded) (s : UnderWay) (m : Blocks) → IsRunning s.frames → Walking p 0 s m s m
 none_walked p s m running =
@@ -56,9 +69,17 @@ none_walked p s m running =
       walked = λ due. refl;
       live = λ steps due h. let none : steps ≡ steps + 0 = omega arith in subst (λ (k : ℕ). IsLive k (living_of p s due m)) none h;
       running = running;
+      function = refl;
     }
 
 module _ (p : Loaded) (count : ℕ) (s : UnderWay) (m : Blocks) (t : UnderWay) (n : Blocks) (w : Walking p count s m t n) where
+  -- one more may be carried out
+  pub may_walk_on : (most : ℕ) → MayWalk p s m most → count < most → MayActHere p t n
+  may_walk_on most may less =
+      let few = may.4 in
+      let lt : may.0 + count < 2 ^ 32 = omega (arith, few, less) in
+      may_act_here (living_of p t may.1 n) (living_of p t may.1 n) refl w.running (may.0 + count, w.live may.0 may.1 may.2, lt)
+
   -- one more goes on
   pub walked_more : (u : UnderWay) (o : Blocks) → ActsInside p (Some Goes) t u n o → FunctionsStay t u → Walking p (count + 1) s m u o
   walked_more u o acts stays =
@@ -75,6 +96,7 @@ module _ (p : Loaded) (count : ℕ) (s : UnderWay) (m : Blocks) (t : UnderWay) (
             in
             subst (λ (k : ℕ). IsLive k (living_of p u due o)) one further;
         running = still_running t.frames u.frames stays.functions w.running;
+        function = newest_still t.frames u.frames stays.functions ∙ w.function;
       }
 
   -- one more ends the run

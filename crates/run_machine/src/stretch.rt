@@ -44,9 +44,10 @@ pub(crate) fn walk(
     ensures walks { (due : List Due) → Walks result (living_of program.now stack.old due memory.old) (living_of program.now stack.new due memory.new) }
     ensures live { (steps : ℕ) (due : List Due) → IsLive steps (living_of program.now stack.old due memory.old) → StaysBehind steps result (living_of program.now stack.new due memory.new) }
 {
+    let decoded = program.body(stack.function());
     let mut count = 0;
     'walking: while count < most {
-        match act_inside(program, stack, memory, room) {
+        match act_inside(decoded, stack, memory, room) {
             Ok(Some(Next::Goes)) => count += 1,
             Ok(Some(Next::Stops(stop))) => {
                 let end = StretchEnd::Stops(stop);
