@@ -1,5 +1,5 @@
 -- What is asked of an instruction that stands at the newest frame of a typed run, class by class.
-use Rattle.std.proofs.Common.{◌≡◌, ℕ, ◌+◌, ◌^◌, ◌<◌, ◌≤◌, All, List, [], ◌∷◌, length, map, Some, Result, Ok, Err, refl, sym, ap, ◌∙◌, subst, inl, inr, ◌⊎◌, arith}
+use Rattle.std.proofs.Common.{◌≡◌, ℕ, ◌+◌, ◌^◌, ◌<◌, ◌≤◌, All, Bool, List, [], ◌∷◌, length, map, Some, Result, Ok, Err, refl, sym, ap, ◌∙◌, subst, inl, inr, ◌⊎◌, arith}
 use Rattle.std.specs.Prelude.{IfOk, OnErr, OnOk, ◌++◌, false, nat_lt, slice_get, true}
 use Rattle.std.specs.List.{AllZip}
 use Rattle.std.proofs.lemmas.Bool.{false≢true}
@@ -50,7 +50,7 @@ use Rattle.run_classes.proofs.Wide.{origins_there}
 use Rattle.run_acts.specs.Made.{AreReady, FitBelow, IsFunctionReady, MayCall, shapes_of, StaysReady}
 use Rattle.run_acts.specs.declared.next.Next.{Next}
 use Rattle.run_acts.specs.Said.{next_of}
-use Rattle.run_acts.specs.Acting.{ActsFor, CameTo, ComesTo, is_inner, is_outer, IsOuter, look_in, MayActBy, MayActHere, MayActIn, table_in, typing_in, WantsHere}
+use Rattle.run_acts.specs.Acting.{ActsFor, CameTo, ComesTo, is_inner, is_outer, IsOuter, is_outer_here, look_in, MayActBy, MayActHere, MayActIn, table_in, typing_in, WantsHere}
 
 -- ---- the newest frame
 
@@ -366,6 +366,13 @@ none_outer p b action s m may outer calls returns = go action (ap is_outer may.m
     go (flat.Switch value otherwise cases) e calls returns = false≢true e
     go flat.Unreachable e calls returns = false≢true e
     go Passed e calls returns = false≢true e
+
+pub inner_here : (p : Loaded) (b : Decoded) (action : Action) (s : UnderWay) (m : Blocks) → MayActIn p b action s m → ((to : ℕ) (callee : LeafAt) (call : ℕ) → action ≡ Call to callee call → ⊥) → ((value : Span) → action ≡ Return value → ⊥) → is_outer_here p s ≡ false
+inner_here p b action s m may calls returns = other (is_outer_here p s) (λ outer. none_outer p b action s m may outer calls returns)
+  where
+    other : (test : Bool) → (test ≡ true → ⊥) → test ≡ false
+    other true h = absurd (h refl)
+    other false h = refl
 
 -- ---- a program that is as it was
 

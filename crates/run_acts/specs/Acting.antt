@@ -1,4 +1,4 @@
--- For `act_inside` and `call_or_return`: what is asked of frames, memory and a program so that an instruction can be carried out, and what is said of it.
+-- For `act_inside`, `calls_or_returns` and `call_or_return`: what is asked of frames, memory and a program so that an instruction can be carried out, and what is said of it.
 use Rattle.std.specs.Prelude.{◌≡◌, ℕ, ◌+◌, ◌≤◌, ◌<◌, ◌^◌, Bool, true, false, List, [], map, length, Option, Some, None, Result, Ok, Err}
 use Rattle.std.specs.Result.{IsErr}
 use Rattle.ir_memory.specs.declared.fault.MemoryFault.{MemoryFault}
@@ -112,8 +112,11 @@ is_outer (actions.Return value) = true
 is_outer _ = false
 
 -- so does the instruction that is due
+abbrev pub is_outer_here : Loaded → UnderWay → Bool
+is_outer_here p s = is_outer (look_in p.lists (newest s.frames).function (newest s.frames).block (newest s.frames).position)
+
 abbrev pub IsOuter : Loaded → UnderWay → Type 0
-IsOuter p s = is_outer (look_in p.lists (newest s.frames).function (newest s.frames).block (newest s.frames).position) ≡ true
+IsOuter p s = is_outer_here p s ≡ true
 
 -- the same of an instruction that neither calls nor returns: it goes on or stops the run, and writes nothing; or it does, and nothing
 -- is done

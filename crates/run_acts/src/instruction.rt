@@ -1,10 +1,11 @@
 //! One instruction: one that calls or returns, or one that stays in its function.
 ghost use Rattle.std.specs.Prelude.{◌≡◌, [], IfOk, List, OnErr, OnOk};
+ghost use Rattle.ir_memory.specs.Memory.{Blocks};
 ghost use Rattle.run_rules.specs.State.{Due};
 ghost use Rattle.run_program.specs.Loaded.{Keeps, Loaded};
 ghost use Rattle.run_acts.specs.Made.{StaysReady};
 ghost use Rattle.run_acts.specs.Said.{IsLast};
-ghost use Rattle.run_acts.specs.Acting.{ActsFor, ActsInside, FunctionsStay, IsOuter, MayActBy, MayActHere, WantsHere};
+ghost use Rattle.run_acts.specs.Acting.{ActsFor, ActsInside, FunctionsStay, IsOuter, MayActBy, MayActHere, WantsHere, is_outer_here};
 
 use crate::calls::{act_on_call, act_on_return};
 use crate::inner::act_within;
@@ -17,6 +18,20 @@ use run_flat::Action;
 use run_program::Program;
 use run_stack::Stack;
 use std::alloc::AllocError;
+
+/// Whether the instruction of the newest frame calls or returns.
+#[inline(always)]
+pub fn calls_or_returns(program: &Program<'_>, stack: &Stack) -> bool
+    requires { (m : Blocks) × MayActHere program.now stack.now m }
+    ensures { result ≡ is_outer_here program.now stack.now }
+{
+    let decoded = program.body(stack.function());
+    let flat = decoded.action(stack.block(), stack.position());
+    match *flat {
+        Action::Call { .. } | Action::Return { .. } => true,
+        _ => false,
+    }
+}
 
 /// Carries out the call or the return of the newest frame; `is_last` tells that nothing is due. What it writes is put into the room, in
 /// which nothing is.

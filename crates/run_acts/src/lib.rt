@@ -27,7 +27,7 @@ mod room;
 
 pub use address::{FrameCall, call_address};
 pub use due::{DueCall, DueCalls, call_due};
-pub use instruction::{act_inside, call_or_return};
+pub use instruction::{act_inside, call_or_return, calls_or_returns};
 pub use leave::return_value;
 pub use next::{Next, Stop};
 pub use room::Buffers;

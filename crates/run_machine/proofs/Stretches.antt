@@ -1,12 +1,10 @@
 -- A stretch of instructions that neither call nor return, and the steps that it makes.
-use Rattle.std.proofs.Common.{◌≡◌, ℕ, zero, suc, ◌+◌, ◌^◌, ◌<◌, ◌≤◌, true, false, List, [], ◌∷◌, ◌++◌, length, map, Option, Some, None, Result, Ok, Err, refl, sym, ap, ◌∙◌, subst, inl, append-nil, arith}
-use Rattle.std.specs.Prelude.{⊤, IfOk, OnErr, OnOk}
+use Rattle.std.proofs.Common.{◌≡◌, ℕ, zero, suc, ◌+◌, ◌^◌, ◌<◌, ◌≤◌, true, false, List, [], ◌∷◌, length, map, Bool, Option, Some, None, Ok, Err, refl, sym, ap, ◌∙◌, subst, inl, append-nil, arith}
+use Rattle.std.proofs.lemmas.Bool.{false≢true}
 use Rattle.ir_memory.specs.Memory.{Blocks}
 use Rattle.module_arena.specs.Lists.{Lists}
 use Rattle.module_arena.specs.View.{module_of}
-use Rattle.run_rules.specs.Action.{Action}
-use Rattle.run_rules.specs.Calls.{Callee}
-use Rattle.run_rules.specs.Clauses.{Outside, outside, StepAnswers, Stepped}
+use Rattle.run_rules.specs.Clauses.{Outside, outside, Stepped}
 use Rattle.run_rules.specs.declared.end.End.{End}
 use Rattle.run_rules.specs.declared.fault.RunFault.{RunFault}
 use Rattle.run_rules.specs.declared.fault.RunFault.TheVariants.{Memory}
@@ -22,13 +20,13 @@ use Rattle.run_traffic.proofs.Written.{added_none}
 use Rattle.run_acts.specs.declared.next.Next.{Next}
 use Rattle.run_acts.specs.declared.next.Next.TheVariants.{Goes, Stops}
 use Rattle.run_acts.specs.declared.next.Stop.{Stop}
-use Rattle.run_acts.specs.Acting.{ActsInside, FunctionsStay, MayActHere, WantsHere, look_in, table_in}
+use Rattle.run_acts.specs.Acting.{ActsInside, FunctionsStay, MayActHere, WantsHere, is_outer_here, look_in, table_in}
 use Rattle.run_acts.specs.Said as said
 use Rattle.run_acts.specs.Said.{end_of}
 use Rattle.run_acts.proofs.Staying.{ready_still}
 use Rattle.run_passing.specs.Traffic.{Finishes, IsFlushed, IsPut}
 use Rattle.run_machine.specs.Living.{Acts, Comes, IsLive, Living, core_of_living, inside_seen, living_of, may_want_in}
-use Rattle.run_machine.specs.Stretch.{ComesThen, MayWalk, StaysAt, StaysBehind, Walked, Walks}
+use Rattle.run_machine.specs.Stretch.{ComesThen, LeavesOff, MayWalk, StaysAt, Walked, Walks}
 use Rattle.run_machine.specs.declared.stretch.Stretch.{Stretch}
 use Rattle.run_machine.specs.declared.stretch.StretchEnd.{StretchEnd}
 use Rattle.run_machine.specs.declared.stretch.StretchEnd.TheVariants as ends
@@ -192,6 +190,11 @@ module _ (p : Loaded) (w : Waiting) (held : List ℕ) where
 
 -- ---- a stretch of one instruction at most
 
+one_at : (n : ℕ) → n ≤ 1 → (n < 1 → ⊥) → n ≡ 1
+one_at zero le none = absurd (none (omega arith))
+one_at (suc zero) le none = refl
+one_at (suc (suc n)) le none = absurd (omega (arith, le))
+
 module _ (old new : Living) (s : Stretch) (walks : Walks s old new) where
   abbrev walked_to : ℕ → Core → Type 0
   walked_to n c = Walked (look_in old.program.lists) (table_in old.program.lists) n (core_of_living old) c
@@ -232,28 +235,25 @@ module _ (old new : Living) (s : Stretch) (walks : Walks s old new) where
   pub runs_then : s.end ≡ ends.Waits → s.count < 1 → IsRunning old.stack.frames → IsRunning new.stack.frames
   runs_then e few running = subst (λ (c : Core). IsRunning c.frames) (sym (same_then e few)) running
 
-  pub acts_then : s.end ≡ ends.Waits → s.count < 1 → (next : Next) (later : Living) → Acts next new later → Acts next old later
-  acts_then e few next later a =
-      record {
-        lists = a.lists ∙ walks.lists;
-        comes =
-            ap (next_of (look_in old.program.lists) (table_in old.program.lists)) (sym (same_then e few))
-            ∙ subst (λ (x : Lists). next_of (look_in x) (table_in x) (core_of_living new) ≡ said.next_of next (core_of_living later) later.written) walks.lists a.comes;
-      }
+  abbrev outer_at : Lists → List Frame → Bool
+  outer_at a fs = is_outer_here (record old.program { lists = a }) (record old.stack { frames = fs })
 
-  pub wants_then : s.end ≡ ends.Waits → s.count < 1 → may_want_in new ≡ true → may_want_in old ≡ true
-  wants_then e few h =
-      ap (λ (c : Core). may_want_memory (look_in old.program.lists) c.frames) (sym (same_then e few))
-      ∙ (ap (λ (x : Lists). may_want_memory (look_in x) new.stack.frames) (sym walks.lists) ∙ h)
+  outer_before : s.end ≡ ends.Waits → LeavesOff 1 s.count s.end new.program new.stack → IsRunning old.stack.frames → s.count < 1 → is_outer_here old.program old.stack ≡ true
+  outer_before e further running less =
+      let off : LeavesOff 1 s.count ends.Waits new.program new.stack = subst (λ (end : StretchEnd). LeavesOff 1 s.count end new.program new.stack) e further in
+      ap (λ (c : Core). outer_at old.program.lists c.frames) (sym (same_then e less)) ∙ (ap (λ (a : Lists). outer_at a new.stack.frames) (sym walks.lists) ∙ off less (runs_then e less running))
+
+  -- where the first neither calls nor returns, it was carried out
+  pub went_one : s.end ≡ ends.Waits → s.count ≤ 1 → LeavesOff 1 s.count s.end new.program new.stack → IsRunning old.stack.frames → is_outer_here old.program old.stack ≡ false → s.count ≡ 1
+  went_one e few further running inner = one_at s.count few (λ less. false≢true (sym inner ∙ outer_before e further running less))
+
+-- an instruction does the same, whatever was written before it
+pub acts_with : (written : List ℕ) (old later : Living) (next : Next) → Acts next (record old { written = written }) later → Acts next old later
+acts_with written old later next a = record { lists = a.lists; comes = a.comes }
 
 -- all holds still
 pub live_one : (steps count : ℕ) (end : StretchEnd) (l : Living) → end ≡ ends.Waits → count ≡ 1 → StaysAt (steps + count) end l → IsLive (steps + 1) l
 live_one steps count end l e one h = subst (λ (n : ℕ). IsLive (steps + n) l) one (subst (λ (x : StretchEnd). StaysAt (steps + count) x l) e h)
-
-pub live_then : (steps count : ℕ) (end : StretchEnd) (l : Living) → end ≡ ends.Waits → count < 1 → StaysAt (steps + count) end l → IsLive steps l
-live_then steps count end l e few h =
-    let none : steps + count ≡ steps = omega (arith, few) in
-    subst (λ (n : ℕ). IsLive n l) none (subst (λ (x : StretchEnd). StaysAt (steps + count) x l) e h)
 
 -- ---- a stretch, and what comes then
 

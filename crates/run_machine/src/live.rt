@@ -1,7 +1,7 @@
 //! What instructions see of a run.
 ghost use Rattle.std.specs.Prelude.{◌≡◌, ◌==◌, ◌+◌, ◌^◌, ◌<◌, ◌≤◌, ℕ, [], IfOk, length, OnErr, OnOk, true};
 ghost use Rattle.run_machine.specs.Living.{Acts, Enters, HasFrames, IsLive, may_want_in, StaysEntered, StaysIn, StaysLive, TakesNumber, Turns};
-ghost use Rattle.run_acts.specs.Acting.{IsOuter};
+ghost use Rattle.run_acts.specs.Acting.{IsOuter, is_outer_here};
 ghost use Rattle.run_machine.specs.Stretch.{LeavesOff, StaysBehind, Walks};
 ghost use Rattle.run_passing.specs.Traffic.{Gets};
 ghost use Rattle.run_rules.specs.Clauses.{outside};
@@ -9,7 +9,7 @@ ghost use Rattle.run_rules.specs.Clauses.{outside};
 use crate::stretch::{Stretch, StretchEnd, walk};
 use ir_base::{Sink, Source};
 use ir_memory::Memory;
-use run_acts::{Buffers, DueCalls, Next, Stop, call_due, call_or_return};
+use run_acts::{Buffers, DueCalls, Next, Stop, call_due, call_or_return, calls_or_returns};
 use run_passing::get;
 use run_program::Program;
 use run_rules::RunFault;
@@ -107,17 +107,26 @@ impl<'m> Live<'m> {
         ensures kept { OnErr result (self.new.program.lists ≡ self.old.program.lists) }
     {
         self.room.written.clear();
+        if self.crosses() {
+            return self.cross();
+        }
         let stretch = self.go_on(1);
         match stretch.end {
             StretchEnd::Stops(stop) => Ok(Next::Stops(stop)),
             StretchEnd::Wants => Err(AllocError),
-            StretchEnd::Waits => {
-                if stretch.count == 1 {
-                    return Ok(Next::Goes);
-                }
-                self.cross()
-            }
+            // One was carried out, since it neither calls nor returns.
+            StretchEnd::Waits => Ok(Next::Goes),
         }
+    }
+
+    // Whether the instruction that is due in the newest function calls or returns.
+    #[inline(always)]
+    fn crosses(&self) -> bool
+        requires frames { HasFrames self.now }
+        requires live { (steps : ℕ) × IsLive steps self.now × (steps < 2 ^ 32) }
+        ensures { result ≡ is_outer_here self.now.program self.now.stack }
+    {
+        calls_or_returns(&self.program, &self.stack)
     }
 
     // Carries out the call or the return that is due in the newest function. What it writes stands in the room, in which nothing is.
