@@ -12,7 +12,6 @@ use Rattle.ir_memory.specs.Answer.{Keeps}
 use Rattle.ir_memory.specs.Block.{MemoryBlock, new_block}
 use Rattle.ir_memory.specs.Given.{IsBlock, IsKnown}
 use Rattle.ir_memory.specs.Memory.{Blocks, added, byte_limit, live_bytes, round_up}
-use Rattle.run_rules.specs.declared.end.End.{End}
 use Rattle.run_rules.specs.declared.end.End.TheVariants.{MemoryLimit}
 use Rattle.run_rules.specs.Access.{has_room, next_block}
 use Rattle.run_rules.specs.Opening.{made}

@@ -1,18 +1,13 @@
-use Rattle.std.proofs.Common.{◌≡◌, List, true, length, refl, sym, ◌∙◌, subst}
+use Rattle.std.proofs.Common.{List, refl, ◌∙◌, subst}
 use Rattle.run_rules.specs.State.{Due}
-use Rattle.run_rules.specs.Wants.{wants_memory}
 use Rattle.run_flat.specs.declared.action.Action.{Action}
 use Rattle.run_flat.specs.declared.action.Action.TheVariants as flat
-use Rattle.run_flat.specs.declared.pools.Pools.{Pools}
 use Rattle.run_flat.specs.Flat.{action_of}
 use Rattle.run_acts.specs.declared.next.Next.{Next}
-use Rattle.run_acts.specs.Made.{StaysReady}
 use Rattle.run_acts.specs.Said.{IsLast}
-use Rattle.run_classes.specs.May.{MayAct}
-use Rattle.run_classes.proofs.Placed.{on_err, on_ok}
-use Rattle.run_acts.specs.Acting.{ActsFor, ComesTo, FunctionsStay, MayActIn, WantsHere}
+use Rattle.run_classes.proofs.Placed.{on_err}
+use Rattle.run_acts.specs.Acting.{ActsFor, MayActIn, WantsHere}
 use Rattle.run_acts.proofs.AskedCalls.{acts_for, if_ok, keeps_itself, may_act_in, none_outer, some_body, stands, wanted, wants_for, written_none}
-use Rattle.run_acts.proofs.Staying.{ready_still}
 use Rattle.run_acts.proofs.instruction.call_or_return.Goals as goal
 
 -- ---- the instruction

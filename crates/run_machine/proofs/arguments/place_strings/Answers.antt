@@ -1,11 +1,10 @@
-use Rattle.std.proofs.Common.{All, ◌≡◌, ℕ, ◌+◌, ◌*◌, ◌^◌, ◌<◌, ◌≤◌, List, [], ◌∷◌, ◌++◌, drop, get_or, length, Some, sym, ap, ◌∙◌, subst, arith}
+use Rattle.std.proofs.Common.{All, ℕ, ◌+◌, ◌*◌, ◌^◌, ◌≤◌, List, [], ◌∷◌, drop, length, sym, ap, ◌∙◌, subst, arith}
 use Rattle.std.proofs.lemmas.List.{length-append}
 use Rattle.std.proofs.lemmas.List.Elements.{All-nil}
 use Rattle.ir_eval.specs.declared.value.Pointer.{Pointer}
 use Rattle.ir_memory.specs.Given.{IsKnown}
-use Rattle.ir_memory.specs.Memory.{Blocks}
 use Rattle.run_rules.specs.Opening.{with_string, with_strings}
-use Rattle.run_machine.specs.Arguments.{MakesWith, Places, PlacesAll}
+use Rattle.run_machine.specs.Arguments.{MakesWith, Places}
 use Rattle.run_machine.proofs.Blocks.{known_more, none_kept, then_kept}
 use Rattle.run_machine.proofs.Words.{string_fits, string_lives, string_more, string_none, strings_begin, strings_end, with_others}
 use Rattle.run_machine.proofs.arguments.place_strings.Goals as goal

@@ -2,7 +2,7 @@ use Rattle.std.proofs.Common.{◌+◌, refl, sym, subst}
 use Rattle.run_machine.specs.Living.{HasFrames, IsLive, Living}
 use Rattle.run_machine.specs.Stretch.{Walks}
 use Rattle.run_machine.proofs.EnteringDue.{some_frames}
-use Rattle.run_machine.proofs.Stretches.{live_of, none_walks, same_behind, same_walks}
+use Rattle.run_machine.proofs.Stretches.{live_of, same_behind, same_walks}
 use Rattle.run_machine.proofs.live.Live.go_on.Goals as goal
 
 pub walk-requires : goal.walk-requires
