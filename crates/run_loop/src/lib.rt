@@ -2,7 +2,7 @@
 //!
 //! It stands on the clauses of `run_rules` and on the laws of `run_laws`. It promises that steps, each as the clause of `step` says,
 //! and a halt behind the last make a run as the clause of `run` says: its end, its output, and output before input.
-//! Definitions: `specs/Halts`, and `Clauses` and `RunClauses` of `run_rules`.
+//! Definitions: `specs/Halts`, `specs/Stretches`, and `Clauses` and `RunClauses` of `run_rules`.
 //!
 //! ```
 //! // of a machine that has made no step, and whose tenth step is a call of `exit(3)`
