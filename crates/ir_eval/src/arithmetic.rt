@@ -9,6 +9,7 @@ use crate::width::{fits_unsigned, low_bits};
 use ir_tables::{Flag, Flags};
 
 /// `add`: the sum modulo 2^width; `nuw` and `nsw` give poison where the exact sum does not fit.
+#[inline(always)]
 pub fn sum(flags: Flags, width: u8, a: u128, b: u128) -> Scalar
     requires width { IsWidth width }
     requires a { a < 2 ^ width }
@@ -25,6 +26,7 @@ pub fn sum(flags: Flags, width: u8, a: u128, b: u128) -> Scalar
 }
 
 /// `sub`: the difference modulo 2^width, with the flags of `add`.
+#[inline(always)]
 pub fn difference(flags: Flags, width: u8, a: u128, b: u128) -> Scalar
     requires width { IsWidth width }
     requires a { a < 2 ^ width }
@@ -41,6 +43,7 @@ pub fn difference(flags: Flags, width: u8, a: u128, b: u128) -> Scalar
 }
 
 /// `mul`: the product modulo 2^width, with the flags of `add`.
+#[inline(always)]
 pub fn product(flags: Flags, width: u8, a: u128, b: u128) -> Scalar
     requires width { IsWidth width }
     requires a { a < 2 ^ width }

@@ -9,13 +9,13 @@ ghost use Rattle.run_classes.specs.Groups.{is_value};
 ghost use Rattle.run_classes.specs.May.{MayAct};
 ghost use Rattle.run_acts.specs.Acting.{AnswersMemory, AnswersWith, ComesTo, FunctionsStay, is_inner};
 
-use crate::next::{Next, Stop};
+use crate::next::{Next, Stop, fails};
 use ir_eval::Scalar;
 use ir_memory::{Memory, MemoryFault};
 use ir_tables::UndefinedKind;
 use run_classes::{
-    act_on_address, act_on_alloca, act_on_binary, act_on_cast, act_on_comparison, act_on_load,
-    act_on_store, act_on_values, act_on_ways,
+    act_on_address, act_on_alloca, act_on_binary, act_on_branch, act_on_cast, act_on_comparison,
+    act_on_jump, act_on_load, act_on_store, act_on_switch, act_on_unreachable, act_on_values,
 };
 use run_flat::{Action, Pools};
 use run_stack::Stack;
@@ -149,8 +149,21 @@ pub(crate) fn act_within(
             );
             Ok(Next::Goes)
         }
-        Action::Jump { .. } | Action::Branch { .. } | Action::Switch { .. } | Action::Unreachable =>
-            { Ok(next_of(act_on_ways(stack, pools, *action))) }
+        Action::Jump { edge } => {
+            act_on_jump(stack, pools, action, edge);
+            Ok(Next::Goes)
+        }
+        Action::Branch {
+            condition,
+            then_edge,
+            else_edge,
+        } => Ok(next_of(act_on_branch(stack, pools, action, condition, then_edge, else_edge))),
+        Action::Switch {
+            value,
+            otherwise,
+            cases,
+        } => Ok(next_of(act_on_switch(stack, pools, action, value, otherwise, cases))),
+        Action::Unreachable => Ok(fails(act_on_unreachable(stack, pools, action))),
         Action::Select { .. } | Action::Freeze { .. } | Action::Gather { .. } => {
             act_on_many(stack, pools, action, room)?;
             Ok(Next::Goes)

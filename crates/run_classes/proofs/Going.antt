@@ -1,7 +1,6 @@
 -- Ways that are typed may be gone.
-use Rattle.std.proofs.Common.{◌≡◌, ℕ, ◌-◌, ◌≤◌, All, List, get_or, length, map, drop, true, refl, sym, ap, ◌∙◌, subst, arith, Some}
+use Rattle.std.proofs.Common.{◌≡◌, ℕ, ◌-◌, ◌≤◌, All, List, get_or, length, map, drop, refl, sym, ap, ◌∙◌, subst, arith, Some}
 use Rattle.std.specs.Prelude.{slice_get}
-use Rattle.std.proofs.lemmas.Bool.{false≢true}
 use Rattle.std.proofs.lemmas.List.{get_or-map, length-map, length-take}
 use Rattle.std.proofs.lemmas.List.Elements.{All-drop, All-take, All-weaker}
 use Rattle.std.proofs.lemmas.Option.{get_or_from_slice_get, slice_get_within, same_Some}
@@ -17,14 +16,13 @@ use Rattle.run_actions.specs.declared.edge.Edge.{Edge}
 use Rattle.run_actions.specs.Edges.{case_way, IsWay, moves_in, way_of}
 use Rattle.run_actions.specs.Operands.{IsThere}
 use Rattle.run_flat.specs.declared.action.Action.{Action}
-use Rattle.run_flat.specs.declared.action.Action.TheVariants.{Jump, Branch, Switch, Unreachable}
+use Rattle.run_flat.specs.declared.action.Action.TheVariants.{Jump, Branch, Switch}
 use Rattle.run_flat.specs.declared.leaf.LeafAt.{LeafAt}
 use Rattle.run_flat.specs.declared.leaf.Span.{Span}
 use Rattle.run_flat.specs.declared.pools.Pools.{Pools}
 use Rattle.run_flat.specs.Flat.{action_of, AreCasesIn, cases_of, edge_at, HasItsMoves, IsEdgeIn, leaf_of}
 use Rattle.run_flat.specs.Spans.{spanned}
 use Rattle.typed_runs.specs.Actions.{IsEdge, IsMove}
-use Rattle.run_classes.specs.Groups.{is_way}
 use Rattle.run_classes.specs.May.{MayAct}
 use Rattle.run_classes.proofs.Placed.{had, origin_there, place_there}
 
@@ -126,12 +124,3 @@ module _ (p : Pools) (a : Lists) (action : Action) where
       → way_of p.moves other ≡ edge_at p otherwise → listed ≡ spanned p.cases cases → actions.Switch (origin_of number) (way_of moves other) (map (case_way moves) listed) ≡ action_of p a action
   switched_so value otherwise cases moves number other listed is all one means here =
       (λ i. actions.Switch (one i) (way_of (all i) other) (map (case_way (all i)) (here i))) ∙ (λ i. actions.Switch (leaf_of p value) (means i) (cases_of p cases)) ∙ ap (action_of p a) (sym is)
-
--- there is no other
-pub no_other_way : (action : Action) → is_way action ≡ true → ((edge : ℕ) → action ≡ Jump edge → ⊥) → ((condition : LeafAt) (then_edge else_edge : ℕ) → action ≡ Branch condition then_edge else_edge → ⊥)
-    → ((value : LeafAt) (otherwise : ℕ) (cases : Span) → action ≡ Switch value otherwise cases → ⊥) → (action ≡ Unreachable → ⊥) → ⊥
-no_other_way (Jump edge) h one two three four = one edge refl
-no_other_way (Branch condition then_edge else_edge) h one two three four = two condition then_edge else_edge refl
-no_other_way (Switch value otherwise cases) h one two three four = three value otherwise cases refl
-no_other_way Unreachable h one two three four = four refl
-no_other_way _ h one two three four = absurd (false≢true h)

@@ -24,4 +24,4 @@ pub use memory::{act_on_address, act_on_alloca, act_on_load, act_on_store};
 pub use operand::origin;
 pub use scalars::{act_on_binary, act_on_cast, act_on_comparison};
 pub use values::act_on_values;
-pub use ways::act_on_ways;
+pub use ways::{act_on_branch, act_on_jump, act_on_switch, act_on_unreachable};

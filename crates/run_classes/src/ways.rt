@@ -1,53 +1,77 @@
 //! Ends of blocks that go to a block, or nowhere.
-ghost use Rattle.std.specs.Prelude.{◌≡◌, ℕ, true};
+ghost use Rattle.std.specs.Prelude.{◌≡◌, ℕ};
 ghost use Rattle.module_arena.specs.Lists.{Lists};
-ghost use Rattle.run_actions.specs.Carried.{Acts};
+ghost use Rattle.run_actions.specs.Carried.{Acts, IsCarriedOut, IsUndefined};
+ghost use Rattle.run_flat.specs.declared.action.Action.TheVariants as flat;
 ghost use Rattle.run_flat.specs.Flat.{action_of};
-ghost use Rattle.run_classes.specs.Groups.{is_way};
 ghost use Rattle.run_classes.specs.May.{MayAct};
 
 use crate::operand::{origin, way};
 use ir_tables::UndefinedKind;
 use run_actions::{branch, jump, switch, unreachable};
-use run_flat::{Action, Pools};
+use run_flat::{Action, LeafAt, Pools, Span};
 use run_stack::Stack;
 
-/// A jump, a branch, a switch, or an end that is not to be come to.
+/// A way to one block. The action serves the clauses.
+#[inline(always)]
+pub fn act_on_jump(stack: &mut Stack, pools: &Pools, _action: &Action, edge: u32)
+    requires is { _action.now ≡ flat.Jump edge }
+    requires may { (count : ℕ) × MayAct count pools.now _action.now stack.old }
+    ensures { (a : Lists) → IsCarriedOut (action_of pools.now a _action.now) stack.old stack.new }
+{
+    let only_way = way(pools, edge);
+    jump(stack, &only_way, pools.moves.items());
+}
+
+/// A way to one of two blocks. The action serves the clauses.
 ///
 /// Refused where that is undefined.
 #[inline(always)]
-pub fn act_on_ways(stack: &mut Stack, pools: &Pools, action: Action) -> Result<(), UndefinedKind>
-    requires group { is_way action ≡ true }
-    requires may { (count : ℕ) × MayAct count pools.now action stack.old }
-    ensures { (a : Lists) → Acts (action_of pools.now a action) result stack.old stack.new }
+pub fn act_on_branch(
+    stack: &mut Stack,
+    pools: &Pools,
+    _action: &Action,
+    condition: LeafAt,
+    then_edge: u32,
+    else_edge: u32,
+) -> Result<(), UndefinedKind>
+    requires is { _action.now ≡ flat.Branch condition then_edge else_edge }
+    requires may { (count : ℕ) × MayAct count pools.now _action.now stack.old }
+    ensures { (a : Lists) → Acts (action_of pools.now a _action.now) result stack.old stack.new }
 {
-    match action {
-        Action::Jump { edge } => {
-            let only_way = way(pools, edge);
-            jump(stack, &only_way, pools.moves.items());
-            Ok(())
-        }
-        Action::Branch {
-            condition,
-            then_edge,
-            else_edge,
-        } => {
-            let chooses = origin(pools, condition);
-            let then_way = way(pools, then_edge);
-            let else_way = way(pools, else_edge);
-            branch(stack, &chooses, &then_way, &else_way, pools.moves.items())
-        }
-        Action::Switch {
-            value,
-            otherwise,
-            cases,
-        } => {
-            let number = origin(pools, value);
-            let other_way = way(pools, otherwise);
-            let listed = pools.cases.in_span(cases);
-            switch(stack, &number, &other_way, listed, pools.moves.items())
-        }
-        Action::Unreachable => Err(unreachable(stack)),
-        _ => unreachable!(),
-    }
+    let chooses = origin(pools, condition);
+    let then_way = way(pools, then_edge);
+    let else_way = way(pools, else_edge);
+    branch(stack, &chooses, &then_way, &else_way, pools.moves.items())
+}
+
+/// A way to one of many blocks. The action serves the clauses.
+///
+/// Refused where that is undefined.
+#[inline(always)]
+pub fn act_on_switch(
+    stack: &mut Stack,
+    pools: &Pools,
+    _action: &Action,
+    value: LeafAt,
+    otherwise: u32,
+    cases: Span,
+) -> Result<(), UndefinedKind>
+    requires is { _action.now ≡ flat.Switch value otherwise cases }
+    requires may { (count : ℕ) × MayAct count pools.now _action.now stack.old }
+    ensures { (a : Lists) → Acts (action_of pools.now a _action.now) result stack.old stack.new }
+{
+    let number = origin(pools, value);
+    let other_way = way(pools, otherwise);
+    let listed = pools.cases.in_span(cases);
+    switch(stack, &number, &other_way, listed, pools.moves.items())
+}
+
+/// An end that is not to be come to: why that is undefined. The action serves the clauses.
+#[inline(always)]
+pub fn act_on_unreachable(stack: &Stack, pools: &Pools, _action: &Action) -> UndefinedKind
+    requires is { _action.now ≡ flat.Unreachable }
+    ensures { (a : Lists) → IsUndefined (action_of pools.now a _action.now) result stack.now stack.now }
+{
+    unreachable(stack)
 }

@@ -1,4 +1,4 @@
-use Rattle.std.proofs.Common.{◌≡◌, true, length}
+use Rattle.std.proofs.Common.{◌≡◌, true, length, Err}
 use Rattle.module_arena.specs.Lists.{Lists}
 use Rattle.run_acts.specs.declared.next.Next.{Next}
 use Rattle.run_rules.specs.Wants.{wants_memory}
@@ -46,17 +46,49 @@ returns-in-Convert-clause-stays c =
 
 -- ---- ways
 
-pub act_on_ways-requires-clause-may : goal.act_on_ways-requires-clause-may
-act_on_ways-requires-clause-may c = (length c.args.memory.now.list, c.requires.may)
+pub act_on_jump-requires-clause-may : goal.act_on_jump-requires-clause-may
+act_on_jump-requires-clause-may c = (length c.args.memory.now.list, c.requires.may)
 
 pub returns-in-Jump-clause-comes : goal.returns-in-Jump-clause-comes
-returns-in-Jump-clause-comes c = λ lists.
-    acts_come (action_of c.args.pools.now lists c.args.action.now) c.args.stack.now c.act_on_ways.new.stack c.args.memory.now c.act_on_ways.result c.next_of-in-Jump.result c.next_of-in-Jump.ensures (c.act_on_ways.ensures lists)
+returns-in-Jump-clause-comes c = λ lists. carried_comes (action_of c.args.pools.now lists c.args.action.now) c.args.stack.now c.act_on_jump.new.stack c.args.memory.now (c.act_on_jump.ensures lists)
 
 pub returns-in-Jump-clause-stays : goal.returns-in-Jump-clause-stays
 returns-in-Jump-clause-stays c =
     let may = c.requires.may in
-    acts_stay c.args.pools.now may.lists c.args.action.now c.requires.inner c.args.stack.now c.act_on_ways.new.stack may.running c.args.memory.now c.act_on_ways.result (c.act_on_ways.ensures may.lists)
+    carried_stays c.args.pools.now may.lists c.args.action.now c.requires.inner c.args.stack.now c.act_on_jump.new.stack may.running c.args.memory.now (c.act_on_jump.ensures may.lists)
+
+pub act_on_branch-requires-clause-may : goal.act_on_branch-requires-clause-may
+act_on_branch-requires-clause-may c = (length c.args.memory.now.list, c.requires.may)
+
+pub returns-in-Branch-clause-comes : goal.returns-in-Branch-clause-comes
+returns-in-Branch-clause-comes c = λ lists.
+    acts_come (action_of c.args.pools.now lists c.args.action.now) c.args.stack.now c.act_on_branch.new.stack c.args.memory.now c.act_on_branch.result c.next_of-in-Branch.result c.next_of-in-Branch.ensures (c.act_on_branch.ensures lists)
+
+pub returns-in-Branch-clause-stays : goal.returns-in-Branch-clause-stays
+returns-in-Branch-clause-stays c =
+    let may = c.requires.may in
+    acts_stay c.args.pools.now may.lists c.args.action.now c.requires.inner c.args.stack.now c.act_on_branch.new.stack may.running c.args.memory.now c.act_on_branch.result (c.act_on_branch.ensures may.lists)
+
+pub act_on_switch-requires-clause-may : goal.act_on_switch-requires-clause-may
+act_on_switch-requires-clause-may c = (length c.args.memory.now.list, c.requires.may)
+
+pub returns-in-Switch-clause-comes : goal.returns-in-Switch-clause-comes
+returns-in-Switch-clause-comes c = λ lists.
+    acts_come (action_of c.args.pools.now lists c.args.action.now) c.args.stack.now c.act_on_switch.new.stack c.args.memory.now c.act_on_switch.result c.next_of-in-Switch.result c.next_of-in-Switch.ensures (c.act_on_switch.ensures lists)
+
+pub returns-in-Switch-clause-stays : goal.returns-in-Switch-clause-stays
+returns-in-Switch-clause-stays c =
+    let may = c.requires.may in
+    acts_stay c.args.pools.now may.lists c.args.action.now c.requires.inner c.args.stack.now c.act_on_switch.new.stack may.running c.args.memory.now c.act_on_switch.result (c.act_on_switch.ensures may.lists)
+
+pub returns-in-Unreachable-clause-comes : goal.returns-in-Unreachable-clause-comes
+returns-in-Unreachable-clause-comes c = λ lists.
+    acts_come (action_of c.args.pools.now lists c.args.action.now) c.args.stack.now c.args.stack.now c.args.memory.now (Err c.act_on_unreachable.result) c.fails.result c.fails.ensures (c.act_on_unreachable.ensures lists)
+
+pub returns-in-Unreachable-clause-stays : goal.returns-in-Unreachable-clause-stays
+returns-in-Unreachable-clause-stays c =
+    let may = c.requires.may in
+    acts_stay c.args.pools.now may.lists c.args.action.now c.requires.inner c.args.stack.now c.args.stack.now may.running c.args.memory.now (Err c.act_on_unreachable.result) (c.act_on_unreachable.ensures may.lists)
 
 -- ---- memory
 
