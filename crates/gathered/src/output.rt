@@ -41,6 +41,7 @@ impl Gathered {
     }
 
     // Holds the bytes behind the others, where they have room.
+    #[inline(always)]
     fn hold(&mut self, bytes: &[u8]) -> bool
         ensures there { result ≡ true → self.new ≡ record { held = self.old.held ++ bytes.now; failed = self.old.failed } }
         ensures full { result ≡ false → self.new ≡ self.old }
@@ -87,12 +88,22 @@ impl Gathered {
 
     /// Puts bytes behind the others; they are written when there is no room for more. After a write that failed,
     /// nothing is written.
+    #[inline]
     pub fn put<S: Sink>(&mut self, sink: &mut S, bytes: &[u8])
         ensures { Tells (state self.old (S.taken sink.old) (S.faults sink.old)) (state self.new (S.taken sink.new) (S.faults sink.new)) bytes.now }
     {
         if self.failed || self.hold(bytes) {
             return;
         }
+        self.put_through(sink, bytes);
+    }
+
+    // Puts bytes for which there is no room before what is held is written. It stands apart so that other bytes pass by it.
+    #[inline(never)]
+    fn put_through<S: Sink>(&mut self, sink: &mut S, bytes: &[u8])
+        requires { self.old.failed ≡ false }
+        ensures { Tells (state self.old (S.taken sink.old) (S.faults sink.old)) (state self.new (S.taken sink.new) (S.faults sink.new)) bytes.now }
+    {
         match self.write_behind(sink, bytes) {
             Ok(()) => {}
             Err(Failed) => self.failed = true,
