@@ -6,16 +6,19 @@ use Rattle.std.specs.List.{IsAmong}
 use Rattle.ir_base.specs.Files.{Named}
 use Rattle.command_line.specs.declared.command.Command.{Command}
 use Rattle.command_line.specs.declared.command.OutputName.{OutputName}
-use Rattle.command_line.specs.Commands.{IsReadAs}
+use Rattle.command_line.specs.declared.command.UsageKind.{UsageKind}
+use Rattle.command_line.specs.declared.command.WordsFault.{WordsFault}
+use Rattle.command_line.specs.declared.command.WordsFault.TheVariants as faults
+use Rattle.command_line.specs.Commands.{IsReadAs, IsUnlessMemory}
 use Rattle.command_line.specs.Options.{is_dash}
 use Rattle.tool_output.specs.Outputs.{Outputs}
 use Rattle.tool_ends.specs.declared.ended.Ended.{Ended}
-use Rattle.tool_ends.specs.declared.ended.Ended.TheVariants.{CannotRead, CannotWrite, InputTooLarge, Memory}
+use Rattle.tool_ends.specs.declared.ended.Ended.TheVariants.{Usage, CannotRead, CannotWrite, InputTooLarge, Memory}
 use Rattle.tool_cli.specs.Inputs.{inputs_of, inputs_behind, inputs_named, runs_program, texts_read}
 use Rattle.tool_cli.specs.Causes.{GaveUp, Stopped, IsUnread, IsPassed, RefusesOne}
 use Rattle.tool_cli.specs.Analyzed.{is_analysis, is_analysis_behind, analyzes}
 use Rattle.tool_cli.specs.Output.{output_of, output_behind, output_named, FailsToWrite, IsWritten, IsWrittenOf, IsShown}
-use Rattle.tool_cli.specs.Told.{IsEndOf, IsOutcome, IsTold}
+use Rattle.tool_cli.specs.Told.{IsEndOf, IsOutcome, IsTold, IsAfterReading}
 use Rattle.tool_cli.specs.World.{failures, found_input}
 
 pub inputs_are : (words : List (List ℕ)) (command : Command) → IsReadAs words command → inputs_named words ≡ inputs_of command
@@ -65,6 +68,22 @@ cause_of_large named names contents left i f ended same why name limit e = rw sa
 -- what refuses an input tells of no output
 pub never_unwritten : (names : List (List ℕ)) (contents : Option Named) (left : Option (List ℕ)) (i f : Type 0) (ended : Ended) → RefusesOne (found_input contents left i f) names ended → (name : List ℕ) → ended ≡ CannotWrite name → ⊥
 never_unwritten names contents left i f ended why name e = subst (λ (x : Ended). RefusesOne (found_input contents left i f) names x) e why
+
+-- nor of words
+pub never_usage : (names : List (List ℕ)) (contents : Option Named) (left : Option (List ℕ)) (i f : Type 0) (ended : Ended) → RefusesOne (found_input contents left i f) names ended → (kind : UsageKind) (k : ℕ) → ended ≡ Usage kind k → ⊥
+never_usage names contents left i f ended why kind k e = subst (λ (x : Ended). RefusesOne (found_input contents left i f) names x) e why
+
+-- and comes before all were read
+pub never_after : (names : List (List ℕ)) (contents : Option Named) (left : Option (List ℕ)) (i f : Type 0) (ended : Ended) → RefusesOne (found_input contents left i f) names ended → IsAfterReading ended → ⊥
+never_after names contents left i f (CannotRead name) why after = after
+never_after names contents left i f (InputTooLarge name limit) why after = after
+never_after names contents left i f Memory why after = after
+never_after names contents left i f ended why after = absurd why
+
+-- of words that have a first fault, that is told
+pub fault_told : (fault : WordsFault) (kind other : UsageKind) (word k : ℕ) → fault ≡ faults.Usage kind word → IsUnlessMemory (Err fault) (Err (faults.Usage other k)) → (Usage kind word ≡ Usage other k) ⊎ (Usage kind word ≡ Memory)
+fault_told fault kind other word k is (inl same) = inl (let e = same in let f = is in cc)
+fault_told fault kind other word k is (inr none) = absurd (let e = none in let f = is in cc)
 
 pub analyzes_is : (words : List (List ℕ)) (command : Command) → IsReadAs words command → analyzes words ≡ is_analysis command
 unfolding analyzes

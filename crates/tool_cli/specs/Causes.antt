@@ -9,8 +9,8 @@ use Rattle.command_line.specs.Options.{is_dash}
 use Rattle.tool_ends.specs.declared.ended.Ended.{Ended}
 use Rattle.tool_ends.specs.declared.ended.Ended.TheVariants.{CannotRead, InputTooLarge, Memory}
 use Rattle.tool_cli.specs.declared.inputs.TheConstants.{LARGEST, LARGEST_TOGETHER}
-use Rattle.tool_cli.specs.Output.{FailsToWrite}
-use Rattle.tool_cli.specs.World.{FoundInput, Failures}
+use Rattle.tool_cli.specs.Output.{output_named, FailsToWrite}
+use Rattle.tool_cli.specs.World.{FoundInput, Failures, World, failed}
 
 -- no bytes are left, where that is told
 abbrev pub IsEmptied : Option (List ℕ) → Type 0
@@ -84,3 +84,7 @@ IsUnreadOrMemory ended = ⊥
 -- the run stopped for what is outside of it: a read or a write failed, or memory ran out
 abbrev pub Stopped : Option OutputName → Failures → Ended → Type 0
 Stopped output failed ended = GaveUp failed.input_rose failed.files_rose ended ⊎ FailsToWrite output failed.output_rose failed.writes_rose ended
+
+-- the run of these words did, between these two times
+abbrev pub IsStopped : {I O F : Type 0} → List (List ℕ) → World I O F → World I O F → Ended → Type 0
+IsStopped words before now ended = Stopped (output_named words) (failed before now) ended

@@ -18,9 +18,11 @@ use Rattle.tool_output.specs.Outputs.{Outputs, IsPut}
 use Rattle.tool_output.specs.Written.{written}
 use Rattle.tool_output.specs.declared.format.OutputFormat.{OutputFormat}
 use Rattle.tool_output.specs.declared.format.OutputFormat.TheVariants.{CanonicalText, Bitcode}
-use Rattle.tool_cli.specs.Inputs.{texts_read}
+use Rattle.tool_cli.specs.Causes.{IsStopped}
+use Rattle.tool_cli.specs.Inputs.{texts_read, TellsRun}
 use Rattle.tool_cli.specs.Made.{AreParts, RunsLike, StandsFor, format_of}
 use Rattle.tool_cli.specs.Told.{clash_told}
+use Rattle.tool_cli.specs.World.{World, outputs_of}
 
 -- bytes written in that format are no more than can be read: bitcode where it has fewer than 2 ^ 32 words of 32 bits, which every input has
 abbrev pub AreReadable : OutputFormat → List ℕ → Type 0
@@ -64,3 +66,9 @@ RunsLinked words files stdin before now ended stopped =
     (inputs texts : List (List ℕ)) (output : OutputName) (text : Bool) → Links words files stdin inputs texts output text
     → (parts : List Module) → AreParts texts parts
     → ComesTo inputs parts output (format_of text) (first_conflict parts) (too_many parts) before now ended ⊎ stopped
+
+-- The same of a run of these words, whatever it is that the outside tells of its inputs.
+abbrev pub LinkedRunsAsParts : {I O F : Type 0} → List (List ℕ) → World I O F → World I O F → Ended → Type 0
+LinkedRunsAsParts words before now ended =
+    (held : Named) (stdin : List ℕ) → TellsRun words before.contents before.left held stdin
+    → RunsLinked words held stdin (outputs_of before) (outputs_of now) ended (IsStopped words before now ended)

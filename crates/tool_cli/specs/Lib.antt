@@ -10,4 +10,5 @@ pub mod Order
 pub mod Analyzed
 pub mod Running
 pub mod Headline
+pub mod Ends
 pub mod Laws

@@ -9,7 +9,7 @@ use Rattle.tool_ends.specs.declared.ended.Ended.TheVariants.{CannotRead, CannotW
 use Rattle.tool_cli.specs.Causes.{IsStdinOrMemory, IsUnreadOrMemory, IsUnread, IsPassed}
 use Rattle.tool_cli.specs.Inputs.{inputs_named, listens}
 use Rattle.tool_cli.specs.Output.{output_named, LeavesFilesBut, IsUnwritten, IsUnwrittenOrMemory, IsFileUnwritten}
-use Rattle.tool_cli.specs.World.{World}
+use Rattle.tool_cli.specs.World.{Sources, World}
 use Rattle.tool_cli.specs.declared.inputs.TheConstants.{LARGEST}
 
 -- standard input lost a front of its bytes, of no more than the limit of one input and one byte
@@ -39,7 +39,7 @@ pub record LeavesUnread {A B : Type 0} (no_stdin no_file : Type 0) (input_before
   pub files_unread : no_file → files_now ≡ files_before
 
 -- what a call that reads inputs leaves of standard input and of the files, by its answer
-pub record LeavesInputs {T : Type 0} (before now : World) (result : Result T Ended) : Type 0 where
+pub record LeavesInputs {I F T : Type 0} (before now : Sources I F) (result : Result T Ended) : Type 0 where
   -- where all was read no read of standard input failed
   pub input_fine : OnOk result (now.input_faults ≡ before.input_faults)
   -- nor did a read of a file
@@ -54,7 +54,7 @@ pub record LeavesInputs {T : Type 0} (before now : World) (result : Result T End
   pub files : LeavesFiles before.contents now.contents before.read_faults now.read_faults before.write_faults now.write_faults
 
 -- what the run of these words leaves of standard input and of the files, by its end
-pub record LeavesBehind (words : List (List ℕ)) (before now : World) (ended : Ended) : Type 0 where
+pub record LeavesBehind {I O F : Type 0} (words : List (List ℕ)) (before now : World I O F) (ended : Ended) : Type 0 where
   -- a fault of standard input is told, or memory ran out
   pub input_fault : before.input_faults < now.input_faults → IsStdinOrMemory ended
   -- so is one of a read of a file
@@ -64,9 +64,8 @@ pub record LeavesBehind (words : List (List ℕ)) (before now : World) (ended : 
   -- what became of the files
   pub files : LeavesFilesBut (output_named words) ended before.contents now.contents before.read_faults now.read_faults before.write_faults now.write_faults
 
--- why the run of these words told that an input was not read or the output not written, by its end; and that it told each write that failed.
--- The counts are those of faults of standard output
-pub record HasCauses (words : List (List ℕ)) (before now : World) (output_before output_now : ℕ) (ended : Ended) : Type 0 where
+-- why the run of these words told that an input was not read or the output not written, by its end; and that it told each write that failed
+pub record HasCauses {I O F : Type 0} (words : List (List ℕ)) (before now : World I O F) (ended : Ended) : Type 0 where
   -- what could not be read is an input of the words, or what a program reads; and a read of it failed, or there is no such file
   pub cannot_read : (name : List ℕ) → ended ≡ CannotRead name
       → (IsAmong (inputs_named words) name ⊎ ((listens words ≡ true) × (name ≡ codes "-")))
@@ -76,8 +75,8 @@ pub record HasCauses (words : List (List ℕ)) (before now : World) (output_befo
       → IsAmong (inputs_named words) name × IsPassed before.contents before.left name limit
   -- what could not be written is the output, and a write of it failed
   pub cannot_write : (name : List ℕ) → ended ≡ CannotWrite name
-      → IsUnwritten (output_named words) (Rose output_before output_now) (Rose before.write_faults now.write_faults) name
+      → IsUnwritten (output_named words) (Rose before.output_faults now.output_faults) (Rose before.write_faults now.write_faults) name
   -- a fault of standard output is told, or memory ran out
-  pub output_fault : output_before < output_now → IsUnwrittenOrMemory ended
+  pub output_fault : before.output_faults < now.output_faults → IsUnwrittenOrMemory ended
   -- so is one of a write of a file
   pub write_fault : before.write_faults < now.write_faults → IsFileUnwritten (output_named words) ended

@@ -21,9 +21,11 @@ use Rattle.run_rules.specs.declared.fault.RunFault.TheVariants as faults
 use Rattle.tool_ends.specs.declared.ended.Ended.{Ended}
 use Rattle.tool_ends.specs.declared.ended.Ended.TheVariants.{Exit, StepsUsed, Undefined, StackLimit, MemoryLimit, Unresolved, NoMain, CannotRead, CannotWrite, Memory}
 use Rattle.tool_ends.specs.declared.ended.Ended.TheVariants as ends
-use Rattle.tool_cli.specs.Inputs.{input_read}
+use Rattle.tool_cli.specs.Causes.{IsStopped}
+use Rattle.tool_cli.specs.Inputs.{input_read, TellsRun}
 use Rattle.tool_cli.specs.Judged.{IsPartRefused}
 use Rattle.tool_cli.specs.Made.{IsPart, RunsLike}
+use Rattle.tool_cli.specs.World.{World, outside_of}
 
 -- a run makes no more steps than this
 abbrev pub StepsFit : Command → Type 0
@@ -146,3 +148,9 @@ RunsModule words files stdin before after ended stopped =
     (name : List ℕ) (bound : ℕ) (arguments : List (List ℕ)) (bytes : List ℕ) → RunsBytes words files stdin name bound arguments bytes
     → (parts : List Module) → RunsLike bytes parts
     → ComesOut (Side parts arguments (program_input name stdin) bound) before after ended ⊎ stopped
+
+-- The same of a run of these words, whatever it is that the outside tells of its inputs.
+abbrev pub InputRunsAsParts : {I O F : Type 0} → List (List ℕ) → World I O F → World I O F → Ended → Type 0
+InputRunsAsParts words before now ended =
+    (held : Named) (stdin : List ℕ) → TellsRun words before.contents before.left held stdin
+    → RunsModule words held stdin (outside_of before) (outside_of now) ended (IsStopped words before now ended)

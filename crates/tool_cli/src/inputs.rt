@@ -8,7 +8,7 @@ ghost use Rattle.tool_cli.specs.Judged.{IsShort, AreShort};
 ghost use Rattle.tool_cli.specs.Reads.{LeavesFiles, LeavesInput, LeavesInputs, LeavesUnread};
 ghost use Rattle.tool_cli.specs.Order.{has_file, HasFineFront, IsInTurn, KeepsOrder, KeepsTurn};
 ghost use Rattle.tool_cli.specs.Causes.{IsEmptied, HasRead, GaveUp, RefusesStdin, RefusesFile, Refuses, RefusesOne, IsStdinOrMemory, IsUnreadOrMemory};
-ghost use Rattle.tool_cli.specs.World.{found_input, world};
+ghost use Rattle.tool_cli.specs.World.{found, sources};
 
 use command_line::{Command, is_dash};
 use ir_base::{FileFault, Files, ReadFault, Source, Text, TextList, read_all};
@@ -97,11 +97,9 @@ fn read_input<F: Files, I: Source>(
     name: &Text,
 ) -> Result<Text, Ended>
     ensures read { IfOk result (λ text. HasRead (F.contents files.old) (I.left input.old) (I.left input.new) name.now text) }
-    ensures refused { IfErr result (Refuses (found_input (F.contents files.old) (I.left input.old) (Rose (I.faults input.old) (I.faults input.new)) (Rose (F.read_faults files.old) (F.read_faults files.new))) name.now) }
+    ensures refused { IfErr result (Refuses (found (sources I.Source F.Files input.old files.old) (sources I.Source F.Files input.new files.new)) name.now) }
     ensures untouched { LeavesUnread (is_dash name.now ≡ false) (is_dash name.now ≡ true) input.old input.new files.old files.new }
-    ensures leaves { LeavesInputs
-        (world (I.left input.old) (I.faults input.old) (F.contents files.old) (F.read_faults files.old) (F.write_faults files.old))
-        (world (I.left input.new) (I.faults input.new) (F.contents files.new) (F.read_faults files.new) (F.write_faults files.new)) result }
+    ensures leaves { LeavesInputs (sources I.Source F.Files input.old files.old) (sources I.Source F.Files input.new files.new) result }
 {
     if is_dash(name.bytes()) {
         read_stdin(alloc, input)
@@ -122,16 +120,14 @@ pub fn read_inputs<F: Files, I: Source>(
         ⊎ IsErrAnd result (GaveUp (Rose (I.faults input.old) (I.faults input.new)) (Rose (F.read_faults files.old) (F.read_faults files.new))) }
     ensures count { IfOk result (λ texts. length texts ≡ length names.now) }
     ensures short { IfOk result AreShort }
-    ensures refused { IfErr result (RefusesOne (found_input (F.contents files.old) (I.left input.old) (Rose (I.faults input.old) (I.faults input.new)) (Rose (F.read_faults files.old) (F.read_faults files.new))) names.now) }
+    ensures refused { IfErr result (RefusesOne (found (sources I.Source F.Files input.old files.old) (sources I.Source F.Files input.new files.new)) names.now) }
     ensures order { IfErr result (KeepsOrder names.now input.old input.new) }
     ensures turn { KeepsTurn (F.contents files.old) names.now input.old input.new }
     ensures in_turn { IfErr result (IsInTurn (F.contents files.old) (Rose (F.read_faults files.old) (F.read_faults files.new)) names.now) }
     ensures fine_front { OnOk result (HasFineFront (F.contents files.old) names.now) }
     ensures untouched { LeavesUnread (has_stdin names.now ≡ false) (has_file names.now ≡ false) input.old input.new files.old files.new }
     ensures emptied { OnOk result (has_stdin names.now ≡ true → IsEmptied (I.left input.new)) }
-    ensures leaves { LeavesInputs
-        (world (I.left input.old) (I.faults input.old) (F.contents files.old) (F.read_faults files.old) (F.write_faults files.old))
-        (world (I.left input.new) (I.faults input.new) (F.contents files.new) (F.read_faults files.new) (F.write_faults files.new)) result }
+    ensures leaves { LeavesInputs (sources I.Source F.Files input.old files.old) (sources I.Source F.Files input.new files.new) result }
 {
     let mut texts = TextList::new(alloc);
     let mut total = 0;

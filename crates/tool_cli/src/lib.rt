@@ -2,8 +2,9 @@
 //!
 //! It stands on every layer below. Its promise is the contract of `run_tool`, the call that `main` makes over the
 //! process's own streams: what is answered, what is read and what is written, for any source and sink.
-//! Definitions: `specs/Told` for the meaning of an answer, `specs/Made` and `specs/Output` for what is written, `specs/Running` for programs that are
-//! run, `specs/Headline` for what linking promises, `specs/Laws` for inputs, `specs/Ended` of `tool_ends` for the line and the status.
+//! Definitions: `specs/Headline` for what linking promises, `specs/Ends` for all else that a run does, over what `specs/World` names: `specs/Told` for the
+//! meaning of an answer, `specs/Made` and `specs/Output` for what is written, `specs/Running` for programs that are run; `specs/Laws` for inputs,
+//! `specs/Ended` of `tool_ends` for the line and the status.
 //!
 //! ```
 //! // of the words `llvm-as`, `a.ll`, where the file `a.ll` has `define i32 @main() { ret i32 3 }`

@@ -4,9 +4,9 @@ ghost use Rattle.command_line.specs.Options.{is_dash};
 ghost use Rattle.command_line.specs.declared.number.TheConstants.{LARGEST_NUMBER};
 ghost use Rattle.module_arena.specs.View.{module_of};
 ghost use Rattle.name_rules.specs.Spelled.{spelled_global};
-ghost use Rattle.run_rules.specs.Clauses.{outside};
 ghost use Rattle.tool_cli.specs.Judged.{IsShort};
 ghost use Rattle.tool_cli.specs.Running.{end_told, program_of, AnswerTold, IsRunTo, IsRan, IsBeforeRun};
+ghost use Rattle.tool_cli.specs.World.{streams};
 
 use crate::parts::accepted_part;
 use command_line::is_dash;
@@ -81,7 +81,7 @@ fn run_checked<I: Source, O: Sink>(
 ) -> Ended
     requires { max_steps ≤ LARGEST_NUMBER }
     ensures { IsRunTo (program_of max_steps words.now (module_of checked.now))
-        (outside (I.left input.old) (I.faults input.old) (O.taken output.old) (O.faults output.old)) (outside (I.left input.new) (I.faults input.new) (O.taken output.new) (O.faults output.new)) result }
+        (streams I.Source O.Sink input.old output.old) (streams I.Source O.Sink input.new output.new) result }
 {
     // A run for which memory was wanted is that of a program which has printed nothing.
     early_ends_are_played();
@@ -110,7 +110,7 @@ pub(crate) fn run_bytes<I: Source, O: Sink>(
     requires short { IsShort bytes }
     requires steps { max_steps ≤ LARGEST_NUMBER }
     ensures ran { IsRan name.now max_steps words.now bytes
-        (outside (I.left input.old) (I.faults input.old) (O.taken output.old) (O.faults output.old)) (outside (I.left input.new) (I.faults input.new) (O.taken output.new) (O.faults output.new)) result }
+        (streams I.Source O.Sink input.old output.old) (streams I.Source O.Sink input.new output.new) result }
     ensures unread { is_dash name.now ≡ true → input.new ≡ input.old }
     ensures not_begun { IsBeforeRun name.now result → (input.new ≡ input.old) × (output.new ≡ output.old) }
 {

@@ -1,7 +1,6 @@
 //! What the tools do with the texts of their inputs.
 ghost use Rattle.std.specs.Prelude.{◌≡◌, ◌⊎◌, ◌<◌, ℕ, List, length, slice_get, Some, false};
 ghost use Rattle.ir_base.specs.Outside.{Rose};
-ghost use Rattle.run_rules.specs.Clauses.{outside};
 ghost use Rattle.tool_output.specs.Outputs.{outputs};
 ghost use Rattle.tool_cli.specs.Analyzed.{is_analysis};
 ghost use Rattle.tool_cli.specs.Inputs.{hears, inputs_of, runs_program};
@@ -9,6 +8,7 @@ ghost use Rattle.tool_cli.specs.Judged.{AreShort};
 ghost use Rattle.tool_cli.specs.Output.{output_of, IsUnwritten, FailsToWrite, IsUnwrittenOrMemory, IsFileUnwritten, IsWritten, LeavesFilesBut, LeavesStandard, LeavesNamed};
 ghost use Rattle.tool_cli.specs.Running.{StepsFit, IsRanBy, IsUnbegun};
 ghost use Rattle.tool_cli.specs.Told.{IsWork, IsOfRun};
+ghost use Rattle.tool_cli.specs.World.{streams};
 
 use crate::analysis::analyze;
 use crate::assembling::assemble;
@@ -51,8 +51,7 @@ pub fn work<F: Files, I: Source, O: Sink>(
         → IsUnwritten (output_of command.now) (Rose (O.faults output.old) (O.faults output.new)) (Rose (F.write_faults files.old) (F.write_faults files.new)) name }
     ensures output_fault { O.faults output.old < O.faults output.new → IsUnwrittenOrMemory result }
     ensures write_fault { F.write_faults files.old < F.write_faults files.new → IsFileUnwritten (output_of command.now) result }
-    ensures ran { IsRanBy command.now texts
-        (outside (I.left input.old) (I.faults input.old) (O.taken output.old) (O.faults output.old)) (outside (I.left input.new) (I.faults input.new) (O.taken output.new) (O.faults output.new)) result }
+    ensures ran { IsRanBy command.now texts (streams I.Source O.Sink input.old output.old) (streams I.Source O.Sink input.new output.new) result }
 
     // What is read and written.
     ensures written { runs_program command.now ≡ false

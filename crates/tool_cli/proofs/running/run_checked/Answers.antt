@@ -1,20 +1,20 @@
 use Rattle.std.proofs.Common.{Err, refl}
 use Rattle.module_arena.specs.View.{module_of}
-use Rattle.run_rules.specs.Clauses.{outside}
 use Rattle.run_rules.specs.declared.fault.RunFault.TheVariants as faults
 use Rattle.tool_cli.specs.Running.{program_of}
+use Rattle.tool_cli.specs.World.{streams}
 use Rattle.tool_cli.proofs.Programs.{ended_run}
 use Rattle.tool_cli.proofs.running.run_checked.Goals as goal
 
 pub returns-in-Err : goal.returns-in-Err
 returns-in-Err g c =
-    let now = outside (g.I.Source.left c.args.input.now) (g.I.Source.faults c.args.input.now) (g.O.Sink.taken c.args.output.now) (g.O.Sink.faults c.args.output.now) in
+    let now = streams g.I.Source g.O.Sink c.args.input.now c.args.output.now in
     (Err faults.Memory, refl, c.early_ends_are_played.ensures.wants (program_of c.args.max_steps c.args.words.now (module_of c.args.checked.now)) now)
 
 pub returns-in-Ok-run_module : goal.returns-in-Ok-run_module
 returns-in-Ok-run_module g c =
-    let before = outside (g.I.Source.left c.args.input.now) (g.I.Source.faults c.args.input.now) (g.O.Sink.taken c.args.output.now) (g.O.Sink.faults c.args.output.now) in
-    let after = outside (g.I.Source.left c.run_module.new.input) (g.I.Source.faults c.run_module.new.input) (g.O.Sink.taken c.run_module.new.output) (g.O.Sink.faults c.run_module.new.output) in
+    let before = streams g.I.Source g.O.Sink c.args.input.now c.args.output.now in
+    let after = streams g.I.Source g.O.Sink c.run_module.new.input c.run_module.new.output in
     ended_run (program_of c.args.max_steps c.args.words.now (module_of c.args.checked.now)) before after c.in-Ok-run_module.end c.end_told.result c.in-Ok-run_module.ensures c.end_told.ensures
 
 pub returns-in-Err-run_module : goal.returns-in-Err-run_module

@@ -1,12 +1,12 @@
 use Rattle.std.proofs.Common.{◌≡◌, ◌⊎◌, ℕ, List, length, refl, true≢false, arith}
 use Rattle.command_line.specs.declared.command.Command.{Command}
 use Rattle.ir_base.specs.Outside.{Rose}
-use Rattle.run_rules.specs.Clauses.{outside}
 use Rattle.tool_output.specs.Outputs.{outputs}
 use Rattle.tool_cli.specs.Output.{output_of, FailsToWrite, IsWritten}
 use Rattle.tool_cli.specs.Told.{IsWork}
 use Rattle.tool_cli.proofs.Judging.{short_first}
 use Rattle.tool_cli.specs.Inputs.{hears}
+use Rattle.tool_cli.specs.World.{streams}
 use Rattle.tool_cli.proofs.Works.{analysis_work, analysis_written, analysis_cause, only_text, only_bitcode, only_input, only_program}
 use Rattle.tool_cli.proofs.Commands.{lli_not_begun, lli_of_run, lli_output_fault, lli_unread, lli_unwritten, program_is, work_of_run}
 use Rattle.tool_cli.proofs.Delivered.{leaves_none, link_is, assemble_is}
@@ -181,30 +181,30 @@ run_bytes-requires-clause-steps g c = rw c.in-Lli.is at c.requires.steps
 
 pub returns-in-Lli-clause-ran : goal.returns-in-Lli-clause-ran
 returns-in-Lli-clause-ran g c =
-    let before = outside (g.I.Source.left c.args.input.now) (g.I.Source.faults c.args.input.now) (g.O.Sink.taken c.args.output.now) (g.O.Sink.faults c.args.output.now) in
-    let after = outside (g.I.Source.left c.run_bytes.new.input) (g.I.Source.faults c.run_bytes.new.input) (g.O.Sink.taken c.run_bytes.new.output) (g.O.Sink.faults c.run_bytes.new.output) in
+    let before = streams g.I.Source g.O.Sink c.args.input.now c.args.output.now in
+    let after = streams g.I.Source g.O.Sink c.run_bytes.new.input c.run_bytes.new.output in
     let one = only_program c.args.command.now _ _ _ c.args.texts _ c.in-Lli.is c.requires.count c.first_text-in-Lli.ensures in
     program_is c.args.command.now _ _ _ c.args.texts _ before after c.run_bytes.result c.in-Lli.is one c.run_bytes.ensures.ran
 
 pub returns-in-Lli-clause-of_work : goal.returns-in-Lli-clause-of_work
 returns-in-Lli-clause-of_work g c =
-    let before = outside (g.I.Source.left c.args.input.now) (g.I.Source.faults c.args.input.now) (g.O.Sink.taken c.args.output.now) (g.O.Sink.faults c.args.output.now) in
-    let after = outside (g.I.Source.left c.run_bytes.new.input) (g.I.Source.faults c.run_bytes.new.input) (g.O.Sink.taken c.run_bytes.new.output) (g.O.Sink.faults c.run_bytes.new.output) in
+    let before = streams g.I.Source g.O.Sink c.args.input.now c.args.output.now in
+    let after = streams g.I.Source g.O.Sink c.run_bytes.new.input c.run_bytes.new.output in
     let one = only_program c.args.command.now _ _ _ c.args.texts _ c.in-Lli.is c.requires.count c.first_text-in-Lli.ensures in
     lli_of_run c.args.command.now _ _ _ c.args.texts _ before after c.run_bytes.result c.in-Lli.is one c.run_bytes.ensures.ran
 
 pub returns-in-Lli-clause-cannot_write : goal.returns-in-Lli-clause-cannot_write
 returns-in-Lli-clause-cannot_write g c =
-    let before = outside (g.I.Source.left c.args.input.now) (g.I.Source.faults c.args.input.now) (g.O.Sink.taken c.args.output.now) (g.O.Sink.faults c.args.output.now) in
-    let after = outside (g.I.Source.left c.run_bytes.new.input) (g.I.Source.faults c.run_bytes.new.input) (g.O.Sink.taken c.run_bytes.new.output) (g.O.Sink.faults c.run_bytes.new.output) in
+    let before = streams g.I.Source g.O.Sink c.args.input.now c.args.output.now in
+    let after = streams g.I.Source g.O.Sink c.run_bytes.new.input c.run_bytes.new.output in
     let writes = g.F.Files.write_faults c.args.files.now in
     let one = only_program c.args.command.now _ _ _ c.args.texts _ c.in-Lli.is c.requires.count c.first_text-in-Lli.ensures in
     lli_unwritten c.args.command.now _ _ _ c.args.texts _ before after (Rose writes writes) c.run_bytes.result c.in-Lli.is one c.run_bytes.ensures.ran
 
 pub returns-in-Lli-clause-output_fault : goal.returns-in-Lli-clause-output_fault
 returns-in-Lli-clause-output_fault g c =
-    let before = outside (g.I.Source.left c.args.input.now) (g.I.Source.faults c.args.input.now) (g.O.Sink.taken c.args.output.now) (g.O.Sink.faults c.args.output.now) in
-    let after = outside (g.I.Source.left c.run_bytes.new.input) (g.I.Source.faults c.run_bytes.new.input) (g.O.Sink.taken c.run_bytes.new.output) (g.O.Sink.faults c.run_bytes.new.output) in
+    let before = streams g.I.Source g.O.Sink c.args.input.now c.args.output.now in
+    let after = streams g.I.Source g.O.Sink c.run_bytes.new.input c.run_bytes.new.output in
     let one = only_program c.args.command.now _ _ _ c.args.texts _ c.in-Lli.is c.requires.count c.first_text-in-Lli.ensures in
     lli_output_fault c.args.command.now _ _ _ c.args.texts _ before after c.run_bytes.result c.in-Lli.is one c.run_bytes.ensures.ran
 
