@@ -21,7 +21,7 @@ use Rattle.tool_cli.specs.Judged.{IsTextRefused, IsTextOf}
 use Rattle.tool_cli.specs.Made.{LinksTo, AssemblesTo, IsResult, format_of}
 use Rattle.tool_cli.specs.Output.{output_of, IsUnwritten, FailsToWrite, IsFileUnwritten, IsBeforeWriting, LeavesStandard, LeavesNamed, KeepsOthers, KeepsFiles, LeavesFilesBut, Delivers, IsWritten}
 use Rattle.tool_cli.specs.Reads.{LeavesFiles}
-use Rattle.tool_cli.specs.Told.{IsLinking, IsWork, IsOfTexts, IsOfWork}
+use Rattle.tool_cli.specs.Told.{IsWork, IsOfTexts, IsOfWork}
 
 -- Counts.
 
@@ -185,10 +185,6 @@ delivered_of_work place bytes before now ended delivered = absurd delivered
 pub link_result : (names texts : List (List ℕ)) (place : OutputName) (text : Bool) (m : Module) → LinksTo texts m → IsResult (Link names place text) texts (written (format_of text) m)
 link_result names texts place text m links = (m, links, refl)
 
-pub link_refused : (names texts : List (List ℕ)) (place : OutputName) (text : Bool) (o w : Type 0) (ended : Ended) → IsLinking names texts ended ⊎ (ended ≡ Memory) → IsWork (Link names place text) texts ended ⊎ FailsToWrite (Some place) o w ended
-link_refused names texts place text o w ended (inl refused) = inl refused
-link_refused names texts place text o w ended (inr none) = inr (rw none tt)
-
 -- Ends of assembling.
 
 -- an accepted text is assembled to its module
@@ -205,9 +201,9 @@ assemble_work name text place m assembled = inr (m, assembled, refl)
 pub assemble_result : (name text : List ℕ) (place : OutputName) (m : Module) → AssemblesTo text m → IsResult (Assemble name place) (text ∷ []) (written Bitcode m)
 assemble_result name text place m assembled = (m, assembled, refl)
 
-pub assemble_refused : (name text : List ℕ) (place : OutputName) (o w : Type 0) (ended : Ended) → IsTextRefused name text ended ⊎ (ended ≡ Memory) → IsWork (Assemble name place) (text ∷ []) ended ⊎ FailsToWrite (Some place) o w ended
-assemble_refused name text place o w ended (inl refused) = inl (inl refused)
-assemble_refused name text place o w ended (inr none) = inr (rw none tt)
+pub assemble_refused : (name text : List ℕ) (place : OutputName) (ended : Ended) → IsTextRefused name text ended ⊎ (ended ≡ Memory) → IsWork (Assemble name place) (text ∷ []) ended ⊎ (ended ≡ Memory)
+assemble_refused name text place ended (inl refused) = inl (inl refused)
+assemble_refused name text place ended (inr none) = inr none
 
 -- an end of work that writes nothing
 pub silent_written : (command : Command) (texts : List (List ℕ)) (before now : Outputs) (ended : Ended) → IsOfTexts ended → now ≡ before → IsWritten command texts before now ended

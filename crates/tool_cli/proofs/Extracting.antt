@@ -20,7 +20,6 @@ use Rattle.tool_ends.specs.declared.ended.Ended.TheVariants.{NoSuchSymbol, Memor
 use Rattle.tool_ends.specs.declared.ended.Ended.TheVariants as ends
 use Rattle.tool_output.specs.Written.{written}
 use Rattle.tool_cli.specs.Made.{ExtractsTo, IsPart, IsResult, format_of, selection_of}
-use Rattle.tool_cli.specs.Output.{FailsToWrite}
 use Rattle.tool_cli.specs.Told.{part_end, IsExtraction, IsWork}
 
 -- An input that stands for a module.
@@ -62,10 +61,6 @@ extract_work name bytes place text selection part e = inr (e.whole, e.is_part, a
 
 pub extract_result : (name bytes : List ℕ) (place : OutputName) (text : Bool) (selection : words.SelectionWords) (part : Module) → ExtractsTo bytes selection part → IsResult (Extract name place text selection) (bytes ∷ []) (written (format_of text) part)
 extract_result name bytes place text selection part e = (part, e, refl)
-
-pub extract_refused : (name bytes : List ℕ) (place : OutputName) (text : Bool) (selection : words.SelectionWords) (o w : Type 0) (ended : Ended) → IsExtraction name selection bytes ended ⊎ (ended ≡ Memory) → IsWork (Extract name place text selection) (bytes ∷ []) ended ⊎ FailsToWrite (Some place) o w ended
-extract_refused name bytes place text selection o w ended (inl refused) = inl refused
-extract_refused name bytes place text selection o w ended (inr none) = inr (rw none tt)
 
 -- what is said of the command that was done, which has one input, is said of the command that it is
 pub extract_is : (P : Command → List (List ℕ) → Type 0) (command : Command) (input : List ℕ) (place : OutputName) (text : Bool) (selection : words.SelectionWords) (texts : List (List ℕ)) (bytes : List ℕ) → command ≡ Extract input place text selection → texts ≡ bytes ∷ [] → P (Extract input place text selection) (bytes ∷ []) → P command texts

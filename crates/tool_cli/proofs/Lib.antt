@@ -1,6 +1,7 @@
 pub mod Contents
 pub mod InputsInOrder
 pub mod Delivered
+pub mod Done
 pub mod Linked
 pub mod Extracting
 pub mod Works

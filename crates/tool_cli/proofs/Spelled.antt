@@ -1,5 +1,5 @@
 -- Bitcode, judged: what is told of it is its refusal, and what is accepted is no other module.
-use Rattle.std.proofs.Common.{◌≡◌, ◌⊎◌, inl, inr, ℕ, List, [], ◌∷◌, Some, Ok, Err, refl, sym, subst}
+use Rattle.std.proofs.Common.{◌≡◌, ◌⊎◌, inl, inr, ℕ, List, [], ◌∷◌, Ok, Err, refl, sym, subst}
 use Rattle.bit_tree.specs.Stream as stream
 use Rattle.bit_tree.proofs.OneTree.{one_tree}
 use Rattle.bitcode_read.specs.Answers.{IsReadFault}
@@ -21,7 +21,6 @@ use Rattle.tool_output.specs.Written.{written}
 use Rattle.tool_output.specs.declared.format.OutputFormat.TheVariants.{CanonicalText}
 use Rattle.tool_cli.specs.Judged.{bitcode_told, verdict_told, IsBitcodeOf, IsBitcodeRefused}
 use Rattle.tool_cli.specs.Made.{IsResult}
-use Rattle.tool_cli.specs.Output.{FailsToWrite}
 use Rattle.tool_cli.specs.Told.{IsWork}
 
 -- ---- what is told
@@ -62,9 +61,9 @@ disassemble_work name bytes place m is = inr (m, is, refl)
 pub disassemble_result : (name bytes : List ℕ) (place : OutputName) (m : Module) → IsBitcodeOf bytes m → IsResult (Disassemble name place) (bytes ∷ []) (written CanonicalText m)
 disassemble_result name bytes place m is = (m, is, refl)
 
-pub disassemble_refused : (name bytes : List ℕ) (place : OutputName) (o w : Type 0) (ended : Ended) → IsBitcodeRefused name bytes ended ⊎ (ended ≡ Memory) → IsWork (Disassemble name place) (bytes ∷ []) ended ⊎ FailsToWrite (Some place) o w ended
-disassemble_refused name bytes place o w ended (inl refused) = inl (inl refused)
-disassemble_refused name bytes place o w ended (inr none) = inr (rw none tt)
+pub disassemble_refused : (name bytes : List ℕ) (place : OutputName) (ended : Ended) → IsBitcodeRefused name bytes ended ⊎ (ended ≡ Memory) → IsWork (Disassemble name place) (bytes ∷ []) ended ⊎ (ended ≡ Memory)
+disassemble_refused name bytes place ended (inl refused) = inl (inl refused)
+disassemble_refused name bytes place ended (inr none) = inr none
 
 -- what is said of the command that was disassembled, which has one input, is said of the command that it is
 pub disassemble_is : (P : Command → List (List ℕ) → Type 0) (command : Command) (input : List ℕ) (place : OutputName) (texts : List (List ℕ)) (bytes : List ℕ) → command ≡ Disassemble input place → texts ≡ bytes ∷ [] → P (Disassemble input place) (bytes ∷ []) → P command texts

@@ -5,6 +5,7 @@ pub mod Judged
 pub mod Made
 pub mod Output
 pub mod Told
+pub mod Done
 pub mod Reads
 pub mod Order
 pub mod Analyzed

@@ -35,6 +35,33 @@ sources source store input files = record {
   write_faults = store.write_faults files;
 }
 
+-- standard output and the files, to which results are written, and what they tell
+pub record Sinks (O F : Type 0) : Type 0 where
+  pub output : O
+  pub files : F
+  -- what standard output has taken
+  pub taken : Option (List ℕ)
+  -- how often a write of it failed
+  pub output_faults : ℕ
+  -- what is in each file
+  pub contents : Option Named
+  -- how often a read of a file failed
+  pub read_faults : ℕ
+  -- how often a write of a file failed
+  pub write_faults : ℕ
+
+-- the same, as a clause names them
+abbrev pub sinks : {O F : Type 0} → SinkOf O → FilesOf F → O → F → Sinks O F
+sinks sink store output files = record {
+  output = output;
+  files = files;
+  taken = sink.taken output;
+  output_faults = sink.faults output;
+  contents = store.contents files;
+  read_faults = store.read_faults files;
+  write_faults = store.write_faults files;
+}
+
 -- standard input, standard output and the files, and what they tell
 pub record World (I O F : Type 0) : Type 0 where
   pub input : I

@@ -1,11 +1,9 @@
 //! A text assembled, and what it makes written.
-ghost use Rattle.std.specs.Prelude.{◌≡◌, ◌⊎◌, ◌<◌, ℕ, List, [], ◌∷◌, Some};
-ghost use Rattle.ir_base.specs.Outside.{Rose};
+ghost use Rattle.std.specs.Prelude.{[], ◌∷◌};
 ghost use Rattle.command_line.specs.declared.command.Command.TheVariants as commands;
-ghost use Rattle.tool_output.specs.Outputs.{outputs};
+ghost use Rattle.tool_cli.specs.Done.{IsDone};
 ghost use Rattle.tool_cli.specs.Judged.{IsShort};
-ghost use Rattle.tool_cli.specs.Output.{IsUnwritten, FailsToWrite, IsUnwrittenOrMemory, IsFileUnwritten, IsWritten, LeavesFilesBut, LeavesStandard, LeavesNamed};
-ghost use Rattle.tool_cli.specs.Told.{IsWork, IsOfWork};
+ghost use Rattle.tool_cli.specs.World.{sinks};
 
 use crate::delivery::deliver;
 use crate::parts::accepted_text;
@@ -27,18 +25,8 @@ pub(crate) fn assemble<F: Files, O: Sink>(
     output: &mut O,
 ) -> Ended
     requires { IsShort text }
-    ensures work { IsWork (commands.Assemble name.now place.now) (text ∷ []) result
-        ⊎ FailsToWrite (Some place.now) (Rose (O.faults output.old) (O.faults output.new)) (Rose (F.write_faults files.old) (F.write_faults files.new)) result }
-    ensures of_work { IsOfWork result }
-    ensures cannot_write { (name : List ℕ) → result ≡ Ended.CannotWrite name
-        → IsUnwritten (Some place.now) (Rose (O.faults output.old) (O.faults output.new)) (Rose (F.write_faults files.old) (F.write_faults files.new)) name }
-    ensures output_fault { O.faults output.old < O.faults output.new → IsUnwrittenOrMemory result }
-    ensures write_fault { F.write_faults files.old < F.write_faults files.new → IsFileUnwritten (Some place.now) result }
-    ensures written { IsWritten (commands.Assemble name.now place.now) (text ∷ []) (outputs (O.taken output.old) (F.contents files.old)) (outputs (O.taken output.new) (F.contents files.new)) result }
-    ensures leaves_files { LeavesFilesBut (Some place.now) result (F.contents files.old) (F.contents files.new) (F.read_faults files.old) (F.read_faults files.new) (F.write_faults files.old) (F.write_faults files.new) }
-    ensures reads { F.read_faults files.new ≡ F.read_faults files.old }
-    ensures unwritten { LeavesStandard (Some place.now) result → output.new ≡ output.old }
-    ensures files_unwritten { LeavesNamed (Some place.now) result → files.new ≡ files.old }
+    ensures { IsDone (commands.Assemble name.now place.now) (text ∷ [])
+        (sinks O.Sink F.Files output.old files.old) (sinks O.Sink F.Files output.new files.new) result }
 {
     let accepted = match accepted_text(alloc, name, text) {
         Ok(accepted) => accepted,

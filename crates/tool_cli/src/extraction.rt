@@ -1,16 +1,15 @@
 //! A part of an input, and what it makes written.
-ghost use Rattle.std.specs.Prelude.{◌≡◌, ◌⊎◌, ◌<◌, ℕ, List, [], ◌∷◌, Some, None, IfOk, IfErr, OnOk};
-ghost use Rattle.ir_base.specs.Outside.{Rose};
+ghost use Rattle.std.specs.Prelude.{◌≡◌, ◌⊎◌, [], ◌∷◌, None, IfOk, IfErr, OnOk};
 ghost use Rattle.command_line.specs.declared.command.Command.TheVariants as commands;
 ghost use Rattle.extract_core.specs.Extracted.{Extracted};
 ghost use Rattle.extract_core.specs.Selected.{no_such_symbol};
 ghost use Rattle.module_arena.specs.View.{module_of};
 ghost use Rattle.name_rules.specs.Spelled.{spelled_global};
-ghost use Rattle.tool_output.specs.Outputs.{outputs};
+ghost use Rattle.tool_cli.specs.Done.{IsDone};
 ghost use Rattle.tool_cli.specs.Judged.{IsShort};
 ghost use Rattle.tool_cli.specs.Made.{ExtractsTo, selection_of};
-ghost use Rattle.tool_cli.specs.Output.{IsUnwritten, FailsToWrite, IsUnwrittenOrMemory, IsFileUnwritten, IsWritten, LeavesFilesBut, LeavesStandard, LeavesNamed};
-ghost use Rattle.tool_cli.specs.Told.{part_end, IsExtraction, IsWork, IsOfTexts, IsOfWork};
+ghost use Rattle.tool_cli.specs.Told.{part_end, IsExtraction, IsOfTexts};
+ghost use Rattle.tool_cli.specs.World.{sinks};
 
 use crate::delivery::deliver;
 use crate::linking::format_of;
@@ -112,18 +111,8 @@ pub(crate) fn extract_part<F: Files, O: Sink>(
     output: &mut O,
 ) -> Ended
     requires { IsShort bytes }
-    ensures work { IsWork (commands.Extract name.now place.now text selection.now) (bytes ∷ []) result
-        ⊎ FailsToWrite (Some place.now) (Rose (O.faults output.old) (O.faults output.new)) (Rose (F.write_faults files.old) (F.write_faults files.new)) result }
-    ensures of_work { IsOfWork result }
-    ensures cannot_write { (name : List ℕ) → result ≡ Ended.CannotWrite name
-        → IsUnwritten (Some place.now) (Rose (O.faults output.old) (O.faults output.new)) (Rose (F.write_faults files.old) (F.write_faults files.new)) name }
-    ensures output_fault { O.faults output.old < O.faults output.new → IsUnwrittenOrMemory result }
-    ensures write_fault { F.write_faults files.old < F.write_faults files.new → IsFileUnwritten (Some place.now) result }
-    ensures written { IsWritten (commands.Extract name.now place.now text selection.now) (bytes ∷ []) (outputs (O.taken output.old) (F.contents files.old)) (outputs (O.taken output.new) (F.contents files.new)) result }
-    ensures leaves_files { LeavesFilesBut (Some place.now) result (F.contents files.old) (F.contents files.new) (F.read_faults files.old) (F.read_faults files.new) (F.write_faults files.old) (F.write_faults files.new) }
-    ensures reads { F.read_faults files.new ≡ F.read_faults files.old }
-    ensures unwritten { LeavesStandard (Some place.now) result → output.new ≡ output.old }
-    ensures files_unwritten { LeavesNamed (Some place.now) result → files.new ≡ files.old }
+    ensures { IsDone (commands.Extract name.now place.now text selection.now) (bytes ∷ [])
+        (sinks O.Sink F.Files output.old files.old) (sinks O.Sink F.Files output.new files.new) result }
 {
     let part = match extracted(alloc, name, bytes, selection) {
         Ok(part) => part,

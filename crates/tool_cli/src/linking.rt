@@ -1,17 +1,16 @@
 //! Inputs linked, and what they make written.
-ghost use Rattle.std.specs.Prelude.{◌≡◌, ◌⊎◌, ◌<◌, ℕ, List, length, Some, IfOk, IfErr, OnOk};
-ghost use Rattle.ir_base.specs.Outside.{Rose};
+ghost use Rattle.std.specs.Prelude.{◌≡◌, ◌⊎◌, List, length, IfOk, IfErr, OnOk};
 ghost use Rattle.command_line.specs.declared.command.Command.TheVariants as commands;
 ghost use Rattle.linkage_rules.specs.Conflicts.{first_conflict};
 ghost use Rattle.module_arena.specs.Module.{Module};
 ghost use Rattle.module_arena.specs.View.{module_of};
 ghost use Rattle.module_link.specs.Faults.{HasFault};
 ghost use Rattle.module_linker.specs.Counts.{too_many};
-ghost use Rattle.tool_output.specs.Outputs.{outputs};
+ghost use Rattle.tool_cli.specs.Done.{IsDone};
 ghost use Rattle.tool_cli.specs.Judged.{AreShort};
 ghost use Rattle.tool_cli.specs.Made.{LinksTo, format_of};
-ghost use Rattle.tool_cli.specs.Output.{IsUnwritten, FailsToWrite, IsUnwrittenOrMemory, IsFileUnwritten, IsWritten, LeavesFilesBut, LeavesStandard, LeavesNamed};
-ghost use Rattle.tool_cli.specs.Told.{clash_told, link_end, part_named, IsLinking, IsWork, IsOfTexts, IsOfWork};
+ghost use Rattle.tool_cli.specs.Told.{clash_told, link_end, part_named, IsLinking, IsOfTexts};
+ghost use Rattle.tool_cli.specs.World.{sinks};
 
 use crate::delivery::deliver;
 use crate::parts::accepted_parts;
@@ -127,18 +126,8 @@ pub(crate) fn link<F: Files, O: Sink>(
 ) -> Ended
     requires same { length names.now ≡ length texts }
     requires short { AreShort texts }
-    ensures work { IsWork (commands.Link names.now place.now text) texts result
-        ⊎ FailsToWrite (Some place.now) (Rose (O.faults output.old) (O.faults output.new)) (Rose (F.write_faults files.old) (F.write_faults files.new)) result }
-    ensures of_work { IsOfWork result }
-    ensures cannot_write { (name : List ℕ) → result ≡ Ended.CannotWrite name
-        → IsUnwritten (Some place.now) (Rose (O.faults output.old) (O.faults output.new)) (Rose (F.write_faults files.old) (F.write_faults files.new)) name }
-    ensures output_fault { O.faults output.old < O.faults output.new → IsUnwrittenOrMemory result }
-    ensures write_fault { F.write_faults files.old < F.write_faults files.new → IsFileUnwritten (Some place.now) result }
-    ensures written { IsWritten (commands.Link names.now place.now text) texts (outputs (O.taken output.old) (F.contents files.old)) (outputs (O.taken output.new) (F.contents files.new)) result }
-    ensures leaves_files { LeavesFilesBut (Some place.now) result (F.contents files.old) (F.contents files.new) (F.read_faults files.old) (F.read_faults files.new) (F.write_faults files.old) (F.write_faults files.new) }
-    ensures reads { F.read_faults files.new ≡ F.read_faults files.old }
-    ensures unwritten { LeavesStandard (Some place.now) result → output.new ≡ output.old }
-    ensures files_unwritten { LeavesNamed (Some place.now) result → files.new ≡ files.old }
+    ensures { IsDone (commands.Link names.now place.now text) texts
+        (sinks O.Sink F.Files output.old files.old) (sinks O.Sink F.Files output.new files.new) result }
 {
     let whole = match linked(alloc, names, texts) {
         Ok(whole) => whole,

@@ -1,14 +1,14 @@
 //! What the tools do with the texts of their inputs.
-ghost use Rattle.std.specs.Prelude.{◌≡◌, ◌⊎◌, ◌<◌, ℕ, List, length, slice_get, Some, false};
-ghost use Rattle.ir_base.specs.Outside.{Rose};
+ghost use Rattle.std.specs.Prelude.{◌≡◌, ◌<◌, length, slice_get, Some, false};
 ghost use Rattle.tool_output.specs.Outputs.{outputs};
 ghost use Rattle.tool_cli.specs.Analyzed.{is_analysis};
+ghost use Rattle.tool_cli.specs.Done.{EndsWork, LeavesSinks};
 ghost use Rattle.tool_cli.specs.Inputs.{hears, inputs_of, runs_program};
 ghost use Rattle.tool_cli.specs.Judged.{AreShort};
-ghost use Rattle.tool_cli.specs.Output.{output_of, IsUnwritten, FailsToWrite, IsUnwrittenOrMemory, IsFileUnwritten, IsWritten, LeavesFilesBut, LeavesStandard, LeavesNamed};
+ghost use Rattle.tool_cli.specs.Output.{output_of, IsWritten, LeavesStandard};
 ghost use Rattle.tool_cli.specs.Running.{StepsFit, IsRanBy, IsUnbegun};
-ghost use Rattle.tool_cli.specs.Told.{IsWork, IsOfRun};
-ghost use Rattle.tool_cli.specs.World.{streams};
+ghost use Rattle.tool_cli.specs.Told.{IsOfRun};
+ghost use Rattle.tool_cli.specs.World.{sinks, streams};
 
 use crate::analysis::analyze;
 use crate::assembling::assemble;
@@ -44,22 +44,17 @@ pub fn work<F: Files, I: Source, O: Sink>(
     requires short { AreShort texts }
     requires steps { StepsFit command.now }
     // What is answered.
-    ensures work { runs_program command.now ≡ false → IsWork command.now texts result
-        ⊎ FailsToWrite (output_of command.now) (Rose (O.faults output.old) (O.faults output.new)) (Rose (F.write_faults files.old) (F.write_faults files.new)) result }
+    ensures work { runs_program command.now ≡ false → EndsWork command.now texts
+        (sinks O.Sink F.Files output.old files.old) (sinks O.Sink F.Files output.new files.new) result }
     ensures of_work { IsOfRun result (hears command.now) }
-    ensures cannot_write { (name : List ℕ) → result ≡ Ended.CannotWrite name
-        → IsUnwritten (output_of command.now) (Rose (O.faults output.old) (O.faults output.new)) (Rose (F.write_faults files.old) (F.write_faults files.new)) name }
-    ensures output_fault { O.faults output.old < O.faults output.new → IsUnwrittenOrMemory result }
-    ensures write_fault { F.write_faults files.old < F.write_faults files.new → IsFileUnwritten (output_of command.now) result }
+    ensures leaves { LeavesSinks (output_of command.now)
+        (sinks O.Sink F.Files output.old files.old) (sinks O.Sink F.Files output.new files.new) result }
     ensures ran { IsRanBy command.now texts (streams I.Source O.Sink input.old output.old) (streams I.Source O.Sink input.new output.new) result }
 
     // What is read and written.
     ensures written { runs_program command.now ≡ false
         → IsWritten command.now texts (outputs (O.taken output.old) (F.contents files.old)) (outputs (O.taken output.new) (F.contents files.new)) result }
-    ensures leaves_files { LeavesFilesBut (output_of command.now) result (F.contents files.old) (F.contents files.new) (F.read_faults files.old) (F.read_faults files.new) (F.write_faults files.old) (F.write_faults files.new) }
-    ensures reads { F.read_faults files.new ≡ F.read_faults files.old }
     ensures unwritten { is_analysis command.now ≡ false → runs_program command.now ≡ false → LeavesStandard (output_of command.now) result → output.new ≡ output.old }
-    ensures files_unwritten { LeavesNamed (output_of command.now) result → files.new ≡ files.old }
     ensures unread { hears command.now ≡ false → input.new ≡ input.old }
     ensures not_begun { IsUnbegun command.now result → (input.new ≡ input.old) × (output.new ≡ output.old) }
 {

@@ -1,32 +1,14 @@
 use Rattle.std.proofs.Common.{refl}
 use Rattle.command_line.specs.declared.command.Command.TheVariants.{Link}
-use Rattle.tool_output.specs.Outputs.{outputs}
-use Rattle.tool_cli.proofs.Works.{texts_of_work, texts_written}
-use Rattle.tool_cli.proofs.Delivered.{delivered_of_work, delivered_work, result_written, link_refused, link_result, silent_written, leaves_none}
+use Rattle.tool_cli.specs.World.{sinks}
+use Rattle.tool_cli.proofs.Delivered.{link_result}
+use Rattle.tool_cli.proofs.Done.{delivered_done, refused_done}
 use Rattle.tool_cli.proofs.linking.link.Goals as goal
 
-pub returns-in-Err-clause-work : goal.returns-in-Err-clause-work
-returns-in-Err-clause-work g c = link_refused c.args.names.now c.args.texts c.args.place.now c.args.text _ _ _ c.in-Err.ensures.refused
+pub returns-in-Err : goal.returns-in-Err
+returns-in-Err g c = refused_done (Link c.args.names.now c.args.place.now c.args.text) c.args.texts (sinks g.O.Sink g.F.Files c.args.output.now c.args.files.now) c.in-Err.ended c.in-Err.ensures.refused c.in-Err.ensures.of_texts
 
-pub returns-in-Err-clause-of_work : goal.returns-in-Err-clause-of_work
-returns-in-Err-clause-of_work g c = texts_of_work _ c.in-Err.ensures.of_texts
-
-pub returns-in-Err-clause-cannot_write : goal.returns-in-Err-clause-cannot_write
-returns-in-Err-clause-cannot_write g c = λ name told. absurd (texts_written _ c.in-Err.ensures.of_texts name told)
-
-pub returns-in-Err-clause-written : goal.returns-in-Err-clause-written
-returns-in-Err-clause-written g c = silent_written (Link c.args.names.now c.args.place.now c.args.text) c.args.texts (outputs (g.O.Sink.taken c.args.output.now) (g.F.Files.contents c.args.files.now)) _ _ c.in-Err.ensures.of_texts refl
-
-pub returns-in-Err-clause-leaves_files : goal.returns-in-Err-clause-leaves_files
-returns-in-Err-clause-leaves_files g c = leaves_none _ _ _ _ _
-
-pub returns-clause-work : goal.returns-clause-work
-returns-clause-work g c = delivered_work (Link c.args.names.now c.args.place.now c.args.text) _ _ _ _ _ _ _ _ c.in-Ok.ensures.linking c.deliver-ended.ensures.delivered c.deliver-ended.ensures.cannot_write
-
-pub returns-clause-written : goal.returns-clause-written
-returns-clause-written g c =
+pub returns : goal.returns
+returns g c =
     let result = link_result c.args.names.now c.args.texts c.args.place.now c.args.text _ c.in-Ok.ensures.made in
-    result_written (Link c.args.names.now c.args.place.now c.args.text) _ _ _ _ _ _ refl result (rw c.format_of.ensures at c.deliver-ended.ensures.delivered)
-
-pub returns-clause-of_work : goal.returns-clause-of_work
-returns-clause-of_work g c = delivered_of_work _ _ _ _ _ c.deliver-ended.ensures.delivered
+    delivered_done (Link c.args.names.now c.args.place.now c.args.text) c.args.texts c.args.place.now _ (sinks g.O.Sink g.F.Files c.args.output.now c.args.files.now) (sinks g.O.Sink g.F.Files c.deliver-ended.new.output c.deliver-ended.new.files) c.deliver-ended.result refl c.in-Ok.ensures.linking result (rw c.format_of.ensures at c.deliver-ended.ensures.delivered) c.deliver-ended.ensures.leaves c.deliver-ended.ensures.unwritten

@@ -137,11 +137,11 @@ returns-in-Ok-read_inputs g c =
         too_large = λ name limit told. absurd (run_no_large c.work.result (hears c.in-Ok.command) name limit c.work.ensures.of_work told);
         cannot_write = λ name told.
             subst (λ (output : Option OutputName). IsUnwritten output (Rose (sinks c.args.output.now) (sinks c.work.new.output)) (Rose (writes c.args.files.now) (writes c.work.new.files)) name) (sym place)
-            (subst (λ (n : ℕ). IsUnwritten (output_of c.in-Ok.command) (Rose (sinks c.args.output.now) (sinks c.work.new.output)) (Rose n (writes c.work.new.files)) name) c.in-Ok-read_inputs.ensures.leaves.files.writes (c.work.ensures.cannot_write name told));
-        output_fault = c.work.ensures.output_fault;
+            (subst (λ (n : ℕ). IsUnwritten (output_of c.in-Ok.command) (Rose (sinks c.args.output.now) (sinks c.work.new.output)) (Rose n (writes c.work.new.files)) name) c.in-Ok-read_inputs.ensures.leaves.files.writes (c.work.ensures.leaves.cannot_write name told));
+        output_fault = c.work.ensures.leaves.output_fault;
         write_fault = λ (rose : writes c.args.files.now < writes c.work.new.files).
             subst (λ (output : Option OutputName). IsFileUnwritten output c.work.result) (sym place)
-            (c.work.ensures.write_fault (subst (λ (n : ℕ). n < writes c.work.new.files) (sym c.in-Ok-read_inputs.ensures.leaves.files.writes) rose));
+            (c.work.ensures.leaves.write_fault (subst (λ (n : ℕ). n < writes c.work.new.files) (sym c.in-Ok-read_inputs.ensures.leaves.files.writes) rose));
       };
       before_reading = λ kind k first. absurd (c.in-Ok.ensures.command.fine kind k first.is);
       order = work_keeps (inputs_named c.args.words.now) c.args.input.now c.work.new.input c.work.result (hears c.in-Ok.command) c.work.ensures.of_work;
@@ -151,7 +151,7 @@ returns-in-Ok-read_inputs g c =
           absurd (c.in-Ok-read_inputs.ensures.fine_front held refusal told (subst (λ (names : List (List ℕ)). IsRefusedInFront held names refusal) same first));
       untouched = record {
         unread = λ both. c.work.ensures.unread (rw listening at both.1) ∙ c.in-Ok-read_inputs.ensures.untouched.unread (rw same at both.0);
-        files_unread = λ both. c.work.ensures.files_unwritten (rw place at both.1) ∙ c.in-Ok-read_inputs.ensures.untouched.files_unread (rw same at both.0);
+        files_unread = λ both. c.work.ensures.leaves.files_unwritten (rw place at both.1) ∙ c.in-Ok-read_inputs.ensures.untouched.files_unread (rw same at both.0);
       };
       whole = λ _ one.
           let quiet = stdin_unheard c.in-Ok.command (rw (inputs_are c.args.words.now c.in-Ok.command c.in-Ok.ensures.command) at one) in
@@ -164,12 +164,12 @@ returns-in-Ok-read_inputs g c =
             input_fault = λ (rose : faults c.args.input.now < faults c.work.new.input).
                 input_cause (hears c.in-Ok.command) mid after c.work.result (λ quiet. ap faults (c.work.ensures.unread quiet)) own_input
                 (subst (λ (n : ℕ). n < faults c.work.new.input) (sym c.in-Ok-read_inputs.ensures.leaves.input_fine) rose);
-            file_fault = λ (rose : reads c.args.files.now < reads c.work.new.files). absurd (omega (arith, rose, c.work.ensures.reads, file_fine));
+            file_fault = λ (rose : reads c.args.files.now < reads c.work.new.files). absurd (omega (arith, rose, c.work.ensures.leaves.reads, file_fine));
             input =
                 subst (λ (b : Bool). LosesInput b (left c.args.input.now) (left c.work.new.input) (faults c.args.input.now) (faults c.work.new.input)) (sym listening)
                 (loses_after (hears c.in-Ok.command) (left c.args.input.now) (faults c.args.input.now) mid after c.work.result c.in-Ok-read_inputs.ensures.leaves.input c.in-Ok-read_inputs.ensures.leaves.input_fine (λ own. ap left (c.in-Ok-read_inputs.ensures.untouched.unread (none own))) (λ quiet. (ap left (c.work.ensures.unread quiet), ap faults (c.work.ensures.unread quiet)))
                 own_input);
-            files = rw place (leaves_after _ _ _ _ _ _ _ _ _ _ _ c.in-Ok-read_inputs.ensures.leaves.files c.work.ensures.leaves_files);
+            files = rw place (leaves_after _ _ _ _ _ _ _ _ _ _ _ c.in-Ok-read_inputs.ensures.leaves.files c.work.ensures.leaves.files);
           };
       shown = λ held stdin tells.
           shown_ok c.args.words.now c.in-Ok.command c.inputs_of.result.now c.in-Ok-read_inputs.texts held stdin (outputs (taken c.args.output.now) (contents c.args.files.now)) (outputs (taken c.work.new.output) (contents c.work.new.files)) c.work.result

@@ -1,4 +1,4 @@
-use Rattle.std.proofs.Common.{◌≡◌, ◌⊎◌, ℕ, List, length, refl, true≢false, arith}
+use Rattle.std.proofs.Common.{◌≡◌, ◌⊎◌, ◌<◌, ℕ, List, length, refl, true≢false, arith}
 use Rattle.command_line.specs.declared.command.Command.{Command}
 use Rattle.ir_base.specs.Outside.{Rose}
 use Rattle.tool_output.specs.Outputs.{outputs}
@@ -20,14 +20,20 @@ analyze-requires g c = rw c.bytes.ensures (short_first _ _ c.requires.short c.at
 pub returns-in-Analyze-clause-work : goal.returns-in-Analyze-clause-work
 returns-in-Analyze-clause-work g c = λ plain. analysis_work _ _ _ _ _ _ _ _ c.in-Analyze.is c.requires.count c.at.ensures (rw c.bytes.ensures at c.analyze.ensures.analysis)
 
-pub returns-in-Analyze-clause-cannot_write : goal.returns-in-Analyze-clause-cannot_write
-returns-in-Analyze-clause-cannot_write g c = λ name told. analysis_cause _ _ _ _ _ name c.in-Analyze.is (c.analyze.ensures.cannot_write name told)
+pub returns-in-Analyze-clause-leaves : goal.returns-in-Analyze-clause-leaves
+returns-in-Analyze-clause-leaves g c =
+    let writes = g.F.Files.write_faults c.args.files.now in
+    record {
+      cannot_write = λ name told. analysis_cause _ _ _ _ _ name c.in-Analyze.is (c.analyze.ensures.cannot_write name told);
+      output_fault = c.analyze.ensures.output_fault;
+      write_fault = λ (rose : writes < writes). absurd (omega (arith, rose));
+      files = leaves_none _ _ _ _ _;
+      reads = refl;
+      files_unwritten = λ early. refl;
+    }
 
 pub returns-in-Analyze-clause-written : goal.returns-in-Analyze-clause-written
 returns-in-Analyze-clause-written g c = λ plain. analysis_written _ _ _ _ _ _ _ _ _ c.in-Analyze.is c.requires.count c.at.ensures (rw c.bytes.ensures at c.analyze.ensures.shown)
-
-pub returns-in-Analyze-clause-leaves_files : goal.returns-in-Analyze-clause-leaves_files
-returns-in-Analyze-clause-leaves_files g c = leaves_none _ _ _ _ _
 
 pub first_text-requires : goal.first_text-requires
 first_text-requires g c = (let one : length c.args.texts ≡ 1 = rw c.in-Assemble.is at c.requires.count in omega (arith, one))
@@ -50,20 +56,11 @@ returns-in-Assemble-clause-written g c =
     λ plain.
     assemble_is P _ _ _ _ _ c.in-Assemble.is (only_text _ _ _ _ _ c.in-Assemble.is c.requires.count c.first_text.ensures) c.assemble.ensures.written
 
-pub returns-in-Assemble-clause-cannot_write : goal.returns-in-Assemble-clause-cannot_write
-returns-in-Assemble-clause-cannot_write g c = rw c.in-Assemble.is c.assemble.ensures.cannot_write
-
-pub returns-in-Assemble-clause-write_fault : goal.returns-in-Assemble-clause-write_fault
-returns-in-Assemble-clause-write_fault g c = rw c.in-Assemble.is c.assemble.ensures.write_fault
-
-pub returns-in-Assemble-clause-leaves_files : goal.returns-in-Assemble-clause-leaves_files
-returns-in-Assemble-clause-leaves_files g c = rw c.in-Assemble.is c.assemble.ensures.leaves_files
+pub returns-in-Assemble-clause-leaves : goal.returns-in-Assemble-clause-leaves
+returns-in-Assemble-clause-leaves g c = rw c.in-Assemble.is c.assemble.ensures.leaves
 
 pub returns-in-Assemble-clause-unwritten : goal.returns-in-Assemble-clause-unwritten
 returns-in-Assemble-clause-unwritten g c = rw c.in-Assemble.is (λ analysis plain early. c.assemble.ensures.unwritten early)
-
-pub returns-in-Assemble-clause-files_unwritten : goal.returns-in-Assemble-clause-files_unwritten
-returns-in-Assemble-clause-files_unwritten g c = rw c.in-Assemble.is c.assemble.ensures.files_unwritten
 
 pub returns-in-Link-clause-work : goal.returns-in-Link-clause-work
 returns-in-Link-clause-work g c =
@@ -80,20 +77,11 @@ returns-in-Link-clause-written g c =
     λ plain.
     link_is P _ _ _ c.args.texts c.args.texts _ _ c.in-Link.is c.as_slice.ensures refl c.link.ensures.written
 
-pub returns-in-Link-clause-cannot_write : goal.returns-in-Link-clause-cannot_write
-returns-in-Link-clause-cannot_write g c = rw c.in-Link.is c.link.ensures.cannot_write
-
-pub returns-in-Link-clause-write_fault : goal.returns-in-Link-clause-write_fault
-returns-in-Link-clause-write_fault g c = rw c.in-Link.is c.link.ensures.write_fault
-
-pub returns-in-Link-clause-leaves_files : goal.returns-in-Link-clause-leaves_files
-returns-in-Link-clause-leaves_files g c = rw c.in-Link.is c.link.ensures.leaves_files
+pub returns-in-Link-clause-leaves : goal.returns-in-Link-clause-leaves
+returns-in-Link-clause-leaves g c = rw c.in-Link.is c.link.ensures.leaves
 
 pub returns-in-Link-clause-unwritten : goal.returns-in-Link-clause-unwritten
 returns-in-Link-clause-unwritten g c = rw c.in-Link.is (λ analysis plain early. c.link.ensures.unwritten early)
-
-pub returns-in-Link-clause-files_unwritten : goal.returns-in-Link-clause-files_unwritten
-returns-in-Link-clause-files_unwritten g c = rw c.in-Link.is c.link.ensures.files_unwritten
 
 pub first_text-requires-in-Extract : goal.first_text-requires-in-Extract
 first_text-requires-in-Extract g c = (let one : length c.args.texts ≡ 1 = rw c.in-Extract.is at c.requires.count in omega (arith, one))
@@ -116,20 +104,11 @@ returns-in-Extract-clause-written g c =
     λ plain.
     extract_is P _ _ _ _ _ _ _ c.in-Extract.is (only_input _ _ _ _ _ _ _ c.in-Extract.is c.requires.count c.first_text-in-Extract.ensures) c.extract_part.ensures.written
 
-pub returns-in-Extract-clause-cannot_write : goal.returns-in-Extract-clause-cannot_write
-returns-in-Extract-clause-cannot_write g c = rw c.in-Extract.is c.extract_part.ensures.cannot_write
-
-pub returns-in-Extract-clause-write_fault : goal.returns-in-Extract-clause-write_fault
-returns-in-Extract-clause-write_fault g c = rw c.in-Extract.is c.extract_part.ensures.write_fault
-
-pub returns-in-Extract-clause-leaves_files : goal.returns-in-Extract-clause-leaves_files
-returns-in-Extract-clause-leaves_files g c = rw c.in-Extract.is c.extract_part.ensures.leaves_files
+pub returns-in-Extract-clause-leaves : goal.returns-in-Extract-clause-leaves
+returns-in-Extract-clause-leaves g c = rw c.in-Extract.is c.extract_part.ensures.leaves
 
 pub returns-in-Extract-clause-unwritten : goal.returns-in-Extract-clause-unwritten
 returns-in-Extract-clause-unwritten g c = rw c.in-Extract.is (λ analysis plain early. c.extract_part.ensures.unwritten early)
-
-pub returns-in-Extract-clause-files_unwritten : goal.returns-in-Extract-clause-files_unwritten
-returns-in-Extract-clause-files_unwritten g c = rw c.in-Extract.is c.extract_part.ensures.files_unwritten
 
 pub returns-in-Analyze-clause-of_work : goal.returns-in-Analyze-clause-of_work
 returns-in-Analyze-clause-of_work g c = work_of_run c.analyze.result (hears c.args.command.now) c.analyze.ensures.of_work
@@ -193,20 +172,20 @@ returns-in-Lli-clause-of_work g c =
     let one = only_program c.args.command.now _ _ _ c.args.texts _ c.in-Lli.is c.requires.count c.first_text-in-Lli.ensures in
     lli_of_run c.args.command.now _ _ _ c.args.texts _ before after c.run_bytes.result c.in-Lli.is one c.run_bytes.ensures.ran
 
-pub returns-in-Lli-clause-cannot_write : goal.returns-in-Lli-clause-cannot_write
-returns-in-Lli-clause-cannot_write g c =
+pub returns-in-Lli-clause-leaves : goal.returns-in-Lli-clause-leaves
+returns-in-Lli-clause-leaves g c =
     let before = streams g.I.Source g.O.Sink c.args.input.now c.args.output.now in
     let after = streams g.I.Source g.O.Sink c.run_bytes.new.input c.run_bytes.new.output in
     let writes = g.F.Files.write_faults c.args.files.now in
     let one = only_program c.args.command.now _ _ _ c.args.texts _ c.in-Lli.is c.requires.count c.first_text-in-Lli.ensures in
-    lli_unwritten c.args.command.now _ _ _ c.args.texts _ before after (Rose writes writes) c.run_bytes.result c.in-Lli.is one c.run_bytes.ensures.ran
-
-pub returns-in-Lli-clause-output_fault : goal.returns-in-Lli-clause-output_fault
-returns-in-Lli-clause-output_fault g c =
-    let before = streams g.I.Source g.O.Sink c.args.input.now c.args.output.now in
-    let after = streams g.I.Source g.O.Sink c.run_bytes.new.input c.run_bytes.new.output in
-    let one = only_program c.args.command.now _ _ _ c.args.texts _ c.in-Lli.is c.requires.count c.first_text-in-Lli.ensures in
-    lli_output_fault c.args.command.now _ _ _ c.args.texts _ before after c.run_bytes.result c.in-Lli.is one c.run_bytes.ensures.ran
+    record {
+      cannot_write = lli_unwritten c.args.command.now _ _ _ c.args.texts _ before after (Rose writes writes) c.run_bytes.result c.in-Lli.is one c.run_bytes.ensures.ran;
+      output_fault = lli_output_fault c.args.command.now _ _ _ c.args.texts _ before after c.run_bytes.result c.in-Lli.is one c.run_bytes.ensures.ran;
+      write_fault = λ (rose : writes < writes). absurd (omega (arith, rose));
+      files = leaves_none _ _ _ _ _;
+      reads = refl;
+      files_unwritten = λ early. refl;
+    }
 
 pub returns-in-Lli-clause-work : goal.returns-in-Lli-clause-work
 returns-in-Lli-clause-work g c = rw c.in-Lli.is (λ plain. absurd (true≢false plain))
@@ -216,9 +195,6 @@ returns-in-Lli-clause-written g c = rw c.in-Lli.is (λ plain. absurd (true≢fal
 
 pub returns-in-Lli-clause-unwritten : goal.returns-in-Lli-clause-unwritten
 returns-in-Lli-clause-unwritten g c = rw c.in-Lli.is (λ analysis plain early. absurd (true≢false plain))
-
-pub returns-in-Lli-clause-leaves_files : goal.returns-in-Lli-clause-leaves_files
-returns-in-Lli-clause-leaves_files g c = leaves_none _ _ _ _ _
 
 pub returns-in-Lli-clause-unread : goal.returns-in-Lli-clause-unread
 returns-in-Lli-clause-unread g c = lli_unread c.args.command.now _ _ _ c.args.input.now c.run_bytes.new.input c.in-Lli.is c.run_bytes.ensures.unread
@@ -244,20 +220,11 @@ returns-in-Disassemble-clause-written g c =
     λ plain.
     disassemble_is P _ _ _ _ _ c.in-Disassemble.is (only_bitcode _ _ _ _ _ c.in-Disassemble.is c.requires.count c.at-in-Disassemble.ensures) (rw c.bytes-in-Disassemble.ensures at c.disassemble.ensures.written)
 
-pub returns-in-Disassemble-clause-cannot_write : goal.returns-in-Disassemble-clause-cannot_write
-returns-in-Disassemble-clause-cannot_write g c = rw c.in-Disassemble.is c.disassemble.ensures.cannot_write
-
-pub returns-in-Disassemble-clause-write_fault : goal.returns-in-Disassemble-clause-write_fault
-returns-in-Disassemble-clause-write_fault g c = rw c.in-Disassemble.is c.disassemble.ensures.write_fault
-
-pub returns-in-Disassemble-clause-leaves_files : goal.returns-in-Disassemble-clause-leaves_files
-returns-in-Disassemble-clause-leaves_files g c = rw c.in-Disassemble.is c.disassemble.ensures.leaves_files
+pub returns-in-Disassemble-clause-leaves : goal.returns-in-Disassemble-clause-leaves
+returns-in-Disassemble-clause-leaves g c = rw c.in-Disassemble.is c.disassemble.ensures.leaves
 
 pub returns-in-Disassemble-clause-unwritten : goal.returns-in-Disassemble-clause-unwritten
 returns-in-Disassemble-clause-unwritten g c = rw c.in-Disassemble.is (λ analysis plain early. c.disassemble.ensures.unwritten early)
-
-pub returns-in-Disassemble-clause-files_unwritten : goal.returns-in-Disassemble-clause-files_unwritten
-returns-in-Disassemble-clause-files_unwritten g c = rw c.in-Disassemble.is c.disassemble.ensures.files_unwritten
 
 pub returns-in-Disassemble-clause-of_work : goal.returns-in-Disassemble-clause-of_work
 returns-in-Disassemble-clause-of_work g c = work_of_run c.disassemble.result (hears c.args.command.now) c.disassemble.ensures.of_work
