@@ -20,12 +20,13 @@ pub struct Gathered {
 impl Model for Gathered {
     ghost use Rattle.std.specs.Prelude.{◌≤◌, take};
     ghost use Rattle.gathered.specs.Told.{Pending};
+    ghost use Rattle.gathered.specs.declared.output.TheConstants.{ROOM};
 
     ghost Value = { Pending };
 
     ghost view = { λ g. record { held = take g.used g.room; failed = g.failed } };
 
-    ghost invariant = { λ g. g.used ≤ 4096 };
+    ghost invariant = { λ g. g.used ≤ ROOM };
 }
 
 impl Gathered {
