@@ -13,4 +13,4 @@
 
 mod stepping;
 
-pub use stepping::{Stepping, run};
+pub use stepping::{STEP_LIMIT, Stepping, run};

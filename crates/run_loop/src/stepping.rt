@@ -1,13 +1,18 @@
 //! Steps one after another.
-ghost use Rattle.std.specs.Prelude.{◌≡◌, ◌^◌, ◌<◌, ◌≤◌};
+ghost use Rattle.std.specs.Prelude.{◌≡◌, ◌<◌, ◌≤◌};
 ghost use Rattle.run_rules.specs.Machine.{Machine};
 ghost use Rattle.run_rules.specs.Clauses.{outside, StepAnswers};
 ghost use Rattle.run_rules.specs.RunClauses.{RunAnswers};
 ghost use Rattle.run_loop.specs.Halts.{Finishes};
 ghost use Rattle.run_loop.specs.Stretches.{Stretches};
+ghost use Rattle.run_loop.specs.declared.stepping.TheConstants.{STEP_LIMIT};
 
 use ir_base::{Sink, Source};
 use run_rules::{End, RunFault};
+
+/// How many steps a run has at most. A bound that `lli` is given is at most the LARGEST_NUMBER of `command_line`, on which this crate
+/// does not stand: `tool_cli` is proved only where that is no more than this.
+pub const STEP_LIMIT: u64 = 4_294_967_296;
 
 /// What makes steps, and has not answered an end or a fault yet.
 pub trait Stepping {
@@ -24,7 +29,7 @@ pub trait Stepping {
         input: &mut I,
         output: &mut O,
     ) -> Result<Option<End>, RunFault>
-        requires { (machine self.old).steps < 2 ^ 32 }
+        requires { (machine self.old).steps < STEP_LIMIT }
         ensures { StepAnswers result (machine self.old) (machine self.new) (outside (I.left input.old) (I.faults input.old) (O.taken output.old) (O.faults output.old)) (outside (I.left input.new) (I.faults input.new) (O.taken output.new) (O.faults output.new)) };
 
     /// Some steps in one go, or none, up to the bound, which read nothing and put nothing out: None where the run goes on, or its end. It
@@ -36,7 +41,7 @@ pub trait Stepping {
         output: &mut O,
     ) -> Result<Option<End>, RunFault>
         requires few { (machine self.old).steps < bound }
-        requires bound { bound ≤ 2 ^ 32 }
+        requires bound { bound ≤ STEP_LIMIT }
         ensures { Stretches bound result (machine self.old) (machine self.new) (outside (I.left input.now) (I.faults input.now) (O.taken output.old) (O.faults output.old)) (outside (I.left input.now) (I.faults input.now) (O.taken output.new) (O.faults output.new)) };
 
     /// No step is left: what is due is entered, and the end is that, or that steps are used up. Nothing is read.
@@ -44,8 +49,8 @@ pub trait Stepping {
         ensures { Finishes result (machine self.old) (machine self.new) (outside (I.left input.now) (I.faults input.now) (O.taken output.old) (O.faults output.old)) (outside (I.left input.now) (I.faults input.now) (O.taken output.new) (O.faults output.new)) };
 }
 
-/// Makes steps to an end or a fault, or until their count is the bound, which is at most 2^32; then the end is the one that `halt`
-/// gives.
+/// Makes steps to an end or a fault, or until their count is the bound, which is at most STEP_LIMIT; then the end is the one that
+/// `halt` gives.
 #[inline(never)]
 pub fn run<M: Stepping, I: Source, O: Sink>(
     machine: &mut M,
@@ -53,7 +58,7 @@ pub fn run<M: Stepping, I: Source, O: Sink>(
     input: &mut I,
     output: &mut O,
 ) -> Result<End, RunFault>
-    requires { bound ≤ 2 ^ 32 }
+    requires { bound ≤ STEP_LIMIT }
     ensures { RunAnswers bound result (M.machine machine.old) (M.machine machine.new) (outside (I.left input.old) (I.faults input.old) (O.taken output.old) (O.faults output.old)) (outside (I.left input.new) (I.faults input.new) (O.taken output.new) (O.faults output.new)) }
 {
     'running: while machine.steps() < bound {

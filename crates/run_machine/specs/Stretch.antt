@@ -1,11 +1,12 @@
 -- For `run` of `Machine`: a stretch of instructions that neither call nor return.
-use Rattle.std.specs.Prelude.{◌≡◌, ℕ, zero, suc, ◌+◌, ◌^◌, ◌<◌, ◌≤◌, ⊤, true, List, []}
+use Rattle.std.specs.Prelude.{◌≡◌, ℕ, zero, suc, ◌+◌, ◌<◌, ◌≤◌, ⊤, true, List, []}
 use Rattle.ir_memory.specs.Memory.{Blocks}
 use Rattle.run_rules.specs.Action.{Action}
 use Rattle.run_rules.specs.Calls.{Callee}
 use Rattle.run_rules.specs.State.{Due, Core}
 use Rattle.run_rules.specs.Step.{next_of}
 use Rattle.run_rules.specs.Wants.{may_want_memory}
+use Rattle.run_loop.specs.declared.stepping.TheConstants.{STEP_LIMIT}
 use Rattle.run_program.specs.Loaded.{Loaded}
 use Rattle.run_stack.specs.UnderWay.{UnderWay, IsRunning}
 use Rattle.run_acts.specs.declared.next.Next.TheVariants as answer
@@ -18,7 +19,7 @@ use Rattle.run_machine.specs.Living.{IsLive, Living, core_of_living, living_of}
 
 -- a function is under way, and the bound on steps allows so many instructions
 abbrev pub MayWalk : Loaded → UnderWay → Blocks → ℕ → Type 0
-MayWalk p s m most = (steps : ℕ) × (due : List Due) × IsLive steps (living_of p s due m) × IsRunning s.frames × (steps + most ≤ 2 ^ 32)
+MayWalk p s m most = (steps : ℕ) × (due : List Due) × IsLive steps (living_of p s due m) × IsRunning s.frames × (steps + most ≤ STEP_LIMIT)
 
 -- so many instructions were carried out, each of a function under way: each goes on, and writes nothing
 abbrev pub Walked : (ℕ → ℕ → ℕ → Action) → (ℕ → Callee) → ℕ → Core → Core → Type 0

@@ -1,7 +1,8 @@
 //! What instructions see of a run.
-ghost use Rattle.std.specs.Prelude.{◌≡◌, ◌==◌, ◌+◌, ◌^◌, ◌<◌, ◌≤◌, ℕ, [], IfOk, length, OnErr, OnOk, true};
+ghost use Rattle.std.specs.Prelude.{◌≡◌, ◌==◌, ◌+◌, ◌<◌, ◌≤◌, ℕ, [], IfOk, length, OnErr, OnOk, true};
 ghost use Rattle.run_machine.specs.Living.{Acts, Enters, HasFrames, IsLive, may_want_in, StaysEntered, StaysIn, StaysLive, TakesNumber, Turns};
 ghost use Rattle.run_acts.specs.Acting.{IsOuter, is_outer_here};
+ghost use Rattle.run_loop.specs.declared.stepping.TheConstants.{STEP_LIMIT};
 ghost use Rattle.run_machine.specs.Stretch.{LeavesOff, StaysBehind, Walks};
 ghost use Rattle.run_passing.specs.Traffic.{Gets};
 ghost use Rattle.run_rules.specs.Clauses.{outside};
@@ -100,7 +101,7 @@ impl<'m> Live<'m> {
     #[inline(always)]
     pub fn act(&mut self) -> Result<Next, AllocError>
         requires frames { HasFrames self.old }
-        requires live { (steps : ℕ) × IsLive steps self.old × (steps < 2 ^ 32) }
+        requires live { (steps : ℕ) × IsLive steps self.old × (steps < STEP_LIMIT) }
         ensures acted { IfOk result (λ next. Acts next self.old self.new) }
         ensures live { (steps : ℕ) → IsLive steps self.old → IfOk result (λ next. StaysLive steps next self.new) }
         ensures wants { OnErr result (may_want_in self.old ≡ true) }
@@ -123,7 +124,7 @@ impl<'m> Live<'m> {
     #[inline(always)]
     fn crosses(&self) -> bool
         requires frames { HasFrames self.now }
-        requires live { (steps : ℕ) × IsLive steps self.now × (steps < 2 ^ 32) }
+        requires live { (steps : ℕ) × IsLive steps self.now × (steps < STEP_LIMIT) }
         ensures { result ≡ is_outer_here self.now.program self.now.stack }
     {
         calls_or_returns(&self.program, &self.stack)
@@ -135,7 +136,7 @@ impl<'m> Live<'m> {
         requires frames { HasFrames self.old }
         requires outer { IsOuter self.old.program self.old.stack }
         requires none { self.old.written ≡ [] }
-        requires live { (steps : ℕ) × IsLive steps self.old × (steps < 2 ^ 32) }
+        requires live { (steps : ℕ) × IsLive steps self.old × (steps < STEP_LIMIT) }
         ensures acted { IfOk result (λ next. Acts next self.old self.new) }
         ensures live { (steps : ℕ) → IsLive steps self.old → IfOk result (λ next. StaysLive steps next self.new) }
         ensures wants { OnErr result (may_want_in self.old ≡ true) }
@@ -156,7 +157,7 @@ impl<'m> Live<'m> {
     /// It is refused for want of memory alone, where no function was under way, or by an instruction that may want it.
     #[inline(always)]
     pub fn turn(&mut self) -> Result<Turn, AllocError>
-        requires { (steps : ℕ) × IsLive steps self.old × (steps < 2 ^ 32) }
+        requires { (steps : ℕ) × IsLive steps self.old × (steps < STEP_LIMIT) }
         ensures turned { IfOk result (λ turn. Turns turn self.old self.new) }
         ensures live { (steps : ℕ) → IsLive steps self.old → IfOk result (λ turn. StaysIn steps turn self.new) }
         ensures wants { OnErr result (may_want_in self.old ≡ true) }
@@ -173,7 +174,7 @@ impl<'m> Live<'m> {
     /// Where no function is under way there is none.
     #[inline(always)]
     pub fn go_on(&mut self, most: u64) -> Stretch
-        requires { (steps : ℕ) × IsLive steps self.old × (steps + most ≤ 2 ^ 32) }
+        requires { (steps : ℕ) × IsLive steps self.old × (steps + most ≤ STEP_LIMIT) }
         ensures few { result.count ≤ most }
         ensures further { LeavesOff most result.count result.end self.new.program self.new.stack }
         ensures walks { Walks result self.old self.new }

@@ -1,5 +1,6 @@
 //! The machine as its callers have it.
 ghost use Rattle.std.specs.Prelude.{◌≡◌, ◌^◌, ◌<◌, ◌≤◌};
+ghost use Rattle.run_loop.specs.declared.stepping.TheConstants.{STEP_LIMIT};
 ghost use Rattle.run_rules.specs.Clauses.{outside, Steps};
 ghost use Rattle.run_rules.specs.RunClauses.{Runs};
 ghost use Rattle.run_machine.specs.Seen.{machine_seen};
@@ -45,7 +46,7 @@ impl<'m> Machine<'m> {
         input: &mut I,
         output: &mut O,
     ) -> Result<Option<End>, RunFault>
-        requires { (machine_seen self.old).steps < 2 ^ 32 }
+        requires { (machine_seen self.old).steps < STEP_LIMIT }
         ensures steps { Steps result (machine_seen self.old) (machine_seen self.new) (outside (I.left input.old) (I.faults input.old) (O.taken output.old) (O.faults output.old)) (outside (I.left input.new) (I.faults input.new) (O.taken output.new) (O.faults output.new)) }
         ensures later { I.faults input.old < 2 ^ 64 → I.faults input.old ≤ I.faults input.new }
     {
@@ -68,7 +69,7 @@ impl<'m> Machine<'m> {
         input: &mut I,
         output: &mut O,
     ) -> Result<End, RunFault>
-        requires { bound ≤ 2 ^ 32 }
+        requires { bound ≤ STEP_LIMIT }
         ensures runs { Runs bound result (machine_seen self.old) (machine_seen self.new) (outside (I.left input.old) (I.faults input.old) (O.taken output.old) (O.faults output.old)) (outside (I.left input.new) (I.faults input.new) (O.taken output.new) (O.faults output.new)) }
         ensures later { I.faults input.old < 2 ^ 64 → I.faults input.old ≤ I.faults input.new }
     {

@@ -1,6 +1,7 @@
 //! A module run.
-ghost use Rattle.std.specs.Prelude.{◌≤◌, ◌^◌};
+ghost use Rattle.std.specs.Prelude.{◌≤◌};
 ghost use Rattle.module_arena.specs.View.{module_of};
+ghost use Rattle.run_loop.specs.declared.stepping.TheConstants.{STEP_LIMIT};
 ghost use Rattle.run_rules.specs.Clauses.{outside};
 ghost use Rattle.run_played.specs.Played.{Plays};
 
@@ -24,7 +25,7 @@ pub fn run_module<I: Source, O: Sink>(
     input: &mut I,
     output: &mut O,
 ) -> Result<End, RunFault>
-    requires { bound ≤ 2 ^ 32 }
+    requires { bound ≤ STEP_LIMIT }
     ensures { Plays (record { code = module_of checked.now; words = words.now; bound = bound }) result
         (outside (I.left input.old) (I.faults input.old) (O.taken output.old) (O.faults output.old)) (outside (I.left input.new) (I.faults input.new) (O.taken output.new) (O.faults output.new)) }
 {
