@@ -64,6 +64,10 @@ bounds_of s = (s.start, s.start + s.size)
 abbrev pub variables_end : ℕ
 variables_end = 2 ^ 60
 
+-- half as far: what is put behind an address up to there ends within them, whatever its size and its alignment
+abbrev pub variables_half : ℕ
+variables_half = 2 ^ 59
+
 -- no spot ends further on than that
 abbrev pub AreWithin : List Spot → Type 0
 AreWithin spots = (k : ℕ) (s : Spot) → slice_get spots k ≡ Some s → s.start + s.size ≤ variables_end

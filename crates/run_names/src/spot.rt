@@ -1,7 +1,7 @@
 //! Where the variables of a module lie.
 ghost use Rattle.std.specs.Prelude.{◌≡◌, ◌+◌, ◌≤◌, ◌<◌, ◌^◌, length, true, IfOk};
 ghost use Rattle.type_table.specs.declared.measure.TheConstants.{SIZE_LIMIT};
-ghost use Rattle.run_names.specs.Spots.{AreAddresses, AreSpots, absent_leaf, defines, spot_at};
+ghost use Rattle.run_names.specs.Spots.{AreAddresses, AreSpots, absent_leaf, defines, spot_at, variables_half};
 
 use crate::standing::is_definition;
 use ir_eval::{Pointer, Scalar};
@@ -34,7 +34,7 @@ pub struct Spot {
 fn spot_of(program: &Checked, id: VariableId, next: u64) -> Spot
     requires id { id < length program.now.variables }
     requires defined { defines program.now id ≡ true }
-    requires next { next ≤ 2 ^ 59 }
+    requires next { next ≤ variables_half }
     ensures spot { result ≡ spot_at program.now id next }
     ensures size { result.size ≤ SIZE_LIMIT }
     ensures start { result.start ≤ next + 2 ^ 16 }
