@@ -11,11 +11,9 @@ use crate::HostAnswer;
 use crate::answer::{failing, one};
 use ir_eval::{Pointer, Scalar};
 use ir_memory::{BlockKind, Memory};
+use run_rules::HEAP_ALIGNMENT;
 use run_values::has_room;
 use std::alloc::AllocError;
-
-/// The alignment of heap blocks, in bytes.
-const HEAP_ALIGN: u32 = 16;
 
 /// A new heap block of so many bytes, for which there is room.
 fn add_heap_block(memory: &mut Memory, size: u64) -> Result<HostAnswer, AllocError>
@@ -25,7 +23,7 @@ fn add_heap_block(memory: &mut Memory, size: u64) -> Result<HostAnswer, AllocErr
     ensures refused { IfOk result (λ answer. EndsTheRun answer → memory.new ≡ memory.old) }
     ensures err { OnErr result (memory.new ≡ memory.old) }
 {
-    match memory.add_block(size, HEAP_ALIGN, BlockKind::Heap) {
+    match memory.add_block(size, HEAP_ALIGNMENT, BlockKind::Heap) {
         Ok(pointer) => Ok(HostAnswer::Gives(one(Scalar::Ptr(pointer)))),
         // There is room, so it was memory that was wanted.
         Err(_) => Err(AllocError),

@@ -17,6 +17,7 @@ use Rattle.module_arena.specs.declared.host.HostRow.{HostRow}
 use Rattle.module_arena.specs.declared.host.HostRow.TheVariants.{Putchar, Puts, Getchar, Exit, Abort, Malloc, Free, Memcpy, Memmove, Memset, Strlen, MemcpyI64, MemmoveI64, MemsetI64, MemcpyI32, MemmoveI32, MemsetI32, LifetimeStart, LifetimeEnd, Printf, Integer}
 use Rattle.run_rules.specs.declared.end.End.TheVariants as ends
 use Rattle.run_rules.specs.declared.end.TheConstants.{ABORTED}
+use Rattle.run_rules.specs.declared.host.TheConstants.{HEAP_ALIGNMENT}
 use Rattle.run_rules.specs.Access.{has_room, next_block, string_at}
 use Rattle.run_rules.specs.Answer.{Answer, Gives, Reads, Halts, HostFunction, undefined, changes}
 use Rattle.run_rules.specs.Printing.{prints}
@@ -46,7 +47,7 @@ counts m (Err kind) = undefined kind
 
 -- a new heap block, unless too many bytes would live
 abbrev pub allocates : ℕ → Blocks → Answer
-allocates size m = if has_room size m then Gives (Ptr (next_block 16 m) ∷ []) (added size 16 Heap m) [] else Halts ends.MemoryLimit
+allocates size m = if has_room size m then Gives (Ptr (next_block HEAP_ALIGNMENT m) ∷ []) (added size HEAP_ALIGNMENT Heap m) [] else Halts ends.MemoryLimit
 
 -- null is the address 0
 abbrev pub frees : Pointer → Blocks → Answer

@@ -14,10 +14,12 @@
 
 mod end;
 mod fault;
+mod host;
 mod law;
 mod weight;
 
 pub use end::{ABORTED, End};
 pub use fault::RunFault;
+pub use host::HEAP_ALIGNMENT;
 pub use law::equal_look_ups_give_equal_runs;
 pub use weight::WEIGHT_LIMIT;
