@@ -1,5 +1,5 @@
 -- For `flush`, `put`, `finish` and `get`: what happens to the bytes of a step.
-use Rattle.std.specs.Prelude.{◌≡◌, ◌⊎◌, ℕ, ◌-◌, ◌^◌, ◌<◌, List, [], ◌∷◌, ◌++◌, length, Option, Some, None, Result, Ok, Err}
+use Rattle.std.specs.Prelude.{◌≡◌, ◌⊎◌, ℕ, ◌^◌, ◌<◌, List, [], ◌∷◌, ◌++◌, length, Option, Some, None, Result, Ok, Err}
 use Rattle.ir_base.specs.Outside.{Added, Rose}
 use Rattle.ir_eval.specs.declared.value.Scalar.TheVariants.{Int}
 use Rattle.run_rules.specs.Clauses.{Outside}
@@ -7,6 +7,7 @@ use Rattle.run_rules.specs.Frame.{with_value}
 use Rattle.run_rules.specs.declared.fault.RunFault.{RunFault}
 use Rattle.run_rules.specs.declared.fault.RunFault.TheVariants.{ReadFault, WriteFault, Memory}
 use Rattle.run_rules.specs.declared.end.End.{End}
+use Rattle.run_rules.specs.declared.host.TheConstants.{END_OF_INPUT}
 use Rattle.run_stack.specs.UnderWay.{UnderWay, changed, newest}
 use Rattle.run_traffic.specs.Input.{Takes, Waiting, IsWaiting}
 use Rattle.run_traffic.specs.Output as output
@@ -58,7 +59,7 @@ TakesByte s to = to < length (newest s.frames).leaves
 -- the number that `getchar` gives for a byte, or at the end: -1 as an i32
 abbrev pub number_got : Option ℕ → ℕ
 number_got (Some byte) = byte
-number_got None = 2 ^ 32 - 1
+number_got None = END_OF_INPUT
 
 -- what is written before a byte is taken: all that was held, where a read is due, or nothing
 abbrev pub FlushesFirst : Waiting → List ℕ → List ℕ → Option (List ℕ) → Option (List ℕ) → Type 0

@@ -5,12 +5,9 @@ ghost use Rattle.run_passing.specs.Traffic.{Finishes, Flushes, Gets, MakesWay, n
 
 use ir_base::{Failed, Sink, Source};
 use ir_eval::Scalar;
-use run_rules::{End, RunFault};
+use run_rules::{END_OF_INPUT, End, RunFault};
 use run_stack::Stack;
 use run_traffic::{Input, Output};
-
-/// What `getchar` gives at the end of the input: -1 as an i32.
-const END_OF_INPUT: u128 = 0xFFFF_FFFF;
 
 /// Writes all that was put out. A fault tells that a write failed; then a front of it is written, and all of it is held still.
 pub fn flush<O: Sink>(held: &mut Output, sink: &mut O) -> Result<(), RunFault>

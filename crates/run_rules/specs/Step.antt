@@ -1,9 +1,10 @@
 -- For `equal_look_ups_give_equal_runs`: one step of a run, and a run. `look` gives the action at a place of a function, and
 -- `table` what an address has.
-use Rattle.std.specs.Prelude.{ℕ, zero, suc, ◌+◌, ◌-◌, ◌^◌, List, [], ◌∷◌, ◌++◌}
+use Rattle.std.specs.Prelude.{ℕ, zero, suc, ◌+◌, List, [], ◌∷◌, ◌++◌}
 use Rattle.ir_tables.specs.declared.undefined_kind.UndefinedKind.TheVariants as kinds
 use Rattle.ir_eval.specs.declared.value.Scalar.TheVariants.{Int}
 use Rattle.ir_memory.specs.Memory.{Blocks}
+use Rattle.run_rules.specs.declared.host.TheConstants.{END_OF_INPUT}
 use Rattle.run_rules.specs.Act.{act}
 use Rattle.run_rules.specs.Action.{Action}
 use Rattle.run_rules.specs.Calls.{Callee, handed}
@@ -21,7 +22,7 @@ got to number c = record c { frames = handed to (Int number ∷ []) c.frames }
 
 -- the next byte of the input, or -1 at its end
 abbrev pub took : State → ℕ → Core → List ℕ → Step
-took s to c [] = GoesOn (record s { core = got to (2 ^ 32 - 1) c })
+took s to c [] = GoesOn (record s { core = got to END_OF_INPUT c })
 took s to c (byte ∷ input) = GoesOn (record s { core = got to byte c; input = input })
 
 -- what an instruction does to a state

@@ -20,6 +20,6 @@ mod weight;
 
 pub use end::{ABORTED, End};
 pub use fault::RunFault;
-pub use host::HEAP_ALIGNMENT;
+pub use host::{END_OF_INPUT, HEAP_ALIGNMENT};
 pub use law::equal_look_ups_give_equal_runs;
 pub use weight::WEIGHT_LIMIT;
