@@ -24,7 +24,7 @@ mod linkage;
 mod order;
 mod symbol;
 
-pub use address::{FIRST_ADDRESS, GAP};
+pub use address::{FIRST_ADDRESS, FIRST_FUNCTION, FUNCTION_STEP, GAP};
 pub use bindings::{Bindings, resolve_symbols};
 pub use clash::element_of;
 pub use conflict::{ConflictKind, SymbolFault};

@@ -14,6 +14,7 @@ ghost use Rattle.run_entry.specs.Mains.{main_by_number, main_seen, shared_functi
 
 use ir_base::{Name, Text};
 use ir_tables::Linkage;
+use linkage_rules::{FIRST_FUNCTION, FUNCTION_STEP};
 use module_arena::{Arena, Checked, FunctionId, GlobalId};
 use std::alloc::{AllocError, Global};
 use type_table::{IrType, TypeId, TypeTable};
@@ -35,7 +36,7 @@ pub struct MainFunction {
 fn function_address(number: u32) -> u64
     ensures { result ≡ place.function_address number }
 {
-    (1 << 62) + 16 * u64::from(number)
+    FIRST_FUNCTION + FUNCTION_STEP * u64::from(number)
 }
 
 /// Whether an entry is a definition: one that is available externally is a declaration (LangRef, "Linkage Types").

@@ -4,6 +4,7 @@ ghost use Rattle.linkage_rules.specs.Place as place;
 ghost use Rattle.run_rules.specs.Look as look;
 
 use ir_eval::{Pointer, Scalar};
+use linkage_rules::{FIRST_FUNCTION, FUNCTION_STEP};
 use module_arena::{FunctionId, HostRow};
 
 /// What has an address, and can be called there.
@@ -17,23 +18,22 @@ pub enum CalleeRef {
     Nothing,
 }
 
-/// The number of the function symbol with an address: 16 bytes behind the one before, the first at 2^62.
+/// The number of the function symbol with an address, counted from 0. None where no function symbol can have it.
 pub(crate) fn function_number(address: u64) -> Option<u64>
     ensures number { result ≡ look.function_number address }
     ensures small { IfSome result (λ n. n < 2 ^ 60) }
 {
-    let first = 1 << 62;
-    if address < first || (address - first) % 16 != 0 {
+    if address < FIRST_FUNCTION || (address - FIRST_FUNCTION) % FUNCTION_STEP != 0 {
         return None;
     }
-    Some((address - first) / 16)
+    Some((address - FIRST_FUNCTION) / FUNCTION_STEP)
 }
 
 /// The address of the function with that number, counted from 0.
 fn function_address(number: u32) -> u64
     ensures { result ≡ place.function_address number }
 {
-    (1 << 62) + 16 * u64::from(number)
+    FIRST_FUNCTION + FUNCTION_STEP * u64::from(number)
 }
 
 /// A pointer to a function: it has no block.

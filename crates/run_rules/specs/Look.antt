@@ -1,6 +1,6 @@
 -- For `equal_look_ups_give_equal_runs`: look-up, that is what stands at a place of a function, and what an address has, by the
 -- rules of linking. Each name is looked up in the part in which it is written; nothing is merged.
-use Rattle.std.specs.Prelude.{ℕ, ◌+◌, ◌-◌, ◌/◌, ◌%◌, ◌^◌, ◌&&◌, nat_eq, nat_le, List, [], map, length, position, slice_get, Option, Some, None, unwrap_or, option_and_then, if◌then◌else◌}
+use Rattle.std.specs.Prelude.{ℕ, ◌+◌, ◌-◌, ◌/◌, ◌%◌, ◌&&◌, nat_eq, nat_le, List, [], map, length, position, slice_get, Option, Some, None, unwrap_or, option_and_then, if◌then◌else◌}
 use Rattle.std.specs.Option.{option_map, option_map_or}
 use Rattle.ir_eval.specs.declared.value.Pointer.{Pointer}
 use Rattle.ir_eval.specs.declared.value.Scalar.{Scalar}
@@ -9,6 +9,7 @@ use Rattle.ir_eval.specs.Cast.{pointer_at}
 use Rattle.module_arena.specs.declared.host.HostRow.{HostRow}
 use Rattle.module_arena.specs.HostRows.{host_row, host_types, signature_of}
 use Rattle.module_arena.specs.Module.{Bytes, Block, Function, Module}
+use Rattle.linkage_rules.specs.declared.address.TheConstants.{FIRST_FUNCTION, FUNCTION_STEP}
 use Rattle.linkage_rules.specs.Bind.{Bound, meaning, behind}
 use Rattle.linkage_rules.specs.Bind as bound
 use Rattle.linkage_rules.specs.Globals.{Global, OfVariable, OfFunction, OfAlias}
@@ -89,7 +90,7 @@ look parts function block position =
 
 -- the number of the function symbol with that address
 abbrev pub function_number : ℕ → Option ℕ
-function_number a = if nat_le (2 ^ 62) a && nat_eq ((a - 2 ^ 62) % 16) 0 then Some ((a - 2 ^ 62) / 16) else None
+function_number a = if nat_le FIRST_FUNCTION a && nat_eq ((a - FIRST_FUNCTION) % FUNCTION_STEP) 0 then Some ((a - FIRST_FUNCTION) / FUNCTION_STEP) else None
 
 -- a function as a callee
 abbrev pub code_of : List Module → ℕ → Defined → Callee
