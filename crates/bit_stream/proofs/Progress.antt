@@ -4,10 +4,11 @@ use Rattle.bits.specs.Cursor.{Cursor, Found, ◌>>=◌}
 use Rattle.bits.specs.Reading.{fixed, vbr, align}
 use Rattle.bits.specs.declared.fault.BitFault.{BitFault}
 use Rattle.bits.specs.declared.fault.BitFaultKind.TheVariants.{BadAbbreviation, NestedTooDeep}
-use Rattle.std.specs.Prelude.{nat_le, ◌==◌, ◌^◌, ◌&&◌}
+use Rattle.std.specs.Prelude.{nat_le, ◌==◌, ◌&&◌}
 use Rattle.bit_stream.specs.Answers.{refuse}
 use Rattle.bit_stream.specs.declared.entry.Entry.{Entry}
 use Rattle.bit_stream.specs.declared.entry.Entry.TheVariants.{Block, End}
+use Rattle.bit_stream.specs.declared.item.TheConstants.{ID_LIMIT}
 use Rattle.bit_stream.specs.Abbreviation.{AdmittedAbbreviation}
 use Rattle.bit_stream.specs.Definition.{defined_abbreviation}
 use Rattle.bit_stream.specs.Record.{ReadRecord, unabbreviated}
@@ -48,7 +49,7 @@ enter_named_shown : (s : Scope) (bit id : ℕ) (c : Cursor) → Shown (enter_nam
 enter_named_shown s bit id c =
     let deep : Found StreamItem = if length s.around == 16 then Err (record { kind = NestedTooDeep; bit = bit }) else (vbr 4 c >>= λ width d. enter_wide s id c.at width d) in
     let wide : Found StreamItem = refuse bit in
-    shown_if (nat_le (2 ^ 32) id) wide deep (shown_none (record { kind = BadAbbreviation; bit = bit }))
+    shown_if (nat_le ID_LIMIT id) wide deep (shown_none (record { kind = BadAbbreviation; bit = bit }))
     (shown_if (length s.around == 16) (Err (record { kind = NestedTooDeep; bit = bit })) (vbr 4 c >>= λ width d. enter_wide s id c.at width d) (shown_none (record { kind = NestedTooDeep; bit = bit }))
     (shown_bind (vbr 4 c) (λ width d. enter_wide s id c.at width d) (λ width d. enter_wide_shown s id c.at width d)))
 

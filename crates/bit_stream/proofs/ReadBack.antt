@@ -13,6 +13,7 @@ use Rattle.bits.proofs.RoundTrip.{fixed_back, vbr_back}
 use Rattle.bit_stream.specs.declared.entry.Entry.TheVariants.{Record}
 use Rattle.bit_stream.specs.declared.abbreviation.ValueSpelling.{ValueSpelling}
 use Rattle.bit_stream.specs.declared.abbreviation.ValueSpelling.TheVariants.{Known, Field, Chunks, Letter}
+use Rattle.bit_stream.specs.declared.item.TheConstants.{ID_LIMIT}
 use Rattle.bit_stream.specs.Scope.{Scope, abbreviation_of}
 use Rattle.bit_stream.specs.declared.abbreviation.Tail.{Tail}
 use Rattle.bit_stream.specs.declared.abbreviation.Tail.TheVariants.{NoTail, Elements, Bytes}
@@ -98,9 +99,9 @@ value_reads (Chunks w) n sound fit small at rest = vbr_reads w n (leb-true 2 w s
 value_reads Letter n sound fit small at rest =
     rw (fixed_reads 6 (letter_number n) (letter_back n fit).1 at rest, (letter_back n fit).0) refl
 
-code_reads : (s : ValueSpelling) (n : ℕ) → is_sound s ≡ true → fits s n ≡ true → n < 2 ^ 32 → ReadsAs (code_by s) (value_bits s n) n
+code_reads : (s : ValueSpelling) (n : ℕ) → is_sound s ≡ true → fits s n ≡ true → n < ID_LIMIT → ReadsAs (code_by s) (value_bits s n) n
 unfolding code_by
-code_reads s n sound fit small at rest = rw (value_reads s n sound fit (omega arith) at rest, lt-leb (2 ^ 32) n small) refl
+code_reads s n sound fit small at rest = rw (value_reads s n sound fit (omega arith) at rest, lt-leb ID_LIMIT n small) refl
 
 operand_reads : (s : ValueSpelling) (n : ℕ) (front : List ℕ) → is_sound s ≡ true → fits s n ≡ true → n < 2 ^ 64 → ReadsAs (operand false front s) (value_bits s n) (front ++ n ∷ [])
 unfolding operand
@@ -123,11 +124,11 @@ any_fit : (w : ℕ) (ns : List ℕ) → all_fit (Chunks w) ns ≡ true
 any_fit w [] = refl
 any_fit w (n ∷ ns) = any_fit w ns
 
-code_reads_chunks : (code : ℕ) → code < 2 ^ 32 → ReadsAs (code_by (Chunks 6)) (chunks 6 code) code
+code_reads_chunks : (code : ℕ) → code < ID_LIMIT → ReadsAs (code_by (Chunks 6)) (chunks 6 code) code
 unfolding value_bits
 code_reads_chunks code small = code_reads (Chunks 6) code refl refl small
 
-unabbreviated_reads : (code : ℕ) (ns : List ℕ) → code < 2 ^ 32 → AreOperands ns → ReadsAs (unabbreviated false) (record_bits code ns) (record { code = code; operands = ns; blob = [] })
+unabbreviated_reads : (code : ℕ) (ns : List ℕ) → code < ID_LIMIT → AreOperands ns → ReadsAs (unabbreviated false) (record_bits code ns) (record { code = code; operands = ns; blob = [] })
 unfolding unabbreviated record_bits
 unabbreviated_reads code ns small operands at rest =
     let place : at + length (chunks 6 code) + length (chunks 6 (length ns) ++ all_bits (Chunks 6) ns) ≡ at + length (chunks 6 code ++ chunks 6 (length ns) ++ all_bits (Chunks 6) ns)
@@ -207,7 +208,7 @@ tail_reads NoTail ns front sound fit operands at rest =
 tail_reads (Elements s) ns front sound fit operands at rest = rw (counted_reads s ns front sound fit operands at rest) refl
 tail_reads Bytes ns front sound fit operands at rest = absurd (cc)
 
-abbreviated_reads : (t : AdmittedAbbreviation) (code : ℕ) (ns : List ℕ) → IsSound t → record_fits (Some t) code ns ≡ true → code < 2 ^ 32 → AreOperands ns
+abbreviated_reads : (t : AdmittedAbbreviation) (code : ℕ) (ns : List ℕ) → IsSound t → record_fits (Some t) code ns ≡ true → code < ID_LIMIT → AreOperands ns
     → ReadsAs (abbreviated false t) (value_bits t.code code ++ (each_bits t.operands (take (length t.operands) ns) ++ tail_bits t.tail (drop (length t.operands) ns))) (record { code = code; operands = ns; blob = [] })
 unfolding abbreviated record_fits
 abbreviated_reads t code ns sound fit small operands at rest =

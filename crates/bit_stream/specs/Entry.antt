@@ -1,12 +1,12 @@
 -- For `next_entry` of `BitReader`: an entry of a stream (LLVM Bitcode File Format, "Abbreviation IDs" and "Blocks").
-use Rattle.std.specs.Prelude.{◌≡◌, ℕ, ◌+◌, ◌-◌, ◌/◌, ◌^◌, Bool, false, List, [], ◌∷◌, ◌++◌, length, take, Option, Some, None, Result, Ok, Err, if◌then◌else◌, ◌==◌, ◌&&◌, ◌||◌, nat_lt, nat_le, slice_index_or}
+use Rattle.std.specs.Prelude.{◌≡◌, ℕ, ◌+◌, ◌-◌, ◌/◌, Bool, false, List, [], ◌∷◌, ◌++◌, length, take, Option, Some, None, Result, Ok, Err, if◌then◌else◌, ◌==◌, ◌&&◌, ◌||◌, nat_lt, nat_le, slice_index_or}
 use Rattle.bits.specs.Cursor.{Cursor, Found, ◌>>=◌}
 use Rattle.bits.specs.Reading.{fixed, vbr, align}
 use Rattle.bits.specs.declared.fault.BitFault.{BitFault}
 use Rattle.bits.specs.declared.fault.BitFaultKind.TheVariants.{BadAbbreviation, BadBlockLength, NestedTooDeep}
 use Rattle.bit_stream.specs.declared.entry.Entry.{Entry}
 use Rattle.bit_stream.specs.declared.entry.Entry.TheVariants.{Block, EndBlock, Record, End}
-use Rattle.bit_stream.specs.declared.item.TheConstants.{MAX_OPEN}
+use Rattle.bit_stream.specs.declared.item.TheConstants.{ID_LIMIT, MAX_OPEN}
 use Rattle.bit_stream.specs.declared.abbreviation.AbbrevOp.{AbbrevOp}
 use Rattle.bit_stream.specs.Abbreviation.{AdmittedAbbreviation, ops_of, ends_in_blob}
 use Rattle.bit_stream.specs.Answers.{refuse}
@@ -75,10 +75,10 @@ enter_sized s id width c = align c >>= λ _ d. fixed 32 d >>= λ words e. Ok (pl
 abbrev pub enter_wide : Scope → ℕ → ℕ → ℕ → Cursor → Found StreamItem
 enter_wide s id bit width c = if nat_lt width 2 || nat_lt 32 width then refuse bit else enter_sized s id width c
 
--- a block id, which stands at this bit, is below 2 ^ 32, and no more blocks are open at once than may be
+-- a block id, which stands at this bit, is below its limit, and no more blocks are open at once than may be
 abbrev pub enter_named : Scope → ℕ → ℕ → Cursor → Found StreamItem
 enter_named s bit id c =
-    if nat_le (2 ^ 32) id then refuse bit
+    if nat_le ID_LIMIT id then refuse bit
     else (if length s.around == MAX_OPEN then Err (record { kind = NestedTooDeep; bit = bit })
     else (vbr 4 c >>= λ width d. enter_wide s id c.at width d))
 

@@ -8,6 +8,7 @@ use Rattle.bit_stream.specs.declared.abbreviation.ValueSpelling.{ValueSpelling}
 use Rattle.bit_stream.specs.declared.abbreviation.ValueSpelling.TheVariants.{Known, Field, Chunks, Letter}
 use Rattle.bit_stream.specs.declared.abbreviation.Tail.{Tail}
 use Rattle.bit_stream.specs.declared.abbreviation.Tail.TheVariants.{NoTail, Elements, Bytes}
+use Rattle.bit_stream.specs.declared.item.TheConstants.{ID_LIMIT}
 use Rattle.bit_stream.specs.Abbreviation.{AdmittedAbbreviation}
 use Rattle.bit_stream.specs.Scope.{Scope, abbreviation_of}
 use Rattle.bit_stream.specs.Entry.{StreamItem, item, is_top, is_blockinfo}
@@ -34,7 +35,7 @@ record_item s code ns = record { entry = Some (Record code); scope = s; operands
 
 -- a record without an abbreviation
 abbrev pub RecordIsReadBack : Type 0
-RecordIsReadBack = (s : Scope) (code : ℕ) (ns : List ℕ) → IsInBlock s → code < 2 ^ 32 → AreOperands ns
+RecordIsReadBack = (s : Scope) (code : ℕ) (ns : List ℕ) → IsInBlock s → code < ID_LIMIT → AreOperands ns
     → ReadsAs (item s) (bits_of s.block.width 3 ++ record_bits code ns) (record_item s code ns)
 
 -- chunks have at least two bits, as in every abbreviation that the format admits
@@ -60,5 +61,5 @@ pub record IsSound (t : AdmittedAbbreviation) : Type 0 where
 abbrev pub AbbreviatedIsReadBack : Type 0
 AbbreviatedIsReadBack = (s : Scope) (id : ℕ) (t : AdmittedAbbreviation) (code : ℕ) (ns : List ℕ) → IsInBlock s
     → 4 ≤ id → id < 2 ^ s.block.width → abbreviation_of s id ≡ Some t → IsSound t
-    → record_fits (Some t) code ns ≡ true → code < 2 ^ 32 → AreOperands ns
+    → record_fits (Some t) code ns ≡ true → code < ID_LIMIT → AreOperands ns
     → ReadsAs (item s) (with_record (Some t) code ns (bits_of s.block.width id)) (record_item s code ns)

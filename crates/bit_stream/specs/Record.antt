@@ -1,6 +1,6 @@
 -- For `value_by`, `code_by` and `next_entry` of `BitReader`: the values of a record (LLVM Bitcode File Format, "Data
 -- Records").
-use Rattle.std.specs.Prelude.{ℕ, zero, suc, ◌^◌, Bool, List, [], ◌∷◌, ◌++◌, length, Ok, if◌then◌else◌, ◌==◌, ◌&&◌, nat_le, slice_index}
+use Rattle.std.specs.Prelude.{ℕ, zero, suc, Bool, List, [], ◌∷◌, ◌++◌, length, Ok, if◌then◌else◌, ◌==◌, ◌&&◌, nat_le, slice_index}
 use Rattle.std.specs.Prelude.{codes}
 use Rattle.bits.specs.Cursor.{Cursor, Found, ◌>>=◌}
 use Rattle.bits.specs.Reading.{fixed, vbr, blob}
@@ -8,6 +8,7 @@ use Rattle.bit_stream.specs.declared.abbreviation.ValueSpelling.{ValueSpelling}
 use Rattle.bit_stream.specs.declared.abbreviation.ValueSpelling.TheVariants.{Known, Field, Chunks, Letter}
 use Rattle.bit_stream.specs.declared.abbreviation.Tail.{Tail}
 use Rattle.bit_stream.specs.declared.abbreviation.Tail.TheVariants.{NoTail, Elements, Bytes}
+use Rattle.bit_stream.specs.declared.item.TheConstants.{ID_LIMIT}
 use Rattle.bit_stream.specs.Abbreviation.{AdmittedAbbreviation}
 use Rattle.bit_stream.specs.Answers.{refuse}
 
@@ -22,14 +23,14 @@ value_by (Field width) c = fixed width c
 value_by (Chunks width) c = vbr width c
 value_by Letter c = fixed 6 c >>= λ number d. Ok (slice_index letters number, d)
 
--- the code, which is below 2 ^ 32
+-- the code, which is below the limit of ids
 unfoldable pub code_by : ValueSpelling → Cursor → Found ℕ
-code_by s c = value_by s c >>= λ number d. if nat_le (2 ^ 32) number then refuse c.at else Ok (number, d)
+code_by s c = value_by s c >>= λ number d. if nat_le ID_LIMIT number then refuse c.at else Ok (number, d)
 
--- One more operand, behind those in front. Where the record names a block by its first operand, that is below 2 ^ 32.
+-- One more operand, behind those in front. Where the record names a block by its first operand, that is below the limit of ids.
 unfoldable pub operand : Bool → List ℕ → ValueSpelling → Cursor → Found (List ℕ)
 operand names_block front s c = value_by s c >>= λ number d.
-    if names_block && (length front == 0) && nat_le (2 ^ 32) number then refuse c.at else Ok (front ++ number ∷ [], d)
+    if names_block && (length front == 0) && nat_le ID_LIMIT number then refuse c.at else Ok (front ++ number ∷ [], d)
 
 -- so many operands of one spelling, behind those in front
 unfoldable pub elements : Bool → ValueSpelling → ℕ → List ℕ → Cursor → Found (List ℕ)

@@ -1,5 +1,5 @@
 //! What stands at a place of a stream: an entry or a definition.
-ghost use Rattle.std.specs.Prelude.{◌≡◌, ℕ, ◌<◌, ◌≤◌, ◌^◌, ◌++◌, ◌∷◌, [], length, Some, None, Ok, IfOk};
+ghost use Rattle.std.specs.Prelude.{◌≡◌, ℕ, ◌<◌, ◌≤◌, ◌++◌, ◌∷◌, [], length, Some, None, Ok, IfOk};
 ghost use Rattle.bit_stream.specs.Answers.{Ran};
 ghost use Rattle.bit_stream.specs.Scope.{abbreviation_of};
 ghost use Rattle.bit_stream.specs.Record.{ReadRecord};
@@ -20,6 +20,9 @@ use std::alloc::Global;
 
 /// How many blocks may be open at once.
 pub const MAX_OPEN: usize = 16;
+
+/// The ids of blocks and of abbreviations, and the codes of records, are below this.
+pub const ID_LIMIT: u64 = 1 << 32;
 
 /// What stands at a place: an entry, or none where it is a definition; and of a record its abbreviation id, its blob, and
 /// whether it ended in one.
@@ -53,7 +56,7 @@ fn enter_block(cursor: &mut BitCursor, scope: &mut Scope) -> Result<u32, StreamF
 {
     let id_bit = cursor.at();
     let id = cursor.vbr(8)?;
-    if id >= 1 << 32 {
+    if id >= ID_LIMIT {
         return Err(bad_abbreviation(id_bit).into());
     }
     if scope.depth() == MAX_OPEN {
@@ -195,7 +198,7 @@ fn inside<'b>(
     id: u64,
     bit: u64,
 ) -> Result<StreamItem<'b>, StreamFault>
-    requires small { id < 2 ^ 32 }
+    requires small { id < ID_LIMIT }
     requires none { operands.old.items ≡ [] }
     ensures read { Ran (λ item. record { entry = item.entry; scope = scope.new; operands = operands.new.items; blob = item.blob.now }) cursor.new result (inside id bit scope.old cursor.old) }
     ensures told { IfOk result (λ item. IsRecordBy item.entry item.id item.has_blob scope.old id) }

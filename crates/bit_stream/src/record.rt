@@ -9,6 +9,7 @@ ghost use Rattle.bit_stream.specs.declared.abbreviation.ValueSpelling.TheVariant
 use crate::StreamFault;
 use crate::abbreviation::{AdmittedAbbreviation, ChunkWidth, Tail, ValueSpelling};
 use crate::fault::bad_abbreviation;
+use crate::item::ID_LIMIT;
 use bits::{BitCursor, BitFault};
 
 /// The 64 characters of names, in the order of their numbers.
@@ -56,7 +57,7 @@ pub fn code_by(cursor: &mut BitCursor, scalar: ValueSpelling) -> Result<u32, Bit
 {
     let bit = cursor.at();
     let number = value_by(cursor, scalar)?;
-    if number >= 1 << 32 {
+    if number >= ID_LIMIT {
         return Err(bad_abbreviation(bit));
     }
     Ok(number as u32)
@@ -74,7 +75,7 @@ fn add_operand(
 {
     let bit = cursor.at();
     let number = value_by(cursor, scalar)?;
-    if names_block && operands.is_empty() && number >= 1 << 32 {
+    if names_block && operands.is_empty() && number >= ID_LIMIT {
         return Err(bad_abbreviation(bit).into());
     }
     operands.push(number)?;

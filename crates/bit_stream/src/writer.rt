@@ -2,6 +2,7 @@
 ghost use Rattle.std.specs.Prelude.{◌≡◌, ℕ, ◌+◌, ◌-◌, ◌<◌, ◌≤◌, ◌^◌, ◌++◌, ◌≢◌, true, false, length, [], IfOk, OnOk, IsSome, Some, List};
 ghost use Rattle.bits.specs.Bits.{bits_of, stream_bits};
 ghost use Rattle.bits.specs.Writing.{vbr_bits, byte_pad};
+ghost use Rattle.bit_stream.specs.declared.item.TheConstants.{ID_LIMIT};
 ghost use Rattle.bit_stream.specs.Scope.{abbreviation_of};
 ghost use Rattle.bit_stream.specs.Spelling.{abbreviation_for, record_fits};
 ghost use Rattle.bit_stream.specs.Writer.{begun, write, enter, end_block, define, in_force, with_abbreviation, after_record, abbreviated as with_abbreviated, put_record, Writes};
@@ -140,7 +141,7 @@ impl BitWriter {
     pub fn define_abbreviation(&mut self, abbreviation: &Abbreviation) -> Result<u32, AllocError>
         requires open { self.old.spent ≡ false → 0 < length self.old.around }
         requires admitted { IsSome (abbreviation_for abbreviation.now) }
-        requires room { self.old.spent ≡ false → in_force self.old.scope + 4 < 2 ^ 32 }
+        requires room { self.old.spent ≡ false → in_force self.old.scope + 4 < ID_LIMIT }
         ensures id { IfOk result (λ id. id ≡ in_force self.old.scope + 4) }
         ensures written { Writes self.old.spent self.old (define self.old abbreviation.now) result self.new }
     {

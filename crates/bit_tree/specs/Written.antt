@@ -8,7 +8,7 @@ use Rattle.bit_stream.specs.declared.abbreviation.AbbrevOp.{AbbrevOp}
 use Rattle.bit_stream.specs.declared.abbreviation.AbbrevOp.TheVariants.{Literal, Fixed, Vbr, Array, Char6, Blob}
 use Rattle.bit_stream.specs.declared.abbreviation.Tail.{Tail}
 use Rattle.bit_stream.specs.declared.abbreviation.Tail.TheVariants.{NoTail, Elements, Bytes}
-use Rattle.bit_stream.specs.declared.item.TheConstants.{MAX_OPEN}
+use Rattle.bit_stream.specs.declared.item.TheConstants.{ID_LIMIT, MAX_OPEN}
 use Rattle.bit_stream.specs.Abbreviation.{AdmittedAbbreviation, is_blob}
 use Rattle.bit_stream.specs.Scope.{abbreviation_of}
 use Rattle.bit_stream.specs.Record.{names_block}
@@ -80,7 +80,7 @@ tree_of w (a_short_record id code ns behind) = with_values id (abbreviation_of w
 
 -- a block: no more are open at once than may be, and none is inside BLOCKINFO
 pub record MayEnter (w : Writer) (id width : ℕ) : Type 0 where
-  pub id_small : id < 2 ^ 32
+  pub id_small : id < ID_LIMIT
   pub low : 2 ≤ width
   pub high : width ≤ 32
   pub shallow : length w.scope.around < MAX_OPEN
@@ -109,12 +109,12 @@ pub record MayDefine (w : Writer) (ops : List AbbrevOp) : Type 0 where
 -- an id of a block is first
 abbrev pub NamesFirst : List ℕ → Type 0
 NamesFirst [] = ⊥
-NamesFirst (id ∷ others) = id < 2 ^ 32
+NamesFirst (id ∷ others) = id < ID_LIMIT
 
 -- a record: one of code 1 in BLOCKINFO names a block
 pub record MayPut (w : Writer) (code : ℕ) (ns operands : List ℕ) : Type 0 where
   pub inside : is_top w.scope ≡ false
-  pub code_small : code < 2 ^ 32
+  pub code_small : code < ID_LIMIT
   pub numbers : AreOperands ns
   pub names : names_block (is_blockinfo w.scope) code ≡ true → NamesFirst operands
 

@@ -1,5 +1,5 @@
 -- Says how the code reads: an entry that is passed over, of whose operands the first alone is kept.
-use Rattle.std.specs.Prelude.{◌≡◌, ℕ, zero, suc, ◌^◌, ◌≤◌, Bool, true, false, List, [], ◌∷◌, length, Option, Some, None, Result, Ok, Err, if◌then◌else◌, ◌==◌, ◌&&◌, nat_le}
+use Rattle.std.specs.Prelude.{◌≡◌, ℕ, zero, suc, ◌≤◌, Bool, true, false, List, [], ◌∷◌, length, Option, Some, None, Result, Ok, Err, if◌then◌else◌, ◌==◌, ◌&&◌, nat_le}
 use Rattle.bits.specs.Cursor.{Cursor, Found, ◌>>=◌}
 use Rattle.bits.specs.Reading.{fixed, vbr, blob}
 use Rattle.bits.specs.declared.fault.BitFault.{BitFault}
@@ -10,6 +10,7 @@ use Rattle.bit_stream.specs.declared.abbreviation.ValueSpelling.{ValueSpelling}
 use Rattle.bit_stream.specs.declared.abbreviation.ValueSpelling.TheVariants.{Chunks}
 use Rattle.bit_stream.specs.declared.abbreviation.Tail.{Tail}
 use Rattle.bit_stream.specs.declared.abbreviation.Tail.TheVariants.{NoTail, Elements, Bytes}
+use Rattle.bit_stream.specs.declared.item.TheConstants.{ID_LIMIT}
 use Rattle.bit_stream.specs.Abbreviation.{AdmittedAbbreviation}
 use Rattle.bit_stream.specs.Answers.{refuse}
 use Rattle.bit_stream.specs.Record.{value_by, code_by, names_block}
@@ -34,7 +35,7 @@ is_none (Some first) = false
 -- one more operand
 unfoldable pub pass_operand : Bool → Option ℕ → ValueSpelling → Cursor → Found (Option ℕ)
 pass_operand names first s c = value_by s c >>= λ number d.
-    if names && is_none first && nat_le (2 ^ 32) number then refuse c.at else Ok (with_first first number, d)
+    if names && is_none first && nat_le ID_LIMIT number then refuse c.at else Ok (with_first first number, d)
 
 -- so many operands of one spelling
 unfoldable pub pass_elements : Bool → ValueSpelling → ℕ → Option ℕ → Cursor → Found (Option ℕ)

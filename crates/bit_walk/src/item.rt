@@ -13,7 +13,7 @@ use crate::plain::{PlainPassed, plain_passed};
 use crate::scope::WalkScope;
 use crate::starts::Kept;
 use bit_stream::{
-    ChunkWidth, Entry, MAX_OPEN, StreamFault, bad_abbreviation, bad_block_length,
+    ChunkWidth, Entry, ID_LIMIT, MAX_OPEN, StreamFault, bad_abbreviation, bad_block_length,
     defined_abbreviation, nested_too_deep,
 };
 use bits::{BitCursor, BitFault};
@@ -45,7 +45,7 @@ fn enter_block(cursor: &mut BitCursor, scope: &mut WalkScope) -> Result<u32, Str
 {
     let id_bit = cursor.at();
     let id = cursor.vbr(8)?;
-    if id >= 1 << 32 {
+    if id >= ID_LIMIT {
         return Err(bad_abbreviation(id_bit).into());
     }
     if scope.depth() == MAX_OPEN {

@@ -7,7 +7,7 @@ ghost use Rattle.bit_stream.specs.declared.abbreviation.ValueSpelling.TheVariant
 
 use crate::spelling::WalkedSpelling;
 use crate::values::plain_spelling;
-use bit_stream::{ChunkWidth, Tail, ValueSpelling, bad_abbreviation, code_by, value_by};
+use bit_stream::{ChunkWidth, ID_LIMIT, Tail, ValueSpelling, bad_abbreviation, code_by, value_by};
 use bits::{BitCursor, BitFault};
 
 /// A record, but for its operands behind the first.
@@ -58,7 +58,7 @@ fn pass_operand(
 {
     let bit = cursor.at();
     let number = value_by(cursor, scalar)?;
-    if names_block && is_none(first) && number >= 1 << 32 {
+    if names_block && is_none(first) && number >= ID_LIMIT {
         return Err(bad_abbreviation(bit));
     }
     Ok(with_first(first, number))

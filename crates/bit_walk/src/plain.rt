@@ -11,7 +11,7 @@ ghost use Rattle.bit_walk.specs.Values.{repeated, IsRead};
 
 use crate::passing::pass_plain;
 use crate::scope::WalkScope;
-use bit_stream::{ChunkWidth, bad_abbreviation};
+use bit_stream::{ChunkWidth, ID_LIMIT, bad_abbreviation};
 use bits::{BitCursor, BitFault};
 
 /// The code of a record without an abbreviation, and how many operands it has.
@@ -36,7 +36,7 @@ fn plain_code(cursor: &mut BitCursor) -> Result<u32, BitFault>
 {
     let bit = cursor.at();
     let number = cursor.vbr(6)?;
-    if number >= 1 << 32 {
+    if number >= ID_LIMIT {
         return Err(bad_abbreviation(bit));
     }
     Ok(number as u32)

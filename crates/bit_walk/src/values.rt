@@ -1,10 +1,11 @@
 //! The operands of a record that was judged, one after another.
-ghost use Rattle.std.specs.Prelude.{◌≡◌, ℕ, ◌<◌, ◌^◌, Some, Ok, [], List};
+ghost use Rattle.std.specs.Prelude.{◌≡◌, ℕ, ◌<◌, Some, Ok, [], List};
 ghost use Rattle.bits.specs.Cursor.{Cursor};
 ghost use Rattle.bits.specs.Reading.{fixed, vbr};
 ghost use Rattle.bit_stream.specs.Record.{value_by, code_by};
 ghost use Rattle.bit_stream.specs.Entry.{number_of};
 ghost use Rattle.bit_stream.specs.declared.abbreviation.ValueSpelling.TheVariants.{Chunks};
+ghost use Rattle.bit_stream.specs.declared.item.TheConstants.{ID_LIMIT};
 ghost use Rattle.bit_walk.specs.declared.values.OperandStage.TheVariants.{Fields};
 ghost use Rattle.bit_walk.specs.Values.{repeated, listed, left_by, operands_at, Leaves, IsRead, Gave};
 
@@ -145,7 +146,7 @@ pub struct Start {
 fn field(cursor: &mut BitCursor, width: ChunkWidth) -> u64
     requires { (n : ℕ) × (d : Cursor) × (fixed width cursor.old ≡ Ok (n, d)) }
     ensures read { fixed width cursor.old ≡ Ok (result, cursor.new) }
-    ensures small { result < 2 ^ 32 }
+    ensures small { result < ID_LIMIT }
 {
     match cursor.fixed(width.bits()) {
         Ok(number) => number,

@@ -4,6 +4,7 @@ use Rattle.std.specs.Prelude.{◌≡◌, ℕ, zero, suc, ◌+◌, ◌<◌, ◌�
 use Rattle.std.specs.List.{AllByRecursion}
 use Rattle.bit_stream.specs.declared.abbreviation.AbbrevOp.{AbbrevOp}
 use Rattle.bit_stream.specs.declared.abbreviation.AbbrevOp.TheVariants.{Fixed, Vbr, Array}
+use Rattle.bit_stream.specs.declared.item.TheConstants.{ID_LIMIT}
 use Rattle.bit_tree.specs.Written.{Written, no_more, a_block, a_definition, a_record, a_short_record}
 
 -- numbers of 64 bits, unless they are more than 64 bits count
@@ -12,12 +13,12 @@ AreSmall ns = length ns < 2 ^ 64 → AllByRecursion (λ n. n < 2 ^ 64) ns
 
 -- a record
 pub record MayRecord (code : ℕ) (ns : List ℕ) : Type 0 where
-  pub code_small : code < 2 ^ 32
+  pub code_small : code < ID_LIMIT
   pub numbers : AreSmall ns
 
 -- a block that is no BLOCKINFO
 pub record MayBlock (id width : ℕ) : Type 0 where
-  pub id_small : id < 2 ^ 32
+  pub id_small : id < ID_LIMIT
   pub ordinary : (id == 0) ≡ false
   pub low : 2 ≤ width
   pub high : width ≤ 32
