@@ -2,6 +2,7 @@
 use Rattle.std.specs.Prelude.{ℕ, zero, suc, ◌-◌, List, [], ◌∷◌, ◌++◌, Ok, if◌then◌else◌, ◌==◌, ◌||◌, nat_lt}
 use Rattle.bits.specs.Cursor.{Cursor, Found, ◌>>=◌}
 use Rattle.bits.specs.Reading.{fixed, vbr}
+use Rattle.bit_stream.specs.declared.abbreviation.TheConstants.{MOST_OPERANDS, WIDEST_CHUNK, WIDEST_FIELD}
 use Rattle.bit_stream.specs.declared.abbreviation.ValueSpelling.{ValueSpelling}
 use Rattle.bit_stream.specs.declared.abbreviation.ValueSpelling.TheVariants.{Known, Field, Chunks, Letter}
 use Rattle.bit_stream.specs.declared.abbreviation.Tail.{Tail}
@@ -13,17 +14,17 @@ use Rattle.bit_stream.specs.declared.definition.DefinitionPart.TheVariants.{Valu
 use Rattle.bit_stream.specs.Abbreviation.{AdmittedAbbreviation}
 use Rattle.bit_stream.specs.Answers.{refuse}
 
--- the width of a field: 0 stands for the literal 0, and one over 64 is refused
+-- the width of a field: 0 stands for the literal 0, and one over the widest is refused
 unfoldable pub field_width : Cursor → Found ValueSpelling
 field_width c = vbr 5 c >>= λ width d.
     if width == 0 then Ok (Known 0, d)
-    else (if nat_lt 64 width then refuse c.at else Ok (Field width, d))
+    else (if nat_lt WIDEST_FIELD width then refuse c.at else Ok (Field width, d))
 
--- the width of chunks: 0 stands for the literal 0, and 1 or one over 32 is refused
+-- the width of chunks: 0 stands for the literal 0, and 1 or one over the widest is refused
 unfoldable pub chunk_width : Cursor → Found ValueSpelling
 chunk_width c = vbr 5 c >>= λ width d.
     if width == 0 then Ok (Known 0, d)
-    else (if width == 1 || nat_lt 32 width then refuse c.at else Ok (Chunks width, d))
+    else (if width == 1 || nat_lt WIDEST_CHUNK width then refuse c.at else Ok (Chunks width, d))
 
 -- an encoding is one of the numbers from 1 to 5; it stands at this bit
 abbrev pub encoding_of : ℕ → ℕ → Cursor → Found Encoding
@@ -93,8 +94,8 @@ parts zero front c = Ok ((front, NoTail), c)
 parts (suc n) front c = part (suc n) c >>= λ p d.
     by_part p (λ s. parts n (front ++ s ∷ []) d) (λ t. Ok ((front, t), d))
 
--- the whole definition: from 1 to 64 operands
+-- the whole definition: at least one operand, and no more than there may be
 unfoldable pub defined_abbreviation : Cursor → Found AdmittedAbbreviation
 defined_abbreviation c = vbr 5 c >>= λ count d.
-    if count == 0 || nat_lt 64 count then refuse c.at
+    if count == 0 || nat_lt MOST_OPERANDS count then refuse c.at
     else (first_operand d >>= λ code e. parts (count - 1) [] e >>= λ rest f. Ok (record { code = code; operands = rest.0; tail = rest.1 }, f))

@@ -7,6 +7,7 @@ use Rattle.bits.specs.declared.fault.BitFaultKind.TheVariants.{BadAbbreviation, 
 use Rattle.bit_stream.specs.declared.entry.Entry.{Entry}
 use Rattle.bit_stream.specs.declared.entry.Entry.TheVariants.{Block, EndBlock, Record, End}
 use Rattle.bit_stream.specs.declared.item.TheConstants.{ID_LIMIT, MAX_OPEN}
+use Rattle.bit_stream.specs.declared.abbreviation.TheConstants.{WIDEST_CHUNK}
 use Rattle.bit_stream.specs.declared.abbreviation.AbbrevOp.{AbbrevOp}
 use Rattle.bit_stream.specs.Abbreviation.{AdmittedAbbreviation, ops_of, ends_in_blob}
 use Rattle.bit_stream.specs.Answers.{refuse}
@@ -71,9 +72,9 @@ targeting s id = record s { block = record s.block { target = Some id } }
 abbrev pub enter_sized : Scope → ℕ → ℕ → Cursor → Found StreamItem
 enter_sized s id width c = align c >>= λ _ d. fixed 32 d >>= λ words e. Ok (plain (Some (Block id)) (entered s id width d.at words), e)
 
--- a width, which stands at this bit, is from 2 to 32
+-- a width, which stands at this bit, is at least 2, and no more than the widest
 abbrev pub enter_wide : Scope → ℕ → ℕ → ℕ → Cursor → Found StreamItem
-enter_wide s id bit width c = if nat_lt width 2 || nat_lt 32 width then refuse bit else enter_sized s id width c
+enter_wide s id bit width c = if nat_lt width 2 || nat_lt WIDEST_CHUNK width then refuse bit else enter_sized s id width c
 
 -- a block id, which stands at this bit, is below its limit, and no more blocks are open at once than may be
 abbrev pub enter_named : Scope → ℕ → ℕ → Cursor → Found StreamItem

@@ -4,6 +4,7 @@ use Rattle.std.specs.Prelude.{ℕ, suc, ◌+◌, ◌-◌, ◌^◌, Bool, true, f
 use Rattle.std.specs.List.{flat_map, list_all}
 use Rattle.bits.specs.Bits.{bits_of}
 use Rattle.bits.specs.Writing.{vbr_bits, pad_bits}
+use Rattle.bit_stream.specs.declared.abbreviation.TheConstants.{MOST_OPERANDS, WIDEST_CHUNK, WIDEST_FIELD}
 use Rattle.bit_stream.specs.declared.abbreviation.AbbrevOp.{AbbrevOp}
 use Rattle.bit_stream.specs.declared.abbreviation.AbbrevOp.TheVariants.{Literal, Fixed, Vbr, Array, Char6, Blob}
 use Rattle.bit_stream.specs.declared.abbreviation.ValueSpelling.{ValueSpelling}
@@ -32,8 +33,8 @@ definition_bits ops = chunks 5 (length ops) ++ flat_map operand_bits ops
 -- one value of an abbreviation; a width of 0 stands for the literal 0
 abbrev pub scalar_of : AbbrevOp → Option ValueSpelling
 scalar_of (Literal n) = Some (Known n)
-scalar_of (Fixed w) = if w == 0 then Some (Known 0) else (if nat_lt 64 w then None else Some (Field w))
-scalar_of (Vbr w) = if w == 0 then Some (Known 0) else (if w == 1 || nat_lt 32 w then None else Some (Chunks w))
+scalar_of (Fixed w) = if w == 0 then Some (Known 0) else (if nat_lt WIDEST_FIELD w then None else Some (Field w))
+scalar_of (Vbr w) = if w == 0 then Some (Known 0) else (if w == 1 || nat_lt WIDEST_CHUNK w then None else Some (Chunks w))
 scalar_of Array = None
 scalar_of Char6 = Some Letter
 scalar_of Blob = None
@@ -61,7 +62,7 @@ rest_of front (op ∷ ops) = with_scalar (scalar_of op) (λ s. rest_of (front ++
 -- the abbreviation that these operands define, where the format admits them
 unfoldable pub abbreviation_for : List AbbrevOp → Option AdmittedAbbreviation
 abbreviation_for [] = None
-abbreviation_for (op ∷ ops) = if nat_lt 64 (suc (length ops)) then None
+abbreviation_for (op ∷ ops) = if nat_lt MOST_OPERANDS (suc (length ops)) then None
     else with_scalar (scalar_of op) (λ code. option_map (λ rest. record { code = code; operands = rest.0; tail = rest.1 }) (rest_of [] ops))
 
 -- one of the 64 characters, and its number

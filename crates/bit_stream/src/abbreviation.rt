@@ -6,6 +6,15 @@ use ir_base::ItemList;
 use std::alloc::{AllocError, Global};
 use std::marker::Model;
 
+/// The widest field of a value, in bits.
+pub const WIDEST_FIELD: u32 = 64;
+
+/// The widest chunk of a number, and the widest abbreviation id of a block, in bits.
+pub const WIDEST_CHUNK: u32 = 32;
+
+/// The most operands of an abbreviation, that of the code among them.
+pub const MOST_OPERANDS: usize = 64;
+
 /// An operand of an abbreviation, as it is defined. Widths are in bits.
 ///
 /// ```
@@ -42,19 +51,20 @@ pub struct FieldWidth {
 
 impl Model for FieldWidth {
     ghost use Rattle.std.specs.Prelude.{ℕ, ◌≤◌};
+    ghost use Rattle.bit_stream.specs.declared.abbreviation.TheConstants.{WIDEST_FIELD};
 
     ghost Value = { ℕ };
 
     ghost view = { λ width. width.bits };
 
-    ghost invariant = { λ width. width.bits ≤ 64 };
+    ghost invariant = { λ width. width.bits ≤ WIDEST_FIELD };
 
     ghost inverse = { λ bits. record { bits = bits } };
 }
 
 impl FieldWidth {
     pub fn new(bits: u32) -> Self
-        requires { bits ≤ 64 }
+        requires { bits ≤ WIDEST_FIELD }
         ensures { result ≡ bits }
     {
         FieldWidth { bits }
@@ -62,7 +72,7 @@ impl FieldWidth {
 
     pub fn bits(self) -> u32
         ensures value { result ≡ self }
-        ensures high { result ≤ 64 }
+        ensures high { result ≤ WIDEST_FIELD }
     {
         self.bits
     }
@@ -76,12 +86,13 @@ pub struct ChunkWidth {
 
 impl Model for ChunkWidth {
     ghost use Rattle.std.specs.Prelude.{ℕ, ◌≤◌};
+    ghost use Rattle.bit_stream.specs.declared.abbreviation.TheConstants.{WIDEST_CHUNK};
 
     ghost Value = { ℕ };
 
     ghost view = { λ width. width.bits };
 
-    ghost invariant = { λ width. (2 ≤ width.bits) × (width.bits ≤ 32) };
+    ghost invariant = { λ width. (2 ≤ width.bits) × (width.bits ≤ WIDEST_CHUNK) };
 
     ghost inverse = { λ bits. record { bits = bits } };
 }
@@ -90,7 +101,7 @@ impl ChunkWidth {
     /// The width of so many bits.
     pub fn new(bits: u32) -> Self
         requires low { 2 ≤ bits }
-        requires high { bits ≤ 32 }
+        requires high { bits ≤ WIDEST_CHUNK }
         ensures { result ≡ bits }
     {
         ChunkWidth { bits }
@@ -100,7 +111,7 @@ impl ChunkWidth {
     pub fn bits(self) -> u32
         ensures value { result ≡ self }
         ensures low { 2 ≤ result }
-        ensures high { result ≤ 32 }
+        ensures high { result ≤ WIDEST_CHUNK }
     {
         self.bits
     }

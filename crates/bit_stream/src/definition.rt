@@ -5,7 +5,10 @@ ghost use Rattle.bit_stream.specs.Answers.{Ran};
 ghost use Rattle.bit_stream.specs.Definition.{field_width, chunk_width, encoding, scalar_by, literal, first_operand, element, part_by, part, parts, defined_abbreviation};
 
 use crate::StreamFault;
-use crate::abbreviation::{AdmittedAbbreviation, ChunkWidth, FieldWidth, Tail, ValueSpelling};
+use crate::abbreviation::{
+    AdmittedAbbreviation, ChunkWidth, FieldWidth, MOST_OPERANDS, Tail, ValueSpelling, WIDEST_CHUNK,
+    WIDEST_FIELD,
+};
 use crate::fault::bad_abbreviation;
 use bits::{BitCursor, BitFault};
 use std::alloc::Global;
@@ -42,7 +45,7 @@ fn field_width(cursor: &mut BitCursor) -> Result<ValueSpelling, BitFault>
     let width = cursor.vbr(5)?;
     if width == 0 {
         Ok(ValueSpelling::Known(0))
-    } else if width > 64 {
+    } else if width > u64::from(WIDEST_FIELD) {
         Err(bad_abbreviation(bit))
     } else {
         Ok(ValueSpelling::Field(FieldWidth::new(width as u32)))
@@ -57,7 +60,7 @@ fn chunk_width(cursor: &mut BitCursor) -> Result<ValueSpelling, BitFault>
     let width = cursor.vbr(5)?;
     if width == 0 {
         Ok(ValueSpelling::Known(0))
-    } else if width == 1 || width > 32 {
+    } else if width == 1 || width > u64::from(WIDEST_CHUNK) {
         Err(bad_abbreviation(bit))
     } else {
         Ok(ValueSpelling::Chunks(ChunkWidth::new(width as u32)))
@@ -198,7 +201,7 @@ pub fn defined_abbreviation(
 {
     let bit = cursor.at();
     let count = cursor.vbr(5)?;
-    if count == 0 || count > 64 {
+    if count == 0 || count > MOST_OPERANDS as u64 {
         return Err(bad_abbreviation(bit).into());
     }
     let code = first_operand(cursor)?;

@@ -9,7 +9,7 @@ ghost use Rattle.bit_stream.specs.Definition.{defined_abbreviation};
 ghost use Rattle.bit_stream.specs.declared.entry.Entry.TheVariants.{Block, EndBlock, Record};
 
 use crate::StreamFault;
-use crate::abbreviation::{AbbreviationList, AdmittedAbbreviation, ChunkWidth};
+use crate::abbreviation::{AbbreviationList, AdmittedAbbreviation, ChunkWidth, WIDEST_CHUNK};
 use crate::definition::defined_abbreviation;
 use crate::entry::Entry;
 use crate::fault::{bad_abbreviation, bad_block_length, nested_too_deep};
@@ -64,7 +64,7 @@ fn enter_block(cursor: &mut BitCursor, scope: &mut Scope) -> Result<u32, StreamF
     }
     let width_bit = cursor.at();
     let width = cursor.vbr(4)?;
-    if width < 2 || width > 32 {
+    if width < 2 || width > u64::from(WIDEST_CHUNK) {
         return Err(bad_abbreviation(width_bit).into());
     }
     cursor.align()?;

@@ -34,7 +34,8 @@ mod told;
 mod writer;
 
 pub use abbreviation::{
-    AbbrevOp, Abbreviation, AbbreviationList, AdmittedAbbreviation, ChunkWidth, Tail, ValueSpelling,
+    AbbrevOp, Abbreviation, AbbreviationList, AdmittedAbbreviation, ChunkWidth, MOST_OPERANDS,
+    Tail, ValueSpelling, WIDEST_CHUNK, WIDEST_FIELD,
 };
 pub use bits::{BitFault, BitFaultKind};
 pub use definition::defined_abbreviation;

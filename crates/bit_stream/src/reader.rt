@@ -3,6 +3,7 @@ ghost use Rattle.std.specs.Prelude.{◌≡◌, ℕ, ◌+◌, ◌<◌, ◌≤◌,
 ghost use Rattle.bits.specs.Reading.{fixed, vbr};
 ghost use Rattle.bit_stream.specs.Reader.{StreamReader, opened, Numbered, Entered, Reached, Stopped};
 ghost use Rattle.bit_stream.specs.Writer.{in_force};
+ghost use Rattle.bit_stream.specs.declared.abbreviation.TheConstants.{WIDEST_CHUNK, WIDEST_FIELD};
 ghost use Rattle.bit_stream.specs.declared.reader.TheConstants.{LARGEST_STREAM};
 ghost use Rattle.bit_stream.specs.declared.fault.StreamFault.TheVariants.{Memory};
 
@@ -77,7 +78,7 @@ impl<'b> BitReader<'b> {
     /// The number of `W` bits in front.
     pub fn fixed<const W: u32>(&mut self) -> Result<u64, BitFault>
         requires low { 1 ≤ W }
-        requires high { W ≤ 64 }
+        requires high { W ≤ WIDEST_FIELD }
         requires unspent { self.old.stopped ≢ Some Memory }
         ensures { Numbered self.old.stopped self.old (fixed W self.old.cursor) result self.new }
     {
@@ -87,7 +88,7 @@ impl<'b> BitReader<'b> {
     /// The number in chunks of `W` bits in front.
     pub fn vbr<const W: u32>(&mut self) -> Result<u64, BitFault>
         requires low { 2 ≤ W }
-        requires high { W ≤ 32 }
+        requires high { W ≤ WIDEST_CHUNK }
         requires unspent { self.old.stopped ≢ Some Memory }
         ensures { Numbered self.old.stopped self.old (vbr W self.old.cursor) result self.new }
     {
@@ -97,7 +98,7 @@ impl<'b> BitReader<'b> {
     /// The number of `width` bits in front.
     pub fn fixed_of(&mut self, width: u32) -> Result<u64, BitFault>
         requires low { 1 ≤ width }
-        requires high { width ≤ 64 }
+        requires high { width ≤ WIDEST_FIELD }
         requires unspent { self.old.stopped ≢ Some Memory }
         ensures { Numbered self.old.stopped self.old (fixed width self.old.cursor) result self.new }
     {
@@ -118,7 +119,7 @@ impl<'b> BitReader<'b> {
     /// The number in chunks of `width` bits in front.
     pub fn vbr_of(&mut self, width: u32) -> Result<u64, BitFault>
         requires low { 2 ≤ width }
-        requires high { width ≤ 32 }
+        requires high { width ≤ WIDEST_CHUNK }
         requires unspent { self.old.stopped ≢ Some Memory }
         ensures { Numbered self.old.stopped self.old (vbr width self.old.cursor) result self.new }
     {

@@ -5,7 +5,10 @@ ghost use Rattle.std.specs.List.{flat_map};
 ghost use Rattle.bit_stream.specs.Spelling.{chunks, operand_bits, definition_bits, scalar_of, element_scalar, rest_of, abbreviation_for, is_letter, letter_number, fits, value_bits, all_fit, all_bits, record_bits, each_fit, each_bits, tail_fits, with_tail, record_fits, with_record};
 
 use crate::AbbrevOp;
-use crate::abbreviation::{AdmittedAbbreviation, ChunkWidth, FieldWidth, Tail, ValueSpelling};
+use crate::abbreviation::{
+    AdmittedAbbreviation, ChunkWidth, FieldWidth, MOST_OPERANDS, Tail, ValueSpelling, WIDEST_CHUNK,
+    WIDEST_FIELD,
+};
 use bits::BitSink;
 use std::alloc::{AllocError, Global};
 
@@ -68,7 +71,7 @@ fn scalar_of(operand: AbbrevOp) -> Option<ValueSpelling>
         AbbrevOp::Fixed(width) => {
             if width == 0 {
                 Some(ValueSpelling::Known(0))
-            } else if width > 64 {
+            } else if width > WIDEST_FIELD {
                 None
             } else {
                 Some(ValueSpelling::Field(FieldWidth::new(width)))
@@ -77,7 +80,7 @@ fn scalar_of(operand: AbbrevOp) -> Option<ValueSpelling>
         AbbrevOp::Vbr(width) => {
             if width == 0 {
                 Some(ValueSpelling::Known(0))
-            } else if width == 1 || width > 32 {
+            } else if width == 1 || width > WIDEST_CHUNK {
                 None
             } else {
                 Some(ValueSpelling::Chunks(ChunkWidth::new(width)))
@@ -130,7 +133,7 @@ pub fn abbreviation_for(
     let [first, more @ ..] = operands else {
         return Ok(None);
     };
-    if operands.len() > 64 {
+    if operands.len() > MOST_OPERANDS {
         return Ok(None);
     }
     let Some(code) = scalar_of(*first) else {

@@ -2,6 +2,7 @@
 ghost use Rattle.std.specs.Prelude.{◌≡◌, ℕ, ◌+◌, ◌-◌, ◌<◌, ◌≤◌, ◌^◌, ◌++◌, ◌≢◌, true, false, length, [], IfOk, OnOk, IsSome, Some, List};
 ghost use Rattle.bits.specs.Bits.{bits_of, stream_bits};
 ghost use Rattle.bits.specs.Writing.{vbr_bits, byte_pad};
+ghost use Rattle.bit_stream.specs.declared.abbreviation.TheConstants.{WIDEST_CHUNK, WIDEST_FIELD};
 ghost use Rattle.bit_stream.specs.declared.item.TheConstants.{ID_LIMIT};
 ghost use Rattle.bit_stream.specs.Scope.{abbreviation_of};
 ghost use Rattle.bit_stream.specs.Spelling.{abbreviation_for, record_fits};
@@ -66,7 +67,7 @@ impl BitWriter {
     /// Adds the number in `W` bits.
     pub fn fixed<const W: u32>(&mut self, value: u64) -> Result<(), AllocError>
         requires low { 1 ≤ W }
-        requires high { W ≤ 64 }
+        requires high { W ≤ WIDEST_FIELD }
         requires fits { value < 2 ^ W }
         ensures { Writes self.old.spent self.old (write self.old (bits_of W value)) result self.new }
     {
@@ -82,7 +83,7 @@ impl BitWriter {
     /// Adds the number in chunks of `W` bits, as few as it has.
     pub fn vbr<const W: u32>(&mut self, value: u64) -> Result<(), AllocError>
         requires low { 2 ≤ W }
-        requires high { W ≤ 32 }
+        requires high { W ≤ WIDEST_CHUNK }
         ensures { Writes self.old.spent self.old (write self.old (vbr_bits 64 W value)) result self.new }
     {
         if self.spent {
@@ -97,7 +98,7 @@ impl BitWriter {
     /// Begins a block, whose abbreviation ids have `width` bits.
     pub fn enter(&mut self, block: u32, width: u32) -> Result<(), AllocError>
         requires low { 2 ≤ width }
-        requires high { width ≤ 32 }
+        requires high { width ≤ WIDEST_CHUNK }
         ensures { Writes self.old.spent self.old (enter self.old block width) result self.new }
     {
         if self.spent {

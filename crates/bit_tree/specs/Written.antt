@@ -4,6 +4,7 @@ use Rattle.std.specs.Prelude.{◌≡◌, ℕ, ◌+◌, ◌<◌, ◌≤◌, ◌/�
 use Rattle.std.specs.List.{list_all}
 use Rattle.bits.specs.Bits.{stream_bits}
 use Rattle.bits.specs.Writing.{byte_pad}
+use Rattle.bit_stream.specs.declared.abbreviation.TheConstants.{WIDEST_CHUNK}
 use Rattle.bit_stream.specs.declared.abbreviation.AbbrevOp.{AbbrevOp}
 use Rattle.bit_stream.specs.declared.abbreviation.AbbrevOp.TheVariants.{Literal, Fixed, Vbr, Array, Char6, Blob}
 use Rattle.bit_stream.specs.declared.abbreviation.Tail.{Tail}
@@ -82,7 +83,7 @@ tree_of w (a_short_record id code ns behind) = with_values id (abbreviation_of w
 pub record MayEnter (w : Writer) (id width : ℕ) : Type 0 where
   pub id_small : id < ID_LIMIT
   pub low : 2 ≤ width
-  pub high : width ≤ 32
+  pub high : width ≤ WIDEST_CHUNK
   pub shallow : length w.scope.around < MAX_OPEN
   pub ordinary : is_blockinfo w.scope ≡ false
 

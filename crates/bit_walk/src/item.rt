@@ -13,8 +13,8 @@ use crate::plain::{PlainPassed, plain_passed};
 use crate::scope::WalkScope;
 use crate::starts::Kept;
 use bit_stream::{
-    ChunkWidth, Entry, ID_LIMIT, MAX_OPEN, StreamFault, bad_abbreviation, bad_block_length,
-    defined_abbreviation, nested_too_deep,
+    ChunkWidth, Entry, ID_LIMIT, MAX_OPEN, StreamFault, WIDEST_CHUNK, bad_abbreviation,
+    bad_block_length, defined_abbreviation, nested_too_deep,
 };
 use bits::{BitCursor, BitFault};
 use std::alloc::Global;
@@ -53,7 +53,7 @@ fn enter_block(cursor: &mut BitCursor, scope: &mut WalkScope) -> Result<u32, Str
     }
     let width_bit = cursor.at();
     let width = cursor.vbr(4)?;
-    if width < 2 || width > 32 {
+    if width < 2 || width > u64::from(WIDEST_CHUNK) {
         return Err(bad_abbreviation(width_bit).into());
     }
     cursor.align()?;

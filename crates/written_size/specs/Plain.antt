@@ -2,6 +2,7 @@
 -- of how many operands a record has.
 use Rattle.std.specs.Prelude.{◌≡◌, ℕ, zero, suc, ◌+◌, ◌<◌, ◌≤◌, ◌^◌, ◌==◌, ◌⊎◌, false, List, [], ◌∷◌, length, ⊤}
 use Rattle.std.specs.List.{AllByRecursion}
+use Rattle.bit_stream.specs.declared.abbreviation.TheConstants.{WIDEST_CHUNK}
 use Rattle.bit_stream.specs.declared.abbreviation.AbbrevOp.{AbbrevOp}
 use Rattle.bit_stream.specs.declared.abbreviation.AbbrevOp.TheVariants.{Fixed, Vbr, Array}
 use Rattle.bit_stream.specs.declared.item.TheConstants.{ID_LIMIT}
@@ -21,7 +22,7 @@ pub record MayBlock (id width : ℕ) : Type 0 where
   pub id_small : id < ID_LIMIT
   pub ordinary : (id == 0) ≡ false
   pub low : 2 ≤ width
-  pub high : width ≤ 32
+  pub high : width ≤ WIDEST_CHUNK
 
 -- blocks and records without abbreviations, where blocks nest at most so deep
 unfoldable pub IsPlain : ℕ → Written → Type 0
