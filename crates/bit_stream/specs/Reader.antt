@@ -9,6 +9,7 @@ use Rattle.bit_stream.specs.declared.fault.StreamFault.{StreamFault}
 use Rattle.bit_stream.specs.declared.fault.StreamFault.TheVariants.{Bit, Memory}
 use Rattle.bit_stream.specs.declared.abbreviation.AbbrevOp.{AbbrevOp}
 use Rattle.bit_stream.specs.declared.entry.Entry.TheVariants.{Block, EndBlock, Record, End}
+use Rattle.bit_stream.specs.declared.reader.TheConstants.{MAGIC}
 use Rattle.bit_stream.specs.declared.told.LastSeen.{LastSeen}
 use Rattle.bit_stream.specs.Scope.{Scope, top_level}
 use Rattle.bit_stream.specs.Entry.{item, NextItem, OnlyDefinitions, id_at, has_blob_by}
@@ -27,7 +28,7 @@ pub record StreamReader : Type 0 where
 
 -- a stream begins with the bytes 42 43 C0 DE
 abbrev pub begins : List ℕ → Bool
-begins bytes = not (nat_lt (length bytes) 4) && (value (take 32 (stream_bits bytes)) == 0xdec0_4342)
+begins bytes = not (nat_lt (length bytes) 4) && (value (take 32 (stream_bits bytes)) == MAGIC)
 
 -- before the first block and the first record
 abbrev pub untold : LastSeen

@@ -3,6 +3,7 @@
 use Rattle.std.specs.Prelude.{◌≡◌, ℕ, ◌+◌, ◌-◌, ◌/◌, ◌%◌, ◌^◌, Bool, true, false, List, [], ◌∷◌, ◌++◌, length, take, Option, Some, None, Result, Ok, Err, IsErr, if◌then◌else◌, ◌==◌, ◌&&◌, slice_index_or}
 use Rattle.bits.specs.Bits.{bits_of}
 use Rattle.bit_stream.specs.declared.abbreviation.AbbrevOp.{AbbrevOp}
+use Rattle.bit_stream.specs.declared.reader.TheConstants.{MAGIC}
 use Rattle.bit_stream.specs.Abbreviation.{AdmittedAbbreviation}
 use Rattle.bit_stream.specs.Scope.{Scope, top_level, given_to, abbreviation_of}
 use Rattle.bit_stream.specs.Entry.{is_blockinfo, entered, block_left, defined, given_for, targeting}
@@ -19,7 +20,7 @@ pub record Writer : Type 0 where
 
 -- a stream begins with the bytes 42 43 C0 DE
 abbrev pub begun : Writer
-begun = record { bits = bits_of 32 0xdec0_4342; around = []; scope = top_level; spent = false }
+begun = record { bits = bits_of 32 MAGIC; around = []; scope = top_level; spent = false }
 
 -- bits are added
 abbrev pub write : Writer → List Bool → Writer

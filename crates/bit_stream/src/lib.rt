@@ -43,6 +43,6 @@ pub use entry::Entry;
 pub use fault::{StreamFault, bad_abbreviation, bad_block_length, nested_too_deep};
 pub use item::{ID_LIMIT, MAX_OPEN};
 pub use law::{abbreviated_is_read_back, record_is_read_back};
-pub use reader::{BitReader, LARGEST_STREAM};
+pub use reader::{BitReader, LARGEST_STREAM, MAGIC};
 pub use record::{code_by, value_by};
 pub use writer::BitWriter;

@@ -20,8 +20,8 @@ use std::marker::Model;
 /// The most bytes of a stream that is read.
 pub const LARGEST_STREAM: usize = 16_777_216;
 
-/// The bytes 42 43 C0 DE, as a number.
-pub(crate) const MAGIC: u64 = 0xdec0_4342;
+/// The bytes 42 43 C0 DE that a stream begins with, as a number of 32 bits.
+pub const MAGIC: u64 = 0xdec0_4342;
 
 /// A reader of the entries of a stream, in order, or of its fields.
 ///
