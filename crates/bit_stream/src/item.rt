@@ -24,6 +24,9 @@ pub const MAX_OPEN: usize = 16;
 /// The ids of blocks and of abbreviations, and the codes of records, are below this.
 pub const ID_LIMIT: u64 = 1 << 32;
 
+/// A block that is read has fewer words of 32 bits than this: its count of them has 32 bits.
+pub const WORDS_LIMIT: u64 = 1 << 32;
+
 /// What stands at a place: an entry, or none where it is a definition; and of a record its abbreviation id, its blob, and
 /// whether it ended in one.
 #[derive(Drop)]

@@ -41,7 +41,7 @@ pub use bits::{BitFault, BitFaultKind};
 pub use definition::defined_abbreviation;
 pub use entry::Entry;
 pub use fault::{StreamFault, bad_abbreviation, bad_block_length, nested_too_deep};
-pub use item::{ID_LIMIT, MAX_OPEN};
+pub use item::{ID_LIMIT, MAX_OPEN, WORDS_LIMIT};
 pub use law::{abbreviated_is_read_back, record_is_read_back};
 pub use reader::{BitReader, LARGEST_STREAM, MAGIC};
 pub use record::{code_by, value_by};

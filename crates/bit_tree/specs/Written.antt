@@ -9,7 +9,7 @@ use Rattle.bit_stream.specs.declared.abbreviation.AbbrevOp.{AbbrevOp}
 use Rattle.bit_stream.specs.declared.abbreviation.AbbrevOp.TheVariants.{Literal, Fixed, Vbr, Array, Char6, Blob}
 use Rattle.bit_stream.specs.declared.abbreviation.Tail.{Tail}
 use Rattle.bit_stream.specs.declared.abbreviation.Tail.TheVariants.{NoTail, Elements, Bytes}
-use Rattle.bit_stream.specs.declared.item.TheConstants.{ID_LIMIT, MAX_OPEN}
+use Rattle.bit_stream.specs.declared.item.TheConstants.{ID_LIMIT, MAX_OPEN, WORDS_LIMIT}
 use Rattle.bit_stream.specs.Abbreviation.{AdmittedAbbreviation, is_blob}
 use Rattle.bit_stream.specs.Scope.{abbreviation_of}
 use Rattle.bit_stream.specs.Record.{names_block}
@@ -87,9 +87,9 @@ pub record MayEnter (w : Writer) (id width : ℕ) : Type 0 where
   pub shallow : length w.scope.around < MAX_OPEN
   pub ordinary : is_blockinfo w.scope ≡ false
 
--- the end of a block: it has fewer than 2 ^ 32 words
+-- the end of a block: it has no more words than its count tells
 abbrev pub MayEnd : Writer → Type 0
-MayEnd w = length (ended w) / 32 < 2 ^ 32
+MayEnd w = length (ended w) / 32 < WORDS_LIMIT
 
 -- a literal has 64 bits
 abbrev pub is_number : AbbrevOp → Bool

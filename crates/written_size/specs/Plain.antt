@@ -1,11 +1,11 @@
 -- For `wholes_may_be_written`: what is asked of blocks that are written where the whole is small. Nothing is asked of their lengths, nor
 -- of how many operands a record has.
-use Rattle.std.specs.Prelude.{◌≡◌, ℕ, zero, suc, ◌+◌, ◌<◌, ◌≤◌, ◌^◌, ◌==◌, ◌⊎◌, false, List, [], ◌∷◌, length, ⊤}
+use Rattle.std.specs.Prelude.{◌≡◌, ℕ, zero, suc, ◌+◌, ◌*◌, ◌<◌, ◌≤◌, ◌^◌, ◌==◌, ◌⊎◌, false, List, [], ◌∷◌, length, ⊤}
 use Rattle.std.specs.List.{AllByRecursion}
 use Rattle.bit_stream.specs.declared.abbreviation.TheConstants.{WIDEST_CHUNK}
 use Rattle.bit_stream.specs.declared.abbreviation.AbbrevOp.{AbbrevOp}
 use Rattle.bit_stream.specs.declared.abbreviation.AbbrevOp.TheVariants.{Fixed, Vbr, Array}
-use Rattle.bit_stream.specs.declared.item.TheConstants.{ID_LIMIT}
+use Rattle.bit_stream.specs.declared.item.TheConstants.{ID_LIMIT, WORDS_LIMIT}
 use Rattle.bit_tree.specs.Written.{Written, no_more, a_block, a_definition, a_record, a_short_record}
 
 -- numbers of 64 bits, unless they are more than 64 bits count
@@ -52,10 +52,10 @@ IsWhole (a_definition ops behind) = ⊥
 IsWhole (a_record code ns behind) = ⊥
 IsWhole (a_short_record id code ns behind) = ⊥
 
--- each block of bytes has fewer than 2 ^ 37
+-- each block of bytes has fewer of them than there are bits in all the words that a block may have
 unfoldable pub AreShort : Written → Type 0
 AreShort no_more = ⊤
-AreShort (a_block id width inside behind) = ((block : IsOfBytes width inside) → length block.bytes < 2 ^ 37) × AreShort behind
+AreShort (a_block id width inside behind) = ((block : IsOfBytes width inside) → length block.bytes < 32 * WORDS_LIMIT) × AreShort behind
 AreShort (a_definition ops behind) = ⊤
 AreShort (a_record code ns behind) = ⊤
 AreShort (a_short_record id code ns behind) = ⊤
