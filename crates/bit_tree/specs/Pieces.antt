@@ -1,4 +1,4 @@
--- For `next` of `Walker` in `bit_walk`: what a tree is one piece after another, as a stream gives it.
+-- For `next` of `Walker`: what a tree is one piece after another, as a stream gives it.
 use Rattle.std.specs.Prelude.{ℕ, Bool, List, [], ◌∷◌, ◌++◌}
 use Rattle.bit_stream.specs.Abbreviation.{AdmittedAbbreviation}
 use Rattle.bit_tree.specs.Stream.{StreamTree, nothing, block, definition, values}

@@ -1,5 +1,5 @@
--- For `items_without_a_break_are_buildable`, and for the calls of `item_build`: what items have where an arena can be
--- built from them, entry by entry.
+-- For `items_without_a_break_are_buildable`, `build_structs`, `declare_items`, `initialise_items` and `set_targets`: what
+-- items have where an arena can be built from them, entry by entry.
 use Rattle.std.specs.Prelude.{◌≡◌, ◌≤◌, true, List, map, filter_map, length, All, Contains, bytes_eq}
 use Rattle.ir_tables.specs.Table.{is_distinct}
 use Rattle.ir_terminals.specs.declared.values.PlacedName.{PlacedName}

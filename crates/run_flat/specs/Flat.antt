@@ -1,5 +1,4 @@
--- For `action` of `ActionBody` in `run_body`, and all that reads an `Action` by `Pools`: what the flat actions of a body are
--- as actions, by the pools into which they point.
+-- For `action` of `ActionBody`: what the flat actions of a body are as actions, by the pools into which they point.
 use Rattle.std.specs.Prelude.{◌≡◌, ℕ, ◌^◌, ◌<◌, ◌≤◌, ⊤, ℤ, pos, nat_abs, false, List, [], ◌∷◌, map, zip, length, slice_get, slice_index_or, Option, Some, if◌then◌else◌}
 use Rattle.std.specs.List.{All}
 use Rattle.ir_eval.specs.declared.value.Scalar.{Scalar}

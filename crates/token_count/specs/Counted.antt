@@ -1,4 +1,4 @@
--- For `token_count`: what a count of tokens says of its text.
+-- Says how the code reads: what a count of tokens says of its text.
 use Rattle.std.specs.Prelude.{◌≡◌, ℕ, ◌-◌, List, ◌∷◌, length, Result, Ok, Err}
 use Rattle.ir_base.specs.declared.place.Place.{Place}
 use Rattle.ir_lexer.specs.Place.{place_of}
