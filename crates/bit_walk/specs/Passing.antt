@@ -124,11 +124,6 @@ pass_item s c =
     if is_top s then (if id == 1 then enter_block s d else refuse c.at)
     else pass_inside id c.at s d)
 
--- what a call that changes the open blocks answered and which it left
-abbrev pub settled : {X : Type 0} → Result X BitFault → Scope → Result Scope BitFault
-settled (Ok x) s = Ok s
-settled (Err fault) s = Err fault
-
 -- of a definition this abbreviation was read there; of a record by an abbreviation it is that one
 abbrev pub IsBy : Option Entry → AdmittedAbbreviation → Found AdmittedAbbreviation → Cursor → Scope → ℕ → Type 0
 IsBy None t defined d s id = defined ≡ Ok (t, d)

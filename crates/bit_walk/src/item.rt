@@ -2,11 +2,11 @@
 ghost use Rattle.std.specs.Prelude.{◌≡◌, ℕ, ◌<◌, ◌≤◌, ◌^◌, [], length, Some, None, Ok, IfOk};
 ghost use Rattle.bit_stream.specs.Answers.{Ran};
 ghost use Rattle.bit_stream.specs.Scope.{abbreviation_of};
-ghost use Rattle.bit_stream.specs.Entry.{is_blockinfo, StreamItem, plain, enter_block, end_block, define_for, define, id_at, defined_at};
+ghost use Rattle.bit_stream.specs.Entry.{is_blockinfo, StreamItem, plain, enter_block, end_block, define_for, define, id_at, defined_at, settled};
 ghost use Rattle.bit_stream.specs.Definition.{defined_abbreviation};
 ghost use Rattle.bit_stream.specs.declared.entry.Entry.TheVariants.{Block, EndBlock, Record};
 ghost use Rattle.bit_walk.specs.Starts.{IsOn, IsKept};
-ghost use Rattle.bit_walk.specs.Passing.{Passed, recorded, settled, pass_by_abbreviation, pass_record, pass_inside, pass_item, IsBy};
+ghost use Rattle.bit_walk.specs.Passing.{Passed, recorded, pass_by_abbreviation, pass_record, pass_inside, pass_item, IsBy};
 
 use crate::passing::{Passed, pass_abbreviated, pass_unabbreviated};
 use crate::plain::{PlainPassed, plain_passed};
