@@ -45,4 +45,5 @@ pub use item::{ID_LIMIT, MAX_OPEN, WORDS_LIMIT};
 pub use law::{abbreviated_is_read_back, record_is_read_back};
 pub use reader::{BitReader, LARGEST_STREAM, MAGIC};
 pub use record::{code_by, value_by};
+pub use scope::is_blockinfo;
 pub use writer::BitWriter;

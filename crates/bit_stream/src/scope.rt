@@ -2,7 +2,7 @@
 ghost use Rattle.std.specs.Prelude.{◌≡◌, ℕ, ◌<◌, ◌≤◌, ◌^◌, [], ◌++◌, ◌∷◌, length, Some, None, OnOk, option_copied, ◌==◌};
 ghost use Rattle.bit_stream.specs.Scope.{Scope, top_level, abbreviation_of};
 ghost use Rattle.bit_stream.specs.Writer.{in_force};
-ghost use Rattle.bit_stream.specs.Entry.{is_top, is_blockinfo, entered, block_left, defined, given_for, targeting};
+ghost use Rattle.bit_stream.specs.Entry.{is_top, is_zero, is_blockinfo, entered, block_left, defined, given_for, targeting};
 
 use crate::abbreviation::{AdmittedAbbreviation, ChunkWidth};
 use crate::admitted::AdmittedList;
@@ -10,6 +10,17 @@ use std::alloc::{AllocError, Global};
 use std::collections::BTreeMap;
 use std::marker::Model;
 use std::mem;
+
+/// Whether a block of this id is BLOCKINFO, whose id is 0. The top level has no id.
+#[inline(always)]
+pub fn is_blockinfo(id: Option<u32>) -> bool
+    ensures { result ≡ is_zero id }
+{
+    match id {
+        Some(id) => id == 0,
+        None => false,
+    }
+}
 
 /// An open block, or the top level.
 #[derive(Drop)]
@@ -93,10 +104,7 @@ impl Scope {
         ensures { result ≡ is_blockinfo self.now }
     {
         let block = &self.block;
-        match block.id {
-            Some(id) => id == 0,
-            None => false,
-        }
+        is_blockinfo(block.id)
     }
 
     /// The block that a BLOCKINFO's definitions are for.

@@ -9,7 +9,7 @@ ghost use Rattle.given_starts.specs.declared.given.TheConstants.{MOST_DEFINITION
 ghost use Rattle.bit_walk.specs.Starts.{Opened, with_scope, abbreviation_at};
 
 use crate::starts::StartList;
-use bit_stream::ChunkWidth;
+use bit_stream::{ChunkWidth, is_blockinfo};
 use given_starts::Given;
 use std::alloc::{AllocError, Global};
 use std::marker::Model;
@@ -113,10 +113,7 @@ impl<'b> WalkScope<'b> {
         ensures { result ≡ is_blockinfo self.now.scope }
     {
         let block = &self.block;
-        match block.id {
-            Some(id) => id == 0,
-            None => false,
-        }
+        is_blockinfo(block.id)
     }
 
     /// The block that a BLOCKINFO's definitions are for.
