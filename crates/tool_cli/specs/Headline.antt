@@ -1,6 +1,7 @@
 -- For `run_tool`: what `llvm-link` comes to where its inputs stand for parts.
-use Rattle.std.specs.Prelude.{◌≡◌, ◌⊎◌, ◌↔◌, ◌<◌, ◌/◌, ◌^◌, ℕ, Bool, List, [], ◌∷◌, length, Option, Some, None, Ok}
+use Rattle.std.specs.Prelude.{◌≡◌, ◌⊎◌, ◌↔◌, ◌<◌, ◌/◌, ℕ, Bool, List, [], ◌∷◌, length, Option, Some, None, Ok}
 use Rattle.ir_base.specs.Files.{Named}
+use Rattle.bit_stream.specs.declared.item.TheConstants.{WORDS_LIMIT}
 use Rattle.command_line.specs.declared.command.Command.TheVariants.{Link}
 use Rattle.command_line.specs.declared.command.OutputName.{OutputName}
 use Rattle.command_line.specs.Commands.{IsReadAs}
@@ -24,10 +25,10 @@ use Rattle.tool_cli.specs.Made.{AreParts, RunsLike, StandsFor, format_of}
 use Rattle.tool_cli.specs.Told.{clash_told}
 use Rattle.tool_cli.specs.World.{World, outputs_of}
 
--- bytes written in that format are no more than can be read: bitcode where it has fewer than 2 ^ 32 words of 32 bits, which every input has
+-- bytes written in that format are no more than can be read: bitcode where it has no more words of 32 bits than a block may have, as every input does
 abbrev pub AreReadable : OutputFormat → List ℕ → Type 0
 AreReadable CanonicalText bytes = Unit {0}
-AreReadable Bitcode bytes = length bytes / 4 < 2 ^ 32
+AreReadable Bitcode bytes = length bytes / 4 < WORDS_LIMIT
 
 -- these bytes, in that format, stand as an input for this module and for no other
 abbrev pub StandForOne : OutputFormat → List ℕ → Module → Type 0
