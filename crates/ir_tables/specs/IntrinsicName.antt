@@ -3,12 +3,13 @@ use Rattle.std.specs.Prelude.{◌≡◌, ℕ, ◌%◌, ◌≤◌, List, ◌++◌
 use Rattle.std.specs.Fmt.{decimal}
 use Rattle.ir_tables.specs.declared.intrinsic.Intrinsic.{Intrinsic}
 use Rattle.ir_tables.specs.declared.intrinsic.Intrinsic.TheVariants.{Bswap}
+use Rattle.ir_tables.specs.declared.width.TheConstants.{WIDEST}
 use Rattle.ir_tables.specs.Intrinsic.{intrinsic_word}
 
 -- a number of bits, written in decimal
 pub record IsWidthText (width : ℕ) (digits : List ℕ) : Type 0 where
   pub some : 1 ≤ width
-  pub most : width ≤ 128
+  pub most : width ≤ WIDEST
   pub written : digits ≡ decimal width
 
 -- bytes are reversed in pairs
@@ -23,6 +24,6 @@ name_front which = codes "llvm." ++ intrinsic_word which ++ codes ".i"
 -- the intrinsic at this width has this name
 pub record IsNamed (which : Intrinsic) (width : ℕ) (name : List ℕ) : Type 0 where
   pub some : 1 ≤ width
-  pub most : width ≤ 128
+  pub most : width ≤ WIDEST
   pub whole : IsTrue (has_width which width)
   pub named : name ≡ name_front which ++ decimal width

@@ -1,5 +1,6 @@
 -- Says how the code reads: the digits of a width in the name of an intrinsic.
 use Rattle.std.specs.Prelude.{ℕ, ◌+◌, ◌-◌, ◌*◌, List, [], ◌∷◌, Option, Some, None, Bool, ◌&&◌, ◌==◌, nat_le, nat_lt, length, slice_index, if◌then◌else◌}
+use Rattle.ir_tables.specs.declared.width.TheConstants.{WIDEST}
 
 -- one of the bytes `0` to `9`
 abbrev pub is_digit : ℕ → Bool
@@ -9,9 +10,9 @@ is_digit byte = nat_le 48 byte && nat_le byte 57
 abbrev pub number_of : ℕ → ℕ → ℕ → ℕ
 number_of hundreds tens ones = (hundreds - 48) * 100 + (tens - 48) * 10 + (ones - 48)
 
--- a width is from 1 to 128
+-- a width is from 1 to that of the widest integer
 abbrev pub within : ℕ → Option ℕ
-within width = if nat_le 1 width && nat_le width 128 then Some width else None
+within width = if nat_le 1 width && nat_le width WIDEST then Some width else None
 
 -- the number of three digits
 abbrev pub width_of_digits : ℕ → ℕ → ℕ → Option ℕ

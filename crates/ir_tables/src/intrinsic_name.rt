@@ -5,8 +5,8 @@ ghost use Rattle.ir_tables.specs.declared.intrinsic.Intrinsic.{Intrinsic};
 ghost use Rattle.ir_tables.specs.IntrinsicName.{IsNamed, IsWidthText, has_width};
 ghost use Rattle.ir_tables.specs.WidthText.{is_padded, width_of_digits};
 
-use crate::Intrinsic;
 use crate::intrinsic::VALUES;
+use crate::{Intrinsic, WIDEST};
 
 // What stands behind the front, and None exactly where the bytes do not begin with it.
 fn behind<'a>(bytes: &'a [u8], front: &[u8]) -> Option<&'a [u8]>
@@ -30,7 +30,7 @@ fn width_of_digits(hundreds: u8, tens: u8, ones: u8) -> Option<u8>
     let width = u16::from(hundreds - b'0') * 100
         + u16::from(tens - b'0') * 10
         + u16::from(ones - b'0');
-    if 1 <= width && width <= 128 {
+    if 1 <= width && width <= u16::from(WIDEST) {
         Some(width as u8)
     } else {
         None

@@ -20,6 +20,7 @@ mod opcode;
 mod predicate;
 mod table;
 mod undefined_kind;
+mod width;
 
 pub use flag::{Flag, Flags};
 pub use intrinsic::Intrinsic;
@@ -28,3 +29,4 @@ pub use opcode::Opcode;
 pub use predicate::Predicate;
 pub use table::{Table, WordRow};
 pub use undefined_kind::UndefinedKind;
+pub use width::WIDEST;
