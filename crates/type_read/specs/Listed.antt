@@ -1,5 +1,5 @@
 -- For `read_types` and `gather_types`: the block of types as an arena has it.
-use Rattle.std.specs.Prelude.{◌≡◌, ◌⊎◌, ◌≤◌, ◌<◌, ◌≢◌, ◌^◌, ℕ, suc, ◌&&◌, nat_eq, not, Bool, true, false, List, [], ◌∷◌, ◌++◌, map, length, slice_get, Option, Some, None, Result, Ok, Err, bytes_eq, ⊤, if◌then◌else◌}
+use Rattle.std.specs.Prelude.{◌≡◌, ◌⊎◌, ◌≤◌, ◌<◌, ◌≢◌, ℕ, suc, ◌&&◌, nat_eq, not, Bool, true, false, List, [], ◌∷◌, ◌++◌, map, length, slice_get, Option, Some, None, Result, Ok, Err, bytes_eq, ⊤, if◌then◌else◌}
 use Rattle.std.specs.List.{list_all, list_any}
 use Rattle.bit_tree.specs.Pieces.{Piece, ended}
 use Rattle.type_table.specs.Types.{Types, with_struct, names, bodies}
@@ -18,6 +18,7 @@ use Rattle.record_read.specs.Reader.{Reader, also_asked}
 use Rattle.record_read.specs.declared.fault.BitcodeFault.{BitcodeFault}
 use Rattle.record_read.specs.declared.fault.BitcodeFault.TheVariants.{Memory}
 use Rattle.type_read.specs.declared.structs.StructNames.{StructNames}
+use Rattle.type_read.specs.declared.structs.TheConstants.{STRUCT_LIMIT}
 use Rattle.type_read.specs.declared.structs.TypesAhead.{TypesAhead}
 use Rattle.type_read.specs.Fields.{is_good}
 
@@ -49,7 +50,7 @@ FindsBad (Some place) all = IsFirstBad place all
 -- the structs of a block: how many, and the first whose name is bad
 pub record AreNames (t : Texts) (inside : Records) (found : StructNames) : Type 0 where
   pub count : found.count ≡ length (names_in t inside)
-  pub few : length (names_in t inside) < 2 ^ 31
+  pub few : length (names_in t inside) < STRUCT_LIMIT
   pub first_bad : FindsBad found.first_bad (names_in t inside)
 
 -- structs of these names, none of which is defined, and no types
@@ -59,7 +60,7 @@ only_named all = record { types = []; structs = map (λ name. (name, None)) all 
 -- The names that were gathered so far: the arena has them all as long as none is bad.
 pub record AreGathered (a : Lists) (found : StructNames) (all : List Bytes) : Type 0 where
   pub count : found.count ≡ length all
-  pub few : length all < 2 ^ 31
+  pub few : length all < STRUCT_LIMIT
   pub first_bad : FindsBad found.first_bad all
   pub named : found.first_bad ≡ None → a ≡ record no_lists { table = only_named all }
 
@@ -133,7 +134,7 @@ pub record IsListed (a : Lists) (found : StructNames) (all : List Bytes) (listed
   pub types : a.table.types ≡ listed.types.types
   pub bodies_are : bodies a.table ≡ bodies listed.types
   pub called_so : names listed.types ≡ called all
-  pub few : length all < 2 ^ 31
+  pub few : length all < STRUCT_LIMIT
   pub named : found.first_bad ≡ None → a.table ≡ listed.types
 
 -- no struct behind the first bad name is reached

@@ -1,5 +1,5 @@
 //! The block of types, record by record.
-ghost use Rattle.std.specs.Prelude.{◌≡◌, ◌∷◌, ◌+◌, ◌-◌, ◌<◌, ◌^◌, ℕ, List, false, length, OnOk};
+ghost use Rattle.std.specs.Prelude.{◌≡◌, ◌∷◌, ◌+◌, ◌-◌, ◌<◌, ℕ, List, false, length, OnOk};
 ghost use Rattle.bit_tree.specs.Pieces.{Piece, ended};
 ghost use Rattle.type_table.specs.Limits.{IsWithin};
 ghost use Rattle.type_table.specs.Types.{IsGood, IsKnown, IsKnownBody, with_body, with_type};
@@ -10,6 +10,7 @@ ghost use Rattle.record_table.specs.TypeRecords as types;
 ghost use Rattle.record_read.specs.Entries.{IsBefore};
 ghost use Rattle.record_read.specs.Faults.{Answers};
 ghost use Rattle.record_read.specs.Fields.{texts_of};
+ghost use Rattle.type_read.specs.declared.structs.TheConstants.{STRUCT_LIMIT};
 ghost use Rattle.type_read.specs.Listed.{AddsType, AreNames, AreSoFar, IsBegun, IsListed, IsMore, IsNamedAs, IsOn, IsRefusedBy, IsUndefined, NamesNext, ReadsOne, later_names};
 ghost use Rattle.type_read.specs.Pending.{IsCounted, IsPending, Puts, held};
 
@@ -175,7 +176,7 @@ fn read_record(
 ) -> Result<u32, BitcodeFault>
     requires given { 0 < reader.old.at }
     requires undefined { code ≡ 7 → IsUndefined (held arena.old pending.old) defined }
-    requires room { code ≡ 7 → defined < 2 ^ 31 }
+    requires room { code ≡ 7 → defined < STRUCT_LIMIT }
     requires pending { IsPending arena.old pending.old }
     requires counted { IsCounted pending.old defined (reader.old.at - 1) }
     ensures reads { ReadsOne reader.old result reader.new }

@@ -1,5 +1,5 @@
 //! The names of structs, ahead of the types.
-ghost use Rattle.std.specs.Prelude.{◌≡◌, ◌∷◌, ◌++◌, ◌<◌, ◌+◌, ◌/◌, ◌%◌, ◌^◌, ℕ, List, [], false, None, IfOk, OnOk};
+ghost use Rattle.std.specs.Prelude.{◌≡◌, ◌∷◌, ◌++◌, ◌<◌, ◌+◌, ◌/◌, ◌%◌, ℕ, List, [], false, None, IfOk, OnOk};
 ghost use Rattle.bit_tree.specs.Pieces.{Piece, ended};
 ghost use Rattle.module_arena.specs.Lists.{no_lists};
 ghost use Rattle.record_table.specs.Codes.{kind_view};
@@ -56,14 +56,14 @@ fn is_added(arena: &mut Arena, name: Option<Name>) -> Result<bool, AllocError>
     }
 }
 
-/// How many structs are counted at most: more are more than memory holds.
-const MOST: u32 = 0x7fff_ffff;
+/// Fewer structs than this are counted: as many are more than memory holds.
+pub(crate) const STRUCT_LIMIT: u32 = 1 << 31;
 
 /// One more.
 fn one_more(count: u32) -> Result<u32, AllocError>
-    ensures { IfOk result (λ more. (more ≡ count + 1) × (more < 2 ^ 31)) }
+    ensures { IfOk result (λ more. (more ≡ count + 1) × (more < STRUCT_LIMIT)) }
 {
-    if count >= MOST {
+    if count >= STRUCT_LIMIT - 1 {
         return Err(AllocError);
     }
     Ok(count + 1)
