@@ -2,13 +2,14 @@
 -- "Integer Type", "Poison Values").
 use Rattle.std.specs.Prelude.{ℕ, ◌-◌, ◌<◌, ◌≤◌, ◌^◌, ℤ, pos, negsuc, ◌-ℤ◌, Bool, true, false, ◌≡◌, None, nat_lt, nat_le, ⊤, unsigned_abs, if◌then◌else◌}
 use Rattle.std.specs.Int.{int_rem_euclid}
+use Rattle.ir_tables.specs.declared.width.TheConstants.{WIDEST}
 use Rattle.ir_eval.specs.declared.value.Scalar.{Scalar}
 use Rattle.ir_eval.specs.declared.value.Scalar.TheVariants.{Int, Ptr, Poison}
 
 -- how many bits an integer may have
 pub record IsWidth (width : ℕ) : Type 0 where
   pub some : 1 ≤ width
-  pub most : width ≤ 128
+  pub most : width ≤ WIDEST
 
 -- an integer of this width, or poison
 abbrev pub IsInteger : ℕ → Scalar → Type 0

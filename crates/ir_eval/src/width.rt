@@ -4,6 +4,7 @@ ghost use Rattle.std.specs.Option.{option_map_or};
 ghost use Rattle.ir_eval.specs.Value.{IsWidth, signed, fits_signed, reduced, has_sign};
 
 use crate::short;
+use ir_tables::WIDEST;
 
 /// The greatest number of this width.
 #[inline]
@@ -14,7 +15,7 @@ pub fn greatest(width: u8) -> u128
     if width <= 64 {
         return short::greatest(width) as u128;
     }
-    u128::MAX >> (128 - width)
+    u128::MAX >> (WIDEST - width)
 }
 
 /// The low bits of a word.

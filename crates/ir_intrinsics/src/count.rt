@@ -6,6 +6,7 @@ ghost use Rattle.ir_intrinsics.specs.Results.{leading_zeros_of, trailing_zeros_o
 
 use crate::asked::is_asked_for;
 use ir_eval::Scalar;
+use ir_tables::WIDEST;
 
 /// `ctpop`: how many bits are set.
 pub fn set_bits(number: u128) -> Scalar
@@ -23,7 +24,7 @@ pub fn leading_zeros(width: u8, number: u128, asked: u128) -> Scalar
     if is_asked_for(number == 0, asked) {
         return Scalar::Poison;
     }
-    Scalar::Int(u128::from(number.leading_zeros()) - u128::from(128 - width))
+    Scalar::Int(u128::from(number.leading_zeros()) - u128::from(WIDEST - width))
 }
 
 /// `cttz`: how many zeros stand below the lowest set bit. Where none is set, all, or poison where `asked` is 1.

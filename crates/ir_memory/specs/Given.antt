@@ -1,5 +1,6 @@
 -- For all calls of `Memory`: what a caller may hand in.
 use Rattle.std.specs.Prelude.{◌≡◌, ℕ, ◌<◌, ◌≤◌, ◌^◌, ⊤, List, length, Option, Some, None}
+use Rattle.ir_tables.specs.declared.width.TheConstants.{WIDEST}
 use Rattle.ir_eval.specs.declared.value.Pointer.{Pointer}
 use Rattle.ir_eval.specs.declared.value.Scalar.{Scalar}
 use Rattle.ir_eval.specs.declared.value.Scalar.TheVariants as scalar
@@ -11,7 +12,7 @@ use Rattle.ir_memory.specs.Block.{MemoryBlock}
 
 -- an integer has 1 to 128 bits
 abbrev pub IsLeaf : Leaf → Type 0
-IsLeaf (leaf.Int width) = (1 ≤ width) × (width ≤ 128)
+IsLeaf (leaf.Int width) = (1 ≤ width) × (width ≤ WIDEST)
 IsLeaf leaf.Ptr = ⊤
 
 -- a power of two, at most 65,536

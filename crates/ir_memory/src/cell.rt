@@ -6,6 +6,7 @@ ghost use Rattle.ir_memory.specs.Seen.{of_number};
 
 use crate::Leaf;
 use ir_eval::{Pointer, Scalar};
+use ir_tables::WIDEST;
 
 /// What one byte of a block holds: a byte, poison, or a piece of a pointer, counted from its lowest
 /// byte.
@@ -94,10 +95,10 @@ fn pointer_of(cells: &[Cell]) -> Option<Pointer>
 /// A number cut to a width.
 #[inline]
 fn low_bits(number: u128, width: u8) -> u128
-    requires { width ≤ 128 }
+    requires { width ≤ WIDEST }
     ensures { result ≡ number % 2 ^ width }
 {
-    if width == 128 {
+    if width == WIDEST {
         number
     } else {
         number % (1 << width)
@@ -133,7 +134,7 @@ pub fn read(leaf: Leaf, cells: &[Cell]) -> Scalar
 /// A number that so many bytes spell as a width takes, cut to that width.
 #[inline(always)]
 fn cut(number: u128, width: u8) -> u128
-    requires width { width ≤ 128 }
+    requires width { width ≤ WIDEST }
     requires fits { number < 256 ^ ((width + 7) / 8) }
     ensures { result ≡ number % 2 ^ width }
 {
