@@ -4,6 +4,7 @@ use Rattle.ir_tables.specs.Flag.{flags, flag_word}
 use Rattle.ir_tables.specs.Linkage.{linkages, linkage_word}
 use Rattle.ir_tables.specs.Opcode.{opcodes, opcode_word}
 use Rattle.ir_tables.specs.Predicate.{predicates, predicate_word}
+use Rattle.ir_tables.specs.declared.width.TheConstants.{WIDEST}
 use Rattle.ir_terminals.specs.Digits.{are_digits, decimal}
 use Rattle.ir_terminals.specs.declared.terminal.Terminal.{Terminal}
 use Rattle.ir_terminals.specs.declared.terminal.Terminal.TheVariants as terminals
@@ -173,7 +174,7 @@ width_in (first ∷ digits) = if (first == 105) && are_digits digits then Some (
 
 -- an integer has 1 to 128 bits
 abbrev pub is_width : ℕ → Bool
-is_width width = nat_le 1 width && nat_le width 128
+is_width width = nat_le 1 width && nat_le width WIDEST
 
 -- the integer type of this width, where there is one
 abbrev pub of_width : ℕ → Terminal

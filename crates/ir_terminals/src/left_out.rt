@@ -7,6 +7,7 @@ ghost use Rattle.ir_terminals.specs.Words.{width_in};
 use crate::cursor::Cursor;
 use crate::digits::{are_digits, decimal_64};
 use ir_lexer::TokenKind;
+use ir_tables::WIDEST;
 
 static LEFT_OUT: [&'static str; 69] = [
     "half",
@@ -100,7 +101,7 @@ fn is_outside(word: &[u8]) -> bool
 {
     match word {
         [b'i', digits @ ..] if are_digits(digits) => match decimal_64(digits) {
-            Some(width) => width < 1 || width > 128,
+            Some(width) => width < 1 || width > WIDEST as u64,
             None => true,
         },
         _ => false,

@@ -8,13 +8,14 @@ use crate::digits::{are_digits, decimal_64};
 use crate::terminal::Terminal;
 use crate::words::listed_terminal;
 use ir_lexer::TokenKind;
+use ir_tables::WIDEST;
 
 /// What an integer type of this width is.
 fn width_terminal(width: Option<u64>) -> Terminal
     ensures { result ≡ width_or width Other }
 {
     match width {
-        Some(width) if 1 <= width && width <= 128 => Terminal::IntegerType(width as u8),
+        Some(width) if 1 <= width && width <= WIDEST as u64 => Terminal::IntegerType(width as u8),
         _ => Terminal::Other,
     }
 }
