@@ -11,6 +11,7 @@ ghost use Rattle.arena_read.specs.Kept.{HasConstant, IsKnownType, IsRead, Keeps,
 use crate::ModuleReader;
 use crate::globals::read_global;
 use crate::type_tests::{holds_bytes, is_pointer, width_of};
+use ir_tables::WIDEST;
 use module_arena::{Const, ConstId};
 use record_read::{RecordReader, read_byte_string};
 use std::alloc::AllocError;
@@ -21,10 +22,10 @@ pub(crate) const HALF: u128 = 1 << 64;
 
 /// Whether the number has at most so many bits.
 fn fits(number: u128, width: u8) -> bool
-    requires { width ≤ 128 }
+    requires { width ≤ WIDEST }
     ensures { result ≡ nat_lt number (2 ^ width) }
 {
-    if width == 128 {
+    if width == WIDEST {
         return true;
     }
     let limit = 1u128 << width;
@@ -34,7 +35,7 @@ fn fits(number: u128, width: u8) -> bool
 /// An integer of that width: its low half, and above 64 bits its high half. One that is longer breaks rule 3.
 fn read_number(reader: &mut RecordReader<'_>, width: u8) -> u128
     requires low { 1 ≤ width }
-    requires high { width ≤ 128 }
+    requires high { width ≤ WIDEST }
     ensures value { modules.Integer result ≡ (constants.integer (int width) reader.old.walk).0 }
     ensures reader { reader.new ≡ record reader.old { walk = (constants.integer (int width) reader.old.walk).1 } }
 {

@@ -1,5 +1,6 @@
 //! What is asked of the type at which a constant stands.
 ghost use Rattle.std.specs.Prelude.{◌≡◌, ◌<◌, ◌≤◌, length, IfSome};
+ghost use Rattle.ir_tables.specs.declared.width.TheConstants.{WIDEST};
 ghost use Rattle.type_table.specs.Types.{tree};
 ghost use Rattle.module_arena.specs.TypeTests.{is_integer_of, is_pointer as is_pointer_tree};
 ghost use Rattle.module_arena.specs.Constants.{is_bytes_of};
@@ -50,7 +51,7 @@ pub(crate) fn holds_bytes(types: &TypeTable, ty: Option<TypeId>, size: usize) ->
 pub(crate) fn width_of(types: &TypeTable, ty: Option<TypeId>) -> Option<u8>
     requires { IfSome ty (λ ty. ty < length types.now.types) }
     ensures width { result ≡ width_in (tree_at types.now ty) }
-    ensures bounds { IfSome result (λ width. (1 ≤ width) × (width ≤ 128)) }
+    ensures bounds { IfSome result (λ width. (1 ≤ width) × (width ≤ WIDEST)) }
 {
     let _good = types.type_count();
     match types.get(ty?) {

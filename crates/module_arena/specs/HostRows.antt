@@ -8,6 +8,7 @@ use Rattle.ir_tables.specs.declared.intrinsic.Intrinsic.{Intrinsic}
 use Rattle.ir_tables.specs.declared.intrinsic.Intrinsic.TheVariants as integer
 use Rattle.ir_tables.specs.Intrinsic.{intrinsics}
 use Rattle.ir_tables.specs.IntrinsicName.{has_width, name_front}
+use Rattle.ir_tables.specs.declared.width.TheConstants.{WIDEST}
 use Rattle.type_table.specs.Tree.{Tree, int, ptr, void, struct, no_trees, more_trees}
 pub use Rattle.module_arena.specs.declared.host.HostRow.{HostRow}
 pub use Rattle.module_arena.specs.declared.host.HostRow.TheVariants.{Putchar, Puts, Getchar, Exit, Abort, Malloc, Free, Memcpy, Memmove, Memset, Strlen, MemcpyI64, MemmoveI64, MemsetI64, MemcpyI32, MemmoveI32, MemsetI32, LifetimeStart, LifetimeEnd, Printf, Integer}
@@ -117,7 +118,7 @@ counted first (suc count) = first ∷ counted (first + 1) count
 abbrev pub width_named : Bytes → Intrinsic → Option ℕ
 width_named name which =
     if starts_with nat_eq name (name_front which)
-    then find (λ width. has_width which width && bytes_eq (name_front which ++ decimal width) name) (counted 1 128) else None
+    then find (λ width. has_width which width && bytes_eq (name_front which ++ decimal width) name) (counted 1 WIDEST) else None
 
 -- the intrinsic at the width that was found, or else the other row
 abbrev pub row_at : Intrinsic → Option ℕ → Option HostRow → Option HostRow

@@ -4,6 +4,7 @@ use Rattle.std.specs.Prelude.{ℕ, ◌+◌, ◌^◌, max, Bool, true, false, not
 use Rattle.std.specs.List.{list_all, list_any}
 use Rattle.std.specs.Option.{option_map_or}
 use Rattle.ir_tables.specs.Table.{is_distinct}
+use Rattle.ir_tables.specs.declared.width.TheConstants.{WIDEST}
 use Rattle.type_table.specs.declared.measure.TheConstants.{NESTING_LIMIT, PARTS_LIMIT, SIZE_LIMIT}
 use Rattle.type_table.specs.Layout.{has_layout, size}
 use Rattle.type_table.specs.Limits.{array_length}
@@ -47,7 +48,7 @@ is_within_limits (Some s) =
 abbrev mutual
   -- widths are from 1 to 128, structs are those of the module, and the type and each type written in it is within the limits
   pub is_good_type : Structs → Tree → Bool
-  is_good_type structs (int width) = nat_le 1 width && nat_le width 128
+  is_good_type structs (int width) = nat_le 1 width && nat_le width WIDEST
   is_good_type structs ptr = true
   is_good_type structs void = true
   is_good_type structs (array n t) = is_good_type structs t && is_within_limits (shape structs (array n t))
@@ -108,7 +109,7 @@ module_constants m = flat_map known_of_variable m.variables ++ flat_map (λ f. f
 -- a number is below 2^N, or 2^128 at a type that is no integer; `true` and `false` are numbers at i1
 abbrev pub is_in_range : Tree → Constant → Bool
 is_in_range (int width) (Integer n) = nat_lt n (2 ^ width)
-is_in_range t (Integer n) = nat_lt n (2 ^ 128)
+is_in_range t (Integer n) = nat_lt n (2 ^ WIDEST)
 is_in_range t (Truth truth) = not (is_integer_of 1 t)
 is_in_range t (ByteString bytes) = are_bytes bytes
 is_in_range t _ = true

@@ -2,6 +2,7 @@
 -- that they are read back: integers have room in their operands, alignments have codes, and operands whose types no record says
 -- have the types of their places.
 use Rattle.std.specs.Prelude.{◌≡◌, ℕ, ◌<◌, ◌^◌, nat_lt, Bool, true, false, List, [], ◌∷◌, Option, Some, None, All, ⊤}
+use Rattle.ir_tables.specs.declared.width.TheConstants.{WIDEST}
 use Rattle.type_table.specs.Tree.{Tree, int, ptr, void, array, struct, named}
 use Rattle.module_arena.specs.Module.{LocalName, Constant, Integer, Truth, Null, Undef, Poison, ZeroInitializer, Address, ByteString, Aggregate, ElementAddress, Cast, Binary, Constants, no_constants, more_constants, Value, Local, Known, Operand, Operation, BinaryOperation, Compare, Convert, Select, Freeze, Phi, Load, Store, Alloca, GetElementPtr, Call, ExtractValue, InsertValue, Instruction, Case, Ending, ReturnVoid, Return, Jump, Branch, Switch, Unreachable}
 use Rattle.module_arena.specs.EntryRules.{alignment_suits}
@@ -20,7 +21,7 @@ is_wide (named name) = false
 
 -- a number of two operands, or of one
 abbrev pub HasRoom : Bool → ℕ → Type 0
-HasRoom true n = n < 2 ^ 128
+HasRoom true n = n < 2 ^ WIDEST
 HasRoom false n = n < 2 ^ 64
 
 abbrev mutual

@@ -1,6 +1,7 @@
 -- For `read` of bitcode: the block of types, first the types by their codes, and then the structs.
 use Rattle.std.specs.Prelude.{ℕ, zero, suc, ◌+◌, ◌/◌, ◌%◌, ◌^◌, ◌==◌, ◌&&◌, ◌||◌, nat_eq, nat_lt, nat_le, not, Bool, true, false, List, [], ◌∷◌, ◌++◌, length, map, Option, Some, None, Ok, Err, bytes_eq, if◌then◌else◌}
 use Rattle.std.specs.List.{list_all, list_any}
+use Rattle.ir_tables.specs.declared.width.TheConstants.{WIDEST}
 use Rattle.type_table.specs.declared.ir_type.IrType.{IrType}
 use Rattle.type_table.specs.declared.ir_type.IrType.TheVariants.{Int, Ptr, Void, Array, Struct, Named}
 use Rattle.type_table.specs.declared.ir_type.StructBody.{StructBody}
@@ -22,7 +23,7 @@ earlier count = asking 2 (λ n. nat_lt n count) number
 
 -- the width of an integer type
 abbrev pub width : Layout ℕ
-width = asking 3 (λ n. nat_le 1 n && nat_le n 128) number
+width = asking 3 (λ n. nat_le 1 n && nat_le n WIDEST) number
 
 -- the width, where it is one
 abbrev pub width_of : IrType → ℕ
