@@ -8,6 +8,7 @@ ghost use Rattle.record_read.specs.Fields.{IsBelow};
 ghost use Rattle.type_read.specs.Fields.{AreBelow, IsTypeOf};
 
 use ir_base::ItemList;
+use ir_tables::WIDEST;
 use record_read::{RecordReader, read_flag, read_place};
 use record_table::TypeKind;
 use std::alloc::{AllocError, Global};
@@ -96,9 +97,9 @@ fn read_parts(
 
 /// Whether an integer may have so many bits.
 fn is_width(bits: u64) -> bool
-    ensures { result ≡ (nat_le 1 bits && nat_le bits 128) }
+    ensures { result ≡ (nat_le 1 bits && nat_le bits WIDEST) }
 {
-    1 <= bits && bits <= 128
+    1 <= bits && bits <= WIDEST as u64
 }
 
 /// An integer type, of 1 to 128 bits. Another width breaks rule 3.
