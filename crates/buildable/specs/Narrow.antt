@@ -1,6 +1,7 @@
 -- For `what_is_read_is_narrow` and `resolve`: what the phrases of a text ask for beyond its tree: integer types of 1 to
 -- 128 bits, and no result of a store.
 use Rattle.std.specs.Prelude.{◌≡◌, ℕ, ◌≤◌, List, All, Option, Some, None}
+use Rattle.ir_tables.specs.declared.width.TheConstants.{WIDEST}
 use Rattle.ir_constants.specs.Tree.{TypeTree, IntegerType, PointerType, VoidType, ArrayType, StructType, NamedType, TypeTrees, no_types, more_types, ConstantTree, IntegerConstant, SimpleConstant, AddressConstant, BytesConstant, ListConstant, ElementAddress, Conversion, Arithmetic, ConstantTrees, no_constants, more_constants, TypedConstantTree, ValueTree, LocalValue, ConstantValue, TypedValueTree}
 use Rattle.ir_instructions.specs.Tree.{SignatureTree, CallTree, IncomingTree, OperationTree, Binary, Compare, Cast, Select, Freeze, Phi, Load, Store, Alloca, GetElementPtr, Call, ExtractValue, InsertValue, InstructionTree, CaseTree, EndingTree, ReturnVoid, Return, Jump, Branch, Switch, Unreachable, BlockTree}
 use Rattle.ir_syntax.specs.Tree.{BodyTree, OpaqueBody, PlainBody, PackedBody, VariableTree, AliasTypeTree, PlainAlias, FunctionAlias, AliasTree, ParameterTree, HeadTree, ItemTree, Struct, Variable, Alias, Declaration, Definition}
@@ -8,7 +9,7 @@ use Rattle.ir_syntax.specs.Tree.{BodyTree, OpaqueBody, PlainBody, PackedBody, Va
 abbrev mutual
   -- each integer type in it has 1 to 128 bits
   pub IsNarrow : TypeTree → Type 0
-  IsNarrow (IntegerType place width) = (1 ≤ width) × (width ≤ 128)
+  IsNarrow (IntegerType place width) = (1 ≤ width) × (width ≤ WIDEST)
   IsNarrow (PointerType place) = Unit {0}
   IsNarrow (VoidType place) = Unit {0}
   IsNarrow (ArrayType place count element) = IsNarrow element

@@ -1,5 +1,6 @@
 -- For `resolve`: the types, constants and values that a text writes, as those of a module.
 use Rattle.std.specs.Prelude.{ℕ, ◌-◌, ◌%◌, ◌^◌, ◌==◌, Bool, true, false, List, Option, option_map, if◌then◌else◌}
+use Rattle.ir_tables.specs.declared.width.TheConstants.{WIDEST}
 use Rattle.ir_terminals.specs.declared.values.Integer.{Integer}
 use Rattle.ir_constants.specs.declared.constant.Simple.{Simple}
 use Rattle.ir_constants.specs.declared.constant.Simple.TheVariants as simple
@@ -45,7 +46,7 @@ body_in (PackedBody parts) = fields true (fields_in parts)
 -- the bits of an integer at this type; at a type that is none it has 128
 abbrev pub bits_at : Tree → ℕ
 bits_at (int width) = width
-bits_at _ = 128
+bits_at _ = WIDEST
 
 -- an integer modulo 2^bits
 abbrev pub modulo : ℕ → Integer → ℕ

@@ -1,6 +1,7 @@
 -- For `keep_type`, `add_type` and `add_types` of `Builder`: which types an arena can take: each is within the limits,
 -- and so is each that is written in it.
 use Rattle.std.specs.Prelude.{◌≤◌, All, Contains, map}
+use Rattle.ir_tables.specs.declared.width.TheConstants.{WIDEST}
 use Rattle.type_table.specs.Limits.{IsWithinLimits}
 use Rattle.type_table.specs.Shape.{shape}
 use Rattle.type_table.specs.Types.{trees}
@@ -10,7 +11,7 @@ use Rattle.module_arena.specs.Lists.{Lists}
 abbrev mutual
   -- an integer has 1 to 128 bits, a struct is there, and no type in it is past a limit
   pub CanBe : Structs → Tree → Type 0
-  CanBe structs (int width) = (1 ≤ width) × (width ≤ 128)
+  CanBe structs (int width) = (1 ≤ width) × (width ≤ WIDEST)
   CanBe structs ptr = Unit {0}
   CanBe structs void = Unit {0}
   CanBe structs (array n t) = IsWithinLimits (shape structs (array n t)) × CanBe structs t

@@ -1,5 +1,6 @@
 -- For `add_constant` of `Builder`, and `initialise`: which constants an arena can take.
 use Rattle.std.specs.Prelude.{◌≡◌, ℕ, ◌^◌, ◌<◌, List, Some}
+use Rattle.ir_tables.specs.declared.width.TheConstants.{WIDEST}
 use Rattle.ir_constants.specs.Tree.{ConstantTree, IntegerConstant, SimpleConstant, AddressConstant, BytesConstant, ListConstant, ElementAddress, Conversion, Arithmetic, ConstantTrees, no_constants, more_constants, TypedConstantTree}
 use Rattle.type_table.specs.Tree.{Structs}
 use Rattle.module_arena.specs.declared.entry.GlobalId.{GlobalId}
@@ -19,7 +20,7 @@ module _ (structs : Structs) (a : Lists) where
   abbrev mutual
     -- an integer has at most 128 bits, an entry is there, and types are within the limits
     pub CanHold : ConstantTree → Type 0
-    CanHold (IntegerConstant written) = written.magnitude < 2 ^ 128
+    CanHold (IntegerConstant written) = written.magnitude < 2 ^ WIDEST
     CanHold (SimpleConstant word place) = Unit {0}
     CanHold (AddressConstant name) = HasEntry a name.name
     CanHold (BytesConstant text) = Unit {0}

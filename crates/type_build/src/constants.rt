@@ -14,7 +14,7 @@ use crate::builder::Builder;
 use crate::integers::reduced;
 use ir_base::ItemList;
 use ir_constants::{Brackets, Constant, Simple, Type, TypedConstant};
-use ir_tables::{Flags, Opcode};
+use ir_tables::{Flags, Opcode, WIDEST};
 use ir_terminals::{Integer, PlacedName};
 use module_arena::{Boxed, Const, ConstAddress, ConstId, ConstPair, TypedConst, TypedConstList};
 use std::alloc::{AllocError, Global};
@@ -27,7 +27,7 @@ fn bits_of(ty: &Type) -> u8
     match ty {
         Type::Integer(_, width) => *width,
         Type::Ptr(_) | Type::Void(_) | Type::Array(_, _) | Type::Struct(_, _, _) | Type::Named(_) =>
-            128,
+            WIDEST,
     }
 }
 
@@ -111,7 +111,7 @@ impl Builder {
         integer: &Integer,
     ) -> Result<ConstId, AllocError>
         requires ty { CanBe (structs self.old.arena.table) (type_in (type_view ty.now)) }
-        requires magnitude { integer.now.magnitude < 2 ^ 128 }
+        requires magnitude { integer.now.magnitude < 2 ^ WIDEST }
         ensures grows { OnOk result (Grows self.old.arena self.new.arena) }
         ensures is { IfOk result (λ id.
             IsConstant self.new.arena id (m.Integer (modulo (bits_at (type_in (type_view ty.now))) integer.now))) }

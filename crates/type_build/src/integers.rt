@@ -2,6 +2,7 @@
 ghost use Rattle.std.specs.Prelude.{◌≡◌, ◌<◌, ◌≤◌, ◌^◌};
 ghost use Rattle.name_rules.specs.Written.{natural, modulo};
 
+use ir_tables::WIDEST;
 use ir_terminals::Integer;
 
 /// What an integer that is not negative stands for, in 64 bits.
@@ -25,12 +26,12 @@ pub fn index_of(written: &Integer) -> u32
 
 /// The integer modulo 2^bits.
 pub(crate) fn reduced(bits: u8, written: &Integer) -> u128
-    requires bits { bits ≤ 128 }
-    requires magnitude { written.now.magnitude < 2 ^ 128 }
+    requires bits { bits ≤ WIDEST }
+    requires magnitude { written.now.magnitude < 2 ^ WIDEST }
     ensures { result ≡ modulo bits written.now }
 {
     let magnitude = written.magnitude.to_u128().unwrap();
-    if bits == 128 {
+    if bits == WIDEST {
         return if written.negative && magnitude > 0 {
             u128::MAX - magnitude + 1
         } else {

@@ -14,6 +14,7 @@ use crate::integers::check_integer;
 use crate::known::Known;
 use crate::types::check_type;
 use ir_constants::{Constant, Type, TypedConstant};
+use ir_tables::WIDEST;
 use name_rules::ResolveFault;
 use std::alloc::Global;
 
@@ -23,7 +24,7 @@ fn bits_at(ty: &Type) -> u8
 {
     match ty {
         Type::Integer(_, width) => *width,
-        _ => 128,
+        _ => WIDEST,
     }
 }
 

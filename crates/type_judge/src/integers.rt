@@ -7,6 +7,7 @@ ghost use Rattle.name_rules.specs.FunctionDemands.{index_demands, alignment_dema
 ghost use Rattle.type_judge.specs.Judging.{IsJudged};
 
 use crate::asking::ask;
+use ir_tables::WIDEST;
 use ir_terminals::{Integer, Number};
 use name_rules::ResolveFault;
 
@@ -32,7 +33,7 @@ fn is_natural(written: &Integer) -> bool
 
 /// Whether the integer is from -2^(bits-1) to 2^bits - 1, where there are from 1 to 128 bits.
 fn fits(bits: u8, written: &Integer) -> bool
-    requires { bits ≤ 128 }
+    requires { bits ≤ WIDEST }
     ensures { result ≡ fits bits written.now }
 {
     let Some(magnitude) = written.magnitude.to_u128() else {
@@ -41,7 +42,7 @@ fn fits(bits: u8, written: &Integer) -> bool
     if written.negative {
         magnitude <= 1u128 << bits.saturating_sub(1)
     } else {
-        bits == 128 || magnitude < 1u128 << bits
+        bits == WIDEST || magnitude < 1u128 << bits
     }
 }
 
@@ -49,7 +50,7 @@ fn fits(bits: u8, written: &Integer) -> bool
 pub fn check_integer(bits: u8, written: &Integer) -> Result<(), ResolveFault>
     ensures { IsJudged (integer_fits bits written.now ∷ []) result }
 {
-    if bits > 128 {
+    if bits > WIDEST {
         return Err(ResolveFault::Memory);
     }
     ask(
