@@ -1,6 +1,7 @@
 -- For `tokens_are_items` and `items_stand_for_their_module`: types, constants, instructions and blocks of a module as
 -- canonical text writes them, with no places.
 use Rattle.std.specs.Prelude.{ℕ, ◌-◌, ◌^◌, ◌==◌, nat_lt, Bool, true, false, List, [], ◌∷◌, map, Option, Some, None, option_map, if◌then◌else◌}
+use Rattle.ir_tables.specs.declared.width.TheConstants.{WIDEST}
 use Rattle.ir_terminals.specs.declared.values.Integer.{Integer}
 use Rattle.ir_terminals.specs.declared.values.PlacedName.{PlacedName}
 use Rattle.ir_terminals.specs.declared.values.Local.{Local}
@@ -61,7 +62,7 @@ truth_tree false = SimpleConstant simple.False nowhere
 -- an integer at a type: signed, and at i1 `true` or `false`
 abbrev pub integer_tree : Tree → ℕ → ConstantTree
 integer_tree (int width) n = if width == 1 then truth_tree (n == 1) else IntegerConstant (signed width n)
-integer_tree _ n = IntegerConstant (signed 128 n)
+integer_tree _ n = IntegerConstant (signed WIDEST n)
 
 -- the brackets of a list of constants
 abbrev pub brackets_tree : Brackets → the_brackets.Brackets

@@ -7,6 +7,7 @@ use Rattle.ir_tables.specs.declared.opcode.Opcode.{Opcode}
 use Rattle.phrase_rows.specs.Row.{among}
 use Rattle.ir_tables.specs.MayHave.{may_have}
 use Rattle.ir_tables.specs.declared.opcode.Opcode.TheVariants as op
+use Rattle.ir_tables.specs.declared.width.TheConstants.{WIDEST}
 use Rattle.module_arena.specs.Forms.{is_binary, is_cast, is_constant_cast, is_constant_binary, has_constants, is_not_empty}
 use Rattle.module_arena.specs.Module.{LocalName, Named, Numbered, Constant, Integer, Truth, Null, Undef, Poison, ZeroInitializer, Address, ByteString, Aggregate, ElementAddress, Cast, Binary, Constants, no_constants, more_constants, Value, Local, Known, Operand, Incoming, Operation, BinaryOperation, Compare, Convert, Select, Freeze, Phi, Load, Store, Alloca, GetElementPtr, Call, ExtractValue, InsertValue}
 use Rattle.type_table.specs.Tree.{Tree, int, ptr, void, array, struct, named, Trees, no_trees, more_trees}
@@ -43,7 +44,7 @@ Inside (suc depth) P = P depth
 abbrev mutual
   -- a type with no more than so many brackets open at once
   pub IsTypeText : Tree → ℕ → Type 0
-  IsTypeText (int width) depth = (1 ≤ width) × (width ≤ 128)
+  IsTypeText (int width) depth = (1 ≤ width) × (width ≤ WIDEST)
   IsTypeText ptr depth = Unit {0}
   IsTypeText void depth = Unit {0}
   IsTypeText (array count element) depth = (count < 10 ^ 64) × Inside depth (IsTypeText element)
@@ -58,7 +59,7 @@ abbrev mutual
 -- a number that a constant of this type writes
 abbrev pub IsNumberText : Tree → ℕ → Type 0
 IsNumberText (int width) n = (n < 10 ^ 64) × (2 ^ width - n < 10 ^ 64)
-IsNumberText _ n = (n < 10 ^ 64) × (2 ^ 128 - n < 10 ^ 64)
+IsNumberText _ n = (n < 10 ^ 64) × (2 ^ WIDEST - n < 10 ^ 64)
 
 abbrev mutual
   -- a constant of this type with no more than so many brackets open at once, where types have no more than `nesting`

@@ -1,5 +1,6 @@
 -- For `items_stand_for_their_module`: what a module keeps so that its canonical items stand for it.
 use Rattle.std.specs.Prelude.{◌≡◌, ℕ, suc, ◌^◌, ◌<◌, ◌==◌, Bool, true, false, List, [], ◌∷◌, map, Option, Some, None}
+use Rattle.ir_tables.specs.declared.width.TheConstants.{WIDEST}
 use Rattle.type_table.specs.Tree.{Tree, int, ptr, void}
 use Rattle.module_arena.specs.Module.{LocalName, Named, Numbered, Constant, Integer, Truth, Null, Undef, Poison, ZeroInitializer, Address, ByteString, Aggregate, ElementAddress, Cast, Binary, Constants, no_constants, more_constants, Value, Local, Known, Operand, Incoming, Operation, BinaryOperation, Compare, Convert, Select, Freeze, Phi, Load, Store, Alloca, GetElementPtr, Call, ExtractValue, InsertValue, Instruction, Case, Ending, ReturnVoid, Return, Jump, Branch, Switch, Unreachable, Block, Parameter, Variable, Function, Module}
 
@@ -11,7 +12,7 @@ is_bit _ = false
 -- a number below 2^N at iN, and below 2^128 at any other type
 abbrev pub IsExactNumber : Tree → ℕ → Type 0
 IsExactNumber (int width) n = n < 2 ^ width
-IsExactNumber _ n = n < 2 ^ 128
+IsExactNumber _ n = n < 2 ^ WIDEST
 
 abbrev mutual
   -- numbers in their range, and truths at types other than i1 alone

@@ -8,6 +8,7 @@ use Rattle.ir_tables.specs.declared.flag.Flag.{Flag}
 use Rattle.ir_tables.specs.declared.flag.Flag.TheVariants.{Inbounds, Nusw, Nuw}
 use Rattle.ir_tables.specs.declared.opcode.Opcode.{Opcode}
 use Rattle.ir_tables.specs.declared.opcode.Opcode.TheVariants as op
+use Rattle.ir_tables.specs.declared.width.TheConstants.{WIDEST}
 use Rattle.type_table.specs.Tree.{Tree, int}
 use Rattle.module_arena.specs.Module.{Constant, Integer, Truth, Null, Undef, Poison, ZeroInitializer, Address, ByteString, Aggregate, ElementAddress, Cast, Binary, Constants, no_constants, more_constants, Brackets, Square, Braces, Packed, Value, Local, Known, Operand}
 use Rattle.canonical.specs.Phrase.{Phrase, none, word, number, comma, ◌␣◌, ◌⌢◌, each, listed, enclosed, in_parentheses}
@@ -43,7 +44,7 @@ truth false = word (codes "false")
 -- an integer at a type: signed decimal, and at i1 `true` or `false`
 abbrev pub integer_phrase : Tree → ℕ → Phrase
 integer_phrase (int width) n = if width == 1 then truth (n == 1) else number (signed_spelling width n)
-integer_phrase _ n = number (signed_spelling 128 n)
+integer_phrase _ n = number (signed_spelling WIDEST n)
 
 -- constants in their brackets
 abbrev pub in_brackets : Brackets → List Phrase → Phrase

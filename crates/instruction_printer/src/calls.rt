@@ -15,7 +15,7 @@ use crate::arithmetic::put_opcode;
 use crate::operands::put_operands;
 use gathered::Gathered;
 use ir_base::Sink;
-use ir_tables::Opcode;
+use ir_tables::{Opcode, WIDEST};
 use module_arena::{Arena, Call, Const, ConstId, Function, Signature, Value};
 use phrase_printer::{Separator, put_constant, put_local, put_signed, put_token, put_type};
 use type_table::{TypeId, TypeTable};
@@ -60,7 +60,7 @@ fn put_address<S: Sink>(
     // What holds of each arena.
     let _count = arena.variable_count();
     match arena.constant(id) {
-        Const::Integer(value) => put_signed(out, sink, 128, *value, behind),
+        Const::Integer(value) => put_signed(out, sink, WIDEST, *value, behind),
         Const::Truth(_) => put_constant(out, sink, arena, ty, id, behind),
         Const::Null => put_constant(out, sink, arena, ty, id, behind),
         Const::Undef => put_constant(out, sink, arena, ty, id, behind),

@@ -11,6 +11,7 @@ use crate::separator::Separator;
 use crate::tokens::put_token;
 use gathered::Gathered;
 use ir_base::Sink;
+use ir_tables::WIDEST;
 use type_table::{IrType, TypeId, TypeTable};
 
 /// Puts `true` or `false`.
@@ -33,7 +34,7 @@ fn put_integer_of<S: Sink>(
     behind: Separator,
 )
     requires wide { 1 ≤ width }
-    requires narrow { width ≤ 128 }
+    requires narrow { width ≤ WIDEST }
     ensures { Prints (state out.old (S.taken sink.old) (S.faults sink.old)) (state out.new (S.taken sink.new) (S.faults sink.new)) (integer_phrase (int width) value (separator_of behind)) }
 {
     if width == 1 {
@@ -59,10 +60,10 @@ pub(crate) fn put_integer<S: Sink>(
     let _count = types.type_count();
     match types.get(ty) {
         IrType::Int(width) => put_integer_of(out, sink, *width, value, behind),
-        IrType::Ptr => put_signed(out, sink, 128, value, behind),
-        IrType::Void => put_signed(out, sink, 128, value, behind),
-        IrType::Array(_, _) => put_signed(out, sink, 128, value, behind),
-        IrType::Struct(_, _) => put_signed(out, sink, 128, value, behind),
-        IrType::Named(_) => put_signed(out, sink, 128, value, behind),
+        IrType::Ptr => put_signed(out, sink, WIDEST, value, behind),
+        IrType::Void => put_signed(out, sink, WIDEST, value, behind),
+        IrType::Array(_, _) => put_signed(out, sink, WIDEST, value, behind),
+        IrType::Struct(_, _) => put_signed(out, sink, WIDEST, value, behind),
+        IrType::Named(_) => put_signed(out, sink, WIDEST, value, behind),
     }
 }

@@ -1,5 +1,6 @@
 //! Numbers in decimal.
 ghost use Rattle.std.specs.Prelude.{◌≡◌, ◌≤◌, ◌^◌, ◌-◌};
+ghost use Rattle.ir_tables.specs.declared.width.TheConstants.{WIDEST};
 ghost use Rattle.gathered.specs.Told.{state, Tells};
 ghost use Rattle.name_rules.specs.Spelled.{decimal};
 ghost use Rattle.canonical.specs.Names.{natural, signed_spelling};
@@ -31,7 +32,7 @@ pub fn put_natural<S: Sink>(out: &mut Gathered, sink: &mut S, value: u64, behind
 #[tactic(auto, using(crate::proofs::Numerals::magnitude_is, crate::proofs::Printing::tells_then))]
 fn put_signed_digits<S: Sink>(out: &mut Gathered, sink: &mut S, width: u8, value: u128)
     requires wide { 1 ≤ width }
-    requires narrow { width ≤ 128 }
+    requires narrow { width ≤ WIDEST }
     ensures { Tells (state out.old (S.taken sink.old) (S.faults sink.old)) (state out.new (S.taken sink.new) (S.faults sink.new)) (signed_spelling width value) }
 {
     let half = half_of(width);
@@ -47,7 +48,7 @@ fn put_signed_digits<S: Sink>(out: &mut Gathered, sink: &mut S, width: u8, value
 #[tactic(auto, using(crate::proofs::Numerals::half_is))]
 fn half_of(width: u8) -> u128
     requires wide { 1 ≤ width }
-    requires narrow { width ≤ 128 }
+    requires narrow { width ≤ WIDEST }
     ensures { result ≡ 2 ^ (width - 1) }
 {
     1 << (width - 1)
@@ -63,7 +64,7 @@ pub fn put_signed<S: Sink>(
     behind: Separator,
 )
     requires wide { 1 ≤ width }
-    requires narrow { width ≤ 128 }
+    requires narrow { width ≤ WIDEST }
     ensures { Prints (state out.old (S.taken sink.old) (S.faults sink.old)) (state out.new (S.taken sink.new) (S.faults sink.new)) (number (signed_spelling width value) (separator_of behind)) }
 {
     put_signed_digits(out, sink, width, value);
