@@ -1,11 +1,12 @@
 -- For `Checked::seal`: the forms that instructions and constants have by their phrases: opcodes, flags, and counts of parts.
-use Rattle.std.specs.Prelude.{ℕ, ◌^◌, Bool, true, false, not, ◌&&◌, ◌||◌, nat_lt, List, [], ◌∷◌, Option, Some, None, is_some}
+use Rattle.std.specs.Prelude.{ℕ, Bool, true, false, not, ◌&&◌, ◌||◌, nat_lt, List, [], ◌∷◌, Option, Some, None, is_some}
 use Rattle.std.specs.List.{list_all}
 use Rattle.ir_tables.specs.declared.opcode.Opcode.{Opcode}
 use Rattle.ir_tables.specs.declared.opcode.Opcode.TheVariants as op
 use Rattle.ir_tables.specs.Flag.{flags}
 use Rattle.ir_tables.specs.Flags.{has_flag}
 pub use Rattle.ir_tables.specs.MayHave.{may_have}
+use Rattle.module_arena.specs.declared.arena.TheConstants.{INDEX_LIMIT}
 use Rattle.module_arena.specs.Module.{Constant, Constants, Operation, Instruction}
 use Rattle.module_arena.specs.Module.Constant.{ElementAddress, Cast, Binary}
 use Rattle.module_arena.specs.Module.Constants.{no_constants, more_constants}
@@ -63,12 +64,12 @@ is_not_empty (x ∷ xs) = true
 
 -- indices are numbers of 32 bits
 abbrev pub are_indices : List ℕ → Bool
-are_indices indices = is_not_empty indices && list_all (λ k. nat_lt k (2 ^ 32)) indices
+are_indices indices = is_not_empty indices && list_all (λ k. nat_lt k INDEX_LIMIT) indices
 
 -- an alignment that is stated is below 2^32
 abbrev pub is_small_alignment : Option ℕ → Bool
 is_small_alignment None = true
-is_small_alignment (Some n) = nat_lt n (2 ^ 32)
+is_small_alignment (Some n) = nat_lt n INDEX_LIMIT
 
 -- the opcode, the flags and the counts of parts suit the phrase
 abbrev pub is_operation_of_phrase : Operation → Bool

@@ -24,6 +24,9 @@ use type_table::{IrType, StructBody, StructId, TypeFault, TypeId, TypeTable};
 /// How many structs, variables, aliases or functions a module has at most.
 pub const COUNT_LIMIT: u32 = 262_144;
 
+/// An index of `extractvalue` or `insertvalue` is less, and so is an alignment: each has 32 bits.
+pub const INDEX_LIMIT: u64 = 1 << 32;
+
 /// How many leaves a value that is handed on has at most.
 pub const LEAF_LIMIT: u64 = 65_536;
 

@@ -36,7 +36,7 @@ mod names;
 mod result;
 mod same;
 
-pub use arena::{Arena, COUNT_LIMIT, LEAF_LIMIT};
+pub use arena::{Arena, COUNT_LIMIT, INDEX_LIMIT, LEAF_LIMIT};
 pub use boxed::Boxed;
 pub use checked::Checked;
 pub use constant::{Brackets, Const, ConstAddress, ConstPair, TypedConst, TypedConstList};

@@ -1,11 +1,12 @@
 //! Numbers as they stand in records.
-ghost use Rattle.std.specs.Prelude.{◌≡◌, ◌<◌, ◌^◌, nat_lt};
+ghost use Rattle.std.specs.Prelude.{◌≡◌, ◌<◌, nat_lt};
 ghost use Rattle.record_table.specs.Layout.{asking, number};
 ghost use Rattle.record_table.specs.Fields.{below, index, truth};
 ghost use Rattle.record_read.specs.Reader.{Reads, ReadsAs};
 ghost use Rattle.record_read.specs.Fields.{IsBelow};
 
 use crate::RecordReader;
+use module_arena::INDEX_LIMIT;
 
 /// A number below a limit. Another breaks rule 3.
 pub fn read_below(reader: &mut RecordReader<'_>, limit: u64) -> u64
@@ -39,12 +40,9 @@ pub fn read_place(reader: &mut RecordReader<'_>, count: u64) -> Option<u64>
     None
 }
 
-/// How many indices there are of 32 bits.
-const INDEX_LIMIT: u64 = 0x1_0000_0000;
-
 /// An index of `extractvalue` or `insertvalue`, of 32 bits.
 pub fn read_index(reader: &mut RecordReader<'_>) -> u32
-    ensures value { (index.read reader.old.walk).0 < 2 ^ 32 → result ≡ (index.read reader.old.walk).0 }
+    ensures value { (index.read reader.old.walk).0 < INDEX_LIMIT → result ≡ (index.read reader.old.walk).0 }
     ensures reader { reader.new ≡ record reader.old { walk = (index.read reader.old.walk).1 } }
 {
     u32::try_from(read_below(reader, INDEX_LIMIT)).unwrap_or(0)

@@ -9,6 +9,7 @@ use Rattle.ir_tables.specs.declared.linkage.Linkage.TheVariants.{External}
 use Rattle.ir_tables.specs.Predicate.{predicate_code, predicate_of_code}
 use Rattle.ir_tables.specs.Linkage.{linkage_code, linkage_of_code}
 use Rattle.type_table.specs.Tree.{Tree, void, Structs}
+use Rattle.module_arena.specs.declared.arena.TheConstants.{INDEX_LIMIT}
 use Rattle.module_arena.specs.Module.{Bytes, LocalName, Named, Numbered}
 use Rattle.module_arena.specs.Same.{same_type, same_local}
 use Rattle.module_arena.specs.Forms.{are_flags_of}
@@ -85,7 +86,7 @@ block k = indexed same_local k.blocks (Numbered 0)
 
 -- an index of 32 bits
 abbrev pub index : Layout ℕ
-index = below 0x1_0000_0000
+index = below INDEX_LIMIT
 
 -- the code of a truth
 abbrev pub bool_code : Bool → ℕ
