@@ -9,6 +9,7 @@ use Rattle.ir_instructions.specs.Tree.{SignatureTree, IncomingTree, OperationTre
 use Rattle.ir_syntax.specs.Counts.{block_count}
 use Rattle.ir_syntax.specs.Tree.{ParameterTree}
 use Rattle.type_table.specs.Tree.{Structs}
+use Rattle.module_arena.specs.declared.arena.TheConstants.{INDEX_LIMIT}
 use Rattle.module_arena.specs.Lists.{Lists}
 use Rattle.module_arena.specs.Module as m
 use Rattle.module_arena.specs.Module.{LocalName}
@@ -42,7 +43,7 @@ labels_of parameters blocks = map (λ (b : m.Block). b.name) (body_of parameters
 
 -- at most 32 bits
 abbrev pub IsShortInteger : Integer → Type 0
-IsShortInteger written = natural written < 2 ^ 32
+IsShortInteger written = natural written < INDEX_LIMIT
 
 -- an alignment has at most 32 bits
 abbrev pub IsShortAlignment : Option Integer → Type 0

@@ -8,6 +8,7 @@ use Rattle.ir_terminals.specs.declared.values.PlacedName.{PlacedName}
 use Rattle.type_table.specs.declared.measure.Measure.{Measure}
 use Rattle.type_table.specs.declared.measure.TheConstants.{NESTING_LIMIT, PARTS_LIMIT, SIZE_LIMIT}
 use Rattle.type_table.specs.declared.layout.Layout.{Layout}
+use Rattle.module_arena.specs.declared.arena.TheConstants.{INDEX_LIMIT}
 use Rattle.name_rules.specs.declared.fault.ResolveFault.{ResolveFault}
 use Rattle.name_rules.specs.declared.fault.ResolveFault.TheVariants as faults
 use Rattle.name_rules.specs.Spelled.{spelled_local}
@@ -79,7 +80,7 @@ integer_fits bits written = ask (fits bits written) (faults.ConstantRange writte
 
 -- an alignment or an index, from 0 to 2^32 - 1
 abbrev pub is_index : Integer → Demand
-is_index written = ask (is_natural written && nat_lt written.magnitude (2 ^ 32)) (faults.ConstantRange written.place)
+is_index written = ask (is_natural written && nat_lt written.magnitude INDEX_LIMIT) (faults.ConstantRange written.place)
 
 -- the length of an array, not negative
 abbrev pub is_length : Integer → Demand

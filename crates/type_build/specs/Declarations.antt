@@ -1,9 +1,10 @@
 -- For `declare_variable`, `declare_function`, `declare_definition` and `declare_alias`: what is asked for where an
 -- entry is declared, and what is declared of it.
-use Rattle.std.specs.Prelude.{◌≡◌, ℕ, ◌^◌, ◌<◌, ◌≤◌, ◌+◌, List, [], length, slice_get, All, Option, Some, None}
+use Rattle.std.specs.Prelude.{◌≡◌, ℕ, ◌<◌, ◌≤◌, ◌+◌, List, [], length, slice_get, All, Option, Some, None}
 use Rattle.ir_terminals.specs.declared.values.Integer.{Integer}
 use Rattle.ir_syntax.specs.Tree.{AliasTypeTree, PlainAlias, FunctionAlias}
 use Rattle.type_table.specs.Tree.{Structs}
+use Rattle.module_arena.specs.declared.arena.TheConstants.{INDEX_LIMIT}
 use Rattle.module_arena.specs.declared.entry.Alias as the_alias
 use Rattle.module_arena.specs.declared.entry.GlobalId.{GlobalId}
 use Rattle.module_arena.specs.Lists.{Lists, global_name}
@@ -35,7 +36,7 @@ one_function_more a = record (counts a) { functions = length a.functions + 1 }
 -- an alignment has at most 32 bits
 abbrev pub IsShort : Option Integer → Type 0
 IsShort None = Unit {0}
-IsShort (Some written) = natural written < 2 ^ 32
+IsShort (Some written) = natural written < INDEX_LIMIT
 
 -- the variable as it is declared
 abbrev pub without_initialiser : Variable → Variable

@@ -1,5 +1,6 @@
 //! Integers, as a text writes them, at their places.
 ghost use Rattle.std.specs.Prelude.{◌≡◌, ◌<◌, ◌≤◌, ◌^◌};
+ghost use Rattle.module_arena.specs.declared.arena.TheConstants.{INDEX_LIMIT};
 ghost use Rattle.name_rules.specs.Written.{natural, modulo};
 
 use ir_tables::WIDEST;
@@ -18,7 +19,7 @@ pub(crate) fn length_of(written: &Integer) -> u64
 
 /// What an index or an alignment stands for, which has at most 32 bits.
 pub fn index_of(written: &Integer) -> u32
-    requires { natural written.now < 2 ^ 32 }
+    requires { natural written.now < INDEX_LIMIT }
     ensures { result ≡ natural written.now }
 {
     length_of(written) as u32

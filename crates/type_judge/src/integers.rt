@@ -1,7 +1,8 @@
 //! Judges integers as they are written: constants, alignments, indices and lengths.
 #![tactic(auto, using(crate::proofs::Parts::judged_front, crate::proofs::Parts::judged_rest, crate::proofs::Parts::judged_stop, crate::proofs::Parts::judged_next))]
 
-ghost use Rattle.std.specs.Prelude.{◌≡◌, ◌≤◌, ◌^◌, [], ◌∷◌, ◌&&◌, ◌||◌, not, nat_lt, nat_le, map, OnOk, Some, None};
+ghost use Rattle.std.specs.Prelude.{◌≡◌, ◌≤◌, [], ◌∷◌, ◌&&◌, ◌||◌, not, nat_lt, nat_le, map, OnOk, Some, None};
+ghost use Rattle.module_arena.specs.declared.arena.TheConstants.{INDEX_LIMIT};
 ghost use Rattle.name_rules.specs.Demand.{is_natural, fits, integer_fits, is_index, is_length};
 ghost use Rattle.name_rules.specs.FunctionDemands.{index_demands, alignment_demands};
 ghost use Rattle.type_judge.specs.Judging.{IsJudged};
@@ -61,7 +62,7 @@ pub fn check_integer(bits: u8, written: &Integer) -> Result<(), ResolveFault>
 
 /// Whether the integer is an index or an alignment.
 fn is_index(written: &Integer) -> bool
-    ensures { result ≡ (is_natural written.now && nat_lt written.now.magnitude (2 ^ 32)) }
+    ensures { result ≡ (is_natural written.now && nat_lt written.now.magnitude INDEX_LIMIT) }
 {
     if !is_natural(written) {
         return false;
