@@ -1,5 +1,6 @@
 -- For `items_stand_for_their_module` and `canon_reads_to_no_other`: the laws of the items of canonical text.
 use Rattle.std.specs.Prelude.{◌≡◌}
+use Rattle.type_table.specs.declared.measure.TheConstants.{NESTING_LIMIT}
 use Rattle.module_arena.specs.Module.{Module}
 use Rattle.canonical.specs.Canonical.{canon}
 use Rattle.canon_items.specs.Items.{canon_items}
@@ -14,4 +15,4 @@ ItemsStandForIt = (m : Module) → IsExactModule m → module_of_items (canon_it
 
 -- the canonical text of such a module, where it can be written, reads to no other
 abbrev pub ReadsToNoOther : Type 0
-ReadsToNoOther = (m n : Module) → IsWritable 64 m → IsExactModule m → Reads (canon m) n → n ≡ m
+ReadsToNoOther = (m n : Module) → IsWritable NESTING_LIMIT m → IsExactModule m → Reads (canon m) n → n ≡ m

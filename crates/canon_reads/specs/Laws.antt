@@ -2,6 +2,7 @@
 use Rattle.std.specs.Prelude.{◌≡◌, ◌↔◌, None}
 use Rattle.ir_lexer.specs.Pieces.{tokens_of}
 use Rattle.ir_lexer.specs.Tokens.{Tokens}
+use Rattle.type_table.specs.declared.measure.TheConstants.{NESTING_LIMIT}
 use Rattle.module_arena.specs.Module.{Module}
 use Rattle.module_arena.specs.WellFormed.{IsWellFormed}
 use Rattle.module_arena.specs.Valid.{IsValid}
@@ -21,7 +22,7 @@ pub record IsGoodModule (m : Module) : Type 0 where
 
 -- such a module can be written so that its text is read back
 abbrev pub IsWritten : Type 0
-IsWritten = (m : Module) → IsGoodModule m → IsWritable 64 m
+IsWritten = (m : Module) → IsGoodModule m → IsWritable NESTING_LIMIT m
 
 -- the tokens of its canonical text are the spellings of its pieces
 abbrev pub HasItsTokens : Type 0

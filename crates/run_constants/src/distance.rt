@@ -6,7 +6,7 @@ ghost use Rattle.run_rules.specs.Displace as rules;
 ghost use Rattle.run_rules.specs.Leaves as leaves;
 ghost use Rattle.type_table.specs.Layout.{size};
 ghost use Rattle.type_table.specs.Shape.{nesting};
-ghost use Rattle.type_table.specs.declared.measure.TheConstants.{SIZE_LIMIT};
+ghost use Rattle.type_table.specs.declared.measure.TheConstants.{NESTING_LIMIT, SIZE_LIMIT};
 ghost use Rattle.run_shapes.specs.Shapes.{shape_in};
 ghost use Rattle.run_constants.specs.Places.{IsPlace, index_at, offset_at, shape_at, term_reach};
 ghost use Rattle.run_constants.specs.Sound.{names_of};
@@ -40,7 +40,7 @@ pub(crate) struct Reached {
 pub(crate) fn before_all(types: &TypeTable, ty: TypeId) -> Reached
     requires known { ty < length types.now.types }
     ensures start { result ≡ record { place = PathPlace.Whole ty; distance = Some (pos 0) } }
-    ensures few { nesting (shape_in types.now ty) ≤ 64 }
+    ensures few { nesting (shape_in types.now ty) ≤ NESTING_LIMIT }
 {
     // No type of a table nests deeper than its limits.
     let _count = types.type_count();
