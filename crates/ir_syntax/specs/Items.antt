@@ -12,7 +12,7 @@ use Rattle.ir_terminals.specs.Values.{place_of_token}
 use Rattle.ir_terminals.specs.Tokens.{word, quoted_row}
 use Rattle.ir_terminals.specs.Brackets.{matched_row, braced_row}
 use Rattle.ir_instructions.specs.Dropped.{function_attribute_shape, comma_shape}
-use Rattle.ir_syntax.specs.declared.read.TheConstants.{NESTING_LIMIT}
+use Rattle.type_table.specs.declared.measure.TheConstants.{NESTING_LIMIT}
 use Rattle.ir_syntax.specs.Tree.{ItemTree, SourceFilename, DataLayout, TargetTriple, Attributes, Metadata}
 use Rattle.ir_syntax.specs.Variables.{struct_row}
 use Rattle.ir_syntax.specs.Aliases.{global_row}

@@ -8,7 +8,7 @@ use Rattle.ir_syntax.specs.Answers.{FirstBad}
 use Rattle.ir_syntax.specs.Items.{IsViable}
 use Rattle.ir_syntax.specs.declared.read.SyntaxFault.{SyntaxFault}
 use Rattle.ir_syntax.specs.declared.read.SyntaxFault.TheVariants as faults
-use Rattle.ir_syntax.specs.declared.read.TheConstants.{NESTING_LIMIT}
+use Rattle.type_table.specs.declared.measure.TheConstants.{NESTING_LIMIT}
 
 -- the language with one nest more
 abbrev pub deeper : Limits

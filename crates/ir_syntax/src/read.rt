@@ -25,6 +25,7 @@ use ir_tables::Opcode;
 use ir_terminals::{Cursor, Fault, Limits, Terminal};
 use std::alloc::{AllocError, Global};
 use thiserror::Error;
+use type_table::NESTING_LIMIT;
 
 /// Why a text is not read: the first place with which no list of items can go on, and why it can't.
 #[derive(Debug, Drop, PartialEq, Eq, Error)]
@@ -56,9 +57,6 @@ impl From<AllocError> for SyntaxFault {
         SyntaxFault::Memory
     }
 }
-
-/// How deep types and constants nest at most.
-const NESTING_LIMIT: u8 = 64;
 
 /// The language.
 const LANGUAGE: Limits = Limits {

@@ -17,12 +17,13 @@ use meanings::tell_meaning;
 use std::io;
 use std::io::Read;
 use std::mem::size_of;
+use type_table::NESTING_LIMIT;
 
 /// The most tokens of a text that are printed one by one; of a longer one the last is.
 const FEW: usize = 40;
 
 const LIMITS: Limits = Limits {
-    nesting: 64,
+    nesting: NESTING_LIMIT,
     with_left_out: false,
 };
 
