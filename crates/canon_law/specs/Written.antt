@@ -10,6 +10,7 @@ use Rattle.ir_tables.specs.declared.opcode.Opcode.TheVariants as op
 use Rattle.ir_tables.specs.declared.width.TheConstants.{WIDEST}
 use Rattle.module_arena.specs.Forms.{is_binary, is_cast, is_constant_cast, is_constant_binary, has_constants, is_not_empty}
 use Rattle.module_arena.specs.Module.{LocalName, Named, Numbered, Constant, Integer, Truth, Null, Undef, Poison, ZeroInitializer, Address, ByteString, Aggregate, ElementAddress, Cast, Binary, Constants, no_constants, more_constants, Value, Local, Known, Operand, Incoming, Operation, BinaryOperation, Compare, Convert, Select, Freeze, Phi, Load, Store, Alloca, GetElementPtr, Call, ExtractValue, InsertValue}
+use Rattle.canon_law.specs.declared.laws.TheConstants.{DIGIT_LIMIT}
 use Rattle.type_table.specs.Tree.{Tree, int, ptr, void, array, struct, named, Trees, no_trees, more_trees}
 
 -- each is a byte
@@ -47,7 +48,7 @@ abbrev mutual
   IsTypeText (int width) depth = (1 ≤ width) × (width ≤ WIDEST)
   IsTypeText ptr depth = Unit {0}
   IsTypeText void depth = Unit {0}
-  IsTypeText (array count element) depth = (count < 10 ^ 64) × Inside depth (IsTypeText element)
+  IsTypeText (array count element) depth = (count < 10 ^ DIGIT_LIMIT) × Inside depth (IsTypeText element)
   IsTypeText (struct packed fields) depth = Inside depth (AreTypeTexts fields)
   IsTypeText (named name) depth = IsNameText name
 
@@ -58,8 +59,8 @@ abbrev mutual
 
 -- a number that a constant of this type writes
 abbrev pub IsNumberText : Tree → ℕ → Type 0
-IsNumberText (int width) n = (n < 10 ^ 64) × (2 ^ width - n < 10 ^ 64)
-IsNumberText _ n = (n < 10 ^ 64) × (2 ^ WIDEST - n < 10 ^ 64)
+IsNumberText (int width) n = (n < 10 ^ DIGIT_LIMIT) × (2 ^ width - n < 10 ^ DIGIT_LIMIT)
+IsNumberText _ n = (n < 10 ^ DIGIT_LIMIT) × (2 ^ WIDEST - n < 10 ^ DIGIT_LIMIT)
 
 abbrev mutual
   -- a constant of this type with no more than so many brackets open at once, where types have no more than `nesting`
@@ -105,15 +106,15 @@ abbrev pub AreTypeListTexts : ℕ → List Tree → Type 0
 AreTypeListTexts nesting [] = Unit {0}
 AreTypeListTexts nesting (t ∷ ts) = IsTypeText t nesting × AreTypeListTexts nesting ts
 
--- numbers of at most 64 digits
+-- numbers of no more digits than the limit
 abbrev pub AreSmall : List ℕ → Type 0
 AreSmall [] = Unit {0}
-AreSmall (n ∷ ns) = (n < 10 ^ 64) × AreSmall ns
+AreSmall (n ∷ ns) = (n < 10 ^ DIGIT_LIMIT) × AreSmall ns
 
--- an alignment, where there is one, of at most 64 digits
+-- an alignment, where there is one, of no more digits than the limit
 abbrev pub IsAlignmentText : Option ℕ → Type 0
 IsAlignmentText None = Unit {0}
-IsAlignmentText (Some n) = n < 10 ^ 64
+IsAlignmentText (Some n) = n < 10 ^ DIGIT_LIMIT
 
 -- the count of an alloca, where there is one
 abbrev pub IsCountText : ℕ → Option Operand → Type 0

@@ -1,6 +1,10 @@
 //! The laws of canonical text.
 ghost use Rattle.canon_law.specs.Laws.{PiecesAreItsTokens, ItemsAreRead, ItemsAreOnce};
 
+/// The most digits of a number in a module that canonical text can write (`IsWritable`): more than any number of a module
+/// that is well formed has.
+pub const DIGIT_LIMIT: u32 = 64;
+
 /// The tokens of the canonical text of a module that canonical text can write (`IsWritable`) are the spellings of its pieces.
 pub fn pieces_are_tokens()
     ensures { PiecesAreItsTokens }

@@ -14,4 +14,4 @@
 
 mod laws;
 
-pub use laws::{one_list_of_items, pieces_are_tokens, tokens_are_items};
+pub use laws::{DIGIT_LIMIT, one_list_of_items, pieces_are_tokens, tokens_are_items};
