@@ -1,8 +1,8 @@
--- Every value of `Opcode` stands in the list of its table.
-use Rattle.std.proofs.Common.{refl}
+-- Every value of `Opcode` stands in the list of its table, which is looked up by its words and by its codes.
+use Rattle.std.proofs.Common.{refl, bytes_eq, nat_eq}
 use Rattle.ir_tables.specs.declared.opcode.Opcode.TheVariants.{Add, Sub, Mul, UDiv, SDiv, URem, SRem, Shl, LShr, AShr, And, Or, Xor, ICmp, Trunc, ZExt, SExt, PtrToInt, IntToPtr, Select, Freeze, Phi, Load, Store, Alloca, GetElementPtr, Call, ExtractValue, InsertValue, Ret, Br, Switch, Unreachable}
-use Rattle.ir_tables.specs.Opcode.{opcodes}
-use Rattle.ir_tables.proofs.Tables.{IsListed}
+use Rattle.ir_tables.specs.Opcode.{opcode_word, opcode_code, opcodes}
+use Rattle.ir_tables.proofs.Tables.{IsListed, IsKeyed, keyed_by_word, keyed_by_code}
 
 pub opcode_listed : IsListed opcodes
 opcode_listed Add = (0, refl)
@@ -38,3 +38,9 @@ opcode_listed Ret = (29, refl)
 opcode_listed Br = (30, refl)
 opcode_listed Switch = (31, refl)
 opcode_listed Unreachable = (32, refl)
+
+pub opcode_words : IsKeyed bytes_eq opcode_word opcodes
+opcode_words = keyed_by_word opcode_word opcodes opcode_listed
+
+pub opcode_codes : IsKeyed nat_eq opcode_code opcodes
+opcode_codes = keyed_by_code opcode_code opcodes opcode_listed

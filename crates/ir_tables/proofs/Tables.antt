@@ -55,6 +55,22 @@ IsPlaceOf keys key found = (place : ℕ) → (found ≡ Some place) ↔ (slice_g
 abbrev pub IsListed : {A : Type 0} → List A → Type 0
 IsListed {A} values = (value : A) → (place : ℕ) × (slice_get values place ≡ Some value)
 
+-- values that are looked up by what `key_of` reads of them: a test tells whether two keys are one, and each value stands in the list
+pub record IsKeyed {A K : Type 0} (same : K → K → Bool) (key_of : A → K) (values : List A) : Type 0 where
+  pub decides : (x y : K) → Decides (same x y) (x ≡ y)
+  pub listed : IsListed values
+
+pub keyed_by_word : {A : Type 0} (word_of : A → List ℕ) (values : List A) → IsListed values → IsKeyed bytes_eq word_of values
+keyed_by_word word_of values listed = record { decides = bytes_eq-Decides; listed = listed }
+
+pub keyed_by_code : {A : Type 0} (code_of : A → ℕ) (values : List A) → IsListed values → IsKeyed nat_eq code_of values
+keyed_by_code code_of values listed = record { decides = Decides-eqb; listed = listed }
+
+-- what a look-up gives: the value that has the key, and it alone has it; and that is what the search of the definition finds
+pub record IsGiven {A K : Type 0} (same : K → K → Bool) (key_of : A → K) (values : List A) (key : K) (given : Option A) : Type 0 where
+  pub exact : (value : A) → (given ≡ Some value) ↔ (key_of value ≡ key)
+  pub value : given ≡ find (λ value. same (key_of value) key) values
+
 none_has_key : {A K : Type 0} (key_of : A → K) (values : List A) (keys : List K) (key : K) → IsListed values → keys ≡ map key_of values → IsPlaceOf keys key None → (value : A) → key_of value ≡ key → ⊥
 none_has_key key_of values keys key listed e found value has =
     let (place, here) = listed value in
@@ -62,8 +78,11 @@ none_has_key key_of values keys key listed e found value has =
     let contrary : None ≡ Some place = (found place).1 there in
     cc
 
-pub place_below : {A K : Type 0} {keys : List K} {key : K} {place : ℕ} (key_of : A → K) (values : List A) → keys ≡ map key_of values → IsPlaceOf keys key (Some place) → place < length values
-place_below {A} {K} {keys} {key} {place} key_of values e found = let there = slice_get_within keys place key ((found place).0 refl) in let same : length keys ≡ length values = ap length e ∙ length-map values key_of in omega (arith, there)
+below_length : {A K : Type 0} (key_of : A → K) (values : List A) (keys : List K) (key : K) (place : ℕ) → keys ≡ map key_of values → IsPlaceOf keys key (Some place) → place < length values
+below_length key_of values keys key place e found = let there = slice_get_within keys place key ((found place).0 refl) in let same : length keys ≡ length values = ap length e ∙ length-map values key_of in omega (arith, there)
+
+pub place_below : {A K : Type 0} {same : K → K → Bool} {key_of : A → K} {values : List A} {keys : List K} {key : K} {place : ℕ} → IsKeyed same key_of values → keys ≡ map key_of values → IsPlaceOf keys key (Some place) → place < length values
+place_below {A} {K} {same} {key_of} {values} {keys} {key} {place} keyed e found = below_length key_of values keys key place e found
 
 only_has_key : {A K : Type 0} (key_of : A → K) (values : List A) (keys : List K) (key : K) (place : ℕ) → IsListed values → keys ≡ map key_of values → IsPlaceOf keys key (Some place) → (read value : A) → slice_get values place ≡ Some read → (Some read ≡ Some value) ↔ (key_of value ≡ key)
 only_has_key key_of values keys key place listed e found read value here = (
@@ -139,19 +158,17 @@ find_present same decides key_of values keys key place listed e found read here 
     here ((decides (key_of read) key).1 has))
 
 -- what is given where no place has the key: nothing, since no value has it
-pub absent_exact : {A K : Type 0} {keys : List K} {key : K} {given : Option A} (key_of : A → K) (values : List A) → IsListed values → keys ≡ map key_of values → IsPlaceOf keys key None → given ≡ None → (value : A) → (given ≡ Some value) ↔ (key_of value ≡ key)
-absent_exact {A} {K} {keys} {key} {given} key_of values listed e found none value = (λ some. absurd (cc), λ has. absurd (none_has_key key_of values keys key listed e found value has))
-
-pub absent_value : {A K : Type 0} {keys : List K} {key : K} {given : Option A} (same : K → K → Bool) → ((x y : K) → Decides (same x y) (x ≡ y)) → (key_of : A → K) (values : List A) → IsListed values → keys ≡ map key_of values → IsPlaceOf keys key None → given ≡ None → given ≡ find (λ value. same (key_of value) key) values
-absent_value {A} {K} {keys} {key} {given} same decides key_of values listed e found none = none ∙ find_absent same decides key_of values key (none_has_key key_of values keys key listed e found)
+pub absent : {A K : Type 0} {same : K → K → Bool} {key_of : A → K} {values : List A} {keys : List K} {key : K} {given : Option A} → IsKeyed same key_of values → keys ≡ map key_of values → IsPlaceOf keys key None → given ≡ None → IsGiven same key_of values key given
+absent {A} {K} {same} {key_of} {values} {keys} {key} {given} keyed e found none =
+    let without = none_has_key key_of values keys key keyed.listed e found in record {
+      exact = λ value. (λ some. absurd (cc), λ has. absurd (without value has));
+      value = none ∙ find_absent same keyed.decides key_of values key without;
+    }
 
 -- what is given where a place has the key: the value at that place, and no other value has it
-pub present_exact : {A K : Type 0} {keys : List K} {key : K} {place : ℕ} (key_of : A → K) (values : List A) (default : A) → IsListed values → keys ≡ map key_of values → IsPlaceOf keys key (Some place) → (value : A) → (Some (get_or values place default) ≡ Some value) ↔ (key_of value ≡ key)
-present_exact {A} {K} {keys} {key} {place} key_of values default listed e found value =
-    let here = slice_get-get_or values place default (place_below key_of values e found) in
-    only_has_key key_of values keys key place listed e found (get_or values place default) value here
-
-pub present_value : {A K : Type 0} {keys : List K} {key : K} {place : ℕ} (same : K → K → Bool) → ((x y : K) → Decides (same x y) (x ≡ y)) → (key_of : A → K) (values : List A) (default : A) → IsListed values → keys ≡ map key_of values → IsPlaceOf keys key (Some place) → Some (get_or values place default) ≡ find (λ value. same (key_of value) key) values
-present_value {A} {K} {keys} {key} {place} same decides key_of values default listed e found =
-    let here = slice_get-get_or values place default (place_below key_of values e found) in
-    find_present same decides key_of values keys key place listed e found (get_or values place default) here
+pub present : {A K : Type 0} {same : K → K → Bool} {key_of : A → K} {values : List A} {keys : List K} {key : K} {place : ℕ} → IsKeyed same key_of values → keys ≡ map key_of values → IsPlaceOf keys key (Some place) → (default : A) → IsGiven same key_of values key (Some (get_or values place default))
+present {A} {K} {same} {key_of} {values} {keys} {key} {place} keyed e found default =
+    let here = slice_get-get_or values place default (below_length key_of values keys key place e found) in record {
+      exact = λ value. only_has_key key_of values keys key place keyed.listed e found (get_or values place default) value here;
+      value = find_present same keyed.decides key_of values keys key place keyed.listed e found (get_or values place default) here;
+    }

@@ -1,8 +1,8 @@
--- Every value of `UndefinedKind` stands in the list of its table.
-use Rattle.std.proofs.Common.{refl}
+-- Every value of `UndefinedKind` stands in the list of its table, which is looked up by its words and by its codes.
+use Rattle.std.proofs.Common.{refl, bytes_eq, nat_eq}
 use Rattle.ir_tables.specs.declared.undefined_kind.UndefinedKind.TheVariants.{DivisionByZero, DivisionOverflow, BranchOnPoison, PoisonAddress, OutsideBlock, EndedBlock, Misaligned, WriteToConstant, BadFree, Overlap, NoFunction, AnotherFunctionType, PoisonArgument, Unreachable, BadFormat}
-use Rattle.ir_tables.specs.UndefinedKind.{undefined_kinds}
-use Rattle.ir_tables.proofs.Tables.{IsListed}
+use Rattle.ir_tables.specs.UndefinedKind.{undefined_word, undefined_code, undefined_kinds}
+use Rattle.ir_tables.proofs.Tables.{IsListed, IsKeyed, keyed_by_word, keyed_by_code}
 
 pub undefined_listed : IsListed undefined_kinds
 undefined_listed DivisionByZero = (0, refl)
@@ -20,3 +20,9 @@ undefined_listed AnotherFunctionType = (11, refl)
 undefined_listed PoisonArgument = (12, refl)
 undefined_listed Unreachable = (13, refl)
 undefined_listed BadFormat = (14, refl)
+
+pub undefined_words : IsKeyed bytes_eq undefined_word undefined_kinds
+undefined_words = keyed_by_word undefined_word undefined_kinds undefined_listed
+
+pub undefined_codes : IsKeyed nat_eq undefined_code undefined_kinds
+undefined_codes = keyed_by_code undefined_code undefined_kinds undefined_listed

@@ -1,24 +1,17 @@
-use Rattle.std.proofs.Common.{ap, nat_eq}
-use Rattle.std.proofs.lemmas.Bool.Decides.{Decides-eqb}
+use Rattle.std.proofs.Common.{ap}
 use Rattle.ir_tables.specs.Table.{codes_of}
-use Rattle.ir_tables.specs.Intrinsic.{intrinsic_code, intrinsics, intrinsic_of_code}
-use Rattle.ir_tables.proofs.Tables.{place_below, absent_exact, absent_value, present_exact, present_value}
-use Rattle.ir_tables.proofs.IntrinsicValues.{intrinsic_listed}
+use Rattle.ir_tables.specs.Intrinsic.{intrinsic_of_code}
+use Rattle.ir_tables.proofs.Tables.{place_below, absent, present}
+use Rattle.ir_tables.proofs.IntrinsicValues.{intrinsic_codes}
 use Rattle.ir_tables.proofs.intrinsic.Intrinsic.of_code.Goals as goal
 
-pub returns-in_err-place-clause-exact : goal.returns-in_err-place-clause-exact
-returns-in_err-place-clause-exact c = absent_exact intrinsic_code intrinsics intrinsic_listed (ap codes_of c.table.ensures) c.in_err-place.ensures c.from_residual.ensures
-
-pub returns-in_err-place-clause-value : goal.returns-in_err-place-clause-value
+pub returns-in_err-place : goal.returns-in_err-place
 unfolding intrinsic_of_code
-returns-in_err-place-clause-value c = absent_value nat_eq Decides-eqb intrinsic_code intrinsics intrinsic_listed (ap codes_of c.table.ensures) c.in_err-place.ensures c.from_residual.ensures
+returns-in_err-place c = let none = absent intrinsic_codes (ap codes_of c.table.ensures) c.in_err-place.ensures c.from_residual.ensures in record { exact = none.exact; value = none.value }
 
 pub bounds-place : goal.bounds-place
-bounds-place c = place_below intrinsic_code intrinsics (ap codes_of c.table.ensures) c.in_ok-place.ensures
+bounds-place c = place_below intrinsic_codes (ap codes_of c.table.ensures) c.in_ok-place.ensures
 
-pub returns-clause-exact : goal.returns-clause-exact
-returns-clause-exact c = present_exact intrinsic_code intrinsics _ intrinsic_listed (ap codes_of c.table.ensures) c.in_ok-place.ensures
-
-pub returns-clause-value : goal.returns-clause-value
+pub returns : goal.returns
 unfolding intrinsic_of_code
-returns-clause-value c = present_value nat_eq Decides-eqb intrinsic_code intrinsics _ intrinsic_listed (ap codes_of c.table.ensures) c.in_ok-place.ensures
+returns c = let found = present intrinsic_codes (ap codes_of c.table.ensures) c.in_ok-place.ensures in record { exact = (found _).exact; value = (found _).value }
