@@ -5,11 +5,11 @@ use Rattle.std.specs.Fmt.{decimal}
 use Rattle.std.proofs.lemmas.List.{append_cancel_left, append_assoc}
 use Rattle.std.proofs.lemmas.Option.{slice_get_within}
 use Rattle.std.proofs.lemmas.Bool.{cases_eq, eq-eqb, ne_eqb}
+use Rattle.std.proofs.lemmas.Map.Keys.{any_passes_from_place}
 use Rattle.ir_tables.specs.declared.intrinsic.Intrinsic.{Intrinsic}
 use Rattle.ir_tables.specs.declared.intrinsic.Intrinsic.TheVariants.{Ctpop, Bswap, Bitreverse, Ctlz, Cttz, Abs, Smin, Smax, Umin, Umax, SaddSat, UaddSat, SsubSat, UsubSat, SaddWithOverflow, UaddWithOverflow, SsubWithOverflow, UsubWithOverflow, SmulWithOverflow, UmulWithOverflow, Fshl, Fshr}
 use Rattle.ir_tables.specs.Intrinsic.{intrinsic_word, intrinsic_code, intrinsics}
 use Rattle.ir_tables.specs.IntrinsicName.{IsNamed, IsWidthText, has_width, name_front}
-use Rattle.ir_tables.proofs.Tables.{list_any_at}
 use Rattle.ir_tables.proofs.IntrinsicValues.{intrinsic_listed}
 
 -- what was found behind the front of these bytes
@@ -159,8 +159,8 @@ same_front a b begun =
           let (j, at_j) = intrinsic_listed b in
           let ne = ne_eqb (intrinsic_code a) (intrinsic_code b) other in
           let front : is_front_of_other a b ≡ true = rw (begun, ne) refl in
-          let inner : list_any (λ b. is_front_of_other a b) intrinsics ≡ true = list_any_at (λ b. is_front_of_other a b) intrinsics j b at_j front in
-          let outer : list_any (λ a. list_any (λ b. is_front_of_other a b) intrinsics) intrinsics ≡ true = list_any_at (λ a. list_any (λ b. is_front_of_other a b) intrinsics) intrinsics i a at_i inner in
+          let inner : list_any (λ b. is_front_of_other a b) intrinsics ≡ true = any_passes_from_place (λ b. is_front_of_other a b) intrinsics j b at_j front in
+          let outer : list_any (λ a. list_any (λ b. is_front_of_other a b) intrinsics) intrinsics ≡ true = any_passes_from_place (λ a. list_any (λ b. is_front_of_other a b) intrinsics) intrinsics i a at_i inner in
           let none = none_is in
           absurd (cc)
     ]

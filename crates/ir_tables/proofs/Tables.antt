@@ -1,22 +1,18 @@
 -- What makes rows a table, from a test that computes; and values read at the place of their row.
-use Rattle.std.proofs.Common.{find, inl, inr, ◌≡◌, ◌≢◌, ◌≤◌, ◌+◌, get_or, below_more, ℕ, zero, suc, ◌<◌, ◌↔◌, Bool, true, false, not, ◌||◌, List, [], ◌∷◌, map, length, Option, Some, None, slice_get, refl, ap, sym, ◌∙◌, arith, bytes_eq, nat_eq}
+use Rattle.std.proofs.Common.{find, inl, inr, ◌≡◌, ◌≢◌, ◌≤◌, ◌+◌, get_or, below_more, ℕ, zero, suc, ◌<◌, ◌↔◌, Bool, true, false, not, List, [], ◌∷◌, map, length, Option, Some, None, slice_get, refl, ap, sym, ◌∙◌, arith, bytes_eq, nat_eq}
 use Rattle.std.specs.Bool.{Decides}
 use Rattle.std.specs.List.{list_any}
 use Rattle.std.proofs.lemmas.Bool.{and_parts, not-true, eqb-true, cases_Bool}
 use Rattle.std.proofs.lemmas.Bool.Decides.{Decides-eqb}
 use Rattle.std.proofs.lemmas.Slice.Eq.{bytes_eq-Decides}
 use Rattle.std.proofs.lemmas.List.{length-map}
+use Rattle.std.proofs.lemmas.Map.Keys.{any_passes_from_place}
 use Rattle.std.proofs.lemmas.Option.{slice_get-map, slice_get_within, slice_get-get_or}
 use Rattle.ir_tables.specs.Table.{WordEntry, IsDistinct, is_distinct, IsTable, is_table, words, codes_of, entries, entry_of}
 use Rattle.ir_tables.specs.declared.table.WordRow.{WordRow}
 
-pub list_any_at : {A : Type 0} (test : A → Bool) (values : List A) (i : ℕ) (value : A) → slice_get values i ≡ Some value → test value ≡ true → list_any test values ≡ true
-list_any_at test [] i value here passes = absurd (cc)
-list_any_at test (first ∷ values) zero value here passes = let e : first ≡ value = cc in let t : test first ≡ true = ap test e ∙ passes in rw t
-list_any_at test (first ∷ values) (suc i) value here passes = let t = list_any_at test values i value here passes in elim (test first) as (λ v. (v || list_any test values) ≡ true) [ true ↦ refl | false ↦ t ]
-
 not_twice : {A : Type 0} (same : A → A → Bool) → ((x y : A) → Decides (same x y) (x ≡ y)) → (first : A) (values : List A) (i : ℕ) (value : A) → list_any (same first) values ≡ false → first ≡ value → slice_get values i ≡ Some value → ⊥
-not_twice same decides first values i value absent e here = let t : list_any (same first) values ≡ true = list_any_at (same first) values i value here ((decides first value).1 e) in cc
+not_twice same decides first values i value absent e here = let t : list_any (same first) values ≡ true = any_passes_from_place (same first) values i value here ((decides first value).1 e) in cc
 
 -- a test that computes shows that no value stands at two places
 pub IsDistinct-tested : {A : Type 0} (same : A → A → Bool) → ((x y : A) → Decides (same x y) (x ≡ y)) → (values : List A) → is_distinct same values ≡ true → IsDistinct values
