@@ -17,4 +17,6 @@ mod spelled;
 
 pub use fault::ResolveFault;
 pub use laws::{numbers_are_told_as_written, one_module};
-pub use spelled::{is_identifier, spell_global, spell_local, spell_number, spell_struct};
+pub use spelled::{
+    hexadecimal, is_identifier, is_plain, spell_global, spell_local, spell_number, spell_struct,
+};

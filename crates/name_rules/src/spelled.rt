@@ -53,7 +53,7 @@ pub fn is_identifier(name: &[u8]) -> bool
 }
 
 /// An upper case hexadecimal digit.
-fn hexadecimal(digit: u8) -> u8
+pub fn hexadecimal(digit: u8) -> u8
     requires { digit < 16 }
     ensures { result ≡ hexadecimal digit }
 {
@@ -65,7 +65,7 @@ fn hexadecimal(digit: u8) -> u8
 }
 
 /// Whether the byte stands for itself between quotes.
-fn is_plain(byte: u8) -> bool
+pub fn is_plain(byte: u8) -> bool
     ensures { result ≡ is_plain byte }
 {
     b' ' <= byte && byte <= b'~' && !(byte == b'"' || byte == b'\\')

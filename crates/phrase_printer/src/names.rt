@@ -1,10 +1,10 @@
 //! Names, labels and texts, bare or in quotes.
-ghost use Rattle.std.specs.Prelude.{◌≡◌, ◌<◌};
+ghost use Rattle.std.specs.Prelude.{◌≡◌};
 ghost use Rattle.gathered.specs.Told.{state, Tells};
 ghost use Rattle.canonical.specs.Names.{quoted, global, named_local, local, label_spelling, label, text, byte_string};
 ghost use Rattle.module_arena.specs.Module.{Numbered};
 ghost use Rattle.module_arena.specs.View.{local_view};
-ghost use Rattle.name_rules.specs.Spelled.{hexadecimal, is_plain, quoted_byte, is_identifier, name_spelling};
+ghost use Rattle.name_rules.specs.Spelled.{quoted_byte, is_identifier, name_spelling};
 ghost use Rattle.phrase_printer.specs.Printing.{separator_of, Prints};
 
 use crate::numbers::put_digits;
@@ -12,26 +12,7 @@ use crate::separator::Separator;
 use gathered::Gathered;
 use ir_base::{Name, Sink};
 use module_arena::LocalName;
-use name_rules::is_identifier;
-
-/// An upper case hexadecimal digit.
-fn hexadecimal(digit: u8) -> u8
-    requires { digit < 16 }
-    ensures { result ≡ hexadecimal digit }
-{
-    if digit < 10 {
-        b'0' + digit
-    } else {
-        b'A' - 10 + digit
-    }
-}
-
-/// Whether the byte stands for itself between quotes.
-fn is_plain(byte: u8) -> bool
-    ensures { result ≡ is_plain byte }
-{
-    b' ' <= byte && byte <= b'~' && !(byte == b'"' || byte == b'\\')
-}
+use name_rules::{hexadecimal, is_identifier, is_plain};
 
 /// Puts a byte between quotes: itself where it may stand there, else a backslash and two digits.
 fn put_quoted_byte<S: Sink>(out: &mut Gathered, sink: &mut S, byte: u8)
