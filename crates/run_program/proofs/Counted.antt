@@ -1,5 +1,5 @@
 -- The leaves of types and of what instructions give, and how they add up.
-use Rattle.std.proofs.Common.{◌≡◌, ℕ, ◌+◌, ◌<◌, ◌≤◌, Bool, true, false, List, [], ◌∷◌, ◌++◌, length, drop, get_or, map, fold, Option, Some, None, Result, Ok, Err, IfOk, option_to_list, inl, inr, is_some, unwrap_or, refl, sym, ap, ◌∙◌}
+use Rattle.std.proofs.Common.{◌≡◌, ℕ, ◌+◌, ◌<◌, ◌≤◌, Bool, true, false, List, [], ◌∷◌, ◌++◌, length, drop, get_or, map, fold, Option, Some, None, Result, Ok, Err, IfOk, option_to_list, is_some, unwrap_or, refl, sym, ap, ◌∙◌}
 use Rattle.std.specs.Prelude.{if◌then◌else◌}
 use Rattle.std.specs.Option.{option_and_then, option_map, option_map_or}
 use Rattle.std.proofs.lemmas.Bool.{leb-true, true≢false}
@@ -10,24 +10,18 @@ use Rattle.module_arena.specs.declared.instruction.Inst.TheVariants as inst
 use Rattle.module_arena.specs.Lists.{Lists}
 use Rattle.module_arena.specs.Mentions as mentions
 use Rattle.module_arena.specs.Module.{LocalName}
-use Rattle.module_arena.specs.TypeTests.{is_passable, is_small_layout, is_void, lies_in_memory}
+use Rattle.module_arena.specs.TypeTests.{is_passable, is_small_layout, lies_in_memory}
 use Rattle.run_constants.specs.Sound.{names_of}
 use Rattle.run_rules.specs.Scope.{Typed, result_of, result_shape}
 use Rattle.run_shapes.specs.Shapes.{laid_out, shape_in}
 use Rattle.type_table.specs.declared.layout.Layout.{Layout}
 use Rattle.type_table.specs.Layout as layouts
 use Rattle.type_table.specs.Shape.{Shape, void_leaf}
-use Rattle.type_table.specs.Shape as shapes
-use Rattle.type_table.specs.Tree.{Tree, void}
 use Rattle.type_table.specs.Types.{shape, structs, tree}
-use Rattle.run_scopes.specs.Places.{Returns, end_from}
+use Rattle.run_scopes.specs.Places.{end_from}
 use Rattle.run_scopes.specs.Scopes.{instruction_of, name_of}
 
 -- ---- types
-
-void_is : (t : Tree) → is_void t ≡ true → t ≡ void
-void_is void h = refl
-void_is _ h = absurd (true≢false (sym h))
 
 small_laid : (o : Option Layout) → is_small_layout o ≡ true → is_some o ≡ true
 small_laid None h = absurd (true≢false (sym h))
@@ -47,16 +41,6 @@ passable_few a ty h = go (shape a.table ty) h
     go : (o : Option Shape) → is_small_layout (option_and_then layouts.layout o) ≡ true → layouts.leaves (unwrap_or o void_leaf) ≤ 65536
     go None k = absurd (true≢false (sym k))
     go (Some s) k = small_few s (layouts.has_layout s) k
-
-not_laid : (o : Option Layout) → o ≡ None → is_some o ≡ true → false ≡ true
-not_laid o e h = sym (ap is_some e) ∙ h
-
--- what lies nowhere is void, which has no leaf
-pub no_leaves : (a : Lists) (ty : ℕ) → Returns a ty → option_and_then layouts.layout (shape a.table ty) ≡ None → 0 ≡ layouts.leaves (shape_in a.table ty)
-no_leaves a ty h none = elim h.returned [
-  | inl v ↦ sym (ap (λ (t : Tree). layouts.leaves (unwrap_or (shapes.shape (structs a.table) t) void_leaf)) (void_is (tree a.table ty) v))
-  | inr p ↦ absurd (true≢false (sym (not_laid (option_and_then layouts.layout (shape a.table ty)) none (passable_laid a ty p))))
-]
 
 -- ---- results
 

@@ -2,67 +2,14 @@
 ghost use Rattle.std.specs.Prelude.{◌≡◌, ℕ, ◌+◌, ◌∷◌, All, IfOk, flat_map, map};
 ghost use Rattle.module_arena.specs.declared.entry.Function as the_function;
 ghost use Rattle.run_constants.specs.Sound.{names_of};
-ghost use Rattle.run_rules.specs.Constant.{shape_of};
-ghost use Rattle.run_rules.specs.Leaves.{part};
 ghost use Rattle.run_rules.specs.Scope as scopes;
-ghost use Rattle.run_rules.specs.Scope.{result_of, result_shape, results_of};
-ghost use Rattle.run_scopes.specs.Places.{GivesValue, HasPart, HasValues, Returns, end_from};
+ghost use Rattle.run_rules.specs.Scope.{result_of, results_of};
+ghost use Rattle.run_scopes.specs.Places.{GivesValue, HasValues, Returns, end_from};
 ghost use Rattle.run_scopes.specs.Scopes.{block_of, function_of, instruction_of, typed_parameter};
-ghost use Rattle.type_table.specs.Layout.{leaves};
-ghost use Rattle.type_table.specs.Types.{tree};
 
 use module_arena::{Arena, Block, Function, Inst, Parameter};
-use run_shapes::layout_of;
-use run_types::part_of;
+use run_scopes::{leaves_given, leaves_of};
 use std::alloc::AllocError;
-use type_table::TypeId;
-
-/// The leaves of a type of values, or of `void`.
-fn leaves_of(arena: &Arena, ty: TypeId) -> u64
-    requires { Returns arena.now ty }
-    ensures { result ≡ leaves (shape_of (names_of arena.now) (tree arena.now.table ty)) }
-{
-    match arena.types().layout(ty) {
-        Some(layout) => layout.leaves,
-        None => 0,
-    }
-}
-
-/// The leaves of a part of a value of that type.
-fn leaves_of_part(arena: &Arena, ty: TypeId, indices: &[u32]) -> u64
-    requires { HasPart arena.now ty indices.now }
-    ensures { result ≡ leaves (part (shape_of (names_of arena.now) (tree arena.now.table ty)) indices.now) }
-{
-    let types = arena.types();
-    let part = part_of(types, ty, indices);
-    layout_of(types, part.ty).leaves
-}
-
-/// The leaves of what an instruction gives.
-fn leaves_given(arena: &Arena, instruction: &Inst) -> u64
-    requires { GivesValue arena.now instruction.now }
-    ensures { (f : the_function.Function) → result ≡ leaves (result_shape (names_of arena.now) (instruction_of arena.now f instruction.now).operation) }
-{
-    match instruction {
-        Inst::Binary(_, _, _, operand, _) => leaves_of(arena, operand.ty),
-        Inst::Freeze(_, operand) => leaves_of(arena, operand.ty),
-        Inst::Convert(_, _, _, _, ty) => leaves_of(arena, *ty),
-        Inst::Phi(_, ty, _) => leaves_of(arena, *ty),
-        Inst::Load(_, _, ty, _, _) => leaves_of(arena, *ty),
-        Inst::Compare(_, _, _, _, _) => 1,
-        Inst::Alloca(_, _, _, _) => 1,
-        Inst::GetElementPtr(_, _, _, _, _) => 1,
-        Inst::Select(_, choice) => leaves_of(arena, choice.get().first.ty),
-        Inst::Call(call) => leaves_of(arena, call.get().signature.returns),
-        Inst::ExtractValue(_, aggregate, indices) => leaves_of_part(
-            arena,
-            aggregate.ty,
-            indices.as_slice(),
-        ),
-        Inst::InsertValue(_, insertion) => leaves_of(arena, insertion.get().aggregate.ty),
-        Inst::Store(_, _, _, _) => 0,
-    }
-}
 
 /// So many leaves and so many more. What 64 bits cannot count there is no room for.
 fn sum_of(leaves: u64, more: u64) -> Result<u64, AllocError>

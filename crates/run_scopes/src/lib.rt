@@ -22,5 +22,6 @@ mod ways;
 
 pub use leaves::{callee_leaf, operand_leaf, push_operands, push_value};
 pub use parts::{push_extracted, push_inserted};
+pub use places::{leaves_given, leaves_of};
 pub use scope::FunctionScope;
 pub use ways::push_way;
