@@ -2,9 +2,9 @@
 ghost use Rattle.std.specs.Prelude.{◌≡◌, map, filter, true, All};
 ghost use Rattle.std.specs.Option.{option_map};
 ghost use Rattle.linkage_rules.specs.Conflicts.{appends};
-ghost use Rattle.linkage_rules.specs.Grouped.{AreGroups, AreHomes};
 ghost use Rattle.linkage_rules.specs.Globals.{element_of, type_of};
 ghost use Rattle.linkage_rules.specs.Ids.{IsEntryId, modules, seen};
+ghost use Rattle.linkage_rules.specs.Resolved.{AreBindings};
 ghost use Rattle.linkage_rules.specs.Symbols.{symbols};
 ghost use Rattle.linkage_rules.specs.Winner as winner;
 ghost use Rattle.linkage_rules.specs.Winner.{size_in};
@@ -56,8 +56,7 @@ fn appended_bytes(parts: &[Checked], home: EntryId, ids: &[EntryId]) -> u64
 
 /// The size of a symbol, if it is appended.
 fn appended_of(parts: &[Checked], bindings: &Bindings, symbol: &Symbol) -> Option<u64>
-    requires groups { AreGroups parts.now bindings.now.groups }
-    requires homes { AreHomes parts.now (map (λ r. r.0) bindings.now.groups) bindings.now.homes }
+    requires { AreBindings parts.now bindings.now }
     ensures { result ≡ option_map clamped (appended_of (modules parts.now) symbol.now) }
 {
     let Some(home) = bindings.home(symbol) else {
@@ -81,8 +80,7 @@ fn if_long(size: Option<u64>) -> Option<u64>
 
 /// The size of a symbol, if it is a variable that is appended and past the limit.
 fn too_long(parts: &[Checked], bindings: &Bindings, symbol: &Symbol) -> Option<u64>
-    requires groups { AreGroups parts.now bindings.now.groups }
-    requires homes { AreHomes parts.now (map (λ r. r.0) bindings.now.groups) bindings.now.homes }
+    requires { AreBindings parts.now bindings.now }
     ensures { result ≡ option_map clamped (too_long_of (modules parts.now) symbol.now) }
 {
     match bindings.kind(parts, symbol) {
@@ -94,8 +92,7 @@ fn too_long(parts: &[Checked], bindings: &Bindings, symbol: &Symbol) -> Option<u
 /// The size of the first appended array that is past the limit.
 pub(crate) fn first_appended(parts: &[Checked], bindings: &Bindings) -> Option<u64>
     requires symbols { bindings.now.symbols ≡ symbols (modules parts.now) }
-    requires groups { AreGroups parts.now bindings.now.groups }
-    requires homes { AreHomes parts.now (map (λ r. r.0) bindings.now.groups) bindings.now.homes }
+    requires bindings { AreBindings parts.now bindings.now }
     ensures { result ≡ option_map clamped (first_appended (modules parts.now)) }
 {
     let symbols = bindings.symbols().as_slice();

@@ -1,7 +1,8 @@
 //! How many symbols there are of each kind.
-ghost use Rattle.std.specs.Prelude.{◌≡◌, ◌+◌, ◌-◌, ◌^◌, ◌<◌, length, map, if◌then◌else◌};
-ghost use Rattle.linkage_rules.specs.Grouped.{AreGroups, AreHomes, same_kind};
+ghost use Rattle.std.specs.Prelude.{◌≡◌, ◌+◌, ◌-◌, ◌^◌, ◌<◌, length, if◌then◌else◌};
+ghost use Rattle.linkage_rules.specs.Grouped.{same_kind};
 ghost use Rattle.linkage_rules.specs.Ids.{modules};
+ghost use Rattle.linkage_rules.specs.Resolved.{AreBindings};
 ghost use Rattle.linkage_rules.specs.Symbols.{alias_symbols, function_symbols, symbols, variable_symbols};
 ghost use Rattle.link_counts.specs.Told.{count_of};
 
@@ -55,8 +56,7 @@ impl SymbolCounts {
 
 /// How many of some symbols are of each kind.
 fn count_all(parts: &[Checked], bindings: &Bindings, symbols: &[Symbol]) -> SymbolCounts
-    requires groups { AreGroups parts.now bindings.now.groups }
-    requires homes { AreHomes parts.now (map (λ r. r.0) bindings.now.groups) bindings.now.homes }
+    requires { AreBindings parts.now bindings.now }
     ensures variables { result.variables ≡ count_of (modules parts.now) SymbolKind.Variable symbols.now }
     ensures functions { result.functions ≡ count_of (modules parts.now) SymbolKind.Function symbols.now }
     ensures all { result.variables + result.functions + result.aliases ≡ length symbols.now }
@@ -75,8 +75,7 @@ fn count_all(parts: &[Checked], bindings: &Bindings, symbols: &[Symbol]) -> Symb
 /// How many symbols of some parts are variables, functions and aliases.
 pub fn count_symbols(parts: &[Checked], bindings: &Bindings) -> SymbolCounts
     requires symbols { bindings.now.symbols ≡ symbols (modules parts.now) }
-    requires groups { AreGroups parts.now bindings.now.groups }
-    requires homes { AreHomes parts.now (map (λ r. r.0) bindings.now.groups) bindings.now.homes }
+    requires bindings { AreBindings parts.now bindings.now }
     ensures variables { result.variables ≡ length (variable_symbols (modules parts.now)) }
     ensures functions { result.functions ≡ length (function_symbols (modules parts.now)) }
     ensures aliases { result.aliases ≡ length (alias_symbols (modules parts.now)) }

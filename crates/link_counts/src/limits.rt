@@ -1,8 +1,8 @@
 //! The first count of structs and entries that is past its limit.
-ghost use Rattle.std.specs.Prelude.{◌≡◌, length, map};
+ghost use Rattle.std.specs.Prelude.{◌≡◌, length};
 ghost use Rattle.std.specs.Option.{option_map};
-ghost use Rattle.linkage_rules.specs.Grouped.{AreGroups, AreHomes};
 ghost use Rattle.linkage_rules.specs.Ids.{modules};
+ghost use Rattle.linkage_rules.specs.Resolved.{AreBindings};
 ghost use Rattle.linkage_rules.specs.Symbols.{symbols};
 ghost use Rattle.linked_symbols.specs.Places.{clamped};
 ghost use Rattle.module_linker.specs.Counts as linking;
@@ -80,8 +80,7 @@ fn count_of_bytes(size: Option<u64>) -> Option<Count>
 pub fn too_many(parts: &[Checked], bindings: &Bindings, structs: u64) -> Option<Count>
     requires structs { structs ≡ length (struct_map (modules parts.now)) }
     requires symbols { bindings.now.symbols ≡ symbols (modules parts.now) }
-    requires groups { AreGroups parts.now bindings.now.groups }
-    requires homes { AreHomes parts.now (map (λ r. r.0) bindings.now.groups) bindings.now.homes }
+    requires bindings { AreBindings parts.now bindings.now }
     ensures { option_map told result ≡ linking.too_many (modules parts.now) }
 {
     let counts = count_symbols(parts, bindings);

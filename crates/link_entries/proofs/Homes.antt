@@ -104,12 +104,12 @@ module _ (parts : List Lists) (r : Resolved) (are : IsResolved parts r) (s : Sym
   ids = group_in r.groups s
 
   home_is : home (modules parts) s ≡ option_map (seen (modules parts)) (home_in r.groups r.homes s)
-  home_is = sym (home_at parts r.groups r.homes are.homes are.groups s)
+  home_is = sym (home_at parts r.groups r.homes are.bindings.homes are.bindings.groups s)
 
   pub defined_is : (id : EntryId) → home_in r.groups r.homes s ≡ Some id → linked (modules parts) (s, name) ≡ definition_of parts id ids name
   defined_is id at =
       ap (linked_by (modules parts) s name) (home_is ∙ ap (option_map (seen (modules parts))) at)
-      ∙ ap (λ es. linked_definition (modules parts) name (seen (modules parts) id) es (seen (modules parts) id).global) (sym (ap (filter is_definition) (are.groups.groups s)))
+      ∙ ap (λ es. linked_definition (modules parts) name (seen (modules parts) id) es (seen (modules parts) id).global) (sym (ap (filter is_definition) (are.bindings.groups.groups s)))
 
   module _ (can : CanLink (modules parts)) (symbol : IsSymbol (modules parts) s) where
     some_first : (e : Entry) × (first (entries_of (modules parts) s) ≡ Some e)
@@ -119,7 +119,7 @@ module _ (parts : List Lists) (r : Resolved) (are : IsResolved parts r) (s : Sym
         has_first (modules parts) (together (modules parts) can.good can.valid can.agree) at.0 s row.0 row.1
 
     pub has_entry : 0 < length ids
-    has_entry = go ids (ap first (are.groups.groups s) ∙ some_first.1)
+    has_entry = go ids (ap first (are.bindings.groups.groups s) ∙ some_first.1)
       where
         go : (l : List EntryId) → first (map (seen (modules parts)) l) ≡ Some some_first.0 → 0 < length l
         go [] h = cc
@@ -127,7 +127,7 @@ module _ (parts : List Lists) (r : Resolved) (are : IsResolved parts r) (s : Sym
 
     module _ (none : home_in r.groups r.homes s ≡ None) (id : EntryId) (at : slice_get ids 0 ≡ Some id) where
       first_is : first (entries_of (modules parts) s) ≡ Some (seen (modules parts) id)
-      first_is = ap first (sym (are.groups.groups s)) ∙ go ids at
+      first_is = ap first (sym (are.bindings.groups.groups s)) ∙ go ids at
         where
           go : (l : List EntryId) → slice_get l 0 ≡ Some id → first (map (seen (modules parts)) l) ≡ Some (seen (modules parts) id)
           go [] h = cc
@@ -137,7 +137,7 @@ module _ (parts : List Lists) (r : Resolved) (are : IsResolved parts r) (s : Sym
       declared_is known =
           ap (linked_by (modules parts) s name) (home_is ∙ ap (option_map (seen (modules parts))) none)
           ∙ ap (linked_first (modules parts) s name) first_is
-          ∙ ap (λ es. linked_declaration (if list_all (λ (e : Entry). is_extern_weak (linkage_of e.global)) es then ExternWeak else External) (modules parts) name (seen (modules parts) id).part (seen (modules parts) id).global) (sym (are.groups.groups s))
+          ∙ ap (λ es. linked_declaration (if list_all (λ (e : Entry). is_extern_weak (linkage_of e.global)) es then ExternWeak else External) (modules parts) name (seen (modules parts) id).part (seen (modules parts) id).global) (sym (are.bindings.groups.groups s))
           ∙ ap (λ i. linked_declaration (linkage_among parts ids) (modules parts) name i (seen (modules parts) id).global) (seen_part parts id known)
 
       pub no_alias : is_alias (seen (modules parts) id).global ≡ false

@@ -92,14 +92,14 @@ module _ (parts : List Lists) (r : Resolved) (resolved : IsResolved parts r) whe
     pub nothing_to_define : home_in r.groups r.homes s ≡ None → (m : Module) (id : GlobalId) → m ≡ defined_as m id global_here
     unfolding global_here
     nothing_to_define none m id =
-        let nowhere : home (modules parts) s ≡ None = sym (home_at parts r.groups r.homes resolved.homes resolved.groups s) ∙ ap (option_map (seen (modules parts))) none in
+        let nowhere : home (modules parts) s ≡ None = sym (home_at parts r.groups r.homes resolved.bindings.homes resolved.bindings.groups s) ∙ ap (option_map (seen (modules parts))) none in
         let o = first (entries_of (modules parts) s) in
         sym (ap (λ h. defined_as m id (linked_by (modules parts) s name_here h)) nowhere ∙ undefined m id (linked_first (modules parts) s name_here o) (first_declared (modules parts) s name_here o))
 
     -- where it is
     module _ (id : EntryId) (found : home_in r.groups r.homes s ≡ Some id) where
       home_there : IsEntryId parts id × (is_definition (seen (modules parts) id) ≡ true)
-      home_there = subst (IsHome parts) found (home_known parts r.groups r.homes resolved.homes s)
+      home_there = subst (IsHome parts) found (home_known parts r.groups r.homes resolved.bindings.homes s)
 
       pub home_is_entry : IsEntryId parts id
       home_is_entry = home_there.0
@@ -107,9 +107,9 @@ module _ (parts : List Lists) (r : Resolved) (resolved : IsResolved parts r) whe
       pub definition_here : global_here ≡ definition_of parts id (group_in r.groups s) name_here
       unfolding global_here
       definition_here =
-          let there : home (modules parts) s ≡ Some (seen (modules parts) id) = sym (home_at parts r.groups r.homes resolved.homes resolved.groups s) ∙ ap (option_map (seen (modules parts))) found in
+          let there : home (modules parts) s ≡ Some (seen (modules parts) id) = sym (home_at parts r.groups r.homes resolved.bindings.homes resolved.bindings.groups s) ∙ ap (option_map (seen (modules parts))) found in
           ap (linked_by (modules parts) s name_here) there
-          ∙ ap (λ es. linked_definition (modules parts) name_here (seen (modules parts) id) (filter is_definition es) (seen (modules parts) id).global) (sym (resolved.groups.groups s))
+          ∙ ap (λ es. linked_definition (modules parts) name_here (seen (modules parts) id) (filter is_definition es) (seen (modules parts) id).global) (sym (resolved.bindings.groups.groups s))
 
 -- ---- what is declared is of the kind of its home
 

@@ -1,13 +1,12 @@
 -- For the calls that make a linked module (`copy_ground`, `declare_symbols`, `define_symbols`): parts that can be linked.
-use Rattle.std.specs.Prelude.{◌≡◌, List, map, None}
+use Rattle.std.specs.Prelude.{◌≡◌, List, None}
 use Rattle.std.specs.List.{AllByRecursion}
 use Rattle.module_arena.specs.Module.{Module}
 use Rattle.module_arena.specs.Valid.{IsValid}
 use Rattle.module_arena.specs.WellFormed.{IsWellFormed}
 use Rattle.linkage_rules.specs.Conflicts.{first_conflict}
-use Rattle.linkage_rules.specs.Grouped.{AreGroups, AreHomes}
 use Rattle.linkage_rules.specs.Ids.{modules}
-use Rattle.linkage_rules.specs.Resolved.{Resolved}
+use Rattle.linkage_rules.specs.Resolved.{Resolved, AreBindings}
 use Rattle.linkage_rules.specs.Symbols.{symbols}
 use Rattle.module_arena.specs.Lists.{Lists}
 use Rattle.module_linker.specs.Counts.{too_many}
@@ -25,5 +24,4 @@ pub record CanLink (parts : List Module) : Type 0 where
 -- The symbols of the parts, in order, with their entries and homes.
 pub record IsResolved (parts : List Lists) (r : Resolved) : Type 0 where
   pub symbols : r.symbols ≡ symbols (modules parts)
-  pub groups : AreGroups parts r.groups
-  pub homes : AreHomes parts (map (λ row. row.0) r.groups) r.homes
+  pub bindings : AreBindings parts r

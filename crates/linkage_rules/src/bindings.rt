@@ -1,9 +1,9 @@
 //! The symbols of some parts, with their entries and where they are defined.
-ghost use Rattle.std.specs.Prelude.{◌≡◌, map, None, IfOk, IfErr};
+ghost use Rattle.std.specs.Prelude.{◌≡◌, None, IfOk, IfErr};
 ghost use Rattle.linkage_rules.specs.Conflicts.{first_conflict};
-ghost use Rattle.linkage_rules.specs.Grouped.{AreGroups, AreHomes, group_in, home_in, kind_of};
+ghost use Rattle.linkage_rules.specs.Grouped.{group_in, home_in, kind_of};
 ghost use Rattle.linkage_rules.specs.Ids.{modules};
-ghost use Rattle.linkage_rules.specs.Resolved.{IsFault};
+ghost use Rattle.linkage_rules.specs.Resolved.{AreBindings, IsFault};
 ghost use Rattle.linkage_rules.specs.Symbols.{symbols};
 
 use crate::clash::refuse_conflict;
@@ -61,8 +61,7 @@ impl Bindings {
 
     /// What a symbol is: an alias where it is defined by one, else what its first entry is.
     pub fn kind(&self, parts: &[Checked], symbol: &Symbol) -> SymbolKind
-        requires groups { AreGroups parts.now self.now.groups }
-        requires homes { AreHomes parts.now (map (λ r. r.0) self.now.groups) self.now.homes }
+        requires { AreBindings parts.now self.now }
         ensures { result ≡ kind_of (modules parts.now) symbol.now }
     {
         kind_of(parts, &self.groups, &self.homes, symbol)
@@ -74,8 +73,7 @@ impl Bindings {
 pub fn resolve_symbols(alloc: Global, parts: &[Checked]) -> Result<Bindings, SymbolFault>
     ensures agree { IfOk result (λ _. first_conflict (modules parts.now) ≡ None) }
     ensures symbols { IfOk result (λ b. b.symbols ≡ symbols (modules parts.now)) }
-    ensures entries { IfOk result (λ b. AreGroups parts.now b.groups) }
-    ensures homes { IfOk result (λ b. AreHomes parts.now (map (λ r. r.0) b.groups) b.homes) }
+    ensures bindings { IfOk result (AreBindings parts.now) }
     ensures fault { IfErr result (IsFault (modules parts.now)) }
 {
     let ids = all_ids(alloc, parts)?;

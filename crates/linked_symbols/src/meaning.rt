@@ -4,10 +4,10 @@ ghost use Rattle.std.specs.Option.{option_map_or};
 ghost use Rattle.linkage_rules.specs.Bind as bind;
 ghost use Rattle.linkage_rules.specs.Entries.{entries_of};
 ghost use Rattle.linkage_rules.specs.Globals.{linkage_of, is_variable, target_name};
-ghost use Rattle.linkage_rules.specs.Grouped.{AreGroups, AreHomes};
 ghost use Rattle.linkage_rules.specs.Ids.{IsEntryId, modules, seen};
 ghost use Rattle.linkage_rules.specs.Linkages.{is_appending};
 ghost use Rattle.linkage_rules.specs.Lists.{first};
+ghost use Rattle.linkage_rules.specs.Resolved.{AreBindings};
 ghost use Rattle.linked_symbols.specs.Meanings.{AreAbsent, bound_view, symbol_under};
 
 use crate::Bound;
@@ -62,8 +62,7 @@ fn undefined(parts: &[Checked], symbol: Symbol, ids: &[EntryId], is_absent: bool
 /// What a symbol means that is no alias.
 fn own_meaning(parts: &[Checked], bindings: &Bindings, absent: &Absent, symbol: Symbol) -> Bound
     requires absent { AreAbsent (modules parts.now) absent.now.entries }
-    requires groups { AreGroups parts.now bindings.now.groups }
-    requires homes { AreHomes parts.now (map (λ r. r.0) bindings.now.groups) bindings.now.homes }
+    requires bindings { AreBindings parts.now bindings.now }
     ensures { bound_view (modules parts.now) result ≡ Some (bind.own_meaning (modules parts.now) symbol) }
 {
     let Some(id) = bindings.home(&symbol) else {
@@ -116,8 +115,7 @@ pub fn symbol_behind(
     bindings: &Bindings,
     symbol: Symbol,
 ) -> Result<Symbol, AllocError>
-    requires groups { AreGroups parts.now bindings.now.groups }
-    requires homes { AreHomes parts.now (map (λ r. r.0) bindings.now.groups) bindings.now.homes }
+    requires { AreBindings parts.now bindings.now }
     ensures { IfOk result (λ s. s ≡ bind.behind (modules parts.now) symbol) }
 {
     let Some(id) = bindings.home(&symbol) else {
@@ -139,8 +137,7 @@ pub(crate) fn meaning(
     name: &Name,
 ) -> Result<Bound, AllocError>
     requires absent { AreAbsent (modules parts.now) absent.now.entries }
-    requires groups { AreGroups parts.now bindings.now.groups }
-    requires homes { AreHomes parts.now (map (λ r. r.0) bindings.now.groups) bindings.now.homes }
+    requires bindings { AreBindings parts.now bindings.now }
     ensures { IfOk result (λ bound. bound_view (modules parts.now) bound ≡ Some (bind.bind (modules parts.now) part name.now)) }
 {
     let symbol = symbol_named(alloc, bindings, part, name)?;

@@ -1,8 +1,8 @@
 //! The names of all parts, with what they mean.
 ghost use Rattle.std.specs.Prelude.{◌≡◌, ◌<◌, length, map, IfOk};
 ghost use Rattle.std.specs.Option.{option_copied};
-ghost use Rattle.linkage_rules.specs.Grouped.{AreGroups, AreHomes};
 ghost use Rattle.linkage_rules.specs.Ids.{modules};
+ghost use Rattle.linkage_rules.specs.Resolved.{AreBindings};
 ghost use Rattle.linked_symbols.specs.Meanings.{AreAbsent, AreMeanings, AreNames, told_of};
 
 use crate::Bound;
@@ -54,8 +54,7 @@ fn names_of(
 ) -> Result<BoundNames, AllocError>
     requires absent { AreAbsent (modules parts.now) absent.now.entries }
     requires part { part < length parts.now }
-    requires groups { AreGroups parts.now bindings.now.groups }
-    requires homes { AreHomes parts.now (map (λ r. r.0) bindings.now.groups) bindings.now.homes }
+    requires bindings { AreBindings parts.now bindings.now }
     ensures { IfOk result (λ names. AreNames (modules parts.now) part names.entries) }
 {
     let mut ids = Vec::new(alloc);
@@ -77,8 +76,7 @@ pub fn bind_names(
     parts: &[Checked],
     bindings: &Bindings,
 ) -> Result<Meanings, AllocError>
-    requires groups { AreGroups parts.now bindings.now.groups }
-    requires homes { AreHomes parts.now (map (λ r. r.0) bindings.now.groups) bindings.now.homes }
+    requires { AreBindings parts.now bindings.now }
     ensures { IfOk result (AreMeanings (modules parts.now)) }
 {
     let absent = absent_among(alloc, parts, bindings, bindings.symbols().as_slice())?;

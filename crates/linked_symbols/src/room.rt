@@ -3,9 +3,9 @@ ghost use Rattle.std.specs.Prelude.{◌≡◌, ◌&&◌, map, filter, true, All}
 ghost use Rattle.std.specs.Option.{option_map};
 ghost use Rattle.linkage_rules.specs.Globals.{linkage_of};
 ghost use Rattle.linkage_rules.specs.Linkages.{is_common};
-ghost use Rattle.linkage_rules.specs.Grouped.{AreGroups, AreHomes};
 ghost use Rattle.linkage_rules.specs.Ids.{IsEntryId, modules, seen};
 ghost use Rattle.linkage_rules.specs.Place as place;
+ghost use Rattle.linkage_rules.specs.Resolved.{AreBindings};
 ghost use Rattle.linkage_rules.specs.Winner as winner;
 ghost use Rattle.linked_symbols.specs.Extents.{common_of, or_greater, stated_of};
 ghost use Rattle.linked_symbols.specs.Places.{clamped, greater, room_told};
@@ -158,8 +158,7 @@ fn room_by(parts: &[Checked], home: EntryId, ids: &[EntryId]) -> Room
 /// all common definitions, and an appended array the greatest that is stated, and the bytes of all elements (LangRef,
 /// "Linkage Types").
 pub fn room_of(parts: &[Checked], bindings: &Bindings, symbol: &Symbol) -> Option<Room>
-    requires groups { AreGroups parts.now bindings.now.groups }
-    requires homes { AreHomes parts.now (map (λ r. r.0) bindings.now.groups) bindings.now.homes }
+    requires { AreBindings parts.now bindings.now }
     ensures { result ≡ option_map room_told (place.room (modules parts.now) symbol.now) }
 {
     let Some(home) = bindings.home(symbol) else {

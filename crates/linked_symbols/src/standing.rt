@@ -1,9 +1,10 @@
 //! Where variables and functions stand.
-ghost use Rattle.std.specs.Prelude.{◌≡◌, ◌+◌, filter, map, IfOk};
+ghost use Rattle.std.specs.Prelude.{◌≡◌, ◌+◌, filter, IfOk};
 ghost use Rattle.std.specs.Int.{next_multiple_of};
 ghost use Rattle.std.specs.Option.{option_map};
-ghost use Rattle.linkage_rules.specs.Grouped.{AreGroups, AreHomes, kind_of, same_kind};
+ghost use Rattle.linkage_rules.specs.Grouped.{kind_of, same_kind};
 ghost use Rattle.linkage_rules.specs.Ids.{modules};
+ghost use Rattle.linkage_rules.specs.Resolved.{AreBindings};
 ghost use Rattle.linkage_rules.specs.Symbols.{symbols};
 ghost use Rattle.linked_symbols.specs.Places.{ArePlaced, ArePlaces, clamped, room_told, rows_among, variable_room};
 
@@ -83,8 +84,7 @@ fn next_behind(address: u64, size: u64) -> u64
 
 /// What a variable needs in memory; None where the symbol is no variable, or no part defines it.
 fn variable_room(parts: &[Checked], bindings: &Bindings, symbol: &Symbol) -> Option<Room>
-    requires groups { AreGroups parts.now bindings.now.groups }
-    requires homes { AreHomes parts.now (map (λ r. r.0) bindings.now.groups) bindings.now.homes }
+    requires { AreBindings parts.now bindings.now }
     ensures { result ≡ option_map room_told (variable_room (modules parts.now) symbol.now) }
 {
     match bindings.kind(parts, symbol) {
@@ -100,8 +100,7 @@ fn placed_variables(
     bindings: &Bindings,
     symbols: &[Symbol],
 ) -> Result<PlacedList, AllocError>
-    requires groups { AreGroups parts.now bindings.now.groups }
-    requires homes { AreHomes parts.now (map (λ r. r.0) bindings.now.groups) bindings.now.homes }
+    requires { AreBindings parts.now bindings.now }
     ensures { IfOk result (ArePlaced (rows_among (modules parts.now) symbols.now)) }
 {
     let mut variables = ItemList::new(alloc);
@@ -128,8 +127,7 @@ fn functions_among(
     bindings: &Bindings,
     symbols: &[Symbol],
 ) -> Result<SymbolList, AllocError>
-    requires groups { AreGroups parts.now bindings.now.groups }
-    requires homes { AreHomes parts.now (map (λ r. r.0) bindings.now.groups) bindings.now.homes }
+    requires { AreBindings parts.now bindings.now }
     ensures { IfOk result (λ functions. functions ≡ filter (λ s. same_kind SymbolKind.Function (kind_of (modules parts.now) s)) symbols.now) }
 {
     let mut functions = ItemList::new(alloc);
@@ -149,8 +147,7 @@ pub fn place_symbols(
     parts: &[Checked],
     bindings: &Bindings,
 ) -> Result<Places, AllocError>
-    requires groups { AreGroups parts.now bindings.now.groups }
-    requires homes { AreHomes parts.now (map (λ r. r.0) bindings.now.groups) bindings.now.homes }
+    requires bindings { AreBindings parts.now bindings.now }
     requires symbols { bindings.now.symbols ≡ symbols (modules parts.now) }
     ensures { IfOk result (ArePlaces (modules parts.now)) }
 {

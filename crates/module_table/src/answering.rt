@@ -1,8 +1,8 @@
 //! What is asked of parts, answered.
 
-ghost use Rattle.std.specs.Prelude.{◌≡◌, map};
-ghost use Rattle.linkage_rules.specs.Grouped.{AreGroups, AreHomes};
+ghost use Rattle.std.specs.Prelude.{◌≡◌};
 ghost use Rattle.linkage_rules.specs.Ids.{modules};
+ghost use Rattle.linkage_rules.specs.Resolved.{AreBindings};
 ghost use Rattle.linkage_rules.specs.Symbols.{symbols};
 
 use crate::lines::{number_of, parts, unescaped};
@@ -68,8 +68,7 @@ fn add_name_told(
     bindings: &Bindings,
     question: &[u8],
 ) -> Result<(), AllocError>
-    requires groups { AreGroups linked.now bindings.now.groups }
-    requires homes { AreHomes linked.now (map (λ r. r.0) bindings.now.groups) bindings.now.homes }
+    requires { AreBindings linked.now bindings.now }
 {
     let (key, rest) = parts(question);
     let (part, spelled) = parts(rest);
@@ -90,8 +89,7 @@ fn add_told(
     bindings: &Bindings,
     question: &[u8],
 ) -> Result<(), AllocError>
-    requires groups { AreGroups linked.now bindings.now.groups }
-    requires homes { AreHomes linked.now (map (λ r. r.0) bindings.now.groups) bindings.now.homes }
+    requires bindings { AreBindings linked.now bindings.now }
     requires symbols { bindings.now.symbols ≡ symbols (modules linked.now) }
 {
     let (key, rest) = parts(question);

@@ -1,7 +1,7 @@
 //! What names mean, as it is told.
-ghost use Rattle.std.specs.Prelude.{◌≡◌, is_some, map, true};
-ghost use Rattle.linkage_rules.specs.Grouped.{AreGroups, AreHomes};
+ghost use Rattle.std.specs.Prelude.{◌≡◌, is_some, true};
 ghost use Rattle.linkage_rules.specs.Ids.{modules};
+ghost use Rattle.linkage_rules.specs.Resolved.{AreBindings};
 ghost use Rattle.linked_symbols.specs.Meanings.{bound_view};
 
 use crate::symbols::{add_name, add_part, kind_word};
@@ -50,8 +50,7 @@ pub(crate) fn add_meaning(
     part: u64,
     name: &Name,
 ) -> Result<(), AllocError>
-    requires groups { AreGroups parts.now bindings.now.groups }
-    requires homes { AreHomes parts.now (map (λ r. r.0) bindings.now.groups) bindings.now.homes }
+    requires { AreBindings parts.now bindings.now }
 {
     let meanings = bind_names(alloc, parts, bindings)?;
     match meanings.bind(part, name) {

@@ -1,7 +1,7 @@
 //! Where symbols stand, as it is told.
-ghost use Rattle.std.specs.Prelude.{◌≡◌, map};
-ghost use Rattle.linkage_rules.specs.Grouped.{AreGroups, AreHomes};
+ghost use Rattle.std.specs.Prelude.{◌≡◌};
 ghost use Rattle.linkage_rules.specs.Ids.{modules};
+ghost use Rattle.linkage_rules.specs.Resolved.{AreBindings};
 ghost use Rattle.linkage_rules.specs.Symbols.{symbols};
 
 use crate::symbols::add_symbol;
@@ -118,8 +118,7 @@ pub(crate) fn add_places(
     parts: &[Checked],
     bindings: &Bindings,
 ) -> Result<(), AllocError>
-    requires groups { AreGroups parts.now bindings.now.groups }
-    requires homes { AreHomes parts.now (map (λ r. r.0) bindings.now.groups) bindings.now.homes }
+    requires bindings { AreBindings parts.now bindings.now }
     requires symbols { bindings.now.symbols ≡ symbols (modules parts.now) }
 {
     let places = place_symbols(alloc, parts, bindings)?;

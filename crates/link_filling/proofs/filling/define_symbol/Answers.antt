@@ -40,7 +40,7 @@ initialise-requires-clause-known c =
     let of_kind =
     subst (λ i. IsOfKind i home.kind) c.in-Variable.is (kind_here parts r o.resolved c.args.number s o.at b c.args.copiers.now c.requires.filling c.args.id c.requires.id home found) in
     let entries = c.as_slice-ids.ensures ∙ variable_kept parts c.args.number c.args.origin.now o home c.in-Some.is of_kind in
-    subst (All (IsEntryId parts)) (sym entries) (o.resolved.groups.known s)
+    subst (All (IsEntryId parts)) (sym entries) (o.resolved.bindings.groups.known s)
 
 pub initialise-requires-clause-declared : goal.initialise-requires-clause-declared
 initialise-requires-clause-declared c =

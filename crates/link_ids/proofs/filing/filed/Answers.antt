@@ -21,7 +21,7 @@ file-requires c =
     let ids = c.each.ids.items in
     let rows = c.args.bindings.now.groups in
     let s = c.at.result.now in
-    let group : All (HasPlace ids) (group_in rows s) = All-weaker (IsEntryId ps) (HasPlace ids) (λ e known. place_of ps ids c.each.invariant.room e known) (group_in rows s) (c.requires.resolved.groups.known s) in
+    let group : All (HasPlace ids) (group_in rows s) = All-weaker (IsEntryId ps) (HasPlace ids) (λ e known. place_of ps ids c.each.invariant.room e known) (group_in rows s) (c.requires.resolved.bindings.groups.known s) in
     subst (λ (l : List KnownIds). All (HasPlace l) c.entries.result.now) (sym c.deref_mut.ensures.value) (subst (λ (es : List EntryId). All (HasPlace ids) es) (sym c.entries.ensures) group)
 
 pub each-preserved : goal.each-preserved
@@ -51,7 +51,7 @@ each-preserved c =
       upto = omega (arith, more, many, listed);
       room = ap (map places) items ∙ filed.room ∙ c.each.invariant.room;
       through = subst (λ (l : List KnownIds). AreFiledTo (n + 1) ps ss new l) (sym items)
-          (symbol_filed ps rows c.requires.resolved.groups c.in_ok-ids.ensures.distinct ss apart new v.items after n s g here is filed c.each.invariant.through);
+          (symbol_filed ps rows c.requires.resolved.bindings.groups c.in_ok-ids.ensures.distinct ss apart new v.items after n s g here is filed c.each.invariant.through);
     }
 
 pub returns-clause-filed : goal.returns-clause-filed

@@ -46,8 +46,11 @@ refuse_conflict-requires-clause-groups c =
 pub invariant_of-result : goal.invariant_of-result
 invariant_of-result c = homes_count c.args.parts.now c.in_ok-groups.groups.entries c.in_ok-homes.homes.items c.in_ok-homes.ensures
 
-pub returns-clause-entries : goal.returns-clause-entries
-returns-clause-entries c =
-    let parts = c.args.parts.now in
-    are_groups parts c.in_ok-ids.ids.items c.in_ok-groups.groups.entries c.in_ok-ids.ensures.ids
-    (subst (λ ids. IsFiled (key_in (modules parts)) ids c.in_ok-groups.groups.entries) c.deref.ensures.value c.in_ok-groups.ensures)
+pub returns-clause-bindings : goal.returns-clause-bindings
+returns-clause-bindings c =
+    let parts = c.args.parts.now in record {
+      groups =
+          are_groups parts c.in_ok-ids.ids.items c.in_ok-groups.groups.entries c.in_ok-ids.ensures.ids
+          (subst (λ ids. IsFiled (key_in (modules parts)) ids c.in_ok-groups.groups.entries) c.deref.ensures.value c.in_ok-groups.ensures);
+      homes = c.in_ok-homes.ensures;
+    }

@@ -9,4 +9,4 @@ returns c =
     let parts = c.args.parts.now in
     c.own_meaning.ensures
     ∙ ap (λ s. Some (own_meaning (modules parts) s))
-    (c.in_ok-symbol-2.ensures ∙ ap (behind (modules parts)) (c.in_ok-symbol.ensures ∙ symbol_is parts c.args.bindings.now.groups c.requires.groups c.args.part c.args.name.now))
+    (c.in_ok-symbol-2.ensures ∙ ap (behind (modules parts)) (c.in_ok-symbol.ensures ∙ symbol_is parts c.args.bindings.now.groups c.requires.bindings.groups c.args.part c.args.name.now))

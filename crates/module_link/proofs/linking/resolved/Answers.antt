@@ -15,4 +15,4 @@ returns-clause-can c =
     can_link c.args.parts.now c.in_ok-rows.ensures.sound c.in_ok-bindings.ensures.agree (sym c.too_many.ensures ∙ ap (option_map told) c.in-None.is) c.linking_keeps_modules.ensures.well_formed
 
 pub returns-clause-symbols : goal.returns-clause-symbols
-returns-clause-symbols c = record { symbols = c.in_ok-bindings.ensures.symbols; groups = c.in_ok-bindings.ensures.entries; homes = c.in_ok-bindings.ensures.homes }
+returns-clause-symbols c = record { symbols = c.in_ok-bindings.ensures.symbols; bindings = c.in_ok-bindings.ensures.bindings }
