@@ -1,5 +1,5 @@
 -- For `declare_symbols`, and how the code reads: what is declared of a symbol, by the ids of its entries.
-use Rattle.std.specs.Prelude.{◌&&◌, Bool, List, map, filter, if◌then◌else◌}
+use Rattle.std.specs.Prelude.{◌&&◌, Bool, List, map, if◌then◌else◌}
 use Rattle.std.specs.List.{list_all}
 use Rattle.ir_tables.specs.declared.linkage.Linkage.{Linkage}
 use Rattle.ir_tables.specs.declared.linkage.Linkage.TheVariants.{External, ExternWeak}
@@ -12,11 +12,8 @@ use Rattle.linkage_rules.specs.Ids.{modules, seen}
 use Rattle.linkage_rules.specs.Linkages as linkages
 use Rattle.linkage_rules.specs.Winner.{is_definition}
 use Rattle.linkage_rules.specs.declared.entry.EntryId.{EntryId}
-use Rattle.module_linker.specs.Linked.{joined_type, linked_declaration, linked_definition}
-
--- those of some entries that are definitions
-abbrev pub entries_defined : List Lists → List EntryId → List Entry
-entries_defined parts ids = filter is_definition (map (seen (modules parts)) ids)
+pub use Rattle.link_stages.specs.Definitions.{definition_of, entries_defined}
+use Rattle.module_linker.specs.Linked.{joined_type, linked_declaration}
 
 -- a common definition
 abbrev pub is_common : Entry → Bool
@@ -25,10 +22,6 @@ is_common e = is_definition e && linkages.is_common (linkage_of e.global)
 -- the type in the linked module of a variable that is defined there
 abbrev pub joined_of : List Lists → EntryId → List EntryId → Tree
 joined_of parts home ids = joined_type (modules parts) (seen (modules parts) home) (entries_defined parts ids) (type_of (seen (modules parts) home).global)
-
--- what is written of a definition under that name, where these are the symbol's entries
-abbrev pub definition_of : List Lists → EntryId → List EntryId → Bytes → Global
-definition_of parts home ids name = linked_definition (modules parts) name (seen (modules parts) home) (entries_defined parts ids) (seen (modules parts) home).global
 
 -- what is written as in this entry, with that linkage
 abbrev pub declared_as : List Lists → Linkage → EntryId → Bytes → Global

@@ -22,7 +22,7 @@ use Rattle.linked_symbols.proofs.Targets.{known_target}
 use Rattle.link_stages.specs.Copied.{AreCopied}
 use Rattle.link_stages.specs.Filled.{defined_as}
 use Rattle.link_stages.specs.NewIds.{AllHaveNewIds}
-use Rattle.link_filling.specs.Definitions.{definition_of, entries_defined}
+use Rattle.link_stages.specs.Definitions.{definition_of, entries_defined}
 use Rattle.link_filling.proofs.Copied.{part_copied}
 
 module _ (parts : List Lists) (home : EntryId) (a : Lists) (there : slice_get parts home.part ≡ Some a) (is : home.kind ≡ kind.Alias) (x : the_alias.Alias) (at : slice_get a.aliases home.number ≡ Some x) where

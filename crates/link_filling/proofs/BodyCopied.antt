@@ -30,7 +30,7 @@ use Rattle.type_build.proofs.Declaring.{map_twice}
 use Rattle.entry_copy.specs.Copies.{IsBody, blocks_of}
 use Rattle.entry_copy.specs.Tables.{Tables}
 use Rattle.link_stages.specs.Filled.{defined_as, with_blocks}
-use Rattle.link_filling.specs.Definitions.{definition_of, entries_defined}
+use Rattle.link_stages.specs.Definitions.{definition_of, entries_defined}
 use Rattle.link_filling.specs.Filling.{IsBare, IsBareEntry}
 use Rattle.link_filling.proofs.Bare.{function_bare, function_found}
 

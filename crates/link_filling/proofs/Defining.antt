@@ -18,7 +18,7 @@ use Rattle.entry_copy.specs.Tables.{Tables}
 use Rattle.link_stages.specs.Declared.{ids_of}
 use Rattle.link_stages.specs.Filled.{defined_as}
 use Rattle.link_stages.specs.Parts.{IsResolved}
-use Rattle.link_filling.specs.Definitions.{definition_of}
+use Rattle.link_stages.specs.Definitions.{definition_of}
 use Rattle.link_filling.specs.Filling.{IsBare, IsBareEntry, IsFilling, KeepsCopied, aliases_among}
 use Rattle.link_filling.proofs.Homes.{IsOfKind, definition_here, global_here, home_is_entry, kind_same, linked_there, name_here, nothing_to_define}
 use Rattle.link_filling.proofs.Keeping.{keeps_itself, untargeted_still}

@@ -27,7 +27,7 @@ use Rattle.module_linker.proofs.Bound.{row_of}
 use Rattle.module_linker.proofs.Merged.{keys}
 use Rattle.link_stages.specs.Filled.{defined_as, with_blocks, with_initialiser}
 use Rattle.link_stages.specs.Parts.{IsResolved}
-use Rattle.link_filling.specs.Definitions.{definition_of, entries_defined}
+use Rattle.link_stages.specs.Definitions.{definition_of, entries_defined}
 use Rattle.link_filling.proofs.Filled.{id_of}
 use Rattle.link_filling.proofs.Within.{alias_within, function_within, variable_within}
 

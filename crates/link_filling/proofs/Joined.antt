@@ -36,7 +36,7 @@ use Rattle.entry_copy.specs.Moved.{moved_typed}
 use Rattle.entry_copy.specs.Tables.{Tables}
 use Rattle.link_stages.specs.Copied.{AreCopied}
 use Rattle.link_stages.specs.NewIds.{AllHaveNewIds}
-use Rattle.link_filling.specs.Definitions.{entries_defined}
+use Rattle.link_stages.specs.Definitions.{entries_defined}
 use Rattle.link_filling.specs.Elements.{elements_of_all, elements_told, pieces_linked}
 use Rattle.link_filling.proofs.Copied.{elements_copied}
 

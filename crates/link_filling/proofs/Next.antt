@@ -13,7 +13,7 @@ use Rattle.module_arena.specs.declared.entry.GlobalId.TheVariants as global
 use Rattle.type_build.specs.Declarations.{AreUntargeted}
 use Rattle.entry_copy.specs.Tables.{Tables}
 use Rattle.link_stages.specs.Filled.{defined_as}
-use Rattle.link_filling.specs.Definitions.{definition_of}
+use Rattle.link_stages.specs.Definitions.{definition_of}
 use Rattle.link_filling.specs.Filling.{IsBareEntry, IsFilling, KeepsCopied}
 use Rattle.link_filling.specs.Standing.{ArePlainFrom, IsNext, IsPlainId}
 use Rattle.link_filling.proofs.Defining.{alias_defined, alias_untargeted, bare_of_part, home_known, kind_here, name_of_it, plain_defined}

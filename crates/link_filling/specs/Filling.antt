@@ -15,7 +15,7 @@ use Rattle.link_stages.specs.Copied.{AreCopied}
 use Rattle.link_stages.specs.Declared.{bare}
 use Rattle.link_stages.specs.Filled.{filled_to}
 use Rattle.link_stages.specs.NewIds.{AllHaveNewIds}
-use Rattle.link_filling.specs.Definitions.{definition_of}
+use Rattle.link_stages.specs.Definitions.{definition_of}
 
 -- the entry with that id is declared as this one, and not defined
 abbrev pub IsBare : Lists → GlobalId → Global → Type 0

@@ -1,4 +1,3 @@
-pub mod Definitions
 pub mod Elements
 pub mod Filling
 pub mod Origins

@@ -11,7 +11,7 @@ ghost use Rattle.type_table.specs.Tree.{Tree};
 ghost use Rattle.entry_copy.specs.Moved.{moved_typed};
 ghost use Rattle.link_stages.specs.Copied.{AreCopied};
 ghost use Rattle.link_stages.specs.NewIds.{AllHaveNewIds};
-ghost use Rattle.link_filling.specs.Definitions.{entries_defined};
+ghost use Rattle.link_stages.specs.Definitions.{entries_defined};
 ghost use Rattle.link_filling.specs.Elements.{elements_of_all, elements_told};
 
 use crate::sources::copier_of;

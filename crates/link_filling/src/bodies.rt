@@ -7,7 +7,7 @@ ghost use Rattle.module_arena.specs.View.{module_of};
 ghost use Rattle.module_arena.specs.declared.entry.GlobalId.TheVariants as global;
 ghost use Rattle.entry_copy.specs.Tables.{Tables};
 ghost use Rattle.link_stages.specs.Filled.{defined_as};
-ghost use Rattle.link_filling.specs.Definitions.{definition_of};
+ghost use Rattle.link_stages.specs.Definitions.{definition_of};
 ghost use Rattle.link_filling.specs.Filling.{IsBareEntry, KeepsCopied};
 
 use entry_copy::Copier;

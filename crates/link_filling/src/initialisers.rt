@@ -12,7 +12,7 @@ ghost use Rattle.entry_copy.specs.Tables.{new_constant};
 ghost use Rattle.link_stages.specs.Copied.{AreCopied};
 ghost use Rattle.link_stages.specs.Filled.{defined_as};
 ghost use Rattle.link_stages.specs.NewIds.{AllHaveNewIds};
-ghost use Rattle.link_filling.specs.Definitions.{definition_of, entries_defined};
+ghost use Rattle.link_stages.specs.Definitions.{definition_of, entries_defined};
 ghost use Rattle.link_filling.specs.Elements.{IsInitialiser};
 ghost use Rattle.link_filling.specs.Filling.{IsBare, KeepsCopied};
 

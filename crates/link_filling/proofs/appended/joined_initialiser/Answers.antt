@@ -9,7 +9,7 @@ use Rattle.module_arena.specs.declared.constant.Brackets.TheVariants as brackets
 use Rattle.module_arena.specs.declared.constant.Const.TheVariants as const
 use Rattle.type_build.specs.Stands.{AreTyped, IsConstant}
 use Rattle.type_build.proofs.Lists.{no_typed}
-use Rattle.link_filling.specs.Definitions.{entries_defined}
+use Rattle.link_stages.specs.Definitions.{entries_defined}
 use Rattle.link_filling.specs.Elements.{elements_of_all}
 use Rattle.link_filling.proofs.Joined.{elements_more, list_is, list_known}
 use Rattle.link_filling.proofs.appended.joined_initialiser.Goals as goal

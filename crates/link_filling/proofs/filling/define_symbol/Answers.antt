@@ -4,7 +4,7 @@ use Rattle.linkage_rules.specs.Ids.{IsEntryId}
 use Rattle.module_arena.specs.View.{module_of}
 use Rattle.module_arena.specs.declared.entry.GlobalId.TheVariants as global
 use Rattle.link_stages.specs.Filled.{defined_as}
-use Rattle.link_filling.specs.Definitions.{definition_of}
+use Rattle.link_stages.specs.Definitions.{definition_of}
 use Rattle.link_filling.specs.Filling.{IsBare}
 use Rattle.link_filling.proofs.Defining.{bare_definition, home_known, home_within, kind_here, left_declared, name_of_it, plain_defined, table_within, three_ok}
 use Rattle.link_filling.proofs.Homes.{IsOfKind}

@@ -8,7 +8,7 @@ use Rattle.module_arena.specs.declared.entry.GlobalId.TheVariants as global
 use Rattle.module_arena.specs.declared.entry.Variable.{Variable}
 use Rattle.module_linker.specs.Linked.{joined_initialiser}
 use Rattle.link_stages.specs.Filled.{with_initialiser}
-use Rattle.link_filling.specs.Definitions.{entries_defined}
+use Rattle.link_stages.specs.Definitions.{entries_defined}
 use Rattle.link_filling.specs.Elements.{IsInitialiser}
 use Rattle.link_filling.specs.Filling.{IsBare}
 use Rattle.link_filling.proofs.Bare.{variable_bare}

@@ -3,7 +3,7 @@ use Rattle.linkage_rules.specs.declared.entry.EntryHead.{EntryHead}
 use Rattle.linkage_rules.specs.Globals.{initialiser_of, linkage_of}
 use Rattle.linkage_rules.specs.Ids.{modules, seen}
 use Rattle.linkage_rules.specs.Linkages.{is_appending}
-use Rattle.link_filling.specs.Definitions.{entries_defined}
+use Rattle.link_stages.specs.Definitions.{entries_defined}
 use Rattle.link_filling.proofs.Initialising.{appended_is, not_appending, plain_is}
 use Rattle.link_filling.proofs.initialisers.initialiser_of.Goals as goal
 
