@@ -2,7 +2,7 @@
 use Rattle.std.proofs.Common.{◌≡◌, ◌<◌, ◌≤◌, ◌+◌, ℕ, zero, suc, true, List, [], ◌∷◌, Option, Some, None, length, get_or, take, refl, sym, ap, subst, ◌∙◌, arith}
 use Rattle.std.specs.Prelude.{bytes_eq, nat_lt}
 use Rattle.std.proofs.lemmas.Bool.{le-ltb}
-use Rattle.std.proofs.lemmas.List.{take_all}
+use Rattle.std.proofs.lemmas.List.{take_all, get_or_past}
 use Rattle.type_table.specs.Tree.{Tree, void}
 use Rattle.type_table.specs.Types.{tree, trees}
 use Rattle.type_table.proofs.Added.{length-trees}
@@ -47,11 +47,6 @@ walk_is count many old r place is h = h.reader ∙ ap (λ n. record old { walk =
 
 -- ---- types
 
-get_past : {A : Type 0} (xs : List A) (n : ℕ) (d : A) → length xs ≤ n → get_or xs n d ≡ d
-get_past [] n d le = refl
-get_past (x ∷ xs) zero d le = absurd (omega arith)
-get_past (x ∷ xs) (suc n) d le = get_past xs n d (omega arith)
-
 module _ (m : ModuleReader) (mid r : Reader) (n count : ℕ) (reads : Reads number m.reader mid n) (asked : r ≡ record mid { walk = ask 2 (nat_lt n count) mid.walk }) where
   whole : r ≡ record m.reader { walk = ask 2 (nat_lt n count) (next m.reader.walk).1 }
   whole = asked ∙ ap (λ (q : Reader). record q { walk = ask 2 (nat_lt n count) q.walk }) reads.reader
@@ -86,7 +81,7 @@ module _ (m : ModuleReader) (mid r : Reader) (n count : ℕ) (reads : Reads numb
 
     pub no_type_read : count ≤ n → ReadsType k m (record m { reader = r }) None
     no_type_read le = record {
-      tree_is = sym (get_past k.types n void (let many = many_types in omega (arith, many, le))) ∙ ap (λ i. get_or k.types i void) reads.value;
+      tree_is = sym (get_or_past k.types n void (let many = many_types in omega (arith, many, le))) ∙ ap (λ i. get_or k.types i void) reads.value;
       reader = type_reader;
     }
 

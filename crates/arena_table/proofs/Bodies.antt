@@ -5,7 +5,7 @@ use Rattle.module_arena.specs.declared.entry.Body.{Body}
 use Rattle.module_arena.specs.declared.entry.Block.{Block}
 use Rattle.module_arena.specs.declared.instruction.Value.{Value}
 use Rattle.module_arena.specs.declared.instruction.Value.TheVariants.{Local, Known}
-use Rattle.std.proofs.lemmas.List.Elements.{All-nil, All-cons}
+use Rattle.std.proofs.lemmas.List.Elements.{All-from_recursion}
 use Rattle.module_arena.specs.declared.instruction.Inst.{Inst}
 use Rattle.module_arena.specs.declared.instruction.Ending.TheVariants as ending
 use Rattle.module_arena.specs.Known.{upto, HasOperand, HasValue, KnowsInst, KnowsBlock, KnowsBody}
@@ -18,26 +18,22 @@ abbrev ByRecursion : {X : Type 0} → (X → Type 0) → List X → Type 0
 ByRecursion P [] = ⊤
 ByRecursion P (x ∷ xs) = P x × ByRecursion P xs
 
-from_recursion : {X : Type 0} (P : X → Type 0) (xs : List X) → ByRecursion P xs → All P xs
-from_recursion P [] h = All-nil P
-from_recursion P (x ∷ xs) h = All-cons P x xs h.0 (from_recursion P xs h.1)
-
 module _ (t c v b : ℕ) where
   inst_known : (i : Inst) → ByRecursion (HasOperand t c v) (operands_of i) → ByRecursion (HasValue c v) (bare_values_of i)
       → ByRecursion (λ ty. ty < t) (types_of i) → ByRecursion (λ id. id < b) (blocks_of i) → KnowsInst t c v b i
   inst_known i operands values types blocks = record {
-    operands_known = from_recursion (HasOperand t c v) (operands_of i) operands;
-    values_known = from_recursion (HasValue c v) (bare_values_of i) values;
-    types_known = from_recursion (λ ty. ty < t) (types_of i) types;
-    blocks_known = from_recursion (λ id. id < b) (blocks_of i) blocks;
+    operands_known = All-from_recursion (HasOperand t c v) (operands_of i) operands;
+    values_known = All-from_recursion (HasValue c v) (bare_values_of i) values;
+    types_known = All-from_recursion (λ ty. ty < t) (types_of i) types;
+    blocks_known = All-from_recursion (λ id. id < b) (blocks_of i) blocks;
   }
 
   block_known : (block : Block) → ByRecursion (KnowsInst t c v b) block.instructions → ByRecursion (HasOperand t c v) (end_operands_of block.end)
       → ByRecursion (λ id. id < b) (targets_of block.end) → KnowsBlock t c v b block
   block_known block instructions operands targets = record {
-    instructions_known = from_recursion (KnowsInst t c v b) block.instructions instructions;
-    operands_known = from_recursion (HasOperand t c v) (end_operands_of block.end) operands;
-    targets_known = from_recursion (λ id. id < b) (targets_of block.end) targets;
+    instructions_known = All-from_recursion (KnowsInst t c v b) block.instructions instructions;
+    operands_known = All-from_recursion (HasOperand t c v) (end_operands_of block.end) operands;
+    targets_known = All-from_recursion (λ id. id < b) (targets_of block.end) targets;
   }
 
   module _ (p : Parts) (k : KnowsParts t c p) where
@@ -58,7 +54,7 @@ module _ (t c v b : ℕ) where
 
 module _ (t c : ℕ) (p : Parts) (k : KnowsParts t c p) where
   small_block_known : All (KnowsBlock t c 3 1) (small_blocks p)
-  small_block_known = from_recursion (KnowsBlock t c 3 1) (small_blocks p) (
+  small_block_known = All-from_recursion (KnowsBlock t c 3 1) (small_blocks p) (
     block_known t c 3 1 (block 0 (slots p 0 ∷ stores p (Known p.start) 0 ∷ loads p 1 0 ∷ adds p 2 1 (Known p.step) ∷ stores p (Local 2) 0 ∷ []) (ending.Return (at p.ty 2))) (
       slot_known t c 3 1 p k 0,
       (
@@ -148,5 +144,5 @@ sum_known t c p body k blocks results = record {
   blocks_known =
       subst (λ (bs : List Block). All (KnowsBlock t c (0 + length body.results) (length bs)) bs) (sym blocks)
       (subst (λ (n : ℕ). All (KnowsBlock t c (0 + n) 5) (sum_blocks p)) (sym results)
-      (from_recursion (KnowsBlock t c 11 5) (sum_blocks p) (entry_known t c p k, (test_known t c p k, (turn_known t c p k, (step_known t c p k, (last_known t c p k, tt)))))));
+      (All-from_recursion (KnowsBlock t c 11 5) (sum_blocks p) (entry_known t c p k, (test_known t c p k, (turn_known t c p k, (step_known t c p k, (last_known t c p k, tt)))))));
 }

@@ -4,6 +4,7 @@ use Rattle.std.specs.Prelude.{nat_lt, option_map}
 use Rattle.std.specs.List.{list_all, flat_map}
 use Rattle.std.proofs.lemmas.List.{append-nil}
 use Rattle.std.proofs.lemmas.Bool.{cases_Bool, and_parts, ltb-true, ltb-false, le-ltb, eqb-true, eqb-false, ne_eqb, le-leb}
+use Rattle.std.proofs.lemmas.Option.{same_Some}
 use Rattle.bits.specs.Bits.{bits_of}
 use Rattle.bits.specs.Cursor.{Cursor, Found, ◌>>=◌}
 use Rattle.bits.specs.Reading.{fixed, vbr}
@@ -250,19 +251,16 @@ rest_blob front rest is = rw (← is) (record {
       rw (all, way at bits) refl);
 })
 
-pair_of : {A : Type 0} (x y : A) → Some x ≡ Some y → x ≡ y
-pair_of x y h = cc
-
 rest_at : (front : List ValueSpelling) (ops : List AbbrevOp) (rest : List ValueSpelling × Tail) → list_all is_number ops ≡ true → rest_of front ops ≡ Some rest → Rest front ops rest
 unfolding rest_of
-rest_at front [] rest small is = rest_none front rest (pair_of _ _ is)
+rest_at front [] rest small is = rest_none front rest (same_Some _ _ is)
 rest_at front (Array ∷ []) rest small is = absurd (cc)
 rest_at front (Array ∷ e ∷ []) rest small is = by_element (element_scalar (scalar_of e)) refl where
   by_element : (o : Option Tail) → element_scalar (scalar_of e) ≡ o → Rest front (Array ∷ e ∷ []) rest
   by_element None none = let never = rw none at is in absurd (cc)
-  by_element (Some tail) some = rest_array front e rest tail (element_at e tail some) (pair_of _ _ (rw some at is))
+  by_element (Some tail) some = rest_array front e rest tail (element_at e tail some) (same_Some _ _ (rw some at is))
 rest_at front (Array ∷ e ∷ f ∷ ops) rest small is = absurd (cc)
-rest_at front (Blob ∷ []) rest small is = rest_blob front rest (pair_of _ _ is)
+rest_at front (Blob ∷ []) rest small is = rest_blob front rest (same_Some _ _ is)
 rest_at front (Blob ∷ op ∷ ops) rest small is = absurd (cc)
 rest_at front (Literal n ∷ ops) rest small is =
     let both = and_parts (is_number (Literal n)) (list_all is_number ops) small in
@@ -308,7 +306,7 @@ admitted (op ∷ ops) t small is = by_count (nat_lt 64 (suc (length ops))) refl 
   by_rest code None has none few all = let never = rw none at all in absurd (cc)
   by_rest code (Some rest) has some few all =
       let both = and_parts (is_number op) (list_all is_number ops) small in
-      let t_is : record { code = code; operands = rest.0; tail = rest.1 } ≡ t = pair_of _ _ (rw some at all) in
+      let t_is : record { code = code; operands = rest.0; tail = rest.1 } ≡ t = same_Some _ _ (rw some at all) in
       rw t_is at (admitted_by op ops code rest few both.0 has (rest_at [] ops rest both.1 some))
 
   by_code : (o : Option ValueSpelling) → scalar_of op ≡ o → nat_lt 64 (suc (length ops)) ≡ false → Admitted (op ∷ ops) t

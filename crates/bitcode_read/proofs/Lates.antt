@@ -3,7 +3,7 @@ use Rattle.std.proofs.Common.{◌≡◌, ◌<◌, ◌≤◌, ◌+◌, ℕ, suc, 
 use Rattle.std.specs.Option.{option_map}
 use Rattle.std.specs.Prelude.{IfSome, option_to_list}
 use Rattle.std.proofs.lemmas.Bool.{and_parts, leb-true, ltb-true}
-use Rattle.std.proofs.lemmas.List.{length-append, length-map, map-append}
+use Rattle.std.proofs.lemmas.List.{length-append, length-map, map-append, nil_from_length}
 use Rattle.std.proofs.lemmas.List.Elements.{All-cons, All-nil, All-push}
 use Rattle.type_table.specs.Types.{trees}
 use Rattle.module_arena.specs.declared.entry.Alias as the_alias
@@ -60,10 +60,6 @@ same_long xs ys x y e = let l = length-append xs (x ∷ []) in let r = length-ap
 named_push : {A B : Type 0} (f : A → Bytes) (g : B → Bytes) (xs : List A) (ys : List B) (x : A) (y : B) → map f xs ≡ map g ys → f x ≡ g y → map f (xs ++ x ∷ []) ≡ map g (ys ++ y ∷ [])
 named_push f g xs ys x y are is = map-append f xs (x ∷ []) ∙ ((λ j. are j ++ is j ∷ []) ∙ sym (map-append g ys (y ∷ [])))
 
-none_of_length : {A : Type 0} (xs : List A) → length xs ≡ 0 → xs ≡ []
-none_of_length [] e = refl
-none_of_length (x ∷ xs) e = absurd (omega arith)
-
 -- what may follow behind the types
 pub after_types : (last place : ℕ) → (nat_le 5 last && nat_le last place) ≡ true → (5 ≤ last) × (last ≤ place)
 after_types last place h = let p = and_parts (nat_le 5 last) (nat_le last place) h in (leb-true 5 last p.0, leb-true last place p.1)
@@ -119,7 +115,7 @@ module _ (old new : ModuleReader) (b b2 : Sofar) (s : records.Sofar) (operands :
     v_alone =
         let last = after_types s.last 6 may in
         let none = ap (λ (xs : List m.Alias). length xs) (l.alone (omega (arith, last.1))) in
-        none_of_length l.a.aliases (aliases_many l.a s l.called ∙ none)
+        nil_from_length l.a.aliases (aliases_many l.a s l.called ∙ none)
 
     v_less : length l.a.variables < 262144
     v_less = let less : length s.variables < 262144 = ltb-true (length s.variables) 0x4_0000 few in let many = variables_many l.a s l.called in omega (arith, less, many)
@@ -187,7 +183,7 @@ module _ (old new : ModuleReader) (b b2 : Sofar) (s : records.Sofar) (operands :
     f_alone =
         let last = after_types s.last 7 may in
         let none = ap (λ (xs : List m.Alias). length xs) (l.alone (omega (arith, last.1))) in
-        none_of_length l.a.aliases (aliases_many l.a s l.called ∙ none)
+        nil_from_length l.a.aliases (aliases_many l.a s l.called ∙ none)
 
     f_less : length l.a.functions < 262144
     f_less = let less : length s.functions < 262144 = ltb-true (length s.functions) 0x4_0000 few in let many = functions_many l.a s l.called in omega (arith, less, many)

@@ -2,7 +2,7 @@
 use Rattle.std.proofs.Common.{◌≡◌, ℕ, zero, suc, ◌+◌, ◌<◌, Bool, true, false, ◌&&◌, ◌||◌, not, List, [], ◌∷◌, ◌++◌, length, map, flat_map, Option, Some, None, All, get_or, bytes_eq, is_some, inl, inr, refl, sym, ap, ◌∙◌, subst, arith}
 use Rattle.std.specs.List.{list_all, list_any, AllByRecursion, IsDistinct}
 use Rattle.std.specs.Option.{option_map, option_map_or, option_to_list}
-use Rattle.std.proofs.lemmas.Bool.{and_parts, and_from, or_cases, or_left, or_right, or_parts, both_ways, not_from_true, not_from_false, false_from_ne_true, false≢true}
+use Rattle.std.proofs.lemmas.Bool.{and_parts, and_from, or_cases, or_left, or_right, or_parts, both_ways, not_from_true, not_from_false, false_from_ne_true, false≢true, not-true}
 use Rattle.std.proofs.lemmas.List.{append-nil}
 use Rattle.std.proofs.lemmas.Slice.Eq.{bytes_eq-Decides}
 use Rattle.std.proofs.lemmas.List.Elements.{All-cons, All-head, All-from_recursion, All-weaker}
@@ -50,10 +50,6 @@ use Rattle.bitcode_write.proofs.Blocks.{BlockStands, FunctionStands, functions_s
 
 -- ---- distinct names
 
-not_is : (b : Bool) → not b ≡ true → b ≡ false
-not_is true h = absurd (false≢true h)
-not_is false h = refl
-
 none_same : (x : LocalName) (ys : List LocalName) → list_any (same_local x) ys ≡ false → AllByRecursion (λ (y : LocalName). same_local x y ≡ false) ys
 none_same x [] h = tt
 none_same x (y ∷ ys) h = let p = or_parts (same_local x y) (list_any (same_local x) ys) h in (p.0, none_same x ys p.1)
@@ -63,7 +59,7 @@ unfolding IsDistinct
 are_distinct [] h = tt
 are_distinct (x ∷ xs) h =
     let p = and_parts (not (list_any (same_local x) xs)) (is_distinct same_local xs) h in
-    (none_same x xs (not_is (list_any (same_local x) xs) p.0), are_distinct xs p.1)
+    (none_same x xs (not-true (list_any (same_local x) xs) p.0), are_distinct xs p.1)
 
 -- the first list is the second with some elements left out
 data IsPartOf : List LocalName → List LocalName → Type 0 where

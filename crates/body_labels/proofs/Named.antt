@@ -1,6 +1,7 @@
 -- What a line declares is what its instruction gives a name to.
-use Rattle.std.proofs.Common.{◌≡◌, ◌≤◌, ℕ, zero, suc, Bool, true, false, cond, List, [], ◌∷◌, Option, Some, None, length, get_or, nat_lt, refl, ap, arith}
+use Rattle.std.proofs.Common.{◌≡◌, ℕ, Bool, true, false, cond, List, [], ◌∷◌, Option, Some, None, length, get_or, nat_lt, refl, ap}
 use Rattle.std.proofs.lemmas.Bool.{ltb-false}
+use Rattle.std.proofs.lemmas.List.{get_or_past}
 use Rattle.ir_tables.specs.declared.opcode.Opcode.{Opcode}
 use Rattle.ir_tables.specs.declared.opcode.Opcode.TheVariants as op
 use Rattle.type_table.specs.Tree.{Tree, void}
@@ -18,11 +19,6 @@ use Rattle.body_labels.proofs.Kept.{broken_lasts, told_broken}
 abbrev pub with_result : Labels → Option LocalName → Labels
 with_result s None = s
 with_result s (Some name) = with_value s name
-
-get_past : {A : Type 0} (xs : List A) (n : ℕ) (d : A) → length xs ≤ n → get_or xs n d ≡ d
-get_past [] n d le = refl
-get_past (x ∷ xs) zero d le = absurd (omega arith)
-get_past (x ∷ xs) (suc n) d le = get_past xs n d (omega arith)
 
 none_taken : is_broken (next (going [] None)).1 ≡ true
 unfolding next
@@ -43,7 +39,7 @@ module _ (texts : Texts) (sound : HasSoundLabels texts) (k : Numbering) (values 
       by true = refl
       by false = refl
   call_by s t operands false e =
-      ap (λ (x : Tree). cond (is_void x) s (with_value s (label_in texts k s.own operands))) (get_past k.types t void (ltb-false t (length k.types) e))
+      ap (λ (x : Tree). cond (is_void x) s (with_value s (label_in texts k s.own operands))) (get_or_past k.types t void (ltb-false t (length k.types) e))
 
   -- without the type that it returns a call is broken
   call_broken : (own : ℕ) → is_broken ((instruction texts q own op.Call).read (going [] None)).1 ≡ true

@@ -2,6 +2,7 @@
 use Rattle.std.proofs.Common.{◌≡◌, ◌<◌, ℕ, Bool, true, false, cond, List, [], ◌∷◌, Option, Some, None, length, map, All, IfSome, refl, sym, ap, subst, ◌∙◌, arith}
 use Rattle.std.specs.Prelude.{nat_lt}
 use Rattle.std.specs.Option.{option_map}
+use Rattle.std.proofs.lemmas.List.Elements.{All-nil, All-cons}
 use Rattle.ir_tables.specs.declared.opcode.Opcode.TheVariants as op
 use Rattle.ir_tables.specs.declared.opcode.Opcode.{Opcode}
 use Rattle.type_table.specs.Tree.{Tree, ptr}
@@ -36,7 +37,7 @@ use Rattle.operand_read.proofs.Joined.{HasAny, HasBoth, also, and_then, behind, 
 use Rattle.line_read.specs.Kept.{HasInst, operation_in}
 use Rattle.line_read.proofs.Fields.{plain_in}
 use Rattle.line_read.proofs.Found.{mapped_two}
-use Rattle.line_read.proofs.Lists.{more_all, none_all, one_all}
+use Rattle.line_read.proofs.Lists.{one_all}
 use Rattle.call_read.specs.declared.line.ReadLine.{ReadLine}
 use Rattle.call_read.specs.Calls.{IsNameOf, NamesResult, ReadsLine, ReadsBoth, ReadsReturned, ids_of, kept_call, operation_read}
 use Rattle.call_read.proofs.Heads.{name_stays, takes_walk}
@@ -116,8 +117,8 @@ module _ (texts : Texts) (own : ℕ) (void : Bool) (a b c d e f g : ModuleReader
       (λ l q y has. record {
         operands_known = has.1.1.1.1;
         values_known = one_all (HasValue l q) y.1.1.1.0 has.1.1.1.0;
-        types_known = more_all (HasType l q) y.0 y.1.1.0 has.0 has.1.1.0;
-        blocks_known = none_all (HasBlock l q);
+        types_known = All-cons (HasType l q) y.0 y.1.1.0 has.0 has.1.1.0;
+        blocks_known = All-nil (HasBlock l q);
       })
       (λ k q y. refl) whole)
 

@@ -4,7 +4,7 @@ use Rattle.std.specs.Option.{option_map}
 use Rattle.std.specs.Prelude.{option_to_list}
 use Rattle.std.proofs.lemmas.List.{append-nil, map-append}
 use Rattle.std.proofs.lemmas.List.Concat.{flat_map-append}
-use Rattle.std.proofs.lemmas.List.Elements.{All-push}
+use Rattle.std.proofs.lemmas.List.Elements.{All-push, All-cons}
 use Rattle.type_table.specs.Tree.{Tree}
 use Rattle.type_table.specs.Types.{Types, tree}
 use Rattle.record_table.specs.Fields.{Numbering, ty}
@@ -20,7 +20,6 @@ use Rattle.arena_read.proofs.Kept.{same_table}
 use Rattle.arena_read.proofs.LeavesRead.{goes_takes}
 use Rattle.arena_read.proofs.Steps.{still_known, still_numbers}
 use Rattle.operand_read.specs.Found.{Finds, HasType, HasTypes, types_in}
-use Rattle.line_read.proofs.Lists.{more_all}
 use Rattle.call_read.specs.Calls.{ReadsBoth, ReadsParameters, only_known}
 
 pub takes_self : (a : ModuleReader) → TakesOnly a a
@@ -102,7 +101,7 @@ known_there m [] all later g = λ i d lt. absurd (omega arith)
 known_there m (x ∷ xs) all later g = by x (all 0 x (omega arith)) (known_there m xs (λ i d lt. all (suc i) d (omega arith)) later g)
   where
     by : (x : Option ℕ) → IsKnownType m x → HasTypes m.locals later.arena (only_known xs) → HasTypes m.locals later.arena (only_known (x ∷ xs))
-    by (Some id) h rest = more_all (HasType m.locals later.arena) id (only_known xs) (subst (λ (t : Types). id < length t.types) (sym (same_table m.growing later g)) h) rest
+    by (Some id) h rest = All-cons (HasType m.locals later.arena) id (only_known xs) (subst (λ (t : Types). id < length t.types) (sym (same_table m.growing later g)) h) rest
     by None h rest = rest
 
 known_trees : (m : ModuleReader) (items : List (Option ℕ)) → All (IsKnownType m) items → is_broken m.reader.walk ≡ false → (t : Types) → map (tree t) (only_known items) ≡ map (tree_at t) items

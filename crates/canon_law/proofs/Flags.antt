@@ -1,6 +1,6 @@
 -- Flags are printed.
 use Rattle.std.proofs.Common.{◌≡◌, ℕ, ◌==◌, List, [], ◌∷◌, map, Bool, true, false, Option, Some, None, refl, sym, ap, subst, ◌∙◌, inl, inr}
-use Rattle.std.proofs.lemmas.Bool.{eqb-true}
+use Rattle.std.proofs.lemmas.Bool.{eqb-true, cases_Bool}
 use Rattle.ir_lexer.specs.Ahead.{Located, tokens_in}
 use Rattle.ir_lexer.specs.Class.{byte_class}
 use Rattle.ir_lexer.specs.Pieces.{Separator, Space, tokens_of}
@@ -12,7 +12,6 @@ use Rattle.ir_tables.specs.declared.flag.Flag.TheVariants as flag
 use Rattle.ir_tables.specs.declared.opcode.Opcode.{Opcode}
 use Rattle.ir_tables.specs.declared.opcode.Opcode.TheVariants as op
 use Rattle.phrase_rows.specs.Row.{among, Steps}
-use Rattle.phrase_rows.proofs.ListParts.{bool_cases}
 use Rattle.ir_terminals.specs.Role.{terminal}
 use Rattle.ir_terminals.specs.Words.{word_terminal, words_by_role}
 use Rattle.ir_terminals.specs.declared.terminal.Terminal.TheVariants as terminals
@@ -35,7 +34,7 @@ one_of_all : (P : ℕ → Type 0) (xs : List ℕ) → AllOf P xs → (k : ℕ) �
 unfolding AllOf
 one_of_all P [] all k h = absurd cc
 one_of_all P (x ∷ xs) all k h =
-    elim (bool_cases (k == x)) [ inl e ↦ subst P (sym (eqb-true k x e)) all.0 | inr e ↦ one_of_all P xs all.1 k (rw e at h) ]
+    elim (cases_Bool (k == x)) [ inl e ↦ subst P (sym (eqb-true k x e)) all.0 | inr e ↦ one_of_all P xs all.1 k (rw e at h) ]
 
 -- the sum of flags that are read one after the other
 adds : Opcode → ℕ → List Flag → Option ℕ

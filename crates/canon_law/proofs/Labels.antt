@@ -3,6 +3,7 @@ use Rattle.std.proofs.Common.{◌≡◌, ℕ, ◌-◌, ◌<◌, true, false, Lis
 use Rattle.std.proofs.lemmas.List.{take-append-le}
 use Rattle.std.proofs.Math.Seq.{take-length}
 use Rattle.std.specs.List.{flat_map}
+use Rattle.std.proofs.lemmas.Bool.{cases_Bool}
 use Rattle.ir_lexer.specs.Class.{byte_class, starts_with, starts_name, in_name, is_digit, is_quote, is_colon}
 use Rattle.ir_lexer.specs.Form.{each, IsUpto, anything}
 use Rattle.ir_lexer.specs.Names.{name_in, unquoted, bare_name, is_number, between_quotes}
@@ -15,7 +16,6 @@ use Rattle.ir_lexer.specs.declared.quoted.Escape.TheVariants.{Plain}
 use Rattle.ir_lexer.specs.declared.token.TokenKind.TheVariants as kind
 use Rattle.ir_lexer.proofs.Rows.{name_digit}
 use Rattle.ir_lexer.proofs.Runs.{each_first}
-use Rattle.phrase_rows.proofs.ListParts.{bool_cases}
 use Rattle.ir_terminals.specs.Role.{terminal}
 use Rattle.ir_terminals.specs.Terminal.{code}
 use Rattle.ir_terminals.specs.Tokens.{label_row, quoted_row, byte_string_row}
@@ -50,7 +50,7 @@ in_unquoted Dot h = refl
 in_unquoted _ h = absurd cc
 
 starts_no_digit : (c : Class) → starts_name c ≡ true → is_digit c ≡ false
-starts_no_digit c h = elim (bool_cases (is_digit c)) [ inl e ↦ absurd (name_digit c h e) | inr e ↦ e ]
+starts_no_digit c h = elim (cases_Bool (is_digit c)) [ inl e ↦ absurd (name_digit c h e) | inr e ↦ e ]
 
 -- a label's spelling without the colon
 bare_label : (s : List ℕ) → bare_name kind.Label (s ++ 58 ∷ []) ≡ s

@@ -1,7 +1,6 @@
 -- Numbers in decimal are spelled as the tokens of numbers are, and stand for themselves.
 use Rattle.std.proofs.Common.{◌≡◌, ℕ, zero, suc, ◌+◌, ◌-◌, ◌*◌, ◌/◌, ◌%◌, ◌<◌, ◌==◌, ◌&&◌, nat_le, nat_lt, Bool, true, false, cond, List, [], ◌∷◌, ◌++◌, length, refl, sym, ◌∙◌, inl, inr, arith, subst, length-append, append_assoc, append-nil}
-use Rattle.std.proofs.lemmas.Bool.{cases_order, eqb-true, ltb-true, ltb-false}
-use Rattle.phrase_rows.proofs.ListParts.{bool_cases}
+use Rattle.std.proofs.lemmas.Bool.{cases_order, eqb-true, ltb-true, ltb-false, cases_Bool}
 use Rattle.std.specs.List.{list_all}
 use Rattle.ir_lexer.specs.Class.{byte_class, is_digit}
 use Rattle.ir_lexer.specs.Form.{each}
@@ -113,7 +112,7 @@ list_all_digits (x ∷ ds) (k, h, is, d) = rw is (rw (digit_byte k h).1 (list_al
 
 pub digits_are : (ds : List ℕ) → 0 < length ds → AreDigits ds → read.are_digits ds ≡ true
 digits_are [] s d = absurd (omega arith)
-digits_are (x ∷ ds) s d = elim (bool_cases (length (x ∷ ds) == 0)) [ inl e ↦ absurd (omega (arith, eqb-true (length (x ∷ ds)) 0 e)) | inr e ↦ rw e (list_all_digits (x ∷ ds) d) ]
+digits_are (x ∷ ds) s d = elim (cases_Bool (length (x ∷ ds) == 0)) [ inl e ↦ absurd (omega (arith, eqb-true (length (x ∷ ds)) 0 e)) | inr e ↦ rw e (list_all_digits (x ∷ ds) d) ]
 
 pub digits_first : (x k : ℕ) → k < 10 → x ≡ 48 + k → is_digit (byte_class x) ≡ true
 digits_first x k h is = rw is (rw (digit_byte k h).0 refl)

@@ -1,7 +1,7 @@
 -- What is written in quotes stands for its bytes.
 use Rattle.std.proofs.Common.{◌&&◌, ◌||◌, not, ◌≡◌, ℕ, ◌+◌, ◌*◌, ◌/◌, ◌%◌, ◌<◌, ◌==◌, Bool, true, false, cond, List, [], ◌∷◌, ◌++◌, take, Some, refl, ap, ◌∙◌, inl, inr, arith}
 use Rattle.std.specs.List.{flat_map}
-use Rattle.phrase_rows.proofs.ListParts.{bool_cases}
+use Rattle.std.proofs.lemmas.Bool.{and_parts, not-true, cases_Bool}
 use Rattle.ir_lexer.specs.Class.{byte_class, no_quote}
 use Rattle.ir_lexer.specs.Form.{each, run}
 use Rattle.ir_lexer.specs.Names.{behind_quote, between_quotes}
@@ -23,14 +23,6 @@ hexes = ((refl, refl, refl), ((refl, refl, refl), ((refl, refl, refl), ((refl, r
 hex : (n : ℕ) → n < 16 → IsHex n
 hex n h = below IsHex 16 hexes n h
 
-pub and_parts : (a b : Bool) → (a && b) ≡ true → (a ≡ true) × (b ≡ true)
-and_parts true b h = (refl, h)
-and_parts false b h = absurd cc
-
-pub not_false : (a : Bool) → not a ≡ true → a ≡ false
-not_false true h = absurd cc
-not_false false h = refl
-
 abbrev is_fine : ℕ → Bool
 is_fine b = not (is_plain b) || (not (b == 92) && no_quote (byte_class b))
 
@@ -46,7 +38,7 @@ implied false b h e = absurd cc
 plain_byte : (b : ℕ) → b < 256 → is_plain b ≡ true → (no_quote (byte_class b) ≡ true) × ((b == 92) ≡ false)
 plain_byte b h p =
     let w = and_parts (not (b == 92)) (no_quote (byte_class b)) (implied (is_plain b) (not (b == 92) && no_quote (byte_class b)) (tested_below is_fine 256 all_fine b h) p) in
-    (w.1, not_false (b == 92) w.0)
+    (w.1, not-true (b == 92) w.0)
 
 decode_by : (b : ℕ) (plain : Bool) (rest : List ℕ) → is_plain b ≡ plain → b < 256 → decode Plain ((cond plain (b ∷ []) (92 ∷ hexadecimal (b / 16) ∷ hexadecimal (b % 16) ∷ [])) ++ rest) ≡ with_byte b (decode Plain rest)
 unfolding decode unescaped
@@ -58,7 +50,7 @@ decode_by b false rest p h =
     rw high.1 (rw high.0 (rw low.0 (rw is refl)))
 
 decode_byte : (b : ℕ) (rest : List ℕ) → b < 256 → decode Plain (quoted_byte b ++ rest) ≡ with_byte b (decode Plain rest)
-decode_byte b rest h = elim (bool_cases (is_plain b)) [ inl e ↦ rw e (decode_by b true rest e h) | inr e ↦ rw e (decode_by b false rest e h) ]
+decode_byte b rest h = elim (cases_Bool (is_plain b)) [ inl e ↦ rw e (decode_by b true rest e h) | inr e ↦ rw e (decode_by b false rest e h) ]
 
 -- what is between the quotes stands for the bytes
 pub decode_back : (bytes : List ℕ) → AreBytes bytes → decode Plain (flat_map quoted_byte bytes) ≡ Some bytes
@@ -78,7 +70,7 @@ no_quote_by b false p h = rw (hex (b / 16) (omega arith)).2 (rw (hex (b % 16) (o
 -- and has no quote
 pub no_quotes : (bytes : List ℕ) → AreBytes bytes → each no_quote (flat_map quoted_byte bytes) ≡ true
 no_quotes [] h = refl
-no_quotes (b ∷ bytes) (h, hs) = each_append no_quote (quoted_byte b) (flat_map quoted_byte bytes) (elim (bool_cases (is_plain b)) [ inl e ↦ rw e (no_quote_by b true e h) | inr e ↦ rw e (no_quote_by b false e h) ]) (no_quotes bytes hs)
+no_quotes (b ∷ bytes) (h, hs) = each_append no_quote (quoted_byte b) (flat_map quoted_byte bytes) (elim (cases_Bool (is_plain b)) [ inl e ↦ rw e (no_quote_by b true e h) | inr e ↦ rw e (no_quote_by b false e h) ]) (no_quotes bytes hs)
 
 behind : (pre rest : List ℕ) → each no_quote pre ≡ true → behind_quote (pre ++ 34 ∷ rest) ≡ rest
 unfolding byte_class

@@ -1,6 +1,6 @@
 -- Tokens that stand for something are printed: names, texts and numbers.
 use Rattle.std.proofs.Common.{◌≡◌, ℕ, ◌-◌, ◌^◌, ◌<◌, ◌≤◌, ◌==◌, nat_le, nat_lt, not, Bool, true, false, List, [], ◌∷◌, ◌++◌, length, Some, option_map, refl, sym, ap, ◌∙◌, inl, inr, arith}
-use Rattle.std.proofs.lemmas.Bool.{leb-false}
+use Rattle.std.proofs.lemmas.Bool.{leb-false, and_parts, not-true, cases_Bool}
 use Rattle.std.specs.List.{flat_map, list_all}
 use Rattle.ir_base.specs.declared.place.Place.{Place}
 use Rattle.ir_base.specs.Name as base
@@ -13,7 +13,6 @@ use Rattle.ir_lexer.specs.Table as table
 use Rattle.ir_lexer.specs.declared.class.Class.{Class}
 use Rattle.ir_lexer.specs.declared.quoted.Escape.TheVariants.{Plain}
 use Rattle.ir_lexer.specs.declared.token.TokenKind.TheVariants as kind
-use Rattle.phrase_rows.proofs.ListParts.{bool_cases}
 use Rattle.ir_terminals.specs.Digits as read
 use Rattle.ir_terminals.specs.Role.{terminal}
 use Rattle.ir_terminals.specs.Terminal.{code, integer_type_class}
@@ -37,7 +36,7 @@ use Rattle.canon_law.specs.Printed.{IsPrinted}
 use Rattle.canon_law.specs.Written.{AreBytes, IsNameText, IsLocalText}
 use Rattle.canon_law.proofs.Rows.{printed_one}
 use Rattle.canon_law.proofs.Numerals.{AreDigits, decimal_some, decimal_digits, decimal_back, digits_each, digits_are, digits_first, first_digit}
-use Rattle.canon_law.proofs.Quotes.{and_parts, not_false, decode_back, no_quotes, between}
+use Rattle.canon_law.proofs.Quotes.{decode_back, no_quotes, between}
 
 -- digits alone
 digits_token : (ds : List ℕ) → 0 < length ds → AreDigits ds → IsToken kind.Integer ds
@@ -78,12 +77,12 @@ printed_negated n h =
     (λ place. (integer_at place (45 ∷ decimal n), refl, ap negated (decimal_back n)))
 
 pub printed_signed : (width n : ℕ) → n < 10 ^ 64 → 2 ^ width - n < 10 ^ 64 → IsPrinted integer_row unplaced_integer (signed width n) (phrase.number (names.signed_spelling width n))
-printed_signed width n h k = elim (bool_cases (nat_lt n (2 ^ (width - 1)))) [ inl e ↦ rw e (printed_natural n h) | inr e ↦ rw e (printed_negated (2 ^ width - n) k) ]
+printed_signed width n h k = elim (cases_Bool (nat_lt n (2 ^ (width - 1)))) [ inl e ↦ rw e (printed_natural n h) | inr e ↦ rw e (printed_negated (2 ^ width - n) k) ]
 
 width_is : (n : ℕ) → 1 ≤ n → n ≤ 128 → is_width n ≡ true
-width_is n low high = elim (bool_cases (nat_le 1 n)) [
+width_is n low high = elim (cases_Bool (nat_le 1 n)) [
   | inr e ↦ absurd (omega (arith, leb-false 1 n e))
-  | inl e ↦ elim (bool_cases (nat_le n 128)) [ inl d ↦ rw e d | inr d ↦ absurd (omega (arith, leb-false n 128 d)) ]
+  | inl e ↦ elim (cases_Bool (nat_le n 128)) [ inl d ↦ rw e d | inr d ↦ absurd (omega (arith, leb-false n 128 d)) ]
 ]
 
 width_read : (n : ℕ) → n < 10 ^ 64 → width_in (105 ∷ decimal n) ≡ Some n
@@ -111,7 +110,7 @@ upto test f bytes rest b t h = record { inside = flat_map quoted_byte bytes; byt
 
 no_zero : (bytes : List ℕ) → list_all (λ byte. not (byte == 0)) bytes ≡ true → has_zero bytes ≡ false
 no_zero [] h = refl
-no_zero (b ∷ bytes) h = let w = and_parts (not (b == 0)) (list_all (λ byte. not (byte == 0)) bytes) h in rw (not_false (b == 0) w.0) (no_zero bytes w.1)
+no_zero (b ∷ bytes) h = let w = and_parts (not (b == 0)) (list_all (λ byte. not (byte == 0)) bytes) h in rw (not-true (b == 0) w.0) (no_zero bytes w.1)
 
 name_inside : (s bytes : List ℕ) → decode Plain s ≡ Some bytes → base.is_name bytes ≡ true → is_name s ≡ true
 unfolding decode
@@ -133,10 +132,10 @@ bare_spelling [] e = absurd cc
 bare_spelling (x ∷ rest) e = let w = and_parts (starts_name (byte_class x)) (each in_name (x ∷ rest)) e in Bare x rest refl w.0 (each_first in_name x rest w.1).1
 
 pub spelling_of : (name : List ℕ) → IsNameText name → NameSpelling name (name_spelling name)
-spelling_of name h = elim (bool_cases (is_identifier name)) [ inl e ↦ rw e (bare_spelling name e) | inr e ↦ rw e (InQuotes (quoted_name name h) h.bytes) ]
+spelling_of name h = elim (cases_Bool (is_identifier name)) [ inl e ↦ rw e (bare_spelling name e) | inr e ↦ rw e (InQuotes (quoted_name name h) h.bytes) ]
 
 pub starts_unquoted : (c : Class) → starts_name c ≡ true → is_quote c ≡ false
-starts_unquoted c h = elim (bool_cases (is_quote c)) [ inl e ↦ absurd (name_quote c h e) | inr e ↦ e ]
+starts_unquoted c h = elim (cases_Bool (is_quote c)) [ inl e ↦ absurd (name_quote c h e) | inr e ↦ e ]
 
 -- the two marks of names
 global_token : (name s : List ℕ) → NameSpelling name s → IsToken kind.GlobalName (64 ∷ s)

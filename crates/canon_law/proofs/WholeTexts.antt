@@ -1,5 +1,6 @@
 -- Canonical text is read as its items.
 use Rattle.std.proofs.Common.{◌≡◌, ℕ, List, [], map, sym, ap, subst, ◌∙◌, append-nil, inl, inr}
+use Rattle.std.proofs.lemmas.Bool.{cases_Bool}
 use Rattle.ir_lexer.specs.Ahead.{Located, tokens_in}
 use Rattle.ir_lexer.specs.Lexer.{at_start}
 use Rattle.ir_lexer.specs.Pieces.{Line, AreSound, tokens_of}
@@ -8,7 +9,6 @@ use Rattle.ir_lexer.proofs.AheadSteps.{ahead_is}
 use Rattle.ir_lexer.proofs.Lexed.{pieces_are}
 use Rattle.ir_lexer.proofs.TokenLists.{one_list, list_or_bad_not_both}
 use Rattle.phrase_rows.proofs.Answer.{answered_whole}
-use Rattle.phrase_rows.proofs.ListParts.{bool_cases}
 use Rattle.ir_terminals.specs.Position.{text_tokens, is_cut_off}
 use Rattle.ir_terminals.specs.Role.{class}
 use Rattle.ir_syntax.specs.Items.{items_row, language}
@@ -31,7 +31,7 @@ pieces_are_its_tokens m h = pieces_are (canon_pieces m) (sound m h)
 the_tokens : (text : List ℕ) (ts : List Spelled) → Tokens text ts → Tokens text (tokens_in (text_tokens text)) × (tokens_in (text_tokens text) ≡ ts)
 the_tokens text ts h =
     let a = ahead_is (at_start text) in
-    elim (bool_cases (is_cut_off text)) [
+    elim (cases_Bool (is_cut_off text)) [
       | inl e ↦ absurd (list_or_bad_not_both text ts (tokens_in (text_tokens text)) h (a.1 e))
       | inr e ↦ (a.0 e, one_list text (tokens_in (text_tokens text)) ts (a.0 e) h)
     ]

@@ -1,6 +1,7 @@
 -- The canonical items of a module stand for it.
 use Rattle.std.proofs.Common.{◌≡◌, ℕ, suc, List, [], ◌∷◌, ◌++◌, map, true, false, Option, Some, None, option_map, refl, sym, ap, ◌∙◌, append-nil}
 use Rattle.std.specs.List.{filter_map, flat_map, cons_option}
+use Rattle.std.proofs.lemmas.List.Elements.{filter_map-append}
 use Rattle.ir_tables.specs.declared.linkage.Linkage.{Linkage}
 use Rattle.ir_tables.specs.declared.linkage.Linkage.TheVariants as linkages
 use Rattle.ir_terminals.specs.declared.values.PlacedText.{PlacedText}
@@ -130,14 +131,6 @@ structs_back : (ss : List (Bytes × TreeBody)) → filter_map struct_in (map str
 structs_back [] = refl
 structs_back (s ∷ ss) = λ i. (s.0, body_back s.1 i) ∷ structs_back ss i
 
-filter_append : {A B : Type 0} (f : A → Option B) (xs ys : List A) → filter_map f (xs ++ ys) ≡ filter_map f xs ++ filter_map f ys
-filter_append f [] ys = refl
-filter_append {A} {B} f (x ∷ xs) ys = ap (cons_option (f x)) (filter_append f xs ys) ∙ by (f x)
-  where
-    by : (o : Option B) → cons_option o (filter_map f xs ++ filter_map f ys) ≡ cons_option o (filter_map f xs) ++ filter_map f ys
-    by None = refl
-    by (Some b) = refl
-
 -- items none of which gives anything
 pub filter_none : {A B Y : Type 0} (f : A → Option B) (g : Y → A) → ((y : Y) → f (g y) ≡ None) → (ys : List Y) → filter_map f (map g ys) ≡ []
 filter_none f g h [] = refl
@@ -251,7 +244,7 @@ first_given None = refl
 first_given (Some b) = refl
 
 parts : {B : Type 0} (f : ItemTree → Option B) (a b c d e g k : List ItemTree) → filter_map f (a ++ (b ++ (c ++ (d ++ (e ++ (g ++ k)))))) ≡ filter_map f a ++ (filter_map f b ++ (filter_map f c ++ (filter_map f d ++ (filter_map f e ++ (filter_map f g ++ filter_map f k)))))
-parts f a b c d e g k = simp (filter_append f)
+parts f a b c d e g k = simp (filter_map-append f)
 
 source_of : (t : Option Bytes) → filter_map source_in (text_item (SourceFilename nowhere) t) ≡ given_list t
 source_of None = refl

@@ -15,6 +15,7 @@ use Rattle.module_arena.specs.TypeTests.{is_pointer}
 use Rattle.module_arena.proofs.Found.{some-equal}
 use Rattle.std.specs.Prelude.{is_some}
 use Rattle.std.specs.Option.{option_map}
+use Rattle.std.proofs.lemmas.List.Elements.{All-nil}
 use Rattle.record_table.specs.Walk.{Walk, next, ask, stop}
 use Rattle.record_table.specs.Layout.{number, found_or}
 use Rattle.record_table.specs.declared.form.ConstantForm as the_form
@@ -35,9 +36,6 @@ use Rattle.constant_read.specs.Made.{HasTyped, HasAll, KeepsMade, AreIndices, in
 
 -- ---- the parts are there
 
-none_all : {A : Type 0} (P : A → Type 0) → All P []
-none_all P k d lt = absurd (omega arith)
-
 one_all : {A : Type 0} (P : A → Type 0) (x : A) → P x → All P (x ∷ [])
 one_all P x h zero d lt = h
 one_all P x h (suc k) d lt = absurd (omega arith)
@@ -52,21 +50,21 @@ module _ (a : Lists) where
   knows_cast opcode part to h lt = record {
     types_known = one_all (λ id. id < length a.table.types) to lt;
     typed_known = one_all (HasTyped a) part h;
-    globals_known = none_all (HasGlobal (counts a));
+    globals_known = All-nil (HasGlobal (counts a));
   }
 
   pub knows_pair : (opcode : Opcode) (bits : ℕ) (left right : TypedConst) → HasTyped a left → HasTyped a right → KnowsConst (length a.table.types) (counts a) (length a.constants) (const.Binary opcode bits (record { left = left; right = right }))
   knows_pair opcode bits left right h i = record {
-    types_known = none_all (λ id. id < length a.table.types);
+    types_known = All-nil (λ id. id < length a.table.types);
     typed_known = two_all (HasTyped a) left right h i;
-    globals_known = none_all (HasGlobal (counts a));
+    globals_known = All-nil (HasGlobal (counts a));
   }
 
   pub knows_element : (bits source : ℕ) (operands : List TypedConst) → source < length a.table.types → All (HasTyped a) operands → KnowsConst (length a.table.types) (counts a) (length a.constants) (const.ElementAddress bits (record { source = source; operands = operands }))
   knows_element bits source operands lt all = record {
     types_known = one_all (λ id. id < length a.table.types) source lt;
     typed_known = all;
-    globals_known = none_all (HasGlobal (counts a));
+    globals_known = All-nil (HasGlobal (counts a));
   }
 
 -- a constant with its type, where both are there

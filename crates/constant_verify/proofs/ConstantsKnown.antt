@@ -16,7 +16,7 @@ use Rattle.module_arena.specs.TypeTests.{is_integer, is_pointer, opened}
 use Rattle.constant_verify.specs.declared.constants.ConstFact.{ConstFact}
 use Rattle.constant_verify.specs.ConstantFacts.{typed_list, parts_in, are_types, have_types, fits_outside, fits_within, own_operands_fit, own_address_passes, all_pass, both_constant_facts, const_fact, part_fact, own_fact}
 use Rattle.std.proofs.lemmas.Bool.{false_from_ne_true}
-use Rattle.std.proofs.lemmas.Bool.Decides.{Decides-ltb}
+use Rattle.std.proofs.lemmas.Bool.Decides.{Decides-ltb, same_from_decides}
 use Rattle.std.proofs.lemmas.Grind.{fold-append}
 use Rattle.std.proofs.lemmas.List.{map-append}
 use Rattle.std.proofs.Common.{take, slice_get}
@@ -24,7 +24,6 @@ use Rattle.type_table.proofs.Steps.{take_next}
 use Rattle.type_table.specs.Types.{structs as structs_of}
 use Rattle.module_arena.specs.Lists.{Lists}
 use Rattle.module_arena.specs.View.{module_of}
-use Rattle.type_verify.proofs.ClassesTold.{tests_same}
 
 and_true : (b : Bool) → (b && true) ≡ b
 and_true true = refl
@@ -151,7 +150,7 @@ module _ (structs : Structs) where
   shuffle false true false x a p e = refl
 
   same_suc : (n m : ℕ) → (suc n == suc m) ≡ (n == m)
-  same_suc n m = tests_same (suc n == suc m) (n == m) (to, from) (unsigned_Decides n m)
+  same_suc n m = same_from_decides (suc n == suc m) (n == m) (to, from) (unsigned_Decides n m)
     where
       to : (suc n == suc m) ≡ true → n ≡ m
       to e = let q = (unsigned_Decides (suc n) (suc m)).0 e in omega (arith, q)

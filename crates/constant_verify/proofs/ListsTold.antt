@@ -4,17 +4,17 @@ use Rattle.std.specs.List.{list_all}
 use Rattle.std.specs.Cmp.{unsigned_Decides}
 use Rattle.std.proofs.lemmas.List.{length-map}
 use Rattle.std.proofs.lemmas.List.Folds.{list_all-map}
+use Rattle.std.proofs.lemmas.Bool.Decides.{same_from_decides}
 use Rattle.type_table.specs.Tree.{Tree, int, ptr, void, array, struct, named, Trees}
 use Rattle.module_arena.specs.Module.{Brackets}
 use Rattle.module_arena.specs.Module.Brackets.{Square, Braces, Packed}
 use Rattle.module_arena.specs.Constants.{expected}
 use Rattle.module_arena.specs.Same.{same_type}
 use Rattle.type_verify.specs.Opened.{has_no_parts}
-use Rattle.type_verify.proofs.ClassesTold.{tests_same}
 use Rattle.constant_verify.specs.ConstantFacts.{have_types, are_types, is_square, are_brackets_of}
 
 flipped : (n m : ℕ) → (n == m) ≡ (m == n)
-flipped n m = tests_same (n == m) (m == n) (unsigned_Decides n m) ((λ e. sym ((unsigned_Decides m n).0 e)), (λ e. (unsigned_Decides m n).1 (sym e)))
+flipped n m = same_from_decides (n == m) (m == n) (unsigned_Decides n m) ((λ e. sym ((unsigned_Decides m n).0 e)), (λ e. (unsigned_Decides m n).1 (sym e)))
 
 pub array_parts : {X : Type 0} (f : X → Tree) (round : Brackets) (n : ℕ) (t : Tree) (xs : List X)
     → (is_square round && ((length xs == n) && list_all (λ (x : X). same_type t (f x)) xs)) ≡ have_types (expected round (array n t)) (map f xs)

@@ -1,6 +1,7 @@
 -- Ends of blocks, from what their parts are found to be.
 use Rattle.std.proofs.Common.{◌≡◌, ◌+◌, ◌≤◌, ◌<◌, ℕ, zero, suc, Bool, true, false, cond, List, [], ◌∷◌, Option, Some, None, length, map, All, inl, inr, refl, sym, ap, subst, ◌∙◌, arith}
 use Rattle.std.specs.Option.{option_map}
+use Rattle.std.proofs.lemmas.List.Elements.{All-nil, All-cons}
 use Rattle.ir_tables.specs.declared.opcode.Opcode.{Opcode}
 use Rattle.ir_tables.specs.declared.opcode.Opcode.TheVariants as op
 use Rattle.type_table.specs.Tree.{Tree, int}
@@ -34,15 +35,8 @@ use Rattle.operand_read.proofs.Joined.{HasBoth, also, behind, both_in, none_foun
 use Rattle.operand_read.proofs.Leaves.{const_found, given_found, type_is}
 use Rattle.ending_read.specs.Ends.{HasCase, HasEnding, HaveCases, ReadsEnding, case_in, cases_in, condition, ending_in, kept_branch, kept_case, kept_return, kept_switch}
 
-none_all : {A : Type 0} (P : A → Type 0) → All P []
-none_all P k d lt = absurd (omega arith)
-
-more_all : {A : Type 0} (P : A → Type 0) (x : A) (xs : List A) → P x → All P xs → All P (x ∷ xs)
-more_all P x xs h all zero d lt = h
-more_all P x xs h all (suc k) d lt = all k d (omega arith)
-
 one_all : {A : Type 0} (P : A → Type 0) (x : A) → P x → All P (x ∷ [])
-one_all P x h = more_all P x [] h (none_all P)
+one_all P x h = All-cons P x [] h (All-nil P)
 
 map_all : {A B : Type 0} (P : B → Type 0) (Q : A → Type 0) (f : A → B) (xs : List A) → ((x : A) → Q x → P (f x)) → All Q xs → All P (map f xs)
 map_all P Q f [] h all k d lt = absurd (omega arith)
@@ -52,8 +46,8 @@ map_all P Q f (x ∷ xs) h all (suc k) d lt = map_all P Q f xs h (λ i e le. all
 -- ---- returns
 
 return_known : (l : LocalCounts) (a : Lists) (room : Option Operand) → HasRoom l a room → HasEnding l a (kept_return room)
-return_known l a None h = record { operands = none_all (HasOperand l a); targets = none_all (HasBlock l a) }
-return_known l a (Some x) h = record { operands = one_all (HasOperand l a) x h; targets = none_all (HasBlock l a) }
+return_known l a None h = record { operands = All-nil (HasOperand l a); targets = All-nil (HasBlock l a) }
+return_known l a (Some x) h = record { operands = one_all (HasOperand l a) x h; targets = All-nil (HasBlock l a) }
 
 return_seen : (k : Numbering) (a : Lists) (room : Option Operand) → ending_in k a (kept_return room) ≡ lines.return_of (room_in k a room)
 return_seen k a None = refl
@@ -68,7 +62,7 @@ pub condition_found : (a b c d : ModuleReader) (bit : ℕ) (x : Option Operand) 
     → Finds HasBlock block_in (λ k. (block k).read) b c y → Finds HasBlock block_in (λ k. (block k).read) c d z → Finds HasEnding ending_in condition a d (option_map kept_branch (both x (both y z)))
 condition_found a b c d bit x y z is h i j =
     put_so HasEnding ending_in kept_branch (λ (c, (t, e)). m.Branch c t e) a d (both x (both y z))
-    (λ l q w has. record { operands = one_all (HasOperand l q) w.0 has.0; targets = more_all (HasBlock l q) w.1.0 (w.1.1 ∷ []) has.1.0 (one_all (HasBlock l q) w.1.1 has.1.1) })
+    (λ l q w has. record { operands = one_all (HasOperand l q) w.0 has.0; targets = All-cons (HasBlock l q) w.1.0 (w.1.1 ∷ []) has.1.0 (one_all (HasBlock l q) w.1.1 has.1.1) })
     (λ k q w. refl)
     (also a b d x (both y z) (subst (λ (t : Tree). Finds HasOperand operand_in (λ k. operand_at k t) a b x) is.tree_is h) (also b c d y z i j))
 
@@ -106,7 +100,7 @@ pub jump_found : (a : ModuleReader) (r : Reader) (b : ModuleReader) (n : ℕ) (x
 jump_found a r b n x front none h =
     starting (λ k. (ending k op.Br).read) a (record a { reader = r }) b (option_map (λ (id : ℕ). kept.Jump id) x) (goes_number a r n front)
     (put_so HasEnding ending_in (λ (id : ℕ). kept.Jump id) (λ (name : m.LocalName). m.Jump name) (record a { reader = r }) b x
-    (λ l q y has. record { operands = none_all (HasOperand l q); targets = one_all (HasBlock l q) y has }) (λ k q y. refl) h)
+    (λ l q y has. record { operands = All-nil (HasOperand l q); targets = one_all (HasBlock l q) y has }) (λ k q y. refl) h)
     (λ k e. (λ j. put (λ (name : m.LocalName). m.Jump name) (λ k. (block k).read) k (front.reader j).walk) ∙ (sym (by_zero k (next a.reader.walk).1) ∙ ap (λ i. by_number k i (next a.reader.walk).1) (sym none ∙ front.value)))
 
 pub branch_found : (a : ModuleReader) (r : Reader) (b : ModuleReader) (n : ℕ) (x : Option Ending) → Reads number a.reader r n → n ≡ 1 → Finds HasEnding ending_in condition (record a { reader = r }) b x → Finds HasEnding ending_in (λ k. (ending k op.Br).read) a b x
@@ -156,8 +150,8 @@ pub switch_found : (a b c d e : ModuleReader) (t : Option ℕ) (x : Option Opera
 switch_found a b c d e t x y z takes reads h i j =
     put_so HasEnding ending_in kept_switch (λ (v, (b, cs)). m.Switch v b cs) a e (both x (both y z))
     (λ l q w has. record {
-      operands = more_all (HasOperand l q) w.0 (map case_operand w.1.1) has.0 (map_all (HasOperand l q) (HasCase l q) case_operand w.1.1 (λ c g. (g.ty, g.value)) has.1.1);
-      targets = more_all (HasBlock l q) w.1.0 (map case_target w.1.1) has.1.0 (map_all (HasBlock l q) (HasCase l q) case_target w.1.1 (λ c g. g.target) has.1.1);
+      operands = All-cons (HasOperand l q) w.0 (map case_operand w.1.1) has.0 (map_all (HasOperand l q) (HasCase l q) case_operand w.1.1 (λ c g. (g.ty, g.value)) has.1.1);
+      targets = All-cons (HasBlock l q) w.1.0 (map case_target w.1.1) has.1.0 (map_all (HasBlock l q) (HasCase l q) case_target w.1.1 (λ c g. g.target) has.1.1);
     })
     (λ k q w. refl)
     (starting switch_read a b e (both x (both y z)) (goes_takes a b takes) (also b c e x (both y z) h (also c d e y z i j))
@@ -172,7 +166,7 @@ switch_found a b c d e t x y z takes reads h i j =
 pub unreachable_found : (a : ModuleReader) → Finds HasEnding ending_in (λ k. (ending k op.Unreachable).read) a a (Some kept.Unreachable)
 unreachable_found a = record {
   goes = goes_self a;
-  there = λ later g. record { operands = none_all (HasOperand a.locals later.arena); targets = none_all (HasBlock a.locals later.arena) };
+  there = λ later g. record { operands = All-nil (HasOperand a.locals later.arena); targets = All-nil (HasBlock a.locals later.arena) };
   walk = λ k n. refl;
   kept = λ k n declared unbroken later g. refl;
 }

@@ -1,5 +1,5 @@
 -- What is left of a list behind its first items.
-use Rattle.std.proofs.Common.{◌≡◌, ◌<◌, ◌≤◌, ℕ, zero, suc, List, [], ◌∷◌, ◌++◌, Some, None, length, slice_get, drop, refl, sym, ap, arith}
+use Rattle.std.proofs.Common.{◌≡◌, ◌≤◌, ℕ, zero, suc, List, [], ◌∷◌, ◌++◌, Some, None, length, slice_get, drop, refl, sym, ap, arith}
 use Rattle.std.proofs.lemmas.Option.{none-some, same_Some}
 
 -- nothing is left past the end
@@ -14,12 +14,6 @@ pub drop_some : {A : Type 0} (xs : List A) (n : ℕ) (x : A) → slice_get xs n 
 drop_some [] n x h = absurd (none-some x h)
 drop_some (y ∷ xs) zero x h = ap (λ z. z ∷ xs) (same_Some y x h)
 drop_some (y ∷ xs) (suc n) x h = drop_some xs n x h
-
--- and it is there
-pub is_there : {A : Type 0} (xs : List A) (n : ℕ) (x : A) → slice_get xs n ≡ Some x → n < length xs
-is_there [] n x h = absurd (none-some x h)
-is_there (y ∷ xs) zero x h = omega arith
-is_there (y ∷ xs) (suc n) x h = let lt = is_there xs n x h in omega arith
 
 -- items behind a list stay
 pub drop_append : {A : Type 0} (xs ys : List A) (n : ℕ) → n ≤ length xs → drop n (xs ++ ys) ≡ drop n xs ++ ys

@@ -2,7 +2,7 @@
 use Rattle.std.proofs.Common.{◌≡◌, ◌≤◌, ◌+◌, ℕ, suc, Bool, true, false, true≢false, cond, List, [], ◌∷◌, ◌++◌, Option, Some, None, length, slice_get, drop, is_some, refl, sym, ap, subst, ◌∙◌, arith, length-append}
 use Rattle.std.proofs.lemmas.Bool.{false≢true}
 use Rattle.std.proofs.lemmas.List.{append_assoc, append-nil}
-use Rattle.std.proofs.lemmas.Option.{none-some}
+use Rattle.std.proofs.lemmas.Option.{none-some, slice_get_within}
 use Rattle.std.specs.Prelude.{nat_eq}
 use Rattle.bit_tree.specs.Pieces.{Piece, ended}
 use Rattle.record_table.specs.Faults.{Records, no_more, a_block, a_record, body_id}
@@ -19,7 +19,7 @@ use Rattle.head_read.specs.Fronts.{FunctionFields, ReadsFunction, function_front
 use Rattle.head_read.specs.declared.fronts.FunctionFront.{FunctionFront}
 use Rattle.head_read.proofs.Finding.{GivesAll}
 use Rattle.entries_ahead.specs.Bodies.{AddsBody, AddsDue, AddsIf, AddsIfBody, AddsWhere, AddsWhereBody, AddsWhereDue, Foresees, ForeseesBlock, ForeseesRecord, count_due, due_of}
-use Rattle.entries_ahead.proofs.Dropped.{drop_append, drop_none, drop_some, is_there}
+use Rattle.entries_ahead.proofs.Dropped.{drop_append, drop_none, drop_some}
 
 -- ---- a function's record
 
@@ -153,7 +153,7 @@ module _ (texts : Texts) (types : ℕ) (voids : List Bool) (inside : Records) (o
           record {
             rest = behind;
             before = before;
-            fewer = let lt = is_there due (length bodies) count at in omega arith;
+            fewer = let lt = slice_get_within due (length bodies) count at in omega arith;
             onward = λ k are final f.
                 subst (λ b. Foresees texts k types [] b inside) (sym (ap (λ l. l ++ final) one.more ∙ append_assoc bodies (one.body ∷ []) final))
                 (onward k are (one.body ∷ final)

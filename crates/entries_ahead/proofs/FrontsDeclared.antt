@@ -2,7 +2,7 @@
 use Rattle.std.proofs.Common.{◌≡◌, ◌<◌, ◌≤◌, ℕ, zero, suc, Bool, true, false, cond, List, [], ◌∷◌, Option, Some, None, length, slice_get, drop, map, nat_lt, refl, sym, ap, subst, ◌∙◌, arith}
 use Rattle.std.specs.Prelude.{IfSome, nat_eq}
 use Rattle.std.proofs.lemmas.Bool.{eqb-true, false_from_ne_true, ltb-true, ltb-false}
-use Rattle.std.proofs.lemmas.Option.{none-some}
+use Rattle.std.proofs.lemmas.Option.{none-some, slice_get_within}
 use Rattle.module_arena.specs.declared.entry.Alias as the_alias
 use Rattle.module_arena.specs.declared.entry.Function as the_function
 use Rattle.module_arena.specs.declared.entry.LocalName.{LocalName}
@@ -20,7 +20,7 @@ use Rattle.head_read.specs.declared.fronts.AliasFront.{AliasFront}
 use Rattle.entries_ahead.specs.Entries.{DeclaresAlias, DeclaresBy, DeclaresFunction, DeclaresVariable, IsAdded, a_function, a_variable, an_alias, alias_entry, declaring, front_of, function_entry, names_behind, names_for, names_of_place, nothing, used_with, variable_entry, whole_alias, whole_function, whole_variable}
 use Rattle.body_ahead.specs.declared.ahead.BodyAhead.{BodyAhead}
 use Rattle.entries_ahead.specs.Bodies.{names_given}
-use Rattle.entries_ahead.proofs.Dropped.{drop_none, drop_some, is_there}
+use Rattle.entries_ahead.proofs.Dropped.{drop_none, drop_some}
 use Rattle.entries_ahead.proofs.Whole.{added, alias_whole, function_whole, knows_alias, knows_function, knows_variable, refused, variable_whole}
 
 -- ---- a variable
@@ -87,7 +87,7 @@ used_names all used true = by (nat_lt used (length all)) refl (slice_get all use
     by true lt None at = absurd (none_there all used (ltb-true used (length all) lt) at)
     by true lt (Some x) at = ap (λ l. names_behind true l) (sym (drop_some all used x at))
     by false le None at = drop_none all used at ∙ ap (λ l. names_behind true l) (sym (drop_none all used at))
-    by false le (Some x) at = absurd (not_there (is_there all used x at) (ltb-false used (length all) le))
+    by false le (Some x) at = absurd (not_there (slice_get_within all used x at) (ltb-false used (length all) le))
       where
         not_there : used < length all → length all ≤ used → ⊥
         not_there lt ge = omega arith

@@ -31,11 +31,6 @@ use Rattle.entry_copy.specs.Tables.{Tables, with_types, with_constants, new_stru
 use Rattle.entry_copy.proofs.Moving.{trees_moved, parameters_moved, alias_type_moved}
 use Rattle.entry_copy.proofs.Keeping.{all_moved, types_known, alias_types-moved}
 
--- one call after another
-pub when_ok : {A E P Q : Type 0} (r : Result A E) → (P → Q) → OnOk r P → OnOk r Q
-when_ok (Ok x) f p = f p
-when_ok (Err e) f p = tt
-
 pub always : {A E Q : Type 0} (r : Result A E) → Q → OnOk r Q
 always (Ok x) q = q
 always (Err e) q = tt

@@ -3,6 +3,7 @@ use Rattle.std.proofs.Common.{◌≡◌, ℕ, ◌+◌, ◌<◌, Bool, [], ◌∷
 use Rattle.std.specs.Prelude.{option_to_list}
 use Rattle.std.proofs.lemmas.Option.{same_Some, slice_get-map}
 use Rattle.std.specs.Option.{option_map}
+use Rattle.std.proofs.lemmas.List.Elements.{All-nil}
 use Rattle.ir_tables.specs.declared.linkage.Linkage.{Linkage}
 use Rattle.type_table.specs.Types.{trees}
 use Rattle.module_arena.specs.declared.entry.GlobalId.TheVariants as global
@@ -15,7 +16,6 @@ use Rattle.module_arena.specs.Module.{Bytes, Variable, Module}
 use Rattle.module_arena.specs.View.{module_of, type_at}
 use Rattle.type_build.specs.Declarations.{IsFree, AreFew, one_variable_more, without_initialiser}
 use Rattle.type_build.specs.Stands.{IsType}
-use Rattle.type_build.proofs.Known.{none_all}
 use Rattle.extract_core.proofs.Keeping.{variable_at}
 use Rattle.entry_fates.specs.declared.fates.Fate.{Fate}
 use Rattle.entry_fates.specs.declared.fates.Fate.TheVariants.{LeftOut}
@@ -73,7 +73,7 @@ module _ (a b : Lists) (id : ℕ) (old : IsDeclaring a (variables_through id) b)
 
 -- what is declared is known
 pub variable_known : (b : Lists) (d : the_variable.Variable) → d.ty < length b.table.types → d.initialiser ≡ None → KnowsVariable (length b.table.types) (length b.constants) d
-variable_known b d lt none = record { ty_known = lt; initialiser_known = subst (λ (o : Option ℕ). All (λ i. i < length b.constants) (option_to_list o)) (sym none) (none_all (λ i. i < length b.constants)) }
+variable_known b d lt none = record { ty_known = lt; initialiser_known = subst (λ (o : Option ℕ). All (λ i. i < length b.constants) (option_to_list o)) (sym none) (All-nil (λ i. i < length b.constants)) }
 
 module _ (a b : Lists) (v : the_variable.Variable) (fate : Fate) (name : Bytes) (linkage : Linkage) (ty : ℕ) (emptied : Bool) where
   abbrev made : the_variable.Variable

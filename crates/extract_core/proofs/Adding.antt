@@ -1,10 +1,12 @@
 -- Names that are added one after another.
 use Rattle.std.proofs.Common.{◌≡◌, ℕ, zero, suc, ◌+◌, ◌<◌, Bool, true, false, ◌||◌, ◌⊎◌, inl, inr, List, [], ◌∷◌, ◌++◌, map, flat_map, length, take, Some, refl, sym, ap, ◌∙◌, subst, bytes_eq, slice_get, get_or, arith, append_assoc, append-nil, if◌then◌else◌}
 use Rattle.std.proofs.lemmas.Option.{same_Some, slice_get-get_or}
+use Rattle.std.proofs.lemmas.List.Concat.{flat_map-append}
+use Rattle.std.proofs.lemmas.List.Folds.{list_any-append}
 use Rattle.module_arena.specs.Module.{Bytes}
 use Rattle.extract_core.specs.Calls.{Adds, AreNames}
 use Rattle.extract_core.specs.Selected.{is_among}
-use Rattle.extract_core.proofs.Among.{any_append, same_test, among_front, among_cases, name_exact}
+use Rattle.extract_core.proofs.Among.{same_test, among_front, among_cases, name_exact}
 
 or_nothing : (b : Bool) → b ≡ (b || false)
 or_nothing true = refl
@@ -29,8 +31,8 @@ adds_one old x = go (is_among old x) refl
     go true e = record {
       grows = ([], sym (append-nil old));
       among = λ name. same_test (is_among old name) (is_among old name || is_among (x ∷ []) name)
-          (λ h. sym (any_append (bytes_eq name) old (x ∷ [])) ∙ among_front old (x ∷ []) name h)
-          (λ h. by name (among_cases old (x ∷ []) name (any_append (bytes_eq name) old (x ∷ []) ∙ h)));
+          (λ h. sym (list_any-append (bytes_eq name) old (x ∷ [])) ∙ among_front old (x ∷ []) name h)
+          (λ h. by name (among_cases old (x ∷ []) name (list_any-append (bytes_eq name) old (x ∷ []) ∙ h)));
     }
       where
         by : (name : Bytes) → (is_among old name ≡ true) ⊎ (is_among (x ∷ []) name ≡ true) → is_among old name ≡ true
@@ -38,14 +40,14 @@ adds_one old x = go (is_among old x) refl
         by name (inr h) = subst (λ z. is_among old z ≡ true) (sym (name_exact name x (or_nothing (bytes_eq name x) ∙ h))) e
     go false e = record {
       grows = (x ∷ [], refl);
-      among = λ name. any_append (bytes_eq name) old (x ∷ []);
+      among = λ name. list_any-append (bytes_eq name) old (x ∷ []);
     }
 
 -- some, and then others
 pub adds_both : (old xs mid ys new : List Bytes) → Adds old xs mid → Adds mid ys new → Adds old (xs ++ ys) new
 adds_both old xs mid ys new a b = record {
   grows = (a.grows.0 ++ b.grows.0, b.grows.1 ∙ ap (λ l. l ++ b.grows.0) a.grows.1 ∙ append_assoc old a.grows.0 b.grows.0);
-  among = λ name. b.among name ∙ ap (λ c. c || is_among ys name) (a.among name) ∙ or_regroup (is_among old name) (is_among xs name) (is_among ys name) ∙ ap (λ c. is_among old name || c) (sym (any_append (bytes_eq name) xs ys));
+  among = λ name. b.among name ∙ ap (λ c. c || is_among ys name) (a.among name) ∙ or_regroup (is_among old name) (is_among xs name) (is_among ys name) ∙ ap (λ c. is_among old name || c) (sym (list_any-append (bytes_eq name) xs ys));
 }
 
 -- the same names, told otherwise
@@ -53,10 +55,6 @@ pub adds_as : (old xs ys new : List Bytes) → xs ≡ ys → Adds old xs new →
 adds_as old xs ys new e a = subst (λ zs. Adds old zs new) e a
 
 -- ---- along a list
-
-flat_map_append : {A B : Type 0} (g : A → List B) (xs ys : List A) → flat_map g (xs ++ ys) ≡ flat_map g xs ++ flat_map g ys
-flat_map_append g [] ys = refl
-flat_map_append g (x ∷ xs) ys = ap (λ l. g x ++ l) (flat_map_append g xs ys) ∙ sym (append_assoc (g x) (flat_map g xs) (flat_map g ys))
 
 pub take_more : {A : Type 0} (xs : List A) (k : ℕ) (x : A) → slice_get xs k ≡ Some x → take (k + 1) xs ≡ take k xs ++ x ∷ []
 take_more {A = A} xs k x h = let e : k + 1 ≡ suc k = omega arith in ap (λ n. take n xs) e ∙ go xs k h
@@ -74,7 +72,7 @@ take_whole {A = A} xs k e = ap (λ n. take n xs) e ∙ go xs
     go (y ∷ ys) = ap (λ l. y ∷ l) (go ys)
 
 pub gathered_more : {A B : Type 0} (g : A → List B) (xs : List A) (k : ℕ) (x : A) → slice_get xs k ≡ Some x → flat_map g (take (k + 1) xs) ≡ flat_map g (take k xs) ++ g x
-gathered_more g xs k x h = ap (flat_map g) (take_more xs k x h) ∙ flat_map_append g (take k xs) (x ∷ []) ∙ ap (λ l. flat_map g (take k xs) ++ l) (append-nil (g x))
+gathered_more g xs k x h = ap (flat_map g) (take_more xs k x h) ∙ flat_map-append g (take k xs) (x ∷ []) ∙ ap (λ l. flat_map g (take k xs) ++ l) (append-nil (g x))
 
 pub adds_more : {A : Type 0} (g : A → List Bytes) (xs : List A) (k : ℕ) (x : A) (old mid new : List Bytes) → slice_get xs k ≡ Some x → Adds old (flat_map g (take k xs)) mid → Adds mid (g x) new → Adds old (flat_map g (take (k + 1) xs)) new
 adds_more g xs k x old mid new h a b = adds_as old _ _ new (sym (gathered_more g xs k x h)) (adds_both old (flat_map g (take k xs)) mid (g x) new a b)

@@ -1,10 +1,10 @@
 -- Names that are among others.
-use Rattle.std.proofs.Common.{◌≡◌, ℕ, zero, suc, Bool, true, false, ◌&&◌, ◌||◌, ◌⊎◌, inl, inr, List, [], ◌∷◌, ◌++◌, map, filter, flat_map, Some, refl, sym, ap, ◌∙◌, subst, bytes_eq, cond, slice_get}
+use Rattle.std.proofs.Common.{◌≡◌, ℕ, suc, Bool, true, false, ◌&&◌, ◌||◌, ◌⊎◌, inl, inr, List, [], ◌∷◌, ◌++◌, map, filter, flat_map, Some, refl, sym, ap, ◌∙◌, subst, bytes_eq, cond, slice_get}
 use Rattle.std.specs.Cmp.Lexicographic.{same_text}
 use Rattle.std.specs.List.{list_any}
 use Rattle.std.proofs.lemmas.Bool.{or_left, or_right, or_cases}
 use Rattle.std.proofs.lemmas.Cmp.{nat_list_eq_equiv}
-use Rattle.std.proofs.lemmas.Option.{same_Some}
+use Rattle.std.proofs.lemmas.List.Folds.{list_any-append}
 use Rattle.module_arena.specs.Module.{Bytes}
 use Rattle.extract_core.specs.Selected.{is_among}
 
@@ -28,22 +28,14 @@ turned_name m n = same_test (bytes_eq m n) (bytes_eq n m) (turn m n) (turn n m)
 
 -- ---- one of two lists
 
-pub any_append : {A : Type 0} (p : A → Bool) (xs ys : List A) → list_any p (xs ++ ys) ≡ (list_any p xs || list_any p ys)
-any_append p [] ys = refl
-any_append p (x ∷ xs) ys = ap (λ b. p x || b) (any_append p xs ys) ∙ go (p x)
-  where
-    go : (b : Bool) → (b || (list_any p xs || list_any p ys)) ≡ ((b || list_any p xs) || list_any p ys)
-    go true = refl
-    go false = refl
-
 pub among_front : (xs ys : List Bytes) (n : Bytes) → is_among xs n ≡ true → is_among (xs ++ ys) n ≡ true
-among_front xs ys n h = any_append (bytes_eq n) xs ys ∙ or_left _ _ h
+among_front xs ys n h = list_any-append (bytes_eq n) xs ys ∙ or_left _ _ h
 
 pub among_back : (xs ys : List Bytes) (n : Bytes) → is_among ys n ≡ true → is_among (xs ++ ys) n ≡ true
-among_back xs ys n h = any_append (bytes_eq n) xs ys ∙ or_right (is_among xs n) _ h
+among_back xs ys n h = list_any-append (bytes_eq n) xs ys ∙ or_right (is_among xs n) _ h
 
 pub among_cases : (xs ys : List Bytes) (n : Bytes) → is_among (xs ++ ys) n ≡ true → (is_among xs n ≡ true) ⊎ (is_among ys n ≡ true)
-among_cases xs ys n h = or_cases (is_among xs n) _ (sym (any_append (bytes_eq n) xs ys) ∙ h)
+among_cases xs ys n h = or_cases (is_among xs n) _ (sym (list_any-append (bytes_eq n) xs ys) ∙ h)
 
 -- ---- one of what is gathered
 
@@ -53,7 +45,7 @@ any_key key test (x ∷ xs) = ap (λ b. test (key x) || b) (any_key key test xs)
 
 pub any_gathered : {A B : Type 0} (test : B → Bool) (g : A → List B) (xs : List A) → list_any test (flat_map g xs) ≡ list_any (λ x. list_any test (g x)) xs
 any_gathered test g [] = refl
-any_gathered test g (x ∷ xs) = any_append test (g x) (flat_map g xs) ∙ ap (λ b. list_any test (g x) || b) (any_gathered test g xs)
+any_gathered test g (x ∷ xs) = list_any-append test (g x) (flat_map g xs) ∙ ap (λ b. list_any test (g x) || b) (any_gathered test g xs)
 
 pub any_same : {A : Type 0} (p q : A → Bool) (xs : List A) → ((x : A) → p x ≡ q x) → list_any p xs ≡ list_any q xs
 any_same p q [] f = refl
@@ -75,11 +67,6 @@ any_where {A = A} p (x ∷ xs) h = go (or_cases (p x) _ h) (any_where p xs)
     go : (p x ≡ true) ⊎ (list_any p xs ≡ true) → (list_any p xs ≡ true → (y : A) × (k : ℕ) × (slice_get xs k ≡ Some y) × (p y ≡ true)) → (y : A) × (k : ℕ) × (slice_get (x ∷ xs) k ≡ Some y) × (p y ≡ true)
     go (inl e) more = (x, 0, refl, e)
     go (inr e) more = let r = more e in (r.0, suc r.1, r.2, r.3)
-
-pub any_there : {A : Type 0} (p : A → Bool) (xs : List A) (k : ℕ) (x : A) → slice_get xs k ≡ Some x → p x ≡ true → list_any p xs ≡ true
-any_there p [] k x e h = cc
-any_there p (y ∷ xs) zero x e h = or_left _ _ (subst (λ z. p z ≡ true) (sym (same_Some y x e)) h)
-any_there p (y ∷ xs) (suc k) x e h = or_right (p y) _ (any_there p xs k x e h)
 
 -- one that passes a test, among those that do
 pub among_filter : (test : Bytes → Bool) (xs : List Bytes) (n : Bytes) → is_among (filter test xs) n ≡ (test n && is_among xs n)

@@ -4,6 +4,7 @@ use Rattle.std.specs.Prelude.{All, option_to_list}
 use Rattle.std.specs.List.{list_any}
 use Rattle.std.specs.Option.{option_map, option_map_or}
 use Rattle.std.proofs.lemmas.List.Elements.{All-weaker}
+use Rattle.std.proofs.lemmas.List.Folds.{list_any-append}
 use Rattle.type_table.specs.Types.{trees}
 use Rattle.module_arena.specs.declared.constant.Const as the_const
 use Rattle.module_arena.specs.declared.constant.Const.TheVariants as const
@@ -27,7 +28,7 @@ use Rattle.extract_core.specs.Calls.{HasConstant, HasCallees, called_in, called_
 use Rattle.extract_core.specs.Entries.{target_or_own}
 use Rattle.extract_core.specs.Selected.{written_in as written_in_value}
 use Rattle.extract_core.specs.Selected.{is_among, defines_function, behind, written_in_constant, callee_names, callees_in_block, callees_of, called_by}
-use Rattle.extract_core.proofs.Among.{turned_name, any_append, any_gathered, any_key, any_same, among_filter}
+use Rattle.extract_core.proofs.Among.{turned_name, any_gathered, any_key, any_same, among_filter}
 use Rattle.extract_core.proofs.Entries.{Looks, all_get, at_one, nowhere, behind_found, looks_at, unmapped}
 
 -- ---- one value
@@ -118,7 +119,7 @@ module _ (a : Lists) where
       go false = refl
 
   both_behind : (n : Bytes) (xs ys : List Bytes) → (Behind n xs || Behind n ys) ≡ Behind n (xs ++ ys)
-  both_behind n xs ys = shared (defines_function m n) _ _ ∙ ap (λ b. defines_function m n && b) (sym (any_append (bytes_eq n) (map (behind m) xs) (map (behind m) ys)) ∙ ap (λ l. is_among l n) (sym (mapped xs)))
+  both_behind n xs ys = shared (defines_function m n) _ _ ∙ ap (λ b. defines_function m n && b) (sym (list_any-append (bytes_eq n) (map (behind m) xs) (map (behind m) ys)) ∙ ap (λ l. is_among l n) (sym (mapped xs)))
     where
       shared : (t p q : Bool) → ((t && p) || (t && q)) ≡ (t && (p || q))
       shared true p q = refl
@@ -154,7 +155,7 @@ module _ (a : Lists) where
     insts_called : (is : List the_inst.Inst) (n : Bytes) → is_among (flat_map (called_in a) is) n ≡ Behind n (flat_map (λ i. callee_names i.operation) (map (inst_view (trees a.table) (constants_of a) values blocks) is))
     insts_called [] n = none_behind n
     insts_called (i ∷ is) n =
-        any_append (bytes_eq n) (called_in a i) (flat_map (called_in a) is)
+        list_any-append (bytes_eq n) (called_in a i) (flat_map (called_in a) is)
         ∙ ap (λ b. b || is_among (flat_map (called_in a) is) n) (inst_called i n)
         ∙ ap (λ b. Behind n (seen i) || b) (insts_called is n)
         ∙ both_behind n (seen i) (flat_map (λ i. callee_names i.operation) (map (inst_view (trees a.table) (constants_of a) values blocks) is))
@@ -162,7 +163,7 @@ module _ (a : Lists) where
     blocks_called : (bs : List the_block.Block) (n : Bytes) → is_among (flat_map (called_in_block a) bs) n ≡ Behind n (flat_map callees_in_block (map (block_view (trees a.table) (constants_of a) values blocks) bs))
     blocks_called [] n = none_behind n
     blocks_called (b ∷ bs) n =
-        any_append (bytes_eq n) (called_in_block a b) (flat_map (called_in_block a) bs)
+        list_any-append (bytes_eq n) (called_in_block a b) (flat_map (called_in_block a) bs)
         ∙ ap (λ c. c || is_among (flat_map (called_in_block a) bs) n) (insts_called b.instructions n)
         ∙ ap (λ c. Behind n (callees_in_block (block_view (trees a.table) (constants_of a) values blocks b)) || c) (blocks_called bs n)
         ∙ both_behind n (callees_in_block (block_view (trees a.table) (constants_of a) values blocks b)) (flat_map callees_in_block (map (block_view (trees a.table) (constants_of a) values blocks) bs))

@@ -2,10 +2,11 @@
 use Rattle.std.proofs.Common.{◌≡◌, ℕ, zero, suc, ◌+◌, ◌<◌, ◌≤◌, Bool, true, false, ◌&&◌, ◌||◌, ◌⊎◌, inl, inr, List, [], ◌∷◌, ◌++◌, map, filter_map, flat_map, length, Some, None, refl, sym, ap, ◌∙◌, subst, bytes_eq, is_some, slice_get, arith, if◌then◌else◌}
 use Rattle.std.specs.List.{cons_option, list_any, AllByRecursion}
 use Rattle.std.proofs.lemmas.Bool.{and_from, and_parts, or_left}
+use Rattle.std.proofs.lemmas.Map.Keys.{any_passes_from_place}
 use Rattle.module_arena.specs.Module.{Bytes, Function, Module}
 use Rattle.extract_core.specs.Closure.{TimesAreEnough}
 use Rattle.extract_core.specs.Selected.{is_among, defines_function, behind, callees_of, called_by, with_called, times}
-use Rattle.extract_core.proofs.Among.{name_self, name_exact, same_test, among_front, among_back, among_cases, any_gathered, any_follow, any_where, any_there}
+use Rattle.extract_core.proofs.Among.{name_self, name_exact, same_test, among_front, among_back, among_cases, any_gathered, any_follow, any_where}
 
 -- ---- one step
 
@@ -68,7 +69,7 @@ among_called m names n h =
     by_one : (f : Function) (k : ℕ) → slice_get m.functions k ≡ Some f → is_among (map (behind m) (callees_of f)) n ≡ true → is_among (called_by m (f.name ∷ [])) n ≡ true
     by_one f k at e =
         any_gathered (bytes_eq n) (λ g. if is_among (f.name ∷ []) g.name then map (behind m) (callees_of g) else []) m.functions
-        ∙ any_there (λ (g : Function). is_among (if is_among (f.name ∷ []) g.name then map (behind m) (callees_of g) else []) n) m.functions k f at
+        ∙ any_passes_from_place (λ (g : Function). is_among (if is_among (f.name ∷ []) g.name then map (behind m) (callees_of g) else []) n) m.functions k f at
         (ap (λ b. is_among (if b then map (behind m) (callees_of f) else []) n) (or_left _ _ (name_self f.name)) ∙ e)
 
 -- and the other way
@@ -124,7 +125,7 @@ each_named test m = go m.functions 0 (λ k. let e : 0 + k ≡ k = omega arith in
     go [] i at = tt
     go (f ∷ fs) i at = (
       (λ h. let both = and_parts (is_some f.body) _ h in
-          among_named test m.functions f.name ∙ and_from _ _ (any_there (λ (g : Function). bytes_eq f.name g.name && is_some g.body) m.functions (i + 0) f (at 0) (and_from _ _ (name_self f.name) both.0)) both.1),
+          among_named test m.functions f.name ∙ and_from _ _ (any_passes_from_place (λ (g : Function). bytes_eq f.name g.name && is_some g.body) m.functions (i + 0) f (at 0) (and_from _ _ (name_self f.name) both.0)) both.1),
       go fs (suc i) (λ k. let e : suc i + k ≡ i + suc k = omega arith in ap (slice_get m.functions) e ∙ at (suc k)),
     )
 

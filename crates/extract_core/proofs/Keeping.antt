@@ -2,6 +2,7 @@
 use Rattle.std.proofs.Common.{◌≡◌, ℕ, suc, ◌+◌, Bool, not, ◌&&◌, List, [], ◌∷◌, ◌++◌, map, length, take, Some, refl, sym, ap, ap₂, ◌∙◌, is_some, slice_get, if◌then◌else◌}
 use Rattle.std.specs.Option.{option_map, option_map_or}
 use Rattle.std.proofs.lemmas.Option.{slice_get-map}
+use Rattle.std.proofs.lemmas.List.{map-append}
 use Rattle.type_table.specs.Types.{trees}
 use Rattle.module_arena.specs.declared.entry.Alias as the_alias
 use Rattle.module_arena.specs.declared.entry.Function as the_function
@@ -19,10 +20,6 @@ use Rattle.extract_core.proofs.Entries.{some_mapped}
 
 -- ---- lists
 
-map_append : {A B : Type 0} (f : A → B) (xs ys : List A) → map f (xs ++ ys) ≡ map f xs ++ map f ys
-map_append f [] ys = refl
-map_append f (x ∷ xs) ys = ap (λ l. f x ∷ l) (map_append f xs ys)
-
 length_mapped : {A B : Type 0} (f : A → B) (xs : List A) → length (map f xs) ≡ length xs
 length_mapped f [] = refl
 length_mapped f (x ∷ xs) = ap suc (length_mapped f xs)
@@ -30,7 +27,7 @@ length_mapped f (x ∷ xs) = ap suc (length_mapped f xs)
 -- one more flag
 pub flags_more : {A : Type 0} (f : A → Bool) (xs : List A) (k : ℕ) (x : A) (old new : List Bool) (b : Bool) → slice_get xs k ≡ Some x → old ≡ map f (take k xs) → new ≡ old ++ b ∷ [] → b ≡ f x → new ≡ map f (take (k + 1) xs)
 flags_more f xs k x old new b at so_far pushed is =
-    pushed ∙ ap₂ (λ l c. l ++ c ∷ []) so_far is ∙ sym (ap (map f) (take_more xs k x at) ∙ map_append f (take k xs) (x ∷ []))
+    pushed ∙ ap₂ (λ l c. l ++ c ∷ []) so_far is ∙ sym (ap (map f) (take_more xs k x at) ∙ map-append f (take k xs) (x ∷ []))
 
 pub flags_whole : {A : Type 0} (f : A → Bool) (xs : List A) (k : ℕ) (flags : List Bool) → k ≡ length xs → flags ≡ map f (take k xs) → flags ≡ map f xs
 flags_whole f xs k flags e h = h ∙ ap (map f) (take_whole xs k e)

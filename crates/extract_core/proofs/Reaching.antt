@@ -2,10 +2,11 @@
 use Rattle.std.proofs.Common.{◌≡◌, ℕ, zero, suc, ◌+◌, ◌<◌, ◌≤◌, true, ◌&&◌, ◌⊎◌, inl, inr, List, [], ◌∷◌, ◌++◌, length, Some, refl, sym, ap, ◌∙◌, subst, bytes_eq, slice_get, arith}
 use Rattle.std.proofs.lemmas.Bool.{and_from, and_parts, or_left, or_right, or_cases}
 use Rattle.std.proofs.lemmas.Option.{same_Some, slice_get_within}
+use Rattle.std.proofs.lemmas.Map.Keys.{any_passes_from_place}
 use Rattle.module_arena.specs.Module.{Bytes, Module}
 use Rattle.extract_core.specs.Calls.{Adds, AreNames, with_all_called}
 use Rattle.extract_core.specs.Selected.{is_among, defines_function, called_by}
-use Rattle.extract_core.proofs.Among.{same_test, among_front, any_where, any_there, name_self, name_exact}
+use Rattle.extract_core.proofs.Among.{same_test, among_front, any_where, name_self, name_exact}
 use Rattle.extract_core.proofs.Closure.{closure_closed, closure_least}
 
 -- a defined function that the functions of a name call
@@ -45,7 +46,7 @@ module _ (m : Module) (start : List Bytes) where
       stays n h = adds.among n ∙ or_left _ _ h
 
       here : is_among old x ≡ true
-      here = any_there (bytes_eq x) old k x at (name_self x)
+      here = any_passes_from_place (bytes_eq x) old k x at (name_self x)
 
       by : (n : Bytes) → (is_among old n ≡ true) ⊎ (is_among more n ≡ true) → is_among (with_all_called m start) n ≡ true
       by n (inl h) = r.within n h

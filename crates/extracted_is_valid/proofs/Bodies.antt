@@ -1,7 +1,7 @@
 -- What the body of a function is asked for holds in a module of the same structs that has no intrinsic more.
-use Rattle.std.proofs.Common.{◌≡◌, ℕ, ◌+◌, Bool, true, false, not, List, [], ◌∷◌, ◌++◌, length, Option, Some, None, refl, flat_map}
+use Rattle.std.proofs.Common.{◌≡◌, ℕ, ◌+◌, true, false, List, [], ◌∷◌, ◌++◌, length, Option, Some, None, refl, flat_map}
 use Rattle.std.specs.List.{list_any}
-use Rattle.std.proofs.lemmas.Bool.{and_from, and_parts, or_from, or_parts, not_from_false}
+use Rattle.std.proofs.lemmas.Bool.{and_from, and_parts, or_from, or_parts, not_from_false, not-true}
 use Rattle.ir_tables.specs.declared.linkage.Linkage.{Linkage}
 use Rattle.type_table.specs.Tree.{Tree, ptr}
 use Rattle.module_arena.specs.Module.{Bytes, Constant, Value, Operand, Instruction, Block, Variable, Alias, Function, Module}
@@ -22,10 +22,6 @@ NoMore m n = (name : Bytes) → is_only_called m name ≡ false → is_only_call
 abbrev pub with_entries : Module → List Variable → List Alias → List Function → Module
 with_entries m vs as_ fs = record m { variables = vs; aliases = as_; functions = fs }
 
-pub flip : (b : Bool) → not b ≡ true → b ≡ false
-flip false h = refl
-flip true h = cc
-
 module _ (m n : Module) (none : NoMore m n) where
   none_of : (names : List Bytes) → list_any (is_only_called m) names ≡ false → list_any (is_only_called n) names ≡ false
   none_of [] h = refl
@@ -34,7 +30,7 @@ module _ (m n : Module) (none : NoMore m n) where
       or_from (is_only_called n name) _ (none name both.0) (none_of names both.1)
 
   pub takes_none : (t : Tree) (c : Constant) → takes_no_intrinsic m t c ≡ true → takes_no_intrinsic n t c ≡ true
-  takes_none t c h = not_from_false _ (none_of (flat_map address_in (constants_in t c)) (flip _ h))
+  takes_none t c h = not_from_false _ (none_of (flat_map address_in (constants_in t c)) (not-true _ h))
 
   value_none : (t : Tree) (v : Value) → value_takes_no_intrinsic m t v ≡ true → value_takes_no_intrinsic n t v ≡ true
   value_none t (Local name) h = refl

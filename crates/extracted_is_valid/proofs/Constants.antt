@@ -5,6 +5,7 @@ use Rattle.std.specs.List.{cons_option, list_any, list_all, AllByRecursion}
 use Rattle.std.specs.Option.{option_map_or}
 use Rattle.std.proofs.lemmas.Bool.{and_from, and_parts, or_left, or_right, or_cases}
 use Rattle.std.proofs.lemmas.Option.{same_Some}
+use Rattle.std.proofs.lemmas.List.Folds.{list_any-append}
 use Rattle.ir_tables.specs.declared.linkage.Linkage.{Linkage}
 use Rattle.ir_tables.specs.declared.linkage.Linkage.TheVariants.{External, Private, Internal, Common, Appending, ExternWeak, AvailableExternally, Linkonce, LinkonceOdr, Weak, WeakOdr}
 use Rattle.type_table.specs.Tree.{Tree, int, ptr, void, array, struct, named}
@@ -23,7 +24,7 @@ use Rattle.module_arena.specs.WellFormed.{IsWellFormed, has_entry, is_good_type,
 use Rattle.extract_core.specs.declared.selection.Selection.{Selection}
 use Rattle.extract_core.specs.Selected.{is_among, keeps_variable, keeps_function, keeps_alias}
 use Rattle.extract_core.specs.Extracted.{kept_names, kept_linkage, without_elements, declared_variable, declared_function, extracted_variable, extracted_function, extracted_alias, alias_as_variable, alias_as_function, declared_aliases, Extracted}
-use Rattle.extracted_is_valid.proofs.Distinct.{name_self, name_exact, any_append}
+use Rattle.extracted_is_valid.proofs.Distinct.{name_self, name_exact}
 use Rattle.extracted_is_valid.proofs.Gathered.{all_parts, all_both, all_gathered, gathered_all, made_all, both_all, gathered, any_split, any_filtered}
 use Rattle.extracted_is_valid.proofs.GoodVariables.{without_good}
 use Rattle.extracted_is_valid.proofs.Kept.{made_any, any_key, any_front, any_back, either}
@@ -192,7 +193,7 @@ module _ (m : Module) (s : Selection) where
         go (inr t) = alias_declared t
 
     entry_stays : has_entry m name ≡ true → has_entry n name ≡ true
-    entry_stays h = go (or_cases (is_among (variable_names m) name) _ (sym (any_append (bytes_eq name) (variable_names m) (alias_names m ++ function_names m)) ∙ h))
+    entry_stays h = go (or_cases (is_among (variable_names m) name) _ (sym (list_any-append (bytes_eq name) (variable_names m) (alias_names m ++ function_names m)) ∙ h))
       where
         later : (is_among (alias_names m) name ≡ true) ⊎ (is_among (function_names m) name ≡ true) → has_entry n name ≡ true
         later (inl e) = alias_stays (sym (any_key (λ (a : Alias). a.name) (bytes_eq name) m.aliases) ∙ e)
@@ -206,7 +207,7 @@ module _ (m : Module) (s : Selection) where
             as_variable (any_front (λ (v : Variable). bytes_eq name v.name) kept_variables alias_variables
             (made_any (λ v. ⊤) (extracted_variable m s) (λ v. bytes_eq name v.name) (λ v. bytes_eq name v.name) (λ v u e. variable_stays v e) m.variables (all_units m.variables)
             (sym (any_key (λ (v : Variable). v.name) (bytes_eq name) m.variables) ∙ e)))
-        go (inr e) = later (or_cases (is_among (alias_names m) name) _ (sym (any_append (bytes_eq name) (alias_names m) (function_names m)) ∙ e))
+        go (inr e) = later (or_cases (is_among (alias_names m) name) _ (sym (list_any-append (bytes_eq name) (alias_names m) (function_names m)) ∙ e))
 
   -- ---- constants
 

@@ -1,7 +1,8 @@
 -- What is extracted has few entries where the module has.
-use Rattle.std.proofs.Common.{◌≡◌, ℕ, suc, ◌+◌, ◌≤◌, Bool, true, false, not, ◌&&◌, List, [], ◌∷◌, ◌++◌, length, filter, filter_map, Option, Some, None, nat_le, cond, arith, if◌then◌else◌, le-leb, leb-true}
+use Rattle.std.proofs.Common.{◌≡◌, ℕ, suc, ◌+◌, ◌≤◌, Bool, true, false, not, ◌&&◌, List, [], ◌∷◌, length, filter, filter_map, Option, Some, None, nat_le, cond, arith, if◌then◌else◌, le-leb, leb-true}
 use Rattle.std.specs.List.{cons_option}
 use Rattle.std.proofs.lemmas.Bool.{and_from, and_parts}
+use Rattle.std.proofs.lemmas.List.{length-append}
 use Rattle.module_arena.specs.Module.{Variable, Alias, Function, Module}
 use Rattle.module_arena.specs.WellFormed.{IsWellFormed, count_for_aliases, has_few_entries}
 use Rattle.extract_core.specs.declared.selection.Selection.{Selection}
@@ -15,10 +16,6 @@ made_short {Y = Y} f (x ∷ xs) = go (f x) (made_short f xs)
     go : (o : Option Y) → length (filter_map f xs) ≤ length xs → length (cons_option o (filter_map f xs)) ≤ suc (length xs)
     go None h = omega (arith, h)
     go (Some y) h = omega (arith, h)
-
-both_short : {X : Type 0} (xs ys : List X) → length (xs ++ ys) ≡ length xs + length ys
-both_short [] ys = omega arith
-both_short (x ∷ xs) ys = let h = both_short xs ys in omega (arith, h)
 
 module _ (m : Module) (s : Selection) where
   -- an alias is kept or declared, but not both
@@ -61,8 +58,8 @@ module _ (m : Module) (s : Selection) (good : IsWellFormed m) where
       let vs2 = made_short (λ (a : Alias). alias_as_variable m a.name a.target a.ty) (declared_aliases m s) in
       let fs1 = made_short (extracted_function m s) m.functions in
       let fs2 = made_short (λ (a : Alias). alias_as_function a.name a.ty) (declared_aliases m s) in
-      let vs = both_short (filter_map (extracted_variable m s) m.variables) (filter_map (λ (a : Alias). alias_as_variable m a.name a.target a.ty) (declared_aliases m s)) in
-      let fs = both_short (filter_map (extracted_function m s) m.functions) (filter_map (λ (a : Alias). alias_as_function a.name a.ty) (declared_aliases m s)) in
+      let vs = length-append (filter_map (extracted_variable m s) m.variables) (filter_map (λ (a : Alias). alias_as_variable m a.name a.target a.ty) (declared_aliases m s)) in
+      let fs = length-append (filter_map (extracted_function m s) m.functions) (filter_map (λ (a : Alias). alias_as_function a.name a.ty) (declared_aliases m s)) in
       let va : length n.variables + length n.aliases ≤ 262144 = omega (arith, vs_room, split, vs1, vs2, vs) in
       let fa : length n.functions + length n.aliases ≤ 262144 = omega (arith, fs_room, split, fs1, fs2, fs) in
       and_from _ _ one.0 (and_from _ _ (le-leb (length n.variables) 262144 (omega (arith, va)))

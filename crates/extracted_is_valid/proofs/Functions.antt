@@ -2,7 +2,7 @@
 use Rattle.std.proofs.Common.{◌≡◌, ℕ, suc, Bool, true, false, not, ◌&&◌, ◌||◌, List, [], ◌∷◌, map, Option, Some, None, refl, ap, ◌∙◌, subst, is_some, is_none}
 use Rattle.std.specs.Option.{option_map_or}
 use Rattle.std.specs.List.{list_any, list_all}
-use Rattle.std.proofs.lemmas.Bool.{and_from, and_parts, or_left, or_right, not_from_false}
+use Rattle.std.proofs.lemmas.Bool.{and_from, and_parts, or_left, or_right, not_from_false, not-true}
 use Rattle.std.proofs.lemmas.Option.{same_Some}
 use Rattle.ir_tables.specs.declared.linkage.Linkage.{Linkage}
 use Rattle.ir_tables.specs.declared.linkage.Linkage.TheVariants.{External, Private, Internal, Common, Appending, ExternWeak, AvailableExternally, Linkonce, LinkonceOdr, Weak, WeakOdr}
@@ -15,7 +15,7 @@ use Rattle.module_arena.specs.Functions.{blocks}
 use Rattle.module_arena.specs.EntryRules.{linkage_suits, is_common, is_appending, is_lasting, is_llvm_name, function_name_suits, return_suits, alias_types_suit}
 use Rattle.module_arena.specs.Valid.{AllHold, alias_demands, function_demands}
 use Rattle.extract_core.specs.Extracted.{kept_linkage, declared_linkage, numbered, declared_function, alias_as_function}
-use Rattle.extracted_is_valid.proofs.Bodies.{NoMore, with_entries, flip, body_same}
+use Rattle.extracted_is_valid.proofs.Bodies.{NoMore, with_entries, body_same}
 
 -- LINKAGES
 
@@ -172,7 +172,7 @@ module _ (m : Module) (vs : List Variable) (as_ : List Alias) (fs : List Functio
   alias_function a g e h = by_type a.ty h.1.1.1.1.0 e
     where
       plain : is_llvm_name a.name ≡ false
-      plain = flip _ (and_parts (not (is_llvm_name a.name)) _ h.1.1.1.0).0
+      plain = not-true _ (and_parts (not (is_llvm_name a.name)) _ h.1.1.1.0).0
 
       by_type : (t : AliasType) → alias_types_suit m.structs t ≡ true → alias_as_function a.name t ≡ Some g → AllHold (function_demands n g)
       by_type (PlainType ty) suits e = cc

@@ -3,9 +3,9 @@ use Rattle.std.proofs.Common.{◌≡◌, Bool, true, false, ◌||◌, ◌⊎◌,
 use Rattle.std.specs.List.{cons_option, list_any, AllByRecursion}
 use Rattle.std.proofs.lemmas.Bool.{or_left, or_right, or_cases}
 use Rattle.std.proofs.lemmas.Option.{same_Some}
+use Rattle.std.proofs.lemmas.List.Folds.{list_any-append}
 use Rattle.module_arena.specs.Valid.{Demand, AllHold}
 use Rattle.module_arena.proofs.Parts.{front_holds, rest_holds, both_hold}
-use Rattle.extracted_is_valid.proofs.Distinct.{any_append}
 
 -- LISTS
 
@@ -61,10 +61,10 @@ any_key key test [] = refl
 any_key key test (x ∷ xs) = ap (λ b. test (key x) || b) (any_key key test xs)
 
 pub any_front : {A : Type 0} (test : A → Bool) (xs ys : List A) → list_any test xs ≡ true → list_any test (xs ++ ys) ≡ true
-any_front test xs ys h = any_append test xs ys ∙ or_left _ _ h
+any_front test xs ys h = list_any-append test xs ys ∙ or_left _ _ h
 
 pub any_back : {A : Type 0} (test : A → Bool) (xs ys : List A) → list_any test ys ≡ true → list_any test (xs ++ ys) ≡ true
-any_back test xs ys h = any_append test xs ys ∙ or_right (list_any test xs) _ h
+any_back test xs ys h = list_any-append test xs ys ∙ or_right (list_any test xs) _ h
 
 pub any_follow : {A : Type 0} (P : A → Type 0) (p q : A → Bool) (xs : List A) → ((x : A) → P x → p x ≡ true → q x ≡ true) → AllByRecursion P xs → list_any p xs ≡ true → list_any q xs ≡ true
 any_follow P p q [] f a h = cc

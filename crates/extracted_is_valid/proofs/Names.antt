@@ -2,13 +2,13 @@
 use Rattle.std.proofs.Common.{◌≡◌, ◌+◌, ◌≤◌, Bool, true, false, not, ◌&&◌, List, [], ◌∷◌, ◌++◌, map, filter, filter_map, Option, Some, None, refl, ap, bytes_eq, cond, arith, if◌then◌else◌}
 use Rattle.std.specs.List.{cons_option, list_all}
 use Rattle.std.proofs.lemmas.Bool.{and_from, and_parts}
+use Rattle.std.proofs.lemmas.List.{map-append}
 use Rattle.ir_tables.specs.declared.linkage.Linkage.{Linkage}
 use Rattle.ir_tables.specs.declared.linkage.Linkage.TheVariants.{External, Private, Internal, Common, Appending, ExternWeak, AvailableExternally, Linkonce, LinkonceOdr, Weak, WeakOdr}
 use Rattle.module_arena.specs.Module.{Bytes, Variable, AliasType, PlainType, FunctionType, Alias, Function, Module}
 use Rattle.module_arena.specs.Functions.{variable_names, alias_names, function_names}
 use Rattle.module_arena.specs.Names.{is_name}
 use Rattle.module_arena.specs.WellFormed.{IsWellFormed, global_names, are_good_names}
-use Rattle.extracted_is_valid.proofs.Lists.{map_append}
 use Rattle.extracted_is_valid.proofs.Distinct.{distinct_apart}
 use Rattle.extract_core.specs.declared.selection.Selection.{Selection}
 use Rattle.extract_core.specs.Selected.{is_among, keeps_variable, keeps_function, keeps_alias}
@@ -74,9 +74,9 @@ module _ (m : Module) (s : Selection) where
       let e = Extracted m s in
       let new1 = often_both n (variable_names e) (alias_names e ++ function_names e) in
       let new2 = often_both n (alias_names e) (function_names e) in
-      let vs = ap (often n) (map_append (λ (v : Variable). v.name) (filter_map (extracted_variable m s) m.variables) (filter_map as_variable (declared_aliases m s))) in
+      let vs = ap (often n) (map-append (λ (v : Variable). v.name) (filter_map (extracted_variable m s) m.variables) (filter_map as_variable (declared_aliases m s))) in
       let vs2 = often_both n (map (λ (v : Variable). v.name) (filter_map (extracted_variable m s) m.variables)) (variables_as (declared_aliases m s)) in
-      let fs = ap (often n) (map_append (λ (f : Function). f.name) (filter_map (extracted_function m s) m.functions) (filter_map as_function (declared_aliases m s))) in
+      let fs = ap (often n) (map-append (λ (f : Function). f.name) (filter_map (extracted_function m s) m.functions) (filter_map as_function (declared_aliases m s))) in
       let fs2 = often_both n (map (λ (f : Function). f.name) (filter_map (extracted_function m s) m.functions)) (functions_as (declared_aliases m s)) in
       let three = one_of_three n m.aliases in
       let v = often_made (λ (v : Variable). v.name) (λ (v : Variable). v.name) (extracted_variable m s) (λ v w e. either (λ (w : Variable). w.name ≡ v.name) (keeps_variable m s v) (is_among (kept_names m s) v.name) (record v { linkage = kept_linkage v.linkage }) (declared_variable v.linkage v) w e (λ k. refl) (λ k c. declared_name v.linkage v)) n m.variables in

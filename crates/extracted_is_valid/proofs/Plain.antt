@@ -1,8 +1,7 @@
 -- What lies in memory has no void in it, and names of entries that are no intrinsics.
 use Rattle.std.proofs.Common.{◌≡◌, Bool, true, false, not, ◌&&◌, ◌||◌, Option, Some, None, refl, sym, ap, ◌∙◌, subst, option_and_then, is_some}
 use Rattle.std.specs.Option.{option_map_or}
-use Rattle.std.proofs.lemmas.Bool.{and_from, and_parts, and_right, both_ways, cond-false, false_from_ne_true}
-use Rattle.extracted_is_valid.proofs.Bodies.{flip}
+use Rattle.std.proofs.lemmas.Bool.{and_from, and_parts, and_right, both_ways, cond-false, false_from_ne_true, not-true}
 use Rattle.type_table.specs.Tree.{Tree, int, ptr, void, array, struct, named, Trees, no_trees, more_trees, Structs}
 use Rattle.type_table.specs.Shape.{Shape, array_of, struct_of, Shapes, expanded, all_expanded, shape}
 use Rattle.type_table.specs.Layout.{has_layout, have_layouts, layout}
@@ -66,4 +65,4 @@ variable_plain m v h plain = false_from_ne_true _ (λ e. go (is_llvm_name v.name
 
 -- nor has an alias
 pub alias_plain : (m : Module) (a : Alias) → AllHold (alias_demands m a) → is_llvm_name a.name ≡ false
-alias_plain m a h = flip _ (and_parts (not (is_llvm_name a.name)) _ h.1.1.1.0).0
+alias_plain m a h = not-true _ (and_parts (not (is_llvm_name a.name)) _ h.1.1.1.0).0

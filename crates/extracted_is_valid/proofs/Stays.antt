@@ -4,6 +4,7 @@ use Rattle.std.specs.Prelude.{⊤}
 use Rattle.std.specs.List.{list_any, AllByRecursion}
 use Rattle.std.proofs.lemmas.Bool.{and_from, and_parts, or_cases, both_ways, false_from_ne_true}
 use Rattle.std.proofs.lemmas.Option.{same_Some}
+use Rattle.std.proofs.lemmas.List.Folds.{list_any-append}
 use Rattle.module_arena.specs.Module.{Bytes, Variable, AliasType, PlainType, FunctionType, Alias, Function, Module}
 use Rattle.module_arena.specs.EntryRules.{is_llvm_name, has_function, is_only_called, is_lasting_variable, is_lasting_function, target_suits}
 use Rattle.module_arena.specs.Valid.{AllHold, IsValid, module_demands, variable_demands, alias_demands, function_demands}
@@ -11,7 +12,6 @@ use Rattle.module_arena.specs.WellFormed.{IsWellFormed}
 use Rattle.module_arena.proofs.Parts.{front_holds, rest_holds}
 use Rattle.extracted_is_valid.proofs.Distinct.{name_self, name_exact}
 use Rattle.extracted_is_valid.proofs.Lists.{all_units}
-use Rattle.extracted_is_valid.proofs.Distinct.{any_append}
 use Rattle.extracted_is_valid.proofs.Plain.{alias_plain}
 use Rattle.extract_core.specs.declared.selection.Selection.{Selection}
 use Rattle.extract_core.specs.Selected.{is_among, keeps, keeps_variable, keeps_function, keeps_alias}
@@ -46,7 +46,7 @@ module _ (m : Module) (s : Selection) (good : IsWellFormed m) (valid : IsValid m
   alias_functions = filter_map (λ (a : Alias). alias_as_function a.name a.ty) (declared_aliases m s)
 
   has_it : (name : Bytes) → has_function n name ≡ (list_any (calls name) kept_functions || list_any (calls name) alias_functions)
-  has_it name = any_key (λ (f : Function). f.name) (bytes_eq name) (kept_functions ++ alias_functions) ∙ any_append (calls name) kept_functions alias_functions
+  has_it name = any_key (λ (f : Function). f.name) (bytes_eq name) (kept_functions ++ alias_functions) ∙ list_any-append (calls name) kept_functions alias_functions
 
   -- NO INTRINSIC MORE
 

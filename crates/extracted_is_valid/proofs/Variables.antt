@@ -2,7 +2,7 @@
 use Rattle.std.proofs.Common.{◌≡◌, ℕ, Bool, true, false, not, ◌&&◌, ◌||◌, ◌⊎◌, inl, inr, List, [], ◌∷◌, Option, Some, None, refl, sym, ap, ◌∙◌, subst, is_some, bytes_eq, codes, option_and_then, option_map, if◌then◌else◌}
 use Rattle.std.specs.Option.{option_map_or}
 use Rattle.std.specs.List.{list_any}
-use Rattle.std.proofs.lemmas.Bool.{and_from, and_parts, or_left, or_right, or_cases, not_from_false}
+use Rattle.std.proofs.lemmas.Bool.{and_from, and_parts, or_left, or_right, or_cases, not_from_false, not-true}
 use Rattle.std.proofs.lemmas.Option.{same_Some}
 use Rattle.ir_tables.specs.declared.linkage.Linkage.{Linkage}
 use Rattle.ir_tables.specs.declared.linkage.Linkage.TheVariants.{External, Private, Internal, Common, Appending, ExternWeak, AvailableExternally, Linkonce, LinkonceOdr, Weak, WeakOdr}
@@ -17,7 +17,7 @@ use Rattle.module_arena.specs.Valid.{AllHold, variable_demands, alias_demands}
 use Rattle.extract_core.specs.Extracted.{kept_linkage, declared_linkage, without_elements, declared_variable, alias_as_variable}
 use Rattle.extracted_is_valid.proofs.Plain.{memory_free}
 use Rattle.extracted_is_valid.proofs.Plain.{variable_plain, alias_plain}
-use Rattle.extracted_is_valid.proofs.Bodies.{NoMore, with_entries, flip, takes_none}
+use Rattle.extracted_is_valid.proofs.Bodies.{NoMore, with_entries, takes_none}
 use Rattle.extracted_is_valid.proofs.Functions.{SuitsDeclared, declared_suits, kept_suits, kept_common, kept_appending, kept_lasting}
 
 module _ (m : Module) (vs : List Variable) (as_ : List Alias) (fs : List Function) where
@@ -209,7 +209,7 @@ module _ (m : Module) (vs : List Variable) (as_ : List Alias) (fs : List Functio
           (
             ap not (kept_appending a.linkage) ∙ h.1.1.0,
             (
-              and_from _ _ names.0 (not_from_false _ (none a.target (flip _ names.1))),
+              and_from _ _ names.0 (not_from_false _ (none a.target (not-true _ names.1))),
               (
                 h.1.1.1.1.0,
                 (and_from _ _ (kept_lasting a.linkage (and_parts (is_lasting a.linkage) _ h.1.1.1.1.1.0).0) target, tt),

@@ -1,7 +1,7 @@
 -- An instruction is what its parts are.
-use Rattle.std.proofs.Common.{◌≡◌, ℕ, ◌<◌, List, [], ◌∷◌, map, length, All, Option, Some, None, refl, arith}
+use Rattle.std.proofs.Common.{◌≡◌, ℕ, ◌<◌, List, [], ◌∷◌, map, length, All, Option, Some, None, refl}
 use Rattle.std.specs.Option.{option_map}
-use Rattle.std.proofs.lemmas.List.Elements.{All-cons, All-map}
+use Rattle.std.proofs.lemmas.List.Elements.{All-cons, All-map, All-nil}
 use Rattle.ir_tables.specs.declared.opcode.Opcode.{Opcode}
 use Rattle.ir_tables.specs.declared.predicate.Predicate.{Predicate}
 use Rattle.type_table.specs.Tree.{Tree}
@@ -24,11 +24,8 @@ use Rattle.instruction_build.proofs.Lists.{each_known, each_seen}
 use Rattle.instruction_build.proofs.Standing.{operand_known, operand_seen}
 use Rattle.instruction_build.specs.Made.{Makes}
 
-none : {X : Type 0} (P : X → Type 0) → All P []
-none P k d lt = absurd (omega arith)
-
 one : {X : Type 0} (P : X → Type 0) (x : X) → P x → All P (x ∷ [])
-one P x p = All-cons P x [] p (none P)
+one P x p = All-cons P x [] p (All-nil P)
 
 two : {X : Type 0} (P : X → Type 0) (x y : X) → P x → P y → All P (x ∷ y ∷ [])
 two P x y p q = All-cons P x (y ∷ []) p (one P y q)
@@ -72,7 +69,7 @@ module _ (values blocks : List m.LocalName) (a : Lists) where
         let view = seen left l h in
         record {
           is = record {
-            known = record { operands_known = one O left (known left l h); values_known = one V right k.known; types_known = none T; blocks_known = none B };
+            known = record { operands_known = one O left (known left l h); values_known = one V right k.known; types_known = All-nil T; blocks_known = All-nil B };
             instruction = λ j. record { result = Some (called next); operation = m.BinaryOperation opcode flags (view j) (k.value j) };
           };
           gives = refl;
@@ -84,7 +81,7 @@ module _ (values blocks : List m.LocalName) (a : Lists) where
         let view = seen left l h in
         record {
           is = record {
-            known = record { operands_known = one O left (known left l h); values_known = one V right k.known; types_known = none T; blocks_known = none B };
+            known = record { operands_known = one O left (known left l h); values_known = one V right k.known; types_known = All-nil T; blocks_known = All-nil B };
             instruction = λ j. record { result = Some (called next); operation = m.Compare flags predicate (view j) (k.value j) };
           };
           gives = refl;
@@ -96,7 +93,7 @@ module _ (values blocks : List m.LocalName) (a : Lists) where
         let view = seen operand e h in
         record {
           is = record {
-            known = record { operands_known = one O operand (known operand e h); values_known = none V; types_known = one T to k.known; blocks_known = none B };
+            known = record { operands_known = one O operand (known operand e h); values_known = All-nil V; types_known = one T to k.known; blocks_known = All-nil B };
             instruction = λ j. record { result = Some (called next); operation = m.Convert opcode flags (view j) (k.tree j) };
           };
           gives = refl;
@@ -112,9 +109,9 @@ module _ (values blocks : List m.LocalName) (a : Lists) where
           is = record {
             known = record {
               operands_known = three O choice.condition choice.first choice.second (known choice.condition x h) (known choice.first y k) (known choice.second z l);
-              values_known = none V;
-              types_known = none T;
-              blocks_known = none B;
+              values_known = All-nil V;
+              types_known = All-nil T;
+              blocks_known = All-nil B;
             };
             instruction = λ j. record { result = Some (called next); operation = m.Select (condition j) (first j) (second j) };
           };
@@ -126,7 +123,7 @@ module _ (values blocks : List m.LocalName) (a : Lists) where
         let view = seen operand e h in
         record {
           is = record {
-            known = record { operands_known = one O operand (known operand e h); values_known = none V; types_known = none T; blocks_known = none B };
+            known = record { operands_known = one O operand (known operand e h); values_known = All-nil V; types_known = All-nil T; blocks_known = All-nil B };
             instruction = λ j. record { result = Some (called next); operation = m.Freeze (view j) };
           };
           gives = refl;
@@ -140,7 +137,7 @@ module _ (values blocks : List m.LocalName) (a : Lists) where
         record {
           is = record {
             known = record {
-              operands_known = none O;
+              operands_known = All-nil O;
               values_known = All-map V (λ (i : the_incoming.Incoming). i.value) incoming (each_known I (λ i. V i.value) (λ i e is. is.value.known) incoming es k);
               types_known = one T ty h.known;
               blocks_known = All-map B (λ (i : the_incoming.Incoming). i.block) incoming (each_known I (λ i. B i.block) (λ i e is. is.block.known) incoming es k);
@@ -156,7 +153,7 @@ module _ (values blocks : List m.LocalName) (a : Lists) where
         let view = seen address e k in
         record {
           is = record {
-            known = record { operands_known = one O address (known address e k); values_known = none V; types_known = one T ty h.known; blocks_known = none B };
+            known = record { operands_known = one O address (known address e k); values_known = All-nil V; types_known = one T ty h.known; blocks_known = All-nil B };
             instruction = λ j. record { result = Some (called next); operation = m.Load flags (h.tree j) (view j) alignment };
           };
           gives = refl;
@@ -165,7 +162,7 @@ module _ (values blocks : List m.LocalName) (a : Lists) where
     pub makes_alloca : (ty : ℕ) (t : Tree) (alignment : Option ℕ) → IsType a ty t → Makes values blocks a (Some next) (inst.Alloca next ty None alignment) (m.Alloca t None alignment)
     makes_alloca ty t alignment h = record {
       is = record {
-        known = record { operands_known = none O; values_known = none V; types_known = one T ty h.known; blocks_known = none B };
+        known = record { operands_known = All-nil O; values_known = All-nil V; types_known = one T ty h.known; blocks_known = All-nil B };
         instruction = λ j. record { result = Some (called next); operation = m.Alloca (h.tree j) None alignment };
       };
       gives = refl;
@@ -177,7 +174,7 @@ module _ (values blocks : List m.LocalName) (a : Lists) where
         let view = seen count e k in
         record {
           is = record {
-            known = record { operands_known = one O count (known count e k); values_known = none V; types_known = one T ty h.known; blocks_known = none B };
+            known = record { operands_known = one O count (known count e k); values_known = All-nil V; types_known = one T ty h.known; blocks_known = All-nil B };
             instruction = λ j. record { result = Some (called next); operation = m.Alloca (h.tree j) (Some (view j)) alignment };
           };
           gives = refl;
@@ -191,7 +188,7 @@ module _ (values blocks : List m.LocalName) (a : Lists) where
         let rest = all_seen indices es l in
         record {
           is = record {
-            known = record { operands_known = All-cons O base indices (known base b k) (all_known indices es l); values_known = none V; types_known = one T source h.known; blocks_known = none B };
+            known = record { operands_known = All-cons O base indices (known base b k) (all_known indices es l); values_known = All-nil V; types_known = one T source h.known; blocks_known = All-nil B };
             instruction = λ j. record { result = Some (called next); operation = m.GetElementPtr flags (h.tree j) (first j) (rest j) };
           };
           gives = refl;
@@ -203,7 +200,7 @@ module _ (values blocks : List m.LocalName) (a : Lists) where
         let view = seen aggregate e h in
         record {
           is = record {
-            known = record { operands_known = one O aggregate (known aggregate e h); values_known = none V; types_known = none T; blocks_known = none B };
+            known = record { operands_known = one O aggregate (known aggregate e h); values_known = All-nil V; types_known = All-nil T; blocks_known = All-nil B };
             instruction = λ j. record { result = Some (called next); operation = m.ExtractValue (view j) indices };
           };
           gives = refl;
@@ -216,7 +213,7 @@ module _ (values blocks : List m.LocalName) (a : Lists) where
         let part = seen insertion.part y k in
         record {
           is = record {
-            known = record { operands_known = two O insertion.aggregate insertion.part (known insertion.aggregate x h) (known insertion.part y k); values_known = none V; types_known = none T; blocks_known = none B };
+            known = record { operands_known = two O insertion.aggregate insertion.part (known insertion.aggregate x h) (known insertion.part y k); values_known = All-nil V; types_known = All-nil T; blocks_known = All-nil B };
             instruction = λ j. record { result = Some (called next); operation = m.InsertValue (whole j) (part j) insertion.indices };
           };
           gives = refl;
@@ -229,7 +226,7 @@ module _ (values blocks : List m.LocalName) (a : Lists) where
       let place = seen address y k in
       record {
         is = record {
-          known = record { operands_known = two O stored address (known stored x h) (known address y k); values_known = none V; types_known = none T; blocks_known = none B };
+          known = record { operands_known = two O stored address (known stored x h) (known address y k); values_known = All-nil V; types_known = All-nil T; blocks_known = All-nil B };
           instruction = λ j. record { result = None; operation = m.Store flags (value j) (place j) alignment };
         };
         gives = refl;
@@ -245,7 +242,7 @@ module _ (values blocks : List m.LocalName) (a : Lists) where
             operands_known = all_known call.arguments es l;
             values_known = one V call.callee k.known;
             types_known = All-cons T call.signature.returns call.signature.parameters h.returns.known h.parameters.known;
-            blocks_known = none B;
+            blocks_known = All-nil B;
           };
           instruction = λ j. record {
             result = option_map called call.result;

@@ -1,6 +1,6 @@
 -- The end of a block is what its parts are.
-use Rattle.std.proofs.Common.{ℕ, ◌<◌, List, [], ◌∷◌, map, length, All, refl, arith}
-use Rattle.std.proofs.lemmas.List.Elements.{All-cons, All-map}
+use Rattle.std.proofs.Common.{ℕ, ◌<◌, List, [], ◌∷◌, map, length, All, refl}
+use Rattle.std.proofs.lemmas.List.Elements.{All-cons, All-map, All-nil}
 use Rattle.type_table.specs.Types.{trees}
 use Rattle.module_arena.specs.declared.instruction.Case as the_case
 use Rattle.module_arena.specs.declared.instruction.Ending.TheVariants as ending
@@ -15,11 +15,8 @@ use Rattle.instruction_build.specs.Parts.{Each, IsTarget, IsCase}
 use Rattle.instruction_build.proofs.Lists.{each_known, each_seen}
 use Rattle.instruction_build.proofs.Standing.{operand_known, operand_seen}
 
-none : {X : Type 0} (P : X → Type 0) → All P []
-none P k d lt = absurd (omega arith)
-
 one : {X : Type 0} (P : X → Type 0) (x : X) → P x → All P (x ∷ [])
-one P x p = All-cons P x [] p (none P)
+one P x p = All-cons P x [] p (All-nil P)
 
 two : {X : Type 0} (P : X → Type 0) (x y : X) → P x → P y → All P (x ∷ y ∷ [])
 two P x y p q = All-cons P x (y ∷ []) p (one P y q)
@@ -32,18 +29,18 @@ module _ (values blocks : List m.LocalName) (a : Lists) where
   B = λ id. id < length blocks
 
   pub ends_void : IsEnding values blocks a ending.ReturnVoid m.ReturnVoid
-  ends_void = record { operands_known = none O; targets_known = none B; ending = refl }
+  ends_void = record { operands_known = All-nil O; targets_known = All-nil B; ending = refl }
 
   pub ends_unreachable : IsEnding values blocks a ending.Unreachable m.Unreachable
-  ends_unreachable = record { operands_known = none O; targets_known = none B; ending = refl }
+  ends_unreachable = record { operands_known = All-nil O; targets_known = All-nil B; ending = refl }
 
   pub ends_return : (operand : the_operand.Operand) (e : m.Operand) → IsOperand values blocks a operand e → IsEnding values blocks a (ending.Return operand) (m.Return e)
   ends_return operand e h =
       let view = operand_seen values blocks a operand e h in
-      record { operands_known = one O operand (operand_known values blocks a operand e h); targets_known = none B; ending = λ j. m.Return (view j) }
+      record { operands_known = one O operand (operand_known values blocks a operand e h); targets_known = All-nil B; ending = λ j. m.Return (view j) }
 
   pub ends_jump : (target : ℕ) (name : m.LocalName) → IsTarget blocks target name → IsEnding values blocks a (ending.Jump target) (m.Jump name)
-  ends_jump target name h = record { operands_known = none O; targets_known = one B target h.known; ending = λ j. m.Jump (h.name j) }
+  ends_jump target name h = record { operands_known = All-nil O; targets_known = one B target h.known; ending = λ j. m.Jump (h.name j) }
 
   pub ends_branch : (condition : the_operand.Operand) (e : m.Operand) (then_to : ℕ) (x : m.LocalName) (else_to : ℕ) (y : m.LocalName) → IsOperand values blocks a condition e → IsTarget blocks then_to x → IsTarget blocks else_to y
       → IsEnding values blocks a (ending.Branch condition then_to else_to) (m.Branch e x y)

@@ -1,5 +1,5 @@
 -- What is known of an instruction is known of its parts.
-use Rattle.std.proofs.Common.{ℕ, suc, ◌<◌, All, List, ◌∷◌, map, length, subst, arith}
+use Rattle.std.proofs.Common.{ℕ, ◌<◌, All, List, map, length, subst, arith}
 use Rattle.std.proofs.lemmas.List.{length-map, get_or-map}
 use Rattle.module_arena.specs.declared.entry.Function.{Function}
 use Rattle.module_arena.specs.declared.instruction.Incoming.{Incoming}
@@ -20,7 +20,3 @@ incoming_known a f xs values blocks k d lt =
       subst (HasThisValue a f) (get_or-map (λ (i : Incoming). i.value) xs k d d.value lt) (values k d.value (omega (arith, lt, many))),
       subst (λ (id : ℕ). id < length (function_blocks f)) (get_or-map (λ (i : Incoming). i.block) xs k d d.block lt) (blocks k d.block (omega (arith, lt, many_blocks))),
     )
-
--- all but the first
-pub behind_first : {A : Type 0} (P : A → Type 0) (x : A) (xs : List A) → All P (x ∷ xs) → All P xs
-behind_first P x xs all = λ k d lt. all (suc k) d (omega (arith, lt))

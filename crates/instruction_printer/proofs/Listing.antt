@@ -1,5 +1,5 @@
 -- Phrases with commas between them, put one behind the other.
-use Rattle.std.proofs.Common.{◌≡◌, ℕ, zero, suc, ◌+◌, ◌-◌, ◌<◌, ◌≤◌, List, [], ◌∷◌, length, drop, get_or, refl, sym, ap, ◌∙◌, arith}
+use Rattle.std.proofs.Common.{◌≡◌, ℕ, suc, ◌+◌, ◌-◌, ◌<◌, ◌≤◌, List, [], ◌∷◌, length, drop, get_or, sym, ap, ◌∙◌, arith}
 use Rattle.std.proofs.lemmas.List.{at_drop_more, at_drop_all, length-drop}
 use Rattle.gathered.specs.Told.{GatherState}
 use Rattle.ir_lexer.specs.Pieces.{Separator}
@@ -32,9 +32,3 @@ module _ {A : Type 0} (phrase : A → Phrase) (all : List A → List Phrase) (no
   pub parts_put : (parts : List A) (place : ℕ) (behind : Separator) (now : GatherState) → length parts ≤ place → Prints now now (listed (all (drop place parts)) behind)
   parts_put parts place behind now le =
       prints_same (ap (λ (ps : List Phrase). listed ps behind) (sym none) ∙ sym (at_drop_all (λ (ps : List A). listed (all ps) behind) parts place le)) (prints_none now)
-
--- what is there is there whichever other value is given for what is not
-pub either : {A : Type 0} (xs : List A) (place : ℕ) (d e : A) → place < length xs → get_or xs place d ≡ get_or xs place e
-either [] place d e lt = absurd (omega (arith, lt))
-either (x ∷ xs) zero d e lt = refl
-either (x ∷ xs) (suc place) d e lt = either xs place d e (omega (arith, lt))

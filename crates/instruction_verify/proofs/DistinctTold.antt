@@ -6,14 +6,14 @@ use Rattle.std.specs.Cmp.{unsigned_Decides}
 use Rattle.std.proofs.lemmas.List.{append_assoc, take-append-drop}
 use Rattle.std.proofs.lemmas.List.Folds.{list_any-append}
 use Rattle.std.proofs.lemmas.Option.{slice_get-get_or}
+use Rattle.std.proofs.lemmas.Bool.Decides.{same_from_decides}
 use Rattle.indexmap.specs.IndexSet.{insert_key}
 use Rattle.ir_tables.specs.Table.{is_distinct}
 use Rattle.type_table.proofs.Steps.{take_next}
-use Rattle.type_verify.proofs.ClassesTold.{tests_same}
 
 -- a number behind others
 flipped : (n m : ℕ) → nat_eq n m ≡ nat_eq m n
-flipped n m = tests_same (nat_eq n m) (nat_eq m n) (unsigned_Decides n m) ((λ e. sym ((unsigned_Decides m n).0 e)), (λ e. (unsigned_Decides m n).1 (sym e)))
+flipped n m = same_from_decides (nat_eq n m) (nat_eq m n) (unsigned_Decides n m) ((λ e. sym ((unsigned_Decides m n).0 e)), (λ e. (unsigned_Decides m n).1 (sym e)))
 
 none_of : (b x y : Bool) → (not (b || x) && y) ≡ (not b && (not x && y))
 none_of true x y = refl

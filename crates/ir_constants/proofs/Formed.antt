@@ -1,6 +1,7 @@
 -- Constants and values of whole phrases have the opcodes, flags and parts of their phrases.
 use Rattle.std.proofs.Common.{◌≡◌, ℕ, zero, suc, ◌≤◌, List, [], ◌∷◌, Bool, true, false, not, ◌&&◌, cond, Option, Some, None, refl, sym, subst, inl, inr, bit_or, arith}
 use Rattle.std.proofs.lemmas.Bool.{and_parts}
+use Rattle.std.proofs.lemmas.Option.{same_Some}
 use Rattle.ir_base.specs.declared.place.Place.{Place}
 use Rattle.ir_lexer.specs.Ahead.{Located}
 use Rattle.ir_tables.specs.declared.opcode.Opcode.{Opcode}
@@ -47,12 +48,9 @@ one_more_flag opcode set f h may = record {
   each = λ g e. elim ((has_flag-with set f g).0 e) [ inl x ↦ h.each g x | inr same ↦ subst (λ (k : Flag). may_have opcode k ≡ true) (sym same) may ];
 }
 
-some_once : {A : Type 0} (a b : A) → Some a ≡ Some b → a ≡ b
-some_once a b e = cc
-
 flag_by_test : (opcode : Opcode) (set n : ℕ) (f : Flag) (b : Bool) → (may_have opcode f && not (has_flag set f)) ≡ b → AreFlagsOf opcode set → cond b (Some (flags_with set f)) None ≡ Some n → AreFlagsOf opcode n
 flag_by_test opcode set n f true t h e =
-    subst (λ (k : ℕ). AreFlagsOf opcode k) (some_once (flags_with set f) n e) (one_more_flag opcode set f h (and_parts (may_have opcode f) (not (has_flag set f)) t).0)
+    subst (λ (k : ℕ). AreFlagsOf opcode k) (same_Some (flags_with set f) n e) (one_more_flag opcode set f h (and_parts (may_have opcode f) (not (has_flag set f)) t).0)
 flag_by_test opcode set n f false t h e = absurd cc
 
 flag_given : (opcode : Opcode) (set n : ℕ) (o : Option Flag) → AreFlagsOf opcode set → with_flag opcode set o ≡ Some n → AreFlagsOf opcode n

@@ -1,8 +1,9 @@
 -- What begins an instruction, and a block.
 use Rattle.std.proofs.Common.{◌≡◌, ℕ, ◌==◌, true, false, cond, Some, List, [], ◌∷◌, ◌++◌, refl, ◌∙◌, ap, inl, inr}
+use Rattle.std.proofs.lemmas.Option.{same_Some}
+use Rattle.std.proofs.lemmas.Bool.{cases_Bool}
 use Rattle.ir_lexer.specs.Ahead.{Located}
 use Rattle.phrase_rows.specs.Row.{among, begins}
-use Rattle.phrase_rows.proofs.ListParts.{bool_cases}
 use Rattle.ir_tables.specs.declared.opcode.Opcode.{Opcode}
 use Rattle.ir_terminals.specs.declared.terminal.Terminal.{Terminal}
 use Rattle.ir_terminals.specs.declared.terminal.Terminal.TheVariants as terminal
@@ -16,19 +17,16 @@ use Rattle.ir_instructions.specs.Blocks.{block_shape}
 
 among_either : (k : ℕ) (xs ys : List ℕ) → among k (xs ++ ys) ≡ cond (among k xs) true (among k ys)
 among_either k [] ys = refl
-among_either k (x ∷ xs) ys = elim (bool_cases (k == x)) [ inl e ↦ rw e refl | inr e ↦ rw e (among_either k xs ys) ]
+among_either k (x ∷ xs) ys = elim (cases_Bool (k == x)) [ inl e ↦ rw e refl | inr e ↦ rw e (among_either k xs ys) ]
 
 begins_either : (xs ys : List ℕ) (ts : List Located) → begins class (xs ++ ys) ts ≡ cond (begins class xs ts) true (begins class ys ts)
 begins_either xs ys [] = refl
 begins_either xs ys (t ∷ ts) = among_either (class t) xs ys
 
-some_once : {A : Type 0} (a b : A) → Some a ≡ Some b → a ≡ b
-some_once a b e = cc
-
 -- what the next terminal tells
 pub begun : (classes : List ℕ) (x : Terminal) (ts : List Located) → Some x ≡ first_terminal ts → among (code x) classes ≡ begins class classes ts
 begun classes x [] e = absurd cc
-begun classes x (t ∷ ts) e = ap (λ (y : Terminal). among (code y) classes) (some_once x (terminal_of.terminal t.token) e)
+begun classes x (t ∷ ts) e = ap (λ (y : Terminal). among (code y) classes) (same_Some x (terminal_of.terminal t.token) e)
 
 -- what is no opcode
 pub no_operation : (x : Terminal) → ((opcode : Opcode) → x ≡ terminal.Opcode opcode → ⊥) → among (code x) operation_classes ≡ false

@@ -1,11 +1,11 @@
 -- One more part of a list behind commas.
 use Rattle.std.proofs.Common.{◌≡◌, ℕ, zero, suc, ◌<◌, Bool, true, false, cond, List, [], ◌∷◌, ◌++◌, length, map, refl, inl, inr, sym, ap, ◌∙◌, arith}
 use Rattle.std.proofs.lemmas.List.{map-append}
+use Rattle.std.proofs.lemmas.Bool.{cases_Bool}
 use Rattle.ir_base.specs.declared.place.Place.{Place}
 use Rattle.ir_lexer.specs.Ahead.{Located}
 use Rattle.phrase_rows.specs.Row.{Row, Reading, Done, Bad, bind, apart, begins, mapped, alt, labelled, keep_second, loop, run_loop, many}
 use Rattle.phrase_rows.specs.Reads.{Reads}
-use Rattle.phrase_rows.proofs.ListParts.{bool_cases}
 use Rattle.phrase_rows.proofs.Loop.{loop_step_at, loop_next}
 use Rattle.phrase_rows.proofs.Many.{with_front, many_next}
 use Rattle.phrase_rows.proofs.Values.{read_less}
@@ -60,7 +60,7 @@ module _ {A : Type 0} (p : Row Located A) (parts : List A) where
 
   closed_behind : (n : ℕ) (u : Unit {0}) (ts : List Located) → closed_loop n ts ≡ as_closed (metadata_loop n u ts)
   closed_behind zero u ts = refl
-  closed_behind (suc n) u ts = elim (bool_cases (begins class comma_shape.first ts)) [
+  closed_behind (suc n) u ts = elim (cases_Bool (begins class comma_shape.first ts)) [
     | inl b ↦ rw b (closed_comma n ((word terminal.Comma).run ts) (closed_behind n))
     | inr b ↦ rw b refl
   ]
@@ -95,7 +95,7 @@ module _ {A : Type 0} (p : Row Located A) (parts : List A) where
   on_part (Bad rest) = refl
 
   behind_comma : (mid : List Located) → steps_behind ((alt class (mapped (λ u. (parts, true)) attachment_row) (mapped (λ a. (parts ++ (a ∷ []), false)) p)).run mid) ≡ bind (part_begins_row.run mid) listed_behind
-  behind_comma mid = elim (bool_cases (begins class (code terminal.MetaName ∷ []) mid)) [
+  behind_comma mid = elim (cases_Bool (begins class (code terminal.MetaName ∷ []) mid)) [
     | inl d ↦ rw d (on_metadata (attachment_row.run mid))
     | inr d ↦ rw d (on_part (p.run mid))
   ]
@@ -105,7 +105,7 @@ module _ {A : Type 0} (p : Row Located A) (parts : List A) where
   on_comma (Bad rest) = refl
 
   step_on : (ts : List Located) → parts_read (cond (begins class comma_shape.first ts) (bind ((listed_step p (parts, false)).run ts) (λ s rest. (loop class comma_shape (listed_step p) s).run rest)) (Done (parts, false) ts)) ≡ listed_on ts
-  step_on ts = elim (bool_cases (begins class comma_shape.first ts)) [
+  step_on ts = elim (cases_Bool (begins class comma_shape.first ts)) [
     | inl b ↦ rw b (on_comma ((word terminal.Comma).run ts))
     | inr b ↦ rw b refl
   ]

@@ -1,5 +1,5 @@
 -- What is seen of bytes that are written: numbers, one byte, poison, pieces, and what was read elsewhere.
-use Rattle.std.proofs.Common.{◌≡◌, ℕ, zero, suc, ◌+◌, ◌-◌, ◌<◌, ◌≤◌, ◌^◌, ◌⊎◌, inl, inr, set, List, [], ◌∷◌, length, map, replicate, get_or, refl, sym, ap, ◌∙◌, subst, arith, Bool, true, false, ◌||◌, take, Option, Some, None}
+use Rattle.std.proofs.Common.{◌≡◌, ℕ, zero, suc, ◌+◌, ◌-◌, ◌<◌, ◌≤◌, ◌^◌, ◌⊎◌, inl, inr, set, List, [], ◌∷◌, length, map, replicate, get_or, refl, sym, ap, ◌∙◌, subst, arith, Bool, false, ◌||◌, take, Option, Some, None}
 use Rattle.std.specs.Prelude.{◌≢◌, slice_range}
 use Rattle.std.specs.List.{range_with_len}
 use Rattle.std.proofs.lemmas.Bool.Decides.{nat_tests}
@@ -7,6 +7,7 @@ use Rattle.std.proofs.lemmas.Option.{slice_get-get_or}
 use Rattle.std.proofs.lemmas.List.{length-take-le, get_or-take, get_or_default, get_or-set_other, same_lists, take_all}
 use Rattle.std.proofs.lemmas.List.FromFn.{get_or-map-range_with_len}
 use Rattle.std.proofs.lemmas.List.Edits.{length-between, get_or-between}
+use Rattle.std.proofs.lemmas.Bool.{or_parts}
 use Rattle.ir_eval.specs.declared.value.Pointer.{Pointer}
 use Rattle.pointer_pieces.specs.declared.piece.PointerPiece.{PointerPiece}
 use Rattle.pointer_pieces.specs.Pieces.{without, with_pointer, with_moved}
@@ -152,10 +153,6 @@ gathered p b offset count cs enough within each =
         let l = length-between (cells p b.start b.bytes) offset (offset + count) (omega (arith, within, length-placed (λ a x. over (p a) x) b.start b.bytes)) in
         omega (arith, l)
 
-or_false : (t u : Bool) → (t || u) ≡ false → (t ≡ false) × (u ≡ false)
-or_false true u e = cc
-or_false false u e = (refl, e)
-
 -- what stands at one place is copied to another
 module _ (p q : ℕ → Option PointerPiece) (kept : List KeptBlock) (next : ℕ) (target source : BlockPlace) (count : ℕ) (to from : KeptBlock) (sound : IsSound p kept next) (room : IsRoom kept target count) (there : IsRoom kept source count) (is : to ≡ get_or kept target.index to) (is_from : from ≡ get_or kept source.index from) (are : (a : ℕ) → q a ≡ with_moved (to.start + target.offset) (from.start + source.offset) count p a) where
   abbrev taken : List (Option ℕ)
@@ -166,13 +163,13 @@ module _ (p q : ℕ → Option PointerPiece) (kept : List KeptBlock) (next : ℕ
 
   clear : (to.mixed || from.mixed) ≡ false → (to.mixed ≡ false) × ((a : ℕ) → to.start + target.offset ≤ a → a < to.start + target.offset + count → q a ≡ None)
   clear m = (
-    (or_false to.mixed from.mixed m).0,
+    (or_parts to.mixed from.mixed m).0,
     λ a low high.
         let k : a ≡ to.start + target.offset + (a - (to.start + target.offset)) = omega (arith, low) in
         let l : a - (to.start + target.offset) < count = omega (arith, low, high) in
         ap q k
         ∙ moved-within p q (to.start + target.offset) (from.start + source.offset) count are (a - (to.start + target.offset)) l
-        ∙ room-unmixed p kept next source count from sound there is_from (or_false to.mixed from.mixed m).1 (from.start + source.offset + (a - (to.start + target.offset))) (omega arith) (omega (arith, l)),
+        ∙ room-unmixed p kept next source count from sound there is_from (or_parts to.mixed from.mixed m).1 (from.start + source.offset + (a - (to.start + target.offset))) (omega arith) (omega (arith, l)),
   )
 
   pub seen-copied : all_seen q (set kept target.index (with_copied target.offset (slice_range from.bytes source.offset (source.offset + count)) from.mixed to)) ≡ changed target.index (written target.offset (cells_at (all_seen p kept) count (Some source))) (all_seen p kept)

@@ -4,6 +4,7 @@ use Rattle.std.specs.Option.{option_map, option_map_or}
 use Rattle.std.proofs.lemmas.List.{length-map}
 use Rattle.std.specs.Prelude.{filter_map, option_to_list}
 use Rattle.std.specs.List.{cons_option}
+use Rattle.std.proofs.lemmas.Option.{slice_get-map}
 use Rattle.ir_syntax.specs.Tree.{ParameterTree, ItemTree, SourceFilename, DataLayout, TargetTriple, Struct, Variable, Alias, Declaration, Definition, Attributes, Metadata}
 use Rattle.type_table.specs.Types.{trees}
 use Rattle.module_arena.specs.declared.entry.Function as the_function
@@ -23,7 +24,7 @@ use Rattle.type_build.specs.Parameters.{without_body}
 use Rattle.buildable.specs.Bodies.{parameter_names, body_of}
 use Rattle.item_build.specs.Declaring.{declared_functions}
 use Rattle.item_build.proofs.Completed.{mixed_names}
-use Rattle.item_build.proofs.Walked.{map_slice, gives_one, gives_none, get_between, changed_between}
+use Rattle.item_build.proofs.Walked.{gives_one, gives_none, get_between, changed_between}
 use Rattle.ir_resolve.specs.Defining.{defined_in, IsCalledSo, with_bodies}
 
 -- two changes that agree at the item
@@ -46,7 +47,7 @@ length_parameters next (p ∷ ps) = ap suc (length_parameters (next_behind next 
 
 pub listed : (a : Lists) (k : ℕ) (f : the_function.Function) → slice_get a.functions k ≡ Some f → slice_get (module_of a).functions k ≡ Some (function_view (trees a.table) (constants_of a) f)
 unfolding module_of
-listed a k f is = map_slice (function_view (trees a.table) (constants_of a)) a.functions k ∙ ap (option_map (function_view (trees a.table) (constants_of a))) is
+listed a k f is = slice_get-map (function_view (trees a.table) (constants_of a)) a.functions k ∙ ap (option_map (function_view (trees a.table) (constants_of a))) is
 
 pub many_parameters : (a : Lists) (f : the_function.Function) (ps : List ParameterTree) → map (λ (p : m.Parameter). p.name) (function_view (trees a.table) (constants_of a) f).parameters ≡ parameter_names ps → length f.parameters ≡ length ps
 many_parameters a f ps same =

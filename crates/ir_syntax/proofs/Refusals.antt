@@ -1,6 +1,7 @@
 -- Why a text is refused: at its one first bad place, by one kind.
 use Rattle.std.proofs.Common.{◌≡◌, ℕ, zero, suc, ◌<◌, List, [], ◌∷◌, length, drop, slice_get, Bool, true, false, ◌⊎◌, inl, inr, refl, sym, ap, subst, ◌∙◌, arith, Some, None, Result, Ok, Err, IfOk}
 use Rattle.std.specs.Bool.{MatchBool}
+use Rattle.std.proofs.lemmas.Option.{same_Some}
 use Rattle.ir_base.specs.declared.place.Place.{Place}
 use Rattle.ir_lexer.specs.Ahead.{Located}
 use Rattle.ir_terminals.specs.LeftOut.{is_left_out, is_left_out_as}
@@ -17,14 +18,11 @@ none_at_end : {T : Type 0} (xs : List T) (t : T) → slice_get xs (length xs) �
 none_at_end [] t e = absurd cc
 none_at_end (x ∷ xs) t e = none_at_end xs t e
 
-some_once : {T : Type 0} (a b : T) → Some a ≡ Some b → a ≡ b
-some_once a b e = cc
-
 -- one bad token
 one_token : (text : List ℕ) (i j : ℕ) (t u : Located) → BadToken text i t → BadToken text j u → (i ≡ j) × (t ≡ u)
 one_token text i j t u b c =
     let e = one_first_bad text i j b.first_bad c.first_bad in
-    (e, some_once t u (sym b.token ∙ (ap (slice_get (text_tokens text)) e ∙ c.token)))
+    (e, same_Some t u (sym b.token ∙ (ap (slice_get (text_tokens text)) e ∙ c.token)))
 
 -- no bad token where the end is bad
 token_or_end : (text : List ℕ) (i : ℕ) (t : Located) → BadEnd text → BadToken text i t → ⊥
@@ -97,7 +95,7 @@ first_dropped (suc n) (x ∷ xs) ys t e = first_dropped n xs ys t e
 
 dropped_first : {T : Type 0} (n : ℕ) (xs : List T) (t : T) → slice_get xs n ≡ Some t → (ys : List T) × (drop n xs ≡ t ∷ ys)
 dropped_first zero [] t e = absurd cc
-dropped_first zero (x ∷ xs) t e = (xs, let k = some_once x t e in cc)
+dropped_first zero (x ∷ xs) t e = (xs, let k = same_Some x t e in cc)
 dropped_first (suc n) [] t e = absurd cc
 dropped_first (suc n) (x ∷ xs) t e = dropped_first n xs t e
 

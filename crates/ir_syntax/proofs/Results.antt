@@ -2,7 +2,7 @@
 use Rattle.std.proofs.Common.{◌≡◌, ℕ, ◌≤◌, ◌<◌, List, [], ◌∷◌, length, Bool, true, false, not, refl, sym, ap, subst, ◌∙◌, arith, length-drop, ◌&&◌, nat_lt, Option, Result, Ok, Err}
 use Rattle.std.specs.Option.{is_none}
 use Rattle.std.specs.Bool.{MatchBool}
-use Rattle.std.proofs.lemmas.Bool.{ltb-true, ltb-false}
+use Rattle.std.proofs.lemmas.Bool.{ltb-true, ltb-false, not-true}
 use Rattle.phrase_rows.specs.Row.{Done, Bad}
 use Rattle.phrase_rows.specs.Answer.{IsAnswer}
 use Rattle.phrase_rows.proofs.Answer.{answered, answered_whole, first_bad_once, viable_through, viable_in_whole, not_viable_from}
@@ -33,15 +33,11 @@ is_answer limits text x e =
     subst (λ (y : Result (List ItemTree) ℕ). IsAnswer (items_row limits) (not (is_cut_off text)) (text_tokens text) y) e
     (answered class (items_row limits) (items_row limits).shape (reads_items limits) (not (is_cut_off text)) (text_tokens text))
 
-not_true : (b : Bool) → not b ≡ true → b ≡ false
-not_true true e = absurd cc
-not_true false e = refl
-
 -- the answer's items are the text's
 pub answer_items : (text : List ℕ) (items : List ItemTree) → text_answer language text ≡ Ok items → HasItems text items
 answer_items text items e =
     let a = is_answer language text (Ok items) e in
-    record { are_tokens = (what_is_ahead text).0 (not_true (is_cut_off text) a.0); are_items = a.1 }
+    record { are_tokens = (what_is_ahead text).0 (not-true (is_cut_off text) a.0); are_items = a.1 }
 
 not_cut : (text : List ℕ) (b : Bool) → is_cut_off text ≡ b → Tokens text (tokens_in (text_tokens text)) → b ≡ false
 not_cut text false e h = refl

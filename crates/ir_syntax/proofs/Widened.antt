@@ -1,8 +1,8 @@
 -- Rows that read as others do, but may go on where those are refused at certain tokens.
 use Rattle.std.proofs.Common.{◌≡◌, ℕ, zero, suc, List, [], ◌∷◌, ◌++◌, length, Bool, true, false, ◌⊎◌, inl, inr, refl, sym, ap, subst, cond, Option, Some, None}
+use Rattle.std.proofs.lemmas.Bool.{cases_Bool}
 use Rattle.phrase_rows.specs.Row.{Reading, Done, Bad, bind, PhraseShape, Row, among, begins, nothing, fail, one, run_one, chain, mapped, joined_values, keep_second, keep_first, pair, alt, optional, many, run_many, separated, loop, run_loop, labelled}
 use Rattle.phrase_rows.specs.Reads.{Takes, Reads}
-use Rattle.phrase_rows.proofs.ListParts.{bool_cases}
 
 -- the two readings are the same, or the first is refused at a token for which this holds
 abbrev pub IsKept : {T A : Type 0} → (T → Bool) → Reading T A → Reading T A → Type 0
@@ -69,7 +69,7 @@ module _ {T A : Type 0} {may : T → Bool} where
   -- what is not to be had in the narrow row is to be had in the wide one, behind the tokens that may begin it
   pub widened_fail : (class : T → ℕ) {r : Row T A} (s : PhraseShape) → Reads class r s → s.empty ≡ false → ((t : T) → among (class t) s.first ≡ true → may t ≡ true) → IsWidened may (fail s) r
   widened_fail class {r} s h some m = record {
-    kept = λ ts. elim (bool_cases (begins class s.first ts)) [
+    kept = λ ts. elim (cases_Bool (begins class s.first ts)) [
       | inl b ↦ begun class s.first ts (r.run ts) b m
       | inr b ↦ inl (bad_with class h some ts b (r.run ts) (h.takes ts))
     ];

@@ -1,5 +1,6 @@
 -- The two wider languages go on where the language does, or at the tokens that tell them apart from it.
-use Rattle.std.proofs.Common.{◌≡◌, [], ◌∷◌, Bool, true, false, ◌||◌, ◌⊎◌, inl, inr, refl, None}
+use Rattle.std.proofs.Common.{◌≡◌, [], ◌∷◌, true, false, ◌⊎◌, inl, inr, refl, None}
+use Rattle.std.proofs.lemmas.Bool.{or_right}
 use Rattle.ir_lexer.specs.Ahead.{Located}
 use Rattle.ir_lexer.specs.declared.token.TokenKind.{TokenKind}
 use Rattle.ir_lexer.specs.declared.token.TokenKind.TheVariants as kind
@@ -26,10 +27,6 @@ deeper_items = widened_items language_deeper (widened_same (dots_row false))
 name_by : (t : Located) (k : TokenKind) → t.token.kind ≡ k → (if_named true k t ≡ if_named false k t) ⊎ ((if_named false k t ≡ None) × (is_of_wider t ≡ true))
 name_by t kind.UnnamedLocal e = inr (refl, rw e refl)
 name_by t _ e = inl refl
-
-or_right : (a b : Bool) → b ≡ true → (a || b) ≡ true
-or_right true b e = refl
-or_right false b e = e
 
 language_wider : IsWider is_of_wider language wider
 language_wider = record {

@@ -1,6 +1,6 @@
 -- Brackets that begin with a given one: behind it, nothing asks which one that was.
 use Rattle.std.proofs.Common.{◌≡◌, ◌==◌, true, false, List, [], ◌∷◌, refl, ap, ◌∙◌, inl, inr}
-use Rattle.phrase_rows.proofs.ListParts.{bool_cases}
+use Rattle.std.proofs.lemmas.Bool.{cases_Bool}
 use Rattle.ir_lexer.specs.Ahead.{Located}
 use Rattle.phrase_rows.specs.Row.{Reading, Done, Bad, TokenMove, On, Ends, Stops, begins, run_machine}
 use Rattle.ir_terminals.specs.Brackets.{is_same, closed, step_by, role, begun_step, matched_row, any_matched_row}
@@ -35,7 +35,7 @@ turn : (opening : Terminal) (t : Located) (ts : List Located) (b : Bracket) (bs 
 unfolding Same next_begun next_plain
 turn opening t ts b bs (roles.Opens k) again = again k (b ∷ bs)
 turn opening t ts b bs roles.Neither again = again b bs
-turn opening t ts b bs (roles.Closes k) again = elim (bool_cases (is_same b k)) [
+turn opening t ts b bs (roles.Closes k) again = elim (cases_Bool (is_same b k)) [
   | inl e ↦ rw e (closing opening t ts bs again)
   | inr e ↦ rw e refl
 ]
@@ -58,7 +58,7 @@ begins_so opening x e = rw e refl
 pub opened_so : (opening : Terminal) (ts : List Located) → begins class (code opening ∷ []) ts ≡ true → (matched_row opening).run ts ≡ any_matched_row.run ts
 unfolding begun plain next_begun next_plain
 opened_so opening [] h = refl
-opened_so opening (t ∷ ts) h = elim (bool_cases (code (terminal t.token) == code opening)) [
+opened_so opening (t ∷ ts) h = elim (cases_Bool (code (terminal t.token) == code opening)) [
   | inl e ↦ ap (next_begun opening t ts) (begins_so opening (terminal t.token) e) ∙ first_turn opening t ts (role (terminal t.token))
   | inr e ↦ absurd (let f : false ≡ true = rw e at h in cc)
 ]

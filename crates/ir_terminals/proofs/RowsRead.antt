@@ -1,6 +1,6 @@
 -- The rows of one token and of brackets are read.
 use Rattle.std.proofs.Common.{◌≡◌, [], ◌∷◌, true, false, refl, inl, inr, ◌==◌}
-use Rattle.phrase_rows.proofs.ListParts.{bool_cases}
+use Rattle.std.proofs.lemmas.Bool.{cases_Bool}
 use Rattle.phrase_rows.specs.Reads.{Reads}
 use Rattle.phrase_rows.specs.Row.{Stops, On, among}
 use Rattle.phrase_rows.proofs.Machine.{reads_machine}
@@ -48,7 +48,7 @@ pub reads_predicate : Reads class predicate_row predicate_row.shape
 reads_predicate = reads_one class (predicate_class ∷ []) predicate_of
 
 another_first : (opening x : Terminal) → among (code x) (code opening ∷ []) ≡ false → begun_step opening [] x ≡ Stops
-another_first opening x h = elim (bool_cases (code x == code opening)) [
+another_first opening x h = elim (cases_Bool (code x == code opening)) [
   | inl e ↦ absurd (let f : true ≡ false = rw e at h in cc)
   | inr e ↦ rw e refl
 ]

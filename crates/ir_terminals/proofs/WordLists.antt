@@ -1,7 +1,7 @@
 -- A word has one row at most, which its number leads to.
 use Rattle.std.proofs.Common.{◌≡◌, ℕ, zero, suc, ◌+◌, ◌<◌, ◌≤◌, ◌==◌, ◌&&◌, ◌^◌, Bool, true, false, cond, List, [], ◌∷◌, length, map, get_or, Option, Some, None, option_map, nat_lt, refl, sym, ap, ◌∙◌, arith, inl, inr, bytes_eq}
 use Rattle.std.proofs.Math.ListN.{get_or-map, length-map}
-use Rattle.std.proofs.lemmas.Bool.{ltb-true}
+use Rattle.std.proofs.lemmas.Bool.{ltb-true, and_parts}
 use Rattle.std.proofs.lemmas.Bool.Decides.{nat_tests}
 use Rattle.std.proofs.lemmas.List.{get_or_default}
 use Rattle.std.proofs.lemmas.List.Folds.{list_all_at}
@@ -18,11 +18,6 @@ use Rattle.ir_terminals.specs.declared.terminal.Terminal.{Terminal}
 use Rattle.ir_terminals.specs.declared.terminal.Terminal.TheVariants as terminals
 use Rattle.ir_terminals.proofs.Decimals.{side}
 
-both_true : (a b : Bool) → (a && b) ≡ true → (a ≡ true) × (b ≡ true)
-both_true true true h = (refl, refl)
-both_true true false h = absurd cc
-both_true false b h = absurd cc
-
 -- the word of each row leads to the row, from this index on
 abbrev leads : (List ℕ → ℕ) → ℕ → List Meaning → Bool
 leads number n [] = true
@@ -36,23 +31,23 @@ module _ (number : List ℕ → ℕ) where
   its_number : (n : ℕ) (row : Meaning) (rows : List Meaning) (word : List ℕ) → leads number n (row ∷ rows) ≡ true → bytes_eq row.word word ≡ true → number word ≡ n
   its_number n row rows word h e =
       let same : row.word ≡ word = (bytes_eq-Decides row.word word).0 e in
-      let is : number row.word ≡ n = exact_unsigned_eq (number row.word) n (both_true _ _ h).0 in
+      let is : number row.word ≡ n = exact_unsigned_eq (number row.word) n (and_parts _ _ h).0 in
       rw (← same) is
 
   none_has : (n : ℕ) (rows : List Meaning) (word : List ℕ) → leads number n rows ≡ true → number word < n → meaning_in rows word ≡ terminals.Other
   none_has n [] word h less = refl
   none_has n (row ∷ rows) word h less = elim (bool_cases (bytes_eq row.word word)) [
     | inl e ↦ absurd (let is = its_number n row rows word h e in omega (arith, is))
-    | inr e ↦ rw e (none_has (n + 1) rows word (both_true _ _ h).1 (omega arith))
+    | inr e ↦ rw e (none_has (n + 1) rows word (and_parts _ _ h).1 (omega arith))
   ]
 
   one_has : (n : ℕ) (rows : List Meaning) (word : List ℕ) (i : ℕ) (d : Meaning) → leads number n rows ≡ true → number word ≡ n + i → i < length rows → meaning_in rows word ≡ of_row (get_or rows i d) word
   one_has n [] word i d h is less = absurd (omega arith)
   one_has n (row ∷ rows) word zero d h is less =
-      ap (λ (x : Terminal). cond (bytes_eq row.word word) row.terminal x) (none_has (n + 1) rows word (both_true _ _ h).1 (omega (arith, is)))
+      ap (λ (x : Terminal). cond (bytes_eq row.word word) row.terminal x) (none_has (n + 1) rows word (and_parts _ _ h).1 (omega (arith, is)))
   one_has n (row ∷ rows) word (suc i) d h is less = elim (bool_cases (bytes_eq row.word word)) [
     | inl e ↦ absurd (let k = its_number n row rows word h e in omega (arith, k, is))
-    | inr e ↦ rw e (one_has (n + 1) rows word i d (both_true _ _ h).1 (omega (arith, is)) (omega arith))
+    | inr e ↦ rw e (one_has (n + 1) rows word i d (and_parts _ _ h).1 (omega (arith, is)) (omega arith))
   ]
 
 all_lead : leads row_number 0 words_by_role ≡ true

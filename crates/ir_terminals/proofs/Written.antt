@@ -1,6 +1,6 @@
 -- The digits of a number.
 use Rattle.std.proofs.Common.{◌≡◌, ℕ, zero, suc, ◌<◌, ◌^◌, ◌==◌, ◌&&◌, ◌⊎◌, nat_le, Bool, true, false, List, [], ◌∷◌, length, drop, get_or, refl, arith, rules, inl, inr}
-use Rattle.std.proofs.lemmas.Bool.{ne_eqb}
+use Rattle.std.proofs.lemmas.Bool.{ne_eqb, and_parts}
 use Rattle.std.proofs.lemmas.Fmt.{digits_decimal, digits_value-decimal, decimal_nonempty, first_decimal, decimal_digit}
 use Rattle.std.proofs.lemmas.Str.Parse.{IsNumeralModel, IsDigitsTest, numerals_by_fold}
 use Rattle.std.specs.Fmt.{decimal as written}
@@ -47,19 +47,14 @@ number_written n h = record {
   short = short_number n (some_or_none n) h;
 }
 
-both_true : (a b : Bool) → (a && b) ≡ true → (a ≡ true) × (b ≡ true)
-both_true true true h = (refl, refl)
-both_true true false h = absurd cc
-both_true false b h = absurd cc
-
 pub digits_all : (s : List ℕ) → are_digits s ≡ true → all_digits s ≡ true
-digits_all s h = (both_true _ _ h).1
+digits_all s h = (and_parts _ _ h).1
 
 pub all_behind : (i : ℕ) (s : List ℕ) → all_digits s ≡ true → all_digits (drop i s) ≡ true
 all_behind zero [] h = refl
 all_behind zero (x ∷ s) h = h
 all_behind (suc i) [] h = refl
-all_behind (suc i) (x ∷ s) h = all_behind i s (both_true _ _ h).1
+all_behind (suc i) (x ∷ s) h = all_behind i s (and_parts _ _ h).1
 
 -- a number that is not zero has a digit
 pub some_digit : (i : ℕ) (s : List ℕ) → 0 < decimal (drop i s) → i < length s

@@ -5,6 +5,7 @@ use Rattle.std.specs.List.{cons_option}
 use Rattle.std.specs.Option.{option_map}
 use Rattle.std.proofs.lemmas.List.{map-append}
 use Rattle.std.proofs.lemmas.List.Elements.{filter_map-append}
+use Rattle.std.proofs.lemmas.Option.{slice_get-map}
 use Rattle.ir_constants.specs.Tree.{ConstantTree}
 use Rattle.ir_syntax.specs.Tree.{VariableTree, ItemTree, SourceFilename, DataLayout, TargetTriple, Struct, Variable, Alias, Declaration, Definition, Attributes, Metadata}
 use Rattle.type_table.specs.Types.{trees}
@@ -20,7 +21,7 @@ use Rattle.name_rules.specs.Written.{type_in, constant_in}
 use Rattle.type_build.specs.Declarations.{without_initialiser, without_target}
 use Rattle.item_build.specs.Declaring.{declared_variables, declared_aliases}
 use Rattle.item_build.specs.Completing.{targeted_in, initialised_in, with_targets, with_initialisers}
-use Rattle.item_build.proofs.Walked.{gives_one, gives_none, map_slice, get_between, changed_between}
+use Rattle.item_build.proofs.Walked.{gives_one, gives_none, get_between, changed_between}
 
 -- ---- names
 
@@ -125,7 +126,7 @@ unset a v w same = by v.initialiser (ap (λ (y : m.Variable). y.initialiser) sam
 
 listed : (a : Lists) (k : ℕ) (v : the_variable.Variable) → slice_get a.variables k ≡ Some v → slice_get (module_of a).variables k ≡ Some (variable_view (trees a.table) (constants_of a) v)
 unfolding module_of
-listed a k v is = map_slice (variable_view (trees a.table) (constants_of a)) a.variables k ∙ ap (option_map (variable_view (trees a.table) (constants_of a))) is
+listed a k v is = slice_get-map (variable_view (trees a.table) (constants_of a)) a.variables k ∙ ap (option_map (variable_view (trees a.table) (constants_of a))) is
 
 pub next_is_unset : (a : Lists) (start : Module) (first rest : List ItemTree) (x : ItemTree) (number : ℕ) (v : the_variable.Variable) → module_of a ≡ with_initialisers start first (x ∷ rest) → number ≡ length (filter_map variable_in first)
     → number + length (option_to_list (variable_in x)) ≡ number + 1 → slice_get a.variables number ≡ Some v → v.initialiser ≡ None

@@ -4,7 +4,7 @@ use Rattle.std.specs.Prelude.{Contains}
 use Rattle.std.specs.Option.{option_map}
 use Rattle.std.proofs.lemmas.List.{map-append}
 use Rattle.std.proofs.lemmas.List.Elements.{All-nil, All-cons}
-use Rattle.std.proofs.lemmas.Option.{get_or_from_slice_get}
+use Rattle.std.proofs.lemmas.Option.{get_or_from_slice_get, slice_get-map}
 use Rattle.ir_tables.specs.Table.{is_distinct}
 use Rattle.ir_syntax.specs.Tree.{ItemTree, SourceFilename, DataLayout, TargetTriple, Struct, Variable, Alias, Declaration, Definition, Attributes, Metadata}
 use Rattle.type_table.specs.declared.ir_type.StructBody.{StructBody}
@@ -21,7 +21,7 @@ use Rattle.type_build.proofs.Staying.{names_same}
 use Rattle.type_build.proofs.Declaring.{map_twice}
 use Rattle.buildable.specs.Entries.{CanDeclare}
 use Rattle.item_build.proofs.NamedItems.{distinct_front, contained}
-use Rattle.item_build.proofs.Walked.{gives_one, gives_none, parted, length_parted, map_slice, get_between}
+use Rattle.item_build.proofs.Walked.{gives_one, gives_none, parted, length_parted, get_between}
 use Rattle.item_build.specs.Named.{named_table, named_in, IsNewStruct, CanDefineItem, AreDone}
 use Rattle.item_build.specs.Partly.{names_of, body_at, IsPartly, AllFit}
 
@@ -107,7 +107,7 @@ module _ (a : Lists) (first rest items : List ItemTree) (number : ℕ) (at : num
         fit = fit;
         known = omega (arith, many, at);
         here = sym (get_or_from_slice_get (map (λ (z : List ℕ × TreeBody). z.1) (structs_in items)) number (body_in body) opaque_body
-            (map_slice (λ (z : List ℕ × TreeBody). z.1) (structs_in items) number ∙ ap (option_map (λ (z : List ℕ × TreeBody). z.1)) there));
+            (slice_get-map (λ (z : List ℕ × TreeBody). z.1) (structs_in items) number ∙ ap (option_map (λ (z : List ℕ × TreeBody). z.1)) there));
         fields = can;
       }
   can_item (Variable variable) split can = tt

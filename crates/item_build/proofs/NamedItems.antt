@@ -3,7 +3,7 @@ use Rattle.std.proofs.Common.{◌≡◌, ◌⊎◌, inl, inr, ℕ, zero, suc, �
 use Rattle.std.specs.Prelude.{filter_map}
 use Rattle.std.specs.List.{list_any, cons_option}
 use Rattle.std.specs.Option.{option_map}
-use Rattle.std.proofs.lemmas.Bool.{and_parts, or_parts, not-true}
+use Rattle.std.proofs.lemmas.Bool.{and_parts, or_parts, not-true, or_right, or_left, or_cases}
 use Rattle.std.proofs.lemmas.List.{map-append}
 use Rattle.std.proofs.lemmas.List.Folds.{list_any-append}
 use Rattle.std.proofs.lemmas.Slice.Eq.{bytes_eq-Decides}
@@ -44,18 +44,6 @@ or_swap true true c = refl
 or_swap true false c = refl
 or_swap false true c = refl
 or_swap false false c = refl
-
-or_second : (a b : Bool) → b ≡ true → (a || b) ≡ true
-or_second true b e = refl
-or_second false b e = e
-
-or_first : (a b : Bool) → a ≡ true → (a || b) ≡ true
-or_first true b e = refl
-or_first false b e = absurd cc
-
-either : (a b : Bool) → (a || b) ≡ true → (a ≡ true) ⊎ (b ≡ true)
-either true b e = inl refl
-either false b e = inr e
 
 -- one more somewhere behind these
 any_further : {A : Type 0} (p : A → Bool) (c : Bool) (front xs ys : List A) → list_any p ys ≡ (c || list_any p xs) → list_any p (front ++ ys) ≡ (c || list_any p (front ++ xs))
@@ -110,15 +98,15 @@ like_itself n = (bytes_eq-Decides n n).1 refl
 
 any_at : {A : Type 0} (f : A → Bytes) (n : Bytes) (xs : List A) (k : ℕ) → option_map f (slice_get xs k) ≡ Some n → list_any (bytes_eq n) (map f xs) ≡ true
 any_at f n [] k is = absurd cc
-any_at f n (x ∷ xs) zero is = or_first (bytes_eq n (f x)) (list_any (bytes_eq n) (map f xs)) ((bytes_eq-Decides n (f x)).1 (sym (some_equal is)))
+any_at f n (x ∷ xs) zero is = or_left (bytes_eq n (f x)) (list_any (bytes_eq n) (map f xs)) ((bytes_eq-Decides n (f x)).1 (sym (some_equal is)))
   where
     some_equal : {x y : Bytes} → Some x ≡ Some y → x ≡ y
     some_equal e = cc
-any_at f n (x ∷ xs) (suc k) is = or_second (bytes_eq n (f x)) (list_any (bytes_eq n) (map f xs)) (any_at f n xs k is)
+any_at f n (x ∷ xs) (suc k) is = or_right (bytes_eq n (f x)) (list_any (bytes_eq n) (map f xs)) (any_at f n xs k is)
 
 at_any : {A : Type 0} (f : A → Bytes) (n : Bytes) (xs : List A) → list_any (bytes_eq n) (map f xs) ≡ true → (k : ℕ) × (option_map f (slice_get xs k) ≡ Some n)
 at_any f n [] e = absurd cc
-at_any f n (x ∷ xs) e = by (λ h. at_any f n xs h) (either (bytes_eq n (f x)) (list_any (bytes_eq n) (map f xs)) e)
+at_any f n (x ∷ xs) e = by (λ h. at_any f n xs h) (or_cases (bytes_eq n (f x)) (list_any (bytes_eq n) (map f xs)) e)
   where
     by : (list_any (bytes_eq n) (map f xs) ≡ true → (k : ℕ) × (option_map f (slice_get xs k) ≡ Some n)) → (bytes_eq n (f x) ≡ true) ⊎ (list_any (bytes_eq n) (map f xs) ≡ true) → (k : ℕ) × (option_map f (slice_get (x ∷ xs) k) ≡ Some n)
     by more (inl here) = (0, ap Some (sym ((bytes_eq-Decides n (f x)).0 here)))
@@ -129,25 +117,25 @@ named_in : (a : Lists) (g : GlobalId) (n : Bytes) → lists.global_name a g ≡ 
 named_in a (global.Variable id) n is =
     let vs = map (λ (v : the_variable.Variable). v.name) a.variables in
     let rest = map (λ (x : the_alias.Alias). x.name) a.aliases ++ map (λ (f : the_function.Function). f.name) a.functions in
-    list_any-append (bytes_eq n) vs rest ∙ or_first (list_any (bytes_eq n) vs) (list_any (bytes_eq n) rest) (any_at (λ (v : the_variable.Variable). v.name) n a.variables id is)
+    list_any-append (bytes_eq n) vs rest ∙ or_left (list_any (bytes_eq n) vs) (list_any (bytes_eq n) rest) (any_at (λ (v : the_variable.Variable). v.name) n a.variables id is)
 named_in a (global.Alias id) n is =
     let vs = map (λ (v : the_variable.Variable). v.name) a.variables in
     let xs = map (λ (x : the_alias.Alias). x.name) a.aliases in
     let fs = map (λ (f : the_function.Function). f.name) a.functions in
     list_any-append (bytes_eq n) vs (xs ++ fs)
-    ∙ or_second (list_any (bytes_eq n) vs) (list_any (bytes_eq n) (xs ++ fs))
-    (list_any-append (bytes_eq n) xs fs ∙ or_first (list_any (bytes_eq n) xs) (list_any (bytes_eq n) fs) (any_at (λ (x : the_alias.Alias). x.name) n a.aliases id is))
+    ∙ or_right (list_any (bytes_eq n) vs) (list_any (bytes_eq n) (xs ++ fs))
+    (list_any-append (bytes_eq n) xs fs ∙ or_left (list_any (bytes_eq n) xs) (list_any (bytes_eq n) fs) (any_at (λ (x : the_alias.Alias). x.name) n a.aliases id is))
 named_in a (global.Function id) n is =
     let vs = map (λ (v : the_variable.Variable). v.name) a.variables in
     let xs = map (λ (x : the_alias.Alias). x.name) a.aliases in
     let fs = map (λ (f : the_function.Function). f.name) a.functions in
     list_any-append (bytes_eq n) vs (xs ++ fs)
-    ∙ or_second (list_any (bytes_eq n) vs) (list_any (bytes_eq n) (xs ++ fs))
-    (list_any-append (bytes_eq n) xs fs ∙ or_second (list_any (bytes_eq n) xs) (list_any (bytes_eq n) fs) (any_at (λ (f : the_function.Function). f.name) n a.functions id is))
+    ∙ or_right (list_any (bytes_eq n) vs) (list_any (bytes_eq n) (xs ++ fs))
+    (list_any-append (bytes_eq n) xs fs ∙ or_right (list_any (bytes_eq n) xs) (list_any (bytes_eq n) fs) (any_at (λ (f : the_function.Function). f.name) n a.functions id is))
 
 -- a name of the module is that of an entry
 entry_of : (a : Lists) (n : Bytes) → list_any (bytes_eq n) (names_of a) ≡ true → HasEntry (entries a) n
-entry_of a n e = by (either (list_any (bytes_eq n) vs) (list_any (bytes_eq n) (xs ++ fs)) (sym (list_any-append (bytes_eq n) vs (xs ++ fs)) ∙ e))
+entry_of a n e = by (or_cases (list_any (bytes_eq n) vs) (list_any (bytes_eq n) (xs ++ fs)) (sym (list_any-append (bytes_eq n) vs (xs ++ fs)) ∙ e))
   where
     vs : List Bytes
     vs = map (λ (v : the_variable.Variable). v.name) a.variables
@@ -164,12 +152,12 @@ entry_of a n e = by (either (list_any (bytes_eq n) vs) (list_any (bytes_eq n) (x
 
     by : (list_any (bytes_eq n) vs ≡ true) ⊎ (list_any (bytes_eq n) (xs ++ fs) ≡ true) → HasEntry (entries a) n
     by (inl h) = let at = at_any (λ (v : the_variable.Variable). v.name) n a.variables h in (global.Variable at.0, at.1)
-    by (inr h) = rest (either (list_any (bytes_eq n) xs) (list_any (bytes_eq n) fs) (sym (list_any-append (bytes_eq n) xs fs) ∙ h))
+    by (inr h) = rest (or_cases (list_any (bytes_eq n) xs) (list_any (bytes_eq n) fs) (sym (list_any-append (bytes_eq n) xs fs) ∙ h))
 
 pub contained : (n : Bytes) (xs : List Bytes) (k : ℕ) → k < length xs → get_or xs k n ≡ n → list_any (bytes_eq n) xs ≡ true
 contained n [] k lt is = absurd (omega arith)
-contained n (x ∷ xs) zero lt is = or_first (bytes_eq n x) (list_any (bytes_eq n) xs) ((bytes_eq-Decides n x).1 (sym is))
-contained n (x ∷ xs) (suc k) lt is = or_second (bytes_eq n x) (list_any (bytes_eq n) xs) (contained n xs k (omega (arith, lt)) is)
+contained n (x ∷ xs) zero lt is = or_left (bytes_eq n x) (list_any (bytes_eq n) xs) ((bytes_eq-Decides n x).1 (sym is))
+contained n (x ∷ xs) (suc k) lt is = or_right (bytes_eq n x) (list_any (bytes_eq n) xs) (contained n xs k (omega (arith, lt)) is)
 
 -- each name of the items is that of an entry
 pub entries_there : (a : Lists) (items : List ItemTree) → AreNamed (module_of a) items → HasEntries (entries a) (global_names items)

@@ -4,7 +4,7 @@ use Rattle.std.specs.Prelude.{Contains}
 use Rattle.std.specs.Option.{option_map, option_copied}
 use Rattle.std.proofs.lemmas.List.{length-map}
 use Rattle.std.proofs.lemmas.List.Elements.{All-append, All-map, All-weaker, All-get_or}
-use Rattle.std.proofs.lemmas.Option.{get_or_from_slice_get}
+use Rattle.std.proofs.lemmas.Option.{get_or_from_slice_get, slice_get-map}
 use Rattle.ir_syntax.specs.Tree.{BodyTree, OpaqueBody, PlainBody, PackedBody}
 use Rattle.ir_constants.specs.Tree.{TypeTree}
 use Rattle.type_table.specs.declared.fault.TypeFault.{TypeFault}
@@ -30,11 +30,6 @@ use Rattle.item_build.specs.Partly.{AreLess, names_of, body_at, IsPartly, AllFit
 use Rattle.item_build.proofs.Lessened.{within_less}
 use Rattle.item_build.proofs.Ended.{ended}
 
-map_slice : {X Y : Type 0} (f : X → Y) (xs : List X) (k : ℕ) → slice_get (map f xs) k ≡ option_map f (slice_get xs k)
-map_slice f [] k = refl
-map_slice f (x ∷ xs) zero = refl
-map_slice f (x ∷ xs) (suc k) = map_slice f xs k
-
 bodies_listed : (ts : List Tree) (xs : List (List ℕ × Option StructBody)) → map (λ (s : List ℕ × TreeBody). s.1) (map (tree_struct ts) xs) ≡ map (tree_body ts) (map (λ (s : List ℕ × Option StructBody). s.1) xs)
 bodies_listed ts [] = refl
 bodies_listed ts (x ∷ xs) = ap (λ ys. tree_body ts x.1 ∷ ys) (bodies_listed ts xs)
@@ -43,7 +38,7 @@ bodies_listed ts (x ∷ xs) = ap (λ ys. tree_body ts x.1 ∷ ys) (bodies_listed
 pub body_is : (t : Types) (k : ℕ) (body : Option StructBody) → slice_get (bodies t) k ≡ Some body → body_at (structs t) k ≡ tree_body (trees t) body
 body_is t k body is =
     ap (λ bs. get_or bs k opaque_body) (bodies_listed (trees t) t.structs)
-    ∙ get_or_from_slice_get (map (tree_body (trees t)) (bodies t)) k (tree_body (trees t) body) opaque_body (map_slice (tree_body (trees t)) (bodies t) k ∙ ap (option_map (tree_body (trees t))) is)
+    ∙ get_or_from_slice_get (map (tree_body (trees t)) (bodies t)) k (tree_body (trees t) body) opaque_body (slice_get-map (tree_body (trees t)) (bodies t) k ∙ ap (option_map (tree_body (trees t))) is)
 
 body_past : (t : Types) (k : ℕ) → slice_get (bodies t) k ≡ None → body_at (structs t) k ≡ opaque_body
 body_past t k none = ap (λ bs. get_or bs k opaque_body) (bodies_listed (trees t) t.structs) ∙ by (bodies t) k none

@@ -1,8 +1,8 @@
 -- A list as far as it is walked, what one more item gives, and a change in the middle.
-use Rattle.std.proofs.Common.{◌≡◌, ℕ, zero, suc, ◌+◌, ◌<◌, List, [], ◌∷◌, ◌++◌, map, length, get_or, take, drop, set, slice_get, Option, Some, None, All, refl, sym, ap, ◌∙◌, arith}
+use Rattle.std.proofs.Common.{◌≡◌, ℕ, ◌+◌, ◌<◌, List, [], ◌∷◌, ◌++◌, map, length, get_or, take, drop, set, slice_get, Option, Some, None, All, refl, sym, ap, ◌∙◌, arith}
 use Rattle.std.specs.Prelude.{filter_map, option_to_list}
 use Rattle.std.specs.List.{cons_option}
-use Rattle.std.specs.Option.{option_map, option_map_or}
+use Rattle.std.specs.Option.{option_map_or}
 use Rattle.std.proofs.lemmas.List.{map-append, map_more, take-append-drop, drop_more, append-nil, length-map, length-append}
 use Rattle.std.proofs.lemmas.List.Elements.{filter_map-append}
 use Rattle.std.proofs.lemmas.Option.{get_or_from_slice_get, slice_get_within}
@@ -45,11 +45,6 @@ module _ {X Y : Type 0} (h : X → Option Y) where
 
   pub length_mixed : (f : Y → Y) (xs : List X) (x : X) (ys : List X) → length (filter_map h xs ++ map f (filter_map h (x ∷ ys))) ≡ length (filter_map h xs) + (length (option_to_list (h x)) + length (filter_map h ys))
   length_mixed f xs x ys = length-append (filter_map h xs) (map f (filter_map h (x ∷ ys))) ∙ ap (λ n. length (filter_map h xs) + n) (length-map (filter_map h (x ∷ ys)) f ∙ length_cons (h x) (filter_map h ys))
-
-pub map_slice : {X Y : Type 0} (f : X → Y) (xs : List X) (k : ℕ) → slice_get (map f xs) k ≡ option_map f (slice_get xs k)
-map_slice f [] k = refl
-map_slice f (x ∷ xs) zero = refl
-map_slice f (x ∷ xs) (suc k) = map_slice f xs k
 
 -- ---- an item between others
 

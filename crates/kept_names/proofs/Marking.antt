@@ -1,12 +1,12 @@
 -- Constants that are marked one after another.
 use Rattle.std.proofs.Common.{◌≡◌, ℕ, zero, suc, ◌+◌, ◌≤◌, Bool, true, false, ◌||◌, List, [], ◌∷◌, ◌++◌, flat_map, length, take, Some, refl, sym, ap, ◌∙◌, subst, bytes_eq, slice_get, arith, if◌then◌else◌}
 use Rattle.std.specs.Prelude.{slice_set}
+use Rattle.std.proofs.lemmas.List.Folds.{list_any-append}
 use Rattle.module_arena.specs.Module.{Bytes, Constant}
 use Rattle.module_arena.specs.UsedNames.{names_in_constant}
 use Rattle.kept_names.specs.Marks.{Marks, MarksAll, marked_names, in_const}
 use Rattle.extract_core.specs.Selected.{is_among}
 use Rattle.extract_core.proofs.Adding.{gathered_more, take_whole}
-use Rattle.extract_core.proofs.Among.{any_append}
 
 or_nothing : (b : Bool) → b ≡ (b || false)
 or_nothing true = refl
@@ -20,7 +20,7 @@ marks_both : (cs : List Constant) (old mid new : List Bool) (xs ys : List Bytes)
 marks_both cs old mid new xs ys a b = record {
   sized = b.sized ∙ a.sized;
   among = λ name. b.among name ∙ ap (λ c. c || is_among ys name) (a.among name) ∙ or_regroup (is_among (marked_names cs old) name) (is_among xs name) (is_among ys name)
-      ∙ ap (λ c. is_among (marked_names cs old) name || c) (sym (any_append (bytes_eq name) xs ys));
+      ∙ ap (λ c. is_among (marked_names cs old) name || c) (sym (list_any-append (bytes_eq name) xs ys));
 }
 
 pub none_marked : (old : List Bool) → MarksAll old (λ cs. []) old
@@ -55,7 +55,7 @@ set_size (x ∷ bs) (suc id) b = ap suc (set_size bs id b)
 set_among : (cs : List Constant) (bs : List Bool) (id : ℕ) → length cs ≤ length bs → (name : Bytes) → is_among (marked_names cs (slice_set bs id true)) name ≡ (is_among (marked_names cs bs) name || is_among (in_const cs id) name)
 set_among [] bs id le name = refl
 set_among (c ∷ cs) [] id le name = absurd (omega (arith, le))
-set_among (c ∷ cs) (b ∷ bs) zero le name = any_append (bytes_eq name) (names_in_constant c) (marked_names cs bs) ∙ go b ∙ ap (λ x. x || is_among (names_in_constant c) name) (sym (any_append (bytes_eq name) (if b then names_in_constant c else []) (marked_names cs bs)))
+set_among (c ∷ cs) (b ∷ bs) zero le name = list_any-append (bytes_eq name) (names_in_constant c) (marked_names cs bs) ∙ go b ∙ ap (λ x. x || is_among (names_in_constant c) name) (sym (list_any-append (bytes_eq name) (if b then names_in_constant c else []) (marked_names cs bs)))
   where
     turn : (x y : Bool) → (x || y) ≡ ((x || y) || x)
     turn true y = refl
@@ -72,10 +72,10 @@ set_among (c ∷ cs) (b ∷ bs) zero le name = any_append (bytes_eq name) (names
     go true = turn (is_among (names_in_constant c) name) (is_among (marked_names cs bs) name)
     go false = swap (is_among (names_in_constant c) name) (is_among (marked_names cs bs) name)
 set_among (c ∷ cs) (b ∷ bs) (suc id) le name =
-    any_append (bytes_eq name) (if b then names_in_constant c else []) (marked_names cs (slice_set bs id true))
+    list_any-append (bytes_eq name) (if b then names_in_constant c else []) (marked_names cs (slice_set bs id true))
     ∙ ap (λ x. is_among (if b then names_in_constant c else []) name || x) (set_among cs bs id (omega (arith, le)) name)
     ∙ sym (or_regroup (is_among (if b then names_in_constant c else []) name) (is_among (marked_names cs bs) name) (is_among (in_const cs id) name))
-    ∙ ap (λ x. x || is_among (in_const cs id) name) (sym (any_append (bytes_eq name) (if b then names_in_constant c else []) (marked_names cs bs)))
+    ∙ ap (λ x. x || is_among (in_const cs id) name) (sym (list_any-append (bytes_eq name) (if b then names_in_constant c else []) (marked_names cs bs)))
 
 pub one_marked : (old : List Bool) (id : ℕ) → MarksAll old (λ cs. in_const cs id) (slice_set old id true)
 one_marked old id cs le = record { sized = set_size old id true; among = λ name. set_among cs old id le name }

@@ -1,8 +1,9 @@
 -- The names in kept definitions are those in the constants that are marked for them.
-use Rattle.std.proofs.Common.{◌≡◌, ℕ, zero, suc, ◌+◌, Bool, true, false, ◌||◌, List, [], ◌∷◌, ◌++◌, flat_map, filter, map, length, take, Option, Some, None, Result, Ok, Err, refl, sym, ap, ap₂, ◌∙◌, subst, cond, slice_get, arith, append-nil, append_assoc, if◌then◌else◌}
+use Rattle.std.proofs.Common.{◌≡◌, ℕ, zero, suc, ◌+◌, Bool, true, false, ◌||◌, List, [], ◌∷◌, ◌++◌, flat_map, filter, map, length, take, Option, Some, None, Result, Ok, Err, refl, sym, ap, ap₂, ◌∙◌, subst, cond, slice_get, arith, append-nil, if◌then◌else◌}
 use Rattle.std.specs.Prelude.{OnOk}
 use Rattle.std.specs.Option.{option_map, option_map_or}
 use Rattle.std.proofs.lemmas.Option.{same_Some}
+use Rattle.std.proofs.lemmas.List.Concat.{flat_map-append}
 use Rattle.type_table.specs.Tree.{Tree}
 use Rattle.type_table.specs.Types.{trees}
 use Rattle.module_arena.specs.declared.constant.Const as the_const
@@ -90,14 +91,10 @@ picked_more {A = A} bs xs k b x hb hx = let e : k + 1 ≡ suc k = omega arith in
         by true e = ap (λ l. y ∷ l) e
         by false e = e
 
-flat_map_append : {A B : Type 0} (g : A → List B) (xs ys : List A) → flat_map g (xs ++ ys) ≡ flat_map g xs ++ flat_map g ys
-flat_map_append g [] ys = refl
-flat_map_append g (x ∷ xs) ys = ap (λ l. g x ++ l) (flat_map_append g xs ys) ∙ sym (append_assoc (g x) (flat_map g xs) (flat_map g ys))
-
 pub picked_marked : {A : Type 0} (f : List Constant → A → List Bytes) (bs : List Bool) (xs : List A) (k : ℕ) (b : Bool) (x : A) (old mid new : List Bool) → slice_get bs k ≡ Some b → slice_get xs k ≡ Some x
     → MarksAll old (λ cs. flat_map (f cs) (picked (take k bs) (take k xs))) mid → MarksAll mid (λ cs. (if b then f cs x else [])) new → MarksAll old (λ cs. flat_map (f cs) (picked (take (k + 1) bs) (take (k + 1) xs))) new
 picked_marked f bs xs k b x old mid new hb hx so_far one cs le =
-    subst (λ (zs : List Bytes). Marks cs old zs new) (sym (ap (flat_map (f cs)) (picked_more bs xs k b x hb hx) ∙ flat_map_append (f cs) (picked (take k bs) (take k xs)) (if b then x ∷ [] else []) ∙ ap (λ l. flat_map (f cs) (picked (take k bs) (take k xs)) ++ l) (by b)))
+    subst (λ (zs : List Bytes). Marks cs old zs new) (sym (ap (flat_map (f cs)) (picked_more bs xs k b x hb hx) ∙ flat_map-append (f cs) (picked (take k bs) (take k xs)) (if b then x ∷ [] else []) ∙ ap (λ l. flat_map (f cs) (picked (take k bs) (take k xs)) ++ l) (by b)))
     (both_marked old mid new (λ ds. flat_map (f ds) (picked (take k bs) (take k xs))) (λ ds. (if b then f ds x else [])) so_far one cs le)
   where
     by : (d : Bool) → flat_map (f cs) (if d then x ∷ [] else []) ≡ (if d then f cs x else [])

@@ -4,6 +4,7 @@ use Rattle.std.specs.Prelude.{slice_index_or}
 use Rattle.std.specs.List.{AllByRecursion}
 use Rattle.std.proofs.lemmas.List.Elements.{recursion_from_All}
 use Rattle.std.proofs.lemmas.Option.{slice_get-get_or}
+use Rattle.std.proofs.lemmas.List.Folds.{list_any-append}
 use Rattle.type_table.specs.Tree.{Tree}
 use Rattle.type_table.specs.Types.{trees}
 use Rattle.module_arena.specs.declared.constant.Const as the_const
@@ -21,7 +22,6 @@ use Rattle.module_arena.proofs.ModuleOf.{length-constants_of}
 use Rattle.extract_core.specs.Calls.{Adds}
 use Rattle.kept_names.specs.Marks.{IsAmongEach, Marks, MarksAll, in_const, in_parts, marked_names, own_names}
 use Rattle.extract_core.specs.Selected.{is_among}
-use Rattle.extract_core.proofs.Among.{any_append}
 
 -- ---- the names in a constant
 
@@ -84,16 +84,16 @@ marked_split : (cs : List Constant) (marks : List Bool) (k : ℕ) → k < length
     → is_among (marked_names (take (suc k) cs) marks) name ≡ (is_among (marked_names (take k cs) marks) name || is_among (if slice_index_or marks k false then in_const cs k else []) name)
 marked_split [] marks k lt le name = absurd (omega (arith, lt))
 marked_split (c ∷ cs) [] k lt le name = absurd (omega (arith, le))
-marked_split (c ∷ cs) (b ∷ bs) zero lt le name = any_append (bytes_eq name) (if b then names_in_constant c else []) (marked_names (take 0 cs) bs) ∙ ap (λ l. is_among (if b then names_in_constant c else []) name || is_among l name) (none cs bs) ∙ sym (or_nothing (is_among (if b then names_in_constant c else []) name))
+marked_split (c ∷ cs) (b ∷ bs) zero lt le name = list_any-append (bytes_eq name) (if b then names_in_constant c else []) (marked_names (take 0 cs) bs) ∙ ap (λ l. is_among (if b then names_in_constant c else []) name || is_among l name) (none cs bs) ∙ sym (or_nothing (is_among (if b then names_in_constant c else []) name))
   where
     none : (ds : List Constant) (ms : List Bool) → marked_names (take 0 ds) ms ≡ []
     none [] ms = refl
     none (d ∷ ds) ms = refl
 marked_split (c ∷ cs) (b ∷ bs) (suc k) lt le name =
-    any_append (bytes_eq name) here (marked_names (take (suc k) cs) bs)
+    list_any-append (bytes_eq name) here (marked_names (take (suc k) cs) bs)
     ∙ ap (λ x. is_among here name || x) (marked_split cs bs k (omega (arith, lt)) (omega (arith, le)) name)
     ∙ regroup (is_among here name) (is_among (marked_names (take k cs) bs) name) (is_among (if slice_index_or bs k false then in_const cs k else []) name)
-    ∙ ap (λ x. x || is_among (if slice_index_or bs k false then in_const cs k else []) name) (sym (any_append (bytes_eq name) here (marked_names (take k cs) bs)))
+    ∙ ap (λ x. x || is_among (if slice_index_or bs k false then in_const cs k else []) name) (sym (list_any-append (bytes_eq name) here (marked_names (take k cs) bs)))
   where
     here : List Bytes
     here = if b then names_in_constant c else []
@@ -178,7 +178,7 @@ module _ (a : Lists) (good : IsGood a) (start : List Bytes) (first : List Bool) 
       joined name true e =
           ap (λ l. (is_among names name || is_among (own_names a constant) name) || (is_among (marked_names (take k (constants_of a)) marks) name || is_among l name)) parts
           ∙ shuffle (is_among names name) (is_among (own_names a constant) name) (is_among (marked_names (take k (constants_of a)) marks) name) (is_among (in_parts (constants_of a) constant) name)
-          ∙ ap (λ x. is_among names name || (is_among (marked_names (take k (constants_of a)) marks) name || x)) (sym (any_append (bytes_eq name) (own_names a constant) (in_parts (constants_of a) constant)) ∙ ap (λ l. is_among l name) (sym whole))
+          ∙ ap (λ x. is_among names name || (is_among (marked_names (take k (constants_of a)) marks) name || x)) (sym (list_any-append (bytes_eq name) (own_names a constant) (in_parts (constants_of a) constant)) ∙ ap (λ l. is_among l name) (sym whole))
         where
           shuffle : (n o m p : Bool) → ((n || o) || (m || p)) ≡ (n || (m || (o || p)))
           shuffle true o m p = refl

@@ -3,7 +3,7 @@ use Rattle.std.proofs.Common.{◌≡◌, ◌⊎◌, inl, inr, ℕ, zero, suc, �
 use Rattle.std.specs.List.{AllByRecursion, IsDistinct, fold, list_any}
 use Rattle.std.proofs.lemmas.Bool.{both_ways}
 use Rattle.std.proofs.lemmas.List.Elements.{All-from_recursion, recursion_from_All}
-use Rattle.std.proofs.lemmas.Option.{same_Some}
+use Rattle.std.proofs.lemmas.Option.{same_Some, slice_get_within}
 use Rattle.type_table.specs.Shape.{Label, Shape, void_leaf, array_of, struct_of, more_shapes}
 use Rattle.type_table.specs.declared.ir_type.IrType.{IrType}
 use Rattle.type_table.specs.declared.ir_type.IrType.TheVariants.{Int, Ptr, Void, Array, Struct, Named}
@@ -90,11 +90,6 @@ split_at (z ∷ xs) x y (suc n) h = later (split_at xs x y n h)
     later (inl e) = inl e
     later (inr e) = inr (ap suc e.0, e.1)
 
-within : {A : Type 0} (xs : List A) (n : ℕ) (x : A) → slice_get xs n ≡ Some x → n < length xs
-within [] n x h = cc
-within (y ∷ xs) zero x h = omega arith
-within (y ∷ xs) (suc n) x h = let r = within xs n x h in omega (arith, r)
-
 found_at : {A : Type 0} (xs : List A) (n : ℕ) → n < length xs → (x : A) × (slice_get xs n ≡ Some x)
 found_at [] n lt = absurd (omega (arith, lt))
 found_at (x ∷ xs) zero lt = (x, refl)
@@ -119,7 +114,7 @@ distinct_front (x ∷ before) keys key (suc n) b d h = distinct_front before key
 module _ (before : List Labelled) (done : List Shape) (are : AreOf before done) (key : Labelled) (known : IsKnownShape (length done) key) (new : (n : ℕ) (b : Labelled) → slice_get before n ≡ Some b → same_labelled b key ≡ false) where
   not_there : (n : ℕ) → slice_get done n ≡ Some (shape_in done key) → ⊥
   not_there n h =
-      let far : n < length before = omega (arith, are.many, within done n (shape_in done key) h) in
+      let far : n < length before = omega (arith, are.many, slice_get_within done n (shape_in done key) h) in
       let b = found_at before n far in
       let own = are.each n b.0 b.1 in
       let shapes : shape_in done b.0 ≡ shape_in done key = same_Some (shape_in done b.0) (shape_in done key) (sym own.1 ∙ h) in

@@ -1,5 +1,6 @@
 -- The places of what tokens stand for are those of the tokens.
 use Rattle.std.proofs.Common.{◌≡◌, ℕ, ◌==◌, List, [], ◌∷◌, Bool, true, false, cond, if◌then◌else◌, Option, Some, None, option_map, refl, subst, drop}
+use Rattle.std.proofs.lemmas.Option.{same_Some}
 use Rattle.ir_base.specs.declared.place.Place.{Place}
 use Rattle.ir_lexer.specs.Ahead.{Located}
 use Rattle.ir_lexer.specs.Names.{bare_name, is_number, name_in}
@@ -12,9 +13,6 @@ use Rattle.ir_terminals.specs.declared.values.Local.{Local}
 use Rattle.ir_terminals.specs.declared.values.Local.TheVariants as locals
 use Rattle.ir_terminals.specs.declared.values.PlacedName.{PlacedName}
 use Rattle.name_rules.specs.Demand.{place_of_local}
-
-some_once : {A : Type 0} (a b : A) → Some a ≡ Some b → a ≡ b
-some_once a b e = cc
 
 abbrev place_in : Integer → Place
 place_in i = i.place
@@ -32,7 +30,7 @@ pub integer_place : (t : Located) (i : Integer) → integer_of t ≡ Some i → 
 integer_place t i e = by t.token.kind e
   where
     by : (k : TokenKind) → if_integer k t ≡ Some i → i.place ≡ t.place
-    by kind.Integer e = subst (λ (x : Integer). x.place ≡ t.place) (some_once (integer_at t.place t.token.spelling) i e) (integer_there t.place t.token.spelling)
+    by kind.Integer e = subst (λ (x : Integer). x.place ≡ t.place) (same_Some (integer_at t.place t.token.spelling) i e) (integer_there t.place t.token.spelling)
     by _ e = absurd cc
 
 name_place : (t : Located) (n : PlacedName) → name_at t ≡ Some n → n.place ≡ t.place
@@ -40,7 +38,7 @@ name_place t n e = by (name_in t.token) e
   where
     by : (o : Option (List ℕ)) → option_map (placed_name t.place) o ≡ Some n → n.place ≡ t.place
     by None e = absurd cc
-    by (Some bytes) e = subst (λ (x : PlacedName). x.place ≡ t.place) (some_once (placed_name t.place bytes) n e) refl
+    by (Some bytes) e = subst (λ (x : PlacedName). x.place ≡ t.place) (same_Some (placed_name t.place bytes) n e) refl
 
 -- the name of a global
 pub global_place : (t : Located) (n : PlacedName) → name_of_global t ≡ Some n → n.place ≡ t.place
@@ -55,7 +53,7 @@ pub struct_place : (with_left_out : Bool) (t : Located) (n : PlacedName) → nam
 struct_place with_left_out t n e = by t.token.kind e
   where
     unnamed : (w : Bool) → cond w (Some (placed_name t.place (drop 1 t.token.spelling))) None ≡ Some n → n.place ≡ t.place
-    unnamed true e = subst (λ (x : PlacedName). x.place ≡ t.place) (some_once (placed_name t.place (drop 1 t.token.spelling)) n e) refl
+    unnamed true e = subst (λ (x : PlacedName). x.place ≡ t.place) (same_Some (placed_name t.place (drop 1 t.token.spelling)) n e) refl
     unnamed false e = absurd cc
 
     by : (k : TokenKind) → if_named with_left_out k t ≡ Some n → n.place ≡ t.place
@@ -68,7 +66,7 @@ named_place t l e = by (name_at t) refl e
   where
     by : (o : Option PlacedName) → name_at t ≡ o → option_map locals.Named o ≡ Some l → place_of_local l ≡ t.place
     by None q e = absurd cc
-    by (Some n) q e = subst (λ x. place_of_local x ≡ t.place) (some_once (locals.Named n) l e) (name_place t n q)
+    by (Some n) q e = subst (λ x. place_of_local x ≡ t.place) (same_Some (locals.Named n) l e) (name_place t n q)
 
 -- a local
 pub local_place : (t : Located) (l : Local) → local_of t ≡ Some l → place_of_local l ≡ t.place
@@ -76,7 +74,7 @@ local_place t l e = by t.token.kind e
   where
     by : (k : TokenKind) → if_local k t ≡ Some l → place_of_local l ≡ t.place
     by kind.LocalName e = named_place t l e
-    by kind.UnnamedLocal e = subst (λ x. place_of_local x ≡ t.place) (some_once (numbered_at t) l e) refl
+    by kind.UnnamedLocal e = subst (λ x. place_of_local x ≡ t.place) (same_Some (numbered_at t) l e) refl
     by _ e = absurd cc
 
 -- a label
@@ -87,7 +85,7 @@ label_place t l e = by t.token.kind e
     number = locals.Numbered (decimal (bare_name kind.Label t.token.spelling)) t.place
 
     tested : (b : Bool) → cond b (Some number) (named_at t) ≡ Some l → place_of_local l ≡ t.place
-    tested true e = subst (λ x. place_of_local x ≡ t.place) (some_once number l e) refl
+    tested true e = subst (λ x. place_of_local x ≡ t.place) (same_Some number l e) refl
     tested false e = named_place t l e
 
     by : (k : TokenKind) → if_label k t ≡ Some l → place_of_local l ≡ t.place

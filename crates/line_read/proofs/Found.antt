@@ -1,6 +1,7 @@
 -- Instructions on numbers and on parts of values, from what their parts are found to be.
 use Rattle.std.proofs.Common.{◌≡◌, ℕ, List, [], ◌∷◌, Option, Some, None, refl, sym, ap, subst, ◌∙◌}
 use Rattle.std.specs.Option.{option_map}
+use Rattle.std.proofs.lemmas.List.Elements.{All-nil, All-cons}
 use Rattle.ir_tables.specs.declared.opcode.Opcode.{Opcode}
 use Rattle.ir_tables.specs.declared.opcode.Opcode.TheVariants as op
 use Rattle.ir_tables.specs.declared.predicate.Predicate.{Predicate}
@@ -33,7 +34,7 @@ use Rattle.operand_read.proofs.Leaves.{type_found, type_is}
 use Rattle.line_read.specs.Kept.{GivesInst, HasInst, HasIncoming, HasIndices, HaveIncoming, all_incoming_in, incoming_in, indices_in, kept_binary, kept_choice, kept_comparison, kept_conversion, kept_extraction, kept_incoming, kept_insertion, kept_phi, operation_in}
 use Rattle.line_read.specs.Operations.{computation, conversion, operation}
 use Rattle.line_read.proofs.Fields.{plain_in}
-use Rattle.line_read.proofs.Lists.{map_all, map_same, more_all, none_all, one_all}
+use Rattle.line_read.proofs.Lists.{map_all, map_same, one_all}
 
 -- what is made twice over
 pub mapped_two : {A B C : Type 0} (f : B → C) (g : A → B) (x : Option A) → option_map f (option_map g x) ≡ option_map (λ y. f (g y)) x
@@ -60,8 +61,8 @@ pair_known : (l : LocalCounts) (a : Lists) (defined : ℕ) (o : Opcode) (f : ℕ
 pair_known l a defined o f x v h i = record {
   operands_known = one_all (HasOperand l a) x h;
   values_known = one_all (HasValue l a) v i;
-  types_known = λ k d lt. none_all (HasType l a) k d lt;
-  blocks_known = λ k d lt. none_all (HasBlock l a) k d lt;
+  types_known = λ k d lt. All-nil (HasType l a) k d lt;
+  blocks_known = λ k d lt. All-nil (HasBlock l a) k d lt;
 }
 
 pub computation_found : (o : Opcode) (defined : ℕ) (a b c : ModuleReader) (bits : ℕ) (l : Option Operand) (r : Option Value) → Finds HasAny plain_in (λ k. (flags o).read) a b (Some bits) → Finds (HasBoth HasOperand HasValue) (both_in operand_in value_in) pair_read b c (both l r)
@@ -79,8 +80,8 @@ comparison_found defined a b c d bits p l r h i j =
       record {
         operands_known = one_all (HasOperand n q) y.1.1.0 has.1.1.0;
         values_known = one_all (HasValue n q) y.1.1.1 has.1.1.1;
-        types_known = none_all (HasType n q);
-        blocks_known = none_all (HasBlock n q);
+        types_known = All-nil (HasType n q);
+        blocks_known = All-nil (HasBlock n q);
       },
       refl,
     ))
@@ -93,9 +94,9 @@ conversion_found o defined a b c d bits x to h i j =
     (λ n q y has. (
       record {
         operands_known = one_all (HasOperand n q) y.1.0 has.1.0;
-        values_known = none_all (HasValue n q);
+        values_known = All-nil (HasValue n q);
         types_known = one_all (HasType n q) y.1.1 has.1.1;
-        blocks_known = none_all (HasBlock n q);
+        blocks_known = All-nil (HasBlock n q);
       },
       refl,
     ))
@@ -115,10 +116,10 @@ select_found defined bit a b c d e t x l r takes reads is h i j =
     (put_so (GivesInst defined) operation_in (λ y. inst.Select defined (kept_choice y)) (λ (x, (y, z)). m.Select x y z) a e (both x (both l r))
     (λ n q y has. (
       record {
-        operands_known = more_all (HasOperand n q) y.0 (y.1.0 ∷ y.1.1 ∷ []) has.0 (more_all (HasOperand n q) y.1.0 (y.1.1 ∷ []) has.1.0 (one_all (HasOperand n q) y.1.1 has.1.1));
-        values_known = none_all (HasValue n q);
-        types_known = none_all (HasType n q);
-        blocks_known = none_all (HasBlock n q);
+        operands_known = All-cons (HasOperand n q) y.0 (y.1.0 ∷ y.1.1 ∷ []) has.0 (All-cons (HasOperand n q) y.1.0 (y.1.1 ∷ []) has.1.0 (one_all (HasOperand n q) y.1.1 has.1.1));
+        values_known = All-nil (HasValue n q);
+        types_known = All-nil (HasType n q);
+        blocks_known = All-nil (HasBlock n q);
       },
       refl,
     ))
@@ -140,9 +141,9 @@ freeze_found defined a b x h =
     (λ n q y has. (
       record {
         operands_known = one_all (HasOperand n q) y has;
-        values_known = none_all (HasValue n q);
-        types_known = none_all (HasType n q);
-        blocks_known = none_all (HasBlock n q);
+        values_known = All-nil (HasValue n q);
+        types_known = All-nil (HasType n q);
+        blocks_known = All-nil (HasBlock n q);
       },
       refl,
     ))
@@ -164,7 +165,7 @@ phi_found defined a b c t is takes known reads h =
     put_so (GivesInst defined) operation_in (kept_phi defined) (λ (t, all). m.Phi t all) a c (both t is)
     (λ n q y has. (
       record {
-        operands_known = none_all (HasOperand n q);
+        operands_known = All-nil (HasOperand n q);
         values_known = map_all (HasValue n q) (λ (i : Incoming). HasValue n q i.value × HasBlock n q i.block) (λ (i : Incoming). i.value) y.1 (λ i g. g.0) has.1;
         types_known = one_all (HasType n q) y.0 has.0;
         blocks_known = map_all (HasBlock n q) (λ (i : Incoming). HasValue n q i.value × HasBlock n q i.block) (λ (i : Incoming). i.block) y.1 (λ i g. g.1) has.1;
@@ -183,9 +184,9 @@ extraction_found defined a b c x is h i =
     (λ n q y has. (
       record {
         operands_known = one_all (HasOperand n q) y.0 has.0;
-        values_known = none_all (HasValue n q);
-        types_known = none_all (HasType n q);
-        blocks_known = none_all (HasBlock n q);
+        values_known = All-nil (HasValue n q);
+        types_known = All-nil (HasType n q);
+        blocks_known = All-nil (HasBlock n q);
       },
       refl,
     ))
@@ -199,10 +200,10 @@ insertion_found defined a b c d x p is h i j =
     (put_so (GivesInst defined) operation_in (λ y. inst.InsertValue defined (kept_insertion y)) (λ (x, (p, all)). m.InsertValue x p all) a d (both x (both p is))
     (λ n q y has. (
       record {
-        operands_known = more_all (HasOperand n q) y.0 (y.1.0 ∷ []) has.0 (one_all (HasOperand n q) y.1.0 has.1.0);
-        values_known = none_all (HasValue n q);
-        types_known = none_all (HasType n q);
-        blocks_known = none_all (HasBlock n q);
+        operands_known = All-cons (HasOperand n q) y.0 (y.1.0 ∷ []) has.0 (one_all (HasOperand n q) y.1.0 has.1.0);
+        values_known = All-nil (HasValue n q);
+        types_known = All-nil (HasType n q);
+        blocks_known = All-nil (HasBlock n q);
       },
       refl,
     ))

@@ -2,6 +2,7 @@
 use Rattle.std.proofs.Common.{ℕ, List, [], ◌∷◌, Option, Some, None, All, refl}
 use Rattle.std.specs.Prelude.{option_to_list}
 use Rattle.std.specs.Option.{option_map}
+use Rattle.std.proofs.lemmas.List.Elements.{All-nil, All-cons}
 use Rattle.ir_tables.specs.declared.opcode.Opcode.TheVariants as op
 use Rattle.type_table.specs.Tree.{ptr}
 use Rattle.module_arena.specs.declared.instruction.Operand.{Operand}
@@ -17,7 +18,7 @@ use Rattle.operand_read.proofs.Joined.{HasAny, also, put_so}
 use Rattle.line_read.specs.Kept.{DoesInst, GivesInst, kept_alloca, kept_load, kept_steps, kept_store, operation_in}
 use Rattle.line_read.specs.Operations.{operation}
 use Rattle.line_read.proofs.Fields.{plain_in}
-use Rattle.line_read.proofs.Lists.{more_all, none_all, one_all}
+use Rattle.line_read.proofs.Lists.{one_all}
 
 pub load_found : (defined : ℕ) (a b c d e : ModuleReader) (bits : ℕ) (t : Option ℕ) (x : Option Operand) (align : Option ℕ) → Finds HasAny plain_in (λ k. (flags op.Load).read) a b (Some bits) → Finds HasType type_in (λ k. (ty k).read) b c t
     → Finds HasOperand operand_in (λ k. operand_at k ptr) c d x → Finds HasAny plain_in (λ k. alignment.read) d e (Some align)
@@ -27,9 +28,9 @@ load_found defined a b c d e bits t x align h i j l =
     (λ n q y has. (
       record {
         operands_known = one_all (HasOperand n q) y.1.1.0 has.1.1.0;
-        values_known = none_all (HasValue n q);
+        values_known = All-nil (HasValue n q);
         types_known = one_all (HasType n q) y.1.0 has.1.0;
-        blocks_known = none_all (HasBlock n q);
+        blocks_known = All-nil (HasBlock n q);
       },
       refl,
     ))
@@ -42,10 +43,10 @@ store_found a b c d e bits v x align h i j l =
     put_so DoesInst operation_in kept_store (λ (f, (v, (x, align))). m.Store f v x align) a e (both (Some bits) (both v (both x (Some align))))
     (λ n q y has. (
       record {
-        operands_known = more_all (HasOperand n q) y.1.0 (y.1.1.0 ∷ []) has.1.0 (one_all (HasOperand n q) y.1.1.0 has.1.1.0);
-        values_known = none_all (HasValue n q);
-        types_known = none_all (HasType n q);
-        blocks_known = none_all (HasBlock n q);
+        operands_known = All-cons (HasOperand n q) y.1.0 (y.1.1.0 ∷ []) has.1.0 (one_all (HasOperand n q) y.1.1.0 has.1.1.0);
+        values_known = All-nil (HasValue n q);
+        types_known = All-nil (HasType n q);
+        blocks_known = All-nil (HasBlock n q);
       },
       refl,
     ))
@@ -53,7 +54,7 @@ store_found a b c d e bits v x align h i j l =
 
 -- an operand that is written is in a list of one
 room_all : (n : LocalCounts) (q : Lists) (room : Option Operand) → HasRoom n q room → All (HasOperand n q) (option_to_list room)
-room_all n q None h = none_all (HasOperand n q)
+room_all n q None h = All-nil (HasOperand n q)
 room_all n q (Some x) h = one_all (HasOperand n q) x h
 
 pub alloca_found : (defined : ℕ) (a b c d : ModuleReader) (t : Option ℕ) (room : Option (Option Operand)) (align : Option ℕ) → Finds HasType type_in (λ k. (ty k).read) a b t → Finds HasRoom room_in (λ k. (option (typed_value k)).read) b c room
@@ -63,9 +64,9 @@ alloca_found defined a b c d t room align h i j =
     (λ n q y has. (
       record {
         operands_known = room_all n q y.1.0 has.1.0;
-        values_known = none_all (HasValue n q);
+        values_known = All-nil (HasValue n q);
         types_known = one_all (HasType n q) y.0 has.0;
-        blocks_known = none_all (HasBlock n q);
+        blocks_known = All-nil (HasBlock n q);
       },
       refl,
     ))
@@ -78,10 +79,10 @@ steps_found defined a b c d e bits t x is h i j l =
     put_so (GivesInst defined) operation_in (kept_steps defined) (λ (f, (t, (x, all))). m.GetElementPtr f t x all) a e (both (Some bits) (both t (both x is)))
     (λ n q y has. (
       record {
-        operands_known = more_all (HasOperand n q) y.1.1.0 y.1.1.1 has.1.1.0 has.1.1.1;
-        values_known = none_all (HasValue n q);
+        operands_known = All-cons (HasOperand n q) y.1.1.0 y.1.1.1 has.1.1.0 has.1.1.1;
+        values_known = All-nil (HasValue n q);
         types_known = one_all (HasType n q) y.1.0 has.1.0;
-        blocks_known = none_all (HasBlock n q);
+        blocks_known = All-nil (HasBlock n q);
       },
       refl,
     ))

@@ -2,6 +2,7 @@
 use Rattle.std.proofs.Common.{◌≡◌, ℕ, suc, ◌+◌, List, [], ◌∷◌, ◌++◌, length, filter_map, Option, Some, None, refl, sym, ap, ◌∙◌, append-nil, arith}
 use Rattle.std.specs.List.{cons_option}
 use Rattle.std.proofs.lemmas.List.{append_assoc}
+use Rattle.std.proofs.lemmas.List.Elements.{filter_map-append}
 use Rattle.linkage_rules.specs.Globals.{Global, OfVariable, OfFunction, OfAlias}
 use Rattle.module_arena.specs.Module.{Module}
 use Rattle.module_arena.specs.declared.entry.GlobalId.{GlobalId}
@@ -9,23 +10,15 @@ use Rattle.module_arena.specs.declared.entry.GlobalId.TheVariants as global
 use Rattle.module_linker.specs.Linked.{variable_if, function_if, alias_if}
 use Rattle.link_stages.specs.Declared.{with_global, with_globals, ids_from}
 
-pub filter_map_join : {A B : Type 0} (f : A → Option B) (xs ys : List A) → filter_map f (xs ++ ys) ≡ filter_map f xs ++ filter_map f ys
-filter_map_join f [] ys = refl
-filter_map_join {B = B} f (x ∷ xs) ys = ap (cons_option (f x)) (filter_map_join f xs ys) ∙ go (f x)
-  where
-    go : (o : Option B) → cons_option o (filter_map f xs ++ filter_map f ys) ≡ cons_option o (filter_map f xs) ++ filter_map f ys
-    go None = refl
-    go (Some y) = refl
-
 -- one more of a kind stands behind those of its kind
 one_more : {A B : Type 0} (f : A → Option B) (before : List B) (xs : List A) (x : A) (y : B) → f x ≡ Some y → before ++ filter_map f (xs ++ x ∷ []) ≡ (before ++ filter_map f xs) ++ y ∷ []
 one_more f before xs x y e =
-    ap (λ l. before ++ l) (filter_map_join f xs (x ∷ []) ∙ ap (λ o. filter_map f xs ++ cons_option o []) e)
+    ap (λ l. before ++ l) (filter_map-append f xs (x ∷ []) ∙ ap (λ o. filter_map f xs ++ cons_option o []) e)
     ∙ sym (append_assoc before (filter_map f xs) (y ∷ []))
 
 -- none more of another
 none_more : {A B : Type 0} (f : A → Option B) (before : List B) (xs : List A) (x : A) → f x ≡ None → before ++ filter_map f (xs ++ x ∷ []) ≡ before ++ filter_map f xs
-none_more f before xs x e = ap (λ l. before ++ l) (filter_map_join f xs (x ∷ []) ∙ ap (λ o. filter_map f xs ++ cons_option o []) e ∙ append-nil (filter_map f xs))
+none_more f before xs x e = ap (λ l. before ++ l) (filter_map-append f xs (x ∷ []) ∙ ap (λ o. filter_map f xs ++ cons_option o []) e ∙ append-nil (filter_map f xs))
 
 pub with_one_more : (m : Module) (gs : List Global) (g : Global) → with_globals m (gs ++ g ∷ []) ≡ with_global (with_globals m gs) g
 with_one_more m gs (OfVariable v) = λ i. record m {

@@ -1,7 +1,7 @@
 -- Parameters that are named by their numbers, one after the other.
 use Rattle.std.proofs.Common.{◌≡◌, ℕ, zero, suc, ◌+◌, ◌<◌, List, [], ◌∷◌, ◌++◌, map, length, slice_get, take, Some, All, refl, sym, subst, ap, ◌∙◌, arith}
 use Rattle.std.proofs.lemmas.List.{map-append, length-map, length-take-le}
-use Rattle.std.proofs.lemmas.List.Elements.{All-push}
+use Rattle.std.proofs.lemmas.List.Elements.{All-push, All-nil}
 use Rattle.std.proofs.lemmas.Option.{slice_get_within}
 use Rattle.type_table.specs.Types.{trees}
 use Rattle.module_arena.specs.declared.entry.LocalName.TheVariants as local
@@ -13,7 +13,6 @@ use Rattle.linkage_rules.proofs.Steps.{all_get, take_more}
 use Rattle.module_linker.specs.Linked.{declared_parameters}
 use Rattle.module_linker.specs.Structs.{linked_type}
 use Rattle.type_build.specs.Parameters.{AreParameters}
-use Rattle.type_build.proofs.Known.{none_all}
 use Rattle.entry_copy.specs.Tables.{Tables, new_type}
 use Rattle.link_stages.specs.Ground.{HasTypes}
 
@@ -60,4 +59,4 @@ module _ (ms : List Module) (i : ℕ) (a b : Lists) (t : Tables) (h : HasTypes m
 
 -- none
 pub no_parameters : (b : Lists) → AreParameters b [] []
-no_parameters b = record { known = none_all (λ (p : the_parameter.Parameter). p.ty < length b.table.types); parameters = refl }
+no_parameters b = record { known = All-nil (λ (p : the_parameter.Parameter). p.ty < length b.table.types); parameters = refl }

@@ -4,8 +4,9 @@ use Rattle.std.specs.List.{list_all, list_any, cons_option}
 use Rattle.std.specs.Option.{option_map}
 use Rattle.std.specs.Prelude.{slice_get}
 use Rattle.std.proofs.lemmas.Bool.{and_parts, both_ways, leb-true, le-ltb, or_left, or_right, or_from}
-use Rattle.std.proofs.lemmas.List.{length-append, length-map, length_push}
+use Rattle.std.proofs.lemmas.List.{length-append, length-map, length_push, take-append-drop}
 use Rattle.std.proofs.lemmas.Option.{same_Some, none-some, slice_get-map}
+use Rattle.std.proofs.lemmas.List.Elements.{filter_map-append}
 use Rattle.type_table.specs.Types.{structs}
 use Rattle.module_arena.specs.declared.entry.Alias as the_alias
 use Rattle.module_arena.specs.declared.entry.Function as the_function
@@ -39,26 +40,20 @@ use Rattle.link_stages.specs.Ground.{HaveTypes, ground}
 use Rattle.link_stages.specs.Parts.{CanLink}
 use Rattle.link_entries.specs.Room.{IsDeclaring, HasGoodType, HasRoom, one_more}
 use Rattle.link_entries.specs.Step.{IsDeclared, next_id}
-use Rattle.link_entries.proofs.Joined.{filter_map_join, with_one_more, id_behind, ids_one_more}
+use Rattle.link_entries.proofs.Joined.{with_one_more, id_behind, ids_one_more}
 
 -- ---- counts
-
--- a list is its front and the rest
-front_and_rest : {A : Type 0} (k : ℕ) (xs : List A) → take k xs ++ drop k xs ≡ xs
-front_and_rest zero xs = refl
-front_and_rest (suc k) [] = refl
-front_and_rest (suc k) (x ∷ xs) = ap (λ l. x ∷ l) (front_and_rest k xs)
 
 -- the first entries have no more of a kind than all
 no_more : {B : Type 0} (f : Global → Option B) (k : ℕ) (gs : List Global) → length (filter_map f (take k gs)) ≤ length (filter_map f gs)
 no_more f k gs =
-    let whole = ap (λ l. length (filter_map f l)) (sym (front_and_rest k gs)) ∙ ap length (filter_map_join f (take k gs) (drop k gs)) ∙ length-append (filter_map f (take k gs)) (filter_map f (drop k gs)) in
+    let whole = ap (λ l. length (filter_map f l)) (sym (take-append-drop k gs)) ∙ ap length (filter_map-append f (take k gs) (drop k gs)) ∙ length-append (filter_map f (take k gs)) (filter_map f (drop k gs)) in
     omega (arith, whole)
 
 -- the next is one of those
 one_fewer : {B : Type 0} (f : Global → Option B) (k : ℕ) (gs : List Global) (g : Global) (x : B) → slice_get gs k ≡ Some g → f g ≡ Some x → length (filter_map f (take k gs)) + 1 ≤ length (filter_map f gs)
 one_fewer f k gs g x at is =
-    let one : filter_map f (take (k + 1) gs) ≡ filter_map f (take k gs) ++ x ∷ [] = ap (filter_map f) (take_more gs k g at) ∙ filter_map_join f (take k gs) (g ∷ []) ∙ ap (λ o. filter_map f (take k gs) ++ cons_option o []) is in
+    let one : filter_map f (take (k + 1) gs) ≡ filter_map f (take k gs) ++ x ∷ [] = ap (filter_map f) (take_more gs k g at) ∙ filter_map-append f (take k gs) (g ∷ []) ∙ ap (λ o. filter_map f (take k gs) ++ cons_option o []) is in
     let many = ap length one ∙ length_push (filter_map f (take k gs)) x in
     let less = no_more f (k + 1) gs in
     omega (arith, many, less)

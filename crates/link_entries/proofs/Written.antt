@@ -2,6 +2,7 @@
 use Rattle.std.proofs.Common.{◌≡◌, ℕ, ◌<◌, List, [], map, true, length, slice_get, Option, Some, None, All, sym, subst, ap, ◌∙◌, arith}
 use Rattle.std.specs.Prelude.{option_to_list}
 use Rattle.std.specs.Option.{option_map}
+use Rattle.std.proofs.lemmas.List.Elements.{All-nil}
 use Rattle.ir_tables.specs.declared.linkage.Linkage.{Linkage}
 use Rattle.type_table.specs.Types.{trees}
 use Rattle.module_arena.specs.declared.entry.Alias as the_alias
@@ -28,7 +29,6 @@ use Rattle.module_linker.specs.Structs.{new_struct, linked_type}
 use Rattle.type_build.specs.Declarations.{without_initialiser, without_target}
 use Rattle.type_build.specs.Parameters.{AreParameters, without_body}
 use Rattle.type_build.specs.Stands.{IsType}
-use Rattle.type_build.proofs.Known.{none_all}
 use Rattle.entry_copy.specs.Copies.{IsAliasType}
 use Rattle.entry_copy.specs.Tables.{Tables, new_type}
 use Rattle.link_stages.specs.Ground.{HasTypes}
@@ -47,18 +47,18 @@ type_there parts i a b t h ty lt = let all = h.all in h.copies.types ty (omega (
 
 -- what is declared is known
 pub variable_known : (b : Lists) (d : the_variable.Variable) → d.ty < length b.table.types → d.initialiser ≡ None → KnowsVariable (length b.table.types) (length b.constants) d
-variable_known b d lt none = record { ty_known = lt; initialiser_known = subst (λ (o : Option ℕ). All (λ i. i < length b.constants) (option_to_list o)) (sym none) (none_all (λ i. i < length b.constants)) }
+variable_known b d lt none = record { ty_known = lt; initialiser_known = subst (λ (o : Option ℕ). All (λ i. i < length b.constants) (option_to_list o)) (sym none) (All-nil (λ i. i < length b.constants)) }
 
 pub function_known : (b : Lists) (d : the_function.Function) → d.result < length b.table.types → All (λ (p : the_parameter.Parameter). p.ty < length b.table.types) d.parameters → d.body ≡ None
     → KnowsFunction (length b.table.types) (length b.constants) d
 function_known b d lt known none = record {
   result_known = lt;
   parameters_known = known;
-  body_known = subst (λ (o : Option Body). All (KnowsBody (length b.table.types) (length b.constants) (length d.parameters)) (option_to_list o)) (sym none) (none_all (KnowsBody (length b.table.types) (length b.constants) (length d.parameters)));
+  body_known = subst (λ (o : Option Body). All (KnowsBody (length b.table.types) (length b.constants) (length d.parameters)) (option_to_list o)) (sym none) (All-nil (KnowsBody (length b.table.types) (length b.constants) (length d.parameters)));
 }
 
 pub alias_known : (b : Lists) (d : the_alias.Alias) → All (λ i. i < length b.table.types) (alias_types d.ty) → d.target ≡ None → KnowsAlias (length b.table.types) (counts b) d
-alias_known b d known none = record { types_known = known; target_known = subst (λ (o : Option GlobalId). All (HasGlobal (counts b)) (option_to_list o)) (sym none) (none_all (HasGlobal (counts b))) }
+alias_known b d known none = record { types_known = known; target_known = subst (λ (o : Option GlobalId). All (HasGlobal (counts b)) (option_to_list o)) (sym none) (All-nil (HasGlobal (counts b))) }
 
 module _ (parts : List Lists) (id : EntryId) (a : Lists) (there : slice_get parts id.part ≡ Some a) (name : Bytes) where
   -- ---- a variable

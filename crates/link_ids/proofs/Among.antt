@@ -3,9 +3,10 @@ use Rattle.std.proofs.Common.{◌≡◌, ℕ, zero, suc, ◌+◌, ◌<◌, ◌�
 use Rattle.std.specs.Prelude.{unwrap_or}
 use Rattle.std.specs.List.{list_any}
 use Rattle.std.specs.Option.{option_map}
-use Rattle.std.proofs.lemmas.Bool.{and_from, and_parts, or_left, or_right, both_ways, cases_lt, cond-true, cond-false, eqb-true}
+use Rattle.std.proofs.lemmas.Bool.{and_from, and_parts, both_ways, cases_lt, cond-true, cond-false, eqb-true}
 use Rattle.std.proofs.lemmas.Cmp.{nat_eq_equiv}
 use Rattle.std.proofs.lemmas.Option.{same_Some, slice_get-map, slice_get_within, get_or_from_slice_get}
+use Rattle.std.proofs.lemmas.Map.Keys.{any_passes_from_place}
 use Rattle.type_table.proofs.Rooms.{unmapped}
 use Rattle.module_arena.specs.Known.{AreDistinct, HasGlobal, counts}
 use Rattle.module_arena.specs.Lists.{Lists, global_name, name_at}
@@ -30,11 +31,6 @@ use Rattle.link_ids.specs.Filing.{KnownIds, new_id_of, same_entry, IsFiledUnder}
 
 pub all_at : {A : Type 0} (P : A → Type 0) (xs : List A) (k : ℕ) (x : A) → All P xs → slice_get xs k ≡ Some x → P x
 all_at P xs k x all at = subst P (get_or_from_slice_get xs k x x at) (all k x (slice_get_within xs k x at))
-
-any_at : {A : Type 0} (test : A → Bool) (xs : List A) (k : ℕ) (x : A) → slice_get xs k ≡ Some x → test x ≡ true → list_any test xs ≡ true
-any_at test [] k x at t = cc
-any_at test (y ∷ ys) zero x at t = or_left (test y) _ (subst (λ z. test z ≡ true) (sym (same_Some y x at)) t)
-any_at test (y ∷ ys) (suc k) x at t = or_right (test y) _ (any_at test ys k x at t)
 
 -- where one passes
 abbrev Passing : {A : Type 0} → (A → Bool) → List A → Type 0
@@ -167,7 +163,7 @@ module _ (parts : List Lists) (rows : Rows) (groups : AreGroups parts rows) wher
       let own = kept_at (λ x. same_symbol s (symbol_of x)) (entries ms) all.0 (seen ms id) all.1 (symbol_self s) in
       let filed : option_map (seen ms) (slice_get (group_in rows s) own.0) ≡ Some (seen ms id) = sym (slice_get-map (seen ms) (group_in rows s) own.0) ∙ ap (λ l. slice_get l own.0) (groups.groups s) ∙ own.1 in
       let e = unmapped (seen ms) (slice_get (group_in rows s) own.0) (seen ms id) filed in
-      any_at (same_entry id) (group_in rows s) own.0 e.0 e.1
+      any_passes_from_place (same_entry id) (group_in rows s) own.0 e.0 e.1
       (same_where_seen parts distinct id e.0 known (all_at (IsEntryId parts) (group_in rows s) own.0 e.0 (groups.known s) e.1) (sym e.2))
 
 -- ---- symbol after symbol

@@ -1,6 +1,7 @@
 -- Names that are avoided or given one after another.
 use Rattle.std.proofs.Common.{◌≡◌, ℕ, ◌+◌, Bool, true, false, ◌||◌, List, [], ◌∷◌, ◌++◌, map, take, Some, Result, Ok, Err, OnOk, refl, sym, ap, ◌∙◌, subst, bytes_eq}
 use Rattle.std.specs.Prelude.{slice_get}
+use Rattle.std.proofs.lemmas.List.Folds.{list_any-append}
 use Rattle.module_arena.specs.Lists.{Lists}
 use Rattle.module_arena.specs.Module.{Bytes, Module}
 use Rattle.linkage_rules.specs.declared.entry.EntryId.{EntryId}
@@ -13,7 +14,7 @@ use Rattle.linkage_rules.specs.Ids.{modules, seen}
 use Rattle.linkage_rules.specs.Lists.{has}
 use Rattle.linkage_rules.proofs.Steps.{map_step, take_more}
 use Rattle.module_linker.specs.Rename.{all_names, shared_names}
-use Rattle.module_linker.proofs.Searches.{any_join, map_map}
+use Rattle.module_linker.proofs.Searches.{map_map}
 use Rattle.link_names.specs.Naming.{HasMore, HasOneMore}
 
 turned : (a b c : Bool) → (b || (a || c)) ≡ ((a || b) || c)
@@ -25,10 +26,10 @@ turned false false c = refl
 -- some names, and then more
 pub more_names : (old mid new xs ys : List Bytes) → HasMore old xs mid → HasMore mid ys new → HasMore old (xs ++ ys) new
 more_names old mid new xs ys first second name =
-    second name ∙ any_join (bytes_eq name) ys mid
-    ∙ ap (λ b. has bytes_eq ys name || b) (first name ∙ any_join (bytes_eq name) xs old)
+    second name ∙ list_any-append (bytes_eq name) ys mid
+    ∙ ap (λ b. has bytes_eq ys name || b) (first name ∙ list_any-append (bytes_eq name) xs old)
     ∙ turned (has bytes_eq xs name) (has bytes_eq ys name) (has bytes_eq old name)
-    ∙ sym (any_join (bytes_eq name) (xs ++ ys) old ∙ ap (λ b. b || has bytes_eq old name) (any_join (bytes_eq name) xs ys))
+    ∙ sym (list_any-append (bytes_eq name) (xs ++ ys) old ∙ ap (λ b. b || has bytes_eq old name) (list_any-append (bytes_eq name) xs ys))
 
 -- none
 pub nothing_more : (old : List Bytes) → HasMore old [] old

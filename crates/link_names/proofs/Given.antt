@@ -2,6 +2,7 @@
 use Rattle.std.proofs.Common.{◌≡◌, ℕ, ◌+◌, cond, ◌||◌, List, [], ◌∷◌, ◌++◌, map, length, drop, Some, refl, sym, ap, ap₂, ◌∙◌, bytes_eq, append-nil, append_assoc}
 use Rattle.std.specs.Prelude.{slice_get, true, false}
 use Rattle.std.specs.List.{list_all}
+use Rattle.std.proofs.lemmas.List.Folds.{list_any-append}
 use Rattle.module_arena.specs.Module.{Bytes, Module}
 use Rattle.linkage_rules.specs.Entries.{symbol_name}
 use Rattle.linkage_rules.specs.Lists.{has}
@@ -10,14 +11,13 @@ use Rattle.linkage_rules.specs.declared.symbol.Symbol.TheVariants.{Shared, Local
 use Rattle.linkage_rules.specs.Symbols.{symbols}
 use Rattle.linkage_rules.proofs.Steps.{drop_more, drop_whole}
 use Rattle.module_linker.specs.Rename.{all_names, base_of, with_given_names, new_name, renaming, shared_names}
-use Rattle.module_linker.proofs.Searches.{any_join}
 use Rattle.link_names.specs.Naming.{GivesName, HasMore, TakenNames, SameNames, is_shared}
 use Rattle.link_names.proofs.FirstFree.{fresh_same}
 
 -- equal names in front of equal names
 joined_same : (xs ys vs ws : List Bytes) → SameNames xs ys → SameNames vs ws → SameNames (xs ++ vs) (ys ++ ws)
 joined_same xs ys vs ws front behind name =
-    any_join (bytes_eq name) xs vs ∙ ap₂ (λ a b. a || b) (front name) (behind name) ∙ sym (any_join (bytes_eq name) ys ws)
+    list_any-append (bytes_eq name) xs vs ∙ ap₂ (λ a b. a || b) (front name) (behind name) ∙ sym (list_any-append (bytes_eq name) ys ws)
 
 -- one name more
 one_more_same : (xs ys : List Bytes) (new : Bytes) → SameNames xs ys → SameNames (new ∷ xs) (new ∷ ys)

@@ -4,10 +4,10 @@ use Rattle.std.specs.Prelude.{OnErr}
 use Rattle.std.specs.Map.{lookup}
 use Rattle.std.proofs.lemmas.Bool.{or_left, or_right}
 use Rattle.std.proofs.lemmas.Option.{same_Some}
+use Rattle.std.proofs.lemmas.List.Folds.{list_any-append}
 use Rattle.module_arena.specs.Module.{Bytes}
 use Rattle.linkage_rules.specs.Lists.{has}
 use Rattle.module_linker.specs.Rename.{dotted}
-use Rattle.module_linker.proofs.Searches.{any_join}
 use Rattle.linkage_rules.specs.SymbolLaws.{name_exact}
 use Rattle.link_names.specs.Naming.{HasOneMore, AllTaken, AreHints}
 
@@ -23,7 +23,7 @@ more_kept b xs ys name e h = e ∙ or_right b (has bytes_eq xs name) h
 
 -- one name more in front of others
 pub front_kept : (xs ys vs : List Bytes) (new : Bytes) → HasOneMore xs new ys → Keeps (xs ++ vs) (ys ++ vs)
-front_kept xs ys vs new more name h = any_join (bytes_eq name) ys vs ∙ go (has bytes_eq xs name) (has bytes_eq vs name) (more_kept (bytes_eq name new) xs ys name (more name)) refl (sym (any_join (bytes_eq name) xs vs) ∙ h)
+front_kept xs ys vs new more name h = list_any-append (bytes_eq name) ys vs ∙ go (has bytes_eq xs name) (has bytes_eq vs name) (more_kept (bytes_eq name new) xs ys name (more name)) refl (sym (list_any-append (bytes_eq name) xs vs) ∙ h)
   where
     go : (a b : Bool) → (has bytes_eq xs name ≡ true → has bytes_eq ys name ≡ true) → has bytes_eq xs name ≡ a → (a || b) ≡ true → (has bytes_eq ys name || b) ≡ true
     go true b k e f = or_left _ b (k e)
@@ -31,7 +31,7 @@ front_kept xs ys vs new more name h = any_join (bytes_eq name) ys vs ∙ go (has
 
 -- and behind them
 pub behind_kept : (xs ys vs : List Bytes) (new : Bytes) → HasOneMore xs new ys → Keeps (vs ++ xs) (vs ++ ys)
-behind_kept xs ys vs new more name h = any_join (bytes_eq name) vs ys ∙ go (has bytes_eq vs name) (has bytes_eq xs name) (more_kept (bytes_eq name new) xs ys name (more name)) refl (sym (any_join (bytes_eq name) vs xs) ∙ h)
+behind_kept xs ys vs new more name h = list_any-append (bytes_eq name) vs ys ∙ go (has bytes_eq vs name) (has bytes_eq xs name) (more_kept (bytes_eq name new) xs ys name (more name)) refl (sym (list_any-append (bytes_eq name) vs xs) ∙ h)
   where
     go : (a b : Bool) → (has bytes_eq xs name ≡ true → has bytes_eq ys name ≡ true) → has bytes_eq xs name ≡ b → (a || b) ≡ true → (a || has bytes_eq ys name) ≡ true
     go true b k e f = refl

@@ -3,8 +3,8 @@ use Rattle.std.proofs.Common.{◌≡◌, Bool, true, false, cond, ◌&&◌, List
 use Rattle.std.specs.Prelude.{find}
 use Rattle.std.specs.Option.{option_map}
 use Rattle.std.proofs.lemmas.Bool.{and_left, cond-true, cond-false}
+use Rattle.std.proofs.lemmas.List.Elements.{filter-append}
 use Rattle.linkage_rules.specs.Lists.{pairs, first}
-use Rattle.linkage_rules.proofs.Filed.{filter_joined}
 
 module _ {A : Type 0} (part : A → Bool) (differs : A → A → Bool) (apart : (x y z : A) → differs x y ≡ false → differs x z ≡ false → differs y z ≡ false) where
   abbrev pub test : A × A → Bool
@@ -39,7 +39,7 @@ module _ {A : Type 0} (part : A → Bool) (differs : A → A → Bool) (apart : 
       go : (b : Bool) → (part y && differs x y) ≡ b → cond b (Some y) (find (λ w. part w && differs x w) ys) ≡ None → (find (λ w. part w && differs x w) ys ≡ None → filter test (pairs ys) ≡ []) → filter test (with_all y ys ++ pairs ys) ≡ []
       go true t n more = cc
       go false t n more =
-          filter_joined test (with_all y ys) (pairs ys)
+          filter-append test (with_all y ys) (pairs ys)
           ∙ ap (λ l. l ++ filter test (pairs ys)) (rest_with ys (λ p. subst (λ b. (b && differs x y) ≡ false) p t) n)
           ∙ more n
 
@@ -62,7 +62,7 @@ module _ {A : Type 0} (part : A → Bool) (differs : A → A → Bool) (apart : 
 
   pub first_pair : (xs : List A) → first (filter test (pairs xs)) ≡ searched xs
   first_pair [] = refl
-  first_pair (x ∷ xs) = ap first (filter_joined test (with_all x xs) (pairs xs)) ∙ go (part x) refl (first_pair xs)
+  first_pair (x ∷ xs) = ap first (filter-append test (with_all x xs) (pairs xs)) ∙ go (part x) refl (first_pair xs)
     where
       found : (o : Option A) → find (λ y. part y && differs x y) xs ≡ o → part x ≡ true → first (filter test (with_all x xs) ++ filter test (pairs xs)) ≡ option_map {U = A × A} (λ y. (x, y)) o
       found None n e =

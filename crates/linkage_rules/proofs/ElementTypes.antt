@@ -1,5 +1,5 @@
 -- The type of an array's elements in a table is that of its tree.
-use Rattle.std.proofs.Common.{◌≡◌, ℕ, zero, suc, ◌<◌, List, [], ◌∷◌, length, Some, sym, ap, ◌∙◌, subst, get_or, slice_get, arith}
+use Rattle.std.proofs.Common.{◌≡◌, ℕ, ◌<◌, length, Some, sym, ap, ◌∙◌, subst, get_or, slice_get, arith}
 use Rattle.std.proofs.lemmas.Option.{same_Some, slice_get-get_or}
 use Rattle.type_table.specs.declared.ir_type.IrType.{IrType}
 use Rattle.type_table.specs.declared.ir_type.IrType.TheVariants.{Int, Ptr, Void, Array, Struct, Named}
@@ -30,8 +30,3 @@ module _ (t : Types) (good : IsGood t) (ty : ℕ) (lt : ty < length t.types) whe
   element_tree Void h = tree_at Void h ∙ sym (ap element_of (tree_at Void h))
   element_tree (Struct packed parts) h = tree_at (Struct packed parts) h ∙ sym (ap element_of (tree_at (Struct packed parts) h))
   element_tree (Named id) h = tree_at (Named id) h ∙ sym (ap element_of (tree_at (Named id) h))
-
-pub get_inside : {A : Type 0} (xs : List A) (k : ℕ) (x : A) → slice_get xs k ≡ Some x → k < length xs
-get_inside [] k x e = cc
-get_inside (y ∷ xs) zero x e = omega arith
-get_inside (y ∷ xs) (suc k) x e = let r = get_inside xs k x e in omega (arith, r)

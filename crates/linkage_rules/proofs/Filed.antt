@@ -3,6 +3,7 @@ use Rattle.std.proofs.Common.{◌≡◌, Bool, true, false, not, cond, ◌||◌,
 use Rattle.std.specs.Prelude.{unwrap_or}
 use Rattle.std.specs.Map.{lookup}
 use Rattle.std.proofs.lemmas.Bool.{both_ways}
+use Rattle.std.proofs.lemmas.List.Elements.{filter-append}
 use Rattle.indexmap.specs.IndexMap.{insert_entry}
 use Rattle.linkage_rules.specs.declared.entry.EntryId.{EntryId}
 use Rattle.linkage_rules.specs.Entries.{Symbol, same_symbol}
@@ -12,14 +13,6 @@ use Rattle.linkage_rules.specs.SymbolLaws.{symbol_self, symbol_exact}
 use Rattle.linkage_rules.proofs.Lists.{other_way, has_firsts, firsts_has}
 
 -- LISTS
-
-pub filter_joined : {A : Type 0} (p : A → Bool) (xs ys : List A) → filter p (xs ++ ys) ≡ filter p xs ++ filter p ys
-filter_joined p [] ys = refl
-filter_joined p (x ∷ xs) ys = go (p x) (filter_joined p xs ys)
-  where
-    go : (b : Bool) → filter p (xs ++ ys) ≡ filter p xs ++ filter p ys → cond b (x ∷ filter p (xs ++ ys)) (filter p (xs ++ ys)) ≡ cond b (x ∷ filter p xs) (filter p xs) ++ filter p ys
-    go true e = ap (λ l. x ∷ l) e
-    go false e = e
 
 pub map_joined : {A B : Type 0} (f : A → B) (xs ys : List A) → map f (xs ++ ys) ≡ map f xs ++ map f ys
 map_joined f [] ys = refl
@@ -39,7 +32,7 @@ firsts_more (x ∷ xs) y = go (same_symbol y x) (has same_symbol xs y) refl refl
     p z = not (same_symbol x z)
 
     last : (b : Bool) → p y ≡ b → filter p (firsts same_symbol xs ++ y ∷ []) ≡ filter p (firsts same_symbol xs) ++ cond b (y ∷ []) []
-    last b e = filter_joined p (firsts same_symbol xs) (y ∷ []) ∙ ap (λ c. filter p (firsts same_symbol xs) ++ cond c (y ∷ []) []) e
+    last b e = filter-append p (firsts same_symbol xs) (y ∷ []) ∙ ap (λ c. filter p (firsts same_symbol xs) ++ cond c (y ∷ []) []) e
 
     go : (b c : Bool) → same_symbol y x ≡ b → has same_symbol xs y ≡ c → firsts same_symbol (xs ++ y ∷ []) ≡ cond c (firsts same_symbol xs) (firsts same_symbol xs ++ y ∷ []) → x ∷ filter p (firsts same_symbol (xs ++ y ∷ [])) ≡ cond (b || c) (x ∷ filter p (firsts same_symbol xs)) (x ∷ filter p (firsts same_symbol xs) ++ y ∷ [])
     go true true s h e = ap (λ l. x ∷ filter p l) e
@@ -103,7 +96,7 @@ filed_more key ids rows id h = record { keys = the_keys; groups = the_group }
     the_group s =
         ap (λ o. unwrap_or o []) (found_inserted same_symbol symbol_self symbol_exact rows (key id) (group_in rows (key id) ++ id ∷ []) s)
         ∙ go (same_symbol s (key id)) refl
-        ∙ sym (filter_joined (λ x. same_symbol s (key x)) ids (id ∷ []))
+        ∙ sym (filter-append (λ x. same_symbol s (key x)) ids (id ∷ []))
       where
         go : (b : Bool) → same_symbol s (key id) ≡ b → unwrap_or (cond b (Some (group_in rows (key id) ++ id ∷ [])) (lookup (same_symbol s) rows)) [] ≡ filter (λ x. same_symbol s (key x)) ids ++ cond b (id ∷ []) []
         go true e =

@@ -2,6 +2,7 @@
 use Rattle.std.proofs.Common.{◌≡◌, ℕ, Bool, true, false, not, cond, ◌&&◌, List, [], ◌∷◌, ◌++◌, map, Option, Some, None, refl, sym, ap, ap₂, ◌∙◌, subst, filter, drop, ◌+◌}
 use Rattle.std.specs.Prelude.{flat_map, slice_get}
 use Rattle.std.specs.Option.{option_map, option_or}
+use Rattle.std.proofs.lemmas.Bool.{not-false}
 use Rattle.module_arena.specs.Module.{Bytes, Module}
 use Rattle.type_table.specs.Shape.{Shape}
 use Rattle.linkage_rules.specs.declared.clash.EntryClash.{EntryClash}
@@ -18,14 +19,10 @@ use Rattle.linkage_rules.proofs.Shapes.{agree_self, agree_exact, alike_self, ali
 
 -- ONE KIND
 
-flipped : (b : Bool) → not b ≡ false → b ≡ true
-flipped true h = refl
-flipped false h = cc
-
 agree_apart : (a b c : Bool) → not (agree a b) ≡ false → not (agree a c) ≡ false → not (agree b c) ≡ false
 agree_apart a b c h k =
-    let x = agree_exact a b (flipped (agree a b) h) in
-    let y = agree_exact a c (flipped (agree a c) k) in
+    let x = agree_exact a b (not-false (agree a b) h) in
+    let y = agree_exact a c (not-false (agree a c) k) in
     ap not (subst (λ z. agree b z ≡ true) (sym x ∙ y) (agree_self b))
 
 module _ (parts : List Module) where
@@ -38,8 +35,8 @@ module _ (parts : List Module) where
   apart FunctionAndVariable x y z h k = agree_apart (is_variable x.global) (is_variable y.global) (is_variable z.global) h k
   apart AppendingAndPlain x y z h k = agree_apart (appends x) (appends y) (appends z) h k
   apart ElementShape x y z h k =
-      let a = alike_exact (element_shape x) (element_shape y) (flipped (elements_alike parts x y) h) in
-      let b = alike_exact (element_shape x) (element_shape z) (flipped (elements_alike parts x z) k) in
+      let a = alike_exact (element_shape x) (element_shape y) (not-false (elements_alike parts x y) h) in
+      let b = alike_exact (element_shape x) (element_shape z) (not-false (elements_alike parts x z) k) in
       ap not (subst (λ s. alike (element_shape y) s ≡ true) (sym a ∙ b) (alike_self (element_shape y)))
   apart Constness x y z h k = agree_apart (is_constant x.global) (is_constant y.global) (is_constant z.global) h k
 

@@ -1,6 +1,7 @@
 -- Those of all symbols that are variables, and those that are functions.
 use Rattle.std.proofs.Common.{◌≡◌, Bool, true, false, cond, List, [], ◌∷◌, ◌++◌, map, refl, sym, ap, ap₂, ◌∙◌, append-nil, filter}
 use Rattle.std.proofs.lemmas.Bool.{cond-true, cond-false}
+use Rattle.std.proofs.lemmas.List.Elements.{filter-append}
 use Rattle.module_arena.specs.Module.{Module}
 use Rattle.linkage_rules.specs.declared.symbol.SymbolKind.{SymbolKind}
 use Rattle.linkage_rules.specs.declared.symbol.SymbolKind.TheVariants as kind
@@ -28,14 +29,6 @@ none_kept p q apart (x ∷ xs) = go (q x) refl (none_kept p q apart xs)
     go : (b : Bool) → q x ≡ b → filter p (filter q xs) ≡ [] → filter p (cond b (x ∷ filter q xs) (filter q xs)) ≡ []
     go true h e = cond-false (p x) _ _ (apart x h) ∙ e
     go false h e = e
-
-filter_joined : {A : Type 0} (p : A → Bool) (xs ys : List A) → filter p (xs ++ ys) ≡ filter p xs ++ filter p ys
-filter_joined p [] ys = refl
-filter_joined p (x ∷ xs) ys = go (p x) (filter_joined p xs ys)
-  where
-    go : (b : Bool) → filter p (xs ++ ys) ≡ filter p xs ++ filter p ys → cond b (x ∷ filter p (xs ++ ys)) (filter p (xs ++ ys)) ≡ cond b (x ∷ filter p xs) (filter p xs) ++ filter p ys
-    go true e = ap (λ l. x ∷ l) e
-    go false e = e
 
 no_function : (k : SymbolKind) → same_kind kind.Function k ≡ true → same_kind kind.Variable k ≡ false
 no_function kind.Variable h = cc
@@ -65,8 +58,8 @@ module _ (parts : List Module) where
   by_kind : (p : Symbol → Bool) → filter p (symbols parts) ≡ (filter p (filter (is kind.Variable) keys) ++ filter p (filter (is kind.Function) keys)) ++ filter p (filter (is kind.Alias) alias_keys)
   by_kind p =
       ap (filter p) (sym (ordered.in_order parts keys alias_keys refl refl))
-      ∙ filter_joined p (filter (is kind.Variable) keys ++ filter (is kind.Function) keys) (filter (is kind.Alias) alias_keys)
-      ∙ ap (λ l. l ++ filter p (filter (is kind.Alias) alias_keys)) (filter_joined p (filter (is kind.Variable) keys) (filter (is kind.Function) keys))
+      ∙ filter-append p (filter (is kind.Variable) keys ++ filter (is kind.Function) keys) (filter (is kind.Alias) alias_keys)
+      ∙ ap (λ l. l ++ filter p (filter (is kind.Alias) alias_keys)) (filter-append p (filter (is kind.Variable) keys) (filter (is kind.Function) keys))
 
   pub variables_among : filter (λ s. same_kind kind.Variable (kind_of parts s)) (symbols parts) ≡ variable_symbols parts
   variables_among =

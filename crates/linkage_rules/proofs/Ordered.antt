@@ -3,6 +3,7 @@ use Rattle.std.proofs.Common.{◌≡◌, Bool, true, false, not, cond, ◌&&◌,
 use Rattle.std.specs.List.{AllByRecursion}
 use Rattle.std.specs.Option.{option_map_or}
 use Rattle.std.proofs.lemmas.Bool.{cond-true, cond-false}
+use Rattle.std.proofs.lemmas.List.Elements.{filter_agree}
 use Rattle.module_arena.specs.Module.{Module}
 use Rattle.linkage_rules.specs.declared.symbol.SymbolKind.{SymbolKind}
 use Rattle.linkage_rules.specs.declared.symbol.SymbolKind.TheVariants as kind
@@ -34,10 +35,6 @@ firsts_begin (x ∷ xs) = (
     behind : (d : Entry) → (first (filter (λ e. same_key d e) xs) ≡ Some d) × (not (same_key x d) ≡ true) → first (filter (λ e. same_key d e) (x ∷ xs)) ≡ Some d
     behind d h =
         ap first (cond-false (same_key d x) _ _ (other_way same_symbol symbol_self symbol_exact (symbol_of x) (symbol_of d) (flipped (same_key x d) h.1))) ∙ h.0
-
-filter_same : {A : Type 0} (p q : A → Bool) → ((x : A) → p x ≡ q x) → (xs : List A) → filter p xs ≡ filter q xs
-filter_same p q e [] = refl
-filter_same p q e (x ∷ xs) = ap₂ (λ b l. cond b (x ∷ l) l) (e x) (filter_same p q e xs)
 
 filter_twice : {A : Type 0} (p q r : A → Bool) (xs : List A) → AllByRecursion (λ x. p x ≡ (q x && r x)) xs → filter p xs ≡ filter r (filter q xs)
 filter_twice p q r [] h = refl
@@ -94,7 +91,7 @@ module _ (parts : List Module) where
 
   aliases : filter (λ s. same_kind kind.Alias (kind_of parts s)) (firsts same_symbol (map symbol_of (filter (λ e. is_alias e.global) (entries parts)))) ≡ alias_symbols parts
   aliases =
-      filter_same (λ s. same_kind kind.Alias (kind_of parts s)) (is_alias_symbol parts) (λ s. of_alias (is_alias_symbol parts s) (begins_as_variable parts s)) _
+      filter_agree (λ s. same_kind kind.Alias (kind_of parts s)) (is_alias_symbol parts) (λ s. of_alias (is_alias_symbol parts s) (begins_as_variable parts s)) _
       ∙ ap (filter (is_alias_symbol parts)) (sym (firsts_map symbol_of same_symbol (filter (λ e. is_alias e.global) (entries parts))))
 
   pub in_order : (keys alias_keys : List Symbol) → keys ≡ firsts same_symbol (map symbol_of (entries parts)) → alias_keys ≡ firsts same_symbol (map symbol_of (filter (λ e. is_alias e.global) (entries parts)))

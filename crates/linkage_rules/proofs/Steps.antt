@@ -42,13 +42,6 @@ drop_whole (x ∷ xs) = drop_whole xs
 
 -- ALL
 
-pub all_more : {A : Type 0} (P : A → Type 0) (xs : List A) (x : A) → All P xs → P x → All P (xs ++ x ∷ [])
-all_more P xs x h p = All-from_recursion P (xs ++ x ∷ []) (go xs (recursion_from_All P xs h))
-  where
-    go : (ys : List _) → AllByRecursion P ys → AllByRecursion P (ys ++ x ∷ [])
-    go [] a = (p, tt)
-    go (y ∷ ys) a = (a.0, go ys a.1)
-
 pub all_get : {A : Type 0} (P : A → Type 0) (xs : List A) (k : ℕ) (x : A) → All P xs → slice_get xs k ≡ Some x → P x
 all_get P xs k x h e = go xs k (recursion_from_All P xs h) e
   where

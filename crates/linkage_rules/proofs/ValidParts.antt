@@ -1,8 +1,8 @@
 -- What the validity of a part gives its entries.
-use Rattle.std.proofs.Common.{◌≡◌, ℕ, zero, suc, ◌<◌, length, Bool, true, false, not, cond, List, [], ◌∷◌, Option, Some, None, refl, sym, ap, ap₂, ◌∙◌, subst}
+use Rattle.std.proofs.Common.{◌≡◌, ℕ, zero, suc, ◌<◌, length, Bool, true, false, cond, List, [], ◌∷◌, Option, Some, None, refl, sym, ap, ap₂, ◌∙◌, subst}
 use Rattle.std.specs.Prelude.{slice_get, slice_index_or, is_some, option_and_then, IsTrue, ◌↔◌}
 use Rattle.std.specs.Option.{option_map, option_map_or}
-use Rattle.std.proofs.lemmas.Bool.{and_parts, both_ways}
+use Rattle.std.proofs.lemmas.Bool.{and_parts, both_ways, not-true}
 use Rattle.std.proofs.lemmas.Option.{slice_get-map, same_Some}
 use Rattle.ir_tables.specs.declared.linkage.Linkage.{Linkage}
 use Rattle.ir_tables.specs.declared.linkage.Linkage.TheVariants.{External, Private, Internal, AvailableExternally, Linkonce, LinkonceOdr, Weak, WeakOdr, Common, Appending, ExternWeak}
@@ -66,10 +66,6 @@ same_appending Common = refl
 same_appending Appending = refl
 same_appending ExternWeak = refl
 
-flipped : (b : Bool) → not b ≡ true → b ≡ false
-flipped false h = refl
-flipped true h = cc
-
 module _ (a : Lists) where
   module_variable : (n : ℕ) (v : Variable) → slice_get a.variables n ≡ Some v → slice_get (module_of a).variables n ≡ Some (variable_view (trees a.table) (constants_of a) v)
   unfolding module_of
@@ -102,10 +98,10 @@ module _ (a : Lists) where
           (and_parts _ _ (subst (λ (i : Option ℕ). rules.variable_type_suits (module_of a).structs (tree a.table v.ty) (option_map (constant_at (constants_of a)) i) ≡ true) e suits)).0
 
   never_appends_function : IsValid (module_of a) → (n : ℕ) (f : Function) → slice_get a.functions n ≡ Some f → is_appending f.linkage ≡ false
-  never_appends_function valid n f h = same_appending f.linkage ∙ flipped (rules.is_appending f.linkage) (valid_function (module_of a) n (function_view (trees a.table) (constants_of a) f) valid (module_function n f h)).1.1.0
+  never_appends_function valid n f h = same_appending f.linkage ∙ not-true (rules.is_appending f.linkage) (valid_function (module_of a) n (function_view (trees a.table) (constants_of a) f) valid (module_function n f h)).1.1.0
 
   never_appends_alias : IsValid (module_of a) → (n : ℕ) (x : Alias) → slice_get a.aliases n ≡ Some x → is_appending x.linkage ≡ false
-  never_appends_alias valid n x h = same_appending x.linkage ∙ flipped (rules.is_appending x.linkage) (valid_alias (module_of a) n (alias_view (trees a.table) (name_at a) x) valid (module_alias n x h)).1.1.0
+  never_appends_alias valid n x h = same_appending x.linkage ∙ not-true (rules.is_appending x.linkage) (valid_alias (module_of a) n (alias_view (trees a.table) (name_at a) x) valid (module_alias n x h)).1.1.0
 
 module _ (parts : List Lists) (id : EntryId) (a : Lists) (there : slice_get parts id.part ≡ Some a) where
   pub structs_are : structs_at (modules parts) id.part ≡ structs a.table

@@ -4,8 +4,7 @@ use Rattle.std.specs.Prelude.{slice_get}
 use Rattle.std.specs.Option.{option_map_or}
 use Rattle.std.specs.List.{list_all, AllByRecursion}
 use Rattle.std.proofs.lemmas.List.Sums.{sum_by-cons}
-use Rattle.std.proofs.lemmas.Bool.{and_from, and_parts, cases_Bool, eqb-false, false≢true}
-use Rattle.linked_is_valid.proofs.Linking.{flip}
+use Rattle.std.proofs.lemmas.Bool.{and_from, and_parts, cases_Bool, eqb-false, false≢true, not-true}
 use Rattle.type_table.specs.Tree.{Tree, int, ptr, void, array, struct, named}
 use Rattle.module_arena.specs.Module.{Bytes, Constant, Constants, Variable, Module}
 use Rattle.module_arena.specs.Module.Brackets.{Square, Braces, Packed}
@@ -124,7 +123,7 @@ module _ (parts : List Module) (fine : AreLinkable parts) (t : Tree) where
         record {
           constants = renamed_constants (new_struct parts x.part) (new_global parts x.part) cs;
           elements = record {
-            no_intrinsic = flip _ intrinsic;
+            no_intrinsic = not-true _ intrinsic;
             types = written.1;
             void_free = written.0;
             fit = subst (λ (u : Tree). fits (link_result parts).structs (array a.length u) (Aggregate Square (renamed_constants (new_struct parts x.part) (new_global parts x.part) cs)) ≡ true) plain

@@ -4,6 +4,7 @@ use Rattle.std.specs.Prelude.{slice_get}
 use Rattle.std.specs.Option.{option_map_or}
 use Rattle.std.specs.List.{AllByRecursion}
 use Rattle.std.proofs.lemmas.Bool.{and_from, and_parts, or_right, both_ways, cond-true}
+use Rattle.std.proofs.lemmas.List.{append_assoc}
 use Rattle.linkage_rules.proofs.Gathered.{all_joined}
 use Rattle.type_table.specs.Tree.{Tree, array}
 use Rattle.type_table.specs.Shape.{Shape, array_of, nesting, shape}
@@ -69,13 +70,9 @@ depth_after : (cs ds : Constants) → greatest_depth (after cs ds) ≡ max (grea
 depth_after no_constants ds = max_none (greatest_depth ds)
 depth_after (more_constants t c cs) ds = ap (max (depth c)) (depth_after cs ds) ∙ max_again (depth c) (greatest_depth cs) (greatest_depth ds)
 
-append_again : {A : Type 0} (xs ys zs : List A) → (xs ++ ys) ++ zs ≡ xs ++ (ys ++ zs)
-append_again [] ys zs = refl
-append_again (x ∷ xs) ys zs = ap (λ l. x ∷ l) (append_again xs ys zs)
-
 constants_after : (cs ds : Constants) → constants_of (after cs ds) ≡ constants_of cs ++ constants_of ds
 constants_after no_constants ds = refl
-constants_after (more_constants t c cs) ds = ap (λ l. constants_in t c ++ l) (constants_after cs ds) ∙ sym (append_again (constants_in t c) (constants_of cs) (constants_of ds))
+constants_after (more_constants t c cs) ds = ap (λ l. constants_in t c ++ l) (constants_after cs ds) ∙ sym (append_assoc (constants_in t c) (constants_of cs) (constants_of ds))
 
 record GoodList (m : Module) (cs : Constants) : Type 0 where
   shallow : IsShallow (greatest_depth cs)

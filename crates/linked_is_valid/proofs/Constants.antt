@@ -3,6 +3,7 @@ use Rattle.std.proofs.Common.{◌≡◌, ℕ, Bool, true, false, ◌&&◌, List,
 use Rattle.std.specs.Prelude.{if◌then◌else◌, nat_lt, nat_eq, ◌-◌, ⊤}
 use Rattle.std.specs.List.{list_all, AllByRecursion}
 use Rattle.std.proofs.lemmas.Bool.{and_from, and_parts}
+use Rattle.std.proofs.lemmas.List.{map-append}
 use Rattle.linkage_rules.proofs.Gathered.{all_joined}
 use Rattle.ir_tables.specs.declared.opcode.Opcode.{Opcode}
 use Rattle.ir_tables.specs.declared.opcode.Opcode.TheVariants.{Trunc, ZExt, SExt, PtrToInt, IntToPtr}
@@ -16,7 +17,7 @@ use Rattle.module_arena.specs.Same.{same_type}
 use Rattle.module_arena.specs.TypeTests.{is_integer, is_integer_of, is_pointer, is_free_of_void, is_passable, opened, field_type, is_type}
 use Rattle.module_arena.specs.Constants.{Typed, constants_in, constants_of, address_in, is_cast_between, Index, written_number, indexed, leads_to_part, indices_fit, index_constants, element_operands_fit, Expected, each, these, as_written, nothing, expected, is_bytes_of, fits, parts_fit, is_pointer_constant}
 use Rattle.module_arena.specs.EntryRules.{constant_types, types_written_suit, constant_types_suit}
-use Rattle.linked_is_valid.proofs.Lists.{map_append, all_kept}
+use Rattle.linked_is_valid.proofs.Lists.{all_kept}
 use Rattle.linked_is_valid.proofs.Types.{KnownTree, AllKnown, KnownPart, KeepsStructs, integer_same, width_same, pointer_same, void_free_same, sameness_kept, field_same, field_known, opened_same, opened_known, memory_same, passable_same}
 
 abbrev mutual
@@ -85,11 +86,11 @@ module _ (names globals : Bytes → Bytes) where
     within_renamed t (Cast opcode from value to) = ap (λ l. renamed_typed (t, Cast opcode from value to) ∷ l) (within_renamed from value)
     within_renamed t (Binary opcode flags a left b right) =
         ap (λ l. renamed_typed (t, Binary opcode flags a left b right) ∷ l)
-        (ap₂ (λ x y. x ++ y) (within_renamed a left) (within_renamed b right) ∙ sym (map_append renamed_typed (constants_in a left) (constants_in b right)))
+        (ap₂ (λ x y. x ++ y) (within_renamed a left) (within_renamed b right) ∙ sym (map-append renamed_typed (constants_in a left) (constants_in b right)))
 
     pub all_within_renamed : (cs : Constants) → constants_of (renamed_constants names globals cs) ≡ map renamed_typed (constants_of cs)
     all_within_renamed no_constants = refl
-    all_within_renamed (more_constants t c cs) = ap₂ (λ x y. x ++ y) (within_renamed t c) (all_within_renamed cs) ∙ sym (map_append renamed_typed (constants_in t c) (constants_of cs))
+    all_within_renamed (more_constants t c cs) = ap₂ (λ x y. x ++ y) (within_renamed t c) (all_within_renamed cs) ∙ sym (map-append renamed_typed (constants_in t c) (constants_of cs))
 
   pub address_renamed : (x : Typed) → address_in (renamed_typed x) ≡ map globals (address_in x)
   address_renamed (t, Integer n) = refl

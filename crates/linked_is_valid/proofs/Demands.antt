@@ -1,7 +1,8 @@
 -- All that a function's body is asked for holds of it under new names.
-use Rattle.std.proofs.Common.{◌≡◌, ℕ, zero, suc, ◌+◌, true, List, [], ◌∷◌, ◌++◌, map, length, refl, sym, ap, ap₂, ◌∙◌, subst, option_to_list, flat_map, take, ◌==◌}
+use Rattle.std.proofs.Common.{◌≡◌, ℕ, suc, ◌+◌, true, List, [], ◌∷◌, ◌++◌, map, length, refl, sym, ap, ap₂, ◌∙◌, subst, option_to_list, flat_map, take, ◌==◌}
 use Rattle.std.specs.List.{AllByRecursion}
 use Rattle.std.proofs.lemmas.Bool.{and_from, and_parts}
+use Rattle.std.proofs.lemmas.List.{take-map}
 use Rattle.module_arena.specs.Module.{Bytes, LocalName, Operand, Incoming, Operation, Instruction, Block, Function, Module}
 use Rattle.module_arena.specs.Module.Operation.{BinaryOperation, Compare, Convert, Select, Freeze, Phi, Load, Store, Alloca, GetElementPtr, Call, ExtractValue, InsertValue}
 use Rattle.module_arena.specs.Renamed.{renamed_operand, renamed_incoming, renamed_operation, renamed_instruction, renamed_ending, renamed_block}
@@ -61,11 +62,6 @@ module _ (names globals : Bytes → Bytes) (flow : Flow) (place : FlowPlace) whe
   uses_same (ExtractValue aggregate indices) = plain_same (ExtractValue aggregate indices)
   uses_same (InsertValue aggregate part indices) = plain_same (InsertValue aggregate part indices)
 
-take_renamed : {A B : Type 0} (f : A → B) (k : ℕ) (xs : List A) → take k (map f xs) ≡ map f (take k xs)
-take_renamed f zero xs = refl
-take_renamed f (suc k) [] = refl
-take_renamed f (suc k) (x ∷ xs) = ap (λ l. f x ∷ l) (take_renamed f k xs)
-
 length_renamed : {A B : Type 0} (f : A → B) (xs : List A) → length (map f xs) ≡ length xs
 length_renamed f [] = refl
 length_renamed f (x ∷ xs) = ap suc (length_renamed f xs)
@@ -82,7 +78,7 @@ module _ (m n : Module) (names globals : Bytes → Bytes) (keeps : KeepsStructs 
 
   operation_phi_kept : (b : Block) (before : ℕ) (o : Operation) → operation_phi_suits f b before o ≡ true → operation_phi_suits g (renamed_block names globals b) before (renamed_operation names globals o) ≡ true
   operation_phi_kept b before (Phi ty incoming) h =
-      ap₂ (λ (flow : Flow) before_it. phi_suits flow b.name before_it (map (renamed_incoming names globals) incoming)) (flow_same names globals f g is) (take_renamed (renamed_instruction names globals) before b.instructions)
+      ap₂ (λ (flow : Flow) before_it. phi_suits flow b.name before_it (map (renamed_incoming names globals) incoming)) (flow_same names globals f g is) (take-map (renamed_instruction names globals) before b.instructions)
       ∙ phi_kept names globals (flow_of f) b.name (take before b.instructions) incoming h
   operation_phi_kept b before (BinaryOperation opcode flags left right) h = refl
   operation_phi_kept b before (Compare flags predicate left right) h = refl

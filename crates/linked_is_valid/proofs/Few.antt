@@ -2,6 +2,7 @@
 use Rattle.std.proofs.Common.{◌≡◌, ℕ, suc, true, false, List, [], ◌∷◌, ◌++◌, map, length, filter, filter_map, Option, Some, None, refl, sym, ap, ◌∙◌, option_map, nat_lt, nat_le, ltb-false, le-leb}
 use Rattle.std.specs.List.{AllByRecursion}
 use Rattle.std.proofs.lemmas.Bool.{and_from}
+use Rattle.std.proofs.lemmas.List.{append_assoc, map-append}
 use Rattle.module_arena.specs.Module.{Variable, Alias, Function, Module}
 use Rattle.module_arena.specs.WellFormed.{count_for_aliases, has_few_entries}
 use Rattle.linkage_rules.specs.Globals.{Global, OfVariable, OfFunction, OfAlias, is_alias}
@@ -15,7 +16,6 @@ use Rattle.module_linker.proofs.Merged.{Row, variable_rows, function_rows, alias
 use Rattle.module_linker.proofs.Sorted.{IsVariable, IsFunction}
 use Rattle.module_linker.proofs.Result.{variable_keys, function_keys, alias_keys, variables_linked, functions_linked, aliases_linked}
 use Rattle.linked_is_valid.specs.Laws.{AreLinkable}
-use Rattle.linked_is_valid.proofs.Lists.{map_append}
 use Rattle.linked_is_valid.proofs.Renaming.{together}
 
 length_map : {A B : Type 0} (f : A → B) (xs : List A) → length (map f xs) ≡ length xs
@@ -50,10 +50,6 @@ all_map : (parts : List Module) (P : Global → Type 0) (rows : List Row) → Al
 all_map parts P [] a = tt
 all_map parts P (r ∷ rows) a = (a.0, all_map parts P rows a.1)
 
-append_again : {A : Type 0} (xs ys zs : List A) → (xs ++ ys) ++ zs ≡ xs ++ (ys ++ zs)
-append_again [] ys zs = refl
-append_again (x ∷ xs) ys zs = ap (λ l. x ∷ l) (append_again xs ys zs)
-
 within : (n k : ℕ) → nat_lt k n ≡ false → nat_le n k ≡ true
 within n k h = le-leb n k (ltb-false k n h)
 
@@ -73,9 +69,9 @@ module _ (parts : List Module) (fine : AreLinkable parts) (few : too_many parts 
       (functions_before _ _ _ (all_map parts IsFunction (function_rows parts) (functions_linked parts (together parts fine)))
       (aliases_of _ (all_map parts (λ g. is_alias g ≡ true) (alias_rows parts) (aliases_linked parts (together parts fine))))) in
       let same : linked_globals parts ≡ map (linked parts) (variable_rows parts) ++ (map (linked parts) (function_rows parts) ++ map (linked parts) (alias_rows parts)) =
-      ap (map (linked parts)) (renaming_split parts) ∙ map_append (linked parts) (variable_rows parts ++ function_rows parts) (alias_rows parts)
-      ∙ ap (λ l. l ++ map (linked parts) (alias_rows parts)) (map_append (linked parts) (variable_rows parts) (function_rows parts))
-      ∙ append_again (map (linked parts) (variable_rows parts)) (map (linked parts) (function_rows parts)) (map (linked parts) (alias_rows parts)) in
+      ap (map (linked parts)) (renaming_split parts) ∙ map-append (linked parts) (variable_rows parts ++ function_rows parts) (alias_rows parts)
+      ∙ ap (λ l. l ++ map (linked parts) (alias_rows parts)) (map-append (linked parts) (variable_rows parts) (function_rows parts))
+      ∙ append_assoc (map (linked parts) (variable_rows parts)) (map (linked parts) (function_rows parts)) (map (linked parts) (alias_rows parts)) in
       record {
         variables = ap (λ gs. length (filter_map variable_if gs)) same ∙ three.variables ∙ counted (variable_rows parts) (variable_symbols parts) (variable_keys parts);
         functions = ap (λ gs. length (filter_map function_if gs)) same ∙ three.functions ∙ counted (function_rows parts) (function_symbols parts) (function_keys parts);

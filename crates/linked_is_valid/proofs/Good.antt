@@ -4,6 +4,7 @@ use Rattle.std.specs.Prelude.{nat_le}
 use Rattle.std.specs.Option.{option_map_or}
 use Rattle.std.specs.List.{list_all}
 use Rattle.std.proofs.lemmas.Bool.{and_from, and_parts}
+use Rattle.std.proofs.lemmas.List.{map-append}
 use Rattle.type_table.specs.Tree.{Tree, int, ptr, void, array, struct, named, Trees, no_trees, more_trees, Structs}
 use Rattle.type_table.specs.Shape.{shape}
 use Rattle.module_arena.specs.Module.{Bytes, Constant, Constants, Value, Operand, Operation, Instruction, Block, Parameter, Function, Module}
@@ -19,7 +20,7 @@ use Rattle.module_arena.specs.EntryRules.{is_only_called}
 use Rattle.module_arena.specs.Forms.{are_flags_of, is_not_empty, is_operation_of_phrase, has_result_of_phrase, is_instruction_of_phrase, has_constants, is_constant_of_phrase}
 use Rattle.module_arena.specs.Names.{has_good_names}
 use Rattle.module_arena.specs.WellFormed.{is_within_limits, is_good_type, are_good_types, types_of_operation, known_in, known_of_operands, known_of_operation, known_of_block, is_in_range, type_in_constant, has_entry, names_an_entry, is_good_part, depth, greatest_depth, is_good_constant, are_good_operands, is_good_block, is_good_function}
-use Rattle.linked_is_valid.proofs.Lists.{map_append, all_follow, all_of_map, all_tests, all_tested}
+use Rattle.linked_is_valid.proofs.Lists.{all_follow, all_of_map, all_tests, all_tested}
 use Rattle.linked_is_valid.proofs.Types.{has_struct, KeepsStructs, void_same, shape_same}
 use Rattle.linked_is_valid.proofs.Constants.{renamed_typed, within_renamed}
 use Rattle.linked_is_valid.proofs.Operations.{operands_renamed, callee_renamed, ending_renamed, types_renamed, IsRenamed, blocks_renamed}
@@ -174,7 +175,7 @@ module _ (names globals : Bytes → Bytes) where
   known_of_operands_renamed : (os : List Operand) → known_of_operands (map (renamed_operand names globals) os) ≡ map (renamed_typed names globals) (known_of_operands os)
   known_of_operands_renamed [] = refl
   known_of_operands_renamed (o ∷ os) =
-      ap₂ (λ x y. x ++ y) (known_in_renamed o.ty o.value) (known_of_operands_renamed os) ∙ sym (map_append (renamed_typed names globals) (known_in o.ty o.value) (known_of_operands os))
+      ap₂ (λ x y. x ++ y) (known_in_renamed o.ty o.value) (known_of_operands_renamed os) ∙ sym (map-append (renamed_typed names globals) (known_in o.ty o.value) (known_of_operands os))
 
   known_of_callee : (c : Option Value) → option_map_or (known_in ptr) (option_map (renamed_value names globals) c) [] ≡ map (renamed_typed names globals) (option_map_or (known_in ptr) c [])
   known_of_callee None = refl
@@ -184,23 +185,23 @@ module _ (names globals : Bytes → Bytes) where
   known_of_operation_renamed o =
       ap₂ (λ x y. x ++ y) (ap known_of_operands (operands_renamed names globals o) ∙ known_of_operands_renamed (operands o))
       (ap (λ c. option_map_or (known_in ptr) c []) (callee_renamed names globals o) ∙ known_of_callee (callee o))
-      ∙ sym (map_append (renamed_typed names globals) (known_of_operands (operands o)) (option_map_or (known_in ptr) (callee o) []))
+      ∙ sym (map-append (renamed_typed names globals) (known_of_operands (operands o)) (option_map_or (known_in ptr) (callee o) []))
 
   known_of_instructions : (xs : List Instruction) → flat_map (λ (i : Instruction). known_of_operation i.operation) (map (renamed_instruction names globals) xs) ≡ map (renamed_typed names globals) (flat_map (λ (i : Instruction). known_of_operation i.operation) xs)
   known_of_instructions [] = refl
   known_of_instructions (i ∷ xs) =
       ap₂ (λ x y. x ++ y) (known_of_operation_renamed i.operation) (known_of_instructions xs)
-      ∙ sym (map_append (renamed_typed names globals) (known_of_operation i.operation) (flat_map (λ (i : Instruction). known_of_operation i.operation) xs))
+      ∙ sym (map-append (renamed_typed names globals) (known_of_operation i.operation) (flat_map (λ (i : Instruction). known_of_operation i.operation) xs))
 
   known_of_block_renamed : (b : Block) → known_of_block (renamed_block names globals b) ≡ map (renamed_typed names globals) (known_of_block b)
   known_of_block_renamed b =
       ap₂ (λ x y. x ++ y) (known_of_instructions b.instructions) (ap known_of_operands (ending_renamed names globals b.ending) ∙ known_of_operands_renamed (ending_operands b.ending))
-      ∙ sym (map_append (renamed_typed names globals) (flat_map (λ (i : Instruction). known_of_operation i.operation) b.instructions) (known_of_operands (ending_operands b.ending)))
+      ∙ sym (map-append (renamed_typed names globals) (flat_map (λ (i : Instruction). known_of_operation i.operation) b.instructions) (known_of_operands (ending_operands b.ending)))
 
   pub known_of_blocks_renamed : (bs : List Block) → flat_map known_of_block (map (renamed_block names globals) bs) ≡ map (renamed_typed names globals) (flat_map known_of_block bs)
   known_of_blocks_renamed [] = refl
   known_of_blocks_renamed (b ∷ bs) =
-      ap₂ (λ x y. x ++ y) (known_of_block_renamed b) (known_of_blocks_renamed bs) ∙ sym (map_append (renamed_typed names globals) (known_of_block b) (flat_map known_of_block bs))
+      ap₂ (λ x y. x ++ y) (known_of_block_renamed b) (known_of_blocks_renamed bs) ∙ sym (map-append (renamed_typed names globals) (known_of_block b) (flat_map known_of_block bs))
 
 -- FROM ONE MODULE TO ANOTHER
 

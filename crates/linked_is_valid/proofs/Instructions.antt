@@ -3,6 +3,7 @@ use Rattle.std.proofs.Common.{◌≡◌, Bool, true, false, not, ◌&&◌, ◌||
 use Rattle.std.specs.Prelude.{⊤}
 use Rattle.std.specs.List.{list_any, list_all, AllByRecursion}
 use Rattle.std.proofs.lemmas.Bool.{and_from, and_parts, not_from_false}
+use Rattle.std.proofs.lemmas.List.Folds.{flat_map-map}
 use Rattle.linkage_rules.proofs.Gathered.{all_joined}
 use Rattle.type_table.specs.Tree.{Tree, ptr, Structs}
 use Rattle.module_arena.specs.Module.{Bytes, LocalName, Constant, Value, Operand, Incoming, Operation, Instruction, Module}
@@ -19,7 +20,7 @@ use Rattle.module_arena.specs.EntryRules.{is_only_called, takes_no_intrinsic, re
 use Rattle.module_arena.specs.InstructionRules.{value_takes_no_intrinsic, callee_takes_no_intrinsic, operands_take_no_intrinsic, value_types_suit, operands_suit, callee_types_suit, other_types_suit, result_suits, operation_types_suit, operation_alignment_suits, is_phi_operation, is_phi, same_names, entries_agree, phi_suits}
 use Rattle.module_arena.specs.WellFormed.{types_of_operation}
 use Rattle.module_arena.proofs.SameValues.{same_value_decides}
-use Rattle.linked_is_valid.proofs.Lists.{flat_map_of_map, map_of_flat_map, all_each, all_kept, none_kept}
+use Rattle.linked_is_valid.proofs.Lists.{map_of_flat_map, all_each, all_kept, none_kept}
 use Rattle.linked_is_valid.proofs.Types.{KnownTree, KnownPart, KeepsStructs, void_same, memory_same, passable_same}
 use Rattle.linked_is_valid.proofs.Constants.{renamed_typed, within_renamed, address_renamed, constant_types_kept}
 use Rattle.linked_is_valid.proofs.Operations.{KnownValue, KnownOperand, KnownCallee, KnownOperation, operands_renamed, callee_renamed, result_type_same, result_type_known}
@@ -56,7 +57,7 @@ module _ (old new : Module) (names globals : Bytes → Bytes) where
     where
       go : (xs : List Typed) → AllByRecursion (AddressesKept old new globals) xs → list_any (is_only_called old) (flat_map address_in xs) ≡ false → list_any (is_only_called new) (flat_map address_in (map (renamed_typed names globals) xs)) ≡ false
       go xs k h =
-          ap (list_any (is_only_called new)) (flat_map_of_map address_in (renamed_typed names globals) xs ∙ flattened xs)
+          ap (list_any (is_only_called new)) (flat_map-map address_in (renamed_typed names globals) xs ∙ flattened xs)
           ∙ none_kept (λ name. is_only_called old name ≡ false → is_only_called new (globals name) ≡ false) (is_only_called old) (is_only_called new) globals (flat_map address_in xs) (λ name kept e. kept e) (gathered xs k) h
         where
           flattened : (xs : List Typed) → flat_map (λ x. address_in (renamed_typed names globals x)) xs ≡ map globals (flat_map address_in xs)

@@ -2,8 +2,9 @@
 use Rattle.std.proofs.Common.{◌≡◌, ℕ, zero, suc, Bool, true, false, not, ◌||◌, ◌⊎◌, inl, inr, List, [], ◌∷◌, ◌++◌, map, Some, refl, sym, ap, ◌∙◌, subst, filter_map, option_map, bytes_eq}
 use Rattle.std.specs.Prelude.{slice_get}
 use Rattle.std.specs.List.{list_any, list_all, AllByRecursion}
-use Rattle.std.proofs.lemmas.Bool.{and_parts, or_left, or_right, or_parts, or_from, or_cases, both_ways}
+use Rattle.std.proofs.lemmas.Bool.{and_parts, or_left, or_right, or_parts, or_from, or_cases, both_ways, not-true}
 use Rattle.std.proofs.lemmas.Option.{same_Some, slice_get-map}
+use Rattle.std.proofs.lemmas.List.Folds.{list_any-append}
 use Rattle.ir_tables.specs.Table.{is_distinct}
 use Rattle.module_arena.specs.Module.{Bytes, Variable, Alias, Function, Module}
 use Rattle.module_arena.specs.Functions.{variable_names, alias_names, function_names}
@@ -19,21 +20,9 @@ use Rattle.module_linker.proofs.Merged.{Row}
 
 -- NAMES WITHOUT REPEATS
 
-pub any_append : {A : Type 0} (p : A → Bool) (xs ys : List A) → list_any p (xs ++ ys) ≡ (list_any p xs || list_any p ys)
-any_append p [] ys = refl
-any_append p (x ∷ xs) ys = ap (λ b. p x || b) (any_append p xs ys) ∙ go (p x)
-  where
-    go : (b : Bool) → (b || (list_any p xs || list_any p ys)) ≡ ((b || list_any p xs) || list_any p ys)
-    go true = refl
-    go false = refl
-
 any_key : {A B : Type 0} (key : A → B) (test : B → Bool) (xs : List A) → list_any test (map key xs) ≡ list_any (λ x. test (key x)) xs
 any_key key test [] = refl
 any_key key test (x ∷ xs) = ap (λ b. test (key x) || b) (any_key key test xs)
-
-pub flip : (b : Bool) → not b ≡ true → b ≡ false
-flip false h = refl
-flip true h = cc
 
 abbrev pub Cross : List Bytes → List Bytes → Type 0
 Cross xs ys = AllByRecursion (λ x. list_any (bytes_eq x) ys ≡ false) xs
@@ -42,18 +31,18 @@ pub distinct_apart : (xs : List Bytes) → is_distinct bytes_eq xs ≡ true → 
 distinct_apart [] h = tt
 distinct_apart (x ∷ xs) h =
     let both = and_parts (not (list_any (bytes_eq x) xs)) _ h in
-    (flip _ both.0, distinct_apart xs both.1)
+    (not-true _ both.0, distinct_apart xs both.1)
 
 pub apart_parts : (xs ys : List Bytes) → Apart bytes_eq (xs ++ ys) → Apart bytes_eq xs × (Apart bytes_eq ys × Cross xs ys)
 apart_parts [] ys a = (tt, (a, tt))
 apart_parts (x ∷ xs) ys a =
     let rest = apart_parts xs ys a.1 in
-    let both = or_parts (list_any (bytes_eq x) xs) (list_any (bytes_eq x) ys) (sym (any_append (bytes_eq x) xs ys) ∙ a.0) in
+    let both = or_parts (list_any (bytes_eq x) xs) (list_any (bytes_eq x) ys) (sym (list_any-append (bytes_eq x) xs ys) ∙ a.0) in
     ((both.0, rest.0), (rest.1.0, (both.1, rest.1.1)))
 
 pub apart_together : (xs ys : List Bytes) → Apart bytes_eq xs → Apart bytes_eq ys → Cross xs ys → Apart bytes_eq (xs ++ ys)
 apart_together [] ys a b c = b
-apart_together (x ∷ xs) ys a b c = (any_append (bytes_eq x) xs ys ∙ or_from _ _ a.0 c.0, apart_together xs ys a.1 b c.1)
+apart_together (x ∷ xs) ys a b c = (list_any-append (bytes_eq x) xs ys ∙ or_from _ _ a.0 c.0, apart_together xs ys a.1 b c.1)
 
 cross_none : (xs : List Bytes) → Cross xs []
 cross_none [] = tt
@@ -72,7 +61,7 @@ cross_back (x ∷ xs) ys c = joined ys c.0 (cross_back xs ys c.1)
 pub cross_parts : (xs ys zs : List Bytes) → Cross xs (ys ++ zs) → Cross xs ys × Cross xs zs
 cross_parts [] ys zs c = (tt, tt)
 cross_parts (x ∷ xs) ys zs c =
-    let both = or_parts (list_any (bytes_eq x) ys) (list_any (bytes_eq x) zs) (sym (any_append (bytes_eq x) ys zs) ∙ c.0) in
+    let both = or_parts (list_any (bytes_eq x) ys) (list_any (bytes_eq x) zs) (sym (list_any-append (bytes_eq x) ys zs) ∙ c.0) in
     let rest = cross_parts xs ys zs c.1 in
     ((both.0, rest.0), (both.1, rest.1))
 
@@ -109,11 +98,11 @@ either_order false false false = refl
 
 pub entry_named : (m : Module) (name : Bytes) → has_entry m name ≡ list_any (λ g. bytes_eq name (name_of g)) (globals m)
 entry_named m name =
-    any_append (bytes_eq name) (variable_names m) (alias_names m ++ function_names m)
-    ∙ ap (λ b. list_any (bytes_eq name) (variable_names m) || b) (any_append (bytes_eq name) (alias_names m) (function_names m))
+    list_any-append (bytes_eq name) (variable_names m) (alias_names m ++ function_names m)
+    ∙ ap (λ b. list_any (bytes_eq name) (variable_names m) || b) (list_any-append (bytes_eq name) (alias_names m) (function_names m))
     ∙ either_order (list_any (bytes_eq name) (variable_names m)) (list_any (bytes_eq name) (alias_names m)) (list_any (bytes_eq name) (function_names m))
-    ∙ sym (ap (λ b. b || list_any (bytes_eq name) (alias_names m)) (any_append (bytes_eq name) (variable_names m) (function_names m)))
-    ∙ sym (any_append (bytes_eq name) (variable_names m ++ function_names m) (alias_names m))
+    ∙ sym (ap (λ b. b || list_any (bytes_eq name) (alias_names m)) (list_any-append (bytes_eq name) (variable_names m) (function_names m)))
+    ∙ sym (list_any-append (bytes_eq name) (variable_names m ++ function_names m) (alias_names m))
     ∙ ap (list_any (bytes_eq name)) (sym (names_of m.variables m.functions m.aliases))
     ∙ any_key name_of (bytes_eq name) (globals m)
 

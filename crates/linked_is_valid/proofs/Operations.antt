@@ -2,6 +2,7 @@
 use Rattle.std.proofs.Common.{◌≡◌, Bool, true, false, List, [], ◌∷◌, ◌++◌, map, Option, Some, None, refl, sym, ap, ap₂, ◌∙◌, subst, option_map, option_to_list, flat_map, find, cond}
 use Rattle.std.specs.Prelude.{if◌then◌else◌, ⊤}
 use Rattle.std.specs.List.{AllByRecursion}
+use Rattle.std.proofs.lemmas.List.{map-append}
 use Rattle.type_table.specs.Tree.{Tree, Structs}
 use Rattle.module_arena.specs.Module.{Bytes, LocalName, Value, Operand, Incoming, Operation, Instruction, Case, Ending, Block, Parameter, Function}
 use Rattle.module_arena.specs.Module.Value.{Local, Known}
@@ -14,7 +15,7 @@ use Rattle.module_arena.specs.Operations.{result_type, incoming_operand, operand
 use Rattle.module_arena.specs.Functions.{body, blocks, result_name, Definition, parameter_definition, result_definitions, definitions, definition_type, local_type}
 use Rattle.module_arena.specs.Flow.{FlowBlock, Flow, flow_block, flow_of}
 use Rattle.module_arena.specs.WellFormed.{types_of_operation}
-use Rattle.linked_is_valid.proofs.Lists.{map_map, map_append, option_list}
+use Rattle.linked_is_valid.proofs.Lists.{map_map, option_list}
 use Rattle.linked_is_valid.proofs.Types.{KnownTree, KnownPart, KeepsStructs, void_same, part_at_same, part_at_known}
 use Rattle.linked_is_valid.proofs.Constants.{KnownConstant}
 
@@ -228,13 +229,13 @@ module _ (old new : Structs) (names globals : Bytes → Bytes) (keeps : KeepsStr
   results_renamed : (is : List Instruction) → AllByRecursion (λ i. KnownOperation old i.operation) is → flat_map (result_definitions new) (map (renamed_instruction names globals) is) ≡ map renamed_definition (flat_map (result_definitions old) is)
   results_renamed [] k = refl
   results_renamed (i ∷ is) k =
-      ap₂ (λ x y. x ++ y) (result_renamed i k.0) (results_renamed is k.1) ∙ sym (map_append renamed_definition (result_definitions old i) (flat_map (result_definitions old) is))
+      ap₂ (λ x y. x ++ y) (result_renamed i k.0) (results_renamed is k.1) ∙ sym (map-append renamed_definition (result_definitions old i) (flat_map (result_definitions old) is))
 
   block_results_renamed : (bs : List Block) → AllByRecursion (KnownBlock old) bs → flat_map (λ (b : Block). flat_map (result_definitions new) b.instructions) (map (renamed_block names globals) bs) ≡ map renamed_definition (flat_map (λ (b : Block). flat_map (result_definitions old) b.instructions) bs)
   block_results_renamed [] k = refl
   block_results_renamed (b ∷ bs) k =
       ap₂ (λ x y. x ++ y) (results_renamed b.instructions k.0.instructions) (block_results_renamed bs k.1)
-      ∙ sym (map_append renamed_definition (flat_map (result_definitions old) b.instructions) (flat_map (λ (c : Block). flat_map (result_definitions old) c.instructions) bs))
+      ∙ sym (map-append renamed_definition (flat_map (result_definitions old) b.instructions) (flat_map (λ (c : Block). flat_map (result_definitions old) c.instructions) bs))
 
   found_renamed : (name : LocalName) (ds : List Definition) → definition_type (find (λ d. same_local d.0 name) (map renamed_definition ds)) ≡ option_map (renamed_tree names) (definition_type (find (λ d. same_local d.0 name) ds))
   found_renamed name [] = refl
@@ -251,5 +252,5 @@ module _ (old new : Structs) (names globals : Bytes → Bytes) (keeps : KeepsStr
       (ap₂ (λ x y. x ++ y)
       (ap (map parameter_definition) is.parameters ∙ parameters_renamed f.parameters)
       (ap (flat_map (λ (b : Block). flat_map (result_definitions new) b.instructions)) (blocks_renamed names globals f g is) ∙ block_results_renamed (blocks f) k.blocks)
-      ∙ sym (map_append renamed_definition (map parameter_definition f.parameters) (flat_map (λ (b : Block). flat_map (result_definitions old) b.instructions) (blocks f))))
+      ∙ sym (map-append renamed_definition (map parameter_definition f.parameters) (flat_map (λ (b : Block). flat_map (result_definitions old) b.instructions) (blocks f))))
       ∙ found_renamed name (definitions old f)

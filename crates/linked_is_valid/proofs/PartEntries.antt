@@ -3,9 +3,8 @@ use Rattle.std.proofs.Common.{◌≡◌, ℕ, zero, suc, ◌+◌, Bool, true, fa
 use Rattle.std.specs.Prelude.{slice_get, slice_index_or}
 use Rattle.std.specs.List.{AllByRecursion}
 use Rattle.std.specs.Option.{option_map_or}
-use Rattle.std.proofs.lemmas.Bool.{and_from, and_parts, and_right, both_ways, false_from_ne_true}
+use Rattle.std.proofs.lemmas.Bool.{and_from, and_parts, and_right, both_ways, false_from_ne_true, not-true}
 use Rattle.linkage_rules.proofs.Gathered.{all_joined}
-use Rattle.linked_is_valid.proofs.Linking.{flip}
 use Rattle.ir_tables.specs.declared.linkage.Linkage.{Linkage}
 use Rattle.ir_tables.specs.declared.linkage.Linkage.TheVariants.{External, Private, Internal, Common, Appending, ExternWeak, AvailableExternally, Linkonce, LinkonceOdr, Weak, WeakOdr}
 use Rattle.module_arena.specs.Module.{Variable, Alias, Function, Module, empty_module}
@@ -168,7 +167,7 @@ function_plain m f h defined = false_from_ne_true _ (λ e. go (is_llvm_name f.na
 
 -- nor has an alias
 pub alias_plain : (m : Module) (a : Alias) → AllHold (alias_demands m a) → is_llvm_name a.name ≡ false
-alias_plain m a h = flip _ (and_parts (not (is_llvm_name a.name)) _ h.1.1.1.0).0
+alias_plain m a h = not-true _ (and_parts (not (is_llvm_name a.name)) _ h.1.1.1.0).0
 
 -- what is kept to a part has no name that begins `llvm.`
 pub local_name_plain : (m : Module) (g : Global) → EntryHolds m g → is_local (linkage_of g) ≡ true → is_llvm_name (name_of g) ≡ false

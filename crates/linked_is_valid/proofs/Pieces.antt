@@ -3,6 +3,8 @@ use Rattle.std.proofs.Common.{◌≡◌, ℕ, ◌+◌, ◌-◌, ◌<◌, Bool, t
 use Rattle.std.specs.List.{list_any, list_all}
 use Rattle.std.proofs.lemmas.Bool.{and_from, and_parts, or_from, or_parts}
 use Rattle.std.proofs.lemmas.Option.{same_Some}
+use Rattle.std.proofs.lemmas.List.{append_assoc}
+use Rattle.std.proofs.lemmas.List.Concat.{flat_map-append}
 use Rattle.type_table.specs.Tree.{Tree, int, ptr, void, array, struct, named, Trees, no_trees, more_trees, Structs}
 use Rattle.type_table.specs.Shape.{Shape, int_leaf, ptr_leaf, void_leaf, opaque_leaf, array_of, struct_of, Shapes, no_shapes, more_shapes, with_first, expanded, all_expanded}
 use Rattle.module_arena.specs.Module.{Bytes, Constants, Module}
@@ -25,10 +27,6 @@ pub linked_after : (parts : List Module) (i : ℕ) (cs : Constants) (ps : List C
 linked_after parts i no_constants ps = refl
 linked_after parts i (more_constants t c cs) ps = ap (more_constants (renamed_tree (new_struct parts i) t) (renamed_constant (new_struct parts i) (new_global parts i) c)) (linked_after parts i cs ps)
 
-append_again : {A : Type 0} (xs ys zs : List A) → (xs ++ ys) ++ zs ≡ xs ++ (ys ++ zs)
-append_again [] ys zs = refl
-append_again (x ∷ xs) ys zs = ap (λ l. x ∷ l) (append_again xs ys zs)
-
 any_append : {A : Type 0} (p : A → Bool) (xs ys : List A) → list_any p xs ≡ false → list_any p ys ≡ false → list_any p (xs ++ ys) ≡ false
 any_append p [] ys h k = k
 any_append p (x ∷ xs) ys h k =
@@ -41,13 +39,9 @@ all_append p (x ∷ xs) ys h k =
     let both = and_parts (p x) (list_all p xs) h in
     and_from (p x) _ both.0 (all_append p xs ys both.1 k)
 
-flat_append : {A B : Type 0} (f : A → List B) (xs ys : List A) → flat_map f (xs ++ ys) ≡ flat_map f xs ++ flat_map f ys
-flat_append f [] ys = refl
-flat_append f (x ∷ xs) ys = ap (λ l. f x ++ l) (flat_append f xs ys) ∙ sym (append_again (f x) (flat_map f xs) (flat_map f ys))
-
 constants_after : (cs ds : Constants) → constants_of (after cs ds) ≡ constants_of cs ++ constants_of ds
 constants_after no_constants ds = refl
-constants_after (more_constants t c cs) ds = ap (λ l. constants_in t c ++ l) (constants_after cs ds) ∙ sym (append_again (constants_in t c) (constants_of cs) (constants_of ds))
+constants_after (more_constants t c cs) ds = ap (λ l. constants_in t c ++ l) (constants_after cs ds) ∙ sym (append_assoc (constants_in t c) (constants_of cs) (constants_of ds))
 
 types_after : (cs ds : Constants) → constant_types (after cs ds) ≡ constant_types cs ++ constant_types ds
 types_after no_constants ds = refl
@@ -87,7 +81,7 @@ no_elements m t = record { no_intrinsic = refl; types = refl; void_free = refl; 
 
 pub elements_after : (m : Module) (t : Tree) (n k : ℕ) (cs ds : Constants) → AreElements m t n cs → AreElements m t k ds → AreElements m t (n + k) (after cs ds)
 elements_after m t n k cs ds a b = record {
-  no_intrinsic = ap (list_any (is_only_called m)) (ap (flat_map address_in) (constants_after cs ds) ∙ flat_append address_in (constants_of cs) (constants_of ds)) ∙ any_append (is_only_called m) (flat_map address_in (constants_of cs)) (flat_map address_in (constants_of ds)) a.no_intrinsic b.no_intrinsic;
+  no_intrinsic = ap (list_any (is_only_called m)) (ap (flat_map address_in) (constants_after cs ds) ∙ flat_map-append address_in (constants_of cs) (constants_of ds)) ∙ any_append (is_only_called m) (flat_map address_in (constants_of cs)) (flat_map address_in (constants_of ds)) a.no_intrinsic b.no_intrinsic;
   types = ap (list_all (types_written_suit m.structs)) (constants_after cs ds) ∙ all_append (types_written_suit m.structs) (constants_of cs) (constants_of ds) a.types b.types;
   void_free = ap (list_all is_free_of_void) (types_after cs ds) ∙ all_append is_free_of_void (constant_types cs) (constant_types ds) a.void_free b.void_free;
   fit = fit_after m.structs n k t cs ds a.fit b.fit;

@@ -5,7 +5,7 @@ use Rattle.std.specs.Prelude.{slice_get}
 use Rattle.std.specs.List.{list_all}
 use Rattle.std.specs.Map.{lookup}
 use Rattle.std.proofs.lemmas.Bool.{and_parts, or_left, or_right}
-use Rattle.std.proofs.lemmas.Option.{same_Some}
+use Rattle.std.proofs.lemmas.Option.{same_Some, none-some}
 use Rattle.type_table.specs.Tree.{Tree, int, ptr, void, array, struct, named, Trees, no_trees, more_trees, TreeBody, opaque_body, fields, Structs, body_of}
 use Rattle.type_table.specs.Shape.{Label, Shape, int_leaf, ptr_leaf, void_leaf, opaque_leaf, array_of, struct_of, Shapes, no_shapes, more_shapes, with_first, expanded, all_expanded, body_shape, name_shape, shape, named_shape}
 use Rattle.type_table.proofs.Rooms.{unmapped, unjoined, name_shape-zero, name_shape-suc}
@@ -59,11 +59,8 @@ module _ (look there : Bytes → Option Shape) (more : (name : Bytes) (s : Shape
       let inside = unmapped (struct_of label packed) (all_expanded look ts) s h in
       ap (option_map (struct_of label packed)) (trees_more ts inside.0 inside.1) ∙ ap Some inside.2
 
-none_some : {A : Type 0} (x : A) → None ≡ Some x → ⊥
-none_some x e = cc
-
 name_more : (label : Bytes → Label) (bodies : Bytes → TreeBody) (room : ℕ) (name : Bytes) (s : Shape) → name_shape label bodies room name ≡ Some s → name_shape label bodies (suc room) name ≡ Some s
-name_more label bodies zero name s h = absurd (none_some s (sym (name_shape-zero label bodies name) ∙ h))
+name_more label bodies zero name s h = absurd (none-some s (sym (name_shape-zero label bodies name) ∙ h))
 name_more label bodies (suc room) name s h =
     name_shape-suc label bodies (suc room) name
     ∙ body_more (name_shape label bodies room) (name_shape label bodies (suc room)) (λ n x e. name_more label bodies room n x e) (label name) (bodies name) s (sym (name_shape-suc label bodies room name) ∙ h)

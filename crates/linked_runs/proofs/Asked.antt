@@ -1,7 +1,7 @@
 -- Appended symbols of valid parts are of lists.
 use Rattle.std.proofs.Common.{◌≡◌, ℕ, Bool, true, false, not, ◌||◌, ◌++◌, Option, Some, None, refl, ap}
 use Rattle.std.specs.List.{AllByRecursion}
-use Rattle.std.proofs.lemmas.Bool.{and_parts}
+use Rattle.std.proofs.lemmas.Bool.{and_parts, not-true}
 use Rattle.type_table.specs.Tree.{Tree, int, ptr, void, array, struct, named}
 use Rattle.module_arena.specs.EntryRules.{is_list_of, is_list_variable, appending_variable_suits}
 use Rattle.module_arena.specs.Module.{Constant, Integer, Truth, Null, Undef, Poison, ZeroInitializer, Address, ByteString, Aggregate, ElementAddress, Cast, Binary, Constants, no_constants, more_constants, Variable, Module}
@@ -14,10 +14,6 @@ use Rattle.linkage_rules.proofs.Entries.{all_follow}
 use Rattle.linked_runs.proofs.Known.{names_in_pieces, IsList, AppendsLists}
 use Rattle.module_linker.proofs.Parts.{globals_all}
 use Rattle.module_linker.proofs.Asked.{of_variables, of_aliases, of_functions}
-
-flipped : (b : Bool) → not b ≡ true → b ≡ false
-flipped false h = refl
-flipped true h = cc
 
 module _ (i : ℕ) where
   elements_names : (cs : Constants) → names_in_pieces (pieces_of_constants i cs) ≡ names_in_constants cs
@@ -58,5 +54,5 @@ module _ (i : ℕ) where
   append_lists m valid =
       globals_all (AppendsLists i) m
       (all_follow _ _ m.variables (λ v h. appends_list v h.1.1.0) (of_variables m valid))
-      (all_follow _ _ m.functions (λ f h. flipped (is_appending f.linkage) h.1.1.0) (of_functions m valid))
-      (all_follow _ _ m.aliases (λ a h. flipped (is_appending a.linkage) h.1.1.0) (of_aliases m valid))
+      (all_follow _ _ m.functions (λ f h. not-true (is_appending f.linkage) h.1.1.0) (of_functions m valid))
+      (all_follow _ _ m.aliases (λ a h. not-true (is_appending a.linkage) h.1.1.0) (of_aliases m valid))

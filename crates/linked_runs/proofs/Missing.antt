@@ -4,6 +4,7 @@ use Rattle.std.specs.Prelude.{if◌then◌else◌, is_some}
 use Rattle.std.specs.List.{list_any, AllByRecursion}
 use Rattle.std.specs.Option.{option_map_or}
 use Rattle.std.proofs.lemmas.Bool.{cond-true, cond-false, both_ways, and_parts}
+use Rattle.std.proofs.lemmas.List.Folds.{list_any-append}
 use Rattle.module_arena.specs.Module.{Bytes, Constant, Integer, Truth, Null, Undef, Poison, ZeroInitializer, Address, ByteString, Aggregate, ElementAddress, Cast, Binary, Square, Constants, no_constants, more_constants, Module}
 use Rattle.module_arena.specs.UsedNames.{names_in_constant, names_in_constants}
 use Rattle.linkage_rules.specs.Bind.{Definition, Appended, bound_to, behind_from, behind, target_of, own_meaning, meaning}
@@ -28,7 +29,7 @@ use Rattle.module_linker.specs.Carried.{merged, IsSymbol, carry, moved}
 use Rattle.module_linker.specs.Known.{KnownName}
 use Rattle.linked_runs.proofs.Known.{IsKnown, IsList, AppendsLists, AppendAlike, names_in_pieces, Fit}
 use Rattle.module_linker.specs.Merges.{Merges}
-use Rattle.module_linker.proofs.Searches.{any_join, any_flat, any_map, find_name, all_both, at_all, all_front, all_back}
+use Rattle.module_linker.proofs.Searches.{any_flat, any_map, find_name, all_both, at_all, all_front, all_back}
 use Rattle.linked_runs.proofs.Contents.{all_flat}
 use Rattle.linked_runs.proofs.NamesKept.{constant_names, body_names, initialiser_names}
 use Rattle.linked_runs.proofs.Places.{all_symbols, behind_is}
@@ -47,7 +48,7 @@ any_either p false xs = refl
 flat_symbols : {A B : Type 0} (p : B → Bool) (q : B → Bool) (f g : A → List B) (new : A → A) (xs : List A) → AllByRecursion (λ x. list_any p (f (new x)) ≡ list_any q (g x)) xs → list_any p (flat_map f (map new xs)) ≡ list_any q (flat_map g xs)
 flat_symbols p q f g new [] a = refl
 flat_symbols p q f g new (x ∷ xs) a =
-    any_join p (f (new x)) (flat_map f (map new xs)) ∙ ap₂ (λ b c. b || c) a.0 (flat_symbols p q f g new xs a.1) ∙ sym (any_join q (g x) (flat_map g xs))
+    list_any-append p (f (new x)) (flat_map f (map new xs)) ∙ ap₂ (λ b c. b || c) a.0 (flat_symbols p q f g new xs a.1) ∙ sym (list_any-append q (g x) (flat_map g xs))
 
 -- MEANINGS
 
@@ -135,14 +136,14 @@ module _ (parts : List Module) (fit : Fit parts) (merges : Merges parts) where
     pieces_used : (ps : List ContentPiece) → AllByRecursion KnownNames ps → list_any used_after (names_in_constants (linked_pieces parts ps)) ≡ list_any piece_uses ps
     pieces_used [] known = refl
     pieces_used (p ∷ ps) known =
-        any_join used_after (names_in_constant (linked_constant parts p.part p.value)) (names_in_constants (linked_pieces parts ps))
+        list_any-append used_after (names_in_constant (linked_constant parts p.part p.value)) (names_in_constants (linked_pieces parts ps))
         ∙ ap₂ (λ b c. b || c) (constant_same p.part p.value known.0) (pieces_used ps known.1)
 
     constants_used : (i : ℕ) (cs : Constants) → list_any piece_uses (pieces_of_constants i cs) ≡ list_any (used_before i) (names_in_pieces (pieces_of_constants i cs))
     constants_used i no_constants = refl
     constants_used i (more_constants t c cs) =
         ap (λ b. list_any (used_before i) (names_in_constant c) || b) (constants_used i cs)
-        ∙ sym (any_join (used_before i) (names_in_constant c) (names_in_pieces (pieces_of_constants i cs)))
+        ∙ sym (list_any-append (used_before i) (names_in_constant c) (names_in_pieces (pieces_of_constants i cs)))
 
     elements_used : (i : ℕ) (c : Constant) → list_any piece_uses (elements_of i c) ≡ list_any (used_before i) (names_in_pieces (elements_of i c))
     elements_used i (Aggregate b cs) = constants_used i cs

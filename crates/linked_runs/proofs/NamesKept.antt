@@ -1,14 +1,14 @@
 -- What is written under other names names the other names.
 use Rattle.std.proofs.Common.{◌≡◌, List, [], ◌∷◌, ◌++◌, map, Option, Some, None, refl, sym, ap₂, ◌∙◌, option_map, flat_map}
 use Rattle.std.specs.Option.{option_map_or}
+use Rattle.std.proofs.lemmas.List.{map-append}
 use Rattle.module_arena.specs.Module.{Bytes, Constant, Integer, Truth, Null, Undef, Poison, ZeroInitializer, Address, ByteString, Aggregate, ElementAddress, Cast, Binary, Constants, no_constants, more_constants, Value, Local, Known, Operand, Operation, BinaryOperation, Compare, Convert, Select, Freeze, Phi, Load, Store, Alloca, GetElementPtr, Call, ExtractValue, InsertValue, Ending, ReturnVoid, Return, Jump, Branch, Switch, Unreachable, Block}
 use Rattle.module_arena.specs.Renamed.{renamed_constant, renamed_constants, renamed_value, renamed_operand, renamed_incoming, renamed_operation, renamed_instruction, renamed_case, renamed_ending, renamed_block}
 use Rattle.module_arena.specs.UsedNames.{names_in_constant, names_in_constants, names_in_value, names_in_operand, names_in_incoming, names_in_operation, names_in_instruction, names_in_case, names_in_ending, names_in_block}
-use Rattle.module_linker.proofs.Searches.{map_append}
 
 module _ (structs globals : Bytes → Bytes) where
   join : (a b xs ys : List Bytes) → a ≡ map globals xs → b ≡ map globals ys → a ++ b ≡ map globals (xs ++ ys)
-  join a b xs ys h k = ap₂ (λ x y. x ++ y) h k ∙ sym (map_append globals xs ys)
+  join a b xs ys h k = ap₂ (λ x y. x ++ y) h k ∙ sym (map-append globals xs ys)
 
   flat : {A : Type 0} (names : A → List Bytes) (new : A → A) (xs : List A) → ((x : A) → names (new x) ≡ map globals (names x)) → flat_map names (map new xs) ≡ map globals (flat_map names xs)
   flat names new [] h = refl

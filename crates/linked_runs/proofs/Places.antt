@@ -5,6 +5,7 @@ use Rattle.std.specs.List.{AllByRecursion, cons_option}
 use Rattle.std.specs.Map.{lookup}
 use Rattle.std.specs.Int.{next_multiple_of}
 use Rattle.std.proofs.lemmas.Option.{slice_get-map}
+use Rattle.std.proofs.lemmas.List.{map-append}
 use Rattle.module_arena.specs.Module.{Module}
 use Rattle.linkage_rules.specs.Bind.{behind_from, target_of, behind}
 use Rattle.linkage_rules.specs.Entries.{Entry, same_symbol}
@@ -20,7 +21,7 @@ use Rattle.run_rules.specs.Look.{pointer_to, variable_bounds, bounds_in}
 use Rattle.module_linker.specs.Carried.{merged, IsSymbol, carry}
 use Rattle.linked_runs.proofs.Known.{IsKnown, Fit}
 use Rattle.module_linker.specs.Merges.{Merges}
-use Rattle.module_linker.proofs.Searches.{map_append, at_all, lookup_map, position_map, all_both, all_front, all_back}
+use Rattle.module_linker.proofs.Searches.{at_all, lookup_map, position_map, all_both, all_front, all_back}
 use Rattle.linked_runs.proofs.Rooms.{room_same}
 
 module _ {K : Type 0} (h : Symbol → Option K) where
@@ -96,7 +97,7 @@ module _ (parts : List Module) (fit : Fit parts) (merges : Merges parts) where
   places_same =
       ap₂ (λ rs fs. placed_from 65536 rs ++ addressed_from 0 fs) rooms_same merges.functions
       ∙ ap₂ (λ xs ys. xs ++ ys) (placed_map (carry parts) 65536 (rooms parts)) (addressed_map (carry parts) 0 (function_symbols parts))
-      ∙ sym (map_append (under (carry parts)) (placed_from 65536 (rooms parts)) (addressed_from 0 (function_symbols parts)))
+      ∙ sym (map-append (under (carry parts)) (placed_from 65536 (rooms parts)) (addressed_from 0 (function_symbols parts)))
 
   -- what an alias is of is a symbol
   pub behind_is : (s : Symbol) → IsSymbol parts s → IsSymbol parts (behind parts s)

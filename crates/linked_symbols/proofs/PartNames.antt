@@ -103,10 +103,6 @@ pub length_mapped : {A B : Type 0} (f : A → B) (xs : List A) → length (map f
 length_mapped f [] = refl
 length_mapped f (x ∷ xs) = ap suc (length_mapped f xs)
 
-pub length_joined : {A : Type 0} (xs : List A) (x : A) → length (xs ++ x ∷ []) ≡ length xs + 1
-length_joined [] x = refl
-length_joined (y ∷ xs) x = ap suc (length_joined xs x) ∙ omega arith
-
 -- the names of the first parts
 abbrev pub AreNamesUpto : List Module → List NamesTold → Type 0
 AreNamesUpto parts all = (k : ℕ) (names : NamesTold) → slice_get all k ≡ Some names → AreNames parts k names

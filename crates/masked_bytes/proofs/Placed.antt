@@ -57,18 +57,15 @@ range-placed f a from count xs =
     ∙ take-placed f count (a + from) (drop from xs)
     ∙ ap (λ m. mapped_with_places f (a + from) (take m (drop from xs))) (sym n)
 
-regroup : {X : Type 0} (xs ys zs : List X) → (xs ++ ys) ++ zs ≡ xs ++ (ys ++ zs)
-regroup xs ys zs = simp append_assoc
-
 -- elements are put, and elsewhere the functions agree
 pub placed-put : {X Y : Type 0} (f g : ℕ → X → Y) (a at : ℕ) (new xs : List X) → at + length new ≤ length xs → ((k : ℕ) (x : X) → k < at → g (a + k) x ≡ f (a + k) x) → ((k : ℕ) (x : X) → at + length new ≤ k → k < length xs → g (a + k) x ≡ f (a + k) x) → mapped_with_places g a (put at new xs) ≡ put at (mapped_with_places g (a + at) new) (mapped_with_places f a xs)
 placed-put f g a at new xs fits before after =
-    ap (λ ys. mapped_with_places g a ys) (regroup (take at xs) new (drop (at + length new) xs))
+    ap (λ ys. mapped_with_places g a ys) (append_assoc (take at xs) new (drop (at + length new) xs))
     ∙ placed-append g a (take at xs) (new ++ drop (at + length new) xs)
     ∙ ap (λ ys. ys ++ mapped_with_places g (a + length (take at xs)) (new ++ drop (at + length new) xs)) front
     ∙ ap (λ n. take at (mapped_with_places f a xs) ++ mapped_with_places g (a + n) (new ++ drop (at + length new) xs)) long
     ∙ ap (λ ys. take at (mapped_with_places f a xs) ++ ys) (placed-append g (a + at) new (drop (at + length new) xs) ∙ ap (λ ys. mapped_with_places g (a + at) new ++ ys) back)
-    ∙ sym (regroup (take at (mapped_with_places f a xs)) (mapped_with_places g (a + at) new) (drop (at + length (mapped_with_places g (a + at) new)) (mapped_with_places f a xs)))
+    ∙ sym (append_assoc (take at (mapped_with_places f a xs)) (mapped_with_places g (a + at) new) (drop (at + length (mapped_with_places g (a + at) new)) (mapped_with_places f a xs)))
   where
     long : length (take at xs) ≡ at
     long = length-take-le at xs (omega (arith, fits))

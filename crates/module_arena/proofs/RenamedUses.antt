@@ -1,18 +1,15 @@
 -- What is renamed uses the new names of what it used.
-use Rattle.std.proofs.Common.{◌≡◌, List, [], ◌∷◌, ◌++◌, map, Option, Some, None, refl, sym, ap, ap₂, ◌∙◌, option_map}
+use Rattle.std.proofs.Common.{◌≡◌, List, [], ◌∷◌, ◌++◌, map, Option, Some, None, refl, sym, ap₂, ◌∙◌, option_map}
 use Rattle.std.specs.Prelude.{flat_map}
 use Rattle.std.specs.Option.{option_map_or}
+use Rattle.std.proofs.lemmas.List.{map-append}
 use Rattle.module_arena.specs.Module.{Bytes, Constant, Integer, Truth, Null, Undef, Poison, ZeroInitializer, Address, ByteString, Aggregate, ElementAddress, Cast, Binary, Constants, no_constants, more_constants, Value, Local, Known, Operand, Operation, BinaryOperation, Compare, Convert, Select, Freeze, Phi, Load, Store, Alloca, GetElementPtr, Call, ExtractValue, InsertValue, Ending, ReturnVoid, Return, Jump, Branch, Switch, Unreachable, Block}
 use Rattle.module_arena.specs.Renamed.{renamed_constant, renamed_constants, renamed_value, renamed_operand, renamed_incoming, renamed_operation, renamed_instruction, renamed_case, renamed_ending, renamed_block}
 use Rattle.module_arena.specs.UsedNames.{names_in_constant, names_in_constants, names_in_value, names_in_operand, names_in_incoming, names_in_operation, names_in_instruction, names_in_case, names_in_ending, names_in_block}
 
-both : {A B : Type 0} (f : A → B) (xs ys : List A) → map f (xs ++ ys) ≡ map f xs ++ map f ys
-both f [] ys = refl
-both f (x ∷ xs) ys = ap (λ l. f x ∷ l) (both f xs ys)
-
 -- two lists, each renamed
 joined : {A B : Type 0} (f : A → B) (us vs : List B) (xs ys : List A) → us ≡ map f xs → vs ≡ map f ys → us ++ vs ≡ map f (xs ++ ys)
-joined f us vs xs ys h k = ap₂ (λ x y. x ++ y) h k ∙ sym (both f xs ys)
+joined f us vs xs ys h k = ap₂ (λ x y. x ++ y) h k ∙ sym (map-append f xs ys)
 
 pub flat_uses : {A B N : Type 0} (f : N → N) (r : A → B) (u : B → List N) (v : A → List N) → ((x : A) → u (r x) ≡ map f (v x)) → (xs : List A) → flat_map u (map r xs) ≡ map f (flat_map v xs)
 flat_uses f r u v h [] = refl

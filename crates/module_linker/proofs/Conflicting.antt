@@ -4,6 +4,7 @@ use Rattle.std.specs.Prelude.{slice_get, slice_index_or, length, flat_map, Conta
 use Rattle.std.specs.List.{list_any, AllByRecursion}
 use Rattle.std.proofs.lemmas.Bool.{or_left, or_right, or_parts, cond-true, cond-false, both_ways}
 use Rattle.std.proofs.lemmas.Option.{same_Some}
+use Rattle.std.proofs.lemmas.List.Elements.{filter-append}
 use Rattle.module_arena.specs.Module.{Bytes, Module}
 use Rattle.linkage_rules.specs.Globals.{Global, name_of, linkage_of, globals}
 use Rattle.linkage_rules.specs.Linkages.{is_local}
@@ -35,14 +36,6 @@ of_name n e = same_symbol (Shared n) (symbol_of e)
 named_so : (b : Bool) (i : ℕ) (n m : Bytes) → same_symbol (Shared n) (if b then Local i m else Shared m) ≡ true → n ≡ m
 named_so true i n m h = cc
 named_so false i n m h = name_exact n m h
-
-filter_append : {A : Type 0} (p : A → Bool) (xs ys : List A) → filter p (xs ++ ys) ≡ filter p xs ++ filter p ys
-filter_append p [] ys = refl
-filter_append p (x ∷ xs) ys = go (p x) refl (filter_append p xs ys)
-  where
-    go : (b : Bool) → p x ≡ b → filter p (xs ++ ys) ≡ filter p xs ++ filter p ys → filter p (x ∷ xs ++ ys) ≡ filter p (x ∷ xs) ++ filter p ys
-    go true e rest = rw e (ap (λ l. x ∷ l) rest)
-    go false e rest = rw e rest
 
 none_named : (i : ℕ) (n : Bytes) (gs : List Global) → list_any (bytes_eq n) (map name_of gs) ≡ false → filter (of_name n) (map (entry i) gs) ≡ []
 none_named i n [] h = refl
@@ -78,7 +71,7 @@ later_than i j (m ∷ ms) below = all_append (λ (d : Entry). i < d.part) (map (
 ascends_from : (i : ℕ) (n : Bytes) (ms : List Module) → AllByRecursion AreDistinct ms → Ascending (filter (of_name n) (entries_from i ms))
 ascends_from i n [] a = tt
 ascends_from i n (m ∷ ms) a =
-    subst Ascending (sym (filter_append (of_name n) (map (entry i) (globals m)) (entries_from (suc i) ms)))
+    subst Ascending (sym (filter-append (of_name n) (map (entry i) (globals m)) (entries_from (suc i) ms)))
     (front_ascends i n (globals m) (filter (of_name n) (entries_from (suc i) ms)) a.0 (all_filter (λ (d : Entry). i < d.part) (of_name n) (entries_from (suc i) ms) (later_than i (suc i) ms (le_refl (suc i)))) (ascends_from (suc i) n ms a.1))
 
 -- the entries of a name stand in the order of their parts, one a part

@@ -1,7 +1,8 @@
 -- No two entries of a well formed part have one name.
-use Rattle.std.proofs.Common.{◌≡◌, Bool, true, false, not, List, [], ◌∷◌, ◌++◌, map, refl, sym, ap, ap₂, ◌∙◌, subst, bytes_eq, append-nil}
+use Rattle.std.proofs.Common.{◌≡◌, true, false, not, List, [], ◌∷◌, ◌++◌, map, refl, sym, ap, ap₂, ◌∙◌, subst, bytes_eq, append-nil}
 use Rattle.std.specs.List.{list_any}
-use Rattle.std.proofs.lemmas.Bool.{and_parts, or_parts, or_from, and_from}
+use Rattle.std.proofs.lemmas.Bool.{and_parts, or_parts, or_from, and_from, not-true}
+use Rattle.std.proofs.lemmas.List.{map-append}
 use Rattle.ir_tables.specs.Table.{is_distinct}
 use Rattle.module_arena.specs.Functions.{variable_names, alias_names, function_names}
 use Rattle.module_arena.specs.Module.{Bytes, Module}
@@ -12,18 +13,14 @@ use Rattle.module_linker.proofs.Symbols.{any_append, any_halves}
 use Rattle.module_linker.proofs.Apart.{Apart}
 use Rattle.linkage_rules.proofs.Lists.{other_way}
 use Rattle.linkage_rules.specs.SymbolLaws.{name_self, name_exact}
-use Rattle.module_linker.proofs.Searches.{map_append, map_map}
-
-flipped : (b : Bool) → not b ≡ true → b ≡ false
-flipped false h = refl
-flipped true h = cc
+use Rattle.module_linker.proofs.Searches.{map_map}
 
 abbrev Names : Type 0
 Names = List Bytes
 
 pub apart_from : (xs : Names) → is_distinct bytes_eq xs ≡ true → Apart bytes_eq xs
 apart_from [] h = tt
-apart_from (x ∷ xs) h = let halves = and_parts (not (list_any (bytes_eq x) xs)) _ h in (flipped _ halves.0, apart_from xs halves.1)
+apart_from (x ∷ xs) h = let halves = and_parts (not (list_any (bytes_eq x) xs)) _ h in (not-true _ halves.0, apart_from xs halves.1)
 
 pub distinct_from : (xs : Names) → Apart bytes_eq xs → is_distinct bytes_eq xs ≡ true
 distinct_from [] a = refl
@@ -60,8 +57,8 @@ are_distinct m w =
   where
     names : map name_of ((map OfVariable m.variables ++ map OfFunction m.functions) ++ map OfAlias m.aliases) ≡ variable_names m ++ (function_names m ++ alias_names m)
     names =
-        map_append name_of (map OfVariable m.variables ++ map OfFunction m.functions) (map OfAlias m.aliases)
-        ∙ ap₂ (λ x y. x ++ y) (map_append name_of (map OfVariable m.variables) (map OfFunction m.functions) ∙ ap₂ (λ x y. x ++ y) (map_map name_of OfVariable m.variables) (map_map name_of OfFunction m.functions)) (map_map name_of OfAlias m.aliases)
+        map-append name_of (map OfVariable m.variables ++ map OfFunction m.functions) (map OfAlias m.aliases)
+        ∙ ap₂ (λ x y. x ++ y) (map-append name_of (map OfVariable m.variables) (map OfFunction m.functions) ∙ ap₂ (λ x y. x ++ y) (map_map name_of OfVariable m.variables) (map_map name_of OfFunction m.functions)) (map_map name_of OfAlias m.aliases)
         ∙ joined (variable_names m) (function_names m) (alias_names m)
 
 pub structs_distinct : (m : Module) → IsWellFormed m → Apart bytes_eq (struct_names m)

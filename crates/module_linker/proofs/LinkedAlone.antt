@@ -5,6 +5,7 @@ use Rattle.std.specs.Option.{option_or}
 use Rattle.std.specs.List.{list_any, list_all, AllByRecursion}
 use Rattle.std.proofs.lemmas.Bool.{or_from, or_parts, and_from, cond-true, cond-false, both_ways, false_from_ne_true}
 use Rattle.std.proofs.lemmas.Option.{slice_get-map}
+use Rattle.std.proofs.lemmas.List.{map-append}
 use Rattle.ir_tables.specs.declared.linkage.Linkage.TheVariants.{External, ExternWeak}
 use Rattle.type_table.specs.Tree.{TreeBody, opaque_body, body_of}
 use Rattle.module_arena.specs.Module.{Bytes, Variable, Alias, Function, Module}
@@ -26,7 +27,7 @@ use Rattle.module_linker.proofs.ByKind.{AliasesDefine, AreVariables, AreFunction
 use Rattle.module_linker.proofs.StructRows.{value_at, index_at}
 use Rattle.module_linker.proofs.OwnNames.{self_named, own_renaming, own_global, own_structs, own_struct}
 use Rattle.module_linker.proofs.Alone.{StaysAlone, definition_own, declaration_own}
-use Rattle.module_linker.proofs.Searches.{map_map, map_append, at_all}
+use Rattle.module_linker.proofs.Searches.{map_map, at_all}
 use Rattle.module_linker.proofs.Unchanged.{IsUnchanged}
 
 -- LISTS
@@ -110,8 +111,8 @@ module _ (m : Module) (s : StaysAlone m) where
 
   three_kinds : map entry (globals m) ≡ variable_entries ++ function_entries ++ alias_entries
   three_kinds =
-      map_append entry (map OfVariable m.variables ++ map OfFunction m.functions) (map OfAlias m.aliases)
-      ∙ ap (λ l. l ++ alias_entries) (map_append entry (map OfVariable m.variables) (map OfFunction m.functions))
+      map-append entry (map OfVariable m.variables ++ map OfFunction m.functions) (map OfAlias m.aliases)
+      ∙ ap (λ l. l ++ alias_entries) (map-append entry (map OfVariable m.variables) (map OfFunction m.functions))
 
   aliases_define : AliasesDefine (entries parts)
   aliases_define = subst AliasesDefine (sym entries_are) (go (globals m) s.stay)
@@ -132,7 +133,7 @@ module _ (m : Module) (s : StaysAlone m) where
       (variables_alone parts entry_keys aliases_define variable_entries function_entries alias_entries (entries_are ∙ three_kinds) (all_variables m.variables) (all_functions m.functions) (all_aliases m.aliases))
       (functions_alone parts entry_keys aliases_define variable_entries function_entries alias_entries (entries_are ∙ three_kinds) (all_variables m.variables) (all_functions m.functions) (all_aliases m.aliases)))
       (alias_symbols_alone parts entry_keys aliases_define variable_entries function_entries alias_entries (entries_are ∙ three_kinds) (all_variables m.variables) (all_functions m.functions) (all_aliases m.aliases))
-      ∙ sym (map_append symbol_of (variable_entries ++ function_entries) alias_entries ∙ ap (λ l. l ++ map symbol_of alias_entries) (map_append symbol_of variable_entries function_entries))
+      ∙ sym (map-append symbol_of (variable_entries ++ function_entries) alias_entries ∙ ap (λ l. l ++ map symbol_of alias_entries) (map-append symbol_of variable_entries function_entries))
       ∙ ap (map symbol_of) (sym three_kinds)
     where
       all_variables : (vs : List Variable) → AreVariables (map entry (map OfVariable vs))

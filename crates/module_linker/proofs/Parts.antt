@@ -3,6 +3,7 @@ use Rattle.std.proofs.Common.{◌≡◌, ℕ, suc, ◌+◌, Bool, true, List, []
 use Rattle.std.specs.Prelude.{slice_get}
 use Rattle.std.specs.List.{list_any, list_all, AllByRecursion}
 use Rattle.std.proofs.lemmas.Bool.{and_parts, and_from, or_left, or_right}
+use Rattle.std.proofs.lemmas.List.Folds.{list_any-append}
 use Rattle.type_table.specs.Tree.{TreeBody}
 use Rattle.module_arena.specs.Module.{Bytes, Module, empty_module}
 use Rattle.linkage_rules.specs.Entries.{Entry, entries_from, entries, part_at, symbol_name}
@@ -11,7 +12,7 @@ use Rattle.linkage_rules.specs.Globals.{Global, OfVariable, OfFunction, OfAlias,
 use Rattle.module_linker.proofs.Symbols.{all_append, all_map}
 use Rattle.module_linker.proofs.StructRows.{value_at}
 use Rattle.module_linker.specs.Structs.{structs_from, struct_symbols, part_of}
-use Rattle.module_linker.proofs.Searches.{at_all, any_join}
+use Rattle.module_linker.proofs.Searches.{at_all}
 
 -- LISTS
 
@@ -31,10 +32,10 @@ all_flat_true p f [] h = tt
 all_flat_true p f (x ∷ xs) h = let halves = all_halves p (f x) (flat_map f xs) h in (halves.0, all_flat_true p f xs halves.1)
 
 pub any_first : {A : Type 0} (p : A → Bool) (xs ys : List A) → list_any p xs ≡ true → list_any p (xs ++ ys) ≡ true
-any_first p xs ys h = any_join p xs ys ∙ or_left (list_any p xs) (list_any p ys) h
+any_first p xs ys h = list_any-append p xs ys ∙ or_left (list_any p xs) (list_any p ys) h
 
 pub any_last : {A : Type 0} (p : A → Bool) (xs ys : List A) → list_any p ys ≡ true → list_any p (xs ++ ys) ≡ true
-any_last p xs ys h = any_join p xs ys ∙ or_right (list_any p xs) (list_any p ys) h
+any_last p xs ys h = list_any-append p xs ys ∙ or_right (list_any p xs) (list_any p ys) h
 
 -- ENTRIES
 

@@ -2,6 +2,7 @@
 use Rattle.std.proofs.Common.{◌≡◌, Bool, true, false, List, [], ◌∷◌, ◌++◌, map, Option, Some, None, refl, sym, ap, ap₂, ◌∙◌, subst, append-nil}
 use Rattle.std.specs.List.{AllByRecursion}
 use Rattle.std.proofs.lemmas.Bool.{both_ways}
+use Rattle.std.proofs.lemmas.List.{map-append}
 use Rattle.module_arena.specs.Module.{Module}
 use Rattle.linkage_rules.specs.Globals.{Global, is_variable, is_alias, globals}
 use Rattle.linkage_rules.specs.Lists.{has}
@@ -18,7 +19,7 @@ use Rattle.module_linker.proofs.Names.{keys_named}
 use Rattle.module_linker.proofs.Merged.{Row, as_row, rows_apart, given_after, variable_rows, function_rows, alias_rows, renaming_split, keys, names, linked_is_alias, linked_is_alias_none, entry_by, row_entry, linked_symbol, linked_kind}
 use Rattle.module_linker.proofs.Moved.{moved_defines}
 use Rattle.module_linker.proofs.Sorted.{IsVariable, IsFunction, by_kind, sorted}
-use Rattle.module_linker.proofs.Searches.{map_map, map_append}
+use Rattle.module_linker.proofs.Searches.{map_map}
 use Rattle.module_linker.specs.Carried.{merged}
 
 -- LISTS
@@ -94,8 +95,8 @@ module _ (parts : List Module) (together : GoTogether parts) where
 
   map_three : {B : Type 0} (f : Row → B) → map f (renaming parts) ≡ map f (variable_rows parts) ++ map f (function_rows parts) ++ map f (alias_rows parts)
   map_three f =
-      ap (map f) (renaming_split parts) ∙ map_append f (variable_rows parts ++ function_rows parts) (alias_rows parts)
-      ∙ ap (λ l. l ++ map f (alias_rows parts)) (map_append f (variable_rows parts) (function_rows parts))
+      ap (map f) (renaming_split parts) ∙ map-append f (variable_rows parts ++ function_rows parts) (alias_rows parts)
+      ∙ ap (λ l. l ++ map f (alias_rows parts)) (map-append f (variable_rows parts) (function_rows parts))
 
   pub globals_merged : globals (link_result parts) ≡ linked_globals parts
   globals_merged =

@@ -4,10 +4,7 @@ use Rattle.std.specs.Prelude.{slice_get}
 use Rattle.std.specs.List.{list_any, AllByRecursion, position_or_len}
 use Rattle.std.specs.Map.{lookup}
 use Rattle.std.proofs.lemmas.Option.{same_Some}
-
-pub map_append : {A B : Type 0} (f : A → B) (xs ys : List A) → map f (xs ++ ys) ≡ map f xs ++ map f ys
-map_append f [] ys = refl
-map_append f (x ∷ xs) ys = ap (λ l. f x ∷ l) (map_append f xs ys)
+use Rattle.std.proofs.lemmas.List.Folds.{list_any-append}
 
 pub at_all : {A : Type 0} (P : A → Type 0) (xs : List A) (k : ℕ) (x : A) → AllByRecursion P xs → slice_get xs k ≡ Some x → P x
 at_all P [] k x a h = cc
@@ -53,17 +50,9 @@ pub lookup_map : {A B C : Type 0} (f : A → B) (p : B → Bool) (q : A → Bool
 lookup_map f p q [] a = refl
 lookup_map f p q (r ∷ rows) a = λ i. cond (a.0 i) (Some r.1) (lookup_map f p q rows a.1 i)
 
-pub any_join : {A : Type 0} (p : A → Bool) (xs ys : List A) → list_any p (xs ++ ys) ≡ (list_any p xs || list_any p ys)
-any_join p [] ys = refl
-any_join p (x ∷ xs) ys = ap (λ b. p x || b) (any_join p xs ys) ∙ go (p x)
-  where
-    go : (b : Bool) → (b || (list_any p xs || list_any p ys)) ≡ ((b || list_any p xs) || list_any p ys)
-    go true = refl
-    go false = refl
-
 pub any_flat : {A B : Type 0} (p : B → Bool) (q : A → Bool) (f : A → List B) (xs : List A) → AllByRecursion (λ x. list_any p (f x) ≡ q x) xs → list_any p (flat_map f xs) ≡ list_any q xs
 any_flat p q f [] a = refl
-any_flat p q f (x ∷ xs) a = any_join p (f x) (flat_map f xs) ∙ ap₂ (λ b c. b || c) a.0 (any_flat p q f xs a.1)
+any_flat p q f (x ∷ xs) a = list_any-append p (f x) (flat_map f xs) ∙ ap₂ (λ b c. b || c) a.0 (any_flat p q f xs a.1)
 
 pub any_map : {A B : Type 0} (f : A → B) (p : B → Bool) (q : A → Bool) (xs : List A) → AllByRecursion (λ x. p (f x) ≡ q x) xs → list_any p (map f xs) ≡ list_any q xs
 any_map f p q [] a = refl

@@ -2,7 +2,7 @@
 use Rattle.std.proofs.Common.{◌≡◌, ℕ, Bool, true, false, not, cond, ◌||◌, ◌⊎◌, inl, inr, List, [], ◌∷◌, ◌++◌, map, Option, Some, None, refl, sym, ap, ◌∙◌, subst, filter}
 use Rattle.std.specs.Prelude.{if◌then◌else◌}
 use Rattle.std.specs.List.{list_any, AllByRecursion}
-use Rattle.std.proofs.lemmas.Bool.{or_left, or_right, or_from, or_parts, both_ways, false_from_ne_true, cases_cond, cond-true, cond-false}
+use Rattle.std.proofs.lemmas.Bool.{or_left, or_right, or_from, or_parts, both_ways, false_from_ne_true, cases_cond, cond-true, cond-false, not-true}
 use Rattle.std.proofs.lemmas.Option.{same_Some}
 use Rattle.module_arena.specs.Module.{Bytes, Module}
 use Rattle.linkage_rules.specs.Globals.{name_of, linkage_of, is_variable, is_alias}
@@ -101,13 +101,9 @@ all_among same self all (x ∷ xs) f = (f x (or_left _ _ (self x)), all_among sa
 pub apart_keys : (es : List Entry) → Apart same_symbol (map symbol_of (firsts (λ d e. same_symbol (symbol_of d) (symbol_of e)) es))
 apart_keys es = subst (Apart same_symbol) (sym (firsts_map symbol_of same_symbol es)) (apart_firsts same_symbol symbol_self symbol_exact (map symbol_of es))
 
-flip : (b : Bool) → not b ≡ true → b ≡ false
-flip false h = refl
-flip true h = cc
-
 -- a plain entry is of no alias symbol
 pub plain_are : (parts : List Module) → AllByRecursion (λ e. is_alias_symbol parts (symbol_of e) ≡ false) (plain_entries parts)
-plain_are parts = all_follow _ _ (plain_entries parts) (λ e h. flip (is_alias_symbol parts (symbol_of e)) h.1) (all_passing (λ e. Unit {0}) (λ e. not (is_alias_symbol parts (symbol_of e))) (first_entries parts) (all_units (first_entries parts)))
+plain_are parts = all_follow _ _ (plain_entries parts) (λ e h. not-true (is_alias_symbol parts (symbol_of e)) h.1) (all_passing (λ e. Unit {0}) (λ e. not (is_alias_symbol parts (symbol_of e))) (first_entries parts) (all_units (first_entries parts)))
   where
     all_units : (es : List Entry) → AllByRecursion (λ e. Unit {0}) es
     all_units [] = tt
@@ -153,7 +149,7 @@ variable_kinds parts g = kinds_from parts true _ (all_passing _ (λ e. is_variab
 
 pub function_kinds : (parts : List Module) → GoTogether parts → AllByRecursion (AreOfKind parts false) (function_symbols parts)
 function_kinds parts g =
-    kinds_from parts false _ (all_follow _ _ _ (λ e h. (h.0, flip (is_variable e.global) h.1)) (all_passing _ (λ e. not (is_variable e.global)) (plain_entries parts) (all_filter _ (λ e. not (is_alias_symbol parts (symbol_of e))) (first_entries parts) (all_firsts _ _ (entries parts) g.kinds))))
+    kinds_from parts false _ (all_follow _ _ _ (λ e h. (h.0, not-true (is_variable e.global) h.1)) (all_passing _ (λ e. not (is_variable e.global)) (plain_entries parts) (all_filter _ (λ e. not (is_alias_symbol parts (symbol_of e))) (first_entries parts) (all_firsts _ _ (entries parts) g.kinds))))
 
 -- a symbol has an entry
 pub symbols_have : (parts : List Module) → AllByRecursion (λ s. has same_symbol (map symbol_of (entries parts)) s ≡ true) (symbols parts)

@@ -1,6 +1,7 @@
 -- The measures of structs, level by level: once found they stay, and where each struct has one they are those of the bodies.
 use Rattle.std.specs.Prelude.{◌≡◌, refl, ℕ, zero, suc, List, [], ◌∷◌, map, slice_index_or, Option, Some, None, option_map}
 use Rattle.std.proofs.Common.{ap, sym, ◌∙◌}
+use Rattle.std.proofs.lemmas.Option.{same_Some}
 use Rattle.type_table.specs.declared.measure.Measure.{Measure}
 use Rattle.type_table.specs.Measures.{opaque_measure, array_measure, struct_measure, tree_measure, tree_measures, tree_body_measure, Measures}
 use Rattle.type_table.specs.Tree.{Tree, int, ptr, void, array, struct, named, Trees, no_trees, more_trees, TreeBody, opaque_body, fields, Structs, index_of, body_of}
@@ -60,9 +61,6 @@ module _ (f : Bytes → Option Measure) (look : Bytes → Measure) (all : (n : B
   body_found opaque_body = refl
   body_found (fields packed ts) = ap (option_map (struct_measure packed)) (trees_found ts)
 
-same_inside : {A : Type 0} (x y : A) → Some x ≡ Some y → x ≡ y
-same_inside x y e = cc
-
 -- at first a name has a measure only where no struct has the name
 first_found : (xs : Structs) (i : ℕ) (m : Measure) → slice_index_or (map (λ s. None) xs) i (Some opaque_measure) ≡ Some m
     → (slice_index_or (map (λ s. s.1) xs) i opaque_body ≡ opaque_body) × (Some opaque_measure ≡ Some m)
@@ -113,5 +111,5 @@ module _ (structs : Structs) where
   -- where each name has a measure at some level, they are those of the bodies
   pub settled : (look : Bytes → Measure) (n : ℕ) → ((name : Bytes) → level n name ≡ Some (look name)) → Measures (body_of structs) look
   settled look n all name =
-      same_inside (look name) (tree_body_measure look (body_of structs name))
+      same_Some (look name) (tree_body_measure look (body_of structs name))
       (sym (stays n name (look name) (all name)) ∙ level_next n name ∙ body_found (level n) look all (body_of structs name))

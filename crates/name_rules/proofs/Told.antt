@@ -2,7 +2,7 @@
 use Rattle.std.specs.Prelude.{◌≡◌, refl, Result, Ok, Err, IfOk, ℕ, zero, suc, ◌+◌, ◌*◌, ◌-◌, ◌/◌, ◌%◌, ◌<◌, ◌≤◌, nat_lt, nat_le, ◌==◌, ◌&&◌, Bool, true, false, not, List, [], ◌∷◌, ◌++◌, length}
 use Rattle.std.specs.List.{list_all}
 use Rattle.std.proofs.Common.{ap, sym, ◌∙◌, arith}
-use Rattle.std.proofs.lemmas.Bool.{ltb-true, ltb-false, leb-true, eqb-true, eqb-false, not-true}
+use Rattle.std.proofs.lemmas.Bool.{ltb-true, ltb-false, leb-true, eqb-true, eqb-false, not-true, and_parts}
 use Rattle.std.proofs.lemmas.List.{append_assoc, append-nil}
 use Rattle.ir_terminals.specs.Digits.{decimal_after, is_short, IsWritten}
 use Rattle.name_rules.specs.Spelled.{digits_before, decimal}
@@ -52,10 +52,6 @@ last_digit n k h less =
     ∙ (λ j. digits_before (n * 10 + k) (tenth j) ((48 + rest j) ∷ []))
     ∙ in_front (n * 10 + k) (n * 10 + k) n ((48 + k) ∷ []) (omega arith) (omega (arith, h))
 
-and_both : (a b : Bool) → (a && b) ≡ true → (a ≡ true) × (b ≡ true)
-and_both true b e = (refl, e)
-and_both false b e = absurd cc
-
 abbrev is_digit : ℕ → Bool
 is_digit byte = nat_le 48 byte && nat_le byte 57
 
@@ -63,8 +59,8 @@ is_digit byte = nat_le 48 byte && nat_le byte 57
 behind : (n : ℕ) (digits : List ℕ) → 1 ≤ n → list_all is_digit digits ≡ true → decimal (decimal_after n digits) ≡ decimal n ++ digits
 behind n [] h all = sym (append-nil (decimal n))
 behind n (d ∷ digits) h all =
-    let parts = and_both (is_digit d) (list_all is_digit digits) all in
-    let bounds = and_both (nat_le 48 d) (nat_le d 57) parts.0 in
+    let parts = and_parts (is_digit d) (list_all is_digit digits) all in
+    let bounds = and_parts (nat_le 48 d) (nat_le d 57) parts.0 in
     let low = leb-true 48 d bounds.0 in
     let high = leb-true d 57 bounds.1 in
     let back : 48 + (d - 48) ≡ d = omega (arith, low) in
@@ -75,7 +71,7 @@ behind n (d ∷ digits) h all =
 
 one_digit : (d : ℕ) → is_digit d ≡ true → decimal (d - 48) ≡ d ∷ []
 one_digit d e =
-    let bounds = and_both (nat_le 48 d) (nat_le d 57) e in
+    let bounds = and_parts (nat_le 48 d) (nat_le d 57) e in
     let low = leb-true 48 d bounds.0 in
     let high = leb-true d 57 bounds.1 in
     let back : 48 + (d - 48) ≡ d = omega (arith, low) in
@@ -92,11 +88,11 @@ none_before : (k : ℕ) → 0 + k ≡ k
 none_before k = omega arith
 
 told : (first : ℕ) (digits : List ℕ) → list_all is_digit (first ∷ digits) ≡ true → decimal (decimal_after 0 (first ∷ digits)) ≡ without_zeros (first ∷ digits)
-told first [] all = ap decimal (none_before (first - 48)) ∙ one_digit first (and_both (is_digit first) true all).0
+told first [] all = ap decimal (none_before (first - 48)) ∙ one_digit first (and_parts (is_digit first) true all).0
 told first (next ∷ digits) all = by (told next digits parts.1) (first == 48) refl
   where
     parts : (is_digit first ≡ true) × (list_all is_digit (next ∷ digits) ≡ true)
-    parts = and_both (is_digit first) (list_all is_digit (next ∷ digits)) all
+    parts = and_parts (is_digit first) (list_all is_digit (next ∷ digits)) all
 
     by : decimal (decimal_after 0 (next ∷ digits)) ≡ without_zeros (next ∷ digits) → (b : Bool) → (first == 48) ≡ b
         → decimal (decimal_after 0 (first ∷ next ∷ digits)) ≡ elim b as (λ _. List ℕ) [ true ↦ without_zeros (next ∷ digits) | false ↦ first ∷ next ∷ digits ]
@@ -104,7 +100,7 @@ told first (next ∷ digits) all = by (told next digits parts.1) (first == 48) r
         let zeros : first - 48 ≡ 0 = omega (arith, eqb-true first 48 e) in
         ap (λ k. decimal (decimal_after (0 + k) (next ∷ digits))) zeros ∙ again
     by again false e =
-        let bounds = and_both (nat_le 48 first) (nat_le first 57) parts.0 in
+        let bounds = and_parts (nat_le 48 first) (nat_le first 57) parts.0 in
         let low = leb-true 48 first bounds.0 in
         let other = eqb-false first 48 e in
         ap (λ k. decimal (decimal_after k (next ∷ digits))) (none_before (first - 48))
@@ -113,7 +109,7 @@ told first (next ∷ digits) all = by (told next digits parts.1) (first == 48) r
 
 pub told_as_written : ToldAsWritten
 told_as_written [] all = absurd cc
-told_as_written (first ∷ digits) all = told first digits (and_both (not (length (first ∷ digits) == 0)) (list_all is_digit (first ∷ digits)) all).1
+told_as_written (first ∷ digits) all = told first digits (and_parts (not (length (first ∷ digits) == 0)) (list_all is_digit (first ∷ digits)) all).1
 
 -- digits that begin with no zero stay as they are
 kept : (digits : List ℕ) → is_short digits ≡ true → without_zeros digits ≡ digits

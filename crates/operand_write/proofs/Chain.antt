@@ -1,5 +1,5 @@
 -- Operands that are appended one behind the other.
-use Rattle.std.proofs.Common.{◌≡◌, ℕ, zero, suc, ◌+◌, ◌<◌, ◌≤◌, List, [], ◌∷◌, ◌++◌, length, drop, get_or, Result, Ok, Err, OnOk, append_assoc, refl, sym, ap, ◌∙◌, arith}
+use Rattle.std.proofs.Common.{◌≡◌, ℕ, ◌+◌, ◌<◌, ◌≤◌, List, [], ◌∷◌, ◌++◌, length, drop, get_or, Result, Ok, Err, OnOk, append_assoc, sym, ap, ◌∙◌}
 use Rattle.std.proofs.lemmas.List.{at_drop_more, at_drop_all, append-nil}
 
 -- two, three and more lists behind one
@@ -55,9 +55,3 @@ last4 (Err e) o x y z w m n p q i f g h = tt
 pub last6 : {E : Type 0} (r : Result (Unit {0}) E) (o x y z w v u m n p q s t : List ℕ) → m ≡ o ++ x → n ≡ m ++ y → p ≡ n ++ z → q ≡ p ++ w → s ≡ q ++ v → OnOk r (t ≡ s ++ u) → OnOk r (t ≡ o ++ (x ++ (y ++ (z ++ (w ++ (v ++ u))))))
 last6 (Ok k) o x y z w v u m n p q s t e f g h i j = two o x (y ++ (z ++ (w ++ (v ++ u)))) m t e (five m y z w v u n p q s t f g h i j)
 last6 (Err k) o x y z w v u m n p q s t e f g h i j = tt
-
--- what a read gives within a list does not depend on what it gives beyond
-pub same_default : {A : Type 0} (xs : List A) (k : ℕ) (d e : A) → k < length xs → get_or xs k d ≡ get_or xs k e
-same_default [] k d e lt = absurd (omega arith)
-same_default (x ∷ xs) zero d e lt = refl
-same_default (x ∷ xs) (suc k) d e lt = same_default xs k d e (omega (arith, lt))

@@ -3,7 +3,7 @@ use Rattle.std.proofs.Common.{◌≡◌, ℕ, ◌+◌, ◌<◌, Bool, false, Lis
 use Rattle.std.specs.Prelude.{option_to_list, ◌&&◌}
 use Rattle.std.specs.List.{list_any}
 use Rattle.std.proofs.lemmas.Option.{same_Some, slice_get-map}
-use Rattle.std.proofs.lemmas.List.Elements.{All-head}
+use Rattle.std.proofs.lemmas.List.Elements.{All-head, All-nil}
 use Rattle.std.specs.Option.{option_map, option_map_or}
 use Rattle.ir_tables.specs.declared.linkage.Linkage.{Linkage}
 use Rattle.ir_tables.specs.declared.linkage.Linkage.TheVariants.{External}
@@ -27,7 +27,6 @@ use Rattle.module_arena.proofs.Renamed.{own, alias_type_stays}
 use Rattle.type_build.specs.Declarations.{IsFree, AreFew, one_variable_more, one_alias_more, one_function_more}
 use Rattle.type_build.specs.Parameters.{AreParameters}
 use Rattle.type_build.specs.Stands.{IsType}
-use Rattle.type_build.proofs.Known.{none_all}
 use Rattle.type_build.proofs.Untargeted.{untargeted_more}
 use Rattle.entry_copy.specs.Copies.{IsAliasType}
 use Rattle.entry_copy.proofs.ConstantsCopied.{name_is as name_here}
@@ -154,7 +153,7 @@ module _ (a : Lists) (distinct : AreDistinct a) where
 pub alias_known : (b : Lists) (d : the_alias.Alias) → All (λ i. i < length b.table.types) (alias_types d.ty) → d.target ≡ None → KnowsAlias (length b.table.types) (counts b) d
 alias_known b d known none = record {
   types_known = known;
-  target_known = subst (λ (o : Option GlobalId). All (HasGlobal (counts b)) (option_to_list o)) (sym none) (none_all (HasGlobal (counts b)));
+  target_known = subst (λ (o : Option GlobalId). All (HasGlobal (counts b)) (option_to_list o)) (sym none) (All-nil (HasGlobal (counts b)));
 }
 
 -- the types that an alias writes are those of its arena

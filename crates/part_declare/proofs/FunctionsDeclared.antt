@@ -3,6 +3,7 @@ use Rattle.std.proofs.Common.{◌≡◌, ℕ, ◌+◌, ◌<◌, List, [], ◌∷
 use Rattle.std.specs.Prelude.{option_to_list}
 use Rattle.std.proofs.lemmas.Option.{same_Some, slice_get-map}
 use Rattle.std.specs.Option.{option_map}
+use Rattle.std.proofs.lemmas.List.Elements.{All-nil}
 use Rattle.ir_tables.specs.declared.linkage.Linkage.{Linkage}
 use Rattle.type_table.specs.Types.{trees}
 use Rattle.module_arena.specs.declared.entry.Body.{Body}
@@ -18,7 +19,6 @@ use Rattle.module_arena.specs.View.{module_of, type_at, parameter_view}
 use Rattle.type_build.specs.Declarations.{IsFree, AreFew, one_function_more}
 use Rattle.type_build.specs.Parameters.{AreParameters, without_body}
 use Rattle.type_build.specs.Stands.{IsType}
-use Rattle.type_build.proofs.Known.{none_all}
 use Rattle.extract_core.proofs.Keeping.{function_at}
 use Rattle.entry_fates.specs.declared.fates.Fate.{Fate}
 use Rattle.entry_fates.specs.declared.fates.Fate.TheVariants.{LeftOut}
@@ -81,7 +81,7 @@ pub function_known : (b : Lists) (d : the_function.Function) → d.result < leng
 function_known b d lt known none = record {
   result_known = lt;
   parameters_known = known;
-  body_known = subst (λ (o : Option Body). All (KnowsBody (length b.table.types) (length b.constants) (length d.parameters)) (option_to_list o)) (sym none) (none_all (KnowsBody (length b.table.types) (length b.constants) (length d.parameters)));
+  body_known = subst (λ (o : Option Body). All (KnowsBody (length b.table.types) (length b.constants) (length d.parameters)) (option_to_list o)) (sym none) (All-nil (KnowsBody (length b.table.types) (length b.constants) (length d.parameters)));
 }
 
 module _ (a b : Lists) (f : the_function.Function) (fate : Fate) (name : Bytes) (linkage : Linkage) (returns : ℕ) (ps : List the_parameter.Parameter) where

@@ -1,7 +1,7 @@
 -- Parameters that are named by their numbers, one after the other.
 use Rattle.std.proofs.Common.{◌≡◌, ℕ, suc, ◌+◌, ◌<◌, List, [], ◌∷◌, ◌++◌, map, length, slice_get, take, Some, All, refl, sym, subst, ap, ◌∙◌, arith}
 use Rattle.std.proofs.lemmas.List.{map-append, length-map, length-take-le}
-use Rattle.std.proofs.lemmas.List.Elements.{All-push}
+use Rattle.std.proofs.lemmas.List.Elements.{All-push, All-nil}
 use Rattle.std.proofs.lemmas.Option.{slice_get_within}
 use Rattle.type_table.specs.Tree.{Tree}
 use Rattle.type_table.specs.Types.{trees}
@@ -13,7 +13,6 @@ use Rattle.module_arena.specs.View.{type_at, parameter_view}
 use Rattle.module_arena.specs.Renamed.{renamed_parameter}
 use Rattle.module_arena.proofs.Renamed.{own, map_stays, parameter_stays}
 use Rattle.type_build.specs.Parameters.{AreParameters}
-use Rattle.type_build.proofs.Known.{none_all}
 use Rattle.entry_copy.specs.Tables.{Tables, new_type}
 use Rattle.extract_core.specs.Extracted.{numbered}
 use Rattle.extract_core.proofs.Adding.{take_more}
@@ -73,4 +72,4 @@ own_parameters b copy ps h = subst (AreParameters b copy) (map_stays (renamed_pa
 
 -- none
 pub no_parameters : (b : Lists) → AreParameters b [] []
-no_parameters b = record { known = none_all (λ (p : the_parameter.Parameter). p.ty < length b.table.types); parameters = refl }
+no_parameters b = record { known = All-nil (λ (p : the_parameter.Parameter). p.ty < length b.table.types); parameters = refl }

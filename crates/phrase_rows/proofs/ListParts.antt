@@ -1,6 +1,6 @@
 -- Lists in parts, and sets of classes.
 use Rattle.std.proofs.Common.{◌≡◌, ℕ, ◌≤◌, List, [], ◌∷◌, ◌++◌, length, Bool, true, false, ◌⊎◌, inl, inr, refl, sym, ap, arith, length-append, cond, ◌==◌}
-use Rattle.std.proofs.lemmas.Bool.{eqb-true}
+use Rattle.std.proofs.lemmas.Bool.{eqb-true, cases_Bool}
 use Rattle.phrase_rows.specs.Row.{Reading, Done, Bad, bind, Row, among, apart}
 use Rattle.phrase_rows.specs.Reads.{Stops, Begins, Takes, tokens_behind}
 
@@ -15,33 +15,29 @@ pub nil_parts : {T : Type 0} (a b : List T) → a ++ b ≡ [] → (a ≡ []) × 
 nil_parts [] b e = (refl, e)
 nil_parts (x ∷ a) b e = absurd cc
 
-pub bool_cases : (b : Bool) → (b ≡ true) ⊎ (b ≡ false)
-bool_cases true = inl refl
-bool_cases false = inr refl
-
 pub among_left : (k : ℕ) (xs ys : List ℕ) → among k xs ≡ true → among k (xs ++ ys) ≡ true
 among_left k [] ys h = absurd cc
 among_left k (x ∷ xs) ys h =
-    elim (bool_cases (k == x)) [ inl e ↦ rw e refl | inr e ↦ rw e (among_left k xs ys (rw e at h)) ]
+    elim (cases_Bool (k == x)) [ inl e ↦ rw e refl | inr e ↦ rw e (among_left k xs ys (rw e at h)) ]
 
 pub among_right : (k : ℕ) (xs ys : List ℕ) → among k ys ≡ true → among k (xs ++ ys) ≡ true
 among_right k [] ys h = h
 among_right k (x ∷ xs) ys h =
-    elim (bool_cases (k == x)) [ inl e ↦ rw e refl | inr e ↦ rw e (among_right k xs ys h) ]
+    elim (cases_Bool (k == x)) [ inl e ↦ rw e refl | inr e ↦ rw e (among_right k xs ys h) ]
 
 pub among_none : (k : ℕ) (xs ys : List ℕ) → among k (xs ++ ys) ≡ false → (among k xs ≡ false) × (among k ys ≡ false)
 among_none k xs ys h =
-    elim (bool_cases (among k xs)) [
+    elim (cases_Bool (among k xs)) [
       | inl e ↦ absurd (let f = among_left k xs ys e in cc)
-      | inr e ↦ (e, elim (bool_cases (among k ys)) [ inl g ↦ absurd (let f = among_right k xs ys g in cc) | inr g ↦ g ])
+      | inr e ↦ (e, elim (cases_Bool (among k ys)) [ inl g ↦ absurd (let f = among_right k xs ys g in cc) | inr g ↦ g ])
     ]
 
 pub apart_out : (k : ℕ) (xs ys : List ℕ) → apart xs ys ≡ true → among k ys ≡ true → among k xs ≡ false
 apart_out k [] ys h g = refl
 apart_out k (x ∷ xs) ys h g =
-    elim (bool_cases (among x ys)) [
+    elim (cases_Bool (among x ys)) [
       | inl e ↦ absurd (let f : false ≡ true = rw e at h in cc)
-      | inr e ↦ elim (bool_cases (k == x)) [
+      | inr e ↦ elim (cases_Bool (k == x)) [
         | inl d ↦ absurd (let f = eqb-true k x d in let j = ap (λ z. among z ys) f in cc)
         | inr d ↦ rw d (apart_out k xs ys (rw e at h) g)
       ]

@@ -1,8 +1,9 @@
 -- Tokens that are taken one by one, until a step ends the phrase, are read.
 use Rattle.std.proofs.Common.{◌≡◌, ℕ, ◌≤◌, List, [], ◌∷◌, ◌++◌, length, false, inl, inr, refl, ap, arith}
+use Rattle.std.proofs.lemmas.Bool.{cases_Bool}
 use Rattle.phrase_rows.specs.Row.{Reading, Done, Bad, among, TokenMove, On, Ends, Stops, EndsWith, GoesOn, machine, run_machine}
 use Rattle.phrase_rows.specs.Reads.{Begins, Front, Takes, tokens_behind, Reads}
-use Rattle.phrase_rows.proofs.ListParts.{nil_parts, bool_cases, takes_left}
+use Rattle.phrase_rows.proofs.ListParts.{nil_parts, takes_left}
 
 module _ {T S A : Type 0} (class : T → ℕ) (first : List ℕ) (step : S → T → TokenMove S A) where
   cons_takes : (s m : S) (t : T) (ts : List T) (x : Reading T A) → step s t ≡ On m → Takes (machine first step m) ts x → Takes (machine first step s) (t ∷ ts) x
@@ -72,7 +73,7 @@ module _ {T S A : Type 0} (class : T → ℕ) (first : List ℕ) (step : S → T
 
   machine_begins : (s : S) → ((t : T) → among (class t) first ≡ false → step s t ≡ Stops) → (us : List T) → Front (machine first step s) us → Begins class first us
   machine_begins s out [] f = tt
-  machine_begins s out (t ∷ us) f = elim (bool_cases (among (class t) first)) [ inl e ↦ e | inr e ↦ absurd (stopped s t us (out t e) f) ]
+  machine_begins s out (t ∷ us) f = elim (cases_Bool (among (class t) first)) [ inl e ↦ e | inr e ↦ absurd (stopped s t us (out t e) f) ]
 
 -- where in the first state each token of another class stops
 pub reads_machine : {T S A : Type 0} (class : T → ℕ) (first : List ℕ) (step : S → T → TokenMove S A) (s : S) → ((t : T) → among (class t) first ≡ false → step s t ≡ Stops) → Reads class (machine first step s) (machine first step s).shape

@@ -1,9 +1,9 @@
 -- The rows of no more than one token, and the same row under another value or shape, are read.
 use Rattle.std.proofs.Common.{◌≡◌, ℕ, zero, suc, List, [], ◌∷◌, ◌++◌, length, Bool, true, false, inl, inr, refl, ap, arith, length-append, cond, ◌==◌, Option, Some, None}
-use Rattle.std.proofs.lemmas.Bool.{eqb-true}
+use Rattle.std.proofs.lemmas.Bool.{eqb-true, cases_Bool}
 use Rattle.phrase_rows.specs.Row.{Reading, Done, Bad, bind, PhraseShape, Row, among, within, nothing, fail, one, run_one, mapped, deep, labelled}
 use Rattle.phrase_rows.specs.Reads.{Stops, Begins, Front, Takes, tokens_behind, Reads}
-use Rattle.phrase_rows.proofs.ListParts.{nil_parts, bool_cases, takes_left}
+use Rattle.phrase_rows.proofs.ListParts.{nil_parts, takes_left}
 
 pub reads_nothing : {T A : Type 0} (class : T → ℕ) (a : A) → Reads class (nothing a) (record { first = []; more = []; empty = true })
 reads_nothing class a = record {
@@ -96,9 +96,9 @@ reads_mapped {T} {A} {B} class f {p} {s} h = record {
 among_within : (k : ℕ) (xs ys : List ℕ) → within xs ys ≡ true → among k xs ≡ true → among k ys ≡ true
 among_within k [] ys h g = absurd cc
 among_within k (x ∷ xs) ys h g =
-    elim (bool_cases (among x ys)) [
+    elim (cases_Bool (among x ys)) [
       | inr e ↦ absurd (let f : false ≡ true = rw e at h in cc)
-      | inl e ↦ elim (bool_cases (k == x)) [
+      | inl e ↦ elim (cases_Bool (k == x)) [
         | inl d ↦ (let f = eqb-true k x d in rw f e)
         | inr d ↦ among_within k xs ys (rw e at h) (rw d at g)
       ]
@@ -106,7 +106,7 @@ among_within k (x ∷ xs) ys h g =
 
 stops_within : {T : Type 0} (class : T → ℕ) (xs ys : List ℕ) (rest : List T) → within xs ys ≡ true → Stops class ys rest → Stops class xs rest
 stops_within class xs ys [] h st = tt
-stops_within class xs ys (t ∷ ts) h st = elim (bool_cases (among (class t) xs)) [ inl e ↦ absurd (let f = among_within (class t) xs ys h e in cc) | inr e ↦ e ]
+stops_within class xs ys (t ∷ ts) h st = elim (cases_Bool (among (class t) xs)) [ inl e ↦ absurd (let f = among_within (class t) xs ys h e in cc) | inr e ↦ e ]
 
 begins_within : {T : Type 0} (class : T → ℕ) (xs ys : List ℕ) (us : List T) → within xs ys ≡ true → Begins class xs us → Begins class ys us
 begins_within class xs ys [] h b = tt

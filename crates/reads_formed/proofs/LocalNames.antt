@@ -1,7 +1,7 @@
 -- The names of locals, one behind another: names are new, and numbers stand in order.
 use Rattle.std.proofs.Common.{◌≡◌, ◌<◌, ◌+◌, ℕ, zero, suc, true, false, not, List, [], ◌∷◌, ◌++◌, length, map, zip, bytes_eq, refl, sym, ap, subst, ◌∙◌, arith, append_assoc, append-nil}
 use Rattle.std.specs.List.{list_all, list_any, AllByRecursion}
-use Rattle.std.proofs.lemmas.Bool.{and_parts, eq-eqb, false_from_ne_true, false≢true, ne_eqb, or_left, or_right}
+use Rattle.std.proofs.lemmas.Bool.{and_parts, eq-eqb, false_from_ne_true, false≢true, ne_eqb, or_left, or_right, not-true}
 use Rattle.std.proofs.lemmas.Slice.Eq.{bytes_eq-Decides}
 use Rattle.ir_tables.specs.Table.{is_distinct}
 use Rattle.type_table.specs.Tree.{Tree}
@@ -11,7 +11,7 @@ use Rattle.module_arena.specs.Same.{same_local}
 use Rattle.record_table.specs.Fields.{after}
 use Rattle.record_table.specs.Bodies.{after_all, are_new, numbers_from, with_names}
 use Rattle.record_table.specs.Records.{parameters_of}
-use Rattle.reads_formed.proofs.Tests.{all_pass, both_of, distinct_with, each_too, not_is}
+use Rattle.reads_formed.proofs.Tests.{all_pass, both_of, distinct_with, each_too}
 use Rattle.reads_formed.proofs.Texts.{IsCalled}
 
 -- the number is below this one
@@ -93,7 +93,7 @@ more_names own taken names [] h called new = subst (λ (ns : List LocalName). Ar
 more_names own taken names (Named bytes ∷ xs) h called new =
     let p = and_parts (not (list_any (bytes_eq bytes) taken)) (are_new (bytes ∷ taken) xs) new in
     subst (λ (ns : List LocalName). AreNames (after_all own xs) (with_names (bytes ∷ taken) xs) ns) (append_assoc names (Named bytes ∷ []) xs)
-    (more_names own (bytes ∷ taken) (names ++ Named bytes ∷ []) xs (named_next own taken names bytes h called.0 (not_is (list_any (bytes_eq bytes) taken) p.0)) called.1 p.1)
+    (more_names own (bytes ∷ taken) (names ++ Named bytes ∷ []) xs (named_next own taken names bytes h called.0 (not-true (list_any (bytes_eq bytes) taken) p.0)) called.1 p.1)
 more_names own taken names (Numbered n ∷ xs) h called new =
     let here : AreNames (suc n) taken (names ++ Numbered n ∷ []) = numbered_next n taken names (subst (λ k. AreNames k taken names) (sym called.0) h) in
     subst (λ (ns : List LocalName). AreNames (after_all (suc own) xs) (with_names taken xs) ns) (append_assoc names (Numbered n ∷ []) xs)

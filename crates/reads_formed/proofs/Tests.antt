@@ -1,7 +1,7 @@
 -- Tests of lists, and names of which no two are the same.
 use Rattle.std.proofs.Common.{◌≡◌, ◌<◌, ℕ, zero, suc, Bool, true, false, not, List, [], ◌∷◌, ◌++◌, length, get_or, take, drop, set, map, bytes_eq, refl, sym, ap, ◌∙◌, arith}
 use Rattle.std.specs.List.{list_all, list_any, AllByRecursion}
-use Rattle.std.proofs.lemmas.Bool.{and_parts, and_from, or_parts, or_from, false_from_ne_true, false≢true}
+use Rattle.std.proofs.lemmas.Bool.{and_parts, and_from, or_parts, or_from, false_from_ne_true, false≢true, not-true}
 use Rattle.std.proofs.lemmas.Slice.Eq.{bytes_eq-Decides}
 use Rattle.ir_tables.specs.Table.{is_distinct}
 use Rattle.module_arena.specs.Module.{Bytes}
@@ -77,10 +77,6 @@ map_each P f (x ∷ xs) h = (h.0, map_each P f xs h.1)
 
 -- ---- no two the same
 
-pub not_is : (b : Bool) → not b ≡ true → b ≡ false
-not_is true h = cc
-not_is false h = refl
-
 pub other_way : (t s : Bytes) → bytes_eq t s ≡ false → bytes_eq s t ≡ false
 other_way t s differs = false_from_ne_true (bytes_eq s t) (λ is. false≢true (sym differs ∙ (bytes_eq-Decides t s).1 (sym ((bytes_eq-Decides s t).0 is))))
 
@@ -96,4 +92,4 @@ module _ {A : Type 0} (same : A → A → Bool) where
   distinct_with (x ∷ xs) ys z h before behind =
       let q = and_parts (not (list_any (same x) (xs ++ ys))) (is_distinct same (xs ++ ys)) h in
       and_from (not (list_any (same x) (xs ++ z ∷ ys))) (is_distinct same (xs ++ z ∷ ys))
-      (ap not (none_in x xs ys z (not_is (list_any (same x) (xs ++ ys)) q.0) before.0)) (distinct_with xs ys z q.1 before.1 behind)
+      (ap not (none_in x xs ys z (not-true (list_any (same x) (xs ++ ys)) q.0) before.0)) (distinct_with xs ys z q.1 before.1 behind)

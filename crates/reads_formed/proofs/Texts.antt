@@ -2,7 +2,7 @@
 use Rattle.std.proofs.Common.{◌≡◌, ℕ, zero, suc, Bool, true, false, ◌&&◌, not, List, [], ◌∷◌, length, take, drop, cond, Option, Some, None, nat_lt, ◌<◌, refl, sym, ap, subst, ◌∙◌, inl, inr, arith}
 use Rattle.std.specs.Prelude.{◌==◌}
 use Rattle.std.specs.List.{list_all, AllByRecursion}
-use Rattle.std.proofs.lemmas.Bool.{and_parts, and_from, eqb-false, lt-ltb, ltb-true, ne_eqb}
+use Rattle.std.proofs.lemmas.Bool.{and_parts, and_from, eqb-false, lt-ltb, ltb-true, ne_eqb, not-true}
 use Rattle.module_arena.specs.Module.{Bytes, LocalName, Named, Numbered}
 use Rattle.module_arena.specs.Names as arena
 use Rattle.record_table.specs.Walk.{Walk, going, stopped, ask, break, next}
@@ -10,7 +10,7 @@ use Rattle.record_table.specs.Layout.{many}
 use Rattle.record_table.specs.Fields.{Texts, version_1, below, byte, called, is_label, is_name, label, label_by, name, text}
 use Rattle.record_table.specs.StringTable.{beyond, is_within, label_at, read_only, text_at}
 use Rattle.reads_formed.proofs.Good.{AreTexts}
-use Rattle.reads_formed.proofs.Tests.{all_pass, drop_pass, not_is, take_pass}
+use Rattle.reads_formed.proofs.Tests.{all_pass, drop_pass, take_pass}
 use Rattle.reads_formed.proofs.Unbroken.{IsFine, IsRead, IsSound, OfSome, asked_back, asked_sound, asking_read, counted_read, many_read, mapped_read, next_back, next_sound, number_read, to_end_read, weaker_read}
 
 -- ---- walks that differ in what is broken alone
@@ -177,7 +177,7 @@ named_bytes (b ∷ bs) h k =
     and_from (nat_lt 0 b && nat_lt b 256) (list_all (λ c. nat_lt 0 c && nat_lt c 256) bs) (and_from (nat_lt 0 b) (nat_lt b 256) (positive b q.0) p.0) (named_bytes bs p.1 q.1)
   where
     positive : (b : ℕ) → not (b == 0) ≡ true → nat_lt 0 b ≡ true
-    positive b e = let differs : b ≡ 0 → ⊥ = eqb-false b 0 (not_is (b == 0) e) in lt-ltb 0 b (omega arith)
+    positive b e = let differs : b ≡ 0 → ⊥ = eqb-false b 0 (not-true (b == 0) e) in lt-ltb 0 b (omega arith)
 
 -- bytes that a record may give as a name are one
 pub name_good : (bytes : Bytes) → arena.are_bytes bytes ≡ true → is_name bytes ≡ true → arena.is_name bytes ≡ true

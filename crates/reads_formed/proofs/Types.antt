@@ -2,7 +2,7 @@
 use Rattle.std.proofs.Common.{◌≡◌, ◌<◌, ◌≤◌, ◌+◌, ℕ, zero, suc, Bool, true, false, not, ◌&&◌, cond, List, [], ◌∷◌, ◌++◌, length, get_or, set, map, Option, Some, None, nat_lt, nat_eq, bytes_eq, refl, sym, ap, subst, ◌∙◌, arith, append_assoc, append-nil, inl, inr, length-set}
 use Rattle.std.specs.Prelude.{Ok, Err, ◌==◌}
 use Rattle.std.specs.List.{list_all, list_any, AllByRecursion}
-use Rattle.std.proofs.lemmas.Bool.{and_parts, and_from, or_parts, cases_Bool, eqb-true, ltb-true, le-leb}
+use Rattle.std.proofs.lemmas.Bool.{and_parts, and_from, or_parts, cases_Bool, eqb-true, ltb-true, le-leb, not-true}
 use Rattle.std.proofs.lemmas.List.{length-append, length-map}
 use Rattle.ir_tables.specs.Table.{is_distinct}
 use Rattle.type_table.specs.declared.ir_type.StructBody.{StructBody}
@@ -17,7 +17,7 @@ use Rattle.record_table.specs.Faults.{Answer, ◌>>=◌, Records, no_more, a_blo
 use Rattle.record_table.specs.TypeRecords.{Listed, TypeKind, all_fit, are_distinct, at_first, called, definition, ir_type, kind_of_code, kinds, listed, listed_by, listed_from, names_in, stand_ins, struct_record, type_record}
 use Rattle.reads_formed.proofs.Good.{AreGoodTypes, AreTexts}
 use Rattle.reads_formed.proofs.TypeRecords.{definition_read, name_ahead, type_read}
-use Rattle.reads_formed.proofs.Tests.{all_pass, both_of, distinct_with, each_set, each_too, not_is, other_way}
+use Rattle.reads_formed.proofs.Tests.{all_pass, both_of, distinct_with, each_set, each_too, other_way}
 use Rattle.reads_formed.proofs.Texts.{HoldsTexts, name_again, texts_hold}
 use Rattle.reads_formed.proofs.Trees.{IsMade, body_wider, known_more, names_are, table_good, trees_good}
 use Rattle.reads_formed.proofs.Unbroken.{also_held, judged_read, unless_ok}
@@ -127,7 +127,7 @@ module _ (t : Texts) (holds : HoldsTexts t) (all : List Bytes) where
       let fits = and_parts (all_fit after) (nat_lt place 0x4_0000) seven.0 in
       let texts : HoldsTexts s.texts = subst HoldsTexts (sym h.texts) holds in
       let d = judged_read (λ x. KnowsBody count (Some x.0) × (arena.is_name x.1 ≡ true)) (definition s.texts count) (definition_read s.texts texts count) operands four.1 in
-      let others = new_name x.0.1 s.names (not_is (list_any (bytes_eq x.0.1) s.names) four.0) in
+      let others = new_name x.0.1 s.names (not-true (list_any (bytes_eq x.0.1) s.names) four.0) in
       let ahead : (judged (definition t 0) operands).0.1 ≡ x.0.1 = ap (λ y. (judged (definition y 0) operands).0.1) (sym h.texts) ∙ name_ahead s.texts texts 0 count operands in
       let many = length-append s.names (x.0.1 ∷ []) in
       let less : place < 262144 = ltb-true place 0x4_0000 fits.1 in

@@ -2,6 +2,7 @@
 use Rattle.std.proofs.Common.{◌≡◌, ℕ, zero, suc, ◌-◌, ◌<◌, ◌≤◌, ◌==◌, ◌&&◌, nat_lt, nat_le, not, cond, List, [], ◌∷◌, ◌++◌, length, take, drop, Bool, true, false, Option, Some, None, option_map, refl, sym, ap, subst, inl, inr, arith, bytes_eq}
 use Rattle.std.specs.List.{list_all}
 use Rattle.std.proofs.lemmas.Bool.{and_parts, leb-true, lt-ltb}
+use Rattle.std.proofs.lemmas.Option.{same_Some}
 use Rattle.ir_base.specs.Name as base
 use Rattle.ir_lexer.specs.Ahead.{Located}
 use Rattle.ir_lexer.specs.Class.{from_to}
@@ -110,15 +111,12 @@ good_name : (s : List ℕ) → base.is_name s ≡ true → AreBytes s → is_nam
 good_name [] h all = absurd cc
 good_name (b ∷ s) h all = both_tests (b ∷ s) (and_parts (not (length (b ∷ s) == 0)) (list_all (λ c. not (c == 0)) (b ∷ s)) h).1 all
 
-some_once : {A : Type 0} (a b : A) → Some a ≡ Some b → a ≡ b
-some_once a b e = cc
-
 name_bytes : (t : Located) (bytes : List ℕ) → IsSpelled t → name_in t.token ≡ Some bytes → AreBytes bytes
 name_bytes t bytes h e = by (is_quoted t.token.spelling) e
   where
     by : (q : Bool) → cond q (unquoted t.token.spelling) (Some (bare_name t.token.kind t.token.spelling)) ≡ Some bytes → AreBytes bytes
     by true e = unquoted_bytes t.token.spelling bytes e h.bytes
-    by false e = subst AreBytes (some_once (bare_name t.token.kind t.token.spelling) bytes e) (bare_bytes t.token.kind t.token.spelling h.bytes)
+    by false e = subst AreBytes (same_Some (bare_name t.token.kind t.token.spelling) bytes e) (bare_bytes t.token.kind t.token.spelling h.bytes)
 
 named_well : (t : Located) (n : PlacedName) → has_name t.token.kind ≡ true → IsSpelled t → name_at t ≡ Some n → is_name n.name ≡ true
 named_well t n k h e = by (name_in t.token) refl e
@@ -127,7 +125,7 @@ named_well t n k h e = by (name_in t.token) refl e
     by None q e = absurd cc
     by (Some bytes) q e =
         let good = good_name bytes (spelled_name t.token.kind t.token.spelling bytes k h.token (sym q)) (name_bytes t bytes h q) in
-        subst (λ (x : PlacedName). is_name x.name ≡ true) (some_once (placed_name t.place bytes) n e) good
+        subst (λ (x : PlacedName). is_name x.name ≡ true) (same_Some (placed_name t.place bytes) n e) good
 
 -- a global
 pub global_well : (t : Located) (n : PlacedName) → IsSpelled t → name_of_global t ≡ Some n → is_name n.name ≡ true
@@ -155,7 +153,7 @@ local_named t l k h e = by (name_at t) refl e
   where
     by : (o : Option PlacedName) → name_at t ≡ o → option_map locals.Named o ≡ Some l → IsLocalWell l
     by None q e = absurd cc
-    by (Some n) q e = subst IsLocalWell (some_once (locals.Named n) l e) (named_well t n k h q)
+    by (Some n) q e = subst IsLocalWell (same_Some (locals.Named n) l e) (named_well t n k h q)
 
 -- a local
 pub local_well : (t : Located) (l : Local) → IsSpelled t → local_of t ≡ Some l → IsLocalWell l
@@ -163,7 +161,7 @@ local_well t l h e = by t.token.kind refl e
   where
     by : (k : TokenKind) → t.token.kind ≡ k → if_local k t ≡ Some l → IsLocalWell l
     by kind.LocalName q e = local_named t l (ap has_name q) h e
-    by kind.UnnamedLocal q e = subst IsLocalWell (some_once (numbered_at t) l e) tt
+    by kind.UnnamedLocal q e = subst IsLocalWell (same_Some (numbered_at t) l e) tt
     by _ q e = absurd cc
 
 -- a label
@@ -174,7 +172,7 @@ label_well t l h e = by t.token.kind refl e
     number = locals.Numbered (decimal (bare_name kind.Label t.token.spelling)) t.place
 
     tested : (b : Bool) → t.token.kind ≡ kind.Label → cond b (Some number) (named_at t) ≡ Some l → IsLocalWell l
-    tested true q e = subst IsLocalWell (some_once number l e) tt
+    tested true q e = subst IsLocalWell (same_Some number l e) tt
     tested false q e = local_named t l (ap has_name q) h e
 
     by : (k : TokenKind) → t.token.kind ≡ k → if_label k t ≡ Some l → IsLocalWell l
@@ -188,7 +186,7 @@ string_well t s h e = by (unquoted t.token.spelling) refl e
   where
     by : (o : Option (List ℕ)) → unquoted t.token.spelling ≡ o → option_map (placed_text t.place) o ≡ Some s → AreBytes s.text
     by None q e = absurd cc
-    by (Some bytes) q e = subst (λ (x : PlacedText). AreBytes x.text) (some_once (placed_text t.place bytes) s e) (unquoted_bytes t.token.spelling bytes q h.bytes)
+    by (Some bytes) q e = subst (λ (x : PlacedText). AreBytes x.text) (same_Some (placed_text t.place bytes) s e) (unquoted_bytes t.token.spelling bytes q h.bytes)
 
 pub quoted_well : (t : Located) (s : PlacedText) → IsSpelled t → text_of t ≡ Some s → AreBytes s.text
 quoted_well t s h e = by t.token.kind e
@@ -242,7 +240,7 @@ word_width s w e = by (width_in s) e
     tested : (v : ℕ) (b : Bool) → is_width v ≡ b → width_of_type (cond b (terminals.IntegerType v) terminals.Other) ≡ Some w → IsWidth w
     tested v true q e =
         let parts = and_parts (nat_le 1 v) (nat_le v 128) q in
-        subst IsWidth (some_once v w e) (leb-true 1 v parts.0, leb-true v 128 parts.1)
+        subst IsWidth (same_Some v w e) (leb-true 1 v parts.0, leb-true v 128 parts.1)
     tested v false q e = absurd cc
 
     by : (o : Option ℕ) → width_of_type (width_or o (meaning_in words_by_role s)) ≡ Some w → IsWidth w

@@ -4,6 +4,7 @@ use Rattle.std.specs.List.{list_all, list_any, cons_option, flat_map}
 use Rattle.std.specs.Prelude.{filter_map, option_to_list}
 use Rattle.std.proofs.lemmas.Bool.{and_from, or_left, or_right}
 use Rattle.std.proofs.lemmas.Slice.Eq.{bytes_eq-Decides}
+use Rattle.std.proofs.lemmas.Option.{same_Some}
 use Rattle.ir_tables.specs.Table.{is_distinct}
 use Rattle.ir_terminals.specs.declared.values.PlacedText.{PlacedText}
 use Rattle.ir_constants.specs.Tree.{TypeTree, ConstantTree}
@@ -47,9 +48,6 @@ use Rattle.reads_well.proofs.GoodFunctions.{good_declaration, good_definition, d
 use Rattle.reads_well.proofs.Entries.{entries_distinct, entry_there, struct_names_same}
 use Rattle.reads_well.proofs.Tests.{all_append, all_there, all_flat_there, all_mapped_there, all_both}
 
-some_once : {A : Type 0} (a b : A) → Some a ≡ Some b → a ≡ b
-some_once a b e = cc
-
 -- ---- counts
 
 count_fits : (kind : CountKind) (count : ℕ) (further : Option ResolveFault) → no_more kind count further ≡ None → (nat_le count most ≡ true) × (further ≡ None)
@@ -88,34 +86,34 @@ text_good kind each (i ∷ more) h = by (kind i) refl (text_good kind each more 
     by (Some t) e rest = each i h.0 t e
 
 source_good : (i : ItemTree) → IsItemWell i → (t : PlacedText) → source_in i ≡ Some t → are_bytes t.text ≡ true
-source_good (SourceFilename place text) w t e = subst (λ (x : PlacedText). are_bytes x.text ≡ true) (some_once text t e) w
+source_good (SourceFilename place text) w t e = subst (λ (x : PlacedText). are_bytes x.text ≡ true) (same_Some text t e) w
 source_good _ w t e = absurd cc
 
 layout_good : (i : ItemTree) → IsItemWell i → (t : PlacedText) → layout_in i ≡ Some t → are_bytes t.text ≡ true
-layout_good (DataLayout place text) w t e = subst (λ (x : PlacedText). are_bytes x.text ≡ true) (some_once text t e) w
+layout_good (DataLayout place text) w t e = subst (λ (x : PlacedText). are_bytes x.text ≡ true) (same_Some text t e) w
 layout_good _ w t e = absurd cc
 
 triple_good : (i : ItemTree) → IsItemWell i → (t : PlacedText) → triple_in i ≡ Some t → are_bytes t.text ≡ true
-triple_good (TargetTriple place text) w t e = subst (λ (x : PlacedText). are_bytes x.text ≡ true) (some_once text t e) w
+triple_good (TargetTriple place text) w t e = subst (λ (x : PlacedText). are_bytes x.text ≡ true) (same_Some text t e) w
 triple_good _ w t e = absurd cc
 
 -- ---- names
 
 struct_named : (i : ItemTree) → IsItemWell i → (s : Bytes × TreeBody) → struct_in i ≡ Some s → is_name s.0 ≡ true
-struct_named (Struct name body) w s e = subst (λ (x : Bytes × TreeBody). is_name x.0 ≡ true) (some_once (name.name, body_in body) s e) w.0
+struct_named (Struct name body) w s e = subst (λ (x : Bytes × TreeBody). is_name x.0 ≡ true) (same_Some (name.name, body_in body) s e) w.0
 struct_named _ w s e = absurd cc
 
 variable_named : (i : ItemTree) → IsItemWell i → (v : m.Variable) → variable_in i ≡ Some v → is_name v.name ≡ true
-variable_named (Variable written) w v e = subst (λ (x : m.Variable). is_name x.name ≡ true) (some_once (variable_of written) v e) w.0
+variable_named (Variable written) w v e = subst (λ (x : m.Variable). is_name x.name ≡ true) (same_Some (variable_of written) v e) w.0
 variable_named _ w v e = absurd cc
 
 alias_named : (i : ItemTree) → IsItemWell i → (a : m.Alias) → alias_in i ≡ Some a → is_name a.name ≡ true
-alias_named (Alias written) w a e = subst (λ (x : m.Alias). is_name x.name ≡ true) (some_once (alias_of written) a e) w.0
+alias_named (Alias written) w a e = subst (λ (x : m.Alias). is_name x.name ≡ true) (same_Some (alias_of written) a e) w.0
 alias_named _ w a e = absurd cc
 
 function_named : (i : ItemTree) → IsItemWell i → (f : m.Function) → function_in i ≡ Some f → is_name f.name ≡ true
-function_named (Declaration place head parameters variadic) w f e = subst (λ (x : m.Function). is_name x.name ≡ true) (some_once (declared head parameters variadic) f e) w.0.1
-function_named (Definition place head parameters bs) w f e = subst (λ (x : m.Function). is_name x.name ≡ true) (some_once (defined head parameters bs) f e) w.0.1
+function_named (Declaration place head parameters variadic) w f e = subst (λ (x : m.Function). is_name x.name ≡ true) (same_Some (declared head parameters variadic) f e) w.0.1
+function_named (Definition place head parameters bs) w f e = subst (λ (x : m.Function). is_name x.name ≡ true) (same_Some (defined head parameters bs) f e) w.0.1
 function_named _ w f e = absurd cc
 
 -- ---- what is known of each item
@@ -164,7 +162,7 @@ module _ (items : List ItemTree) (well : AllAre IsItemWell items) (formed : AllA
       let all = both_hold (is_new (filter_map struct_name before) name) (struct_type_demands known name body) e in
       let types = types_demands known (body_types known body) in
       let large = both_hold (nests name.place (struct_measured known name.name) ∷ ends known name ∷ is_small name.place (is_large (struct_measured known name.name)) (have_past known (body_types known body)) ∷ []) types all.1 in
-      subst (λ (x : Bytes × TreeBody). is_good_body (structs_in items) x.1 ≡ true) (some_once (name.name, body_in body) s q)
+      subst (λ (x : Bytes × TreeBody). is_good_body (structs_in items) x.1 ≡ true) (same_Some (name.name, body_in body) s q)
       (good_body items holds body (body_widths known body w.1) large.1)
   struct_body_good _ h s q = absurd cc
 
@@ -184,7 +182,7 @@ module _ (items : List ItemTree) (well : AllAre IsItemWell items) (formed : AllA
       let all = both_hold (is_new (filter_map global_name before) written.name) (content_demands known written) e in
       let first = both_hold (type_demands known written.ty) (initialiser_demands known written.ty written.initialiser ++ alignment_demands written.alignment) all.1 in
       let second = both_hold (initialiser_demands known written.ty written.initialiser) (alignment_demands written.alignment) first.1 in
-      subst (λ (x : m.Variable). is_good_variable (module_of_items items) x ≡ true) (some_once (variable_of written) v q)
+      subst (λ (x : m.Variable). is_good_variable (module_of_items items) x ≡ true) (same_Some (variable_of written) v q)
       (and_from (is_good_type (structs_in items) (type_in written.ty)) (is_small_alignment (alignment_in written.alignment)) (good_type items holds written.ty w.1 first.0) (small_alignment written.alignment second.1))
   variable_good _ h v q = absurd cc
 
@@ -199,7 +197,7 @@ module _ (items : List ItemTree) (well : AllAre IsItemWell items) (formed : AllA
       let all = both_hold (is_new (filter_map global_name before) written.name) (content_demands known written) e in
       let first = both_hold (type_demands known written.ty) (initialiser_demands known written.ty written.initialiser ++ alignment_demands written.alignment) all.1 in
       let second = both_hold (initialiser_demands known written.ty written.initialiser) (alignment_demands written.alignment) first.1 in
-      subst (λ (x : m.Variable). list_all (is_good_constant (module_of_items items)) (known_of_variable x) ≡ true) (some_once (variable_of written) v q)
+      subst (λ (x : m.Variable). list_all (is_good_constant (module_of_items items)) (known_of_variable x) ≡ true) (same_Some (variable_of written) v q)
       (initialiser_good written.ty written.initialiser (good_type items holds written.ty w.1 first.0) w.2 f.1 second.0)
   variable_constants _ h v q = absurd cc
 
@@ -223,7 +221,7 @@ module _ (items : List ItemTree) (well : AllAre IsItemWell items) (formed : AllA
       let all = both_hold (is_new (filter_map global_name before) written.name) (alias_type_demands known written.ty ++ is_global known written.target ∷ []) e in
       let parts = both_hold (alias_type_demands known written.ty) (is_global known written.target ∷ []) all.1 in
       let there = held (has_name known.globals written.target.name) (faults.UnknownName written.target.place (spelled_global written.target.name)) [] parts.1 in
-      subst (λ (x : m.Alias). is_good_alias (module_of_items items) x ≡ true) (some_once (alias_of written) a q)
+      subst (λ (x : m.Alias). is_good_alias (module_of_items items) x ≡ true) (same_Some (alias_of written) a q)
       (and_from (list_all (is_good_type (structs_in items)) (types_of_alias (alias_type_in written.ty))) (has_entry (module_of_items items) written.target.name)
       (alias_types_good written.ty w.1 parts.0) (entries written.target.name there.0))
   alias_good _ h a q = absurd cc
@@ -235,23 +233,23 @@ module _ (items : List ItemTree) (well : AllAre IsItemWell items) (formed : AllA
       let known = known_in items in
       let all = both_hold (head_demands known (filter_map global_name before) head) (flat_map (type_demands known) parameters) e in
       let first = both_hold (type_demands known head.returns) (is_new (filter_map global_name before) head.name) all.0 in
-      subst (λ x. is_good_function (module_of_items items) x ≡ true) (some_once (declared head parameters variadic) f q)
+      subst (λ x. is_good_function (module_of_items items) x ≡ true) (same_Some (declared head parameters variadic) f q)
       (good_declaration items holds entries head parameters variadic w.0.0 w.1 first.0 all.1)
   function_good (Definition place head parameters bs) (w, g, (before, e)) f q =
       let known = known_in items in
       let all = both_hold (head_demands known (filter_map global_name before) head) (definition_demands known parameters bs) e in
       let first = both_hold (type_demands known head.returns) (is_new (filter_map global_name before) head.name) all.0 in
-      subst (λ x. is_good_function (module_of_items items) x ≡ true) (some_once (defined head parameters bs) f q)
+      subst (λ x. is_good_function (module_of_items items) x ≡ true) (same_Some (defined head parameters bs) f q)
       (good_definition items holds entries head parameters bs all.1 w.1 w.2 g.1 w.0.0 g.0 first.0)
   function_good _ h f q = absurd cc
 
   function_constants : (i : ItemTree) → IsFine (known_in items) i → (f : m.Function) → function_in i ≡ Some f → list_all (is_good_constant (module_of_items items)) (flat_map known_of_block (blocks f)) ≡ true
   function_constants (Declaration place head parameters variadic) (w, g, (before, e)) f q =
-      subst (λ x. list_all (is_good_constant (module_of_items items)) (flat_map known_of_block (blocks x)) ≡ true) (some_once (declared head parameters variadic) f q) refl
+      subst (λ x. list_all (is_good_constant (module_of_items items)) (flat_map known_of_block (blocks x)) ≡ true) (same_Some (declared head parameters variadic) f q) refl
   function_constants (Definition place head parameters bs) (w, g, (before, e)) f q =
       let known = known_in items in
       let all = both_hold (head_demands known (filter_map global_name before) head) (definition_demands known parameters bs) e in
-      subst (λ x. list_all (is_good_constant (module_of_items items)) (flat_map known_of_block (blocks x)) ≡ true) (some_once (defined head parameters bs) f q)
+      subst (λ x. list_all (is_good_constant (module_of_items items)) (flat_map known_of_block (blocks x)) ≡ true) (same_Some (defined head parameters bs) f q)
       (definition_constants items holds entries head parameters bs all.1 w.1 w.2 g.1)
   function_constants _ h f q = absurd cc
 

@@ -2,10 +2,10 @@
 use Rattle.std.proofs.Common.{◌≡◌, ◌⊎◌, Bool, true, false, ◌||◌, not, List, [], ◌∷◌, ◌++◌, map, flat_map, refl, ap, inl, inr}
 use Rattle.std.specs.Prelude.{bytes_eq}
 use Rattle.std.specs.List.{list_any, AllByRecursion}
-use Rattle.std.proofs.lemmas.Bool.{and_parts, or_parts, or_cases, or_left, or_right, or_from, false≢true}
+use Rattle.std.proofs.lemmas.Bool.{and_parts, or_parts, or_cases, or_left, or_right, or_from, false≢true, not-true}
 use Rattle.ir_tables.specs.Table.{is_distinct}
 use Rattle.module_arena.specs.Module.{Bytes}
-use Rattle.record_types.proofs.Tests.{not_is, front_of, rest_of}
+use Rattle.record_types.proofs.Tests.{front_of, rest_of}
 
 module _ {A : Type 0} (p : A → Bool) where
   pub any_front : (xs ys : List A) → list_any p xs ≡ true → list_any p (xs ++ ys) ≡ true
@@ -42,7 +42,7 @@ any_mapped p f (x ∷ xs) = ap (λ b. p (f x) || b) (any_mapped p f xs)
 
 -- a name is none of those behind it
 pub none_behind : (front back : List Bytes) (s : Bytes) → is_distinct bytes_eq (front ++ s ∷ back) ≡ true → list_any (bytes_eq s) back ≡ false
-none_behind [] back s h = not_is (list_any (bytes_eq s) back) (and_parts (not (list_any (bytes_eq s) back)) (is_distinct bytes_eq back) h).0
+none_behind [] back s h = not-true (list_any (bytes_eq s) back) (and_parts (not (list_any (bytes_eq s) back)) (is_distinct bytes_eq back) h).0
 none_behind (t ∷ front) back s h = none_behind front back s (and_parts (not (list_any (bytes_eq t) (front ++ s ∷ back))) (is_distinct bytes_eq (front ++ s ∷ back)) h).1
 
 -- what holds of all that is gathered holds of what is gathered of each

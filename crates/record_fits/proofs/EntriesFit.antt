@@ -4,7 +4,7 @@ use Rattle.std.specs.Prelude.{bytes_eq}
 use Rattle.std.specs.List.{list_all, list_any, AllByRecursion, fold}
 use Rattle.std.specs.Option.{option_map_or, option_to_list}
 use Rattle.std.proofs.lemmas.Bool.{and_parts, or_cases, or_left, or_right, lt-ltb, le-leb, false≢true}
-use Rattle.std.proofs.lemmas.List.{length-append, length-map}
+use Rattle.std.proofs.lemmas.List.{length-append, length-map, map_push}
 use Rattle.std.proofs.lemmas.Slice.Eq.{bytes_eq-Decides}
 use Rattle.ir_tables.specs.Table.{is_distinct}
 use Rattle.type_table.specs.Tree.{Tree}
@@ -37,10 +37,6 @@ function_name f = f.name
 
 abbrev alias_name : Alias → Bytes
 alias_name a = a.name
-
-map_more : {A B : Type 0} (f : A → B) (xs : List A) (x : A) → map f (xs ++ x ∷ []) ≡ map f xs ++ f x ∷ []
-map_more f [] x = refl
-map_more f (y ∷ xs) x = ap (λ all. f y ∷ all) (map_more f xs x)
 
 due_names : (fs : List Function) → map (λ (x : Bool × Function). x.1.name) (map due fs) ≡ map function_name fs
 due_names [] = refl
@@ -178,7 +174,7 @@ module _ (m : Module) where
         let next = IsAt (after_variable g v) (front ++ v ∷ []) [] [] in
         let there : next = record { variables = ap (λ xs. xs ++ v ∷ []) here.variables; functions = here.functions; aliases = here.aliases } in (
           (fit.0, may, lt-ltb (length g.variables) 0x4_0000 less, new_at s g front [] [] v.name here fresh refl refl),
-          variables_follow vs (front ++ v ∷ []) (done ++ v.name ∷ []) others (after_variable g v) fit.1 there refl (omega (arith, few, length-append front (v ∷ []))) (ap (λ ns. ns ++ v.name ∷ []) e ∙ sym (map_more variable_name front v))
+          variables_follow vs (front ++ v ∷ []) (done ++ v.name ∷ []) others (after_variable g v) fit.1 there refl (omega (arith, few, length-append front (v ∷ []))) (ap (λ ns. ns ++ v.name ∷ []) e ∙ sym (map_push variable_name front v))
               (moved done v.name (map variable_name vs ++ others) apart),
         )
 
@@ -194,10 +190,10 @@ module _ (m : Module) where
         let count = ap length here.functions ∙ length-map front due in
         let less : length g.functions < 262144 = omega (arith, few, count) in
         let next = IsAt (after_function g f) m.variables (map due (front ++ f ∷ [])) [] in
-        let there : next = record { variables = here.variables; functions = ap (λ xs. xs ++ due f ∷ []) here.functions ∙ sym (map_more due front f); aliases = here.aliases } in (
+        let there : next = record { variables = here.variables; functions = ap (λ xs. xs ++ due f ∷ []) here.functions ∙ sym (map_push due front f); aliases = here.aliases } in (
           (fit.0, may, lt-ltb (length g.functions) 0x4_0000 less, new_at s g m.variables (map due front) [] f.name here of_variables of_functions refl),
           functions_follow fs (front ++ f ∷ []) (done ++ f.name ∷ []) (after_function g f) fit.1 there refl (omega (arith, few, length-append front (f ∷ [])))
-              (ap (λ ns. ns ++ f.name ∷ []) e ∙ append_assoc ahead (map function_name front) (f.name ∷ []) ∙ ap (λ ns. ahead ++ ns) (sym (map_more function_name front f))) (moved done f.name (map function_name fs) apart),
+              (ap (λ ns. ns ++ f.name ∷ []) e ∙ append_assoc ahead (map function_name front) (f.name ∷ []) ∙ ap (λ ns. ahead ++ ns) (sym (map_push function_name front f))) (moved done f.name (map function_name fs) apart),
         )
 
     aliases_follow : (all front : List Alias) (done : List Bytes) (g : Globals) → AllByRecursion (AliasFits (texts_in m) (numbering m)) all → IsAt g m.variables (map due m.functions) front → may_follow g.last 8 ≡ true
@@ -216,7 +212,7 @@ module _ (m : Module) where
         let there : next = record { variables = here.variables; functions = here.functions; aliases = ap (λ xs. xs ++ a ∷ []) here.aliases } in (
           (fit.0, may, le-leb (suc (length g.aliases) + max (length g.variables) (length g.functions)) 0x4_0000 less, new_at s g m.variables (map due m.functions) front a.name here parts.0 of_functions parts.1),
           aliases_follow all (front ++ a ∷ []) (done ++ a.name ∷ []) (after_alias g a) fit.1 there refl (omega (arith, few, length-append front (a ∷ [])))
-              (ap (λ ns. ns ++ a.name ∷ []) e ∙ append_assoc (map variable_name m.variables) (map alias_name front) (a.name ∷ []) ∙ ap (λ ns. map variable_name m.variables ++ ns) (sym (map_more alias_name front a)))
+              (ap (λ ns. ns ++ a.name ∷ []) e ∙ append_assoc (map variable_name m.variables) (map alias_name front) (a.name ∷ []) ∙ ap (λ ns. map variable_name m.variables ++ ns) (sym (map_push alias_name front a)))
               (moved done a.name (map alias_name all ++ map function_name m.functions) apart),
         )
 

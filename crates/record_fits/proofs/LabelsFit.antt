@@ -3,7 +3,7 @@ use Rattle.std.proofs.Common.{◌≡◌, ℕ, suc, ◌+◌, true, false, not, Li
 use Rattle.std.specs.Prelude.{bytes_eq, zip, ◌==◌, ⊤}
 use Rattle.std.specs.List.{list_all, list_any, AllByRecursion}
 use Rattle.std.specs.Option.{option_to_list}
-use Rattle.std.proofs.lemmas.Bool.{and_parts, and_from, or_parts, or_from, not_from_false, eqb-true, false≢true}
+use Rattle.std.proofs.lemmas.Bool.{and_parts, and_from, or_parts, or_from, not_from_false, eqb-true, false≢true, not-true}
 use Rattle.ir_tables.specs.Table.{is_distinct}
 use Rattle.module_arena.specs.Module.{Bytes, LocalName, Named, Numbered, Parameter}
 use Rattle.module_arena.specs.Names.{is_name, is_local_name, is_numbered_from, is_number}
@@ -12,7 +12,7 @@ use Rattle.record_table.specs.Fields.{Texts, after, name_in}
 use Rattle.record_table.specs.Bodies.{after_all, with_names, are_new, results, numbers_from}
 use Rattle.record_table.specs.Records.{parameters_of}
 use Rattle.record_bodies.specs.FittingBodies.{AreLabels}
-use Rattle.record_types.proofs.Tests.{not_is, other_way}
+use Rattle.record_types.proofs.Tests.{other_way}
 use Rattle.record_types.proofs.TypesFit.{name_again}
 
 -- ---- each name is new
@@ -35,7 +35,7 @@ all_new (Numbered n ∷ names) taken free apart = all_new names taken free.1 (an
 all_new (Named name ∷ names) taken free apart =
     let p = and_parts (not (list_any (same_local (Named name)) names)) (is_distinct same_local names) apart in
     and_from (not (list_any (bytes_eq name) taken)) (are_new (name ∷ taken) names) (not_from_false (list_any (bytes_eq name) taken) free.0)
-    (all_new names (name ∷ taken) (still_free name taken names free.1 (not_is (list_any (same_local (Named name)) names) p.0)) p.1)
+    (all_new names (name ∷ taken) (still_free name taken names free.1 (not-true (list_any (same_local (Named name)) names) p.0)) p.1)
 
 none_taken : (names : List LocalName) → AllByRecursion (IsFree []) names
 none_taken [] = tt

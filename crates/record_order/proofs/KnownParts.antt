@@ -4,6 +4,7 @@ use Rattle.std.specs.Prelude.{option_to_list}
 use Rattle.std.proofs.lemmas.List.{length-map}
 use Rattle.type_table.proofs.UnderIds.{get_or-map}
 use Rattle.std.proofs.lemmas.Option.{get_or_from_slice_get, slice_get_within}
+use Rattle.std.proofs.lemmas.List.Elements.{All-tail}
 use Rattle.module_arena.specs.declared.entry.Block.{Block}
 use Rattle.module_arena.specs.declared.entry.Body.{Body}
 use Rattle.module_arena.specs.declared.entry.Function.{Function}
@@ -23,9 +24,6 @@ use Rattle.module_arena.specs.Known.{HasValue, HasOperand}
 use Rattle.module_arena.specs.Mentions.{end_operands_of}
 use Rattle.record_order.specs.Written.{KnowsConstant, KnowsValue, KnowsOperand}
 use Rattle.record_order.specs.Known.{KnowsCount, KnowsInst, KnowsCase, KnowsEnding, KnowsBlock}
-
-pub tail : {X : Type 0} (P : X → Type 0) (x : X) (xs : List X) → All P (x ∷ xs) → All P xs
-tail P x xs h = λ k d lt. h (suc k) d (omega (arith, lt))
 
 module _ (a : Lists) (values : ℕ) where
   value_known : (v : Value) → HasValue (length a.constants) values v → KnowsValue a v
@@ -59,9 +57,9 @@ module _ (a : Lists) (values : ℕ) where
     inst_known (inst.Store flags stored address alignment) h = (operand_known stored (h.operands_known 0 stored (omega arith)), operand_known address (h.operands_known 1 address (omega arith)))
     inst_known (inst.Alloca result ty count alignment) h = (h.types_known 0 ty (omega arith), count_known count h.operands_known)
     inst_known (inst.GetElementPtr flags result source base indices) h =
-        (h.types_known 0 source (omega arith), operand_known base (h.operands_known 0 base (omega arith)), operands_known indices (tail (HasOperand (length a.table.types) (length a.constants) values) base indices h.operands_known))
+        (h.types_known 0 source (omega arith), operand_known base (h.operands_known 0 base (omega arith)), operands_known indices (All-tail (HasOperand (length a.table.types) (length a.constants) values) base indices h.operands_known))
     inst_known (inst.Call call) h =
-        ((h.types_known 0 call.signature.returns (omega arith), tail (λ ty. ty < length a.table.types) call.signature.returns call.signature.parameters h.types_known), value_known call.callee (h.values_known 0 call.callee (omega arith)), operands_known call.arguments h.operands_known)
+        ((h.types_known 0 call.signature.returns (omega arith), All-tail (λ ty. ty < length a.table.types) call.signature.returns call.signature.parameters h.types_known), value_known call.callee (h.values_known 0 call.callee (omega arith)), operands_known call.arguments h.operands_known)
     inst_known (inst.ExtractValue result aggregate indices) h = operand_known aggregate (h.operands_known 0 aggregate (omega arith))
     inst_known (inst.InsertValue result insertion) h = (operand_known insertion.aggregate (h.operands_known 0 insertion.aggregate (omega arith)), operand_known insertion.part (h.operands_known 1 insertion.part (omega arith)))
 
@@ -69,7 +67,7 @@ module _ (a : Lists) (values : ℕ) where
     cases_known [] h = λ k d lt. absurd (omega (arith, lt))
     cases_known (c ∷ cs) h = λ k d lt. elim k as (λ n. n < suc (length cs) → KnowsCase a (get_or (c ∷ cs) n d)) [
       | zero ↦ (λ l. h 0 (record { ty = c.ty; value = value.Known c.value }) (omega arith))
-      | suc n ↦ (λ l. cases_known cs (tail (HasOperand (length a.table.types) (length a.constants) values) (record { ty = c.ty; value = value.Known c.value }) (map (λ x. record { ty = x.ty; value = value.Known x.value }) cs) h) n d (omega (arith, l)))
+      | suc n ↦ (λ l. cases_known cs (All-tail (HasOperand (length a.table.types) (length a.constants) values) (record { ty = c.ty; value = value.Known c.value }) (map (λ x. record { ty = x.ty; value = value.Known x.value }) cs) h) n d (omega (arith, l)))
     ] lt
 
     ending_known : (e : Ending) → All (HasOperand (length a.table.types) (length a.constants) values) (end_operands_of e) → KnowsEnding a e
@@ -77,7 +75,7 @@ module _ (a : Lists) (values : ℕ) where
     ending_known (ending.Return operand) h = operand_known operand (h 0 operand (omega arith))
     ending_known (ending.Jump target) h = tt
     ending_known (ending.Branch condition then_to else_to) h = operand_known condition (h 0 condition (omega arith))
-    ending_known (ending.Switch operand otherwise cases) h = (operand_known operand (h 0 operand (omega arith)), cases_known cases (tail (HasOperand (length a.table.types) (length a.constants) values) operand (map (λ c. record { ty = c.ty; value = value.Known c.value }) cases) h))
+    ending_known (ending.Switch operand otherwise cases) h = (operand_known operand (h 0 operand (omega arith)), cases_known cases (All-tail (HasOperand (length a.table.types) (length a.constants) values) operand (map (λ c. record { ty = c.ty; value = value.Known c.value }) cases) h))
     ending_known ending.Unreachable h = tt
 
     pub block_known : (b : Block) → arena.KnowsBlock (length a.table.types) (length a.constants) values blocks b → KnowsBlock a b

@@ -2,22 +2,15 @@
 use Rattle.std.proofs.Common.{◌≡◌, ℕ, zero, suc, Bool, true, false, cond, ◌||◌, List, [], ◌∷◌, ◌++◌, length, map, get_or, Some, None, refl, sym, ap, ◌∙◌, subst, true≢false}
 use Rattle.std.specs.List.{fold}
 use Rattle.std.specs.Option.{is_some}
+use Rattle.std.proofs.lemmas.Bool.{or_left, or_right}
+use Rattle.std.proofs.lemmas.Bool.Decides.{same_from_decides}
 use Rattle.type_table.specs.Tree.{Tree, int, ptr, void, array, struct, named, Trees, no_trees, more_trees}
 use Rattle.type_table.specs.Types.{Types, tree, trees, trees_at}
 use Rattle.module_arena.specs.Same.{same_type}
 use Rattle.module_arena.proofs.SameValues.{same_type_decides, type_is, type_self}
-use Rattle.type_verify.proofs.ClassesTold.{tests_same}
 use Rattle.record_table.specs.Layout.{place}
 use Rattle.record_table.specs.Mentions.{with_new, with_tree, with_trees}
 use Rattle.record_order.specs.Order.{has_tree, place_in, AreListed, HasParts, IsClosed}
-
-pub or_left : (a b : Bool) → a ≡ true → (a || b) ≡ true
-or_left true b h = refl
-or_left false b h = absurd (true≢false (sym h))
-
-pub or_right : (a b : Bool) → b ≡ true → (a || b) ≡ true
-or_right true b h = refl
-or_right false b h = h
 
 -- one of two holds
 pub either : (b : Bool) → (P : Type 0) → (b ≡ true → P) → (b ≡ false → P) → P
@@ -45,7 +38,7 @@ has_other [] t u apart = ap (λ (b : Bool). b || false) apart
 has_other (y ∷ ys) t u apart = ap (λ (b : Bool). same_type u y || b) (has_other ys t u apart)
 
 same_swap : (a b : Tree) → same_type a b ≡ same_type b a
-same_swap a b = tests_same (same_type a b) (same_type b a) (same_type_decides a b) ((λ h. sym ((same_type_decides b a).0 h)), (λ e. (same_type_decides b a).1 (sym e)))
+same_swap a b = same_from_decides (same_type a b) (same_type b a) (same_type_decides a b) ((λ h. sym ((same_type_decides b a).0 h)), (λ e. (same_type_decides b a).1 (sym e)))
 
 place_kept : (all : List Tree) (t u : Tree) → has_tree all u ≡ true → place same_type (all ++ t ∷ []) u ≡ place same_type all u
 unfolding place

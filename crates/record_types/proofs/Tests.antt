@@ -2,7 +2,7 @@
 use Rattle.std.proofs.Common.{◌≡◌, Bool, true, false, not, List, [], ◌∷◌, ◌++◌, map, refl, sym, ◌∙◌}
 use Rattle.std.specs.Prelude.{bytes_eq}
 use Rattle.std.specs.List.{list_all, list_any, AllByRecursion}
-use Rattle.std.proofs.lemmas.Bool.{and_parts, and_from, or_parts, or_from, false_from_ne_true, false≢true}
+use Rattle.std.proofs.lemmas.Bool.{and_parts, and_from, or_parts, or_from, false_from_ne_true, false≢true, not-true}
 use Rattle.std.proofs.lemmas.Slice.Eq.{bytes_eq-Decides}
 use Rattle.ir_tables.specs.Table.{is_distinct}
 use Rattle.module_arena.specs.Module.{Bytes}
@@ -45,10 +45,6 @@ module _ {A : Type 0} (P : A → Type 0) where
 
 -- ---- names of which no two are the same
 
-pub not_is : (b : Bool) → not b ≡ true → b ≡ false
-not_is true h = absurd (false≢true h)
-not_is false h = refl
-
 pub other_way : (t s : Bytes) → bytes_eq t s ≡ false → bytes_eq s t ≡ false
 other_way t s differs = false_from_ne_true (bytes_eq s t) (λ is. false≢true (sym differs ∙ (bytes_eq-Decides t s).1 (sym ((bytes_eq-Decides s t).0 is))))
 
@@ -61,4 +57,4 @@ pub new_behind : (front back : List Bytes) (s : Bytes) → is_distinct bytes_eq 
 new_behind [] back s h = refl
 new_behind (t ∷ front) back s h =
     let p = and_parts (not (list_any (bytes_eq t) (front ++ s ∷ back))) (is_distinct bytes_eq (front ++ s ∷ back)) h in
-    or_from (bytes_eq s t) (list_any (bytes_eq s) front) (other_way t s (not_later t s front back (not_is (list_any (bytes_eq t) (front ++ s ∷ back)) p.0))) (new_behind front back s p.1)
+    or_from (bytes_eq s t) (list_any (bytes_eq s) front) (other_way t s (not_later t s front back (not-true (list_any (bytes_eq t) (front ++ s ∷ back)) p.0))) (new_behind front back s p.1)

@@ -1,6 +1,6 @@
 -- The types of a module are read of their records, one behind the other.
 use Rattle.std.proofs.Common.{◌≡◌, ℕ, suc, ◌+◌, true, List, [], ◌∷◌, ◌++◌, length, Option, Some, None, Ok, refl, sym, ap, ◌∙◌, append-nil, append_assoc, arith}
-use Rattle.std.proofs.lemmas.List.{length-map}
+use Rattle.std.proofs.lemmas.List.{length-map, map_push}
 use Rattle.std.specs.Prelude.{map}
 use Rattle.std.specs.List.{AllByRecursion, list_all, fold}
 use Rattle.bit_tree.specs.Written.{Written}
@@ -28,10 +28,6 @@ kind_found OfVoid = refl
 kind_found OfArray = refl
 kind_found OfStruct = refl
 kind_found OfName = refl
-
-one_more : {A B : Type 0} (f : A → B) (xs : List A) (x : A) → map f (xs ++ x ∷ []) ≡ map f xs ++ f x ∷ []
-one_more f [] x = refl
-one_more f (y ∷ xs) x = ap (λ all. f y ∷ all) (one_more f xs x)
 
 pub all_within : (bodies : Structs) (ts : List Tree) → AllByRecursion (λ t. is_within_limits (shape bodies t) ≡ true) ts → list_all is_within_limits (map (shape bodies) ts) ≡ true
 all_within bodies [] fit = refl
@@ -97,7 +93,7 @@ module _ (texts : Texts) (bodies : Structs) (all : List Tree) (names : List Byte
   type_step done rest at t e stands goods there good within =
       let x = by_ids all names t in
       let operands = (ir_type 0 0 (kind_of x)).spell x in
-      let again : map (by_ids all names) (done ++ t ∷ []) ≡ map (by_ids all names) done ++ x ∷ [] = one_more (by_ids all names) done t in
+      let again : map (by_ids all names) (done ++ t ∷ []) ≡ map (by_ids all names) done ++ x ∷ [] = map_push (by_ids all names) done t in
       ap (listed_by (listed_at done at) (kind_code (kind_of x)) operands) (kind_found (kind_of x))
       ∙ ap (λ count. type_record (listed_at done at) (judged (ir_type count (length (undefined names)) (kind_of x)) operands)) (length-map done (by_ids all names))
       ∙ ap (λ count. type_record (listed_at done at) (judged (ir_type (length done) count (kind_of x)) operands)) (length-map names (λ (n : Bytes). (n, None)))

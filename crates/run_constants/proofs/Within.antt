@@ -57,9 +57,3 @@ all_more P first rest h others (suc k) d lt = others k d (omega (arith, lt))
 -- an item has what all have
 pub item_has : (P : TypedConst → Type 0) (parts : List TypedConst) (k : ℕ) (item : TypedConst) → k < length parts → item ≡ get_or parts k item → All P parts → P item
 item_has P parts k item lt is all = subst P (sym is) (all k item lt)
-
--- what a read gives within a list does not depend on what it gives beyond
-pub same_default : {A : Type 0} (xs : List A) (k : ℕ) (d e : A) → k < length xs → get_or xs k d ≡ get_or xs k e
-same_default [] k d e lt = absurd (omega arith)
-same_default (x ∷ xs) zero d e lt = refl
-same_default (x ∷ xs) (suc k) d e lt = same_default xs k d e (omega (arith, lt))

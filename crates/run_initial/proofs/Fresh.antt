@@ -2,7 +2,7 @@
 use Rattle.std.proofs.Common.{◌≡◌, ℕ, zero, suc, ◌+◌, ◌-◌, ◌%◌, ◌^◌, ◌<◌, ◌≤◌, List, [], ◌∷◌, ◌++◌, length, take, drop, map, replicate, Option, Some, None, Result, Ok, Err, Bool, true, false, not, cond, ◌&&◌, nat_eq, nat_le, eqb-true, append_assoc, refl, sym, ap, ◌∙◌, subst, arith}
 use Rattle.std.specs.Prelude.{slice_get, is_none, IsOk, if◌then◌else◌}
 use Rattle.std.specs.List.{range_with_len}
-use Rattle.std.proofs.lemmas.Bool.{cond-true, le-leb}
+use Rattle.std.proofs.lemmas.Bool.{cond-true, le-leb, and_from}
 use Rattle.std.proofs.lemmas.List.{take-replicate, drop-replicate, replicate-append-replicate, length-append, length-replicate}
 use native.Mathlib.Nat.{zero-div}
 use Rattle.ir_tables.specs.declared.undefined_kind.UndefinedKind.{UndefinedKind}
@@ -59,13 +59,10 @@ not_none n h = go (nat_eq n 0) refl
     go true e = let none = eqb-true n 0 e in absurd (omega (arith, h, none))
     go false e = e
 
-both_true : (b c : Bool) → b ≡ true → c ≡ true → (b && c) ≡ true
-both_true b c p q = ap (λ (x : Bool). x && c) p ∙ q
-
 module _ (m : Blocks) (q : Pointer) (i : ℕ) (b : MemoryBlock) (of_block : q.block ≡ Some i) (there : slice_get m.list i ≡ Some b) (live : b.live ≡ true) (unsealed : m.sealed ≡ false) where
   within : (count : ℕ) → b.start ≤ q.address → q.address + count ≤ b.start + b.size → (b.live && holds b q.address count) ≡ true
   within count low high =
-      both_true b.live (holds b q.address count) live (both_true (nat_le b.start q.address) (nat_le (q.address + count) (b.start + b.size)) (le-leb b.start q.address low) (le-leb (q.address + count) (b.start + b.size) high))
+      and_from b.live (holds b q.address count) live (and_from (nat_le b.start q.address) (nat_le (q.address + count) (b.start + b.size)) (le-leb b.start q.address low) (le-leb (q.address + count) (b.start + b.size) high))
 
   home_is : (count : ℕ) → b.start ≤ q.address → q.address + count ≤ b.start + b.size → home m.list q count ≡ Some i
   home_is count low high =

@@ -1,7 +1,8 @@
 -- Widths of integers in a table of types, and values of which nothing is to be stored.
-use Rattle.std.proofs.Common.{◌≡◌, ℕ, zero, suc, ◌+◌, ◌<◌, List, [], ◌++◌, length, Bool, true, false, not, ◌&&◌, ◌||◌, nat_eq, Option, Some, None, refl, sym, ap, ◌∙◌, arith, eqb-true, unwrap_or}
+use Rattle.std.proofs.Common.{◌≡◌, ℕ, zero, suc, ◌+◌, ◌<◌, List, [], ◌++◌, length, Bool, true, false, not, ◌&&◌, nat_eq, Option, Some, None, refl, sym, ap, ◌∙◌, arith, eqb-true, unwrap_or}
 use Rattle.std.specs.Option.{option_map}
 use Rattle.std.proofs.lemmas.List.{map-append}
+use Rattle.std.proofs.lemmas.Bool.{or_parts}
 use Rattle.ir_memory.specs.Given.{IsLeaf}
 use Rattle.ir_memory.specs.declared.leaf.Leaf.TheVariants as leaf
 use Rattle.type_table.specs.Layout.{align, leaves, field_start, size}
@@ -67,10 +68,6 @@ unfolding repeated
 no_repeated zero element at step e = refl
 no_repeated (suc n) element at step e = absurd (omega (arith, e))
 
-or_none : (b c : Bool) → (b || c) ≡ false → (b ≡ false) × (c ≡ false)
-or_none true c e = cc
-or_none false c e = (refl, e)
-
 mutual
   -- of zeros without a pointer nothing is to be stored
   zeros_fresh : (s : Shape) → has_pointer s ≡ false → (at : ℕ) → to_store (filled Zero (slots_at s at)) ≡ []
@@ -88,7 +85,7 @@ mutual
   fields_fresh : (ss : Shapes) → have_pointers ss ≡ false → (packed : Bool) (at end : ℕ) → to_store (filled Zero (field_slots ss packed at end)) ≡ []
   fields_fresh no_shapes h packed at end = refl
   fields_fresh (more_shapes s ss) h packed at end =
-      let both = or_none (has_pointer s) (have_pointers ss) h in
+      let both = or_parts (has_pointer s) (have_pointers ss) h in
       filled_none (slots_at s (at + field_start packed end (align s))) (field_slots ss packed at (field_start packed end (align s) + size s))
       (zeros_fresh s both.0 (at + field_start packed end (align s))) (fields_fresh ss both.1 packed at (field_start packed end (align s) + size s))
 

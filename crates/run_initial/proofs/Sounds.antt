@@ -2,7 +2,7 @@
 use Rattle.std.proofs.Common.{◌≡◌, ℕ, List, [], ◌∷◌, length, Bool, true, false, ◌&&◌, nat_lt, Option, Some, None, is_some, cond, refl, sym, ap, ◌∙◌, subst, true≢false, ltb-true}
 use Rattle.std.specs.Prelude.{position}
 use Rattle.std.specs.List.{AllZip, list_all, position_or_len}
-use Rattle.std.proofs.lemmas.Bool.{and_parts}
+use Rattle.std.proofs.lemmas.Bool.{and_parts, and_from}
 use Rattle.ir_memory.specs.declared.leaf.Leaf.{Leaf}
 use Rattle.ir_memory.specs.declared.leaf.Leaf.TheVariants as leaf
 use Rattle.ir_memory.specs.Given.{IsBlock}
@@ -62,22 +62,19 @@ good_shape ss (array n t) h = within_some (shape ss (array n t)) (and_parts (is_
 good_shape ss (struct packed ts) h = within_some (shape ss (struct packed ts)) (and_parts (are_good_types ss ts) (is_within_limits (shape ss (struct packed ts))) h).1
 good_shape ss (named name) h = within_some (shape ss (named name)) (and_parts _ (is_within_limits (shape ss (named name))) h).1
 
-two : (b c : Bool) → b ≡ true → c ≡ true → (b && c) ≡ true
-two b c p q = ap (λ (x : Bool). x && c) p ∙ q
-
 module _ (a : Lists) where
   part_sound : (x : Typed) → is_good_part (module_of a) x ≡ true → is_sound (names_of a) x ≡ true
   part_sound x h =
       let p = and_parts (is_good_type (module_of a).structs x.0) (list_all (is_good_type (module_of a).structs) (type_in_constant x.1) && (is_in_range x.0 x.1 && (is_constant_of_phrase x.1 && names_an_entry (module_of a) x.1))) h in
       let q = and_parts (list_all (is_good_type (module_of a).structs) (type_in_constant x.1)) (is_in_range x.0 x.1 && (is_constant_of_phrase x.1 && names_an_entry (module_of a) x.1)) p.1 in
       let r = and_parts (is_in_range x.0 x.1) (is_constant_of_phrase x.1 && names_an_entry (module_of a) x.1) q.1 in
-      two (is_in_range x.0 x.1) (is_some (shape (names_of a).structs x.0)) r.0 (good_shape (module_of a).structs x.0 p.0)
+      and_from (is_in_range x.0 x.1) (is_some (shape (names_of a).structs x.0)) r.0 (good_shape (module_of a).structs x.0 p.0)
 
   parts_sound : (xs : List Typed) → list_all (is_good_part (module_of a)) xs ≡ true → AreSound (names_of a) xs
   parts_sound [] h = refl
   parts_sound (x ∷ xs) h =
       let p = and_parts (is_good_part (module_of a) x) (list_all (is_good_part (module_of a)) xs) h in
-      two (is_sound (names_of a) x) (list_all (is_sound (names_of a)) xs) (part_sound x p.0) (parts_sound xs p.1)
+      and_from (is_sound (names_of a) x) (list_all (is_sound (names_of a)) xs) (part_sound x p.0) (parts_sound xs p.1)
 
   -- the type of a list has a shape
   pub list_shape : (t : Tree) (b : Brackets) (cs : Constants) → IsSound (module_of a) t (Aggregate b cs) → is_some (shape (names_of a).structs t) ≡ true

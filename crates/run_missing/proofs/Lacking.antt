@@ -4,7 +4,7 @@ use Rattle.std.specs.Prelude.{flat_map, slice_get, if◌then◌else◌}
 use Rattle.std.specs.List.{AllByRecursion, find, list_any}
 use Rattle.std.specs.Option.{option_map, option_map_or, option_or}
 use Rattle.std.proofs.lemmas.List.Elements.{filter-append}
-use Rattle.std.proofs.lemmas.List.Folds.{find-append}
+use Rattle.std.proofs.lemmas.List.Folds.{find-append, list_any-append}
 use Rattle.std.proofs.lemmas.List.{map-append}
 use Rattle.extract_core.specs.Selected.{is_among}
 use Rattle.linkage_rules.specs.Bind.{Bound, Definition, Appended, Host, Null, Unresolved, meaning}
@@ -29,7 +29,7 @@ use Rattle.run_names.proofs.Listed.{all_from_places, at_place}
 use Rattle.run_names.proofs.Meant.{alias_address, aliases_defined, plain_means, target_is, target_symbol}
 use Rattle.run_names.proofs.OneModule.{alias_entries, alias_in, entries_have, entry, function_entries, function_symbols_are, module_apart, name_of_symbol, parted, symbol_in_is, variable_entries, variable_symbols_are}
 use Rattle.run_missing.specs.Used.{is_function_defined, is_lacking, is_poison, is_variable_defined, used_names}
-use Rattle.run_missing.proofs.Picked.{all_of_kind, all_symbols, any_append, any_defined, any_of_kind, any_same, find_named, find_none, named, names_of_kind, none_named, none_of_kind, of_kind}
+use Rattle.run_missing.proofs.Picked.{all_of_kind, all_symbols, any_defined, any_of_kind, any_same, find_named, find_none, named, names_of_kind, none_named, none_of_kind, of_kind}
 
 -- a symbol that is looked up has the name that is
 name_looked_up : (parts : List Module) (i : ℕ) (n : Bytes) → symbol_name (symbol_in parts i n) ≡ n
@@ -115,7 +115,7 @@ module _ (m : Module) (well_formed : IsWellFormed m) (valid : IsValid m) where
       → list_any q (flat_map (chosen_of parts) (map symbol_of es)) ≡ list_any (λ e. is_definition e && q e) es
   any_chosen q [] h = refl
   any_chosen q (e ∷ es) h =
-      ap (λ l. list_any q (l ++ flat_map (chosen_of parts) (map symbol_of es))) h.0 ∙ any_append q (if is_definition e then e ∷ [] else []) (flat_map (chosen_of parts) (map symbol_of es))
+      ap (λ l. list_any q (l ++ flat_map (chosen_of parts) (map symbol_of es))) h.0 ∙ list_any-append q (if is_definition e then e ∷ [] else []) (flat_map (chosen_of parts) (map symbol_of es))
       ∙ ap₂ (λ a b. a || b) (go (is_definition e)) (any_chosen q es h.1)
     where
       go : (b : Bool) → list_any q (if b then e ∷ [] else []) ≡ (b && q e)
@@ -149,13 +149,13 @@ module _ (m : Module) (well_formed : IsWellFormed m) (valid : IsValid m) where
   -- the names in variables and functions are all
   names_by_kind : (n : Bytes) → list_any (λ (d : Entry). is_definition d && is_among (names_used d.global) n) (entries parts) ≡ is_among (used_names m) n
   names_by_kind n =
-      ap (list_any p) (parted m) ∙ any_append p V (F ++ A)
+      ap (list_any p) (parted m) ∙ list_any-append p V (F ++ A)
       ∙ ap₂ (λ a b. a || b) (any_of_kind p OfVariable m.variables ∙ any_defined is_variable_defined names_in_variable n m.variables)
-      (any_append p F A
+      (list_any-append p F A
       ∙ ap₂ (λ a b. a || b) (any_of_kind p OfFunction m.functions ∙ any_defined is_function_defined names_in_function n m.functions)
       (any_of_kind p OfAlias m.aliases ∙ none_named (λ x. is_definition (entry (OfAlias x))) m.aliases)
       ∙ or_none (is_among (flat_map names_in_function (filter is_function_defined m.functions)) n))
-      ∙ sym (any_append (bytes_eq n) (flat_map names_in_variable (filter is_variable_defined m.variables)) (flat_map names_in_function (filter is_function_defined m.functions)))
+      ∙ sym (list_any-append (bytes_eq n) (flat_map names_in_variable (filter is_variable_defined m.variables)) (flat_map names_in_function (filter is_function_defined m.functions)))
     where
       p : Entry → Bool
       p = λ (d : Entry). is_definition d && is_among (names_used d.global) n

@@ -1,9 +1,10 @@
 -- Tests on lists of entries.
-use Rattle.std.proofs.Common.{◌≡◌, ℕ, zero, suc, List, [], ◌∷◌, ◌++◌, map, filter, Bool, true, false, ◌&&◌, ◌||◌, cond, bytes_eq, Some, None, refl, sym, ap, ap₂, ◌∙◌, subst, true≢false}
+use Rattle.std.proofs.Common.{◌≡◌, ℕ, zero, suc, List, [], ◌∷◌, map, filter, Bool, true, false, ◌&&◌, ◌||◌, cond, bytes_eq, Some, None, refl, sym, ap, ap₂, ◌∙◌, subst, true≢false}
 use Rattle.std.specs.Prelude.{flat_map, slice_get}
 use Rattle.std.specs.List.{AllByRecursion, find, list_any}
 use Rattle.std.specs.Option.{option_map}
 use Rattle.std.proofs.lemmas.Option.{same_Some}
+use Rattle.std.proofs.lemmas.List.Folds.{list_any-append}
 use Rattle.extract_core.specs.Selected.{is_among}
 use Rattle.linkage_rules.specs.Entries.{Entry, symbol_name, symbol_of}
 use Rattle.linkage_rules.specs.Globals.{Global, name_of}
@@ -77,24 +78,13 @@ pub any_of_kind : {A : Type 0} (p : Entry → Bool) (kind : A → Global) (xs : 
 any_of_kind p kind [] = refl
 any_of_kind p kind (x ∷ xs) = ap (λ b. p (entry (kind x)) || b) (any_of_kind p kind xs)
 
-any_joined : {A : Type 0} (p : A → Bool) (xs ys : List A) → list_any p (xs ++ ys) ≡ (list_any p xs || list_any p ys)
-any_joined p [] ys = refl
-any_joined p (x ∷ xs) ys = ap (λ b. p x || b) (any_joined p xs ys) ∙ joined (p x) (list_any p xs) (list_any p ys)
-  where
-    joined : (a b c : Bool) → (a || (b || c)) ≡ ((a || b) || c)
-    joined true b c = refl
-    joined false b c = refl
-
-pub any_append : {A : Type 0} (p : A → Bool) (xs ys : List A) → list_any p (xs ++ ys) ≡ (list_any p xs || list_any p ys)
-any_append p xs ys = any_joined p xs ys
-
 -- a name is in what is defined
 pub any_defined : {A : Type 0} (d : A → Bool) (f : A → List Bytes) (n : Bytes) (xs : List A) → list_any (λ x. d x && is_among (f x) n) xs ≡ is_among (flat_map f (filter d xs)) n
 any_defined d f n [] = refl
 any_defined d f n (x ∷ xs) = go (d x) (any_defined d f n xs)
   where
     go : (b : Bool) → list_any (λ x. d x && is_among (f x) n) xs ≡ is_among (flat_map f (filter d xs)) n → ((b && is_among (f x) n) || list_any (λ x. d x && is_among (f x) n) xs) ≡ is_among (flat_map f (cond b (x ∷ filter d xs) (filter d xs))) n
-    go true k = ap (λ b. is_among (f x) n || b) k ∙ sym (any_joined (bytes_eq n) (f x) (flat_map f (filter d xs)))
+    go true k = ap (λ b. is_among (f x) n || b) k ∙ sym (list_any-append (bytes_eq n) (f x) (flat_map f (filter d xs)))
     go false k = k
 
 pub none_named : {A : Type 0} (d : A → Bool) (xs : List A) → list_any (λ x. d x && false) xs ≡ false

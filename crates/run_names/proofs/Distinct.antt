@@ -1,14 +1,10 @@
 -- Lists of which no two elements are the same.
-use Rattle.std.proofs.Common.{◌≡◌, List, [], ◌∷◌, ◌++◌, Bool, true, false, not, refl, sym, ap}
+use Rattle.std.proofs.Common.{◌≡◌, List, [], ◌∷◌, ◌++◌, Bool, true, false, not, ap}
 use Rattle.std.specs.Prelude.{⊤}
 use Rattle.std.specs.List.{AllByRecursion, list_any}
-use Rattle.std.proofs.lemmas.Bool.{and_parts, or_parts}
+use Rattle.std.proofs.lemmas.Bool.{and_parts, or_parts, not-true}
 use Rattle.linkage_rules.proofs.Gathered.{all_joined}
 use Rattle.ir_tables.specs.Table.{is_distinct}
-
-not_is : (b : Bool) → not b ≡ true → b ≡ false
-not_is true h = sym h
-not_is false h = refl
 
 all_front : {A : Type 0} (P : A → Type 0) (xs ys : List A) → AllByRecursion P (xs ++ ys) → AllByRecursion P xs × AllByRecursion P ys
 all_front P [] ys h = (tt, h)
@@ -31,7 +27,7 @@ module _ {A : Type 0} (same : A → A → Bool) where
   pub distinct_is : (xs : List A) → is_distinct same xs ≡ true → Distinct xs
   distinct_is [] h = tt
   distinct_is (x ∷ xs) h =
-      let p = and_parts (not (list_any (same x) xs)) (is_distinct same xs) h in (none_same x xs (not_is (list_any (same x) xs) p.0), distinct_is xs p.1)
+      let p = and_parts (not (list_any (same x) xs)) (is_distinct same xs) h in (none_same x xs (not-true (list_any (same x) xs) p.0), distinct_is xs p.1)
 
   pub parts_of : (xs ys : List A) → Distinct (xs ++ ys) → Distinct xs × Distinct ys × Cross xs ys
   parts_of [] ys h = (tt, h, tt)

@@ -1,10 +1,12 @@
 -- The entries of one module alone, and its symbols.
-use Rattle.std.proofs.Common.{◌≡◌, ℕ, zero, suc, List, [], ◌∷◌, ◌++◌, map, filter, Bool, true, false, not, ◌||◌, cond, refl, sym, ap, ap₂, ◌∙◌, subst, append-nil, append_assoc, bytes_eq, true≢false, Some}
+use Rattle.std.proofs.Common.{◌≡◌, ℕ, zero, suc, List, [], ◌∷◌, ◌++◌, map, filter, Bool, true, false, not, ◌||◌, refl, sym, ap, ap₂, ◌∙◌, subst, append-nil, append_assoc, bytes_eq, true≢false, Some}
 use Rattle.std.specs.Prelude.{slice_get, if◌then◌else◌}
 use Rattle.std.specs.List.{AllByRecursion, list_all, list_any}
 use Rattle.std.proofs.lemmas.Bool.{and_parts, cond-true, cond-false, or_right}
 use Rattle.std.proofs.lemmas.List.{map-append}
 use Rattle.std.proofs.lemmas.Option.{same_Some}
+use Rattle.std.proofs.lemmas.Map.Keys.{any_passes_from_place}
+use Rattle.std.proofs.lemmas.List.Elements.{filter-append}
 use Rattle.linkage_rules.proofs.Gathered.{all_joined}
 use Rattle.ir_tables.specs.Table.{is_distinct}
 use Rattle.ir_tables.specs.declared.linkage.Linkage.{Linkage}
@@ -21,7 +23,7 @@ use Rattle.linkage_rules.specs.Linkages.{is_local, is_available_externally}
 use Rattle.linkage_rules.specs.SymbolLaws.{name_self, name_exact, symbol_exact, symbol_self}
 use Rattle.linkage_rules.specs.Symbols.{function_symbols, is_alias_symbol, plain_entries, variable_symbols}
 use Rattle.linkage_rules.specs.Winner.{is_definition}
-use Rattle.run_names.proofs.Listed.{all_from_places, at_place, any_there, none_there, front_at, behind_at, mapped_at}
+use Rattle.run_names.proofs.Listed.{all_from_places, at_place, none_there, front_at, behind_at, mapped_at}
 use Rattle.run_names.proofs.Apart.{AreApart, same_entry, all_first, own_kind, same_filter}
 use Rattle.run_names.proofs.Distinct.{Distinct, distinct_is, reordered}
 
@@ -104,14 +106,6 @@ lasting_counts _ h = absurd (true≢false (sym h))
 
 -- ---- the symbols of variables, and those of functions
 
-filter_joined : {A : Type 0} (p : A → Bool) (xs ys : List A) → filter p (xs ++ ys) ≡ filter p xs ++ filter p ys
-filter_joined p [] ys = refl
-filter_joined p (x ∷ xs) ys = go (p x) (filter_joined p xs ys)
-  where
-    go : (b : Bool) → filter p (xs ++ ys) ≡ filter p xs ++ filter p ys → cond b (x ∷ filter p (xs ++ ys)) (filter p (xs ++ ys)) ≡ cond b (x ∷ filter p xs) (filter p xs) ++ filter p ys
-    go true e = ap (λ l. x ∷ l) e
-    go false e = e
-
 all_kept : {A : Type 0} (p : Entry → Bool) (kind : A → Global) → ((x : A) → p (entry (kind x)) ≡ true) → (xs : List A) → filter p (map entry (map kind xs)) ≡ map entry (map kind xs)
 all_kept p kind h [] = refl
 all_kept p kind h (x ∷ xs) =
@@ -190,23 +184,23 @@ module _ (m : Module) (well_formed : IsWellFormed m) (defined : AllByRecursion (
       ∙ same_filter (λ (e : Entry). not (is_alias_symbol parts (symbol_of e))) plain (entries parts)
       (all_from_places (λ (e : Entry). not (is_alias_symbol parts (symbol_of e)) ≡ plain e) (entries parts)
       (λ k e at. ap not (own_kind parts (module_apart m well_formed) k e at (at_place (λ (e : Entry). is_alias e.global ≡ true → is_definition e ≡ true) (entries parts) k e defined at))))
-      ∙ ap (filter plain) (parted m) ∙ filter_joined plain variables (functions ++ aliases)
+      ∙ ap (filter plain) (parted m) ∙ filter-append plain variables (functions ++ aliases)
       ∙ ap₂ (λ xs ys. xs ++ ys) (all_kept plain OfVariable (λ v. refl) m.variables)
-      (filter_joined plain functions aliases ∙ ap₂ (λ xs ys. xs ++ ys) (all_kept plain OfFunction (λ f. refl) m.functions) (none_kept plain OfAlias (λ a. refl) m.aliases) ∙ append-nil functions)
+      (filter-append plain functions aliases ∙ ap₂ (λ xs ys. xs ++ ys) (all_kept plain OfFunction (λ f. refl) m.functions) (none_kept plain OfAlias (λ a. refl) m.aliases) ∙ append-nil functions)
 
   -- the n-th function symbol is that of the n-th function
   pub function_symbols_are : function_symbols parts ≡ map symbol_of (function_entries m)
   function_symbols_are =
       let p = λ (e : Entry). not (is_variable e.global) in
       ap (λ es. map symbol_of (filter p es)) plain_are
-      ∙ ap (map symbol_of) (filter_joined p variables functions ∙ ap₂ (λ xs ys. xs ++ ys) (none_kept p OfVariable (λ v. refl) m.variables) (all_kept p OfFunction (λ f. refl) m.functions))
+      ∙ ap (map symbol_of) (filter-append p variables functions ∙ ap₂ (λ xs ys. xs ++ ys) (none_kept p OfVariable (λ v. refl) m.variables) (all_kept p OfFunction (λ f. refl) m.functions))
 
   -- and the same of variables
   pub variable_symbols_are : variable_symbols parts ≡ map symbol_of (variable_entries m)
   variable_symbols_are =
       let p = λ (e : Entry). is_variable e.global in
       ap (λ es. map symbol_of (filter p es)) plain_are
-      ∙ ap (map symbol_of) (filter_joined p variables functions ∙ ap₂ (λ xs ys. xs ++ ys) (all_kept p OfVariable (λ v. refl) m.variables) (none_kept p OfFunction (λ f. refl) m.functions) ∙ append-nil variables)
+      ∙ ap (map symbol_of) (filter-append p variables functions ∙ ap₂ (λ xs ys. xs ++ ys) (all_kept p OfVariable (λ v. refl) m.variables) (none_kept p OfFunction (λ f. refl) m.functions) ∙ append-nil variables)
 
 -- ---- names and symbols
 
@@ -258,7 +252,7 @@ module _ (m : Module) (well_formed : IsWellFormed m) where
           let own : symbol_of e ≡ Local 0 n = cond-true (is_local (linkage_of e.global)) (Local e.part n) (Shared n) local ∙ ap (λ i. Local i n) part in
           let has_own : list_any (same_symbol (Local 0 n)) (map symbol_of (entries (m ∷ []))) ≡ true =
           over_map (same_symbol (Local 0 n)) symbol_of (entries (m ∷ []))
-          ∙ any_there (λ d. same_symbol (Local 0 n) (symbol_of d)) (entries (m ∷ [])) k e at (ap (same_symbol (Local 0 n)) own ∙ symbol_self (Local 0 n)) in
+          ∙ any_passes_from_place (λ d. same_symbol (Local 0 n) (symbol_of d)) (entries (m ∷ [])) k e at (ap (same_symbol (Local 0 n)) own ∙ symbol_self (Local 0 n)) in
           cond-true (list_any (same_symbol (Local 0 n)) (map symbol_of (entries (m ∷ [])))) (Local 0 n) (Shared n) has_own ∙ sym own
       go false shared =
           let own : symbol_of e ≡ Shared n = cond-false (is_local (linkage_of e.global)) (Local e.part n) (Shared n) shared in

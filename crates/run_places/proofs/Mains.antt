@@ -7,7 +7,7 @@ use Rattle.std.specs.Int.{next_multiple_of}
 use Rattle.std.specs.Option.{option_map, option_map_or}
 use Rattle.linkage_rules.specs.declared.symbol.Symbol.{Symbol}
 use Rattle.linkage_rules.specs.Entries.{Entry, same_symbol, symbol_of, entries, entries_from}
-use Rattle.std.proofs.lemmas.Bool.{or_right, or_parts}
+use Rattle.std.proofs.lemmas.Bool.{or_right, or_parts, not-true}
 use Rattle.std.proofs.lemmas.Option.{same_Some}
 use Rattle.ir_tables.specs.declared.linkage.Linkage.{Linkage}
 use Rattle.ir_tables.specs.declared.linkage.Linkage.TheVariants.{Appending}
@@ -115,12 +115,8 @@ same_appending : (l : Linkage) → entry_rules.is_appending l ≡ is_appending l
 same_appending Appending = refl
 same_appending _ = refl
 
-not_true : (b : Bool) → not b ≡ true → b ≡ false
-not_true true h = sym h
-not_true false h = refl
-
 no_function_appends : (m : Module) (n : ℕ) (f : Function) → IsValid m → slice_get m.functions n ≡ Some f → is_appending f.linkage ≡ false
-no_function_appends m n f v e = sym (same_appending f.linkage) ∙ not_true (entry_rules.is_appending f.linkage) (valid_function m n f v e).1.1.0
+no_function_appends m n f v e = sym (same_appending f.linkage) ∙ not-true (entry_rules.is_appending f.linkage) (valid_function m n f v e).1.1.0
 
 any_there : {X Y : Type 0} (test : Y → Bool) (g : X → Y) (xs : List X) (k : ℕ) (x : X) → slice_get xs k ≡ Some x → test (g x) ≡ true → list_any test (map g xs) ≡ true
 any_there test g [] k x e h = none_some x e

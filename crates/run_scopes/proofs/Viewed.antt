@@ -2,7 +2,7 @@
 use Rattle.std.proofs.Common.{◌≡◌, ℕ, zero, suc, Bool, true, false, not, ◌&&◌, List, [], ◌∷◌, ◌++◌, All, Option, Some, None, map, flat_map, length, append-nil, refl, sym, ap, ◌∙◌, subst, unwrap_or, option_to_list}
 use Rattle.std.specs.Prelude.{slice_get}
 use Rattle.std.specs.List.{AllByRecursion, IsDistinct, list_all, list_any}
-use Rattle.std.proofs.lemmas.Bool.{and_parts, or_parts, true≢false}
+use Rattle.std.proofs.lemmas.Bool.{and_parts, or_parts, not-true}
 use Rattle.std.proofs.lemmas.Option.{get_or_from_slice_get, slice_get_within}
 use Rattle.ir_tables.specs.Table.{is_distinct}
 use Rattle.std.specs.Option.{option_map, option_map_or}
@@ -64,10 +64,6 @@ typed_viewed : (a : Lists) (ps : List the_parameter.Parameter) → map (λ (p : 
 typed_viewed a [] = refl
 typed_viewed a (p ∷ ps) = ap (λ (xs : List Typed). typed_parameter a p ∷ xs) (typed_viewed a ps)
 
-not_is : (b : Bool) → not b ≡ true → b ≡ false
-not_is true h = absurd (true≢false (sym h))
-not_is false h = refl
-
 none_same : (x : LocalName) (ys : List LocalName) → list_any (same_local x) ys ≡ false → AllByRecursion (λ (y : LocalName). same_local x y ≡ false) ys
 none_same x [] h = tt
 none_same x (y ∷ ys) h = let p = or_parts (same_local x y) (list_any (same_local x) ys) h in (p.0, none_same x ys p.1)
@@ -77,7 +73,7 @@ unfolding IsDistinct
 are_distinct [] h = tt
 are_distinct (x ∷ xs) h =
     let p = and_parts (not (list_any (same_local x) xs)) (is_distinct same_local xs) h in
-    (none_same x xs (not_is (list_any (same_local x) xs) p.0), are_distinct xs p.1)
+    (none_same x xs (not-true (list_any (same_local x) xs) p.0), are_distinct xs p.1)
 
 names_viewed : (ps : List the_parameter.Parameter) → map (λ (p : the_parameter.Parameter). local_view p.name) ps ≡ map local_view (map (λ (p : the_parameter.Parameter). p.name) ps)
 names_viewed [] = refl

@@ -1,6 +1,7 @@
 -- The byte that is taken is the first of the input that the run still has.
 use Rattle.std.proofs.Common.{◌≡◌, ◌↔◌, ℕ, ◌≤◌, Bool, true, false, List, [], ◌∷◌, ◌++◌, length, Option, Some, None, IfSome, IsTrue, refl, sym, ap, ◌∙◌, inl, inr, arith}
 use Rattle.std.proofs.lemmas.List.{nil_from_length}
+use Rattle.std.proofs.lemmas.Bool.{true_from_ne_false}
 use Rattle.ir_base.specs.Outside.{Lost}
 use Rattle.run_traffic.specs.Input.{Waiting, IsWaiting, bytes_left, IsNext, IsHeard, Takes}
 
@@ -15,10 +16,6 @@ next_left : (unused others : List ℕ) (closed after : Bool) (byte : Option ℕ)
 next_left [] others closed after byte rest n e end = rw (e, end refl, n.1) (n.0, refl)
 next_left (b ∷ bs) others closed after byte rest n e end = rw (e, n.1) (n.0, refl)
 
-true_if : (b : Bool) → (b ≡ false → ⊥) → b ≡ true
-true_if true h = refl
-true_if false h = absurd (h refl)
-
 -- what is false is not told
 never : (test : Bool) (P : Type 0) → (IsTrue test ↔ P) → test ≡ false → P → ⊥
 never true P h e p = cc
@@ -32,7 +29,7 @@ told false P h e = cc
 
 -- what is not waiting has a byte or is closed
 end_is : (w : Waiting) → (IsWaiting w → ⊥) → w.unused ≡ [] → w.closed ≡ true
-end_is w never none = true_if w.closed (λ c. never (none, c))
+end_is w never none = true_from_ne_false w.closed (λ c. never (none, c))
 
 -- `test` is what `must_read` answered
 pub takes_unused : (old new : Waiting) (byte : Option ℕ) (l : Option (List ℕ)) (test : Bool) → (IsTrue test ↔ IsWaiting old) → test ≡ false → IsNext old.unused byte new.unused → new.closed ≡ old.closed → Takes old byte new l l

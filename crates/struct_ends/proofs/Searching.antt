@@ -4,13 +4,13 @@ use Rattle.std.specs.List.{IsDistinct}
 use Rattle.std.specs.Cmp.{nat_eq_equiv}
 use Rattle.std.proofs.Common.{ap, sym, subst, ◌∙◌, arith, inl, inr, get_or, set, append_assoc}
 use Rattle.std.proofs.Math.ListN.{get_or-append}
-use Rattle.std.proofs.lemmas.Bool.{eqb-true, eq-eqb}
+use Rattle.std.proofs.lemmas.Bool.{eqb-true, eq-eqb, or_cases}
 use Rattle.std.proofs.lemmas.List.{append-nil}
 use Rattle.std.proofs.lemmas.Map.Keys.{IsDistinct-push}
 use Rattle.std.proofs.lemmas.Map.Steps.{length-le_from_distinct_below}
 use Rattle.std.specs.Global.{Vec}
 use Rattle.struct_order.specs.Order.{mentioned, HasNumber, stands_in, AreWithin}
-use Rattle.struct_order.proofs.Placed.{stands_more, marks_more, or_split, index_of_number}
+use Rattle.struct_order.proofs.Placed.{stands_more, marks_more, index_of_number}
 use Rattle.struct_ends.specs.Reach.{LeadsTo, AreMarks, HasGrown, IsSearched, AreReached}
 
 -- nothing is marked
@@ -44,7 +44,7 @@ grown_by_one queue number = record { extra = number ∷ []; longer = refl; there
     there other (inr h) = absurd h
 
     from : (other : ℕ) → stands_in (queue ++ number ∷ []) other ≡ true → (stands_in queue other ≡ true) ⊎ HasNumber other (number ∷ [])
-    from other e = by (or_split (stands_in queue other) (nat_eq other number) (sym (stands_more queue number other) ∙ e))
+    from other e = by (or_cases (stands_in queue other) (nat_eq other number) (sym (stands_more queue number other) ∙ e))
       where
         by : (stands_in queue other ≡ true) ⊎ (nat_eq other number ≡ true) → (stands_in queue other ≡ true) ⊎ HasNumber other (number ∷ [])
         by (inl h) = inl h
@@ -208,12 +208,6 @@ all_reached lists start next marks queue past are was = record {
     closed last number h k =
         let r = place_of queue last h in
         was.done r.0 (omega (arith, r.1, few, past)) r.1 number (subst (λ m. HasNumber number (mentioned lists m)) (sym r.2) k)
-
--- what stands at a place, whatever would stand behind the last
-pub at_place : {A : Type 0} (xs : List A) (i : ℕ) (d e : A) → i < length xs → get_or xs i d ≡ get_or xs i e
-at_place [] i d e h = absurd (omega (arith, h))
-at_place (x ∷ xs) zero d e h = refl
-at_place (x ∷ xs) (suc i) d e h = at_place xs i d e (omega (arith, h))
 
 -- what a number mentions has lists
 pub within_at : (mentions : List (Vec ℕ)) (number : ℕ) (list : Vec ℕ) (numbers : List ℕ) (n : ℕ) → AreWithin mentions → number < length mentions → list ≡ get_or mentions number list → numbers ≡ list.items → n ≡ length mentions → All (λ k. k < n) numbers

@@ -1,9 +1,10 @@
 -- Structs gathered one by one.
-use Rattle.std.specs.Prelude.{◌≡◌, refl, ℕ, zero, suc, ◌+◌, ◌<◌, ◌≤◌, Bool, true, false, cond, List, [], ◌∷◌, ◌++◌, length, map, filter_map, bytes_eq, Option, Some, None}
+use Rattle.std.specs.Prelude.{◌≡◌, refl, ℕ, zero, suc, ◌+◌, ◌<◌, ◌≤◌, Bool, true, false, cond, List, [], ◌∷◌, ◌++◌, length, map, bytes_eq, Option, Some, None}
 use Rattle.std.proofs.Common.{ap, sym, ◌∙◌, arith, get_or, take, drop, append_assoc, length-append}
 use Rattle.std.proofs.lemmas.List.{drop_more}
 use Rattle.std.specs.List.{cons_option}
 use Rattle.std.specs.Global.{Vec}
+use Rattle.std.proofs.lemmas.List.Elements.{filter_map-append}
 use Rattle.ir_constants.specs.declared.ty.Type as the_type
 use Rattle.ir_constants.specs.Tree.{types}
 use Rattle.ir_constants.specs.View.{type_view}
@@ -55,10 +56,6 @@ number_more next (x ∷ structs) s name = by (bytes_eq x.0 name) (number_more (s
 cons-append : {B : Type 0} (o : Option B) (front whole ys : List B) → whole ≡ front ++ ys → cons_option o whole ≡ cons_option o front ++ ys
 cons-append None front whole ys e = e
 cons-append (Some b) front whole ys e = ap (λ more. b ∷ more) e
-
-pub filter_map-append : {A B : Type 0} (f : A → Option B) (xs ys : List A) → filter_map f (xs ++ ys) ≡ filter_map f xs ++ filter_map f ys
-filter_map-append f [] ys = refl
-filter_map-append f (x ∷ xs) ys = cons-append (f x) (filter_map f xs) (filter_map f (xs ++ ys)) (filter_map f ys) (filter_map-append f xs ys)
 
 -- the names in the types from one on
 abbrev pub names_behind : List the_type.Type → ℕ → List Bytes

@@ -2,7 +2,7 @@
 use Rattle.std.specs.Prelude.{◌≡◌, refl, ◌⊎◌, ℕ, zero, suc, ◌+◌, ◌<◌, ◌≤◌, Bool, true, false, cond, ◌||◌, List, [], ◌∷◌, length, map, bytes_eq, nat_eq, Option, Some, None, All}
 use Rattle.std.specs.List.{AllByRecursion, cons_option}
 use Rattle.std.proofs.Common.{ap, sym, subst, ◌∙◌, arith, get_or, inl, inr}
-use Rattle.std.proofs.lemmas.Bool.{eqb-true, eq-eqb}
+use Rattle.std.proofs.lemmas.Bool.{eqb-true, eq-eqb, false_from_ne_true}
 use Rattle.std.proofs.lemmas.Slice.Eq.{bytes_eq-Decides}
 use Rattle.std.proofs.lemmas.List.{length-map}
 use Rattle.std.proofs.lemmas.List.Elements.{All-from_recursion}
@@ -120,10 +120,6 @@ from_names structs (first ∷ order) name (inr h) = let r = from_names structs o
     or_true true b e = refl
     or_true false b e = e
 
-not_true : (b : Bool) → (b ≡ true → ⊥) → b ≡ false
-not_true true h = absurd (h refl)
-not_true false h = refl
-
 is_that : (o : Option ℕ) (n : ℕ) → is_number o n ≡ true → o ≡ Some n
 is_that (Some m) n e = ap Some (eqb-true m n e)
 is_that None n e = absurd cc
@@ -232,7 +228,7 @@ module _ (structs : Structs) (table : List (Bytes × ℕ)) (are : AreNumbers tab
               let own : value_of table name ≡ Some n = are.each name ∙ e in
               let at = found_number name n own in
               let is_first : IsFirst n = ap (value_of table) (sym (name_there n) ∙ at.2) ∙ own in
-              let not_in : stands_in order n ≡ false = not_true (stands_in order n) (λ q. out (subst (λ k. HasName k (names_at structs order)) at.2 (in_names structs order n q))) in
+              let not_in : stands_in order n ≡ false = false_from_ne_true (stands_in order n) (λ q. out (subst (λ k. HasName k (names_at structs order)) at.2 (in_names structs order n q))) in
               let lack = is.left n (omega (arith, at.0, count)) not_in in
               let from = written table (body_names (get_or structs n nothing).1) lack.0 (subst (λ ns. HasNumber lack.0 ns) (own_mentions n at.0 is_first) lack.1) in
               let there = found_number from.0 lack.0 from.2 in (

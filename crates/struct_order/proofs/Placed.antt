@@ -3,7 +3,7 @@ use Rattle.std.specs.Prelude.{◌≡◌, refl, ℕ, zero, suc, ◌+◌, ◌<◌,
 use Rattle.std.specs.List.{IsDistinct}
 use Rattle.std.specs.Cmp.{nat_eq_equiv}
 use Rattle.std.proofs.Common.{ap, sym, subst, ◌∙◌, arith, inl, inr, get_or, set, length-append, length-set}
-use Rattle.std.proofs.lemmas.Bool.{eqb-true, eqb-false, eq-eqb}
+use Rattle.std.proofs.lemmas.Bool.{eqb-true, eqb-false, eq-eqb, or_left, or_cases}
 use Rattle.std.proofs.lemmas.List.{get_or-set_same, get_or-set_other}
 use Rattle.std.proofs.lemmas.List.Folds.{list_any-append}
 use Rattle.std.proofs.lemmas.Map.Keys.{IsDistinct-push}
@@ -26,10 +26,6 @@ number_at (first ∷ more) (suc i) h = inr (number_at more i (omega (arith, h)))
 pub all_settled : (settled : List Bool) (mentions : List ℕ) → ((k : ℕ) → k < length mentions → get_or settled (get_or mentions k 0) false ≡ true) → AreSettled settled mentions
 all_settled settled mentions each number h = let r = index_of_number mentions number h in subst (λ n. get_or settled n false ≡ true) r.2 (each r.0 r.1)
 
-or_first : (a b : Bool) → a ≡ true → (a || b) ≡ true
-or_first true b e = refl
-or_first false b e = absurd cc
-
 -- what stands at the end
 pub stands_more : (order : List ℕ) (number other : ℕ) → stands_in (order ++ number ∷ []) other ≡ (stands_in order other || nat_eq other number)
 stands_more order number other = list_any-append (nat_eq other) order (number ∷ []) ∙ ap (λ b. stands_in order other || b) (or_false (nat_eq other number))
@@ -37,10 +33,6 @@ stands_more order number other = list_any-append (nat_eq other) order (number �
     or_false : (b : Bool) → (b || false) ≡ b
     or_false true = refl
     or_false false = refl
-
-pub or_split : (a b : Bool) → (a || b) ≡ true → (a ≡ true) ⊎ (b ≡ true)
-or_split true b e = inl refl
-or_split false b e = inr e
 
 -- one more that mentions only what stands there
 snoc_behind : (lists : List (List ℕ)) (before order : List ℕ) (number : ℕ) → StandBehind lists before order
@@ -58,10 +50,10 @@ snoc_behind lists before (first ∷ order) number behind each = (behind.0, snoc_
         last : (a b : Bool) → b ≡ true → (a || b) ≡ true
         last true b e = refl
         last false b e = e
-    moved other (inr e) = by (or_split (nat_eq other first) (stands_in order other) e)
+    moved other (inr e) = by (or_cases (nat_eq other first) (stands_in order other) e)
       where
         by : (nat_eq other first ≡ true) ⊎ (stands_in order other ≡ true) → (stands_in (first ∷ before) other ≡ true) ⊎ (stands_in order other ≡ true)
-        by (inl q) = inl (or_first (nat_eq other first) (stands_in before other) q)
+        by (inl q) = inl (or_left (nat_eq other first) (stands_in before other) q)
         by (inr q) = inr q
 
 pub marks_more : (settled : List Bool) (order : List ℕ) (number other : ℕ) → number < length settled → get_or settled other false ≡ stands_in order other → get_or (set settled number true) other false ≡ stands_in (order ++ number ∷ []) other
@@ -190,7 +182,7 @@ none_marked (suc n) (suc k) = none_marked n k
 
 pub stands_at : (order : List ℕ) (i : ℕ) → i < length order → stands_in order (get_or order i 0) ≡ true
 stands_at [] i h = absurd (omega (arith, h))
-stands_at (first ∷ order) zero h = or_first (nat_eq first first) (stands_in order first) (eq-eqb first first refl)
+stands_at (first ∷ order) zero h = or_left (nat_eq first first) (stands_in order first) (eq-eqb first first refl)
 stands_at (first ∷ order) (suc i) h = or_last (nat_eq (get_or order i 0) first) (stands_in order (get_or order i 0)) (stands_at order i (omega (arith, h)))
   where
     or_last : (a b : Bool) → b ≡ true → (a || b) ≡ true

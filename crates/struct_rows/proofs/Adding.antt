@@ -3,13 +3,14 @@ use Rattle.std.proofs.Common.{◌≡◌, ◌⊎◌, inl, inr, ℕ, ◌+◌, ◌<
 use Rattle.std.specs.Prelude.{slice_get}
 use Rattle.std.proofs.lemmas.List.{length-append, length-map}
 use Rattle.std.proofs.lemmas.Option.{slice_get_within}
+use Rattle.std.proofs.lemmas.List.Elements.{All-push}
 use Rattle.indexmap.specs.IndexSet.{insert_key}
 use Rattle.linkage_rules.specs.Entries.{structs_at}
 use Rattle.linkage_rules.specs.Ids.{modules}
 use Rattle.linkage_rules.specs.Lists.{has}
 use Rattle.linkage_rules.specs.declared.symbol.Symbol.{Symbol}
 use Rattle.linkage_rules.specs.declared.symbol.Symbol.TheVariants.{Local}
-use Rattle.linkage_rules.proofs.Steps.{all_more, take_more, take_whole}
+use Rattle.linkage_rules.proofs.Steps.{take_more, take_whole}
 use Rattle.module_arena.specs.Lists.{Lists}
 use Rattle.module_arena.specs.Module.{Bytes, Module}
 use Rattle.module_arena.specs.Sound.{IsSound}
@@ -133,7 +134,7 @@ added_more ps part a before now numbers list at sound h adds = record {
   rows = adds.rows;
   one_each = let many = length-append numbers (list ∷ []) in let so = h.one_each in omega (arith, many, so);
   each = λ i l e. each_part i l (at_more numbers list l i e);
-  sound = subst (All IsSound) (sym (take_more ps part a at)) (all_more IsSound (take part ps) a h.sound sound);
+  sound = subst (All IsSound) (sym (take_more ps part a at)) (All-push IsSound (take part ps) a h.sound sound);
 }
   where
     each_part : (i : ℕ) (l : List ℕ) → (slice_get numbers i ≡ Some l) ⊎ ((i ≡ length numbers) × (list ≡ l)) → HaveRows (modules ps) (so_far (modules ps) (part + 1)) i l

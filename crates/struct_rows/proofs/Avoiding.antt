@@ -2,6 +2,7 @@
 use Rattle.std.proofs.Common.{◌≡◌, ℕ, ◌+◌, Bool, true, false, ◌||◌, List, [], ◌∷◌, ◌++◌, map, take, Some, refl, sym, ap, ◌∙◌, subst, bytes_eq}
 use Rattle.std.specs.Prelude.{slice_get}
 use Rattle.std.proofs.lemmas.List.{map-append}
+use Rattle.std.proofs.lemmas.List.Folds.{list_any-append}
 use Rattle.linkage_rules.specs.Entries.{symbol_name}
 use Rattle.linkage_rules.specs.Ids.{modules}
 use Rattle.linkage_rules.specs.Lists.{has}
@@ -9,7 +10,6 @@ use Rattle.linkage_rules.specs.declared.symbol.Symbol.TheVariants.{Local}
 use Rattle.linkage_rules.proofs.Steps.{take_more}
 use Rattle.module_arena.specs.Lists.{Lists}
 use Rattle.module_arena.specs.Module.{Bytes}
-use Rattle.module_linker.proofs.Searches.{any_join}
 use Rattle.type_table.specs.Types.{names}
 use Rattle.link_names.specs.Naming.{HasMore, HasOneMore}
 use Rattle.struct_rows.specs.Numbers.{so_far}
@@ -24,10 +24,10 @@ turned false false c = refl
 -- some names, and then more
 more_names : (old mid new xs ys : List Bytes) → HasMore old xs mid → HasMore mid ys new → HasMore old (xs ++ ys) new
 more_names old mid new xs ys first second name =
-    second name ∙ any_join (bytes_eq name) ys mid
-    ∙ ap (λ b. has bytes_eq ys name || b) (first name ∙ any_join (bytes_eq name) xs old)
+    second name ∙ list_any-append (bytes_eq name) ys mid
+    ∙ ap (λ b. has bytes_eq ys name || b) (first name ∙ list_any-append (bytes_eq name) xs old)
     ∙ turned (has bytes_eq xs name) (has bytes_eq ys name) (has bytes_eq old name)
-    ∙ sym (any_join (bytes_eq name) (xs ++ ys) old ∙ ap (λ b. b || has bytes_eq old name) (any_join (bytes_eq name) xs ys))
+    ∙ sym (list_any-append (bytes_eq name) (xs ++ ys) old ∙ ap (λ b. b || has bytes_eq old name) (list_any-append (bytes_eq name) xs ys))
 
 -- none
 pub nothing_more : (old : List Bytes) → HasMore old [] old

@@ -3,6 +3,7 @@ use Rattle.std.proofs.Common.{◌≡◌, ℕ, zero, suc, Bool, true, false, not,
 use Rattle.std.specs.Prelude.{slice_get}
 use Rattle.std.specs.List.{list_any}
 use Rattle.std.proofs.lemmas.Bool.{cond-true, cond-false, false_from_ne_true, or_left, or_right, or_from, both_ways}
+use Rattle.std.proofs.lemmas.List.Elements.{filter-append}
 use Rattle.linkage_rules.specs.Lists.{firsts}
 use Rattle.linkage_rules.proofs.Lists.{any_filter, any_kept}
 
@@ -11,21 +12,13 @@ still_at [] rest n s h = cc
 still_at (d ∷ done) rest zero s h = h
 still_at (d ∷ done) rest (suc n) s h = still_at done rest n s h
 
-filter_joined : {A : Type 0} (p : A → Bool) (xs ys : List A) → filter p (xs ++ ys) ≡ filter p xs ++ filter p ys
-filter_joined p [] ys = refl
-filter_joined p (x ∷ xs) ys = go (p x) refl (filter_joined p xs ys)
-  where
-    go : (b : Bool) → p x ≡ b → filter p (xs ++ ys) ≡ filter p xs ++ filter p ys → filter p (x ∷ (xs ++ ys)) ≡ filter p (x ∷ xs) ++ filter p ys
-    go true e rest = rw e (ap (λ l. x ∷ l) rest)
-    go false e rest = rw e rest
-
 module _ {A : Type 0} (same : A → A → Bool) where
   -- of more elements those of the first are the first
   pub firsts_before : (xs ys : List A) → (rest : List A) × (firsts same (xs ++ ys) ≡ firsts same xs ++ rest)
   firsts_before [] ys = (firsts same ys, refl)
   firsts_before (x ∷ xs) ys =
       let more = firsts_before xs ys in
-      (filter (λ y. not (same x y)) more.0, ap (λ l. x ∷ filter (λ y. not (same x y)) l) more.1 ∙ ap (λ l. x ∷ l) (filter_joined (λ y. not (same x y)) (firsts same xs) more.0))
+      (filter (λ y. not (same x y)) more.0, ap (λ l. x ∷ filter (λ y. not (same x y)) l) more.1 ∙ ap (λ l. x ∷ l) (filter-append (λ y. not (same x y)) (firsts same xs) more.0))
 
   -- one element more, unless it is there
   abbrev pub with_one : Bool → List A → A → List A
@@ -41,7 +34,7 @@ module _ {A : Type 0} (same : A → A → Bool) where
         hidden e true = refl
         hidden e false =
             ap (λ l. y ∷ l)
-            (filter_joined (λ z. not (same y z)) (firsts same xs) (x ∷ [])
+            (filter-append (λ z. not (same y z)) (firsts same xs) (x ∷ [])
             ∙ ap (λ l. filter (λ z. not (same y z)) (firsts same xs) ++ l) (cond-false (not (same y x)) (x ∷ []) [] (ap not e))
             ∙ append-nil (filter (λ z. not (same y z)) (firsts same xs)))
 
@@ -60,6 +53,6 @@ module _ {A : Type 0} (same : A → A → Bool) where
         go false e false f rest =
             ap (λ l. y ∷ filter (λ z. not (same y z)) l) (rest ∙ cond-false (list_any (λ z. same z x) (firsts same xs)) _ _ f)
             ∙ ap (λ l. y ∷ l)
-            (filter_joined (λ z. not (same y z)) (firsts same xs) (x ∷ [])
+            (filter-append (λ z. not (same y z)) (firsts same xs) (x ∷ [])
             ∙ ap (λ l. filter (λ z. not (same y z)) (firsts same xs) ++ l) (cond-true (not (same y x)) (x ∷ []) [] (ap not e)))
             ∙ sym (cond-false (list_any (λ z. same z x) (firsts same (y ∷ xs))) _ _ (or_from (same y x) _ e (any_filter (λ z. same z x) (λ z. not (same y z)) (firsts same xs) f)))

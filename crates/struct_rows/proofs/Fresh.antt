@@ -1,11 +1,11 @@
 -- New names depend on which names are taken alone, in whatever order these are kept.
 use Rattle.std.proofs.Common.{◌≡◌, ◌⊎◌, inl, inr, ℕ, zero, suc, ◌<◌, ◌≤◌, Bool, true, false, cond, ◌||◌, List, ◌++◌, length, refl, sym, ap, ap₂, ◌∙◌, bytes_eq, arith}
 use Rattle.std.proofs.lemmas.Bool.{both_ways, cases_lt, cases_order}
+use Rattle.std.proofs.lemmas.List.Folds.{list_any-append}
 use Rattle.module_arena.specs.Module.{Bytes}
 use Rattle.linkage_rules.specs.Lists.{has}
 use Rattle.module_linker.specs.Rename.{dotted, least, fresh, new_name}
 use Rattle.module_linker.proofs.Names.{fresh_free}
-use Rattle.module_linker.proofs.Searches.{any_join}
 use Rattle.link_names.specs.Naming.{SameNames, AllTaken}
 
 first_or_later : (a b : ℕ) → a ≤ b → (b ≡ a) ⊎ (suc a ≤ b)
@@ -55,7 +55,7 @@ fresh_same xs ys base same =
 
 joined_same : (xs ys vs ws : List Bytes) → SameNames xs ys → SameNames vs ws → SameNames (xs ++ vs) (ys ++ ws)
 joined_same xs ys vs ws front behind name =
-    any_join (bytes_eq name) xs vs ∙ ap₂ (λ a b. a || b) (front name) (behind name) ∙ sym (any_join (bytes_eq name) ys ws)
+    list_any-append (bytes_eq name) xs vs ∙ ap₂ (λ a b. a || b) (front name) (behind name) ∙ sym (list_any-append (bytes_eq name) ys ws)
 
 -- and one new name
 pub new_name_same : (base : Bytes → Bytes) (xs ys vs ws : List Bytes) (name : Bytes) → SameNames xs ys → SameNames vs ws → new_name base vs xs name ≡ new_name base ws ys name

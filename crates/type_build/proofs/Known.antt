@@ -2,7 +2,7 @@
 use Rattle.std.proofs.Common.{◌≡◌, ℕ, ◌<◌, List, [], ◌∷◌, map, length, slice_get, All, Some, ◌∙◌, arith}
 use Rattle.std.specs.Option.{option_map}
 use Rattle.std.proofs.lemmas.List.{length-map}
-use Rattle.std.proofs.lemmas.List.Elements.{All-cons}
+use Rattle.std.proofs.lemmas.List.Elements.{All-cons, All-nil}
 use Rattle.std.proofs.lemmas.Option.{get_or_from_slice_get, slice_get_within, slice_get-map}
 use Rattle.ir_tables.specs.declared.opcode.Opcode.{Opcode}
 use Rattle.module_arena.specs.declared.constant.Const.TheVariants as const
@@ -16,11 +16,8 @@ use Rattle.module_arena.specs.Lists.{Lists, global_name, name_at}
 use Rattle.module_arena.specs.Known.{counts, HasGlobal, KnowsConst}
 use Rattle.type_build.specs.Stands.{IsKnownTyped}
 
-pub none_all : {X : Type 0} (P : X → Type 0) → All P []
-none_all P k d lt = absurd (omega arith)
-
 pub one_all : {X : Type 0} (P : X → Type 0) (x : X) → P x → All P (x ∷ [])
-one_all P x p = All-cons P x [] p (none_all P)
+one_all P x p = All-cons P x [] p (All-nil P)
 
 module _ {X : Type 0} (name : X → List ℕ) (xs : List X) (id : ℕ) (n : List ℕ) (e : option_map name (slice_get xs id) ≡ Some n) where
   there : slice_get (map name xs) id ≡ Some n
@@ -42,8 +39,8 @@ is_named a (global.Alias id) n e = get_or_from_slice_get (map (λ (x : the_alias
 module _ (a : Lists) where
   pub knows_address : (g : GlobalId) → HasGlobal (counts a) g → KnowsConst (length a.table.types) (counts a) (length a.constants) (const.Address g)
   knows_address g h = record {
-    types_known = none_all (λ ty. ty < length a.table.types);
-    typed_known = none_all (IsKnownTyped a);
+    types_known = All-nil (λ ty. ty < length a.table.types);
+    typed_known = All-nil (IsKnownTyped a);
     globals_known = one_all (HasGlobal (counts a)) g h;
   }
 
@@ -51,5 +48,5 @@ module _ (a : Lists) where
   knows_cast opcode operand to h lt = record {
     types_known = one_all (λ ty. ty < length a.table.types) to lt;
     typed_known = one_all (IsKnownTyped a) operand h;
-    globals_known = none_all (HasGlobal (counts a));
+    globals_known = All-nil (HasGlobal (counts a));
   }

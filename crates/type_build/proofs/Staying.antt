@@ -1,6 +1,6 @@
 -- What an arena can take it can still take when it has grown.
 use Rattle.std.proofs.Common.{◌≡◌, ℕ, ◌<◌, length, get_or, ◌≤◌, List, [], ◌∷◌, map, All, Option, sym, subst, ap, arith, refl}
-use Rattle.std.proofs.lemmas.List.Elements.{All-cons}
+use Rattle.std.proofs.lemmas.List.Elements.{All-cons, All-nil}
 use Rattle.ir_constants.specs.Tree.{TypeTree, types, ConstantTree, TypedConstantTree, constants}
 use Rattle.type_table.specs.Tree.{Tree, int, ptr, void, array, struct, named, TreeBody, Structs}
 use Rattle.type_table.specs.Types.{Types, structs, names, trees, tree_struct}
@@ -14,7 +14,6 @@ use Rattle.name_rules.specs.Written.{type_in, types_in, bits_at}
 use Rattle.type_build.specs.Fitting.{CanBe, AllCanBe}
 use Rattle.type_build.specs.Holding.{entries, CanHold, AllCanHold, CanHoldTyped}
 use Rattle.type_build.specs.Stands.{Grows}
-use Rattle.type_build.proofs.Known.{none_all}
 
 module _ (a b : Lists) (g : Grows a b) where
   pub structs_stay : structs b.table ≡ structs a.table
@@ -44,12 +43,12 @@ at_item P xs i x lt is all = subst P (sym is) (all i x lt)
 
 -- each field can be
 pub fields_can_be : {X : Type 0} (view : X → TypeTree) (ss : Structs) (xs : List X) → AllCanBe ss (types_in (types (map view xs))) → All (λ x. CanBe ss (type_in (view x))) xs
-fields_can_be view ss [] h = none_all (λ x. CanBe ss (type_in (view x)))
+fields_can_be view ss [] h = All-nil (λ x. CanBe ss (type_in (view x)))
 fields_can_be view ss (x ∷ xs) h = All-cons (λ y. CanBe ss (type_in (view y))) x xs h.0 (fields_can_be view ss xs h.1)
 
 -- each element can be held
 pub elements_can_be_held : {X : Type 0} (view : X → TypedConstantTree) (ss : Structs) (a : Lists) (xs : List X) → AllCanHold ss a (constants (map view xs)) → All (λ x. CanHoldTyped ss a (view x)) xs
-elements_can_be_held view ss a [] h = none_all (λ x. CanHoldTyped ss a (view x))
+elements_can_be_held view ss a [] h = All-nil (λ x. CanHoldTyped ss a (view x))
 elements_can_be_held view ss a (x ∷ xs) h = All-cons (λ y. CanHoldTyped ss a (view y)) x xs h.0 (elements_can_be_held view ss a xs h.1)
 
 -- the bits of what can be are at most 128

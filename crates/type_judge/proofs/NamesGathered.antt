@@ -3,6 +3,7 @@ use Rattle.std.specs.Prelude.{◌≡◌, refl, ℕ, Bool, true, false, cond, ◌
 use Rattle.std.proofs.Common.{ap, sym, ◌∙◌}
 use Rattle.std.proofs.lemmas.Slice.Eq.{bytes_eq-Decides}
 use Rattle.std.proofs.lemmas.List.Folds.{list_any-append}
+use Rattle.std.proofs.lemmas.List.Elements.{filter_map-append}
 use Rattle.ir_base.specs.declared.place.Place.{Place}
 use Rattle.ir_terminals.specs.declared.values.PlacedName.{PlacedName}
 use Rattle.ir_syntax.specs.Tree.{ItemTree}
@@ -10,7 +11,6 @@ use Rattle.module_arena.specs.Module.{Bytes}
 use Rattle.name_table.specs.Entries.{value_of}
 use Rattle.name_rules.specs.Breaks.{global_name}
 use Rattle.name_rules.specs.TypeDemands.{has_name}
-use Rattle.struct_order.proofs.Gathered.{filter_map-append}
 use Rattle.type_judge.specs.Gathered.{AreNames, global_names}
 
 same_both : (a b : Bytes) → bytes_eq a b ≡ bytes_eq b a

@@ -3,7 +3,7 @@ use Rattle.std.proofs.Common.{◌≡◌, ◌≢◌, ℕ, zero, suc, ◌+◌, ◌
 use Rattle.std.specs.Option.{option_map}
 use Rattle.std.proofs.lemmas.Bool.{and_parts}
 use Rattle.std.proofs.lemmas.List.{length-map, length-set, get_or-set_other}
-use Rattle.std.proofs.lemmas.Option.{get_or_from_slice_get}
+use Rattle.std.proofs.lemmas.Option.{get_or_from_slice_get, same_Some}
 use Rattle.type_table.specs.declared.ir_type.StructBody.{StructBody}
 use Rattle.type_table.specs.Contains.{Holds, holds_as_itself, holds_in_array, holds_in_struct, holds_in_body, SomeHolds, first_holds, later_holds, BodyHolds}
 use Rattle.type_table.specs.Layout.{has_layout, have_layouts, size}
@@ -17,9 +17,6 @@ use Rattle.type_table.proofs.Judged.{All-through}
 use Rattle.type_table.proofs.Redefined.{same_name}
 use Rattle.type_table.proofs.Rooms.{name_shape-zero, name_shape-suc, unmapped, unjoined}
 use Rattle.type_table.proofs.UnderIds.{index_of-at, index_of-found, body_of-place}
-
-same_inside : {A : Type 0} (x y : A) → Some x ≡ Some y → x ≡ y
-same_inside x y e = cc
 
 -- ---- shapes
 
@@ -45,7 +42,7 @@ less_refl : (x : Shape) → Less x x
 less_refl x = record { nests = omega arith; fewer = omega arith; long = omega arith; same = λ laid. refl }
 
 alike : (x y : Shape) → Some x ≡ Some y → Less x y
-alike x y e = subst (Less x) (same_inside x y e) (less_refl x)
+alike x y e = subst (Less x) (same_Some x y e) (less_refl x)
 
 array_less : (n : ℕ) (x s y : Shape) → Less x s → array_of n s ≡ y → Less (array_of n x) y
 array_less n x s y less e =
@@ -86,7 +83,7 @@ module _ (f g : List ℕ → Option Shape) (less : (n : List ℕ) (y : Shape) �
     tree_less (named n) y e = less n y e
 
     trees_less : (ts : Trees) (ys : Shapes) → all_expanded g ts ≡ Some ys → HasAllLess (all_expanded f ts) ys
-    trees_less no_trees ys e = (no_shapes, refl, subst (AllLess no_shapes) (same_inside no_shapes ys e) (record { nests = omega arith; fewer = omega arith; same = λ laid. refl }))
+    trees_less no_trees ys e = (no_shapes, refl, subst (AllLess no_shapes) (same_Some no_shapes ys e) (record { nests = omega arith; fewer = omega arith; same = λ laid. refl }))
     trees_less (more_trees t ts) ys e =
         let inside = unjoined (expanded g t) (all_expanded g ts) ys e in
         let first = tree_less t inside.0 inside.2 in

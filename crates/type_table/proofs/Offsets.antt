@@ -1,9 +1,10 @@
 -- Where a field begins, from the measures of the fields.
-use Rattle.std.proofs.Common.{◌≡◌, ℕ, zero, suc, ◌+◌, ◌-◌, ◌^◌, ◌≤◌, ◌<◌, max, Bool, true, false, ◌&&◌, cond, List, [], ◌∷◌, Option, Some, None, map, length, get_or, drop, ap, refl, sym, ◌∙◌, arith, All, true≢false}
+use Rattle.std.proofs.Common.{◌≡◌, ℕ, zero, suc, ◌+◌, ◌-◌, ◌^◌, ◌≤◌, ◌<◌, max, Bool, true, false, ◌&&◌, cond, List, [], ◌∷◌, Option, Some, None, map, length, get_or, drop, ap, refl, sym, ◌∙◌, arith, All}
 use Rattle.std.specs.Option.{option_and_then}
 use Rattle.std.specs.Int.{next_multiple_of}
 use Rattle.std.proofs.lemmas.List.{drop_more}
 use Rattle.std.proofs.lemmas.List.Elements.{All-head, All-tail}
+use Rattle.std.proofs.lemmas.Bool.{and_parts}
 use Rattle.type_table.specs.declared.layout.Layout.{Layout}
 use Rattle.type_table.specs.declared.measure.Measure.{Measure}
 use Rattle.type_table.specs.declared.outline.TypeOutline.{TypeOutline}
@@ -48,10 +49,6 @@ end_after-le packed at (more_shapes s ss) =
     let rest = end_after-le packed (field_start packed at (align s) + size s) ss in
     omega (arith, start, rest)
 
-both_true : (a b : Bool) → (a && b) ≡ true → (a ≡ true) × (b ≡ true)
-both_true true b e = (refl, e)
-both_true false b e = absurd (true≢false (sym e))
-
 next_is : (packed : Bool) (e z m a l k : ℕ) (b c : Bool) → b ≡ true → c ≡ true → e ≤ 2 ^ 40 → 1 ≤ a → next_offset packed (if_laid b e m l) (if_laid c z a k) ≡ Some (field_start packed e a)
 next_is packed e z m a l k false c p q le positive = cc
 next_is packed e z m a l k true false p q le positive = cc
@@ -65,13 +62,13 @@ offsets_agree : (packed : Bool) (d p e m l : ℕ) (b : Bool) (ss : Shapes) (k : 
     → offset_from packed (sofar d p e m l b) (shape_measures ss) k ≡ field_offset packed e ss k
 offsets_agree packed d p e m l b no_shapes k laid all le = refl
 offsets_agree packed d p e m l b (more_shapes s ss) zero laid all le =
-    let each = both_true (has_layout s) (have_layouts ss) all in
+    let each = and_parts (has_layout s) (have_layouts ss) all in
     let start = placed-le packed e (align s) in
     let rest = end_after-le packed (field_start packed e (align s) + size s) ss in
     ap (λ o. next_offset packed (if_laid b e m l) o) (kept_layout s)
     ∙ next_is packed e (size s) m (align s) l (leaves s) b (has_layout s) laid each.0 (omega (arith, start, rest, le)) (align-positive s)
 offsets_agree packed d p e m l b (more_shapes s ss) (suc k) laid all le =
-    let each = both_true (has_layout s) (have_layouts ss) all in
+    let each = and_parts (has_layout s) (have_layouts ss) all in
     ap (λ acc. offset_from packed acc (shape_measures ss) k) (field_further packed d p e m l b s)
     ∙ offsets_agree packed (max d (nesting s)) (p + parts s) (field_start packed e (align s) + size s) (alignment packed m (align s)) (l + leaves s) (b && has_layout s) ss k
     (λ j. laid j && each.0 j) each.1 le

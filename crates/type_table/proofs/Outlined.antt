@@ -2,7 +2,7 @@
 use Rattle.std.proofs.Common.{◌≡◌, ℕ, zero, suc, ◌+◌, ◌≤◌, ◌<◌, Bool, true, false, List, [], ◌∷◌, ◌++◌, Option, Some, None, ◌⊎◌, inl, inr, map, length, get_or, ap, refl, sym, ◌∙◌, subst, arith, All}
 use Rattle.std.specs.List.{fold}
 use Rattle.std.specs.Option.{option_map, option_map_or}
-use Rattle.std.proofs.lemmas.List.{get_or_append_left, append_assoc, append-nil, get_or_at, length-map, length_push, get_or_default, get_or_past, get_or_read, ext_get_or}
+use Rattle.std.proofs.lemmas.List.{get_or_append_left, append_assoc, append-nil, get_or_at, length-map, length_push, get_or_past, get_or_read, ext_get_or, get_or-map}
 use Rattle.std.proofs.lemmas.List.Elements.{All-head, All-tail}
 use Rattle.std.proofs.lemmas.Bool.{cases_lt}
 use Rattle.type_table.specs.declared.ir_type.IrType.{IrType}
@@ -240,15 +240,12 @@ parts_nesting (array_of n s) zero lt = omega arith
 parts_nesting (array_of n s) (suc k) lt = absurd (omega arith)
 parts_nesting (struct_of label packed ss) k lt = let r = listed_nesting ss k in omega (arith, r)
 
-get_or-map_in : {A B : Type 0} (f : A → B) (xs : List A) (k : ℕ) (a : A) (b : B) → k < length xs → get_or (map f xs) k b ≡ f (get_or xs k a)
-get_or-map_in f xs k a b lt = get_or_default (map f xs) k b (f a) (omega (arith, length-map xs f)) ∙ get_or-map f xs k a
-
 pub part_nesting : (t : Types) → IsGood t → (ty : ℕ) → ty < length t.types → HasShape (shape t ty) → (k : ℕ) → k < length (parts_of t ty) → type_nesting t (get_or (parts_of t ty) k 0) < type_nesting t ty
 part_nesting t good ty lt shaped k l =
     let out = outlined t good ty lt shaped.0 shaped.1 in
     let many = ap length out.2 ∙ length-map (parts_of t ty) (shape t) in
     let deep = parts_nesting shaped.0 k (omega (arith, many)) in
-    let part = ap (λ os. option_map_or nesting (get_or os k None) 0) out.2 ∙ ap (λ o. option_map_or nesting o 0) (get_or-map_in (shape t) (parts_of t ty) k 0 None l) in
+    let part = ap (λ os. option_map_or nesting (get_or os k None) 0) out.2 ∙ ap (λ o. option_map_or nesting o 0) (get_or-map (shape t) (parts_of t ty) k 0 None l) in
     let whole = ap (λ o. option_map_or nesting o 0) shaped.1 in
     omega (arith, deep, part, whole)
 
@@ -279,18 +276,18 @@ module _ (t u : Types) (good : IsGood t) (good_other : IsGood u) (ty uy : ℕ) (
   pub part_told : shape t ty ≡ shape u uy → (k : ℕ) → k < length (parts_of t ty) → shape t (get_or (parts_of t ty) k 0) ≡ shape u (get_or (parts_of u uy) k 0)
   part_told e k l =
       let many = count_told e in
-      sym (get_or-map_in (shape t) (parts_of t ty) k 0 None l)
+      sym (get_or-map (shape t) (parts_of t ty) k 0 None l)
       ∙ ap (λ os. get_or os k None) (parts_told e)
-      ∙ get_or-map_in (shape u) (parts_of u uy) k 0 None (omega (arith, many))
+      ∙ get_or-map (shape u) (parts_of u uy) k 0 None (omega (arith, many))
 
   pub same_by_parts : head_of t ty ≡ head_of u uy → length (parts_of t ty) ≡ length (parts_of u uy)
       → ((k : ℕ) → k < length (parts_of t ty) → shape t (get_or (parts_of t ty) k 0) ≡ shape u (get_or (parts_of u uy) k 0)) → shape t ty ≡ shape u uy
   same_by_parts h many each =
       same_shape h (ext_get_or None (map (shape t) (parts_of t ty)) (map (shape u) (parts_of u uy))
       (length-map (parts_of t ty) (shape t) ∙ many ∙ sym (length-map (parts_of u uy) (shape u)))
-      (λ k l. get_or-map_in (shape t) (parts_of t ty) k 0 None (omega (arith, l, length-map (parts_of t ty) (shape t)))
+      (λ k l. get_or-map (shape t) (parts_of t ty) k 0 None (omega (arith, l, length-map (parts_of t ty) (shape t)))
       ∙ each k (omega (arith, l, length-map (parts_of t ty) (shape t)))
-      ∙ sym (get_or-map_in (shape u) (parts_of u uy) k 0 None (omega (arith, l, many, length-map (parts_of t ty) (shape t))))))
+      ∙ sym (get_or-map (shape u) (parts_of u uy) k 0 None (omega (arith, l, many, length-map (parts_of t ty) (shape t))))))
 
 -- a type that is a struct's name
 pub named_in : (t : Types) → IsGood t → (ty i id : ℕ) (T : IrType) → T ≡ get_or t.types i T → i ≡ ty → ty < length t.types → T ≡ Named id

@@ -3,6 +3,7 @@
 use Rattle.std.proofs.Common.{◌≡◌, ℕ, zero, suc, ◌+◌, ◌≤◌, ◌<◌, Bool, List, [], ◌∷◌, Option, Some, None, ap, refl, sym, ◌∙◌, subst, arith}
 use Rattle.std.specs.List.{fold}
 use Rattle.std.specs.Option.{option_map}
+use Rattle.std.proofs.lemmas.Option.{same_Some}
 use Rattle.type_table.specs.declared.measure.Measure.{Measure}
 use Rattle.type_table.specs.Shape.{Label, Shape, int_leaf, ptr_leaf, void_leaf, array_of, struct_of, opaque_leaf, Shapes, no_shapes, more_shapes, with_first, expanded, all_expanded, body_shape, name_shape}
 use Rattle.type_table.specs.Tree.{Tree, int, ptr, void, array, struct, named, Trees, no_trees, more_trees, TreeBody, opaque_body, fields}
@@ -28,15 +29,12 @@ module _ (label : List ℕ → Label) (bodies : List ℕ → TreeBody) where
   unfolding name_shape
   name_shape-suc room name = refl
 
-same_inside : {A : Type 0} (x y : A) → Some x ≡ Some y → x ≡ y
-same_inside x y e = cc
-
 module _ (f : List ℕ → Option Shape) (look : List ℕ → Measure) (same : (n : List ℕ) (x : Shape) → f n ≡ Some x → measure x ≡ look n) where
   mutual
     tree_shape_measure : (t : Tree) (x : Shape) → expanded f t ≡ Some x → measure x ≡ tree_measure look t
-    tree_shape_measure (int w) x e = ap measure (sym (same_inside (int_leaf w) x e))
-    tree_shape_measure ptr x e = ap measure (sym (same_inside ptr_leaf x e))
-    tree_shape_measure void x e = ap measure (sym (same_inside void_leaf x e))
+    tree_shape_measure (int w) x e = ap measure (sym (same_Some (int_leaf w) x e))
+    tree_shape_measure ptr x e = ap measure (sym (same_Some ptr_leaf x e))
+    tree_shape_measure void x e = ap measure (sym (same_Some void_leaf x e))
     tree_shape_measure (array n t) x e =
         let inside = unmapped (array_of n) (expanded f t) x e in
         ap measure (sym inside.2) ∙ measure-array n inside.0 ∙ ap (array_measure n) (tree_shape_measure t inside.0 inside.1)
@@ -46,13 +44,13 @@ module _ (f : List ℕ → Option Shape) (look : List ℕ → Measure) (same : (
     tree_shape_measure (named n) x e = same n x e
 
     trees_shape_measures : (ts : Trees) (xs : Shapes) → all_expanded f ts ≡ Some xs → shape_measures xs ≡ tree_measures look ts
-    trees_shape_measures no_trees xs e = ap shape_measures (sym (same_inside no_shapes xs e))
+    trees_shape_measures no_trees xs e = ap shape_measures (sym (same_Some no_shapes xs e))
     trees_shape_measures (more_trees t ts) xs e =
         let inside = unjoined (expanded f t) (all_expanded f ts) xs e in
         ap shape_measures (sym inside.4) ∙ (λ j. tree_shape_measure t inside.0 inside.2 j ∷ trees_shape_measures ts inside.1 inside.3 j)
 
   body_shape_measure : (label : Label) (body : TreeBody) (x : Shape) → body_shape f label body ≡ Some x → measure x ≡ tree_body_measure look body
-  body_shape_measure label opaque_body x e = ap measure (sym (same_inside (opaque_leaf label) x e))
+  body_shape_measure label opaque_body x e = ap measure (sym (same_Some (opaque_leaf label) x e))
   body_shape_measure label (fields packed ts) x e =
       let inside = unmapped (struct_of label packed) (all_expanded f ts) x e in
       ap measure (sym inside.2) ∙ measure-struct label packed inside.0 ∙ ap (struct_measure packed) (trees_shape_measures ts inside.0 inside.1)

@@ -1,6 +1,6 @@
 -- Two types have one class exactly where they are written alike.
 use Rattle.std.proofs.Common.{◌≡◌, ℕ, zero, suc, ◌+◌, ◌<◌, ◌≤◌, ◌==◌, Bool, true, false, ◌&&◌, List, [], ◌∷◌, ◌++◌, map, length, get_or, slice_get, Option, Some, All, refl, sym, ap, ◌∙◌, subst, arith, cond, true≢false, bytes_eq}
-use Rattle.std.specs.Bool.{beq, Decides}
+use Rattle.std.specs.Bool.{beq}
 use Rattle.std.specs.List.{IsDistinct, list_any}
 use Rattle.std.specs.Cmp.{unsigned_Decides}
 use Rattle.std.specs.Cmp.Lexicographic.{bytes_decides}
@@ -13,6 +13,7 @@ use Rattle.std.proofs.Math.Seq.{get_or-append_seam}
 use Rattle.std.proofs.lemmas.List.{length-map}
 use Rattle.std.proofs.lemmas.Option.{none-some}
 use Rattle.std.proofs.lemmas.Map.Keys.{apart_from_distinct}
+use Rattle.std.proofs.lemmas.Bool.Decides.{same_from_decides}
 use Rattle.module_arena.proofs.Grown.{below}
 use Rattle.type_table.specs.declared.ir_type.StructBody.{StructBody}
 use Rattle.indexmap.specs.IndexSet.{insert_key}
@@ -24,13 +25,6 @@ use Rattle.type_table.specs.Types.{Types, IsGood, Knows, names, trees, trees_at,
 use Rattle.type_table.proofs.Outlined.{tree-is, type_known}
 use Rattle.module_arena.specs.Same.{same_type, same_types}
 use Rattle.type_verify.specs.Classes.{AreClasses, AreSlots, key_of}
-
--- two tests that decide one fact are one test
-pub tests_same : {P : Type 0} (a b : Bool) → Decides a P → Decides b P → a ≡ b
-tests_same true true x y = refl
-tests_same true false x y = sym (y.1 (x.0 refl))
-tests_same false true x y = x.1 (y.0 refl)
-tests_same false false x y = refl
 
 neither : (i j : ℕ) → (i < j → ⊥) → (j < i → ⊥) → i ≡ j
 neither i j less more = omega arith
@@ -56,7 +50,7 @@ module _ (classes : List ℕ) (ns : List (List ℕ)) (done : List Tree) (bound :
 
   -- one name is that of one struct
   names_agree : (id other : ℕ) → id < length ns → other < length ns → (id == other) ≡ bytes_eq (get_or ns id []) (get_or ns other [])
-  names_agree id other kx ky = tests_same (id == other) (bytes_eq (get_or ns id []) (get_or ns other [])) (unsigned_Decides id other) (to, from)
+  names_agree id other kx ky = same_from_decides (id == other) (bytes_eq (get_or ns id []) (get_or ns other [])) (unsigned_Decides id other) (to, from)
     where
       to : bytes_eq (get_or ns id []) (get_or ns other []) ≡ true → id ≡ other
       to e = index_same ns id other apart kx ky ((bytes_decides (get_or ns id []) (get_or ns other [])).0 e)
@@ -129,7 +123,7 @@ one_place keys i j x y apart ex ey e =
 module _ (t : Types) (good : IsGood t) (classes : List ℕ) (keys : List IrType) (told : AreSlots t classes keys (length t.types)) where
   one_class : (a b : ℕ) → a < length t.types → b < length t.types
       → (get_or classes a 0 == get_or classes b 0) ≡ type_eq (key_of classes (get_or t.types a type.Void)) (key_of classes (get_or t.types b type.Void))
-  one_class a b la lb = tests_same (get_or classes a 0 == get_or classes b 0) (type_eq x y) (unsigned_Decides (get_or classes a 0) (get_or classes b 0)) (to, from)
+  one_class a b la lb = same_from_decides (get_or classes a 0 == get_or classes b 0) (type_eq x y) (unsigned_Decides (get_or classes a 0) (get_or classes b 0)) (to, from)
     where
       x : IrType
       x = key_of classes (get_or t.types a type.Void)

@@ -3,7 +3,7 @@ use Rattle.std.proofs.Common.{◌≡◌, ℕ, zero, suc, ◌+◌, List, [], ◌�
 use Rattle.std.specs.Prelude.{slice_get, find}
 use Rattle.std.specs.List.{list_any}
 use Rattle.std.specs.Option.{option_map_or}
-use Rattle.std.proofs.lemmas.Bool.{and_parts, and_from, or_parts}
+use Rattle.std.proofs.lemmas.Bool.{and_parts, and_from, or_parts, not-true}
 use Rattle.std.proofs.lemmas.Option.{same_Some}
 use Rattle.run_places.proofs.Options.{none_some}
 use Rattle.ir_tables.specs.Table.{is_distinct}
@@ -21,10 +21,6 @@ use Rattle.typed_look.specs.Typings.{frame_kinds}
 use Rattle.typed_look.proofs.Locals.{local_at}
 use Rattle.typed_bodies.proofs.Lists.{any_there, behind_at, in_flat, mapped_at, mapped_append}
 
-not_false : (b : Bool) → not b ≡ true → b ≡ false
-not_false true h = sym h
-not_false false h = refl
-
 -- no two are the same
 abbrev AreDistinct : List LocalName → Type 0
 AreDistinct names = is_distinct same_local names ≡ true
@@ -37,7 +33,7 @@ passed first name names j h e = go (same_local first name) refl
   where
     go : (b : Bool) → same_local first name ≡ b → same_local first name ≡ false
     go false q = q
-    go true q = absurd (true≢false (sym (any_there (same_local first) names j name e q) ∙ not_false (list_any (same_local first) names) h))
+    go true q = absurd (true≢false (sym (any_there (same_local first) names j name e q) ∙ not-true (list_any (same_local first) names) h))
 
 -- one of some is found by its name
 found_there : (xs : List Typed) (place j : ℕ) (x : Typed) → AreDistinct (map (λ (x : Typed). x.0) xs) → slice_get xs j ≡ Some x
@@ -80,7 +76,7 @@ distinct_front more less none kept [] h = kept h
 distinct_front more less none kept (x ∷ front) h =
     let q = and_parts (not (list_any (same_local x) (front ++ more))) (is_distinct same_local (front ++ more)) h in
     and_from (not (list_any (same_local x) (front ++ less))) (is_distinct same_local (front ++ less))
-    (ap not (none_front (same_local x) more less (none (same_local x)) front (not_false (list_any (same_local x) (front ++ more)) q.0))) (distinct_front more less none kept front q.1)
+    (ap not (none_front (same_local x) more less (none (same_local x)) front (not-true (list_any (same_local x) (front ++ more)) q.0))) (distinct_front more less none kept front q.1)
 
 distinct_fewer : (bs : List Block) → AreDistinct (flat_map with_block bs) → AreDistinct (flat_map block_results bs)
 distinct_fewer [] h = h

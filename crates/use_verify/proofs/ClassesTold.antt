@@ -6,6 +6,7 @@ use Rattle.std.proofs.lemmas.List.{get_or_append_left, length_push}
 use Rattle.std.proofs.lemmas.Map.Keys.{apart_from_distinct}
 use Rattle.std.proofs.lemmas.Option.{same_Some, none-some, slice_get-get_or, get_or_from_slice_get, slice_get_within}
 use Rattle.std.proofs.Math.Seq.{get_or-append_seam}
+use Rattle.std.proofs.lemmas.Bool.Decides.{same_from_decides}
 use Rattle.indexmap.specs.IndexSet.{insert_key}
 use Rattle.module_arena.specs.declared.constant.Const.{Const}
 use Rattle.module_arena.specs.declared.constant.Const.TheVariants as const
@@ -17,7 +18,6 @@ use Rattle.module_arena.specs.SameConstLaws.{same_const_decides}
 use Rattle.module_arena.specs.View.{constant_at, constants_of}
 use Rattle.module_arena.proofs.ConstantsTold.{const_known, const_weaker, constant_here}
 use Rattle.type_verify.specs.Classes.{AreClasses as AreTypeClasses}
-use Rattle.type_verify.proofs.ClassesTold.{tests_same}
 use Rattle.use_verify.specs.Classes.{AreClasses}
 use Rattle.use_verify.specs.Keys.{AreSlots, key_of}
 use Rattle.use_verify.proofs.KeysTold.{key_same, key_kept}
@@ -45,7 +45,7 @@ module _ (a : Lists) (good : IsGood a) (distinct : AreDistinct a) (types classes
     (alike : AreTypeClasses a.table types) (told : AreSlots a types classes keys (length a.constants)) where
   one_class : (i j : ℕ) → i < length a.constants → j < length a.constants → (get_or classes i 0 == get_or classes j 0)
       ≡ same_const (key_of types classes (get_or a.constants i const.Null)) (key_of types classes (get_or a.constants j const.Null))
-  one_class i j li lj = tests_same (get_or classes i 0 == get_or classes j 0) (same_const x y) (unsigned_Decides (get_or classes i 0) (get_or classes j 0)) (to, from)
+  one_class i j li lj = same_from_decides (get_or classes i 0 == get_or classes j 0) (same_const x y) (unsigned_Decides (get_or classes i 0) (get_or classes j 0)) (to, from)
     where
       x : Const
       x = key_of types classes (get_or a.constants i const.Null)

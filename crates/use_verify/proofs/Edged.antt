@@ -3,15 +3,11 @@ use Rattle.std.proofs.Common.{◌≡◌, ℕ, zero, suc, ◌+◌, ◌<◌, Bool,
 use Rattle.std.specs.Prelude.{◌==◌, cond, filter, MatchOption, ⊤}
 use Rattle.std.proofs.lemmas.Bool.{cases_eq, eq-eqb, ne_eqb}
 use Rattle.std.proofs.lemmas.Grind.{get_or-set_at}
-use Rattle.std.proofs.lemmas.List.{append_assoc, get_or-set_other, map-append, take_more}
+use Rattle.std.proofs.lemmas.List.{append_assoc, get_or-set_other, map-append, take_more, append-nil}
 use Rattle.std.proofs.lemmas.Option.{same_Some}
 use Rattle.module_arena.specs.Mentions.{targets_of}
 use Rattle.module_arena.specs.declared.entry.Block.{Block}
 use Rattle.use_verify.specs.Edges.{edges_to, source_of, sources_from}
-
-pub append_none : {X : Type 0} (xs : List X) → xs ++ [] ≡ xs
-append_none [] = refl
-append_none (x ∷ xs) = ap (λ ys. x ∷ ys) (append_none xs)
 
 -- edges of some targets, and of others
 pub edges_append : (from to : ℕ) (xs ys : List ℕ) → edges_to from xs to ++ edges_to from ys to ≡ edges_to from (xs ++ ys) to
@@ -30,7 +26,7 @@ more_by : (first to : ℕ) (bs : List Block) (i : ℕ) (b : Block) → slice_get
 more_by first to [] i b at = absurd (subst (λ (o : Option Block). MatchOption o ⊤ (λ z. ⊥)) at tt)
 more_by first to (x ∷ bs) zero b at =
     let here : first + 0 ≡ first = omega arith in
-    (λ j. edges_to (here j) (targets_of (sym (same_Some x b at) j).end) to) ∙ sym (append_none (edges_to first (targets_of x.end) to))
+    (λ j. edges_to (here j) (targets_of (sym (same_Some x b at) j).end) to) ∙ sym (append-nil (edges_to first (targets_of x.end) to))
 more_by first to (x ∷ bs) (suc i) b at =
     let next : first + suc i ≡ first + 1 + i = omega arith in
     append_assoc (edges_to first (targets_of x.end) to) (sources_from (first + 1) (take i bs) to) (edges_to (first + suc i) (targets_of b.end) to)
@@ -54,7 +50,7 @@ one_edge sources from to old lt is b = elim (cases_eq to b) [
       ∙ ap (λ (t : Bool). source_of sources b ++ map (λ (x : ℕ). from) (cond t (to ∷ []) [])) (sym (eq-eqb to b same))
   | inr other ↦
       get_or-set_other sources to b (old ++ from ∷ []) [] (λ z. other (sym z))
-      ∙ sym (append_none (source_of sources b))
+      ∙ sym (append-nil (source_of sources b))
       ∙ ap (λ (t : Bool). source_of sources b ++ map (λ (x : ℕ). from) (cond t (to ∷ []) [])) (sym (ne_eqb to b other))
 ]
 
@@ -70,7 +66,7 @@ more_edges from xs ys old middle new len one two b lt =
     ∙ ap (λ (zs : List ℕ). source_of old b ++ zs) (edges_append from b xs ys)
 
 pub no_edges : (from : ℕ) (old : List (List ℕ)) → Added from [] old old
-no_edges from old b lt = sym (append_none (source_of old b))
+no_edges from old b lt = sym (append-nil (source_of old b))
 
 -- what one more of a list is mapped to
 pub mapped_more : {X : Type 0} (f : X → ℕ) (xs : List X) (i : ℕ) (x : X) → i < length xs → x ≡ get_or xs i x → map f (take i xs) ++ f x ∷ [] ≡ map f (take (i + 1) xs)

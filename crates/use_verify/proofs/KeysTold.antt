@@ -4,6 +4,7 @@ use Rattle.std.specs.Cmp.Lexicographic.{bytes_decides}
 use Rattle.std.proofs.lemmas.List.{get_or_append_left, length-map}
 use Rattle.std.proofs.lemmas.List.Elements.{All-head, All-tail}
 use Rattle.std.proofs.lemmas.Option.{slice_get-map, slice_get-get_or}
+use Rattle.std.proofs.lemmas.Bool.Decides.{same_from_decides}
 use Rattle.type_table.specs.Types.{trees, tree}
 use Rattle.module_arena.specs.declared.constant.Brackets as the_brackets
 use Rattle.module_arena.specs.declared.constant.Brackets.TheVariants as brackets
@@ -25,7 +26,6 @@ use Rattle.module_arena.specs.SameConst.{brackets_code, same_global, same_typed,
 use Rattle.module_arena.specs.SameConstLaws.{same_const_decides}
 use Rattle.module_arena.specs.View.{brackets_view, constant_at, constants_at, constants_of}
 use Rattle.type_verify.specs.Classes.{AreClasses as AreTypeClasses}
-use Rattle.type_verify.proofs.ClassesTold.{tests_same}
 use Rattle.use_verify.specs.Keys.{typed_key, key_of}
 
 and_assoc : (x y z : Bool) → ((x && y) && z) ≡ (x && (y && z))
@@ -64,7 +64,7 @@ name_in a c = []
 
 -- one name is that of one entry
 globals_agree : (a : Lists) → AreDistinct a → (g h : GlobalId) → HasGlobal (counts a) g → HasGlobal (counts a) h → same_global g h ≡ bytes_eq (name_at a g) (name_at a h)
-globals_agree a distinct g h kg kh = tests_same (same_global g h) (bytes_eq (name_at a g) (name_at a h)) (same_const_decides (const.Address g) (const.Address h)) (to, from)
+globals_agree a distinct g h kg kh = same_from_decides (same_global g h) (bytes_eq (name_at a g) (name_at a h)) (same_const_decides (const.Address g) (const.Address h)) (to, from)
   where
     to : bytes_eq (name_at a g) (name_at a h) ≡ true → const.Address g ≡ const.Address h
     to e = ap const.Address (distinct (name_at a g) g h (named_here a g kg) (named_here a h kh ∙ ap Some (sym ((bytes_decides (name_at a g) (name_at a h)).0 e))))

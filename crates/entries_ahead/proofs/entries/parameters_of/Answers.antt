@@ -1,7 +1,7 @@
 use Rattle.std.proofs.Common.{◌++◌, sym, ap, ◌∙◌, arith}
+use Rattle.std.proofs.lemmas.Option.{slice_get_within}
 use Rattle.entries_ahead.specs.Entries.{parameters_called}
 use Rattle.entries_ahead.proofs.Called.{called_all, called_more}
-use Rattle.entries_ahead.proofs.Dropped.{is_there}
 use Rattle.entries_ahead.proofs.entries.parameters_of.Goals as goal
 
 pub places-init : goal.places-init
@@ -13,7 +13,7 @@ places-preserved c =
 
 pub places-smaller : goal.places-smaller
 places-smaller c =
-    let lt = is_there c.args.types.now c.places.place c.in-Some.ty (sym c.in-Some.ensures) in
+    let lt = slice_get_within c.args.types.now c.places.place c.in-Some.ty (sym c.in-Some.ensures) in
     omega (arith, lt, c.in_ok-place-in-Some.ensures)
 
 pub returns-in-None : goal.returns-in-None

@@ -1,4 +1,5 @@
 use Rattle.std.proofs.Common.{ℕ, ◌<◌, All, List, map, length, subst, ap}
+use Rattle.std.proofs.lemmas.List.Elements.{All-tail}
 use Rattle.ir_lexer.specs.declared.token.TokenKind.TheVariants as kind
 use Rattle.module_arena.specs.declared.instruction.Case as the_case
 use Rattle.module_arena.specs.declared.instruction.Ending as the_ending
@@ -12,7 +13,6 @@ use Rattle.instruction_printer.specs.Named.{operand_of, label_of}
 use Rattle.instruction_printer.specs.Parts.{HasThis}
 use Rattle.instruction_printer.specs.Lines.{case_of}
 use Rattle.instruction_printer.proofs.Cases.{as_operand, cases_known}
-use Rattle.instruction_printer.proofs.Known.{behind_first}
 use Rattle.instruction_printer.proofs.endings.put_ending.Goals as goal
 
 pub put_switch-requires-clause-cases : goal.put_switch-requires-clause-cases
@@ -23,7 +23,7 @@ put_switch-requires-clause-cases g c =
     let targets = subst (λ (e : the_ending.Ending). All (λ id. id < length (function_blocks f)) (targets_of e)) c.in-Switch.is c.requires.targets in
     let cases = c.in-Switch.cases in
     rw c.as_slice.ensures
-    (cases_known a f cases (behind_first (HasThis a f) c.in-Switch.value (map (as_operand a f) cases) operands) (behind_first (λ (id : ℕ). id < length (function_blocks f)) c.in-Switch.otherwise (map (λ (x : the_case.Case). x.target) cases) targets))
+    (cases_known a f cases (All-tail (HasThis a f) c.in-Switch.value (map (as_operand a f) cases) operands) (All-tail (λ (id : ℕ). id < length (function_blocks f)) c.in-Switch.otherwise (map (λ (x : the_case.Case). x.target) cases) targets))
 
 pub returns-in-Jump : goal.returns-in-Jump
 returns-in-Jump g c = rw c.in-Jump.is (c.put_jump.ensures c.args.arena.now)

@@ -1,4 +1,5 @@
 use Rattle.std.proofs.Common.{ℕ, ◌<◌, List, length, map, subst, ap}
+use Rattle.std.proofs.lemmas.List.Elements.{All-tail}
 use Rattle.type_table.specs.Types.{tree}
 use Rattle.module_arena.specs.declared.instruction.Call as the_call
 use Rattle.module_arena.specs.declared.instruction.Incoming as the_incoming
@@ -10,7 +11,7 @@ use Rattle.phrase_printer.specs.Printing.{separator_of}
 use Rattle.phrase_printer.proofs.Printing.{prints_same}
 use Rattle.instruction_printer.specs.Named.{value_of, operand_of}
 use Rattle.instruction_printer.specs.Parts.{HasThis, incoming_of, signature_of}
-use Rattle.instruction_printer.proofs.Known.{Is, incoming_known, behind_first}
+use Rattle.instruction_printer.proofs.Known.{Is, incoming_known}
 use Rattle.instruction_printer.proofs.operation.put_operation.Goals as goal
 
 pub put_phi-requires-clause-incoming : goal.put_phi-requires-clause-incoming
@@ -21,12 +22,12 @@ put_phi-requires-clause-incoming g c =
 pub put_element_address-requires-clause-indices : goal.put_element_address-requires-clause-indices
 put_element_address-requires-clause-indices g c =
     let known = subst (Is c.args.arena.now c.args.function.now) c.in-GetElementPtr.is c.requires in
-    rw c.as_slice-indices.ensures (behind_first (HasThis c.args.arena.now c.args.function.now) c.in-GetElementPtr.base c.in-GetElementPtr.indices known.operands_known)
+    rw c.as_slice-indices.ensures (All-tail (HasThis c.args.arena.now c.args.function.now) c.in-GetElementPtr.base c.in-GetElementPtr.indices known.operands_known)
 
 pub put_call-requires-clause-parameters : goal.put_call-requires-clause-parameters
 put_call-requires-clause-parameters g c =
     let known = subst (Is c.args.arena.now c.args.function.now) c.in-Call.is c.requires in
-    rw c.get-in-Call.ensures (behind_first (λ (ty : ℕ). ty < length c.args.arena.now.table.types) c.in-Call.call.signature.returns c.in-Call.call.signature.parameters known.types_known)
+    rw c.get-in-Call.ensures (All-tail (λ (ty : ℕ). ty < length c.args.arena.now.table.types) c.in-Call.call.signature.returns c.in-Call.call.signature.parameters known.types_known)
 
 pub returns-in-Phi : goal.returns-in-Phi
 returns-in-Phi g c =

@@ -1,13 +1,7 @@
-use Rattle.std.proofs.Common.{◌≡◌, ℕ, ◌<◌, ◌≤◌, arith, rules, leb, true, false}
-use Rattle.std.proofs.lemmas.Bool.Decides.{nat_tests}
+use Rattle.std.proofs.Common.{ℕ, arith, rules, leb}
 use Rattle.std.proofs.lemmas.List.Sorted.{IsNonDecreasingBy-from_default, IsPartitionedBy-leb, IsPartitionPoint-from_clause}
+use Rattle.std.proofs.lemmas.Bool.{leb-true, leb-false}
 use Rattle.ir_memory.proofs.starts.pages_below.Goals as goal
-
-at_most : (n address : ℕ) → leb n address ≡ true → n ≤ address
-at_most n address e = grind (arith, nat_tests)
-
-above : (n address : ℕ) → leb n address ≡ false → address < n
-above n address e = grind (arith, nat_tests)
 
 pub returns : goal.returns
 returns c =
@@ -17,6 +11,6 @@ returns c =
     let point = IsPartitionPoint-from_clause (λ (x : ℕ). leb x c.args.address) xs _ split parted (λ a r q k. search rules) in
     record {
       within = rw c.as_slice.ensures.value at c.partition_point.ensures.bound;
-      low = λ p h. at_most _ _ (point.0 p 0 (omega arith) h);
-      high = λ p h l. above _ _ (point.1 p 0 h l);
+      low = λ p h. leb-true _ _ (point.0 p 0 (omega arith) h);
+      high = λ p h l. leb-false _ _ (point.1 p 0 h l);
     }

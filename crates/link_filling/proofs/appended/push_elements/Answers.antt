@@ -1,10 +1,10 @@
 use Rattle.std.proofs.Common.{◌≡◌, ◌++◌, List, [], ◌∷◌, Some, map, slice_get, sym, ap, ◌∙◌, subst}
+use Rattle.std.proofs.lemmas.Result.{on_ok_weaker}
 use Rattle.linkage_rules.specs.Ids.{modules, seen}
 use Rattle.linkage_rules.proofs.Seen.{get_within}
 use Rattle.module_arena.specs.declared.constant.TypedConst.{TypedConst}
 use Rattle.type_build.specs.Stands.{AreTyped}
 use Rattle.entry_copy.specs.Moved.{moved_typed}
-use Rattle.entry_copy.proofs.TypesCopied.{when_ok}
 use Rattle.link_filling.specs.Elements.{elements_of_all}
 use Rattle.link_filling.proofs.Joined.{elements_added, initialiser_there, no_initialiser_adds}
 use Rattle.link_filling.proofs.appended.push_elements.Goals as goal
@@ -30,7 +30,7 @@ returns-in-Some c = λ b before copied ids typed.
     let x = get_within a.constants k (initialiser_there parts id a there c.requires.variable v at good k c.in-Some.is) in
     let more = before ++ elements_of_all (modules parts) (seen (modules parts) id ∷ []) in
     let made = elements_added parts id a there c.requires.variable v at good k c.in-Some.is x.0 x.1 b c.args.copiers.now t copied ids c.copier_of.ensures c.args.elements.now.items before typed in
-    when_ok c.push_moved.result
+    on_ok_weaker c.push_moved.result
     (λ pushed. subst (λ xs. AreTyped b xs more) (sym (pushed ∙ ap (λ (es : List TypedConst). c.args.elements.now.items ++ map (moved_typed t) es) (c.elements_of.ensures x.0 x.1))) made)
     c.push_moved.ensures
 

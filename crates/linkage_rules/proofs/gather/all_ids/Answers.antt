@@ -1,8 +1,9 @@
 use Rattle.std.proofs.Common.{◌≡◌, ◌+◌, ◌++◌, length, take, drop, sym, ap, ◌∙◌, subst, append-nil, append_assoc, arith, All}
+use Rattle.std.proofs.lemmas.List.Elements.{All-push}
 use Rattle.module_arena.specs.Sound.{IsSound}
 use Rattle.linkage_rules.specs.Grouped.{AreIds, ids_of, ids_from}
 use Rattle.linkage_rules.proofs.Gathered.{are_ids}
-use Rattle.linkage_rules.proofs.Steps.{take_more, drop_more, take_whole, drop_whole, all_more}
+use Rattle.linkage_rules.proofs.Steps.{take_more, drop_more, take_whole, drop_whole}
 use Rattle.linkage_rules.proofs.gather.all_ids.Goals as goal
 
 pub loop-part-preserved : goal.loop-part-preserved
@@ -18,7 +19,7 @@ loop-part-preserved c =
           ∙ c.loop-part.invariant.rest;
       sound =
           subst (All IsSound) (sym (take_more parts k a c.arena_of.ensures.arena))
-          (all_more IsSound (take k parts) a c.loop-part.invariant.sound (record { well_formed = c.arena_of.ensures.well_formed; valid = c.arena_of.ensures.valid }));
+          (All-push IsSound (take k parts) a c.loop-part.invariant.sound (record { well_formed = c.arena_of.ensures.well_formed; valid = c.arena_of.ensures.valid }));
     }
 
 pub returns-clause-ids : goal.returns-clause-ids

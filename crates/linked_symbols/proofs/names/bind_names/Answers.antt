@@ -1,8 +1,9 @@
 use Rattle.std.proofs.Common.{◌≡◌, ◌+◌, [], ◌∷◌, map, length, sym, ap, ◌∙◌, subst, arith}
+use Rattle.std.proofs.lemmas.List.{length_push}
 use Rattle.module_arena.specs.View.{module_of}
 use Rattle.linkage_rules.specs.Ids.{modules}
 use Rattle.linkage_rules.proofs.Filed.{map_joined}
-use Rattle.linked_symbols.proofs.PartNames.{AreNamesUpto, upto_more, all_names, length_mapped, length_joined}
+use Rattle.linked_symbols.proofs.PartNames.{AreNamesUpto, upto_more, all_names, length_mapped}
 use Rattle.linked_symbols.specs.Meanings.{AreNames}
 use Rattle.linked_symbols.proofs.names.bind_names.Goals as goal
 
@@ -12,7 +13,7 @@ loop-part-preserved c =
     let old = c.loop-part.names.items in
     let one = c.in_ok-names_of.field-0 in
     record {
-      count = ap length c.in_ok-push.ensures.items ∙ length_joined old one ∙ ap (λ n. n + 1) c.loop-part.invariant.count;
+      count = ap length c.in_ok-push.ensures.items ∙ length_push old one ∙ ap (λ n. n + 1) c.loop-part.invariant.count;
       names =
           subst (AreNamesUpto ms) (sym (ap (map (λ n. n.entries)) c.in_ok-push.ensures.items ∙ map_joined (λ n. n.entries) old (one ∷ [])))
           (upto_more ms (map (λ n. n.entries) old) one.entries c.loop-part.invariant.names

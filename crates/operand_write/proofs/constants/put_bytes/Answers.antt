@@ -1,14 +1,15 @@
 use Rattle.std.proofs.Common.{◌∷◌, [], length, get_or, refl, arith}
 use Rattle.std.specs.List.{flat_map}
+use Rattle.std.proofs.lemmas.List.{get_or_default}
 use Rattle.record_table.specs.Fields.{byte}
-use Rattle.operand_write.proofs.Chain.{two, part_more, part_end, same_default}
+use Rattle.operand_write.proofs.Chain.{two, part_more, part_end}
 use Rattle.operand_write.proofs.constants.put_bytes.Goals as goal
 
 pub parts-preserved : goal.parts-preserved
 parts-preserved c =
     let xs = c.args.bytes.now in
     let x = get_or xs c.parts.part-index 0 in
-    part_more (flat_map byte.spell) byte.spell (λ x xs. refl) xs c.parts.part-index x _ _ _ c.parts-test.true (same_default xs c.parts.part-index 0 x c.parts-test.true) c.parts.invariant c.in_ok-put_byte.ensures
+    part_more (flat_map byte.spell) byte.spell (λ x xs. refl) xs c.parts.part-index x _ _ _ c.parts-test.true (get_or_default xs c.parts.part-index 0 x c.parts-test.true) c.parts.invariant c.in_ok-put_byte.ensures
 
 pub returns : goal.returns
 returns c =

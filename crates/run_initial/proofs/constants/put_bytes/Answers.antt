@@ -1,8 +1,8 @@
 use Rattle.std.proofs.Common.{◌≡◌, ℕ, ◌+◌, [], ◌∷◌, Ok, length, drop, get_or, refl, sym, ap, ◌∙◌, subst, arith}
+use Rattle.std.proofs.lemmas.List.{get_or_default}
 use Rattle.ir_eval.specs.declared.value.Scalar.TheVariants as scalar
 use Rattle.ir_memory.specs.declared.leaf.Leaf.TheVariants as leaf
 use Rattle.ir_memory.specs.Given.{IsBlock}
-use Rattle.run_constants.proofs.Within.{same_default}
 use Rattle.run_rules.specs.Plan.{Contents}
 use Rattle.run_initial.specs.Constants.{bytes_at}
 use Rattle.run_initial.specs.declared.leaf.Target.{Target}
@@ -32,7 +32,7 @@ bytes-preserved c =
     let e = subst (λ (t : Target). put t.block (one t.offset) c.bytes.memory ≡ Ok c.put_byte.new.memory) c.further.ensures c.in_ok-put_byte.ensures.put in
     record {
       put = part_more p (one (at + k)) (bytes_at (at + (k + 1)) (drop (k + 1) bytes)) (bytes_at (at + k) (drop k bytes)) c.bytes.memory c.put_byte.new.memory (put p (bytes_at at bytes) c.args.memory.now)
-          (bytes_next bytes k at b c.bytes-test.true (same_default bytes k 0 b c.bytes-test.true)) c.bytes.invariant.put e;
+          (bytes_next bytes k at b c.bytes-test.true (get_or_default bytes k 0 b c.bytes-test.true)) c.bytes.invariant.put e;
       kept = kept_on c.args.memory.now c.bytes.memory c.put_byte.new.memory c.bytes.invariant.kept c.in_ok-put_byte.ensures.kept;
     }
 
@@ -47,7 +47,7 @@ returns-in_err-put_byte-clause-put c =
     let all = put p (bytes_at at bytes) c.args.memory.now in
     refused_on all (put c.further.result.block (one c.further.result.offset) c.bytes.memory) c.put_byte.new.memory c.put_byte.new.memory c.from_residual.result _ c.from_residual.ensures.0 c.from_residual.ensures.1 c.in_err-put_byte.ensures.put
     (λ kind e.
-    part_refused p (one (at + k)) (bytes_at (at + (k + 1)) (drop (k + 1) bytes)) (bytes_at (at + k) (drop k bytes)) c.bytes.memory all (bytes_next bytes k at b c.bytes-test.true (same_default bytes k 0 b c.bytes-test.true)) c.bytes.invariant.put kind
+    part_refused p (one (at + k)) (bytes_at (at + (k + 1)) (drop (k + 1) bytes)) (bytes_at (at + k) (drop k bytes)) c.bytes.memory all (bytes_next bytes k at b c.bytes-test.true (get_or_default bytes k 0 b c.bytes-test.true)) c.bytes.invariant.put kind
     (ap (λ (t : Target). put t.block (one t.offset) c.bytes.memory) (sym c.further.ensures) ∙ e))
 
 pub returns-clause-put : goal.returns-clause-put

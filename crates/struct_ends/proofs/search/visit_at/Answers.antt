@@ -1,8 +1,9 @@
 use Rattle.std.proofs.Common.{◌≡◌, ◌<◌, arith, sym, subst, ◌∙◌, length, get_or}
 use Rattle.std.proofs.lemmas.Result.{on_ok_weaker}
+use Rattle.std.proofs.lemmas.List.{get_or_default}
 use Rattle.struct_order.specs.Order.{mentioned, mention_lists}
 use Rattle.struct_order.proofs.Placed.{mentioned_at}
-use Rattle.struct_ends.proofs.Searching.{at_place, in_queue, within_at, searched_next}
+use Rattle.struct_ends.proofs.Searching.{in_queue, within_at, searched_next}
 use Rattle.struct_ends.proofs.search.visit_at.Goals as goal
 
 pub bounds-mentions-number : goal.bounds-mentions-number
@@ -10,7 +11,7 @@ bounds-mentions-number c =
     let mentions = c.args.mentions.now in
     let queue = c.args.search.now.queue.items in
     let less : c.args.place < length queue = omega (arith, c.len.ensures) in
-    let at : c.index-number.result.now ≡ get_or queue c.args.place 0 = c.index-number.ensures ∙ at_place queue c.args.place c.index-number.result.now 0 less in
+    let at : c.index-number.result.now ≡ get_or queue c.args.place 0 = c.index-number.ensures ∙ get_or_default queue c.args.place c.index-number.result.now 0 less in
     let low = in_queue c.args.search.now.marks.items queue c.args.place c.requires.marks less in
     let inside : c.index-number.result.now < length mentions = omega (arith, at, low, c.requires.count) in
     inside
@@ -20,7 +21,7 @@ visit-requires-clause-within c =
     let mentions = c.args.mentions.now in
     let queue = c.args.search.now.queue.items in
     let less : c.args.place < length queue = omega (arith, c.len.ensures) in
-    let at : c.index-number.result.now ≡ get_or queue c.args.place 0 = c.index-number.ensures ∙ at_place queue c.args.place c.index-number.result.now 0 less in
+    let at : c.index-number.result.now ≡ get_or queue c.args.place 0 = c.index-number.ensures ∙ get_or_default queue c.args.place c.index-number.result.now 0 less in
     let low = in_queue c.args.search.now.marks.items queue c.args.place c.requires.marks less in
     let inside : c.index-number.result.now < length mentions = omega (arith, at, low, c.requires.count) in
     within_at mentions c.index-number.result.now c.index-mentions-number.result c.deref.result.now (length c.args.search.now.marks.items) c.requires.within inside c.index-mentions-number.is c.deref.ensures.value c.requires.count
@@ -30,7 +31,7 @@ returns-clause-searched c start was =
     let mentions = c.args.mentions.now in
     let queue = c.args.search.now.queue.items in
     let less : c.args.place < length queue = omega (arith, c.len.ensures) in
-    let at : c.index-number.result.now ≡ get_or queue c.args.place 0 = c.index-number.ensures ∙ at_place queue c.args.place c.index-number.result.now 0 less in
+    let at : c.index-number.result.now ≡ get_or queue c.args.place 0 = c.index-number.ensures ∙ get_or_default queue c.args.place c.index-number.result.now 0 less in
     let low = in_queue c.args.search.now.marks.items queue c.args.place c.requires.marks less in
     let inside : c.index-number.result.now < length mentions = omega (arith, at, low, c.requires.count) in
     let list = mentioned_at mentions c.index-number.result.now c.index-mentions-number.result inside c.index-mentions-number.is ∙ sym c.deref.ensures.value in

@@ -1,10 +1,11 @@
 use Rattle.std.proofs.Common.{◌≡◌, slice_get, Some, sym, subst}
+use Rattle.std.proofs.lemmas.Result.{on_ok_weaker}
 use Rattle.type_table.specs.Limits.{IsWithinLimits}
 use Rattle.type_table.specs.Shape.{shape}
 use Rattle.type_table.specs.Types.{Types, IsGood, IsKnown, names, trees, tree_of, structs}
 use Rattle.type_build.specs.Stands.{IsType}
 use Rattle.entry_copy.specs.Copies.{CopiesTypes}
-use Rattle.entry_copy.proofs.TypesCopied.{when_ok, always, next_known, next_fits, next_copied}
+use Rattle.entry_copy.proofs.TypesCopied.{always, next_known, next_fits, next_copied}
 use Rattle.entry_copy.proofs.copier.Copier.copy_type.Goals as goal
 
 pub keep_type-requires-clause-known : goal.keep_type-requires-clause-known
@@ -31,7 +32,7 @@ returns-clause-copies c naming h =
     let table = c.args.into.now.arena.table in
     let new = c.keep_type.new.self.arena in
     let made = subst (λ ty. IsType new c.in_ok-id.id (tree_of (names table) (trees table) ty)) c.in_ok-moved.ensures c.in_ok-id.ensures.is in
-    when_ok c.push_type.result
+    on_ok_weaker c.push_type.result
     (λ same. subst (CopiesTypes naming c.args.from.now new) (sym same)
     (next_copied naming c.args.from.now c.args.into.now.arena c.args.self.now h good c.get.result.now c.args.ty c.requires.next is new c.in_ok-id.ensures.grows c.in_ok-id.id made))
     c.push_type.ensures

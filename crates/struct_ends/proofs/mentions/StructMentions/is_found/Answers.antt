@@ -1,5 +1,5 @@
 use Rattle.std.proofs.Common.{arith, ap, sym, subst, ◌∙◌, List, ℕ, length, false}
-use Rattle.std.proofs.lemmas.List.{length-map}
+use Rattle.std.proofs.lemmas.List.{length-map, get_or_default}
 use Rattle.std.specs.Global.{Vec}
 use Rattle.struct_order.specs.Order.{AreWithin, mention_lists}
 use Rattle.struct_order.proofs.Gathered.{number_below, length-lists}
@@ -7,7 +7,6 @@ use Rattle.struct_order.proofs.Named.{are_within}
 use Rattle.struct_ends.specs.Mentioning.{AreMentions, structs_of}
 use Rattle.struct_ends.specs.Reach.{AreReached}
 use Rattle.struct_ends.proofs.Bridge.{not_there, answered}
-use Rattle.struct_ends.proofs.Searching.{at_place}
 use Rattle.struct_ends.proofs.mentions.StructMentions.is_found.Goals as goal
 
 pub returns-in_default : goal.returns-in_default
@@ -57,5 +56,5 @@ returns c =
     let marks = c.in_ok-marks.marks.items in
     let reached = subst (λ (vs : List (Vec ℕ)). AreReached (mention_lists vs) c.in-Some.number marks) c.deref.ensures.value c.in_ok-marks.ensures.reached in
     let those = subst (λ (lists : List (List ℕ)). AreReached lists c.in-Some.number marks) c.requires.lists reached in
-    c.index.ensures ∙ at_place marks c.in-Some.number c.index.result.now false (omega (arith, below, lists, count, plain, same, c.in_ok-marks.ensures.count))
+    c.index.ensures ∙ get_or_default marks c.in-Some.number c.index.result.now false (omega (arith, below, lists, count, plain, same, c.in_ok-marks.ensures.count))
     ∙ answered (structs_of all) all.numbers c.requires.numbers c.args.name.now c.in-Some.number marks (sym c.in-Some.ensures) those
