@@ -137,7 +137,7 @@ pub stops : (bytes : List ℕ) (r new : StreamReader) (all : List Shown) (x : St
 stops bytes r new all (Bit x) h e = let all_of = subst (λ (y : Option StreamFault). Entered y r (Err (Bit x)) new) h.running e in at_fault bytes r all x h all_of.0
 stops bytes r new all Memory h e = tt
 
-is_last : (entry : Entry) → is_end (Some entry) ≡ true → entry ≡ End
+pub is_last : (entry : Entry) → is_end (Some entry) ≡ true → entry ≡ End
 is_last (Block id) h = absurd (cc)
 is_last EndBlock h = absurd (cc)
 is_last (Record code) h = absurd (cc)

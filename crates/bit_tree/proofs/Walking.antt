@@ -21,7 +21,7 @@ use Rattle.bit_tree.specs.Pieces.{Piece, begun, ended, defines, holds, flat}
 use Rattle.bit_tree.proofs.Leaving.{IsWide, IsEnd, Goes, what_stands, top_wide}
 use Rattle.bit_tree.proofs.Path.{Step, Path, stop, step, join, then, way_wide, way_size, goes}
 use Rattle.bit_tree.proofs.Faults.{fault_on, fault_here, to_stream_of, opening_size}
-use Rattle.bit_tree.proofs.Reading.{Ahead, reached, given, ends_at}
+use Rattle.bit_tree.proofs.Reading.{Ahead, reached, given, ends_at, is_last}
 
 -- definitions one behind another, the first for this abbreviation id
 unfoldable pub defining : ℕ → List AdmittedAbbreviation → List Piece
@@ -155,12 +155,6 @@ comes_to_end bytes r new entry ps h e last =
     record { last = last; abbreviations = front.abbreviations; are = front.are; tree = tree.0; stream = tree.1; pieces = tree.2 }
 
 -- what the reader's call says of a judged stream
-
-is_last : (entry : Entry) → is_end (Some entry) ≡ true → entry ≡ End
-is_last (Block id) h = absurd (cc)
-is_last EndBlock h = absurd (cc)
-is_last (Record code) h = absurd (cc)
-is_last End h = refl
 
 pub ended_by : (bytes : List ℕ) (r new : StreamReader) (entry : Entry) (ps : List Piece) → Came bytes r ps → Entered r.stopped r (Ok entry) new → is_end (Some entry) ≡ true → Whole bytes r new entry ps
 ended_by bytes r new entry ps h e last = comes_to_end bytes r new entry ps h e (is_last entry last)

@@ -18,6 +18,7 @@ use Rattle.body_labels.proofs.Kept.{declared}
 use Rattle.body_ahead.specs.Ahead.{first_names}
 use Rattle.entries_ahead.specs.Entries.{name_or_number, parameters_called}
 use Rattle.reads_formed.proofs.Records.{never_misplaced, then_ok}
+use Rattle.bitcode_read.proofs.Opened.{same_ok}
 
 -- ---- behind the first record
 
@@ -31,9 +32,6 @@ line_later Parameters h = absurd (false≢true h)
 line_later FirstBlock h = refl
 line_later Line h = refl
 line_later NextBlock h = refl
-
-same_ok : {A : Type 0} (x y : A) (a : Answer A) → a ≡ Ok x → a ≡ Ok y → x ≡ y
-same_ok x y a e f = cc
 
 -- the first record names these, and breaks no rule
 pub record IsNamed (read : List LocalName × Option ℕ) (names : List LocalName) : Type 0 where

@@ -136,7 +136,7 @@ naturals_back : (ns : List ℕ) → map written.natural (map natural ns) ≡ ns
 naturals_back [] = refl
 naturals_back (n ∷ ns) = ap (λ ms. n ∷ ms) (naturals_back ns)
 
-types_list_back : (ts : List Tree) → map type_in (map type_tree ts) ≡ ts
+pub types_list_back : (ts : List Tree) → map type_in (map type_tree ts) ≡ ts
 types_list_back [] = refl
 types_list_back (t ∷ ts) = λ i. type_back t i ∷ types_list_back ts i
 

@@ -16,7 +16,7 @@ use Rattle.name_rules.specs.Locals.{Announced, next_behind, announced_parameter,
 use Rattle.name_rules.specs.Bodies.{instructions_in, case_in, ending_in, blocks_in}
 use Rattle.name_rules.specs.ModuleOf.{first_of, source_in, layout_in, triple_in, struct_in, linkage_in, variable_in, alias_type_in, alias_in, numbered_parameters, parameters_in, function_in, module_of_items}
 use Rattle.canon_module.specs.Exact.{behind, behind_result, IsExactInitialiser, AreExactCases, IsExactEnding, AreExactInstructions, behind_all, AreExactBlocks, AreExactParameters, behind_parameters, AreNumbered, IsExactBody, AreExactFunctions, AreExactVariables, IsExactModule}
-use Rattle.canon_module.proofs.Back.{type_back, fields_back, constant_back, operand_back, local_back, alignment_back, called_back, behind_back, result_by, instructions_back}
+use Rattle.canon_module.proofs.Back.{type_back, fields_back, constant_back, operand_back, local_back, alignment_back, called_back, behind_back, result_by, instructions_back, types_list_back}
 
 constant_at_back : (ty : Tree) (c : Constant) → IsExactInitialiser ty (Some c) → constant_in (type_in (type_tree ty)) (constant_tree ty c) ≡ c
 constant_at_back ty c h = ap (λ t. constant_in t (constant_tree ty c)) (type_back ty) ∙ constant_back ty c h
@@ -110,13 +110,9 @@ variables_back [] h = refl
 variables_back (v ∷ vs) h =
     λ i. record { name = v.name; linkage = variable_linkage_back v.initialiser v.linkage i; constant = v.constant; ty = type_back v.ty i; alignment = alignment_back v.alignment i; initialiser = initialiser_back v.ty v.initialiser h.0 i } ∷ variables_back vs h.1 i
 
-types_back : (ts : List Tree) → map type_in (map type_tree ts) ≡ ts
-types_back [] = refl
-types_back (t ∷ ts) = λ i. type_back t i ∷ types_back ts i
-
 alias_type_back : (t : AliasType) → alias_type_in (alias_type_tree t) ≡ t
 alias_type_back (PlainType t) = ap PlainType (type_back t)
-alias_type_back (FunctionType s) = λ i. FunctionType (record { returns = type_back s.returns i; parameters = types_back s.parameters i; variadic = s.variadic })
+alias_type_back (FunctionType s) = λ i. FunctionType (record { returns = type_back s.returns i; parameters = types_list_back s.parameters i; variadic = s.variadic })
 
 aliases_back : (as_ : List Alias) → filter_map alias_in (map alias_item as_) ≡ as_
 aliases_back [] = refl

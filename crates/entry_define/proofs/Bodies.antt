@@ -16,7 +16,6 @@ use Rattle.module_arena.specs.Renamed.{renamed_block}
 use Rattle.module_arena.specs.UsedNames.{names_in_block, names_in_function}
 use Rattle.module_arena.specs.View.{module_of, local_view, parameter_view}
 use Rattle.module_arena.proofs.Renamed.{own, map_stays, block_stays}
-use Rattle.type_build.proofs.Declaring.{map_twice}
 use Rattle.entry_copy.specs.Copies.{HasNew, IsBody, blocks_of}
 use Rattle.entry_copy.specs.Tables.{Tables}
 use Rattle.extract_core.proofs.Entries.{all_get}
@@ -25,6 +24,7 @@ use Rattle.entry_fates.specs.declared.fates.Fate.TheVariants.{Kept}
 use Rattle.entry_fates.specs.Fates.{function_as}
 use Rattle.entry_define.specs.Filling.{defined_by, defined_as}
 use Rattle.entry_define.proofs.Filled.{blocks_there}
+use Rattle.type_build.proofs.Made.{map_twice}
 
 -- what the parameters of a function are called
 abbrev pub parameter_names : the_function.Function → List LocalName

@@ -1,9 +1,9 @@
 -- Each function that is named by what is kept is there, so that lists of constructors stay such lists.
-use Rattle.std.proofs.Common.{◌≡◌, Bool, true, false, not, ◌&&◌, ◌||◌, ◌⊎◌, inl, inr, List, [], ◌∷◌, ◌++◌, filter, filter_map, Option, Some, None, refl, sym, ap, ◌∙◌, subst, bytes_eq, cond, if◌then◌else◌}
+use Rattle.std.proofs.Common.{◌≡◌, Bool, true, false, not, ◌&&◌, ◌||◌, ◌⊎◌, inl, inr, List, [], ◌++◌, filter_map, Option, Some, None, refl, sym, ap, ◌∙◌, subst, bytes_eq, if◌then◌else◌}
 use Rattle.std.specs.Prelude.{⊤}
 use Rattle.std.specs.List.{list_any, list_all}
 use Rattle.std.specs.Option.{option_map_or}
-use Rattle.std.proofs.lemmas.Bool.{and_from, and_parts, or_left, or_right, or_cases, both_ways, cases_Bool, not_from_false, false≢true}
+use Rattle.std.proofs.lemmas.Bool.{and_from, and_parts, or_left, or_right, or_cases, both_ways, false≢true}
 use Rattle.module_arena.specs.Module.{Bytes, Constant, Constants, Variable, AliasType, PlainType, FunctionType, Alias, Function, Module}
 use Rattle.module_arena.specs.Module.Brackets.{Braces}
 use Rattle.module_arena.specs.Module.Constant.{Integer, Truth, Null, Undef, Poison, ZeroInitializer, Address, ByteString, Aggregate, ElementAddress, Cast, Binary}
@@ -24,37 +24,7 @@ use Rattle.extract_core.specs.Selected.{is_among, keeps_function, keeps_alias}
 use Rattle.extract_core.specs.Extracted.{kept_names, kept_linkage, declared_function, extracted_function, extracted_alias, alias_as_function, declared_aliases, Extracted}
 use Rattle.extracted_is_valid.proofs.Kept.{all_filtered, made_any, any_key, any_front, any_back, any_follow, never}
 use Rattle.extracted_is_valid.proofs.Stays.{turned, aliases_hold, target_stays}
-
-any_split : {A : Type 0} (p k : A → Bool) (xs : List A) → list_any p xs ≡ true → (list_any (λ x. p x && k x) xs ≡ true) ⊎ (list_any (λ x. p x && not (k x)) xs ≡ true)
-any_split p k [] h = cc
-any_split p k (x ∷ xs) h = go (or_cases (p x) _ h) (any_split p k xs)
-  where
-    Goal : Type 0
-    Goal = (list_any (λ x. p x && k x) (x ∷ xs) ≡ true) ⊎ (list_any (λ x. p x && not (k x)) (x ∷ xs) ≡ true)
-
-    here : p x ≡ true → (k x ≡ true) ⊎ (k x ≡ false) → Goal
-    here e (inl t) = inl (or_left _ _ (and_from (p x) (k x) e t))
-    here e (inr f) = inr (or_left _ _ (and_from (p x) (not (k x)) e (not_from_false _ f)))
-
-    later : (list_any (λ x. p x && k x) xs ≡ true) ⊎ (list_any (λ x. p x && not (k x)) xs ≡ true) → Goal
-    later (inl t) = inl (or_right (p x && k x) _ t)
-    later (inr t) = inr (or_right (p x && not (k x)) _ t)
-
-    go : (p x ≡ true) ⊎ (list_any p xs ≡ true) → (list_any p xs ≡ true → (list_any (λ x. p x && k x) xs ≡ true) ⊎ (list_any (λ x. p x && not (k x)) xs ≡ true)) → Goal
-    go (inl e) more = here e (cases_Bool (k x))
-    go (inr e) more = later (more e)
-
-any_filtered : {A : Type 0} (p test : A → Bool) (xs : List A) → ((x : A) → p x ≡ true → test x ≡ true) → list_any p xs ≡ true → list_any p (filter test xs) ≡ true
-any_filtered p test [] f h = cc
-any_filtered {A = A} p test (x ∷ xs) f h = go (or_cases (p x) _ h) (any_filtered p test xs f)
-  where
-    step : (b : Bool) → list_any p (filter test xs) ≡ true → list_any p (cond b (x ∷ filter test xs) (filter test xs)) ≡ true
-    step true t = or_right (p x) _ t
-    step false t = t
-
-    go : (p x ≡ true) ⊎ (list_any p xs ≡ true) → (list_any p xs ≡ true → list_any p (filter test xs) ≡ true) → list_any p (cond (test x) (x ∷ filter test xs) (filter test xs)) ≡ true
-    go (inl e) more = subst (λ b. list_any p (cond b (x ∷ filter test xs) (filter test xs)) ≡ true) (sym (f x e)) (or_left _ _ e)
-    go (inr e) more = step (test x) (more e)
+use Rattle.extracted_is_valid.proofs.Gathered.{any_filtered, any_split}
 
 module _ (m : Module) (s : Selection) (good : IsWellFormed m) (valid : IsValid m) where
   abbrev n : Module

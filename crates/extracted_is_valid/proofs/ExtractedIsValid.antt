@@ -1,5 +1,5 @@
 -- What is extracted of a valid module is valid.
-use Rattle.std.proofs.Common.{◌≡◌, Bool, true, false, List, [], ◌∷◌, ◌++◌, filter, filter_map, flat_map, Some, None, refl, sym, subst, bytes_eq, cond, if◌then◌else◌}
+use Rattle.std.proofs.Common.{◌≡◌, Bool, true, false, List, [], ◌∷◌, ◌++◌, filter, filter_map, flat_map, Some, None, refl, subst, bytes_eq, if◌then◌else◌}
 use Rattle.std.specs.List.{AllByRecursion}
 use Rattle.module_arena.specs.Module.{Bytes, Variable, Alias, Function, Module}
 use Rattle.module_arena.specs.UsedNames.{names_in_variable, names_in_function}
@@ -16,29 +16,14 @@ use Rattle.extract_core.specs.Selected.{is_among, keeps_variable, keeps_function
 use Rattle.extract_core.specs.Extracted.{kept_names, kept_linkage, declared_variable, declared_function, extracted_variable, extracted_function, extracted_alias, alias_as_variable, alias_as_function, declared_aliases, Extracted}
 use Rattle.extracted_is_valid.proofs.Functions.{function_kept, function_declared, alias_function}
 use Rattle.extracted_is_valid.proofs.Variables.{variable_kept, variable_declared, alias_variable, alias_kept}
-use Rattle.extracted_is_valid.proofs.Kept.{all_filtered, made_hold, any_front, any_back, either}
+use Rattle.extracted_is_valid.proofs.Kept.{all_filtered, made_hold, any_front, either}
 use Rattle.extracted_is_valid.proofs.Stays.{variables_hold, aliases_hold, functions_hold, no_more, target_stays}
 use Rattle.extracted_is_valid.proofs.Constructors.{list_stays}
+use Rattle.extracted_is_valid.proofs.Gathered.{gathered, both_all}
 
 appended_hold : {X : Type 0} (g : X → List Demand) (xs ys : List X) → AllHold (flat_map g xs) → AllHold (flat_map g ys) → AllHold (flat_map g (xs ++ ys))
 appended_hold g [] ys h k = k
 appended_hold g (x ∷ xs) ys h k = both_hold (g x) _ (front_holds (g x) _ h) (appended_hold g xs ys (rest_holds (g x) _ h) k)
-
-pub both_all : {A : Type 0} (P Q : A → Type 0) (xs : List A) → AllByRecursion P xs → AllByRecursion Q xs → AllByRecursion (λ x. P x × Q x) xs
-both_all P Q [] p q = tt
-both_all P Q (x ∷ xs) p q = ((p.0, q.0), both_all P Q xs p.1 q.1)
-
--- what is in an element that passes a test is in what is gathered of all that do
-gathered : {X : Type 0} (test : X → Bool) (f : X → List Bytes) (xs : List X) → AllByRecursion (λ x. test x ≡ true → (name : Bytes) → is_among (f x) name ≡ true → is_among (flat_map f (filter test xs)) name ≡ true) xs
-gathered test f [] = tt
-gathered {X = X} test f (x ∷ xs) = (
-  λ t name h. subst (λ b. is_among (flat_map f (cond b (x ∷ filter test xs) (filter test xs))) name ≡ true) (sym t) (any_front (bytes_eq name) (f x) (flat_map f (filter test xs)) h),
-  all_follow (λ y. test y ≡ true → (name : Bytes) → is_among (f y) name ≡ true → is_among (flat_map f (filter test xs)) name ≡ true) (λ y. test y ≡ true → (name : Bytes) → is_among (f y) name ≡ true → is_among (flat_map f (cond (test x) (x ∷ filter test xs) (filter test xs))) name ≡ true) xs (λ y p t name h. more (test x) name (p t name h)) (gathered test f xs),
-)
-  where
-    more : (b : Bool) (name : Bytes) → is_among (flat_map f (filter test xs)) name ≡ true → is_among (flat_map f (cond b (x ∷ filter test xs) (filter test xs))) name ≡ true
-    more true name h = any_back (bytes_eq name) (f x) (flat_map f (filter test xs)) h
-    more false name h = h
 
 module _ (m : Module) (s : Selection) (good : IsWellFormed m) (valid : IsValid m) where
   abbrev n : Module

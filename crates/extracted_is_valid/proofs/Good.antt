@@ -1,7 +1,7 @@
 -- Functions and aliases that are kept or declared are well formed.
-use Rattle.std.proofs.Common.{◌≡◌, ℕ, suc, Bool, true, false, List, [], ◌∷◌, ◌++◌, map, filter_map, Option, Some, None, refl, ap, ◌∙◌, subst, bytes_eq, if◌then◌else◌}
+use Rattle.std.proofs.Common.{◌≡◌, ℕ, suc, Bool, true, false, List, [], ◌∷◌, ◌++◌, map, filter_map, Some, None, refl, ap, ◌∙◌, subst, bytes_eq, if◌then◌else◌}
 use Rattle.std.specs.Prelude.{⊤}
-use Rattle.std.specs.List.{cons_option, list_all, AllByRecursion}
+use Rattle.std.specs.List.{list_all}
 use Rattle.std.proofs.lemmas.Bool.{and_from, and_parts}
 use Rattle.std.proofs.lemmas.Option.{same_Some}
 use Rattle.ir_tables.specs.declared.linkage.Linkage.TheVariants.{External}
@@ -19,15 +19,7 @@ use Rattle.extract_core.specs.Extracted.{kept_names, kept_linkage, numbered, dec
 use Rattle.extracted_is_valid.proofs.Functions.{passable_numbered, passable_from}
 use Rattle.extracted_is_valid.proofs.Kept.{all_filtered, any_key, any_front, any_back, any_follow, either}
 use Rattle.extracted_is_valid.proofs.Stays.{turned, aliases_hold, target_stays}
-use Rattle.extracted_is_valid.proofs.ExtractedIsValid.{both_all}
-
-pub made_all : {X Y : Type 0} (P : X → Type 0) (f : X → Option Y) (Q : Y → Type 0) → ((x : X) → P x → (y : Y) → f x ≡ Some y → Q y) → (xs : List X) → AllByRecursion P xs → AllByRecursion Q (filter_map f xs)
-made_all P f Q each [] a = tt
-made_all {Y = Y} P f Q each (x ∷ xs) a = go (f x) refl (made_all P f Q each xs a.1)
-  where
-    go : (o : Option Y) → f x ≡ o → AllByRecursion Q (filter_map f xs) → AllByRecursion Q (cons_option o (filter_map f xs))
-    go None e more = more
-    go (Some y) e more = (each x a.0 y e, more)
+use Rattle.extracted_is_valid.proofs.Gathered.{both_all, made_all}
 
 names_numbered : (k : ℕ) (ts : List Tree) → map (λ (p : Parameter). p.name) (numbered k ts) ≡ numbers k ts
 names_numbered k [] = refl

@@ -16,7 +16,7 @@ use Rattle.extract_core.specs.declared.selection.Selection.{Selection}
 use Rattle.extract_core.specs.Selected.{is_among, keeps_variable}
 use Rattle.extract_core.specs.Extracted.{kept_names, kept_linkage, without_elements, declared_variable, extracted_variable, alias_as_variable, declared_aliases, Extracted}
 use Rattle.extracted_is_valid.proofs.Kept.{all_filtered, either}
-use Rattle.extracted_is_valid.proofs.Good.{made_all}
+use Rattle.extracted_is_valid.proofs.Gathered.{made_all}
 
 limits_empty : (k : ℕ) (o : Option Shape) → is_within_limits (option_map (array_of k) o) ≡ true → is_within_limits (option_map (array_of 0) o) ≡ true
 limits_empty k None h = h

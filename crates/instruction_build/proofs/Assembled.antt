@@ -24,10 +24,10 @@ use Rattle.instruction_build.proofs.Lists.{each_known, each_seen}
 use Rattle.instruction_build.proofs.Standing.{operand_known, operand_seen}
 use Rattle.instruction_build.specs.Made.{Makes}
 
-one : {X : Type 0} (P : X → Type 0) (x : X) → P x → All P (x ∷ [])
+pub one : {X : Type 0} (P : X → Type 0) (x : X) → P x → All P (x ∷ [])
 one P x p = All-cons P x [] p (All-nil P)
 
-two : {X : Type 0} (P : X → Type 0) (x y : X) → P x → P y → All P (x ∷ y ∷ [])
+pub two : {X : Type 0} (P : X → Type 0) (x y : X) → P x → P y → All P (x ∷ y ∷ [])
 two P x y p q = All-cons P x (y ∷ []) p (one P y q)
 
 three : {X : Type 0} (P : X → Type 0) (x y z : X) → P x → P y → P z → All P (x ∷ y ∷ z ∷ [])

@@ -1,5 +1,5 @@
 -- The end of a block is what its parts are.
-use Rattle.std.proofs.Common.{ℕ, ◌<◌, List, [], ◌∷◌, map, length, All, refl}
+use Rattle.std.proofs.Common.{ℕ, ◌<◌, List, map, length, refl}
 use Rattle.std.proofs.lemmas.List.Elements.{All-cons, All-map, All-nil}
 use Rattle.type_table.specs.Types.{trees}
 use Rattle.module_arena.specs.declared.instruction.Case as the_case
@@ -14,12 +14,7 @@ use Rattle.instruction_build.specs.Meant.{IsOperand, IsEnding}
 use Rattle.instruction_build.specs.Parts.{Each, IsTarget, IsCase}
 use Rattle.instruction_build.proofs.Lists.{each_known, each_seen}
 use Rattle.instruction_build.proofs.Standing.{operand_known, operand_seen}
-
-one : {X : Type 0} (P : X → Type 0) (x : X) → P x → All P (x ∷ [])
-one P x p = All-cons P x [] p (All-nil P)
-
-two : {X : Type 0} (P : X → Type 0) (x y : X) → P x → P y → All P (x ∷ y ∷ [])
-two P x y p q = All-cons P x (y ∷ []) p (one P y q)
+use Rattle.instruction_build.proofs.Assembled.{one, two}
 
 module _ (values blocks : List m.LocalName) (a : Lists) where
   abbrev O : the_operand.Operand → Type 0

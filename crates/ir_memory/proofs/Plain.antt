@@ -32,7 +32,7 @@ size-of : (count : ℕ) → (8 * count + 7) / 8 ≡ count
 size-of count = omega arith
 
 -- each check passes
-judged-fine : (over outside fixed aligned : Bool) (place : BlockPlace) → over ≡ false → outside ≡ false → fixed ≡ false → aligned ≡ true → judged over outside fixed aligned place ≡ Ok (Some place)
+pub judged-fine : (over outside fixed aligned : Bool) (place : BlockPlace) → over ≡ false → outside ≡ false → fixed ≡ false → aligned ≡ true → judged over outside fixed aligned place ≡ Ok (Some place)
 judged-fine over outside fixed aligned place a b c d = λ k. judged (a k) (b k) (c k) (d k) place
 
 -- what would not write to a constant if these were sealed does not write to a sealed one

@@ -19,14 +19,10 @@ use Rattle.ir_memory.specs.Plain.{LoadsBytes}
 use Rattle.ir_memory.specs.Seen.{plain, seen, all_seen, IsSound}
 use Rattle.ir_memory.proofs.Answering.{known-within}
 use Rattle.ir_memory.proofs.Changed.{length-all}
-use Rattle.ir_memory.proofs.Finds.{judged}
 use Rattle.ir_memory.proofs.Placed.{live_bytes-ended}
 use Rattle.ir_memory.proofs.Places.{access-kept, read, read-placed-kept}
 use Rattle.ir_memory.proofs.Writes.{cells-there, plain_cells}
-
--- the checks of an access that all pass
-none_fails : (over outside fixed aligned : Bool) (place : BlockPlace) → over ≡ false → outside ≡ false → fixed ≡ false → aligned ≡ true → judged over outside fixed aligned place ≡ Ok (Some place)
-none_fails over outside fixed aligned place a b c d = rw (a, b, c, d) refl
+use Rattle.ir_memory.proofs.Plain.{judged-fine}
 
 -- a live block is not over, and an address between its ends is in it
 not_over : (live own : Bool) → live ≡ true → (not live && own) ≡ false
@@ -58,7 +54,7 @@ module _ (p : ℕ → Option PointerPiece) (kept : List KeptBlock) (next : ℕ) 
       let rest : q.address % 1 ≡ 0 = omega arith in
       let from : q.address - b.start ≡ offset = omega (arith, here) in
       access-kept p kept next sealed 1 1 false q i b (lit≤ tt) only within is
-      ∙ none_fails (not b.live && is_some q.block) (not (b.live && holds (seen p b) q.address 1)) (false && sealed && is_constant b.kind) (nat_eq (q.address % 1) 0) (place_of i (q.address - b.start))
+      ∙ judged-fine (not b.live && is_some q.block) (not (b.live && holds (seen p b) q.address 1)) (false && sealed && is_constant b.kind) (nat_eq (q.address % 1) 0) (place_of i (q.address - b.start))
       (not_over b.live (is_some q.block) live) (not_outside b.live _ _ live low high) refl (ap (λ n. nat_eq n 0) rest)
       ∙ ap (λ n. Ok (Some (place_of i n))) from
 

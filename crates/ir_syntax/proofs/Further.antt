@@ -1,5 +1,5 @@
 -- Where a wider language does not get over the first bad token, so that the text need not be read in it.
-use Rattle.std.proofs.Common.{◌≡◌, ℕ, ◌<◌, List, [], ◌∷◌, ◌++◌, length, drop, slice_get, Bool, true, false, not, inl, inr, refl, sym, ap, subst, ◌∙◌, arith, length-append, ◌-◌, Some, Result, Err}
+use Rattle.std.proofs.Common.{◌≡◌, ℕ, ◌<◌, List, [], ◌∷◌, ◌++◌, length, drop, slice_get, Bool, true, false, not, inl, inr, refl, sym, ap, subst, ◌∙◌, arith, length-append, ◌-◌, Some, Err}
 use Rattle.std.specs.Bool.{MatchBool}
 use Rattle.phrase_rows.specs.Row.{Bad}
 use Rattle.phrase_rows.specs.Answer.{ended}
@@ -8,13 +8,12 @@ use Rattle.ir_lexer.specs.Ahead.{Located}
 use Rattle.ir_terminals.specs.declared.limits.Limits.{Limits}
 use Rattle.ir_terminals.specs.LeftOut.{is_left_out}
 use Rattle.ir_terminals.specs.Position.{Position, tokens_left, text_tokens, is_cut_off}
-use Rattle.ir_syntax.specs.Tree.{ItemTree}
 use Rattle.ir_syntax.specs.Items.{IsViable, items_row, language}
 use Rattle.ir_syntax.specs.Answers.{text_answer, passed, FirstBad}
 use Rattle.ir_syntax.specs.Refusal.{deeper, wider, through, IsTooDeep, IsLeftOut}
 use Rattle.ir_syntax.specs.Widths.{opens_nest, is_of_wider, is_first}
 use Rattle.ir_syntax.proofs.Grammar.{reads_items}
-use Rattle.ir_syntax.proofs.Results.{bad_answer, not_viable_behind, passed_taken}
+use Rattle.ir_syntax.proofs.Results.{bad_answer, not_viable_behind, passed_taken, err_once}
 use Rattle.ir_syntax.proofs.Refusals.{left_out_told}
 use Rattle.ir_syntax.proofs.Widened.{IsWidened}
 use Rattle.ir_syntax.proofs.WidenedLanguages.{deeper_items, wider_items}
@@ -22,9 +21,6 @@ use Rattle.ir_syntax.proofs.WidenedLanguages.{deeper_items, wider_items}
 drop_over : {T : Type 0} (us vs : List T) → drop (length us) (us ++ vs) ≡ vs
 drop_over [] vs = refl
 drop_over (u ∷ us) vs = drop_over us vs
-
-bad_once : (x : Result (List ItemTree) ℕ) (i j : ℕ) → x ≡ Err i → x ≡ Err j → i ≡ j
-bad_once x i j e f = cc
 
 -- the token at which the language is refused is the next one
 bad_is_next : (p : Position) (t : Located) (rest : List Located) → (items_row language).run (text_tokens p.text) ≡ Bad (t ∷ rest) → text_answer language p.text ≡ Err p.taken → tokens_left p ≡ t ∷ rest
@@ -36,7 +32,7 @@ bad_is_next p t rest e a = by_parts (takes_at (reads_items language) (text_token
 
     by_parts : (us : List Located) × (text_tokens p.text ≡ us ++ (t ∷ rest)) × (items_row language).cut us → drop p.taken (text_tokens p.text) ≡ t ∷ rest
     by_parts (us, d, c) =
-        let k = bad_once (text_answer language p.text) p.taken (length (text_tokens p.text) - length (t ∷ rest)) a told in
+        let k = err_once (text_answer language p.text) p.taken (length (text_tokens p.text) - length (t ∷ rest)) a told in
         let n : p.taken ≡ length us = omega (arith, k, ap length d, length-append us (t ∷ rest)) in
         ap (λ (m : ℕ). drop m (text_tokens p.text)) n ∙ (ap (λ (ts : List Located). drop (length us) ts) d ∙ drop_over us (t ∷ rest))
 

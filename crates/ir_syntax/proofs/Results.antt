@@ -61,7 +61,7 @@ answer_bad text i e = is_answer language text (Err i) e
 pub bad_answer : (text : List ℕ) (i : ℕ) → FirstBad text i → text_answer language text ≡ Err i
 bad_answer text i b = first_bad_once class (items_row language) (items_row language).shape (reads_items language) (not (is_cut_off text)) (text_tokens text) i b
 
-err_once : (x : Result (List ItemTree) ℕ) (i j : ℕ) → x ≡ Err i → x ≡ Err j → i ≡ j
+pub err_once : (x : Result (List ItemTree) ℕ) (i j : ℕ) → x ≡ Err i → x ≡ Err j → i ≡ j
 err_once x i j e f = cc
 
 -- there is one first bad place

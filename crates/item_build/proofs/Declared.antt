@@ -17,10 +17,10 @@ use Rattle.name_rules.specs.ModuleOf.{variable_of, variable_in, alias_of, alias_
 use Rattle.type_build.specs.Holding.{entries}
 use Rattle.type_build.specs.Declarations.{without_initialiser, without_target, AreUntargeted, IsShort}
 use Rattle.type_build.specs.Parameters.{without_body}
-use Rattle.type_build.proofs.Declaring.{map_twice}
 use Rattle.buildable.specs.Bodies.{IsShortAlignment}
 use Rattle.item_build.specs.Declaring.{declared_in, with_entries, with_declared, AreNamed}
 use Rattle.item_build.proofs.Walked.{gives_one, gives_none, get_between}
+use Rattle.type_build.proofs.Made.{map_twice}
 
 module _ {Y : Type 0} (h : ItemTree → Option Y) (f : Y → Y) (first : List ItemTree) (x : ItemTree) where
   one : (y : Y) → h x ≡ Some y → map f (filter_map h first) ++ f y ∷ [] ≡ map f (filter_map h (first ++ x ∷ []))

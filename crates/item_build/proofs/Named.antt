@@ -18,7 +18,7 @@ use Rattle.name_rules.specs.ModuleOf.{struct_in, structs_in}
 use Rattle.name_rules.specs.Written.{body_in}
 use Rattle.name_rules.proofs.Fine.{EachStruct, StructWithin}
 use Rattle.type_build.proofs.Staying.{names_same}
-use Rattle.type_build.proofs.Declaring.{map_twice}
+use Rattle.type_build.proofs.Made.{map_twice}
 use Rattle.buildable.specs.Entries.{CanDeclare}
 use Rattle.item_build.proofs.NamedItems.{distinct_front, contained}
 use Rattle.item_build.proofs.Walked.{gives_one, gives_none, parted, length_parted, get_between}

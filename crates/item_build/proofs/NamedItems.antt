@@ -25,10 +25,10 @@ use Rattle.module_arena.specs.WellFormed as formed
 use Rattle.name_rules.specs.Breaks as breaks
 use Rattle.name_rules.specs.ModuleOf.{variable_in, alias_in, function_in}
 use Rattle.type_build.specs.Holding.{entries, HasEntry}
-use Rattle.type_build.proofs.Declaring.{map_twice}
 use Rattle.buildable.specs.Laws.{global_names, HasEntries}
 use Rattle.item_build.specs.Declaring.{IsNewName, AreNamed}
 use Rattle.item_build.proofs.Walked.{parted}
+use Rattle.type_build.proofs.Made.{map_twice}
 
 bytes_turn : (a b : Bytes) → bytes_eq a b ≡ bytes_eq b a
 bytes_turn a b = by (bytes_eq a b) (bytes_eq b a) refl refl

@@ -8,7 +8,7 @@ use Rattle.kept_names.specs.Marks.{Marks, MarksAll, marked_names, in_const}
 use Rattle.extract_core.specs.Selected.{is_among}
 use Rattle.extract_core.proofs.Adding.{gathered_more, take_whole}
 
-or_nothing : (b : Bool) → b ≡ (b || false)
+pub or_nothing : (b : Bool) → b ≡ (b || false)
 or_nothing true = refl
 or_nothing false = refl
 

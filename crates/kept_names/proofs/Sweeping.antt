@@ -22,6 +22,7 @@ use Rattle.module_arena.proofs.ModuleOf.{length-constants_of}
 use Rattle.extract_core.specs.Calls.{Adds}
 use Rattle.kept_names.specs.Marks.{IsAmongEach, Marks, MarksAll, in_const, in_parts, marked_names, own_names}
 use Rattle.extract_core.specs.Selected.{is_among}
+use Rattle.kept_names.proofs.Marking.{or_nothing}
 
 -- ---- the names in a constant
 
@@ -75,10 +76,6 @@ module _ (cs : List Constant) (k types : ℕ) where
   parts_same (const.ByteString bytes) h = refl
 
 -- ---- one constant less
-
-or_nothing : (b : Bool) → b ≡ (b || false)
-or_nothing true = refl
-or_nothing false = refl
 
 marked_split : (cs : List Constant) (marks : List Bool) (k : ℕ) → k < length cs → length cs ≤ length marks → (name : Bytes)
     → is_among (marked_names (take (suc k) cs) marks) name ≡ (is_among (marked_names (take k cs) marks) name || is_among (if slice_index_or marks k false then in_const cs k else []) name)

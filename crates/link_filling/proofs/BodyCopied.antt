@@ -26,13 +26,13 @@ use Rattle.module_linker.specs.Linked.{linked_block, linked_definition, linked_p
 use Rattle.module_linker.specs.Rename.{new_global}
 use Rattle.module_linker.specs.Structs.{linked_type, new_struct}
 use Rattle.type_build.specs.Parameters.{without_body}
-use Rattle.type_build.proofs.Declaring.{map_twice}
 use Rattle.entry_copy.specs.Copies.{IsBody, blocks_of}
 use Rattle.entry_copy.specs.Tables.{Tables}
 use Rattle.link_stages.specs.Filled.{defined_as, with_blocks}
 use Rattle.link_stages.specs.Definitions.{definition_of, entries_defined}
 use Rattle.link_filling.specs.Filling.{IsBare, IsBareEntry}
 use Rattle.link_filling.proofs.Bare.{function_bare, function_found}
+use Rattle.type_build.proofs.Made.{map_twice}
 
 -- what the parameters of a function are called
 abbrev pub parameter_names : the_function.Function → List LocalName

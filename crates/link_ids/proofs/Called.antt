@@ -27,7 +27,7 @@ use Rattle.link_stages.specs.Ground.{ground}
 
 -- ---- the ids of entries that are declared in order
 
-at_join : {A : Type 0} (xs : List A) (y : A) (ys : List A) → slice_get (xs ++ y ∷ ys) (length xs) ≡ Some y
+pub at_join : {A : Type 0} (xs : List A) (y : A) (ys : List A) → slice_get (xs ++ y ∷ ys) (length xs) ≡ Some y
 at_join [] y ys = refl
 at_join (x ∷ xs) y ys = at_join xs y ys
 

@@ -28,7 +28,7 @@ use Rattle.link_stages.specs.Parts.{CanLink}
 use Rattle.link_ids.specs.Filing.{AreFiled, KnownIds, known_id, known_in, new_id_of, places}
 use Rattle.link_ids.specs.Others.{without_entries}
 use Rattle.link_ids.proofs.Among.{own_place}
-use Rattle.link_ids.proofs.Called.{id_called}
+use Rattle.link_ids.proofs.Called.{id_called, at_join}
 use Rattle.link_ids.proofs.Once.{get-set_other, get-set_same}
 use Rattle.link_ids.proofs.OwnSymbols.{RowOf, own_symbol, row_in}
 
@@ -49,10 +49,6 @@ set_again : {A : Type 0} (xs : List A) (i : ℕ) (x : A) → slice_get xs i ≡ 
 set_again [] i x at = refl
 set_again (y ∷ ys) zero x at = ap (λ z. z ∷ ys) (sym (same_Some y x at))
 set_again (y ∷ ys) (suc i) x at = ap (λ l. y ∷ l) (set_again ys i x at)
-
-at_join : {A : Type 0} (xs : List A) (y : A) (ys : List A) → slice_get (xs ++ y ∷ ys) (length xs) ≡ Some y
-at_join [] y ys = refl
-at_join (x ∷ xs) y ys = at_join xs y ys
 
 pub none_handed : (all : List KnownIds) (before : List Tables) → AreHanded all all before before
 none_handed all before = record { taken = []; split = sym (append-nil all); others = refl; handed = λ i p t le at is. let lt = slice_get_within all i p at in absurd (omega (arith, le, lt)) }

@@ -4,7 +4,6 @@ use Rattle.std.specs.Prelude.{slice_get}
 use Rattle.std.specs.Option.{option_map_or}
 use Rattle.std.specs.List.{AllByRecursion}
 use Rattle.std.proofs.lemmas.Bool.{and_from, and_parts, or_right, both_ways, cond-true}
-use Rattle.std.proofs.lemmas.List.{append_assoc}
 use Rattle.linkage_rules.proofs.Gathered.{all_joined}
 use Rattle.type_table.specs.Tree.{Tree, array}
 use Rattle.type_table.specs.Shape.{Shape, array_of, nesting, shape}
@@ -25,18 +24,18 @@ use Rattle.linkage_rules.specs.Winner.{definitions, home, size_in}
 use Rattle.linked_contents.specs.Contents.{ContentPiece, elements_in, elements_of}
 use Rattle.linkage_rules.specs.Place.{joined_length, greatest_stated}
 use Rattle.module_linker.proofs.Symbols.{AreOfKind, function_kinds, aliases_are, home_is}
-use Rattle.module_linker.proofs.ByKind.{get_all}
 use Rattle.module_linker.specs.Counts.{Count, limit, appended_bytes, appended_count, too_many}
 use Rattle.module_linker.specs.Rename.{renaming, new_global}
 use Rattle.module_linker.specs.Structs.{new_struct, linked_type}
 use Rattle.module_linker.specs.Linked.{linked_pieces, linked_definition, link_result}
 use Rattle.module_linker.proofs.Bound.{symbol_at}
+use Rattle.module_linker.proofs.Searches.{at_all}
 use Rattle.linked_is_valid.specs.Laws.{AreLinkable, LinkedIsWellFormed}
 use Rattle.linked_is_valid.proofs.Lists.{all_tests, all_tested}
 use Rattle.linked_is_valid.proofs.Types.{KnownTree, nameless_same, shape_same}
 use Rattle.linked_is_valid.proofs.Known.{AllGood, GoodParts, good_variable, variable_constants, variable_type_known, all_at}
 use Rattle.linked_is_valid.proofs.Good.{good_type_kept, constant_good}
-use Rattle.linked_is_valid.proofs.Pieces.{after, linked_after}
+use Rattle.linked_is_valid.proofs.Pieces.{after, linked_after, constants_after}
 use Rattle.linked_is_valid.proofs.Renaming.{good_at, together}
 use Rattle.linked_is_valid.proofs.Callees.{part_renames}
 use Rattle.linked_is_valid.proofs.Appended.{IsAppended, in_entry}
@@ -69,10 +68,6 @@ max_none b = omega arith
 depth_after : (cs ds : Constants) → greatest_depth (after cs ds) ≡ max (greatest_depth cs) (greatest_depth ds)
 depth_after no_constants ds = max_none (greatest_depth ds)
 depth_after (more_constants t c cs) ds = ap (max (depth c)) (depth_after cs ds) ∙ max_again (depth c) (greatest_depth cs) (greatest_depth ds)
-
-constants_after : (cs ds : Constants) → constants_of (after cs ds) ≡ constants_of cs ++ constants_of ds
-constants_after no_constants ds = refl
-constants_after (more_constants t c cs) ds = ap (λ l. constants_in t c ++ l) (constants_after cs ds) ∙ sym (append_assoc (constants_in t c) (constants_of cs) (constants_of ds))
 
 record GoodList (m : Module) (cs : Constants) : Type 0 where
   shallow : IsShallow (greatest_depth cs)
@@ -159,14 +154,14 @@ module _ (parts : List Module) (fine : AreLinkable parts) (few : too_many parts 
         by_two : ((j : ℕ) × (slice_get (variable_symbols parts) j ≡ Some s)) ⊎ ((j : ℕ) × (slice_get (function_symbols parts) j ≡ Some s)) → (j : ℕ) × (slice_get (variable_symbols parts) j ≡ Some s)
         by_two (inl p) = p
         by_two (inr p) =
-            let kind = get_all (AreOfKind parts false) (function_symbols parts) p.0 s (function_kinds parts (together parts fine)) p.1 in
+            let kind = at_all (AreOfKind parts false) (function_symbols parts) p.0 s (function_kinds parts (together parts fine)) p.1 in
             let found = home_is parts (λ d. same_symbol s (symbol_of d) ≡ true → is_variable d.global ≡ false) s e kind h in
             absurd (both_ways _ (found.0.0 found.0.1) of_variable)
 
         go : ((j : ℕ) × (slice_get (variable_symbols parts ++ function_symbols parts) j ≡ Some s)) ⊎ ((j : ℕ) × (slice_get (alias_symbols parts) j ≡ Some s)) → (j : ℕ) × (slice_get (variable_symbols parts) j ≡ Some s)
         go (inl p) = by_two (in_append (variable_symbols parts) (function_symbols parts) p.0 s p.1)
         go (inr p) =
-            let alias = get_all (λ q. is_alias_symbol parts q ≡ true) (alias_symbols parts) p.0 s (aliases_are parts) p.1 in
+            let alias = at_all (λ q. is_alias_symbol parts q ≡ true) (alias_symbols parts) p.0 s (aliases_are parts) p.1 in
             absurd (both_ways _ (ap is_alias entry.is) (ap (λ o. option_map_or (λ (d : Entry). is_alias d.global) o false) (sym h) ∙ alias))
 
     abbrev all : List Entry

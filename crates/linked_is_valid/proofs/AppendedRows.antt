@@ -25,7 +25,7 @@ use Rattle.linkage_rules.specs.SymbolLaws.{symbol_exact}
 use Rattle.module_linker.proofs.Symbols.{home_is}
 use Rattle.linkage_rules.proofs.Entries.{all_passing}
 use Rattle.module_linker.proofs.Agreed.{all_from_at}
-use Rattle.module_linker.proofs.ByKind.{get_all}
+use Rattle.module_linker.proofs.Searches.{at_all}
 use Rattle.module_linker.specs.Structs.{new_struct, linked_type}
 use Rattle.module_linker.specs.Linked.{linked_pieces, joined_type, joined_alignment, joined_initialiser, linked_definition, link_result}
 use Rattle.linked_is_valid.proofs.Lists.{all_follow}
@@ -94,7 +94,7 @@ module _ (parts : List Module) (fine : AreLinkable parts) where
   Facts x = HasAt (part_at parts x.part) x.global × EntryHolds (part_at parts x.part) x.global
 
   facts : AllByRecursion Facts (entries parts)
-  facts = all_from_at Facts (entries parts) (λ k x at. (get_all (λ e. HasAt (part_at parts e.part) e.global) (entries parts) k x (entries_at parts) at, get_all (λ e. EntryHolds (part_at parts e.part) e.global) (entries parts) k x (entries_hold parts fine) at))
+  facts = all_from_at Facts (entries parts) (λ k x at. (at_all (λ e. HasAt (part_at parts e.part) e.global) (entries parts) k x (entries_at parts) at, at_all (λ e. EntryHolds (part_at parts e.part) e.global) (entries parts) k x (entries_hold parts fine) at))
 
   -- appended entries whose shapes are alike have elements of one type
   one_type : (t u : Tree) (e x : Entry) → IsAppended parts t e → IsAppended parts u x → shape_in parts x.part (element_of (type_of x.global)) ≡ shape_in parts e.part (element_of (type_of e.global)) → u ≡ t
@@ -122,7 +122,7 @@ module _ (parts : List Module) (fine : AreLinkable parts) where
         let shared : symbol_of e ≡ Shared (name_of e.global) = shared_symbol e (appending_shared (linkage_of e.global) appends) in
         let same : symbol_of x ≡ Shared (name_of e.global) = is ∙ sym own ∙ shared in
         let with_e = go_with parts fine (name_of e.global) place.0 k e x place.1 at shared same appends (names_same x same (cases_Bool (is_local (linkage_of x.global)))) in
-        let here = get_all Facts (entries parts) k x facts at in
+        let here = at_all Facts (entries parts) k x facts at in
         let mine = is_appended parts x here.0 here.1 with_e.0 in
         subst (λ t. IsAppended parts t x) (one_type first.0 mine.0 e x first.1 mine.1 with_e.1) mine.1
       where

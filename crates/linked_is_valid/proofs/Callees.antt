@@ -19,12 +19,12 @@ use Rattle.linkage_rules.specs.Symbols.{symbols}
 use Rattle.module_linker.proofs.Apart.{has_at, at_has}
 use Rattle.linkage_rules.specs.SymbolLaws.{name_self, name_exact, symbol_self, symbol_exact}
 use Rattle.module_linker.proofs.Symbols.{AreOfKind, symbol_local}
-use Rattle.module_linker.proofs.ByKind.{get_all}
 use Rattle.module_linker.specs.Rename.{renaming, all_names, base_of, shared_names, new_global}
 use Rattle.module_linker.specs.Linked.{linked, linked_globals, link_result}
 use Rattle.module_linker.proofs.Names.{shared_stays}
 use Rattle.module_linker.proofs.Merged.{names, linked_name, linked_kind}
 use Rattle.module_linker.proofs.Bound.{here}
+use Rattle.module_linker.proofs.Searches.{at_all}
 use Rattle.type_table.proofs.Rooms.{unmapped}
 use Rattle.module_linker.specs.Structs.{new_struct}
 use Rattle.linked_is_valid.proofs.Good.{Renames}
@@ -119,10 +119,10 @@ module _ (parts : List Module) (fine : AreLinkable parts) (i : ℕ) where
   shared_case : (name : Bytes) (there : has_entry (part_at parts i) name ≡ true) (place : ℕ) → slice_get (renaming parts) place ≡ Some (Shared name, name) → symbol_in parts i name ≡ Shared name → is_llvm_name name ≡ true → has_function (part_at parts i) name ≡ false → has_function (link_result parts) name ≡ true → ⊥
   shared_case name there place at s llvm none found =
       let d = entry_of parts i name there in
-      let is : HasAt (part_at parts i) d.entry.global = subst (λ j. HasAt (part_at parts j) d.entry.global) d.part (get_all (λ e. HasAt (part_at parts e.part) e.global) (entries parts) d.place d.entry (entries_at parts) d.at) in
-      let holds : EntryHolds (part_at parts i) d.entry.global = subst (λ j. EntryHolds (part_at parts j) d.entry.global) d.part (get_all (λ e. EntryHolds (part_at parts e.part) e.global) (entries parts) d.place d.entry (entries_hold parts fine) d.at) in
+      let is : HasAt (part_at parts i) d.entry.global = subst (λ j. HasAt (part_at parts j) d.entry.global) d.part (at_all (λ e. HasAt (part_at parts e.part) e.global) (entries parts) d.place d.entry (entries_at parts) d.at) in
+      let holds : EntryHolds (part_at parts i) d.entry.global = subst (λ j. EntryHolds (part_at parts j) d.entry.global) d.part (at_all (λ e. EntryHolds (part_at parts e.part) e.global) (entries parts) d.place d.entry (entries_hold parts fine) d.at) in
       let own = own_shared name d s in
-      let kind : AreOfKind parts true (Shared name) = subst (AreOfKind parts true) own (subst (λ b. AreOfKind parts b (symbol_of d.entry)) (of_variable d.entry.global is holds d.named) (get_all (λ e. AreOfKind parts (is_variable e.global) (symbol_of e)) (entries parts) d.place d.entry (together parts fine).kinds d.at)) in
+      let kind : AreOfKind parts true (Shared name) = subst (AreOfKind parts true) own (subst (λ b. AreOfKind parts b (symbol_of d.entry)) (of_variable d.entry.global is holds d.named) (at_all (λ e. AreOfKind parts (is_variable e.global) (symbol_of e)) (entries parts) d.place d.entry (together parts fine).kinds d.at)) in
       let variable : is_variable (linked parts (Shared name, name)) ≡ true = linked_kind parts (together parts fine) true (Shared name) name (home parts (Shared name)) refl kind (here parts (together parts fine) place (Shared name) name at) in
       let f = function_from name (linked_globals parts) found in
       let row = unmapped (linked parts) (slice_get (renaming parts) f.0) (OfFunction f.1) (sym (slice_get-map (linked parts) (renaming parts) f.0) ∙ f.2) in
@@ -142,7 +142,7 @@ module _ (parts : List Module) (fine : AreLinkable parts) (i : ℕ) where
       let local = symbol_local j n x.0 (subst (λ t. same_symbol (Local j n) t ≡ true) (sym x.2) (symbol_self (Local j n))) in
       let symbol : Local x.0.part (name_of x.0.global) ≡ Local j n = sym (local_symbol x.0 local) ∙ x.2 in
       let named : name_of x.0.global ≡ n = cc in
-      let plain = local_name_plain (part_at parts x.0.part) x.0.global (get_all (λ e. EntryHolds (part_at parts e.part) e.global) (entries parts) found.0 x.0 (entries_hold parts fine) x.1) local in
+      let plain = local_name_plain (part_at parts x.0.part) x.0.global (at_all (λ e. EntryHolds (part_at parts e.part) e.global) (entries parts) found.0 x.0 (entries_hold parts fine) x.1) local in
       and_left _ _ (local_plain (all_names parts) (shared_names (symbols parts)) (symbols parts) place j n new at (ap is_llvm_name (sym named) ∙ plain))
   by_symbol name new place (Shared n) there e at h =
       let same : name ≡ n = shared_name (has same_symbol (map symbol_of (entries parts)) (Local i name)) i name n e in

@@ -19,20 +19,20 @@ use Rattle.linkage_rules.specs.declared.symbol.Symbol.{Symbol}
 use Rattle.linkage_rules.specs.Winner.{home, definitions}
 use Rattle.linkage_rules.specs.SymbolLaws.{name_self, name_exact}
 use Rattle.module_linker.proofs.Symbols.{AreOfKind}
-use Rattle.module_linker.proofs.ByKind.{get_all}
 use Rattle.module_linker.specs.Rename.{new_global}
 use Rattle.module_linker.specs.Structs.{new_struct}
 use Rattle.module_linker.specs.Linked.{linked_alias, linked_definition, linked_by, linked, linked_globals, alias_if, link_result}
 use Rattle.module_linker.proofs.Merged.{linked_name, linked_kind, linked_is_alias_none}
 use Rattle.module_linker.proofs.Bound.{here}
+use Rattle.module_linker.proofs.Searches.{at_all}
 use Rattle.linked_is_valid.proofs.Types.{sameness_kept, width_same, pointer_same}
 use Rattle.linked_is_valid.proofs.PartEntries.{EntryHolds}
-use Rattle.linked_is_valid.proofs.Linking.{entry_named, function_there}
+use Rattle.linked_is_valid.proofs.Linking.{entry_named, function_there, any_key}
 use Rattle.linked_is_valid.specs.Laws.{AreLinkable}
 use Rattle.linked_is_valid.proofs.Renaming.{entries_hold, together, row_of_name, linked_at}
 use Rattle.linked_is_valid.proofs.Callees.{entry_where, any_front, any_back}
 use Rattle.linked_is_valid.proofs.Strong.{one_entry}
-use Rattle.linked_is_valid.proofs.Targets.{own_symbol, targets_kept, any_map}
+use Rattle.linked_is_valid.proofs.Targets.{own_symbol, targets_kept}
 
 any_follow : {A : Type 0} (p q : A → Bool) (xs : List A) → ((x : A) → p x ≡ true → q x ≡ true) → list_any p xs ≡ true → list_any q xs ≡ true
 any_follow p q [] f h = cc
@@ -63,24 +63,24 @@ is_variable_of name (OfAlias a) = false
 functions_among : (m : Module) (name : Bytes) (q : Global → Bool) → ((f : Function) → bytes_eq name f.name ≡ true → q (OfFunction f) ≡ true) → has_function m name ≡ true → list_any q (globals m) ≡ true
 functions_among m name q f h =
     any_front q (map OfVariable m.variables ++ map OfFunction m.functions) (map OfAlias m.aliases)
-    (any_back q (map OfVariable m.variables) (map OfFunction m.functions) (any_map OfFunction q m.functions ∙ any_follow (λ (g : Function). bytes_eq name g.name) (λ g. q (OfFunction g)) m.functions f (sym (any_map (λ (g : Function). g.name) (bytes_eq name) m.functions) ∙ h)))
+    (any_back q (map OfVariable m.variables) (map OfFunction m.functions) (any_key OfFunction q m.functions ∙ any_follow (λ (g : Function). bytes_eq name g.name) (λ g. q (OfFunction g)) m.functions f (sym (any_key (λ (g : Function). g.name) (bytes_eq name) m.functions) ∙ h)))
 
 calls_among : (m : Module) (name : Bytes) → (has_function m name || has_alias_of_function m name) ≡ true → list_any (calls_function m name) (globals m) ≡ true
 calls_among m name h = go (or_cases (has_function m name) _ h)
   where
     go : (has_function m name ≡ true) ⊎ (has_alias_of_function m name ≡ true) → list_any (calls_function m name) (globals m) ≡ true
     go (inl t) = functions_among m name (calls_function m name) (λ f e. e) t
-    go (inr t) = any_back (calls_function m name) (map OfVariable m.variables ++ map OfFunction m.functions) (map OfAlias m.aliases) (any_map OfAlias (calls_function m name) m.aliases ∙ t)
+    go (inr t) = any_back (calls_function m name) (map OfVariable m.variables ++ map OfFunction m.functions) (map OfAlias m.aliases) (any_key OfAlias (calls_function m name) m.aliases ∙ t)
 
 variables_among : (m : Module) (name : Bytes) → list_any (is_lasting_variable name) m.variables ≡ true → list_any (is_variable_of name) (globals m) ≡ true
 variables_among m name h =
     any_front (is_variable_of name) (map OfVariable m.variables ++ map OfFunction m.functions) (map OfAlias m.aliases)
     (any_front (is_variable_of name) (map OfVariable m.variables) (map OfFunction m.functions)
-    (any_map OfVariable (is_variable_of name) m.variables ∙ any_follow (is_lasting_variable name) (λ (v : Variable). bytes_eq v.name name) m.variables (λ v e. (and_parts (bytes_eq v.name name) _ e).0) h))
+    (any_key OfVariable (is_variable_of name) m.variables ∙ any_follow (is_lasting_variable name) (λ (v : Variable). bytes_eq v.name name) m.variables (λ v e. (and_parts (bytes_eq v.name name) _ e).0) h))
 
 lasting_is_function : (m : Module) (name : Bytes) → list_any (is_lasting_function name) m.functions ≡ true → has_function m name ≡ true
 lasting_is_function m name h =
-    any_map (λ (g : Function). g.name) (bytes_eq name) m.functions
+    any_key (λ (g : Function). g.name) (bytes_eq name) m.functions
     ∙ any_follow (is_lasting_function name) (λ (f : Function). bytes_eq name f.name) m.functions (λ f e. turned f.name (and_parts (bytes_eq f.name name) _ e).0) h
   where
     turned : (n : Bytes) → bytes_eq n name ≡ true → bytes_eq name n ≡ true
@@ -155,13 +155,13 @@ module _ (parts : List Module) (fine : AreLinkable parts) (i : ℕ) where
   function_kept name h =
       let found = entry_where parts i (calls_function part name) (calls_among part name h) in
       let d = found.1 in
-      let holds : EntryHolds part d.global = subst (λ j. EntryHolds (part_at parts j) d.global) found.3.0 (get_all (λ e. EntryHolds (part_at parts e.part) e.global) (entries parts) found.0 d (entries_hold parts fine) found.2) in
+      let holds : EntryHolds part d.global = subst (λ j. EntryHolds (part_at parts j) d.global) found.3.0 (at_all (λ e. EntryHolds (part_at parts e.part) e.global) (entries parts) found.0 d (entries_hold parts fine) found.2) in
       let facts = function_kind name d.global holds found.3.1 in
       let there : has_entry part name ≡ true = entry_named part name ∙ any_follow (calls_function part name) (λ g. bytes_eq name (name_of g)) (globals part) named_so (calls_among part name h) in
       let row = row_of_name parts fine i name there in
       let s = symbol_in parts i name in
       let symbol : s ≡ symbol_of d = own_symbol parts fine i found.0 name d found.2 found.3.0 facts.1 in
-      let kind : AreOfKind parts false s = subst (AreOfKind parts false) (sym symbol) (subst (λ b. AreOfKind parts b (symbol_of d)) facts.0 (get_all (λ e. AreOfKind parts (is_variable e.global) (symbol_of e)) (entries parts) found.0 d (together parts fine).kinds found.2)) in
+      let kind : AreOfKind parts false s = subst (AreOfKind parts false) (sym symbol) (subst (λ b. AreOfKind parts b (symbol_of d)) facts.0 (at_all (λ e. AreOfKind parts (is_variable e.global) (symbol_of e)) (entries parts) found.0 d (together parts fine).kinds found.2)) in
       let function = linked_kind parts (together parts fine) false s row.new (home parts s) refl kind (here parts (together parts fine) row.place s row.new row.at) in
       subst (λ n. (has_function (link_result parts) n || has_alias_of_function (link_result parts) n) ≡ true) (sym row.named)
       (calls_linked s row.new row.place (home parts s) refl (linked parts (s, row.new)) refl function (linked_at parts fine i row.place s row.new row.at) (linked_name parts s row.new (home parts s)))

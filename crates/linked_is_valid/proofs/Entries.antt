@@ -65,7 +65,7 @@ module _ (names globals : Bytes → Bytes) where
   zero_same (Some (Cast opcode from value to)) = refl
   zero_same (Some (Binary opcode flags a left b right)) = refl
 
-some_same : {A B : Type 0} (f : A → B) (o : Option A) → is_some (option_map f o) ≡ is_some o
+pub some_same : {A B : Type 0} (f : A → B) (o : Option A) → is_some (option_map f o) ≡ is_some o
 some_same f None = refl
 some_same f (Some x) = refl
 

@@ -15,13 +15,13 @@ use Rattle.linkage_rules.specs.declared.symbol.Symbol.{Symbol}
 use Rattle.linkage_rules.specs.Winner.{is_definition, definitions, home}
 use Rattle.linkage_rules.specs.SymbolLaws.{symbol_exact}
 use Rattle.module_linker.proofs.Symbols.{home_is}
-use Rattle.module_linker.proofs.ByKind.{get_all}
 use Rattle.module_linker.proofs.Agreed.{all_from_at}
 use Rattle.module_linker.specs.Rename.{renaming, new_global}
 use Rattle.module_linker.specs.Structs.{new_struct, linked_type}
 use Rattle.module_linker.specs.Linked.{linked_constant, joined_type, joined_initialiser, joined_alignment, linked_definition, declared_linkage, linked_declaration, linked_first, linked_by, linked, linked_globals, variable_if, function_if, alias_if, first_of, link_result}
 use Rattle.module_linker.proofs.Merged.{Row}
 use Rattle.module_linker.proofs.Bound.{has_first}
+use Rattle.module_linker.proofs.Searches.{at_all}
 use Rattle.linked_is_valid.specs.Laws.{AreLinkable}
 use Rattle.linked_is_valid.proofs.Lists.{all_follow, all_tested}
 use Rattle.linked_is_valid.proofs.Known.{AllGood}
@@ -52,7 +52,7 @@ module _ (parts : List Module) (fine : AreLinkable parts) (appended : AppendedGo
   Facts x = EntryHolds (part_at parts x.part) x.global × EntryGood (part_at parts x.part) x.global
 
   facts : AllByRecursion Facts (entries parts)
-  facts = all_from_at Facts (entries parts) (λ k x at. (get_all (λ e. EntryHolds (part_at parts e.part) e.global) (entries parts) k x (entries_hold parts fine) at, entry_good (part_at parts x.part) x.global (good_at parts fine x.part) (get_all (λ e. HasAt (part_at parts e.part) e.global) (entries parts) k x (entries_at parts) at)))
+  facts = all_from_at Facts (entries parts) (λ k x at. (at_all (λ e. EntryHolds (part_at parts e.part) e.global) (entries parts) k x (entries_hold parts fine) at, entry_good (part_at parts x.part) x.global (good_at parts fine x.part) (at_all (λ e. HasAt (part_at parts e.part) e.global) (entries parts) k x (entries_at parts) at)))
 
   module _ (place : ℕ) (s : Symbol) (new : Bytes) (at : slice_get (renaming parts) place ≡ Some (s, new)) (e : Entry) (is : symbol_of e ≡ s) where
     plain_good : (v : Variable) → e.global ≡ OfVariable v → EntryHolds (part_at parts e.part) (OfVariable v) → EntryGood (part_at parts e.part) (OfVariable v) → is_appending (linkage_of e.global) ≡ false → EntryGood result (linked_definition parts new e (definitions parts s) (OfVariable v))
@@ -91,7 +91,7 @@ module _ (parts : List Module) (fine : AreLinkable parts) (appended : AppendedGo
       let first_entry = has_first parts (together parts fine) place s new at in
       let e = first_entry.0 in
       let found = first_is s (entries parts) e first_entry.1 in
-      let here = get_all Facts (entries parts) found.0 e facts found.1 in
+      let here = at_all Facts (entries parts) found.0 e facts found.1 in
       subst (λ (o : Option Entry). EntryGood result (linked_first parts s new o)) (sym first_entry.1)
       (declared_good place s new at e (sym (symbol_exact s (symbol_of e) found.2)) (undefined_first parts s e h first_entry.1) e.global refl here.0 here.1)
 

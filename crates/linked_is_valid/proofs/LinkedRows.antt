@@ -26,7 +26,6 @@ use Rattle.linkage_rules.specs.Bind.{all_extern_weak}
 use Rattle.linkage_rules.specs.Place.{commons, greatest_common}
 use Rattle.linkage_rules.specs.SymbolLaws.{symbol_exact}
 use Rattle.module_linker.proofs.Symbols.{home_is}
-use Rattle.module_linker.proofs.ByKind.{get_all}
 use Rattle.module_linker.specs.Rename.{renaming, all_names, base_of, shared_names, new_global}
 use Rattle.module_linker.specs.Structs.{new_struct, linked_type}
 use Rattle.module_linker.specs.Linked.{linked_constant, joined_type, joined_initialiser, joined_alignment, linked_definition, declared_parameters, declared_linkage, linked_declaration, linked_first, linked_by, linked, linked_globals, variable_if, function_if, alias_if, first_of, link_result}
@@ -34,6 +33,7 @@ use Rattle.module_linker.proofs.Agreed.{none_passes}
 use Rattle.module_linker.proofs.Names.{shared_stays}
 use Rattle.module_linker.proofs.Merged.{Row}
 use Rattle.module_linker.proofs.Bound.{has_first}
+use Rattle.module_linker.proofs.Searches.{at_all}
 use Rattle.linked_is_valid.proofs.Lists.{all_follow}
 use Rattle.linked_is_valid.proofs.Entries.{renamed_variable, variable_holds, function_holds, alias_holds}
 use Rattle.linked_is_valid.proofs.Declarations.{variable_declared, function_declared}
@@ -237,9 +237,9 @@ module _ (parts : List Module) (fine : AreLinkable parts) (aligned : CommonsAlig
       let first_entry = has_first parts (together parts fine) place s new at in
       let e = first_entry.0 in
       let found = first_is s (entries parts) e first_entry.1 in
-      let facts = get_all _ (entries parts) found.0 e entry_facts found.1 in
+      let facts = at_all _ (entries parts) found.0 e entry_facts found.1 in
       let undefined = undefined_first parts s e h first_entry.1 in
-      let local = false_from_ne_true _ (λ t. both_ways _ undefined (get_all _ (entries parts) found.0 e (together parts fine).locals found.1 t)) in
+      let local = false_from_ne_true _ (λ t. both_ways _ undefined (at_all _ (entries parts) found.0 e (together parts fine).locals found.1 t)) in
       subst (λ (o : Option Entry). EntryHolds result (linked_first parts s new o)) (sym first_entry.1)
       (declared_row place s new at e (sym (symbol_exact s (symbol_of e) found.2)) undefined local e.global refl facts.0 facts.1)
 

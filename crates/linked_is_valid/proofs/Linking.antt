@@ -20,7 +20,7 @@ use Rattle.module_linker.proofs.Merged.{Row}
 
 -- NAMES WITHOUT REPEATS
 
-any_key : {A B : Type 0} (key : A → B) (test : B → Bool) (xs : List A) → list_any test (map key xs) ≡ list_any (λ x. test (key x)) xs
+pub any_key : {A B : Type 0} (key : A → B) (test : B → Bool) (xs : List A) → list_any test (map key xs) ≡ list_any (λ x. test (key x)) xs
 any_key key test [] = refl
 any_key key test (x ∷ xs) = ap (λ b. test (key x) || b) (any_key key test xs)
 

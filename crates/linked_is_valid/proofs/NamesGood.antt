@@ -24,7 +24,6 @@ use Rattle.linkage_rules.specs.Winner.{home}
 use Rattle.module_linker.proofs.Apart.{Apart, at_has}
 use Rattle.linkage_rules.specs.SymbolLaws.{symbol_self, symbol_exact}
 use Rattle.module_linker.proofs.Symbols.{all_firsts, symbols_have}
-use Rattle.module_linker.proofs.ByKind.{get_all}
 use Rattle.module_linker.specs.Rename.{dotted, least, fresh, new_name, with_given_names, base_of, all_names, shared_names, renaming}
 use Rattle.module_linker.specs.Structs.{structs_from, struct_symbols, same_struct, struct_map, linked_struct}
 use Rattle.module_linker.specs.Linked.{linked, linked_globals, link_result}
@@ -37,6 +36,7 @@ use Rattle.linked_is_valid.proofs.Linking.{names_of, apart_parts, apart_together
 use Rattle.linked_is_valid.proofs.Renaming.{together}
 use Rattle.linked_is_valid.proofs.Callees.{local_symbol, shared_symbol}
 use Rattle.module_linker.proofs.StructRows as rows
+use Rattle.module_linker.proofs.Searches.{at_all}
 
 -- GOOD NAMES
 
@@ -154,7 +154,7 @@ module _ (parts : List Module) (fine : AreLinkable parts) (digits : (n : ℕ) �
   symbols_good = all_follow _ _ (symbols parts) (λ s there.
       let found = at_has same_symbol symbol_self symbol_exact (map symbol_of (entries parts)) s there in
       let x = unmapped symbol_of (slice_get (entries parts) found.0) s (sym (slice_get-map symbol_of (entries parts) found.0) ∙ found.1) in
-      ap is_name (sym (name_of_entry x.0 s x.2)) ∙ get_all (λ e. is_name (name_of e.global) ≡ true) (entries parts) found.0 x.0 (entry_names 0 parts fine.good) x.1) (symbols_have parts)
+      ap is_name (sym (name_of_entry x.0 s x.2)) ∙ at_all (λ e. is_name (name_of e.global) ≡ true) (entries parts) found.0 x.0 (entry_names 0 parts fine.good) x.1) (symbols_have parts)
 
   linked_names : map name_of (linked_globals parts) ≡ map (λ r. r.1) (renaming parts)
   linked_names = map_map name_of (linked parts) (renaming parts) ∙ each (renaming parts)

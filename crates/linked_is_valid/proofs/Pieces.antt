@@ -39,7 +39,7 @@ all_append p (x ∷ xs) ys h k =
     let both = and_parts (p x) (list_all p xs) h in
     and_from (p x) _ both.0 (all_append p xs ys both.1 k)
 
-constants_after : (cs ds : Constants) → constants_of (after cs ds) ≡ constants_of cs ++ constants_of ds
+pub constants_after : (cs ds : Constants) → constants_of (after cs ds) ≡ constants_of cs ++ constants_of ds
 constants_after no_constants ds = refl
 constants_after (more_constants t c cs) ds = ap (λ l. constants_in t c ++ l) (constants_after cs ds) ∙ sym (append_assoc (constants_in t c) (constants_of cs) (constants_of ds))
 

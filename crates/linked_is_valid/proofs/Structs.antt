@@ -24,6 +24,7 @@ use Rattle.module_linker.specs.Linked.{link_result}
 use Rattle.module_linker.proofs.StructRows.{struct_row, new_name_is, same_shapes_are, body_is}
 use Rattle.linked_is_valid.proofs.Types.{has_struct, KeepsStructs}
 use Rattle.linked_is_valid.proofs.Known.{structs_closed}
+use Rattle.linked_is_valid.proofs.Entries.{some_same}
 
 abbrev pub kept : Bytes → Label
 kept name = Some name
@@ -67,10 +68,6 @@ name_more label bodies (suc room) name s h =
 
 -- A SHAPE IS THERE WITH NAMES WHERE IT IS THERE WITHOUT
 
-some_of : {A B : Type 0} (f : A → B) (o : Option A) → is_some (option_map f o) ≡ is_some o
-some_of f None = refl
-some_of f (Some x) = refl
-
 both_some : (a c : Option Shape) (b d : Option Shapes) → is_some a ≡ is_some c → is_some b ≡ is_some d → is_some (with_first a b) ≡ is_some (with_first c d)
 both_some None None b d e f = refl
 both_some None (Some y) b d e f = cc
@@ -86,8 +83,8 @@ module _ (look there : Bytes → Option Shape) (same : (name : Bytes) → is_som
     tree_some (int w) = refl
     tree_some ptr = refl
     tree_some void = refl
-    tree_some (array n t) = some_of (array_of n) (expanded look t) ∙ tree_some t ∙ sym (some_of (array_of n) (expanded there t))
-    tree_some (struct packed ts) = some_of (struct_of None packed) (all_expanded look ts) ∙ trees_some ts ∙ sym (some_of (struct_of None packed) (all_expanded there ts))
+    tree_some (array n t) = some_same (array_of n) (expanded look t) ∙ tree_some t ∙ sym (some_same (array_of n) (expanded there t))
+    tree_some (struct packed ts) = some_same (struct_of None packed) (all_expanded look ts) ∙ trees_some ts ∙ sym (some_same (struct_of None packed) (all_expanded there ts))
     tree_some (named name) = same name
 
     trees_some : (ts : Trees) → is_some (all_expanded look ts) ≡ is_some (all_expanded there ts)
@@ -96,7 +93,7 @@ module _ (look there : Bytes → Option Shape) (same : (name : Bytes) → is_som
 
   body_some : (l k : Label) (body : TreeBody) → is_some (body_shape look l body) ≡ is_some (body_shape there k body)
   body_some l k opaque_body = refl
-  body_some l k (fields packed ts) = some_of (struct_of l packed) (all_expanded look ts) ∙ trees_some ts ∙ sym (some_of (struct_of k packed) (all_expanded there ts))
+  body_some l k (fields packed ts) = some_same (struct_of l packed) (all_expanded look ts) ∙ trees_some ts ∙ sym (some_same (struct_of k packed) (all_expanded there ts))
 
 name_some : (bodies : Bytes → TreeBody) (room : ℕ) (name : Bytes) → is_some (name_shape kept bodies room name) ≡ is_some (name_shape unnamed bodies room name)
 name_some bodies zero name = ap is_some (name_shape-zero kept bodies name) ∙ sym (ap is_some (name_shape-zero unnamed bodies name))

@@ -16,12 +16,12 @@ use Rattle.linkage_rules.specs.declared.symbol.Symbol.TheVariants.{Local}
 use Rattle.module_linker.proofs.Apart.{Apart, apart_firsts, lookup_at}
 use Rattle.linkage_rules.specs.SymbolLaws.{name_self}
 use Rattle.module_linker.proofs.Symbols.{all_firsts}
-use Rattle.module_linker.proofs.ByKind.{get_all}
 use Rattle.module_linker.proofs.Agreed.{all_from_at}
 use Rattle.module_linker.specs.Rename.{name_or}
 use Rattle.module_linker.specs.Structs.{structs_from, struct_symbols, same_struct, struct_map, new_struct, linked_struct}
 use Rattle.module_linker.specs.Linked.{link_result}
 use Rattle.module_linker.proofs.StructRows.{Key, same_key, key_self, key_exact, key, first_keys, first_structs, struct_keys}
+use Rattle.module_linker.proofs.Searches.{at_all}
 use Rattle.linked_is_valid.specs.Laws.{AreLinkable}
 use Rattle.linked_is_valid.proofs.Lists.{map_map, all_follow, all_tests, all_tested, all_of_map}
 use Rattle.linked_is_valid.proofs.Types.{has_struct}
@@ -91,7 +91,7 @@ module _ (parts : List Module) (fine : AreLinkable parts) where
   row_good : (k : ℕ) (r : Symbol × Bytes) → slice_get (struct_map parts) k ≡ Some r → IsGoodRow (linked_struct parts r)
   row_good k r at =
       let place : slice_get (first_structs parts) k ≡ Some r.0 = ap (λ l. slice_get l k) (sym (struct_keys parts)) ∙ slice_get-map (λ q. q.0) (struct_map parts) k ∙ ap (option_map (λ q. q.0)) at in
-      let of_part = get_all (IsStructOf (part_at parts)) (first_structs parts) k r.0 (all_firsts _ (same_struct parts) (struct_symbols parts) symbols_are) place in
+      let of_part = at_all (IsStructOf (part_at parts)) (first_structs parts) k r.0 (all_firsts _ (same_struct parts) (struct_symbols parts) symbols_are) place in
       let i = of_part.part in
       let good = (good_at parts fine i).structs in
       let old = struct_good (structs_at parts i) (structs_at parts i) of_part.name good of_part.there in

@@ -1,5 +1,5 @@
 -- What an alias is of is in the linked module such a definition still.
-use Rattle.std.proofs.Common.{◌≡◌, ℕ, zero, suc, Bool, true, false, not, ◌||◌, ◌⊎◌, inl, inr, List, [], ◌∷◌, ◌++◌, map, filter_map, Option, Some, None, refl, sym, ap, ap₂, ◌∙◌, subst, option_map, is_some, bytes_eq}
+use Rattle.std.proofs.Common.{◌≡◌, ℕ, zero, suc, Bool, true, false, not, ◌⊎◌, inl, inr, List, [], ◌∷◌, ◌++◌, map, filter_map, Option, Some, None, refl, sym, ap, ap₂, ◌∙◌, subst, option_map, is_some, bytes_eq}
 use Rattle.std.specs.Prelude.{slice_get}
 use Rattle.std.specs.List.{list_any, list_all}
 use Rattle.std.proofs.lemmas.Bool.{and_from, and_parts, or_left, or_right, cases_Bool, both_ways, cond-true, cond-false}
@@ -30,6 +30,7 @@ use Rattle.linked_is_valid.proofs.Renaming.{good_at, entries_hold, row_of_name, 
 use Rattle.linked_is_valid.proofs.Callees.{entry_where, local_symbol, shared_symbol, any_front, any_back}
 use Rattle.linked_is_valid.proofs.Strong.{one_entry, lasting_home}
 use Rattle.linked_is_valid.proofs.LinkedRows.{TargetsKept}
+use Rattle.linked_is_valid.proofs.Linking.{any_key}
 
 -- a definition of that name, variable or function, that is external, private or internal
 abbrev lasts : Bool → Bytes → Global → Bool
@@ -37,19 +38,15 @@ lasts true name (OfVariable v) = is_lasting_variable name v
 lasts false name (OfFunction f) = is_lasting_function name f
 lasts _ name _ = false
 
-pub any_map : {A B : Type 0} (f : A → B) (test : B → Bool) (xs : List A) → list_any test (map f xs) ≡ list_any (λ x. test (f x)) xs
-any_map f test [] = refl
-any_map f test (x ∷ xs) = ap (λ b. test (f x) || b) (any_map f test xs)
-
 variable_lasts : (m : Module) (name : Bytes) → list_any (is_lasting_variable name) m.variables ≡ true → list_any (lasts true name) (globals m) ≡ true
 variable_lasts m name h =
     any_front (lasts true name) (map OfVariable m.variables ++ map OfFunction m.functions) (map OfAlias m.aliases)
-    (any_front (lasts true name) (map OfVariable m.variables) (map OfFunction m.functions) (any_map OfVariable (lasts true name) m.variables ∙ h))
+    (any_front (lasts true name) (map OfVariable m.variables) (map OfFunction m.functions) (any_key OfVariable (lasts true name) m.variables ∙ h))
 
 function_lasts : (m : Module) (name : Bytes) → list_any (is_lasting_function name) m.functions ≡ true → list_any (lasts false name) (globals m) ≡ true
 function_lasts m name h =
     any_front (lasts false name) (map OfVariable m.variables ++ map OfFunction m.functions) (map OfAlias m.aliases)
-    (any_back (lasts false name) (map OfVariable m.variables) (map OfFunction m.functions) (any_map OfFunction (lasts false name) m.functions ∙ h))
+    (any_back (lasts false name) (map OfVariable m.variables) (map OfFunction m.functions) (any_key OfFunction (lasts false name) m.functions ∙ h))
 
 -- such a thing in the linked module
 variable_lasts_there : (name : Bytes) (gs : List Global) (k : ℕ) (g : Global) → slice_get gs k ≡ Some g → lasts true name g ≡ true → list_any (is_lasting_variable name) (filter_map variable_if gs) ≡ true

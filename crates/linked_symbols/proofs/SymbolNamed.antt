@@ -10,6 +10,7 @@ use Rattle.linkage_rules.specs.declared.symbol.Symbol.TheVariants.{Shared, Local
 use Rattle.linkage_rules.specs.Entries.{same_symbol, symbol_of, entries, symbol_in}
 use Rattle.linkage_rules.specs.Grouped.{Rows, group_in, AreGroups}
 use Rattle.linkage_rules.specs.Ids.{modules, seen}
+use Rattle.linked_symbols.proofs.PartNames.{length_mapped}
 
 more_than_none : (n : ℕ) → (suc n == 0) ≡ false
 more_than_none n = false_from_ne_true (suc n == 0) (λ e. let none : suc n ≡ 0 = eqb-true (suc n) 0 e in omega (arith, none))
@@ -21,10 +22,6 @@ any_filtered p f (x ∷ xs) = go (p (f x)) (any_filtered p f xs)
     go : (b : Bool) → list_any p (map f xs) ≡ not (length (filter (λ y. p (f y)) xs) == 0) → (b || list_any p (map f xs)) ≡ not (length (cond b (x ∷ filter (λ y. p (f y)) xs) (filter (λ y. p (f y)) xs)) == 0)
     go true e = sym (ap not (more_than_none (length (filter (λ y. p (f y)) xs))))
     go false e = e
-
-length_mapped : {A B : Type 0} (f : A → B) (xs : List A) → length (map f xs) ≡ length xs
-length_mapped f [] = refl
-length_mapped f (x ∷ xs) = ap suc (length_mapped f xs)
 
 turned : {A : Type 0} (b : Bool) (x y : A) → cond b x y ≡ cond (not b) y x
 turned true x y = refl

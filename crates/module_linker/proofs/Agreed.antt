@@ -87,7 +87,7 @@ any_split test f p (x ∷ xs) h = go (p x) refl (or_cases (test (f x)) _ h) (any
     go false e (inl h) more = rw e (any_middle test (map f (filter p xs)) (f x) (map f (filter (λ y. not (p y)) xs)) (inl h))
     go false e (inr h) more = rw e (any_middle test (map f (filter p xs)) (f x) (map f (filter (λ y. not (p y)) xs)) (inr (more h)))
 
-any_left : {A : Type 0} (test : A → Bool) (xs ys : List A) → list_any test xs ≡ true → list_any test (xs ++ ys) ≡ true
+pub any_left : {A : Type 0} (test : A → Bool) (xs ys : List A) → list_any test xs ≡ true → list_any test (xs ++ ys) ≡ true
 any_left test [] ys h = cc
 any_left test (x ∷ xs) ys h = go (or_cases (test x) _ h) (any_left test xs ys)
   where
@@ -95,7 +95,7 @@ any_left test (x ∷ xs) ys h = go (or_cases (test x) _ h) (any_left test xs ys)
     go (inl k) more = or_left _ _ k
     go (inr k) more = or_right (test x) _ (more k)
 
-any_right : {A : Type 0} (test : A → Bool) (xs ys : List A) → list_any test ys ≡ true → list_any test (xs ++ ys) ≡ true
+pub any_right : {A : Type 0} (test : A → Bool) (xs ys : List A) → list_any test ys ≡ true → list_any test (xs ++ ys) ≡ true
 any_right test [] ys h = h
 any_right test (x ∷ xs) ys h = or_right (test x) _ (any_right test xs ys h)
 

@@ -1,10 +1,9 @@
 -- Where no two entries are of one symbol, the symbols are those of the entries, kind by kind.
-use Rattle.std.proofs.Common.{◌≡◌, ℕ, zero, suc, Bool, true, false, not, cond, ◌||◌, List, [], ◌∷◌, ◌++◌, map, Some, None, refl, sym, ap, ap₂, ◌∙◌, subst, filter}
+use Rattle.std.proofs.Common.{◌≡◌, ℕ, Bool, true, false, not, cond, ◌||◌, List, [], ◌∷◌, ◌++◌, map, Some, None, refl, sym, ap, ap₂, ◌∙◌, filter}
 use Rattle.std.specs.Prelude.{slice_get}
 use Rattle.std.specs.Option.{option_map_or}
 use Rattle.std.specs.List.{list_any, AllByRecursion}
 use Rattle.std.proofs.lemmas.Bool.{cond-true, cond-false}
-use Rattle.std.proofs.lemmas.Option.{same_Some}
 use Rattle.module_arena.specs.Module.{Module}
 use Rattle.linkage_rules.specs.Globals.{is_variable, is_alias}
 use Rattle.linkage_rules.specs.Lists.{firsts}
@@ -16,6 +15,7 @@ use Rattle.linkage_rules.specs.SymbolLaws.{symbol_self, symbol_exact}
 use Rattle.module_linker.proofs.Symbols.{any_map_filter, all_map, all_append}
 use Rattle.linkage_rules.proofs.Entries.{all_passing, all_follow}
 use Rattle.module_linker.proofs.Agreed.{all_from_at}
+use Rattle.module_linker.proofs.Searches.{at_all}
 
 -- LISTS
 
@@ -67,11 +67,6 @@ pick_back p (x ∷ xs) ys a b =
     let rest = pick_back p xs ys a.1 b in
     (cond-true (not (p x)) _ _ (ap not a.0) ∙ ap (λ l. x ∷ l) rest.0, cond-false (p x) _ _ a.0 ∙ rest.1)
 
-pub get_all : {A : Type 0} (P : A → Type 0) (xs : List A) (k : ℕ) (x : A) → AllByRecursion P xs → slice_get xs k ≡ Some x → P x
-get_all P [] k x a h = cc
-get_all P (y ∷ xs) zero x a h = subst P (same_Some y x h) a.0
-get_all P (y ∷ xs) (suc k) x a h = get_all P xs k x a.1 h
-
 -- ENTRIES
 
 -- an alias is a definition
@@ -98,7 +93,7 @@ module _ (parts : List Module) (apart : Apart same_symbol (map symbol_of (entrie
 
   module _ (define : AliasesDefine (entries parts)) where
     aliases_alone : AllByRecursion (λ e. is_alias_symbol parts (symbol_of e) ≡ is_alias e.global) (entries parts)
-    aliases_alone = all_from_at _ (entries parts) (λ k e h. ap (λ o. option_map_or (λ (d : Entry). is_alias d.global) o false) (home_alone k e h) ∙ go e (is_alias e.global) refl (get_all (λ d. is_alias d.global ≡ true → is_definition d ≡ true) (entries parts) k e define h))
+    aliases_alone = all_from_at _ (entries parts) (λ k e h. ap (λ o. option_map_or (λ (d : Entry). is_alias d.global) o false) (home_alone k e h) ∙ go e (is_alias e.global) refl (at_all (λ d. is_alias d.global ≡ true → is_definition d ≡ true) (entries parts) k e define h))
       where
         go : (e : Entry) (b : Bool) → is_alias e.global ≡ b → (is_alias e.global ≡ true → is_definition e ≡ true) → option_map_or (λ (d : Entry). is_alias d.global) (cond (is_definition e) (Some e) None) false ≡ is_alias e.global
         go e true t d = ap (λ o. option_map_or (λ (x : Entry). is_alias x.global) o false) (cond-true (is_definition e) (Some e) None (d t))

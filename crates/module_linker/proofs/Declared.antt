@@ -1,5 +1,5 @@
 -- A name that a part has an entry for is of a symbol.
-use Rattle.std.proofs.Common.{◌≡◌, ℕ, zero, suc, ◌+◌, Bool, true, false, ◌&&◌, ◌⊎◌, inl, inr, List, [], ◌∷◌, ◌++◌, map, refl, sym, ap, ap₂, ◌∙◌, subst, nat_eq, bytes_eq, arith}
+use Rattle.std.proofs.Common.{◌≡◌, ℕ, zero, suc, ◌+◌, Bool, true, false, ◌&&◌, ◌⊎◌, inl, inr, List, [], ◌∷◌, map, refl, sym, ap, ap₂, ◌∙◌, subst, nat_eq, bytes_eq, arith}
 use Rattle.std.specs.Prelude.{slice_index_or}
 use Rattle.std.specs.List.{list_any}
 use Rattle.std.proofs.lemmas.Bool.{or_left, or_right, or_cases, and_from, and_parts, cond-true, cond-false, both_ways, eqb-true}
@@ -12,7 +12,7 @@ use Rattle.linkage_rules.specs.Entries.{Entry, entries_from, entries, part_at, s
 use Rattle.linkage_rules.specs.declared.symbol.Symbol.TheVariants.{Shared, Local}
 use Rattle.linkage_rules.specs.Symbols.{symbols}
 use Rattle.linkage_rules.specs.SymbolLaws.{name_exact, symbol_self}
-use Rattle.module_linker.proofs.Agreed.{is_symbol}
+use Rattle.module_linker.proofs.Agreed.{is_symbol, any_left, any_right}
 
 -- part i has an entry of the name
 abbrev pub HasEntry : List Module → ℕ → Bytes → Type 0
@@ -20,18 +20,6 @@ HasEntry parts i name = list_any (λ g. bytes_eq name (name_of g)) (globals (par
 
 abbrev stands : ℕ → Bytes → Entry → Bool
 stands i name e = nat_eq i e.part && bytes_eq name (name_of e.global)
-
-any_front : {A : Type 0} (test : A → Bool) (xs ys : List A) → list_any test xs ≡ true → list_any test (xs ++ ys) ≡ true
-any_front test [] ys h = cc
-any_front test (x ∷ xs) ys h = go (or_cases (test x) _ h) (any_front test xs ys)
-  where
-    go : (test x ≡ true) ⊎ (list_any test xs ≡ true) → (list_any test xs ≡ true → list_any test (xs ++ ys) ≡ true) → list_any test (x ∷ xs ++ ys) ≡ true
-    go (inl k) more = or_left _ _ k
-    go (inr k) more = or_right (test x) _ (more k)
-
-any_back : {A : Type 0} (test : A → Bool) (xs ys : List A) → list_any test ys ≡ true → list_any test (xs ++ ys) ≡ true
-any_back test [] ys h = h
-any_back test (x ∷ xs) ys h = or_right (test x) _ (any_back test xs ys h)
 
 in_part : (i : ℕ) (name : Bytes) (gs : List Global) → list_any (λ g. bytes_eq name (name_of g)) gs ≡ true → list_any (stands i name) (map (λ g. let e : Entry = record { part = i; global = g } in e) gs) ≡ true
 in_part i name [] h = cc
@@ -45,10 +33,10 @@ entry_there : (j : ℕ) (ms : List Module) (i : ℕ) (name : Bytes) → list_any
 entry_there j [] i name h = cc
 entry_there j (m ∷ ms) zero name h =
     let same : j + 0 ≡ j = omega arith in
-    subst (λ n. list_any (stands n name) (entries_from j (m ∷ ms)) ≡ true) (sym same) (any_front (stands j name) _ (entries_from (suc j) ms) (in_part j name (globals m) h))
+    subst (λ n. list_any (stands n name) (entries_from j (m ∷ ms)) ≡ true) (sym same) (any_left (stands j name) _ (entries_from (suc j) ms) (in_part j name (globals m) h))
 entry_there j (m ∷ ms) (suc i) name h =
     let same : j + suc i ≡ suc j + i = omega arith in
-    subst (λ n. list_any (stands n name) (entries_from j (m ∷ ms)) ≡ true) (sym same) (any_back (stands (suc j + i) name) _ (entries_from (suc j) ms) (entry_there (suc j) ms i name h))
+    subst (λ n. list_any (stands n name) (entries_from j (m ∷ ms)) ≡ true) (sym same) (any_right (stands (suc j + i) name) _ (entries_from (suc j) ms) (entry_there (suc j) ms i name h))
 
 either : (i : ℕ) (name : Bytes) (es : List Entry) → list_any (stands i name) es ≡ true → (has same_symbol (map symbol_of es) (Local i name) ≡ true) ⊎ (has same_symbol (map symbol_of es) (Shared name) ≡ true)
 either i name [] h = cc

@@ -17,7 +17,8 @@ use Rattle.linkage_rules.specs.SymbolLaws.{name_exact, name_self}
 use Rattle.module_linker.specs.Structs.{structs_from, struct_symbols}
 use Rattle.module_linker.specs.Known.{KnownTree, KnownTrees}
 use Rattle.module_linker.proofs.SameShapes.{KnownBody, StructsFine}
-use Rattle.module_linker.proofs.Parts.{all_true, any_first, any_last, structs_by}
+use Rattle.module_linker.proofs.Parts.{all_true, structs_by}
+use Rattle.module_linker.proofs.Agreed.{any_left, any_right}
 
 in_structs : (j : ℕ) (name : Bytes) (ss : Structs) → list_any (λ s. bytes_eq s.0 name) ss ≡ true → list_any (same_symbol (Local j name)) (map (λ (s : Bytes × TreeBody). Local j s.0) ss) ≡ true
 in_structs j name [] h = cc
@@ -32,10 +33,10 @@ structs_there : (ms : List Module) (j i : ℕ) (name : Bytes) → list_any (λ s
 structs_there [] j i name h = cc
 structs_there (m ∷ ms) j zero name h =
     let same : j + 0 ≡ j = omega arith in
-    subst (λ n. list_any (same_symbol (Local n name)) (structs_from j (m ∷ ms)) ≡ true) (sym same) (any_first (same_symbol (Local j name)) (map {B = Symbol} (λ (s : Bytes × TreeBody). Local j s.0) m.structs) (structs_from (suc j) ms) (in_structs j name m.structs h))
+    subst (λ n. list_any (same_symbol (Local n name)) (structs_from j (m ∷ ms)) ≡ true) (sym same) (any_left (same_symbol (Local j name)) (map {B = Symbol} (λ (s : Bytes × TreeBody). Local j s.0) m.structs) (structs_from (suc j) ms) (in_structs j name m.structs h))
 structs_there (m ∷ ms) j (suc i) name h =
     let same : j + suc i ≡ suc j + i = omega arith in
-    subst (λ n. list_any (same_symbol (Local n name)) (structs_from j (m ∷ ms)) ≡ true) (sym same) (any_last (same_symbol (Local (suc j + i) name)) (map {B = Symbol} (λ (s : Bytes × TreeBody). Local j s.0) m.structs) (structs_from (suc j) ms) (structs_there ms (suc j) i name h))
+    subst (λ n. list_any (same_symbol (Local n name)) (structs_from j (m ∷ ms)) ≡ true) (sym same) (any_right (same_symbol (Local (suc j + i) name)) (map {B = Symbol} (λ (s : Bytes × TreeBody). Local j s.0) m.structs) (structs_from (suc j) ms) (structs_there ms (suc j) i name h))
 
 module _ (parts : List Module) (i : ℕ) where
   struct_known : (name : Bytes) → list_any (λ s. bytes_eq s.0 name) (structs_at parts i) ≡ true → list_any (same_symbol (Local i name)) (struct_symbols parts) ≡ true

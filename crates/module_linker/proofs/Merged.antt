@@ -65,7 +65,7 @@ local_new m (r ∷ rows) h =
     let parts = or_parts (bytes_eq m r.1) _ h in
     or_from _ _ (local_differs r.0 m r.1 parts.0) (local_new m rows parts.1)
 
-other_name : (m n : Bytes) → bytes_eq m n ≡ false → bytes_eq n m ≡ false
+pub other_name : (m n : Bytes) → bytes_eq m n ≡ false → bytes_eq n m ≡ false
 other_name m n h = false_from_ne_true _ (λ e. both_ways _ h (subst (λ z. bytes_eq z n ≡ true) (name_exact n m e) (name_self n)))
 
 -- the name of a shared symbol is no local one's

@@ -9,7 +9,7 @@ use Rattle.linkage_rules.specs.Entries.{part_at}
 use Rattle.linkage_rules.specs.Globals.{Global, OfVariable, OfFunction, OfAlias, name_of, globals}
 use Rattle.module_linker.specs.Known.{KnownName}
 use Rattle.module_linker.proofs.Declared.{is_declared}
-use Rattle.module_linker.proofs.Parts.{any_first, any_last}
+use Rattle.module_linker.proofs.Agreed.{any_left, any_right}
 
 named_by : {A : Type 0} (of_it : A → Global) (name_in : A → Bytes) → ((x : A) → name_of (of_it x) ≡ name_in x) → (name : Bytes) (xs : List A) → list_any (bytes_eq name) (map name_in xs) ≡ true → list_any (λ g. bytes_eq name (name_of g)) (map of_it xs) ≡ true
 named_by of_it name_in same name [] h = cc
@@ -35,15 +35,15 @@ entry_named : (m : Module) (name : Bytes) → has_entry m name ≡ true → list
 entry_named m name h = by_variable (any_parts (bytes_eq name) (variable_names m) (alias_names m ++ function_names m) h)
   where
     by_alias : (list_any (bytes_eq name) (alias_names m) ≡ true) ⊎ (list_any (bytes_eq name) (function_names m) ≡ true) → list_any (λ g. bytes_eq name (name_of g)) (globals m) ≡ true
-    by_alias (inl k) = any_last (λ g. bytes_eq name (name_of g)) (map OfVariable m.variables ++ map OfFunction m.functions) (map OfAlias m.aliases) (named_by OfAlias (λ a. a.name) (λ a. refl) name m.aliases k)
+    by_alias (inl k) = any_right (λ g. bytes_eq name (name_of g)) (map OfVariable m.variables ++ map OfFunction m.functions) (map OfAlias m.aliases) (named_by OfAlias (λ a. a.name) (λ a. refl) name m.aliases k)
     by_alias (inr k) =
-        any_first (λ g. bytes_eq name (name_of g)) (map OfVariable m.variables ++ map OfFunction m.functions) (map OfAlias m.aliases)
-        (any_last (λ g. bytes_eq name (name_of g)) (map OfVariable m.variables) (map OfFunction m.functions) (named_by OfFunction (λ f. f.name) (λ f. refl) name m.functions k))
+        any_left (λ g. bytes_eq name (name_of g)) (map OfVariable m.variables ++ map OfFunction m.functions) (map OfAlias m.aliases)
+        (any_right (λ g. bytes_eq name (name_of g)) (map OfVariable m.variables) (map OfFunction m.functions) (named_by OfFunction (λ f. f.name) (λ f. refl) name m.functions k))
 
     by_variable : (list_any (bytes_eq name) (variable_names m) ≡ true) ⊎ (list_any (bytes_eq name) (alias_names m ++ function_names m) ≡ true) → list_any (λ g. bytes_eq name (name_of g)) (globals m) ≡ true
     by_variable (inl k) =
-        any_first (λ g. bytes_eq name (name_of g)) (map OfVariable m.variables ++ map OfFunction m.functions) (map OfAlias m.aliases)
-        (any_first (λ g. bytes_eq name (name_of g)) (map OfVariable m.variables) (map OfFunction m.functions) (named_by OfVariable (λ v. v.name) (λ v. refl) name m.variables k))
+        any_left (λ g. bytes_eq name (name_of g)) (map OfVariable m.variables ++ map OfFunction m.functions) (map OfAlias m.aliases)
+        (any_left (λ g. bytes_eq name (name_of g)) (map OfVariable m.variables) (map OfFunction m.functions) (named_by OfVariable (λ v. v.name) (λ v. refl) name m.variables k))
     by_variable (inr k) = by_alias (any_parts (bytes_eq name) (alias_names m) (function_names m) k)
 
 -- a name that well-formedness finds in a part is one of a symbol

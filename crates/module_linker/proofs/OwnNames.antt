@@ -1,5 +1,5 @@
 -- The names of a single module stay.
-use Rattle.std.proofs.Common.{◌≡◌, ℕ, Bool, true, false, cond, List, [], ◌∷◌, map, refl, sym, ap, ◌∙◌, subst, filter, not, bytes_eq}
+use Rattle.std.proofs.Common.{◌≡◌, ℕ, Bool, true, false, cond, List, [], ◌∷◌, map, refl, sym, ap, ◌∙◌, filter, not, bytes_eq}
 use Rattle.std.specs.List.{list_any, AllByRecursion}
 use Rattle.std.specs.Map.{lookup}
 use Rattle.std.proofs.lemmas.Bool.{or_from, or_parts, and_parts, cond-true, cond-false, both_ways, false_from_ne_true}
@@ -12,11 +12,8 @@ use Rattle.linkage_rules.specs.Symbols.{symbols}
 use Rattle.module_linker.specs.Rename.{new_name, with_given_names, shared_names, all_names, base_of, renaming, name_or, new_global}
 use Rattle.module_linker.specs.Structs.{struct_symbols, same_struct, struct_map, new_struct}
 use Rattle.module_linker.proofs.Apart.{Apart, all_left}
-use Rattle.linkage_rules.specs.SymbolLaws.{name_self, name_exact, symbol_exact}
-use Rattle.module_linker.proofs.Merged.{Row}
-
-other_way : (m n : Bytes) → bytes_eq m n ≡ false → bytes_eq n m ≡ false
-other_way m n h = false_from_ne_true _ (λ e. both_ways _ h (subst (λ z. bytes_eq z n ≡ true) (name_exact n m e) (name_self n)))
+use Rattle.linkage_rules.specs.SymbolLaws.{name_exact, symbol_exact}
+use Rattle.module_linker.proofs.Merged.{Row, other_name}
 
 -- a symbol by its name
 abbrev pub self_named : Symbol → Row
@@ -32,7 +29,7 @@ still_free given n [] h a = tt
 still_free given n (Shared m ∷ ss) h a = (tt, still_free given n ss (or_parts (bytes_eq n m) _ h).1 a.1)
 still_free given n (Local i m ∷ ss) h a =
     let halves = or_parts (bytes_eq n m) _ h in
-    (or_from (bytes_eq m n) _ (other_way n m halves.0) a.0, still_free given n ss halves.1 a.1)
+    (or_from (bytes_eq m n) _ (other_name n m halves.0) a.0, still_free given n ss halves.1 a.1)
 
 -- where no name is taken each symbol keeps its own
 pub names_stay : (base : Bytes → Bytes) (everywhere given : List Bytes) (ss : List Symbol) → Apart bytes_eq (map symbol_name ss) → AllByRecursion (IsFree given) ss → with_given_names base everywhere given ss ≡ map self_named ss

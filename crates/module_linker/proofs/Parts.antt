@@ -1,9 +1,8 @@
 -- What holds in each part holds of all entries and of all structs.
-use Rattle.std.proofs.Common.{◌≡◌, ℕ, suc, ◌+◌, Bool, true, List, [], ◌∷◌, ◌++◌, map, Some, refl, sym, ◌∙◌, subst, flat_map, arith}
+use Rattle.std.proofs.Common.{◌≡◌, ℕ, suc, ◌+◌, Bool, true, List, [], ◌∷◌, ◌++◌, map, Some, refl, sym, subst, flat_map, arith}
 use Rattle.std.specs.Prelude.{slice_get}
-use Rattle.std.specs.List.{list_any, list_all, AllByRecursion}
-use Rattle.std.proofs.lemmas.Bool.{and_parts, and_from, or_left, or_right}
-use Rattle.std.proofs.lemmas.List.Folds.{list_any-append}
+use Rattle.std.specs.List.{list_all, AllByRecursion}
+use Rattle.std.proofs.lemmas.Bool.{and_parts, and_from}
 use Rattle.type_table.specs.Tree.{TreeBody}
 use Rattle.module_arena.specs.Module.{Bytes, Module, empty_module}
 use Rattle.linkage_rules.specs.Entries.{Entry, entries_from, entries, part_at, symbol_name}
@@ -30,12 +29,6 @@ all_halves p (x ∷ xs) ys h =
 pub all_flat_true : {A B : Type 0} (p : B → Bool) (f : A → List B) (xs : List A) → list_all p (flat_map f xs) ≡ true → AllByRecursion (λ x. list_all p (f x) ≡ true) xs
 all_flat_true p f [] h = tt
 all_flat_true p f (x ∷ xs) h = let halves = all_halves p (f x) (flat_map f xs) h in (halves.0, all_flat_true p f xs halves.1)
-
-pub any_first : {A : Type 0} (p : A → Bool) (xs ys : List A) → list_any p xs ≡ true → list_any p (xs ++ ys) ≡ true
-any_first p xs ys h = list_any-append p xs ys ∙ or_left (list_any p xs) (list_any p ys) h
-
-pub any_last : {A : Type 0} (p : A → Bool) (xs ys : List A) → list_any p ys ≡ true → list_any p (xs ++ ys) ≡ true
-any_last p xs ys h = list_any-append p xs ys ∙ or_right (list_any p xs) (list_any p ys) h
 
 -- ENTRIES
 

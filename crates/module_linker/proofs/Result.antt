@@ -19,22 +19,10 @@ use Rattle.module_linker.proofs.Names.{keys_named}
 use Rattle.module_linker.proofs.Merged.{Row, as_row, rows_apart, given_after, variable_rows, function_rows, alias_rows, renaming_split, keys, names, linked_is_alias, linked_is_alias_none, entry_by, row_entry, linked_symbol, linked_kind}
 use Rattle.module_linker.proofs.Moved.{moved_defines}
 use Rattle.module_linker.proofs.Sorted.{IsVariable, IsFunction, by_kind, sorted}
-use Rattle.module_linker.proofs.Searches.{map_map}
+use Rattle.module_linker.proofs.Searches.{map_map, all_front, all_back, all_both}
 use Rattle.module_linker.specs.Carried.{merged}
 
 -- LISTS
-
-all_front : {A : Type 0} (P : A → Type 0) (xs ys : List A) → AllByRecursion P (xs ++ ys) → AllByRecursion P xs
-all_front P [] ys a = tt
-all_front P (x ∷ xs) ys a = (a.0, all_front P xs ys a.1)
-
-all_back : {A : Type 0} (P : A → Type 0) (xs ys : List A) → AllByRecursion P (xs ++ ys) → AllByRecursion P ys
-all_back P [] ys a = a
-all_back P (x ∷ xs) ys a = all_back P xs ys a.1
-
-all_both : {A : Type 0} (P Q : A → Type 0) (xs : List A) → AllByRecursion P xs → AllByRecursion Q xs → AllByRecursion (λ x. P x × Q x) xs
-all_both P Q [] a b = tt
-all_both P Q (x ∷ xs) a b = ((a.0, b.0), all_both P Q xs a.1 b.1)
 
 -- what holds of the keys holds of the rows
 pub rows_from : (P : Symbol → Type 0) (rows : List Row) (ss : List Symbol) → map (λ r. r.0) rows ≡ ss → AllByRecursion P ss → AllByRecursion (λ r. P r.0) rows

@@ -16,7 +16,7 @@ use Rattle.linkage_rules.specs.Lists.{has}
 use Rattle.linkage_rules.specs.Winner.{is_definition, gives_way, better, best, home}
 use Rattle.module_linker.proofs.Symbols.{GoTogether, local_home}
 use Rattle.linkage_rules.specs.SymbolLaws.{name_exact, name_self, symbol_self}
-use Rattle.module_linker.proofs.Parts.{any_first, any_last}
+use Rattle.module_linker.proofs.Agreed.{any_left, any_right}
 
 lasting_stays : (l : Linkage) → is_lasting l ≡ true → not (is_available_externally l) ≡ true
 lasting_stays External h = refl
@@ -41,15 +41,15 @@ other_name m n h = subst (λ x. bytes_eq n x ≡ true) (sym (name_exact m n h)) 
 
 target_there : (m : Module) (t : AliasType) (name : Bytes) → target_suits m t name ≡ true → list_any (defines name) (globals m) ≡ true
 target_there m (PlainType ty) name h =
-    any_first (defines name) (map OfVariable m.variables ++ map OfFunction m.functions) (map OfAlias m.aliases)
-    (any_first (defines name) (map OfVariable m.variables) (map OfFunction m.functions)
+    any_left (defines name) (map OfVariable m.variables ++ map OfFunction m.functions) (map OfAlias m.aliases)
+    (any_left (defines name) (map OfVariable m.variables) (map OfFunction m.functions)
     (any_to (is_lasting_variable name) (defines name) OfVariable m.variables
     (λ v k. let halves = and_parts (bytes_eq v.name name) _ k in
     let rest = and_parts (is_some v.initialiser) _ halves.1 in
     and_from _ _ (other_name v.name name halves.0) (and_from _ _ rest.0 (lasting_stays v.linkage rest.1))) h))
 target_there m (FunctionType signature) name h =
-    any_first (defines name) (map OfVariable m.variables ++ map OfFunction m.functions) (map OfAlias m.aliases)
-    (any_last (defines name) (map OfVariable m.variables) (map OfFunction m.functions)
+    any_left (defines name) (map OfVariable m.variables ++ map OfFunction m.functions) (map OfAlias m.aliases)
+    (any_right (defines name) (map OfVariable m.variables) (map OfFunction m.functions)
     (any_to (is_lasting_function name) (defines name) OfFunction m.functions
     (λ f k. let halves = and_parts (bytes_eq f.name name) _ k in
     let rest = and_parts (is_some f.body) _ halves.1 in
@@ -65,12 +65,12 @@ module _ (q : Global → Bool) where
   entry_there (m ∷ ms) j zero h =
       let same : j + 0 ≡ j = omega arith in
       subst (λ n. list_any (stands n) (entries_from j (m ∷ ms)) ≡ true) (sym same)
-      (any_first (stands j) (map {B = Entry} (λ g. record { part = j; global = g }) (globals m)) (entries_from (suc j) ms)
+      (any_left (stands j) (map {B = Entry} (λ g. record { part = j; global = g }) (globals m)) (entries_from (suc j) ms)
       (any_to q (stands j) (λ g. record { part = j; global = g }) (globals m) (λ g k. and_from _ _ (nat_eq_equiv.refl j) k) h))
   entry_there (m ∷ ms) j (suc i) h =
       let same : j + suc i ≡ suc j + i = omega arith in
       subst (λ n. list_any (stands n) (entries_from j (m ∷ ms)) ≡ true) (sym same)
-      (any_last (stands (suc j + i)) (map {B = Entry} (λ g. record { part = j; global = g }) (globals m)) (entries_from (suc j) ms) (entry_there ms (suc j) i h))
+      (any_right (stands (suc j + i)) (map {B = Entry} (λ g. record { part = j; global = g }) (globals m)) (entries_from (suc j) ms) (entry_there ms (suc j) i h))
 
 best_some : (parts : List Module) (e : Entry) (es : List Entry) → is_some (best parts (e ∷ es)) ≡ true
 best_some parts e es = go (best parts es)

@@ -11,15 +11,14 @@ use Rattle.type_table.specs.Shape.{shape}
 use Rattle.type_table.specs.Tree.{TreeBody, opaque_body, fields, named, Structs, body_of}
 use Rattle.type_table.specs.Measures.{Measures}
 use Rattle.module_arena.specs.Module.{Bytes}
-use Rattle.name_rules.specs.declared.fault.ResolveFault.{ResolveFault}
 use Rattle.name_rules.specs.declared.fault.ResolveFault.TheVariants as faults
 use Rattle.name_rules.specs.Written.{type_in, types_in, body_in}
 use Rattle.name_rules.specs.ModuleOf.{structs_in}
 use Rattle.name_rules.specs.Measured.{names_of, contains_itself}
-use Rattle.name_rules.specs.Demand.{Demand, first_refusal, first_there, is_new, is_small, is_deep, is_large}
+use Rattle.name_rules.specs.Demand.{Demand, first_refusal, is_new, is_small, is_deep, is_large}
 use Rattle.name_rules.specs.TypeDemands.{Known, struct_measured, type_demands, types_demands, body_types, have_past, ends, struct_type_demands}
 use Rattle.name_rules.specs.Breaks.{known_in, item_demands, demands_behind, demands, too_many, first_break}
-use Rattle.name_rules.proofs.Judging.{held, both_hold}
+use Rattle.name_rules.proofs.Judging.{held, both_hold, there_none}
 use Rattle.name_rules.proofs.Levels.{level, first_none, settled}
 use Rattle.name_rules.proofs.Cycles.{Has}
 use Rattle.name_rules.proofs.Walks.{has_name, none_first, every_measured}
@@ -126,10 +125,6 @@ module _ (items : List ItemTree) (e : first_refusal (demands items) ≡ None) wh
   -- all structs are within the limits
   pub structs_fine : EachStruct (StructWithin (structs_in items)) (structs_in items)
   structs_fine = all_fine (known_in items) (StructWithin (structs_in items)) fine_within [] items e
-
-there_none : (x y : Option ResolveFault) → first_there x y ≡ None → (x ≡ None) × (y ≡ None)
-there_none None y e = (refl, e)
-there_none (Some f) y e = absurd cc
 
 -- items that break nowhere have few entries, and ask for nothing in vain
 pub unbroken : (items : List ItemTree) → first_break items ≡ None → (too_many items ≡ None) × (first_refusal (demands items) ≡ None)

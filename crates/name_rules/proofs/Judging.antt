@@ -15,7 +15,7 @@ first-append (d ∷ a) b = by d.holds (first-append a b)
     by true e = e
     by false e = refl
 
-there_none : (x y : Option ResolveFault) → first_there x y ≡ None → (x ≡ None) × (y ≡ None)
+pub there_none : (x y : Option ResolveFault) → first_there x y ≡ None → (x ≡ None) × (y ≡ None)
 there_none None y e = (refl, e)
 there_none (Some f) y e = absurd cc
 

@@ -17,6 +17,7 @@ use Rattle.record_read.specs.Reader.{FinishesBy, IsBrokenBy, Reader, also_asked}
 use Rattle.opening_read.specs.Producer.{IsInBlock}
 use Rattle.opening_read.specs.Table.{HasBytes, IsTable, KeepsTable}
 use Rattle.opening_read.proofs.Answering.{fault_is, finished, misplaced_so, never_none, never_ok, out_of_memory, told_also}
+use Rattle.opening_read.proofs.Fronts.{never_done}
 
 -- ---- another record
 
@@ -169,12 +170,6 @@ table_failed at code operands behind others bytes new after given i h = rw i.is 
     by (Ok kept) k = k
     by (Err told) k = k
 
--- a refusal is no success
-never_done : {A : Type 0} (P : Type 0) (a : Answer A) (result : Result (Unit {0}) BitcodeFault) → Answers {A = A} {B = Unit {0}} (λ done more. ⊥) a result → OnOk result P
-never_done P (Ok v) (Ok done) h = absurd h
-never_done P (Err told) (Ok done) h = absurd h
-never_done P a (Err given) h = tt
-
 pub more_done : (P : Type 0) (rest : Records) (others : List Piece) (old now : Reader) (code : ℕ) (result : Result (Unit {0}) BitcodeFault) → Gives rest old (Record code) now others
     → ((t : ReadTable) (operands : List ℕ) → now.walk ≡ going operands None → now.at ≡ suc t.at → Answers {A = ReadTable} {B = Unit {0}} (λ done more. ⊥) (table_ended t (a_record code operands no_more)) result) → OnOk result P
 more_done P no_more others old now code result g answers = absurd g
@@ -182,11 +177,6 @@ more_done P (a_block id held behind) others old now code result g answers = absu
 more_done P (a_record other operands behind) others old now code result g answers =
     let t : ReadTable = record { at = old.at; bytes = [] } in
     never_done P (table_ended t (a_record code operands no_more)) result (answers t operands g.2 g.1)
-
-pub record_at : (rest : Records) (others : List Piece) (old now : Reader) (code : ℕ) → Gives rest old (Record code) now others → now.at ≡ suc old.at
-record_at no_more others old now code g = absurd g
-record_at (a_block id held behind) others old now code g = absurd g
-record_at (a_record other operands behind) others old now code g = g.1
 
 -- a record in front, with its operands
 pub record IsRecord (rest : Records) (others : List Piece) (old now : Reader) (code : ℕ) : Type 0 where

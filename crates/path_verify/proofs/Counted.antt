@@ -22,7 +22,7 @@ small_product x y lx ly =
     let most : x * y ≤ 4294967295 * 4294967295 = mul-le-mul ax ay in
     omega (arith, most)
 
-drop_at : {A : Type 0} (xs : List A) (i : ℕ) (x : A) → slice_get xs i ≡ Some x → drop i xs ≡ x ∷ drop (i + 1) xs
+pub drop_at : {A : Type 0} (xs : List A) (i : ℕ) (x : A) → slice_get xs i ≡ Some x → drop i xs ≡ x ∷ drop (i + 1) xs
 drop_at xs i x at =
     let next : suc i ≡ i + 1 = omega arith in
     drop-cons xs i x (slice_get_within xs i x at) ∙ (λ j. get_or_from_slice_get xs i x x at j ∷ drop (next j) xs)

@@ -1,6 +1,5 @@
 -- How the answers on instructions, ends and blocks are put together, in their order.
-use Rattle.std.proofs.Common.{◌≡◌, ℕ, suc, ◌+◌, ◌≤◌, Bool, ◌&&◌, List, ◌∷◌, ◌++◌, length, drop, take, slice_get, Some, Result, Ok, Err, refl, sym, ap, ◌∙◌, subst, arith}
-use Rattle.std.proofs.Math.Seq.{drop-cons}
+use Rattle.std.proofs.Common.{◌≡◌, ℕ, ◌+◌, ◌≤◌, Bool, ◌&&◌, List, ◌++◌, length, drop, take, slice_get, Some, Result, Ok, Err, refl, sym, ap, ◌∙◌, subst, arith}
 use Rattle.std.specs.List.{list_all}
 use Rattle.std.proofs.lemmas.List.{drop_all}
 use Rattle.std.proofs.lemmas.List.Folds.{list_all_more}
@@ -10,6 +9,7 @@ use Rattle.module_arena.specs.Valid.{AllHold, Demand, blocks_demands, ending_dem
 use Rattle.type_verify.specs.declared.fault.VerifyFault.{VerifyFault}
 use Rattle.type_verify.specs.Judged.{Judged, Leads}
 use Rattle.type_verify.proofs.Judging.{fails_first, leads_past}
+use Rattle.path_verify.proofs.Counted.{drop_at}
 
 -- ---- lists of demands, one behind the other
 
@@ -26,11 +26,6 @@ pub fourth_leads : (ds es fs gs : List Demand) (r : Result (Unit {0}) VerifyFaul
 fourth_leads ds es fs gs r d h k j = leads_past ds (es ++ (fs ++ gs)) d r (third_leads es fs gs r h k j)
 
 -- ---- from one place of a list on
-
-drop_at : {A : Type 0} (xs : List A) (i : ℕ) (x : A) → slice_get xs i ≡ Some x → drop i xs ≡ x ∷ drop (i + 1) xs
-drop_at xs i x at =
-    let next : suc i ≡ i + 1 = omega arith in
-    drop-cons xs i x (slice_get_within xs i x at) ∙ (λ j. get_or_from_slice_get xs i x x at j ∷ drop (next j) xs)
 
 -- a test of one item more
 pub all_then : {A : Type 0} (p : A → Bool) (xs : List A) (i : ℕ) (x : A) → slice_get xs i ≡ Some x → (list_all p (take i xs) && p x) ≡ list_all p (take (i + 1) xs)

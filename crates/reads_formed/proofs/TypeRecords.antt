@@ -1,6 +1,5 @@
 -- The records of types: what a record that breaks no rule stands for is made of earlier types, and the names of structs are those that are known ahead.
 use Rattle.std.proofs.Common.{◌≡◌, ◌<◌, ◌≤◌, ℕ, zero, suc, true, ◌&&◌, List, All, Some, None, nat_lt, nat_le, refl}
-use Rattle.std.specs.Prelude.{◌==◌, not}
 use Rattle.std.specs.List.{AllByRecursion}
 use Rattle.std.proofs.lemmas.Bool.{and_parts, ltb-true, leb-true}
 use Rattle.type_table.specs.declared.ir_type.IrType.TheVariants.{Int, Ptr, Void, Array, Struct, Named}
@@ -8,11 +7,12 @@ use Rattle.type_table.specs.Types.{Knows, KnowsBody}
 use Rattle.module_arena.specs.Names as arena
 use Rattle.record_table.specs.Walk.{Walk, going, stopped, ask, next}
 use Rattle.record_table.specs.Layout.{many, judged}
-use Rattle.record_table.specs.Fields.{Texts, is_name, truth}
+use Rattle.record_table.specs.Fields.{Texts, is_name}
 use Rattle.record_table.specs.TypeRecords.{TypeKind, OfInt, OfPtr, OfVoid, OfArray, OfStruct, OfName, body_by, definition, earlier, ir_type, may_have, struct_body, width}
 use Rattle.reads_formed.proofs.Tests.{place_of_each}
 use Rattle.reads_formed.proofs.Texts.{HoldsTexts, IsAlike, ask_alike, below_read, name_good, next_alike}
 use Rattle.reads_formed.proofs.Unbroken.{Any, IsRead, asking_read, both_read, counted_read, mapped_read, nothing_read, number_read, to_end_read, weaker_read}
+use Rattle.reads_formed.proofs.Fields.{truth_read}
 
 -- ---- types
 
@@ -24,9 +24,6 @@ width_read = weaker_read (asking_read 3 (λ n. nat_le 1 n && nat_le n 128) numbe
   where
     wide : (w : ℕ) → Any w × ((nat_le 1 w && nat_le w 128) ≡ true) → (1 ≤ w) × (w ≤ 128)
     wide w h = let p = and_parts (nat_le 1 w) (nat_le w 128) h.1 in (leb-true 1 w p.0, leb-true w 128 p.1)
-
-truth_read : IsRead Any truth.read
-truth_read = mapped_read (below_read 2) Any (λ n. not (n == 0)) (λ n h. tt)
 
 all_below : (count : ℕ) (parts : List ℕ) → AllByRecursion (λ n. n < count) parts → All (λ part. part < count) parts
 all_below count parts h = place_of_each (λ n. n < count) parts h

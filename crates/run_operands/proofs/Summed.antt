@@ -4,11 +4,10 @@ use Rattle.std.specs.Prelude.{slice_get, if◌then◌else◌, ◌-ℤ◌, ◌*�
 use Rattle.std.specs.Option.{option_map_or}
 use Rattle.std.proofs.Math.IntN.{+ℤ_assoc, +ℤ_comm}
 use Rattle.std.proofs.Math.Pow.{pow_mono}
-use Rattle.std.proofs.Math.Seq.{get_or-append_seam, take-suc}
+use Rattle.std.proofs.Math.Seq.{take-suc}
 use Rattle.std.proofs.lemmas.Bool.{cases_lt, le-ltb, lt-ltb}
 use Rattle.std.proofs.lemmas.List.{at_drop_all, at_drop_more, length-append, map-append}
 use Rattle.std.proofs.lemmas.List.Elements.{All-push}
-use Rattle.std.proofs.lemmas.Option.{slice_get-get_or}
 use Rattle.ir_eval.specs.Value.{reduced, signed}
 use Rattle.ir_eval.specs.declared.value.Scalar.{Scalar}
 use Rattle.ir_eval.specs.declared.value.Scalar.TheVariants as scalar
@@ -31,12 +30,7 @@ use Rattle.run_flat.specs.Spans.{IsBetween}
 use Rattle.run_flat.proofs.Growth.{adds_then, sums_add, terms_add, terms_in_stay, terms_same}
 use Rattle.run_flat.proofs.Spanned.{between_in, spanned_more}
 use Rattle.run_operands.specs.Open.{AreOpen, IsOpen, count_at, index_count, is_counted, led, led_by}
-
--- an item at the end
-pushed_at : {A : Type 0} (xs : List A) (x : A) (k : ℕ) → k ≡ length xs → slice_get (xs ++ x ∷ []) k ≡ Some x
-pushed_at xs x k e =
-    let many = length-append xs (x ∷ []) in
-    ap (slice_get (xs ++ x ∷ [])) e ∙ slice_get-get_or (xs ++ x ∷ []) (length xs) x (omega (arith, many)) ∙ ap Some (get_or-append_seam xs x [] x)
+use Rattle.run_operands.proofs.Stands.{pushed_at}
 
 -- ---- sums of distances
 

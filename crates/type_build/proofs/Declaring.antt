@@ -46,10 +46,6 @@ pub all_mapped : {X Y : Type 0} (f : X → Y) (P : Y → Type 0) (xs : List X) �
 all_mapped f P [] all = λ k d lt. absurd (omega arith)
 all_mapped f P (x ∷ xs) all = All-cons (λ y. P (f y)) x xs (All-head P (f x) (map f xs) all) (all_mapped f P xs (All-tail P (f x) (map f xs) all))
 
-pub map_twice : {X Y Z : Type 0} (f : X → Y) (g : Y → Z) (xs : List X) → map g (map f xs) ≡ map (λ x. g (f x)) xs
-map_twice f g [] = refl
-map_twice f g (x ∷ xs) = ap (λ ys. g (f x) ∷ ys) (map_twice f g xs)
-
 -- what stays the same twice
 pub then_same : {A E X : Type 0} (r : Result A E) (x y z : X) → y ≡ x → OnOk r (z ≡ y) → OnOk r (z ≡ x)
 then_same (Ok a) x y z first then = then ∙ first

@@ -12,7 +12,7 @@ use Rattle.name_rules.specs.Written.{type_in, types_in, constants_in}
 use Rattle.type_build.specs.Stands.{AreTypes, typed_at, AreTyped, IsTyped}
 use Rattle.type_build.specs.Typed.{typed_in, trees_listed, constants_listed}
 
-map_twice : {X Y Z : Type 0} (f : X → Y) (g : Y → Z) (xs : List X) → map g (map f xs) ≡ map (λ x. g (f x)) xs
+pub map_twice : {X Y Z : Type 0} (f : X → Y) (g : Y → Z) (xs : List X) → map g (map f xs) ≡ map (λ x. g (f x)) xs
 map_twice f g [] = refl
 map_twice f g (x ∷ xs) = ap (λ ys. g (f x) ∷ ys) (map_twice f g xs)
 

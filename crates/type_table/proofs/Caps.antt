@@ -19,7 +19,7 @@ sides x = by (cases_lt x (2 ^ 40 + 1))
     by (inl lt) = inl (capped_small x (omega arith))
     by (inr le) = inr (capped_large x le, le)
 
-next_multiple_of-le : (x y : ℕ) → x ≤ next_multiple_of x y
+pub next_multiple_of-le : (x y : ℕ) → x ≤ next_multiple_of x y
 next_multiple_of-le x y = omega arith
 
 pub placed-le : (packed : Bool) (x y : ℕ) → x ≤ field_start packed x y

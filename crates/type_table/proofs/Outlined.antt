@@ -16,7 +16,7 @@ use Rattle.type_table.specs.Shape.{Label, Shape, int_leaf, ptr_leaf, void_leaf, 
 use Rattle.type_table.specs.Tree.{Tree, int, ptr, void, array, struct, named, Trees, no_trees, more_trees, TreeBody, opaque_body, fields, body_of}
 use Rattle.type_table.specs.Types.{Types, names, bodies, trees, trees_at, tree_of, grow, tree_body, structs, tree, shape, Knows, AllKnown, KnowsBody, IsGood}
 use Rattle.type_table.proofs.Rooms.{name_shape-zero, name_shape-suc, unmapped, unjoined, HasShape}
-use Rattle.type_table.proofs.UnderIds.{body_of-place, index_of-at, get_or-map}
+use Rattle.type_table.proofs.UnderIds.{body_of-place, index_of-at}
 
 -- the trees so far stay
 trees_at-more : (done more : List Tree) (ids : List ℕ) → All (λ id. id < length done) ids → trees_at (done ++ more) ids ≡ trees_at done ids

@@ -7,24 +7,17 @@ use Rattle.type_table.specs.Contains.{Holds, holds_as_itself, holds_in_array, ho
 use Rattle.type_table.specs.Measures.{array_measure, empty_struct, with_field, struct_measure, tree_measure, tree_measures, tree_body_measure, Measures, capped_nesting}
 use Rattle.type_table.specs.Shape.{Label, Shape, array_of, struct_of, Shapes, expanded, all_expanded, body_shape, name_shape}
 use Rattle.type_table.specs.Tree.{Tree, int, ptr, void, array, struct, named, Trees, no_trees, more_trees, TreeBody, opaque_body, fields}
-use Rattle.type_table.proofs.Rooms.{name_shape-zero, name_shape-suc, unmapped, unjoined}
+use Rattle.type_table.proofs.Rooms.{name_shape-zero, name_shape-suc, unmapped, unjoined, fields_nesting}
 
 -- some of these nests at least so deep
 abbrev SomeAbove : ℕ → List Measure → Type 0
 SomeAbove r [] = ⊥
 SomeAbove r (m ∷ ms) = (r ≤ m.nesting) ⊎ SomeAbove r ms
 
-more_nesting : (packed : Bool) (acc : Measure) (ms : List Measure) → acc.nesting ≤ (fold (with_field packed) acc ms).nesting
-more_nesting packed acc [] = omega arith
-more_nesting packed acc (m ∷ ms) =
-    let rest = more_nesting packed (with_field packed acc m) ms in
-    let here : acc.nesting ≤ (with_field packed acc m).nesting = omega arith in
-    omega (arith, rest, here)
-
 fields_above : (packed : Bool) (acc : Measure) (ms : List Measure) (r : ℕ) → SomeAbove r ms → capped_nesting (r + 1) ≤ (fold (with_field packed) acc ms).nesting
 fields_above packed acc [] r some = absurd some
 fields_above packed acc (m ∷ ms) r (inl le) =
-    let rest = more_nesting packed (with_field packed acc m) ms in
+    let rest = fields_nesting packed (with_field packed acc m) ms in
     let here : capped_nesting (m.nesting + 1) ≤ (with_field packed acc m).nesting = omega arith in
     omega (arith, rest, here, le)
 fields_above packed acc (m ∷ ms) r (inr some) = fields_above packed (with_field packed acc m) ms r some
@@ -183,7 +176,7 @@ Near (m ∷ ms) [] = ⊥
 Near (m ∷ ms) (n ∷ ns) = (m.nesting ≤ n.nesting + 64) × Near ms ns
 
 near_fields : (packed : Bool) (a b : Measure) (ms ns : List Measure) → a.nesting ≤ b.nesting + 64 → Near ms ns → (fold (with_field packed) a ms).nesting ≤ (fold (with_field packed) b ns).nesting + 64
-near_fields packed a b [] ns le near = let more = more_nesting packed b ns in omega (arith, more, le)
+near_fields packed a b [] ns le near = let more = fields_nesting packed b ns in omega (arith, more, le)
 near_fields packed a b (m ∷ ms) [] le near = absurd near
 near_fields packed a b (m ∷ ms) (n ∷ ns) le near =
     let here : (with_field packed a m).nesting ≤ (with_field packed b n).nesting + 64 = omega (arith, le, near.0) in

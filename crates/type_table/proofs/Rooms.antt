@@ -60,7 +60,7 @@ abbrev pub AllBelow : ℕ → List Measure → Type 0
 AllBelow r [] = Unit {0}
 AllBelow r (m ∷ ms) = (m.nesting + 1 ≤ r) × AllBelow r ms
 
-fields_nesting : (packed : Bool) (acc : Measure) (ms : List Measure) → acc.nesting ≤ (fold (with_field packed) acc ms).nesting
+pub fields_nesting : (packed : Bool) (acc : Measure) (ms : List Measure) → acc.nesting ≤ (fold (with_field packed) acc ms).nesting
 fields_nesting packed acc [] = omega arith
 fields_nesting packed acc (m ∷ ms) =
     let rest = fields_nesting packed (with_field packed acc m) ms in

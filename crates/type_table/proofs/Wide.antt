@@ -1,7 +1,6 @@
 -- An integer of the table has at least one bit, so no value has more leaves than bytes.
 use Rattle.std.proofs.Common.{◌≡◌, ℕ, zero, suc, ◌+◌, ◌/◌, ◌≤◌, Bool, cond, List, [], ◌∷◌, Option, Some, None, length, get_or, sym, ◌∙◌, subst, arith, All}
 use Rattle.std.specs.List.{fold}
-use Rattle.std.specs.Int.{next_multiple_of}
 use Rattle.std.proofs.Math.Nat.{mul-le-mul_left}
 use Rattle.std.proofs.lemmas.List.Elements.{All-tail, All-push}
 use Rattle.type_table.specs.declared.ir_type.IrType.{IrType}
@@ -12,7 +11,7 @@ use Rattle.type_table.specs.Layout.{size, leaves, all_leaves, align, end_after, 
 use Rattle.type_table.specs.Shape.{Label, Shape, int_leaf, ptr_leaf, void_leaf, opaque_leaf, array_of, struct_of, Shapes, no_shapes, more_shapes, expanded, all_expanded, body_shape, name_shape}
 use Rattle.type_table.specs.Tree.{Tree, int, ptr, void, array, struct, named, Trees, no_trees, more_trees, TreeBody, opaque_body, fields, body_of, index_of}
 use Rattle.type_table.specs.Types.{Types, names, bodies, trees, trees_at, tree_of, grow, tree_body, structs, tree, shape, Knows, AllKnown, IsGood}
-use Rattle.type_table.proofs.Caps.{placed-le}
+use Rattle.type_table.proofs.Caps.{placed-le, next_multiple_of-le}
 use Rattle.type_table.proofs.Rooms.{name_shape-zero, name_shape-suc, unmapped, unjoined}
 use Rattle.type_table.proofs.UnderIds.{body_of-place}
 
@@ -29,18 +28,15 @@ abbrev mutual
   AllWide no_shapes = Unit {0}
   AllWide (more_shapes s ss) = IsWide s × AllWide ss
 
-next-le : (x y : ℕ) → x ≤ next_multiple_of x y
-next-le x y = omega arith
-
 mutual
   pub leaves-le : (s : Shape) → IsWide s → leaves s ≤ size s
-  leaves-le (int_leaf w) wide = let r = next-le ((w + 7) / 8) (int_align w) in omega (arith, r)
+  leaves-le (int_leaf w) wide = let r = next_multiple_of-le ((w + 7) / 8) (int_align w) in omega (arith, r)
   leaves-le ptr_leaf wide = omega arith
   leaves-le void_leaf wide = omega arith
   leaves-le (opaque_leaf label) wide = omega arith
   leaves-le (array_of n s) wide = mul-le-mul_left n (leaves-le s wide)
   leaves-le (struct_of label packed ss) wide =
-      let r = next-le (end_after packed 0 ss) (cond packed 1 (greatest_align ss)) in
+      let r = next_multiple_of-le (end_after packed 0 ss) (cond packed 1 (greatest_align ss)) in
       let e = all_leaves-le packed 0 ss wide in
       omega (arith, r, e)
 

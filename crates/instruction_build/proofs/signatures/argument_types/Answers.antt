@@ -10,7 +10,7 @@ use Rattle.type_build.specs.Stands.{AreTypes}
 use Rattle.type_build.proofs.Growing.{grows_not, grows_on}
 use Rattle.type_build.proofs.Lists.{no_types, types_step}
 use Rattle.type_build.proofs.Staying.{can_still_be}
-use Rattle.type_build.proofs.Declaring.{map_twice}
+use Rattle.type_build.proofs.Made.{map_twice}
 use Rattle.instruction_build.proofs.Taking.{at_mapped}
 use Rattle.instruction_build.proofs.signatures.argument_types.Goals as goal
 

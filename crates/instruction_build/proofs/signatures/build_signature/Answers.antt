@@ -16,7 +16,8 @@ use Rattle.type_build.specs.Holding.{entries}
 use Rattle.type_build.specs.Stands.{AreTypes}
 use Rattle.type_build.proofs.Growing.{grows_on}
 use Rattle.type_build.proofs.Staying.{can_still_be}
-use Rattle.type_build.proofs.Declaring.{all_mapped, map_twice}
+use Rattle.type_build.proofs.Declaring.{all_mapped}
+use Rattle.type_build.proofs.Made.{map_twice}
 use Rattle.buildable.specs.Bodies.{CanSignature}
 use Rattle.instruction_build.specs.Parts.{IsSignature}
 use Rattle.instruction_build.proofs.Taking.{can_stay}

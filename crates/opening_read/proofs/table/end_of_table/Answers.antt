@@ -4,7 +4,8 @@ use Rattle.bit_tree.specs.Pieces.{ended}
 use Rattle.record_read.specs.declared.entry.NextEntry.TheVariants.{Block, Record, End}
 use Rattle.record_read.specs.Faults.{IsMisplaced}
 use Rattle.opening_read.proofs.Answering.{gone, out_of_memory}
-use Rattle.opening_read.proofs.Tables.{block_refused, ends, more_done, more_refused, record_at}
+use Rattle.opening_read.proofs.Tables.{block_refused, ends, more_done, more_refused}
+use Rattle.opening_read.proofs.Fronts.{record_at}
 use Rattle.opening_read.proofs.table.end_of_table.Goals as goal
 
 pub refuse_more-requires : goal.refuse_more-requires

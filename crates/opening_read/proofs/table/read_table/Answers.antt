@@ -6,7 +6,8 @@ use Rattle.record_read.specs.declared.entry.NextEntry.TheVariants.{Block, Record
 use Rattle.record_read.specs.declared.fault.BitcodeFault.TheVariants as fault
 use Rattle.record_read.specs.Faults.{IsMisplaced}
 use Rattle.opening_read.proofs.Answering.{gone, out_of_memory}
-use Rattle.opening_read.proofs.Tables.{bytes_told, record_at, rest_answers, still_begun, table_block, table_missing}
+use Rattle.opening_read.proofs.Tables.{bytes_told, rest_answers, still_begun, table_block, table_missing}
+use Rattle.opening_read.proofs.Fronts.{record_at}
 use Rattle.opening_read.proofs.table.read_table.Goals as goal
 
 pub read_bytes-requires : goal.read_bytes-requires

@@ -11,7 +11,8 @@ use Rattle.type_build.specs.Fitting.{CanBe}
 use Rattle.type_build.proofs.Growing.{grows_on}
 use Rattle.type_build.proofs.Staying.{can_still_be}
 use Rattle.type_build.specs.Declarations.{CanAlias}
-use Rattle.type_build.proofs.Declaring.{all_mapped, map_twice}
+use Rattle.type_build.proofs.Declaring.{all_mapped}
+use Rattle.type_build.proofs.Made.{map_twice}
 use Rattle.type_build.proofs.aliases.add_alias_type.Goals as goal
 
 pub add_types-requires : goal.add_types-requires

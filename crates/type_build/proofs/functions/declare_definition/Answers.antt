@@ -9,8 +9,9 @@ use Rattle.name_rules.specs.ModuleOf.{parameters_in}
 use Rattle.name_rules.specs.Written.{type_in}
 use Rattle.type_build.proofs.Staying.{can_still_be}
 use Rattle.type_build.specs.Parameters.{kept, function_head}
-use Rattle.type_build.proofs.Declaring.{free_still, map_twice, then_same}
+use Rattle.type_build.proofs.Declaring.{free_still, then_same}
 use Rattle.type_build.proofs.Parameters.{all_named}
+use Rattle.type_build.proofs.Made.{map_twice}
 use Rattle.type_build.proofs.functions.declare_definition.Goals as goal
 
 pub declare_head-requires-clause-returns : goal.declare_head-requires-clause-returns
