@@ -3,6 +3,15 @@
 //! It stands on `module_arena`, and serves to show it: its stored input makes each call, has each refusal with the entry
 //! that is there, each count at its limit and one past it, and the module of a loop that clang prints. `answer_to` says how
 //! a line is written; one that begins with `--` is a comment. Nothing is promised of the printed text.
+//!
+//! In the crate's folder:
+//!
+//! ```text
+//! $ printf 'int 32\nptr\nint 129\n' | rt run
+//! int 32: type 0
+//! ptr: type 1
+//! int 129: no such call
+//! ```
 #![tactic(auto)]
 
 mod add;

@@ -1,6 +1,13 @@
 //! Reads a stream of bitcode and prints how many blocks, records and operands it has, or its first fault.
 //!
 //! It stands on `bit_stream`, and serves to time and to show it.
+//!
+//! In the crate's folder:
+//!
+//! ```text
+//! $ rt run <stdin
+//! 3 blocks, 2 records, 18 operands
+//! ```
 #![tactic(auto)]
 
 use bit_stream::{BitFault, BitReader, Entry, LARGEST_STREAM, StreamFault};

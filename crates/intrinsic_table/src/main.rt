@@ -4,6 +4,14 @@
 //! asks for all operands of a width of at most 4, poison last and the first operand varying slowest, or `row NAME
 //! OPERAND..`, where an operand is a number or `p` for poison. Answers are hexadecimal, with `p` for poison, and two
 //! leaves stand as `first,second`. Nothing is promised of the printed text.
+//!
+//! In the crate's folder:
+//!
+//! ```text
+//! $ printf 'all llvm.ctpop.i4\nrow llvm.ctpop.i1 p\n' | rt run
+//! all llvm.ctpop.i4: 0 1 1 2 1 2 2 3 1 2 2 3 2 3 3 4 p
+//! row llvm.ctpop.i1 p: p
+//! ```
 #![tactic(auto)]
 
 mod operands;

@@ -3,6 +3,15 @@
 //! It stands on `tool_cli`, whose call `run_tool` it makes: the contract of that call is what the program promises,
 //! and that of `end_without_words` is what it promises where memory runs out before there are words. That the
 //! process's objects meet the contracts of their traits is trusted.
+//!
+//! At the top of the repository:
+//!
+//! ```text
+//! $ ./ir-tools lli examples/hello.ll
+//! 1 squared is 1
+//! 2 squared is 4
+//! 3 squared is 9
+//! ```
 #![tactic(auto)]
 
 use ir_base::{HostFiles, StdSink, StdSource, Text};

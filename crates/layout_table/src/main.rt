@@ -3,6 +3,15 @@
 //! It stands on `type_table`, and serves to show it: its stored input has integers, arrays and structs at each
 //! alignment, each limit one below, at and above it, and definitions that change what earlier types measure. `Verb` says
 //! how a line is written; one that begins with `--` is a comment. Nothing is promised of the printed text.
+//!
+//! In the crate's folder:
+//!
+//! ```text
+//! $ printf 'new\nint 1\nlayout 0\n' | rt run
+//! new: done
+//! int 1: 0
+//! layout 0: size 1, align 1, leaves 1
+//! ```
 #![tactic(auto)]
 
 mod add;

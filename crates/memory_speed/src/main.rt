@@ -4,6 +4,14 @@
 //! times an integer of that width, at places all over a block of 65,536 bytes), `copy 1000` or `fill 1000`
 //! (so many bytes at once), or `blocks 1000` (so many blocks of 4 bytes made, and all but the last 1,000
 //! ended). Nothing is promised of the printed text.
+//!
+//! In the crate's folder:
+//!
+//! ```text
+//! $ printf 'load 8 10000\nfrees 1\n' | rt run
+//! load 8 10000: 10000
+//! frees 1: no such task
+//! ```
 #![tactic(auto)]
 
 mod blocks;

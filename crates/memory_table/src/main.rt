@@ -4,6 +4,16 @@
 //! `live`, `load 0:65536 i32 4`, `store -:65536 ptr 8 0:65537`, `copy -:65536 -:65544 8 may` or `fill
 //! -:65536 7 16`; a pointer is its block, or `-` for none, and its address. A line that begins with `#`
 //! begins new memory. Nothing is promised of the printed text.
+//!
+//! In the crate's folder:
+//!
+//! ```text
+//! $ printf '# two blocks\nadd 1 1 heap\nadd 8 16 heap\nlive\n' | rt run
+//! # two blocks
+//! add 1 1 heap: 0:65536
+//! add 8 16 heap: 1:65568
+//! live: 9
+//! ```
 #![tactic(auto)]
 
 mod answer;

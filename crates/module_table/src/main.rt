@@ -27,6 +27,14 @@
 //!
 //! Parts are told by number, from 0. A name is the rest of its line. In names and texts `\\` is a backslash and `\xHH` any byte.
 //! Behind each question stands its answer, which is the conflict where the parts are in conflict.
+//!
+//! In the crate's folder:
+//!
+//! ```text
+//! $ printf '==== canonical\n@x = global i8 255\n' | rt run
+//! @x = global i8 -1
+//! ====
+//! ```
 #![tactic(auto)]
 
 mod answering;

@@ -3,6 +3,14 @@
 //! It stands on `ir_base`, and serves to show it: its stored input has whole reads and writes, cut ones, and calls
 //! that fail. A line is a word and its arguments; the answer is the line, a colon and what the call gave. An argument
 //! `-` is nothing, and in one `\ff` is the byte of that code. Nothing is promised of the printed text.
+//!
+//! In the crate's folder:
+//!
+//! ```text
+//! $ printf 'source abcdef\nread_all 5\n' | rt run
+//! source abcdef: made
+//! read_all 5: |abcde|
+//! ```
 #![tactic(auto)]
 
 mod argument;

@@ -3,6 +3,14 @@
 //! It stands on `ir_printf`, and serves to compare it with another program's table. The parts of a line are separated by
 //! tabs: the pattern, and an argument for each of its conversions, a number from 0 to 2^64 - 1 or a text. The answer is the
 //! text in brackets, or why there is none. Nothing is promised of it.
+//!
+//! In the crate's folder:
+//!
+//! ```text
+//! $ printf '%s\t%s\n' '%u' 42 '%.5u' 42 | rt run
+//! [42]
+//! [00042]
+//! ```
 #![tactic(auto)]
 
 mod written;

@@ -4,6 +4,14 @@
 //! line is `add nuw nsw`, `icmp samesign slt` or `trunc nuw 3`; the answer is that line, a colon and the
 //! results in order, hexadecimal, with `p` for poison, `z` for a division by zero and `o` for a division
 //! that overflows. A line that begins with `row` has operands of its own. Nothing is promised of the printed text.
+//!
+//! In the crate's folder:
+//!
+//! ```text
+//! $ printf 'trunc nuw 3\nrow add 7 64 127\n' | rt run
+//! trunc nuw 3: 0 1 2 3 4 5 6 7 p p p p p p p p p
+//! row add 7 64 127: 3f
+//! ```
 #![tactic(auto)]
 
 mod instruction;

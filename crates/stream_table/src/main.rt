@@ -5,6 +5,14 @@
 //! shortly, `tree` those that are read at once, `judge` the verdict, and `fields` two numbers; `write` names what is
 //! written. `whole` tells the stream as `dump` writes it into a sink in memory, `counts` its summary, and `short` tells it all
 //! to a sink with room for 100 bytes, whose second call fails. Nothing is promised of the printed text.
+//!
+//! In the crate's folder:
+//!
+//! ```text
+//! $ printf 'read 4243c0de\nread 4243c0de350c0000\n' | rt run
+//! read whole
+//! read Truncated 64
+//! ```
 #![tactic(auto)]
 
 mod dumped;

@@ -4,6 +4,14 @@
 //!
 //! It stands on `ir_syntax`, and serves to show it: its stored input has each phrase whole and cut, each word that is
 //! dropped or left out, and modules as clang prints them.
+//!
+//! In the crate's folder:
+//!
+//! ```text
+//! $ printf 'source_filename = "a.c"\n====\nsource_filename "a"\n' | rt run
+//! 0 structs, 0 variables, 0 declared, 0 defined, 0 blocks, 0 instructions, 1 others
+//! 1:17: no item here
+//! ```
 #![tactic(auto)]
 
 mod counts;

@@ -2,6 +2,13 @@
 //!
 //! It stands on `ir_lexer`, and serves to time and to show it. Its promise: the number is that of the text's tokens.
 //! Definition: `specs/Counted`.
+//!
+//! In the crate's folder:
+//!
+//! ```text
+//! $ rt run <stdin
+//! 248
+//! ```
 #![tactic(auto)]
 
 ghost use Rattle.std.specs.Prelude.{◌≤◌, length};

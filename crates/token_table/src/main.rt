@@ -3,6 +3,15 @@
 //!
 //! It stands on `ir_terminals`, and serves to show it and `ir_lexer`: its stored input has the spellings of each kind,
 //! the roles of words and marks, numbers of each size, brackets, and modules as clang prints them.
+//!
+//! In the crate's folder:
+//!
+//! ```text
+//! $ printf '%s' -5 | rt run
+//! Token 32, Number 16, Integer 32, PlacedName 24, PlacedText 24, Local 32, Option<Local> 40
+//! 1:1 Integer 2 -5 = -5 5 5
+//! 1:3 end behind 1
+//! ```
 #![tactic(auto)]
 
 mod kinds;

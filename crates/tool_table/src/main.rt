@@ -24,6 +24,14 @@
 //!
 //! Of a run are printed its status, the files that it read in their order, how many bytes standard input gave where it
 //! was touched, each file that it wrote, and what standard output and standard error took, with `|` and `+` as above.
+//!
+//! In the crate's folder:
+//!
+//! ```text
+//! $ printf 'read llvm-as a.ll\nread lli -\n' | rt run
+//! llvm-as a.ll => assemble [a.ll] > [a.bc]
+//! lli - => run [-] for 1000000000 with [-]
+//! ```
 #![tactic(auto)]
 
 mod lines;
