@@ -74,6 +74,11 @@ impl<T: Drop> From<AllocFailed<T>> for WordsFault {
 }
 
 /// Where the result goes.
+///
+/// ```
+/// OutputName::File(Text::from_slice(alloc, b"x.bc")?) // `-o x.bc`
+/// OutputName::Standard // `-o -`
+/// ```
 #[derive(Drop)]
 pub enum OutputName {
     /// Standard output, written `-`.
@@ -84,6 +89,11 @@ pub enum OutputName {
 
 /// Which definitions `llvm-extract` keeps: those of these names, with `recursive` also the functions
 /// that chosen functions call, and with `delete` all others in their place.
+///
+/// ```
+/// // `--func=f --recursive`, where `functions` holds `f` and the other two lists are empty
+/// SelectionWords { functions, variables, aliases, delete: false, recursive: true }
+/// ```
 #[derive(Drop)]
 pub struct SelectionWords {
     pub functions: NameList,

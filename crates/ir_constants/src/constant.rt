@@ -34,6 +34,14 @@ pub enum Brackets {
 }
 
 /// A constant, with the place of its first token (LangRef, "Constants" and "Constant Expressions").
+///
+/// ```
+/// Constant::Simple(Simple::Null, place) // `null`
+/// Constant::Global(name) // `@x`, where that is the name with its place
+/// Constant::List(place, Brackets::Square, elements) // `[i32 1, i32 2]`, whose elements are these
+/// // `ptrtoint (ptr @x to i64)`, where the parts are `ptr @x` and `i64`
+/// Constant::Cast(place, Opcode::PtrToInt, Box::new(alloc, address)?, Box::new(alloc, word)?)
+/// ```
 #[derive(Drop)]
 #[cycle(constants)]
 pub enum Constant {
@@ -56,6 +64,10 @@ pub enum Constant {
 }
 
 /// A constant and the type that is written before it.
+///
+/// ```
+/// TypedConstant { ty: Type::Ptr(place), value: Constant::Simple(Simple::Null, behind) } // `ptr null`
+/// ```
 #[derive(Drop)]
 #[cycle(constants)]
 pub struct TypedConstant {

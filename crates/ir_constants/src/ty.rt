@@ -29,6 +29,10 @@ pub enum Type {
 }
 
 /// What an array holds: the count of its elements as written, and their type.
+///
+/// ```
+/// ArrayType { count, element: Type::Ptr(place) } // of `[5 x ptr]`, where the count is `5` with its place
+/// ```
 #[derive(Drop)]
 #[cycle(ty)]
 pub struct ArrayType {

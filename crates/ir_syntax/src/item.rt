@@ -7,6 +7,11 @@ use ir_tables::Linkage;
 use ir_terminals::{Integer, Local, PlacedName, PlacedText};
 
 /// What a struct is.
+///
+/// ```
+/// WrittenBody::Opaque // of `%s = type opaque`
+/// WrittenBody::Packed(fields) // of `%s = type <{ i8, ptr }>`, whose fields are `i8` and `ptr`
+/// ```
 #[derive(Drop)]
 pub enum WrittenBody {
     /// `opaque`: the fields are not known.

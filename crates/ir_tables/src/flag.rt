@@ -9,6 +9,11 @@ use crate::{Table, WordRow};
 use std::marker::Model;
 
 /// A flag of an instruction. Its code is a power of two, so that a set of flags is the sum of its codes.
+///
+/// ```
+/// Flag::Nuw.code() // 1
+/// Flags::empty().with(Flag::Nuw).with(Flag::Nsw).code() // 3
+/// ```
 #[derive(Clone, Copy, Debug, PartialEq, Eq)]
 pub enum Flag {
     /// No unsigned wrap: what is computed, read without sign, fits its width.

@@ -7,6 +7,11 @@ use crate::{Table, WordRow};
 
 /// An intrinsic over integers (LangRef, "Standard C/C++ Library Intrinsics", "Bit Manipulation Intrinsics", "Arithmetic
 /// with Overflow Intrinsics", "Saturation Arithmetic Intrinsics"). Its word is its name between `llvm.` and its width.
+///
+/// ```
+/// Intrinsic::Ctpop.word() // "ctpop"
+/// Intrinsic::of_name(b"llvm.ctpop.i32") // Some((Intrinsic::Ctpop, 32))
+/// ```
 #[derive(Clone, Copy, Debug, PartialEq, Eq)]
 pub enum Intrinsic {
     /// How many bits are set.

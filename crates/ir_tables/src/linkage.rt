@@ -6,6 +6,11 @@ use crate::table::{code_in, rows, values, word_in};
 use crate::{Table, WordRow};
 
 /// The linkage of a variable or a function (LangRef, "Linkage Types").
+///
+/// ```
+/// Linkage::Internal.word() // "internal"
+/// Linkage::Internal.code() // 2
+/// ```
 #[derive(Clone, Copy, Debug, PartialEq, Eq)]
 pub enum Linkage {
     /// Visible outside its module, and resolves references of other modules.

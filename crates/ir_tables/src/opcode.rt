@@ -7,6 +7,11 @@ use crate::table::{code_in, rows, values, word_in};
 use crate::{Flag, Table, WordRow};
 
 /// The opcode of an instruction (LangRef, "Instruction Reference").
+///
+/// ```
+/// Opcode::Add.word() // "add"
+/// Opcode::Add.code() // 1
+/// ```
 #[derive(Clone, Copy, Debug, PartialEq, Eq)]
 pub enum Opcode {
     /// The sum.

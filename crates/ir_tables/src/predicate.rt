@@ -6,6 +6,11 @@ use crate::table::{code_in, rows, values, word_in};
 use crate::{Table, WordRow};
 
 /// How `icmp` compares (LangRef, "icmp Instruction"): `u` reads without sign, `s` with sign.
+///
+/// ```
+/// Predicate::Sgt.word() // "sgt"
+/// Predicate::Sgt.code() // 7
+/// ```
 #[derive(Clone, Copy, Debug, PartialEq, Eq)]
 pub enum Predicate {
     /// Equal.

@@ -6,6 +6,11 @@ use crate::table::{code_in, rows, values, word_in};
 use crate::{Table, WordRow};
 
 /// A kind of undefined behaviour.
+///
+/// ```
+/// UndefinedKind::DivisionByZero.word() // "division by zero"
+/// UndefinedKind::DivisionByZero.code() // 1
+/// ```
 #[derive(Clone, Copy, Debug, PartialEq, Eq)]
 pub enum UndefinedKind {
     /// A divisor is zero or poison.

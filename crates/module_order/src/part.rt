@@ -9,6 +9,11 @@ use record_read::{BitcodeFault, RecordReader};
 use record_table::MODULE_BLOCK;
 
 /// What stands in the block of a module, in its order. The first five stand there at most once.
+///
+/// ```
+/// ModulePart::Types.may_follow(ModulePart::Version.place()) // true
+/// ModulePart::Version.may_follow(ModulePart::Types.place()) // false
+/// ```
 #[derive(Clone, Copy)]
 pub enum ModulePart {
     /// The version of the record table.

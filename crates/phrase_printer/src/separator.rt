@@ -4,6 +4,11 @@ ghost use Rattle.ir_lexer.specs.Pieces.{separator_bytes};
 ghost use Rattle.phrase_printer.specs.Printing.{separator_of, separator_before};
 
 /// What stands behind a token of canonical text.
+///
+/// ```
+/// put_token(out, sink, b"ret", Separator::Space); // `ret `
+/// put_token(out, sink, b"void", Separator::Line); // `void` and a line feed
+/// ```
 #[derive(Clone, Copy)]
 pub enum Separator {
     /// Nothing: the next token stands directly behind.

@@ -5,6 +5,11 @@ ghost use Rattle.record_table.specs.Constants.{form_code, form_of_code};
 ghost use Rattle.record_table.specs.Codes.{form_view};
 
 /// How a constant stands in a record.
+///
+/// ```
+/// ConstantForm::Null.code() // 2
+/// ConstantForm::Listed.code() // 7
+/// ```
 #[derive(Clone, Copy, Debug, PartialEq, Eq)]
 pub enum ConstantForm {
     /// An integer.

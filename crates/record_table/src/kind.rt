@@ -5,6 +5,11 @@ ghost use Rattle.record_table.specs.TypeRecords.{kind_code, kind_of_code, kinds}
 ghost use Rattle.record_table.specs.Codes.{kind_view};
 
 /// How a type stands in the block of types.
+///
+/// ```
+/// TypeKind::Int.code() // 1
+/// TypeKind::Array.code() // 4
+/// ```
 #[derive(Clone, Copy, Debug, PartialEq, Eq)]
 pub enum TypeKind {
     /// An integer, by its width.

@@ -11,6 +11,11 @@ use std::alloc::AllocError;
 use type_table::{TypeId, TypeTable};
 
 /// What stands in each leaf of a value.
+///
+/// ```
+/// Fill::Zero // of `zeroinitializer`, and of `undef`
+/// Fill::Poison // of `poison`
+/// ```
 #[derive(Clone, Copy)]
 pub enum Fill {
     /// The number 0, or null.
