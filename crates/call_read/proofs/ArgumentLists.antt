@@ -8,7 +8,7 @@ use Rattle.module_arena.specs.declared.instruction.Operand.{Operand}
 use Rattle.module_arena.specs.Lists.{Lists}
 use Rattle.module_arena.specs.Module as m
 use Rattle.record_table.specs.Fields.{Numbering}
-use Rattle.record_table.specs.Lines.{arguments, arguments_by}
+use Rattle.record_table.specs.Lines.{arguments, arguments_by, typed_value}
 use Rattle.record_table.specs.Walk.{Walk, going, stopped, next}
 use Rattle.record_read.specs.Reader.{Reader, is_broken, is_stopped}
 use Rattle.arena_read.specs.declared.module_reader.ModuleReader.{ModuleReader}
@@ -25,8 +25,13 @@ use Rattle.operand_read.proofs.Gathered.{more_there, more_kept}
 use Rattle.operand_read.proofs.Joined.{starting, was_unbroken}
 use Rattle.operand_read.proofs.Leaves.{type_is}
 use Rattle.operand_read.proofs.Typed.{operand_found}
-use Rattle.call_read.specs.Calls.{TypesArgument, argument_at, argument_type}
+use Rattle.call_read.specs.Calls.{TypesArgument, argument_type}
 use Rattle.call_read.proofs.ParameterTypes.{takes_self}
+
+-- an argument: of a parameter of that type, or behind its own type
+abbrev pub argument_at : Numbering → Option Tree → Walk → m.Operand × Walk
+argument_at k (Some t) w = operand_at k t w
+argument_at k None w = (typed_value k).read w
 
 -- ---- the parameters that are left
 

@@ -1,6 +1,5 @@
 -- For `read_instruction`: instructions with what their results are called, and the parts of a call.
-use Rattle.std.specs.Prelude.{◌≡◌, ◌<◌, ℕ, Bool, true, List, [], ◌∷◌, length, map, flat_map, option_to_list, All, ⊤, Option, Some, None, IfSome}
-use Rattle.std.specs.Option.{option_map}
+use Rattle.std.specs.Prelude.{◌≡◌, ℕ, Bool, true, List, [], ◌∷◌, map, flat_map, option_to_list, All, ⊤, Option, Some, None, IfSome}
 use Rattle.ir_tables.specs.declared.opcode.Opcode.{Opcode}
 use Rattle.ir_tables.specs.declared.opcode.Opcode.TheVariants as op
 use Rattle.type_table.specs.Tree.{Tree}
@@ -13,14 +12,14 @@ use Rattle.module_arena.specs.Module as m
 use Rattle.module_arena.specs.TypeTests.{is_void}
 use Rattle.record_table.specs.Fields.{Texts, Numbering, label, ty}
 use Rattle.record_table.specs.Layout.{counted}
-use Rattle.record_table.specs.Lines.{instruction, result_by, return_type, typed_value}
+use Rattle.record_table.specs.Lines.{instruction, result_by, return_type}
 use Rattle.record_table.specs.Walk.{Walk}
 use Rattle.record_read.specs.Fields.{IsLocal}
 use Rattle.record_read.specs.Reader.{IsBroken, is_broken}
 use Rattle.arena_read.specs.declared.module_reader.ModuleReader.{ModuleReader}
 use Rattle.arena_read.specs.Kept.{IsKnownType, TakesOnly, tree_at}
 use Rattle.arena_read.specs.Numbered.{Numbers}
-use Rattle.operand_read.specs.Found.{Finds, operand_at}
+use Rattle.operand_read.specs.Found.{Finds}
 use Rattle.line_read.specs.Kept.{HasInst, operation_in}
 use Rattle.call_read.specs.declared.line.ReadLine.{ReadLine}
 
@@ -59,11 +58,6 @@ only_known xs = flat_map option_to_list xs
 pub record ReadsBoth (old new : ModuleReader) (found : List (Option ℕ)) (known : List ℕ) : Type 0 where
   pub reads : ReadsParameters old new found
   pub known_are : known ≡ only_known found
-
--- an argument: of a parameter of that type, or behind its own type
-abbrev pub argument_at : Numbering → Option Tree → Walk → m.Operand × Walk
-argument_at k (Some t) w = operand_at k t w
-argument_at k None w = (typed_value k).read w
 
 -- the type of an argument: that of its parameter, or one that stands in front
 abbrev pub argument_type : Numbering → Option Tree → Walk → Tree × Walk

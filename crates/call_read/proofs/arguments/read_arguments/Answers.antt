@@ -9,8 +9,7 @@ use Rattle.arena_read.proofs.Kept.{same_table}
 use Rattle.arena_read.proofs.Steps.{goes_two}
 use Rattle.constant_read.proofs.Making.{goes_number}
 use Rattle.operand_read.specs.Found.{Finds, HasOperand, both, kept_operand, operand_in}
-use Rattle.call_read.specs.Calls.{argument_at}
-use Rattle.call_read.proofs.ArgumentLists.{argument_found, give_none, give_more, give_all, mapped_at, parameter_known}
+use Rattle.call_read.proofs.ArgumentLists.{argument_found, give_none, give_more, give_all, mapped_at, parameter_known, argument_at}
 use Rattle.call_read.proofs.arguments.read_arguments.Goals as goal
 
 pub arguments-init : goal.arguments-init
