@@ -16,10 +16,11 @@ use Rattle.canon_items.specs.Unplaced.{nowhere}
 use Rattle.canon_items.specs.Parts.{type_tree, constant_tree}
 use Rattle.canon_items.specs.Items.{text_item, struct_item, variable_item, alias_type_tree, alias_item, function_item_by, function_item, canon_items}
 use Rattle.canon_module.proofs.Modules.{struct_all}
+use Rattle.name_rules.specs.Demand.{first_refusal}
 use Rattle.name_rules.specs.Measured.{struct_measures}
 use Rattle.name_rules.specs.TypeDemands.{Known, type_demands}
-use Rattle.name_rules.specs.Breaks.{known_in, initialiser_demands, alias_type_demands, demands_behind}
-use Rattle.canon_reads.specs.Laws.{AsksForNothing}
+use Rattle.name_rules.specs.Breaks.{known_in, initialiser_demands, alias_type_demands, demands_behind, demands}
+use Rattle.canon_reads.specs.Laws.{IsGoodModule}
 use Rattle.canon_reads.proofs.Asked.{Held, held_none, held_more, held_both}
 use Rattle.canon_reads.proofs.Good.{first_of_all, others_of_all}
 use Rattle.canon_reads.proofs.GoodBodies.{AreGoodBlocks}
@@ -28,6 +29,10 @@ use Rattle.canon_reads.proofs.TypesHold.{entry_there, known, type_holds, struct_
 use Rattle.canon_reads.proofs.OperationsHold.{alignment_holds, parts_of}
 use Rattle.canon_reads.proofs.FunctionsHold.{names_in, definition_holds}
 use Rattle.canon_reads.proofs.ItemsHold.{own_demands, AllOwn, own_both, items_hold, globals_are, once}
+
+-- what the canonical items of a good module ask for holds
+abbrev pub AsksForNothing : Type 0
+AsksForNothing = (m : Module) → IsGoodModule m → first_refusal (demands (canon_items m)) ≡ None
 
 module _ (m : Module) (good : are_good_structs m.structs ≡ true) where
   abbrev k : Known

@@ -17,13 +17,17 @@ use Rattle.module_arena.specs.EntryRules.{return_suits}
 use Rattle.module_arena.specs.ValueRules.{is_pointer_value, arguments_suit, call_suits}
 use Rattle.module_arena.specs.WellFormed.{depth, is_in_range, is_good_part, is_good_constant}
 use Rattle.module_arena.proofs.SameValues.{type_is}
-use Rattle.canon_module.specs.Exact.{is_bit, IsExactNumber, IsExact, AreExact, IsExactValue, IsExactOperand, AreExactOperands, AreExactIncoming, IsExactCount, IsExactSignature, IsExactOperation, is_void, HasNoResult, IsNext, behind, IsNextResult, behind_result, AreExactInstructions, AreExactCases, IsExactEnding, behind_all, AreExactBlocks, AreExactParameters, behind_parameters, AreNumbered, IsExactBody, AreExactFunctions, IsExactInitialiser, AreExactVariables}
-use Rattle.canon_reads.specs.Laws.{StandsForItself}
+use Rattle.canon_module.specs.Exact.{is_bit, IsExactNumber, IsExact, AreExact, IsExactValue, IsExactOperand, AreExactOperands, AreExactIncoming, IsExactCount, IsExactSignature, IsExactOperation, is_void, HasNoResult, IsNext, behind, IsNextResult, behind_result, AreExactInstructions, AreExactCases, IsExactEnding, behind_all, AreExactBlocks, AreExactParameters, behind_parameters, AreNumbered, IsExactBody, AreExactFunctions, IsExactInitialiser, AreExactVariables, IsExactModule}
+use Rattle.canon_reads.specs.Laws.{IsGoodModule}
 use Rattle.canon_reads.proofs.Good.{first_of_all, others_of_all, all_front, all_rest, whole, AreGoodParts, AllGoodParts, IsGoodValue, IsGoodOperand, AreGoodOperands, IsGoodOperation}
 use Rattle.canon_reads.proofs.GoodBodies.{AreGoodInstructions, IsGoodEnding, AreGoodBlocks}
 use Rattle.canon_reads.proofs.GoodModule.{AreGoodVariables, AreGoodFunctions, the_variables, the_functions}
 use Rattle.canon_reads.proofs.FunctionsHold.{names_in}
 use Rattle.canon_reads.proofs.Valid.{AreFineCalls, AreFineBlocks, AreFineFunctions, valid_functions}
+
+-- the canonical items of a good module stand for it
+abbrev pub StandsForItself : Type 0
+StandsForItself = (m : Module) → IsGoodModule m → IsExactModule m
 
 -- ---- constants
 

@@ -17,7 +17,9 @@ use Rattle.name_rules.specs.ModuleOf.{module_of_items}
 use Rattle.name_rules.specs.Demand.{first_refusal, first_there}
 use Rattle.name_rules.specs.Breaks.{no_more, too_many, demands}
 use Rattle.name_rules.specs.Reads.{Reads}
-use Rattle.canon_reads.specs.Laws.{IsGoodModule, IsWritten, StandsForItself, AsksForNothing, IsUnbroken, IsReadBack, IsTheirOwn}
+use Rattle.canon_reads.specs.Laws.{IsGoodModule, IsWritten, IsUnbroken, IsReadBack, IsTheirOwn}
+use Rattle.canon_reads.proofs.Asks.{AsksForNothing}
+use Rattle.canon_reads.proofs.Exact.{StandsForItself}
 use Rattle.canon_reads.proofs.UnseenItems.{unasked}
 
 -- the count of what a module has

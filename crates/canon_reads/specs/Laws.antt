@@ -9,10 +9,8 @@ use Rattle.module_arena.specs.Valid.{IsValid}
 use Rattle.canonical.specs.Canonical.{canon_pieces, canon}
 use Rattle.canon_items.specs.Items.{canon_items, HasItemsAs}
 use Rattle.canon_law.specs.Texts.{IsWritable}
-use Rattle.canon_module.specs.Exact.{IsExactModule}
 use Rattle.name_rules.specs.ModuleOf.{module_of_items}
-use Rattle.name_rules.specs.Demand.{first_refusal}
-use Rattle.name_rules.specs.Breaks.{demands, first_break}
+use Rattle.name_rules.specs.Breaks.{first_break}
 use Rattle.name_rules.specs.Reads.{Reads}
 
 -- a module that is well formed and valid
@@ -32,17 +30,9 @@ HasItsTokens = (m : Module) → IsGoodModule m → Tokens (canon m) (tokens_of (
 abbrev pub HasItsItems : Type 0
 HasItsItems = (m : Module) → IsGoodModule m → HasItemsAs (canon m) (canon_items m)
 
--- its canonical items stand for it
-abbrev pub StandsForItself : Type 0
-StandsForItself = (m : Module) → IsGoodModule m → IsExactModule m
-
 -- it is the module of its canonical items
 abbrev pub IsOfItsItems : Type 0
 IsOfItsItems = (m : Module) → IsGoodModule m → module_of_items (canon_items m) ≡ m
-
--- what its canonical items ask for holds
-abbrev pub AsksForNothing : Type 0
-AsksForNothing = (m : Module) → IsGoodModule m → first_refusal (demands (canon_items m)) ≡ None
 
 -- its canonical items break no rule
 abbrev pub IsUnbroken : Type 0
