@@ -1,5 +1,5 @@
 -- Blocks and their instructions are no more than the tokens.
-use Rattle.std.proofs.Common.{◌≡◌, ◌+◌, ◌≤◌, List, [], ◌∷◌, length, refl, false, arith}
+use Rattle.std.proofs.Common.{◌≡◌, ◌+◌, ◌≤◌, List, [], ◌∷◌, length, refl, false, arith, ℕ}
 use Rattle.std.specs.List.{sum_by}
 use Rattle.std.proofs.lemmas.List.Sums.{sum_by-cons}
 use Rattle.ir_lexer.specs.Ahead.{Located}
@@ -14,8 +14,13 @@ use Rattle.ir_terminals.specs.Tokens.{word, label_row}
 use Rattle.ir_instructions.specs.Instructions.{instruction_shape, instruction_row, instructions_row}
 use Rattle.ir_instructions.specs.Endings.{ending_shape, ending_row}
 use Rattle.ir_instructions.specs.Blocks.{block_shape, block_core, block_row, block_list_row, blocks_row}
-use Rattle.ir_instructions.specs.Counts.{block_count, blocks_count}
+use Rattle.ir_instructions.specs.Counts.{block_count}
+use Rattle.ir_instructions.specs.Tree.{BlockTree}
 use Rattle.ir_instructions.proofs.Grammar.{reads_instruction, reads_ending}
+
+-- the blocks and their instructions, or the instructions of all blocks and their ends
+abbrev pub blocks_count : List BlockTree → ℕ
+blocks_count blocks = sum_by block_count blocks
 
 -- a phrase that is never of no token has at least one
 sized_some : {A : Type 0} (r : Row Located A) (s : PhraseShape) → Reads class r s → s.empty ≡ false → IsSized r (λ a. 1)
