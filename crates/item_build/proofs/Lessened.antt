@@ -6,7 +6,10 @@ use Rattle.type_table.specs.Layout.{has_layout, have_layouts, size}
 use Rattle.type_table.specs.Limits.{IsWithinLimits, Fits, array_length}
 use Rattle.type_table.specs.Shape.{Shape, int_leaf, ptr_leaf, void_leaf, opaque_leaf, array_of, struct_of, Shapes, no_shapes, more_shapes, Label, with_first, expanded, all_expanded, body_shape, name_shape, shape, nesting, deepest, parts, all_parts}
 use Rattle.type_table.specs.Tree.{Tree, int, ptr, void, array, struct, named, Trees, no_trees, more_trees, TreeBody, opaque_body, fields, Structs, body_of}
-use Rattle.item_build.specs.Partly.{AreLess}
+
+-- each name stands for what it does in the whole, or for nothing that is known
+abbrev pub AreLess : Structs → Structs → Type 0
+AreLess part whole = (name : List ℕ) → (body_of part name ≡ opaque_body) ⊎ (body_of part name ≡ body_of whole name)
 
 -- the second shape is no deeper and no larger than the first
 record IsLess (x y : Shape) : Type 0 where

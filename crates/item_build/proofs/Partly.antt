@@ -26,8 +26,8 @@ use Rattle.type_build.specs.Fitting.{CanBe, AllCanBe, AreWithin}
 use Rattle.type_build.specs.Stands.{Grows}
 use Rattle.type_build.proofs.Staying.{names_same, structs_stay}
 use Rattle.buildable.specs.Entries.{CanStruct}
-use Rattle.item_build.specs.Partly.{AreLess, names_of, body_at, IsPartly, AllFit, IsDone, CanDefine, with_structs}
-use Rattle.item_build.proofs.Lessened.{within_less}
+use Rattle.item_build.specs.Partly.{names_of, body_at, IsPartly, AllFit, IsDone, CanDefine, with_structs}
+use Rattle.item_build.proofs.Lessened.{within_less, AreLess}
 use Rattle.item_build.proofs.Ended.{ended}
 
 bodies_listed : (ts : List Tree) (xs : List (List ℕ × Option StructBody)) → map (λ (s : List ℕ × TreeBody). s.1) (map (tree_struct ts) xs) ≡ map (tree_body ts) (map (λ (s : List ℕ × Option StructBody). s.1) xs)

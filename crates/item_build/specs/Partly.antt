@@ -4,17 +4,13 @@ use Rattle.ir_syntax.specs.Tree.{BodyTree}
 use Rattle.type_table.specs.declared.ir_type.StructBody.{StructBody}
 use Rattle.type_table.specs.Limits.{IsWithinLimits}
 use Rattle.type_table.specs.Shape.{shape}
-use Rattle.type_table.specs.Tree.{TreeBody, opaque_body, named, Structs, body_of}
+use Rattle.type_table.specs.Tree.{TreeBody, opaque_body, named, Structs}
 use Rattle.type_table.specs.Types.{structs, bodies, trees, tree_body}
 use Rattle.module_arena.specs.Lists.{Lists}
 use Rattle.module_arena.specs.Module.{Module}
 use Rattle.name_rules.specs.Written.{body_in}
 use Rattle.type_build.specs.Fitting.{AreWithin}
 use Rattle.buildable.specs.Entries.{CanStruct}
-
--- each name stands for what it does in the whole, or for nothing that is known
-abbrev pub AreLess : Structs → Structs → Type 0
-AreLess part whole = (name : List ℕ) → (body_of part name ≡ opaque_body) ⊎ (body_of part name ≡ body_of whole name)
 
 -- the names of structs, in order
 abbrev pub names_of : Structs → List (List ℕ)
