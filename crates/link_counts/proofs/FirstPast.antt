@@ -19,8 +19,14 @@ use Rattle.module_linker.specs.Counts.{appended_bytes, appended_count, count_of_
 use Rattle.module_linker.specs.Structs.{struct_map}
 use Rattle.link_counts.specs.declared.counting.SymbolCounts.{SymbolCounts}
 use Rattle.link_counts.specs.declared.limits.Count.{Count}
-use Rattle.link_counts.specs.Told.{appended_at, appended_of, count_of_bytes, entry, entry_counts, first_appended, first_entry_count, past, told}
+use Rattle.link_counts.specs.Told.{appended_at, appended_of, count_of_bytes, entry, entry_counts, first_appended, past, told}
 use Rattle.link_counts.proofs.Clamped.{past_clamped}
+
+-- the first count of structs or entries that is past its limit, as the code reads
+abbrev pub first_entry_count : ℕ → SymbolCounts → Option Count
+first_entry_count structs counts =
+    option_or (option_or (option_or (past Structs structs) (past Variables counts.variables)) (past Functions counts.functions))
+    (past Aliases (clamped (linking.count_of_aliases counts.variables counts.functions counts.aliases)))
 
 or_told : (o p : Option Count) → option_map told (option_or o p) ≡ option_or (option_map told o) (option_map told p)
 or_told None p = refl

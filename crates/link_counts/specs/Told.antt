@@ -1,6 +1,5 @@
 -- For `count_symbols`, `too_many_entries` and `too_many`: symbols of one kind, the counts of entries and structs, and the sizes of appended arrays.
 use Rattle.std.specs.Prelude.{ℕ, List, [], ◌∷◌, Option, Some, None, nat_lt, filter, filter_map, length, if◌then◌else◌}
-use Rattle.std.specs.Option.{option_or}
 use Rattle.linkage_rules.specs.Conflicts.{appends}
 use Rattle.linkage_rules.specs.Entries.{Entry}
 use Rattle.linkage_rules.specs.Grouped.{kind_of, same_kind}
@@ -10,7 +9,6 @@ use Rattle.linkage_rules.specs.Winner.{definitions, home}
 use Rattle.linkage_rules.specs.declared.symbol.SymbolKind.TheVariants as kind
 use Rattle.linkage_rules.specs.declared.symbol.Symbol.{Symbol}
 use Rattle.linkage_rules.specs.declared.symbol.SymbolKind.{SymbolKind}
-use Rattle.linked_symbols.specs.Places.{clamped}
 use Rattle.module_arena.specs.Module.{Module}
 use Rattle.module_arena.specs.declared.arena.TheConstants.{COUNT_LIMIT}
 use Rattle.module_arena.specs.declared.fault.CountKind.{CountKind}
@@ -41,12 +39,6 @@ told c = record { kind = c.kind; number = c.number }
 -- a count of structs or entries that is past the limit
 abbrev pub past : CountKind → ℕ → Option Count
 past kind number = if nat_lt COUNT_LIMIT number then Some (record { kind = kind; number = number }) else None
-
--- the first of them, as the code reads
-abbrev pub first_entry_count : ℕ → SymbolCounts → Option Count
-first_entry_count structs counts =
-    option_or (option_or (option_or (past Structs structs) (past Variables counts.variables)) (past Functions counts.functions))
-    (past Aliases (clamped (linking.count_of_aliases counts.variables counts.functions counts.aliases)))
 
 -- the size of an appended array, as a count
 abbrev pub count_of_bytes : Option ℕ → Option Count

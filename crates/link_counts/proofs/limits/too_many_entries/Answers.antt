@@ -1,8 +1,8 @@
 use Rattle.std.proofs.Common.{◌≡◌, ◌-◌, ◌^◌, ◌<◌, ap, ap₂, ◌∙◌, lit<, arith}
 use Rattle.std.specs.Option.{option_map, option_or}
 use Rattle.module_arena.specs.declared.fault.CountKind.TheVariants.{Aliases}
-use Rattle.link_counts.specs.Told.{first_entry_count, past, told}
-use Rattle.link_counts.proofs.FirstPast.{entries_told}
+use Rattle.link_counts.specs.Told.{past, told}
+use Rattle.link_counts.proofs.FirstPast.{entries_told, first_entry_count}
 use Rattle.link_counts.proofs.limits.too_many_entries.Goals as goal
 
 pub returns : goal.returns
