@@ -5,7 +5,13 @@ use Rattle.std.proofs.lemmas.Bool.{cases_order}
 use Rattle.std.proofs.Math.Seq.{take-length}
 use Rattle.phrase_rows.specs.Row.{Reading, Done, Bad, PhraseShape, Row}
 use Rattle.phrase_rows.specs.Reads.{Front, Takes, tokens_behind, Reads}
-use Rattle.phrase_rows.specs.Answer.{IsFirstBad, IsAnswer, HasOneAnswer, ended, answer}
+use Rattle.phrase_rows.specs.Answer.{IsFirstBad, IsAnswer, ended, answer}
+
+-- tokens have exactly one answer: whole with one value, or one first bad place, and never both
+pub record HasOneAnswer {T A : Type 0} (r : Row T A) (ended : Bool) (ts : List T) : Type 0 where
+  pub found : Result A ℕ
+  pub holds : IsAnswer r ended ts found
+  pub only : (x : Result A ℕ) → IsAnswer r ended ts x → x ≡ found
 
 module _ {T A : Type 0} (class : T → ℕ) (r : Row T A) (s : PhraseShape) (h : Reads class r s) where
   front_before : (us rest : List T) (j : ℕ) → Front r us → j ≤ length us → Front r (take j (us ++ rest))

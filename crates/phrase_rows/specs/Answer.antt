@@ -26,9 +26,3 @@ ended e n (Bad rest) = Err (n - length rest)
 -- what reading gives for all of the tokens
 abbrev pub answer : {T A : Type 0} → Row T A → Bool → List T → Result A ℕ
 answer r e ts = ended e (length ts) (r.run ts)
-
--- tokens have exactly one answer: whole with one value, or one first bad place, and never both
-pub record HasOneAnswer {T A : Type 0} (r : Row T A) (ended : Bool) (ts : List T) : Type 0 where
-  pub found : Result A ℕ
-  pub holds : IsAnswer r ended ts found
-  pub only : (x : Result A ℕ) → IsAnswer r ended ts x → x ≡ found
