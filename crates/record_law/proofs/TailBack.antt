@@ -10,9 +10,13 @@ use Rattle.record_table.specs.Spelling.{Line, put, put_bodies, records_put, body
 use Rattle.record_table.specs.Listed.{IsName, IsLabel}
 use Rattle.record_table.specs.Lays.{Lays}
 use Rattle.record_bodies.proofs.BodyBack.{put_append}
-use Rattle.record_law.specs.FittingModules.{settled, due, Globals, with_globals, after_variable, after_function, after_alias, none_yet, behind_variables, behind_functions, behind_aliases, TailFits, IsRead}
+use Rattle.record_law.specs.FittingModules.{settled, due, Globals, with_globals, after_variable, after_function, after_alias, none_yet, behind_variables, behind_functions, TailFits, IsRead}
 use Rattle.record_law.proofs.AllBodies.{IsPast, AllRead, bodies_back, bodies_of}
 use Rattle.record_law.proofs.GlobalsRead.{variables_back, functions_back, aliases_back}
+
+-- behind all variables, functions and aliases
+abbrev pub behind_aliases : List Variable → List Function → List Alias → ℕ → Globals
+behind_aliases vs fs all at = fold after_alias (behind_functions vs fs at) all
 
 variables_fold : (vs : List Variable) (g : Globals) → fold after_variable g vs ≡ record g { at = (fold after_variable g vs).at; last = (fold after_variable g vs).last; variables = g.variables ++ vs }
 variables_fold [] g = ap (λ all. record g { variables = all }) (sym (append-nil g.variables))

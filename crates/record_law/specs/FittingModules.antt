@@ -67,10 +67,6 @@ behind_variables vs at = fold after_variable (none_yet at) vs
 abbrev pub behind_functions : List Variable → List Function → ℕ → Globals
 behind_functions vs fs at = fold after_function (behind_variables vs at) fs
 
--- and all aliases
-abbrev pub behind_aliases : List Variable → List Function → List Alias → ℕ → Globals
-behind_aliases vs fs all at = fold after_alias (behind_functions vs fs at) all
-
 module _ (s : Sofar) where
   -- a variable that fits, has a new name and is not one too many
   abbrev pub VariableFollows : Globals → Variable → Type 0
