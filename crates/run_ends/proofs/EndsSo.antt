@@ -1,6 +1,6 @@
 -- Each way in which a run can end is an end of runs.
 use Rattle.std.proofs.Common.{ℕ, zero, suc, ◌+◌, ◌*◌, ◌%◌, Bool, true, false, List, [], ◌∷◌, Result, Ok, Err}
-use Rattle.std.specs.Prelude.{if◌then◌else◌, nat_eq, nat_le}
+use Rattle.std.specs.Prelude.{⊤, if◌then◌else◌, nat_eq, nat_le}
 use Rattle.std.specs.List.{list_any}
 use Rattle.ir_tables.specs.declared.undefined_kind.UndefinedKind.{UndefinedKind}
 use Rattle.ir_tables.specs.declared.undefined_kind.UndefinedKind.TheVariants.{AnotherFunctionType}
@@ -23,8 +23,20 @@ use Rattle.run_rules.specs.Printing.{printed, prints}
 use Rattle.run_rules.specs.declared.end.End.TheVariants.{StackLimit}
 use Rattle.run_rules.specs.State.{Frame, Due, Constructor, Main, MainWith, Core, State, Next, Goes, Gets, Stops, fails, on_top, weight, weight_limit, weights}
 use Rattle.run_rules.specs.Step.{Step, GoesOn, IsOver, advanced, called_while_idle, carried, counted, instruction, step, then_on, took, used_up}
-use Rattle.run_ends.specs.Ends.{AnswersSo, ComesSo, EndsSo}
+use Rattle.run_ends.specs.Ends.{EndsSo, IsOfRuns}
 use Rattle.run_ends.specs.Laws.{RunsEndSo}
+
+-- where a host function ends the program
+abbrev pub AnswersSo : Answer → Type 0
+AnswersSo (Gives result memory output) = ⊤
+AnswersSo Reads = ⊤
+AnswersSo (Halts end) = IsOfRuns end
+
+-- where an instruction ends the program
+abbrev pub ComesSo : Next → Type 0
+ComesSo (Goes core output) = ⊤
+ComesSo (Gets to core) = ⊤
+ComesSo (Stops end) = IsOfRuns end
 
 -- a test chooses between two
 either : {A : Type 0} (P : A → Type 0) (b : Bool) (x y : A) → P x → P y → P (if b then x else y)
