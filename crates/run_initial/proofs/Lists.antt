@@ -31,7 +31,12 @@ use Rattle.run_constants.specs.declared.filled.Fill.{Fill}
 use Rattle.run_constants.specs.declared.filled.Fill.TheVariants as fill
 use Rattle.run_constants.specs.Filled.{leaf_in}
 use Rattle.run_constants.specs.Sound.{leaf_tree}
-use Rattle.run_initial.specs.Fresh.{filled, is_packed, leaf_shape}
+use Rattle.run_initial.specs.Fresh.{filled, is_packed}
+
+-- the shape of a leaf
+abbrev pub leaf_shape : Leaf → Shape
+leaf_shape (leaf.Int w) = int_leaf w
+leaf_shape leaf.Ptr = ptr_leaf
 
 -- ---- wherever a value lies its leaves are of the same kinds
 

@@ -27,7 +27,7 @@ use Rattle.run_rules.specs.Look.{address_in, leaf_of}
 use Rattle.typed_look.proofs.Constants.{AreSound, constant_typed, is_sound, one_leaf_typed}
 use Rattle.typed_look.proofs.Lists.{HaveTypes}
 use Rattle.typed_runs.specs.Kinds.{IsOf, kinds_of}
-use Rattle.run_initial.specs.Fresh.{leaf_shape}
+use Rattle.run_initial.proofs.Lists.{leaf_shape}
 
 -- ---- addresses
 

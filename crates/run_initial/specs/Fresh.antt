@@ -4,8 +4,6 @@ use Rattle.ir_tables.specs.declared.undefined_kind.UndefinedKind.{UndefinedKind}
 use Rattle.ir_eval.specs.declared.value.Pointer.{Pointer}
 use Rattle.ir_eval.specs.declared.value.Scalar.{Scalar}
 use Rattle.ir_eval.specs.declared.value.Scalar.TheVariants as scalar
-use Rattle.ir_memory.specs.declared.leaf.Leaf.{Leaf}
-use Rattle.ir_memory.specs.declared.leaf.Leaf.TheVariants as leaf
 use Rattle.ir_memory.specs.Memory.{Blocks}
 use Rattle.type_table.specs.Layout.{leaves}
 use Rattle.type_table.specs.Shape.{Shape, int_leaf, ptr_leaf, void_leaf, opaque_leaf, array_of, struct_of, Shapes, no_shapes, more_shapes}
@@ -57,11 +55,6 @@ abbrev mutual
 abbrev pub needed_of : Fill → Shape → Bool
 needed_of Zero s = has_pointer s
 needed_of Poison s = not (nat_eq (leaves s) 0)
-
--- the shape of a leaf
-abbrev pub leaf_shape : Leaf → Shape
-leaf_shape (leaf.Int w) = int_leaf w
-leaf_shape leaf.Ptr = ptr_leaf
 
 -- the parts follow one another without a gap: the fields of a packed struct, and the elements of an array
 abbrev pub is_packed : Shape → Bool
