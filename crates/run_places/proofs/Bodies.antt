@@ -14,8 +14,8 @@ use Rattle.run_rules.specs.Look.{look_in, action_at, ending_at}
 use Rattle.run_rules.specs.NeverStuck.{is_stuck}
 use Rattle.run_rules.specs.Resolve.{operation_in, instruction_in, is_phi, phis, edge_in, edge_into, case_in, ending_in}
 use Rattle.run_rules.specs.Scope.{FunctionScope, place_in, block_in}
-use Rattle.run_places.specs.Bodies.{is_phi_instruction, IsLaidOut}
 use Rattle.run_places.specs.Places.{IsThere, LeadsOn, GoesOnFrom}
+use Rattle.run_places.proofs.Laid.{IsLaidOut, is_phi_instruction}
 use Rattle.run_places.proofs.Options.{none_some}
 use Rattle.run_places.proofs.Search.{IsFound, found_at, position_at, all_before, ends_at}
 
