@@ -1,7 +1,7 @@
 -- What a type or a constant is, from what its parts are.
 use Rattle.std.proofs.Common.{◌≡◌, ℕ, List, [], ◌∷◌, map, refl, sym, ap, ◌∙◌}
 use Rattle.ir_constants.specs.Tree.{TypeTree, types, TypedConstantTree, constants}
-use Rattle.type_table.specs.Tree.{Tree, more_trees}
+use Rattle.type_table.specs.Tree.{Tree, more_trees, Trees, no_trees}
 use Rattle.type_table.specs.Types.{trees, trees_at}
 use Rattle.module_arena.specs.declared.constant.TypedConst.{TypedConst}
 use Rattle.module_arena.specs.Lists.{Lists}
@@ -10,7 +10,12 @@ use Rattle.module_arena.specs.Module.Constants.{more_constants}
 use Rattle.module_arena.specs.View.{type_at, constant_at, constants_at, constants_of}
 use Rattle.name_rules.specs.Written.{type_in, types_in, constants_in}
 use Rattle.type_build.specs.Stands.{AreTypes, typed_at, AreTyped, IsTyped}
-use Rattle.type_build.specs.Typed.{typed_in, trees_listed, constants_listed}
+use Rattle.type_build.specs.Typed.{typed_in, constants_listed}
+
+-- these types, one behind the other
+abbrev pub trees_listed : List Tree → Trees
+trees_listed [] = no_trees
+trees_listed (t ∷ ts) = more_trees t (trees_listed ts)
 
 pub map_twice : {X Y Z : Type 0} (f : X → Y) (g : Y → Z) (xs : List X) → map g (map f xs) ≡ map (λ x. g (f x)) xs
 map_twice f g [] = refl

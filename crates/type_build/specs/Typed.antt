@@ -4,7 +4,7 @@ use Rattle.ir_tables.specs.declared.opcode.Opcode.{Opcode}
 use Rattle.module_arena.specs.declared.constant.Const.{Const}
 use Rattle.module_arena.specs.declared.constant.Const.TheVariants as const
 use Rattle.ir_constants.specs.Tree.{TypedConstantTree}
-use Rattle.type_table.specs.Tree.{Tree, Trees, no_trees, more_trees}
+use Rattle.type_table.specs.Tree.{Tree}
 use Rattle.module_arena.specs.Module.{Constant, Constants}
 use Rattle.module_arena.specs.Module.Constants.{no_constants, more_constants}
 use Rattle.name_rules.specs.Written.{type_in, constant_in}
@@ -12,11 +12,6 @@ use Rattle.name_rules.specs.Written.{type_in, constant_in}
 -- a constant that is written, and its type
 abbrev pub typed_in : TypedConstantTree → Tree × Constant
 typed_in written = (type_in written.0, constant_in (type_in written.0) written.1)
-
--- these types, one behind the other
-abbrev pub trees_listed : List Tree → Trees
-trees_listed [] = no_trees
-trees_listed (t ∷ ts) = more_trees t (trees_listed ts)
 
 -- these constants with their types, one behind the other
 abbrev pub constants_listed : List (Tree × Constant) → Constants
