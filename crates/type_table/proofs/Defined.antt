@@ -15,7 +15,7 @@ use Rattle.type_table.specs.declared.fault.TypeFault.TheVariants.{Duplicate, Sel
 use Rattle.type_table.specs.Contains.{BodyHolds}
 use Rattle.type_table.specs.Kept.{IsSmall, IsMeasured, IsKept, HasListFault}
 use Rattle.type_table.specs.Limits.{HasFault, SomeContainsItself}
-use Rattle.type_table.specs.Measures.{Measures, measure_of, opaque_measure, body_measure, measures_at, type_measures, passes, tree_measures, tree_body_measure, pass_measure, deepest_nesting}
+use Rattle.type_table.specs.Measures.{Measures, measure_of, opaque_measure, body_measure, measures_at, type_measures, passes, tree_measures, tree_body_measure, deepest_nesting}
 use Rattle.type_table.specs.Shape.{all_expanded, name_shape}
 use Rattle.type_table.specs.Tree.{named, TreeBody, opaque_body, fields, body_of, index_of}
 use Rattle.type_table.specs.Types.{Types, with_body, names, bodies, trees, trees_at, grow, tree_body, structs, KnowsBody, AllKnown, IsKnownBody, IsGood}
@@ -24,7 +24,7 @@ use Rattle.type_table.proofs.Judged.{agree, types_measured, some_deep, none_deep
 use Rattle.type_table.proofs.PassLists.{passes-zero, passes-suc, length-passes, get_or-struct_measures, deepest_most}
 use Rattle.type_table.proofs.Redefined.{measures_after, contains_itself, name_near, HaveShapes}
 use Rattle.type_table.proofs.Rooms.{has_shape, HasShape, HasShapes, trees_have_shapes, AllBelow, struct_at_most}
-use Rattle.type_table.proofs.Settled.{Passes, settled, kept_measure}
+use Rattle.type_table.proofs.Settled.{Passes, settled, kept_measure, pass_measure}
 use Rattle.type_table.proofs.UnderIds.{tree_at, index_of-at, index_of-found, body_of-place, measure_of-at, trees-measures, tree_body-measure}
 
 -- the names stay

@@ -1,10 +1,15 @@
 -- Once as many passes were made as names stand in names, one pass more changes nothing.
 use Rattle.std.proofs.Common.{◌≡◌, ℕ, zero, suc, List, ◌∷◌, Option, Some, None, ap, refl, sym, ◌∙◌}
 use Rattle.type_table.specs.declared.measure.Measure.{Measure}
-use Rattle.type_table.specs.Measures.{array_measure, struct_measure, tree_measure, tree_measures, pass_measure}
+use Rattle.type_table.specs.Measures.{array_measure, struct_measure, tree_measure, tree_measures}
 use Rattle.type_table.specs.Shape.{Label, Shape, array_of, struct_of, Shapes, expanded, all_expanded, body_shape, name_shape}
 use Rattle.type_table.specs.Tree.{Tree, int, ptr, void, array, struct, named, Trees, no_trees, more_trees, TreeBody, opaque_body, fields}
 use Rattle.type_table.proofs.Rooms.{name_shape-zero, name_shape-suc, unmapped, unjoined}
+
+-- the measure of a body, where a struct without fields keeps the measure that it had
+abbrev pub pass_measure : (List ℕ → Measure) → Measure → TreeBody → Measure
+pass_measure look had opaque_body = had
+pass_measure look had (fields packed ts) = struct_measure packed (tree_measures look ts)
 
 module _ (f : List ℕ → Option Shape) (one other : List ℕ → Measure) (agree : (n : List ℕ) (x : Shape) → f n ≡ Some x → one n ≡ other n) where
   mutual

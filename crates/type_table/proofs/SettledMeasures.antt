@@ -7,12 +7,13 @@ use Rattle.type_table.specs.declared.ir_type.StructBody.TheVariants.{Opaque, Pla
 use Rattle.type_table.specs.declared.measure.Measure.{Measure}
 use Rattle.type_table.specs.Kept.{IsSmall, IsMeasured, IsKept, type_length}
 use Rattle.type_table.specs.Batch.{IsOpen}
-use Rattle.type_table.specs.Measures.{Measures, measure_of, opaque_measure, body_measure, type_measures, struct_measures, tree_measure, tree_body_measure, pass_measure}
+use Rattle.type_table.specs.Measures.{Measures, measure_of, opaque_measure, body_measure, type_measures, struct_measures, tree_measure, tree_body_measure}
 use Rattle.type_table.specs.Tree.{body_of, index_of}
 use Rattle.type_table.specs.Types.{Types, IsGood, names, bodies, trees, structs, tree_body, AllKnown, KnowsBody}
 use Rattle.type_table.proofs.Added.{length-trees}
 use Rattle.type_table.proofs.Judged.{All-left, All-right}
 use Rattle.type_table.proofs.PassLists.{get_or-struct_measures}
+use Rattle.type_table.proofs.Settled.{pass_measure}
 use Rattle.type_table.proofs.UnderIds.{body_of-place, measure_of-at, trees-measures, tree_body-measure}
 
 module _ (t : Types) (good : IsGood t) (ms : List Measure) (many : length ms ≡ length t.structs)

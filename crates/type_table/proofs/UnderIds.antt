@@ -11,7 +11,8 @@ use Rattle.type_table.specs.declared.ir_type.StructBody.TheVariants.{Opaque, Pla
 use Rattle.type_table.specs.declared.measure.Measure.{Measure}
 use Rattle.type_table.specs.Tree.{Tree, void, TreeBody, opaque_body, index_of, body_of}
 use Rattle.type_table.specs.Types.{Types, names, bodies, trees, trees_at, tree_of, grow, tree_body, tree_struct, structs, Knows, AllKnown, KnowsBody}
-use Rattle.type_table.specs.Measures.{opaque_measure, array_measure, struct_measure, measures_at, type_measure, type_measures, push_measure, body_measure, measure_of, tree_measure, tree_measures, pass_measure}
+use Rattle.type_table.specs.Measures.{opaque_measure, array_measure, struct_measure, measures_at, type_measure, type_measures, push_measure, body_measure, measure_of, tree_measure, tree_measures}
+use Rattle.type_table.proofs.Settled.{pass_measure}
 
 -- the place of a name
 tail_distinct : (n : List ℕ) (ns : List (List ℕ)) → AllPairs (λ a b. a ≢ b) (n ∷ ns) → AllPairs (λ a b. a ≢ b) ns

@@ -13,12 +13,13 @@ use Rattle.type_table.specs.declared.ir_type.StructBody.TheVariants.{Opaque, Pla
 use Rattle.type_table.specs.declared.measure.Measure.{Measure}
 use Rattle.type_table.specs.Kept.{IsSmall, IsLarge, IsMeasured, IsKept, IsFlagged, HasListFault}
 use Rattle.type_table.specs.Limits.{HasFault}
-use Rattle.type_table.specs.Measures.{measure_of, opaque_measure, body_measure, type_measure, push_measure, type_measures, struct_measures, passes, tree_body_measure, pass_measure, deepest_nesting}
+use Rattle.type_table.specs.Measures.{measure_of, opaque_measure, body_measure, type_measure, push_measure, type_measures, struct_measures, passes, tree_body_measure, deepest_nesting}
 use Rattle.type_table.specs.Types.{Types, with_body, names, bodies, trees, tree_body, KnowsBody, IsKnownBody}
 use Rattle.type_table.proofs.Added.{length-trees}
 use Rattle.type_table.proofs.Defined.{kept_defined, defined_fault, some_nesting, defined}
 use Rattle.type_table.proofs.Judged.{agree, types_measured, as_names, Any-right}
 use Rattle.type_table.proofs.PassLists.{passes-zero, passes-suc, deepest_most, deepest_bound}
+use Rattle.type_table.proofs.Settled.{pass_measure}
 use Rattle.type_table.proofs.UnderIds.{index_of-at, body_of-place, tree_body-measure}
 
 module _ (held : List Bool) (ks : List Measure) (id : ℕ) (m : Measure) (free : get_or held id false ≡ false) where

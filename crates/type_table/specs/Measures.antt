@@ -149,11 +149,6 @@ module _ (look : List ℕ → Measure) where
   tree_body_measure opaque_body = opaque_measure
   tree_body_measure (fields packed ts) = struct_measure packed (tree_measures ts)
 
--- the same, where a struct without fields keeps the measure that it had
-abbrev pub pass_measure : (List ℕ → Measure) → Measure → TreeBody → Measure
-pass_measure look had opaque_body = had
-pass_measure look had (fields packed ts) = struct_measure packed (tree_measures look ts)
-
 -- the measure of each name is that of what it stands for
 abbrev pub Measures : (List ℕ → TreeBody) → (List ℕ → Measure) → Type 0
 Measures bodies look = (name : List ℕ) → look name ≡ tree_body_measure look (bodies name)
