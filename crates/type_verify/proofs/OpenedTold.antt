@@ -1,5 +1,5 @@
 -- What a type is by the ids of its parts is its tree, opened.
-use Rattle.std.proofs.Common.{◌≡◌, ℕ, zero, suc, ◌<◌, Bool, true, false, List, [], ◌∷◌, length, get_or, slice_get, All, Option, Some, None, refl, sym, ap, ◌∙◌, subst, arith, cond, true≢false}
+use Rattle.std.proofs.Common.{◌≡◌, ℕ, zero, suc, ◌<◌, Bool, true, false, List, [], ◌∷◌, length, get_or, slice_get, All, Option, Some, None, refl, sym, ap, ◌∙◌, subst, arith, cond, true≢false, slice_index_or}
 use Rattle.std.specs.Option.{option_map, option_and_then}
 use Rattle.std.proofs.lemmas.List.Elements.{All-head, All-tail}
 use Rattle.std.proofs.lemmas.List.{length-map}
@@ -17,7 +17,11 @@ use Rattle.module_arena.specs.Constants.{Index, indexed}
 use Rattle.module_arena.specs.TypeTests.{opened, struct_of_body, field_type, is_integer_of}
 use Rattle.module_arena.proofs.HostTypesAgree.{field_known as one_known}
 use Rattle.module_arena.proofs.Grown.{below}
-use Rattle.type_verify.specs.Opened.{OpenedIds, array_of, struct_of, opened_body, opened_by, opened_type, has_no_parts, IsOpened}
+use Rattle.type_verify.specs.Opened.{OpenedIds, array_of, struct_of, opened_body, opened_by, has_no_parts, IsOpened}
+
+-- what a type of the table is
+abbrev pub opened_type : Types → ℕ → OpenedIds
+opened_type t ty = opened_by (bodies t) (slice_index_or t.types ty type.Void)
 
 body_known : (count : ℕ) (bs : List (Option StructBody)) (id : ℕ) → All (KnowsBody count) bs → KnowsBody count (get_or bs id None)
 body_known count [] id all = tt

@@ -5,7 +5,7 @@ use Rattle.type_table.specs.declared.ir_type.IrType.TheVariants as type
 use Rattle.type_table.specs.declared.ir_type.StructBody.{StructBody}
 use Rattle.type_table.specs.declared.ir_type.StructBody.TheVariants.{Opaque, Plain, Packed}
 use Rattle.type_table.specs.Tree.{Tree, array, struct}
-use Rattle.type_table.specs.Types.{Types, bodies, trees, trees_at, tree}
+use Rattle.type_table.specs.Types.{Types, trees, trees_at, tree}
 use Rattle.type_verify.specs.declared.types.OpenedType as the_opened
 use Rattle.type_verify.specs.declared.types.OpenedType.TheVariants as the
 
@@ -36,10 +36,6 @@ opened_by bs type.Void = neither
 opened_by bs (type.Array length part) = array_of length part
 opened_by bs (type.Struct packed parts) = struct_of packed parts
 opened_by bs (type.Named id) = opened_body (slice_index_or bs id None)
-
--- what a type of the table is
-abbrev pub opened_type : Types → ℕ → OpenedIds
-opened_type t ty = opened_by (bodies t) (slice_index_or t.types ty type.Void)
 
 -- neither an array nor a struct
 abbrev pub has_no_parts : Tree → Bool
