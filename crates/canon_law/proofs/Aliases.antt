@@ -17,7 +17,7 @@ use Rattle.canonical.specs.Canonical.{linkage_phrase, alias_type, alias_phrase}
 use Rattle.canon_items.specs.Unplaced.{unplaced_type, unplaced_name, unplaced_signature, unplaced_alias_type, unplaced}
 use Rattle.canon_items.specs.Parts.{name_tree}
 use Rattle.canon_items.specs.Items.{written_linkage, alias_type_tree, alias_item}
-use Rattle.canon_law.specs.Printed.{IsPrinted}
+use Rattle.canon_law.proofs.Printed.{IsPrinted}
 use Rattle.canon_law.specs.Written.{IsNameText}
 use Rattle.canon_law.specs.Texts.{IsAliasTypeText, IsAliasText}
 use Rattle.canon_law.proofs.Joined.{spaced, tight, right_none}

@@ -27,7 +27,7 @@ use Rattle.canonical.specs.Instructions.{instruction_phrase, target, case_phrase
 use Rattle.canonical.specs.Canonical.{body_of_blocks}
 use Rattle.canon_items.specs.Unplaced.{unplaced_local, unplaced_instruction, unplaced_case, unplaced_ending, unplaced_block}
 use Rattle.canon_items.specs.Parts.{local_tree, constant_tree, operand_tree, operation_tree, instruction_tree, case_tree, ending_tree, block_tree}
-use Rattle.canon_law.specs.Printed.{IsPrinted}
+use Rattle.canon_law.proofs.Printed.{IsPrinted}
 use Rattle.module_arena.specs.Forms.{is_binary, is_cast, is_not_empty}
 use Rattle.canon_law.specs.Written.{IsLocalText, IsOperandText, IsOperationText, operation_opcode}
 use Rattle.canon_law.specs.Texts.{HasResult, IsInstructionText, AreInstructionTexts, AreCaseTexts, IsEndingText, IsBlockText, AreBlockTexts}

@@ -31,7 +31,7 @@ use Rattle.canonical.specs.Types.{type_phrase}
 use Rattle.canonical.specs.Constants.{opcode, flags_phrase, address_flags_phrase, truth, integer_phrase, in_brackets, constant_phrase, constant_phrases}
 use Rattle.canon_items.specs.Unplaced.{no_place, nowhere, unplaced_type, unplaced_constant, unplaced_constants, unplaced_typed}
 use Rattle.canon_items.specs.Parts.{signed, type_tree, truth_tree, integer_tree, constant_tree, constant_trees, constant_list}
-use Rattle.canon_law.specs.Printed.{IsPrinted, Starts}
+use Rattle.canon_law.proofs.Printed.{IsPrinted, Starts}
 use Rattle.module_arena.specs.Forms.{is_constant_cast, is_constant_binary, has_constants}
 use Rattle.canon_law.specs.Written.{IsTypeText, IsFlagSet, IsNumberText, IsConstantText, AreConstantTexts}
 use Rattle.canon_law.proofs.Joined.{spaced, tight}

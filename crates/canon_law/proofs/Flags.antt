@@ -19,7 +19,7 @@ use Rattle.ir_tables.specs.MayHave.{may_have}
 use Rattle.ir_constants.specs.Flags.{with_flag, flag_step, flags_core, flags_row}
 use Rattle.canonical.specs.Phrase.{word, each}
 use Rattle.canonical.specs.Constants.{flags_phrase, address_flags_phrase}
-use Rattle.canon_law.specs.Printed.{IsSpaced, IsPrinted}
+use Rattle.canon_law.proofs.Printed.{IsSpaced, IsPrinted}
 use Rattle.canon_law.specs.Written.{IsFlagSet}
 use Rattle.canon_law.proofs.Joined.{spaced_none, spaced_token}
 use Rattle.canon_law.proofs.Lists.{after}

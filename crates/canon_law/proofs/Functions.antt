@@ -29,7 +29,7 @@ use Rattle.canonical.specs.Canonical.{linkage_phrase, head_phrase, parameter_phr
 use Rattle.canon_items.specs.Unplaced.{unplaced_type, unplaced_local, unplaced_block, unplaced_parameter, unplaced_head, unplaced}
 use Rattle.canon_items.specs.Parts.{type_tree, block_tree}
 use Rattle.canon_items.specs.Items.{written_linkage, head_tree, parameter_tree, function_item_by}
-use Rattle.canon_law.specs.Printed.{IsPrinted, Starts}
+use Rattle.canon_law.proofs.Printed.{IsPrinted, Starts}
 use Rattle.module_arena.specs.Forms.{is_not_empty}
 use Rattle.canon_law.specs.Written.{IsNameText, IsLocalText, IsTypeText}
 use Rattle.canon_law.specs.Texts.{AreParameterTexts, AreBlockTexts}

@@ -21,7 +21,7 @@ use Rattle.canonical.specs.Names as names
 use Rattle.canonical.specs.Canonical.{text_phrases, struct_phrase, variable_phrase, alias_phrase, function_phrase_by, function_phrase, item_phrases}
 use Rattle.canon_items.specs.Unplaced.{nowhere, unplaced}
 use Rattle.canon_items.specs.Items.{text_item, struct_item, variable_item, alias_item, function_item_by, function_item, canon_items}
-use Rattle.canon_law.specs.Printed.{IsPrinted}
+use Rattle.canon_law.proofs.Printed.{IsPrinted}
 use Rattle.canon_law.specs.Written.{AreBytes}
 use Rattle.canon_law.specs.Texts.{IsText, IsBodyText, IsFunctionText, AreStructTexts, AreVariableTexts, AreAliasTexts, AreFunctionTexts, IsWritable}
 use Rattle.canon_law.proofs.Joined.{spaced}

@@ -10,7 +10,7 @@ use Rattle.ir_lexer.specs.declared.class.Class.TheVariants.{Mark}
 use Rattle.ir_lexer.specs.declared.token.TokenKind.{TokenKind}
 use Rattle.ir_lexer.specs.declared.token.TokenKind.TheVariants as kind
 use Rattle.canonical.specs.Phrase.{Phrase, none, token, mark, ◌␣◌, ◌⌢◌}
-use Rattle.canon_law.specs.Printed.{is_mark, Fits, IsSpaced, Joins, Starts}
+use Rattle.canon_law.proofs.Printed.{is_mark, Fits, IsSpaced, Joins, Starts}
 
 pub spaced : {p q : Phrase} → Joins p q (p ␣ q)
 spaced {p} {q} = record {

@@ -28,7 +28,7 @@ use Rattle.canonical.specs.Names as names
 use Rattle.canonical.specs.Names.{quoted}
 use Rattle.canon_items.specs.Unplaced.{nowhere, unplaced_text, unplaced_local}
 use Rattle.canon_items.specs.Parts.{local_tree}
-use Rattle.canon_law.specs.Printed.{IsPrinted}
+use Rattle.canon_law.proofs.Printed.{IsPrinted}
 use Rattle.canon_law.specs.Written.{AreBytes, IsLocalText}
 use Rattle.canon_law.proofs.Rows.{printed_one}
 use Rattle.canon_law.proofs.Numerals.{AreDigits, decimal_some, decimal_digits, decimal_back, digits_each, digits_first}

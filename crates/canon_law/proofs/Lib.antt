@@ -1,3 +1,4 @@
+pub mod Printed
 pub mod Joined
 pub mod Rows
 pub mod Words

@@ -35,7 +35,7 @@ use Rattle.canonical.specs.Constants.{opcode, flags_phrase, address_flags_phrase
 use Rattle.canonical.specs.Operations.{aligned, counted, incoming_phrase, operation_phrase}
 use Rattle.canon_items.specs.Unplaced.{unplaced_type, unplaced_operand, unplaced_integer, unplaced_incoming, unplaced_operation}
 use Rattle.canon_items.specs.Parts.{natural, type_tree, value_tree, operand_tree, incoming_tree, operation_tree}
-use Rattle.canon_law.specs.Printed.{IsPrinted, Joins}
+use Rattle.canon_law.proofs.Printed.{IsPrinted, Joins}
 use Rattle.module_arena.specs.Forms.{is_not_empty, is_binary, is_cast}
 use Rattle.canon_law.specs.Written.{IsTypeText, IsLocalText, IsValueText, IsOperandText, AreOperandTexts, IsAlignmentText, IsCountText, AreSmall, AreIncomingTexts, IsFlagSet, operation_opcode, IsOperationText}
 use Rattle.canon_law.proofs.Joined.{spaced, tight, right_none}

@@ -17,7 +17,7 @@ use Rattle.canonical.specs.Names as names
 use Rattle.canonical.specs.Types.{type_phrase, type_phrases, braced, in_braces}
 use Rattle.canon_items.specs.Unplaced.{no_place, nowhere, unplaced_type, unplaced_types}
 use Rattle.canon_items.specs.Parts.{natural, type_tree, type_trees, type_list}
-use Rattle.canon_law.specs.Printed.{IsPrinted, Joins, Starts}
+use Rattle.canon_law.proofs.Printed.{IsPrinted, Joins, Starts}
 use Rattle.canon_law.specs.Texts.{is_value_type}
 use Rattle.canon_law.specs.Written.{Inside, IsTypeText, AreTypeTexts}
 use Rattle.canon_law.proofs.Joined.{spaced, tight, opened, left_none}

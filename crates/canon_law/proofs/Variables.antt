@@ -31,7 +31,7 @@ use Rattle.canon_items.specs.Unplaced.{unplaced_type, unplaced_constant, unplace
 use Rattle.canon_items.specs.Parts.{natural, name_tree, type_tree, type_list, constant_tree}
 use Rattle.canon_items.specs.Items as items
 use Rattle.canon_items.specs.Items.{body_tree, struct_item, variable_item}
-use Rattle.canon_law.specs.Printed.{IsPrinted, Joins}
+use Rattle.canon_law.proofs.Printed.{IsPrinted, Joins}
 use Rattle.canon_law.specs.Written.{Inside, IsNameText, IsTypeText, AreTypeTexts, IsConstantText, IsAlignmentText}
 use Rattle.canon_law.specs.Texts.{is_declared_as, is_defined_as, IsInitialiserText, IsVariableText, IsBodyOfStruct}
 use Rattle.canon_law.proofs.Joined.{spaced, tight, left_none, right_none}

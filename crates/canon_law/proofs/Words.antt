@@ -16,7 +16,7 @@ use Rattle.ir_terminals.specs.declared.terminal.Terminal.{Terminal}
 use Rattle.ir_terminals.specs.declared.terminal.Terminal.TheVariants as terminals
 use Rattle.canonical.specs.Phrase as phrase
 use Rattle.canon_items.specs.Unplaced.{nowhere, no_place}
-use Rattle.canon_law.specs.Printed.{IsPrinted}
+use Rattle.canon_law.proofs.Printed.{IsPrinted}
 use Rattle.canon_law.proofs.Rows.{printed_one}
 
 abbrev is_word : List ℕ → Bool
