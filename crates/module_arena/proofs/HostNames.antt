@@ -1,7 +1,15 @@
 -- Each host function with a name of its own is found by it.
-use Rattle.std.proofs.Common.{◌≡◌, Bool, true, false, Some, refl}
+use Rattle.std.proofs.Common.{◌≡◌, Bool, true, false, Some, refl, ◌+◌, ◌++◌}
 use Rattle.std.proofs.lemmas.Bool.{false≢true}
-use Rattle.module_arena.specs.HostRows.{HostRow, Putchar, Puts, Getchar, Exit, Abort, Malloc, Free, Memcpy, Memmove, Memset, Strlen, MemcpyI64, MemmoveI64, MemsetI64, MemcpyI32, MemmoveI32, MemsetI32, LifetimeStart, LifetimeEnd, Printf, Integer, host_name, host_row}
+use Rattle.std.specs.Fmt.{decimal}
+use Rattle.ir_tables.specs.IntrinsicName.{name_front}
+use Rattle.module_arena.specs.HostRows.{HostRow, Putchar, Puts, Getchar, Exit, Abort, Malloc, Free, Memcpy, Memmove, Memset, Strlen, MemcpyI64, MemmoveI64, MemsetI64, MemcpyI32, MemmoveI32, MemsetI32, LifetimeStart, LifetimeEnd, Printf, Integer, host_row, fixed_name}
+use Rattle.module_arena.specs.Module.{Bytes}
+
+-- the name of the function
+abbrev pub host_name : HostRow → Bytes
+host_name (Integer which width) = name_front which ++ decimal width
+host_name row = fixed_name row
 
 abbrev pub is_fixed : HostRow → Bool
 is_fixed (Integer which width) = false

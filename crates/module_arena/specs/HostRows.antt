@@ -45,11 +45,6 @@ fixed_name LifetimeEnd = codes "llvm.lifetime.end.p0"
 fixed_name Printf = codes "printf"
 fixed_name (Integer which width) = []
 
--- the name of the function
-abbrev pub host_name : HostRow → Bytes
-host_name (Integer which width) = name_front which ++ decimal width
-host_name row = fixed_name row
-
 -- a function type that is not variadic
 abbrev pub fixed : Tree → List Tree → Signature
 fixed returns parameters = record { returns = returns; parameters = parameters; variadic = false }
