@@ -9,3 +9,4 @@ pub mod Machines
 pub mod Stacks
 pub mod RowsRead
 pub mod Opened
+pub mod Classes

@@ -4,6 +4,10 @@ use Rattle.ir_tables.specs.Opcode.{opcode_code}
 use Rattle.ir_terminals.specs.declared.terminal.Terminal.{Terminal}
 use Rattle.ir_terminals.specs.declared.terminal.Terminal.TheVariants as terminals
 
+-- the classes of words come behind those of all other tokens
+abbrev pub first_word_class : ℕ
+first_word_class = 22
+
 -- the classes of terminals that hold something
 abbrev pub integer_type_class : ℕ
 integer_type_class = 41

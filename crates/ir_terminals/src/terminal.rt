@@ -1,10 +1,15 @@
 //! What a token is to the phrases of the language.
-ghost use Rattle.std.specs.Prelude.{◌≡◌};
-ghost use Rattle.ir_terminals.specs.Terminal.{code};
+ghost use Rattle.std.specs.Prelude.{◌≡◌, nat_le, true};
+ghost use Rattle.ir_terminals.specs.Terminal.{code, first_word_class, linkage_class};
 
 use ir_tables::{Flag, Linkage, Opcode, Predicate};
 
 /// The role of a token in the phrases of the language, by its kind and, for a word or a mark, by its spelling.
+///
+/// ```
+/// Terminal::Comma.code() // 12
+/// Terminal::Opcode(Opcode::Add).code() // 101
+/// ```
 #[derive(Clone, Copy)]
 pub enum Terminal {
     /// No role in any phrase: an unnamed global, a record mark, `*`, `|`, `:`, a word of no list.
@@ -165,6 +170,17 @@ impl Terminal {
             Terminal::Less => 19,
             Terminal::Greater => 20,
             Terminal::Dots => 21,
+            _ => self.word_code(),
+        }
+    }
+
+    /// The class of a word: of one that items and types have, or that stands in a list.
+    #[inline(always)]
+    fn word_code(self) -> u8
+        requires { nat_le first_word_class (code self) ≡ true }
+        ensures { result ≡ code self }
+    {
+        match self {
             Terminal::SourceFilename => 22,
             Terminal::Target => 23,
             Terminal::DataLayout => 24,
@@ -185,6 +201,18 @@ impl Terminal {
             Terminal::Void => 39,
             Terminal::Ptr => 40,
             Terminal::IntegerType(_) => 41,
+            _ => self.listed_code(),
+        }
+    }
+
+    /// The class of a word that stands in a list: a linkage, a word that is dropped, a constant, a flag, a predicate, an
+    /// opcode, and of `alias`.
+    #[inline(always)]
+    fn listed_code(self) -> u8
+        requires { nat_le linkage_class (code self) ≡ true }
+        ensures { result ≡ code self }
+    {
+        match self {
             Terminal::Linkage(_) => 42,
             Terminal::GlobalDropped => 43,
             Terminal::UnnamedAddress => 44,
@@ -206,6 +234,7 @@ impl Terminal {
             Terminal::Predicate(_) => 60,
             Terminal::Alias => 61,
             Terminal::Opcode(opcode) => 100 + opcode.code() as u8,
+            _ => unreachable!(),
         }
     }
 }
