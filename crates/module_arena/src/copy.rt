@@ -90,20 +90,21 @@ impl Copied for Const {
     }
 }
 
-fn copied_insertion(alloc: Global, insertion: &Insertion) -> Result<Insertion, AllocError>
+fn copied_insertion(alloc: Global, insertion: &Insertion) -> Result<Boxed<Insertion>, AllocError>
     ensures { IfOk result (λ copy. copy ≡ insertion.now) }
 {
-    Ok(Insertion {
+    let copy = Insertion {
         aggregate: insertion.aggregate,
         part: insertion.part,
         indices: same_items(alloc, &insertion.indices)?,
-    })
+    };
+    Boxed::new(alloc, copy)
 }
 
-fn copied_call(alloc: Global, call: &Call) -> Result<Call, AllocError>
+fn copied_call(alloc: Global, call: &Call) -> Result<Boxed<Call>, AllocError>
     ensures { IfOk result (λ copy. copy ≡ call.now) }
 {
-    Ok(Call {
+    let copy = Call {
         result: call.result,
         signature: Signature {
             returns: call.signature.returns,
@@ -112,7 +113,8 @@ fn copied_call(alloc: Global, call: &Call) -> Result<Call, AllocError>
         },
         callee: call.callee,
         arguments: same_items(alloc, &call.arguments)?,
-    })
+    };
+    Boxed::new(alloc, copy)
 }
 
 impl Copied for Inst {
@@ -147,16 +149,12 @@ impl Copied for Inst {
                 let indices = same_items(alloc, indices)?;
                 Inst::GetElementPtr(*flags, *result, *source, *base, indices)
             }
-            Inst::Call(call) => {
-                let copy = copied_call(alloc, call.get())?;
-                Inst::Call(Boxed::new(alloc, copy)?)
-            }
+            Inst::Call(call) => Inst::Call(copied_call(alloc, call.get())?),
             Inst::ExtractValue(result, aggregate, indices) => {
                 Inst::ExtractValue(*result, *aggregate, same_items(alloc, indices)?)
             }
             Inst::InsertValue(result, insertion) => {
-                let copy = copied_insertion(alloc, insertion.get())?;
-                Inst::InsertValue(*result, Boxed::new(alloc, copy)?)
+                Inst::InsertValue(*result, copied_insertion(alloc, insertion.get())?)
             }
         })
     }

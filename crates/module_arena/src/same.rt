@@ -1,7 +1,8 @@
 //! Constants as keys: when two are the same, and how one is hashed.
-ghost use Rattle.std.specs.Prelude.{◌≡◌, ◌==◌, ◌&&◌};
+ghost use Rattle.std.specs.Prelude.{◌≡◌, ◌==◌, ◌&&◌, ◌++◌, fold};
 ghost use Rattle.std.proofs.Common.{ap};
 ghost use Rattle.std.specs.Cmp.{partial_equiv_from_equiv, decided};
+ghost use Rattle.std.specs.Hash as fed;
 ghost use Rattle.module_arena.specs.SameConst.{brackets_code, same_global, global_number, same_typed, all_same_typed, typed_writes, same_const, const_writes};
 ghost use Rattle.module_arena.specs.SameConstLaws.{same_typed_decides, same_const_decides};
 
@@ -137,6 +138,15 @@ impl Eq for Const {
     ghost laws = { decided same_const same_const_decides };
 }
 
+/// Feeds a binary constant: its form, and its operands.
+fn hash_binary<H: Hasher>(pair: &ConstPair, state: &mut H)
+    ensures { state.new ≡ fold H.write state.old (fed.u8 11 ++ typed_writes pair.now.left ++ typed_writes pair.now.right) }
+{
+    state.write_u8(11);
+    pair.left.hash(state);
+    pair.right.hash(state);
+}
+
 impl Hash for Const {
     ghost hash_input = { const_writes };
 
@@ -178,11 +188,7 @@ impl Hash for Const {
                 operand.hash(state);
                 to.number().hash(state);
             }
-            Const::Binary(_, _, pair) => {
-                state.write_u8(11);
-                pair.get().left.hash(state);
-                pair.get().right.hash(state);
-            }
+            Const::Binary(_, _, pair) => hash_binary(pair.get(), state),
         }
     }
 }
