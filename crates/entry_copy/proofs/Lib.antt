@@ -1,3 +1,4 @@
+mod Accesses
 mod Moving
 mod Keeping
 pub mod TypesCopied
