@@ -46,18 +46,36 @@ fn add_selection(shown: &mut Vec<u8>, selection: &SelectionWords) -> Result<(), 
     add_flag(shown, ", recursive", selection.recursive)
 }
 
+fn add_work(
+    shown: &mut Vec<u8>,
+    work: &str,
+    input: &Text,
+    output: &OutputName,
+) -> Result<(), AllocError> {
+    add(shown, work)?;
+    add_text(shown, input)?;
+    add_output(shown, output)
+}
+
+fn add_run(
+    shown: &mut Vec<u8>,
+    alloc: Global,
+    input: &Text,
+    max_steps: u64,
+    arguments: &TextList,
+) -> Result<(), AllocError> {
+    add(shown, "run")?;
+    add_text(shown, input)?;
+    add(shown, " for ")?;
+    add_number(shown, alloc, max_steps)?;
+    add(shown, " with")?;
+    add_texts(shown, arguments)
+}
+
 fn add_command(shown: &mut Vec<u8>, alloc: Global, command: &Command) -> Result<(), AllocError> {
     match command {
-        Command::Assemble { input, output } => {
-            add(shown, "assemble")?;
-            add_text(shown, input)?;
-            add_output(shown, output)
-        }
-        Command::Disassemble { input, output } => {
-            add(shown, "disassemble")?;
-            add_text(shown, input)?;
-            add_output(shown, output)
-        }
+        Command::Assemble { input, output } => add_work(shown, "assemble", input, output),
+        Command::Disassemble { input, output } => add_work(shown, "disassemble", input, output),
         Command::Link {
             inputs,
             output,
@@ -74,9 +92,7 @@ fn add_command(shown: &mut Vec<u8>, alloc: Global, command: &Command) -> Result<
             text,
             selection,
         } => {
-            add(shown, "extract")?;
-            add_text(shown, input)?;
-            add_output(shown, output)?;
+            add_work(shown, "extract", input, output)?;
             add_flag(shown, ", text", *text)?;
             add_selection(shown, selection)
         }
@@ -84,14 +100,7 @@ fn add_command(shown: &mut Vec<u8>, alloc: Global, command: &Command) -> Result<
             input,
             max_steps,
             arguments,
-        } => {
-            add(shown, "run")?;
-            add_text(shown, input)?;
-            add(shown, " for ")?;
-            add_number(shown, alloc, *max_steps)?;
-            add(shown, " with")?;
-            add_texts(shown, arguments)
-        }
+        } => add_run(shown, alloc, input, *max_steps, arguments),
         Command::Analyze { input, dump } => {
             add(shown, "analyze")?;
             add_text(shown, input)?;
