@@ -12,13 +12,33 @@ use Rattle.link_filling.specs.Origins.{IsOrigin}
 use Rattle.link_filling.specs.declared.origins.SymbolOrigin.{SymbolOrigin}
 use Rattle.link_filling.specs.declared.standing.Standing.{Standing}
 
+-- the symbol with that number has that origin
+abbrev pub HasOrigin : List SymbolOrigin → ℕ → SymbolOrigin → Type 0
+HasOrigin origins number x = slice_get origins number ≡ Some x
+
+-- a symbol of that origin is defined there
+abbrev pub IsDefinedAt : SymbolOrigin → EntryId → Type 0
+IsDefinedAt x home = x.home ≡ Some home
+
+-- that number is told of the part
+abbrev pub IsToldOf : List ℕ → ℕ → ℕ → Type 0
+IsToldOf last part number = slice_get last part ≡ Some number
+
+-- the part stands as it was given
+abbrev pub StandsAs : List Lists → List (Option Lists) → ℕ → Type 0
+StandsAs parts standing part = slice_get standing part ≡ slice_get (map Some parts) part
+
 -- Of the first so many symbols none is defined in a part behind the number that is told of it.
 abbrev pub AreLast : ℕ → List SymbolOrigin → List ℕ → Type 0
-AreLast count origins last = (m : ℕ) (x : SymbolOrigin) (home : EntryId) (l : ℕ) → m < count → slice_get origins m ≡ Some x → x.home ≡ Some home → slice_get last home.part ≡ Some l → m ≤ l
+AreLast count origins last =
+    (m : ℕ) (x : SymbolOrigin) (home : EntryId) (l : ℕ)
+    → m < count → HasOrigin origins m x → IsDefinedAt x home → IsToldOf last home.part l → m ≤ l
 
 -- Each part stands in which the symbol with that number or a later one is defined.
 abbrev pub StandFrom : ℕ → List Lists → List SymbolOrigin → List (Option Lists) → Type 0
-StandFrom number parts origins standing = (m : ℕ) (x : SymbolOrigin) (home : EntryId) → number ≤ m → slice_get origins m ≡ Some x → x.home ≡ Some home → slice_get standing home.part ≡ slice_get (map Some parts) home.part
+StandFrom number parts origins standing =
+    (m : ℕ) (x : SymbolOrigin) (home : EntryId)
+    → number ≤ m → HasOrigin origins m x → IsDefinedAt x home → StandsAs parts standing home.part
 
 -- These stand of the parts, and it is known how long each is needed.
 pub record AreStanding (number : ℕ) (parts : List Lists) (origins : List SymbolOrigin) (s : Standing) : Type 0 where
@@ -44,7 +64,7 @@ ArePlainFrom first ids = (k : ℕ) (id : GlobalId) → first ≤ k → slice_get
 pub record IsNext (parts : List Lists) (tables : List Tables) (number : ℕ) (home : EntryId) (id : GlobalId) (a b : Lists) (t : Tables) : Type 0 where
   pub origin : SymbolOrigin
   pub kept : IsOrigin parts number origin
-  pub at_home : origin.home ≡ Some home
+  pub at_home : IsDefinedAt origin home
   pub is : slice_get (ids_of (modules parts)) number ≡ Some id
   pub filling : IsFilling parts number b tables
   pub there : slice_get parts home.part ≡ Some a
