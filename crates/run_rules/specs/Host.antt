@@ -53,41 +53,79 @@ allocates size m = if has_room size m then Gives (Ptr (next_block HEAP_ALIGNMENT
 abbrev pub frees : Pointer → Blocks → Answer
 frees p m = if nat_eq p.address 0 then Gives [] m [] else changes [] (ended (Ptr p) Heap m)
 
--- The rows of the table, where no argument is poison, but for those that take poison. A row that looks at its arguments ends in what
--- no call comes to: the arguments are those of a type of the row
+-- ---- the rows of the table that look at their arguments, none of which is poison
+
+-- Each ends in what no call comes to: the arguments are those of a type of the row.
+
+-- a byte is written, and comes back
+abbrev pub puts_byte : List Scalar → Blocks → Answer
+puts_byte (Int n ∷ []) m = Gives (Int (n % 256) ∷ []) m (n % 256 ∷ [])
+puts_byte _ m = undefined AnotherFunctionType
+
+-- the string at an address is written as a line
+abbrev pub puts_string : List Scalar → Blocks → Answer
+puts_string (Ptr p ∷ []) m = puts_line m (string_at m p)
+puts_string _ m = undefined AnotherFunctionType
+
+-- the program ends with a status
+abbrev pub exits : List Scalar → Answer
+exits (Int n ∷ []) = Halts (ends.Exit (n % 256))
+exits _ = undefined AnotherFunctionType
+
+-- so many bytes of the heap
+abbrev pub allocates_bytes : List Scalar → Blocks → Answer
+allocates_bytes (Int n ∷ []) m = allocates n m
+allocates_bytes _ m = undefined AnotherFunctionType
+
+-- the block at an address is given back
+abbrev pub frees_block : List Scalar → Blocks → Answer
+frees_block (Ptr p ∷ []) m = frees p m
+frees_block _ m = undefined AnotherFunctionType
+
+-- the length of the string at an address
+abbrev pub counts_string : List Scalar → Blocks → Answer
+counts_string (Ptr p ∷ []) m = counts m (string_at m p)
+counts_string _ m = undefined AnotherFunctionType
+
+-- bytes are copied, which may or may not overlap, and the first address comes back
+abbrev pub copies_back : Bool → List Scalar → Blocks → Answer
+copies_back may_overlap (to ∷ from ∷ Int n ∷ []) m = changes (to ∷ []) (copied to from n may_overlap m)
+copies_back may_overlap _ m = undefined AnotherFunctionType
+
+-- bytes are set, and the address comes back
+abbrev pub fills_back : List Scalar → Blocks → Answer
+fills_back (to ∷ Int byte ∷ Int n ∷ []) m = changes (to ∷ []) (filled to (byte % 256) n m)
+fills_back _ m = undefined AnotherFunctionType
+
+-- an intrinsic copies bytes; nothing comes back
+abbrev pub copies : Bool → List Scalar → Blocks → Answer
+copies may_overlap (to ∷ from ∷ Int n ∷ volatile ∷ []) m = changes [] (copied to from n may_overlap m)
+copies may_overlap _ m = undefined AnotherFunctionType
+
+-- an intrinsic sets bytes; nothing comes back
+abbrev pub fills : List Scalar → Blocks → Answer
+fills (to ∷ Int byte ∷ Int n ∷ volatile ∷ []) m = changes [] (filled to byte n m)
+fills _ m = undefined AnotherFunctionType
+
+-- the rows of the table, where no argument is poison, but for those that take poison
 abbrev pub done : HostRow → List Scalar → Blocks → Answer
-done Putchar (Int n ∷ []) m = Gives (Int (n % 256) ∷ []) m (n % 256 ∷ [])
-done Putchar _ m = undefined AnotherFunctionType
-done Puts (Ptr p ∷ []) m = puts_line m (string_at m p)
-done Puts _ m = undefined AnotherFunctionType
+done Putchar arguments m = puts_byte arguments m
+done Puts arguments m = puts_string arguments m
 done Getchar _ m = Reads
-done Exit (Int n ∷ []) m = Halts (ends.Exit (n % 256))
-done Exit _ m = undefined AnotherFunctionType
+done Exit arguments m = exits arguments
 done Abort _ m = Halts (ends.Exit ABORTED)
-done Malloc (Int n ∷ []) m = allocates n m
-done Malloc _ m = undefined AnotherFunctionType
-done Free (Ptr p ∷ []) m = frees p m
-done Free _ m = undefined AnotherFunctionType
-done Memcpy (to ∷ from ∷ Int n ∷ []) m = changes (to ∷ []) (copied to from n false m)
-done Memcpy _ m = undefined AnotherFunctionType
-done Memmove (to ∷ from ∷ Int n ∷ []) m = changes (to ∷ []) (copied to from n true m)
-done Memmove _ m = undefined AnotherFunctionType
-done Memset (to ∷ Int byte ∷ Int n ∷ []) m = changes (to ∷ []) (filled to (byte % 256) n m)
-done Memset _ m = undefined AnotherFunctionType
-done Strlen (Ptr p ∷ []) m = counts m (string_at m p)
-done Strlen _ m = undefined AnotherFunctionType
-done MemcpyI64 (to ∷ from ∷ Int n ∷ volatile ∷ []) m = changes [] (copied to from n false m)
-done MemcpyI64 _ m = undefined AnotherFunctionType
-done MemmoveI64 (to ∷ from ∷ Int n ∷ volatile ∷ []) m = changes [] (copied to from n true m)
-done MemmoveI64 _ m = undefined AnotherFunctionType
-done MemsetI64 (to ∷ Int byte ∷ Int n ∷ volatile ∷ []) m = changes [] (filled to byte n m)
-done MemsetI64 _ m = undefined AnotherFunctionType
-done MemcpyI32 (to ∷ from ∷ Int n ∷ volatile ∷ []) m = changes [] (copied to from n false m)
-done MemcpyI32 _ m = undefined AnotherFunctionType
-done MemmoveI32 (to ∷ from ∷ Int n ∷ volatile ∷ []) m = changes [] (copied to from n true m)
-done MemmoveI32 _ m = undefined AnotherFunctionType
-done MemsetI32 (to ∷ Int byte ∷ Int n ∷ volatile ∷ []) m = changes [] (filled to byte n m)
-done MemsetI32 _ m = undefined AnotherFunctionType
+done Malloc arguments m = allocates_bytes arguments m
+done Free arguments m = frees_block arguments m
+done Memcpy arguments m = copies_back false arguments m
+done Memmove arguments m = copies_back true arguments m
+done Memset arguments m = fills_back arguments m
+done Strlen arguments m = counts_string arguments m
+done MemcpyI64 arguments m = copies false arguments m
+done MemmoveI64 arguments m = copies true arguments m
+done MemsetI64 arguments m = fills arguments m
+done MemcpyI32 arguments m = copies false arguments m
+done MemmoveI32 arguments m = copies true arguments m
+done MemsetI32 arguments m = fills arguments m
 done LifetimeStart _ m = Gives [] m []
 done LifetimeEnd _ m = Gives [] m []
 done Printf _ m = undefined AnotherFunctionType
