@@ -6,6 +6,10 @@ use ir_tables::{Flags, Opcode};
 use ir_terminals::{Integer, PlacedName, PlacedText};
 
 /// A constant that is one word (LangRef, "Simple Constants", "Undefined Values" and "Poison Values").
+///
+/// ```
+/// Constant::Simple(Simple::True, place) // `true`
+/// ```
 #[derive(Clone, Copy)]
 pub enum Simple {
     /// `true`
@@ -23,6 +27,10 @@ pub enum Simple {
 }
 
 /// The brackets round a list of constants.
+///
+/// ```
+/// Constant::List(place, Brackets::Braces, elements) // `{ i8 1, ptr null }`, whose elements these are
+/// ```
 #[derive(Clone, Copy)]
 pub enum Brackets {
     /// `[ .. ]`

@@ -6,6 +6,10 @@ use ir_tables::{Flags, Opcode};
 use type_table::TypeId;
 
 /// The brackets round a list of constants.
+///
+/// ```
+/// Const::Aggregate(Brackets::Packed, elements) // `<{ i8 1, ptr null }>`, whose elements these are
+/// ```
 #[derive(Clone, Copy)]
 pub enum Brackets {
     /// `[ .. ]`
