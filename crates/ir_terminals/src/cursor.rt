@@ -50,26 +50,20 @@ impl<'t> Model for Cursor<'t> {
     ghost invariant = { λ cursor. IsAt cursor.lexer cursor.front cursor.taken cursor.behind_less };
 }
 
-/// What the lexer answers next.
-#[inline(always)]
-fn front_of(lexer: &mut Lexer) -> NextTerminal
-    ensures { IsFrontOf lexer.old result lexer.new }
+/// Puts what the lexer answers next where it is kept. It alone asks the lexer, so that this can be compiled into it, and
+/// it is called, so that no place that takes a token holds a copy of it.
+#[inline(never)]
+fn next_front(lexer: &mut Lexer, front: &mut NextTerminal)
+    ensures { IsFrontOf lexer.old front.new lexer.new }
 {
     match lexer.next() {
         Ok(Some(token)) => {
             let terminal = terminal_of(token.kind, lexer.spelling(&token));
-            NextTerminal::Token(token, terminal)
+            *front = NextTerminal::Token(token, terminal);
         }
-        Ok(None) => NextTerminal::End,
-        Err(bad) => NextTerminal::Bad(bad.place),
+        Ok(None) => *front = NextTerminal::End,
+        Err(bad) => *front = NextTerminal::Bad(bad.place),
     }
-}
-
-/// Puts what the lexer answers next where it is kept, so that it is not copied there.
-fn next_front(lexer: &mut Lexer, front: &mut NextTerminal)
-    ensures { IsFrontOf lexer.old front.new lexer.new }
-{
-    *front = front_of(lexer);
 }
 
 impl<'t> Cursor<'t> {
@@ -82,7 +76,8 @@ impl<'t> Cursor<'t> {
         ensures few { length (text_tokens text.now) ≤ length text.now }
     {
         let mut lexer = Lexer::new(text);
-        let front = front_of(&mut lexer);
+        let mut front = NextTerminal::End;
+        next_front(&mut lexer, &mut front);
         Cursor {
             alloc,
             limits,

@@ -2,7 +2,7 @@ use Rattle.ir_terminals.proofs.Fronts.{tokens_few, starts_at, whole_text}
 use Rattle.ir_terminals.proofs.cursor.Cursor.new.Goals as goal
 
 pub invariant_of-result : goal.invariant_of-result
-invariant_of-result c = starts_at _ _ _ c.requires (rw c.new-lexer.ensures at c.front_of-front.ensures)
+invariant_of-result c = starts_at _ _ _ c.requires (rw c.new-lexer.ensures at c.next_front.ensures)
 
 pub returns-clause-tokens : goal.returns-clause-tokens
 returns-clause-tokens c = whole_text c.args.text.now

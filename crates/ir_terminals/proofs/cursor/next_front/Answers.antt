@@ -1,7 +1,7 @@
 use Rattle.std.proofs.Common.{List, ℕ, ap, ◌∙◌}
 use Rattle.ir_terminals.specs.Role.{terminal}
 use Rattle.ir_terminals.proofs.Fronts.{front_token, front_end, front_bad}
-use Rattle.ir_terminals.proofs.cursor.front_of.Goals as goal
+use Rattle.ir_terminals.proofs.cursor.next_front.Goals as goal
 
 pub returns-in-Ok-Some : goal.returns-in-Ok-Some
 returns-in-Ok-Some c =
