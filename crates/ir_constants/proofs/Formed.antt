@@ -25,7 +25,7 @@ use Rattle.ir_constants.specs.Types.{type_shape, list_shape, type_row}
 use Rattle.ir_constants.specs.Flags.{with_flag, flag_shape, flag_step, flags_shape, flags_core, flags_row}
 use Rattle.ir_constants.specs.Constants.{integer_constant_row, address_row, bytes_row, simple_classes, simple_word, simple_row, expression_classes, holder_shape, constant_shape, expression_shape, typed_core, typed_over, elements_core, elements_row, array_constant_row, struct_constant_row, packed_constant_row, operands_shape, operands_core, operands_row, element_address_row, conversion_row, arithmetic_row, expression_by, expression_core, expression_row, holder_step, constant_core, constant_over, holder_core, holder_row, constant_at, typed_at, constant_row, typed_constant_row}
 use Rattle.ir_constants.specs.Values.{value_shape, value_core, value_row, typed_value_core, typed_value_row}
-use Rattle.ir_constants.specs.Forms.{AllAre, IsNotEmpty, AreFlagsOf, is_constant_cast, is_constant_sum, HasConstant, IsFormed, AreFormed, IsTypedFormed, IsValueFormed, IsOperandFormed}
+use Rattle.ir_constants.specs.Forms.{AllAre, IsNotEmpty, AreFlagsOf, is_constant_cast, is_constant_binary, HasConstant, IsFormed, AreFormed, IsTypedFormed, IsValueFormed, IsOperandFormed}
 use Rattle.ir_constants.proofs.Gives.{Gives, gives_any, gives_weaker, gives_fail, gives_one, gives_mapped, gives_chain, gives_both, gives_second, gives_before, gives_pair, gives_alt, gives_many, gives_separated, gives_loop, gives_labelled}
 
 no_flag : (f : Flag) → has_flag 0 f ≡ true → ⊥
@@ -121,7 +121,7 @@ module _ (limits : Limits) (typed : Row Located TypedConstantTree) (h : Gives ty
       (gives_pair (gives_before (word terminal.To) h) (gives_any (keep_first (type_row limits) (word terminal.CloseParenthesis)))))
       (λ v x. (ok, x.0))
 
-  gives_arithmetic : (place : Place) (opcode : Opcode) → is_constant_sum opcode ≡ true → Gives (arithmetic_row typed place opcode) IsFormed
+  gives_arithmetic : (place : Place) (opcode : Opcode) → is_constant_binary opcode ≡ true → Gives (arithmetic_row typed place opcode) IsFormed
   gives_arithmetic place opcode ok =
       gives_mapped _ IsFormed
       (gives_pair (gives_flags opcode)

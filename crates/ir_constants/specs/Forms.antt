@@ -1,10 +1,11 @@
 -- For `read_items`: the forms of the constants of a text: opcodes, flags and parts as their phrases have them.
-use Rattle.std.specs.Prelude.{◌≡◌, ℕ, ◌≤◌, Bool, true, false, List, [], ◌∷◌}
+use Rattle.std.specs.Prelude.{◌≡◌, ℕ, ◌≤◌, true, List, [], ◌∷◌}
 use Rattle.ir_tables.specs.declared.opcode.Opcode.{Opcode}
 use Rattle.ir_tables.specs.declared.opcode.Opcode.TheVariants as op
 use Rattle.ir_tables.specs.declared.flag.Flag.{Flag}
 use Rattle.ir_tables.specs.Flags.{has_flag}
 use Rattle.ir_tables.specs.MayHave.{may_have}
+pub use Rattle.ir_tables.specs.OpcodeGroups.{is_constant_binary, is_constant_cast}
 use Rattle.ir_constants.specs.Tree.{ConstantTree, IntegerConstant, SimpleConstant, AddressConstant, BytesConstant, ListConstant, ElementAddress, Conversion, Arithmetic, ConstantTrees, no_constants, more_constants, TypedConstantTree, ValueTree, LocalValue, ConstantValue, TypedValueTree}
 
 -- each of the list is so
@@ -22,20 +23,6 @@ pub record AreFlagsOf (opcode : Opcode) (set : ℕ) : Type 0 where
   pub bound : set ≤ 511
   pub each : (f : Flag) → has_flag set f ≡ true → may_have opcode f ≡ true
 
--- the casts of constant expressions
-abbrev pub is_constant_cast : Opcode → Bool
-is_constant_cast op.PtrToInt = true
-is_constant_cast op.IntToPtr = true
-is_constant_cast op.Trunc = true
-is_constant_cast _ = false
-
--- the sums of constant expressions
-abbrev pub is_constant_sum : Opcode → Bool
-is_constant_sum op.Add = true
-is_constant_sum op.Sub = true
-is_constant_sum op.Xor = true
-is_constant_sum _ = false
-
 -- the list has one
 abbrev pub HasConstant : ConstantTrees → Type 0
 HasConstant no_constants = ⊥
@@ -52,7 +39,7 @@ abbrev mutual
   IsFormed (ElementAddress place flags source operands) = AreFlagsOf op.GetElementPtr flags × HasConstant operands × AreFormed operands
   IsFormed (Conversion place opcode from value to) = (is_constant_cast opcode ≡ true) × IsFormed value
   IsFormed (Arithmetic place opcode flags left_type left right_type right) =
-      (is_constant_sum opcode ≡ true) × AreFlagsOf opcode flags × IsFormed left × IsFormed right
+      (is_constant_binary opcode ≡ true) × AreFlagsOf opcode flags × IsFormed left × IsFormed right
 
   -- the same of several constants
   pub AreFormed : ConstantTrees → Type 0

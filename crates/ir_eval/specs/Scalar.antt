@@ -3,6 +3,7 @@
 use Rattle.std.specs.Prelude.{ℕ, zero, suc, Bool, true, false, ◌&&◌, ◌==◌, Result, Ok, Err, if◌then◌else◌}
 use Rattle.ir_tables.specs.declared.opcode.Opcode.{Opcode}
 use Rattle.ir_tables.specs.declared.opcode.Opcode.TheVariants.{Add, Sub, Mul, UDiv, SDiv, URem, SRem, Shl, LShr, AShr, And, Or, Xor}
+pub use Rattle.ir_tables.specs.OpcodeGroups.{is_binary}
 use Rattle.ir_tables.specs.declared.undefined_kind.UndefinedKind.{UndefinedKind}
 use Rattle.ir_tables.specs.declared.undefined_kind.UndefinedKind.TheVariants.{DivisionByZero}
 use Rattle.ir_eval.specs.Arithmetic.{sum_of, difference_of, product_of}
@@ -20,23 +21,6 @@ is_division SDiv = true
 is_division URem = true
 is_division SRem = true
 is_division _ = false
-
--- the instructions on two operands of one type that give that type
-abbrev pub is_binary : Opcode → Bool
-is_binary Add = true
-is_binary Sub = true
-is_binary Mul = true
-is_binary UDiv = true
-is_binary SDiv = true
-is_binary URem = true
-is_binary SRem = true
-is_binary Shl = true
-is_binary LShr = true
-is_binary AShr = true
-is_binary And = true
-is_binary Or = true
-is_binary Xor = true
-is_binary _ = false
 
 -- zero or poison
 abbrev pub is_no_divisor : Scalar → Bool

@@ -1,36 +1,10 @@
 -- For `read_items`: the forms of the instructions of a text: opcodes, flags and parts as their phrases have them.
-use Rattle.std.specs.Prelude.{◌≡◌, Bool, true, false, Option, Some, None}
-use Rattle.ir_tables.specs.declared.opcode.Opcode.{Opcode}
+use Rattle.std.specs.Prelude.{◌≡◌, true, Option, Some, None}
 use Rattle.ir_tables.specs.declared.opcode.Opcode.TheVariants as op
+pub use Rattle.ir_tables.specs.OpcodeGroups.{is_binary, is_cast}
 use Rattle.ir_constants.specs.Tree.{TypedValueTree}
 use Rattle.ir_constants.specs.Forms.{AllAre, IsNotEmpty, AreFlagsOf, IsTypedFormed, IsValueFormed, IsOperandFormed}
 use Rattle.ir_instructions.specs.Tree.{IncomingTree, OperationTree, Binary, Compare, Cast, Select, Freeze, Phi, Load, Store, Alloca, GetElementPtr, Call, ExtractValue, InsertValue, InstructionTree, CaseTree, EndingTree, ReturnVoid, Return, Jump, Branch, Switch, Unreachable, BlockTree}
-
--- the operations on two operands of one type
-abbrev pub is_binary : Opcode → Bool
-is_binary op.Add = true
-is_binary op.Sub = true
-is_binary op.Mul = true
-is_binary op.UDiv = true
-is_binary op.SDiv = true
-is_binary op.URem = true
-is_binary op.SRem = true
-is_binary op.Shl = true
-is_binary op.LShr = true
-is_binary op.AShr = true
-is_binary op.And = true
-is_binary op.Or = true
-is_binary op.Xor = true
-is_binary _ = false
-
--- the opcodes of casts
-abbrev pub is_cast : Opcode → Bool
-is_cast op.Trunc = true
-is_cast op.ZExt = true
-is_cast op.SExt = true
-is_cast op.PtrToInt = true
-is_cast op.IntToPtr = true
-is_cast _ = false
 
 -- a count, where there is one, has its phrase's form
 abbrev pub IsCountFormed : Option TypedValueTree → Type 0

@@ -6,6 +6,7 @@ pub mod Flag
 pub mod Flags
 pub mod UndefinedKind
 pub mod MayHave
+pub mod OpcodeGroups
 pub mod Intrinsic
 pub mod IntrinsicName
 pub mod WidthText

@@ -6,6 +6,7 @@ use Rattle.ir_tables.specs.declared.opcode.Opcode.TheVariants as op
 use Rattle.ir_tables.specs.Flag.{flags}
 use Rattle.ir_tables.specs.Flags.{has_flag}
 pub use Rattle.ir_tables.specs.MayHave.{may_have}
+pub use Rattle.ir_tables.specs.OpcodeGroups.{is_binary, is_cast, is_constant_binary, is_constant_cast}
 use Rattle.module_arena.specs.declared.arena.TheConstants.{INDEX_LIMIT}
 use Rattle.module_arena.specs.Module.{Constant, Constants, Operation, Instruction}
 use Rattle.module_arena.specs.Module.Constant.{ElementAddress, Cast, Binary}
@@ -16,46 +17,6 @@ use Rattle.module_arena.specs.TypeTests.{is_void}
 -- a set of flags that the opcode may have
 abbrev pub are_flags_of : Opcode → ℕ → Bool
 are_flags_of opcode set = nat_lt set 512 && list_all (λ f. not (has_flag set f) || may_have opcode f) flags
-
--- an operation on two integers
-abbrev pub is_binary : Opcode → Bool
-is_binary op.Add = true
-is_binary op.Sub = true
-is_binary op.Mul = true
-is_binary op.UDiv = true
-is_binary op.SDiv = true
-is_binary op.URem = true
-is_binary op.SRem = true
-is_binary op.Shl = true
-is_binary op.LShr = true
-is_binary op.AShr = true
-is_binary op.And = true
-is_binary op.Or = true
-is_binary op.Xor = true
-is_binary _ = false
-
--- a cast
-abbrev pub is_cast : Opcode → Bool
-is_cast op.Trunc = true
-is_cast op.ZExt = true
-is_cast op.SExt = true
-is_cast op.PtrToInt = true
-is_cast op.IntToPtr = true
-is_cast _ = false
-
--- those that constant expressions have
-abbrev pub is_constant_cast : Opcode → Bool
-is_constant_cast op.Trunc = true
-is_constant_cast op.PtrToInt = true
-is_constant_cast op.IntToPtr = true
-is_constant_cast _ = false
-
--- an operation that a constant expression may have
-abbrev pub is_constant_binary : Opcode → Bool
-is_constant_binary op.Add = true
-is_constant_binary op.Sub = true
-is_constant_binary op.Xor = true
-is_constant_binary _ = false
 
 -- at least one item
 abbrev pub is_not_empty : {A : Type 0} → List A → Bool

@@ -13,7 +13,7 @@ use Rattle.ir_terminals.specs.declared.values.Integer.{Integer}
 use Rattle.ir_constants.specs.declared.constant.Simple.{Simple}
 use Rattle.ir_constants.specs.declared.constant.Simple.TheVariants as simple
 use Rattle.ir_constants.specs.Tree.{ConstantTree, IntegerConstant, SimpleConstant, AddressConstant, BytesConstant, ListConstant, ElementAddress, Conversion, Arithmetic, ConstantTrees, no_constants, more_constants}
-use Rattle.ir_constants.specs.Forms.{AreFlagsOf, is_constant_cast, is_constant_sum, HasConstant, IsFormed, AreFormed}
+use Rattle.ir_constants.specs.Forms.{AreFlagsOf, is_constant_cast, is_constant_binary, HasConstant, IsFormed, AreFormed}
 use Rattle.ir_syntax.specs.Tree.{ItemTree}
 use Rattle.type_table.specs.Tree.{Tree, int, ptr, void, array, struct, named, Trees}
 use Rattle.module_arena.specs.Module.{Bytes, Constant, Constants, Module}
@@ -145,7 +145,7 @@ cast_test op.IntToPtr e = refl
 cast_test op.Trunc e = refl
 cast_test _ e = absurd cc
 
-sum_test : (opcode : Opcode) → is_constant_sum opcode ≡ true → forms.is_constant_binary opcode ≡ true
+sum_test : (opcode : Opcode) → is_constant_binary opcode ≡ true → forms.is_constant_binary opcode ≡ true
 sum_test op.Add e = refl
 sum_test op.Sub e = refl
 sum_test op.Xor e = refl
