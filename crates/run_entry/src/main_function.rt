@@ -1,7 +1,6 @@
 //! The function that a run begins with.
 ghost use Rattle.std.specs.Prelude.{◌≡◌, ℕ, ◌<◌, ◌&&◌, IfOk, List, codes, length, not};
 ghost use Rattle.std.specs.Option.{option_map};
-ghost use Rattle.linkage_rules.specs.Place as place;
 ghost use Rattle.module_arena.specs.View.{module_of};
 ghost use Rattle.run_rules.specs.Plan.{main_in};
 ghost use Rattle.type_table.specs.Tree.{Tree};
@@ -14,8 +13,8 @@ ghost use Rattle.run_entry.specs.Mains.{main_by_number, main_seen, shared_functi
 
 use ir_base::{Name, Text};
 use ir_tables::Linkage;
-use linkage_rules::{FIRST_FUNCTION, FUNCTION_STEP};
 use module_arena::{Arena, Checked, FunctionId, GlobalId};
+use run_names::function_address;
 use std::alloc::{AllocError, Global};
 use type_table::{IrType, TypeId, TypeTable};
 
@@ -30,13 +29,6 @@ pub struct MainFunction {
     pub address: u64,
     /// Whether its parameters are the count of the words and their array; else it has none.
     pub takes_arguments: bool,
-}
-
-/// The address of the function with that number, counted from 0.
-fn function_address(number: u32) -> u64
-    ensures { result ≡ place.function_address number }
-{
-    FIRST_FUNCTION + FUNCTION_STEP * u64::from(number)
 }
 
 /// Whether an entry is a definition: one that is available externally is a declaration (LangRef, "Linkage Types").

@@ -29,8 +29,8 @@ pub(crate) fn function_number(address: u64) -> Option<u64>
     Some((address - FIRST_FUNCTION) / FUNCTION_STEP)
 }
 
-/// The address of the function with that number, counted from 0.
-fn function_address(number: u32) -> u64
+/// The address of the function symbol with that number, counted from 0.
+pub fn function_address(number: u32) -> u64
     ensures { result ≡ place.function_address number }
 {
     FIRST_FUNCTION + FUNCTION_STEP * u64::from(number)

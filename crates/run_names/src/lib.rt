@@ -16,6 +16,6 @@ mod names;
 mod spot;
 mod standing;
 
-pub use callee::CalleeRef;
+pub use callee::{CalleeRef, function_address};
 pub use names::{Names, names_of};
 pub use spot::Spot;
