@@ -10,13 +10,17 @@ use Rattle.std.proofs.lemmas.Slice.Eq.{bytes_eq-Decides}
 use Rattle.std.specs.List.{list_all}
 use Rattle.ir_lexer.proofs.Runs.{bool_cases}
 use Rattle.ir_terminals.specs.Digits.{below}
-use Rattle.ir_terminals.specs.WordRows.{meaning_of, meanings_of, row_number, slot}
+use Rattle.ir_terminals.specs.WordRows.{meaning_of, meanings_of, slot}
 use Rattle.ir_terminals.specs.Words.{Meaning, meaning_in, of_width, width_or, is_width, word_terminal, words_by_role}
 use Rattle.ir_terminals.specs.declared.words.TheConstants.{ROWS}
 use Rattle.ir_terminals.specs.declared.words.Word.{Word}
 use Rattle.ir_terminals.specs.declared.terminal.Terminal.{Terminal}
 use Rattle.ir_terminals.specs.declared.terminal.Terminal.TheVariants as terminals
 use Rattle.ir_terminals.proofs.Decimals.{side}
+
+-- the index of the row with the word's number
+unfoldable pub row_number : List ℕ → ℕ
+row_number word = get_or ROWS (slot word) 0
 
 -- the word of each row leads to the row, from this index on
 abbrev leads : (List ℕ → ℕ) → ℕ → List Meaning → Bool

@@ -1,7 +1,7 @@
 -- Says how the code reads: how the row of a word is found: its number, and the row with that number.
 use Rattle.std.specs.Prelude.{ℕ, ◌+◌, ◌-◌, ◌*◌, ◌/◌, ◌%◌, List, length, map, get_or}
 use Rattle.ir_terminals.specs.Words.{Meaning}
-use Rattle.ir_terminals.specs.declared.words.TheConstants.{FIRST, ROWS}
+use Rattle.ir_terminals.specs.declared.words.TheConstants.{FIRST}
 use Rattle.ir_terminals.specs.declared.words.Word.{Word}
 
 -- what a row of the code says
@@ -17,7 +17,3 @@ unfoldable pub slot : List ℕ → ℕ
 slot word =
     let count = length word in
     (get_or FIRST (get_or word 0 0 % 32) 0 + 3 * get_or word (count / 3) 0 + 8 * get_or word (count / 2) 0 + get_or word (count - 1) 0 + 3 * (count % 256)) % 256
-
--- the index of the row with the word's number
-unfoldable pub row_number : List ℕ → ℕ
-row_number word = get_or ROWS (slot word) 0
