@@ -1,3 +1,4 @@
+mod Accesses
 pub mod Cases
 pub mod Known
 pub mod Results

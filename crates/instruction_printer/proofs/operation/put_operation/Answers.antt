@@ -4,13 +4,13 @@ use Rattle.type_table.specs.Types.{tree}
 use Rattle.module_arena.specs.declared.instruction.Call as the_call
 use Rattle.module_arena.specs.declared.instruction.Incoming as the_incoming
 use Rattle.module_arena.specs.declared.instruction.Insertion as the_insertion
-use Rattle.module_arena.specs.declared.instruction.Operand as the_operand
 use Rattle.module_arena.specs.Module as m
 use Rattle.canonical.specs.Operations.{operation_phrase}
 use Rattle.phrase_printer.specs.Printing.{separator_of}
 use Rattle.phrase_printer.proofs.Printing.{prints_same}
 use Rattle.instruction_printer.specs.Named.{value_of, operand_of}
-use Rattle.instruction_printer.specs.Parts.{HasThis, incoming_of, signature_of}
+use Rattle.instruction_printer.specs.Parts.{incoming_of, signature_of}
+use Rattle.instruction_printer.proofs.Accesses.{access_else}
 use Rattle.instruction_printer.proofs.Known.{Is, incoming_known}
 use Rattle.instruction_printer.proofs.operation.put_operation.Goals as goal
 
@@ -18,11 +18,6 @@ pub put_phi-requires-clause-incoming : goal.put_phi-requires-clause-incoming
 put_phi-requires-clause-incoming g c =
     let known = subst (Is c.args.arena.now c.args.function.now) c.in-Phi.is c.requires in
     rw c.as_slice.ensures (incoming_known c.args.arena.now c.args.function.now c.in-Phi.incoming known.values_known known.blocks_known)
-
-pub put_element_address-requires-clause-indices : goal.put_element_address-requires-clause-indices
-put_element_address-requires-clause-indices g c =
-    let known = subst (Is c.args.arena.now c.args.function.now) c.in-GetElementPtr.is c.requires in
-    rw c.as_slice-indices.ensures (All-tail (HasThis c.args.arena.now c.args.function.now) c.in-GetElementPtr.base c.in-GetElementPtr.indices known.operands_known)
 
 pub put_call-requires-clause-parameters : goal.put_call-requires-clause-parameters
 put_call-requires-clause-parameters g c =
@@ -36,13 +31,6 @@ returns-in-Phi g c =
     rw c.in-Phi.is
     (prints_same (ap (λ (xs : List the_incoming.Incoming). operation_phrase (m.Phi (tree a.table c.in-Phi.ty) (map (incoming_of a f) xs)) (separator_of c.args.behind)) c.as_slice.ensures) c.put_phi.ensures)
 
-pub returns-in-GetElementPtr : goal.returns-in-GetElementPtr
-returns-in-GetElementPtr g c =
-    let a = c.args.arena.now in
-    let f = c.args.function.now in
-    rw c.in-GetElementPtr.is
-    (prints_same (ap (λ (xs : List the_operand.Operand). operation_phrase (m.GetElementPtr c.in-GetElementPtr.flags (tree a.table c.in-GetElementPtr.source) (operand_of a f c.in-GetElementPtr.base) (map (operand_of a f) xs)) (separator_of c.args.behind)) c.as_slice-indices.ensures) c.put_element_address.ensures)
-
 pub returns-in-Call : goal.returns-in-Call
 returns-in-Call g c =
     let a = c.args.arena.now in
@@ -55,7 +43,7 @@ returns-in-ExtractValue g c =
     let a = c.args.arena.now in
     let f = c.args.function.now in
     rw c.in-ExtractValue.is
-    (prints_same (ap (λ (xs : List ℕ). operation_phrase (m.ExtractValue (operand_of a f c.in-ExtractValue.aggregate) xs) (separator_of c.args.behind)) c.as_slice-in-ExtractValue.ensures) c.put_extract.ensures)
+    (prints_same (ap (λ (xs : List ℕ). operation_phrase (m.ExtractValue (operand_of a f c.in-ExtractValue.aggregate) xs) (separator_of c.args.behind)) c.as_slice-indices.ensures) c.put_extract.ensures)
 
 pub returns-in-InsertValue : goal.returns-in-InsertValue
 returns-in-InsertValue g c =
@@ -63,3 +51,6 @@ returns-in-InsertValue g c =
     let f = c.args.function.now in
     rw c.in-InsertValue.is
     (prints_same (ap (λ (x : the_insertion.Insertion). operation_phrase (m.InsertValue (operand_of a f x.aggregate) (operand_of a f x.part) x.indices) (separator_of c.args.behind)) c.get-in-InsertValue.ensures) c.put_insert.ensures)
+
+pub put_access-requires-clause-access : goal.put_access-requires-clause-access
+put_access-requires-clause-access g c = access_else c.args.inst.now c.in_default.not-Binary c.in_default.not-Compare c.in_default.not-Convert c.in_default.not-Select c.in_default.not-Freeze c.in_default.not-Phi c.in_default.not-Call c.in_default.not-ExtractValue c.in_default.not-InsertValue
