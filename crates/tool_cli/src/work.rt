@@ -80,28 +80,17 @@ pub fn work<F: Files, I: Source, O: Sink>(
             output: place,
             text,
             selection,
-        } => extract_part(
-            alloc,
-            input,
-            first_text(texts),
-            selection,
-            place,
-            *text,
-            files,
-            output,
-        ),
+        } => {
+            let source = first_text(texts);
+            extract_part(alloc, input, source, selection, place, *text, files, output)
+        }
         Command::Lli {
             input: name,
             max_steps,
             arguments,
-        } => run_bytes(
-            alloc,
-            name,
-            first_text(texts),
-            arguments,
-            *max_steps,
-            input,
-            output,
-        ),
+        } => {
+            let program = first_text(texts);
+            run_bytes(alloc, name, program, arguments, *max_steps, input, output)
+        }
     }
 }

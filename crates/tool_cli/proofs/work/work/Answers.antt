@@ -83,11 +83,11 @@ returns-in-Link-clause-leaves g c = rw c.in-Link.is c.link.ensures.leaves
 pub returns-in-Link-clause-unwritten : goal.returns-in-Link-clause-unwritten
 returns-in-Link-clause-unwritten g c = rw c.in-Link.is (λ analysis plain early. c.link.ensures.unwritten early)
 
-pub first_text-requires-in-Extract : goal.first_text-requires-in-Extract
-first_text-requires-in-Extract g c = (let one : length c.args.texts ≡ 1 = rw c.in-Extract.is at c.requires.count in omega (arith, one))
+pub first_text-source-requires : goal.first_text-source-requires
+first_text-source-requires g c = (let one : length c.args.texts ≡ 1 = rw c.in-Extract.is at c.requires.count in omega (arith, one))
 
 pub extract_part-requires : goal.extract_part-requires
-extract_part-requires g c = short_first _ _ c.requires.short c.first_text-in-Extract.ensures
+extract_part-requires g c = short_first _ _ c.requires.short c.first_text-source.ensures
 
 pub returns-in-Extract-clause-work : goal.returns-in-Extract-clause-work
 returns-in-Extract-clause-work g c =
@@ -95,14 +95,14 @@ returns-in-Extract-clause-work g c =
     IsWork command texts c.extract_part.result
     ⊎ FailsToWrite (output_of command) (Rose (g.O.Sink.faults c.args.output.now) (g.O.Sink.faults c.extract_part.new.output)) (Rose (g.F.Files.write_faults c.args.files.now) (g.F.Files.write_faults c.extract_part.new.files)) c.extract_part.result in
     λ plain.
-    extract_is P _ _ _ _ _ _ _ c.in-Extract.is (only_input _ _ _ _ _ _ _ c.in-Extract.is c.requires.count c.first_text-in-Extract.ensures) c.extract_part.ensures.work
+    extract_is P _ _ _ _ _ _ _ c.in-Extract.is (only_input _ _ _ _ _ _ _ c.in-Extract.is c.requires.count c.first_text-source.ensures) c.extract_part.ensures.work
 
 pub returns-in-Extract-clause-written : goal.returns-in-Extract-clause-written
 returns-in-Extract-clause-written g c =
     let P : Command → List (List ℕ) → Type 0 = λ command texts.
     IsWritten command texts (outputs (g.O.Sink.taken c.args.output.now) (g.F.Files.contents c.args.files.now)) (outputs (g.O.Sink.taken c.extract_part.new.output) (g.F.Files.contents c.extract_part.new.files)) c.extract_part.result in
     λ plain.
-    extract_is P _ _ _ _ _ _ _ c.in-Extract.is (only_input _ _ _ _ _ _ _ c.in-Extract.is c.requires.count c.first_text-in-Extract.ensures) c.extract_part.ensures.written
+    extract_is P _ _ _ _ _ _ _ c.in-Extract.is (only_input _ _ _ _ _ _ _ c.in-Extract.is c.requires.count c.first_text-source.ensures) c.extract_part.ensures.written
 
 pub returns-in-Extract-clause-leaves : goal.returns-in-Extract-clause-leaves
 returns-in-Extract-clause-leaves g c = rw c.in-Extract.is c.extract_part.ensures.leaves
@@ -149,11 +149,11 @@ returns-in-Extract-clause-ran g c = rw c.in-Extract.is tt
 pub returns-in-Extract-clause-not_begun : goal.returns-in-Extract-clause-not_begun
 returns-in-Extract-clause-not_begun g c = rw c.in-Extract.is (λ never. absurd never)
 
-pub first_text-requires-in-Lli : goal.first_text-requires-in-Lli
-first_text-requires-in-Lli g c = (let one : length c.args.texts ≡ 1 = rw c.in-Lli.is at c.requires.count in omega (arith, one))
+pub first_text-program-requires : goal.first_text-program-requires
+first_text-program-requires g c = (let one : length c.args.texts ≡ 1 = rw c.in-Lli.is at c.requires.count in omega (arith, one))
 
 pub run_bytes-requires-clause-short : goal.run_bytes-requires-clause-short
-run_bytes-requires-clause-short g c = short_first _ _ c.requires.short c.first_text-in-Lli.ensures
+run_bytes-requires-clause-short g c = short_first _ _ c.requires.short c.first_text-program.ensures
 
 pub run_bytes-requires-clause-steps : goal.run_bytes-requires-clause-steps
 run_bytes-requires-clause-steps g c = rw c.in-Lli.is at c.requires.steps
@@ -162,14 +162,14 @@ pub returns-in-Lli-clause-ran : goal.returns-in-Lli-clause-ran
 returns-in-Lli-clause-ran g c =
     let before = streams g.I.Source g.O.Sink c.args.input.now c.args.output.now in
     let after = streams g.I.Source g.O.Sink c.run_bytes.new.input c.run_bytes.new.output in
-    let one = only_program c.args.command.now _ _ _ c.args.texts _ c.in-Lli.is c.requires.count c.first_text-in-Lli.ensures in
+    let one = only_program c.args.command.now _ _ _ c.args.texts _ c.in-Lli.is c.requires.count c.first_text-program.ensures in
     program_is c.args.command.now _ _ _ c.args.texts _ before after c.run_bytes.result c.in-Lli.is one c.run_bytes.ensures.ran
 
 pub returns-in-Lli-clause-of_work : goal.returns-in-Lli-clause-of_work
 returns-in-Lli-clause-of_work g c =
     let before = streams g.I.Source g.O.Sink c.args.input.now c.args.output.now in
     let after = streams g.I.Source g.O.Sink c.run_bytes.new.input c.run_bytes.new.output in
-    let one = only_program c.args.command.now _ _ _ c.args.texts _ c.in-Lli.is c.requires.count c.first_text-in-Lli.ensures in
+    let one = only_program c.args.command.now _ _ _ c.args.texts _ c.in-Lli.is c.requires.count c.first_text-program.ensures in
     lli_of_run c.args.command.now _ _ _ c.args.texts _ before after c.run_bytes.result c.in-Lli.is one c.run_bytes.ensures.ran
 
 pub returns-in-Lli-clause-leaves : goal.returns-in-Lli-clause-leaves
@@ -177,7 +177,7 @@ returns-in-Lli-clause-leaves g c =
     let before = streams g.I.Source g.O.Sink c.args.input.now c.args.output.now in
     let after = streams g.I.Source g.O.Sink c.run_bytes.new.input c.run_bytes.new.output in
     let writes = g.F.Files.write_faults c.args.files.now in
-    let one = only_program c.args.command.now _ _ _ c.args.texts _ c.in-Lli.is c.requires.count c.first_text-in-Lli.ensures in
+    let one = only_program c.args.command.now _ _ _ c.args.texts _ c.in-Lli.is c.requires.count c.first_text-program.ensures in
     record {
       cannot_write = lli_unwritten c.args.command.now _ _ _ c.args.texts _ before after (Rose writes writes) c.run_bytes.result c.in-Lli.is one c.run_bytes.ensures.ran;
       output_fault = lli_output_fault c.args.command.now _ _ _ c.args.texts _ before after c.run_bytes.result c.in-Lli.is one c.run_bytes.ensures.ran;
