@@ -19,10 +19,12 @@ pub(crate) fn decimal_128(digits: &[u8]) -> Option<u128>
 pub(crate) fn decimal_64(digits: &[u8]) -> Option<u64>
     ensures { result ≡ below (2 ^ 64) (decimal digits.now) }
 {
-    match decimal_128(digits) {
-        Some(number) if number < 1 << 64 => Some(number as u64),
-        _ => None,
+    let mut number: u64 = 0;
+    for digit in digits {
+        let value = u64::from(digit.saturating_sub(b'0'));
+        number = number.checked_mul(10)?.checked_add(value)?;
     }
+    Some(number)
 }
 
 /// The same digits, of which some other than zero, without the zeros before them.

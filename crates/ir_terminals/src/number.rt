@@ -1,5 +1,5 @@
 //! Numbers of any size.
-ghost use Rattle.std.specs.Prelude.{◌≡◌, ◌^◌, true, IfOk};
+ghost use Rattle.std.specs.Prelude.{◌≡◌, ◌^◌, true, None, IfOk};
 ghost use Rattle.ir_terminals.specs.Digits.{are_digits, below, decimal, IsWritten};
 
 use crate::digits::{decimal_64, decimal_128, without_zeros};
@@ -42,8 +42,23 @@ impl Model for Number {
     ghost invariant = { λ number. IsLarge number.magnitude };
 }
 
+/// The number that these digits write, which fits no word. It stands apart from the numbers that do, which nearly all are.
+#[cold]
+#[inline(never)]
+fn of_many_digits(alloc: Global, digits: &[u8]) -> Result<Number, AllocError>
+    requires digits { are_digits digits.now ≡ true }
+    requires large { None ≡ below (2 ^ 64) (decimal digits.now) }
+    ensures { IfOk result (λ number. number ≡ decimal digits.now) }
+{
+    let digits = Text::from_slice(alloc, digits)?;
+    Ok(Number {
+        magnitude: Magnitude::Large(Box::new(alloc, digits)?),
+    })
+}
+
 impl Number {
     /// The number that these digits write.
+    #[inline(always)]
     pub fn of_digits(alloc: Global, digits: &[u8]) -> Result<Number, AllocError>
         requires { are_digits digits.now ≡ true }
         ensures { IfOk result (λ number. number ≡ decimal digits.now) }
@@ -53,10 +68,7 @@ impl Number {
                 magnitude: Magnitude::Small(value),
             });
         }
-        let digits = Text::from_slice(alloc, digits)?;
-        Ok(Number {
-            magnitude: Magnitude::Large(Box::new(alloc, digits)?),
-        })
+        of_many_digits(alloc, digits)
     }
 
     /// The number as 64 bits, and None exactly where it is 2^64 or more.
