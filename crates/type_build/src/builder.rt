@@ -60,8 +60,10 @@ impl Builder {
         }
     }
 
-    /// The id of the type, which is added where no equal one is there.
-    pub fn keep_type(&mut self, alloc: Global, ty: IrType) -> Result<TypeId, AllocError>
+    /// The id of the type, of which no equal one was found, and which is added.
+    #[cold]
+    #[inline(never)]
+    fn keep_new_type(&mut self, alloc: Global, ty: IrType) -> Result<TypeId, AllocError>
         requires known { IsKnown self.old.arena.table ty }
         requires fits { IsWithinLimits (shape (structs self.old.arena.table) (tree_of (names self.old.arena.table) (trees self.old.arena.table) ty)) }
         ensures grows { OnOk result (Grows self.old.arena self.new.arena) }
@@ -72,9 +74,6 @@ impl Builder {
     {
         let _good = self.arena.variable_count();
         let _good_types = self.arena.types().type_count();
-        if let Some(id) = self.find_type(&ty) {
-            return Ok(id);
-        }
         let key = ty.copy(alloc)?;
         let id = match self.arena.add_type(ty) {
             Ok(id) => id,
@@ -82,6 +81,24 @@ impl Builder {
         };
         self.types.insert(key, id)?;
         Ok(id)
+    }
+
+    /// The id of the type, which is added where no equal one is there. Nearly always one is.
+    #[inline(always)]
+    pub fn keep_type(&mut self, alloc: Global, ty: IrType) -> Result<TypeId, AllocError>
+        requires known { IsKnown self.old.arena.table ty }
+        requires fits { IsWithinLimits (shape (structs self.old.arena.table) (tree_of (names self.old.arena.table) (trees self.old.arena.table) ty)) }
+        ensures grows { OnOk result (Grows self.old.arena self.new.arena) }
+        ensures is { IfOk result (λ id.
+            IsType self.new.arena id (tree_of (names self.old.arena.table) (trees self.old.arena.table) ty)) }
+        ensures within { (whole : Structs) → IsWithinLimits (shape whole (tree_of (names self.old.arena.table) (trees self.old.arena.table) ty)) → AreWithin whole self.old.arena
+            → OnOk result (AreWithin whole self.new.arena) }
+    {
+        let _good_types = self.arena.types().type_count();
+        if let Some(id) = self.find_type(&ty) {
+            return Ok(id);
+        }
+        self.keep_new_type(alloc, ty)
     }
 
     /// Where an equal constant is.
