@@ -30,11 +30,11 @@ work-requires-clause-steps g c = words_fit c.args.words.now c.in-Ok.command c.in
 -- the words have a first fault
 pub returns-in-Err-Usage : goal.returns-in-Err-Usage
 returns-in-Err-Usage g c =
-    let first = c.in-Err-Usage.ensures.usage c.in-Err-Usage.kind c.in-Err-Usage.word (ap (λ (fault : WordsFault). Err fault) c.in-Err-Usage.field-0-is) in
+    let fault = c.in-Err-Usage.ensures.usage c.in-Err-Usage.kind c.in-Err-Usage.word (ap (λ (fault : WordsFault). Err fault) c.in-Err-Usage.field-0-is) in
     record {
       usage = λ kind k told. c.in-Err-Usage.ensures.usage kind k (let e = told in let f = c.in-Err-Usage.field-0-is in cc);
-      is_usage = λ kind k first. fault_told c.in-Err-Usage.field-0 c.in-Err-Usage.kind kind c.in-Err-Usage.word k c.in-Err-Usage.field-0-is (c.in-Err-Usage.ensures.is_usage kind k first);
-      told = λ held stdin tells. inl (inl (c.in-Err-Usage.kind, (c.in-Err-Usage.word, first, refl)));
+      is_usage = λ kind k first. rw c.in-Err-Usage.field-0-is (fault_told c.in-Err-Usage.field-0 c.in-Err-Usage.kind kind c.in-Err-Usage.word k c.in-Err-Usage.field-0-is (c.in-Err-Usage.ensures.is_usage kind k first));
+      told = λ held stdin tells. rw c.in-Err-Usage.field-0-is (inl (inl (c.in-Err-Usage.kind, (c.in-Err-Usage.word, fault, refl))));
       causes = record {
         cannot_read = λ name told. absurd (let e = told in cc);
         too_large = λ name limit told. absurd (let e = told in cc);
@@ -45,7 +45,7 @@ returns-in-Err-Usage g c =
       before_reading = λ kind k first. (refl, refl, refl);
       order = λ name refused early. refl;
       turn = λ held refusal told first. refl;
-      in_turn = λ command read held refusal told first. absurd (read.fine c.in-Err-Usage.kind c.in-Err-Usage.word first.is);
+      in_turn = λ command read held refusal told first. absurd (read.fine c.in-Err-Usage.kind c.in-Err-Usage.word fault.is);
       untouched = record { unread = λ both. refl; files_unread = λ both. refl };
       whole = λ never one. absurd never;
       leaves = record {
@@ -54,11 +54,11 @@ returns-in-Err-Usage g c =
         input = loses_none _ _ _;
         files = leaves_none _ _ _ _ _;
       };
-      shown = λ held stdin tells command read plain. absurd (read.fine c.in-Err-Usage.kind c.in-Err-Usage.word first.is);
+      shown = λ held stdin tells command read plain. absurd (read.fine c.in-Err-Usage.kind c.in-Err-Usage.word fault.is);
       unwritten = λ none plain early. refl;
       before_work = λ early. refl;
       not_begun = λ command read early. (λ own. refl, refl);
-      played = λ held stdin tells name bound arguments is. absurd (is.fine c.in-Err-Usage.kind c.in-Err-Usage.word first.is);
+      played = λ held stdin tells name bound arguments is. absurd (is.fine c.in-Err-Usage.kind c.in-Err-Usage.word fault.is);
     }
 
 -- memory ran out while they were read
