@@ -8,7 +8,7 @@ ghost use Rattle.command_line.specs.Commands.{input_from, arguments_from};
 ghost use Rattle.command_line.specs.Reading.{Gives, Answers, Takes, nothing_given, with_flag, with_output, with_steps, with_setting, with_input, name_read, spelled_turn, turn, command_from};
 
 use crate::number::number_of;
-use crate::options::{PlainOption, Setting, WordSpelling, is_dash, spelled};
+use crate::options::{PlainOption, Setting, WordSpelling, is_dash, word_spelling};
 use crate::output::{output_name, output_or_default, output_or_standard};
 use crate::{Command, OutputName, SelectionWords, Tool, UsageKind, WordsFault};
 use ir_base::{Name, NameList, Text, TextList};
@@ -199,7 +199,7 @@ impl GivenWords {
         ensures { Takes result self.new
             (spelled_turn self.old (word_spelling self.old.tool word.now) word.now (option_copied next.entry) at) }
     {
-        match spelled(self.tool, word) {
+        match word_spelling(self.tool, word) {
             WordSpelling::Marker => {
                 self.marked = true;
                 Ok(1)

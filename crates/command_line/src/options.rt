@@ -120,7 +120,7 @@ fn parts(option: &[u8]) -> (&[u8], Option<&[u8]>)
 }
 
 // An option of the tool, with the value behind its `=` where it has one.
-fn named<'w>(tool: Tool, name: &[u8], value: Option<&'w [u8]>) -> WordSpelling<'w>
+fn option_named<'w>(tool: Tool, name: &[u8], value: Option<&'w [u8]>) -> WordSpelling<'w>
     ensures { seen result
         ≡ option_named tool (flag_named name.now) (setting_named name.now) (option_copied value.entry) }
 {
@@ -140,7 +140,7 @@ fn named<'w>(tool: Tool, name: &[u8], value: Option<&'w [u8]>) -> WordSpelling<'
 
 /// What the word is for the tool.
 #[tactic(auto, unfolding(crate::specs::Options::word_spelling))]
-pub(crate) fn spelled(tool: Tool, word: &[u8]) -> WordSpelling<'_>
+pub(crate) fn word_spelling(tool: Tool, word: &[u8]) -> WordSpelling<'_>
     ensures { seen result ≡ word_spelling tool word.now }
 {
     if is_dash(word) {
@@ -153,5 +153,5 @@ pub(crate) fn spelled(tool: Tool, word: &[u8]) -> WordSpelling<'_>
         return WordSpelling::Input;
     };
     let (name, value) = parts(option);
-    named(tool, name, value)
+    option_named(tool, name, value)
 }

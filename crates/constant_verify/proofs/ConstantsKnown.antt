@@ -14,7 +14,7 @@ use Rattle.module_arena.specs.EntryRules.{is_only_called, takes_no_intrinsic, co
 use Rattle.module_arena.specs.Same.{same_type}
 use Rattle.module_arena.specs.TypeTests.{is_integer, is_pointer, opened}
 use Rattle.constant_verify.specs.declared.constants.ConstFact.{ConstFact}
-use Rattle.constant_verify.specs.ConstantFacts.{typed_list, parts_in, are_types, have_types, fits_outside, fits_within, own_operands_fit, own_address_passes, all_pass, both_constant_facts, const_fact, part_fact, own_fact}
+use Rattle.constant_verify.specs.ConstantParts.{typed_list, parts_in, are_types, have_types, fits_outside, fits_within, own_operands_fit, own_address_passes, all_pass, both_constant_facts, const_fact, part_fact, own_fact}
 use Rattle.std.proofs.lemmas.Bool.{false_from_ne_true}
 use Rattle.std.proofs.lemmas.Bool.Decides.{Decides-ltb, same_from_decides}
 use Rattle.std.proofs.lemmas.Grind.{fold-append}

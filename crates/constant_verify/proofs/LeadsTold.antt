@@ -12,7 +12,7 @@ use Rattle.module_arena.specs.Constants.{Index, indexed, indices_fit, leads_to_p
 use Rattle.module_arena.specs.Lists.{Lists}
 use Rattle.module_arena.specs.TypeTests.{opened, is_integer, is_pointer, is_type}
 use Rattle.module_arena.specs.View.{constant_at, constants_of}
-use Rattle.constant_verify.specs.ConstantFacts.{are_element_operands, index_at}
+use Rattle.constant_verify.specs.ConstantParts.{are_element_operands, index_at}
 
 pub index_leads : (s : Structs) (t u : Tree) (i : Index) (is : List Index) → indexed (opened s t) i ≡ Some u → leads_to_part s t (i ∷ is) ≡ leads_to_part s u is
 index_leads s t u i is e = ap (is_type (λ part. leads_to_part s part is)) e

@@ -11,7 +11,7 @@ use Rattle.module_arena.specs.Module.Brackets.{Square, Braces, Packed}
 use Rattle.module_arena.specs.Constants.{expected}
 use Rattle.module_arena.specs.Same.{same_type}
 use Rattle.type_verify.specs.Opened.{has_no_parts}
-use Rattle.constant_verify.specs.ConstantFacts.{have_types, are_types, is_square, are_brackets_of}
+use Rattle.constant_verify.specs.ConstantParts.{have_types, are_types, is_square, are_brackets_of}
 
 flipped : (n m : ℕ) → (n == m) ≡ (m == n)
 flipped n m = same_from_decides (n == m) (m == n) (unsigned_Decides n m) ((λ e. sym ((unsigned_Decides m n).0 e)), (λ e. (unsigned_Decides m n).1 (sym e)))

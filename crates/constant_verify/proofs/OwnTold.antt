@@ -18,7 +18,7 @@ use Rattle.module_arena.specs.Same.{same_type}
 use Rattle.module_arena.specs.TypeTests.{is_free_of_void, is_passable, lies_in_memory, is_integer, opened}
 use Rattle.module_arena.specs.View.{brackets_view, constants_of, module_of, type_at}
 use Rattle.module_arena.specs.Changes.{constant_in}
-use Rattle.constant_verify.specs.ConstantFacts.{have_types, fits_outside, own_operands_fit, are_element_operands, index_at, own_fact}
+use Rattle.constant_verify.specs.ConstantParts.{have_types, fits_outside, own_operands_fit, are_element_operands, index_at, own_fact}
 use Rattle.constant_verify.proofs.ConstantsKnown.{own_structs}
 use Rattle.constant_verify.proofs.PartsTold.{types_listed, operands_listed}
 

@@ -16,7 +16,7 @@ use Rattle.module_arena.specs.Mentions.{typed_in}
 use Rattle.module_arena.specs.Module.{Bytes, Constant, Constants}
 use Rattle.module_arena.specs.View.{type_at, constant_at, constants_at, constant_view, constants_of}
 use Rattle.module_arena.specs.Changes.{constant_in}
-use Rattle.constant_verify.specs.ConstantFacts.{typed_list, parts_in, are_types, have_types, typed_at, index_at, written_in, are_element_operands}
+use Rattle.constant_verify.specs.ConstantParts.{typed_list, parts_in, are_types, have_types, typed_at, index_at, written_in, are_element_operands}
 
 -- the types before constants
 pub types_listed : (ts : List Tree) (cs : List Constant) (xs : List TypedConst) → constant_types (constants_at ts cs xs) ≡ map (λ (x : TypedConst). type_at ts x.ty) xs

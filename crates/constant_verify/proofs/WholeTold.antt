@@ -15,7 +15,7 @@ use Rattle.module_arena.specs.Module.Constant.{Null}
 use Rattle.module_arena.specs.Constants.{Typed, fits}
 use Rattle.module_arena.specs.View.{constant_at, constants_of, module_of}
 use Rattle.constant_verify.specs.declared.constants.ConstFact.{ConstFact}
-use Rattle.constant_verify.specs.ConstantFacts.{all_pass, both_constant_facts, const_fact, own_fact, part_fact, part_fact_at, typed_at, parts_in, fits_outside, fits_within, own_address_passes, own_operands_fit}
+use Rattle.constant_verify.specs.ConstantParts.{all_pass, both_constant_facts, const_fact, own_fact, part_fact, part_fact_at, typed_at, parts_in, fits_outside, fits_within, own_address_passes, own_operands_fit}
 use Rattle.constant_verify.proofs.ConstantsKnown.{fact_told, fits_told, own_structs}
 use Rattle.constant_verify.proofs.PartsTold.{parts_listed}
 

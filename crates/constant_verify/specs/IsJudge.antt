@@ -4,7 +4,7 @@ use Rattle.type_table.specs.Types.{Types}
 use Rattle.module_arena.specs.Known.{IsGood}
 use Rattle.module_arena.specs.Lists.{Lists}
 use Rattle.module_arena.specs.View.{constants_of, module_of}
-use Rattle.constant_verify.specs.ConstantFacts.{const_fact}
+use Rattle.constant_verify.specs.ConstantParts.{const_fact}
 use Rattle.constant_verify.specs.declared.constants.ConstFact.{ConstFact}
 
 -- the types are those of the arena, and the facts those of its constants

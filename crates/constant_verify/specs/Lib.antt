@@ -1,3 +1,3 @@
-pub mod ConstantFacts
+pub mod ConstantParts
 pub mod FunctionIds
 pub mod IsJudge

@@ -10,7 +10,7 @@ ghost use Rattle.module_arena.specs.Mentions.{typed_in};
 ghost use Rattle.module_arena.specs.TypeTests.{is_passable, is_free_of_void};
 ghost use Rattle.module_arena.specs.View.{constants_of, module_of};
 ghost use Rattle.constant_verify.specs.FunctionIds.{is_function};
-ghost use Rattle.constant_verify.specs.ConstantFacts.{all_pass, both_constant_facts, own_fact, own_address_passes, part_fact_at, const_fact, typed_at};
+ghost use Rattle.constant_verify.specs.ConstantParts.{all_pass, both_constant_facts, own_fact, own_address_passes, part_fact_at, const_fact, typed_at};
 
 use crate::fits::{fits_outside, operands_fit};
 use module_arena::{Arena, Const, ConstId, GlobalId, TypedConst};

@@ -9,8 +9,8 @@ ghost use Rattle.module_arena.specs.Known.{KnowsConst, counts};
 ghost use Rattle.module_arena.specs.TypeTests.{opened, is_integer};
 ghost use Rattle.module_arena.specs.Same.{same_type};
 ghost use Rattle.module_arena.specs.View.{brackets_view, constant_at, constants_of};
-ghost use Rattle.constant_verify.specs.ConstantFacts.{are_types, have_types, own_operands_fit, index_at, is_narrower, written_in};
-ghost use Rattle.constant_verify.specs.ConstantFacts as facts;
+ghost use Rattle.constant_verify.specs.ConstantParts.{are_types, have_types, own_operands_fit, index_at, is_narrower, written_in};
+ghost use Rattle.constant_verify.specs.ConstantParts as constant_parts;
 
 use ir_tables::Opcode;
 use module_arena::{Arena, Brackets, Const, ConstId, TypedConst};
@@ -107,14 +107,14 @@ fn have_types(types: &TypeJudge<'_>, wanted: &[TypeId], parts: &[TypedConst]) ->
 
 /// Whether the brackets are square.
 fn is_square(round: Brackets) -> bool
-    ensures { result ≡ facts.is_square (brackets_view round) }
+    ensures { result ≡ constant_parts.is_square (brackets_view round) }
 {
     matches!(round, Brackets::Square)
 }
 
 /// Whether the brackets are those of a struct that is packed or not.
 fn are_brackets_of(round: Brackets, packed: bool) -> bool
-    ensures { result ≡ facts.are_brackets_of (brackets_view round) packed }
+    ensures { result ≡ constant_parts.are_brackets_of (brackets_view round) packed }
 {
     match round {
         Brackets::Square => false,
@@ -127,7 +127,7 @@ fn are_brackets_of(round: Brackets, packed: bool) -> bool
 fn are_parts_of(types: &TypeJudge<'_>, ty: TypeId, round: Brackets, parts: &[TypedConst]) -> bool
     requires ty { ty < length types.now.types }
     requires known { All (λ x. x.ty < length types.now.types) parts.now }
-    ensures { result ≡ facts.have_types (constants.expected (brackets_view round) (opened (structs types.now) (tree types.now ty))) (map (λ x. tree types.now x.ty) parts.now) }
+    ensures { result ≡ constant_parts.have_types (constants.expected (brackets_view round) (opened (structs types.now) (tree types.now ty))) (map (λ x. tree types.now x.ty) parts.now) }
 {
     match types.opened(ty) {
         OpenedType::Array(count, element) => {
@@ -152,7 +152,7 @@ pub(crate) fn fits_outside(
     requires same { types.now ≡ arena.now.table }
     requires ty { ty < length arena.now.table.types }
     requires known { KnowsConst (length arena.now.table.types) (counts arena.now) (length arena.now.constants) constant.now }
-    ensures { result ≡ facts.fits_outside (structs arena.now.table) (tree arena.now.table ty) (constant_in arena.now constant.now) }
+    ensures { result ≡ constant_parts.fits_outside (structs arena.now.table) (tree arena.now.table ty) (constant_in arena.now constant.now) }
 {
     match constant {
         Const::Integer(_) => types.is_integer(ty),
@@ -246,7 +246,7 @@ fn element_operands_fit(
     requires same { types.now ≡ arena.now.table }
     requires source { source < length arena.now.table.types }
     requires known { All (λ x. (x.ty < length arena.now.table.types) × (x.value < length arena.now.constants)) operands.now }
-    ensures { result ≡ facts.are_element_operands (structs arena.now.table) (tree arena.now.table source) (map (index_at arena.now) operands.now) }
+    ensures { result ≡ constant_parts.are_element_operands (structs arena.now.table) (tree arena.now.table source) (map (index_at arena.now) operands.now) }
 {
     match operands {
         [] => false,

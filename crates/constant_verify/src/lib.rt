@@ -2,7 +2,7 @@
 //!
 //! It stands on `ir_base`, `ir_tables`, `type_table`, `module_arena` and `type_verify`. It promises that what is told of a constant is
 //! what the definitions say of it on the module that the arena stands for, though each constant is looked at once.
-//! Definitions: `specs/ConstantFacts`; the tests stand in `module_arena`, `specs/Constants` and `EntryRules`.
+//! Definitions: `specs/ConstantParts`; the tests stand in `module_arena`, `specs/Constants` and `EntryRules`.
 //!
 //! ```
 //! let judge = Judge::new(alloc, &arena)?;

@@ -28,7 +28,7 @@ use Rattle.module_arena.specs.declared.constant.Const as the_const
 use Rattle.module_arena.specs.declared.constant.Const.TheVariants as const
 use Rattle.module_arena.specs.declared.constant.TypedConst.{TypedConst}
 use Rattle.module_arena.specs.declared.entry.GlobalId.{GlobalId}
-use Rattle.constant_verify.specs.ConstantFacts.{typed_at, typed_list}
+use Rattle.constant_verify.specs.ConstantParts.{typed_at, typed_list}
 use Rattle.constant_verify.proofs.PartsTold.{typed_listed}
 use Rattle.entry_rules.specs.Constructors.{are_constructor_parts, are_constructor_types, is_braces, is_constructor_at, is_number}
 

@@ -1,6 +1,6 @@
 -- Says how the code reads: what `variable_name_suits` asks of a list of constructors, and of each of them by its parts.
 use Rattle.std.specs.Prelude.{Bool, true, false, ◌&&◌, ◌||◌, List, [], ◌∷◌, codes, is_some}
-use Rattle.constant_verify.specs.ConstantFacts.{typed_at}
+use Rattle.constant_verify.specs.ConstantParts.{typed_at}
 use Rattle.module_arena.specs.Constants.{Typed, written_number}
 use Rattle.module_arena.specs.EntryRules.{has_function, has_alias_of_function, is_function_or_null, is_constructor, constructor_type}
 use Rattle.module_arena.specs.Lists.{Lists}

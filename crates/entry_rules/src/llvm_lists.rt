@@ -9,7 +9,7 @@ ghost use Rattle.module_arena.specs.Known.{HasGlobal, KnowsVariable, counts};
 ghost use Rattle.module_arena.specs.Lists.{name_at};
 ghost use Rattle.module_arena.specs.Same.{same_type};
 ghost use Rattle.module_arena.specs.View.{brackets_view, constant_at, constants_of, module_of};
-ghost use Rattle.constant_verify.specs.ConstantFacts.{typed_at};
+ghost use Rattle.constant_verify.specs.ConstantParts.{typed_at};
 ghost use Rattle.entry_rules.specs.Constructors.{are_constructor_parts, are_constructor_types, constructor_names, is_braces, is_constructor_at, is_number, leads_to_function, used_names};
 ghost use Rattle.entry_rules.specs.Readings.{KnowsConstant};
 ghost use Rattle.type_table.specs.Tree.{ptr};

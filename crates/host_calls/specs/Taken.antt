@@ -4,7 +4,7 @@ use Rattle.std.specs.List.{AllZip}
 use Rattle.ir_eval.specs.declared.value.Pointer.{Pointer}
 use Rattle.ir_eval.specs.declared.value.Scalar.{Scalar}
 use Rattle.ir_eval.specs.declared.value.Scalar.TheVariants.{Int, Ptr, Poison}
-use Rattle.ir_memory.specs.Block.{MemoryBlock}
+use Rattle.ir_memory.specs.MemoryBlock.{MemoryBlock}
 use Rattle.ir_memory.specs.Given.{IsAddress}
 use Rattle.ir_memory.specs.declared.leaf.Leaf.TheVariants as leaf
 use Rattle.module_arena.specs.declared.host.HostRow.{HostRow}

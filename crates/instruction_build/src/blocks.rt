@@ -8,7 +8,7 @@ ghost use Rattle.name_rules.specs.Locals.{next_after, announced_block};
 
 use crate::called::number_behind;
 use crate::local_ids::LocalIds;
-use ir_instructions::Block;
+use ir_instructions::WrittenBlock;
 use std::alloc::{AllocError, Global};
 
 /// Gives the next ids to the block and to the results of its instructions, and hands back the next number behind them.
@@ -18,7 +18,7 @@ pub fn add_block<'a>(
     blocks: &mut LocalIds<'a>,
     alloc: Global,
     next: u32,
-    written: &'a Block,
+    written: &'a WrittenBlock,
 ) -> Result<u32, AllocError>
     requires numbers { next + length written.now.instructions.items < 2 ^ 32 - 2 }
     requires few_values { length values.old.names.items + length written.now.instructions.items < 2 ^ 32 - 1 }

@@ -11,7 +11,7 @@ ghost use Rattle.name_rules.specs.Locals.{next_after, announced_parameter, annou
 use crate::called::{gives_result, number_behind};
 use crate::local_ids::LocalIds;
 use ir_instructions::Instruction;
-use ir_syntax::Parameter;
+use ir_syntax::WrittenParameter;
 use std::alloc::{AllocError, Global};
 
 impl<'a> LocalIds<'a> {
@@ -19,7 +19,7 @@ impl<'a> LocalIds<'a> {
     pub fn add_parameters(
         &mut self,
         alloc: Global,
-        written: &'a [Parameter],
+        written: &'a [WrittenParameter],
     ) -> Result<u32, AllocError>
         requires { length self.old.names.items + length written.now < 2 ^ 32 - 1 }
         ensures next { IfOk result (λ next. next ≡ next_after 0 (map announced_parameter (map parameter_view written.now))) }

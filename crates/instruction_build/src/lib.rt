@@ -43,6 +43,7 @@ use crate::operations::build_operation;
 use crate::targets::find_block;
 pub use blocks::add_block;
 pub use called::gives_result;
+use ir_instructions::WrittenEnding;
 pub use local_ids::LocalIds;
 pub use locals::Locals;
 use module_arena::{Ending, Inst, ValueId};
@@ -73,7 +74,7 @@ pub fn build_ending(
     builder: &mut Builder,
     alloc: Global,
     locals: &Locals,
-    written: &ir_instructions::Ending,
+    written: &WrittenEnding,
 ) -> Result<Ending, AllocError>
     requires can { CanEnding (structs builder.old.arena.table) (entries builder.old.arena) (called_of locals.now.values.names.items) (called_of locals.now.blocks.names.items) (ending_view written.now) }
     requires few_values { length locals.now.values.names.items < 2 ^ 32 }
@@ -82,11 +83,11 @@ pub fn build_ending(
     ensures is { IfOk result (λ e. IsEnding (called_of locals.now.values.names.items) (called_of locals.now.blocks.names.items) builder.new.arena e (ending_in (ending_view written.now))) }
 {
     match written {
-        ir_instructions::Ending::ReturnVoid => Ok(Ending::ReturnVoid),
-        ir_instructions::Ending::Return(value) => build_return(builder, alloc, locals, value),
-        ir_instructions::Ending::Jump(target) => Ok(Ending::Jump(find_block(locals, target))),
-        ir_instructions::Ending::Branch(branch) => build_branch(builder, alloc, locals, branch),
-        ir_instructions::Ending::Switch(switch) => build_switch(builder, alloc, locals, switch),
-        ir_instructions::Ending::Unreachable => Ok(Ending::Unreachable),
+        WrittenEnding::ReturnVoid => Ok(Ending::ReturnVoid),
+        WrittenEnding::Return(value) => build_return(builder, alloc, locals, value),
+        WrittenEnding::Jump(target) => Ok(Ending::Jump(find_block(locals, target))),
+        WrittenEnding::Branch(branch) => build_branch(builder, alloc, locals, branch),
+        WrittenEnding::Switch(switch) => build_switch(builder, alloc, locals, switch),
+        WrittenEnding::Unreachable => Ok(Ending::Unreachable),
     }
 }

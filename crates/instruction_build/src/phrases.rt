@@ -13,7 +13,7 @@ use crate::locals::Locals;
 use crate::numbers::indices_of;
 use crate::values::{build_operand, build_value};
 use ir_constants::TypedValue;
-use ir_instructions::{CastParts, Extraction, Insertion, Operands};
+use ir_instructions::{CastParts, Extraction, Operands, WrittenChoice, WrittenInsertion};
 use ir_tables::{Flags, Opcode, Predicate};
 use module_arena::{Boxed, Choice, Inst, Operand, Value, ValueId};
 use std::alloc::{AllocError, Global};
@@ -109,7 +109,7 @@ pub(crate) fn build_select(
     alloc: Global,
     locals: &Locals,
     next: ValueId,
-    choice: &ir_instructions::Choice,
+    choice: &WrittenChoice,
 ) -> Result<Inst, AllocError>
     requires can { TakesOperation builder.old.arena locals.now (tree.Select (typed_value_view choice.now.condition) (typed_value_view choice.now.first) (typed_value_view choice.now.second)) }
     requires few_values { length locals.now.values.names.items < 2 ^ 32 }
@@ -171,7 +171,7 @@ pub(crate) fn build_insertion(
     alloc: Global,
     locals: &Locals,
     next: ValueId,
-    insertion: &Insertion,
+    insertion: &WrittenInsertion,
 ) -> Result<Inst, AllocError>
     requires can { TakesOperation builder.old.arena locals.now (tree.InsertValue (typed_value_view insertion.now.value) (typed_value_view insertion.now.part) insertion.now.indices.items) }
     requires few_values { length locals.now.values.names.items < 2 ^ 32 }

@@ -13,7 +13,7 @@ use crate::numbers::alignment_of;
 use crate::signatures::build_signature;
 use crate::targets::build_incoming_list;
 use crate::values::{build_callee, build_operand, build_operands};
-use ir_instructions::{Address, Alloca, Call, Load, Phi, Store};
+use ir_instructions::{Address, Alloca, Load, Phi, Store, WrittenCall};
 use ir_tables::Flags;
 use module_arena::{Boxed, Inst, ValueId};
 use std::alloc::{AllocError, Global};
@@ -130,7 +130,7 @@ pub(crate) fn build_call(
     alloc: Global,
     locals: &Locals,
     defined: Option<ValueId>,
-    call: &Call,
+    call: &WrittenCall,
 ) -> Result<Inst, AllocError>
     requires can { TakesOperation builder.old.arena locals.now (tree.Call (call_view call.now)) }
     requires few_values { length locals.now.values.names.items < 2 ^ 32 }

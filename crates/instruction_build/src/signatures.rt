@@ -13,7 +13,7 @@ ghost use Rattle.instruction_build.specs.Parts.{IsSignature};
 
 use ir_base::ItemList;
 use ir_constants::TypedValue;
-use ir_instructions::Call;
+use ir_instructions::WrittenCall;
 use module_arena::Signature;
 use std::alloc::{AllocError, Global};
 use type_build::Builder;
@@ -42,7 +42,7 @@ fn argument_types(
 pub(crate) fn build_signature(
     builder: &mut Builder,
     alloc: Global,
-    call: &Call,
+    call: &WrittenCall,
 ) -> Result<Signature, AllocError>
     requires returns { CanType (structs builder.old.arena.table) (entries builder.old.arena) (call_view call.now).returns }
     requires signature { CanSignature (structs builder.old.arena.table) (entries builder.old.arena) (call_view call.now).signature }

@@ -14,6 +14,7 @@ use crate::locals::Locals;
 use crate::values::build_value;
 use ir_base::ItemList;
 use ir_constants::Type;
+use ir_instructions::{WrittenCase, WrittenIncoming};
 use ir_terminals::Local;
 use module_arena::{BlockId, Case, CaseList, Incoming, IncomingList};
 use std::alloc::{AllocError, Global};
@@ -34,7 +35,7 @@ fn build_incoming(
     alloc: Global,
     locals: &Locals,
     ty: &Type,
-    written: &ir_instructions::Incoming,
+    written: &WrittenIncoming,
 ) -> Result<Incoming, AllocError>
     requires ty { CanBe (structs builder.old.arena.table) (type_in (type_view ty.now)) }
     requires can { TakesIncoming builder.old.arena locals.now (incoming_view written.now) }
@@ -54,7 +55,7 @@ pub(crate) fn build_incoming_list(
     alloc: Global,
     locals: &Locals,
     ty: &Type,
-    written: &[ir_instructions::Incoming],
+    written: &[WrittenIncoming],
 ) -> Result<IncomingList, AllocError>
     requires ty { CanBe (structs builder.old.arena.table) (type_in (type_view ty.now)) }
     requires can { All (TakesIncoming builder.old.arena locals.now) (map incoming_view written.now) }
@@ -81,7 +82,7 @@ fn build_case(
     builder: &mut Builder,
     alloc: Global,
     locals: &Locals,
-    written: &ir_instructions::Case,
+    written: &WrittenCase,
 ) -> Result<Case, AllocError>
     requires can { TakesCase builder.old.arena locals.now (case_view written.now) }
     requires few_blocks { length locals.now.blocks.names.items < 2 ^ 32 }
@@ -102,7 +103,7 @@ pub(crate) fn build_cases(
     builder: &mut Builder,
     alloc: Global,
     locals: &Locals,
-    written: &[ir_instructions::Case],
+    written: &[WrittenCase],
 ) -> Result<CaseList, AllocError>
     requires can { All (TakesCase builder.old.arena locals.now) (map case_view written.now) }
     requires few_blocks { length locals.now.blocks.names.items < 2 ^ 32 }

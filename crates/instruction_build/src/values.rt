@@ -11,7 +11,7 @@ ghost use Rattle.instruction_build.specs.Parts.{value_names, block_names, TakesV
 
 use crate::locals::Locals;
 use ir_base::{ItemList, Place};
-use ir_constants::{Type, TypedValue};
+use ir_constants::{Type, TypedValue, WrittenValue};
 use module_arena::{Operand, OperandList, Value, ValueId};
 use std::alloc::{AllocError, Global};
 use type_build::Builder;
@@ -22,7 +22,7 @@ pub(crate) fn build_value(
     alloc: Global,
     locals: &Locals,
     ty: &Type,
-    written: &ir_constants::Value,
+    written: &WrittenValue,
 ) -> Result<Value, AllocError>
     requires ty { CanBe (structs builder.old.arena.table) (type_in (type_view ty.now)) }
     requires can { TakesValue builder.old.arena locals.now (value_view written.now) }
@@ -31,11 +31,11 @@ pub(crate) fn build_value(
     ensures is { IfOk result (λ v. IsValue (value_names locals.now) (block_names locals.now) builder.new.arena v (value_in (type_in (type_view ty.now)) (value_view written.now))) }
 {
     match written {
-        ir_constants::Value::Local(local) => {
+        WrittenValue::Local(local) => {
             let id = locals.values.find(local);
             Ok(Value::Local(ValueId::new(id)))
         }
-        ir_constants::Value::Constant(constant) => {
+        WrittenValue::Constant(constant) => {
             let id = builder.add_constant(alloc, constant, ty)?;
             Ok(Value::Known(id))
         }
@@ -47,7 +47,7 @@ pub(crate) fn build_callee(
     builder: &mut Builder,
     alloc: Global,
     locals: &Locals,
-    written: &ir_constants::Value,
+    written: &WrittenValue,
 ) -> Result<Value, AllocError>
     requires can { TakesValue builder.old.arena locals.now (value_view written.now) }
     requires few_values { length locals.now.values.names.items < 2 ^ 32 }

@@ -14,7 +14,7 @@ use Rattle.module_arena.specs.declared.instruction.Call.{Call}
 use Rattle.module_arena.specs.declared.instruction.Operand.{Operand}
 use Rattle.module_arena.specs.declared.instruction.Inst as the_inst
 use Rattle.module_arena.specs.declared.instruction.Inst.TheVariants as inst
-use Rattle.instruction_verify.specs.OperandFacts.{instruction_in}
+use Rattle.instruction_verify.specs.ArenaOperands.{instruction_in}
 use Rattle.instruction_verify.specs.Parts.{is_address}
 
 module _ (a : Lists) (values blocks : List LocalName) where

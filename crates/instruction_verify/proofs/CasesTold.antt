@@ -11,7 +11,7 @@ use Rattle.type_table.specs.Types.{trees}
 use Rattle.module_arena.specs.declared.instruction.Case.{Case}
 use Rattle.module_arena.specs.declared.instruction.Operand.{Operand}
 use Rattle.module_arena.specs.declared.instruction.Value.TheVariants as value
-use Rattle.instruction_verify.specs.OperandFacts.{HasCase, HasConstant, HasOperand, case_in, case_operand_in, phi_operand_in}
+use Rattle.instruction_verify.specs.ArenaOperands.{HasCase, HasConstant, HasOperand, case_in, case_operand_in, phi_operand_in}
 
 -- a case as an operand of the arena
 abbrev number_of : Case → Operand

@@ -12,7 +12,7 @@ use Rattle.module_arena.specs.Module.{LocalName}
 use Rattle.module_arena.specs.ValueRules.{index_of_operand}
 use Rattle.module_arena.specs.declared.instruction.Operand.{Operand}
 use Rattle.module_arena.specs.TypeTests.{is_integer, opened}
-use Rattle.instruction_verify.specs.OperandFacts.{index_in, operand_in}
+use Rattle.instruction_verify.specs.ArenaOperands.{index_in, operand_in}
 
 module _ {X : Type 0} where
   pub leads_on : (s : Structs) (t u : Tree) (f : X → Index) (xs : List X) (i : ℕ) (x : X) → i < length xs → x ≡ get_or xs i x → indexed (opened s t) (f x) ≡ Some u

@@ -18,7 +18,7 @@ use Rattle.module_arena.specs.declared.instruction.Insertion.{Insertion}
 use Rattle.module_arena.specs.declared.instruction.Operand.{Operand}
 use Rattle.module_arena.specs.declared.instruction.Value.{Value}
 use Rattle.ir_tables.specs.declared.predicate.Predicate.{Predicate}
-use Rattle.instruction_verify.specs.OperandFacts.{instruction_in, operand_in}
+use Rattle.instruction_verify.specs.ArenaOperands.{instruction_in, operand_in}
 
 module _ (a : Lists) (values blocks : List LocalName) where
   pub no_arithmetic : (i : the_inst.Inst) → ((opcode : Opcode) (flags result : ℕ) (left : Operand) (right : Value) → i ≡ inst.Binary opcode flags result left right → ⊥) → ((flags : ℕ) (predicate : Predicate) (result : ℕ) (left : Operand) (right : Value) → i ≡ inst.Compare flags predicate result left right → ⊥) → ((result : ℕ) (choice : Choice) → i ≡ inst.Select result choice → ⊥) → true ≡ arithmetic_suits (instruction_in a values blocks i).operation

@@ -14,7 +14,7 @@ use Rattle.module_arena.specs.TypeTests.{is_passable}
 use Rattle.module_arena.specs.ValueRules.{value_fits}
 use Rattle.module_arena.specs.View.{constant_at, constants_of, module_of}
 use Rattle.module_arena.specs.declared.instruction.Value.TheVariants as value
-use Rattle.instruction_verify.specs.OperandFacts.{all_pass, both_operand_facts, operand_fact, operand_in, operands_fact}
+use Rattle.instruction_verify.specs.ArenaOperands.{all_pass, both_operand_facts, operand_fact, operand_in, operands_fact}
 use Rattle.instruction_verify.specs.declared.operands.OperandFact.{OperandFact}
 
 and_true : (b : Bool) → (b && true) ≡ b

@@ -13,7 +13,7 @@ use Rattle.module_arena.specs.ValueRules.{case_numbers, ending_suits, is_case_of
 use Rattle.module_arena.specs.declared.instruction.Case.{Case}
 use Rattle.module_arena.specs.declared.instruction.Ending.TheVariants as ending
 use Rattle.module_arena.specs.declared.instruction.Operand.{Operand}
-use Rattle.instruction_verify.specs.OperandFacts.{case_in, ending_in}
+use Rattle.instruction_verify.specs.ArenaOperands.{case_in, ending_in}
 use Rattle.instruction_verify.specs.Parts.{is_case_at, numbers_at}
 
 pub if_ok : {E : Type 0} (P Q : Bool → Type 0) (r : Result Bool E) → IfOk r P → ((b : Bool) → P b → Q b) → IfOk r Q

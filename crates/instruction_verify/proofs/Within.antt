@@ -10,7 +10,7 @@ use Rattle.module_arena.specs.declared.instruction.Ending as the_ending
 use Rattle.module_arena.specs.declared.instruction.Operand.{Operand}
 use Rattle.module_arena.specs.declared.instruction.Value as the_value
 use Rattle.module_arena.specs.declared.instruction.Value.TheVariants as value
-use Rattle.instruction_verify.specs.OperandFacts.{HasConstant, HasInst, HasOperand}
+use Rattle.instruction_verify.specs.ArenaOperands.{HasConstant, HasInst, HasOperand}
 
 module _ (a : Lists) (t : Types) (same : t ≡ a.table) (i : the_inst.Inst) (known : HasInst a i) where
   pub types_within : All (λ (o : Operand). o.ty < length t.types) (operands_of i)

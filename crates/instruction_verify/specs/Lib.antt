@@ -1,2 +1,2 @@
-pub mod OperandFacts
+pub mod ArenaOperands
 pub mod Parts

@@ -7,7 +7,7 @@ ghost use Rattle.module_arena.specs.Module.{LocalName};
 ghost use Rattle.module_arena.specs.Module.Value.{Known};
 ghost use Rattle.module_arena.specs.Operations.{callee};
 ghost use Rattle.module_arena.specs.View.{constant_at, constants_of, module_of};
-ghost use Rattle.instruction_verify.specs.OperandFacts.{HasConstant, instruction_in, value_in};
+ghost use Rattle.instruction_verify.specs.ArenaOperands.{HasConstant, instruction_in, value_in};
 ghost use Rattle.instruction_verify.specs.Parts.{is_address};
 
 use constant_verify::Judge;

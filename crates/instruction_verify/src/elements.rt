@@ -7,7 +7,7 @@ ghost use Rattle.module_arena.specs.Constants as constants;
 ghost use Rattle.module_arena.specs.Module.{LocalName};
 ghost use Rattle.module_arena.specs.TypeTests.{is_integer, opened};
 ghost use Rattle.module_arena.specs.ValueRules as rules;
-ghost use Rattle.instruction_verify.specs.OperandFacts.{HasConstant, HasInst, HasOperand, index_in, instruction_in, value_in};
+ghost use Rattle.instruction_verify.specs.ArenaOperands.{HasConstant, HasInst, HasOperand, index_in, instruction_in, value_in};
 
 use constant_verify::{Judge, written_number};
 use module_arena::{Inst, Operand, Value};

@@ -12,7 +12,7 @@ ghost use Rattle.module_arena.specs.ValueRules as rules;
 ghost use Rattle.module_arena.specs.Constants.{written_number};
 ghost use Rattle.module_arena.specs.View.{constant_at, constants_of, module_of};
 ghost use Rattle.type_verify.specs.Judged.{Judged};
-ghost use Rattle.instruction_verify.specs.OperandFacts.{HasCase, HasOperand, ending_in};
+ghost use Rattle.instruction_verify.specs.ArenaOperands.{HasCase, HasOperand, ending_in};
 ghost use Rattle.instruction_verify.specs.Parts.{ending_type_demands, is_case_at, numbers_at};
 
 use crate::operands::ending_fact;

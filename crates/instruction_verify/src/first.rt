@@ -4,7 +4,7 @@ ghost use Rattle.module_arena.specs.Mentions.{end_operands_of};
 ghost use Rattle.module_arena.specs.Module.{LocalName};
 ghost use Rattle.module_arena.specs.View.{module_of};
 ghost use Rattle.type_verify.specs.Judged.{Judged};
-ghost use Rattle.instruction_verify.specs.OperandFacts.{HasInst, HasOperand, ending_in, instruction_in};
+ghost use Rattle.instruction_verify.specs.ArenaOperands.{HasInst, HasOperand, ending_in, instruction_in};
 ghost use Rattle.instruction_verify.specs.Parts.{ending_first_demands, first_demands};
 
 use crate::callees::{callee_takes_no_intrinsic, callee_types_suit, instruction_alignment_suits};

@@ -9,7 +9,7 @@ ghost use Rattle.module_arena.specs.Module.{LocalName};
 ghost use Rattle.module_arena.specs.Same.{same_type};
 ghost use Rattle.module_arena.specs.TypeTests.{is_integer, is_type, part_at};
 ghost use Rattle.module_arena.specs.ValueRules as rules;
-ghost use Rattle.instruction_verify.specs.OperandFacts.{instruction_in};
+ghost use Rattle.instruction_verify.specs.ArenaOperands.{instruction_in};
 
 use crate::written_types::part_at;
 use constant_verify::is_cast_between;

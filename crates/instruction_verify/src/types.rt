@@ -3,7 +3,7 @@ ghost use Rattle.std.specs.Prelude.{List};
 ghost use Rattle.module_arena.specs.Module.{LocalName};
 ghost use Rattle.module_arena.specs.View.{module_of};
 ghost use Rattle.type_verify.specs.Judged.{Judged};
-ghost use Rattle.instruction_verify.specs.OperandFacts.{HasInst, instruction_in};
+ghost use Rattle.instruction_verify.specs.ArenaOperands.{HasInst, instruction_in};
 ghost use Rattle.instruction_verify.specs.Parts.{type_demands};
 
 use crate::elements::element_address_suits;

@@ -9,7 +9,7 @@ ghost use Rattle.module_arena.specs.Lists.{Lists};
 ghost use Rattle.module_arena.specs.Mentions.{operands_of, types_of};
 ghost use Rattle.module_arena.specs.Module.{LocalName};
 ghost use Rattle.module_arena.specs.TypeTests.{is_passable, opened, part_at, part_type};
-ghost use Rattle.instruction_verify.specs.OperandFacts.{instruction_in};
+ghost use Rattle.instruction_verify.specs.ArenaOperands.{instruction_in};
 ghost use Rattle.instruction_verify.specs.Parts.{own_types_suit};
 
 use constant_verify::Judge;

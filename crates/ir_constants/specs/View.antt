@@ -8,8 +8,8 @@ use Rattle.ir_constants.specs.declared.constant.Constant as the_constant
 use Rattle.ir_constants.specs.declared.constant.Constant.TheOpen as open_constant
 use Rattle.ir_constants.specs.declared.constant.Constant.TheFolds.{fold-Constant}
 use Rattle.ir_constants.specs.declared.constant.TypedConstant.{TypedConstant}
-use Rattle.ir_constants.specs.declared.value.Value.{Value}
-use Rattle.ir_constants.specs.declared.value.Value.TheVariants as value
+use Rattle.ir_constants.specs.declared.value.WrittenValue.{WrittenValue}
+use Rattle.ir_constants.specs.declared.value.WrittenValue.TheVariants as value
 use Rattle.ir_constants.specs.declared.value.TypedValue.{TypedValue}
 use Rattle.ir_constants.specs.Tree.{TypeTree, IntegerType, PointerType, VoidType, ArrayType, StructType, NamedType, types, ConstantTree, IntegerConstant, SimpleConstant, AddressConstant, BytesConstant, ListConstant, ElementAddress, Conversion, Arithmetic, TypedConstantTree, constants, ValueTree, LocalValue, ConstantValue, TypedValueTree}
 
@@ -58,7 +58,7 @@ abbrev pub typed_constant_view : TypedConstant → TypedConstantTree
 typed_constant_view typed = (type_view typed.ty, constant_view typed.value)
 
 -- a value as a tree
-abbrev pub value_view : Value → ValueTree
+abbrev pub value_view : WrittenValue → ValueTree
 value_view (value.Local local) = LocalValue local
 value_view (value.Constant constant) = ConstantValue (constant_view constant)
 

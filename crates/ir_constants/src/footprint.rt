@@ -1,7 +1,7 @@
 //! How many bytes a type, a constant and a value take. A text has many of them, so one that grows is refused here.
 use crate::constant::{Constant, TypedConstant};
 use crate::ty::{ArrayType, Type};
-use crate::value::{TypedValue, Value};
+use crate::value::{TypedValue, WrittenValue};
 use std::mem::size_of;
 
 const _: () = prove!(size_of::<Type>() == 40);
@@ -12,6 +12,6 @@ const _: () = prove!(size_of::<Constant>() == 48);
 
 const _: () = prove!(size_of::<TypedConstant>() == 88);
 
-const _: () = prove!(size_of::<Value>() == 56);
+const _: () = prove!(size_of::<WrittenValue>() == 56);
 
 const _: () = prove!(size_of::<TypedValue>() == 96);

@@ -28,5 +28,5 @@ pub use constants::{constant_of, typed_constant_of};
 pub use flags::flags_of;
 pub use ty::{ArrayType, Type};
 pub use types::{begins_type, fields_of, type_of, value_type_of};
-pub use value::{TypedValue, Value};
+pub use value::{TypedValue, WrittenValue};
 pub use values::{typed_value_of, value_of};

@@ -7,11 +7,11 @@ use ir_terminals::Local;
 /// What an instruction works on: a parameter, a result or a constant.
 ///
 /// ```
-/// Value::Local(Local::Named(x)) // `%x`, where `x` is that name with its place
-/// Value::Constant(Constant::Simple(Simple::Null, place)) // `null` at that place
+/// WrittenValue::Local(Local::Named(x)) // `%x`, where `x` is that name with its place
+/// WrittenValue::Constant(Constant::Simple(Simple::Null, place)) // `null` at that place
 /// ```
 #[derive(Drop)]
-pub enum Value {
+pub enum WrittenValue {
     /// A parameter or a result, by what it is called.
     Local(Local),
     /// A constant.
@@ -23,10 +23,10 @@ pub enum Value {
 /// ```
 /// // `i32 %x`, where a text begins with it, and `x` is that name with its place.
 /// let ty = Type::Integer(Place { line: 1, column: 1 }, 32);
-/// TypedValue { ty, value: Value::Local(Local::Named(x)) }
+/// TypedValue { ty, value: WrittenValue::Local(Local::Named(x)) }
 /// ```
 #[derive(Drop)]
 pub struct TypedValue {
     pub ty: Type,
-    pub value: Value,
+    pub value: WrittenValue,
 }

@@ -5,19 +5,19 @@ ghost use Rattle.ir_terminals.specs.Follows.{Follows};
 
 use crate::constants::constant_of;
 use crate::types::type_of;
-use crate::value::{TypedValue, Value};
+use crate::value::{TypedValue, WrittenValue};
 use ir_terminals::{Cursor, Fault, Terminal};
 
 /// `VALUE`: a local, or a constant.
 #[inline(always)]
 #[tactic(auto, unfolding(crate::specs::Values::value_core))]
-pub fn value_of(cursor: &mut Cursor) -> Result<Value, Fault>
+pub fn value_of(cursor: &mut Cursor) -> Result<WrittenValue, Fault>
     ensures { Follows value_row value_view cursor.old result cursor.new }
 {
     if cursor.is_class_next(Terminal::Local) {
-        Ok(Value::Local(cursor.local()?))
+        Ok(WrittenValue::Local(cursor.local()?))
     } else {
-        Ok(Value::Constant(constant_of(cursor)?))
+        Ok(WrittenValue::Constant(constant_of(cursor)?))
     }
 }
 

@@ -20,7 +20,7 @@ use Rattle.ir_eval.specs.Shift.{shifted_left_of, shifted_right_of, signed_shifte
 use Rattle.ir_eval.specs.Bitwise.{disjunction_of}
 use Rattle.ir_eval.specs.Compare.{truth, holds, number_of, compared, compare_of}
 use Rattle.ir_eval.specs.Cast.{cast_of, IsCast, IsCastTo, IsFreeOfBlocks}
-use Rattle.ir_eval.specs.Scalar.{integers, operands, binary_of, is_division, is_no_divisor, select_of, freeze_of}
+use Rattle.ir_eval.specs.Operators.{integers, operands, binary_of, is_division, is_no_divisor, select_of, freeze_of}
 use Rattle.ir_eval.specs.declared.value.Scalar.{Scalar}
 use Rattle.ir_eval.specs.declared.value.Scalar.TheVariants.{Int, Ptr, Poison}
 

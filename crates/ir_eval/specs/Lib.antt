@@ -5,4 +5,4 @@ pub mod Shift
 pub mod Bitwise
 pub mod Compare
 pub mod Cast
-pub mod Scalar
+pub mod Operators

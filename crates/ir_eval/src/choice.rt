@@ -1,7 +1,7 @@
 //! The instructions that choose.
 ghost use Rattle.std.specs.Prelude.{◌≡◌, ℕ, Bool};
 ghost use Rattle.ir_eval.specs.Value.{IsDefined, IsInteger, IsLeaf};
-ghost use Rattle.ir_eval.specs.Scalar.{select_of, freeze_of};
+ghost use Rattle.ir_eval.specs.Operators.{select_of, freeze_of};
 
 use crate::{Pointer, Scalar};
 

@@ -2,7 +2,7 @@
 //!
 //! It stands on the opcodes, predicates, flags and kinds of `ir_tables`. Its promise: each call gives
 //! what the definition says on whole numbers without bound, at every width from 1 to 128, and refuses
-//! exactly where the result is undefined; nothing takes memory. Definitions: `specs/Value`, `specs/Scalar`
+//! exactly where the result is undefined; nothing takes memory. Definitions: `specs/Value`, `specs/Operators`
 //! and a file for each group of instructions.
 //!
 //! ```

@@ -1,7 +1,7 @@
 //! The binary instructions.
 ghost use Rattle.std.specs.Prelude.{◌≡◌, ◌^◌, ◌<◌, IsTrue, IfOk};
 ghost use Rattle.ir_eval.specs.Value.{IsWidth, IsInteger};
-ghost use Rattle.ir_eval.specs.Scalar.{is_binary, is_division, is_no_divisor, integers, binary_of};
+ghost use Rattle.ir_eval.specs.Operators.{is_binary, is_division, is_no_divisor, integers, binary_of};
 
 use crate::Scalar;
 use crate::arithmetic::{difference, product, sum};
@@ -27,7 +27,7 @@ fn is_no_divisor(b: Scalar) -> bool
 
 /// The binary instruction on two integers of a width from 1 to 128, or poison. It refuses a division by
 /// zero or by poison, and the quotient and the remainder of the least value by -1.
-#[tactic(auto, using(crate::proofs::Ranges::binary_kind), unfolding(crate::specs::Scalar::binary_of))]
+#[tactic(auto, using(crate::proofs::Ranges::binary_kind), unfolding(crate::specs::Operators::binary_of))]
 #[inline(always)]
 pub fn binary(
     op: Opcode,

@@ -6,25 +6,25 @@ use Rattle.ir_terminals.specs.declared.values.Integer.{Integer}
 use Rattle.ir_constants.specs.Tree.{TypedValueTree, ValueTree}
 use Rattle.ir_constants.specs.declared.value.TypedValue.{TypedValue}
 use Rattle.ir_constants.specs.View.{type_view, typed_constant_view, value_view, typed_value_view}
-use Rattle.ir_instructions.specs.declared.operation.Signature.{Signature}
-use Rattle.ir_instructions.specs.declared.operation.Call as the_call
-use Rattle.ir_instructions.specs.declared.operation.Incoming.{Incoming}
+use Rattle.ir_instructions.specs.declared.operation.SignatureTypes.{SignatureTypes}
+use Rattle.ir_instructions.specs.declared.operation.WrittenCall as the_call
+use Rattle.ir_instructions.specs.declared.operation.WrittenIncoming.{WrittenIncoming}
 use Rattle.ir_instructions.specs.declared.operation.Operands.{Operands}
 use Rattle.ir_instructions.specs.declared.operation.Operation as the_operation
 use Rattle.ir_instructions.specs.declared.operation.Operation.TheVariants as op
 use Rattle.ir_instructions.specs.declared.block.Instruction.{Instruction}
-use Rattle.ir_instructions.specs.declared.block.Case.{Case}
-use Rattle.ir_instructions.specs.declared.block.Ending.{Ending}
-use Rattle.ir_instructions.specs.declared.block.Ending.TheVariants as ending
-use Rattle.ir_instructions.specs.declared.block.Block.{Block}
+use Rattle.ir_instructions.specs.declared.block.WrittenCase.{WrittenCase}
+use Rattle.ir_instructions.specs.declared.block.WrittenEnding.{WrittenEnding}
+use Rattle.ir_instructions.specs.declared.block.WrittenEnding.TheVariants as ending
+use Rattle.ir_instructions.specs.declared.block.WrittenBlock.{WrittenBlock}
 use Rattle.ir_instructions.specs.Tree.{SignatureTree, CallTree, IncomingTree, OperationTree, Binary, Compare, Cast, Select, Freeze, Phi, Load, Store, Alloca, GetElementPtr, Call, ExtractValue, InsertValue, InstructionTree, CaseTree, EndingTree, ReturnVoid, Return, Jump, Branch, Switch, Unreachable, BlockTree}
 
 -- a signature as a tree
-abbrev pub signature_view : Signature → SignatureTree
+abbrev pub signature_view : SignatureTypes → SignatureTree
 signature_view s = (map type_view s.parameters.items, s.variadic)
 
 -- a call as a tree
-abbrev pub call_view : the_call.Call → CallTree
+abbrev pub call_view : the_call.WrittenCall → CallTree
 call_view c = record {
   returns = type_view c.returns;
   signature = option_map signature_view c.signature;
@@ -33,7 +33,7 @@ call_view c = record {
 }
 
 -- the value of a phi as a tree
-abbrev pub incoming_view : Incoming → IncomingTree
+abbrev pub incoming_view : WrittenIncoming → IncomingTree
 incoming_view i = (value_view i.value, i.block)
 
 -- two operands of one type as trees
@@ -65,11 +65,11 @@ abbrev pub instruction_view : Instruction → InstructionTree
 instruction_view i = record { result = i.result; operation = operation_view i.operation }
 
 -- a case as a tree
-abbrev pub case_view : Case → CaseTree
+abbrev pub case_view : WrittenCase → CaseTree
 case_view c = (typed_constant_view c.value, c.target)
 
 -- the end of a block as a tree
-abbrev pub ending_view : Ending → EndingTree
+abbrev pub ending_view : WrittenEnding → EndingTree
 ending_view ending.ReturnVoid = ReturnVoid
 ending_view (ending.Return value) = Return (typed_value_view value.value)
 ending_view (ending.Jump target) = Jump target
@@ -78,5 +78,5 @@ ending_view (ending.Switch switch) = Switch (typed_value_view switch.value.value
 ending_view ending.Unreachable = Unreachable
 
 -- a block as a tree
-abbrev pub block_view : Block → BlockTree
+abbrev pub block_view : WrittenBlock → BlockTree
 block_view b = record { label = b.label; instructions = map instruction_view b.instructions.items; ending = ending_view b.ending }

@@ -1,4 +1,4 @@
-//! Blocks, as a text writes them. `Block`, `Case` and `Ending` of `module_arena` are those of an arena.
+//! Blocks, as a text writes them.
 
 use crate::operation::Operation;
 use ir_constants::{TypedConstant, TypedValue};
@@ -15,10 +15,10 @@ pub struct Instruction {
 ///
 /// ```
 /// // `i32 7, label %b`, where `value` is `i32 7` and `b` the name `b` with its place
-/// Case { value, target: Local::Named(b) }
+/// WrittenCase { value, target: Local::Named(b) }
 /// ```
 #[derive(Drop)]
-pub struct Case {
+pub struct WrittenCase {
     pub value: TypedConstant,
     pub target: Local,
 }
@@ -50,17 +50,17 @@ pub struct Branch {
 pub struct Switch {
     pub value: TypedValue,
     pub otherwise: Local,
-    pub cases: Vec<Case>,
+    pub cases: Vec<WrittenCase>,
 }
 
 /// How a block ends (LangRef, "Terminator Instructions").
 ///
 /// ```
-/// Ending::Return(Box::new(alloc, value)?) // `ret i32 0`, whose value is `i32 0`
-/// Ending::Jump(Local::Named(a)) // `br label %a`, where `a` is that name with its place
+/// WrittenEnding::Return(Box::new(alloc, value)?) // `ret i32 0`, whose value is `i32 0`
+/// WrittenEnding::Jump(Local::Named(a)) // `br label %a`, where `a` is that name with its place
 /// ```
 #[derive(Drop)]
-pub enum Ending {
+pub enum WrittenEnding {
     /// `ret void`
     ReturnVoid,
     /// `ret` with a value.
@@ -79,11 +79,11 @@ pub enum Ending {
 ///
 /// ```
 /// // `a: ret void`, where `a` is that name with its place
-/// Block { label: Some(Local::Named(a)), instructions: Vec::new(alloc), ending: Ending::ReturnVoid }
+/// WrittenBlock { label: Some(Local::Named(a)), instructions: Vec::new(alloc), ending: WrittenEnding::ReturnVoid }
 /// ```
 #[derive(Drop)]
-pub struct Block {
+pub struct WrittenBlock {
     pub label: Option<Local>,
     pub instructions: Vec<Instruction>,
-    pub ending: Ending,
+    pub ending: WrittenEnding,
 }

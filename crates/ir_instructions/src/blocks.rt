@@ -8,7 +8,7 @@ ghost use Rattle.ir_terminals.specs.Position.{tokens_left};
 ghost use Rattle.ir_terminals.specs.Role.{class};
 ghost use Rattle.ir_terminals.specs.Tokens.{label_row};
 
-use crate::block::Block;
+use crate::block::WrittenBlock;
 use crate::endings::{ending, is_ending_next};
 use crate::instructions::{instructions, is_instruction_next};
 use ir_terminals::{Cursor, Fault, Local, Terminal};
@@ -26,13 +26,13 @@ fn label(cursor: &mut Cursor) -> Result<Option<Local>, Fault>
 
 /// `LABEL? INST* END`
 #[tactic(auto, unfolding(crate::specs::Blocks::block_core))]
-fn block(cursor: &mut Cursor) -> Result<Block, Fault>
+fn block(cursor: &mut Cursor) -> Result<WrittenBlock, Fault>
     ensures { Follows block_row block_view cursor.old result cursor.new }
 {
     let label = label(cursor)?;
     let instructions = instructions(cursor)?;
     let ending = ending(cursor)?;
-    Ok(Block {
+    Ok(WrittenBlock {
         label,
         instructions,
         ending,
@@ -48,7 +48,7 @@ fn is_block_next(cursor: &Cursor) -> bool
 }
 
 /// `BLOCK+`
-fn block_list(cursor: &mut Cursor) -> Result<Vec<Block>, Fault>
+fn block_list(cursor: &mut Cursor) -> Result<Vec<WrittenBlock>, Fault>
     ensures { Follows block_list_row (λ x. map block_view x.items) cursor.old result cursor.new }
 {
     let mut blocks = Vec::new(cursor.alloc());
@@ -61,7 +61,7 @@ fn block_list(cursor: &mut Cursor) -> Result<Vec<Block>, Fault>
 }
 
 /// `{ BLOCK+ }`: the blocks of a definition, of which there is at least one.
-pub fn blocks_of(cursor: &mut Cursor) -> Result<Vec<Block>, Fault>
+pub fn blocks_of(cursor: &mut Cursor) -> Result<Vec<WrittenBlock>, Fault>
     ensures { Follows blocks_row (λ x. map block_view x.items) cursor.old result cursor.new }
 {
     cursor.take_class(Terminal::OpenBrace)?;

@@ -7,12 +7,12 @@ ghost use Rattle.ir_terminals.specs.Follows.{Follows};
 
 use crate::attributes::{convention, function_attributes, parameter_attributes};
 use crate::metadata::attachments;
-use crate::operation::{Call, Operation, Signature};
-use ir_constants::{Type, TypedValue, Value, begins_type, type_of, value_of};
+use crate::operation::{Operation, SignatureTypes, WrittenCall};
+use ir_constants::{Type, TypedValue, WrittenValue, begins_type, type_of, value_of};
 use ir_terminals::{Cursor, Fault, Terminal};
 
 /// `TYPE (, TYPE)* (, ...)?`
-fn some_types(cursor: &mut Cursor) -> Result<Signature, Fault>
+fn some_types(cursor: &mut Cursor) -> Result<SignatureTypes, Fault>
     ensures { Follows some_types_row signature_view cursor.old result cursor.new }
 {
     let mut parameters = Vec::new(cursor.alloc());
@@ -31,19 +31,19 @@ fn some_types(cursor: &mut Cursor) -> Result<Signature, Fault>
         }
     }
     parameters.shrink_to_fit();
-    Ok(Signature {
+    Ok(SignatureTypes {
         parameters,
         variadic,
     })
 }
 
 /// `TYPE,*`, which may end in `...`.
-fn signature_types(cursor: &mut Cursor) -> Result<Signature, Fault>
+fn signature_types(cursor: &mut Cursor) -> Result<SignatureTypes, Fault>
     ensures { Follows signature_types_row signature_view cursor.old result cursor.new }
 {
     if cursor.is_class_next(Terminal::Dots) {
         cursor.take_class(Terminal::Dots)?;
-        return Ok(Signature {
+        return Ok(SignatureTypes {
             parameters: Vec::new(cursor.alloc()),
             variadic: true,
         });
@@ -51,7 +51,7 @@ fn signature_types(cursor: &mut Cursor) -> Result<Signature, Fault>
     if begins_type(cursor) {
         return some_types(cursor);
     }
-    Ok(Signature {
+    Ok(SignatureTypes {
         parameters: Vec::new(cursor.alloc()),
         variadic: false,
     })
@@ -59,7 +59,7 @@ fn signature_types(cursor: &mut Cursor) -> Result<Signature, Fault>
 
 /// `(( TYPE,* ))?`
 #[tactic(auto, unfolding(crate::specs::Calls::signature_core))]
-pub fn signature(cursor: &mut Cursor) -> Result<Option<Signature>, Fault>
+pub fn signature(cursor: &mut Cursor) -> Result<Option<SignatureTypes>, Fault>
     ensures { Follows signature_row (option_map signature_view) cursor.old result cursor.new }
 {
     if !cursor.is_class_next(Terminal::OpenParenthesis) {
@@ -132,7 +132,7 @@ fn call_end(cursor: &mut Cursor) -> Result<(), Fault>
 
 /// `VALUE ( (TYPE PDROP* VALUE),* ) FDROP* (, MD)*`
 #[tactic(auto, unfolding(crate::specs::Calls::called_core))]
-fn called(cursor: &mut Cursor) -> Result<(Value, Vec<TypedValue>), Fault>
+fn called(cursor: &mut Cursor) -> Result<(WrittenValue, Vec<TypedValue>), Fault>
     ensures { Follows called_row (λ x. (value_view x.0, map typed_value_view x.1.items)) cursor.old result cursor.new }
 {
     let callee = value_of(cursor)?;
@@ -149,7 +149,7 @@ pub fn call(cursor: &mut Cursor) -> Result<Operation, Fault>
     let returns = result_type(cursor)?;
     let signature = signature(cursor)?;
     let (callee, arguments) = called(cursor)?;
-    let call = Call {
+    let call = WrittenCall {
         returns,
         signature,
         callee,

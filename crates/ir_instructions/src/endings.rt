@@ -7,7 +7,7 @@ ghost use Rattle.ir_instructions.specs.Endings.{target_row, next_target_row, ret
 ghost use Rattle.ir_instructions.specs.View.{case_view, ending_view};
 ghost use Rattle.ir_terminals.specs.Follows.{Follows};
 
-use crate::block::{Branch, Case, Ending, Switch};
+use crate::block::{Branch, Switch, WrittenCase, WrittenEnding};
 use crate::metadata::attachments;
 use ir_constants::{
     TypedValue, begins_type, typed_constant_of, typed_value_of, value_of, value_type_of,
@@ -34,30 +34,30 @@ fn next_target(cursor: &mut Cursor) -> Result<Local, Fault>
 }
 
 /// `TYPE VALUE`, the type not `void`.
-fn returned(cursor: &mut Cursor) -> Result<Ending, Fault>
+fn returned(cursor: &mut Cursor) -> Result<WrittenEnding, Fault>
     ensures { Follows returned_row ending_view cursor.old result cursor.new }
 {
     let ty = value_type_of(cursor)?;
     let value = value_of(cursor)?;
     let value = Box::new(cursor.alloc(), TypedValue { ty, value })?;
-    Ok(Ending::Return(value))
+    Ok(WrittenEnding::Return(value))
 }
 
 /// `void`, or `TYPE VALUE`.
 #[tactic(auto, unfolding(crate::specs::Endings::return_value_core))]
-fn return_value(cursor: &mut Cursor) -> Result<Ending, Fault>
+fn return_value(cursor: &mut Cursor) -> Result<WrittenEnding, Fault>
     ensures { Follows return_value_row ending_view cursor.old result cursor.new }
 {
     if cursor.is_class_next(Terminal::Void) {
         cursor.take_class(Terminal::Void)?;
-        return Ok(Ending::ReturnVoid);
+        return Ok(WrittenEnding::ReturnVoid);
     }
     returned(cursor)
 }
 
 /// `ret void`, or `ret TYPE VALUE`.
 #[tactic(auto, unfolding(crate::specs::Endings::return_core))]
-fn return_(cursor: &mut Cursor) -> Result<Ending, Fault>
+fn return_(cursor: &mut Cursor) -> Result<WrittenEnding, Fault>
     ensures { Follows return_row ending_view cursor.old result cursor.new }
 {
     cursor.take_class(Terminal::Opcode(Opcode::Ret))?;
@@ -67,7 +67,7 @@ fn return_(cursor: &mut Cursor) -> Result<Ending, Fault>
 }
 
 /// `TYPE VALUE , label LOCAL , label LOCAL`
-fn condition(cursor: &mut Cursor) -> Result<Ending, Fault>
+fn condition(cursor: &mut Cursor) -> Result<WrittenEnding, Fault>
     ensures { Follows condition_row ending_view cursor.old result cursor.new }
 {
     let condition = typed_value_of(cursor)?;
@@ -78,23 +78,23 @@ fn condition(cursor: &mut Cursor) -> Result<Ending, Fault>
         then_to,
         else_to,
     };
-    Ok(Ending::Branch(Box::new(cursor.alloc(), branch)?))
+    Ok(WrittenEnding::Branch(Box::new(cursor.alloc(), branch)?))
 }
 
 /// `label LOCAL`, or `TYPE VALUE , label LOCAL , label LOCAL`.
 #[tactic(auto, unfolding(crate::specs::Endings::branch_target_core))]
-fn branch_target(cursor: &mut Cursor) -> Result<Ending, Fault>
+fn branch_target(cursor: &mut Cursor) -> Result<WrittenEnding, Fault>
     ensures { Follows branch_target_row ending_view cursor.old result cursor.new }
 {
     if cursor.is_class_next(Terminal::LabelWord) {
-        return Ok(Ending::Jump(target(cursor)?));
+        return Ok(WrittenEnding::Jump(target(cursor)?));
     }
     condition(cursor)
 }
 
 /// `br label LOCAL`, or `br TYPE VALUE , label LOCAL , label LOCAL`.
 #[tactic(auto, unfolding(crate::specs::Endings::branch_core))]
-fn branch(cursor: &mut Cursor) -> Result<Ending, Fault>
+fn branch(cursor: &mut Cursor) -> Result<WrittenEnding, Fault>
     ensures { Follows branch_row ending_view cursor.old result cursor.new }
 {
     cursor.take_class(Terminal::Opcode(Opcode::Br))?;
@@ -105,16 +105,16 @@ fn branch(cursor: &mut Cursor) -> Result<Ending, Fault>
 
 /// `TYPE CONST , label LOCAL`
 #[tactic(auto, unfolding(crate::specs::Endings::case_core))]
-fn case(cursor: &mut Cursor) -> Result<Case, Fault>
+fn case(cursor: &mut Cursor) -> Result<WrittenCase, Fault>
     ensures { Follows case_row case_view cursor.old result cursor.new }
 {
     let value = typed_constant_of(cursor)?;
     let target = next_target(cursor)?;
-    Ok(Case { value, target })
+    Ok(WrittenCase { value, target })
 }
 
 /// `(TYPE CONST , label LOCAL)*`
-fn case_list(cursor: &mut Cursor) -> Result<Vec<Case>, Fault>
+fn case_list(cursor: &mut Cursor) -> Result<Vec<WrittenCase>, Fault>
     ensures { Follows case_list_row (λ x. map case_view x.items) cursor.old result cursor.new }
 {
     let mut cases = Vec::new(cursor.alloc());
@@ -127,7 +127,7 @@ fn case_list(cursor: &mut Cursor) -> Result<Vec<Case>, Fault>
 
 /// `[ (TYPE CONST , label LOCAL)* ]`
 #[tactic(auto, unfolding(crate::specs::Endings::cases_core))]
-fn cases(cursor: &mut Cursor) -> Result<Vec<Case>, Fault>
+fn cases(cursor: &mut Cursor) -> Result<Vec<WrittenCase>, Fault>
     ensures { Follows cases_row (λ x. map case_view x.items) cursor.old result cursor.new }
 {
     cursor.take_class(Terminal::OpenBracket)?;
@@ -138,7 +138,7 @@ fn cases(cursor: &mut Cursor) -> Result<Vec<Case>, Fault>
 
 /// `, label LOCAL [ (TYPE CONST , label LOCAL)* ] (, MD)*`
 #[tactic(auto, unfolding(crate::specs::Endings::switch_targets_core))]
-fn switch_targets(cursor: &mut Cursor) -> Result<(Local, Vec<Case>), Fault>
+fn switch_targets(cursor: &mut Cursor) -> Result<(Local, Vec<WrittenCase>), Fault>
     ensures { Follows switch_targets_row (λ x. (x.0, map case_view x.1.items)) cursor.old result cursor.new }
 {
     let otherwise = next_target(cursor)?;
@@ -149,7 +149,7 @@ fn switch_targets(cursor: &mut Cursor) -> Result<(Local, Vec<Case>), Fault>
 
 /// `switch TYPE VALUE , label LOCAL [ (TYPE CONST , label LOCAL)* ]`
 #[tactic(auto, unfolding(crate::specs::Endings::switch_core))]
-fn switch(cursor: &mut Cursor) -> Result<Ending, Fault>
+fn switch(cursor: &mut Cursor) -> Result<WrittenEnding, Fault>
     ensures { Follows switch_row ending_view cursor.old result cursor.new }
 {
     cursor.take_class(Terminal::Opcode(Opcode::Switch))?;
@@ -160,17 +160,17 @@ fn switch(cursor: &mut Cursor) -> Result<Ending, Fault>
         otherwise,
         cases,
     };
-    Ok(Ending::Switch(Box::new(cursor.alloc(), switch)?))
+    Ok(WrittenEnding::Switch(Box::new(cursor.alloc(), switch)?))
 }
 
 /// `unreachable`
 #[tactic(auto, unfolding(crate::specs::Endings::unreachable_core))]
-fn unreachable(cursor: &mut Cursor) -> Result<Ending, Fault>
+fn unreachable(cursor: &mut Cursor) -> Result<WrittenEnding, Fault>
     ensures { Follows (λ _. unreachable_row) ending_view cursor.old result cursor.new }
 {
     cursor.take_class(Terminal::Opcode(Opcode::Unreachable))?;
     attachments(cursor)?;
-    Ok(Ending::Unreachable)
+    Ok(WrittenEnding::Unreachable)
 }
 
 /// Whether an instruction that ends a block is next.
@@ -185,7 +185,7 @@ pub fn is_ending_next(cursor: &Cursor) -> bool
 
 /// `END`
 #[tactic(auto, unfolding(crate::specs::Endings::ending_core))]
-pub fn ending(cursor: &mut Cursor) -> Result<Ending, Fault>
+pub fn ending(cursor: &mut Cursor) -> Result<WrittenEnding, Fault>
     ensures { Follows ending_row ending_view cursor.old result cursor.new }
 {
     if cursor.is_class_next(Terminal::Opcode(Opcode::Ret)) {

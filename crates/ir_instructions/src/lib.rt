@@ -9,7 +9,7 @@
 //! let mut cursor = Cursor::new(alloc, b"{ %1 = add i32 %0, 1 ret i32 %1 }", limits);
 //! let blocks = blocks_of(&mut cursor)?;
 //! // One block without a label: its one instruction is an Operation::Binary whose result is called 1, and an
-//! // Ending::Return ends it.
+//! // WrittenEnding::Return ends it.
 //! ```
 #![tactic(auto)]
 
@@ -28,11 +28,11 @@ mod parts;
 mod tails;
 
 pub use attributes::{convention, function_attributes, parameter_attributes, section};
-pub use block::{Block, Branch, Case, Ending, Instruction, Switch};
+pub use block::{Branch, Instruction, Switch, WrittenBlock, WrittenCase, WrittenEnding};
 pub use blocks::blocks_of;
 pub use calls::signature;
 pub use metadata::{attachment, attachments};
 pub use operation::{
-    Address, Alloca, Call, CastParts, Choice, Extraction, Incoming, Insertion, Load, Operands,
-    Operation, Phi, Signature, Store,
+    Address, Alloca, CastParts, Extraction, Load, Operands, Operation, Phi, SignatureTypes, Store,
+    WrittenCall, WrittenChoice, WrittenIncoming, WrittenInsertion,
 };

@@ -11,7 +11,7 @@ ghost use Rattle.ir_terminals.specs.Terminal.{code};
 ghost use Rattle.ir_instructions.specs.Tails.{listed_row, part_ahead_row, part_shape};
 
 use crate::metadata::{attachment, attachments};
-use crate::operation::Incoming;
+use crate::operation::WrittenIncoming;
 use crate::parts::incoming;
 use ir_constants::{TypedValue, typed_value_of};
 use ir_terminals::{Cursor, Fault, Integer, Terminal};
@@ -71,7 +71,7 @@ impl Part for Integer {
     }
 }
 
-impl Part for Incoming {
+impl Part for WrittenIncoming {
     ghost use Rattle.ir_instructions.specs.Operations.{incoming_core, incoming_shape};
     ghost use Rattle.ir_instructions.specs.Tree.{IncomingTree};
     ghost use Rattle.ir_instructions.specs.View.{incoming_view};
@@ -84,7 +84,7 @@ impl Part for Incoming {
 
     ghost view = { incoming_view };
 
-    fn part_of(cursor: &mut Cursor) -> Result<Incoming, Fault> {
+    fn part_of(cursor: &mut Cursor) -> Result<WrittenIncoming, Fault> {
         incoming(cursor)
     }
 }

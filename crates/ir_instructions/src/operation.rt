@@ -1,6 +1,6 @@
-//! Instructions that do not end a block, as a text writes them. `Call` of `module_arena` is that of an arena.
+//! Instructions that do not end a block, as a text writes them.
 
-use ir_constants::{Type, TypedValue, Value};
+use ir_constants::{Type, TypedValue, WrittenValue};
 use ir_tables::{Flags, Opcode, Predicate};
 use ir_terminals::{Integer, Local};
 
@@ -8,10 +8,10 @@ use ir_terminals::{Integer, Local};
 ///
 /// ```
 /// // `(ptr, ...)` of `call i32 (ptr, ...) @printf(ptr %p)`, whose parameters are `ptr` alone
-/// Signature { parameters, variadic: true }
+/// SignatureTypes { parameters, variadic: true }
 /// ```
 #[derive(Drop)]
-pub struct Signature {
+pub struct SignatureTypes {
     pub parameters: Vec<Type>,
     pub variadic: bool,
 }
@@ -20,20 +20,20 @@ pub struct Signature {
 ///
 /// ```
 /// // `call i32 @f(i32 %a)`, where `f` is that name with its place
-/// Call {
+/// WrittenCall {
 ///     returns, // `i32`
 ///     signature: None,
-///     callee: Value::Constant(Constant::Global(f)),
+///     callee: WrittenValue::Constant(Constant::Global(f)),
 ///     arguments, // `i32 %a` alone
 /// }
 /// ```
 #[derive(Drop)]
-pub struct Call {
+pub struct WrittenCall {
     /// The return type.
     pub returns: Type,
     /// The parameters, where the call writes them.
-    pub signature: Option<Signature>,
-    pub callee: Value,
+    pub signature: Option<SignatureTypes>,
+    pub callee: WrittenValue,
     pub arguments: Vec<TypedValue>,
 }
 
@@ -41,7 +41,7 @@ pub struct Call {
 #[derive(Drop)]
 pub struct Operands {
     pub left: TypedValue,
-    pub right: Value,
+    pub right: WrittenValue,
 }
 
 /// What a cast casts, and the type to which it does.
@@ -55,10 +55,10 @@ pub struct CastParts {
 ///
 /// ```
 /// // of `select i1 %c, i32 %a, i32 7`, whose values are `i1 %c`, `i32 %a` and `i32 7`
-/// Box::new(alloc, Choice { condition, first, second })?
+/// Box::new(alloc, WrittenChoice { condition, first, second })?
 /// ```
 #[derive(Drop)]
-pub struct Choice {
+pub struct WrittenChoice {
     pub condition: TypedValue,
     pub first: TypedValue,
     pub second: TypedValue,
@@ -68,11 +68,11 @@ pub struct Choice {
 ///
 /// ```
 /// // `[ %x, %entry ]`, where `x` and `entry` are these names with their places
-/// Incoming { value: Value::Local(Local::Named(x)), block: Local::Named(entry) }
+/// WrittenIncoming { value: WrittenValue::Local(Local::Named(x)), block: Local::Named(entry) }
 /// ```
 #[derive(Drop)]
-pub struct Incoming {
-    pub value: Value,
+pub struct WrittenIncoming {
+    pub value: WrittenValue,
     pub block: Local,
 }
 
@@ -80,7 +80,7 @@ pub struct Incoming {
 #[derive(Drop)]
 pub struct Phi {
     pub ty: Type,
-    pub incoming: Vec<Incoming>,
+    pub incoming: Vec<WrittenIncoming>,
 }
 
 /// What a load reads, from where, and the alignment where it is written.
@@ -135,14 +135,14 @@ pub struct Extraction {
 ///
 /// ```
 /// // of `insertvalue { i32, i1 } %s, i32 7, 0`
-/// Insertion {
+/// WrittenInsertion {
 ///     value, // `{ i32, i1 } %s`
 ///     part, // `i32 7`
 ///     indices, // `0` alone
 /// }
 /// ```
 #[derive(Drop)]
-pub struct Insertion {
+pub struct WrittenInsertion {
     pub value: TypedValue,
     pub part: TypedValue,
     pub indices: Vec<Integer>,
@@ -175,7 +175,7 @@ pub enum Operation {
         conversion: Box<CastParts>,
     },
     /// `select`: a condition chooses one of two values.
-    Select(Box<Choice>),
+    Select(Box<WrittenChoice>),
     /// `freeze`: the value, or an arbitrary but fixed one where it is undefined or poison.
     Freeze(Box<TypedValue>),
     /// `phi`: a value for each block that control may come from.
@@ -198,9 +198,9 @@ pub enum Operation {
         address: Box<Address>,
     },
     /// `call`: calls a function.
-    Call(Box<Call>),
+    Call(Box<WrittenCall>),
     /// `extractvalue`: takes a part from a whole.
     ExtractValue(Box<Extraction>),
     /// `insertvalue`: puts a part into a whole.
-    InsertValue(Box<Insertion>),
+    InsertValue(Box<WrittenInsertion>),
 }

@@ -7,7 +7,8 @@ use crate::calls::call;
 use crate::listed::more_parts;
 use crate::metadata::attachments;
 use crate::operation::{
-    Address, Alloca, CastParts, Choice, Extraction, Insertion, Load, Operation, Phi, Store,
+    Address, Alloca, CastParts, Extraction, Load, Operation, Phi, Store, WrittenChoice,
+    WrittenInsertion,
 };
 use crate::parts::{
     address, arms, cast_type, incoming, indices, next_typed_value, operand_list, operands,
@@ -69,7 +70,7 @@ fn select(cursor: &mut Cursor) -> Result<Operation, Fault>
 {
     let condition = typed_value_of(cursor)?;
     let (first, second) = arms(cursor)?;
-    let choice = Choice {
+    let choice = WrittenChoice {
         condition,
         first,
         second,
@@ -178,7 +179,7 @@ fn insert(cursor: &mut Cursor) -> Result<Operation, Fault>
     let value = typed_value_of(cursor)?;
     let part = next_typed_value(cursor)?;
     let indices = indices(cursor)?;
-    let insertion = Insertion {
+    let insertion = WrittenInsertion {
         value,
         part,
         indices,

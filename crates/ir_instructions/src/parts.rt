@@ -7,14 +7,14 @@ ghost use Rattle.ir_terminals.specs.Follows.{Follows};
 
 use crate::listed::more_parts;
 use crate::metadata::attachments;
-use crate::operation::{Incoming, Operands};
+use crate::operation::{Operands, WrittenIncoming};
 use crate::tails::alignment;
-use ir_constants::{Type, TypedValue, Value, type_of, typed_value_of, value_of};
+use ir_constants::{Type, TypedValue, WrittenValue, type_of, typed_value_of, value_of};
 use ir_terminals::{Cursor, Fault, Integer, Local, Terminal};
 
 /// `, VALUE`
 #[tactic(auto, unfolding(crate::specs::Operations::next_value_core))]
-fn next_value(cursor: &mut Cursor) -> Result<Value, Fault>
+fn next_value(cursor: &mut Cursor) -> Result<WrittenValue, Fault>
     ensures { Follows next_value_row value_view cursor.old result cursor.new }
 {
     cursor.take_class(Terminal::Comma)?;
@@ -86,13 +86,13 @@ fn from_block(cursor: &mut Cursor) -> Result<Local, Fault>
 
 /// `[ VALUE , LOCAL ]`
 #[tactic(auto, unfolding(crate::specs::Operations::incoming_core))]
-pub fn incoming(cursor: &mut Cursor) -> Result<Incoming, Fault>
+pub fn incoming(cursor: &mut Cursor) -> Result<WrittenIncoming, Fault>
     ensures { Follows incoming_row incoming_view cursor.old result cursor.new }
 {
     cursor.take_class(Terminal::OpenBracket)?;
     let value = value_of(cursor)?;
     let block = from_block(cursor)?;
-    Ok(Incoming { value, block })
+    Ok(WrittenIncoming { value, block })
 }
 
 /// `, TYPE VALUE (, TYPE VALUE)* (, MD)*`

@@ -6,7 +6,7 @@ use Rattle.ir_tables.specs.declared.flag.Flag.{Flag}
 use Rattle.ir_tables.specs.declared.flag.Flag.TheVariants.{Nuw, Nsw, Exact, Disjoint, Nneg, Samesign, Inbounds, Nusw, Volatile}
 use Rattle.ir_tables.specs.Flag.{flag_code}
 use Rattle.ir_tables.specs.Flags.{flags_with}
-use Rattle.ir_eval.specs.Scalar.{binary_of}
+use Rattle.ir_eval.specs.Operators.{binary_of}
 use Rattle.ir_eval.specs.Value.{signed, reduced, fits_signed, fits_unsigned}
 use Rattle.ir_eval.specs.Arithmetic.{arithmetic}
 use Rattle.ir_eval.specs.Compare.{truth}

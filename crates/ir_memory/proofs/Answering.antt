@@ -13,7 +13,7 @@ use Rattle.ir_memory.specs.declared.fault.MemoryFault.TheVariants.{Undefined, Me
 use Rattle.ir_memory.specs.declared.leaf.Leaf.{Leaf}
 use Rattle.ir_memory.specs.declared.access.BlockPlace.{BlockPlace}
 use Rattle.ir_memory.specs.declared.kept.KeptBlock.{KeptBlock}
-use Rattle.ir_memory.specs.Block.{MemoryBlock, written}
+use Rattle.ir_memory.specs.MemoryBlock.{MemoryBlock, written}
 use Rattle.ir_memory.specs.Memory.{Blocks, access, changed, cells_at, cells_of, put, overlap, copied, copied_at}
 use Rattle.ir_memory.specs.Cell.{size, leaf_cells, read}
 use Rattle.ir_memory.specs.Given.{IsLeaf, Fits, IsKnown, IsBlock}

@@ -11,7 +11,7 @@ use Rattle.ir_memory.specs.declared.cell.Cell.TheVariants as cell
 use Rattle.ir_memory.specs.declared.kind.BlockKind.{BlockKind}
 use Rattle.ir_memory.specs.declared.kept.KeptBlock.{KeptBlock}
 use Rattle.ir_memory.specs.declared.access.BlockPlace.{BlockPlace}
-use Rattle.ir_memory.specs.Block.{MemoryBlock, written, gone, new_block}
+use Rattle.ir_memory.specs.MemoryBlock.{MemoryBlock, written, gone, new_block}
 use Rattle.ir_memory.specs.Memory.{changed}
 use Rattle.ir_memory.specs.Kept.{IsPlaced}
 use Rattle.ir_memory.specs.Seen.{over, plain, cells, fresh, ended_block, seen, all_seen, IsRoom, IsSound}

@@ -11,7 +11,7 @@ use Rattle.ir_tables.specs.declared.undefined_kind.UndefinedKind.TheVariants.{Ou
 use Rattle.ir_memory.specs.declared.access.BlockPlace.{BlockPlace}
 use Rattle.ir_eval.specs.declared.value.Pointer.{Pointer}
 use Rattle.ir_eval.specs.declared.value.Scalar.TheVariants.{Ptr}
-use Rattle.ir_memory.specs.Block.{MemoryBlock, starts, gone, holds, is_constant}
+use Rattle.ir_memory.specs.MemoryBlock.{MemoryBlock, starts, gone, holds, is_constant}
 use Rattle.ir_memory.specs.Memory.{Blocks, block_found, number_where, started, bounds_at, bounds_of, home, has_ended, is_over, has_constant, is_fixed, place_at, place_in, access}
 use Rattle.ir_memory.specs.Find.{HasOnly, IsOnly}
 

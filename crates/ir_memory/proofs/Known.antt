@@ -13,7 +13,7 @@ use Rattle.ir_memory.specs.declared.kind.BlockKind.{BlockKind}
 use Rattle.ir_memory.specs.declared.cell.Cell.{Cell}
 use Rattle.ir_memory.specs.declared.cell.Cell.TheVariants as cell
 use Rattle.ir_memory.specs.declared.access.BlockPlace.{BlockPlace}
-use Rattle.ir_memory.specs.Block.{MemoryBlock, new_block, gone, written}
+use Rattle.ir_memory.specs.MemoryBlock.{MemoryBlock, new_block, gone, written}
 use Rattle.ir_memory.specs.Cell.{size, leaf_cells, byte_at, read, pointer_of, pointer, are_pieces, integer, number_of}
 use Rattle.ir_memory.specs.Memory.{changed, cells_at, cells_of}
 use Rattle.ir_memory.specs.Kept.{IsKnownCell, AreKnown, IsKept}

@@ -1,6 +1,6 @@
 -- Live blocks stay placed, and live bytes are counted, when blocks are added, changed and ended.
 use Rattle.std.proofs.Common.{◌≡◌, ℕ, zero, suc, ◌+◌, ◌<◌, ◌≤◌, List, [], ◌∷◌, ◌++◌, length, set, get_or, cond, subst, refl, sym, ap, ◌∙◌, arith, Bool, true, false}
-use Rattle.ir_memory.specs.Block.{MemoryBlock, gone, written}
+use Rattle.ir_memory.specs.MemoryBlock.{MemoryBlock, gone, written}
 use Rattle.ir_memory.specs.declared.cell.Cell.{Cell}
 use Rattle.ir_memory.specs.Memory.{live_bytes, changed}
 use Rattle.ir_memory.specs.Kept.{IsPlaced, behind}

@@ -8,7 +8,7 @@ use Rattle.ir_eval.specs.declared.value.Scalar.TheVariants.{Ptr}
 use Rattle.pointer_pieces.specs.declared.piece.PointerPiece.{PointerPiece}
 use Rattle.ir_memory.specs.declared.kind.BlockKind.{BlockKind}
 use Rattle.ir_memory.specs.declared.kept.KeptBlock.{KeptBlock}
-use Rattle.ir_memory.specs.Block.{holds, starts, is_constant, same_kind}
+use Rattle.ir_memory.specs.MemoryBlock.{holds, starts, is_constant, same_kind}
 use Rattle.ir_memory.specs.Memory.{access, started, bounds_at}
 use Rattle.ir_memory.specs.Find.{IsOnly}
 use Rattle.ir_memory.specs.Seen.{seen, all_seen, IsSound}

@@ -15,7 +15,7 @@ use Rattle.ir_memory.specs.declared.access.BlockPlace.{BlockPlace}
 use Rattle.ir_memory.specs.declared.cell.Cell.TheVariants as cell
 use Rattle.ir_memory.specs.declared.kept.KeptBlock.{KeptBlock}
 use Rattle.ir_memory.specs.declared.leaf.Leaf.TheVariants as leaf
-use Rattle.ir_memory.specs.Block.{MemoryBlock, holds, is_constant, written}
+use Rattle.ir_memory.specs.MemoryBlock.{MemoryBlock, holds, is_constant, written}
 use Rattle.ir_memory.specs.Cell.{byte_at, bytes, read}
 use Rattle.ir_memory.specs.Memory.{Blocks, access, cells_at, changed, loaded, put_at, read_at, stored}
 use Rattle.ir_memory.specs.Find.{IsOnly}

@@ -10,7 +10,7 @@ use Rattle.ir_memory.specs.declared.access.BlockPlace.{BlockPlace}
 use Rattle.ir_memory.specs.declared.cell.Cell.TheVariants as cell
 use Rattle.ir_memory.specs.declared.kept.KeptBlock.{KeptBlock}
 use Rattle.ir_memory.specs.declared.leaf.Leaf.TheVariants as leaf
-use Rattle.ir_memory.specs.Block.{holds, is_constant}
+use Rattle.ir_memory.specs.MemoryBlock.{holds, is_constant}
 use Rattle.ir_memory.specs.Cell as cells
 use Rattle.ir_memory.specs.Find.{IsOnly}
 use Rattle.ir_memory.specs.Given.{IsKnown}

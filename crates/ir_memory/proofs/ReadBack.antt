@@ -17,7 +17,7 @@ use Rattle.ir_memory.specs.declared.cell.Cell.TheVariants as cell
 use Rattle.ir_memory.specs.declared.access.BlockPlace.{BlockPlace}
 use Rattle.ir_memory.specs.Given.{IsLeaf, Fits}
 use Rattle.ir_memory.specs.Cell.{size, leaf_cells, byte_at, bytes, pieces, read, integer, pointer, number_of, same_block, are_pieces}
-use Rattle.ir_memory.specs.Block.{MemoryBlock, written, holds}
+use Rattle.ir_memory.specs.MemoryBlock.{MemoryBlock, written, holds}
 use Rattle.ir_memory.specs.Memory.{Blocks, changed, access, has_ended, is_over, home, block_found, number_where, place_at, place_in}
 use Rattle.ir_memory.proofs.Bytes.{shift}
 use Rattle.ir_memory.proofs.Known.{length-changed}

@@ -13,7 +13,7 @@ use Rattle.ir_memory.specs.declared.leaf.Leaf.{Leaf}
 use Rattle.ir_memory.specs.declared.cell.Cell.{Cell}
 use Rattle.ir_memory.specs.declared.cell.Cell.TheVariants as cell
 use Rattle.ir_memory.specs.Cell.{leaf_cells}
-use Rattle.ir_memory.specs.Block.{MemoryBlock, gone, written}
+use Rattle.ir_memory.specs.MemoryBlock.{MemoryBlock, gone, written}
 use Rattle.ir_memory.specs.Memory.{changed, cells_at}
 use Rattle.ir_memory.specs.Kept.{IsPlaced}
 use Rattle.ir_memory.specs.Seen.{all_seen, ended_block}

@@ -21,7 +21,7 @@ use Rattle.ir_memory.specs.declared.access.BlockPlace.{BlockPlace}
 use Rattle.ir_memory.specs.declared.leaf.Leaf.{Leaf}
 use Rattle.ir_memory.specs.declared.leaf.Leaf.TheVariants as leaf
 use Rattle.ir_memory.specs.Cell.{bytes, pieces, read, number_of, joined, byte_of, pointer_of, pointer, integer}
-use Rattle.ir_memory.specs.Block.{written}
+use Rattle.ir_memory.specs.MemoryBlock.{written}
 use Rattle.ir_memory.specs.Memory.{changed, cells_at, cells_of}
 use Rattle.ir_memory.specs.Seen.{over, plain, cells, seen, all_seen, IsRoom, IsSound, with_copied, of_number}
 use Rattle.ir_memory.proofs.Changed.{length-all, seen-read, placed-kept, seen-put, sound-put, set-set}

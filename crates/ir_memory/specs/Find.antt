@@ -3,7 +3,7 @@ use Rattle.std.specs.Prelude.{◌≡◌, ℕ, ◌+◌, ◌*◌, ◌/◌, ◌%◌
 use Rattle.ir_tables.specs.declared.undefined_kind.UndefinedKind.{UndefinedKind}
 use Rattle.ir_memory.specs.declared.access.BlockPlace.{BlockPlace}
 use Rattle.ir_memory.specs.declared.kept.KeptBlock.{KeptBlock}
-use Rattle.ir_memory.specs.Block.{MemoryBlock}
+use Rattle.ir_memory.specs.MemoryBlock.{MemoryBlock}
 use Rattle.ir_memory.specs.Numbered.{row}
 
 -- where the first block of each page began, of 64 numbers each: a live block of the page begins there or behind it, and

@@ -4,7 +4,7 @@ use Rattle.std.specs.List.{All}
 use Rattle.ir_memory.specs.declared.cell.Cell.{Cell}
 use Rattle.ir_memory.specs.declared.cell.Cell.TheVariants as cell
 use Rattle.ir_memory.specs.declared.memory.TheConstants.{GAP}
-use Rattle.ir_memory.specs.Block.{MemoryBlock}
+use Rattle.ir_memory.specs.MemoryBlock.{MemoryBlock}
 use Rattle.ir_memory.specs.Memory.{live_bytes, byte_limit, first_address}
 use Rattle.ir_memory.specs.Given.{IsBlock}
 

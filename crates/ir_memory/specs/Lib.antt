@@ -1,5 +1,5 @@
 pub mod Cell
-pub mod Block
+pub mod MemoryBlock
 pub mod Memory
 pub mod Given
 pub mod Kept

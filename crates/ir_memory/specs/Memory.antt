@@ -11,7 +11,7 @@ use Rattle.ir_memory.specs.declared.cell.Cell.{Cell}
 use Rattle.ir_memory.specs.declared.cell.Cell.TheVariants.{Byte}
 use Rattle.ir_memory.specs.declared.access.BlockPlace.{BlockPlace}
 use Rattle.ir_memory.specs.Cell.{size, read, leaf_cells}
-use Rattle.ir_memory.specs.Block.{is_constant, MemoryBlock, new_block, gone, holds, starts, written}
+use Rattle.ir_memory.specs.MemoryBlock.{is_constant, MemoryBlock, new_block, gone, holds, starts, written}
 use Rattle.ir_memory.specs.declared.memory.TheConstants.{BYTE_LIMIT, FIRST_ADDRESS, GAP}
 
 -- all blocks, and what is left of those that have ended; where the next one may start; whether constants are sealed

@@ -17,7 +17,7 @@ use Rattle.ir_memory.specs.declared.leaf.Leaf.{Leaf}
 use Rattle.ir_memory.specs.declared.leaf.Leaf.TheVariants as leaf
 use Rattle.ir_memory.specs.Cell.{integer, pointer}
 use Rattle.ir_memory.specs.declared.access.BlockPlace.{BlockPlace}
-use Rattle.ir_memory.specs.Block.{MemoryBlock}
+use Rattle.ir_memory.specs.MemoryBlock.{MemoryBlock}
 use Rattle.ir_memory.specs.Kept.{IsPlaced}
 use Rattle.ir_memory.specs.Memory.{first_address}
 

@@ -6,7 +6,7 @@ ghost use Rattle.ir_memory.specs.Kept.{IsPlaced};
 ghost use Rattle.ir_memory.specs.Given.{IsKnown, IsAddress, IsAlignment};
 ghost use Rattle.ir_memory.specs.Seen.{at, all_seen, IsRoom, IsSound};
 ghost use Rattle.ir_memory.specs.declared.kept.KeptBlock.{KeptBlock as Kept};
-ghost use Rattle.ir_memory.specs.Block.{is_constant};
+ghost use Rattle.ir_memory.specs.MemoryBlock.{is_constant};
 ghost use Rattle.ir_memory.specs.Find.{AreStarts, HasOnly, IsOnly, place_there};
 
 use crate::BlockKind;

@@ -1,7 +1,7 @@
 //! Cells from one place to another.
 ghost use Rattle.std.specs.Prelude.{◌≡◌, ℕ, ◌+◌, ◌<◌, ◌≤◌, ◌^◌, ◌||◌, ◌&&◌, not, OnOk, OnErr, false, true, None, Some, length, slice_index_or, slice_set, slice_range};
 ghost use Rattle.ir_memory.specs.Memory as of;
-ghost use Rattle.ir_memory.specs.Block as block;
+ghost use Rattle.ir_memory.specs.MemoryBlock as block;
 ghost use Rattle.ir_memory.specs.declared.kept.KeptBlock.{KeptBlock as Kept};
 ghost use Rattle.ir_memory.specs.Seen.{at, all_seen, IsRoom, IsSound, with_copied};
 ghost use Rattle.pointer_pieces.specs.Pieces.{with_moved};

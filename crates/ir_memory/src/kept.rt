@@ -1,6 +1,6 @@
 //! One block as memory keeps it.
 ghost use Rattle.std.specs.Prelude.{◌≡◌, ◌≢◌, ◌+◌, ◌^◌, ◌<◌, ◌≤◌, ◌&&◌, nat_le, IfOk, IfSome, ℕ, Option, true, false};
-ghost use Rattle.ir_memory.specs.Block as block;
+ghost use Rattle.ir_memory.specs.MemoryBlock as block;
 ghost use Rattle.ir_memory.specs.Seen.{fresh, ended_block, seen};
 ghost use Rattle.pointer_pieces.specs.declared.piece.PointerPiece.{PointerPiece};
 

@@ -3,8 +3,8 @@
 //! It stands on the values of `ir_eval`, the kinds of undefined behaviour of `ir_tables`, `masked_bytes` and
 //! `pointer_pieces`. Its promise: each call changes memory and answers as the definition over plain lists of
 //! blocks and cells says, and a call that refuses leaves memory as it was. Definitions: `specs/Cell`,
-//! `specs/Block`, `specs/Memory`; what may be handed in: `specs/Given`; what an answer says: `specs/Answer`; bytes that are
-//! told as they lie: `specs/Plain`.
+//! `specs/MemoryBlock`, `specs/Memory`; what may be handed in: `specs/Given`; what an answer says: `specs/Answer`; bytes
+//! that are told as they lie: `specs/Plain`.
 //!
 //! ```
 //! let mut memory = Memory::new(alloc);

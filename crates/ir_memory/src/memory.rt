@@ -5,7 +5,7 @@ ghost use Rattle.ir_memory.specs.declared.leaf.Leaf.TheVariants as leaves;
 ghost use Rattle.ir_memory.specs.Memory as of;
 ghost use Rattle.ir_memory.specs.Memory.{HasFreeAddresses, live_bytes, round_up};
 ghost use Rattle.ir_memory.specs.Kept.{IsPlaced, AreKnown};
-ghost use Rattle.ir_memory.specs.Block as block;
+ghost use Rattle.ir_memory.specs.MemoryBlock as block;
 ghost use Rattle.ir_memory.specs.Given.{IsKnown, IsAddress, IsAlignment, IsLeaf, Fits, HasKnown, CanEnd};
 ghost use Rattle.ir_memory.specs.Answer.{Answers, NeedsNone, IsInteger, Keeps};
 ghost use Rattle.ir_memory.specs.Seen.{at, all_seen, IsRoom, IsSound};

@@ -1,7 +1,7 @@
 //! What stores, fills and copies write.
 ghost use Rattle.std.specs.Prelude.{◌≡◌, ℕ, ◌+◌, ◌<◌, ◌≤◌, ◌^◌, OnOk, OnErr, IsOk, false, true, None, Some, replicate, length};
 ghost use Rattle.ir_memory.specs.Memory as of;
-ghost use Rattle.ir_memory.specs.Block as block;
+ghost use Rattle.ir_memory.specs.MemoryBlock as block;
 ghost use Rattle.ir_memory.specs.Cell as cell;
 ghost use Rattle.ir_memory.specs.declared.cell.Cell.TheVariants as the;
 ghost use Rattle.ir_memory.specs.Seen.{at, all_seen, IsRoom, IsSound};

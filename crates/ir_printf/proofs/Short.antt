@@ -59,11 +59,11 @@ short_is c bits h =
     let ds : precise_digits c.kind c.precision number ≡ decimal number = ap (λ p. precise_digits c.kind p number) none ∙ in_decimal c.kind c.width c.precision number h in
     let room : c.width - (length front + length (precise_digits c.kind c.precision number)) ≡ 0 = omega (arith, narrow) in
     sym
-    (unfilled c.left (fills_with_zeros c) (c.width - (length front + length (precise_digits c.kind c.precision number))) front (precise_digits c.kind c.precision number) room
+    (unfilled c.left_justified (fills_with_zeros c) (c.width - (length front + length (precise_digits c.kind c.precision number))) front (precise_digits c.kind c.precision number) room
     ∙ ap (λ (xs : List ℕ). front ++ xs) ds)
 
 -- and bytes without a width are as the precision leaves them
 pub narrow_is : (c : Conversion) (bytes : List ℕ) → c.width ≡ 0 → precise_bytes c.kind c.precision bytes ≡ printed_bytes c bytes
 narrow_is c bytes narrow =
     let room : c.width - length (precise_bytes c.kind c.precision bytes) ≡ 0 = omega (arith, narrow) in
-    sym (unspaced c.left (c.width - length (precise_bytes c.kind c.precision bytes)) (precise_bytes c.kind c.precision bytes) room)
+    sym (unspaced c.left_justified (c.width - length (precise_bytes c.kind c.precision bytes)) (precise_bytes c.kind c.precision bytes) room)

@@ -102,13 +102,13 @@ may_have which span = is_of_number which || is_word span
 
 -- `%` behind the `%`
 abbrev pub percent : Conversion
-percent = record { kind = kind.Percent; left = false; zero = false; plus = false; space = false; width = 0; precision = None; length = size.Word }
+percent = record { kind = kind.Percent; left_justified = false; zero = false; plus = false; space = false; width = 0; precision = None; length = size.Word }
 
 -- the conversion of these flags, this kind, length, width and precision
 abbrev pub with_parts : List ℕ → ConversionKind → Length → ℕ → Option ℕ → Conversion
 with_parts flags which span width precision = record {
   kind = which;
-  left = has_byte 45 flags;
+  left_justified = has_byte 45 flags;
   zero = has_byte 48 flags;
   plus = has_byte 43 flags;
   space = has_byte 32 flags;

@@ -59,13 +59,13 @@ sign conversion negative =
 
 -- zeros fill the width where `0` is there without `-` and without a precision
 abbrev pub fills_with_zeros : Conversion → Bool
-fills_with_zeros conversion = conversion.zero && (not conversion.left && is_none conversion.precision)
+fills_with_zeros conversion = conversion.zero && (not conversion.left_justified && is_none conversion.precision)
 
 -- a sign and digits, filled to the width: on the right with spaces, behind the sign with zeros, or on the left with spaces
 abbrev pub filled : Conversion → List ℕ → List ℕ → List ℕ
 filled conversion front ds =
     let room = conversion.width - (length front + length ds) in
-    if conversion.left then front ++ ds ++ replicate room 32
+    if conversion.left_justified then front ++ ds ++ replicate room 32
     else if fills_with_zeros conversion then front ++ replicate room 48 ++ ds
     else replicate room 32 ++ front ++ ds
 
@@ -100,7 +100,7 @@ precise_bytes _ _ bytes = bytes
 abbrev pub spaced : Conversion → List ℕ → List ℕ
 spaced conversion bytes =
     let room = conversion.width - length bytes in
-    if conversion.left then bytes ++ replicate room 32 else replicate room 32 ++ bytes
+    if conversion.left_justified then bytes ++ replicate room 32 else replicate room 32 ++ bytes
 
 -- a byte or a string as a conversion writes it
 abbrev pub printed_bytes : Conversion → List ℕ → List ℕ

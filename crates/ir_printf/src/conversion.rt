@@ -40,7 +40,7 @@ pub enum Length {
 /// // `%-5ld`
 /// Conversion {
 ///     kind: ConversionKind::Signed,
-///     left: true,
+///     left_justified: true,
 ///     zero: false,
 ///     plus: false,
 ///     space: false,
@@ -53,7 +53,7 @@ pub enum Length {
 pub struct Conversion {
     pub kind: ConversionKind,
     /// `-`: what fills the width stands on the right.
-    pub left: bool,
+    pub left_justified: bool,
     /// `0`: zeros fill the width of a number.
     pub zero: bool,
     /// `+`: a sign before a signed number that is not negative.

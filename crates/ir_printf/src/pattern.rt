@@ -29,7 +29,7 @@ const MOST: u32 = 4_095;
 
 const PERCENT: Conversion = Conversion {
     kind: ConversionKind::Percent,
-    left: false,
+    left_justified: false,
     zero: false,
     plus: false,
     space: false,
@@ -217,7 +217,7 @@ fn written_conversion(bytes: &[u8], ends: Ends) -> Option<Conversion>
     }
     Some(Conversion {
         kind,
-        left: has_byte(b'-', flags),
+        left_justified: has_byte(b'-', flags),
         zero: has_byte(b'0', flags),
         plus: has_byte(b'+', flags),
         space: has_byte(b' ', flags),
@@ -236,7 +236,7 @@ fn plain_conversion(bytes: &[u8]) -> Option<Conversion>
     let kind = kind_at(bytes, 0)?;
     Some(Conversion {
         kind,
-        left: false,
+        left_justified: false,
         zero: false,
         plus: false,
         space: false,

@@ -133,7 +133,7 @@ fn filled(
     let room = (conversion.width as usize).saturating_sub(front.len() + digits.len());
     let fills_with_zeros = conversion.zero && conversion.precision.is_none();
     let mut text = Text::new(alloc);
-    if conversion.left {
+    if conversion.left_justified {
         text.extend(front)?;
         text.extend(digits)?;
         put_times(&mut text, b' ', room)?;
@@ -246,7 +246,7 @@ pub fn bytes_text(alloc: Global, conversion: &Conversion, bytes: &[u8]) -> Resul
     let shown = precise_bytes(conversion, bytes);
     let room = (conversion.width as usize).saturating_sub(shown.len());
     let mut text = Text::new(alloc);
-    if conversion.left {
+    if conversion.left_justified {
         text.extend(shown)?;
         put_times(&mut text, b' ', room)?;
     } else {

@@ -16,7 +16,7 @@ use crate::instructions::build_instructions;
 use crate::names::copied;
 use instruction_build::{Locals, build_ending};
 use ir_base::ItemList;
-use ir_instructions::Block;
+use ir_instructions::WrittenBlock;
 use module_arena::{BlockId, BlockList, ValueId};
 use std::alloc::{AllocError, Global};
 use type_build::Builder;
@@ -28,7 +28,7 @@ fn build_block(
     locals: &Locals,
     id: BlockId,
     first: ValueId,
-    written: &Block,
+    written: &WrittenBlock,
 ) -> Result<(module_arena::Block, ValueId), AllocError>
     requires can { CanBlock (structs builder.old.arena.table) (entries builder.old.arena) (called_of locals.now.values.names.items) (called_of locals.now.blocks.names.items) (block_view written.now) }
     requires few_values { length locals.now.values.names.items < 2 ^ 32 }
@@ -64,7 +64,7 @@ pub(crate) fn build_blocks(
     alloc: Global,
     locals: &Locals,
     first: ValueId,
-    written: &[Block],
+    written: &[WrittenBlock],
 ) -> Result<BlockList, AllocError>
     requires can { All (λ b. CanBlock (structs builder.old.arena.table) (entries builder.old.arena) (called_of locals.now.values.names.items) (called_of locals.now.blocks.names.items) (block_view b)) written.now }
     requires few_values { length locals.now.values.names.items < 2 ^ 32 }

@@ -13,8 +13,8 @@ use crate::blocks::build_blocks;
 use crate::gathered::gather;
 use crate::names::names_from;
 use instruction_build::Locals;
-use ir_instructions::Block;
-use ir_syntax::Parameter;
+use ir_instructions::WrittenBlock;
+use ir_syntax::WrittenParameter;
 use module_arena::ValueId;
 use std::alloc::{AllocError, Global};
 use type_build::Builder;
@@ -25,8 +25,8 @@ pub(crate) fn build_body<'a>(
     builder: &mut Builder,
     alloc: Global,
     locals: &mut Locals<'a>,
-    parameters: &'a [Parameter],
-    blocks: &'a [Block],
+    parameters: &'a [WrittenParameter],
+    blocks: &'a [WrittenBlock],
 ) -> Result<module_arena::Body, AllocError>
     requires { CanBody (structs builder.old.arena.table) (entries builder.old.arena) (map parameter_view parameters.now) (map block_view blocks.now) }
     ensures grows { OnOk result (Grows builder.old.arena builder.new.arena) }

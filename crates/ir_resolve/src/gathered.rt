@@ -8,16 +8,16 @@ ghost use Rattle.buildable.specs.Bodies.{values_of, labels_of};
 ghost use Rattle.instruction_build.specs.Named.{called_of};
 
 use instruction_build::{Locals, add_block};
-use ir_instructions::Block;
-use ir_syntax::Parameter;
+use ir_instructions::WrittenBlock;
+use ir_syntax::WrittenParameter;
 use std::alloc::{AllocError, Global};
 
 /// Gathers the locals of a function, in the order of the text, whichever function's they were.
 pub(crate) fn gather<'a>(
     locals: &mut Locals<'a>,
     alloc: Global,
-    parameters: &'a [Parameter],
-    blocks: &'a [Block],
+    parameters: &'a [WrittenParameter],
+    blocks: &'a [WrittenBlock],
 ) -> Result<(), AllocError>
     requires { length parameters.now + sum_by block_count (map block_view blocks.now) < 2 ^ 32 - 2 }
     ensures values { OnOk result (called_of locals.new.values.names.items ≡ values_of (map parameter_view parameters.now) (map block_view blocks.now)) }

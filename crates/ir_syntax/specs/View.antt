@@ -7,12 +7,12 @@ use Rattle.ir_instructions.specs.Tree.{BlockTree}
 use Rattle.ir_instructions.specs.View.{block_view}
 use Rattle.ir_syntax.specs.declared.item.WrittenBody.{WrittenBody}
 use Rattle.ir_syntax.specs.declared.item.WrittenBody.TheVariants as bodies
-use Rattle.ir_syntax.specs.declared.item.Variable as the_variable
-use Rattle.ir_syntax.specs.declared.item.Head.{Head}
-use Rattle.ir_syntax.specs.declared.item.Parameter.{Parameter}
-use Rattle.ir_syntax.specs.declared.item.AliasType.{AliasType}
-use Rattle.ir_syntax.specs.declared.item.AliasType.TheVariants as alias_type
-use Rattle.ir_syntax.specs.declared.item.Alias as the_alias
+use Rattle.ir_syntax.specs.declared.item.WrittenVariable as the_variable
+use Rattle.ir_syntax.specs.declared.item.FunctionHead.{FunctionHead}
+use Rattle.ir_syntax.specs.declared.item.WrittenParameter.{WrittenParameter}
+use Rattle.ir_syntax.specs.declared.item.WrittenAliasType.{WrittenAliasType}
+use Rattle.ir_syntax.specs.declared.item.WrittenAliasType.TheVariants as alias_type
+use Rattle.ir_syntax.specs.declared.item.WrittenAlias as the_alias
 use Rattle.ir_syntax.specs.declared.heads.GlobalHead as the_head
 use Rattle.ir_syntax.specs.declared.item.FormalParameters.{FormalParameters}
 use Rattle.ir_syntax.specs.declared.functions.Defined.{Defined}
@@ -30,7 +30,7 @@ body_view (bodies.Plain fields) = PlainBody (map type_view fields.items)
 body_view (bodies.Packed fields) = PackedBody (map type_view fields.items)
 
 -- a variable as a tree
-abbrev pub variable_view : the_variable.Variable → VariableTree
+abbrev pub variable_view : the_variable.WrittenVariable → VariableTree
 variable_view v = record {
   name = v.name;
   linkage = v.linkage;
@@ -41,12 +41,12 @@ variable_view v = record {
 }
 
 -- the type of an alias as a tree
-abbrev pub alias_type_view : AliasType → AliasTypeTree
+abbrev pub alias_type_view : WrittenAliasType → AliasTypeTree
 alias_type_view (alias_type.Plain ty) = PlainAlias (type_view ty)
 alias_type_view (alias_type.Function returns signature) = FunctionAlias (type_view returns) (map type_view signature.parameters.items) signature.variadic
 
 -- an alias as a tree
-abbrev pub alias_view : the_alias.Alias → AliasTree
+abbrev pub alias_view : the_alias.WrittenAlias → AliasTree
 alias_view a = record { name = a.name; linkage = a.linkage; ty = alias_type_view a.ty; target = a.target }
 
 -- the head of a variable or an alias as a tree
@@ -54,7 +54,7 @@ abbrev pub global_view : the_head.GlobalHead → GlobalHead
 global_view h = (h.name, h.linkage)
 
 -- a parameter as a tree
-abbrev pub parameter_view : Parameter → ParameterTree
+abbrev pub parameter_view : WrittenParameter → ParameterTree
 parameter_view p = (type_view p.ty, p.name)
 
 -- parameters as trees, and whether more may follow
@@ -74,7 +74,7 @@ abbrev pub variable_rest_view : VariableRest → Option ConstantTree × Option I
 variable_rest_view v = (option_map constant_view v.initialiser, v.alignment)
 
 -- the head of a function as a tree
-abbrev pub head_view : Head → HeadTree
+abbrev pub head_view : FunctionHead → HeadTree
 head_view h = record { linkage = h.linkage; returns = type_view h.returns; name = h.name }
 
 -- an item as a tree

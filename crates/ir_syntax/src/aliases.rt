@@ -4,7 +4,7 @@ ghost use Rattle.ir_syntax.specs.View.{alias_type_view, global_view, item_view};
 ghost use Rattle.ir_terminals.specs.Follows.{Follows};
 
 use crate::heads::{GlobalHead, global_head};
-use crate::item::{Alias, AliasType, Item};
+use crate::item::{Item, WrittenAlias, WrittenAliasType};
 use crate::variables::variable_behind;
 use ir_constants::type_of;
 use ir_instructions::signature;
@@ -12,16 +12,16 @@ use ir_terminals::{Cursor, Fault, PlacedName, Terminal};
 
 /// `TYPE (( TYPE,* ))?`
 #[tactic(auto, unfolding(crate::specs::Aliases::alias_type_core))]
-fn alias_type(cursor: &mut Cursor) -> Result<AliasType, Fault>
+fn alias_type(cursor: &mut Cursor) -> Result<WrittenAliasType, Fault>
     ensures { Follows alias_type_row alias_type_view cursor.old result cursor.new }
 {
     let ty = type_of(cursor)?;
     match signature(cursor)? {
-        Some(signature) => Ok(AliasType::Function {
+        Some(signature) => Ok(WrittenAliasType::Function {
             returns: ty,
             signature,
         }),
-        None => Ok(AliasType::Plain(ty)),
+        None => Ok(WrittenAliasType::Plain(ty)),
     }
 }
 
@@ -44,7 +44,7 @@ fn alias_behind(cursor: &mut Cursor, head: GlobalHead) -> Result<Item, Fault>
     cursor.take_class(Terminal::Alias)?;
     let ty = alias_type(cursor)?;
     let target = target(cursor)?;
-    let alias = Alias {
+    let alias = WrittenAlias {
         name,
         linkage,
         ty,

@@ -9,10 +9,12 @@ ghost use Rattle.ir_terminals.specs.Tokens.{local_row};
 ghost use Rattle.ir_terminals.specs.Follows.{Follows};
 
 use crate::heads::{global_words, optional_linkage};
-use crate::item::{Declaration, Definition, FormalParameters, Head, Item, Parameter};
+use crate::item::{
+    Declaration, Definition, FormalParameters, FunctionHead, Item, WrittenParameter,
+};
 use ir_constants::{begins_type, type_of};
 use ir_instructions::{
-    Block, attachment, blocks_of, convention, function_attributes, parameter_attributes,
+    WrittenBlock, attachment, blocks_of, convention, function_attributes, parameter_attributes,
 };
 use ir_terminals::{Cursor, Fault, Local, Terminal};
 
@@ -29,13 +31,13 @@ fn optional_local(cursor: &mut Cursor) -> Result<Option<Local>, Fault>
 
 /// `TYPE PDROP* LOCAL?`
 #[tactic(auto, unfolding(crate::specs::Functions::parameter_core))]
-fn parameter(cursor: &mut Cursor) -> Result<Parameter, Fault>
+fn parameter(cursor: &mut Cursor) -> Result<WrittenParameter, Fault>
     ensures { Follows parameter_row parameter_view cursor.old result cursor.new }
 {
     let ty = type_of(cursor)?;
     parameter_attributes(cursor)?;
     let name = optional_local(cursor)?;
-    Ok(Parameter { ty, name })
+    Ok(WrittenParameter { ty, name })
 }
 
 /// `...`, where it may stand.
@@ -129,7 +131,7 @@ fn parameters(cursor: &mut Cursor, may_end_in_dots: bool) -> Result<FormalParame
 
 /// `LINKAGE? GDROP* CC? PDROP* TYPE GLOBAL`
 #[tactic(auto, unfolding(crate::specs::Functions::head_core))]
-fn head(cursor: &mut Cursor) -> Result<Head, Fault>
+fn head(cursor: &mut Cursor) -> Result<FunctionHead, Fault>
     ensures { Follows head_row head_view cursor.old result cursor.new }
 {
     let linkage = optional_linkage(cursor)?;
@@ -138,7 +140,7 @@ fn head(cursor: &mut Cursor) -> Result<Head, Fault>
     parameter_attributes(cursor)?;
     let returns = type_of(cursor)?;
     let name = cursor.global_name()?;
-    Ok(Head {
+    Ok(FunctionHead {
         linkage,
         returns,
         name,
@@ -179,7 +181,7 @@ pub fn declaration(cursor: &mut Cursor) -> Result<Item, Fault>
 
 /// `FDROP* MD* { BLOCK+ }`
 #[tactic(auto, unfolding(crate::specs::Functions::body_core))]
-fn body(cursor: &mut Cursor) -> Result<Vec<Block>, Fault>
+fn body(cursor: &mut Cursor) -> Result<Vec<WrittenBlock>, Fault>
     ensures { Follows body_row (λ blocks. map block_view blocks.items) cursor.old result cursor.new }
 {
     function_attributes(cursor)?;
@@ -191,7 +193,7 @@ fn body(cursor: &mut Cursor) -> Result<Vec<Block>, Fault>
 #[derive(Drop)]
 struct Defined {
     parameters: FormalParameters,
-    blocks: Vec<Block>,
+    blocks: Vec<WrittenBlock>,
 }
 
 /// `( PARAM,* ) FDROP* MD* { BLOCK+ }`

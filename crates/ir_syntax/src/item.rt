@@ -1,8 +1,8 @@
-//! Items, as a text writes them. `Variable`, `Alias` and `AliasType` of `module_arena` are those of an arena.
+//! Items, as a text writes them.
 
 use ir_base::{ItemList, Place};
 use ir_constants::{Constant, Type};
-use ir_instructions::{Block, Signature};
+use ir_instructions::{SignatureTypes, WrittenBlock};
 use ir_tables::Linkage;
 use ir_terminals::{Integer, Local, PlacedName, PlacedText};
 
@@ -26,7 +26,7 @@ pub enum WrittenBody {
 ///
 /// ```
 /// // `@a = constant i32 7`, where `a` is that name with its place
-/// Variable {
+/// WrittenVariable {
 ///     name: a,
 ///     linkage: None,
 ///     constant: true,
@@ -36,7 +36,7 @@ pub enum WrittenBody {
 /// }
 /// ```
 #[derive(Drop)]
-pub struct Variable {
+pub struct WrittenVariable {
     pub name: PlacedName,
     /// The linkage, where it is written.
     pub linkage: Option<Linkage>,
@@ -51,34 +51,37 @@ pub struct Variable {
 /// What an alias stands for.
 ///
 /// ```
-/// AliasType::Plain(ty) // of `@b = alias i32, ptr @a`, whose type is `i32`
-/// AliasType::Function { returns, signature } // of `@g = alias i32 (ptr), ptr @f`: `i32` and `(ptr)`
+/// WrittenAliasType::Plain(ty) // of `@b = alias i32, ptr @a`, whose type is `i32`
+/// WrittenAliasType::Function { returns, signature } // of `@g = alias i32 (ptr), ptr @f`: `i32` and `(ptr)`
 /// ```
 #[derive(Drop)]
-pub enum AliasType {
+pub enum WrittenAliasType {
     /// A variable of this type.
     Plain(Type),
     /// A function: its return type and its parameters.
-    Function { returns: Type, signature: Signature },
+    Function {
+        returns: Type,
+        signature: SignatureTypes,
+    },
 }
 
 /// An alias (LangRef, "Aliases").
 ///
 /// ```
 /// // `@b = alias i32, ptr @a`, where `a` and `b` are these names with their places
-/// Alias {
+/// WrittenAlias {
 ///     name: b,
 ///     linkage: None,
-///     ty: AliasType::Plain(ty), // `i32`
+///     ty: WrittenAliasType::Plain(ty), // `i32`
 ///     target: a,
 /// }
 /// ```
 #[derive(Drop)]
-pub struct Alias {
+pub struct WrittenAlias {
     pub name: PlacedName,
     /// The linkage, where it is written.
     pub linkage: Option<Linkage>,
-    pub ty: AliasType,
+    pub ty: WrittenAliasType,
     /// The variable or function that it stands for.
     pub target: PlacedName,
 }
@@ -87,17 +90,17 @@ pub struct Alias {
 ///
 /// ```
 /// // `i32 %x`, whose type is `i32`, where `x` is that name with its place
-/// Parameter { ty, name: Some(Local::Named(x)) }
+/// WrittenParameter { ty, name: Some(Local::Named(x)) }
 /// ```
 #[derive(Drop)]
-pub struct Parameter {
+pub struct WrittenParameter {
     pub ty: Type,
     pub name: Option<Local>,
 }
 
 /// What a function is called and gives (LangRef, "Functions").
 #[derive(Drop)]
-pub struct Head {
+pub struct FunctionHead {
     /// The linkage, where it is written.
     pub linkage: Option<Linkage>,
     pub returns: Type,
@@ -107,7 +110,7 @@ pub struct Head {
 /// Parameters, and whether `...` ends them.
 #[derive(Drop)]
 pub struct FormalParameters {
-    pub parameters: Vec<Parameter>,
+    pub parameters: Vec<WrittenParameter>,
     pub variadic: bool,
 }
 
@@ -119,7 +122,7 @@ pub struct FormalParameters {
 /// ```
 #[derive(Drop)]
 pub struct Declaration {
-    pub head: Head,
+    pub head: FunctionHead,
     pub formal: FormalParameters,
 }
 
@@ -131,9 +134,9 @@ pub struct Declaration {
 /// ```
 #[derive(Drop)]
 pub struct Definition {
-    pub head: Head,
-    pub parameters: Vec<Parameter>,
-    pub blocks: Vec<Block>,
+    pub head: FunctionHead,
+    pub parameters: Vec<WrittenParameter>,
+    pub blocks: Vec<WrittenBlock>,
 }
 
 /// An item, with the place of its first token where no name has it.
@@ -165,9 +168,9 @@ pub enum Item {
         body: WrittenBody,
     },
     /// `global` or `constant`: a variable.
-    Variable(Box<Variable>),
+    Variable(Box<WrittenVariable>),
     /// `alias`: a further name of a variable or a function.
-    Alias(Box<Alias>),
+    Alias(Box<WrittenAlias>),
     /// `declare`: a function without its body.
     Declaration {
         place: Place,

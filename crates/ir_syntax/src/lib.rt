@@ -23,7 +23,7 @@ mod variables;
 
 pub use ir_lexer::LARGEST;
 pub use item::{
-    Alias, AliasType, Declaration, Definition, FormalParameters, Head, Item, Items, Parameter,
-    Variable, WrittenBody,
+    Declaration, Definition, FormalParameters, FunctionHead, Item, Items, WrittenAlias,
+    WrittenAliasType, WrittenBody, WrittenParameter, WrittenVariable,
 };
 pub use read::{SyntaxFault, read_items};

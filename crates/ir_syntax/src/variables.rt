@@ -7,7 +7,7 @@ ghost use Rattle.ir_syntax.specs.View.{body_view, global_view, variable_rest_vie
 ghost use Rattle.ir_terminals.specs.Follows.{Follows};
 
 use crate::heads::GlobalHead;
-use crate::item::{Item, Variable, WrittenBody};
+use crate::item::{Item, WrittenBody, WrittenVariable};
 use ir_constants::{Constant, constant_of, fields_of, type_of};
 use ir_instructions::{attachment, section};
 use ir_tables::Linkage;
@@ -147,7 +147,7 @@ pub fn variable_behind(cursor: &mut Cursor, head: GlobalHead) -> Result<Item, Fa
         initialiser,
         alignment,
     } = rest_behind(cursor, linkage)?;
-    let variable = Variable {
+    let variable = WrittenVariable {
         name,
         linkage,
         constant,

@@ -15,7 +15,7 @@ ghost use Rattle.buildable.specs.Laws.{AreBuildable};
 ghost use Rattle.item_build.specs.Declaring.{declared_variables, AreNamed, counts_in};
 ghost use Rattle.item_build.specs.Completing.{initialised_by, initialised_in, variable_behind, with_initialisers};
 
-use ir_syntax::{Item, Variable};
+use ir_syntax::{Item, WrittenVariable};
 use module_arena::VariableId;
 use std::alloc::{AllocError, Global};
 use type_build::{Builder, initialise};
@@ -25,7 +25,7 @@ fn initialise_variable(
     builder: &mut Builder,
     alloc: Global,
     number: u32,
-    variable: &Variable,
+    variable: &WrittenVariable,
 ) -> Result<(), AllocError>
     requires known { number < length builder.old.arena.variables }
     requires undefined { (v : the_variable.Variable) → slice_get builder.old.arena.variables number ≡ Some v → v.initialiser ≡ None }

@@ -20,7 +20,11 @@ pub fn name_of(alloc: Global, bytes: &[u8]) -> Result<Name, Refusal> {
 }
 
 /// Names a struct that has no body.
-fn named(alloc: Global, table: &mut TypeTable, bytes: &[u8]) -> Result<StructId, Refusal> {
+fn name_new_struct(
+    alloc: Global,
+    table: &mut TypeTable,
+    bytes: &[u8],
+) -> Result<StructId, Refusal> {
     if table.struct_count() >= MOST {
         return Err(Refusal::NoCall);
     }
@@ -55,7 +59,7 @@ fn type_of(table: &mut TypeTable, id: u64) -> Result<u64, Refusal> {
 fn in_a_row(alloc: Global, table: &mut TypeTable, count: u64) -> Result<Answer, Refusal> {
     let first = u64::from(table.struct_count());
     for i in 0..count {
-        named(alloc, table, format!(in alloc; "s{i}")?.as_bytes())?;
+        name_new_struct(alloc, table, format!(in alloc; "s{i}")?.as_bytes())?;
     }
     let mut held = 0;
     for i in 0..count {
@@ -103,6 +107,6 @@ pub fn name(
             None => Answer::Nothing,
         });
     }
-    let id = named(alloc, table, text.bytes())?;
+    let id = name_new_struct(alloc, table, text.bytes())?;
     Ok(Answer::Number(u64::from(id.number())))
 }

@@ -8,7 +8,7 @@ use Rattle.linkage_rules.specs.Entries.{Entry}
 use Rattle.linkage_rules.specs.Globals.{linkage_of}
 use Rattle.linkage_rules.specs.Ids.{modules, seen}
 use Rattle.linkage_rules.specs.Linkages as linkages
-use Rattle.linkage_rules.specs.Place.{commons}
+use Rattle.linkage_rules.specs.Addresses.{commons}
 use Rattle.linkage_rules.specs.Winner.{is_definition}
 use Rattle.linkage_rules.proofs.Steps.{filter_more}
 use Rattle.linked_symbols.proofs.Joined.{kept, skipped}

@@ -21,7 +21,7 @@ use Rattle.linkage_rules.specs.Entries.{Entry}
 use Rattle.linkage_rules.specs.Globals.{linkage_of, type_of, stated, element_of}
 use Rattle.linkage_rules.specs.Ids.{IsEntryId, modules, seen}
 use Rattle.linkage_rules.specs.Linkages.{is_appending, is_common}
-use Rattle.linkage_rules.specs.Place.{joined_length, greatest_stated, greatest_common, commons}
+use Rattle.linkage_rules.specs.Addresses.{joined_length, greatest_stated, greatest_common, commons}
 use Rattle.linkage_rules.proofs.Seen.{seen_part}
 use Rattle.linked_symbols.specs.Places.{clamped}
 use Rattle.module_linker.specs.Linked.{joined_alignment}

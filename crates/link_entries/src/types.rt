@@ -3,7 +3,7 @@ ghost use Rattle.std.specs.Prelude.{◌≡◌, length, true, nat_le, if◌then�
 ghost use Rattle.type_table.specs.Types.{structs};
 ghost use Rattle.module_arena.specs.WellFormed.{is_good_type};
 ghost use Rattle.linkage_rules.specs.Ids.{IsEntryId, modules, seen};
-ghost use Rattle.linkage_rules.specs.Place as place;
+ghost use Rattle.linkage_rules.specs.Addresses as addresses;
 ghost use Rattle.module_linker.specs.Linked as linking;
 ghost use Rattle.type_build.specs.Stands.{Grows, IsType};
 ghost use Rattle.link_stages.specs.Ground.{HaveTypes};
@@ -66,7 +66,7 @@ fn is_common(parts: &[Checked], id: EntryId) -> bool
 /// How many of some entries are common definitions.
 fn common_count(parts: &[Checked], ids: &[EntryId]) -> usize
     requires { All (IsEntryId parts.now) ids.now }
-    ensures { result ≡ length (place.commons (entries_defined parts.now ids.now)) }
+    ensures { result ≡ length (addresses.commons (entries_defined parts.now ids.now)) }
 {
     let mut count = 0;
     'ids: for id in ids {
@@ -80,7 +80,7 @@ fn common_count(parts: &[Checked], ids: &[EntryId]) -> usize
 /// The alignment in bytes of a common that is taken: the greatest of all where there are several, and else its own.
 fn common_alignment(parts: &[Checked], ids: &[EntryId], own: Option<u32>) -> Option<u32>
     requires { All (IsEntryId parts.now) ids.now }
-    ensures { result ≡ (if nat_le 2 (length (place.commons (entries_defined parts.now ids.now))) then place.greatest_common (modules parts.now) (entries_defined parts.now ids.now) else own) }
+    ensures { result ≡ (if nat_le 2 (length (addresses.commons (entries_defined parts.now ids.now))) then addresses.greatest_common (modules parts.now) (entries_defined parts.now ids.now) else own) }
 {
     if common_count(parts, ids) >= 2 {
         greatest_common(parts, ids)

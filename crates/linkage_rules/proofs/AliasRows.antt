@@ -11,7 +11,7 @@ use Rattle.linkage_rules.specs.Conflicts.{TwoStrong, FunctionAndVariable, first_
 use Rattle.linkage_rules.specs.Entries.{Shared, Local, Entry}
 use Rattle.linkage_rules.proofs.RowParts.{only, only_function}
 use Rattle.linkage_rules.specs.Globals.{OfVariable, OfFunction}
-use Rattle.linkage_rules.specs.Place.{place, address}
+use Rattle.linkage_rules.specs.Addresses.{place, address}
 use Rattle.linkage_rules.specs.Symbols.{symbols}
 use Rattle.linkage_rules.specs.Winner.{winner}
 

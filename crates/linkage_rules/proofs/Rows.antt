@@ -11,7 +11,7 @@ use Rattle.linkage_rules.specs.Symbols.{symbols}
 use Rattle.linkage_rules.specs.Winner.{winner}
 use Rattle.linkage_rules.specs.Conflicts.{TwoStrong, FunctionAndVariable, AppendingAndPlain, ElementShape, Constness, first_conflict}
 use Rattle.linkage_rules.specs.Bind.{Definition, Appended, Null, bind}
-use Rattle.linkage_rules.specs.Place.{place}
+use Rattle.linkage_rules.specs.Addresses.{place}
 use Rattle.linkage_rules.proofs.RowParts.{cycle_a, cycle_b, locals_p, locals_q, only, only_function, calls_f, common_a, common_b, constructors_p, constructors_q, may_be_null, numbers}
 
 -- SYMBOLS

@@ -8,7 +8,7 @@ pub mod Winner
 pub mod Symbols
 pub mod Conflicts
 pub mod Bind
-pub mod Place
+pub mod Addresses
 pub mod Ids
 pub mod Heads
 pub mod Elements

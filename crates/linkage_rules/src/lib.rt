@@ -2,7 +2,8 @@
 //!
 //! It stands on `ir_base`, `ir_tables`, `type_table`, `module_arena` and `indexmap`. It promises that parts are refused
 //! exactly with their first conflict, and else have exactly the symbols, entries and homes that are defined. Definitions:
-//! `specs/Entries`, `Linkages`, `Winner`, `Symbols`, `Conflicts`, and of the answer `Resolved`; for runs `Bind` and `Place`.
+//! `specs/Entries`, `Linkages`, `Winner`, `Symbols`, `Conflicts`, and of the answer `Resolved`; for runs `Bind` and
+//! `Addresses`.
 //!
 //! ```
 //! // of the parts `declare void @f()` and `define void @f() { ret void }`

@@ -22,7 +22,7 @@ use Rattle.linkage_rules.specs.SameShape.{agree}
 use Rattle.linkage_rules.specs.declared.conflict.ConflictKind.TheVariants.{AppendingAndPlain, ElementShape}
 use Rattle.linkage_rules.specs.Conflicts.{elements_alike}
 use Rattle.linked_contents.specs.Contents.{elements_of, elements_in}
-use Rattle.linkage_rules.specs.Place.{joined_length}
+use Rattle.linkage_rules.specs.Addresses.{joined_length}
 use Rattle.linkage_rules.proofs.Shapes.{alike_exact}
 use Rattle.module_linker.specs.Rename.{new_global}
 use Rattle.module_linker.specs.Structs.{new_struct}

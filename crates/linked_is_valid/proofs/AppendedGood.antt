@@ -22,7 +22,7 @@ use Rattle.linkage_rules.specs.declared.symbol.Symbol.{Symbol}
 use Rattle.linkage_rules.specs.Symbols.{is_alias_symbol, variable_symbols, function_symbols, alias_symbols}
 use Rattle.linkage_rules.specs.Winner.{definitions, home, size_in}
 use Rattle.linked_contents.specs.Contents.{ContentPiece, elements_in, elements_of}
-use Rattle.linkage_rules.specs.Place.{joined_length, greatest_stated}
+use Rattle.linkage_rules.specs.Addresses.{joined_length, greatest_stated}
 use Rattle.module_linker.proofs.Symbols.{AreOfKind, function_kinds, aliases_are, home_is}
 use Rattle.module_linker.specs.Counts.{Count, limit, appended_bytes, appended_count, too_many}
 use Rattle.module_linker.specs.Rename.{renaming, new_global}

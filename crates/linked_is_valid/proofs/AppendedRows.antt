@@ -20,7 +20,7 @@ use Rattle.linkage_rules.specs.declared.symbol.Symbol.{Symbol}
 use Rattle.linkage_rules.specs.declared.symbol.Symbol.TheVariants.{Shared, Local}
 use Rattle.linkage_rules.specs.Winner.{is_definition, definitions, home, shape_in}
 use Rattle.linked_contents.specs.Contents.{elements_in}
-use Rattle.linkage_rules.specs.Place.{joined_length, greatest_stated}
+use Rattle.linkage_rules.specs.Addresses.{joined_length, greatest_stated}
 use Rattle.linkage_rules.specs.SymbolLaws.{symbol_exact}
 use Rattle.module_linker.proofs.Symbols.{home_is}
 use Rattle.linkage_rules.proofs.Entries.{all_passing}

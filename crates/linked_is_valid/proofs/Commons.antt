@@ -13,7 +13,7 @@ use Rattle.linkage_rules.specs.Linkages.{is_common}
 use Rattle.linkage_rules.specs.Lists.{greatest, greatest_from}
 use Rattle.linkage_rules.specs.Entries.{entries, part_at, same_symbol, symbol_of, entries_of}
 use Rattle.linkage_rules.specs.Winner.{is_definition, definitions, shape_in}
-use Rattle.linkage_rules.specs.Place.{align_in, alignment_in, commons}
+use Rattle.linkage_rules.specs.Addresses.{align_in, alignment_in, commons}
 use Rattle.module_linker.proofs.Symbols.{all_filter, all_map}
 use Rattle.linked_is_valid.proofs.Lists.{all_follow}
 use Rattle.linked_is_valid.proofs.PartEntries.{EntryHolds}

@@ -23,7 +23,7 @@ use Rattle.linkage_rules.specs.declared.symbol.Symbol.TheVariants.{Shared, Local
 use Rattle.linkage_rules.specs.Winner.{is_definition, gives_way, better, best, definitions, home}
 use Rattle.linkage_rules.specs.Symbols.{symbols}
 use Rattle.linkage_rules.specs.Bind.{all_extern_weak}
-use Rattle.linkage_rules.specs.Place.{commons, greatest_common}
+use Rattle.linkage_rules.specs.Addresses.{commons, greatest_common}
 use Rattle.linkage_rules.specs.SymbolLaws.{symbol_exact}
 use Rattle.module_linker.proofs.Symbols.{home_is}
 use Rattle.module_linker.specs.Rename.{renaming, all_names, base_of, shared_names, new_global}

@@ -12,7 +12,7 @@ use Rattle.linkage_rules.specs.Entries.{Entry, same_symbol, symbol_of, entries}
 use Rattle.linkage_rules.specs.declared.symbol.Symbol.{Symbol}
 use Rattle.linkage_rules.specs.Globals.{Global, OfVariable, OfFunction, OfAlias, linkage_of, element_of}
 use Rattle.linkage_rules.specs.Linkages.{is_appending}
-use Rattle.linkage_rules.specs.Place.{joined_length}
+use Rattle.linkage_rules.specs.Addresses.{joined_length}
 use Rattle.linkage_rules.specs.Winner.{definitions, is_definition, home}
 use Rattle.module_linker.proofs.Symbols.{home_is, all_filter, all_append}
 use Rattle.module_linker.specs.Linked.{linked_constant, linked_pieces, joined_alignment}

@@ -11,7 +11,7 @@ use Rattle.linkage_rules.specs.Bind.{behind_from, target_of, behind}
 use Rattle.linkage_rules.specs.Entries.{Entry, same_symbol}
 use Rattle.linkage_rules.specs.declared.symbol.Symbol.{Symbol}
 use Rattle.linkage_rules.specs.Globals.{Global, OfVariable, OfFunction, OfAlias}
-use Rattle.linkage_rules.specs.Place.{Room, room, rooms, placed_from, function_address, addressed_from, place, address}
+use Rattle.linkage_rules.specs.Addresses.{Room, room, rooms, placed_from, function_address, addressed_from, place, address}
 use Rattle.linkage_rules.specs.Symbols.{variable_symbols, function_symbols, alias_symbols, symbols}
 use Rattle.linkage_rules.specs.Winner.{home}
 use Rattle.module_linker.proofs.Symbols.{home_is, all_among, all_append, variables_plain, variable_kinds}

@@ -13,7 +13,7 @@ use Rattle.linkage_rules.specs.declared.symbol.Symbol.{Symbol}
 use Rattle.linkage_rules.specs.Globals.{Global, OfVariable, OfFunction, OfAlias, linkage_of, is_variable, is_alias, element_of, length_of}
 use Rattle.linkage_rules.specs.Linkages.{is_appending, is_common}
 use Rattle.linkage_rules.specs.Lists.{greatest}
-use Rattle.linkage_rules.specs.Place.{Room, joined_length, align_in, alignment_in, greatest_stated, commons, greatest_common, size_by, alignment_by, room}
+use Rattle.linkage_rules.specs.Addresses.{Room, joined_length, align_in, alignment_in, greatest_stated, commons, greatest_common, size_by, alignment_by, room}
 use Rattle.linkage_rules.specs.Symbols.{is_alias_symbol}
 use Rattle.linkage_rules.specs.Winner.{definitions, home, shape_in, size_in}
 use Rattle.module_linker.proofs.Symbols.{AreOfKind, home_is, best_has}

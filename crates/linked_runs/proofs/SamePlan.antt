@@ -9,7 +9,7 @@ use Rattle.linkage_rules.specs.Entries.{Entry, same_symbol, symbol_name}
 use Rattle.linkage_rules.specs.declared.symbol.Symbol.{Symbol}
 use Rattle.linkage_rules.specs.Globals.{Global, OfVariable, OfFunction, OfAlias, is_constant}
 use Rattle.linkage_rules.specs.Lists.{has}
-use Rattle.linkage_rules.specs.Place.{Room, rooms}
+use Rattle.linkage_rules.specs.Addresses.{Room, rooms}
 use Rattle.linkage_rules.specs.Symbols.{symbols}
 use Rattle.linkage_rules.specs.Winner.{definitions, home}
 use Rattle.module_linker.specs.Linked.{linked_definition}

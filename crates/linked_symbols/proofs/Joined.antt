@@ -11,7 +11,7 @@ use Rattle.linkage_rules.specs.Globals.{linkage_of, stated}
 use Rattle.linkage_rules.specs.Ids.{seen}
 use Rattle.linkage_rules.specs.Linkages.{is_common}
 use Rattle.linkage_rules.specs.Lists.{greatest_from, greatest}
-use Rattle.linkage_rules.specs.Place.{greatest_stated, greatest_common, commons, alignment_in}
+use Rattle.linkage_rules.specs.Addresses.{greatest_stated, greatest_common, commons, alignment_in}
 use Rattle.linkage_rules.specs.Winner.{is_definition}
 use Rattle.linkage_rules.proofs.Filed.{map_joined}
 use Rattle.linkage_rules.proofs.Steps.{map_step, filter_more}

@@ -11,7 +11,7 @@ use Rattle.module_arena.specs.Module.{Module}
 use Rattle.linkage_rules.specs.declared.symbol.Symbol.{Symbol}
 use Rattle.linkage_rules.specs.declared.symbol.SymbolKind.TheVariants as kind
 use Rattle.linkage_rules.specs.Grouped.{kind_of, same_kind}
-use Rattle.linkage_rules.specs.Place.{Room, room, rooms, placed_from}
+use Rattle.linkage_rules.specs.Addresses.{Room, room, rooms, placed_from}
 use Rattle.linkage_rules.specs.Symbols.{symbols, variable_symbols}
 use Rattle.linkage_rules.proofs.Filed.{map_joined}
 use Rattle.linkage_rules.proofs.KindsAmong.{variables_among}

@@ -7,7 +7,7 @@ use Rattle.linkage_rules.specs.declared.symbol.Symbol.{Symbol}
 use Rattle.linkage_rules.specs.Entries.{Entry}
 use Rattle.linkage_rules.specs.Grouped.{Rows, group_in, home_in, AreGroups, AreHomes}
 use Rattle.linkage_rules.specs.Ids.{modules, seen}
-use Rattle.linkage_rules.specs.Place.{Room, room, size_by, alignment_by}
+use Rattle.linkage_rules.specs.Addresses.{Room, room, size_by, alignment_by}
 use Rattle.linkage_rules.specs.Winner.{home, definitions, is_definition}
 use Rattle.linkage_rules.proofs.Standing.{home_at}
 use Rattle.linked_symbols.specs.declared.room.Room as the_room

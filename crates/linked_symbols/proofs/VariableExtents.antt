@@ -21,7 +21,7 @@ use Rattle.linkage_rules.specs.declared.symbol.SymbolKind.TheVariants as kind
 use Rattle.linkage_rules.specs.Entries.{Entry, structs_at}
 use Rattle.linkage_rules.specs.Globals.{element_of, length_of}
 use Rattle.linkage_rules.specs.Ids.{IsEntryId, modules, seen, global_of}
-use Rattle.linkage_rules.specs.Place.{align_in}
+use Rattle.linkage_rules.specs.Addresses.{align_in}
 use Rattle.linkage_rules.specs.Winner.{size_in}
 use Rattle.linkage_rules.proofs.ElementTypes.{tree_at}
 use Rattle.linkage_rules.proofs.Seen.{get_within, variable_seen, function_seen, alias_seen}

@@ -6,7 +6,7 @@ use Rattle.module_arena.specs.Module.{Module}
 use Rattle.linkage_rules.specs.Entries.{Entry}
 use Rattle.linkage_rules.specs.Globals.{linkage_of, type_of, stated, element_of, length_of}
 use Rattle.linkage_rules.specs.Linkages.{is_common}
-use Rattle.linkage_rules.specs.Place.{align_in, alignment_in}
+use Rattle.linkage_rules.specs.Addresses.{align_in, alignment_in}
 use Rattle.linkage_rules.specs.Winner.{is_definition, size_in}
 use Rattle.linked_symbols.specs.Places.{greater}
 use Rattle.linked_symbols.specs.declared.extent.Extent.{Extent}

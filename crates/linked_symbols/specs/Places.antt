@@ -6,7 +6,7 @@ use Rattle.linkage_rules.specs.declared.address.TheConstants.{FIRST_ADDRESS}
 use Rattle.linkage_rules.specs.declared.symbol.Symbol.{Symbol}
 use Rattle.linkage_rules.specs.declared.symbol.SymbolKind.TheVariants as kind
 use Rattle.linkage_rules.specs.Grouped.{kind_of, same_kind}
-use Rattle.linkage_rules.specs.Place.{Room, room, rooms, placed_from}
+use Rattle.linkage_rules.specs.Addresses.{Room, room, rooms, placed_from}
 use Rattle.linkage_rules.specs.Symbols.{function_symbols}
 use Rattle.linked_symbols.specs.declared.standing.Placed.{Placed}
 use Rattle.linked_symbols.specs.declared.room.Room as the_room

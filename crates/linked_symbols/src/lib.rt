@@ -3,7 +3,7 @@
 //! It stands on `ir_base`, `ir_tables`, `type_table`, `module_arena`, `linkage_rules` and `indexmap`. It promises that each
 //! name of each part is told exactly what it means, through aliases, and no other name anything; and of each symbol that is
 //! defined its size, alignment and address, of commons and appended arrays those of all parts together. Definitions:
-//! `specs/Meanings` and `specs/Places`, and `Bind` and `Place` of `linkage_rules`.
+//! `specs/Meanings` and `specs/Places`, and `Bind` and `Addresses` of `linkage_rules`.
 //!
 //! ```
 //! // of the parts `declare void @f()` and `define void @f() { ret void }`

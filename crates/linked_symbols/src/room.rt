@@ -4,7 +4,7 @@ ghost use Rattle.std.specs.Option.{option_map};
 ghost use Rattle.linkage_rules.specs.Globals.{linkage_of};
 ghost use Rattle.linkage_rules.specs.Linkages.{is_common};
 ghost use Rattle.linkage_rules.specs.Ids.{IsEntryId, modules, seen};
-ghost use Rattle.linkage_rules.specs.Place as place;
+ghost use Rattle.linkage_rules.specs.Addresses as addresses;
 ghost use Rattle.linkage_rules.specs.Resolved.{AreBindings};
 ghost use Rattle.linkage_rules.specs.Winner as winner;
 ghost use Rattle.linked_symbols.specs.Extents.{common_of, or_greater, stated_of};
@@ -32,7 +32,7 @@ pub struct Room {
 fn alignment_in(parts: &[Checked], id: EntryId) -> u32
     requires entry { IsEntryId parts.now id }
     requires definition { winner.is_definition (seen (modules parts.now) id) ≡ true }
-    ensures { result ≡ place.alignment_in (modules parts.now) (seen (modules parts.now) id) }
+    ensures { result ≡ addresses.alignment_in (modules parts.now) (seen (modules parts.now) id) }
 {
     let extent = extent_of(parts, id);
     extent.stated.unwrap_or(extent.alignment)
@@ -94,7 +94,7 @@ fn common_in(parts: &[Checked], id: EntryId) -> Option<u32>
 /// Types").
 pub fn joined_length(parts: &[Checked], ids: &[EntryId]) -> u64
     requires { All (IsEntryId parts.now) ids.now }
-    ensures { result ≡ clamped (place.joined_length (filter winner.is_definition (map (seen (modules parts.now)) ids.now))) }
+    ensures { result ≡ clamped (addresses.joined_length (filter winner.is_definition (map (seen (modules parts.now)) ids.now))) }
 {
     let mut length = 0u64;
     for id in ids {
@@ -108,7 +108,7 @@ pub fn joined_length(parts: &[Checked], ids: &[EntryId]) -> u64
 /// The greatest alignment in bytes that a definition among some entries states, where one states any.
 pub fn greatest_stated(parts: &[Checked], ids: &[EntryId]) -> Option<u32>
     requires { All (IsEntryId parts.now) ids.now }
-    ensures { result ≡ place.greatest_stated (filter winner.is_definition (map (seen (modules parts.now)) ids.now)) }
+    ensures { result ≡ addresses.greatest_stated (filter winner.is_definition (map (seen (modules parts.now)) ids.now)) }
 {
     let mut greatest = None;
     for id in ids {
@@ -120,7 +120,7 @@ pub fn greatest_stated(parts: &[Checked], ids: &[EntryId]) -> Option<u32>
 /// The greatest alignment in bytes of the common definitions among some entries, stated or their types', where there is one.
 pub fn greatest_common(parts: &[Checked], ids: &[EntryId]) -> Option<u32>
     requires { All (IsEntryId parts.now) ids.now }
-    ensures { result ≡ place.greatest_common (modules parts.now) (filter winner.is_definition (map (seen (modules parts.now)) ids.now)) }
+    ensures { result ≡ addresses.greatest_common (modules parts.now) (filter winner.is_definition (map (seen (modules parts.now)) ids.now)) }
 {
     let mut greatest = None;
     for id in ids {
@@ -134,8 +134,8 @@ fn room_by(parts: &[Checked], home: EntryId, ids: &[EntryId]) -> Room
     requires home { IsEntryId parts.now home }
     requires definition { winner.is_definition (seen (modules parts.now) home) ≡ true }
     requires known { All (IsEntryId parts.now) ids.now }
-    ensures size { result.size ≡ clamped (place.size_by (modules parts.now) (seen (modules parts.now) home) (filter winner.is_definition (map (seen (modules parts.now)) ids.now))) }
-    ensures alignment { result.alignment ≡ place.alignment_by (modules parts.now) (seen (modules parts.now) home) (filter winner.is_definition (map (seen (modules parts.now)) ids.now)) }
+    ensures size { result.size ≡ clamped (addresses.size_by (modules parts.now) (seen (modules parts.now) home) (filter winner.is_definition (map (seen (modules parts.now)) ids.now))) }
+    ensures alignment { result.alignment ≡ addresses.alignment_by (modules parts.now) (seen (modules parts.now) home) (filter winner.is_definition (map (seen (modules parts.now)) ids.now)) }
 {
     let extent = extent_of(parts, home);
     match head_of(parts, home).linkage {
@@ -159,7 +159,7 @@ fn room_by(parts: &[Checked], home: EntryId, ids: &[EntryId]) -> Room
 /// "Linkage Types").
 pub fn room_of(parts: &[Checked], bindings: &Bindings, symbol: &Symbol) -> Option<Room>
     requires { AreBindings parts.now bindings.now }
-    ensures { result ≡ option_map room_told (place.room (modules parts.now) symbol.now) }
+    ensures { result ≡ option_map room_told (addresses.room (modules parts.now) symbol.now) }
 {
     let Some(home) = bindings.home(symbol) else {
         return None;

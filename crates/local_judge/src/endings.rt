@@ -12,7 +12,7 @@ ghost use Rattle.local_judge.specs.Names.{AreGathered, locals_of};
 
 use crate::gathered::FunctionLocals;
 use crate::operands::{check_local, check_operand};
-use ir_instructions::{Branch, Case, Ending, Switch};
+use ir_instructions::{Branch, Switch, WrittenCase, WrittenEnding};
 use name_rules::ResolveFault;
 use std::alloc::Global;
 use type_judge::{Known, check_constant, check_type};
@@ -22,7 +22,7 @@ fn check_case(
     alloc: Global,
     known: &Known,
     locals: &FunctionLocals,
-    case: &Case,
+    case: &WrittenCase,
 ) -> Result<(), ResolveFault>
     requires known { IsKnown known.now }
     requires locals { AreGathered locals.now }
@@ -38,7 +38,7 @@ fn check_cases(
     alloc: Global,
     known: &Known,
     locals: &FunctionLocals,
-    cases: &[Case],
+    cases: &[WrittenCase],
 ) -> Result<(), ResolveFault>
     requires known { IsKnown known.now }
     requires locals { AreGathered locals.now }
@@ -87,17 +87,17 @@ pub(crate) fn check_ending(
     alloc: Global,
     known: &Known,
     locals: &FunctionLocals,
-    ending: &Ending,
+    ending: &WrittenEnding,
 ) -> Result<(), ResolveFault>
     requires known { IsKnown known.now }
     requires locals { AreGathered locals.now }
     ensures { IsJudged (ending_demands (known_of known.now) (locals_of locals.now) (ending_view ending.now)) result }
 {
     match ending {
-        Ending::ReturnVoid | Ending::Unreachable => Ok(()),
-        Ending::Return(value) => check_operand(alloc, known, locals, value),
-        Ending::Jump(target) => check_local(alloc, locals, true, target),
-        Ending::Branch(branch) => check_branch(alloc, known, locals, branch),
-        Ending::Switch(switch) => check_switch(alloc, known, locals, switch),
+        WrittenEnding::ReturnVoid | WrittenEnding::Unreachable => Ok(()),
+        WrittenEnding::Return(value) => check_operand(alloc, known, locals, value),
+        WrittenEnding::Jump(target) => check_local(alloc, locals, true, target),
+        WrittenEnding::Branch(branch) => check_branch(alloc, known, locals, branch),
+        WrittenEnding::Switch(switch) => check_switch(alloc, known, locals, switch),
     }
 }

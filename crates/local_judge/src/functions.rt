@@ -19,8 +19,8 @@ use crate::gathered::FunctionLocals;
 use crate::operations::check_operation;
 use crate::results::has_result;
 use crate::tables::LocalTables;
-use ir_instructions::{Block, Instruction};
-use ir_syntax::Parameter;
+use ir_instructions::{Instruction, WrittenBlock};
+use ir_syntax::WrittenParameter;
 use name_rules::ResolveFault;
 use std::alloc::Global;
 use type_judge::{Known, check_type};
@@ -79,7 +79,7 @@ fn check_block<'a>(
     known: &Known,
     locals: &FunctionLocals,
     called: &mut CalledNames<'a>,
-    block: &'a Block,
+    block: &'a WrittenBlock,
 ) -> Result<(), ResolveFault>
     requires known { IsKnown known.now }
     requires locals { AreGathered locals.now }
@@ -96,7 +96,7 @@ fn check_blocks<'a>(
     known: &Known,
     locals: &FunctionLocals,
     called: &mut CalledNames<'a>,
-    blocks: &'a [Block],
+    blocks: &'a [WrittenBlock],
 ) -> Result<(), ResolveFault>
     requires known { IsKnown known.now }
     requires locals { AreGathered locals.now }
@@ -113,7 +113,7 @@ fn check_parameter<'a>(
     alloc: Global,
     known: &Known,
     called: &mut CalledNames<'a>,
-    parameter: &'a Parameter,
+    parameter: &'a WrittenParameter,
 ) -> Result<(), ResolveFault>
     requires known { IsKnown known.now }
     ensures { Goes called.old called.new (λ before. type_demands (known_of known.now) (type_view parameter.now.ty) ++ call_demands before parameter.now.name) (λ before. called_with before (false, parameter.now.name)) result }
@@ -127,7 +127,7 @@ fn check_parameters<'a>(
     alloc: Global,
     known: &Known,
     called: &mut CalledNames<'a>,
-    parameters: &'a [Parameter],
+    parameters: &'a [WrittenParameter],
 ) -> Result<(), ResolveFault>
     requires known { IsKnown known.now }
     ensures { (all : Locals) → Goes called.old called.new (λ before. parameters_demands (known_of known.now) all before (map parameter_view parameters.now)) (λ before. called_after before (map announced_parameter (map parameter_view parameters.now))) result }
@@ -146,8 +146,8 @@ pub fn check_definition<'a>(
     alloc: Global,
     known: &Known,
     tables: &mut LocalTables<'a>,
-    parameters: &'a [Parameter],
-    blocks: &'a [Block],
+    parameters: &'a [WrittenParameter],
+    blocks: &'a [WrittenBlock],
 ) -> Result<(), ResolveFault>
     requires known { IsKnown known.now }
     ensures { IsJudged (definition_demands (known_of known.now) (map parameter_view parameters.now) (map block_view blocks.now)) result }

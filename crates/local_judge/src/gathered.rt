@@ -9,8 +9,8 @@ ghost use Rattle.local_judge.specs.Names.{Announces, HoldsNames, AreGathered, lo
 
 use crate::local_names::LocalNames;
 use crate::results::has_result;
-use ir_instructions::{Block, Instruction};
-use ir_syntax::Parameter;
+use ir_instructions::{Instruction, WrittenBlock};
+use ir_syntax::WrittenParameter;
 use ir_terminals::Local;
 use std::alloc::{AllocError, Global};
 
@@ -67,7 +67,7 @@ fn add_block<'a>(
     names: &mut LocalNames<'a>,
     alloc: Global,
     next: u64,
-    block: &'a Block,
+    block: &'a WrittenBlock,
 ) -> Result<u64, AllocError>
     ensures { IfOk result (λ after. Announces names.old names.new next after (announced_block (block_view block.now))) }
 {
@@ -80,7 +80,7 @@ fn add_blocks<'a>(
     names: &mut LocalNames<'a>,
     alloc: Global,
     next: u64,
-    blocks: &'a [Block],
+    blocks: &'a [WrittenBlock],
 ) -> Result<u64, AllocError>
     ensures { IfOk result (λ after. Announces names.old names.new next after (flat_map announced_block (map block_view blocks.now))) }
 {
@@ -96,7 +96,7 @@ fn add_parameters<'a>(
     names: &mut LocalNames<'a>,
     alloc: Global,
     next: u64,
-    parameters: &'a [Parameter],
+    parameters: &'a [WrittenParameter],
 ) -> Result<u64, AllocError>
     ensures { IfOk result (λ after. Announces names.old names.new next after (map announced_parameter (map parameter_view parameters.now))) }
 {
@@ -112,8 +112,8 @@ fn gather_names<'a>(
     names: &mut LocalNames<'a>,
     alloc: Global,
     block: bool,
-    parameters: &'a [Parameter],
-    blocks: &'a [Block],
+    parameters: &'a [WrittenParameter],
+    blocks: &'a [WrittenBlock],
 ) -> Result<(), AllocError>
     ensures { OnOk result (HoldsNames names.new block (locals_from 0 (announced (map parameter_view parameters.now) (map block_view blocks.now)))) }
 {
@@ -127,8 +127,8 @@ fn gather_names<'a>(
 #[derive(Drop)]
 pub(crate) struct FunctionLocals<'a> {
     /// The function, for the contracts to name.
-    parameters: &'a [Parameter],
-    blocks: &'a [Block],
+    parameters: &'a [WrittenParameter],
+    blocks: &'a [WrittenBlock],
     values: LocalNames<'a>,
     labels: LocalNames<'a>,
 }
@@ -148,8 +148,8 @@ impl<'a> FunctionLocals<'a> {
     pub(crate) fn gather(
         &mut self,
         alloc: Global,
-        parameters: &'a [Parameter],
-        blocks: &'a [Block],
+        parameters: &'a [WrittenParameter],
+        blocks: &'a [WrittenBlock],
     ) -> Result<(), AllocError>
         ensures gathered { OnOk result (AreGathered self.new) }
         ensures function { OnOk result (locals_of self.new ≡ locals_from 0 (announced (map parameter_view parameters.now) (map block_view blocks.now))) }

@@ -13,7 +13,7 @@ ghost use Rattle.local_judge.specs.Names.{AreGathered, locals_of};
 
 use crate::gathered::FunctionLocals;
 use ir_base::Place;
-use ir_constants::{Type, TypedValue, Value};
+use ir_constants::{Type, TypedValue, WrittenValue};
 use ir_terminals::Local;
 use name_rules::{ResolveFault, spell_local};
 use std::alloc::Global;
@@ -54,7 +54,7 @@ pub(crate) fn check_value(
     alloc: Global,
     known: &Known,
     locals: &FunctionLocals,
-    value: &Value,
+    value: &WrittenValue,
     ty: &Type,
 ) -> Result<(), ResolveFault>
     requires known { IsKnown known.now }
@@ -62,8 +62,8 @@ pub(crate) fn check_value(
     ensures { IsJudged (value_demands (known_of known.now) (locals_of locals.now) (type_in (type_view ty.now)) (value_view value.now)) result }
 {
     match value {
-        Value::Local(written) => check_local(alloc, locals, false, written),
-        Value::Constant(constant) => check_constant(alloc, known, constant, ty),
+        WrittenValue::Local(written) => check_local(alloc, locals, false, written),
+        WrittenValue::Constant(constant) => check_constant(alloc, known, constant, ty),
     }
 }
 
@@ -72,7 +72,7 @@ pub(crate) fn check_callee(
     alloc: Global,
     known: &Known,
     locals: &FunctionLocals,
-    callee: &Value,
+    callee: &WrittenValue,
 ) -> Result<(), ResolveFault>
     requires known { IsKnown known.now }
     requires locals { AreGathered locals.now }

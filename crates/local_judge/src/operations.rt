@@ -17,8 +17,8 @@ use crate::gathered::FunctionLocals;
 use crate::operands::{check_callee, check_local, check_operand, check_operands, check_value};
 use ir_constants::{Type, TypedValue};
 use ir_instructions::{
-    Address, Alloca, Call, CastParts, Choice, Extraction, Incoming, Insertion, Load, Operands,
-    Operation, Phi, Signature, Store,
+    Address, Alloca, CastParts, Extraction, Load, Operands, Operation, Phi, SignatureTypes, Store,
+    WrittenCall, WrittenChoice, WrittenIncoming, WrittenInsertion,
 };
 use name_rules::ResolveFault;
 use std::alloc::Global;
@@ -59,7 +59,7 @@ fn check_choice(
     alloc: Global,
     known: &Known,
     locals: &FunctionLocals,
-    choice: &Choice,
+    choice: &WrittenChoice,
 ) -> Result<(), ResolveFault>
     requires known { IsKnown known.now }
     requires locals { AreGathered locals.now }
@@ -76,7 +76,7 @@ fn check_incoming(
     known: &Known,
     locals: &FunctionLocals,
     ty: &Type,
-    incoming: &Incoming,
+    incoming: &WrittenIncoming,
 ) -> Result<(), ResolveFault>
     requires known { IsKnown known.now }
     requires locals { AreGathered locals.now }
@@ -92,7 +92,7 @@ fn check_incomings(
     known: &Known,
     locals: &FunctionLocals,
     ty: &Type,
-    incomings: &[Incoming],
+    incomings: &[WrittenIncoming],
 ) -> Result<(), ResolveFault>
     requires known { IsKnown known.now }
     requires locals { AreGathered locals.now }
@@ -203,7 +203,7 @@ fn check_address(
 fn check_signature(
     alloc: Global,
     known: &Known,
-    signature: &Option<Signature>,
+    signature: &Option<SignatureTypes>,
 ) -> Result<(), ResolveFault>
     requires known { IsKnown known.now }
     ensures { (all : Locals) → IsJudged (signature_demands (known_of known.now) all (option_map signature_view signature.now)) result }
@@ -219,7 +219,7 @@ fn check_call(
     alloc: Global,
     known: &Known,
     locals: &FunctionLocals,
-    call: &Call,
+    call: &WrittenCall,
 ) -> Result<(), ResolveFault>
     requires known { IsKnown known.now }
     requires locals { AreGathered locals.now }
@@ -251,7 +251,7 @@ fn check_insertion(
     alloc: Global,
     known: &Known,
     locals: &FunctionLocals,
-    insertion: &Insertion,
+    insertion: &WrittenInsertion,
 ) -> Result<(), ResolveFault>
     requires known { IsKnown known.now }
     requires locals { AreGathered locals.now }

@@ -9,8 +9,8 @@ ghost use Rattle.local_judge.specs.Names.{AreGathered, locals_of};
 
 use crate::called::CalledNames;
 use crate::gathered::FunctionLocals;
-use ir_instructions::Block;
-use ir_syntax::Parameter;
+use ir_instructions::WrittenBlock;
+use ir_syntax::WrittenParameter;
 use std::alloc::{AllocError, Global};
 
 /// What the locals of one function after the other are called. It borrows the names of the text.
@@ -35,8 +35,8 @@ impl<'a> LocalTables<'a> {
     pub(crate) fn begin(
         &mut self,
         alloc: Global,
-        parameters: &'a [Parameter],
-        blocks: &'a [Block],
+        parameters: &'a [WrittenParameter],
+        blocks: &'a [WrittenBlock],
     ) -> Result<(), AllocError>
         ensures gathered { OnOk result (AreGathered self.new.locals) }
         ensures function { OnOk result (locals_of self.new.locals ≡ locals_from 0 (announced (map parameter_view parameters.now) (map block_view blocks.now))) }

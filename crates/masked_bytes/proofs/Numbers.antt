@@ -25,8 +25,8 @@ below_all n k h l =
 pub times_fits : (n k : ℕ) → n < 256 ^ k → k + 1 ≤ 16 → n * 256 + 255 < 2 ^ 128
 times_fits n k h l = below_all (n * 256 + 255) (k + 1) (below_more n 255 k (k + 1) h (lit≤ tt) refl) l
 
-pub spelled-step : (bs : List ℕ) (left number : ℕ) → 1 ≤ left → left ≤ length bs → number_of_bytes (drop left bs) ≡ number → number_of_bytes (drop (left - 1) bs) ≡ number * 256 + get_or bs (left - 1) 0
-spelled-step bs left number some within e =
+pub number-step : (bs : List ℕ) (left number : ℕ) → 1 ≤ left → left ≤ length bs → number_of_bytes (drop left bs) ≡ number → number_of_bytes (drop (left - 1) bs) ≡ number * 256 + get_or bs (left - 1) 0
+number-step bs left number some within e =
     let next : suc (left - 1) ≡ left = omega arith in
     let more = ap number_of_bytes (drop-cons bs (left - 1) 0 (omega arith)) ∙ ap (λ n. get_or bs (left - 1) 0 + 256 * number_of_bytes (drop n bs)) next in
     omega (arith, more, e)

@@ -13,7 +13,7 @@ fn digit(number: u128, place: usize) -> u8
 
 /// The number that bytes spell.
 #[inline(always)]
-pub fn spelled(bytes: &[u8]) -> u128
+pub fn number_of_bytes(bytes: &[u8]) -> u128
     requires { length bytes.now ≤ 16 }
     ensures value { result ≡ number_of_bytes bytes.now }
     ensures fits { result < 256 ^ length bytes.now }
@@ -25,13 +25,13 @@ pub fn spelled(bytes: &[u8]) -> u128
         8 => u128::from(u64::from_le_bytes([
             bytes[0], bytes[1], bytes[2], bytes[3], bytes[4], bytes[5], bytes[6], bytes[7],
         ])),
-        _ => spelled_in_turn(bytes),
+        _ => number_in_turn(bytes),
     }
 }
 
 /// The number that bytes spell, one after the other.
 #[inline(never)]
-fn spelled_in_turn(bytes: &[u8]) -> u128
+fn number_in_turn(bytes: &[u8]) -> u128
     requires { length bytes.now ≤ 16 }
     ensures value { result ≡ number_of_bytes bytes.now }
     ensures fits { result < 256 ^ length bytes.now }

@@ -3,7 +3,7 @@ ghost use Rattle.std.specs.Prelude.{◌≡◌, ◌≢◌, ℕ, ◌+◌, ◌<◌,
 ghost use Rattle.masked_bytes.specs.Masked as of;
 ghost use Rattle.masked_bytes.specs.Masked.{put};
 
-use crate::bytes::{move_bytes, put_bytes, put_many, put_number, spelled};
+use crate::bytes::{move_bytes, number_of_bytes, put_bytes, put_many, put_number};
 use crate::mask::{clear, copy_marks, has, has_any, move_marks, no_marks, set_all};
 use crate::words::Words;
 use std::alloc::{AllocError, Global};
@@ -102,7 +102,7 @@ impl MaskedBytes {
         if has_any(&self.marks, self.clean, at, count) {
             return None;
         }
-        Some(spelled(&self.bytes[at..at + count]))
+        Some(number_of_bytes(&self.bytes[at..at + count]))
     }
 
     /// Writes the least bytes of a number.

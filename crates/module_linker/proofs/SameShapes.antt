@@ -12,7 +12,7 @@ use Rattle.module_arena.specs.Renamed.{renamed_tree, renamed_trees, renamed_body
 use Rattle.linkage_rules.specs.Entries.{structs_at, same_symbol, symbol_name}
 use Rattle.linkage_rules.specs.declared.symbol.Symbol.TheVariants.{Local}
 use Rattle.linkage_rules.specs.Winner.{shape_in, size_in}
-use Rattle.linkage_rules.specs.Place.{align_in}
+use Rattle.linkage_rules.specs.Addresses.{align_in}
 use Rattle.module_linker.specs.Structs.{struct_symbols, part_of, shape_of, same_struct, struct_map, new_struct, linked_struct, linked_type}
 use Rattle.module_linker.proofs.Apart.{at_has}
 use Rattle.linkage_rules.specs.SymbolLaws.{symbol_self, symbol_exact}

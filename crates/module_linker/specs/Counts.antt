@@ -9,7 +9,7 @@ use Rattle.linkage_rules.specs.Lists.{first}
 use Rattle.linkage_rules.specs.Entries.{Entry}
 use Rattle.linkage_rules.specs.Symbols.{variable_symbols, function_symbols, alias_symbols}
 use Rattle.linkage_rules.specs.Winner.{definitions, size_in, home}
-use Rattle.linkage_rules.specs.Place.{joined_length}
+use Rattle.linkage_rules.specs.Addresses.{joined_length}
 use Rattle.module_linker.specs.Structs.{struct_map}
 use Rattle.module_arena.specs.declared.arena.TheConstants.{COUNT_LIMIT}
 use Rattle.module_arena.specs.declared.fault.CountKind.{CountKind}

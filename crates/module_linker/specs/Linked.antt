@@ -13,7 +13,7 @@ use Rattle.linkage_rules.specs.Entries.{Entry, entries_of}
 use Rattle.linkage_rules.specs.declared.symbol.Symbol.{Symbol}
 use Rattle.linkage_rules.specs.Winner.{definitions, home}
 use Rattle.linkage_rules.specs.Bind.{all_extern_weak}
-use Rattle.linkage_rules.specs.Place.{joined_length, greatest_stated, commons, greatest_common}
+use Rattle.linkage_rules.specs.Addresses.{joined_length, greatest_stated, commons, greatest_common}
 use Rattle.linked_contents.specs.Contents.{ContentPiece, elements_in}
 use Rattle.module_linker.specs.Rename.{renaming, new_global}
 use Rattle.module_linker.specs.Structs.{struct_map, new_struct, linked_type, linked_struct}

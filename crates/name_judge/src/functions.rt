@@ -15,7 +15,7 @@ ghost use Rattle.name_judge.specs.Seen.{AreFirst};
 
 use crate::seen::check_new;
 use ir_base::Place;
-use ir_syntax::{Declaration, Definition, Head, Parameter};
+use ir_syntax::{Declaration, Definition, FunctionHead, WrittenParameter};
 use local_judge::{LocalTables, check_definition};
 use name_rules::ResolveFault;
 use name_table::NameTable;
@@ -27,7 +27,7 @@ fn check_head<'a>(
     alloc: Global,
     known: &Known,
     globals: &mut NameTable<'a, Place>,
-    head: &'a Head,
+    head: &'a FunctionHead,
 ) -> Result<(), ResolveFault>
     requires known { IsKnown known.now }
     ensures judged { (before : List PlacedName) → AreFirst globals.old before → IsJudged (head_demands (known_of known.now) before (head_view head.now)) result }
@@ -41,7 +41,7 @@ fn check_head<'a>(
 fn check_parameter_types(
     alloc: Global,
     known: &Known,
-    parameters: &[Parameter],
+    parameters: &[WrittenParameter],
 ) -> Result<(), ResolveFault>
     requires known { IsKnown known.now }
     ensures { IsJudged (flat_map (type_demands (known_of known.now)) (parameter_types (map parameter_view parameters.now))) result }

@@ -14,7 +14,7 @@ ghost use Rattle.name_judge.specs.Seen.{AreFirst};
 use crate::seen::check_new;
 use ir_base::Place;
 use ir_constants::{Constant, Type};
-use ir_syntax::{Alias, AliasType, Variable};
+use ir_syntax::{WrittenAlias, WrittenAliasType, WrittenVariable};
 use name_rules::ResolveFault;
 use name_table::NameTable;
 use std::alloc::Global;
@@ -37,7 +37,11 @@ fn check_initialiser(
 }
 
 /// What stands behind the name of a variable.
-fn check_content(alloc: Global, known: &Known, variable: &Variable) -> Result<(), ResolveFault>
+fn check_content(
+    alloc: Global,
+    known: &Known,
+    variable: &WrittenVariable,
+) -> Result<(), ResolveFault>
     requires known { IsKnown known.now }
     ensures { IsJudged (content_demands (known_of known.now) (variable_view variable.now)) result }
 {
@@ -51,7 +55,7 @@ pub(crate) fn check_variable<'a>(
     alloc: Global,
     known: &Known,
     globals: &mut NameTable<'a, Place>,
-    variable: &'a Variable,
+    variable: &'a WrittenVariable,
 ) -> Result<(), ResolveFault>
     requires known { IsKnown known.now }
     ensures judged { (before : List PlacedName) → AreFirst globals.old before → IsJudged (variable_demands (known_of known.now) before (variable_view variable.now)) result }
@@ -62,13 +66,13 @@ pub(crate) fn check_variable<'a>(
 }
 
 /// What the type of an alias asks for.
-fn check_alias_type(alloc: Global, known: &Known, ty: &AliasType) -> Result<(), ResolveFault>
+fn check_alias_type(alloc: Global, known: &Known, ty: &WrittenAliasType) -> Result<(), ResolveFault>
     requires known { IsKnown known.now }
     ensures { IsJudged (alias_type_demands (known_of known.now) (alias_type_view ty.now)) result }
 {
     match ty {
-        AliasType::Plain(ty) => check_type(alloc, known, ty),
-        AliasType::Function { returns, signature } => {
+        WrittenAliasType::Plain(ty) => check_type(alloc, known, ty),
+        WrittenAliasType::Function { returns, signature } => {
             check_type(alloc, known, returns)?;
             check_types(alloc, known, &signature.parameters)
         }
@@ -76,7 +80,7 @@ fn check_alias_type(alloc: Global, known: &Known, ty: &AliasType) -> Result<(), 
 }
 
 /// What stands behind the name of an alias.
-fn check_meaning(alloc: Global, known: &Known, alias: &Alias) -> Result<(), ResolveFault>
+fn check_meaning(alloc: Global, known: &Known, alias: &WrittenAlias) -> Result<(), ResolveFault>
     requires known { IsKnown known.now }
     ensures { IsJudged (alias_type_demands (known_of known.now) (alias_type_view alias.now.ty) ++ is_global (known_of known.now) alias.now.target ∷ []) result }
 {
@@ -89,7 +93,7 @@ pub(crate) fn check_alias<'a>(
     alloc: Global,
     known: &Known,
     globals: &mut NameTable<'a, Place>,
-    alias: &'a Alias,
+    alias: &'a WrittenAlias,
 ) -> Result<(), ResolveFault>
     requires known { IsKnown known.now }
     ensures judged { (before : List PlacedName) → AreFirst globals.old before → IsJudged (alias_demands (known_of known.now) before (alias_view alias.now)) result }

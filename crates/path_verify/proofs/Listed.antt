@@ -13,7 +13,7 @@ use Rattle.module_arena.specs.declared.instruction.Operand.{Operand}
 use Rattle.module_arena.specs.declared.instruction.Value as the_value
 use Rattle.module_arena.specs.declared.instruction.Value.TheVariants as value
 use Rattle.path_rows.specs.Operands.{end_operands_of, incoming_operand, operands_of}
-use Rattle.instruction_verify.specs.OperandFacts as within
+use Rattle.instruction_verify.specs.ArenaOperands as within
 use Rattle.last_verify.specs.CallsById as calls
 use Rattle.use_verify.specs.Classes.{HasClass}
 use Rattle.use_verify.specs.Uses as uses

@@ -4,7 +4,7 @@ use Rattle.ir_tables.specs.declared.opcode.Opcode.{Opcode}
 use Rattle.ir_tables.specs.declared.predicate.Predicate.{Predicate}
 use Rattle.ir_tables.specs.declared.undefined_kind.UndefinedKind.{UndefinedKind}
 use Rattle.ir_eval.specs.declared.value.Scalar.{Scalar}
-use Rattle.ir_eval.specs.Scalar.{binary_of}
+use Rattle.ir_eval.specs.Operators.{binary_of}
 use Rattle.ir_eval.specs.Compare.{compare_of}
 use Rattle.ir_eval.specs.Cast.{cast_of}
 use Rattle.ir_memory.specs.Memory.{Blocks}

@@ -3,7 +3,7 @@ use Rattle.std.proofs.Common.{◌≡◌, ℕ, ◌+◌, ◌<◌, ◌≤◌, List,
 use Rattle.std.proofs.lemmas.List.{length-map}
 use Rattle.std.proofs.lemmas.Simd.{map-map}
 use Rattle.ir_eval.specs.declared.value.Scalar.{Scalar}
-use Rattle.ir_eval.specs.Scalar.{freeze_of, select_of}
+use Rattle.ir_eval.specs.Operators.{freeze_of, select_of}
 use Rattle.run_rules.specs.Action.{Gather, Select, Freeze}
 use Rattle.run_rules.specs.Frame.{read_all, with_result}
 use Rattle.run_rules.specs.State.{goes}

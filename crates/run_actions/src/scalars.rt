@@ -2,7 +2,7 @@
 ghost use Rattle.std.specs.Prelude.{◌≡◌, ◌∷◌, [], IsTrue};
 ghost use Rattle.ir_eval.specs.Cast.{IsCast};
 ghost use Rattle.ir_eval.specs.Compare.{AreComparable};
-ghost use Rattle.ir_eval.specs.Scalar.{is_binary};
+ghost use Rattle.ir_eval.specs.Operators.{is_binary};
 ghost use Rattle.ir_eval.specs.Value.{IsInteger, IsWidth};
 ghost use Rattle.run_rules.specs.Action.{Compare, Compute, Convert};
 ghost use Rattle.run_rules.specs.Frame.{with_result, with_value};

@@ -1,6 +1,6 @@
 //! Instructions whose result may have many leaves.
 ghost use Rattle.std.specs.Prelude.{◌≡◌, ◌<◌, ◌∷◌, [], All, OnErr, OnOk, length, map};
-ghost use Rattle.ir_eval.specs.Scalar.{freeze_of, select_of};
+ghost use Rattle.ir_eval.specs.Operators.{freeze_of, select_of};
 ghost use Rattle.ir_eval.specs.Value.{IsInteger};
 ghost use Rattle.run_rules.specs.Action.{Freeze, Gather, Select};
 ghost use Rattle.run_rules.specs.Frame.{with_result};

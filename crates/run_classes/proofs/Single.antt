@@ -3,7 +3,7 @@ use Rattle.std.proofs.Common.{◌≡◌, ℕ, Bool, refl, sym, ap, ◌∙◌}
 use Rattle.std.specs.Prelude.{IsTrue}
 use Rattle.ir_eval.specs.Cast.{IsCast}
 use Rattle.ir_eval.specs.Compare.{AreComparable}
-use Rattle.ir_eval.specs.Scalar.{is_binary}
+use Rattle.ir_eval.specs.Operators.{is_binary}
 use Rattle.ir_eval.specs.Value.{IsInteger, IsWidth}
 use Rattle.ir_memory.specs.declared.leaf.Leaf.TheVariants as leaf
 use Rattle.ir_tables.specs.declared.opcode.Opcode.{Opcode}

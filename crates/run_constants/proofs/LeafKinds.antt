@@ -8,7 +8,7 @@ use Rattle.ir_eval.specs.declared.value.Pointer.{Pointer}
 use Rattle.ir_eval.specs.declared.value.Scalar.{Scalar}
 use Rattle.ir_eval.specs.declared.value.Scalar.TheVariants as scalar
 use Rattle.ir_eval.specs.Cast.{IsCast, IsCastTo}
-use Rattle.ir_eval.specs.Scalar.{is_binary}
+use Rattle.ir_eval.specs.Operators.{is_binary}
 use Rattle.ir_eval.specs.Value.{IsInteger, IsPointer}
 use Rattle.ir_memory.specs.declared.leaf.Leaf.{Leaf}
 use Rattle.ir_memory.specs.declared.leaf.Leaf.TheVariants as leaf

@@ -1,7 +1,7 @@
 //! Constants of one leaf (LangRef, "Simple Constants", "Constant Expressions").
 ghost use Rattle.std.specs.Prelude.{◌≡◌, ◌*◌, ◌^◌, ◌<◌, All, IfSome, length, true, if◌then◌else◌};
 ghost use Rattle.ir_eval.specs.Cast.{cast_of};
-ghost use Rattle.ir_eval.specs.Scalar.{binary_of};
+ghost use Rattle.ir_eval.specs.Operators.{binary_of};
 ghost use Rattle.ir_eval.specs.Value.{IsPointer};
 ghost use Rattle.ir_tables.specs.Flags.{has_flag};
 ghost use Rattle.ir_tables.specs.declared.flag.Flag.TheVariants as flag;

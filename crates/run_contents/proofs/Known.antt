@@ -6,7 +6,7 @@ use Rattle.std.proofs.lemmas.Bool.{and_parts, false≢true}
 use Rattle.std.proofs.lemmas.Option.{same_Some, slice_get_within}
 use Rattle.ir_eval.specs.declared.value.Pointer.{Pointer}
 use Rattle.ir_memory.specs.declared.kind.BlockKind.TheVariants as kind
-use Rattle.ir_memory.specs.Block.{new_block}
+use Rattle.ir_memory.specs.MemoryBlock.{new_block}
 use Rattle.ir_memory.specs.Memory.{Blocks, no_blocks}
 use Rattle.linkage_rules.specs.Linkages.{is_appending}
 use Rattle.type_table.specs.Limits.{Fits, IsWithin}

@@ -7,7 +7,7 @@ use Rattle.std.proofs.lemmas.List.{at_drop_more, at_drop_all, length-append}
 use Rattle.std.proofs.lemmas.Nat.{div-add-mod', div-mul-add, mod-mul-add, mod_below}
 use Rattle.ir_memory.specs.declared.kind.BlockKind.{BlockKind}
 use Rattle.ir_memory.specs.declared.kind.BlockKind.TheVariants as kind
-use Rattle.ir_memory.specs.Block.{MemoryBlock, new_block}
+use Rattle.ir_memory.specs.MemoryBlock.{MemoryBlock, new_block}
 use Rattle.ir_memory.specs.Memory.{Blocks, added, byte_limit, live_bytes, round_up}
 use Rattle.run_rules.specs.declared.end.End.{End}
 use Rattle.run_rules.specs.declared.end.End.TheVariants.{MemoryLimit}

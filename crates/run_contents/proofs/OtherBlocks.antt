@@ -7,7 +7,7 @@ use Rattle.ir_eval.specs.declared.value.Pointer.{Pointer}
 use Rattle.ir_eval.specs.declared.value.Scalar.TheVariants as scalar
 use Rattle.ir_memory.specs.declared.access.BlockPlace.{BlockPlace}
 use Rattle.ir_memory.specs.declared.cell.Cell.{Cell}
-use Rattle.ir_memory.specs.Block.{MemoryBlock, holds, written}
+use Rattle.ir_memory.specs.MemoryBlock.{MemoryBlock, holds, written}
 use Rattle.ir_memory.specs.Cell.{size, leaf_cells}
 use Rattle.ir_memory.specs.Memory.{Blocks, access, block_found, has_constant, has_ended, home, number_where, place_at, place_in, put, put_at, stored}
 use Rattle.run_rules.specs.Access.{and_then, behind, stored_slots}

@@ -5,11 +5,11 @@ use Rattle.std.specs.Int.{next_multiple_of}
 use Rattle.std.specs.List.{AllByRecursion}
 use Rattle.std.proofs.lemmas.List.{length-map}
 use Rattle.ir_memory.specs.declared.kind.BlockKind.TheVariants as kind
-use Rattle.ir_memory.specs.Block.{new_block}
+use Rattle.ir_memory.specs.MemoryBlock.{new_block}
 use Rattle.ir_memory.specs.Memory.{Blocks, no_blocks}
 use Rattle.linkage_rules.specs.Bind as bind
 use Rattle.linkage_rules.specs.declared.symbol.Symbol.{Symbol}
-use Rattle.linkage_rules.specs.Place.{address, addressed_from, place, placed_from, rooms}
+use Rattle.linkage_rules.specs.Addresses.{address, addressed_from, place, placed_from, rooms}
 use Rattle.linkage_rules.specs.Symbols.{function_symbols}
 use Rattle.linkage_rules.specs.Entries.{same_symbol}
 use Rattle.std.specs.Map.{lookup}

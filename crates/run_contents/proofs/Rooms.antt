@@ -16,7 +16,7 @@ use Rattle.linkage_rules.specs.Bind as bind
 use Rattle.linkage_rules.specs.declared.symbol.Symbol.{Symbol}
 use Rattle.linkage_rules.specs.Entries.{Entry, same_symbol, symbol_in, symbol_of}
 use Rattle.linkage_rules.specs.Globals.{OfVariable}
-use Rattle.linkage_rules.specs.Place.{Room, address, room, rooms}
+use Rattle.linkage_rules.specs.Addresses.{Room, address, room, rooms}
 use Rattle.linkage_rules.specs.Symbols.{variable_symbols}
 use Rattle.run_rules.specs.Look.{pointer_to}
 use Rattle.run_rules.specs.Plan as plans

@@ -5,9 +5,9 @@ use Rattle.ir_tables.specs.declared.undefined_kind.UndefinedKind.{UndefinedKind}
 use Rattle.ir_eval.specs.declared.value.Pointer.{Pointer}
 use Rattle.ir_memory.specs.declared.kind.BlockKind.TheVariants as kind
 use Rattle.ir_memory.specs.Answer.{Keeps}
-use Rattle.ir_memory.specs.Block.{new_block}
+use Rattle.ir_memory.specs.MemoryBlock.{new_block}
 use Rattle.ir_memory.specs.Memory.{Blocks}
-use Rattle.linkage_rules.specs.Place.{rooms}
+use Rattle.linkage_rules.specs.Addresses.{rooms}
 use Rattle.module_arena.specs.declared.entry.Variable.{Variable}
 use Rattle.module_arena.specs.Lists.{Lists}
 use Rattle.module_arena.specs.Module.{Module}

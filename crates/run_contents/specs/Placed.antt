@@ -2,9 +2,9 @@
 use Rattle.std.specs.Prelude.{◌≡◌, ℕ, ◌+◌, ◌^◌, ◌<◌, ◌≤◌, Bool, true, false, List, length, Some, slice_get, Result, Ok, Err}
 use Rattle.ir_eval.specs.declared.value.Pointer.{Pointer}
 use Rattle.ir_memory.specs.declared.kind.BlockKind.TheVariants as kind
-use Rattle.ir_memory.specs.Block.{new_block}
+use Rattle.ir_memory.specs.MemoryBlock.{new_block}
 use Rattle.ir_memory.specs.Memory.{Blocks}
-use Rattle.linkage_rules.specs.Place.{rooms}
+use Rattle.linkage_rules.specs.Addresses.{rooms}
 use Rattle.module_arena.specs.Lists.{Lists}
 use Rattle.module_arena.specs.View.{module_of}
 use Rattle.run_names.specs.declared.spot.Spot.{Spot}

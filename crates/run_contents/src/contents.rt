@@ -3,7 +3,7 @@ ghost use Rattle.std.specs.Prelude.{◌≡◌, ◌<◌, ◌≤◌, OnOk, Some, l
 ghost use Rattle.ir_memory.specs.Answer.{Keeps};
 ghost use Rattle.ir_memory.specs.Given.{IsKnown};
 ghost use Rattle.linkage_rules.specs.Linkages.{is_appending};
-ghost use Rattle.linkage_rules.specs.Place.{rooms};
+ghost use Rattle.linkage_rules.specs.Addresses.{rooms};
 ghost use Rattle.module_arena.specs.declared.entry.Variable.{Variable};
 ghost use Rattle.module_arena.specs.View.{module_of};
 ghost use Rattle.run_constants.specs.Sound.{constant_of};

@@ -32,7 +32,7 @@ use Rattle.linkage_rules.specs.declared.symbol.Symbol.TheVariants.{Shared, Local
 use Rattle.linkage_rules.specs.Entries.{Entry, entries, same_symbol, symbol_name, symbol_of}
 use Rattle.linkage_rules.specs.Globals.{OfVariable, OfFunction, OfAlias, linkage_of, name_of}
 use Rattle.linkage_rules.specs.Linkages.{is_local}
-use Rattle.linkage_rules.specs.Place.{function_address}
+use Rattle.linkage_rules.specs.Addresses.{function_address}
 use Rattle.linkage_rules.specs.SameShape.{same_shape}
 use Rattle.linkage_rules.specs.SymbolLaws.{symbol_exact}
 use Rattle.linkage_rules.specs.Winner.{best, home, is_definition}

@@ -10,7 +10,7 @@ use Rattle.module_arena.specs.declared.entry.GlobalId.TheVariants as global
 use Rattle.module_arena.specs.declared.entry.Parameter.{Parameter}
 use Rattle.module_arena.specs.Lists.{Lists}
 use Rattle.linkage_rules.specs.Linkages.{is_local}
-use Rattle.linkage_rules.specs.Place.{function_address}
+use Rattle.linkage_rules.specs.Addresses.{function_address}
 use Rattle.run_rules.specs.Plan as plans
 use Rattle.run_names.specs.Standings.{has_code}
 use Rattle.run_entry.specs.declared.main_function.MainFunction.{MainFunction}

@@ -15,7 +15,7 @@ use Rattle.ir_memory.specs.declared.cell.Cell.{Cell}
 use Rattle.ir_memory.specs.declared.cell.Cell.TheVariants.{Byte}
 use Rattle.ir_memory.specs.declared.leaf.Leaf.{Leaf}
 use Rattle.ir_memory.specs.declared.leaf.Leaf.TheVariants as leaf
-use Rattle.ir_memory.specs.Block.{MemoryBlock, holds, written}
+use Rattle.ir_memory.specs.MemoryBlock.{MemoryBlock, holds, written}
 use Rattle.ir_memory.specs.Cell.{byte_at, size, leaf_cells}
 use Rattle.ir_memory.specs.Memory.{Blocks, access, changed, block_found, has_constant, has_ended, home, is_over, number_where, place_at, place_in, put_at, stored}
 use Rattle.run_rules.specs.Access.{and_then, behind, stored_slots}

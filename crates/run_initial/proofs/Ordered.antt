@@ -6,7 +6,7 @@ use Rattle.ir_eval.specs.declared.value.Scalar.{Scalar}
 use Rattle.ir_memory.specs.Cell as cell
 use Rattle.type_table.specs.Layout.{align, end_after, int_align, field_start, size}
 use Rattle.type_table.specs.Shape.{Shape, int_leaf, ptr_leaf, void_leaf, opaque_leaf, array_of, struct_of, Shapes, no_shapes, more_shapes}
-use Rattle.type_table.proofs.Caps.{placed-le}
+use Rattle.type_table.proofs.Caps.{field_start-le}
 use Rattle.run_rules.specs.Leaves.{Slot, field_slots, repeated, slots_at}
 use Rattle.run_rules.specs.Plan.{Contents}
 use Rattle.run_slots.proofs.Slotted.{struct_holds}
@@ -74,7 +74,7 @@ mutual
   fields_follow no_shapes packed at end = omega arith
   fields_follow (more_shapes s ss) packed at end =
       let start = field_start packed end (align s) in
-      let behind : end ≤ start = placed-le packed end (align s) in
+      let behind : end ≤ start = field_start-le packed end (align s) in
       let whole : at + start + size s ≡ at + (start + size s) = omega arith in
       follow_wider (at + end) (at + start) (at + end_after packed (start + size s) ss) (at + end_after packed (start + size s) ss) (slots_at s (at + start) ++ field_slots ss packed at (start + size s)) (omega (arith, behind)) (omega arith)
       (follow_both (at + start) (at + (start + size s)) (at + end_after packed (start + size s) ss) (slots_at s (at + start)) (field_slots ss packed at (start + size s))

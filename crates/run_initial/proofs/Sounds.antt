@@ -9,7 +9,7 @@ use Rattle.ir_memory.specs.Given.{IsBlock}
 use Rattle.linkage_rules.specs.Bind.{Bound}
 use Rattle.linkage_rules.specs.Bind as bound
 use Rattle.linkage_rules.specs.Entries.{symbol_in}
-use Rattle.linkage_rules.specs.Place.{rooms}
+use Rattle.linkage_rules.specs.Addresses.{rooms}
 use Rattle.linkage_rules.specs.declared.symbol.Symbol.{Symbol}
 use Rattle.module_arena.specs.Constants.{Typed, constants_in, constants_of}
 use Rattle.module_arena.specs.Lists.{Lists}

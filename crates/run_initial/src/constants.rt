@@ -4,7 +4,7 @@ ghost use Rattle.ir_eval.specs.declared.value.Scalar.TheVariants as scalar;
 ghost use Rattle.ir_memory.specs.declared.leaf.Leaf.TheVariants as leaf;
 ghost use Rattle.ir_memory.specs.Answer.{Keeps};
 ghost use Rattle.ir_memory.specs.Given.{IsKnown};
-ghost use Rattle.linkage_rules.specs.Place.{rooms};
+ghost use Rattle.linkage_rules.specs.Addresses.{rooms};
 ghost use Rattle.module_arena.specs.TypeTests.{lies_in_memory};
 ghost use Rattle.module_arena.specs.View.{module_of};
 ghost use Rattle.run_constants.specs.Sound.{IsPart, constant_of, constants_with_types, is_single, names_of};

@@ -6,9 +6,9 @@ use Rattle.std.proofs.lemmas.List.{length-map}
 use Rattle.std.proofs.lemmas.Option.{same_Some, slice_get_within}
 use Rattle.ir_memory.specs.declared.kind.BlockKind.{BlockKind}
 use Rattle.ir_memory.specs.declared.kind.BlockKind.TheVariants as kind
-use Rattle.ir_memory.specs.Block.{MemoryBlock, new_block}
+use Rattle.ir_memory.specs.MemoryBlock.{MemoryBlock, new_block}
 use Rattle.ir_memory.specs.Memory.{Blocks, added, no_blocks, round_up}
-use Rattle.linkage_rules.specs.Place.{rooms}
+use Rattle.linkage_rules.specs.Addresses.{rooms}
 use Rattle.module_arena.specs.Lists.{Lists}
 use Rattle.module_arena.specs.View.{module_of}
 use Rattle.run_names.proofs.Listed.{get_within}

@@ -25,7 +25,7 @@ use Rattle.module_arena.specs.WellFormed.{IsWellFormed, global_names, has_entry,
 use Rattle.linkage_rules.specs.Entries.{Entry, entries, symbol_of}
 use Rattle.linkage_rules.specs.Globals.{OfAlias, OfFunction, is_alias}
 use Rattle.linkage_rules.specs.Linkages.{is_extern_weak}
-use Rattle.linkage_rules.specs.Place.{function_address}
+use Rattle.linkage_rules.specs.Addresses.{function_address}
 use Rattle.run_rules.specs.Calls as calls
 use Rattle.run_rules.specs.Look.{address_in, callee_numbered, function_number, pointer_to, table}
 use Rattle.run_names.specs.declared.standing.Standing.{Standing}

@@ -17,7 +17,7 @@ use Rattle.module_arena.specs.WellFormed.{IsWellFormed}
 use Rattle.linkage_rules.specs.declared.symbol.Symbol.{Symbol}
 use Rattle.linkage_rules.specs.Entries.{Entry, entries, same_symbol, symbol_of}
 use Rattle.linkage_rules.specs.Globals.{OfVariable, OfFunction}
-use Rattle.linkage_rules.specs.Place.{Room, room, rooms, place, placed_from, addressed_from, function_address}
+use Rattle.linkage_rules.specs.Addresses.{Room, room, rooms, place, placed_from, addressed_from, function_address}
 use Rattle.linkage_rules.specs.SymbolLaws.{symbol_self}
 use Rattle.linkage_rules.specs.Symbols.{function_symbols, variable_symbols}
 use Rattle.run_rules.specs.Look.{function_number, pointer_to}

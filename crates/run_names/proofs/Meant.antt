@@ -25,7 +25,7 @@ use Rattle.linkage_rules.specs.Entries.{Entry, entries, same_symbol, symbol_in, 
 use Rattle.linkage_rules.specs.Globals.{Global, OfVariable, OfFunction, OfAlias, name_of, linkage_of, is_alias, is_variable, is_written}
 use Rattle.linkage_rules.specs.Linkages.{is_local, is_appending, is_available_externally, is_extern_weak}
 use Rattle.linkage_rules.specs.Lists.{first}
-use Rattle.linkage_rules.specs.Place.{place, rooms}
+use Rattle.linkage_rules.specs.Addresses.{place, rooms}
 use Rattle.linkage_rules.specs.SymbolLaws.{name_exact}
 use Rattle.linkage_rules.specs.Winner.{home, is_definition}
 use Rattle.run_rules.specs.Look.{address_in, leaf_of, pointer_to}

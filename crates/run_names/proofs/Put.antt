@@ -12,7 +12,7 @@ use Rattle.module_arena.specs.declared.entry.Variable.{Variable}
 use Rattle.module_arena.specs.Lists.{Lists}
 use Rattle.linkage_rules.specs.declared.symbol.Symbol.{Symbol}
 use Rattle.linkage_rules.specs.Entries.{same_symbol}
-use Rattle.linkage_rules.specs.Place.{Room, placed_from}
+use Rattle.linkage_rules.specs.Addresses.{Room, placed_from}
 use Rattle.linkage_rules.specs.SymbolLaws.{symbol_self, symbol_exact}
 use Rattle.run_names.proofs.Listed.{drop_more}
 use Rattle.run_rules.specs.Plan as plans

@@ -26,7 +26,7 @@ use Rattle.linkage_rules.specs.Entries.{Entry, entries, entries_of, same_symbol,
 use Rattle.linkage_rules.specs.Globals.{Global, OfVariable, linkage_of, type_of, stated, element_of, length_of}
 use Rattle.linkage_rules.specs.Linkages.{is_appending, is_common}
 use Rattle.linkage_rules.specs.Lists.{greatest}
-use Rattle.linkage_rules.specs.Place.{Room, room, rooms, joined_length, greatest_stated, greatest_common, alignment_in, align_in, size_by, alignment_by}
+use Rattle.linkage_rules.specs.Addresses.{Room, room, rooms, joined_length, greatest_stated, greatest_common, alignment_in, align_in, size_by, alignment_by}
 use Rattle.linkage_rules.specs.Symbols.{variable_symbols}
 use Rattle.linkage_rules.specs.Winner.{definitions, home, is_definition, size_in}
 use Rattle.run_names.specs.Spots.{is_defined, size_of, align_of}

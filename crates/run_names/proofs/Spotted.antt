@@ -19,7 +19,7 @@ use Rattle.module_arena.specs.WellFormed.{IsWellFormed}
 use Rattle.linkage_rules.specs.declared.symbol.Symbol.{Symbol}
 use Rattle.linkage_rules.specs.Entries.{Entry, entries, same_symbol, symbol_in, symbol_of}
 use Rattle.linkage_rules.specs.Globals.{OfVariable, is_constant}
-use Rattle.linkage_rules.specs.Place.{Room, rooms, address, place, placed_from, addressed_from}
+use Rattle.linkage_rules.specs.Addresses.{Room, rooms, address, place, placed_from, addressed_from}
 use Rattle.linkage_rules.specs.Symbols.{function_symbols}
 use Rattle.linkage_rules.specs.Winner.{home}
 use Rattle.linkage_rules.specs.Bind as bind

@@ -15,7 +15,7 @@ use Rattle.type_table.specs.Types.{shape}
 use Rattle.linkage_rules.specs.Linkages.{is_available_externally, is_extern_weak}
 use Rattle.linkage_rules.specs.declared.symbol.Symbol.{Symbol}
 use Rattle.linkage_rules.specs.Entries.{symbol_in}
-use Rattle.linkage_rules.specs.Place.{address, rooms}
+use Rattle.linkage_rules.specs.Addresses.{address, rooms}
 use Rattle.run_rules.specs.Look.{address_in}
 use Rattle.run_rules.specs.Plan as plans
 use Rattle.run_names.specs.declared.spot.Spot.{Spot}

@@ -1,6 +1,6 @@
 //! What has an address.
 ghost use Rattle.std.specs.Prelude.{◌≡◌, ◌<◌, ◌^◌, IfSome, None};
-ghost use Rattle.linkage_rules.specs.Place as place;
+ghost use Rattle.linkage_rules.specs.Addresses as addresses;
 ghost use Rattle.run_rules.specs.Look as look;
 
 use ir_eval::{Pointer, Scalar};
@@ -31,14 +31,14 @@ pub(crate) fn function_number(address: u64) -> Option<u64>
 
 /// The address of the function symbol with that number, counted from 0.
 pub fn function_address(number: u32) -> u64
-    ensures { result ≡ place.function_address number }
+    ensures { result ≡ addresses.function_address number }
 {
     FIRST_FUNCTION + FUNCTION_STEP * u64::from(number)
 }
 
 /// A pointer to a function: it has no block.
 pub(crate) fn function_pointer(id: FunctionId) -> Scalar
-    ensures { result ≡ Scalar.Ptr (record { block = None; address = place.function_address id }) }
+    ensures { result ≡ Scalar.Ptr (record { block = None; address = addresses.function_address id }) }
 {
     Scalar::Ptr(Pointer {
         block: None,

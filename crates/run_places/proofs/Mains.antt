@@ -29,7 +29,7 @@ use Rattle.run_places.proofs.Laid.{any_of_mapped}
 use Rattle.run_places.proofs.Search.{IsFound, found_at}
 use Rattle.run_places.proofs.Options.{none_some}
 use Rattle.run_places.proofs.Parts.{AreValid, all_from_places}
-use Rattle.linkage_rules.specs.Place.{Room, room, rooms, place, placed_from, addressed_from, function_address}
+use Rattle.linkage_rules.specs.Addresses.{Room, room, rooms, place, placed_from, addressed_from, function_address}
 use Rattle.run_rules.specs.Look.{function_number, code_of, callee_by, callee_numbered, defined_by, table}
 
 -- ---- lists

@@ -9,7 +9,7 @@ use Rattle.ir_tables.specs.declared.intrinsic.Intrinsic.{Intrinsic}
 use Rattle.ir_tables.specs.declared.intrinsic.Intrinsic.TheVariants as integer
 use Rattle.ir_eval.specs.declared.value.Scalar.{Scalar}
 use Rattle.ir_eval.specs.declared.value.Scalar.TheVariants as scalar
-use Rattle.ir_eval.specs.Scalar.{binary_of}
+use Rattle.ir_eval.specs.Operators.{binary_of}
 use Rattle.ir_memory.specs.Memory.{Blocks}
 use Rattle.type_table.specs.Shape.{Shape}
 use Rattle.module_arena.specs.declared.host.HostRow.{HostRow}

@@ -7,7 +7,7 @@ use Rattle.module_arena.specs.Module.{Module}
 use Rattle.linkage_rules.specs.Bind.{behind}
 use Rattle.linkage_rules.specs.Entries.{Entry}
 use Rattle.linkage_rules.specs.Globals.{Global, OfVariable, OfFunction, OfAlias}
-use Rattle.linkage_rules.specs.Place.{function_address}
+use Rattle.linkage_rules.specs.Addresses.{function_address}
 use Rattle.linkage_rules.specs.Winner.{home}
 use Rattle.run_places.proofs.Together.{GoTogether}
 use Rattle.run_rules.specs.Action.{Signature}

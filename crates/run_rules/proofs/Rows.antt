@@ -3,7 +3,7 @@ use Rattle.std.specs.Prelude.{◌≡◌, ℕ, List, [], ◌∷◌, codes, refl}
 use Rattle.ir_tables.specs.declared.undefined_kind.UndefinedKind.TheVariants.{BranchOnPoison, OutsideBlock}
 use Rattle.ir_eval.specs.Arithmetic.{arithmetic}
 use Rattle.ir_eval.specs.Cast.{cast_of}
-use Rattle.ir_eval.specs.Scalar.{binary_of}
+use Rattle.ir_eval.specs.Operators.{binary_of}
 use Rattle.module_arena.specs.HostRows.{host_row, counted}
 use Rattle.module_arena.specs.Module.{Module}
 use Rattle.type_table.specs.Shape.{name_shape}

@@ -6,7 +6,7 @@ use Rattle.ir_tables.specs.declared.undefined_kind.UndefinedKind.TheVariants.{Br
 use Rattle.ir_tables.specs.declared.undefined_kind.UndefinedKind.TheVariants as kinds
 use Rattle.ir_eval.specs.declared.value.Scalar.{Scalar}
 use Rattle.ir_eval.specs.declared.value.Scalar.TheVariants.{Int, Ptr, Poison}
-use Rattle.ir_eval.specs.Scalar.{binary_of, select_of, freeze_of}
+use Rattle.ir_eval.specs.Operators.{binary_of, select_of, freeze_of}
 use Rattle.ir_eval.specs.Compare.{compare_of}
 use Rattle.ir_eval.specs.Cast.{cast_of}
 use Rattle.ir_memory.specs.declared.kind.BlockKind.TheVariants.{Stack}

@@ -7,7 +7,7 @@ use Rattle.ir_tables.specs.declared.undefined_kind.UndefinedKind.{UndefinedKind}
 use Rattle.ir_eval.specs.declared.value.Pointer.{Pointer}
 use Rattle.ir_eval.specs.declared.value.Scalar.{Scalar}
 use Rattle.ir_eval.specs.declared.value.Scalar.TheVariants as scalar
-use Rattle.ir_eval.specs.Scalar.{binary_of}
+use Rattle.ir_eval.specs.Operators.{binary_of}
 use Rattle.ir_eval.specs.Cast.{cast_of, pointer_at}
 use Rattle.module_arena.specs.Module.{Bytes, Constant, Integer, Truth, Null, Undef, Poison, ZeroInitializer, Address, ByteString, Aggregate, ElementAddress, Cast, Binary, Constants, no_constants, more_constants}
 use Rattle.type_table.specs.Shape.{Shape, shape, void_leaf}

@@ -13,7 +13,7 @@ use Rattle.linkage_rules.specs.declared.address.TheConstants.{FIRST_FUNCTION, FU
 use Rattle.linkage_rules.specs.Bind.{Bound, meaning, behind}
 use Rattle.linkage_rules.specs.Bind as bound
 use Rattle.linkage_rules.specs.Globals.{Global, OfVariable, OfFunction, OfAlias}
-use Rattle.linkage_rules.specs.Place.{rooms, address}
+use Rattle.linkage_rules.specs.Addresses.{rooms, address}
 use Rattle.linkage_rules.specs.declared.symbol.Symbol.{Symbol}
 use Rattle.linkage_rules.specs.Entries.{Entry, same_symbol, symbol_in, structs_at}
 use Rattle.linkage_rules.specs.Symbols.{function_symbols}

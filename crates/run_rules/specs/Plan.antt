@@ -14,7 +14,7 @@ use Rattle.linkage_rules.specs.Bind.{Bound, Unresolved, meaning}
 use Rattle.linked_contents.specs.Contents.{ContentPiece, pieces}
 use Rattle.linkage_rules.specs.Globals.{Global, OfVariable, OfFunction, OfAlias, linkage_of, is_constant}
 use Rattle.linkage_rules.specs.Linkages.{is_appending}
-use Rattle.linkage_rules.specs.Place.{rooms, Room, address}
+use Rattle.linkage_rules.specs.Addresses.{rooms, Room, address}
 use Rattle.linkage_rules.specs.declared.symbol.Symbol.{Symbol}
 use Rattle.linkage_rules.specs.declared.symbol.Symbol.TheVariants.{Shared}
 use Rattle.linkage_rules.specs.Entries.{Entry, symbol_name, same_symbol, symbol_in}

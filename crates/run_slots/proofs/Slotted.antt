@@ -6,7 +6,7 @@ use Rattle.run_rules.specs.Leaves.{Slot, field_slots, repeated, slots_at}
 use Rattle.type_table.specs.Layout.{align, all_leaves, end_after, greatest_align, leaves, field_start, size}
 use Rattle.type_table.specs.Shape.{Label, Shape, int_leaf, ptr_leaf, void_leaf, opaque_leaf, array_of, struct_of, Shapes, no_shapes, more_shapes}
 use Rattle.type_table.specs.Types.{Types}
-use Rattle.type_table.proofs.Caps.{placed-le}
+use Rattle.type_table.proofs.Caps.{field_start-le}
 use Rattle.run_shapes.specs.Shapes.{shape_in, shapes_in}
 
 -- ---- values without leaves have no slots
@@ -85,7 +85,7 @@ element_ends n place at step most lt fits = go (n - suc place) (omega (arith, lt
 pub end_grows : (packed : Bool) (ss : Shapes) (end : ℕ) → end ≤ end_after packed end ss
 end_grows packed no_shapes end = omega arith
 end_grows packed (more_shapes s ss) end =
-    let first = placed-le packed end (align s) in
+    let first = field_start-le packed end (align s) in
     let rest = end_grows packed ss (field_start packed end (align s) + size s) in
     omega (arith, first, rest)
 
@@ -118,7 +118,7 @@ field_ends packed s ss us end whole e f =
 
 -- a struct is as long as its fields at least
 pub struct_holds : (label : Label) (packed : Bool) (ss : Shapes) → end_after packed 0 ss ≤ size (struct_of label packed ss)
-struct_holds label packed ss = placed-le false (end_after packed 0 ss) (if packed then 1 else greatest_align ss)
+struct_holds label packed ss = field_start-le false (end_after packed 0 ss) (if packed then 1 else greatest_align ss)
 
 -- ---- slots that a call appended
 

@@ -9,7 +9,7 @@ use Rattle.ir_eval.specs.declared.value.Scalar.{Scalar}
 use Rattle.ir_eval.specs.declared.value.Scalar.TheVariants as scalar
 use Rattle.ir_memory.specs.declared.leaf.Leaf.{Leaf}
 use Rattle.ir_memory.specs.declared.leaf.Leaf.TheVariants as leaf
-use Rattle.ir_memory.specs.Block.{MemoryBlock}
+use Rattle.ir_memory.specs.MemoryBlock.{MemoryBlock}
 use Rattle.ir_memory.specs.Given.{Fits, HasKnown}
 use Rattle.ir_memory.specs.Memory.{Blocks, stored}
 use Rattle.linkage_rules.proofs.Steps.{drop_more}

@@ -1,7 +1,7 @@
 //! Results of an instruction on all operands of 4 bits.
 ghost use Rattle.std.specs.Prelude.{IsTrue};
 ghost use Rattle.ir_eval.specs.Value.{IsInteger};
-ghost use Rattle.ir_eval.specs.Scalar.{is_binary};
+ghost use Rattle.ir_eval.specs.Operators.{is_binary};
 
 use crate::instruction::ScalarCall;
 use ir_eval::{Pointer, Scalar, binary, cast, compare};

@@ -6,7 +6,7 @@
 ghost use Rattle.std.specs.Prelude.{IsTrue};
 ghost use Rattle.ir_eval.specs.Value.{IsInteger, IsWidth};
 ghost use Rattle.ir_eval.specs.Cast.{IsCast};
-ghost use Rattle.ir_eval.specs.Scalar.{is_binary};
+ghost use Rattle.ir_eval.specs.Operators.{is_binary};
 
 use crate::results::{is_binary, push};
 use ir_eval::width::greatest;

@@ -1,6 +1,6 @@
 //! How many items of each kind there are.
 
-use ir_instructions::Block;
+use ir_instructions::WrittenBlock;
 use ir_syntax::Item;
 use std::io;
 
@@ -19,7 +19,7 @@ struct Counts {
 
 impl Counts {
     /// Counts a definition with these blocks.
-    fn add_blocks(&mut self, blocks: &[Block]) {
+    fn add_blocks(&mut self, blocks: &[WrittenBlock]) {
         self.definitions = self.definitions.saturating_add(1);
         for block in blocks {
             self.blocks = self.blocks.saturating_add(1);

@@ -1,9 +1,10 @@
 //! Tells the parts of items.
 
 use ir_base::Place;
-use ir_instructions::{Alloca, Block, Call, Ending, Operation};
+use ir_instructions::{Alloca, Operation, WrittenBlock, WrittenCall, WrittenEnding};
 use ir_syntax::{
-    Alias, AliasType, Declaration, Definition, FormalParameters, Item, Variable, WrittenBody,
+    Declaration, Definition, FormalParameters, Item, WrittenAlias, WrittenAliasType, WrittenBody,
+    WrittenVariable,
 };
 use ir_tables::{Flags, Linkage};
 use ir_terminals::{Integer, PlacedName};
@@ -35,7 +36,7 @@ fn print_alignment(rt: &HostRuntime, alignment: &Option<Integer>) -> io::Result<
     }
 }
 
-fn print_variable(rt: &HostRuntime, variable: &Variable) -> io::Result<()> {
+fn print_variable(rt: &HostRuntime, variable: &WrittenVariable) -> io::Result<()> {
     print_linkage(rt, variable.linkage)?;
     if variable.constant {
         print!(rt; "constant ")?;
@@ -57,15 +58,15 @@ fn print_parameters(rt: &HostRuntime, count: usize, variadic: bool) -> io::Resul
     Ok(())
 }
 
-fn print_alias(rt: &HostRuntime, alias: &Alias) -> io::Result<()> {
+fn print_alias(rt: &HostRuntime, alias: &WrittenAlias) -> io::Result<()> {
     print_linkage(rt, alias.linkage)?;
     print!(rt; "alias ")?;
     print_name(rt, &alias.name)?;
     print!(rt; " of ")?;
     print_name(rt, &alias.target)?;
     match &alias.ty {
-        AliasType::Plain(_) => Ok(()),
-        AliasType::Function { signature, .. } => print_parameters(
+        WrittenAliasType::Plain(_) => Ok(()),
+        WrittenAliasType::Function { signature, .. } => print_parameters(
             rt,
             signature.parameters.len(),
             signature.variadic,
@@ -123,7 +124,7 @@ fn print_alloca(rt: &HostRuntime, alloca: &Alloca) -> io::Result<()> {
     Ok(())
 }
 
-fn print_call(rt: &HostRuntime, call: &Call) -> io::Result<()> {
+fn print_call(rt: &HostRuntime, call: &WrittenCall) -> io::Result<()> {
     let typed = if call.signature.is_some() {
         " typed"
     } else {
@@ -160,18 +161,18 @@ fn print_operation(rt: &HostRuntime, operation: &Operation) -> io::Result<()> {
     }
 }
 
-fn print_ending(rt: &HostRuntime, ending: &Ending) -> io::Result<()> {
+fn print_ending(rt: &HostRuntime, ending: &WrittenEnding) -> io::Result<()> {
     match ending {
-        Ending::ReturnVoid => print!(rt; "ret void"),
-        Ending::Return(_) => print!(rt; "ret"),
-        Ending::Jump(_) => print!(rt; "br"),
-        Ending::Branch(_) => print!(rt; "br of 2"),
-        Ending::Switch(switch) => print!(rt; "switch of {}", switch.cases.len()),
-        Ending::Unreachable => print!(rt; "unreachable"),
+        WrittenEnding::ReturnVoid => print!(rt; "ret void"),
+        WrittenEnding::Return(_) => print!(rt; "ret"),
+        WrittenEnding::Jump(_) => print!(rt; "br"),
+        WrittenEnding::Branch(_) => print!(rt; "br of 2"),
+        WrittenEnding::Switch(switch) => print!(rt; "switch of {}", switch.cases.len()),
+        WrittenEnding::Unreachable => print!(rt; "unreachable"),
     }
 }
 
-fn print_block(rt: &HostRuntime, block: &Block) -> io::Result<()> {
+fn print_block(rt: &HostRuntime, block: &WrittenBlock) -> io::Result<()> {
     if let Some(first) = block.instructions.first() {
         print_operation(rt, &first.operation)?;
         print!(rt; ", then ")?;

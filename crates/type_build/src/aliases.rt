@@ -15,27 +15,27 @@ ghost use Rattle.type_build.specs.Declarations.{IsFree, AreFew, one_alias_more, 
 
 use crate::builder::Builder;
 use crate::heads::{linkage_of, out_of_memory};
-use ir_syntax::{Alias, AliasType};
-use module_arena::AliasId;
+use ir_syntax::{WrittenAlias, WrittenAliasType};
+use module_arena::{AliasId, AliasType};
 use std::alloc::{AllocError, Global};
 
 /// What an alias says of its target.
 fn add_alias_type(
     builder: &mut Builder,
     alloc: Global,
-    written: &AliasType,
-) -> Result<module_arena::AliasType, AllocError>
+    written: &WrittenAliasType,
+) -> Result<AliasType, AllocError>
     requires { CanAlias (structs builder.old.arena.table) (alias_type_view written.now) }
     ensures grows { OnOk result (Grows builder.old.arena builder.new.arena) }
     ensures known { IfOk result (λ t. All (λ id. id < length builder.new.arena.table.types) (alias_types t)) }
     ensures is { IfOk result (λ t. view.alias_type_view (trees builder.new.arena.table) t ≡ alias_type_in (alias_type_view written.now)) }
 {
     match written {
-        AliasType::Plain(ty) => Ok(module_arena::AliasType::Plain(builder.add_type(alloc, ty)?)),
-        AliasType::Function { returns, signature } => {
+        WrittenAliasType::Plain(ty) => Ok(AliasType::Plain(builder.add_type(alloc, ty)?)),
+        WrittenAliasType::Function { returns, signature } => {
             let returns = builder.add_type(alloc, returns)?;
             let parameters = builder.add_types(alloc, &signature.parameters)?;
-            Ok(module_arena::AliasType::Function(returns, parameters, signature.variadic))
+            Ok(AliasType::Function(returns, parameters, signature.variadic))
         }
     }
 }
@@ -44,7 +44,7 @@ fn add_alias_type(
 pub fn declare_alias(
     builder: &mut Builder,
     alloc: Global,
-    written: &Alias,
+    written: &WrittenAlias,
 ) -> Result<AliasId, AllocError>
     requires ty { CanAlias (structs builder.old.arena.table) (alias_type_view written.now.ty) }
     requires free { IsFree builder.old.arena written.now.name.name }
@@ -73,7 +73,7 @@ pub fn set_target(
     builder: &mut Builder,
     alloc: Global,
     id: AliasId,
-    written: &Alias,
+    written: &WrittenAlias,
 ) -> Result<(), AllocError>
     requires known { id < length builder.old.arena.aliases }
     requires untargeted { (x : the_alias.Alias) → slice_get builder.old.arena.aliases id ≡ Some x → x.target ≡ None }

@@ -19,7 +19,7 @@ ghost use Rattle.type_build.specs.Parameters.{AreParameters, name_kept, kept, fu
 use crate::builder::Builder;
 use crate::heads::{linkage_of, out_of_memory};
 use ir_base::ItemList;
-use ir_syntax::{Declaration, Definition, Head, Parameter};
+use ir_syntax::{Declaration, Definition, FunctionHead, WrittenParameter};
 use ir_terminals::Local;
 use module_arena::{Function, FunctionId, LocalName, ParameterList};
 use std::alloc::{AllocError, Global};
@@ -55,7 +55,7 @@ fn add_parameters(
     builder: &mut Builder,
     alloc: Global,
     named: bool,
-    written: &[Parameter],
+    written: &[WrittenParameter],
 ) -> Result<ParameterList, AllocError>
     requires can { All (λ p. CanBe (structs builder.old.arena.table) (type_in (type_view p.ty))) written.now }
     requires few { length written.now < 2 ^ 32 - 1 }
@@ -77,7 +77,7 @@ fn add_parameters(
 fn declare_head(
     builder: &mut Builder,
     alloc: Global,
-    head: &Head,
+    head: &FunctionHead,
     parameters: ParameterList,
     variadic: bool,
 ) -> Result<FunctionId, AllocError>

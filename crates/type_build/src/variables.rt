@@ -15,7 +15,7 @@ ghost use Rattle.type_build.specs.Declarations.{IsFree, AreFew, one_variable_mor
 use crate::builder::Builder;
 use crate::heads::{alignment_of, linkage_of, out_of_memory};
 use ir_constants::{Constant, Type};
-use ir_syntax::Variable;
+use ir_syntax::WrittenVariable;
 use module_arena::VariableId;
 use std::alloc::{AllocError, Global};
 
@@ -23,7 +23,7 @@ use std::alloc::{AllocError, Global};
 pub fn declare_variable(
     builder: &mut Builder,
     alloc: Global,
-    written: &Variable,
+    written: &WrittenVariable,
 ) -> Result<VariableId, AllocError>
     requires ty { CanBe (structs builder.old.arena.table) (type_in (type_view written.now.ty)) }
     requires alignment { IsShort written.now.alignment }

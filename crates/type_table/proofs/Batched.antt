@@ -9,29 +9,29 @@ use Rattle.type_table.specs.declared.measure.Measure.{Measure}
 use Rattle.type_table.specs.Kept.{IsFlagged, IsKept, IsSmall, IsTable, type_length}
 use Rattle.type_table.specs.Measures.{measure_of, opaque_measure, struct_measures, tree_body_measure, type_measures}
 use Rattle.type_table.specs.Types.{Types, IsKnownBody, bodies, names, tree_body, trees}
-use Rattle.type_table.specs.Batch.{IsOpen, StaysWithin, placed, with_bodies}
+use Rattle.type_table.specs.Batch.{IsOpen, StaysWithin, set_from, with_bodies}
 use Rattle.type_table.proofs.SettledMeasures.{kept_at_rest}
 use Rattle.type_table.proofs.Given.{AreUndefined, bodies-given, good-given, many-given, stays_within, types-given}
 use Rattle.type_table.proofs.Judged.{within_kept}
-use Rattle.type_table.proofs.Placed.{placed-other}
+use Rattle.type_table.proofs.SetFrom.{set_from-other}
 use Rattle.type_table.proofs.Unheld.{stands_at}
 
 module _ (t : Types) (ks kt : List Measure) (flags : List Bool) (is : IsTable t ks kt flags) (first : ℕ) (given : List StructBody) (fit : first + length given ≤ length t.structs)
     (known : All (IsKnownBody t) given) (none : AreUndefined t first (length given)) (ms : List Measure) (many : length ms ≡ length t.structs)
-    (rest : struct_measures (type_measures ms t.types) ms (placed (bodies t) first given) ≡ ms)
-    (open_kept : (k : ℕ) → IsOpen (get_or (placed (bodies t) first given) k None) → get_or ms k opaque_measure ≡ get_or ks k opaque_measure)
+    (rest : struct_measures (type_measures ms t.types) ms (set_from (bodies t) first given) ≡ ms)
+    (open_kept : (k : ℕ) → IsOpen (get_or (set_from (bodies t) first given) k None) → get_or ms k opaque_measure ≡ get_or ks k opaque_measure)
     (small : All IsSmall (type_measures ms t.types ++ ms)) where
   abbrev after : Types
   after = with_bodies t first given
 
   -- what has no fields then had none before
-  open_before : (k : ℕ) → IsOpen (get_or (placed (bodies t) first given) k None) → IsOpen (get_or (bodies t) k None)
+  open_before : (k : ℕ) → IsOpen (get_or (set_from (bodies t) first given) k None) → IsOpen (get_or (bodies t) k None)
   open_before k is_open = by (cases_lt k first) (cases_lt k (first + length given))
     where
       by : (k < first) ⊎ (first ≤ k) → (k < first + length given) ⊎ (first + length given ≤ k) → IsOpen (get_or (bodies t) k None)
-      by (inl before) end = subst IsOpen (placed-other (bodies t) first given k None (inl before)) is_open
+      by (inl before) end = subst IsOpen (set_from-other (bodies t) first given k None (inl before)) is_open
       by (inr from) (inl to) = subst IsOpen (sym (get_or_from_slice_get (bodies t) k None None (none k from to))) tt
-      by (inr from) (inr past) = subst IsOpen (placed-other (bodies t) first given k None (inr past)) is_open
+      by (inr from) (inr past) = subst IsOpen (set_from-other (bodies t) first given k None (inr past)) is_open
 
   measures_nothing : (b : Option StructBody) → IsOpen b → tree_body_measure (measure_of (names t) ks) (tree_body (trees t) b) ≡ opaque_measure
   measures_nothing None o = refl

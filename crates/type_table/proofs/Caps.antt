@@ -22,9 +22,9 @@ sides x = by (cases_lt x (2 ^ 40 + 1))
 pub next_multiple_of-le : (x y : ℕ) → x ≤ next_multiple_of x y
 next_multiple_of-le x y = omega arith
 
-pub placed-le : (packed : Bool) (x y : ℕ) → x ≤ field_start packed x y
-placed-le true x y = omega arith
-placed-le false x y = next_multiple_of-le x y
+pub field_start-le : (packed : Bool) (x y : ℕ) → x ≤ field_start packed x y
+field_start-le true x y = omega arith
+field_start-le false x y = next_multiple_of-le x y
 
 -- a function that gives no less than it takes, of a capped number
 capped_of : (f : ℕ → ℕ) → ((x : ℕ) → x ≤ f x) → (x z : ℕ) → capped (f (capped x) + capped z) ≡ capped (f x + z)
@@ -38,8 +38,8 @@ capped_of f up x z = by (sides x) (sides z)
         let high : 2 ^ 40 + 1 ≤ f x = omega (arith, e.1, up x) in
         capped_large (f (capped x) + capped z) (omega (arith, low)) ∙ sym (capped_large (f x + z) (omega (arith, high)))
 
-pub capped-placed : (packed : Bool) (x y z : ℕ) → capped (field_start packed (capped x) y + capped z) ≡ capped (field_start packed x y + z)
-capped-placed packed x y z = capped_of (λ at. field_start packed at y) (λ at. placed-le packed at y) x z
+pub capped-field_start : (packed : Bool) (x y z : ℕ) → capped (field_start packed (capped x) y + capped z) ≡ capped (field_start packed x y + z)
+capped-field_start packed x y z = capped_of (λ at. field_start packed at y) (λ at. field_start-le packed at y) x z
 
 pub capped-rounded : (x y : ℕ) → capped (next_multiple_of (capped x) y) ≡ capped (next_multiple_of x y)
 capped-rounded x y =

@@ -7,7 +7,7 @@ use Rattle.type_table.specs.declared.ir_type.IrType.{IrType}
 use Rattle.type_table.specs.declared.ir_type.StructBody.{StructBody}
 use Rattle.type_table.specs.Limits.{IsWithin}
 use Rattle.type_table.specs.Types.{Types, with_body, names, bodies, trees, AllKnown, KnowsBody, IsKnownBody, IsGood}
-use Rattle.type_table.specs.Batch.{StaysWithin, placed, with_bodies}
+use Rattle.type_table.specs.Batch.{StaysWithin, set_from, with_bodies}
 use Rattle.type_table.proofs.Before.{within_before}
 use Rattle.type_table.proofs.Defined.{names-defined, bodies-defined, trees-defined, set_value_at-place, table_of}
 
@@ -19,10 +19,10 @@ pub trees-given : (t : Types) (first : ℕ) (given : List StructBody) → trees 
 trees-given t first [] = refl
 trees-given t first (body ∷ given) = trees-given (with_body t first body) (suc first) given ∙ trees-defined t first body
 
-pub bodies-given : (t : Types) (first : ℕ) (given : List StructBody) → bodies (with_bodies t first given) ≡ placed (bodies t) first given
+pub bodies-given : (t : Types) (first : ℕ) (given : List StructBody) → bodies (with_bodies t first given) ≡ set_from (bodies t) first given
 bodies-given t first [] = refl
 bodies-given t first (body ∷ given) =
-    bodies-given (with_body t first body) (suc first) given ∙ ap (λ (all : List (Option StructBody)). placed all (suc first) given) (bodies-defined t first body)
+    bodies-given (with_body t first body) (suc first) given ∙ ap (λ (all : List (Option StructBody)). set_from all (suc first) given) (bodies-defined t first body)
 
 pub types-given : (t : Types) (first : ℕ) (given : List StructBody) → (with_bodies t first given).types ≡ t.types
 types-given t first [] = refl

@@ -13,7 +13,7 @@ pub mod Named
 pub mod Offsets
 pub mod Outlined
 pub mod PassLists
-pub mod Placed
+pub mod SetFrom
 pub mod Redefined
 pub mod Rooms
 pub mod Settled

@@ -15,7 +15,7 @@ use Rattle.type_table.specs.Measures.{capped, empty_struct, with_field, measures
 use Rattle.type_table.specs.Outline.{next_offset, offset_from, head_of, parts_of}
 use Rattle.type_table.specs.Shape.{Shape, int_leaf, ptr_leaf, void_leaf, opaque_leaf, array_of, struct_of, Shapes, no_shapes, more_shapes, nesting, parts}
 use Rattle.type_table.specs.Types.{Types, shape}
-use Rattle.type_table.proofs.Caps.{placed-le}
+use Rattle.type_table.proofs.Caps.{field_start-le}
 use Rattle.type_table.proofs.Laid.{type_shaped, type_measure_is, small_laid}
 use Rattle.type_table.proofs.Outlined.{outlined, parts_known, shape_head, shape_parts, listed}
 use Rattle.type_table.proofs.ShapeMeasures.{shape_measures, sofar, alignment, field_further, kept_layout, if_laid, align-positive}
@@ -45,7 +45,7 @@ offset_from-here packed acc types ids field lt =
 end_after-le : (packed : Bool) (at : ℕ) (ss : Shapes) → at ≤ end_after packed at ss
 end_after-le packed at no_shapes = omega arith
 end_after-le packed at (more_shapes s ss) =
-    let start = placed-le packed at (align s) in
+    let start = field_start-le packed at (align s) in
     let rest = end_after-le packed (field_start packed at (align s) + size s) ss in
     omega (arith, start, rest)
 
@@ -63,7 +63,7 @@ offsets_agree : (packed : Bool) (d p e m l : ℕ) (b : Bool) (ss : Shapes) (k : 
 offsets_agree packed d p e m l b no_shapes k laid all le = refl
 offsets_agree packed d p e m l b (more_shapes s ss) zero laid all le =
     let each = and_parts (has_layout s) (have_layouts ss) all in
-    let start = placed-le packed e (align s) in
+    let start = field_start-le packed e (align s) in
     let rest = end_after-le packed (field_start packed e (align s) + size s) ss in
     ap (λ o. next_offset packed (if_laid b e m l) o) (kept_layout s)
     ∙ next_is packed e (size s) m (align s) l (leaves s) b (has_layout s) laid each.0 (omega (arith, start, rest, le)) (align-positive s)

@@ -8,7 +8,7 @@ use Rattle.type_table.specs.declared.measure.Measure.{Measure}
 use Rattle.type_table.specs.Layout.{has_layout, have_layouts, layout, size, align, leaves, all_leaves, greatest_align, end_after, field_start, int_align}
 use Rattle.type_table.specs.Shape.{Label, Shape, int_leaf, ptr_leaf, void_leaf, opaque_leaf, array_of, struct_of, Shapes, no_shapes, more_shapes, nesting, deepest, parts, all_parts}
 use Rattle.type_table.specs.Measures.{measure, capped, capped_nesting, capped_parts, capped_layout, array_measure, with_field, with_field_layout, rounded, closed, struct_measure}
-use Rattle.type_table.proofs.Caps.{capped-placed, capped-rounded, capped-times, capped-add, capped-capped, capped_nesting-suc}
+use Rattle.type_table.proofs.Caps.{capped-field_start, capped-rounded, capped-times, capped-add, capped-capped, capped_nesting-suc}
 
 abbrev pub shape_measures : Shapes → List Measure
 shape_measures no_shapes = []
@@ -84,7 +84,7 @@ laid_further : (packed : Bool) (e z m a l k : ℕ) (b c : Bool) → 1 ≤ a
 laid_further packed e z m a l k false c p = refl
 laid_further packed e z m a l k true false p = refl
 laid_further packed e z m a l k true true p = λ j. Some (record {
-  size = (ap (λ x. capped (field_start packed x (max 1 a) + capped z)) (capped-capped e) ∙ ap (λ x. capped (field_start packed (capped e) x + capped z)) (max-one a p) ∙ capped-placed packed e a z) j;
+  size = (ap (λ x. capped (field_start packed x (max 1 a) + capped z)) (capped-capped e) ∙ ap (λ x. capped (field_start packed (capped e) x + capped z)) (max-one a p) ∙ capped-field_start packed e a z) j;
   align = alignment packed m a;
   leaves = capped-add l k j;
 })

@@ -11,7 +11,7 @@ use Rattle.type_table.specs.Layout.{size, leaves, all_leaves, align, end_after, 
 use Rattle.type_table.specs.Shape.{Label, Shape, int_leaf, ptr_leaf, void_leaf, opaque_leaf, array_of, struct_of, Shapes, no_shapes, more_shapes, expanded, all_expanded, body_shape, name_shape}
 use Rattle.type_table.specs.Tree.{Tree, int, ptr, void, array, struct, named, Trees, no_trees, more_trees, TreeBody, opaque_body, fields, body_of, index_of}
 use Rattle.type_table.specs.Types.{Types, names, bodies, trees, trees_at, tree_of, grow, tree_body, structs, tree, shape, Knows, AllKnown, IsGood}
-use Rattle.type_table.proofs.Caps.{placed-le, next_multiple_of-le}
+use Rattle.type_table.proofs.Caps.{field_start-le, next_multiple_of-le}
 use Rattle.type_table.proofs.Rooms.{name_shape-zero, name_shape-suc, unmapped, unjoined}
 use Rattle.type_table.proofs.UnderIds.{body_of-place}
 
@@ -44,7 +44,7 @@ mutual
   all_leaves-le packed at no_shapes wide = omega arith
   all_leaves-le packed at (more_shapes s ss) wide =
       let one = leaves-le s wide.0 in
-      let start = placed-le packed at (align s) in
+      let start = field_start-le packed at (align s) in
       let rest = all_leaves-le packed (field_start packed at (align s) + size s) ss wide.1 in
       omega (arith, one, start, rest)
 

@@ -16,9 +16,9 @@ StaysWithin t first [] = ⊤
 StaysWithin t first (body ∷ given) = IsWithin (with_body t first body) × StaysWithin (with_body t first body) (suc first) given
 
 -- the bodies of the structs, where those from this id on are these
-abbrev pub placed : List (Option StructBody) → ℕ → List StructBody → List (Option StructBody)
-placed all first [] = all
-placed all first (body ∷ given) = placed (set all first (Some body)) (suc first) given
+abbrev pub set_from : List (Option StructBody) → ℕ → List StructBody → List (Option StructBody)
+set_from all first [] = all
+set_from all first (body ∷ given) = set_from (set all first (Some body)) (suc first) given
 
 -- a struct has no fields that are known
 abbrev pub IsOpen : Option StructBody → Type 0

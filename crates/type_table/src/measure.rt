@@ -81,7 +81,7 @@ fn rounded_up(at: u64, align: u32) -> u64
 }
 
 /// Where a field of that alignment begins, if the fields before it end at the byte.
-fn placed(packed: bool, at: u64, align: u32) -> u64
+fn field_start(packed: bool, at: u64, align: u32) -> u64
     ensures { result ≡ field_start packed (capped at) (max 1 align) }
 {
     if packed {
@@ -95,7 +95,7 @@ fn placed(packed: bool, at: u64, align: u32) -> u64
 fn with_field_layout(packed: bool, sofar: Layout, field: Layout) -> Layout
     ensures { Some result ≡ with_field_layout packed (Some sofar) (Some field) }
 {
-    let start = placed(packed, sofar.size, field.align);
+    let start = field_start(packed, sofar.size, field.align);
     Layout {
         size: capped(start.saturating_add(field.size)),
         align: if packed {
@@ -260,7 +260,7 @@ impl Measure {
         ensures { result ≡ next_offset packed self.now.layout field.layout }
     {
         match (self.layout, field.layout) {
-            (Some(sofar), Some(layout)) => Some(placed(packed, sofar.size, layout.align)),
+            (Some(sofar), Some(layout)) => Some(field_start(packed, sofar.size, layout.align)),
             _ => None,
         }
     }

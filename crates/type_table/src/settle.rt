@@ -4,7 +4,7 @@ ghost use Rattle.indexmap.specs.IndexMap.{values, index_map_len};
 ghost use Rattle.type_table.specs.Kept.{IsSmall, IsLarge, HasListFault};
 ghost use Rattle.type_table.specs.Outline.{offset_from};
 ghost use Rattle.type_table.specs.Measures.{empty_struct, struct_measure, measures_at, opaque_measure, type_measure, body_measure, type_measures, struct_measures, passes, deepest_nesting};
-ghost use Rattle.type_table.specs.Batch.{IsOpen, placed};
+ghost use Rattle.type_table.specs.Batch.{IsOpen, set_from};
 
 use crate::measure::{Measure, NESTING_LIMIT};
 use crate::structs::StructMap;
@@ -258,7 +258,7 @@ fn measure_one(
     requires within { index < index_map_len structs.now }
     requires fit { first + length given.now ≤ index_map_len structs.now }
     ensures { result
-        ≡ body_measure types.now had (slice_index_or (placed (values structs.now) first given.now) index None) }
+        ≡ body_measure types.now had (slice_index_or (set_from (values structs.now) first given.now) index None) }
 {
     if first <= index && index - first < given.len() {
         measure_body(types, had, &given[index - first])
@@ -279,7 +279,7 @@ fn measure_given(
     requires as_many { length had.now ≡ index_map_len structs.now }
     requires fit { first + length given.now ≤ index_map_len structs.now }
     ensures { IfOk result (λ measures.
-        measures.items ≡ struct_measures types.now had.now (placed (values structs.now) first given.now)) }
+        measures.items ≡ struct_measures types.now had.now (set_from (values structs.now) first given.now)) }
 {
     let mut measures = Vec::with_capacity(alloc, had.len())?;
     for i in 0..had.len() {
@@ -320,11 +320,11 @@ pub(crate) fn at_rest(
     requires as_many { length kept.now ≡ index_map_len structs.now }
     requires fit { first + length given.now ≤ index_map_len structs.now }
     ensures rest { IfOk result (λ found. IfSome found (λ m.
-        struct_measures m.types.items m.structs.items (placed (values structs.now) first given.now) ≡ m.structs.items)) }
+        struct_measures m.types.items m.structs.items (set_from (values structs.now) first given.now) ≡ m.structs.items)) }
     ensures types { IfOk result (λ found. IfSome found (λ m. m.types.items ≡ type_measures m.structs.items types.now)) }
     ensures many { IfOk result (λ found. IfSome found (λ m. length m.structs.items ≡ index_map_len structs.now)) }
     ensures kept { IfOk result (λ found. IfSome found (λ m. (k : ℕ)
-        → IsOpen (slice_index_or (placed (values structs.now) first given.now) k None)
+        → IsOpen (slice_index_or (set_from (values structs.now) first given.now) k None)
         → slice_index_or m.structs.items k opaque_measure ≡ slice_index_or kept.now k opaque_measure)) }
 {
     let mut measured = Vec::from_slice(alloc, kept)?;

@@ -4,7 +4,7 @@ use Rattle.std.proofs.lemmas.Bool.{and_parts}
 use Rattle.ir_tables.specs.declared.opcode.Opcode.{Opcode}
 use Rattle.ir_tables.specs.declared.opcode.Opcode.TheVariants as op
 use Rattle.ir_tables.specs.declared.predicate.Predicate.{Predicate}
-use Rattle.ir_eval.specs.Scalar.{is_binary}
+use Rattle.ir_eval.specs.Operators.{is_binary}
 use Rattle.ir_eval.specs.Value.{IsWidth}
 use Rattle.ir_memory.specs.declared.leaf.Leaf.TheVariants as leaf
 use Rattle.type_table.specs.Tree.{Tree, int, ptr}

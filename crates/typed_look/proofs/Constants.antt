@@ -17,7 +17,7 @@ use Rattle.type_table.specs.Tree.{Tree, int, ptr, void, array, struct, named, no
 use Rattle.module_arena.specs.TypeTests.{is_integer, is_integer_of, is_pointer}
 use Rattle.ir_tables.specs.declared.flag.Flag.TheVariants.{Inbounds}
 use Rattle.ir_tables.specs.Flags.{has_flag}
-use Rattle.ir_eval.specs.Scalar.{binary_of}
+use Rattle.ir_eval.specs.Operators.{binary_of}
 use Rattle.module_arena.specs.Constants.{Typed, is_bytes_of, constants_in, constants_of, is_cast_between, fits, Expected, expected, each, these, nothing, parts_fit, as_written, element_operands_fit, indices_fit, index_constants}
 use Rattle.module_arena.specs.Module.{Bytes, Constant, Integer, Truth, Null, Undef, Poison, ZeroInitializer, Address, ByteString, Aggregate, ElementAddress, Cast, Binary, Constants, no_constants, more_constants}
 use Rattle.module_arena.specs.Same.{same_type}

@@ -3,7 +3,7 @@ use Rattle.std.specs.Prelude.{List, [], map, length}
 use Rattle.std.specs.Option.{option_map_or}
 use Rattle.ir_memory.specs.declared.leaf.Leaf.{Leaf}
 use Rattle.module_arena.specs.Module.{Function, Module}
-use Rattle.linkage_rules.specs.Place.{rooms}
+use Rattle.linkage_rules.specs.Addresses.{rooms}
 use Rattle.run_rules.specs.Constant.{Names, shape_of}
 use Rattle.run_rules.specs.Look.{names_in, function_at, look, table}
 use Rattle.run_rules.specs.Scope.{locals_of}

@@ -9,7 +9,7 @@ use Rattle.linkage_rules.specs.Bind.{Bound, meaning, behind}
 use Rattle.linkage_rules.specs.Bind as bound
 use Rattle.linkage_rules.specs.Entries.{symbol_in, same_symbol}
 use Rattle.linkage_rules.specs.declared.symbol.Symbol.{Symbol}
-use Rattle.linkage_rules.specs.Place.{Room, rooms}
+use Rattle.linkage_rules.specs.Addresses.{Room, rooms}
 use Rattle.run_rules.specs.Look.{leaf_of, address_in}
 use Rattle.typed_runs.specs.Kinds.{IsOf}
 

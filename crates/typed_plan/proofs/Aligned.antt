@@ -16,7 +16,7 @@ use Rattle.linkage_rules.specs.Entries.{Entry, entries, same_symbol, symbol_of, 
 use Rattle.linkage_rules.specs.Globals.{linkage_of, type_of, stated}
 use Rattle.linkage_rules.specs.Linkages.{is_common, is_appending}
 use Rattle.linkage_rules.specs.Lists.{greatest_from, greatest}
-use Rattle.linkage_rules.specs.Place.{align_in, alignment_in, greatest_stated, commons, greatest_common, alignment_by, size_by, Room, room, rooms}
+use Rattle.linkage_rules.specs.Addresses.{align_in, alignment_in, greatest_stated, commons, greatest_common, alignment_by, size_by, Room, room, rooms}
 use Rattle.linkage_rules.specs.Symbols.{variable_symbols}
 use Rattle.linkage_rules.specs.Winner.{shape_in, is_definition, definitions, home}
 use Rattle.run_places.proofs.Together.{all_filter, home_is}

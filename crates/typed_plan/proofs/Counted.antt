@@ -9,7 +9,7 @@ use Rattle.linkage_rules.specs.declared.symbol.Symbol.{Symbol}
 use Rattle.linkage_rules.specs.Entries.{Entry, entries, same_symbol, symbol_of}
 use Rattle.linkage_rules.specs.Globals.{OfVariable, OfFunction, OfAlias, globals, is_variable}
 use Rattle.linkage_rules.specs.Lists.{firsts}
-use Rattle.linkage_rules.specs.Place.{Room, room, rooms}
+use Rattle.linkage_rules.specs.Addresses.{Room, room, rooms}
 use Rattle.linkage_rules.specs.Symbols.{is_alias_symbol, first_entries, plain_entries, variable_symbols}
 use Rattle.typed_plan.proofs.Entries.{first_part}
 

@@ -10,7 +10,7 @@ use Rattle.module_arena.specs.WellFormed.{IsWellFormed}
 use Rattle.linkage_rules.specs.Bind.{behind}
 use Rattle.linkage_rules.specs.Entries.{Entry}
 use Rattle.linkage_rules.specs.Globals.{Global, OfVariable, OfFunction, OfAlias}
-use Rattle.linkage_rules.specs.Place.{function_address}
+use Rattle.linkage_rules.specs.Addresses.{function_address}
 use Rattle.linkage_rules.specs.Winner.{home}
 use Rattle.run_places.specs.Places.{IsFunctionOf}
 use Rattle.run_places.proofs.Alone.{is_valid, goes_together}

@@ -8,7 +8,7 @@ use Rattle.module_arena.specs.Module.{Module}
 use Rattle.module_arena.specs.Valid.{IsValid}
 use Rattle.module_arena.specs.WellFormed.{IsWellFormed}
 use Rattle.linkage_rules.specs.declared.symbol.Symbol.{Symbol}
-use Rattle.linkage_rules.specs.Place.{Room, rooms}
+use Rattle.linkage_rules.specs.Addresses.{Room, rooms}
 use Rattle.run_rules.specs.Look.{pointer_to}
 use Rattle.run_rules.specs.Plan.{Variable, Contents, variable_of, contents_of}
 use Rattle.typed_runs.specs.States.{AreStored}

@@ -21,7 +21,7 @@ use Rattle.linkage_rules.specs.declared.symbol.Symbol.{Symbol}
 use Rattle.linkage_rules.specs.Entries.{Entry, entries, same_symbol, symbol_of, entries_of}
 use Rattle.linkage_rules.specs.Globals.{OfVariable, linkage_of}
 use Rattle.linkage_rules.specs.Linkages.{is_appending}
-use Rattle.linkage_rules.specs.Place.{rooms}
+use Rattle.linkage_rules.specs.Addresses.{rooms}
 use Rattle.linkage_rules.specs.Winner.{is_definition, definitions, home}
 use Rattle.linked_contents.specs.Contents.{ContentPiece, pieces_of_constants, elements_of, elements_in, whole, pieces_by, pieces}
 use Rattle.run_places.proofs.Together.{all_append, all_filter, home_is}

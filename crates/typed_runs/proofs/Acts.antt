@@ -7,7 +7,7 @@ use Rattle.ir_tables.specs.declared.undefined_kind.UndefinedKind.{UndefinedKind}
 use Rattle.ir_eval.specs.declared.value.Pointer.{Pointer}
 use Rattle.ir_eval.specs.declared.value.Scalar.{Scalar}
 use Rattle.ir_eval.specs.declared.value.Scalar.TheVariants as scalar
-use Rattle.ir_eval.specs.Scalar.{binary_of, select_of, freeze_of}
+use Rattle.ir_eval.specs.Operators.{binary_of, select_of, freeze_of}
 use Rattle.ir_eval.specs.Compare.{compare_of}
 use Rattle.ir_eval.specs.Cast.{cast_of}
 use Rattle.ir_memory.specs.declared.kind.BlockKind.TheVariants.{Stack}

@@ -9,7 +9,7 @@ use Rattle.ir_memory.specs.declared.access.BlockPlace.{BlockPlace}
 use Rattle.ir_memory.specs.declared.cell.Cell.{Cell}
 use Rattle.ir_memory.specs.declared.kind.BlockKind.TheVariants as kind
 use Rattle.ir_memory.specs.declared.leaf.Leaf.TheVariants as leaf
-use Rattle.ir_memory.specs.Block.{new_block}
+use Rattle.ir_memory.specs.MemoryBlock.{new_block}
 use Rattle.ir_memory.specs.Cell.{size, leaf_cells}
 use Rattle.ir_memory.specs.Memory.{Blocks, added, round_up, live_bytes, access, put_at, stored}
 use Rattle.ir_memory.proofs.Placed.{live_bytes-push, live_bytes-written}

@@ -19,7 +19,7 @@ use Rattle.ir_memory.specs.declared.cell.Cell.{Cell}
 use Rattle.ir_memory.specs.declared.cell.Cell.TheVariants as cell
 use Rattle.ir_memory.specs.declared.access.BlockPlace.{BlockPlace}
 use Rattle.ir_memory.specs.Answer.{Keeps}
-use Rattle.ir_memory.specs.Block.{MemoryBlock, new_block, gone, written}
+use Rattle.ir_memory.specs.MemoryBlock.{MemoryBlock, new_block, gone, written}
 use Rattle.ir_memory.specs.Cell.{size, read, leaf_cells, integer, pointer, number_of, pointer_of}
 use Rattle.ir_memory.specs.Given.{IsAlignment, HasKnown}
 use Rattle.ir_memory.specs.Kept.{IsKnownCell, AreKnown}

@@ -87,7 +87,7 @@ sign_are c false = go (is_signed c.kind && c.plus) (is_signed c.kind && c.space)
     go false false = no_bytes
 
 filled_are : (c : Conversion) (front ds : List ℕ) → AreBytes front → AreBytes ds → AreBytes (filled c front ds)
-filled_are c front ds h k = go c.left (fills_with_zeros c)
+filled_are c front ds h k = go c.left_justified (fills_with_zeros c)
   where
     room : ℕ
     room = c.width - (length front + length ds)
@@ -110,7 +110,7 @@ precise_bytes_are kind.Bytes None bytes h = h
 precise_bytes_are _ precision bytes h = h
 
 spaced_are : (c : Conversion) (bytes : List ℕ) → AreBytes bytes → AreBytes (spaced c bytes)
-spaced_are c bytes h = go c.left
+spaced_are c bytes h = go c.left_justified
   where
     room : ℕ
     room = c.width - length bytes

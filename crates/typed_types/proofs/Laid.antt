@@ -6,7 +6,7 @@ use Rattle.type_table.specs.declared.layout.Layout.{Layout}
 use Rattle.type_table.specs.Layout.{has_layout, have_layouts, layout, align, greatest_align, field_start, size, leaves, end_after, field_offset}
 use Rattle.type_table.specs.Shape.{Shape, int_leaf, ptr_leaf, void_leaf, opaque_leaf, array_of, struct_of, Shapes, no_shapes, more_shapes, shape}
 use Rattle.type_table.specs.Tree.{Tree, Structs}
-use Rattle.type_table.proofs.Caps.{placed-le}
+use Rattle.type_table.proofs.Caps.{field_start-le}
 use Rattle.module_arena.specs.TypeTests.{lies_in_memory}
 use Rattle.module_arena.specs.WellFormed.{is_good_type, are_good_structs}
 use Rattle.run_rules.specs.Leaves.{element, field}
@@ -56,7 +56,7 @@ element_laid (struct_of label packed ss) k h = field_laid ss k h.1
 end_after-le : (packed : Bool) (at : ℕ) (ss : Shapes) → at ≤ end_after packed at ss
 end_after-le packed at no_shapes = omega arith
 end_after-le packed at (more_shapes s ss) =
-    let start = placed-le packed at (align s) in
+    let start = field_start-le packed at (align s) in
     let rest = end_after-le packed (field_start packed at (align s) + size s) ss in
     omega (arith, start, rest)
 
@@ -71,7 +71,7 @@ field_before packed at (more_shapes s ss) (suc k) = field_before packed (field_s
 pub offset_small : (packed : Bool) (ss : Shapes) (k : ℕ) → size (struct_of None packed ss) ≤ 2 ^ 40 → unwrap_or (field_offset packed 0 ss k) 0 < 2 ^ 64
 offset_small packed ss k h =
     let before = field_before packed 0 ss k in
-    let whole = placed-le false (end_after packed 0 ss) (if packed then 1 else greatest_align ss) in
+    let whole = field_start-le false (end_after packed 0 ss) (if packed then 1 else greatest_align ss) in
     omega (arith, before, whole, h)
 
 -- how a shape lies in memory, if it does

@@ -4,7 +4,7 @@ use Rattle.std.proofs.lemmas.Bool.{false≢true}
 use Rattle.ir_tables.specs.declared.undefined_kind.UndefinedKind.TheVariants.{AnotherFunctionType}
 use Rattle.ir_eval.specs.Arithmetic.{arithmetic}
 use Rattle.ir_eval.specs.Cast.{cast_of}
-use Rattle.ir_eval.specs.Scalar.{binary_of}
+use Rattle.ir_eval.specs.Operators.{binary_of}
 use Rattle.module_arena.specs.HostRows.{host_row, counted}
 use Rattle.module_arena.specs.Module.{Module}
 use Rattle.type_table.specs.Shape.{name_shape}

@@ -1,6 +1,6 @@
 use Rattle.std.proofs.Common.{sym, subst}
-use Rattle.ir_instructions.specs.declared.block.Ending.{Ending}
-use Rattle.ir_instructions.specs.declared.block.Ending.TheVariants as ending
+use Rattle.ir_instructions.specs.declared.block.WrittenEnding.{WrittenEnding}
+use Rattle.ir_instructions.specs.declared.block.WrittenEnding.TheVariants as ending
 use Rattle.ir_instructions.specs.declared.block.Switch.{Switch}
 use Rattle.ir_instructions.specs.View.{ending_view}
 use Rattle.instruction_build.specs.Made.{TakesEnding}
@@ -8,6 +8,6 @@ use Rattle.instruction_build.proofs.build_ending.Goals as goal
 
 pub build_switch-requires-clause-can : goal.build_switch-requires-clause-can
 build_switch-requires-clause-can c =
-    let Takes = λ (x : Ending). TakesEnding c.args.builder.now.arena c.args.locals.now (ending_view x) in
+    let Takes = λ (x : WrittenEnding). TakesEnding c.args.builder.now.arena c.args.locals.now (ending_view x) in
     let can = subst Takes c.in-Switch.is c.requires.can in
     subst (λ (s : Switch). Takes (ending.Switch (record c.in-Switch.switch { value = s }))) (sym c.deref-in-Switch.ensures) can

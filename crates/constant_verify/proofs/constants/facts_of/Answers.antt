@@ -5,7 +5,7 @@ use Rattle.module_arena.specs.Known.{KnowsConst, counts}
 use Rattle.module_arena.specs.Module.{Constant}
 use Rattle.module_arena.specs.View.{constants_of, module_of}
 use Rattle.module_arena.proofs.ModuleOf.{length-constants_of}
-use Rattle.constant_verify.specs.ConstantFacts.{const_fact}
+use Rattle.constant_verify.specs.ConstantParts.{const_fact}
 use Rattle.constant_verify.specs.declared.constants.ConstFact.{ConstFact}
 use Rattle.module_arena.proofs.ConstantsTold.{const_known, constant_got}
 use Rattle.constant_verify.proofs.WholeTold.{mapped_next, so_many}

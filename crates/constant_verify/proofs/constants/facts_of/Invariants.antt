@@ -1,6 +1,6 @@
 use Rattle.std.proofs.Common.{◌≡◌, map, take}
 use Rattle.module_arena.specs.View.{constants_of, module_of}
-use Rattle.constant_verify.specs.ConstantFacts.{const_fact}
+use Rattle.constant_verify.specs.ConstantParts.{const_fact}
 use Rattle.constant_verify.proofs.constants.facts_of.Given as goal
 
 abbrev pub invariant-loop-number : goal.invariant-loop-number

@@ -1,6 +1,6 @@
 use Rattle.std.proofs.Common.{◌≡◌, map, take}
 use Rattle.std.specs.List.{fold}
-use Rattle.constant_verify.specs.ConstantFacts.{all_pass, both_constant_facts, part_fact_at}
+use Rattle.constant_verify.specs.ConstantParts.{all_pass, both_constant_facts, part_fact_at}
 use Rattle.constant_verify.proofs.constants.parts_fact.Given as goal
 
 abbrev pub invariant-loop-part : goal.invariant-loop-part

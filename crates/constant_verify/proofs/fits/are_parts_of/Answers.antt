@@ -4,7 +4,7 @@ use Rattle.type_table.specs.Types.{tree, trees, trees_at, structs}
 use Rattle.module_arena.specs.Constants.{expected}
 use Rattle.module_arena.specs.View.{brackets_view}
 use Rattle.module_arena.specs.declared.constant.TypedConst.{TypedConst}
-use Rattle.constant_verify.specs.ConstantFacts.{have_types}
+use Rattle.constant_verify.specs.ConstantParts.{have_types}
 use Rattle.constant_verify.proofs.ListsTold.{array_parts, struct_parts, no_parts}
 use Rattle.constant_verify.proofs.fits.are_parts_of.Goals as goal
 

@@ -9,7 +9,7 @@ use Rattle.module_arena.specs.declared.constant.Const as the_const
 use Rattle.module_arena.specs.declared.constant.Const.TheVariants as const
 use Rattle.module_arena.specs.declared.constant.ConstPair.{ConstPair}
 use Rattle.module_arena.specs.declared.constant.TypedConst.{TypedConst}
-use Rattle.constant_verify.specs.ConstantFacts.{fits_outside, have_types}
+use Rattle.constant_verify.specs.ConstantParts.{fits_outside, have_types}
 use Rattle.constant_verify.proofs.OwnTold.{list_fits}
 use Rattle.constant_verify.proofs.fits.fits_outside.Goals as goal
 

@@ -1,6 +1,6 @@
 use Rattle.std.proofs.Common.{◌≡◌, map, drop}
 use Rattle.type_table.specs.Types.{tree, trees, trees_at}
-use Rattle.constant_verify.specs.ConstantFacts.{are_types}
+use Rattle.constant_verify.specs.ConstantParts.{are_types}
 use Rattle.constant_verify.proofs.fits.have_types.Given as goal
 
 abbrev pub invariant-loop-index : goal.invariant-loop-index

@@ -1,7 +1,7 @@
 use Rattle.std.proofs.Common.{◌≡◌, ◌<◌, map, drop, length}
 use Rattle.type_table.specs.Types.{tree, structs}
 use Rattle.module_arena.specs.Constants.{leads_to_part}
-use Rattle.constant_verify.specs.ConstantFacts.{index_at}
+use Rattle.constant_verify.specs.ConstantParts.{index_at}
 use Rattle.constant_verify.proofs.fits.leads_to_part.Given as goal
 
 abbrev pub invariant-loop-index : goal.invariant-loop-index

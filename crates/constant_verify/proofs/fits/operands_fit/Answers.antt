@@ -6,7 +6,7 @@ use Rattle.module_arena.specs.declared.constant.ConstAddress.{ConstAddress}
 use Rattle.module_arena.specs.declared.constant.TypedConst.{TypedConst}
 use Rattle.module_arena.specs.Changes.{constant_in}
 use Rattle.module_arena.specs.Constants.{is_cast_between}
-use Rattle.constant_verify.specs.ConstantFacts.{are_element_operands, index_at, own_operands_fit}
+use Rattle.constant_verify.specs.ConstantParts.{are_element_operands, index_at, own_operands_fit}
 use Rattle.constant_verify.proofs.OwnTold.{operands_suit}
 use Rattle.constant_verify.proofs.fits.operands_fit.Goals as goal
 

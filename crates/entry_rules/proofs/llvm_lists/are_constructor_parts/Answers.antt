@@ -1,5 +1,5 @@
 use Rattle.std.proofs.Common.{◌&&◌, List, map, sym, ap, ◌∙◌, arith}
-use Rattle.constant_verify.specs.ConstantFacts.{typed_at}
+use Rattle.constant_verify.specs.ConstantParts.{typed_at}
 use Rattle.module_arena.specs.EntryRules.{is_function_or_null}
 use Rattle.module_arena.specs.Lists.{Lists}
 use Rattle.module_arena.specs.TypeTests.{is_integer_of, is_pointer}

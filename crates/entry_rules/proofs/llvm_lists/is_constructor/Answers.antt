@@ -1,5 +1,5 @@
 use Rattle.std.proofs.Common.{◌<◌, All, length, subst, ◌&&◌, List, map, sym, ap, ◌∙◌}
-use Rattle.constant_verify.specs.ConstantFacts.{typed_at}
+use Rattle.constant_verify.specs.ConstantParts.{typed_at}
 use Rattle.module_arena.specs.Changes.{constant_in}
 use Rattle.module_arena.specs.EntryRules.{is_constructor}
 use Rattle.module_arena.specs.Lists.{Lists}

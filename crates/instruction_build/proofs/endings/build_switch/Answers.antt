@@ -1,5 +1,5 @@
 use Rattle.std.proofs.Common.{List, All, map, sym, subst}
-use Rattle.ir_instructions.specs.declared.block.Case.{Case}
+use Rattle.ir_instructions.specs.declared.block.WrittenCase.{WrittenCase}
 use Rattle.ir_instructions.specs.View.{case_view}
 use Rattle.name_rules.specs.Bodies.{case_in}
 use Rattle.type_build.proofs.Growing.{grows_on}
@@ -11,7 +11,7 @@ use Rattle.instruction_build.proofs.endings.build_switch.Goals as goal
 
 pub build_cases-requires-clause-can : goal.build_cases-requires-clause-can
 build_cases-requires-clause-can c =
-    subst (λ (ws : List Case). All (TakesCase c.build_operand.new.builder.arena c.args.locals.now) (map case_view ws)) (sym c.deref.ensures.value)
+    subst (λ (ws : List WrittenCase). All (TakesCase c.build_operand.new.builder.arena c.args.locals.now) (map case_view ws)) (sym c.deref.ensures.value)
     (takes_cases _ _ c.in_ok-operand.ensures.grows c.args.locals.now (map case_view c.args.switch.now.cases.items) c.requires.can.2)
 
 pub returns-clause-grows : goal.returns-clause-grows
@@ -22,6 +22,6 @@ returns-clause-is c =
     let values = value_names c.args.locals.now in
     let blocks = block_names c.args.locals.now in
     let a = c.build_cases.new.builder.arena in
-    let are = subst (λ (ws : List Case). Each (IsCase blocks a) c.in_ok-cases.cases (map case_in (map case_view ws))) c.deref.ensures.value c.in_ok-cases.ensures.are in
+    let are = subst (λ (ws : List WrittenCase). Each (IsCase blocks a) c.in_ok-cases.cases (map case_in (map case_view ws))) c.deref.ensures.value c.in_ok-cases.ensures.are in
     ends_switch values blocks a c.in_ok-operand.operand _ c.find_block-otherwise.result _ c.in_ok-cases.cases _
     (operand_stays values blocks _ _ c.in_ok-cases.ensures.grows _ _ c.in_ok-operand.ensures.is) c.find_block-otherwise.ensures are

@@ -1,6 +1,6 @@
 use Rattle.std.proofs.Common.{List, All, map, sym, subst}
 use Rattle.ir_constants.specs.View.{type_view}
-use Rattle.ir_instructions.specs.declared.operation.Incoming as the_written
+use Rattle.ir_instructions.specs.declared.operation.WrittenIncoming as the_written
 use Rattle.ir_instructions.specs.View.{incoming_view}
 use Rattle.name_rules.specs.Bodies.{incoming_in}
 use Rattle.name_rules.specs.Written.{type_in}
@@ -16,7 +16,7 @@ build_incoming_list-requires-clause-ty c = can_still_be _ _ c.in_ok-ty.ensures.g
 
 pub build_incoming_list-requires-clause-can : goal.build_incoming_list-requires-clause-can
 build_incoming_list-requires-clause-can c =
-    subst (λ (ws : List the_written.Incoming). All (TakesIncoming c.add_type.new.self.arena c.args.locals.now) (map incoming_view ws)) (sym c.deref.ensures.value)
+    subst (λ (ws : List the_written.WrittenIncoming). All (TakesIncoming c.add_type.new.self.arena c.args.locals.now) (map incoming_view ws)) (sym c.deref.ensures.value)
     (takes_incoming_list _ _ c.in_ok-ty.ensures.grows c.args.locals.now (map incoming_view c.args.phi.now.incoming.items) c.requires.can.1)
 
 pub returns-clause-grows : goal.returns-clause-grows
@@ -28,5 +28,5 @@ returns-clause-is c =
     let blocks = block_names c.args.locals.now in
     let a = c.build_incoming_list.new.builder.arena in
     let t = type_in (type_view c.args.phi.now.ty) in
-    let are = subst (λ (ws : List the_written.Incoming). Each (IsIncoming values blocks a) c.in_ok-incoming.incoming (map (incoming_in t) (map incoming_view ws))) c.deref.ensures.value c.in_ok-incoming.ensures.are in
+    let are = subst (λ (ws : List the_written.WrittenIncoming). Each (IsIncoming values blocks a) c.in_ok-incoming.incoming (map (incoming_in t) (map incoming_view ws))) c.deref.ensures.value c.in_ok-incoming.ensures.are in
     makes_phi values blocks a c.args.next c.in_ok-ty.ty t c.in_ok-incoming.incoming _ (c.in_ok-incoming.ensures.grows.types _ _ c.in_ok-ty.ensures.is) are

@@ -4,7 +4,7 @@ use Rattle.ir_constants.specs.declared.ty.Type as the_type
 use Rattle.ir_constants.specs.declared.value.TypedValue.{TypedValue}
 use Rattle.ir_constants.specs.Tree.{TypeTree, TypedValueTree}
 use Rattle.ir_constants.specs.View.{type_view, typed_value_view}
-use Rattle.ir_instructions.specs.declared.operation.Signature as the_written
+use Rattle.ir_instructions.specs.declared.operation.SignatureTypes as the_written
 use Rattle.ir_instructions.specs.View.{call_view, signature_view}
 use Rattle.module_arena.specs.declared.instruction.Signature as the_signature
 use Rattle.type_table.specs.Tree.{Tree}
@@ -28,7 +28,7 @@ add_types-requires c =
     let a = c.args.builder.now.arena in
     let b = c.add_type.new.self.arena in
     let items = c.in-Some.written.parameters.items in
-    let can = subst (λ (s : Option the_written.Signature). CanSignature (structs a.table) (entries a) (option_map signature_view s)) c.in-Some.is c.requires.signature in
+    let can = subst (λ (s : Option the_written.SignatureTypes). CanSignature (structs a.table) (entries a) (option_map signature_view s)) c.in-Some.is c.requires.signature in
     let each = all_mapped type_view (λ (t : TypeTree). CanBe (structs a.table) (type_in t)) items can in
     let still = All-weaker (λ (x : the_type.Type). CanBe (structs a.table) (type_in (type_view x))) (λ (x : the_type.Type). CanBe (structs b.table) (type_in (type_view x))) (λ x h. can_still_be a b c.in_ok-returns.ensures.grows (type_in (type_view x)) h) items each in
     subst (All (λ (x : the_type.Type). CanBe (structs b.table) (type_in (type_view x)))) (sym c.deref.ensures.value) still
@@ -52,7 +52,7 @@ returns-in_ok-parameters-in-Some-clause-is c =
     let are = subst (λ (ts : List the_type.Type). AreTypes b ids (map (λ (x : the_type.Type). type_in (type_view x)) ts)) c.deref.ensures.value c.in_ok-parameters-in-Some.ensures.are in
     let twice = subst (λ (ts : List Tree). AreTypes b ids ts) (sym (map_twice type_view type_in items)) are in
     let built : the_signature.Signature = record { returns = c.in_ok-returns.returns; parameters = ids; variadic = c.in-Some.written.variadic } in
-    subst (λ (s : Option the_written.Signature). IsSignature b built (signature_in call.returns call.arguments (option_map signature_view s))) (sym c.in-Some.is)
+    subst (λ (s : Option the_written.SignatureTypes). IsSignature b built (signature_in call.returns call.arguments (option_map signature_view s))) (sym c.in-Some.is)
     (record { returns = c.in_ok-parameters-in-Some.ensures.grows.types _ _ c.in_ok-returns.ensures.is; parameters = twice; variadic = refl })
 
 pub returns-in_ok-parameters-in-None-clause-grows : goal.returns-in_ok-parameters-in-None-clause-grows
@@ -65,5 +65,5 @@ returns-in_ok-parameters-in-None-clause-is c =
     let ids = c.in_ok-parameters-in-None.parameters in
     let are = subst (λ (ws : List TypedValue). AreTypes b ids (types_of (map typed_value_view ws))) c.deref-in-None.ensures.value c.in_ok-parameters-in-None.ensures.are in
     let built : the_signature.Signature = record { returns = c.in_ok-returns.returns; parameters = ids; variadic = false } in
-    subst (λ (s : Option the_written.Signature). IsSignature b built (signature_in call.returns call.arguments (option_map signature_view s))) (sym c.in-None.is)
+    subst (λ (s : Option the_written.SignatureTypes). IsSignature b built (signature_in call.returns call.arguments (option_map signature_view s))) (sym c.in-None.is)
     (record { returns = c.in_ok-parameters-in-None.ensures.grows.types _ _ c.in_ok-returns.ensures.is; parameters = are; variadic = refl })

@@ -1,7 +1,7 @@
 use Rattle.std.proofs.Common.{Some, sym, ap, ◌∙◌}
 use Rattle.module_arena.specs.InstructionRules.{callee_takes_no_intrinsic}
 use Rattle.module_arena.specs.View.{module_of}
-use Rattle.instruction_verify.specs.OperandFacts.{value_in}
+use Rattle.instruction_verify.specs.ArenaOperands.{value_in}
 use Rattle.instruction_verify.proofs.callees.called_takes_no_intrinsic.Goals as goal
 
 pub returns-in-Known : goal.returns-in-Known

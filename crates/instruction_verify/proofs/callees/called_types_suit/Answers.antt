@@ -4,7 +4,7 @@ use Rattle.constant_verify.proofs.ConstantsKnown.{own_structs}
 use Rattle.module_arena.specs.EntryRules.{constant_types_suit}
 use Rattle.module_arena.specs.InstructionRules.{callee_types_suit}
 use Rattle.module_arena.specs.View.{constant_at, constants_of, module_of}
-use Rattle.instruction_verify.specs.OperandFacts.{value_in}
+use Rattle.instruction_verify.specs.ArenaOperands.{value_in}
 use Rattle.instruction_verify.proofs.callees.called_types_suit.Goals as goal
 
 pub returns-in-Known : goal.returns-in-Known

@@ -5,7 +5,7 @@ use Rattle.module_arena.specs.Mentions.{bare_values_of}
 use Rattle.module_arena.specs.Operations.{callee}
 use Rattle.module_arena.specs.View.{module_of}
 use Rattle.module_arena.specs.declared.instruction.Call.{Call}
-use Rattle.instruction_verify.specs.OperandFacts.{HasConstant, instruction_in, value_in}
+use Rattle.instruction_verify.specs.ArenaOperands.{HasConstant, instruction_in, value_in}
 use Rattle.instruction_verify.proofs.CalleesTold.{no_callee}
 use Rattle.instruction_verify.proofs.callees.callee_types_suit.Goals as goal
 

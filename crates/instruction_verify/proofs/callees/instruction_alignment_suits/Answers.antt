@@ -1,6 +1,6 @@
 use Rattle.std.proofs.Common.{sym, ap, ◌∙◌}
 use Rattle.module_arena.specs.InstructionRules.{operation_alignment_suits}
-use Rattle.instruction_verify.specs.OperandFacts.{instruction_in}
+use Rattle.instruction_verify.specs.ArenaOperands.{instruction_in}
 use Rattle.instruction_verify.proofs.CalleesTold.{no_alignment}
 use Rattle.instruction_verify.proofs.callees.instruction_alignment_suits.Goals as goal
 

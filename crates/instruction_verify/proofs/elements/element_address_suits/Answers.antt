@@ -6,7 +6,7 @@ use Rattle.module_arena.specs.Mentions.{operands_of, types_of}
 use Rattle.module_arena.specs.TypeTests.{is_pointer}
 use Rattle.module_arena.specs.ValueRules.{element_address_suits}
 use Rattle.module_arena.specs.declared.instruction.Operand.{Operand}
-use Rattle.instruction_verify.specs.OperandFacts.{HasOperand, index_in, instruction_in}
+use Rattle.instruction_verify.specs.ArenaOperands.{HasOperand, index_in, instruction_in}
 use Rattle.instruction_verify.proofs.ElementsTold.{indices_listed}
 use Rattle.instruction_verify.proofs.NothingAsked.{no_element}
 use Rattle.instruction_verify.proofs.elements.element_address_suits.Goals as goal

@@ -4,7 +4,7 @@ use Rattle.std.proofs.lemmas.List.Elements.{All-weaker}
 use Rattle.type_table.specs.Types.{Types, structs, tree}
 use Rattle.module_arena.specs.TypeTests.{is_integer}
 use Rattle.module_arena.specs.declared.instruction.Operand.{Operand}
-use Rattle.instruction_verify.specs.OperandFacts.{HasOperand, index_in}
+use Rattle.instruction_verify.specs.ArenaOperands.{HasOperand, index_in}
 use Rattle.instruction_verify.proofs.ElementsTold.{indices_told}
 use Rattle.instruction_verify.proofs.elements.indices_fit.Goals as goal
 

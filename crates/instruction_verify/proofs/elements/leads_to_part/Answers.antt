@@ -1,7 +1,7 @@
 use Rattle.std.proofs.Common.{ap, ◌∙◌, arith}
 use Rattle.std.specs.Option.{option_map}
 use Rattle.type_table.specs.Types.{tree, structs}
-use Rattle.instruction_verify.specs.OperandFacts.{index_in}
+use Rattle.instruction_verify.specs.ArenaOperands.{index_in}
 use Rattle.instruction_verify.proofs.ElementsTold.{leads_on, leads_nowhere, leads_end}
 use Rattle.instruction_verify.proofs.elements.leads_to_part.Goals as goal
 

@@ -2,7 +2,7 @@ use Rattle.std.proofs.Common.{◌≡◌, ◌<◌, List, map, drop, length}
 use Rattle.type_table.specs.Types.{tree, structs}
 use Rattle.module_arena.specs.Constants.{leads_to_part}
 use Rattle.module_arena.specs.Module.{LocalName}
-use Rattle.instruction_verify.specs.OperandFacts.{index_in}
+use Rattle.instruction_verify.specs.ArenaOperands.{index_in}
 use Rattle.instruction_verify.proofs.elements.leads_to_part.Given as goal
 
 abbrev pub invariant-indices : goal.invariant-indices

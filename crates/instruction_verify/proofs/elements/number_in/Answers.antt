@@ -5,7 +5,7 @@ use Rattle.module_arena.specs.Constants.{written_number}
 use Rattle.module_arena.specs.Lists.{name_at}
 use Rattle.module_arena.specs.ValueRules.{number_in}
 use Rattle.module_arena.specs.View.{constants_of}
-use Rattle.instruction_verify.specs.OperandFacts.{value_in}
+use Rattle.instruction_verify.specs.ArenaOperands.{value_in}
 use Rattle.instruction_verify.proofs.elements.number_in.Goals as goal
 
 pub returns-in-Known : goal.returns-in-Known

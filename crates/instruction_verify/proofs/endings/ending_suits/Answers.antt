@@ -12,7 +12,7 @@ use Rattle.type_table.specs.Types.{Types, tree}
 use Rattle.module_arena.specs.Same.{same_type}
 use Rattle.module_arena.specs.TypeTests.{is_integer, is_integer_of, is_void}
 use Rattle.module_arena.specs.ValueRules as rules
-use Rattle.instruction_verify.specs.OperandFacts.{HasCase, HasOperand, ending_in}
+use Rattle.instruction_verify.specs.ArenaOperands.{HasCase, HasOperand, ending_in}
 use Rattle.instruction_verify.proofs.endings.ending_suits.Goals as goal
 
 pub returns-in-ReturnVoid : goal.returns-in-ReturnVoid

@@ -1,7 +1,7 @@
 use Rattle.std.proofs.Common.{sym, ap, ◌∙◌, option_to_list}
 use Rattle.std.specs.Option.{option_map}
 use Rattle.module_arena.specs.View.{module_of}
-use Rattle.instruction_verify.specs.OperandFacts.{operand_in, operands_fact}
+use Rattle.instruction_verify.specs.ArenaOperands.{operand_in, operands_fact}
 use Rattle.instruction_verify.proofs.OperandsKnown.{one_fact}
 use Rattle.instruction_verify.proofs.operands.count_fact.Goals as goal
 

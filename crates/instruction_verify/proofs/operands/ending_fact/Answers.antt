@@ -5,7 +5,7 @@ use Rattle.module_arena.specs.Operations.{ending_operands}
 use Rattle.module_arena.specs.View.{module_of}
 use Rattle.module_arena.specs.declared.instruction.Case.{Case}
 use Rattle.module_arena.specs.declared.instruction.Operand.{Operand}
-use Rattle.instruction_verify.specs.OperandFacts.{HasCase, HasOperand, both_operand_facts, case_operand_in, ending_in, operand_in, operands_fact}
+use Rattle.instruction_verify.specs.ArenaOperands.{HasCase, HasOperand, both_operand_facts, case_operand_in, ending_in, operand_in, operands_fact}
 use Rattle.instruction_verify.proofs.CasesTold.{cases_known, cases_listed}
 use Rattle.instruction_verify.proofs.OperandsKnown.{joined_facts}
 use Rattle.instruction_verify.proofs.operands.ending_fact.Goals as goal

@@ -1,7 +1,7 @@
 use Rattle.std.proofs.Common.{◌≡◌, List, map, take}
 use Rattle.module_arena.specs.Module.{LocalName}
 use Rattle.module_arena.specs.View.{module_of}
-use Rattle.instruction_verify.specs.OperandFacts.{operands_fact, phi_operand_in}
+use Rattle.instruction_verify.specs.ArenaOperands.{operands_fact, phi_operand_in}
 use Rattle.instruction_verify.proofs.operands.incoming_fact.Given as goal
 
 abbrev pub invariant-values : goal.invariant-values

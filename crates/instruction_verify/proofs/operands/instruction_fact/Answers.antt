@@ -6,7 +6,7 @@ use Rattle.module_arena.specs.declared.instruction.Choice.{Choice}
 use Rattle.module_arena.specs.declared.instruction.Insertion.{Insertion}
 use Rattle.module_arena.specs.declared.instruction.Operand.{Operand}
 use Rattle.module_arena.specs.declared.instruction.Incoming.{Incoming}
-use Rattle.instruction_verify.specs.OperandFacts.{HasConstant, HasOperand, both_operand_facts, instruction_in, operand_in, operands_fact, phi_operand_in}
+use Rattle.instruction_verify.specs.ArenaOperands.{HasConstant, HasOperand, both_operand_facts, instruction_in, operand_in, operands_fact, phi_operand_in}
 use Rattle.std.proofs.lemmas.List.Elements.{All-tail}
 use Rattle.module_arena.specs.Mentions.{bare_values_of, operands_of}
 use Rattle.instruction_verify.proofs.CasesTold.{incoming_listed, values_known}

@@ -1,7 +1,7 @@
 use Rattle.std.proofs.Common.{◌∙◌, ap, arith, map}
 use Rattle.std.proofs.lemmas.List.{take_all}
 use Rattle.module_arena.specs.View.{module_of}
-use Rattle.instruction_verify.specs.OperandFacts.{both_operand_facts, operands_fact, operand_in}
+use Rattle.instruction_verify.specs.ArenaOperands.{both_operand_facts, operands_fact, operand_in}
 use Rattle.instruction_verify.proofs.OperandsKnown.{next_fact}
 use Rattle.instruction_verify.proofs.operands.operands_fact.Goals as goal
 

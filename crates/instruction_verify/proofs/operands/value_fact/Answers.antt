@@ -2,7 +2,7 @@ use Rattle.std.proofs.Common.{sym, ap, ◌∙◌}
 use Rattle.type_table.specs.Types.{Types, tree, structs}
 use Rattle.module_arena.specs.TypeTests.{is_passable}
 use Rattle.module_arena.specs.View.{module_of}
-use Rattle.instruction_verify.specs.OperandFacts.{operand_fact, operand_in}
+use Rattle.instruction_verify.specs.ArenaOperands.{operand_fact, operand_in}
 use Rattle.instruction_verify.proofs.OperandsKnown.{local_fact, known_fact}
 use Rattle.instruction_verify.proofs.operands.value_fact.Goals as goal
 

@@ -3,7 +3,7 @@ use Rattle.type_table.specs.Types.{Types, tree}
 use Rattle.module_arena.specs.TypeTests.{is_pointer}
 use Rattle.module_arena.specs.ValueRules as rules
 use Rattle.instruction_verify.proofs.NothingAsked.{count_in}
-use Rattle.instruction_verify.specs.OperandFacts.{instruction_in}
+use Rattle.instruction_verify.specs.ArenaOperands.{instruction_in}
 use Rattle.instruction_verify.proofs.NothingAsked.{no_address}
 use Rattle.instruction_verify.proofs.rules.address_suits.Goals as goal
 

@@ -6,7 +6,7 @@ use Rattle.module_arena.specs.Same.{same_type}
 use Rattle.module_arena.specs.TypeTests.{is_integer, is_integer_of, is_pointer}
 use Rattle.module_arena.specs.ValueRules as rules
 use Rattle.module_arena.specs.declared.instruction.Choice.{Choice}
-use Rattle.instruction_verify.specs.OperandFacts.{instruction_in}
+use Rattle.instruction_verify.specs.ArenaOperands.{instruction_in}
 use Rattle.instruction_verify.proofs.NothingAsked.{no_arithmetic}
 use Rattle.instruction_verify.proofs.rules.arithmetic_suits.Goals as goal
 

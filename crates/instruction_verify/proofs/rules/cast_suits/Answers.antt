@@ -2,7 +2,7 @@ use Rattle.std.proofs.Common.{sym, ap, ◌∙◌}
 use Rattle.type_table.specs.Types.{Types, tree}
 use Rattle.module_arena.specs.Constants.{is_cast_between}
 use Rattle.module_arena.specs.ValueRules as rules
-use Rattle.instruction_verify.specs.OperandFacts.{instruction_in}
+use Rattle.instruction_verify.specs.ArenaOperands.{instruction_in}
 use Rattle.instruction_verify.proofs.NothingAsked.{no_cast}
 use Rattle.instruction_verify.proofs.rules.cast_suits.Goals as goal
 

@@ -4,7 +4,7 @@ use Rattle.module_arena.specs.Valid.{Demand, InstructionOf}
 use Rattle.module_arena.specs.ValueRules as rules
 use Rattle.type_table.specs.Types.{Types, structs}
 use Rattle.type_verify.specs.Judged.{Judged, asks}
-use Rattle.instruction_verify.specs.OperandFacts.{instruction_in}
+use Rattle.instruction_verify.specs.ArenaOperands.{instruction_in}
 use Rattle.instruction_verify.proofs.Asked.{demand}
 use Rattle.instruction_verify.proofs.Within.{types_within, written_within}
 use Rattle.instruction_verify.proofs.types.judge_instruction_types.Goals as goal

@@ -8,7 +8,7 @@ use Rattle.module_arena.specs.TypeTests.{is_passable, lies_in_memory, part_at}
 use Rattle.module_arena.specs.declared.instruction.Call.{Call}
 use Rattle.module_arena.specs.declared.instruction.Choice.{Choice}
 use Rattle.module_arena.specs.declared.instruction.Insertion.{Insertion}
-use Rattle.instruction_verify.specs.OperandFacts.{instruction_in}
+use Rattle.instruction_verify.specs.ArenaOperands.{instruction_in}
 use Rattle.instruction_verify.specs.Parts.{own_types_suit}
 use Rattle.instruction_verify.proofs.OwnTypes.{and_true, call_suits, gives, type_moves}
 use Rattle.instruction_verify.proofs.written_types.own_types_suit.Goals as goal

@@ -1,7 +1,7 @@
 use Rattle.std.proofs.Common.{◌≡◌, ◌+◌, ◌++◌, ◌∷◌, [], map, flat_map, take, length, refl, sym, ap, subst, ◌∙◌, arith}
 use Rattle.std.specs.List.{sum_by}
 use Rattle.std.proofs.lemmas.List.{length-map, length-take, take_all}
-use Rattle.ir_instructions.specs.declared.block.Block.{Block}
+use Rattle.ir_instructions.specs.declared.block.WrittenBlock.{WrittenBlock}
 use Rattle.ir_instructions.specs.View.{instruction_view, block_view}
 use Rattle.ir_syntax.specs.Counts.{block_count}
 use Rattle.type_table.specs.Types.{structs}
@@ -42,7 +42,7 @@ build_block-requires c =
     let labels = called_of c.args.locals.now.blocks.names.items in
     let lt = c.loop-block-test.true in
     let is = c.block-item.is in
-    let here = at_item (λ (b : Block). CanBlock (structs a.table) (entries a) values labels (block_view b)) xs i x lt is c.requires.can in
+    let here = at_item (λ (b : WrittenBlock). CanBlock (structs a.table) (entries a) values labels (block_view b)) xs i x lt is c.requires.can in
     let sum = sum_step block_view xs i block_count x lt is in
     let le = sum_le block_view xs (i + 1) block_count in
     let fewer = meaning.block_results_le (map block_view (take i xs)) in

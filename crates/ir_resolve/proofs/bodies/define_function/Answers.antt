@@ -1,7 +1,7 @@
 use Rattle.std.proofs.Common.{List, map, length, slice_get, subst, sym, ap, ◌∙◌}
 use Rattle.std.proofs.lemmas.List.{length-map}
 use Rattle.ir_instructions.specs.View.{block_view}
-use Rattle.ir_syntax.specs.declared.item.Parameter.{Parameter}
+use Rattle.ir_syntax.specs.declared.item.WrittenParameter.{WrittenParameter}
 use Rattle.ir_syntax.specs.View.{parameter_view}
 use Rattle.type_table.specs.Types.{trees}
 use Rattle.module_arena.specs.Changes.{defined, blocks_in}
@@ -33,6 +33,6 @@ returns c =
     ∙ (λ j. defined (c.in_ok-body.ensures.grows.same j) (c.new.ensures j) (blocks_in b body))
     ∙ same_blocks (module_of a) c.args.number (blocks_in b body) all
     (λ f is.
-    ap (λ ns. body_view (trees b.table) (constants_of b) ns body) (c.requires.called f is ∙ ap (λ (xs : List Parameter). parameter_names (map parameter_view xs)) (sym c.deref.ensures.value))
+    ap (λ ns. body_view (trees b.table) (constants_of b) ns body) (c.requires.called f is ∙ ap (λ (xs : List WrittenParameter). parameter_names (map parameter_view xs)) (sym c.deref.ensures.value))
     ∙ c.in_ok-body.ensures.blocks
     ∙ (λ j. body_of (map parameter_view (c.deref.ensures.value j)) (map block_view (c.deref-2.ensures.value j))))

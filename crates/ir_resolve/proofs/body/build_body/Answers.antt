@@ -2,7 +2,7 @@ use Rattle.std.proofs.Common.{List, map, length, drop, All, sym, ap, subst, 鈼屸
 use Rattle.std.specs.List.{sum_by}
 use Rattle.std.proofs.lemmas.List.{length-map}
 use Rattle.ir_instructions.specs.View.{block_view}
-use Rattle.ir_instructions.specs.declared.block.Block.{Block}
+use Rattle.ir_instructions.specs.declared.block.WrittenBlock.{WrittenBlock}
 use Rattle.ir_syntax.specs.View.{parameter_view}
 use Rattle.type_table.specs.Types.{structs}
 use Rattle.module_arena.specs.declared.entry.Body as the_body
@@ -34,8 +34,8 @@ build_blocks-requires c =
     let less_blocks = few_labels ps bs few in
     let first = c.new-first.ensures in
     record {
-      can = subst (位 (vs : List LocalName). All (位 (b : Block). CanBlock (structs a.table) (entries a) vs (called_of locals.blocks.names.items) (block_view b)) c.args.blocks.now) (sym values)
-          (subst (位 (ls : List LocalName). All (位 (b : Block). CanBlock (structs a.table) (entries a) (values_of ps bs) ls (block_view b)) c.args.blocks.now) (sym labels) each);
+      can = subst (位 (vs : List LocalName). All (位 (b : WrittenBlock). CanBlock (structs a.table) (entries a) vs (called_of locals.blocks.names.items) (block_view b)) c.args.blocks.now) (sym values)
+          (subst (位 (ls : List LocalName). All (位 (b : WrittenBlock). CanBlock (structs a.table) (entries a) (values_of ps bs) ls (block_view b)) c.args.blocks.now) (sym labels) each);
       few_values = omega (arith, many, less);
       few_blocks = omega (arith, named, less_blocks);
       there = omega (arith, named, blocks);

@@ -1,7 +1,7 @@
 use Rattle.std.proofs.Common.{◌*◌, ◌-◌, ◌^◌, max, min, filter, map, ap, ap₂, ◌∙◌}
 use Rattle.linkage_rules.specs.Ids.{modules, seen}
 use Rattle.linkage_rules.specs.Globals.{element_of, type_of}
-use Rattle.linkage_rules.specs.Place.{joined_length}
+use Rattle.linkage_rules.specs.Addresses.{joined_length}
 use Rattle.linkage_rules.specs.Winner.{is_definition, size_in}
 use Rattle.link_counts.proofs.Clamped.{bytes_clamped}
 use Rattle.link_counts.proofs.appended.appended_bytes.Goals as goal

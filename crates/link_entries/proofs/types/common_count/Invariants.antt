@@ -1,5 +1,5 @@
 use Rattle.std.proofs.Common.{◌≡◌, ◌≤◌, length, take}
-use Rattle.linkage_rules.specs.Place.{commons}
+use Rattle.linkage_rules.specs.Addresses.{commons}
 use Rattle.link_entries.specs.Definitions.{entries_defined}
 use Rattle.link_entries.proofs.types.common_count.Given as goal
 

@@ -1,6 +1,6 @@
 use Rattle.std.proofs.Common.{◌≡◌, map, filter, take}
 use Rattle.linkage_rules.specs.Ids.{modules, seen}
-use Rattle.linkage_rules.specs.Place.{greatest_common}
+use Rattle.linkage_rules.specs.Addresses.{greatest_common}
 use Rattle.linkage_rules.specs.Winner.{is_definition}
 use Rattle.linked_symbols.proofs.room.greatest_common.Given as goal
 

@@ -1,6 +1,6 @@
 use Rattle.std.proofs.Common.{◌≡◌, map, filter, take}
 use Rattle.linkage_rules.specs.Ids.{modules, seen}
-use Rattle.linkage_rules.specs.Place.{joined_length}
+use Rattle.linkage_rules.specs.Addresses.{joined_length}
 use Rattle.linkage_rules.specs.Winner.{is_definition}
 use Rattle.linked_symbols.specs.Places.{clamped}
 use Rattle.linked_symbols.proofs.room.joined_length.Given as goal

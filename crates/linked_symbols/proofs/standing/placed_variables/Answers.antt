@@ -3,7 +3,7 @@ use Rattle.std.specs.Prelude.{slice_get}
 use Rattle.std.proofs.lemmas.Option.{slice_get-get_or}
 use Rattle.linkage_rules.specs.declared.symbol.Symbol.{Symbol}
 use Rattle.linkage_rules.specs.Ids.{modules}
-use Rattle.linkage_rules.specs.Place.{Room}
+use Rattle.linkage_rules.specs.Addresses.{Room}
 use Rattle.linked_symbols.specs.declared.standing.Placed.{Placed}
 use Rattle.linked_symbols.specs.Places.{rows_among}
 use Rattle.linked_symbols.proofs.Placing.{ArePut, none_more, some_more}

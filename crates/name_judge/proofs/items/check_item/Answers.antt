@@ -2,8 +2,8 @@ use Rattle.std.proofs.Common.{ap, sym, ◌∙◌, Some}
 use Rattle.std.specs.Prelude.{filter_map}
 use Rattle.std.proofs.lemmas.Result.{on_ok_weaker}
 use Rattle.ir_syntax.specs.declared.item.Item.{Item}
-use Rattle.ir_syntax.specs.declared.item.Variable as the_variable
-use Rattle.ir_syntax.specs.declared.item.Alias as the_alias
+use Rattle.ir_syntax.specs.declared.item.WrittenVariable as the_variable
+use Rattle.ir_syntax.specs.declared.item.WrittenAlias as the_alias
 use Rattle.ir_syntax.specs.declared.item.Declaration as the_declaration
 use Rattle.ir_syntax.specs.declared.item.Definition as the_definition
 use Rattle.ir_syntax.specs.View.{item_view, body_view}
@@ -44,7 +44,7 @@ returns-in-Variable-clause-seen c before are =
     (ap (λ (x : Item). layout_place (item_view x)) c.in-Variable.is)
     (ap (λ (x : Item). triple_place (item_view x)) c.in-Variable.is)
     (ap (λ (x : Item). struct_name (item_view x)) c.in-Variable.is)
-    (ap (λ (x : Item). global_name (item_view x)) c.in-Variable.is ∙ ap (λ (v : the_variable.Variable). Some v.name) (sym c.deref.ensures))
+    (ap (λ (x : Item). global_name (item_view x)) c.in-Variable.is ∙ ap (λ (v : the_variable.WrittenVariable). Some v.name) (sym c.deref.ensures))
     are new)
     (c.check_variable.ensures.seen (filter_map global_name before) are.globals)
 
@@ -57,7 +57,7 @@ returns-in-Alias-clause-seen c before are =
     (ap (λ (x : Item). layout_place (item_view x)) c.in-Alias.is)
     (ap (λ (x : Item). triple_place (item_view x)) c.in-Alias.is)
     (ap (λ (x : Item). struct_name (item_view x)) c.in-Alias.is)
-    (ap (λ (x : Item). global_name (item_view x)) c.in-Alias.is ∙ ap (λ (v : the_alias.Alias). Some v.name) (sym c.deref-in-Alias.ensures))
+    (ap (λ (x : Item). global_name (item_view x)) c.in-Alias.is ∙ ap (λ (v : the_alias.WrittenAlias). Some v.name) (sym c.deref-in-Alias.ensures))
     are new)
     (c.check_alias.ensures.seen (filter_map global_name before) are.globals)
 

@@ -1,5 +1,5 @@
 use Rattle.std.proofs.Common.{◌∙◌}
-use Rattle.ir_eval.specs.Scalar.{binary_of}
+use Rattle.ir_eval.specs.Operators.{binary_of}
 use Rattle.run_actions.proofs.Carried.{computes}
 use Rattle.run_actions.proofs.scalars.compute.Goals as goal
 

@@ -1,6 +1,6 @@
 use Rattle.std.proofs.Common.{◌≡◌, ◌≤◌, length, take, map}
 use Rattle.std.specs.Prelude.{vec_len, vec_capacity}
-use Rattle.ir_eval.specs.Scalar.{select_of}
+use Rattle.ir_eval.specs.Operators.{select_of}
 use Rattle.run_actions.specs.Operands.{leaf_of}
 use Rattle.run_actions.proofs.values.choose_all.Given as goal
 

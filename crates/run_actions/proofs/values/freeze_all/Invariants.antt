@@ -1,6 +1,6 @@
 use Rattle.std.proofs.Common.{◌≡◌, ◌≤◌, length, take, map}
 use Rattle.std.specs.Prelude.{vec_len, vec_capacity}
-use Rattle.ir_eval.specs.Scalar.{freeze_of}
+use Rattle.ir_eval.specs.Operators.{freeze_of}
 use Rattle.run_actions.specs.Operands.{leaf_of}
 use Rattle.run_actions.proofs.values.freeze_all.Given as goal
 

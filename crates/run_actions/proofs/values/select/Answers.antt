@@ -1,6 +1,6 @@
 use Rattle.std.proofs.Common.{List, [], ◌∷◌, map, ap, sym, ◌∙◌}
 use Rattle.ir_eval.specs.declared.value.Scalar.{Scalar}
-use Rattle.ir_eval.specs.Scalar.{select_of}
+use Rattle.ir_eval.specs.Operators.{select_of}
 use Rattle.run_actions.specs.declared.values.Arm.{Arm}
 use Rattle.run_actions.specs.Operands.{leaf_of}
 use Rattle.run_actions.proofs.Wide.{selects}

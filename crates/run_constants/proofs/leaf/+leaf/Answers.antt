@@ -2,7 +2,7 @@ use Rattle.std.proofs.Common.{◌≡◌, ℕ, ◌+◌, ◌*◌, ◌^◌, ◌<◌
 use Rattle.ir_eval.specs.declared.value.Scalar.{Scalar}
 use Rattle.ir_eval.specs.declared.value.Scalar.TheVariants as scalar
 use Rattle.ir_eval.specs.Cast.{IsCast, IsCastTo, cast_of}
-use Rattle.ir_eval.specs.Scalar.{binary_of}
+use Rattle.ir_eval.specs.Operators.{binary_of}
 use Rattle.ir_eval.specs.Value.{IsInteger, IsPointer}
 use Rattle.type_table.specs.Shape.{Shape, nesting}
 use Rattle.type_table.specs.Tree.{Tree, Structs}

@@ -1,6 +1,6 @@
 use Rattle.std.proofs.Common.{ap, ◌∙◌, arith}
 use Rattle.ir_constants.specs.View.{type_view}
-use Rattle.ir_syntax.specs.declared.item.Parameter.{Parameter}
+use Rattle.ir_syntax.specs.declared.item.WrittenParameter.{WrittenParameter}
 use Rattle.ir_syntax.specs.View.{parameter_view}
 use Rattle.type_table.specs.Types.{structs}
 use Rattle.module_arena.specs.declared.entry.Parameter as the_parameter
@@ -15,7 +15,7 @@ use Rattle.type_build.proofs.functions.add_parameters.Goals as goal
 
 pub add_type-requires : goal.add_type-requires
 add_type-requires c =
-    let here = at_item (λ (x : Parameter). CanBe (structs c.args.builder.now.arena.table) (type_in (type_view x.ty))) c.args.written.now c.loop-parameter.parameter-index c.parameter-item.result c.loop-parameter-test.true c.parameter-item.is c.requires.can in
+    let here = at_item (λ (x : WrittenParameter). CanBe (structs c.args.builder.now.arena.table) (type_in (type_view x.ty))) c.args.written.now c.loop-parameter.parameter-index c.parameter-item.result c.loop-parameter-test.true c.parameter-item.is c.requires.can in
     can_still_be _ _ c.loop-parameter.invariant.grows (type_in (type_view c.parameter-item.result.ty)) here
 
 pub loop-parameter-preserved : goal.loop-parameter-preserved
@@ -23,7 +23,7 @@ loop-parameter-preserved c =
     let a = c.loop-parameter.builder.arena in
     let b = c.add_type.new.self.arena in
     let grows = c.in_ok-ty.ensures.grows in
-    let f = λ (x : Parameter). kept c.args.named (parameter_view x) in
+    let f = λ (x : WrittenParameter). kept c.args.named (parameter_view x) in
     let xs = c.args.written.now in
     let i = c.loop-parameter.parameter-index in
     let x = c.parameter-item.result in

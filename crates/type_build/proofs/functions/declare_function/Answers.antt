@@ -1,6 +1,6 @@
 use Rattle.std.proofs.Common.{◌≡◌, false, map, OnOk, sym, subst, ap, ◌∙◌}
 use Rattle.ir_constants.specs.View.{type_view}
-use Rattle.ir_syntax.specs.declared.item.Parameter.{Parameter}
+use Rattle.ir_syntax.specs.declared.item.WrittenParameter.{WrittenParameter}
 use Rattle.ir_syntax.specs.View.{parameter_view, head_view}
 use Rattle.module_arena.specs.Changes.{more_functions}
 use Rattle.module_arena.specs.Module.{Module}
@@ -25,7 +25,7 @@ returns-clause-module c =
     let items = c.args.written.now.formal.parameters.items in
     let grows = c.in_ok-parameters.ensures.grows in
     let ps = c.in_ok-parameters.ensures.are.parameters
-    ∙ ap (λ xs. parameters_in 0 (map (λ (x : Parameter). kept false (parameter_view x)) xs)) c.deref.ensures.value
+    ∙ ap (λ xs. parameters_in 0 (map (λ (x : WrittenParameter). kept false (parameter_view x)) xs)) c.deref.ensures.value
     ∙ (ap (parameters_in 0) (sym (map_twice parameter_view (kept false) items)) ∙ sym (numbered_alone 0 (map parameter_view items))) in
     subst (λ (w : Module). OnOk c.declare_head.result (module_of c.declare_head.new.builder.arena ≡ w))
     (λ j. more_functions (grows.same j) (function_head (head_view c.args.written.now.head) (ps j) c.args.written.now.formal.variadic))

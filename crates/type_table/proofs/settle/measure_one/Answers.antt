@@ -3,14 +3,14 @@ use Rattle.std.proofs.lemmas.List.{length-map}
 use Rattle.std.proofs.lemmas.Option.{get_or_from_slice_get}
 use Rattle.indexmap.specs.IndexMap.{values}
 use Rattle.type_table.specs.Measures.{body_measure}
-use Rattle.type_table.proofs.Placed.{placed-here, placed-other}
+use Rattle.type_table.proofs.SetFrom.{set_from-here, set_from-other}
 use Rattle.type_table.proofs.settle.measure_one.Goals as goal
 use Rattle.type_table.proofs.settle.measure_one.Goals.{else-first-index-via-then-first-index+else-index-first, else-first-index-via-else-first-index}
 
 pub returns-then-index-first : goal.returns-then-index-first
 returns-then-index-first c =
     let many = length-map c.args.structs.now.entries (λ s. s.1) in
-    let here = placed-here (values c.args.structs.now) c.args.first c.args.given.now c.args.index None c.index-given-index.result c.if-first-index.true (omega arith) (omega (arith, many, c.requires.within)) in
+    let here = set_from-here (values c.args.structs.now) c.args.first c.args.given.now c.args.index None c.index-given-index.result c.if-first-index.true (omega arith) (omega (arith, many, c.requires.within)) in
     c.measure_body.ensures
     ∙ ap (λ b. body_measure c.args.types.now c.args.had (Some b)) c.index-given-index.is
     ∙ ap (body_measure c.args.types.now c.args.had) (sym here)
@@ -22,4 +22,4 @@ returns-else-first-index c =
     c.measure_struct.ensures
     ∙ ap (body_measure c.args.types.now c.args.had)
     (sym (get_or_from_slice_get (values c.args.structs.now) c.args.index c.index.result.now None c.index.ensures)
-    ∙ sym (placed-other (values c.args.structs.now) c.args.first c.args.given.now c.args.index None out))
+    ∙ sym (set_from-other (values c.args.structs.now) c.args.first c.args.given.now c.args.index None out))

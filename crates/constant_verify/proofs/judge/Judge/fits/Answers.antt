@@ -5,7 +5,7 @@ use Rattle.module_arena.specs.Constants.{fits}
 use Rattle.module_arena.specs.Known.{counts}
 use Rattle.module_arena.specs.Lists.{Lists}
 use Rattle.module_arena.specs.View.{constant_at, constants_of, module_of}
-use Rattle.constant_verify.specs.ConstantFacts.{fits_outside}
+use Rattle.constant_verify.specs.ConstantParts.{fits_outside}
 use Rattle.module_arena.proofs.ConstantsTold.{const_known, const_weaker, constant_here}
 use Rattle.constant_verify.proofs.ConstantsKnown.{fact_here}
 use Rattle.constant_verify.proofs.WholeTold.{fits_whole}

@@ -1,6 +1,6 @@
 use Rattle.std.proofs.Common.{arith, subst, refl, ap, sym, ◌∙◌, ◌<◌, ◌≤◌, ◌+◌, ◌^◌, ◌++◌, ◌∷◌, [], length}
 use Rattle.std.proofs.lemmas.List.{length-append}
-use Rattle.ir_memory.specs.Block.{new_block}
+use Rattle.ir_memory.specs.MemoryBlock.{new_block}
 use Rattle.ir_memory.specs.Seen.{at, all_seen}
 use Rattle.ir_memory.proofs.Placed.{IsPlaced-push, live_bytes-push}
 use Rattle.ir_memory.proofs.Known.{AreKnown-added}

@@ -16,8 +16,8 @@ pub overflow_add-at : goal.overflow_add-at
 overflow_add-at c =
     let long = sym (length-masked _ _) ∙ ap length c.self.view_is in omega (arith, long, c.self.inside.bytes.ok.0, c.self.inside.bytes.small)
 
-pub slice_bounds-spelled-end : goal.slice_bounds-spelled-end
-slice_bounds-spelled-end c =
+pub slice_bounds-number_of_bytes-end : goal.slice_bounds-number_of_bytes-end
+slice_bounds-number_of_bytes-end c =
     let long = sym (length-masked _ _) ∙ ap length c.self.view_is in omega (arith, long, c.self.inside.bytes.ok.0, c.self.inside.bytes.small)
 
 pub returns-then-has_any-clause-value : goal.returns-then-has_any-clause-value
@@ -29,4 +29,4 @@ returns-then-has_any-clause-value c =
 pub returns-clause-value : goal.returns-clause-value
 returns-clause-value c =
     let long = sym (length-masked _ _) ∙ ap length c.self.view_is in
-    rw (← c.self.view_is) (ap Some (c.spelled.ensures.value ∙ ap (λ bs. number_of_bytes (slice_range bs c.args.at (c.args.at + c.args.count))) c.deref.ensures.value) ∙ sym (number-some _ c.self.inside.bytes.items c.args.at c.args.count (omega (arith, long, c.requires.within)) (c.has_any.ensures.none c.if-has_any.false)))
+    rw (← c.self.view_is) (ap Some (c.number_of_bytes.ensures.value ∙ ap (λ bs. number_of_bytes (slice_range bs c.args.at (c.args.at + c.args.count))) c.deref.ensures.value) ∙ sym (number-some _ c.self.inside.bytes.items c.args.at c.args.count (omega (arith, long, c.requires.within)) (c.has_any.ensures.none c.if-has_any.false)))

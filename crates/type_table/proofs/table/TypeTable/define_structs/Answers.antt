@@ -4,7 +4,7 @@ use Rattle.type_table.specs.declared.measure.Measure.{Measure}
 use Rattle.type_table.specs.Kept.{IsSmall, IsTable}
 use Rattle.type_table.specs.Measures.{opaque_measure, struct_measures, type_measures}
 use Rattle.type_table.specs.Types.{IsKnownBody, Types, bodies, trees}
-use Rattle.type_table.specs.Batch.{IsOpen, StaysWithin, placed, with_bodies}
+use Rattle.type_table.specs.Batch.{IsOpen, StaysWithin, set_from, with_bodies}
 use Rattle.type_table.proofs.Batched.{table_given, within_given}
 use Rattle.type_table.proofs.Flags.{table_of}
 use Rattle.type_table.proofs.Given.{AreUndefined, trees-given}
@@ -30,19 +30,19 @@ known c = subst (λ t. All (IsKnownBody t) (given c)) (sym c.self.view_is) c.req
 none : (c : After-replace) → AreUndefined (table c) c.args.first (length (given c))
 none c = λ k le lt. ap (λ t. slice_get (bodies t) k) c.self.view_is ∙ c.requires.undefined k le lt
 
-placed_is : (c : After-replace) → placed (bodies (table c)) c.number-index.result c.deref-3.result.now ≡ placed (bodies (table c)) c.args.first (given c)
-placed_is c = λ j. placed (bodies (table c)) (c.number-index.ensures j) (c.deref-3.ensures.value j)
+set_from_is : (c : After-replace) → set_from (bodies (table c)) c.number-index.result c.deref-3.result.now ≡ set_from (bodies (table c)) c.args.first (given c)
+set_from_is c = λ j. set_from (bodies (table c)) (c.number-index.ensures j) (c.deref-3.ensures.value j)
 
 types_are : (c : After-replace) → c.in-Some.measures.types.items ≡ type_measures (ms c) (table c).types
 types_are c = (rw c.in-Some.is at c.in_ok-found.ensures.types) ∙ ap (type_measures (ms c)) c.deref-2.ensures.value
 
-rest : (c : After-replace) → struct_measures (type_measures (ms c) (table c).types) (ms c) (placed (bodies (table c)) c.args.first (given c)) ≡ ms c
-rest c = sym (λ j. struct_measures (types_are c j) (ms c) (placed_is c j)) ∙ (rw c.in-Some.is at c.in_ok-found.ensures.rest)
+rest : (c : After-replace) → struct_measures (type_measures (ms c) (table c).types) (ms c) (set_from (bodies (table c)) c.args.first (given c)) ≡ ms c
+rest c = sym (λ j. struct_measures (types_are c j) (ms c) (set_from_is c j)) ∙ (rw c.in-Some.is at c.in_ok-found.ensures.rest)
 
-open_kept : (c : After-replace) (k : ℕ) → IsOpen (get_or (placed (bodies (table c)) c.args.first (given c)) k None) → get_or (ms c) k opaque_measure ≡ get_or c.self.inside.measures.structs.items k opaque_measure
+open_kept : (c : After-replace) (k : ℕ) → IsOpen (get_or (set_from (bodies (table c)) c.args.first (given c)) k None) → get_or (ms c) k opaque_measure ≡ get_or c.self.inside.measures.structs.items k opaque_measure
 open_kept c k is =
     let kept = rw c.in-Some.is at c.in_ok-found.ensures.kept in
-    kept k (subst (λ (bs : List (Option StructBody)). IsOpen (get_or bs k None)) (sym (placed_is c)) is) ∙ ap (λ l. get_or l k opaque_measure) c.deref.ensures.value
+    kept k (subst (λ (bs : List (Option StructBody)). IsOpen (get_or bs k None)) (sym (set_from_is c)) is) ∙ ap (λ l. get_or l k opaque_measure) c.deref.ensures.value
 
 many : (c : After-replace) → length (ms c) ≡ length (table c).structs
 many c = rw c.in-Some.is at c.in_ok-found.ensures.many

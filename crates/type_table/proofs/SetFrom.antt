@@ -6,19 +6,19 @@ use Rattle.type_table.specs.declared.ir_type.StructBody.{StructBody}
 use Rattle.type_table.specs.declared.ir_type.StructBody.TheVariants.{Opaque, Plain, Packed}
 use Rattle.type_table.specs.declared.measure.Measure.{Measure}
 use Rattle.type_table.specs.Measures.{opaque_measure, body_measure, struct_measures}
-use Rattle.type_table.specs.Batch.{IsOpen, placed}
+use Rattle.type_table.specs.Batch.{IsOpen, set_from}
 use Rattle.type_table.proofs.PassLists.{get_or-struct_measures}
 
-pub length-placed : (all : List (Option StructBody)) (first : ℕ) (given : List StructBody) → length (placed all first given) ≡ length all
-length-placed all first [] = refl
-length-placed all first (body ∷ given) = length-placed (set all first (Some body)) (suc first) given ∙ length-set all first (Some body)
+pub length-set_from : (all : List (Option StructBody)) (first : ℕ) (given : List StructBody) → length (set_from all first given) ≡ length all
+length-set_from all first [] = refl
+length-set_from all first (body ∷ given) = length-set_from (set all first (Some body)) (suc first) given ∙ length-set all first (Some body)
 
 -- in front of them and behind them stands what stood there
-pub placed-other : (all : List (Option StructBody)) (first : ℕ) (given : List StructBody) (k : ℕ) (d : Option StructBody) → (k < first) ⊎ (first + length given ≤ k)
-    → get_or (placed all first given) k d ≡ get_or all k d
-placed-other all first [] k d out = refl
-placed-other all first (body ∷ given) k d out =
-    placed-other (set all first (Some body)) (suc first) given k d (further out) ∙ get_or-set_other all first k (Some body) d (apart out)
+pub set_from-other : (all : List (Option StructBody)) (first : ℕ) (given : List StructBody) (k : ℕ) (d : Option StructBody) → (k < first) ⊎ (first + length given ≤ k)
+    → get_or (set_from all first given) k d ≡ get_or all k d
+set_from-other all first [] k d out = refl
+set_from-other all first (body ∷ given) k d out =
+    set_from-other (set all first (Some body)) (suc first) given k d (further out) ∙ get_or-set_other all first k (Some body) d (apart out)
   where
     further : (k < first) ⊎ (first + length (body ∷ given) ≤ k) → (k < suc first) ⊎ (suc first + length given ≤ k)
     further (inl lt) = inl (omega arith)
@@ -29,14 +29,14 @@ placed-other all first (body ∷ given) k d out =
     apart (inr le) e = omega (arith, e)
 
 -- and from the first on stand they
-pub placed-here : (all : List (Option StructBody)) (first : ℕ) (given : List StructBody) (k : ℕ) (d : Option StructBody) (b : StructBody) → first ≤ k → k < first + length given → k < length all
-    → get_or (placed all first given) k d ≡ Some (get_or given (k - first) b)
-placed-here all first [] k d b le lt within = absurd (omega arith)
-placed-here all first (body ∷ given) k d b le lt within =
-    by (placed-here (set all first (Some body)) (suc first) given k d b) (cases_lt first k)
+pub set_from-here : (all : List (Option StructBody)) (first : ℕ) (given : List StructBody) (k : ℕ) (d : Option StructBody) (b : StructBody) → first ≤ k → k < first + length given → k < length all
+    → get_or (set_from all first given) k d ≡ Some (get_or given (k - first) b)
+set_from-here all first [] k d b le lt within = absurd (omega arith)
+set_from-here all first (body ∷ given) k d b le lt within =
+    by (set_from-here (set all first (Some body)) (suc first) given k d b) (cases_lt first k)
   where
-    by : (suc first ≤ k → k < suc first + length given → k < length (set all first (Some body)) → get_or (placed all first (body ∷ given)) k d ≡ Some (get_or given (k - suc first) b))
-        → (first < k) ⊎ (k ≤ first) → get_or (placed all first (body ∷ given)) k d ≡ Some (get_or (body ∷ given) (k - first) b)
+    by : (suc first ≤ k → k < suc first + length given → k < length (set all first (Some body)) → get_or (set_from all first (body ∷ given)) k d ≡ Some (get_or given (k - suc first) b))
+        → (first < k) ⊎ (k ≤ first) → get_or (set_from all first (body ∷ given)) k d ≡ Some (get_or (body ∷ given) (k - first) b)
     by rest (inl later) =
         let next : k - first ≡ suc (k - suc first) = omega arith in
         rest (omega arith) (omega (arith, lt)) (omega (arith, length-set all first (Some body), within))
@@ -44,7 +44,7 @@ placed-here all first (body ∷ given) k d b le lt within =
     by rest (inr here) =
         let same : k ≡ first = omega (arith, le, here) in
         let start : k - first ≡ 0 = omega arith in
-        placed-other (set all first (Some body)) (suc first) given k d (inl (omega arith))
+        set_from-other (set all first (Some body)) (suc first) given k d (inl (omega arith))
         ∙ ap (λ i. get_or (set all first (Some body)) i d) same
         ∙ get_or-set_same all first (Some body) d (omega (arith, within, same))
         ∙ ap (λ i. Some (get_or (body ∷ given) i b)) (sym start)

@@ -1,6 +1,6 @@
 use Rattle.std.proofs.Common.{◌≡◌, ◌<◌, ◌≤◌, ◌-◌, ◌^◌, drop, length}
 use Rattle.masked_bytes.specs.Masked.{number_of_bytes}
-use Rattle.masked_bytes.proofs.bytes.spelled_in_turn.Given as goal
+use Rattle.masked_bytes.proofs.bytes.number_in_turn.Given as goal
 
 abbrev pub invariant-loop-left : goal.invariant-loop-left
 invariant-loop-left l = record {

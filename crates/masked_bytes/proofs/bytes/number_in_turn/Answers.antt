@@ -1,6 +1,6 @@
 use Rattle.std.proofs.Common.{◌-◌, ◌+◌, ◌*◌, ap, ◌∙◌, sym, arith}
-use Rattle.masked_bytes.proofs.Numbers.{spelled-step, below_more, times_fits}
-use Rattle.masked_bytes.proofs.bytes.spelled_in_turn.Goals as goal
+use Rattle.masked_bytes.proofs.Numbers.{number-step, below_more, times_fits}
+use Rattle.masked_bytes.proofs.bytes.number_in_turn.Goals as goal
 
 pub overflow_mul-number : goal.overflow_mul-number
 overflow_mul-number c =
@@ -13,6 +13,6 @@ overflow_add-number c =
 pub loop-left-preserved : goal.loop-left-preserved
 loop-left-preserved c = record {
   within = omega arith;
-  number = spelled-step c.args.bytes.now c.loop-left.left c.loop-left.number (omega arith) (omega arith) c.loop-left.invariant.number ∙ ap (λ b. c.loop-left.number * 256 + b) (sym c.from.ensures);
+  number = number-step c.args.bytes.now c.loop-left.left c.loop-left.number (omega arith) (omega arith) c.loop-left.invariant.number ∙ ap (λ b. c.loop-left.number * 256 + b) (sym c.from.ensures);
   fits = below_more c.loop-left.number c.from.result _ _ c.loop-left.invariant.fits (omega (arith, c.type_inv.bytes (c.loop-left.left - 1))) (omega arith);
 }
