@@ -6,7 +6,7 @@ use crate::short;
 use crate::width::{fits_signed, signed};
 
 /// Whether the sum fits.
-#[inline]
+#[inline(always)]
 pub fn sum_fits(width: u8, a: u128, b: u128) -> bool
     requires width { IsWidth width }
     requires a { a < 2 ^ width }
@@ -22,7 +22,7 @@ pub fn sum_fits(width: u8, a: u128, b: u128) -> bool
 }
 
 /// Whether the difference fits.
-#[inline]
+#[inline(always)]
 pub fn difference_fits(width: u8, a: u128, b: u128) -> bool
     requires width { IsWidth width }
     requires a { a < 2 ^ width }
@@ -38,7 +38,7 @@ pub fn difference_fits(width: u8, a: u128, b: u128) -> bool
 }
 
 /// Whether the product fits.
-#[inline]
+#[inline(always)]
 pub fn product_fits(width: u8, a: u128, b: u128) -> bool
     requires width { IsWidth width }
     requires a { a < 2 ^ width }
