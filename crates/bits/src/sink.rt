@@ -125,10 +125,11 @@ impl BitSink {
         self.narrow(rest, width)
     }
 
-    /// Adds bits of zero up to a whole word of 32.
+    /// Adds bits of zero up to a whole word of 32. Where memory runs out nothing is added.
     pub fn align(&mut self) -> Result<(), AllocError>
         ensures ok { OnOk result (self.new ≡ self.old ++ pad_bits (length self.old)) }
         ensures whole { OnOk result (length self.new % 32 ≡ 0) }
+        ensures err { OnErr result (self.new ≡ self.old) }
     {
         let gap = (32 - self.count) % 32;
         self.fixed(0, gap)

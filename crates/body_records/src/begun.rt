@@ -1,5 +1,5 @@
 //! A body in the making.
-ghost use Rattle.std.specs.Prelude.{◌≡◌, ◌+◌, ◌<◌, ◌^◌, IfOk, OnOk};
+ghost use Rattle.std.specs.Prelude.{◌≡◌, ◌+◌, ◌<◌, ◌^◌, IfOk, None, OnOk};
 ghost use Rattle.record_table.specs.Bodies as bodies;
 ghost use Rattle.body_records.specs.Begun.{Adds, AddsLine, AddsResult, Begins, Ends, Pushes, StartsEmpty, due_view};
 
@@ -134,7 +134,8 @@ impl Begun {
         instruction: Option<Inst>,
         name: Option<LocalName>,
     ) -> Result<(), AllocError>
-        ensures { AddsLine self.old instruction name result self.new }
+        ensures line { AddsLine self.old instruction name result self.new }
+        ensures nothing { instruction ≡ None → OnOk result (self.new ≡ self.old) }
     {
         match instruction {
             Some(instruction) => self.add_known(instruction, name),

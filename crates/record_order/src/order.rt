@@ -74,7 +74,8 @@ fn classes_of(alloc: Global, table: &TypeTable) -> Result<Vec<TypeId>, AllocErro
 
 /// That none of so many constants was gone through.
 fn none_gone(alloc: Global, constants: u64) -> Result<Vec<bool>, AllocError>
-    ensures { IfOk result (λ gone. (number : ℕ) → slice_index_or gone.items number false ≡ false) }
+    ensures len { IfOk result (λ gone. length gone.items ≡ constants) }
+    ensures none { IfOk result (λ gone. (number : ℕ) → slice_index_or gone.items number false ≡ false) }
 {
     let mut gone = Vec::new(alloc);
     for _constant in 0..constants {
@@ -92,6 +93,7 @@ impl<'a> TypeOrder<'a> {
     ) -> Result<TypeOrder<'a>, AllocError>
         ensures types { IfOk result (λ order. order.types ≡ table.now) }
         ensures none { IfOk result (λ order. order.listed ≡ []) }
+        ensures room { IfOk result (λ order. length order.gone ≡ constants) }
         ensures gone { IfOk result (λ order. (number : ℕ) → slice_index_or order.gone number false ≡ false) }
     {
         let classes = classes_of(alloc, table)?;

@@ -46,7 +46,7 @@ returns-clause-reads c = λ k count numbers s operands front place follows count
     closes _ s.at b.reader c.also.new.self c.also-2.new.self is_new (bodies.are_new s.taken (bodies.results read.0.result)) c.is_line.result (bodies.is_line s.due) read.1 _ c.finish.result
     (ap (λ (y : ModuleReader). y.reader.at) reads.reads.goes.rest ∙ place) c.also.ensures c.also-2.ensures five four told_is c.finish.ensures.told
     (λ unbroken new may.
-    line_added x k count a b before named o line.name line.instruction is_new s operands front follows numbers reads c.in_ok-is_new.ensures (due_line s.due may) unbroken c.add.new.self c.in_ok-add.ensures counted
+    line_added x k count a b before named o line.name line.instruction is_new s operands front follows numbers reads c.in_ok-is_new.ensures (due_line s.due may) unbroken c.add.new.self c.in_ok-add.ensures.line counted
     c.finish.new.self (c.finish.ensures.spent ∙ (ap (λ (r : Reader). r.spent) c.also-2.ensures ∙ ap (λ (r : Reader). r.spent) c.also.ensures))
     (c.finish.ensures.left ∙ (ap (λ (r : Reader). r.left) c.also-2.ensures ∙ ap (λ (r : Reader). r.left) c.also.ensures)) (c.finish.ensures.at ∙ (ap (λ (r : Reader). r.at) c.also-2.ensures ∙ ap (λ (r : Reader). r.at) c.also.ensures)))
 
