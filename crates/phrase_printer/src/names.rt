@@ -1,5 +1,4 @@
 //! Names, labels and texts, bare or in quotes.
-ghost use Rattle.std.specs.Prelude.{◌≡◌};
 ghost use Rattle.gathered.specs.Told.{state, Tells};
 ghost use Rattle.canonical.specs.Names.{quoted, global, named_local, local, label_spelling, label, text, byte_string};
 ghost use Rattle.module_arena.specs.Module.{Numbered};
