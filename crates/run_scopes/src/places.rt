@@ -18,7 +18,7 @@ use run_types::part_of;
 use std::alloc::{AllocError, Global};
 use type_table::TypeId;
 
-/// The leaves of a type of values, or of `void`.
+/// How many leaves a value of this type has: 0 of `void`.
 pub fn leaves_of(arena: &Arena, ty: TypeId) -> u64
     requires { Returns arena.now ty }
     ensures { result ≡ leaves (shape_of (names_of arena.now) (tree arena.now.table ty)) }
@@ -39,7 +39,7 @@ fn leaves_of_part(arena: &Arena, ty: TypeId, indices: &[u32]) -> u64
     layout_of(types, part.ty).leaves
 }
 
-/// The leaves of what an instruction gives, if it gives something.
+/// How many leaves what an instruction gives has: 0 where it gives nothing.
 pub fn leaves_given(arena: &Arena, instruction: &Inst) -> u64
     requires { GivesValue arena.now instruction.now }
     ensures { (f : the_function.Function) → result ≡ leaves (result_shape (names_of arena.now) (instruction_of arena.now f instruction.now).operation) }
