@@ -2,8 +2,8 @@
 //! targets, each where its symbol is defined.
 //!
 //! It stands on the stages of `link_stages`: on entries that are declared, and on constants that the copiers of `entry_copy`
-//! copied. It promises that exactly the linked module is made of them. Definitions: `specs/Definitions`, `specs/Elements`,
-//! `specs/Filling`, `specs/Origins` and `specs/Standing`, `Filled` of `link_stages` and `Linked` of `module_linker`.
+//! copied. It promises that exactly the linked module is made of them. Definitions: `specs/Elements`, `specs/Filling`,
+//! `specs/Origins` and `specs/Standing`, `Filled` and `specs/Definitions` of `link_stages`, and `Linked` of `module_linker`.
 //!
 //! ```
 //! // of the parts `declare void @f()` and `define void @f() { ret void }`, with `declare void @f()` in the new arena

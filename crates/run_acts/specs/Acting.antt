@@ -111,10 +111,11 @@ is_outer (actions.Call to signature callee shapes arguments) = true
 is_outer (actions.Return value) = true
 is_outer _ = false
 
--- so does the instruction that is due
+-- whether the instruction that is due does so
 abbrev pub is_outer_here : Loaded → UnderWay → Bool
 is_outer_here p s = is_outer (look_in p.lists (newest s.frames).function (newest s.frames).block (newest s.frames).position)
 
+-- the instruction that is due calls or returns
 abbrev pub IsOuter : Loaded → UnderWay → Type 0
 IsOuter p s = is_outer_here p s ≡ true
 

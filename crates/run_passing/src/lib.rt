@@ -2,7 +2,7 @@
 //!
 //! It stands on the bytes that wait in `run_traffic`, the frames of `run_stack`, and on `run_ends`, which tells the ends that a run can
 //! have. It promises that output is written before input is read, that a failed read or write is told as what it is, and that what was
-//! answered once can be answered again, word for word. Definitions: `specs/Traffic`, `specs/ToldEnd`.
+//! answered once can be answered again, word for word. Definitions: `specs/Traffic`, `specs/Told`.
 //!
 //! ```
 //! put(&mut held, b"a", &mut sink)?; // the sink may not have it yet
