@@ -91,6 +91,9 @@ fn put_piece(
 }
 
 /// Writes a pattern with its arguments. Where it is refused, a part of it may be written.
+///
+/// It stands apart so that what `printf` answers, which is large, is made where it is used.
+#[inline(never)]
 pub(crate) fn put_pieces(
     alloc: Global,
     memory: &Memory,

@@ -15,6 +15,7 @@ use std::alloc::{AllocError, Global};
 
 /// Writes a pattern that was read, whose arguments are there: the result is the count of bytes modulo 2^32. Nothing is written where
 /// anything is undefined.
+#[inline(always)]
 fn print_format(
     alloc: Global,
     memory: &Memory,
