@@ -1,5 +1,6 @@
 -- Types that are asked for, by their forms, and the function types of rows.
 use Rattle.std.proofs.Common.{◌≡◌, ℕ, suc, Bool, true, false, ◌&&◌, ◌||◌, List, [], ◌∷◌, length, get_or, map, None, refl, sym, ap, ◌∙◌, arith}
+use Rattle.std.specs.Bool.{beq}
 use Rattle.std.specs.List.{list_any}
 use Rattle.ir_tables.specs.declared.intrinsic.Intrinsic.{Intrinsic}
 use Rattle.linkage_rules.specs.SameShape.{same_label, same_shape, same_shapes}
@@ -35,6 +36,11 @@ or_false false = refl
 pub and_flat : (a b c : Bool) → ((a && b) && c) ≡ (a && (b && c))
 and_flat true b c = refl
 and_flat false b c = refl
+
+-- a test is whether it is true
+pub is_it_true : (b : Bool) → b ≡ beq b true
+is_it_true true = refl
+is_it_true false = refl
 
 -- ---- types without parts
 

@@ -2,6 +2,7 @@
 ghost use Rattle.std.specs.Prelude.{◌≡◌, ◌<◌, ◌&&◌, All, [], ◌∷◌, false, length, map};
 ghost use Rattle.std.specs.List.{list_any};
 ghost use Rattle.module_arena.specs.HostRows.{fixed, host_types, integer_parameters, integer_returns};
+ghost use Rattle.module_arena.specs.declared.host.HostRow.TheVariants as HostRow;
 ghost use Rattle.run_rules.specs.Calls.{same_signature};
 ghost use Rattle.run_rules.specs.Look.{no_names};
 ghost use Rattle.run_rules.specs.Resolve.{signature_in};
@@ -140,6 +141,19 @@ fn fits_fixed(types: &TypeTable, written: &CallType<'_>, row: HostRow) -> bool
     first | short
 }
 
+/// Whether a function type, by the ids of its types, is that of `printf`.
+///
+/// It stands apart since `printf` is called often: what its types have to be is known here, and no list of them is gone through.
+fn fits_printf(types: &TypeTable, returns: TypeId, parameters: &[TypeId], variadic: bool) -> bool
+    requires returns { returns < length types.now.types }
+    requires parameters { All (λ ty. ty < length types.now.types) parameters.now }
+    ensures { result ≡ list_any (same_signature (written_as types.now returns parameters.now variadic)) (map (signature_in no_names) (host_types HostRow.Printf)) }
+{
+    let returned = is_wanted(types, returns, Int(32));
+    let taken = are_wanted(types, parameters, &[Ptr]);
+    returned & taken & variadic
+}
+
 /// Whether a function type, by the ids of its types, is one with which a host function can be called.
 pub fn fits_row(
     types: &TypeTable,
@@ -152,13 +166,23 @@ pub fn fits_row(
     requires parameters { All (λ ty. ty < length types.now.types) parameters.now }
     ensures { result ≡ list_any (same_signature (written_as types.now returns parameters.now variadic)) (map (signature_in no_names) (host_types row)) }
 {
-    let written = CallType {
-        returns,
-        parameters,
-        variadic,
-    };
     match row {
-        HostRow::Integer(which, width) => fits_integer(types, &written, which, width),
-        _ => fits_fixed(types, &written, row),
+        HostRow::Integer(which, width) => {
+            let written = CallType {
+                returns,
+                parameters,
+                variadic,
+            };
+            fits_integer(types, &written, which, width)
+        }
+        HostRow::Printf => fits_printf(types, returns, parameters, variadic),
+        _ => {
+            let written = CallType {
+                returns,
+                parameters,
+                variadic,
+            };
+            fits_fixed(types, &written, row)
+        }
     }
 }

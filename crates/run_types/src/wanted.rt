@@ -24,6 +24,7 @@ pub(crate) enum Wanted {
 }
 
 /// Whether a form is that of a type without parts that is asked for.
+#[inline(always)]
 fn is_plain(form: TypeForm, wanted: Wanted) -> bool
     ensures { result ≡ is_plain form wanted }
 {
@@ -64,6 +65,7 @@ fn is_pair(types: &TypeTable, ty: TypeId, width: u8) -> bool
 }
 
 /// Whether a type is that one.
+#[inline(always)]
 pub(crate) fn is_wanted(types: &TypeTable, ty: TypeId, wanted: Wanted) -> bool
     requires { ty < length types.now.types }
     ensures { result ≡ same_shape (shape_in types.now ty) (shape_wanted wanted) }
@@ -75,6 +77,7 @@ pub(crate) fn is_wanted(types: &TypeTable, ty: TypeId, wanted: Wanted) -> bool
 }
 
 /// Whether types are those, one by one.
+#[inline(always)]
 pub(crate) fn are_wanted(types: &TypeTable, parameters: &[TypeId], wanted: &[Wanted]) -> bool
     requires { All (λ ty. ty < length types.now.types) parameters.now }
     ensures { result ≡ same_shape_list (map (shape_in types.now) parameters.now) (map shape_wanted wanted.now) }

@@ -16,5 +16,10 @@ returns-in-Integer c =
     ∙ one_of_one (same_signature used) (signature_in no_names (fixed (integer_returns c.in-Integer.which c.in-Integer.width) (integer_parameters c.in-Integer.which c.in-Integer.width)))
     ∙ ap (λ (row : HostRow). list_any (same_signature used) (map (signature_in no_names) (host_types row))) (sym c.in-Integer.is)
 
+pub returns-in-Printf : goal.returns-in-Printf
+returns-in-Printf c =
+    let used = written_as c.args.types.now c.args.returns c.args.parameters.now c.args.variadic in
+    c.fits_printf.ensures ∙ ap (λ (row : HostRow). list_any (same_signature used) (map (signature_in no_names) (host_types row))) (sym c.in-Printf.is)
+
 pub returns-in_default : goal.returns-in_default
 returns-in_default c = c.fits_fixed.ensures ∙ by_forms c.args.row (written_as c.args.types.now c.args.returns c.args.parameters.now c.args.variadic) c.in_default.not-Integer
