@@ -1,18 +1,19 @@
 -- What a conversion writes straight behind what is written.
-use Rattle.std.proofs.Common.{◌≡◌, ℕ, List, ◌++◌, Result, Ok, Err, Option, Some, Bool, true, refl, sym, ap, ◌∙◌, subst}
-use Rattle.std.specs.Prelude.{IfErr, OnErr, OnOk, if◌then◌else◌}
+use Rattle.std.proofs.Common.{◌≡◌, ℕ, List, ◌++◌, Result, Ok, Err, Option, None, Some, Bool, true, refl, sym, ap, ap₂, ◌∙◌, subst}
+use Rattle.std.specs.Prelude.{IfErr, OnErr, OnOk, OnSome, if◌then◌else◌}
 use Rattle.ir_eval.specs.declared.value.Pointer.{Pointer}
 use Rattle.ir_eval.specs.declared.value.Scalar.TheVariants as scalar
 use Rattle.ir_memory.specs.Memory.{Blocks}
 use Rattle.ir_memory.specs.declared.fault.MemoryFault.{MemoryFault}
 use Rattle.ir_memory.specs.declared.fault.MemoryFault.TheVariants as faults
 use Rattle.ir_memory.specs.declared.leaf.Leaf.{Leaf}
-use Rattle.ir_printf.specs.Printed.{printed_bytes}
+use Rattle.ir_printf.specs.Printed.{precise_bytes, printed_bytes}
 use Rattle.ir_printf.specs.declared.conversion.Conversion.{Conversion}
 use Rattle.ir_printf.specs.declared.conversion.ConversionKind.{ConversionKind}
 use Rattle.ir_printf.specs.declared.conversion.ConversionKind.TheVariants as kind
 use Rattle.ir_printf.specs.declared.conversion.Length.{Length}
 use Rattle.ir_printf.specs.declared.conversion.Length.TheVariants as size
+use Rattle.ir_printf.proofs.Short.{narrow_is}
 use Rattle.ir_tables.specs.declared.undefined_kind.UndefinedKind.{UndefinedKind}
 use Rattle.ir_tables.specs.declared.undefined_kind.UndefinedKind.TheVariants.{BadFormat}
 use Rattle.linkage_rules.specs.SameShape.{same_shape}
@@ -39,6 +40,16 @@ number_refused expected (Ok x) h = tt
 number_refused expected (Err fault) h = subst (IsRefusal expected) (sym h) tt
 
 -- ---- strings
+
+-- a fact that holds anyway holds of what was found
+pub on_some : {T : Type 0} (o : Option T) (P : Type 0) → P → OnSome o P
+on_some None P h = tt
+on_some (Some x) P h = h
+
+-- where no precision ends a string, a conversion without a width writes the string itself
+pub whole_is : (c : Conversion) (bytes : List ℕ) → c.kind ≡ kind.Bytes → c.precision ≡ None → c.width ≡ 0 → bytes ≡ printed_bytes c bytes
+whole_is c bytes string plain narrow =
+    sym (ap₂ (λ k p. precise_bytes k p bytes) string plain) ∙ narrow_is c bytes narrow
 
 -- what a conversion writes of a string that is told
 pub string_put : (m : Blocks) (c : Conversion) (p : Pointer) (bytes : List ℕ) → string_for m c.precision p ≡ Ok bytes → converted m c (scalar.Ptr p) ≡ Ok (printed_bytes c bytes)

@@ -1,9 +1,9 @@
 //! What a conversion of `printf` writes of its argument (C, "The fprintf function").
-ghost use Rattle.std.specs.Prelude.{◌≡◌, ℕ, List, ◌++◌, Ok, Err, IfErr, IfOk, IfSome, OnErr, OnOk, Some, true, if◌then◌else◌, length};
+ghost use Rattle.std.specs.Prelude.{◌≡◌, ℕ, List, ◌++◌, Ok, Err, IfErr, IfOk, IfSome, None, OnErr, OnOk, OnSome, Some, true, if◌then◌else◌, length};
 ghost use Rattle.ir_eval.specs.declared.value.Scalar.TheVariants.{Ptr};
 ghost use Rattle.ir_memory.specs.Given.{IsKnown};
 ghost use Rattle.ir_printf.specs.declared.conversion.ConversionKind.TheVariants as ConversionKind;
-ghost use Rattle.ir_printf.specs.Printed.{is_number};
+ghost use Rattle.ir_printf.specs.Printed.{is_number, printed_bytes};
 ghost use Rattle.ir_tables.specs.declared.undefined_kind.UndefinedKind.TheVariants.{BadFormat};
 ghost use Rattle.linkage_rules.specs.SameShape.{same_shape};
 ghost use Rattle.run_rules.specs.Printing.{converted, shape_for, string_for};
@@ -101,7 +101,8 @@ fn whole_string<'m>(
     string: Pointer,
 ) -> Option<&'m [u8]>
     requires { IsKnown memory.now.list string }
-    ensures { IfSome result (λ bytes. string_for memory.now conversion.now.precision string ≡ Ok bytes.now) }
+    ensures told { IfSome result (λ bytes. string_for memory.now conversion.now.precision string ≡ Ok bytes.now) }
+    ensures plain { OnSome result (conversion.now.precision ≡ None) }
 {
     match conversion.precision {
         None => plain_string(memory, string),
@@ -125,7 +126,29 @@ fn copied_string(
     Ok(bytes)
 }
 
+/// Adds what a conversion of a string without a precision writes of these bytes, which are its string, or nothing where memory is
+/// wanted.
+fn put_whole(
+    alloc: Global,
+    conversion: &Conversion,
+    bytes: &[u8],
+    written: &mut Vec<u8>,
+) -> Result<(), AllocError>
+    requires bytes { conversion.now.kind ≡ ConversionKind.Bytes }
+    requires plain { conversion.now.precision ≡ None }
+    ensures ok { OnOk result (written.new.items ≡ written.old.items ++ printed_bytes conversion.now bytes.now) }
+    ensures err { OnErr result (written.new.items ≡ written.old.items) }
+{
+    let width = conversion.width;
+    if width == 0 {
+        written.extend_from_slice(bytes)?;
+        return Ok(());
+    }
+    put_bytes(alloc, conversion, bytes, written)
+}
+
 /// Adds what a conversion of a string writes of the string at a pointer, which is copied first.
+#[inline(never)]
 fn put_copied(
     alloc: Global,
     memory: &Memory,
@@ -161,7 +184,7 @@ fn put_string(
     let Some(bytes) = whole_string(memory, conversion, string) else {
         return put_copied(alloc, memory, conversion, string, written);
     };
-    put_bytes(alloc, conversion, bytes, written)?;
+    put_whole(alloc, conversion, bytes, written)?;
     Ok(())
 }
 

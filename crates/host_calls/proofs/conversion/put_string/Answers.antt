@@ -5,6 +5,6 @@ use Rattle.host_calls.proofs.conversion.put_string.Goals as goal
 pub returns-clause-ok : goal.returns-clause-ok
 returns-clause-ok c = (
   printed_bytes c.args.conversion.now c.in-Some.bytes.now,
-  string_put c.args.memory.now c.args.conversion.now c.args.string c.in-Some.bytes.now c.in-Some.ensures,
-  c.in_ok-put_bytes.ensures.ok,
+  string_put c.args.memory.now c.args.conversion.now c.args.string c.in-Some.bytes.now c.in-Some.ensures.told,
+  c.in_ok-put_whole.ensures.ok,
 )
