@@ -10,7 +10,7 @@ use ir_eval::Scalar;
 use ir_memory::{Leaf, Memory, MemoryFault};
 use ir_printf::{Conversion, ConversionKind, PatternPiece, next_piece};
 use ir_tables::UndefinedKind;
-use std::alloc::Global;
+use std::alloc::{AllocError, Global};
 
 /// A pattern, and the arguments behind it: what each is, where it is one leaf, and their leaves one after another.
 #[derive(Clone, Copy)]
@@ -25,6 +25,20 @@ pub(crate) struct Format<'f> {
 pub(crate) struct PatternPlace {
     pub(crate) at: usize,
     pub(crate) taken: usize,
+}
+
+/// Adds bytes of the pattern that are written as they are, or nothing where memory is wanted. One byte alone, as a line
+/// feed often is, is pushed: no range is copied.
+fn put_literal(bytes: &[u8], written: &mut Vec<u8>) -> Result<(), AllocError>
+    ensures ok { OnOk result (written.new.items ≡ written.old.items ++ bytes.now) }
+    ensures err { OnErr result (written.new.items ≡ written.old.items) }
+{
+    if bytes.len() == 1 {
+        written.push(bytes[0])?;
+        return Ok(());
+    }
+    written.extend_from_slice(bytes)?;
+    Ok(())
 }
 
 /// Writes a conversion, and tells how many arguments it took: one, but for `%%`.
@@ -72,7 +86,7 @@ fn put_piece(
         Err(_) => Err(MemoryFault::Undefined(UndefinedKind::BadFormat)),
         Ok(PatternPiece::End) => Ok(None),
         Ok(PatternPiece::Literal(from, to)) => {
-            written.extend_from_slice(&format.pattern[from..to])?;
+            put_literal(&format.pattern[from..to], written)?;
             Ok(Some(PatternPlace {
                 at: to,
                 taken: place.taken,
