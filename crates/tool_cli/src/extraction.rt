@@ -13,7 +13,7 @@ ghost use Rattle.tool_cli.specs.World.{sinks};
 
 use crate::delivery::deliver;
 use crate::linking::format_of;
-use crate::parts::accepted_part;
+use crate::parts::{GivenBack, accepted_part};
 use command_line::{OutputName, SelectionWords};
 use extract_core::ExtractFault;
 use ir_base::{Files, Name, NameList, Sink, Text};
@@ -79,6 +79,16 @@ fn part_of(alloc: Global, checked: &Checked, selection: &SelectionWords) -> Resu
     }
 }
 
+// When the items of a text are given back, of which the words select a part: at the end, but where nearly all of it may be kept, so
+// that they never stand beside the whole and a part as large.
+fn items_back(selection: &SelectionWords) -> GivenBack {
+    if selection.delete || selection.recursive {
+        GivenBack::AtOnce
+    } else {
+        GivenBack::AtTheEnd
+    }
+}
+
 // The part that the words select of the input of this name.
 fn extracted(
     alloc: Global,
@@ -91,7 +101,7 @@ fn extracted(
     ensures work { IfErr result (λ ended. IsExtraction name.now selection.now bytes ended ⊎ (ended ≡ Ended.Memory)) }
     ensures of_texts { IfErr result IsOfTexts }
 {
-    let whole = accepted_part(alloc, name, bytes)?;
+    let whole = accepted_part(alloc, name, bytes, items_back(selection))?;
     let part = part_of(alloc, &whole, selection);
     // The program ends soon, which gives all memory back at once.
     forget(whole);

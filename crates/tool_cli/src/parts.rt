@@ -26,6 +26,7 @@ use module_arena::{Checked, Entity};
 use name_rules::{ResolveFault, spell_global};
 use path_verify::verify;
 use std::alloc::{AllocError, Global};
+use std::mem::forget;
 use tool_ends::Ended;
 use type_verify::VerifyFault;
 
@@ -146,6 +147,27 @@ pub(crate) struct Accepted {
     pub(crate) checked: Checked,
 }
 
+/// When the memory of the items of a text is given back.
+#[derive(Clone, Copy)]
+pub(crate) enum GivenBack {
+    /// As soon as the module is there, so that they never stand beside what is made of it.
+    AtOnce,
+    /// With all other memory, where the program ends, which goes over none of it.
+    AtTheEnd,
+}
+
+// The module of a text that is accepted, whose items are given back then.
+fn module_alone(accepted: Accepted, items_back: GivenBack) -> Checked
+    ensures { module_of result ≡ module_of accepted.checked }
+{
+    let Accepted { items, checked } = accepted;
+    match items_back {
+        GivenBack::AtOnce => drop(items),
+        GivenBack::AtTheEnd => forget(items),
+    }
+    checked
+}
+
 // What holds of all bytes: each is one.
 fn each_is_byte(bytes: &[u8])
     ensures { are_bytes bytes.now ≡ true }
@@ -193,8 +215,14 @@ pub(crate) fn accepted_text(alloc: Global, name: &Text, text: Text) -> Result<Ac
 }
 
 /// The module that the input of this name stands for, where it is one that is valid: as bitcode where the input begins as that
-/// does, and else as a text. A text is let go as soon as it was read, bitcode as soon as its module was judged.
-pub(crate) fn accepted_part(alloc: Global, name: &Text, input: Text) -> Result<Checked, Ended>
+/// does, and else as a text. A text is let go as soon as it was read, bitcode as soon as its module was judged, and the items of
+/// a text when `items_back` says.
+pub(crate) fn accepted_part(
+    alloc: Global,
+    name: &Text,
+    input: Text,
+    items_back: GivenBack,
+) -> Result<Checked, Ended>
     requires { IsShort input }
     ensures part { IfOk result (λ checked. IsPart input (module_of checked)) }
     ensures refused { IfErr result (λ ended. IsPartRefused name.now input ended ⊎ (ended ≡ Ended.Memory)) }
@@ -204,9 +232,8 @@ pub(crate) fn accepted_part(alloc: Global, name: &Text, input: Text) -> Result<C
     if is_bitcode(read) {
         return accepted_bitcode(alloc, name, read);
     }
-    // The items of a text are let go as soon as its module is there.
     match accepted_text(alloc, name, input) {
-        Ok(accepted) => Ok(accepted.checked),
+        Ok(accepted) => Ok(module_alone(accepted, items_back)),
         Err(ended) => Err(ended),
     }
 }
@@ -232,7 +259,7 @@ pub(crate) fn accepted_parts(
             Some(text) => text,
             None => unreachable!(),
         };
-        let checked = accepted_part(alloc, name, text)?;
+        let checked = accepted_part(alloc, name, text, GivenBack::AtOnce)?;
         let Ok(()) = parts.push(checked) else {
             return Err(Ended::Memory);
         };

@@ -8,7 +8,7 @@ ghost use Rattle.tool_cli.specs.Judged.{IsShort};
 ghost use Rattle.tool_cli.specs.Running.{end_told, program_of, AnswerTold, IsRunTo, IsRan, IsBeforeRun};
 ghost use Rattle.tool_cli.specs.World.{streams};
 
-use crate::parts::accepted_part;
+use crate::parts::{GivenBack, accepted_part};
 use command_line::is_dash;
 use ir_base::{Failed, Name, Sink, Source, Text, TextList};
 use module_arena::Checked;
@@ -114,7 +114,7 @@ pub(crate) fn run_bytes<I: Source, O: Sink>(
     ensures unread { is_dash name.now ≡ true → input.new ≡ input.old }
     ensures not_begun { IsBeforeRun name.now result → (input.new ≡ input.old) × (output.new ≡ output.old) }
 {
-    let checked = match accepted_part(alloc, name, bytes) {
+    let checked = match accepted_part(alloc, name, bytes, GivenBack::AtOnce) {
         Ok(checked) => checked,
         Err(ended) => return ended,
     };

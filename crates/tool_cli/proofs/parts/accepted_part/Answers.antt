@@ -21,7 +21,8 @@ returns-then-is_bitcode-clause-refused c =
 
 pub returns-in-Ok-clause-part : goal.returns-in-Ok-clause-part
 returns-in-Ok-clause-part c =
-    text_part c.args.input _ _ (subst (λ (input : List ℕ). is_bitcode input ≡ false) c.bytes-read.ensures (sym c.is_bitcode.ensures ∙ c.if-is_bitcode.false)) c.in-Ok.ensures.module
+    subst (IsPart c.args.input) (sym c.module_alone.ensures)
+    (text_part c.args.input _ _ (subst (λ (input : List ℕ). is_bitcode input ≡ false) c.bytes-read.ensures (sym c.is_bitcode.ensures ∙ c.if-is_bitcode.false)) c.in-Ok.ensures.module)
 
 pub returns-in-Err-clause-refused : goal.returns-in-Err-clause-refused
 returns-in-Err-clause-refused c =
