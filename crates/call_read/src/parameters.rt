@@ -2,9 +2,10 @@
 ghost use Rattle.std.specs.Prelude.{IfOk};
 ghost use Rattle.call_read.specs.Calls.{ReadsBoth};
 
-use arena_read::{ModuleReader, push_known, read_type};
+use arena_read::{ModuleReader, read_type};
 use ir_base::ItemList;
 use operand_read::same;
+use record_read::push_known;
 use std::alloc::AllocError;
 use type_table::{TypeId, TypeList};
 

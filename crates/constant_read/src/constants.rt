@@ -9,14 +9,13 @@ ghost use Rattle.constant_read.specs.Made.{AreIndices, HasAll, HasTyped, inner_o
 
 use crate::made::{NestedForm, keep_address, keep_cast, keep_pair, same, stopped, typed};
 use arena_read::{
-    ModuleReader, brackets_of, has_parts, is_pointer, part_at, push_known, read_address,
-    read_binary_opcode, read_cast_opcode, read_integer, read_null, read_string, read_type,
-    unbroken,
+    ModuleReader, brackets_of, has_parts, is_pointer, part_at, read_address, read_binary_opcode,
+    read_cast_opcode, read_integer, read_null, read_string, read_type,
 };
 use ir_base::ItemList;
 use ir_tables::Opcode;
 use module_arena::{Const, ConstId, TypedConst, TypedConstList};
-use record_read::read_flags;
+use record_read::{push_known, read_flags, unbroken};
 use record_table::ConstantForm;
 use std::alloc::AllocError;
 use type_table::TypeId;

@@ -1,5 +1,5 @@
 //! What is known ahead of the bodies of a module's block.
-ghost use Rattle.std.specs.Prelude.{◌≡◌, ◌+◌, ◌≤◌, ◌∷◌, ◌++◌, ℕ, List, [], false, true, length, slice_get, None, IfOk, OnOk, option_to_list};
+ghost use Rattle.std.specs.Prelude.{◌≡◌, ◌+◌, ◌≤◌, ◌∷◌, ℕ, List, [], false, true, length, slice_get, None, IfOk, OnOk, option_to_list};
 ghost use Rattle.bit_stream.specs.declared.reader.TheConstants.{LARGEST_STREAM};
 ghost use Rattle.bit_tree.specs.Pieces.{Piece, ended};
 ghost use Rattle.bit_tree.specs.Read.{IsStream};
@@ -18,7 +18,7 @@ ghost use Rattle.entries_ahead.specs.Entries.{declaring, entry_count, is_entry};
 
 use body_ahead::{BodyAhead, gather_body};
 use head_read::{FunctionFront, find_module, read_function_front};
-use record_read::{NextEntry, RecordReader, Texts};
+use record_read::{NextEntry, RecordReader, Texts, push_known};
 use record_table::{ALIAS, BODY_BLOCK, FUNCTION, VARIABLE};
 use std::alloc::{AllocError, Global};
 use type_table::TypeList;
@@ -96,16 +96,6 @@ fn due_count(front: &FunctionFront) -> Result<Option<u32>, AllocError>
         return Ok(count);
     }
     Ok(None)
-}
-
-/// One body more is due, where there is one.
-fn push_known(due: &mut Vec<u32>, count: Option<u32>) -> Result<(), AllocError>
-    ensures { OnOk result (due.new.items ≡ due.old.items ++ option_to_list count) }
-{
-    if let Some(count) = count {
-        due.push(count)?;
-    }
-    Ok(())
 }
 
 /// Reads the record of a function, which there are so many types for. Its body is due if it is defined and breaks no rule.

@@ -1,13 +1,12 @@
 //! Types by their indices, among so many.
-ghost use Rattle.std.specs.Prelude.{◌≡◌, ◌++◌, IfOk, OnOk, None, Some, option_to_list, if◌then◌else◌};
+ghost use Rattle.std.specs.Prelude.{IfOk};
 ghost use Rattle.record_table.specs.Layout.{counted, times};
 ghost use Rattle.record_table.specs.TypeRecords.{earlier};
-ghost use Rattle.record_read.specs.Reader.{ReadsAs, is_broken};
+ghost use Rattle.record_read.specs.Reader.{ReadsAs};
 ghost use Rattle.record_read.specs.Fields.{IsBelow};
 ghost use Rattle.type_read.specs.Fields.{AreBelow};
 
-use ir_base::ItemList;
-use record_read::{RecordReader, read_place};
+use record_read::{RecordReader, push_known, read_place, unbroken};
 use std::alloc::{AllocError, Global};
 use type_table::{TypeId, TypeList};
 
@@ -18,27 +17,6 @@ pub(crate) fn read_type(reader: &mut RecordReader<'_>, types: u64) -> Option<Typ
     match read_place(reader, types) {
         Some(place) => Some(TypeId::new(place)),
         None => None,
-    }
-}
-
-/// One more type, where it is known.
-fn push_known(types: &mut Vec<TypeId>, ty: Option<TypeId>) -> Result<(), AllocError>
-    ensures { OnOk result (types.new.items ≡ types.old.items ++ option_to_list ty) }
-{
-    if let Some(ty) = ty {
-        types.push(ty)?;
-    }
-    Ok(())
-}
-
-/// The types, where no rule is broken.
-fn unbroken(reader: &RecordReader<'_>, types: Vec<TypeId>) -> Option<TypeList>
-    ensures { result ≡ (if is_broken reader.now.walk then None else Some types.items) }
-{
-    if reader.is_broken() {
-        None
-    } else {
-        Some(ItemList::from_vec(types))
     }
 }
 

@@ -5,9 +5,9 @@ ghost use Rattle.record_table.specs.Fields.{index};
 ghost use Rattle.operand_read.specs.Found.{Finds};
 ghost use Rattle.line_read.specs.Kept.{HasIndices, indices_in};
 
-use arena_read::{ModuleReader, unbroken};
+use arena_read::ModuleReader;
 use module_arena::IndexList;
-use record_read::read_index;
+use record_read::{read_index, unbroken};
 use std::alloc::AllocError;
 
 /// A count, which is not 0, and so many indices. None only where a rule is broken.

@@ -4,7 +4,8 @@ ghost use Rattle.record_table.specs.Layout.{counted};
 ghost use Rattle.record_table.specs.Fields as fields;
 ghost use Rattle.operand_read.specs.Found.{Finds, HasTypes, types_in};
 
-use arena_read::{ModuleReader, push_known, read_type, unbroken};
+use arena_read::{ModuleReader, read_type};
+use record_read::{push_known, unbroken};
 use std::alloc::AllocError;
 use type_table::TypeList;
 

@@ -17,6 +17,7 @@
 mod codes;
 mod entry;
 mod fault;
+mod lists;
 mod numbers;
 mod reader;
 mod texts;
@@ -24,6 +25,7 @@ mod texts;
 pub use codes::{read_alignment, read_flags, read_linkage, read_predicate};
 pub use entry::NextEntry;
 pub use fault::{BitcodeFault, misplaced};
+pub use lists::{push_known, unbroken};
 pub use numbers::{read_below, read_flag, read_index, read_place};
 pub use reader::RecordReader;
 pub use texts::{Texts, read_byte_string, read_label, read_last, read_name, read_rest, read_text};

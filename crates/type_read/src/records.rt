@@ -1,15 +1,14 @@
 //! The records of types.
-ghost use Rattle.std.specs.Prelude.{◌≡◌, ◌++◌, ◌&&◌, nat_le, nat_lt, Some, None, IfOk, OnOk, option_to_list, if◌then◌else◌};
+ghost use Rattle.std.specs.Prelude.{◌≡◌, ◌&&◌, nat_le, nat_lt, Some, None, IfOk, if◌then◌else◌};
 ghost use Rattle.record_table.specs.Layout.{times, to_end};
 ghost use Rattle.record_table.specs.TypeRecords as types;
 ghost use Rattle.record_table.specs.Codes.{kind_view};
-ghost use Rattle.record_read.specs.Reader.{ReadsAs, is_broken};
+ghost use Rattle.record_read.specs.Reader.{ReadsAs};
 ghost use Rattle.record_read.specs.Fields.{IsBelow};
 ghost use Rattle.type_read.specs.Fields.{AreBelow, IsTypeOf};
 
-use ir_base::ItemList;
 use ir_tables::WIDEST;
-use record_read::{RecordReader, read_flag, read_place};
+use record_read::{RecordReader, push_known, read_flag, read_place, unbroken};
 use record_table::TypeKind;
 use std::alloc::{AllocError, Global};
 use type_table::{IrType, StructId, TypeId, TypeList};
@@ -21,27 +20,6 @@ fn read_earlier(reader: &mut RecordReader<'_>, count: u64) -> Option<TypeId>
     match read_place(reader, count) {
         Some(place) => Some(TypeId::new(place)),
         None => None,
-    }
-}
-
-/// One more type, where it is known.
-fn push_known(types: &mut Vec<TypeId>, ty: Option<TypeId>) -> Result<(), AllocError>
-    ensures { OnOk result (types.new.items ≡ types.old.items ++ option_to_list ty) }
-{
-    if let Some(ty) = ty {
-        types.push(ty)?;
-    }
-    Ok(())
-}
-
-/// The types, where no rule is broken.
-fn unbroken(reader: &RecordReader<'_>, types: Vec<TypeId>) -> Option<TypeList>
-    ensures { result ≡ (if is_broken reader.now.walk then None else Some types.items) }
-{
-    if reader.is_broken() {
-        None
-    } else {
-        Some(ItemList::from_vec(types))
     }
 }
 

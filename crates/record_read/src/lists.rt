@@ -2,8 +2,8 @@
 ghost use Rattle.std.specs.Prelude.{◌≡◌, ◌++◌, None, Some, OnOk, option_to_list, if◌then◌else◌};
 ghost use Rattle.record_read.specs.Reader.{is_broken};
 
+use crate::RecordReader;
 use ir_base::ItemList;
-use record_read::RecordReader;
 use std::alloc::AllocError;
 
 /// One more item, where it is known.
