@@ -9,10 +9,10 @@ ghost use Rattle.record_read.specs.Fields.{texts_of};
 ghost use Rattle.body_ahead.specs.Ahead.{AreVoids, GathersRecord, IsAhead};
 
 use crate::giving::gives;
-use crate::parameters::{more, read_parameters};
+use crate::parameters::read_parameters;
 use arena_read::LocalCounts;
 use module_arena::LocalNameList;
-use record_read::{NextEntry, RecordReader, Texts};
+use record_read::{NextEntry, RecordReader, Texts, one_more};
 use record_table::{BLOCK, PARAMETERS};
 use std::alloc::{AllocError, Global};
 
@@ -40,7 +40,7 @@ fn gather_record(
     ensures gathers { (operands : List ℕ) → reader.old.walk ≡ going operands None → OnOk result (GathersRecord (texts_of texts.now) parameters voids.now is_first code operands ahead.old ahead.new) }
 {
     if code == BLOCK {
-        ahead.counts.blocks = more(ahead.counts.blocks)?;
+        ahead.counts.blocks = one_more(ahead.counts.blocks)?;
         return Ok(());
     }
     if is_first && code == PARAMETERS {
@@ -48,7 +48,7 @@ fn gather_record(
         return Ok(());
     }
     if gives(reader, code, voids) {
-        ahead.counts.values = more(ahead.counts.values)?;
+        ahead.counts.values = one_more(ahead.counts.values)?;
         return Ok(());
     }
     Ok(())

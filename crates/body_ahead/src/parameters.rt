@@ -1,5 +1,5 @@
 //! What the parameters of a body are called.
-ghost use Rattle.std.specs.Prelude.{◌≡◌, ◌+◌, ℕ, List, None, IfOk, OnOk};
+ghost use Rattle.std.specs.Prelude.{◌≡◌, ℕ, List, None, IfOk, OnOk};
 ghost use Rattle.module_arena.specs.View.{local_view};
 ghost use Rattle.record_table.specs.Bodies.{parameters};
 ghost use Rattle.record_table.specs.Fields.{after};
@@ -10,15 +10,8 @@ ghost use Rattle.body_ahead.specs.Ahead.{AreNamesOf};
 
 use ir_base::ItemList;
 use module_arena::{LocalName, LocalNameList};
-use record_read::{RecordReader, Texts, read_label};
+use record_read::{RecordReader, Texts, one_more, read_label};
 use std::alloc::{AllocError, Global};
-
-/// One more. More than 32 bits hold are more than memory holds.
-pub(crate) fn more(count: u32) -> Result<u32, AllocError>
-    ensures { IfOk result (λ next. next ≡ count + 1) }
-{
-    count.checked_add(1).ok_or(AllocError)
-}
 
 /// The number that the next has behind this one.
 fn own_after(own: u32, name: &LocalName) -> Result<u32, AllocError>
@@ -26,7 +19,7 @@ fn own_after(own: u32, name: &LocalName) -> Result<u32, AllocError>
 {
     match name {
         LocalName::Named(_) => Ok(own),
-        LocalName::Numbered(_) => more(own),
+        LocalName::Numbered(_) => one_more(own),
     }
 }
 

@@ -1,5 +1,5 @@
 //! Which names are there.
-ghost use Rattle.std.specs.Prelude.{◌≡◌, ◌+◌, [], false, true, Some, IfOk};
+ghost use Rattle.std.specs.Prelude.{◌≡◌, [], false, true, Some, IfOk};
 ghost use Rattle.std.specs.Option.{option_copied};
 ghost use Rattle.record_read.specs.Fields.{are_bytes};
 ghost use Rattle.body_names.specs.Called.{AddsName, Calls};
@@ -7,6 +7,7 @@ ghost use Rattle.body_names.specs.Called.{AddsName, Calls};
 use indexmap::IndexSet;
 use ir_base::Name;
 use module_arena::LocalName;
+use record_read::one_more;
 use std::alloc::{AllocError, Global};
 
 /// What parameters, blocks and results of a body are called so far.
@@ -31,13 +32,6 @@ fn is_of_bytes(name: &Name)
     ensures { are_bytes name.now ≡ true }
 {
     each_is_byte(name.text().bytes());
-}
-
-/// One more. More than 32 bits hold are more than memory holds.
-fn more(count: u32) -> Result<u32, AllocError>
-    ensures { IfOk result (λ next. next ≡ count + 1) }
-{
-    count.checked_add(1).ok_or(AllocError)
 }
 
 /// One more name, where it is not there. Tells whether it is new.
@@ -75,7 +69,7 @@ impl BodyNames {
                 add_name(alloc, &mut self.taken, name)
             }
             LocalName::Numbered(_) => {
-                self.own = more(self.own)?;
+                self.own = one_more(self.own)?;
                 Ok(true)
             }
         }

@@ -1,11 +1,12 @@
 //! A body in the making.
-ghost use Rattle.std.specs.Prelude.{◌≡◌, ◌+◌, ◌<◌, ◌^◌, IfOk, None, OnOk};
+ghost use Rattle.std.specs.Prelude.{◌≡◌, ◌<◌, ◌^◌, None, OnOk};
 ghost use Rattle.record_table.specs.Bodies as bodies;
 ghost use Rattle.body_records.specs.Begun.{Adds, AddsLine, AddsResult, Begins, Ends, Pushes, StartsEmpty, due_view};
 
 use body_names::BodyNames;
 use ir_base::ItemList;
 use module_arena::{Block, Body, Ending, Inst, LocalName};
+use record_read::one_more;
 use std::alloc::{AllocError, Global};
 use std::mem;
 
@@ -68,13 +69,6 @@ pub struct Begun {
     pub results: Vec<LocalName>,
 }
 
-/// One more. More than 32 bits hold are more than memory holds.
-fn more(count: u32) -> Result<u32, AllocError>
-    ensures { IfOk result (λ next. next ≡ count + 1) }
-{
-    count.checked_add(1).ok_or(AllocError)
-}
-
 impl Begun {
     /// Nothing was read yet.
     pub fn new(alloc: Global) -> Begun
@@ -112,7 +106,7 @@ impl Begun {
     pub fn add_result(&mut self, name: LocalName) -> Result<(), AllocError>
         ensures { OnOk result (AddsResult self.old name self.new) }
     {
-        self.next = more(self.next)?;
+        self.next = one_more(self.next)?;
         self.results.push(name)?;
         Ok(())
     }

@@ -1,5 +1,5 @@
 //! What is known ahead of the block of a module.
-ghost use Rattle.std.specs.Prelude.{◌≡◌, ◌≤◌, ◌+◌, ◌&&◌, ◌∷◌, ℕ, List, [], false, length, nat_eq, not, IfOk, OnOk};
+ghost use Rattle.std.specs.Prelude.{◌≡◌, ◌≤◌, ◌&&◌, ◌∷◌, ℕ, List, [], false, length, nat_eq, not, IfOk, OnOk};
 ghost use Rattle.bit_stream.specs.declared.reader.TheConstants.{LARGEST_STREAM};
 ghost use Rattle.bit_tree.specs.Pieces.{Piece, ended};
 ghost use Rattle.bit_tree.specs.Read.{IsStream};
@@ -11,7 +11,7 @@ ghost use Rattle.head_read.specs.Ahead.{CountsRecord, FindsFirst, Gathers, Gathe
 
 use arena_read::GlobalCounts;
 use module_arena::Arena;
-use record_read::{NextEntry, RecordReader, Texts};
+use record_read::{NextEntry, RecordReader, Texts, one_more};
 use record_table::{ALIAS, FUNCTION, MODULE_BLOCK, TYPES_BLOCK, VARIABLE};
 use std::alloc::{AllocError, Global};
 use type_read::{StructNames, gather_types};
@@ -53,28 +53,21 @@ pub fn find_module(reader: &mut RecordReader<'_>) -> Result<bool, AllocError>
     }
 }
 
-/// One more. More than 32 bits hold are more than memory holds.
-fn more(count: u32) -> Result<u32, AllocError>
-    ensures { IfOk result (λ next. next ≡ count + 1) }
-{
-    count.checked_add(1).ok_or(AllocError)
-}
-
 /// The counts with a record of that code.
 fn counted(counts: GlobalCounts, code: u32) -> Result<GlobalCounts, AllocError>
     ensures { IfOk result (CountsRecord code counts) }
 {
     let mut now = counts;
     if code == VARIABLE {
-        now.variables = more(counts.variables)?;
+        now.variables = one_more(counts.variables)?;
         return Ok(now);
     }
     if code == FUNCTION {
-        now.functions = more(counts.functions)?;
+        now.functions = one_more(counts.functions)?;
         return Ok(now);
     }
     if code == ALIAS {
-        now.aliases = more(counts.aliases)?;
+        now.aliases = one_more(counts.aliases)?;
         return Ok(now);
     }
     Ok(now)

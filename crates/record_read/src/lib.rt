@@ -15,6 +15,7 @@
 #![tactic(auto)]
 
 mod codes;
+mod counts;
 mod entry;
 mod fault;
 mod lists;
@@ -23,6 +24,7 @@ mod reader;
 mod texts;
 
 pub use codes::{read_alignment, read_flags, read_linkage, read_predicate};
+pub use counts::one_more;
 pub use entry::NextEntry;
 pub use fault::{BitcodeFault, misplaced};
 pub use lists::{push_known, unbroken};
