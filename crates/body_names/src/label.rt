@@ -1,13 +1,13 @@
 //! What is called so.
 ghost use Rattle.std.specs.Prelude.{◌≡◌, None, IfOk};
 ghost use Rattle.record_table.specs.StringTable.{beyond, text_at};
-ghost use Rattle.record_read.specs.Fields.{IsBeyond, IsLocalNamed, IsTextAt};
+ghost use Rattle.record_read.specs.Fields.{IsBeyond, IsTextAt};
 ghost use Rattle.body_names.specs.Called.{ReadsCalled, beyond_table};
 ghost use Rattle.record_read.specs.declared.texts.Texts.TheVariants as the_texts;
 
 use ir_base::Text;
 use module_arena::LocalName;
-use record_read::{RecordReader, Texts, read_label, read_name};
+use record_read::{RecordReader, Texts, read_label, read_local_name};
 use std::alloc::{AllocError, Global};
 
 /// A text of that size that passes the end of the table, which breaks rule 8: only an empty one is there.
@@ -46,16 +46,6 @@ fn read_at(
     }
 }
 
-/// The text as the name of a local.
-fn read_local(reader: &mut RecordReader<'_>, text: Option<Text>) -> Option<LocalName>
-    ensures { IsLocalNamed text reader.old result reader.new }
-{
-    match read_name(reader, text) {
-        Some(name) => Some(LocalName::Named(name)),
-        None => None,
-    }
-}
-
 /// A name in the table.
 fn read_in_table(
     reader: &mut RecordReader<'_>,
@@ -71,7 +61,7 @@ fn read_in_table(
     }
     let offset = reader.number();
     let text = read_at(reader, alloc, table, offset, number - 1)?;
-    Ok(read_local(reader, text))
+    Ok(read_local_name(reader, text))
 }
 
 /// What a parameter, block or result is called: 0 where it has that number, else one more than the size of its name and the

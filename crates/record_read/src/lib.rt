@@ -30,4 +30,7 @@ pub use fault::{BitcodeFault, misplaced};
 pub use lists::{push_known, unbroken};
 pub use numbers::{read_below, read_flag, read_index, read_place};
 pub use reader::RecordReader;
-pub use texts::{Texts, read_byte_string, read_label, read_last, read_name, read_rest, read_text};
+pub use texts::{
+    Texts, read_byte_string, read_label, read_last, read_local_name, read_name, read_rest,
+    read_text,
+};

@@ -193,8 +193,8 @@ pub fn read_name(reader: &mut RecordReader<'_>, text: Option<Text>) -> Option<Na
     }
 }
 
-/// The text as the name of a local.
-fn read_local(reader: &mut RecordReader<'_>, text: Option<Text>) -> Option<LocalName>
+/// The text as the name of a local. One that is empty or has a zero byte breaks rule 4.
+pub fn read_local_name(reader: &mut RecordReader<'_>, text: Option<Text>) -> Option<LocalName>
     ensures { IsLocalNamed text reader.old result reader.new }
 {
     match read_name(reader, text) {
@@ -216,7 +216,7 @@ fn read_inline_label(
         return Ok(Some(LocalName::Numbered(own)));
     }
     let text = read_bytes(reader, alloc, number - 1)?;
-    Ok(read_local(reader, text))
+    Ok(read_local_name(reader, text))
 }
 
 /// A label in the table.
@@ -234,7 +234,7 @@ fn read_table_label(
     }
     let offset = reader.number();
     let text = read_at(reader, alloc, table, offset, number - 1)?;
-    Ok(read_local(reader, text))
+    Ok(read_local_name(reader, text))
 }
 
 /// What a parameter, block or result is called: 0 where it has that number, else one more than the size of its name and the
