@@ -1,5 +1,4 @@
 pub mod Chained
-pub mod AllBytes
 pub mod Verdicts
 pub mod Opened
 pub mod Judged

@@ -1,23 +1,15 @@
 //! What stands in front of the block of the module.
-ghost use Rattle.std.specs.Prelude.{◌≡◌, ◌≤◌, length, true, false, IfOk};
+ghost use Rattle.std.specs.Prelude.{◌≡◌, ◌≤◌, length, false, IfOk};
 ghost use Rattle.bit_stream.specs.declared.reader.TheConstants.{LARGEST_STREAM};
 ghost use Rattle.bit_tree.specs.Read.{IsStream};
 ghost use Rattle.bit_tree.specs.Stream.{StreamTree, Stream};
-ghost use Rattle.record_read.specs.Fields.{are_bytes};
 ghost use Rattle.bitcode_read.specs.Opening.{Opens};
 ghost use Rattle.bitcode_read.specs.Sofar.{AreBytesHeld};
 
 use head_read::{ModuleAhead, look_ahead};
 use opening_read::{read_producer, read_texts};
-use record_read::{BitcodeFault, RecordReader, Texts};
+use record_read::{BitcodeFault, RecordReader, Texts, each_is_byte};
 use std::alloc::Global;
-
-/// What holds of all bytes: each is one.
-fn each_is_byte(bytes: &[u8])
-    ensures { are_bytes bytes.now ≡ true }
-{
-    let _count = bytes.len();
-}
 
 /// What holds of every table of texts: it is made of bytes.
 fn are_bytes_held(texts: &Texts)

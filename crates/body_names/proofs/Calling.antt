@@ -1,8 +1,8 @@
 -- Names that are there, as a set has them, and one more.
-use Rattle.std.proofs.Common.{◌≡◌, ◌<◌, ◌+◌, ℕ, suc, Bool, true, false, not, ◌&&◌, cond, List, [], ◌∷◌, ◌++◌, Some, None, Result, Ok, Err, IfOk, length, get_or, nat_lt, refl, sym, ap, subst, ◌∙◌, arith, add-one}
+use Rattle.std.proofs.Common.{◌≡◌, ◌+◌, ℕ, Bool, true, false, not, ◌&&◌, cond, List, [], ◌∷◌, ◌++◌, Some, None, Result, Ok, Err, IfOk, refl, sym, ap, subst, ◌∙◌, add-one}
 use Rattle.std.specs.Prelude.{◌||◌, bytes_eq}
 use Rattle.std.specs.List.{list_any}
-use Rattle.std.proofs.lemmas.Bool.{and_from, false_from_ne_true, false≢true, lt-ltb}
+use Rattle.std.proofs.lemmas.Bool.{false_from_ne_true, false≢true}
 use Rattle.std.proofs.lemmas.Slice.Eq.{bytes_eq-Decides}
 use Rattle.module_arena.specs.declared.entry.LocalName.TheVariants as local
 use Rattle.module_arena.specs.Module.{Bytes, Named}
@@ -14,10 +14,6 @@ use Rattle.body_names.specs.Called.{AddsName, AreNames, Calls, beyond_table}
 pub ok_by : {A E : Type 0} (r : Result A E) (P Q : A → Type 0) → IfOk r P → ((x : A) → P x → Q x) → IfOk r Q
 ok_by (Ok x) P Q h f = f x h
 ok_by (Err e) P Q h f = tt
-
-pub all_bytes : (bs : Bytes) → ((i : ℕ) → i < length bs → get_or bs i 0 < 256) → are_bytes bs ≡ true
-all_bytes [] each = refl
-all_bytes (b ∷ bs) each = and_from (nat_lt b 256) (are_bytes bs) (lt-ltb b 256 (each 0 (omega arith))) (all_bytes bs (λ i lt. each (suc i) (omega arith)))
 
 -- ---- tests
 

@@ -1,13 +1,12 @@
 //! Which names are there.
 ghost use Rattle.std.specs.Prelude.{◌≡◌, [], false, true, Some, IfOk};
 ghost use Rattle.std.specs.Option.{option_copied};
-ghost use Rattle.record_read.specs.Fields.{are_bytes};
 ghost use Rattle.body_names.specs.Called.{AddsName, Calls};
 
 use indexmap::IndexSet;
 use ir_base::Name;
 use module_arena::LocalName;
-use record_read::one_more;
+use record_read::{is_of_bytes, one_more};
 use std::alloc::{AllocError, Global};
 
 /// What parameters, blocks and results of a body are called so far.
@@ -18,20 +17,6 @@ pub struct BodyNames {
     taken: IndexSet<Name>,
     /// Whether one is called by a text that passes the end of the string table.
     strange: bool,
-}
-
-/// What holds of all bytes: each is one.
-fn each_is_byte(bytes: &[u8])
-    ensures { are_bytes bytes.now ≡ true }
-{
-    let _count = bytes.len();
-}
-
-/// What holds of every name: it is made of bytes.
-fn is_of_bytes(name: &Name)
-    ensures { are_bytes name.now ≡ true }
-{
-    each_is_byte(name.text().bytes());
 }
 
 /// One more name, where it is not there. Tells whether it is new.

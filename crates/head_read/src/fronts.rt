@@ -1,8 +1,8 @@
 //! What the records of variables, functions and aliases begin with.
-ghost use Rattle.std.specs.Prelude.{◌≡◌, true, IfOk};
+ghost use Rattle.std.specs.Prelude.{◌≡◌, IfOk};
 ghost use Rattle.std.specs.Option.{option_map};
 ghost use Rattle.record_read.specs.Reader.{ReadsAs};
-ghost use Rattle.record_read.specs.Fields.{are_bytes, texts_of};
+ghost use Rattle.record_read.specs.Fields.{texts_of};
 ghost use Rattle.module_arena.specs.declared.entry.AliasType.TheVariants as kept;
 ghost use Rattle.head_read.specs.Fronts.{IsListedFunction, IsListedType, ReadsAlias, ReadsFrontName, ReadsFunction, ReadsVariable, alias_type_front, function_type as function_layout, function_type_of};
 
@@ -11,7 +11,7 @@ use ir_base::Name;
 use ir_tables::Linkage;
 use module_arena::AliasType;
 use record_read::{
-    RecordReader, Texts, read_alignment, read_flag, read_linkage, read_name, read_text,
+    RecordReader, Texts, is_of_bytes, read_alignment, read_flag, read_linkage, read_name, read_text,
 };
 use std::alloc::{AllocError, Global};
 use type_table::{TypeId, TypeList};
@@ -44,20 +44,6 @@ pub struct AliasFront {
     pub name: Option<Name>,
     pub linkage: Linkage,
     pub ty: Option<AliasType>,
-}
-
-/// What holds of all bytes: each is one.
-fn each_is_byte(bytes: &[u8])
-    ensures { are_bytes bytes.now ≡ true }
-{
-    let _count = bytes.len();
-}
-
-/// What holds of every name: it is made of bytes.
-fn is_of_bytes(name: &Name)
-    ensures { are_bytes name.now ≡ true }
-{
-    each_is_byte(name.text().bytes());
 }
 
 /// The name in front of a record. A text that is none breaks rule 4. None exactly where the text is no name that is good. It

@@ -6,3 +6,4 @@ pub mod Repeated
 pub mod Gathering
 pub mod Coded
 pub mod Sized
+pub mod AllBytes

@@ -14,6 +14,7 @@
 //! ```
 #![tactic(auto)]
 
+mod bytes;
 mod codes;
 mod counts;
 mod entry;
@@ -23,6 +24,7 @@ mod numbers;
 mod reader;
 mod texts;
 
+pub use bytes::{each_is_byte, is_of_bytes};
 pub use codes::{read_alignment, read_flags, read_linkage, read_predicate};
 pub use counts::one_more;
 pub use entry::NextEntry;

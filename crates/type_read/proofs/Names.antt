@@ -1,7 +1,6 @@
 -- The name at the end of a struct's record.
-use Rattle.std.proofs.Common.{◌≡◌, ◌<◌, ◌&&◌, ℕ, suc, Bool, true, false, [], ◌∷◌, Option, Some, None, get_or, length, refl, sym, ap, ◌∙◌, arith}
-use Rattle.std.specs.Prelude.{nat_lt}
-use Rattle.std.proofs.lemmas.Bool.{and_from, lt-ltb}
+use Rattle.std.proofs.Common.{◌≡◌, ◌&&◌, ℕ, Bool, true, false, Option, Some, None, refl, sym, ap, ◌∙◌}
+use Rattle.std.proofs.lemmas.Bool.{and_from}
 use Rattle.module_arena.specs.Module.{Bytes}
 use Rattle.record_table.specs.Layout.{asking}
 use Rattle.record_table.specs.Fields.{Texts, is_name}
@@ -11,11 +10,6 @@ use Rattle.record_read.specs.Fields.{ReadsText, IsNamed, are_bytes}
 use Rattle.record_read.proofs.Sized.{named_reads}
 use Rattle.type_read.specs.Fields.{IsBodyOf, IsDefinition, ReadsName, is_good}
 use Rattle.type_read.specs.declared.definition.StructDefinition.{StructDefinition}
-
--- items that are each below 256
-pub all_bytes : (bs : Bytes) → ((i : ℕ) → i < length bs → get_or bs i 0 < 256) → are_bytes bs ≡ true
-all_bytes [] each = refl
-all_bytes (b ∷ bs) each = and_from (nat_lt b 256) (are_bytes bs) (lt-ltb b 256 (each 0 (omega arith))) (all_bytes bs (λ i lt. each (suc i) (omega arith)))
 
 no_name : (x : Bytes) → is_name x ≡ false → is_good x ≡ false
 no_name x h = ap (λ b. b && are_bytes x) h

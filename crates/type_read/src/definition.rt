@@ -1,13 +1,13 @@
 //! The record of a struct.
-ghost use Rattle.std.specs.Prelude.{◌≡◌, ◌||◌, ◌==◌, nat_lt, true, IfOk, OnOk};
+ghost use Rattle.std.specs.Prelude.{◌≡◌, ◌||◌, ◌==◌, nat_lt, IfOk, OnOk};
 ghost use Rattle.record_table.specs.TypeRecords as types;
 ghost use Rattle.record_read.specs.Reader.{ReadsAs};
-ghost use Rattle.record_read.specs.Fields.{are_bytes, texts_of};
+ghost use Rattle.record_read.specs.Fields.{texts_of};
 ghost use Rattle.type_read.specs.Fields.{IsBodyOf, IsDefinition, ReadsName};
 
 use crate::records::read_fields;
 use ir_base::Name;
-use record_read::{RecordReader, Texts, read_below, read_last, read_name};
+use record_read::{RecordReader, Texts, is_of_bytes, read_below, read_last, read_name};
 use std::alloc::{AllocError, Global};
 use type_table::{StructBody, TypeList};
 
@@ -53,20 +53,6 @@ fn read_body(
         Some(fields) => Ok(Some(body_of(code, fields))),
         None => Ok(None),
     }
-}
-
-/// What holds of all bytes: each is one.
-fn each_is_byte(bytes: &[u8])
-    ensures { are_bytes bytes.now ≡ true }
-{
-    let _count = bytes.len();
-}
-
-/// What holds of every name: it is made of bytes.
-fn is_of_bytes(name: &Name)
-    ensures { are_bytes name.now ≡ true }
-{
-    each_is_byte(name.text().bytes());
 }
 
 /// The name at the end of the record. A text that is none breaks rule 4.

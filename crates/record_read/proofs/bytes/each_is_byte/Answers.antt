@@ -1,6 +1,6 @@
 use Rattle.std.proofs.Common.{arith}
-use Rattle.type_read.proofs.Names.{all_bytes}
-use Rattle.type_read.proofs.definition.each_is_byte.Goals as goal
+use Rattle.record_read.proofs.AllBytes.{all_bytes}
+use Rattle.record_read.proofs.bytes.each_is_byte.Goals as goal
 
 pub returns : goal.returns
 returns c = all_bytes c.args.bytes.now (λ i lt. omega (arith, c.type_inv.bytes i))

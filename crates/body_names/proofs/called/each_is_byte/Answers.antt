@@ -1,6 +1,0 @@
-use Rattle.std.proofs.Common.{arith}
-use Rattle.body_names.proofs.Calling.{all_bytes}
-use Rattle.body_names.proofs.called.each_is_byte.Goals as goal
-
-pub returns : goal.returns
-returns c = all_bytes c.args.bytes.now (λ i lt. omega (arith, c.type_inv.bytes i))
