@@ -1,14 +1,14 @@
 //! The arguments of a call.
-ghost use Rattle.std.specs.Prelude.{◌≡◌, ◌++◌, All, map, slice_get, IfOk, IfSome, OnOk, option_to_list};
+ghost use Rattle.std.specs.Prelude.{◌≡◌, All, map, slice_get, IfOk, IfSome};
 ghost use Rattle.std.specs.Option.{option_map};
 ghost use Rattle.record_table.specs.Lines as lines;
 ghost use Rattle.arena_read.specs.Kept.{IsKnownType, tree_at};
-ghost use Rattle.operand_read.specs.Found.{Finds, HasOperands, both, kept_operand, operands_in};
+ghost use Rattle.operand_read.specs.Found.{Finds, HasOperands, operands_in};
 ghost use Rattle.call_read.specs.Calls.{TypesArgument};
 
 use arena_read::{ModuleReader, read_type};
-use module_arena::{Operand, OperandList, Value};
-use operand_read::{operand_list, push_operand, read_value, same};
+use module_arena::OperandList;
+use operand_read::{add_operand, operand_list, read_value, same};
 use std::alloc::AllocError;
 use type_table::TypeId;
 
@@ -34,27 +34,6 @@ fn argument_type(m: &mut ModuleReader<'_>, parameter: Option<Option<TypeId>>) ->
     }
 }
 
-/// One more argument, of that type and value, where both are known.
-fn add_argument(
-    arguments: &mut Vec<Operand>,
-    ty: Option<TypeId>,
-    value: Option<Value>,
-) -> Result<(), AllocError>
-    ensures { OnOk result (arguments.new.items ≡ arguments.old.items ++ option_to_list (option_map kept_operand (both ty value))) }
-{
-    push_operand(arguments, operand_of(ty, value))
-}
-
-/// An operand of a type and a value, where both are known.
-fn operand_of(ty: Option<TypeId>, value: Option<Value>) -> Option<Operand>
-    ensures { result ≡ option_map kept_operand (both ty value) }
-{
-    Some(Operand {
-        ty: ty?,
-        value: value?,
-    })
-}
-
 /// A count, and so many arguments: those for the parameters, and further ones behind their types. None only where a rule is
 /// broken.
 pub(crate) fn read_arguments(
@@ -70,7 +49,7 @@ pub(crate) fn read_arguments(
     'arguments: while m.reader.has_more(place, count) {
         let ty = argument_type(m, parameter_at(parameters, place));
         let value = read_value(m, &ty)?;
-        add_argument(&mut arguments, ty, value)?;
+        add_operand(&mut arguments, ty, value)?;
         place += 1;
     }
     Ok(operand_list(&m.reader, arguments))

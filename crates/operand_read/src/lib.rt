@@ -17,7 +17,7 @@ mod types;
 mod value;
 
 pub use operands::{
-    operand_list, push_operand, read_operand, read_operand_of, read_operands, read_optional_operand,
+    add_operand, operand_list, read_operand, read_operand_of, read_operands, read_optional_operand,
 };
 pub use types::read_types;
 pub use value::{read_value, same};

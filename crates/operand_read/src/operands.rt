@@ -74,8 +74,8 @@ pub fn read_optional_operand(
     }
 }
 
-/// One more operand, where it is known. It is refused for want of memory alone.
-pub fn push_operand(operands: &mut Vec<Operand>, operand: Option<Operand>) -> Result<(), AllocError>
+/// One more operand, where it is known.
+fn push_operand(operands: &mut Vec<Operand>, operand: Option<Operand>) -> Result<(), AllocError>
     ensures { OnOk result (operands.new.items ≡ operands.old.items ++ option_to_list operand) }
 {
     // Part by part: a function that pushes the whole is beyond the checker.
@@ -88,8 +88,8 @@ pub fn push_operand(operands: &mut Vec<Operand>, operand: Option<Operand>) -> Re
     }
 }
 
-/// One more operand, of that type and value, where both are known.
-fn add_operand(
+/// One more operand, of that type and value, where both are known. It is refused for want of memory alone.
+pub fn add_operand(
     operands: &mut Vec<Operand>,
     ty: Option<TypeId>,
     value: Option<Value>,

@@ -41,7 +41,7 @@ arguments-preserved c =
     let argument = option_map kept_operand (both c.argument_type-ty.result c.in_ok-value.value) in
     give_more (map (tree_at m0.growing.arena.table) ps) first now after c.number-count.result c.arguments.place c.arguments.arguments.items _ argument c.arguments.invariant on.0 on.1
     (subst (λ (o : Option Tree). Finds HasOperand operand_in (λ k. argument_at k o) now after argument) parameter
-    (argument_found (option_map (tree_at now.growing.arena.table) c.parameter_at.result) now mid after c.argument_type-ty.result c.in_ok-value.value c.argument_type-ty.ensures c.in_ok-value.ensures)) c.in_ok-add_argument.ensures
+    (argument_found (option_map (tree_at now.growing.arena.table) c.parameter_at.result) now mid after c.argument_type-ty.result c.in_ok-value.value c.argument_type-ty.ensures c.in_ok-value.ensures)) c.in_ok-add_operand.ensures
 
 pub returns : goal.returns
 returns c =
