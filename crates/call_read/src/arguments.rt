@@ -7,8 +7,9 @@ ghost use Rattle.operand_read.specs.Found.{Finds, HasOperands, operands_in};
 ghost use Rattle.call_read.specs.Calls.{TypesArgument};
 
 use arena_read::{ModuleReader, read_type};
+use constant_read::same;
 use module_arena::OperandList;
-use operand_read::{add_operand, operand_list, read_value, same};
+use operand_read::{add_operand, operand_list, read_value};
 use std::alloc::AllocError;
 use type_table::TypeId;
 

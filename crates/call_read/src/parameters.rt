@@ -3,8 +3,8 @@ ghost use Rattle.std.specs.Prelude.{IfOk};
 ghost use Rattle.call_read.specs.Calls.{ReadsBoth};
 
 use arena_read::{ModuleReader, read_type};
+use constant_read::same;
 use ir_base::ItemList;
-use operand_read::same;
 use record_read::push_known;
 use std::alloc::AllocError;
 use type_table::{TypeId, TypeList};

@@ -1,5 +1,5 @@
 //! Constants, with those that they hold.
-ghost use Rattle.std.specs.Prelude.{◌≡◌, All, Some, IfOk};
+ghost use Rattle.std.specs.Prelude.{Some, IfOk};
 ghost use Rattle.record_table.specs.Constants as constants;
 ghost use Rattle.record_table.specs.Fields.{Numbering};
 ghost use Rattle.arena_read.specs.Growing.{IsConstant};

@@ -15,3 +15,4 @@ mod constants;
 mod made;
 
 pub use constants::{NESTING_LIMIT, read_coded, read_constant};
+pub use made::same;

@@ -35,7 +35,7 @@ pub(crate) fn stopped(m: &mut ModuleReader<'_>, rule: u8) -> Option<ConstId>
 }
 
 /// The same type.
-pub(crate) fn same(ty: &Option<TypeId>) -> Option<TypeId>
+pub fn same(ty: &Option<TypeId>) -> Option<TypeId>
     ensures { result ≡ ty.now }
 {
     match ty {

@@ -9,9 +9,9 @@ ghost use Rattle.operand_read.specs.Found.{Finds, both};
 ghost use Rattle.ending_read.specs.Ends.{HasCase, HasEnding, HaveCases, case_in, cases_in, ending_in, kept_case, kept_switch};
 
 use arena_read::{ModuleReader, read_block, read_type};
-use constant_read::{NESTING_LIMIT, read_constant};
+use constant_read::{NESTING_LIMIT, read_constant, same};
 use module_arena::{BlockId, Case, CaseList, ConstId, Ending, Operand};
-use operand_read::{read_operand_of, same};
+use operand_read::read_operand_of;
 use record_read::{push_known, unbroken};
 use std::alloc::AllocError;
 use type_table::TypeId;

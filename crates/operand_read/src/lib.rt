@@ -20,4 +20,4 @@ pub use operands::{
     add_operand, operand_list, read_operand, read_operand_of, read_operands, read_optional_operand,
 };
 pub use types::read_types;
-pub use value::{read_value, same};
+pub use value::read_value;

@@ -7,8 +7,9 @@ ghost use Rattle.record_read.specs.Reader.{is_broken};
 ghost use Rattle.arena_read.specs.Kept.{IsKnownType, tree_at};
 ghost use Rattle.operand_read.specs.Found.{Finds, HasOperand, HasOperands, HasRoom, both, kept_operand, operand_at, operand_in, operands_in, room_in};
 
-use crate::value::{read_value, same};
+use crate::value::read_value;
 use arena_read::{ModuleReader, read_type};
+use constant_read::same;
 use ir_base::ItemList;
 use module_arena::{Operand, OperandList, Value};
 use record_read::RecordReader;

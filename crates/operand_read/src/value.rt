@@ -7,20 +7,10 @@ ghost use Rattle.arena_read.specs.Kept.{IsKnownType, tree_at};
 ghost use Rattle.operand_read.specs.Found.{Finds, HasValue, value_in};
 
 use arena_read::{ModuleReader, read_local};
-use constant_read::{NESTING_LIMIT, read_coded};
+use constant_read::{NESTING_LIMIT, read_coded, same};
 use module_arena::{ConstId, Value, ValueId};
 use std::alloc::AllocError;
 use type_table::TypeId;
-
-/// The same type.
-pub fn same(ty: &Option<TypeId>) -> Option<TypeId>
-    ensures { result ≡ ty.now }
-{
-    match ty {
-        Some(ty) => Some(*ty),
-        None => None,
-    }
-}
 
 /// A parameter or result as a value, where it is known.
 fn local_value(id: Option<ValueId>) -> Option<Value>
