@@ -1,5 +1,5 @@
 //! The function that a run begins with.
-ghost use Rattle.std.specs.Prelude.{◌≡◌, ℕ, ◌<◌, ◌&&◌, IfOk, List, codes, length, not};
+ghost use Rattle.std.specs.Prelude.{◌≡◌, ℕ, ◌<◌, IfOk, List, codes, length};
 ghost use Rattle.std.specs.Option.{option_map};
 ghost use Rattle.module_arena.specs.View.{module_of};
 ghost use Rattle.run_rules.specs.Plan.{main_in};
@@ -7,14 +7,14 @@ ghost use Rattle.type_table.specs.Tree.{Tree};
 ghost use Rattle.type_table.specs.Types.{tree, tree_of};
 ghost use Rattle.module_arena.specs.TypeTests.{is_integer_of, is_pointer};
 ghost use Rattle.module_arena.specs.Known.{HasGlobal, counts};
-ghost use Rattle.linkage_rules.specs.Linkages.{is_available_externally, is_local};
+ghost use Rattle.linkage_rules.specs.Linkages.{is_local};
 ghost use Rattle.run_names.specs.Told.{alone};
 ghost use Rattle.run_entry.specs.Mains.{main_by_number, main_seen, shared_function, takes_words};
 
 use ir_base::{Name, Text};
 use ir_tables::Linkage;
 use module_arena::{Arena, Checked, FunctionId, GlobalId};
-use run_names::function_address;
+use run_names::{function_address, is_definition};
 use std::alloc::{AllocError, Global};
 use type_table::{IrType, TypeId, TypeTable};
 
@@ -29,13 +29,6 @@ pub struct MainFunction {
     pub address: u64,
     /// Whether its parameters are the count of the words and their array; else it has none.
     pub takes_arguments: bool,
-}
-
-/// Whether an entry is a definition: one that is available externally is a declaration (LangRef, "Linkage Types").
-fn is_definition(linkage: Linkage, written: bool) -> bool
-    ensures { result ≡ (written && not (is_available_externally linkage)) }
-{
-    written && !matches!(linkage, Linkage::AvailableExternally)
 }
 
 /// Whether others share no name of this linkage (LangRef, "Linkage Types").

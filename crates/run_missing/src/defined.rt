@@ -1,7 +1,6 @@
 //! The definitions of a module, and the entries that they use.
-ghost use Rattle.std.specs.Prelude.{◌≡◌, ◌&&◌, not, true, map, IfOk};
+ghost use Rattle.std.specs.Prelude.{◌≡◌, true, map, IfOk};
 ghost use Rattle.extract_core.specs.Flags.{HaveSizes};
-ghost use Rattle.linkage_rules.specs.Linkages.{is_available_externally};
 ghost use Rattle.module_arena.specs.View.{module_of};
 ghost use Rattle.run_names.specs.Spots.{is_defined};
 ghost use Rattle.run_names.specs.Standings.{has_code};
@@ -9,17 +8,10 @@ ghost use Rattle.run_missing.specs.Used.{AreDefinitions, AreUsed};
 
 use extract_core::{EntryFlags, FlagList};
 use ir_base::ItemList;
-use ir_tables::Linkage;
 use kept_names::named_by_kept;
 use module_arena::{Arena, Checked, FunctionId, VariableId};
+use run_names::is_definition;
 use std::alloc::{AllocError, Global};
-
-/// Whether an entry is a definition: one that is available externally is a declaration (LangRef, "Linkage Types").
-fn is_definition(linkage: Linkage, written: bool) -> bool
-    ensures { result ≡ (written && not (is_available_externally linkage)) }
-{
-    written && !matches!(linkage, Linkage::AvailableExternally)
-}
 
 /// Which variables are defined.
 fn defined_variables(alloc: Global, arena: &Arena) -> Result<FlagList, AllocError>

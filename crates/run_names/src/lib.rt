@@ -19,3 +19,4 @@ mod standing;
 pub use callee::{CalleeRef, function_address};
 pub use names::{Names, names_of};
 pub use spot::Spot;
+pub use standing::is_definition;

@@ -20,9 +20,9 @@ pub(crate) enum Standing {
     Unresolved,
 }
 
-/// Whether an entry is a definition, which has an initialiser or a body that counts: one that is available externally is a
-/// declaration (LangRef, "Linkage Types").
-pub(crate) fn is_definition(linkage: Linkage, written: bool) -> bool
+/// Whether an entry of that linkage is a definition, where an initialiser or a body of it is written or not: one that is
+/// available externally is a declaration (LangRef, "Linkage Types").
+pub fn is_definition(linkage: Linkage, written: bool) -> bool
     ensures { result ≡ (written && not (is_available_externally linkage)) }
 {
     written && !matches!(linkage, Linkage::AvailableExternally)
