@@ -28,4 +28,5 @@ pub use flags::{EntryFlags, FlagList};
 pub use kept::choose;
 pub use laws::choosing_ends;
 pub use missing::no_such_symbol;
+pub use names::{NameSet, add_name};
 pub use selection::{ExtractFault, Selection};

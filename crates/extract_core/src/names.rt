@@ -6,11 +6,11 @@ use indexmap::IndexSet;
 use ir_base::Name;
 use std::alloc::{AllocError, Global};
 
-/// Names, each once.
-pub(crate) type NameSet = IndexSet<Name>;
+/// Names, each once, in the order in which they were added.
+pub type NameSet = IndexSet<Name>;
 
-/// Adds a name where it is not there yet.
-pub(crate) fn add_name(alloc: Global, names: &mut NameSet, name: &Name) -> Result<(), AllocError>
+/// Adds a name where it is not there yet. It is refused for want of memory alone.
+pub fn add_name(alloc: Global, names: &mut NameSet, name: &Name) -> Result<(), AllocError>
     ensures { OnOk result (Adds names.old.keys (name.now ∷ []) names.new.keys) }
 {
     if !names.contains(name) {

@@ -12,6 +12,5 @@
 
 mod marks;
 mod named;
-mod names;
 
 pub use named::named_by_kept;

@@ -10,8 +10,7 @@ ghost use Rattle.module_arena.specs.View.{constants_of, module_of};
 ghost use Rattle.module_arena.specs.declared.constant.Const.TheVariants as the_const;
 
 use crate::marks::{mark, mark_blocks, mark_parts};
-use crate::names::{NameSet, add_name};
-use extract_core::{EntryFlags, FlagList};
+use extract_core::{EntryFlags, FlagList, NameSet, add_name};
 use indexmap::IndexSet;
 use ir_base::ItemList;
 use module_arena::{AliasId, Arena, Const, ConstId, Function, FunctionId, Variable, VariableId};
