@@ -1,19 +1,11 @@
 //! The arguments of a call, by their places.
-ghost use Rattle.std.specs.Prelude.{◌≡◌, ◌<◌, ◌^◌, [], ◌∷◌};
+ghost use Rattle.std.specs.Prelude.{◌≡◌, ◌<◌, ◌^◌};
 ghost use Rattle.std.specs.List.{list_any};
-ghost use Rattle.run_host.specs.Answers.{leaves_of};
 ghost use Rattle.run_rules.specs.Host.{is_poison, operand_at};
 ghost use Rattle.host_calls.specs.Taken.{number_of, pointer_of};
 
 use ir_eval::{Pointer, Scalar};
-use ir_intrinsics::Outcome;
-
-/// The argument at a place, counted from 0; where there is none, 0.
-pub(crate) fn operand_at(arguments: &[Scalar], place: usize) -> Scalar
-    ensures { result ≡ operand_at arguments.now place }
-{
-    arguments.get(place).copied().unwrap_or(Scalar::Int(0))
-}
+use run_host::operand_at;
 
 /// The number that a leaf is; 0 where it is none.
 fn number_of(leaf: Scalar) -> u128
@@ -79,14 +71,4 @@ pub(crate) fn has_poison(arguments: &[Scalar]) -> bool
     ensures { result ≡ list_any is_poison arguments.now }
 {
     arguments.iter().any(|leaf| is_poison(*leaf))
-}
-
-/// A result of one leaf.
-pub(crate) fn one(first: Scalar) -> Option<Outcome>
-    ensures { leaves_of result ≡ first ∷ [] }
-{
-    Some(Outcome {
-        first,
-        second: None,
-    })
 }

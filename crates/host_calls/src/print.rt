@@ -4,12 +4,11 @@ ghost use Rattle.run_host.specs.Answers.{Writes};
 ghost use Rattle.run_rules.specs.Printing.{printed, prints, written_from};
 ghost use Rattle.host_calls.specs.Printing.{AreOf, ArePrinted, shape_from};
 
-use crate::argument::one;
 use crate::pattern::{Format, put_pieces};
 use ir_eval::Scalar;
 use ir_memory::{Leaf, Memory};
 use ir_tables::UndefinedKind;
-use run_host::{HostAnswer, refused};
+use run_host::{HostAnswer, one_leaf, refused};
 use run_values::{plain_string, push_string};
 use std::alloc::{AllocError, Global};
 
@@ -29,7 +28,7 @@ fn print_format(
     match put_pieces(alloc, memory, format, written) {
         Ok(()) => {
             let count = (written.len() - before) as u128 % 0x1_0000_0000;
-            Ok(HostAnswer::Gives(one(Scalar::Int(count))))
+            Ok(HostAnswer::Gives(one_leaf(Scalar::Int(count))))
         }
         Err(fault) => {
             written.truncate(before);

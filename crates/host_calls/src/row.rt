@@ -13,7 +13,7 @@ ghost use Rattle.typed_runs.specs.States.{IsRow};
 ghost use Rattle.host_calls.specs.Made.{EndsOrReads, IsHostCall};
 ghost use Rattle.host_calls.specs.Taken.{AreCopied, AreFilled, AreTaken, given, number_of};
 
-use crate::argument::{count_at, has_poison, number_at, one, operand_at, pointer_at};
+use crate::argument::{count_at, has_poison, number_at, pointer_at};
 use crate::print::print;
 use ir_eval::Scalar;
 use ir_intrinsics::Outcome;
@@ -21,7 +21,8 @@ use ir_memory::{Leaf, Memory};
 use ir_tables::UndefinedKind;
 use module_arena::HostRow;
 use run_host::{
-    HostAnswer, allocate, copy, evaluate, fill, free, put_byte, put_line, string_length,
+    HostAnswer, allocate, copy, evaluate, fill, free, one_leaf, operand_at, put_byte, put_line,
+    string_length,
 };
 use run_rules::ABORTED;
 use std::alloc::{AllocError, Global};
@@ -31,7 +32,7 @@ fn given(row: HostRow, arguments: &[Scalar]) -> Option<Outcome>
     ensures { leaves_of result ≡ given row arguments.now }
 {
     match row {
-        HostRow::Memcpy | HostRow::Memmove | HostRow::Memset => one(operand_at(arguments, 0)),
+        HostRow::Memcpy | HostRow::Memmove | HostRow::Memset => one_leaf(operand_at(arguments, 0)),
         _ => None,
     }
 }

@@ -30,7 +30,7 @@ pub enum HostAnswer {
 }
 
 /// A result of one leaf.
-pub(crate) fn one(first: Scalar) -> Option<Outcome>
+pub fn one_leaf(first: Scalar) -> Option<Outcome>
     ensures { leaves_of result ≡ first ∷ [] }
 {
     Some(Outcome {

@@ -8,7 +8,7 @@ ghost use Rattle.run_rules.specs.Host.{allocates, frees};
 ghost use Rattle.run_host.specs.Answers.{EndsTheRun, answer_of};
 
 use crate::HostAnswer;
-use crate::answer::{failing, one};
+use crate::answer::{failing, one_leaf};
 use ir_eval::{Pointer, Scalar};
 use ir_memory::{BlockKind, Memory};
 use run_rules::HEAP_ALIGNMENT;
@@ -24,7 +24,7 @@ fn add_heap_block(memory: &mut Memory, size: u64) -> Result<HostAnswer, AllocErr
     ensures err { OnErr result (memory.new ≡ memory.old) }
 {
     match memory.add_block(size, HEAP_ALIGNMENT, BlockKind::Heap) {
-        Ok(pointer) => Ok(HostAnswer::Gives(one(Scalar::Ptr(pointer)))),
+        Ok(pointer) => Ok(HostAnswer::Gives(one_leaf(Scalar::Ptr(pointer)))),
         // There is room, so it was memory that was wanted.
         Err(_) => Err(AllocError),
     }

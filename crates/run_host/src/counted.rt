@@ -6,7 +6,7 @@ ghost use Rattle.run_rules.specs.Host.{counts};
 ghost use Rattle.run_host.specs.Answers.{Writes};
 
 use crate::HostAnswer;
-use crate::answer::{one, refused};
+use crate::answer::{one_leaf, refused};
 use ir_eval::{Pointer, Scalar};
 use ir_memory::Memory;
 use run_values::push_string;
@@ -36,7 +36,7 @@ pub fn string_length(
     match push_string(memory, string, None, written) {
         Ok(()) => {
             let count = take_back(written, before);
-            Ok(HostAnswer::Gives(one(Scalar::Int(count as u128))))
+            Ok(HostAnswer::Gives(one_leaf(Scalar::Int(count as u128))))
         }
         Err(fault) => refused(fault),
     }

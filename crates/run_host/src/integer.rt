@@ -12,8 +12,8 @@ use ir_eval::Scalar;
 use ir_intrinsics::apply;
 use ir_tables::Intrinsic;
 
-/// The argument at a place, counted from 0; where the intrinsic has none, 0.
-fn operand_at(arguments: &[Scalar], place: usize) -> Scalar
+/// The argument at a place, counted from 0; where the call has none, 0.
+pub fn operand_at(arguments: &[Scalar], place: usize) -> Scalar
     ensures { result ≡ operand_at arguments.now place }
 {
     arguments.get(place).copied().unwrap_or(Scalar::Int(0))

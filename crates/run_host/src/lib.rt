@@ -16,9 +16,9 @@ mod integer;
 mod range;
 mod written;
 
-pub use answer::{HostAnswer, refused};
+pub use answer::{HostAnswer, one_leaf, refused};
 pub use block::{allocate, free};
 pub use counted::string_length;
-pub use integer::evaluate;
+pub use integer::{evaluate, operand_at};
 pub use range::{copy, fill};
 pub use written::{put_byte, put_line};

@@ -9,7 +9,7 @@ ghost use Rattle.run_rules.specs.Host.{done, puts_line};
 ghost use Rattle.run_host.specs.Answers.{Writes};
 
 use crate::HostAnswer;
-use crate::answer::{one, refused};
+use crate::answer::{one_leaf, refused};
 use ir_eval::{Pointer, Scalar};
 use ir_memory::Memory;
 use run_values::push_string;
@@ -21,7 +21,7 @@ pub fn put_byte(number: u128, written: &mut Vec<u8>) -> Result<HostAnswer, Alloc
 {
     let byte = (number % 256) as u8;
     written.push(byte)?;
-    Ok(HostAnswer::Gives(one(Scalar::Int(u128::from(byte)))))
+    Ok(HostAnswer::Gives(one_leaf(Scalar::Int(u128::from(byte)))))
 }
 
 /// Writes the line feed behind bytes that were written.
@@ -29,7 +29,7 @@ fn end_line(written: &mut Vec<u8>) -> Result<HostAnswer, AllocError>
     ensures { (m : Blocks) (before bytes : List ℕ) → written.old.items ≡ before ++ bytes → Writes (puts_line m (Ok bytes)) m before written.new.items result }
 {
     written.push(b'\n')?;
-    Ok(HostAnswer::Gives(one(Scalar::Int(0))))
+    Ok(HostAnswer::Gives(one_leaf(Scalar::Int(0))))
 }
 
 /// Writes the string at a pointer and a line feed, and gives 0, as `puts` does. Nothing is written where the string is undefined.

@@ -7,7 +7,7 @@ add_block-requires-clause-align c = (4, lit≤ tt, refl)
 
 pub returns-in-Ok-clause-answer : goal.returns-in-Ok-clause-answer
 returns-in-Ok-clause-answer c =
-    allocated c.args.size c.args.memory.now c.add_block.new.self c.in-Ok.pointer c.one.result c.requires.room c.in-Ok.ensures.pointer c.in-Ok.ensures.added c.one.ensures
+    allocated c.args.size c.args.memory.now c.add_block.new.self c.in-Ok.pointer c.one_leaf.result c.requires.room c.in-Ok.ensures.pointer c.in-Ok.ensures.added c.one_leaf.ensures
 
 pub returns-in-Ok-clause-refused : goal.returns-in-Ok-clause-refused
 returns-in-Ok-clause-refused c = λ ends. absurd ends

@@ -15,8 +15,8 @@ pub returns-in-Ok : goal.returns-in-Ok
 returns-in-Ok c =
     let m = c.args.memory.now in
     let read = c.in-Ok.ensures in
-    counted m (string_at m c.args.string) c.args.written.now.items c.push_string.new.into.items c.take_back-count.new.written.items read.0 c.len-before.result c.take_back-count.result c.one.result
-    read.1 read.2 (omega (arith, c.len-before.ensures, c.args.written.now.ok.0)) (omega (arith, c.take_back-count.ensures.count, c.push_string.new.into.ok.0)) c.one.ensures
+    counted m (string_at m c.args.string) c.args.written.now.items c.push_string.new.into.items c.take_back-count.new.written.items read.0 c.len-before.result c.take_back-count.result c.one_leaf.result
+    read.1 read.2 (omega (arith, c.len-before.ensures, c.args.written.now.ok.0)) (omega (arith, c.take_back-count.ensures.count, c.push_string.new.into.ok.0)) c.one_leaf.ensures
     c.take_back-count.ensures.items
 
 pub returns-in-Err : goal.returns-in-Err

@@ -7,7 +7,7 @@ use Rattle.run_host.proofs.written.end_line.Goals as goal
 pub returns : goal.returns
 returns c = λ m before bytes e. (
   bytes ++ 10 ∷ [],
-  ap (λ l. Gives l m (bytes ++ 10 ∷ [])) (sym c.one.ensures),
+  ap (λ l. Gives l m (bytes ++ 10 ∷ [])) (sym c.one_leaf.ensures),
   c.in_ok-push.ensures.items ∙ ap (λ l. l ++ 10 ∷ []) e ∙ append_assoc before bytes (10 ∷ []),
 )
 

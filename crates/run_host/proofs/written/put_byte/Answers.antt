@@ -9,7 +9,7 @@ use Rattle.run_host.proofs.written.put_byte.Goals as goal
 pub returns : goal.returns
 returns c = λ m. (
   c.args.number % 256 ∷ [],
-  byte_put c.args.number m c.one.result (c.one.ensures ∙ ap (λ b. Int b ∷ []) c.from.ensures),
+  byte_put c.args.number m c.one_leaf.result (c.one_leaf.ensures ∙ ap (λ b. Int b ∷ []) c.from.ensures),
   c.in_ok-push.ensures.items,
 )
 
