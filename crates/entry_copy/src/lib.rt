@@ -19,6 +19,7 @@ mod adding;
 mod bodies;
 mod constants;
 mod copier;
+mod copiers;
 mod endings;
 mod instructions;
 mod moved;
@@ -27,3 +28,4 @@ mod values;
 
 pub use adding::{add_alias, add_function, add_variable};
 pub use copier::Copier;
+pub use copiers::copier_of;

@@ -9,9 +9,8 @@ ghost use Rattle.link_entries.specs.Definitions.{declaration_of, declared_as, li
 ghost use Rattle.link_entries.specs.Room.{HasRoom};
 ghost use Rattle.link_entries.specs.Step.{IsDeclared};
 
-use crate::copiers::copier_of;
 use crate::parameters::numbered_parameters;
-use entry_copy::{Copier, add_function, add_variable};
+use entry_copy::{Copier, add_function, add_variable, copier_of};
 use ir_base::Name;
 use ir_tables::Linkage;
 use linkage_rules::{EntryId, SymbolKind, arena_of, head_of};

@@ -6,9 +6,8 @@ ghost use Rattle.link_entries.specs.Definitions.{definition_of};
 ghost use Rattle.link_entries.specs.Room.{HasRoom};
 ghost use Rattle.link_entries.specs.Step.{IsDeclared};
 
-use crate::copiers::copier_of;
 use crate::types::{joined_alignment, joined_type};
-use entry_copy::{Copier, add_alias, add_function, add_variable};
+use entry_copy::{Copier, add_alias, add_function, add_variable, copier_of};
 use ir_base::Name;
 use linkage_rules::{EntryId, SymbolKind, arena_of};
 use module_arena::{Alias, AliasId, Checked, Function, FunctionId, GlobalId, Variable, VariableId};

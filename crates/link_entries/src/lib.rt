@@ -13,7 +13,6 @@
 //! ```
 #![tactic(auto)]
 
-mod copiers;
 mod declarations;
 mod declaring;
 mod definitions;

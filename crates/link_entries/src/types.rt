@@ -9,8 +9,7 @@ ghost use Rattle.type_build.specs.Stands.{Grows, IsType};
 ghost use Rattle.link_stages.specs.Ground.{HaveTypes};
 ghost use Rattle.link_entries.specs.Definitions.{entries_defined, is_common, joined_of};
 
-use crate::copiers::copier_of;
-use entry_copy::Copier;
+use entry_copy::{Copier, copier_of};
 use ir_tables::Linkage;
 use linkage_rules::{EntryId, SymbolKind, arena_of, element_of, head_of, is_definition};
 use linked_symbols::{greatest_common, greatest_stated, joined_length};

@@ -14,8 +14,7 @@ ghost use Rattle.link_stages.specs.NewIds.{AllHaveNewIds};
 ghost use Rattle.link_stages.specs.Definitions.{entries_defined};
 ghost use Rattle.link_filling.specs.Elements.{elements_of_all, elements_told};
 
-use crate::sources::copier_of;
-use entry_copy::Copier;
+use entry_copy::{Copier, copier_of};
 use linkage_rules::{EntryId, SymbolKind, arena_of, is_definition};
 use module_arena::{
     Arena, Brackets, Checked, Const, ConstId, TypedConst, TypedConstList, VariableId,

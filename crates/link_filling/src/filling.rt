@@ -18,10 +18,9 @@ ghost use Rattle.link_filling.specs.Standing.{is_variable, ArePlainFrom, IsNext,
 use crate::bodies::define;
 use crate::initialisers::initialise;
 use crate::origins::{SymbolOrigin, origin_at, origins_of};
-use crate::sources::copier_of;
 use crate::standing::Standing;
 use crate::targets::target;
-use entry_copy::Copier;
+use entry_copy::{Copier, copier_of};
 use linkage_rules::{Bindings, EntryId, arena_of};
 use module_arena::{Arena, Checked, GlobalId};
 use std::alloc::{AllocError, Global};

@@ -17,8 +17,7 @@ ghost use Rattle.link_filling.specs.Elements.{IsInitialiser};
 ghost use Rattle.link_filling.specs.Filling.{IsBare, KeepsCopied};
 
 use crate::appended::joined_initialiser;
-use crate::sources::copier_of;
-use entry_copy::Copier;
+use entry_copy::{Copier, copier_of};
 use ir_tables::Linkage;
 use linkage_rules::{EntryId, SymbolKind, arena_of, head_of};
 use module_arena::{Checked, ConstId, Variable, VariableId};

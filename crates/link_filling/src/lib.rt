@@ -16,7 +16,6 @@ mod bodies;
 mod filling;
 mod initialisers;
 mod origins;
-mod sources;
 mod standing;
 mod targets;
 
