@@ -1,6 +1,5 @@
 //! Initialisers of what variables become.
 ghost use Rattle.std.specs.Prelude.{◌≡◌, ◌++◌, ◌+◌, ◌<◌, ◌≤◌, ℕ, List, length, slice_get, Some, None, IfOk, OnOk, ◌≢◌};
-ghost use Rattle.std.specs.Option.{option_map};
 ghost use Rattle.extract_core.specs.Extracted.{declared_variable};
 ghost use Rattle.module_arena.specs.Module as m;
 ghost use Rattle.module_arena.specs.Module.Constants.{no_constants};
@@ -8,16 +7,15 @@ ghost use Rattle.module_arena.specs.View.{module_of};
 ghost use Rattle.module_arena.specs.declared.entry.Variable as the_variable;
 ghost use Rattle.type_build.specs.Stands.{IsConstant, Grows};
 ghost use Rattle.entry_copy.specs.Copies.{Copies};
-ghost use Rattle.entry_copy.specs.Tables.{new_constant};
 ghost use Rattle.entry_fates.specs.Fates.{variable_as, made};
 ghost use Rattle.entry_declare.specs.Stages.{same_name, with_variables};
 ghost use Rattle.entry_define.specs.Filling.{IsInitialiser, initialised_by, initialised_as, behind_made, BeginWithVariables, KeepsCopies};
 ghost use Rattle.entry_define.specs.Naming.{NamesOfVariable};
 
-use entry_copy::Copier;
+use entry_copy::{Copier, copied_initialiser};
 use entry_fates::{Fate, FateList};
 use ir_tables::Linkage;
-use module_arena::{Arena, Brackets, Const, ConstId, TypedConstList, Variable, VariableId};
+use module_arena::{Arena, Brackets, Const, ConstId, TypedConstList, VariableId};
 use std::alloc::{AllocError, Global};
 use type_build::Builder;
 
@@ -29,16 +27,6 @@ fn no_elements(alloc: Global, into: &mut Builder) -> Result<ConstId, AllocError>
     let elements = TypedConstList::new(alloc);
     let id = into.keep_constant(alloc, Const::Aggregate(Brackets::Square, elements))?;
     Ok(id)
-}
-
-/// The initialiser that a variable has in the new arena too, where it has one.
-fn copied_initialiser(copier: &Copier, variable: &Variable) -> Option<ConstId>
-    ensures { result ≡ option_map (new_constant copier.now) variable.now.initialiser }
-{
-    match variable.initialiser {
-        Some(id) => Some(copier.new_constant(id)),
-        None => None,
-    }
 }
 
 /// The initialiser of a variable of that linkage where it is declared. Only an appending one has any.

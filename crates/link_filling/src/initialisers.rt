@@ -1,6 +1,5 @@
 //! Initialisers of variables that are defined.
 ghost use Rattle.std.specs.Prelude.{◌≡◌, ◌<◌, All, IfOk, OnOk};
-ghost use Rattle.std.specs.Option.{option_map};
 ghost use Rattle.linkage_rules.specs.Globals.{initialiser_of};
 ghost use Rattle.linkage_rules.specs.Ids.{IsEntryId, modules, seen};
 ghost use Rattle.module_arena.specs.Module.{Bytes};
@@ -8,7 +7,6 @@ ghost use Rattle.module_arena.specs.View.{module_of};
 ghost use Rattle.module_arena.specs.declared.entry.GlobalId.TheVariants as global;
 ghost use Rattle.module_linker.specs.Linked as linking;
 ghost use Rattle.type_build.specs.Stands.{Grows};
-ghost use Rattle.entry_copy.specs.Tables.{new_constant};
 ghost use Rattle.link_stages.specs.Copied.{AreCopied};
 ghost use Rattle.link_stages.specs.Filled.{defined_as};
 ghost use Rattle.link_stages.specs.NewIds.{AllHaveNewIds};
@@ -17,22 +15,12 @@ ghost use Rattle.link_filling.specs.Elements.{IsInitialiser};
 ghost use Rattle.link_filling.specs.Filling.{IsBare, KeepsCopied};
 
 use crate::appended::joined_initialiser;
-use entry_copy::{Copier, copier_of};
+use entry_copy::{Copier, copied_initialiser, copier_of};
 use ir_tables::Linkage;
 use linkage_rules::{EntryId, SymbolKind, arena_of, head_of};
-use module_arena::{Checked, ConstId, Variable, VariableId};
+use module_arena::{Checked, ConstId, VariableId};
 use std::alloc::{AllocError, Global};
 use type_build::Builder;
-
-/// The initialiser of a variable by its new id, where it has one.
-fn copied_initialiser(copier: &Copier, variable: &Variable) -> Option<ConstId>
-    ensures { result ≡ option_map (new_constant copier.now) variable.now.initialiser }
-{
-    match variable.initialiser {
-        Some(id) => Some(copier.new_constant(id)),
-        None => None,
-    }
-}
 
 /// The initialiser of a variable that is defined there: of an appended one the list of all elements.
 fn initialiser_of(
