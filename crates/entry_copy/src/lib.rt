@@ -24,6 +24,7 @@ mod endings;
 mod initialisers;
 mod instructions;
 mod moved;
+mod parameters;
 mod types;
 mod values;
 
@@ -31,3 +32,4 @@ pub use adding::{add_alias, add_function, add_variable};
 pub use copier::Copier;
 pub use copiers::copier_of;
 pub use initialisers::copied_initialiser;
+pub use parameters::parameter_number;

@@ -1,5 +1,5 @@
 //! Parameters that are named by their numbers, as those of a declaration are.
-ghost use Rattle.std.specs.Prelude.{◌≡◌, ◌<◌, ℕ, List, length, map, All, IfOk};
+ghost use Rattle.std.specs.Prelude.{◌<◌, ℕ, List, length, map, All, IfOk};
 ghost use Rattle.type_table.specs.Types.{trees};
 ghost use Rattle.module_arena.specs.Lists.{Lists};
 ghost use Rattle.module_arena.specs.Module.{Module};
@@ -8,20 +8,10 @@ ghost use Rattle.module_linker.specs.Linked.{declared_parameters};
 ghost use Rattle.type_build.specs.Parameters.{AreParameters};
 ghost use Rattle.link_stages.specs.Ground.{HasTypes};
 
-use entry_copy::Copier;
+use entry_copy::{Copier, parameter_number};
 use ir_base::ItemList;
 use module_arena::{LocalName, Parameter, ParameterList};
 use std::alloc::{AllocError, Global};
-
-/// The number of a parameter in place of a name. For more parameters than there are numbers there is no memory.
-fn parameter_number(place: usize) -> Result<u32, AllocError>
-    ensures { IfOk result (λ number. number ≡ place) }
-{
-    match u32::try_from(place) {
-        Ok(number) => Ok(number),
-        Err(_) => Err(AllocError),
-    }
-}
 
 /// The parameters of a declaration, by those of a function: of the same types, named by their numbers from 0 on.
 pub(crate) fn numbered_parameters(

@@ -13,23 +13,13 @@ ghost use Rattle.entry_declare.specs.Stages.{HasTypes};
 ghost use Rattle.part_declare.specs.FunctionsThere.{functions_through, with_functions};
 ghost use Rattle.entry_fates.specs.Fates.{function_as, parameters_as, made};
 
-use entry_copy::{Copier, add_function};
+use entry_copy::{Copier, add_function, parameter_number};
 use entry_fates::{Fate, FateList, function_linkage};
 use ir_base::ItemList;
 use module_arena::{Arena, Function, FunctionId, GlobalId, LocalName, Parameter, ParameterList};
 use std::alloc::{AllocError, Global};
 use type_build::Builder;
 use type_table::{TypeId, TypeList};
-
-/// The number of a parameter in place of a name. For more parameters than there are numbers there is no memory.
-fn parameter_number(place: usize) -> Result<u32, AllocError>
-    ensures { IfOk result (λ number. number ≡ place) }
-{
-    match u32::try_from(place) {
-        Ok(number) => Ok(number),
-        Err(_) => Err(AllocError),
-    }
-}
 
 /// Parameters of these types, which are named by their numbers from 0 on, as those of a declaration are.
 pub(crate) fn numbered_parameters(
