@@ -1,9 +1,7 @@
 //! Symbols that no part defines, declared as in their first entries.
-ghost use Rattle.std.specs.Prelude.{◌≡◌, false, map, All, IfOk};
-ghost use Rattle.std.specs.List.{list_all};
-ghost use Rattle.linkage_rules.specs.Globals.{is_alias, linkage_of};
+ghost use Rattle.std.specs.Prelude.{◌≡◌, false, All, IfOk};
+ghost use Rattle.linkage_rules.specs.Globals.{is_alias};
 ghost use Rattle.linkage_rules.specs.Ids.{IsEntryId, modules, seen};
-ghost use Rattle.linkage_rules.specs.Linkages.{is_extern_weak};
 ghost use Rattle.link_stages.specs.Ground.{HaveTypes};
 ghost use Rattle.link_entries.specs.Definitions.{declaration_of, declared_as, linkage_among};
 ghost use Rattle.link_entries.specs.Room.{HasRoom};
@@ -13,31 +11,11 @@ use crate::parameters::numbered_parameters;
 use entry_copy::{Copier, add_function, add_variable, copier_of};
 use ir_base::Name;
 use ir_tables::Linkage;
-use linkage_rules::{EntryId, SymbolKind, arena_of, head_of};
+use linkage_rules::{EntryId, SymbolKind, arena_of};
+use linked_symbols::are_extern_weak;
 use module_arena::{Checked, Function, FunctionId, GlobalId, Variable, VariableId};
 use std::alloc::{AllocError, Global};
 use type_build::Builder;
-
-/// Whether an entry can do without a definition.
-fn is_extern_weak(parts: &[Checked], id: EntryId) -> bool
-    requires { IsEntryId parts.now id }
-    ensures { result ≡ is_extern_weak (linkage_of (seen (modules parts.now) id).global) }
-{
-    matches!(head_of(parts, id).linkage, Linkage::ExternWeak)
-}
-
-/// Whether each of the entries can do without a definition.
-fn are_extern_weak(parts: &[Checked], ids: &[EntryId]) -> bool
-    requires { All (IsEntryId parts.now) ids.now }
-    ensures { result ≡ list_all (λ e. is_extern_weak (linkage_of e.global)) (map (seen (modules parts.now)) ids.now) }
-{
-    for id in ids {
-        if !is_extern_weak(parts, *id) {
-            return false;
-        }
-    }
-    true
-}
 
 /// The linkage of a symbol that no part defines: null where it is nowhere defined, if each of the entries says so.
 fn declared_linkage(parts: &[Checked], ids: &[EntryId]) -> Linkage

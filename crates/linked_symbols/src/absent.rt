@@ -27,8 +27,9 @@ fn is_extern_weak(parts: &[Checked], id: EntryId) -> bool
     matches!(head_of(parts, id).linkage, Linkage::ExternWeak)
 }
 
-/// Whether each of the entries can do without a definition.
-fn are_extern_weak(parts: &[Checked], ids: &[EntryId]) -> bool
+/// Whether each of the entries can do without a definition, and is null where there is none (LangRef, "Linkage Types",
+/// `extern_weak`).
+pub fn are_extern_weak(parts: &[Checked], ids: &[EntryId]) -> bool
     requires { All (IsEntryId parts.now) ids.now }
     ensures { result ≡ list_all (λ e. is_extern_weak (linkage_of e.global)) (map (seen (modules parts.now)) ids.now) }
 {

@@ -21,6 +21,7 @@ mod names;
 mod room;
 mod standing;
 
+pub use absent::are_extern_weak;
 pub use bound::Bound;
 pub use meaning::symbol_behind;
 pub use names::{Meanings, bind_names};
