@@ -12,9 +12,9 @@ ghost use Rattle.run_actions.specs.Operands.{IsPlace, IsThere, leaf_of, MayGoOn}
 ghost use Rattle.run_accesses.specs.Done.{IsDone};
 
 use crate::displaced::displaced_by;
-use crate::result::give;
 use ir_eval::{Pointer, Scalar};
 use ir_memory::Memory;
+use run_actions::give;
 use run_stack::{Origin, Stack};
 
 /// A pointer moved by a distance in bytes; `inbounds` asks for the bounds of its block.

@@ -6,10 +6,10 @@ ghost use Rattle.run_stack.specs.Origins.{origin_of};
 ghost use Rattle.run_actions.specs.Operands.{IsPlace, IsThere, MayGoOn};
 ghost use Rattle.run_accesses.specs.Done.{Accesses, StaysAtAnEnd};
 
-use crate::result::give;
 use ir_eval::Scalar;
 use ir_memory::{BlockKind, Memory, MemoryFault};
 use ir_tables::UndefinedKind;
+use run_actions::give;
 use run_stack::{Origin, Stack};
 use run_values::block_size;
 

@@ -18,7 +18,6 @@ mod alloca;
 mod displaced;
 mod distance;
 mod loads;
-mod result;
 mod slot;
 mod stores;
 

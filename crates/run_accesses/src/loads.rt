@@ -9,10 +9,10 @@ ghost use Rattle.run_stack.specs.Origins.{origin_of};
 ghost use Rattle.run_actions.specs.Operands.{HasPlaces, IsPlace, IsThere, leaf_of, MayGoOn};
 ghost use Rattle.run_accesses.specs.Done.{Accesses};
 
-use crate::result::{give, give_all, only};
 use crate::slot::with_leaf;
 use ir_eval::Scalar;
 use ir_memory::{Leaf, Memory, MemoryFault};
+use run_actions::{give, give_all, only};
 use run_stack::{Origin, Stack};
 use run_values::{Slot, load_leaf, load_plain, load_value};
 

@@ -10,9 +10,9 @@ ghost use Rattle.typed_runs.specs.Kinds.{IsOf};
 ghost use Rattle.typed_runs.specs.States.{AreStored};
 ghost use Rattle.run_accesses.specs.Done.{Accesses, IsStoredAt};
 
-use crate::result::only;
 use ir_eval::Scalar;
 use ir_memory::{Memory, MemoryFault};
+use run_actions::only;
 use run_stack::{Origin, Stack};
 use run_values::{Slot, store_leaf, store_plain, store_value};
 

@@ -14,11 +14,13 @@
 #![tactic(auto)]
 
 mod edge;
+mod result;
 mod scalars;
 mod values;
 mod ways;
 
 pub use edge::{Edge, SwitchWay};
+pub use result::{give, give_all, only};
 pub use scalars::{compare, compute, convert};
 pub use values::{Arm, FrozenLeaf, freeze, gather, select};
 pub use ways::{branch, jump, switch, unreachable};

@@ -1,43 +1,18 @@
 //! Instructions whose result is one leaf.
-ghost use Rattle.std.specs.Prelude.{◌≡◌, ◌∷◌, [], IsTrue};
+ghost use Rattle.std.specs.Prelude.{IsTrue};
 ghost use Rattle.ir_eval.specs.Cast.{IsCast};
 ghost use Rattle.ir_eval.specs.Compare.{AreComparable};
 ghost use Rattle.ir_eval.specs.Operators.{is_binary};
 ghost use Rattle.ir_eval.specs.Value.{IsInteger, IsWidth};
 ghost use Rattle.run_rules.specs.Action.{Compare, Compute, Convert};
-ghost use Rattle.run_rules.specs.Frame.{with_result, with_value};
 ghost use Rattle.run_stack.specs.Origins.{origin_of};
-ghost use Rattle.run_stack.specs.UnderWay.{changed};
 ghost use Rattle.run_actions.specs.Carried.{Acts, IsCarriedOut};
 ghost use Rattle.run_actions.specs.Operands.{IsPlace, IsThere, leaf_of, MayGoOn};
 
-use ir_eval::{Scalar, binary, cast};
+use crate::result::give;
+use ir_eval::{binary, cast};
 use ir_tables::{Flags, Opcode, Predicate, UndefinedKind};
 use run_stack::{Origin, Stack};
-
-/// Sets a leaf of the newest frame. A leaf of each kind is written as one of that kind, so that none is copied by way of memory.
-#[inline(always)]
-fn put(stack: &mut Stack, to: u32, leaf: Scalar)
-    requires { IsPlace stack.old to }
-    ensures { stack.new ≡ changed (λ f. with_value f to (leaf ∷ [])) stack.old }
-{
-    match leaf {
-        Scalar::Int(number) => stack.set(to, Scalar::Int(number)),
-        Scalar::Ptr(pointer) => stack.set(to, Scalar::Ptr(pointer)),
-        Scalar::Poison => stack.set(to, Scalar::Poison),
-    }
-}
-
-/// The result is set, and the next instruction is due.
-#[inline(always)]
-pub(crate) fn give(stack: &mut Stack, to: u32, leaf: Scalar)
-    requires on { MayGoOn stack.old }
-    requires place { IsPlace stack.old to }
-    ensures { stack.new ≡ changed (λ f. with_result f to (leaf ∷ [])) stack.old }
-{
-    put(stack, to, leaf);
-    stack.move_on();
-}
 
 /// A binary instruction on integers (LangRef, "Binary Operations", "Bitwise Binary Operations"). Widths are in bits.
 ///

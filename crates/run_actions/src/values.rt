@@ -1,16 +1,14 @@
 //! Instructions whose result may have many leaves.
-ghost use Rattle.std.specs.Prelude.{◌≡◌, ◌<◌, ◌∷◌, [], All, OnErr, OnOk, length, map};
+ghost use Rattle.std.specs.Prelude.{◌≡◌, ◌<◌, All, OnErr, OnOk, length, map};
 ghost use Rattle.ir_eval.specs.Operators.{freeze_of, select_of};
 ghost use Rattle.ir_eval.specs.Value.{IsInteger};
 ghost use Rattle.run_rules.specs.Action.{Freeze, Gather, Select};
-ghost use Rattle.run_rules.specs.Frame.{with_result};
 ghost use Rattle.run_stack.specs.Origins.{origin_of};
-ghost use Rattle.run_stack.specs.UnderWay.{changed};
 ghost use Rattle.run_actions.specs.Carried.{IsCarriedOut};
 ghost use Rattle.run_actions.specs.Operands.{HasPlaces, IsThere, leaf_of, MayGoOn};
 ghost use Rattle.run_actions.specs.Values.{arm_of, IsArmThere, IsPartThere, part_of};
 
-use crate::scalars::give;
+use crate::result::{give, give_all, only};
 use ir_eval::Scalar;
 use run_stack::{Origin, Stack};
 use std::alloc::AllocError;
@@ -36,25 +34,6 @@ pub struct Arm {
 pub struct FrozenLeaf {
     pub pointer: bool,
     pub value: Origin,
-}
-
-// The one item.
-#[inline]
-fn only<T: Copy>(items: &[T]) -> T
-    requires { length items.now ≡ 1 }
-    ensures { items.now ≡ result ∷ [] }
-{
-    items[0]
-}
-
-// The leaves of the result are set, and the next instruction is due.
-fn give_all(stack: &mut Stack, to: u32, value: &[Scalar])
-    requires on { MayGoOn stack.old }
-    requires places { HasPlaces stack.old to (length value.now) }
-    ensures { stack.new ≡ changed (λ f. with_result f to value.now) stack.old }
-{
-    stack.set_all(to, value);
-    stack.move_on();
 }
 
 /// The parts of a value put together or taken out (LangRef, "extractvalue Instruction", "insertvalue Instruction"). What `room` has is

@@ -7,9 +7,9 @@ ghost use Rattle.run_actions.specs.Operands.{HasPlaces, IsPlace, MayGoOn};
 use ir_eval::Scalar;
 use run_stack::Stack;
 
-/// The one item.
+/// The item of a list that has one.
 #[inline]
-pub(crate) fn only<T: Copy>(items: &[T]) -> T
+pub fn only<T: Copy>(items: &[T]) -> T
     requires { length items.now ≡ 1 }
     ensures { items.now ≡ result ∷ [] }
 {
@@ -31,7 +31,7 @@ fn put(stack: &mut Stack, to: u32, leaf: Scalar)
 
 /// The result is this leaf, and the next instruction is due.
 #[inline(always)]
-pub(crate) fn give(stack: &mut Stack, to: u32, leaf: Scalar)
+pub fn give(stack: &mut Stack, to: u32, leaf: Scalar)
     requires on { MayGoOn stack.old }
     requires place { IsPlace stack.old to }
     ensures { stack.new ≡ changed (λ f. with_result f to (leaf ∷ [])) stack.old }
@@ -42,7 +42,7 @@ pub(crate) fn give(stack: &mut Stack, to: u32, leaf: Scalar)
 
 /// The result has these leaves, and the next instruction is due.
 #[inline(never)]
-pub(crate) fn give_all(stack: &mut Stack, to: u32, value: &[Scalar])
+pub fn give_all(stack: &mut Stack, to: u32, value: &[Scalar])
     requires on { MayGoOn stack.old }
     requires places { HasPlaces stack.old to (length value.now) }
     ensures { stack.new ≡ changed (λ f. with_result f to value.now) stack.old }

@@ -3,7 +3,7 @@ use Rattle.run_rules.specs.Frame.{moved_on, with_value}
 use Rattle.run_stack.specs.UnderWay.{changed, newest}
 use Rattle.run_actions.proofs.Carried.{position_after, running_after, twice}
 use Rattle.run_actions.proofs.Wide.{fits_from}
-use Rattle.run_actions.proofs.values.give_all.Goals as goal
+use Rattle.run_actions.proofs.result.give_all.Goals as goal
 
 pub set_all-requires : goal.set_all-requires
 set_all-requires c = fits_from (length (newest c.args.stack.now.frames).leaves) c.args.to c.args.value.now c.requires.places

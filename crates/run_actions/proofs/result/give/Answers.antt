@@ -2,7 +2,7 @@ use Rattle.std.proofs.Common.{[], ◌∷◌, ap, ◌∙◌}
 use Rattle.run_rules.specs.Frame.{moved_on, with_value}
 use Rattle.run_stack.specs.UnderWay.{changed}
 use Rattle.run_actions.proofs.Carried.{position_after, running_after, twice}
-use Rattle.run_accesses.proofs.result.give.Goals as goal
+use Rattle.run_actions.proofs.result.give.Goals as goal
 
 pub move_on-requires-clause-running : goal.move_on-requires-clause-running
 move_on-requires-clause-running c = rw c.put.ensures (running_after _ c.args.stack.now c.requires.on.running)
