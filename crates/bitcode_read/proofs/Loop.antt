@@ -13,13 +13,12 @@ use Rattle.record_table.specs.Records.{at_first, ended as ended_at, known_at_fir
 use Rattle.record_table.specs.Walk.{going}
 use Rattle.record_read.specs.declared.entry.NextEntry.TheVariants.{Block, Record, End}
 use Rattle.record_read.specs.declared.fault.BitcodeFault.{BitcodeFault}
-use Rattle.record_read.specs.Entries.{Gives, IsBefore}
+use Rattle.record_read.specs.Entries.{Gives, IsBefore, IsInBlock}
 use Rattle.record_read.specs.Faults.{Answers}
 use Rattle.record_read.specs.Reader.{Reader}
 use Rattle.type_read.specs.Fields.{is_good}
 use Rattle.arena_read.specs.declared.module_reader.ModuleReader.{ModuleReader}
 use Rattle.arena_read.specs.Numbered.{Numbers}
-use Rattle.body_read.specs.Whole as whole
 use Rattle.head_read.specs.Ahead.{AreCounted, IsAhead}
 use Rattle.head_read.specs.declared.ahead.ModuleAhead.{ModuleAhead}
 use Rattle.bitcode_read.specs.declared.sofar.Sofar.{Sofar}
@@ -235,7 +234,7 @@ module _ (texts : Texts) (all : Records) (others : List Piece) where
       block_is : module_from (at_first texts first all) all ≡ (records.block_in g.s id held.inside >>= λ t. module_from t held.behind)
       block_is = g.from ∙ ap (λ (rs : Records). module_from g.s rs) held.is
 
-      pub in_block : whole.IsInBlock r.left
+      pub in_block : IsInBlock r.left
       in_block = record { inside = held.inside; others = held.pieces; before = held.before }
 
       pub may_be_types : MayBeTypes id texts b r.left known

@@ -9,10 +9,10 @@ ghost use Rattle.bit_stream.specs.declared.reader.TheConstants.{LARGEST_STREAM};
 ghost use Rattle.record_table.specs.Faults.{Records, records as records_of};
 ghost use Rattle.record_table.specs.Records as records;
 ghost use Rattle.record_read.specs.declared.fault.BitcodeFault.TheVariants as fault;
+ghost use Rattle.record_read.specs.Entries.{IsInBlock};
 ghost use Rattle.record_read.specs.Fields.{texts_of};
 ghost use Rattle.head_read.specs.Ahead.{first_module};
 ghost use Rattle.head_read.specs.declared.ahead.ModuleAhead as the_ahead;
-ghost use Rattle.body_read.specs.Whole.{IsInBlock};
 ghost use Rattle.module_order.specs.Due.{due_at};
 ghost use Rattle.bitcode_read.specs.Sofar.{AreBytesHeld, HasRoom, IsNextCounts, IsTypesBegun, MayBeTypes, ReadsBlock};
 

@@ -1,6 +1,5 @@
 -- For `read_body`: a body in an arena, and the records that it is read of.
-use Rattle.std.specs.Prelude.{◌≡◌, ◌-◌, ◌<◌, ◌^◌, ℕ, nat_eq, suc, Bool, true, false, List, ◌∷◌, length, Some, None, Result, Ok, Err}
-use Rattle.bit_tree.specs.Pieces.{Piece, ended}
+use Rattle.std.specs.Prelude.{◌≡◌, ◌-◌, ◌<◌, ◌^◌, ℕ, nat_eq, suc, Bool, true, false, List, length, Some, None, Result, Ok, Err}
 use Rattle.ir_tables.specs.declared.opcode.Opcode.{Opcode}
 use Rattle.ir_tables.specs.Opcode.{opcode_of_code}
 use Rattle.type_table.specs.Types.{trees}
@@ -17,7 +16,6 @@ use Rattle.record_table.specs.Walk.{going}
 use Rattle.record_read.specs.declared.fault.BitcodeFault.{BitcodeFault}
 use Rattle.record_read.specs.declared.fault.BitcodeFault.TheVariants as fault
 use Rattle.record_read.specs.declared.texts.Texts as the_texts
-use Rattle.record_read.specs.Entries.{IsBefore}
 use Rattle.record_read.specs.Faults.{Answers, IsFault}
 use Rattle.record_read.specs.Fields.{texts_of}
 use Rattle.arena_read.specs.declared.module_reader.ModuleReader.{ModuleReader}
@@ -26,12 +24,6 @@ use Rattle.arena_read.specs.Numbered.{Numbers, IsDeclared}
 use Rattle.operand_read.specs.Found.{Always}
 use Rattle.body_records.specs.declared.begun.Begun.{Begun}
 use Rattle.body_records.specs.Begun.{Follows, Has, IsBody, IsCounted, Means, due_view}
-
--- a block was begun
-pub record IsInBlock (left : List Piece) : Type 0 where
-  pub inside : Records
-  pub others : List Piece
-  pub before : IsBefore left inside (ended ∷ others)
 
 -- what indices stand for outside the body: with so many values and blocks as were counted they stand for these inside
 abbrev pub NumbersOutside : ModuleReader → Numbering → Type 0

@@ -4,12 +4,12 @@ ghost use Rattle.bit_tree.specs.Pieces.{Piece, ended};
 ghost use Rattle.record_table.specs.Bodies as bodies;
 ghost use Rattle.record_table.specs.Faults.{Records};
 ghost use Rattle.record_table.specs.Fields.{Numbering};
-ghost use Rattle.record_read.specs.Entries.{IsBefore};
+ghost use Rattle.record_read.specs.Entries.{IsBefore, IsInBlock};
 ghost use Rattle.record_read.specs.Faults.{Answers};
 ghost use Rattle.record_read.specs.Fields.{texts_of};
 ghost use Rattle.body_ahead.specs.Ahead.{AreCounts};
 ghost use Rattle.body_records.specs.Begun.{StartsEmpty, due_view};
-ghost use Rattle.body_read.specs.Whole.{Closes, IsInBlock, IsWhole, KeepsCounts, NumbersOutside, ReadsRecords, is_next};
+ghost use Rattle.body_read.specs.Whole.{Closes, IsWhole, KeepsCounts, NumbersOutside, ReadsRecords, is_next};
 
 use crate::records::read_record;
 use arena_read::{LocalCounts, ModuleReader};

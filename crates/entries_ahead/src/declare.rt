@@ -10,7 +10,7 @@ ghost use Rattle.record_table.specs.Fields.{Numbering};
 ghost use Rattle.record_table.specs.Walk.{going};
 ghost use Rattle.record_read.specs.Entries.{IsBefore};
 ghost use Rattle.record_read.specs.Fields.{texts_of};
-ghost use Rattle.head_read.specs.Ahead.{IsInBlock, first_module, one_where};
+ghost use Rattle.head_read.specs.Ahead.{first_module, one_where};
 ghost use Rattle.entries_ahead.specs.Entries.{Declares, DeclaresAlias, DeclaresBy, DeclaresFunction, DeclaresVariable, declaring, entry_count, is_entry, names_for, names_of_place, used_with, whole_function};
 ghost use Rattle.entries_ahead.specs.Bodies.{Foresees, names_given};
 

@@ -62,12 +62,6 @@ pub record Gathers (texts : Texts) (held : Records) (others : List Piece) (new :
   pub structs : AreGathered found.named found.structs (names_in texts held)
   pub left : new.left ≡ others
 
--- a block was begun
-pub record IsInBlock (left : List Piece) : Type 0 where
-  pub inside : Records
-  pub others : List Piece
-  pub before : IsBefore left inside (ended ∷ others)
-
 -- the structs of the first block of types are known behind it; another block adds nothing
 abbrev pub GathersIf : Bool → Texts → Records → Bool → ModuleAhead → Bool → ModuleAhead → Type 0
 GathersIf true texts held had old has new = (has ≡ true) × AreGathered new.named new.structs (names_in texts held) × (new.counts ≡ old.counts)

@@ -5,9 +5,9 @@ ghost use Rattle.bit_tree.specs.Pieces.{Piece, ended};
 ghost use Rattle.bit_tree.specs.Read.{IsStream};
 ghost use Rattle.bit_tree.specs.Stream.{StreamTree, Stream};
 ghost use Rattle.record_table.specs.Faults.{Records, records, types_id};
-ghost use Rattle.record_read.specs.Entries.{IsBefore};
+ghost use Rattle.record_read.specs.Entries.{IsBefore, IsInBlock};
 ghost use Rattle.record_read.specs.Fields.{texts_of};
-ghost use Rattle.head_read.specs.Ahead.{CountsRecord, FindsFirst, Gathers, GathersBlock, IsAhead, IsInBlock, IsNothing, first_module};
+ghost use Rattle.head_read.specs.Ahead.{CountsRecord, FindsFirst, Gathers, GathersBlock, IsAhead, IsNothing, first_module};
 
 use arena_read::GlobalCounts;
 use module_arena::Arena;

@@ -10,11 +10,10 @@ use Rattle.record_table.specs.Walk.{Walk, going, stopped, told}
 use Rattle.record_read.specs.declared.entry.NextEntry.TheVariants.{Block, Record, End}
 use Rattle.record_read.specs.declared.fault.BitcodeFault.{BitcodeFault}
 use Rattle.record_read.specs.declared.fault.BitcodeFault.TheVariants as fault
-use Rattle.record_read.specs.Entries.{Gives, IsBefore}
+use Rattle.record_read.specs.Entries.{Gives, IsBefore, IsInBlock}
 use Rattle.record_read.specs.Faults.{Answers, Finishes, IsFault, IsMisplaced}
 use Rattle.record_read.specs.Fields.{AreBytesKept, ReadsBytes}
 use Rattle.record_read.specs.Reader.{FinishesBy, IsBrokenBy, Reader, also_asked}
-use Rattle.opening_read.specs.Producer.{IsInBlock}
 use Rattle.opening_read.specs.Table.{HasBytes, IsTable, KeepsTable}
 use Rattle.opening_read.proofs.Answering.{fault_is, finished, misplaced_so, never_none, never_ok, out_of_memory, told_also}
 use Rattle.opening_read.proofs.Fronts.{never_done}

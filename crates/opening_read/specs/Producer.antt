@@ -20,12 +20,6 @@ pub record IsWholeStream (left : List Piece) : Type 0 where
   pub all : Records
   pub before : IsBefore left all []
 
--- a block was begun
-pub record IsInBlock (left : List Piece) : Type 0 where
-  pub inside : Records
-  pub others : List Piece
-  pub before : IsBefore left inside (ended ∷ others)
-
 -- an entry that is the producer's block
 abbrev pub is_producer_block : NextEntry → Bool
 is_producer_block (entry.Block id) = nat_eq id producer_id

@@ -6,9 +6,9 @@ ghost use Rattle.record_table.specs.Fields.{byte};
 ghost use Rattle.record_table.specs.Layout.{times};
 ghost use Rattle.record_table.specs.Records as records;
 ghost use Rattle.record_table.specs.Walk.{going};
-ghost use Rattle.record_read.specs.Entries.{IsBefore};
+ghost use Rattle.record_read.specs.Entries.{IsBefore, IsInBlock};
 ghost use Rattle.record_read.specs.Faults.{Answers};
-ghost use Rattle.opening_read.specs.Producer.{FindsFront, IsBehind, IsEnded, IsInBlock, IsWholeStream, TakesThat, another, is_producer_block, noted_or, producer_of};
+ghost use Rattle.opening_read.specs.Producer.{FindsFront, IsBehind, IsEnded, IsWholeStream, TakesThat, another, is_producer_block, noted_or, producer_of};
 
 use record_read::{BitcodeFault, NextEntry, RecordReader, misplaced, read_below};
 use record_table::{PRODUCER, PRODUCER_BLOCK, TEXT};

@@ -4,9 +4,8 @@ ghost use Rattle.bit_tree.specs.Pieces.{Piece, ended};
 ghost use Rattle.record_table.specs.Faults.{Records, a_record, no_more};
 ghost use Rattle.record_table.specs.Records as records;
 ghost use Rattle.record_table.specs.Walk.{going};
-ghost use Rattle.record_read.specs.Entries.{IsBefore};
+ghost use Rattle.record_read.specs.Entries.{IsBefore, IsInBlock};
 ghost use Rattle.record_read.specs.Faults.{Answers};
-ghost use Rattle.opening_read.specs.Producer.{IsInBlock};
 ghost use Rattle.opening_read.specs.Table.{HasBytes, IsTable, KeepsTable};
 
 use ir_base::Text;

@@ -20,6 +20,12 @@ pub record IsBefore (left : List Piece) (inside : Records) (others : List Piece)
   pub left_is : left ≡ flat tree ++ others
   pub ends : IsEnd others
 
+-- a block was begun
+pub record IsInBlock (left : List Piece) : Type 0 where
+  pub inside : Records
+  pub others : List Piece
+  pub before : IsBefore left inside (ended ∷ others)
+
 -- the pieces that are left behind an end
 abbrev pub IsOver : List Piece → List Piece → Type 0
 IsOver [] new = new ≡ []
