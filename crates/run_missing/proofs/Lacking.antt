@@ -21,6 +21,7 @@ use Rattle.module_arena.specs.Module.{Alias, Bytes, Function, Module, Variable}
 use Rattle.module_arena.specs.UsedNames.{names_in_function, names_in_variable}
 use Rattle.module_arena.specs.Valid.{IsValid}
 use Rattle.module_arena.specs.WellFormed.{IsWellFormed}
+use Rattle.run_rules.specs.Host.{is_poison}
 use Rattle.run_rules.specs.Look.{address_in, leaf_of}
 use Rattle.run_rules.specs.Plan.{chosen, chosen_by, chosen_of, first_missing, is_missing, is_unresolved, names_used, uses}
 use Rattle.run_names.proofs.Apart.{AreApart, firsts_apart, own_entries, own_home, own_kind, same_entry}
@@ -28,7 +29,7 @@ use Rattle.run_names.proofs.Lies.{rest_apart}
 use Rattle.run_names.proofs.Listed.{all_from_places, at_place}
 use Rattle.run_names.proofs.Meant.{alias_address, aliases_defined, plain_means, target_is, target_symbol}
 use Rattle.run_names.proofs.OneModule.{alias_entries, alias_in, entries_have, entry, function_entries, function_symbols_are, module_apart, name_of_symbol, parted, symbol_in_is, variable_entries, variable_symbols_are}
-use Rattle.run_missing.specs.Used.{is_function_defined, is_lacking, is_poison, is_variable_defined, used_names}
+use Rattle.run_missing.specs.Used.{is_function_defined, is_lacking, is_variable_defined, used_names}
 use Rattle.run_missing.proofs.Picked.{all_of_kind, all_symbols, any_defined, any_of_kind, any_same, find_named, find_none, named, names_of_kind, none_named, none_of_kind, of_kind}
 
 -- a symbol that is looked up has the name that is

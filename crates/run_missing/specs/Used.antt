@@ -1,15 +1,14 @@
 -- For `missing_name`: the names that the definitions of a module use, and those that mean nothing.
-use Rattle.std.specs.Prelude.{◌≡◌, Bool, true, false, not, ◌&&◌, is_some, List, [], ◌∷◌, ◌++◌, filter, flat_map, map}
+use Rattle.std.specs.Prelude.{◌≡◌, Bool, true, not, ◌&&◌, is_some, List, [], ◌∷◌, ◌++◌, filter, flat_map, map}
 use Rattle.extract_core.specs.declared.flags.EntryFlags.{EntryFlags}
 use Rattle.extract_core.specs.Selected.{is_among}
-use Rattle.ir_eval.specs.declared.value.Scalar.{Scalar}
-use Rattle.ir_eval.specs.declared.value.Scalar.TheVariants.{Poison}
 use Rattle.linkage_rules.specs.Linkages.{is_available_externally}
 use Rattle.module_arena.specs.Lists.{Lists}
 use Rattle.module_arena.specs.Module.{Bytes, Variable, Function, Module}
 use Rattle.module_arena.specs.UsedNames.{names_in_variable, names_in_function}
 use Rattle.run_names.specs.Spots.{is_defined}
 use Rattle.run_names.specs.Standings.{has_code}
+use Rattle.run_rules.specs.Host.{is_poison}
 use Rattle.run_rules.specs.Look.{address_in}
 
 -- the entries of an arena that are defined; aliases are
@@ -35,11 +34,6 @@ pub record AreUsed (m : Module) (flags : EntryFlags) : Type 0 where
   pub variables : flags.variables ≡ map (λ v. is_among (used_names m) v.name) m.variables
   pub functions : flags.functions ≡ map (λ f. is_among (used_names m) f.name) m.functions
 
--- a leaf is poison, as the address of a name is that means nothing
-abbrev pub is_poison : Scalar → Bool
-is_poison Poison = true
-is_poison _ = false
-
--- a name that means nothing is used
+-- a name that means nothing, whose address is poison, is used
 abbrev pub is_lacking : Module → Bytes → Bool
 is_lacking m name = is_poison (address_in (m ∷ []) 0 name) && is_among (used_names m) name
