@@ -24,10 +24,11 @@ use Rattle.module_arena.specs.Names.{has_good_names}
 use Rattle.module_arena.specs.View.{body_view, constants_of, local_view, parameter_view}
 use Rattle.module_arena.proofs.LocalTypes.{definition_names, local_type_at}
 use Rattle.module_arena.proofs.ValueNames.{results_of-body}
+use Rattle.path_rows.specs.Numbers.{names_of}
 use Rattle.last_verify.specs.ValuesById.{AreLocalTypes, AreTypes, IsOf, tree_of}
 use Rattle.last_verify.specs.declared.local_type.LocalType.{LocalType}
 use Rattle.last_verify.specs.declared.local_type.LocalType.TheVariants as known
-use Rattle.last_verify.specs.Given.{Grows, HasBlock, HasTypes, names_of}
+use Rattle.last_verify.specs.Given.{Grows, HasBlock, HasTypes}
 use Rattle.last_verify.proofs.GivenTold.{all_given, definitions_told, types_of}
 
 -- ---- names

@@ -1,15 +1,12 @@
 -- For `local_types`: the types that instructions give, in the order of the values.
 use Rattle.std.specs.Prelude.{◌≡◌, ◌<◌, List, [], ◌++◌, All, flat_map, length, map, Option}
-use Rattle.std.specs.Option.{option_map_or}
 use Rattle.type_table.specs.Tree.{Tree}
 use Rattle.type_table.specs.Types.{Types, structs, trees}
 use Rattle.module_arena.specs.declared.entry.Block.{Block}
-use Rattle.module_arena.specs.declared.entry.Function.{Function}
 use Rattle.module_arena.specs.declared.instruction.Inst.{Inst}
 use Rattle.module_arena.specs.Functions.{result_definitions}
 use Rattle.module_arena.specs.Mentions.{operands_of, types_of}
-use Rattle.module_arena.specs.Module.{LocalName}
-use Rattle.module_arena.specs.View.{inst_view, local_view}
+use Rattle.module_arena.specs.View.{inst_view}
 use Rattle.last_verify.specs.ValuesById.{AreTypes, tree_of}
 use Rattle.last_verify.specs.declared.local_type.LocalType.{LocalType}
 
@@ -34,7 +31,3 @@ given_in t b = flat_map (given t) b.instructions
 pub record Grows (t : Types) (before after : List LocalType) (more : List (Option Tree)) : Type 0 where
   pub known : AreTypes t before → AreTypes t after
   pub told : map (tree_of t) after ≡ map (tree_of t) before ++ more
-
--- what the parameters and results of a function are called, by their numbers
-abbrev pub names_of : Function → List LocalName
-names_of f = map (λ p. local_view p.name) f.parameters ++ map local_view (option_map_or (λ b. b.results) f.body [])

@@ -5,8 +5,9 @@ ghost use Rattle.module_arena.specs.Changes.{function_in};
 ghost use Rattle.module_arena.specs.Known.{KnowsFunction};
 ghost use Rattle.module_arena.specs.Lists.{function_blocks, value_names};
 ghost use Rattle.module_arena.specs.Names.{has_good_names};
+ghost use Rattle.path_rows.specs.Numbers.{names_of};
 ghost use Rattle.last_verify.specs.ValuesById.{AreLocalTypes, AreTypes};
-ghost use Rattle.last_verify.specs.Given.{Grows, HasBlock, HasTypes, given, given_in, names_of};
+ghost use Rattle.last_verify.specs.Given.{Grows, HasBlock, HasTypes, given, given_in};
 
 use crate::local_type::LocalType;
 use crate::results::result_type;
