@@ -11,8 +11,9 @@ use Rattle.name_rules.specs.Written as written
 use Rattle.name_rules.specs.Written.{type_in, types_in, fields_in, modulo, constant_in, constants_in, value_in, operand_in, brackets_in, alignment_in}
 use Rattle.name_rules.specs.Locals.{local_in, called, next_behind, gives, announced_result, next_after}
 use Rattle.name_rules.specs.Locals.{is_void as written_is_void}
+use Rattle.module_arena.specs.TypeTests.{is_void}
 use Rattle.name_rules.specs.Bodies.{incoming_in, types_of, signature_in, operation_in, instruction_in, instructions_in}
-use Rattle.canon_module.specs.Exact.{is_bit, IsExactNumber, IsExact, AreExact, IsExactValue, IsExactOperand, AreExactOperands, AreExactIncoming, IsExactCount, IsExactSignature, IsExactOperation, is_void, HasNoResult, IsNext, behind, IsNextResult, behind_result, AreExactInstructions}
+use Rattle.canon_module.specs.Exact.{is_bit, IsExactNumber, IsExact, AreExact, IsExactValue, IsExactOperand, AreExactOperands, AreExactIncoming, IsExactCount, IsExactSignature, IsExactOperation, HasNoResult, IsNext, behind, IsNextResult, behind_result, AreExactInstructions}
 
 mutual
   pub type_back : (t : Tree) → type_in (type_tree t) ≡ t

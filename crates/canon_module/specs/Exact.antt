@@ -1,7 +1,8 @@
 -- For `items_stand_for_their_module`: what a module keeps so that its canonical items stand for it.
 use Rattle.std.specs.Prelude.{◌≡◌, ℕ, suc, ◌^◌, ◌<◌, ◌==◌, Bool, true, false, List, [], ◌∷◌, map, Option, Some, None}
 use Rattle.ir_tables.specs.declared.width.TheConstants.{WIDEST}
-use Rattle.type_table.specs.Tree.{Tree, int, ptr, void}
+use Rattle.type_table.specs.Tree.{Tree, int, ptr}
+use Rattle.module_arena.specs.TypeTests.{is_void}
 use Rattle.module_arena.specs.Module.{LocalName, Named, Numbered, Constant, Integer, Truth, Null, Undef, Poison, ZeroInitializer, Address, ByteString, Aggregate, ElementAddress, Cast, Binary, Constants, no_constants, more_constants, Value, Local, Known, Operand, Incoming, Operation, BinaryOperation, Compare, Convert, Select, Freeze, Phi, Load, Store, Alloca, GetElementPtr, Call, ExtractValue, InsertValue, Instruction, Case, Ending, ReturnVoid, Return, Jump, Branch, Switch, Unreachable, Block, Parameter, Variable, Function, Module}
 
 -- i1
@@ -79,11 +80,6 @@ IsExactOperation (GetElementPtr set s o os) = IsExactOperand o × AreExactOperan
 IsExactOperation (Call s v os) = IsExactSignature s.variadic s.parameters os × IsExactValue ptr v × AreExactOperands os
 IsExactOperation (ExtractValue v ns) = IsExactOperand v
 IsExactOperation (InsertValue v p ns) = IsExactOperand v × IsExactOperand p
-
--- the type of no value
-abbrev pub is_void : Tree → Bool
-is_void void = true
-is_void _ = false
 
 -- without a name there is no result: a store, or a call that returns nothing
 abbrev pub HasNoResult : Operation → Type 0

@@ -7,7 +7,7 @@ use Rattle.std.proofs.lemmas.Bool.{and_parts, ltb-true, eqb-true, not-true}
 use Rattle.type_table.specs.Tree.{Tree, int, ptr, void, array, struct, named}
 use Rattle.module_arena.specs.Module.{LocalName, Named, Numbered, Constant, Integer, Truth, Null, Undef, Poison, ZeroInitializer, Address, ByteString, Aggregate, ElementAddress, Cast, Binary, Constants, no_constants, more_constants, Value, Local, Known, Operand, Incoming, Operation, BinaryOperation, Compare, Convert, Select, Freeze, Phi, Load, Store, Alloca, GetElementPtr, Call, ExtractValue, InsertValue, Instruction, Case, Ending, ReturnVoid, Return, Jump, Branch, Switch, Unreachable, Block, Parameter, Variable, Function, Module}
 use Rattle.module_arena.specs.Same.{same_type}
-use Rattle.module_arena.specs.TypeTests.{is_void as is_the_void, is_passable}
+use Rattle.module_arena.specs.TypeTests.{is_void, is_passable}
 use Rattle.module_arena.specs.Constants.{constants_in, constants_of}
 use Rattle.module_arena.specs.Operations.{incoming_operand, case_operand}
 use Rattle.module_arena.specs.Functions.{body, result_name}
@@ -17,7 +17,7 @@ use Rattle.module_arena.specs.EntryRules.{return_suits}
 use Rattle.module_arena.specs.ValueRules.{is_pointer_value, arguments_suit, call_suits}
 use Rattle.module_arena.specs.WellFormed.{depth, is_in_range, is_good_part, is_good_constant}
 use Rattle.module_arena.proofs.SameValues.{type_is}
-use Rattle.canon_module.specs.Exact.{is_bit, IsExactNumber, IsExact, AreExact, IsExactValue, IsExactOperand, AreExactOperands, AreExactIncoming, IsExactCount, IsExactSignature, IsExactOperation, is_void, HasNoResult, IsNext, behind, IsNextResult, behind_result, AreExactInstructions, AreExactCases, IsExactEnding, behind_all, AreExactBlocks, AreExactParameters, behind_parameters, AreNumbered, IsExactBody, AreExactFunctions, IsExactInitialiser, AreExactVariables, IsExactModule}
+use Rattle.canon_module.specs.Exact.{is_bit, IsExactNumber, IsExact, AreExact, IsExactValue, IsExactOperand, AreExactOperands, AreExactIncoming, IsExactCount, IsExactSignature, IsExactOperation, HasNoResult, IsNext, behind, IsNextResult, behind_result, AreExactInstructions, AreExactCases, IsExactEnding, behind_all, AreExactBlocks, AreExactParameters, behind_parameters, AreNumbered, IsExactBody, AreExactFunctions, IsExactInitialiser, AreExactVariables, IsExactModule}
 use Rattle.canon_reads.specs.Laws.{IsGoodModule}
 use Rattle.canon_reads.proofs.Good.{first_of_all, others_of_all, all_front, all_rest, whole, AreGoodParts, AllGoodParts, IsGoodValue, IsGoodOperand, AreGoodOperands, IsGoodOperation}
 use Rattle.canon_reads.proofs.GoodBodies.{AreGoodInstructions, IsGoodEnding, AreGoodBlocks}
@@ -118,8 +118,8 @@ module _ (m : Module) where
     exact_operation f r (Alloca ty c n) g e = exact_count c g.works_on
     exact_operation f r (GetElementPtr set s o os) g e = (exact_operand o g.works_on.0, exact_operands os g.works_on.1)
     exact_operation f r (Call s v os) g e =
-        let p = and_parts (is_pointer_value m.structs f v) (arguments_suit s.variadic s.parameters os && (not (is_the_void s.returns) || is_none r)) e in
-        let q = and_parts (arguments_suit s.variadic s.parameters os) (not (is_the_void s.returns) || is_none r) p.1 in
+        let p = and_parts (is_pointer_value m.structs f v) (arguments_suit s.variadic s.parameters os && (not (is_void s.returns) || is_none r)) e in
+        let q = and_parts (arguments_suit s.variadic s.parameters os) (not (is_void s.returns) || is_none r) p.1 in
         (exact_signature s.variadic s.parameters os q.0, exact_value ptr v g.called, exact_operands os g.works_on)
     exact_operation f r (ExtractValue v ns) g e = exact_operand v g.works_on.0
     exact_operation f r (InsertValue v p ns) g e = (exact_operand v g.works_on.0, exact_operand p g.works_on.1.0)
@@ -144,14 +144,6 @@ next_name next (Numbered n) rest e =
     let p = and_parts (n == next) (is_numbered_from (next + 1) rest) e in
     (eqb-true n next p.0, ap (λ k. is_numbered_from k rest) (sym (add-one next)) ∙ p.1)
 
-void_is : (t : Tree) → is_the_void t ≡ true → is_void t ≡ true
-void_is (int w) e = e
-void_is ptr e = e
-void_is void e = e
-void_is (array n t) e = e
-void_is (struct packed ts) e = e
-void_is (named name) e = e
-
 no_result : (o : Operation) → has_result_of_phrase o false ≡ true → HasNoResult o
 no_result (BinaryOperation code set left right) e = absurd cc
 no_result (Compare set p left right) e = absurd cc
@@ -163,7 +155,7 @@ no_result (Load set ty a n) e = absurd cc
 no_result (Store set v a n) e = tt
 no_result (Alloca ty c n) e = absurd cc
 no_result (GetElementPtr set s o os) e = absurd cc
-no_result (Call s v os) e = void_is s.returns e
+no_result (Call s v os) e = e
 no_result (ExtractValue v ns) e = absurd cc
 no_result (InsertValue v p ns) e = absurd cc
 
