@@ -25,7 +25,8 @@ use Rattle.extract_core.specs.Extracted.{kept_linkage, declared_variable}
 use Rattle.entry_fates.specs.declared.fates.Fate.{Fate}
 use Rattle.entry_fates.specs.declared.fates.Fate.TheVariants.{Kept, Declared, LeftOut}
 use Rattle.entry_fates.specs.Fates.{variable_as}
-use Rattle.entry_define.specs.Filling.{IsInitialiser, initialised_by}
+use Rattle.entry_copy.specs.Initialisers.{IsInitialiser}
+use Rattle.entry_define.specs.Filling.{initialised_by}
 
 -- ---- the copied one
 

@@ -5,7 +5,6 @@ use Rattle.module_arena.specs.Lists.{Lists}
 use Rattle.module_arena.specs.Module.{Constant, Block, Variable, Alias, Function, Module}
 use Rattle.type_build.specs.Declarations.{without_initialiser}
 use Rattle.type_build.specs.Parameters.{without_body}
-use Rattle.type_build.specs.Stands.{IsConstant}
 use Rattle.entry_copy.specs.Copies.{Copies}
 use Rattle.entry_copy.specs.Tables.{Tables}
 use Rattle.entry_fates.specs.declared.fates.Fate.{Fate}
@@ -14,13 +13,6 @@ use Rattle.entry_declare.specs.Declaring.{KeepsNames}
 use Rattle.entry_declare.specs.Stages.{same_name}
 
 -- ---- one entry
-
--- the id, where there is one, is that of the initialiser
-abbrev pub IsInitialiser : Lists → Option Constant → Option ℕ → Type 0
-IsInitialiser b None None = Unit {0}
-IsInitialiser b (Some c) (Some id) = IsConstant b id c
-IsInitialiser b None (Some id) = ⊥
-IsInitialiser b (Some c) None = ⊥
 
 -- the variable with that number has this initialiser, where there is one
 abbrev pub initialised_by : Module → ℕ → Option Constant → Module

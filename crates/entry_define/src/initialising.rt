@@ -9,7 +9,8 @@ ghost use Rattle.type_build.specs.Stands.{IsConstant, Grows};
 ghost use Rattle.entry_copy.specs.Copies.{Copies};
 ghost use Rattle.entry_fates.specs.Fates.{variable_as, made};
 ghost use Rattle.entry_declare.specs.Stages.{same_name, with_variables};
-ghost use Rattle.entry_define.specs.Filling.{IsInitialiser, initialised_by, initialised_as, behind_made, BeginWithVariables, KeepsCopies};
+ghost use Rattle.entry_copy.specs.Initialisers.{IsInitialiser};
+ghost use Rattle.entry_define.specs.Filling.{initialised_by, initialised_as, behind_made, BeginWithVariables, KeepsCopies};
 ghost use Rattle.entry_define.specs.Naming.{NamesOfVariable};
 
 use entry_copy::{Copier, copied_initialiser};

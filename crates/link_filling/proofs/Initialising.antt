@@ -29,7 +29,7 @@ use Rattle.link_stages.specs.Copied.{AreCopied}
 use Rattle.link_stages.specs.Filled.{defined_as, with_initialiser}
 use Rattle.link_stages.specs.NewIds.{AllHaveNewIds}
 use Rattle.link_stages.specs.Definitions.{definition_of, entries_defined}
-use Rattle.link_filling.specs.Elements.{IsInitialiser}
+use Rattle.entry_copy.specs.Initialisers.{IsInitialiser}
 use Rattle.link_filling.proofs.Copied.{constant_copied}
 use Rattle.link_filling.proofs.Within.{variable_within}
 

@@ -1,7 +1,6 @@
--- For `define_symbols`, and how the code reads: the elements of several arrays as those of one, and the initialiser of a variable.
-use Rattle.std.specs.Prelude.{ℕ, List, [], map, flat_map, Option, Some, None}
+-- For `define_symbols`, and how the code reads: the elements of several arrays as those of one.
+use Rattle.std.specs.Prelude.{List, [], map, flat_map}
 use Rattle.type_table.specs.Tree.{Tree}
-use Rattle.module_arena.specs.Lists.{Lists}
 use Rattle.module_arena.specs.Module.{Module, Constant}
 use Rattle.module_arena.specs.declared.constant.Const.{Const}
 use Rattle.module_arena.specs.declared.constant.Const.TheVariants as const
@@ -10,7 +9,6 @@ use Rattle.linkage_rules.specs.Entries.{Entry}
 use Rattle.linked_contents.specs.Contents.{ContentPiece, elements_in}
 use Rattle.module_linker.specs.Linked.{linked_constant}
 use Rattle.module_linker.specs.Structs.{linked_type}
-use Rattle.type_build.specs.Stands.{IsConstant}
 
 -- the elements of a list, by their ids; any other constant has none
 abbrev pub elements_told : Const → List TypedConst
@@ -24,10 +22,3 @@ pieces_linked parts ps = map {B = Tree × Constant} (λ p. (linked_type parts p.
 -- the elements of the arrays of these entries, behind each other
 abbrev pub elements_of_all : List Module → List Entry → List (Tree × Constant)
 elements_of_all parts es = pieces_linked parts (flat_map elements_in es)
-
--- the id, where there is one, is that of the initialiser
-abbrev pub IsInitialiser : Lists → Option Constant → Option ℕ → Type 0
-IsInitialiser b None None = Unit {0}
-IsInitialiser b (Some c) (Some id) = IsConstant b id c
-IsInitialiser b None (Some id) = ⊥
-IsInitialiser b (Some c) None = ⊥

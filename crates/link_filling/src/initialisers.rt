@@ -11,7 +11,7 @@ ghost use Rattle.link_stages.specs.Copied.{AreCopied};
 ghost use Rattle.link_stages.specs.Filled.{defined_as};
 ghost use Rattle.link_stages.specs.NewIds.{AllHaveNewIds};
 ghost use Rattle.link_stages.specs.Definitions.{definition_of, entries_defined};
-ghost use Rattle.link_filling.specs.Elements.{IsInitialiser};
+ghost use Rattle.entry_copy.specs.Initialisers.{IsInitialiser};
 ghost use Rattle.link_filling.specs.Filling.{IsBare, KeepsCopied};
 
 use crate::appended::joined_initialiser;

@@ -3,7 +3,8 @@ use Rattle.module_arena.specs.Changes.{variable_in}
 use Rattle.module_arena.specs.View.{module_of}
 use Rattle.extract_core.proofs.Entries.{get_within}
 use Rattle.extract_core.proofs.Keeping.{variable_at}
-use Rattle.entry_define.specs.Filling.{IsInitialiser, initialised_by}
+use Rattle.entry_copy.specs.Initialisers.{IsInitialiser}
+use Rattle.entry_define.specs.Filling.{initialised_by}
 use Rattle.entry_define.proofs.Changed.{keeps_all_on, grown_keeps_all, initialised_keeps_all}
 use Rattle.entry_define.proofs.Initialisers.{set_as, none_as, initialiser_known, variable_made}
 use Rattle.entry_define.proofs.initialising.initialise_there.Goals as goal

@@ -7,7 +7,7 @@ use Rattle.extract_core.specs.Extracted.{declared_variable}
 use Rattle.extract_core.proofs.Entries.{all_get}
 use Rattle.extract_core.proofs.Keeping.{variable_at}
 use Rattle.entry_fates.specs.Fates.{variable_as}
-use Rattle.entry_define.specs.Filling.{IsInitialiser}
+use Rattle.entry_copy.specs.Initialisers.{IsInitialiser}
 use Rattle.entry_define.proofs.Initialisers.{kept_initialiser, declared_initialiser_is}
 use Rattle.entry_define.proofs.initialising.initialiser_of.Goals as goal
 

@@ -9,7 +9,7 @@ use Rattle.module_arena.specs.declared.entry.Variable.{Variable}
 use Rattle.module_linker.specs.Linked.{joined_initialiser}
 use Rattle.link_stages.specs.Filled.{with_initialiser}
 use Rattle.link_stages.specs.Definitions.{entries_defined}
-use Rattle.link_filling.specs.Elements.{IsInitialiser}
+use Rattle.entry_copy.specs.Initialisers.{IsInitialiser}
 use Rattle.link_filling.specs.Filling.{IsBare}
 use Rattle.link_filling.proofs.Bare.{variable_bare}
 use Rattle.link_filling.proofs.Initialising.{definition_is, initialiser_known, none_as, set_as, variable_here, variable_linked, variable_written}
