@@ -1,9 +1,9 @@
 -- For `read_text`, `read_last` and `read_label`: what texts are, and fields that are kept.
-use Rattle.std.specs.Prelude.{◌≡◌, ℕ, ◌<◌, ◌++◌, ◌∷◌, [], nat_lt, Bool, true, false, List, Option, Some, None}
-use Rattle.std.specs.List.{list_all}
+use Rattle.std.specs.Prelude.{◌≡◌, ℕ, ◌<◌, ◌++◌, ◌∷◌, [], nat_lt, Bool, true, false, Option, Some, None}
 use Rattle.module_arena.specs.declared.entry.LocalName as the_local
 use Rattle.module_arena.specs.declared.entry.LocalName.TheVariants as local
 use Rattle.module_arena.specs.Module.{Bytes, LocalName}
+pub use Rattle.module_arena.specs.Names.{are_bytes}
 use Rattle.module_arena.specs.View.{local_view}
 use Rattle.record_table.specs.Layout.{Layout}
 use Rattle.record_table.specs.Fields.{Texts, version_1, is_name}
@@ -29,10 +29,6 @@ Is kept value = kept ≡ value
 -- the very number is kept, and it is below this one
 abbrev pub IsBelow : ℕ → ℕ → ℕ → Type 0
 IsBelow count kept value = (kept ≡ value) × (kept < count)
-
--- each is below 256
-abbrev pub are_bytes : List ℕ → Bool
-are_bytes numbers = list_all (λ b. nat_lt b 256) numbers
 
 -- bytes are kept; none only where one of them is no byte, so that no rule behind rule 3 need be asked
 abbrev pub AreBytesKept : Option Bytes → Bytes → Walk → Type 0
