@@ -10,9 +10,10 @@ use Rattle.module_arena.specs.declared.entry.AliasType as the_alias_type
 use Rattle.module_arena.specs.declared.entry.Block as the_block
 use Rattle.module_arena.specs.declared.entry.Function as the_function
 use Rattle.module_arena.specs.declared.entry.Variable as the_variable
+pub use Rattle.module_arena.specs.FunctionView.{block_of}
 use Rattle.module_arena.specs.Lists.{Lists, name_at, function_blocks}
 use Rattle.module_arena.specs.Module as m
-use Rattle.module_arena.specs.View.{module_of, constants_of, variable_view, alias_type_view, alias_view, function_view, block_view}
+use Rattle.module_arena.specs.View.{module_of, constants_of, variable_view, alias_type_view, alias_view, function_view}
 use Rattle.record_table.specs.Fields.{ty, truth, target}
 use Rattle.record_table.specs.Layout.{◌&◌, either, counted, option}
 use Rattle.record_table.specs.Constants.{constant}
@@ -21,7 +22,7 @@ use Rattle.record_table.specs.Records.{alias_type_parts}
 use Rattle.record_table.specs.Spelling.{Line, by_ids, body_by_ids, type_line}
 use Rattle.record_table.specs.Standing.{Stands, HasCode}
 use Rattle.record_table.specs.TypeRecords.{definition, struct_body}
-use Rattle.operand_write.specs.Numbered.{indices, texts, constant_of, values_in, labels_in}
+use Rattle.operand_write.specs.Numbered.{indices, texts, constant_of}
 use Rattle.line_write.specs.Ids.{KnowsLine, KnowsEnd}
 use Rattle.line_write.specs.Lines.{IsLine, IsEnd}
 
@@ -77,10 +78,6 @@ module _ (a : Lists) where
     pub among : list_any (λ name. bytes_eq name (alias_of x).target) (indices a).targets ≡ true
 
   module _ (f : the_function.Function) where
-    -- a block
-    abbrev pub block_of : the_block.Block → m.Block
-    block_of b = block_view (trees a.table) (constants_of a) (values_in a f) (labels_in a f) b
-
     -- the ids of a block are those of the arena and the function, and its lines can be spelled as they are
     pub record IsBlock (b : the_block.Block) : Type 0 where
       pub known : All (KnowsLine a f) b.instructions

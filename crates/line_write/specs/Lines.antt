@@ -9,38 +9,30 @@ use Rattle.module_arena.specs.declared.instruction.Inst.{Inst}
 use Rattle.module_arena.specs.declared.instruction.Inst.TheVariants as inst
 use Rattle.module_arena.specs.TypeTests.{is_void}
 use Rattle.module_arena.specs.declared.instruction.Ending as the_ending
+pub use Rattle.module_arena.specs.FunctionView.{instruction_of, ending_of}
+use Rattle.module_arena.specs.FunctionView.{values_in, labels_in}
 use Rattle.module_arena.specs.Known.{HasOperand}
 use Rattle.module_arena.specs.Lists.{Lists, value_names, function_blocks}
 use Rattle.module_arena.specs.Mentions.{end_operands_of, targets_of}
-use Rattle.module_arena.specs.Module as m
-use Rattle.module_arena.specs.View.{constants_of, inst_view, ending_view, value_name}
+use Rattle.module_arena.specs.View.{constants_of, value_name}
 use Rattle.record_table.specs.Standing.{HasCode, CallResultStands, InstructionStands, EndingStands}
-use Rattle.operand_write.specs.Numbered.{values_in, labels_in}
 use Rattle.operand_write.specs.Wide.{IsBody, HasValueAt, HasOperandIn, HasIncomingIn, AreArgumentsIn}
 use Rattle.type_table.specs.Tree.{int, ptr}
 use Rattle.type_table.specs.Types.{tree}
 use Rattle.module_arena.specs.declared.instruction.Choice.{Choice}
 
 module _ (a : Lists) (f : Function) where
-  -- the instruction, and the end of a block, that is meant
-  abbrev pub instruction_of : Inst → m.Instruction
-  instruction_of i = inst_view (trees a.table) (constants_of a) (values_in a f) (labels_in a f) i
-
-  -- the end of a block that is meant
-  abbrev pub ending_of : the_ending.Ending → m.Ending
-  ending_of e = ending_view (trees a.table) (constants_of a) (values_in a f) (labels_in a f) e
-
   -- a line whose operands are those of its layout
   pub record IsLine (i : Inst) : Type 0 where
     pub body : IsBody a f
-    pub stands : InstructionStands (instruction_of i)
+    pub stands : InstructionStands (instruction_of a f i)
 
   -- an end whose operands are those of its layout, by ids that are there
   pub record IsEnd (e : the_ending.Ending) : Type 0 where
     pub body : IsBody a f
     pub operands : All (HasOperand (length a.table.types) (length a.constants) (length (value_names f))) (end_operands_of e)
     pub targets : All (λ id. id < length (function_blocks f)) (targets_of e)
-    pub stands : EndingStands (ending_of e)
+    pub stands : EndingStands (ending_of a f e)
 
   -- the arms of a select have the type of the first
   pub record IsChoiceIn (c : Choice) : Type 0 where

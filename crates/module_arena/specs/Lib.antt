@@ -4,6 +4,7 @@ pub mod EntryRules
 pub mod Flow
 pub mod Forms
 pub mod Functions
+pub mod FunctionView
 pub mod HostRows
 pub mod HostTypes
 pub mod EntityView

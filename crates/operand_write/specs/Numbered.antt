@@ -1,15 +1,13 @@
 -- For `put_operand`, `put_value` and all that puts by a `Numbering`: what the ids of an arena stand for as operands.
-use Rattle.std.specs.Prelude.{◌≡◌, ℕ, List, map}
+use Rattle.std.specs.Prelude.{◌≡◌, ℕ, List}
 use Rattle.type_table.specs.Types.{trees}
 use Rattle.module_arena.specs.declared.constant.TypedConst.{TypedConst}
 use Rattle.module_arena.specs.declared.entry.Function.{Function}
-use Rattle.module_arena.specs.declared.instruction.Value as the_value
-use Rattle.module_arena.specs.declared.instruction.Operand as the_operand
 use Rattle.module_arena.specs.declared.instruction.Case as the_case
-use Rattle.module_arena.specs.declared.instruction.Incoming as the_incoming
-use Rattle.module_arena.specs.Lists.{Lists, value_names, function_blocks}
+pub use Rattle.module_arena.specs.FunctionView.{values_in, labels_in, label_of, value_of, operand_of, incoming_of}
+use Rattle.module_arena.specs.Lists.{Lists}
 use Rattle.module_arena.specs.Module as m
-use Rattle.module_arena.specs.View.{module_of, constants_of, constant_at, constants_at, local_view, value_view, operand_view, incoming_view, case_view, block_name}
+use Rattle.module_arena.specs.View.{module_of, constants_of, constant_at, constants_at, case_view}
 use Rattle.record_table.specs.Fields.{Texts, Numbering}
 use Rattle.record_table.specs.StringTable.{once_each}
 use Rattle.record_table.specs.Mentions.{mentioned}
@@ -42,34 +40,10 @@ module _ (a : Lists) where
 
   -- what indices stand for in the body of a function
   module _ (f : Function) where
-    -- what its parameters and results are called
-    abbrev pub values_in : List m.LocalName
-    values_in = map local_view (value_names f)
-
-    -- what its blocks are called
-    abbrev pub labels_in : List m.LocalName
-    labels_in = map (λ b. local_view b.name) (function_blocks f)
-
-    -- the same numbering, with both
+    -- the same numbering, with what its parameters and results and its blocks are called
     abbrev pub inside : Numbering
-    inside = record (indices) { values = values_in; blocks = labels_in }
-
-    -- a value that is meant
-    abbrev pub value_of : the_value.Value → m.Value
-    value_of v = value_view (trees a.table) (constants_of a) values_in labels_in v
-
-    -- an operand
-    abbrev pub operand_of : the_operand.Operand → m.Operand
-    operand_of o = operand_view (trees a.table) (constants_of a) values_in labels_in o
-
-    -- the name of a block
-    abbrev pub label_of : ℕ → m.LocalName
-    label_of id = block_name (trees a.table) (constants_of a) values_in labels_in id
-
-    -- an entry of a phi
-    abbrev pub incoming_of : the_incoming.Incoming → m.Incoming
-    incoming_of i = incoming_view (trees a.table) (constants_of a) values_in labels_in i
+    inside = record (indices) { values = values_in a f; blocks = labels_in a f }
 
     -- a case of a switch
     abbrev pub case_in : the_case.Case → m.Case
-    case_in c = case_view (trees a.table) (constants_of a) values_in labels_in c
+    case_in c = case_view (trees a.table) (constants_of a) (values_in a f) (labels_in a f) c

@@ -4,9 +4,10 @@ use Rattle.std.specs.List.{All}
 use Rattle.module_arena.specs.declared.instruction.Case as the_case
 use Rattle.module_arena.specs.declared.instruction.Ending as the_ending
 use Rattle.module_arena.specs.declared.entry.Function as the_function
+pub use Rattle.module_arena.specs.FunctionView.{ending_of}
 use Rattle.module_arena.specs.Lists.{Lists}
 use Rattle.module_arena.specs.Module as m
-use Rattle.module_arena.specs.View.{case_view, constants_of, ending_view}
+use Rattle.module_arena.specs.View.{case_view, constants_of}
 use Rattle.type_table.specs.Types.{trees}
 use Rattle.run_rules.specs.Action as actions
 use Rattle.run_rules.specs.Resolve.{case_in, ending_in}
@@ -22,10 +23,6 @@ module _ (a : Lists) (f : the_function.Function) where
   -- what stands for a case
   abbrev pub case_of : the_case.Case → m.Case
   case_of c = case_view (trees a.table) (constants_of a) (values_in a f) (labels_in a f) c
-
-  -- what stands for the end of a block
-  abbrev pub ending_of : the_ending.Ending → m.Ending
-  ending_of e = ending_view (trees a.table) (constants_of a) (values_in a f) (labels_in a f) e
 
 -- a case of a `switch` that ends the block with that id, with its number and its edge
 abbrev pub case_from : Framed → ℕ → the_case.Case → ℕ × actions.Edge

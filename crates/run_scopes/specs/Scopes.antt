@@ -3,18 +3,16 @@
 use Rattle.std.specs.Prelude.{◌≡◌, ℕ, ◌+◌, ◌<◌, ⊤, true, List, [], ◌∷◌, map, length, Option, Some, slice_get}
 use Rattle.std.specs.List.{IsDistinct}
 use Rattle.std.specs.Option.{option_map}
-use Rattle.module_arena.specs.declared.entry.Block as the_block
 use Rattle.module_arena.specs.declared.entry.Function.{Function}
 use Rattle.module_arena.specs.declared.entry.Parameter as the_parameter
-use Rattle.module_arena.specs.declared.instruction.Incoming as the_incoming
-use Rattle.module_arena.specs.declared.instruction.Inst.{Inst}
 use Rattle.module_arena.specs.declared.instruction.Operand as the_operand
 use Rattle.module_arena.specs.declared.instruction.Value as the_value
 use Rattle.module_arena.specs.declared.instruction.Value.TheVariants as value
+pub use Rattle.module_arena.specs.FunctionView.{values_in, labels_in, label_of, value_of, operand_of, incoming_of, instruction_of, block_of}
 use Rattle.module_arena.specs.Lists.{Lists, value_names, function_blocks}
 use Rattle.module_arena.specs.Module as m
 use Rattle.module_arena.specs.Same.{same_local}
-use Rattle.module_arena.specs.View.{module_of, constants_of, local_view, value_name, block_name, value_view, operand_view, incoming_view, inst_view, block_view, function_view}
+use Rattle.module_arena.specs.View.{module_of, constants_of, local_view, value_name, function_view}
 use Rattle.type_table.specs.Layout.{leaves}
 use Rattle.type_table.specs.Tree.{Tree}
 use Rattle.type_table.specs.Types.{tree, trees}
@@ -54,48 +52,16 @@ abbrev pub AreApart : List m.LocalName → Type 0
 AreApart names = (i j : ℕ) (name : m.LocalName) → slice_get names i ≡ Some name → slice_get names j ≡ Some name → i ≡ j
 
 module _ (a : Lists) (f : Function) where
-  -- what parameters and results are called
-  abbrev pub values_in : List m.LocalName
-  values_in = map local_view (value_names f)
-
-  -- what blocks are called
-  abbrev pub labels_in : List m.LocalName
-  labels_in = map (λ b. local_view b.name) (function_blocks f)
-
   -- the name of the parameter or result with that id
   abbrev pub name_of : ℕ → m.LocalName
-  name_of id = value_name (trees a.table) (constants_of a) values_in labels_in id
-
-  -- the name of the block with that id
-  abbrev pub label_of : ℕ → m.LocalName
-  label_of id = block_name (trees a.table) (constants_of a) values_in labels_in id
-
-  -- what stands for a value
-  abbrev pub value_of : the_value.Value → m.Value
-  value_of v = value_view (trees a.table) (constants_of a) values_in labels_in v
-
-  -- what stands for an operand
-  abbrev pub operand_of : the_operand.Operand → m.Operand
-  operand_of o = operand_view (trees a.table) (constants_of a) values_in labels_in o
-
-  -- what stands for an entry of a phi
-  abbrev pub incoming_of : the_incoming.Incoming → m.Incoming
-  incoming_of i = incoming_view (trees a.table) (constants_of a) values_in labels_in i
-
-  -- what stands for an instruction
-  abbrev pub instruction_of : Inst → m.Instruction
-  instruction_of i = inst_view (trees a.table) (constants_of a) values_in labels_in i
-
-  -- what stands for a block
-  abbrev pub block_of : the_block.Block → m.Block
-  block_of b = block_view (trees a.table) (constants_of a) values_in labels_in b
+  name_of id = value_name (trees a.table) (constants_of a) (values_in a f) (labels_in a f) id
 
   -- No two parameters and results of the function have one name, and no two blocks; the parameters and results are named in the order of
   -- their ids, and the places are theirs
   pub record IsFramed (places : List ℕ) : Type 0 where
-    pub apart : IsDistinct same_local values_in
-    pub labels : AreApart labels_in
-    pub named : map (λ (x : Typed). x.0) (typed_of a f) ≡ values_in
+    pub apart : IsDistinct same_local (values_in a f)
+    pub labels : AreApart (labels_in a f)
+    pub named : map (λ (x : Typed). x.0) (typed_of a f) ≡ values_in a f
     pub placed : places ≡ bounds_from 0 (typed_of a f)
 
 -- the parameter or result with that id has its leaves from the one place up to the other
