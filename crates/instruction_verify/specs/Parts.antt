@@ -14,11 +14,7 @@ use Rattle.type_table.specs.Types.{tree}
 use Rattle.module_arena.specs.Operations.{operands, ending_operands, callee, result_type}
 use Rattle.type_table.specs.Tree.{Structs}
 use Rattle.module_arena.specs.ValueRules.{address_suits, arithmetic_suits, call_suits, callee_fits, cast_suits, element_address_suits, ending_suits, have_types_written, operands_fit, part_suits}
-use Rattle.module_arena.specs.Valid.{Entity, InstructionOf, Demand, Test}
-
--- a test that an entity is asked to pass
-abbrev ask : Entity → ℕ → Bool → Demand
-ask entity rule passes = record { entity = entity; rule = rule; fact = Test passes }
+use Rattle.module_arena.specs.Valid.{InstructionOf, Demand, ask}
 
 -- of an instruction with that number in the function of that name: rules 5 to 7
 abbrev pub first_demands : Module → (function : Bytes) → (number : ℕ) → Instruction → List Demand

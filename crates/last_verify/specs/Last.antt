@@ -1,13 +1,9 @@
 -- For `judge_last` and `judge_ending_last`: what is asked before and behind the rules 12 to 16.
-use Rattle.std.specs.Prelude.{ℕ, Bool, ◌&&◌, List, [], ◌∷◌}
+use Rattle.std.specs.Prelude.{ℕ, ◌&&◌, List, [], ◌∷◌}
 use Rattle.module_arena.specs.Module.{Function, Instruction, Module, Operand}
 use Rattle.module_arena.specs.Operations.{callee, operands}
-use Rattle.module_arena.specs.Valid.{Demand, Entity, InstructionOf, Test}
+use Rattle.module_arena.specs.Valid.{Demand, InstructionOf, ask}
 use Rattle.module_arena.specs.ValueRules.{call_suits, callee_fits, have_types_written, operands_fit}
-
--- a test that an entity is asked to pass
-abbrev ask : Entity → ℕ → Bool → Demand
-ask entity rule passes = record { entity = entity; rule = rule; fact = Test passes }
 
 -- of local values among operands: rule 11
 abbrev pub written_demands : Module → Function → (number : ℕ) → List Operand → List Demand

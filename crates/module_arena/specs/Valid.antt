@@ -46,7 +46,7 @@ pub record Demand : Type 0 where
   pub fact : Fact
 
 -- a test that an entity is asked to pass
-abbrev ask : Entity → ℕ → Bool → Demand
+abbrev pub ask : Entity → ℕ → Bool → Demand
 ask entity rule passes = record { entity = entity; rule = rule; fact = Test passes }
 
 -- what the module itself is asked for

@@ -3,12 +3,12 @@ use Rattle.std.proofs.Common.{◌≡◌, ℕ, List, [], ◌∷◌, ◌++◌, len
 use Rattle.module_arena.specs.Flow.{flow_of}
 use Rattle.module_arena.specs.Module.{Block, Ending, Function, Instruction, LocalName, Module}
 use Rattle.module_arena.specs.Operations.{ending_operands}
-use Rattle.module_arena.specs.Valid.{AllHold, Demand, InstructionOf, definedness_demands, ending_demands, instruction_demands, operand_uses, operation_phi_suits, operation_uses}
+use Rattle.module_arena.specs.Valid.{AllHold, Demand, InstructionOf, definedness_demands, ending_demands, instruction_demands, operand_uses, operation_phi_suits, operation_uses, ask}
 use Rattle.instruction_verify.specs.Parts.{ending_first_demands, ending_last_demands, first_demands, last_demands}
 use Rattle.type_verify.specs.declared.fault.VerifyFault.{VerifyFault}
 use Rattle.type_verify.specs.Judged.{Judged}
 use Rattle.type_verify.proofs.Judging.{fails_first}
-use Rattle.use_verify.specs.Uses.{ask, place_at}
+use Rattle.use_verify.specs.Uses.{place_at}
 use Rattle.path_verify.proofs.Ordered.{second_fails, third_fails, third_leads, fourth_leads}
 
 -- ---- an instruction

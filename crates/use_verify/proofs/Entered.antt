@@ -19,7 +19,7 @@ use Rattle.module_arena.specs.Mentions.{targets_of}
 use Rattle.module_arena.specs.Module.{Block, Constant, LocalName}
 use Rattle.module_arena.specs.Operations.{targets}
 use Rattle.module_arena.specs.Same.{same_local}
-use Rattle.module_arena.specs.Valid.{BlockOf, Demand, entry_demands}
+use Rattle.module_arena.specs.Valid.{BlockOf, Demand, entry_demands, ask}
 use Rattle.module_arena.specs.View.{block_name, block_view, body_view, case_view, constants_of, ending_view, local_view}
 use Rattle.module_arena.specs.declared.entry.Block as the_block
 use Rattle.module_arena.specs.declared.entry.Body as the_body
@@ -28,7 +28,7 @@ use Rattle.module_arena.specs.declared.entry.Parameter as the_parameter
 use Rattle.module_arena.specs.declared.instruction.Case as the_case
 use Rattle.module_arena.specs.declared.instruction.Ending.{Ending}
 use Rattle.module_arena.specs.declared.instruction.Ending.TheVariants as ending
-use Rattle.use_verify.specs.Uses.{ask, blocks_named, flow_in}
+use Rattle.use_verify.specs.Uses.{blocks_named, flow_in}
 
 -- ---- names by their numbers
 

@@ -5,12 +5,12 @@ ghost use Rattle.module_arena.specs.Changes.{function_in};
 ghost use Rattle.module_arena.specs.Functions.{blocks};
 ghost use Rattle.module_arena.specs.Lists.{Lists, function_blocks};
 ghost use Rattle.module_arena.specs.Mentions.{targets_of};
-ghost use Rattle.module_arena.specs.Valid.{BlockOf, entry_demands};
+ghost use Rattle.module_arena.specs.Valid.{BlockOf, entry_demands, ask};
 ghost use Rattle.module_arena.specs.View.{local_view};
 ghost use Rattle.path_rows.specs.Numbers.{graph_of, names_of};
 ghost use Rattle.path_rows.specs.Reflects.{Reflects};
 ghost use Rattle.type_verify.specs.Judged.{Judged};
-ghost use Rattle.use_verify.specs.Uses.{ask, flow_in};
+ghost use Rattle.use_verify.specs.Uses.{flow_in};
 
 use ir_base::Name;
 use module_arena::{Block, BlockId, Case, Ending, Entity, Function, LocalName};

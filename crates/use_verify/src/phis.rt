@@ -9,13 +9,13 @@ ghost use Rattle.module_arena.specs.declared.entry.Function as the_function;
 ghost use Rattle.module_arena.specs.Mentions as mentions;
 ghost use Rattle.module_arena.specs.Mentions.{targets_of};
 ghost use Rattle.module_arena.specs.Module as modules;
-ghost use Rattle.module_arena.specs.Valid.{InstructionOf, operation_phi_suits};
+ghost use Rattle.module_arena.specs.Valid.{InstructionOf, operation_phi_suits, ask};
 ghost use Rattle.module_arena.specs.View.{constants_of};
 ghost use Rattle.path_rows.specs.Graph.{Graph};
 ghost use Rattle.path_rows.specs.Numbers.{names_of};
 ghost use Rattle.path_rows.specs.Reflects.{Reflects};
 ghost use Rattle.type_verify.specs.Judged.{Judged};
-ghost use Rattle.use_verify.specs.Uses.{HasUses, ask, block_named, flow_in, instruction_in};
+ghost use Rattle.use_verify.specs.Uses.{HasUses, block_named, flow_in, instruction_in};
 ghost use Rattle.use_verify.specs.Classes.{AreClasses, HasClass};
 ghost use Rattle.use_verify.specs.Edges.{IsSourced, MayBeSourced, entries_suit_by, sources_from, suits_by};
 

@@ -1,9 +1,8 @@
 use Rattle.std.proofs.Common.{◌≡◌, not, List, [], ◌∷◌, slice_get, Some, ap, ◌∙◌, subst}
 use Rattle.module_arena.specs.Lists.{function_blocks}
-use Rattle.module_arena.specs.Valid.{BlockOf, Demand}
+use Rattle.module_arena.specs.Valid.{BlockOf, Demand, ask}
 use Rattle.module_arena.specs.View.{local_view}
 use Rattle.type_verify.specs.Judged.{Judged}
-use Rattle.use_verify.specs.Uses.{ask}
 use Rattle.use_verify.proofs.Entered.{first_asked, named_at, unled}
 use Rattle.use_verify.proofs.Named.{names_apart}
 use Rattle.use_verify.proofs.first_block.judge_entry_block.Goals as goal

@@ -1,7 +1,6 @@
 use Rattle.std.proofs.Common.{List, [], ◌∷◌, ap, ◌∙◌, subst}
-use Rattle.module_arena.specs.Valid.{Demand, InstructionOf}
+use Rattle.module_arena.specs.Valid.{Demand, InstructionOf, ask}
 use Rattle.type_verify.specs.Judged.{Judged, asks}
-use Rattle.use_verify.specs.Uses.{ask}
 use Rattle.use_verify.proofs.Named.{names_apart}
 use Rattle.use_verify.proofs.PhisTold.{suits_told}
 use Rattle.use_verify.proofs.phis.PhiJudge.judge_phi.Goals as goal
