@@ -5,8 +5,6 @@ use Rattle.std.specs.Bool.{beq}
 use Rattle.std.specs.Cmp.Lexicographic.{pointwise}
 use Rattle.std.specs.Hash as fed
 use Rattle.std.specs.Hash.{HashWrites}
-use Rattle.ir_tables.specs.declared.opcode.Opcode.{Opcode}
-use Rattle.ir_tables.specs.Opcode.{opcode_code}
 use Rattle.module_arena.specs.declared.constant.Brackets.{Brackets}
 use Rattle.module_arena.specs.declared.constant.Brackets.TheVariants as brackets
 use Rattle.module_arena.specs.declared.constant.Const.{Const}
@@ -14,6 +12,7 @@ use Rattle.module_arena.specs.declared.constant.Const.TheVariants as const
 use Rattle.module_arena.specs.declared.constant.TypedConst.{TypedConst}
 use Rattle.module_arena.specs.declared.entry.GlobalId.{GlobalId}
 use Rattle.module_arena.specs.declared.entry.GlobalId.TheVariants as global
+use Rattle.module_arena.specs.Same.{same_opcode}
 
 -- the code of a pair of brackets
 abbrev pub brackets_code : Brackets → ℕ
@@ -35,10 +34,6 @@ same_typed a b = (a.ty == b.ty) && (a.value == b.value)
 -- the same, one by one
 abbrev pub all_same_typed : List TypedConst → List TypedConst → Bool
 all_same_typed as_ bs = pointwise same_typed as_ bs
-
--- one opcode
-abbrev pub same_opcode : Opcode → Opcode → Bool
-same_opcode a b = opcode_code a == opcode_code b
 
 -- one form, and the same parts, by their ids
 abbrev pub same_const : Const → Const → Bool

@@ -17,7 +17,8 @@ use Rattle.module_arena.specs.declared.constant.ConstPair.{ConstPair}
 use Rattle.module_arena.specs.declared.constant.TypedConst.{TypedConst}
 use Rattle.module_arena.specs.declared.entry.GlobalId.{GlobalId}
 use Rattle.module_arena.specs.declared.entry.GlobalId.TheVariants as global
-use Rattle.module_arena.specs.SameConst.{brackets_code, same_global, same_typed, all_same_typed, same_opcode, same_const}
+use Rattle.module_arena.specs.Same.{same_opcode}
+use Rattle.module_arena.specs.SameConst.{brackets_code, same_global, same_typed, all_same_typed, same_const}
 
 -- a test that is passed only by equal values, and by each value with itself, tells the equal ones
 decided_by : {K : Type 0} (test : K → K → Bool) → ((a b : K) → test a b ≡ true → a ≡ b) → ((a : K) → test a a ≡ true) → (a b : K) → Decides (test a b) (a ≡ b)

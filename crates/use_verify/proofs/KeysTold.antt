@@ -21,8 +21,8 @@ use Rattle.module_arena.specs.Known.{HasGlobal, KnowsConst, AreDistinct, counts}
 use Rattle.module_arena.specs.Lists.{Lists, name_at, global_name}
 use Rattle.module_arena.specs.Mentions.{typed_in}
 use Rattle.module_arena.specs.Module.{Bytes}
-use Rattle.module_arena.specs.Same.{same_type, same_brackets, same_constant, same_constants}
-use Rattle.module_arena.specs.SameConst.{brackets_code, same_global, same_typed, all_same_typed, same_opcode, same_const}
+use Rattle.module_arena.specs.Same.{same_type, same_brackets, same_opcode, same_constant, same_constants}
+use Rattle.module_arena.specs.SameConst.{brackets_code, same_global, same_typed, all_same_typed, same_const}
 use Rattle.module_arena.specs.SameConstLaws.{same_const_decides}
 use Rattle.module_arena.specs.View.{brackets_view, constant_at, constants_at, constants_of}
 use Rattle.type_verify.specs.Classes.{AreClasses as AreTypeClasses}
