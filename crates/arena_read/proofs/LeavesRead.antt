@@ -13,7 +13,7 @@ use Rattle.module_arena.specs.Known.{Counts, HasGlobal, KnowsConst}
 use Rattle.module_arena.specs.Lists.{Lists}
 use Rattle.module_arena.specs.Mentions.{typed_in, types_in, globals_in}
 use Rattle.module_arena.specs.Module as m
-use Rattle.module_arena.specs.TypeTests.{is_pointer}
+use Rattle.module_arena.specs.TypeTests.{is_pointer, width_of}
 use Rattle.record_table.specs.Walk.{Walk, ask, stop, next}
 use Rattle.record_table.specs.Layout.{number}
 use Rattle.record_table.specs.Fields.{Numbering, global, text}
@@ -24,7 +24,7 @@ use Rattle.record_read.proofs.Asking.{tells_no_more, is_broken_by}
 use Rattle.arena_read.specs.declared.module_reader.ModuleReader.{ModuleReader}
 use Rattle.arena_read.specs.Growing.{IsConstant}
 use Rattle.arena_read.specs.Numbered.{ReadsGlobal}
-use Rattle.arena_read.specs.Kept.{Goes, TakesOnly, Keeps, IsRead, HasConstant, KeepsConstant, tree_at, width_of}
+use Rattle.arena_read.specs.Kept.{Goes, TakesOnly, Keeps, IsRead, HasConstant, KeepsConstant, tree_at}
 use Rattle.arena_read.proofs.Lasting.{next_still, ask_still, stop_still, text_still}
 use Rattle.arena_read.proofs.Steps.{goes_reader, goes_two, kept_keeps, kept_read, none_keeps, none_read}
 

@@ -7,10 +7,10 @@ use Rattle.type_table.specs.declared.ir_type.IrType.{IrType}
 use Rattle.type_table.specs.declared.ir_type.IrType.TheVariants.{Int, Ptr, Void, Array, Struct, Named}
 use Rattle.type_table.specs.Types.{Types, IsGood, Knows, names, trees, tree_of, tree}
 use Rattle.type_table.proofs.Outlined.{tree-is, type_known}
-use Rattle.module_arena.specs.TypeTests.{is_integer_of, is_pointer}
+use Rattle.module_arena.specs.TypeTests.{is_integer_of, is_pointer, width_of}
 use Rattle.module_arena.specs.Constants.{is_bytes_of}
 use Rattle.arena_read.specs.declared.module_reader.ModuleReader.{ModuleReader}
-use Rattle.arena_read.specs.Kept.{IsKnownType, width_of}
+use Rattle.arena_read.specs.Kept.{IsKnownType}
 
 -- a type that is known is one of the table
 pub known_within : (m : ModuleReader) (ty : Option ℕ) → IsKnownType m ty → IfSome ty (λ id. id < length m.growing.arena.table.types)

@@ -1,7 +1,7 @@
 -- For `read_integer`, `read_address` and all that reads by `ModuleReader` into its arena: what is kept, and how it is
 -- meant.
 use Rattle.std.specs.Prelude.{◌≡◌, ℕ, ◌<◌, true, false, length, Option, Some, None}
-use Rattle.type_table.specs.Tree.{Tree, int, void}
+use Rattle.type_table.specs.Tree.{Tree, void}
 use Rattle.type_table.specs.Types.{Types, tree}
 use Rattle.module_arena.specs.declared.constant.Const.{Const}
 use Rattle.module_arena.specs.Lists.{Lists}
@@ -64,11 +64,6 @@ KeepsConstant old c new (Some id) = KeepsOne old c new id
 abbrev pub tree_at : Types → Option ℕ → Tree
 tree_at t None = void
 tree_at t (Some id) = tree t id
-
--- the width of an integer type
-abbrev pub width_of : Tree → Option ℕ
-width_of (int width) = Some width
-width_of _ = None
 
 -- The operand in front stands for that type; none stands for `void`. Nothing else changed.
 pub record ReadsType (k : Numbering) (old new : ModuleReader) (answer : Option ℕ) : Type 0 where

@@ -2,9 +2,9 @@
 ghost use Rattle.std.specs.Prelude.{◌≡◌, ◌<◌, ◌≤◌, length, IfSome};
 ghost use Rattle.ir_tables.specs.declared.width.TheConstants.{WIDEST};
 ghost use Rattle.type_table.specs.Types.{tree};
-ghost use Rattle.module_arena.specs.TypeTests.{is_integer_of, is_pointer as is_pointer_tree};
+ghost use Rattle.module_arena.specs.TypeTests.{is_integer_of, is_pointer as is_pointer_tree, width_of as width_in};
 ghost use Rattle.module_arena.specs.Constants.{is_bytes_of};
-ghost use Rattle.arena_read.specs.Kept.{tree_at, width_of as width_in};
+ghost use Rattle.arena_read.specs.Kept.{tree_at};
 
 use type_table::{IrType, TypeId, TypeTable};
 

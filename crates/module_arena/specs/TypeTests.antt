@@ -17,6 +17,11 @@ abbrev pub is_integer_of : ℕ → Tree → Bool
 is_integer_of width (int w) = w == width
 is_integer_of width _ = false
 
+-- the width of an integer type
+abbrev pub width_of : Tree → Option ℕ
+width_of (int width) = Some width
+width_of _ = None
+
 -- `ptr`
 abbrev pub is_pointer : Tree → Bool
 is_pointer ptr = true

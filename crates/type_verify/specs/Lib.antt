@@ -2,4 +2,3 @@ pub mod Classes
 pub mod Judged
 pub mod Opened
 pub mod TypeFlags
-pub mod Widths

@@ -3,11 +3,10 @@ ghost use Rattle.std.specs.Prelude.{◌≡◌, ◌<◌, map, length, slice_get, 
 ghost use Rattle.std.specs.List.{list_all};
 ghost use Rattle.std.specs.Option.{option_map, option_and_then, option_copied};
 ghost use Rattle.type_table.specs.Types.{trees, tree, names, tree_of, structs, IsGood};
-ghost use Rattle.module_arena.specs.TypeTests.{is_integer, is_integer_of, is_pointer, is_void, is_free_of_void, is_free_of_names, lies_in_memory, is_passable, opened};
+ghost use Rattle.module_arena.specs.TypeTests.{is_integer, is_integer_of, width_of, is_pointer, is_void, is_free_of_void, is_free_of_names, lies_in_memory, is_passable, opened};
 ghost use Rattle.module_arena.specs.Constants.{indexed};
 ghost use Rattle.module_arena.specs.Same.{same_type};
 ghost use Rattle.type_verify.specs.Classes.{AreClasses};
-ghost use Rattle.type_verify.specs.Widths.{width_of};
 ghost use Rattle.type_verify.specs.Opened.{IsOpened, opened_ids, opened_body};
 ghost use Rattle.type_verify.specs.TypeFlags.{is_free, flag_of};
 
@@ -81,7 +80,7 @@ impl<'a> Model for TypeJudge<'a> {
     ghost use Rattle.type_table.specs.Types.{Types};
     ghost use Rattle.module_arena.specs.Constants.{indexed};
     ghost use Rattle.module_arena.specs.Same.{same_type};
-    ghost use Rattle.type_verify.specs.Widths.{width_of};
+    ghost use Rattle.module_arena.specs.TypeTests.{width_of};
     ghost use Rattle.type_verify.specs.Opened.{IsOpened, opened_ids, opened_body};
     ghost use Rattle.type_verify.specs.TypeFlags.{IsTypeJudge};
 

@@ -1,7 +1,8 @@
 use Rattle.std.proofs.Common.{ap, ◌∙◌}
 use Rattle.type_table.specs.Types.{Types}
 use Rattle.record_read.specs.Reader.{Reader}
-use Rattle.arena_read.specs.Kept.{tree_at, width_of}
+use Rattle.module_arena.specs.TypeTests.{width_of}
+use Rattle.arena_read.specs.Kept.{tree_at}
 use Rattle.arena_read.proofs.Lasting.{ok_by, stop_broken}
 use Rattle.arena_read.proofs.LeavesRead.{ReadsNumber, goes_stopped, integer_keeps, integer_read, no_integer_read}
 use Rattle.arena_read.proofs.Steps.{none_keeps}
