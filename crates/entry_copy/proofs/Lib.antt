@@ -1,4 +1,3 @@
-mod Accesses
 mod Moving
 mod Keeping
 pub mod TypesCopied

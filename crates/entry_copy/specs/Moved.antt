@@ -1,6 +1,6 @@
 -- For `copy_struct_body`, `copy_parameters` and `copy_body` of `Copier`, and how the code reads: types, constants and
 -- bodies with new ids in place of the old ones.
-use Rattle.std.specs.Prelude.{Bool, true, false, map, Option, Some, None}
+use Rattle.std.specs.Prelude.{map, Option, Some, None}
 use Rattle.std.specs.Option.{option_map}
 use Rattle.type_table.specs.declared.ir_type.IrType.{IrType}
 use Rattle.type_table.specs.declared.ir_type.IrType.TheVariants.{Int, Ptr, Void, Array, Struct, Named}
@@ -36,14 +36,6 @@ use Rattle.entry_copy.specs.Tables.{Tables, new_struct, new_type, new_constant, 
 abbrev pub address_of : Option GlobalId → Const
 address_of (Some g) = const.Address g
 address_of None = const.Null
-
--- it works on memory, or computes an address
-abbrev pub is_access : Inst → Bool
-is_access (inst.Load flags result ty address alignment) = true
-is_access (inst.Store flags stored address alignment) = true
-is_access (inst.Alloca result ty count alignment) = true
-is_access (inst.GetElementPtr flags result source base indices) = true
-is_access _ = false
 
 module _ (t : Tables) where
   -- ---- types

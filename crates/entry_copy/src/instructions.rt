@@ -1,6 +1,7 @@
 //! Instructions.
 ghost use Rattle.std.specs.Prelude.{◌≡◌, IfOk, true};
-ghost use Rattle.entry_copy.specs.Moved.{is_access, moved_choice, moved_insertion, moved_call, moved_inst};
+ghost use Rattle.module_arena.specs.Accesses.{is_access};
+ghost use Rattle.entry_copy.specs.Moved.{moved_choice, moved_insertion, moved_call, moved_inst};
 
 use crate::Copier;
 use crate::moved::{Moved, moved_list, same_items};

@@ -1,4 +1,3 @@
-mod Accesses
 pub mod Cases
 pub mod Known
 pub mod Results

@@ -1,11 +1,10 @@
 -- For `put_dotted` and `put_ending`, and how the code reads: the parts of operations, by the ids of an arena and of a
 -- function in it.
-use Rattle.std.specs.Prelude.{ℕ, ◌<◌, Bool, true, false, List, map, length}
+use Rattle.std.specs.Prelude.{ℕ, ◌<◌, true, List, map, length}
 use Rattle.ir_lexer.specs.Pieces.{TextPiece, Nothing}
 use Rattle.type_table.specs.Types.{Types, trees, tree}
 use Rattle.module_arena.specs.declared.entry.Function.{Function}
 use Rattle.module_arena.specs.declared.instruction.Inst.{Inst}
-use Rattle.module_arena.specs.declared.instruction.Inst.TheVariants as inst
 use Rattle.module_arena.specs.declared.instruction.Value as the_value
 use Rattle.module_arena.specs.declared.instruction.Operand as the_operand
 use Rattle.module_arena.specs.declared.instruction.Incoming as the_incoming
@@ -19,14 +18,6 @@ use Rattle.canonical.specs.Types.{type_phrase}
 use Rattle.canonical.specs.Constants.{value_phrase, operand}
 use Rattle.canonical.specs.Operations.{dotted}
 use Rattle.instruction_printer.specs.Named.{values_in, labels_in, value_of, operand_of}
-
--- it works on memory, or computes an address
-abbrev pub is_access : Inst → Bool
-is_access (inst.Load flags result ty address alignment) = true
-is_access (inst.Store flags stored address alignment) = true
-is_access (inst.Alloca result ty count alignment) = true
-is_access (inst.GetElementPtr flags result source base indices) = true
-is_access _ = false
 
 module _ (a : Lists) (f : Function) where
   -- the value is there

@@ -5,7 +5,8 @@ ghost use Rattle.canonical.specs.Operations.{operation_phrase};
 ghost use Rattle.module_arena.specs.Known.{KnowsInst};
 ghost use Rattle.module_arena.specs.Lists.{value_names, function_blocks};
 ghost use Rattle.phrase_printer.specs.Printing.{separator_of, Prints};
-ghost use Rattle.instruction_printer.specs.Parts.{is_access, operation_of};
+ghost use Rattle.module_arena.specs.Accesses.{is_access};
+ghost use Rattle.instruction_printer.specs.Parts.{operation_of};
 
 use crate::arithmetic::{put_binary, put_compare, put_convert, put_freeze, put_select};
 use crate::calls::put_call;

@@ -37,3 +37,4 @@ pub mod ModuleTypes
 pub mod ArenaRows
 pub mod ValueNames
 pub mod ConstantsTold
+pub mod Accesses

@@ -1,4 +1,4 @@
-use Rattle.entry_copy.proofs.Accesses.{no_other_access}
+use Rattle.module_arena.proofs.Accesses.{no_other_access}
 use Rattle.entry_copy.proofs.instructions.moved_access.Goals as goal
 
 pub unreachable-requires : goal.unreachable-requires

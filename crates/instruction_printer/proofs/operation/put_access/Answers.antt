@@ -8,7 +8,7 @@ use Rattle.phrase_printer.specs.Printing.{separator_of}
 use Rattle.phrase_printer.proofs.Printing.{prints_same}
 use Rattle.instruction_printer.specs.Named.{operand_of}
 use Rattle.instruction_printer.specs.Parts.{HasThis}
-use Rattle.instruction_printer.proofs.Accesses.{no_other_access}
+use Rattle.module_arena.proofs.Accesses.{no_other_access}
 use Rattle.instruction_printer.proofs.Known.{Is}
 use Rattle.instruction_printer.proofs.operation.put_access.Goals as goal
 

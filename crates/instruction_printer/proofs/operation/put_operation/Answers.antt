@@ -10,7 +10,7 @@ use Rattle.phrase_printer.specs.Printing.{separator_of}
 use Rattle.phrase_printer.proofs.Printing.{prints_same}
 use Rattle.instruction_printer.specs.Named.{value_of, operand_of}
 use Rattle.instruction_printer.specs.Parts.{incoming_of, signature_of}
-use Rattle.instruction_printer.proofs.Accesses.{access_else}
+use Rattle.module_arena.proofs.Accesses.{access_else}
 use Rattle.instruction_printer.proofs.Known.{Is, incoming_known}
 use Rattle.instruction_printer.proofs.operation.put_operation.Goals as goal
 

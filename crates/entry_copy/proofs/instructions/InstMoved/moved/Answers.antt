@@ -1,4 +1,4 @@
-use Rattle.entry_copy.proofs.Accesses.{access_else}
+use Rattle.module_arena.proofs.Accesses.{access_else}
 use Rattle.entry_copy.proofs.instructions.InstMoved.moved.Goals as goal
 
 pub moved_access-requires : goal.moved_access-requires

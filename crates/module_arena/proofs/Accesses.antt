@@ -11,7 +11,7 @@ use Rattle.module_arena.specs.declared.instruction.Inst.{Inst}
 use Rattle.module_arena.specs.declared.instruction.Inst.TheVariants as inst
 use Rattle.module_arena.specs.declared.instruction.Operand.{Operand}
 use Rattle.module_arena.specs.declared.instruction.Value.{Value}
-use Rattle.entry_copy.specs.Moved.{is_access}
+use Rattle.module_arena.specs.Accesses.{is_access}
 
 -- one that works on memory or computes an address
 pub access_else : (i : Inst) →
