@@ -7,7 +7,7 @@ use Rattle.type_table.specs.Types.{tree, with_type}
 use Rattle.module_arena.specs.declared.constant.Const.{Const}
 use Rattle.module_arena.specs.Changes.{constant_in, with_table}
 use Rattle.module_arena.specs.Lists.{Lists}
-use Rattle.module_arena.specs.Module.{Constant}
+pub use Rattle.module_arena.specs.View.{IsConstant}
 use Rattle.module_arena.specs.View.{constants_of, constant_at}
 
 -- the arena, how many of its types are listed, and where `ptr` and i1 are
@@ -21,11 +21,6 @@ pub record Growing : Type 0 where
 pub record IsType (a : Lists) (id : ℕ) (t : Tree) : Type 0 where
   pub known : id < length a.table.types
   pub tree_is : tree a.table id ≡ t
-
--- the constant of that number is this one
-pub record IsConstant (a : Lists) (id : ℕ) (c : Constant) : Type 0 where
-  pub known : id < length a.constants
-  pub constant : constant_at (constants_of a) id ≡ c
 
 -- the types that are listed come first, and it has those that records do not name
 pub record IsGrowing (g : Growing) : Type 0 where

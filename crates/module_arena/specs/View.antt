@@ -1,5 +1,5 @@
 -- For all calls of `Arena`: the module that the lists of an arena stand for.
-use Rattle.std.specs.Prelude.{ℕ, List, [], ◌∷◌, ◌++◌, map, Some, None, slice_index_or}
+use Rattle.std.specs.Prelude.{◌≡◌, ℕ, ◌<◌, List, [], ◌∷◌, ◌++◌, length, map, Some, None, slice_index_or}
 use Rattle.std.specs.List.{fold}
 use Rattle.std.specs.Option.{option_map, option_map_or}
 use Rattle.type_table.specs.Tree.{Tree, void}
@@ -216,3 +216,8 @@ module_of a = record {
   aliases = map (alias_view (trees a.table) (name_at a)) a.aliases;
   functions = map (function_view (trees a.table) (constants_of a)) a.functions;
 }
+
+-- the id is that of this constant
+pub record IsConstant (a : Lists) (id : ℕ) (c : Constant) : Type 0 where
+  pub known : id < length a.constants
+  pub constant : constant_at (constants_of a) id ≡ c

@@ -6,6 +6,7 @@ use Rattle.type_table.specs.Types.{trees}
 use Rattle.module_arena.specs.declared.constant.TypedConst.{TypedConst}
 use Rattle.module_arena.specs.Lists.{Lists}
 use Rattle.module_arena.specs.Module.{Constant}
+pub use Rattle.module_arena.specs.View.{IsConstant}
 use Rattle.module_arena.specs.View.{type_at, constant_at, constants_of, module_of}
 
 -- the id is that of this type
@@ -17,11 +18,6 @@ pub record IsType (a : Lists) (id : ℕ) (t : Tree) : Type 0 where
 pub record AreTypes (a : Lists) (ids : List ℕ) (ts : List Tree) : Type 0 where
   pub known : All (λ id. id < length a.table.types) ids
   pub trees : map (type_at (trees a.table)) ids ≡ ts
-
--- the id is that of this constant
-pub record IsConstant (a : Lists) (id : ℕ) (c : Constant) : Type 0 where
-  pub known : id < length a.constants
-  pub constant : constant_at (constants_of a) id ≡ c
 
 -- a constant, and the type that is written before it
 abbrev pub typed_at : Lists → TypedConst → Tree × Constant
