@@ -274,8 +274,8 @@ fn is_variadic(row: HostRow) -> bool
     matches!(row, HostRow::Printf)
 }
 
-/// Whether the function may be declared with a pointer alone, too.
-fn has_short_form(row: HostRow) -> bool
+/// Whether the function may be declared and called with a pointer alone, too.
+pub fn has_short_form(row: HostRow) -> bool
     ensures { result ≡ has_short_form row }
 {
     matches!(row, HostRow::LifetimeStart | HostRow::LifetimeEnd)

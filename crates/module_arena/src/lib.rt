@@ -46,7 +46,7 @@ pub use entry::{
     LocalName, LocalNameList, Parameter, ParameterList, Variable,
 };
 pub use fault::{ArenaFault, CountKind};
-pub use host::{HostRow, host_row, host_row_fits};
+pub use host::{HostRow, has_short_form, host_row, host_row_fits};
 pub use ids::{AliasId, BlockId, ConstId, FunctionId, ValueId, VariableId};
 pub use instruction::{
     Call, Case, CaseList, Choice, Ending, Incoming, IncomingList, IndexList, Insertion, Inst,

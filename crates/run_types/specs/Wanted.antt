@@ -3,8 +3,8 @@ use Rattle.std.specs.Prelude.{ℕ, Bool, true, false, ◌&&◌, ◌||◌, ◌==�
 use Rattle.ir_memory.specs.declared.leaf.Leaf.{Leaf}
 use Rattle.ir_memory.specs.declared.leaf.Leaf.TheVariants as leaf
 use Rattle.module_arena.specs.declared.host.HostRow.{HostRow}
-use Rattle.module_arena.specs.declared.host.HostRow.TheVariants.{LifetimeStart, LifetimeEnd}
 use Rattle.module_arena.specs.HostRows.{fixed_types}
+use Rattle.module_arena.specs.HostTypes.{has_short_form}
 use Rattle.type_table.specs.Shape.{Shape, int_leaf, ptr_leaf, void_leaf, opaque_leaf, array_of, struct_of, no_shapes, more_shapes}
 use Rattle.type_table.specs.Types.{Types}
 use Rattle.run_rules.specs.Action.{Signature}
@@ -51,12 +51,6 @@ first_of (s ∷ ss) = s
 -- the first function type of a row with a name of its own
 abbrev pub first_type : HostRow → Signature
 first_type row = first_of (map (signature_in no_names) (fixed_types row))
-
--- a row that has the type of a pointer alone, too
-abbrev pub has_short_form : HostRow → Bool
-has_short_form LifetimeStart = true
-has_short_form LifetimeEnd = true
-has_short_form _ = false
 
 -- a function type is the first of the row, or the short one
 abbrev pub fits_forms : HostRow → Signature → Bool

@@ -3,16 +3,17 @@ ghost use Rattle.std.specs.Prelude.{◌≡◌, ◌<◌, ◌&&◌, All, [], ◌�
 ghost use Rattle.std.specs.List.{list_any};
 ghost use Rattle.module_arena.specs.HostRows.{fixed, host_types, integer_parameters, integer_returns};
 ghost use Rattle.module_arena.specs.declared.host.HostRow.TheVariants as HostRow;
+ghost use Rattle.module_arena.specs.HostTypes.{has_short_form};
 ghost use Rattle.run_rules.specs.Calls.{same_signature};
 ghost use Rattle.run_rules.specs.Look.{no_names};
 ghost use Rattle.run_rules.specs.Resolve.{signature_in};
-ghost use Rattle.run_types.specs.Wanted.{fits_forms, first_type, has_short_form, is_typed, shape_wanted, written_as};
+ghost use Rattle.run_types.specs.Wanted.{fits_forms, first_type, is_typed, shape_wanted, written_as};
 ghost use Rattle.type_table.specs.Shape.{ptr_leaf, void_leaf};
 
 use crate::wanted::{Wanted, are_wanted, is_wanted};
 use Wanted::{Int, Pair, Ptr, Void};
 use ir_tables::Intrinsic;
-use module_arena::HostRow;
+use module_arena::{HostRow, has_short_form};
 use type_table::{TypeId, TypeTable};
 
 /// A function type as a call has it: the ids of its types, and whether it has further arguments.
@@ -71,13 +72,6 @@ fn is_variadic(row: HostRow) -> bool
     ensures { result ≡ (first_type row).variadic }
 {
     matches!(row, HostRow::Printf)
-}
-
-/// Whether the function may be called with a pointer alone, too.
-fn has_short_form(row: HostRow) -> bool
-    ensures { result ≡ has_short_form row }
-{
-    matches!(row, HostRow::LifetimeStart | HostRow::LifetimeEnd)
 }
 
 /// Whether the function type is that of an intrinsic over integers.
