@@ -10,8 +10,8 @@ ghost use Rattle.entry_copy.specs.Moved.{moved_block, moved_body};
 
 use crate::Copier;
 use crate::endings::moved_ending;
-use crate::moved::{Moved, moved_list, same_name, same_names};
-use module_arena::{Block, Body};
+use crate::moved::{Moved, moved_list, same_names};
+use module_arena::{Block, Body, copied_name};
 use std::alloc::{AllocError, Global};
 
 impl Moved for Block {
@@ -19,7 +19,7 @@ impl Moved for Block {
 
     fn moved(&self, alloc: Global, copier: &Copier) -> Result<Block, AllocError> {
         Ok(Block {
-            name: same_name(alloc, &self.name)?,
+            name: copied_name(alloc, &self.name)?,
             instructions: moved_list(alloc, copier, &self.instructions)?,
             end: moved_ending(alloc, copier, &self.end)?,
         })

@@ -3,7 +3,7 @@ ghost use Rattle.std.specs.Prelude.{◌≡◌, map, IfOk};
 
 use crate::Copier;
 use ir_base::ItemList;
-use module_arena::LocalName;
+use module_arena::{LocalName, copied_name};
 use std::alloc::{AllocError, Global};
 
 /// What has ids in it that may be new.
@@ -52,16 +52,6 @@ pub(crate) fn same_items<T: Copy>(
     Ok(ItemList::from_vec(Vec::from_slice(alloc, items.as_slice())?))
 }
 
-/// The same name.
-pub(crate) fn same_name(alloc: Global, name: &LocalName) -> Result<LocalName, AllocError>
-    ensures { IfOk result (λ copy. copy ≡ name.now) }
-{
-    Ok(match name {
-        LocalName::Named(name) => LocalName::Named(name.copy(alloc)?),
-        LocalName::Numbered(number) => LocalName::Numbered(*number),
-    })
-}
-
 /// The same names.
 pub(crate) fn same_names(
     alloc: Global,
@@ -71,7 +61,7 @@ pub(crate) fn same_names(
 {
     let mut copy = Vec::with_capacity(alloc, names.len())?;
     for name in names.as_slice() {
-        let next = same_name(alloc, name)?;
+        let next = copied_name(alloc, name)?;
         copy.push(next)?;
     }
     Ok(ItemList::from_vec(copy))

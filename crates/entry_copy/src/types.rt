@@ -16,8 +16,8 @@ ghost use Rattle.entry_copy.specs.Moved.{moved_type, moved_struct_body, moved_pa
 ghost use Rattle.entry_copy.specs.Tables.{with_types, new_type};
 
 use crate::Copier;
-use crate::moved::{Moved, moved_list, same_name};
-use module_arena::{AliasType, Arena, Parameter, ParameterList, Signature};
+use crate::moved::{Moved, moved_list};
+use module_arena::{AliasType, Arena, Parameter, ParameterList, Signature, copied_name};
 use std::alloc::{AllocError, Global};
 use type_build::Builder;
 use type_table::{IrType, StructBody, TypeId};
@@ -79,7 +79,7 @@ impl Moved for Parameter {
     fn moved(&self, alloc: Global, copier: &Copier) -> Result<Parameter, AllocError> {
         Ok(Parameter {
             ty: copier.new_type(self.ty),
-            name: same_name(alloc, &self.name)?,
+            name: copied_name(alloc, &self.name)?,
         })
     }
 }

@@ -13,11 +13,10 @@ ghost use Rattle.instruction_build.specs.Named.{called_of};
 ghost use Rattle.ir_resolve.specs.Built.{block_results_count, block_built, blocks_built, IsBlock, AreBlocks};
 
 use crate::instructions::build_instructions;
-use crate::names::copied;
 use instruction_build::{Locals, build_ending};
 use ir_base::ItemList;
 use ir_instructions::WrittenBlock;
-use module_arena::{BlockId, BlockList, ValueId};
+use module_arena::{BlockId, BlockList, ValueId, copied_name};
 use std::alloc::{AllocError, Global};
 use type_build::Builder;
 
@@ -41,7 +40,7 @@ fn build_block(
     ensures in_order { IfOk result (λ made. mentions.block_results made.0 ≡ upto first (block_results_count (block_view written.now))) }
     ensures next { IfOk result (λ made. made.1 ≡ first + block_results_count (block_view written.now)) }
 {
-    let name = copied(alloc, &locals.blocks.names[id.number() as usize])?;
+    let name = copied_name(alloc, &locals.blocks.names[id.number() as usize])?;
     let (instructions, next) = build_instructions(
         builder,
         alloc,

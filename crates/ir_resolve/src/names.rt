@@ -2,18 +2,8 @@
 ghost use Rattle.std.specs.Prelude.{◌≡◌, ◌≤◌, drop, length, IfOk};
 
 use ir_base::ItemList;
-use module_arena::{LocalName, LocalNameList};
+use module_arena::{LocalName, LocalNameList, copied_name};
 use std::alloc::{AllocError, Global};
-
-/// The same name again.
-pub(crate) fn copied(alloc: Global, name: &LocalName) -> Result<LocalName, AllocError>
-    ensures { IfOk result (λ copy. copy ≡ name.now) }
-{
-    Ok(match name {
-        LocalName::Named(text) => LocalName::Named(text.copy(alloc)?),
-        LocalName::Numbered(number) => LocalName::Numbered(*number),
-    })
-}
 
 /// The names from that one on.
 pub(crate) fn names_from(
@@ -26,7 +16,7 @@ pub(crate) fn names_from(
 {
     let mut list = Vec::with_capacity(alloc, names.len() - first)?;
     for name in &names[first..] {
-        let copy = copied(alloc, name)?;
+        let copy = copied_name(alloc, name)?;
         list.push(copy)?;
     }
     Ok(ItemList::from_vec(list))

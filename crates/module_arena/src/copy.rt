@@ -46,12 +46,19 @@ pub(crate) fn copied_text(alloc: Global, text: &Option<Text>) -> Result<Option<T
     })
 }
 
+/// The same name again, with a text of its own. It is refused for want of memory alone.
+pub fn copied_name(alloc: Global, name: &LocalName) -> Result<LocalName, AllocError>
+    ensures { IfOk result (λ copy. copy ≡ name.now) }
+{
+    Ok(match name {
+        LocalName::Named(name) => LocalName::Named(name.copy(alloc)?),
+        LocalName::Numbered(number) => LocalName::Numbered(*number),
+    })
+}
+
 impl Copied for LocalName {
     fn copied(&self, alloc: Global) -> Result<LocalName, AllocError> {
-        Ok(match self {
-            LocalName::Named(name) => LocalName::Named(name.copy(alloc)?),
-            LocalName::Numbered(number) => LocalName::Numbered(*number),
-        })
+        copied_name(alloc, self)
     }
 }
 

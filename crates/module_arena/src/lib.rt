@@ -40,6 +40,7 @@ pub use arena::{Arena, COUNT_LIMIT, INDEX_LIMIT, LEAF_LIMIT};
 pub use boxed::Boxed;
 pub use checked::Checked;
 pub use constant::{Brackets, Const, ConstAddress, ConstPair, TypedConst, TypedConstList};
+pub use copy::copied_name;
 pub use entity::Entity;
 pub use entry::{
     Alias, AliasType, Block, BlockList, Body, Function, GlobalId, InstList, LARGEST_PRODUCT,

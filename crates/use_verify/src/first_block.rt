@@ -1,5 +1,5 @@
 //! Whether the first block of a function has no predecessors: rule 8.
-ghost use Rattle.std.specs.Prelude.{◌≡◌, ◌<◌, ◌==◌, not, [], ◌∷◌, All, IfOk, length};
+ghost use Rattle.std.specs.Prelude.{◌≡◌, ◌<◌, ◌==◌, not, [], ◌∷◌, All, length};
 ghost use Rattle.std.specs.List.{list_any};
 ghost use Rattle.module_arena.specs.Changes.{function_in};
 ghost use Rattle.module_arena.specs.Functions.{blocks};
@@ -13,8 +13,8 @@ ghost use Rattle.type_verify.specs.Judged.{Judged};
 ghost use Rattle.use_verify.specs.Uses.{flow_in};
 
 use ir_base::Name;
-use module_arena::{Block, BlockId, Case, Ending, Entity, Function, LocalName};
-use std::alloc::{AllocError, Global};
+use module_arena::{Block, BlockId, Case, Ending, Entity, Function, LocalName, copied_name};
+use std::alloc::Global;
 use type_verify::VerifyFault;
 
 /// Whether a case goes to the first block.
@@ -74,16 +74,6 @@ fn is_first_entered(function: &Function) -> bool
     }
 }
 
-/// The same name again.
-fn copied(alloc: Global, name: &LocalName) -> Result<LocalName, AllocError>
-    ensures { IfOk result (λ copy. copy ≡ name.now) }
-{
-    Ok(match name {
-        LocalName::Named(text) => LocalName::Named(text.copy(alloc)?),
-        LocalName::Numbered(number) => LocalName::Numbered(*number),
-    })
-}
-
 /// A fault of rule 8 at a block, where it is entered.
 fn judge_block(
     alloc: Global,
@@ -94,7 +84,7 @@ fn judge_block(
     ensures { Judged (ask (BlockOf (local_view block.now) function.now) 8 (not entered) ∷ []) result }
 {
     if entered {
-        let block = copied(alloc, block)?;
+        let block = copied_name(alloc, block)?;
         let function = function.copy(alloc)?;
         return Err(VerifyFault::Invalid {
             rule: 8,
