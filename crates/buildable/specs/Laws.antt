@@ -2,19 +2,14 @@
 -- items have where an arena can be built from them, entry by entry.
 use Rattle.std.specs.Prelude.{◌≡◌, ◌≤◌, true, List, map, filter_map, length, All, Contains, bytes_eq}
 use Rattle.ir_tables.specs.Table.{is_distinct}
-use Rattle.ir_terminals.specs.declared.values.PlacedName.{PlacedName}
 use Rattle.ir_syntax.specs.Tree.{ItemTree}
 use Rattle.module_arena.specs.declared.arena.TheConstants.{COUNT_LIMIT}
 use Rattle.module_arena.specs.Lists.{Lists}
 use Rattle.module_arena.specs.Module.{Bytes}
-use Rattle.name_rules.specs.Breaks.{global_name}
+pub use Rattle.name_rules.specs.Breaks.{global_names}
 use Rattle.name_rules.specs.ModuleOf.{structs_in, variable_in, function_in}
 use Rattle.type_build.specs.Holding.{HasEntry}
 use Rattle.buildable.specs.Entries.{CanDeclare, CanComplete}
-
--- the names of the variables, aliases and functions of a text
-abbrev pub global_names : List ItemTree → List Bytes
-global_names items = map (λ (n : PlacedName). n.name) (filter_map global_name items)
 
 -- an entry has each of these names
 abbrev pub HasEntries : Lists → List Bytes → Type 0

@@ -8,6 +8,7 @@ use Rattle.module_arena.specs.declared.arena.TheConstants.{COUNT_LIMIT}
 use Rattle.module_arena.specs.declared.fault.CountKind.{CountKind}
 use Rattle.module_arena.specs.declared.fault.CountKind.TheVariants as kinds
 use Rattle.module_arena.specs.Known.{counted_aliases}
+use Rattle.module_arena.specs.Module.{Bytes}
 use Rattle.name_rules.specs.declared.fault.ResolveFault.{ResolveFault}
 use Rattle.name_rules.specs.declared.fault.ResolveFault.TheVariants as faults
 use Rattle.name_rules.specs.Written.{type_in}
@@ -30,6 +31,10 @@ global_name (Declaration place head parameters variadic) = Some head.name
 global_name (Definition place head parameters blocks) = Some head.name
 global_name _ = None
 
+-- the names of the variables, aliases and functions of a text
+abbrev pub global_names : List ItemTree → List Bytes
+global_names items = map (λ (n : PlacedName). n.name) (filter_map global_name items)
+
 -- the place of `source_filename`
 abbrev pub source_place : ItemTree → Option Place
 source_place (SourceFilename place text) = Some place
@@ -50,7 +55,7 @@ abbrev pub known_in : List ItemTree → Known
 known_in items = record {
   structs = structs_in items;
   measures = struct_measures (structs_in items);
-  globals = map (λ (n : PlacedName). n.name) (filter_map global_name items);
+  globals = global_names items;
 }
 
 module _ (known : Known) where

@@ -1,20 +1,15 @@
 -- For `Known::of_items`, and all calls that are handed a `Known`: what a text defines, as it is gathered.
-use Rattle.std.specs.Prelude.{◌≡◌, List, map, filter_map, is_some}
+use Rattle.std.specs.Prelude.{◌≡◌, List, is_some}
 use Rattle.ir_base.specs.declared.place.Place.{Place}
-use Rattle.ir_terminals.specs.declared.values.PlacedName.{PlacedName}
-use Rattle.ir_syntax.specs.Tree.{ItemTree}
 use Rattle.ir_syntax.specs.View.{items_view}
 use Rattle.module_arena.specs.Module.{Bytes}
 use Rattle.name_table.specs.Entries.{value_of}
-use Rattle.name_rules.specs.Breaks.{global_name, known_in}
+use Rattle.name_rules.specs.Breaks.{known_in}
+pub use Rattle.name_rules.specs.Breaks.{global_names}
 use Rattle.name_rules.specs.ModuleOf.{structs_in}
 use Rattle.name_rules.specs.TypeDemands.{Known, has_name}
 use Rattle.struct_order.specs.Measuring.{AreMeasured, structs_of}
 use Rattle.type_judge.specs.declared.known.Known as the_known
-
--- the names of variables, aliases and functions
-abbrev pub global_names : List ItemTree → List Bytes
-global_names items = map (λ (n : PlacedName). n.name) (filter_map global_name items)
 
 -- the table has exactly these names
 pub record AreNames (table : List (Bytes × Place)) (names : List Bytes) : Type 0 where
