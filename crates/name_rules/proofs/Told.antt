@@ -1,9 +1,10 @@
 -- A number is told as it is written, but for leading zeros.
-use Rattle.std.specs.Prelude.{◌≡◌, refl, Result, Ok, Err, IfOk, ℕ, zero, suc, ◌+◌, ◌*◌, ◌-◌, ◌/◌, ◌%◌, ◌<◌, ◌≤◌, nat_lt, nat_le, ◌==◌, ◌&&◌, Bool, true, false, not, List, [], ◌∷◌, ◌++◌, length}
+use Rattle.std.specs.Prelude.{◌≡◌, refl, Result, Ok, Err, IfOk, ℕ, zero, suc, ◌+◌, ◌*◌, ◌-◌, ◌/◌, ◌%◌, ◌<◌, ◌≤◌, nat_lt, nat_le, ◌==◌, Bool, true, false, not, List, [], ◌∷◌, ◌++◌, length}
 use Rattle.std.specs.List.{list_all}
 use Rattle.std.proofs.Common.{ap, sym, ◌∙◌, arith}
 use Rattle.std.proofs.lemmas.Bool.{ltb-true, ltb-false, leb-true, eqb-true, eqb-false, not-true, and_parts}
 use Rattle.std.proofs.lemmas.List.{append_assoc, append-nil}
+use Rattle.ir_tables.specs.WidthText.{is_digit}
 use Rattle.ir_terminals.specs.Digits.{decimal_after, is_short, IsWritten}
 use Rattle.name_rules.specs.Spelled.{digits_before, decimal}
 use Rattle.name_rules.specs.Laws.{ToldAsWritten, without_zeros}
@@ -51,9 +52,6 @@ last_digit n k h less =
     large (n * 10 + k) (n * 10 + k) [] (not_small n k h)
     ∙ (λ j. digits_before (n * 10 + k) (tenth j) ((48 + rest j) ∷ []))
     ∙ in_front (n * 10 + k) (n * 10 + k) n ((48 + k) ∷ []) (omega arith) (omega (arith, h))
-
-abbrev is_digit : ℕ → Bool
-is_digit byte = nat_le 48 byte && nat_le byte 57
 
 -- a number that is not 0, and the digits behind it
 behind : (n : ℕ) (digits : List ℕ) → 1 ≤ n → list_all is_digit digits ≡ true → decimal (decimal_after n digits) ≡ decimal n ++ digits
