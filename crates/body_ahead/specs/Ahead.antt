@@ -12,6 +12,7 @@ use Rattle.record_table.specs.Bodies.{Labels, labels, parameters}
 use Rattle.record_table.specs.Faults.{Records, no_more, a_block, a_record}
 use Rattle.record_table.specs.Fields.{Numbering, Texts}
 use Rattle.record_table.specs.Layout.{judged}
+pub use Rattle.record_read.specs.Counts.{one_where}
 use Rattle.arena_read.specs.declared.counts.LocalCounts.{LocalCounts}
 use Rattle.body_ahead.specs.declared.ahead.BodyAhead.{BodyAhead}
 
@@ -44,11 +45,6 @@ gives_by voids operands _ = true
 abbrev pub gives_of : List Bool → List ℕ → Option Opcode → Bool
 gives_of voids operands None = false
 gives_of voids operands (Some o) = gives_by voids operands o
-
--- 1 where it holds
-abbrev pub one_where : Bool → ℕ
-one_where true = 1
-one_where false = 0
 
 -- how many values a record of that code declares, and how many blocks
 abbrev pub values_of : List Bool → ℕ → List ℕ → ℕ

@@ -5,6 +5,7 @@ use Rattle.record_table.specs.Fields.{Texts}
 use Rattle.record_table.specs.Faults.{Records, no_more, a_block, a_record, module_id, types_id}
 use Rattle.record_table.specs.Records.{names_of}
 use Rattle.record_table.specs.TypeRecords.{names_in}
+pub use Rattle.record_read.specs.Counts.{one_where}
 use Rattle.record_read.specs.Entries.{IsBefore}
 use Rattle.record_read.specs.Reader.{Reader}
 use Rattle.arena_read.specs.declared.counts.GlobalCounts.{GlobalCounts}
@@ -45,11 +46,6 @@ pub record AreCounted (texts : Texts) (inside : Records) (counts : GlobalCounts)
 pub record IsAhead (texts : Texts) (inside : Records) (ahead : ModuleAhead) : Type 0 where
   pub counts : AreCounted texts inside ahead.counts
   pub structs : AreGathered ahead.named ahead.structs (names_in texts (first_types inside))
-
--- 1 where it holds
-abbrev pub one_where : Bool → ℕ
-one_where true = 1
-one_where false = 0
 
 -- a record of that code is one entry more
 pub record CountsRecord (code : ℕ) (old new : GlobalCounts) : Type 0 where

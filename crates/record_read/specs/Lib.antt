@@ -2,3 +2,4 @@ pub mod Reader
 pub mod Entries
 pub mod Faults
 pub mod Fields
+pub mod Counts
