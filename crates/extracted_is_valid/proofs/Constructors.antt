@@ -16,7 +16,7 @@ use Rattle.module_arena.specs.UsedNames.{names_in_constant, names_in_constants}
 use Rattle.module_arena.specs.EntryRules.{has_function, has_alias_of_function, is_lasting, is_lasting_variable, is_lasting_function, target_suits, constructor_type, is_function_or_null, is_constructor, are_constructors, lists_constructors}
 use Rattle.module_arena.specs.Valid.{AllHold, IsValid, alias_demands}
 use Rattle.module_arena.specs.WellFormed.{IsWellFormed, global_names}
-use Rattle.extracted_is_valid.proofs.Distinct.{name_self, name_exact}
+use Rattle.extract_core.proofs.Among.{name_self, name_exact}
 use Rattle.extracted_is_valid.proofs.Lists.{all_units}
 use Rattle.extracted_is_valid.proofs.Distinct.{distinct_apart, apart_parts}
 use Rattle.extract_core.specs.declared.selection.Selection.{Selection}

@@ -5,7 +5,7 @@ use Rattle.std.proofs.lemmas.Bool.{and_from, and_parts, or_parts, cases_Bool, no
 use Rattle.ir_tables.specs.Table.{is_distinct}
 use Rattle.module_arena.specs.Module.{Bytes}
 use Rattle.extracted_is_valid.proofs.Distinct.{Apart}
-use Rattle.extracted_is_valid.proofs.Distinct.{name_self, name_exact}
+use Rattle.extract_core.proofs.Among.{name_self, name_exact}
 
 abbrev pub one_if : Bool → ℕ
 one_if true = 1

@@ -1,18 +1,10 @@
 -- Names of which no two are the same.
 use Rattle.std.proofs.Common.{◌≡◌, true, false, not, List, [], ◌∷◌, ◌++◌, sym, ◌∙◌, bytes_eq}
-use Rattle.std.specs.Cmp.Lexicographic.{same_text}
 use Rattle.std.specs.List.{list_any, AllByRecursion}
 use Rattle.std.proofs.lemmas.Bool.{and_parts, or_parts, not-true}
-use Rattle.std.proofs.lemmas.Cmp.{nat_list_eq_equiv}
 use Rattle.std.proofs.lemmas.List.Folds.{list_any-append}
 use Rattle.ir_tables.specs.Table.{is_distinct}
 use Rattle.module_arena.specs.Module.{Bytes}
-
-pub name_self : (n : Bytes) → bytes_eq n n ≡ true
-name_self n = nat_list_eq_equiv.refl n
-
-pub name_exact : (m n : Bytes) → bytes_eq m n ≡ true → m ≡ n
-name_exact m n h = same_text m n (sym h)
 
 -- no name is the same as one after it
 abbrev pub Apart : List Bytes → Type 0

@@ -10,7 +10,7 @@ use Rattle.module_arena.specs.EntryRules.{is_llvm_name, has_function, is_only_ca
 use Rattle.module_arena.specs.Valid.{AllHold, IsValid, module_demands, variable_demands, alias_demands, function_demands}
 use Rattle.module_arena.specs.WellFormed.{IsWellFormed}
 use Rattle.module_arena.proofs.Parts.{front_holds, rest_holds}
-use Rattle.extracted_is_valid.proofs.Distinct.{name_self, name_exact}
+use Rattle.extract_core.proofs.Among.{name_self, name_exact}
 use Rattle.extracted_is_valid.proofs.Lists.{all_units}
 use Rattle.extracted_is_valid.proofs.Plain.{alias_plain}
 use Rattle.extract_core.specs.declared.selection.Selection.{Selection}
