@@ -3,19 +3,11 @@ ghost use Rattle.std.specs.Prelude.{◌≡◌, length, None, IfOk, OnOk};
 ghost use Rattle.module_arena.specs.Changes.{with_variable, with_alias, with_function, variable_in, alias_in, function_in, more_variables, more_aliases, more_functions};
 ghost use Rattle.module_arena.specs.Known.{counts, KnowsVariable, KnowsAlias, KnowsFunction};
 ghost use Rattle.module_arena.specs.View.{module_of};
-ghost use Rattle.module_arena.specs.declared.fault.ArenaFault.{ArenaFault};
 ghost use Rattle.type_build.specs.Declarations.{IsFree, AreFew, one_variable_more, one_alias_more, one_function_more};
 
-use module_arena::{Alias, ArenaFault, Function, GlobalId, Variable};
+use module_arena::{Alias, Function, GlobalId, Variable};
 use std::alloc::AllocError;
-use type_build::Builder;
-
-/// The fault of an arena that takes the entry.
-fn out_of_memory(_fault: ArenaFault) -> AllocError
-    requires { _fault ≡ ArenaFault.Memory }
-{
-    AllocError
-}
+use type_build::{Builder, entry_out_of_memory};
 
 /// Adds a variable without an initialiser, and gives its id.
 pub fn add_variable(into: &mut Builder, variable: Variable) -> Result<GlobalId, AllocError>
@@ -29,7 +21,7 @@ pub fn add_variable(into: &mut Builder, variable: Variable) -> Result<GlobalId, 
 {
     match into.arena.declare_variable(variable) {
         Ok(id) => Ok(GlobalId::Variable(id)),
-        Err(fault) => Err(out_of_memory(fault)),
+        Err(fault) => Err(entry_out_of_memory(fault)),
     }
 }
 
@@ -45,7 +37,7 @@ pub fn add_function(into: &mut Builder, function: Function) -> Result<GlobalId, 
 {
     match into.arena.declare_function(function) {
         Ok(id) => Ok(GlobalId::Function(id)),
-        Err(fault) => Err(out_of_memory(fault)),
+        Err(fault) => Err(entry_out_of_memory(fault)),
     }
 }
 
@@ -61,6 +53,6 @@ pub fn add_alias(into: &mut Builder, alias: Alias) -> Result<GlobalId, AllocErro
 {
     match into.arena.declare_alias(alias) {
         Ok(id) => Ok(GlobalId::Alias(id)),
-        Err(fault) => Err(out_of_memory(fault)),
+        Err(fault) => Err(entry_out_of_memory(fault)),
     }
 }

@@ -3,7 +3,6 @@ ghost use Rattle.std.specs.Prelude.{◌≡◌, ◌≤◌, ◌<◌, ◌^◌, ℕ,
 ghost use Rattle.ir_syntax.specs.View.{body_view};
 ghost use Rattle.type_table.specs.Tree.{Structs};
 ghost use Rattle.type_table.specs.Types.{structs, trees, tree_body, IsKnownBody};
-ghost use Rattle.type_table.specs.declared.fault.TypeFault.{TypeFault};
 ghost use Rattle.module_arena.specs.View.{module_of};
 ghost use Rattle.name_rules.specs.Written.{body_in};
 ghost use Rattle.type_build.specs.Fitting.{AreWithin};
@@ -14,15 +13,8 @@ ghost use Rattle.item_build.specs.Partly.{IsPartly, IsDone, CanDefine, with_stru
 
 use ir_syntax::WrittenBody;
 use std::alloc::{AllocError, Global};
-use type_build::Builder;
-use type_table::{StructId, TypeFault};
-
-/// The fault of a table that takes the struct.
-pub(crate) fn out_of_memory(_fault: TypeFault) -> AllocError
-    requires { _fault ≡ TypeFault.Memory }
-{
-    AllocError
-}
+use type_build::{Builder, type_out_of_memory};
+use type_table::StructId;
 
 /// What the text writes of a struct, its fields added.
 fn add_body(
@@ -70,6 +62,6 @@ pub(crate) fn define_struct(
     let body = add_body(builder, alloc, written)?;
     match builder.arena.define_struct(id, body) {
         Ok(()) => Ok(()),
-        Err(fault) => Err(out_of_memory(fault)),
+        Err(fault) => Err(type_out_of_memory(fault)),
     }
 }

@@ -2,7 +2,6 @@
 ghost use Rattle.std.specs.Prelude.{◌≡◌, ◌<◌, ◌^◌, ◌-◌, length, OnOk};
 ghost use Rattle.ir_syntax.specs.View.{item_view, items_view};
 ghost use Rattle.type_table.specs.Types.{structs, no_types};
-ghost use Rattle.type_table.specs.declared.fault.TypeFault.{TypeFault};
 ghost use Rattle.module_arena.specs.View.{module_of};
 ghost use Rattle.name_rules.specs.ModuleOf.{structs_in};
 ghost use Rattle.type_build.specs.Holding.{entries};
@@ -10,10 +9,9 @@ ghost use Rattle.buildable.specs.Laws.{AreBuildable};
 ghost use Rattle.item_build.specs.Named.{named_table, named_in, IsNewStruct};
 ghost use Rattle.item_build.specs.Partly.{with_structs};
 
-use crate::defining::out_of_memory;
 use ir_syntax::Item;
 use std::alloc::{AllocError, Global};
-use type_build::Builder;
+use type_build::{Builder, type_out_of_memory};
 
 /// Names the struct that the item is; another item names none.
 fn name_item(builder: &mut Builder, alloc: Global, item: &Item) -> Result<(), AllocError>
@@ -28,7 +26,7 @@ fn name_item(builder: &mut Builder, alloc: Global, item: &Item) -> Result<(), Al
             let name = name.name.to_name(alloc)?;
             match builder.arena.name_struct(name) {
                 Ok(_) => Ok(()),
-                Err(fault) => Err(out_of_memory(fault)),
+                Err(fault) => Err(type_out_of_memory(fault)),
             }
         }
         _ => Ok(()),

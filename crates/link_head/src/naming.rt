@@ -2,7 +2,6 @@
 ghost use Rattle.std.specs.Prelude.{◌≡◌, ◌≤◌, length, Contains, bytes_eq, true, OnOk};
 ghost use Rattle.ir_tables.specs.Table.{is_distinct};
 ghost use Rattle.type_table.specs.Types.{structs, no_types, names, with_struct};
-ghost use Rattle.type_table.specs.declared.fault.TypeFault.{TypeFault};
 ghost use Rattle.module_arena.specs.declared.arena.TheConstants.{COUNT_LIMIT};
 ghost use Rattle.module_arena.specs.View.{module_of};
 ghost use Rattle.type_build.specs.Holding.{entries};
@@ -11,15 +10,7 @@ ghost use Rattle.link_head.specs.Head.{only_named};
 
 use ir_base::{Name, NameList};
 use std::alloc::{AllocError, Global};
-use type_build::Builder;
-use type_table::TypeFault;
-
-/// The fault of a table that takes the struct.
-fn out_of_memory(_fault: TypeFault) -> AllocError
-    requires { _fault ≡ TypeFault.Memory }
-{
-    AllocError
-}
+use type_build::{Builder, type_out_of_memory};
 
 /// Names the next struct, where no struct has the name.
 fn name_struct(alloc: Global, into: &mut Builder, name: &Name) -> Result<(), AllocError>
@@ -32,7 +23,7 @@ fn name_struct(alloc: Global, into: &mut Builder, name: &Name) -> Result<(), All
     let name = name.copy(alloc)?;
     match into.arena.name_struct(name) {
         Ok(_) => Ok(()),
-        Err(fault) => Err(out_of_memory(fault)),
+        Err(fault) => Err(type_out_of_memory(fault)),
     }
 }
 

@@ -1,6 +1,5 @@
 //! The types of one part, and the structs that it is the first to have.
 ghost use Rattle.std.specs.Prelude.{◌≡◌, ◌+◌, ◌<◌, ◌≤◌, ℕ, List, length, slice_get, Some, None, OnOk};
-ghost use Rattle.type_table.specs.declared.fault.TypeFault.{TypeFault};
 ghost use Rattle.type_table.specs.Types.{structs, bodies, KnowsBody};
 ghost use Rattle.module_arena.specs.Lists.{Lists};
 ghost use Rattle.module_arena.specs.Module.{Bytes, Module};
@@ -19,15 +18,8 @@ use linked_bodies::structs_keep_bodies;
 use module_arena::Arena;
 use std::alloc::{AllocError, Global};
 use struct_copy::behind_body;
-use type_build::Builder;
-use type_table::{IrType, StructBody, StructId, TypeFault, TypeId};
-
-/// The fault of a table that takes the struct.
-fn out_of_memory(_fault: TypeFault) -> AllocError
-    requires { _fault ≡ TypeFault.Memory }
-{
-    AllocError
-}
+use type_build::{Builder, type_out_of_memory};
+use type_table::{IrType, StructBody, StructId, TypeId};
 
 /// Gives the struct with that new id, which has none, this body of a struct of the part. The types that it names are copied
 /// with it.
@@ -57,7 +49,7 @@ fn give_body(
     let copy = copier.copy_struct_body(alloc, body)?;
     match into.arena.define_struct(new, copy) {
         Ok(()) => Ok(()),
-        Err(fault) => Err(out_of_memory(fault)),
+        Err(fault) => Err(type_out_of_memory(fault)),
     }
 }
 

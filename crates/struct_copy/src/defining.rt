@@ -10,11 +10,11 @@ ghost use Rattle.entry_copy.specs.Copies.{CopiesTypes};
 ghost use Rattle.entry_copy.specs.Tables.{tables_of, with_types};
 
 use crate::behind::behind_body;
-use crate::naming::{name_structs, out_of_memory};
+use crate::naming::name_structs;
 use entry_copy::Copier;
 use module_arena::Arena;
 use std::alloc::{AllocError, Global};
-use type_build::Builder;
+use type_build::{Builder, type_out_of_memory};
 use type_table::{IrType, StructBody, StructId, TypeId};
 
 /// Gives the struct with that id, which has none, this body.
@@ -44,7 +44,7 @@ fn give_body(
     let copy = copier.copy_struct_body(alloc, body)?;
     match into.arena.define_struct(id, copy) {
         Ok(()) => Ok(()),
-        Err(fault) => Err(out_of_memory(fault)),
+        Err(fault) => Err(type_out_of_memory(fault)),
     }
 }
 

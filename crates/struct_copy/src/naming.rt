@@ -1,7 +1,6 @@
 //! Names the structs of an arena in another.
 ghost use Rattle.std.specs.Prelude.{◌≡◌, ◌+◌, ◌<◌, take, length, OnOk};
 ghost use Rattle.type_table.specs.Types.{structs, no_types};
-ghost use Rattle.type_table.specs.declared.fault.TypeFault.{TypeFault};
 ghost use Rattle.module_arena.specs.View.{module_of};
 ghost use Rattle.type_build.specs.Holding.{entries};
 ghost use Rattle.item_build.specs.Named.{named_table};
@@ -9,15 +8,8 @@ ghost use Rattle.item_build.specs.Partly.{with_structs};
 
 use module_arena::Arena;
 use std::alloc::{AllocError, Global};
-use type_build::Builder;
-use type_table::{StructId, TypeFault};
-
-/// The fault of a table that takes the struct.
-pub(crate) fn out_of_memory(_fault: TypeFault) -> AllocError
-    requires { _fault ≡ TypeFault.Memory }
-{
-    AllocError
-}
+use type_build::{Builder, type_out_of_memory};
+use type_table::StructId;
 
 /// Names the struct with that id, where those before it are named.
 fn name_struct(
@@ -36,7 +28,7 @@ fn name_struct(
     let name = from.types().struct_name(id).copy(alloc)?;
     match into.arena.name_struct(name) {
         Ok(_) => Ok(()),
-        Err(fault) => Err(out_of_memory(fault)),
+        Err(fault) => Err(type_out_of_memory(fault)),
     }
 }
 

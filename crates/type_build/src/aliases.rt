@@ -14,7 +14,8 @@ ghost use Rattle.type_build.specs.Stands.{Grows};
 ghost use Rattle.type_build.specs.Declarations.{IsFree, AreFew, one_alias_more, CanAlias, without_target, AreUntargeted};
 
 use crate::builder::Builder;
-use crate::heads::{linkage_of, out_of_memory};
+use crate::heads::linkage_of;
+use crate::wanting::entry_out_of_memory;
 use ir_syntax::{WrittenAlias, WrittenAliasType};
 use module_arena::{AliasId, AliasType};
 use std::alloc::{AllocError, Global};
@@ -64,7 +65,7 @@ pub fn declare_alias(
     };
     match builder.arena.declare_alias(alias) {
         Ok(id) => Ok(id),
-        Err(fault) => Err(out_of_memory(fault)),
+        Err(fault) => Err(entry_out_of_memory(fault)),
     }
 }
 

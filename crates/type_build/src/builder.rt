@@ -4,7 +4,6 @@ ghost use Rattle.type_table.specs.Limits.{IsWithinLimits};
 ghost use Rattle.type_table.specs.Shape.{shape};
 ghost use Rattle.type_table.specs.Tree.{Structs};
 ghost use Rattle.type_table.specs.Types.{IsKnown, names, trees, structs, tree_of};
-ghost use Rattle.type_table.specs.declared.fault.TypeFault.{TypeFault};
 ghost use Rattle.module_arena.specs.Lists.{no_lists};
 ghost use Rattle.module_arena.specs.Known.{counts, KnowsConst};
 ghost use Rattle.module_arena.specs.Changes.{constant_in};
@@ -14,9 +13,10 @@ ghost use Rattle.type_build.specs.Stands.{IsType, IsConstant, Grows};
 use crate::constant_places::ConstantPlaces;
 use crate::copies::copied_const;
 use crate::type_places::TypePlaces;
+use crate::wanting::type_out_of_memory;
 use module_arena::{Arena, Const, ConstId};
 use std::alloc::{AllocError, Global};
-use type_table::{IrType, TypeFault, TypeId};
+use type_table::{IrType, TypeId};
 
 /// An arena in the making. Equal types and equal constants are kept once: `types` and `constants` say where they may be,
 /// and each answer of theirs is looked up in the arena.
@@ -26,13 +26,6 @@ pub struct Builder {
     pub arena: Arena,
     types: TypePlaces,
     constants: ConstantPlaces,
-}
-
-/// The fault of a table that takes the type.
-fn out_of_memory(_fault: TypeFault) -> AllocError
-    requires { _fault ≡ TypeFault.Memory }
-{
-    AllocError
 }
 
 impl Builder {
@@ -77,7 +70,7 @@ impl Builder {
         let key = ty.copy(alloc)?;
         let id = match self.arena.add_type(ty) {
             Ok(id) => id,
-            Err(fault) => return Err(out_of_memory(fault)),
+            Err(fault) => return Err(type_out_of_memory(fault)),
         };
         self.types.insert(key, id)?;
         Ok(id)

@@ -17,7 +17,8 @@ ghost use Rattle.type_build.specs.Declarations.{IsFree, AreFew, one_function_mor
 ghost use Rattle.type_build.specs.Parameters.{AreParameters, name_kept, kept, function_head, without_body};
 
 use crate::builder::Builder;
-use crate::heads::{linkage_of, out_of_memory};
+use crate::heads::linkage_of;
+use crate::wanting::entry_out_of_memory;
 use ir_base::ItemList;
 use ir_syntax::{Declaration, Definition, FunctionHead, WrittenParameter};
 use ir_terminals::Local;
@@ -102,7 +103,7 @@ fn declare_head(
     };
     match builder.arena.declare_function(function) {
         Ok(id) => Ok(id),
-        Err(fault) => Err(out_of_memory(fault)),
+        Err(fault) => Err(entry_out_of_memory(fault)),
     }
 }
 

@@ -1,6 +1,5 @@
 //! What entries have in common.
 ghost use Rattle.std.specs.Prelude.{◌≡◌};
-ghost use Rattle.module_arena.specs.declared.fault.ArenaFault.{ArenaFault};
 ghost use Rattle.name_rules.specs.ModuleOf.{linkage_in};
 ghost use Rattle.name_rules.specs.Written.{alignment_in};
 ghost use Rattle.type_build.specs.Declarations.{IsShort};
@@ -8,8 +7,6 @@ ghost use Rattle.type_build.specs.Declarations.{IsShort};
 use crate::integers::index_of;
 use ir_tables::Linkage;
 use ir_terminals::Integer;
-use module_arena::ArenaFault;
-use std::alloc::AllocError;
 
 /// External where none is written.
 pub(crate) fn linkage_of(written: Option<Linkage>) -> Linkage
@@ -27,11 +24,4 @@ pub(crate) fn alignment_of(written: &Option<Integer>) -> Option<u32>
         Some(integer) => Some(index_of(integer)),
         None => None,
     }
-}
-
-/// The fault of an arena that takes the entry.
-pub(crate) fn out_of_memory(_fault: ArenaFault) -> AllocError
-    requires { _fault ≡ ArenaFault.Memory }
-{
-    AllocError
 }

@@ -13,7 +13,8 @@ ghost use Rattle.type_build.specs.Holding.{entries, CanHold};
 ghost use Rattle.type_build.specs.Declarations.{IsFree, AreFew, one_variable_more, IsShort, without_initialiser};
 
 use crate::builder::Builder;
-use crate::heads::{alignment_of, linkage_of, out_of_memory};
+use crate::heads::{alignment_of, linkage_of};
+use crate::wanting::entry_out_of_memory;
 use ir_constants::{Constant, Type};
 use ir_syntax::WrittenVariable;
 use module_arena::VariableId;
@@ -46,7 +47,7 @@ pub fn declare_variable(
     };
     match builder.arena.declare_variable(variable) {
         Ok(id) => Ok(id),
-        Err(fault) => Err(out_of_memory(fault)),
+        Err(fault) => Err(entry_out_of_memory(fault)),
     }
 }
 

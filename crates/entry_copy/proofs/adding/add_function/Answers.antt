@@ -4,8 +4,8 @@ use Rattle.type_build.proofs.Declaring.{memory_alone, few_functions_still}
 use Rattle.type_build.proofs.Growing.{grows_not}
 use Rattle.entry_copy.proofs.adding.add_function.Goals as goal
 
-pub out_of_memory-requires : goal.out_of_memory-requires
-out_of_memory-requires c =
+pub entry_out_of_memory-requires : goal.entry_out_of_memory-requires
+entry_out_of_memory-requires c =
     let b = c.args.into.now.arena in
     let f = c.args.function in
     memory_alone b f.name (counts (with_function b f)) c.in-Err.fault c.in-Err.ensures.fault c.requires.free (few_functions_still b b (grows_not b) f c.requires.few)

@@ -18,8 +18,8 @@ returns-then-is_some-clause-done c whole can =
 pub add_body-requires : goal.add_body-requires
 add_body-requires c = let can = c.requires.1 in body_can_part c.requires.0 c.args.builder.now.arena can.partly (body_view c.args.written.now) can.fields
 
-pub out_of_memory-requires : goal.out_of_memory-requires
-out_of_memory-requires c =
+pub type_out_of_memory-requires : goal.type_out_of_memory-requires
+type_out_of_memory-requires c =
     let whole = c.requires.0 in
     let can = c.requires.1 in
     let a = c.args.builder.now.arena in

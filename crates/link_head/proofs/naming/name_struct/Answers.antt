@@ -7,8 +7,8 @@ use Rattle.type_build.proofs.Growing.{grows_not}
 use Rattle.item_build.proofs.Partly.{new_structs}
 use Rattle.link_head.proofs.naming.name_struct.Goals as goal
 
-pub out_of_memory-requires : goal.out_of_memory-requires
-out_of_memory-requires c =
+pub type_out_of_memory-requires : goal.type_out_of_memory-requires
+type_out_of_memory-requires c =
     elim c.in-Err.ensures.fault [
       | inl e ↦ absurd (c.requires.free (subst (λ (n : Bytes). Contains (names c.args.into.now.arena.table) n) c.in_ok-name.ensures (c.in-Err.ensures.duplicate.0 (ap Err e))))
       | inr e ↦ e

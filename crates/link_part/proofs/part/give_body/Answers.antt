@@ -42,8 +42,8 @@ define_struct-requires-clause-fields c =
     let made = c.in_ok-copy.ensures.is (new_struct ms i) c.args.from.now c.copy_types.new.into.arena (step.copies (new_struct ms i) is.copies) knows in
     made.known
 
-pub out_of_memory-requires : goal.out_of_memory-requires
-out_of_memory-requires c =
+pub type_out_of_memory-requires : goal.type_out_of_memory-requires
+type_out_of_memory-requires c =
     let a = c.args.from.now in
     let ms = c.requires.making.0 in
     let i = c.requires.making.1 in

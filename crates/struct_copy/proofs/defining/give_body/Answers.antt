@@ -39,8 +39,8 @@ define_struct-requires-clause-fields c =
     let made = c.in_ok-copy.ensures.is own a b1 (step.copies own c.requires.copies) knows in
     made.known
 
-pub out_of_memory-requires : goal.out_of_memory-requires
-out_of_memory-requires c =
+pub type_out_of_memory-requires : goal.type_out_of_memory-requires
+type_out_of_memory-requires c =
     let a = c.args.from.now in
     let b = c.args.into.now.arena in
     let b1 = c.copy_types.new.into.arena in

@@ -7,8 +7,8 @@ use Rattle.item_build.proofs.Partly.{new_structs}
 use Rattle.struct_copy.proofs.StructsNamed.{is_new, one_more}
 use Rattle.struct_copy.proofs.naming.name_struct.Goals as goal
 
-pub out_of_memory-requires : goal.out_of_memory-requires
-out_of_memory-requires c =
+pub type_out_of_memory-requires : goal.type_out_of_memory-requires
+type_out_of_memory-requires c =
     let good = subst IsGood c.types.ensures c.type_count-good.ensures.good in
     let at = (λ j. slice_get (names ((sym c.types-2.ensures) j)) c.args.id) ∙ c.struct_name.ensures ∙ ap Some (sym c.in_ok-name.ensures) in
     elim c.in-Err.ensures.fault [

@@ -8,8 +8,8 @@ use Rattle.type_build.proofs.Declaring.{memory_alone, free_still, few_aliases_st
 use Rattle.type_build.proofs.Untargeted.{untargeted_more}
 use Rattle.type_build.proofs.aliases.declare_alias.Goals as goal
 
-pub out_of_memory-requires : goal.out_of_memory-requires
-out_of_memory-requires c =
+pub entry_out_of_memory-requires : goal.entry_out_of_memory-requires
+entry_out_of_memory-requires c =
     let a = c.args.builder.now.arena in
     let b = c.add_alias_type.new.builder.arena in
     let grows = c.in_ok-ty.ensures.grows in

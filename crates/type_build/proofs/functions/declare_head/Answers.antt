@@ -10,8 +10,8 @@ use Rattle.type_build.proofs.Declaring.{memory_alone, free_still, few_functions_
 use Rattle.type_build.proofs.Parameters.{parameters_stay}
 use Rattle.type_build.proofs.functions.declare_head.Goals as goal
 
-pub out_of_memory-requires : goal.out_of_memory-requires
-out_of_memory-requires c =
+pub entry_out_of_memory-requires : goal.entry_out_of_memory-requires
+entry_out_of_memory-requires c =
     let a = c.args.builder.now.arena in
     let b = c.add_type.new.self.arena in
     let grows = c.in_ok-result.ensures.grows in

@@ -7,8 +7,8 @@ use Rattle.type_build.specs.Declarations.{IsFree}
 use Rattle.type_build.proofs.Declaring.{memory_alone, free_still, few_still}
 use Rattle.type_build.proofs.variables.declare_variable.Goals as goal
 
-pub out_of_memory-requires : goal.out_of_memory-requires
-out_of_memory-requires c =
+pub entry_out_of_memory-requires : goal.entry_out_of_memory-requires
+entry_out_of_memory-requires c =
     let a = c.args.builder.now.arena in
     let b = c.add_type.new.self.arena in
     let grows = c.in_ok-ty.ensures.grows in

@@ -22,8 +22,8 @@ returns-clause-is c =
     subst (λ b. IsType b c.in-Ok.id t) (sym c.in-Ok.ensures.ok)
     (subst (λ id. IsType (with_table a (with_type a.table c.args.ty)) id t) (sym c.in-Ok.ensures.id) (type_here a c.args.ty c.variable_count-good.ensures.good))
 
-pub out_of_memory-requires : goal.out_of_memory-requires
-out_of_memory-requires c =
+pub type_out_of_memory-requires : goal.type_out_of_memory-requires
+type_out_of_memory-requires c =
     memory_alone c.args.self.now.arena.table c.args.ty (subst IsGood c.types.ensures c.type_count-good_types.ensures.good) (subst IsWithin c.types.ensures c.type_count-good_types.ensures.within) c.requires.fits c.in-Err.fault c.in-Err.ensures.fault (λ e. c.in-Err.ensures.never (ap Err e))
 
 pub returns-clause-within : goal.returns-clause-within
