@@ -1,10 +1,8 @@
 -- The module of a text, judged.
-use Rattle.std.proofs.Common.{◌≡◌, ◌⊎◌, inl, inr, ℕ, suc, ◌<◌, nat_lt, Bool, true, false, List, [], ◌∷◌, get_or, Err, refl, sym, ap, ◌∙◌, arith}
-use Rattle.std.proofs.lemmas.Bool.{ltb-false}
+use Rattle.std.proofs.Common.{◌≡◌, ◌⊎◌, inl, inr, ℕ, List, Err, sym, ap, ◌∙◌}
 use Rattle.ir_syntax.specs.Answers.{HasItems}
 use Rattle.ir_syntax.specs.Tree.{ItemTree}
 use Rattle.module_arena.specs.Module.{Module}
-use Rattle.module_arena.specs.Names.{are_bytes}
 use Rattle.name_rules.specs.ModuleOf.{module_of_items}
 use Rattle.name_rules.specs.Reads.{Reads, Resolves}
 use Rattle.type_verify.specs.declared.fault.VerifyFault.{VerifyFault}
@@ -13,18 +11,6 @@ use Rattle.path_verify.specs.Verified.{Verifies}
 use Rattle.tool_ends.specs.declared.ended.Ended.{Ended}
 use Rattle.tool_ends.specs.declared.ended.Ended.TheVariants.{Memory}
 use Rattle.tool_cli.specs.Judged.{IsTextRefused, verdict_told}
-
-below : (b : ℕ) → b < 256 → nat_lt b 256 ≡ true
-below b h = by (nat_lt b 256) refl
-  where
-    by : (t : Bool) → nat_lt b 256 ≡ t → t ≡ true
-    by true e = refl
-    by false e = let no = ltb-false b 256 e in absurd (omega (arith, h, no))
-
--- what a text of the code holds are bytes
-pub bytes_below : (bytes : List ℕ) → ((i : ℕ) → get_or bytes i 0 < 256) → are_bytes bytes ≡ true
-bytes_below [] each = refl
-bytes_below (b ∷ bytes) each = rw (below b (each 0), bytes_below bytes (λ i. each (suc i))) refl
 
 -- a refusal of the module is one of its text
 pub refused_so : (name text : List ℕ) (items : List ItemTree) (m : Module) (fault : VerifyFault) (ended : Ended) → HasItems text items → Resolves items m → Verifies {T = Unit {0}} m (Err fault) → (ended ≡ verdict_told name fault) ⊎ (ended ≡ Memory) → IsTextRefused name text ended ⊎ (ended ≡ Memory)

@@ -25,6 +25,7 @@ use ir_syntax::{Items, SyntaxFault, read_items};
 use module_arena::{Checked, Entity};
 use name_rules::{ResolveFault, spell_global};
 use path_verify::verify;
+use record_read::each_is_byte;
 use std::alloc::{AllocError, Global};
 use std::mem::forget;
 use tool_ends::Ended;
@@ -166,13 +167,6 @@ fn module_alone(accepted: Accepted, items_back: GivenBack) -> Checked
         GivenBack::AtTheEnd => forget(items),
     }
     checked
-}
-
-// What holds of all bytes: each is one.
-fn each_is_byte(bytes: &[u8])
-    ensures { are_bytes bytes.now ≡ true }
-{
-    let _count = bytes.len();
 }
 
 // The items of a text, which is let go as soon as they are there.
