@@ -16,7 +16,8 @@ use Rattle.run_rules.specs.declared.fault.RunFault.{RunFault}
 use Rattle.run_rules.specs.Frame.{with_value}
 use Rattle.run_rules.specs.State.{Frame, Due, Core, State}
 use Rattle.run_rules.specs.Step.{Step, GoesOn, IsOver, entered, got, instruction}
-use Rattle.run_places.specs.Places.{HasFrame, HasWork}
+use Rattle.run_places.specs.Places.{HasWork}
+use Rattle.run_places.proofs.Connected.{HasFrame}
 use Rattle.run_program.specs.Loaded.{Keeps, Loaded}
 use Rattle.run_stack.specs.UnderWay.{UnderWay, IsRunning, changed, newest, on_newest}
 use Rattle.run_traffic.specs.Input.{Waiting}

@@ -1,6 +1,7 @@
 pub mod Options
 pub mod Together
 pub mod Search
+pub mod Connected
 pub mod Bodies
 pub mod Laid
 pub mod Parts

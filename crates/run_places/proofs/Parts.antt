@@ -26,8 +26,9 @@ use Rattle.run_rules.specs.Calls.{Nothing}
 use Rattle.run_rules.specs.Look.{Defined, names_in, defined_by, defined, function_at, look_in, look, function_number, code_of, host_of, callee_by, callee_numbered, table}
 use Rattle.run_rules.specs.NeverStuck.{is_stuck}
 use Rattle.run_rules.specs.Scope.{scope_of, blocks_of}
-use Rattle.run_places.specs.Places.{IsThere, GoesOnFrom, IsConnected, BeginsWell}
+use Rattle.run_places.specs.Places.{IsThere, GoesOnFrom, BeginsWell}
 use Rattle.run_places.proofs.Bodies.{body_connected, body_begins}
+use Rattle.run_places.proofs.Connected.{IsConnected}
 use Rattle.run_places.proofs.Laid.{laid_out, IsLaidOut}
 use Rattle.run_places.proofs.Options.{none_some}
 

@@ -30,7 +30,8 @@ use Rattle.run_rules.specs.declared.end.End.TheVariants as ends
 use Rattle.run_rules.specs.State.{Frame, Due, Constructor, Main, MainWith, Core, State, Next, Goes, Gets, Stops, weights, weight, weight_limit, on_top, fails}
 use Rattle.run_rules.specs.Step as steps
 use Rattle.run_rules.specs.Step.{Step, GoesOn, IsOver, carried, took, got, then_on, called_while_idle, counted, instruction, next_of, step, advanced}
-use Rattle.run_places.specs.Places.{IsAt, LeadsOn, GoesOnFrom, IsConnected, BeginsWell, AreAtPlaces, IsFunctionOf, IsTrueMain, IsBefore, EndsInMain, HasFrame, HasWork, IsFine, IsFineNext}
+use Rattle.run_places.specs.Places.{IsAt, LeadsOn, GoesOnFrom, BeginsWell, AreAtPlaces, IsFunctionOf, IsTrueMain, IsBefore, EndsInMain, HasWork, IsFine}
+use Rattle.run_places.proofs.Connected.{IsConnected, HasFrame, IsFineNext}
 
 module _ (look : ℕ → ℕ → ℕ → Action) (table : ℕ → Callee) (program : IsConnected look table) where
   -- ---- calls and returns

@@ -8,7 +8,7 @@ use Rattle.run_rules.specs.Due.{plain_main, main_with_arguments}
 use Rattle.run_rules.specs.Look.{no_names}
 use Rattle.run_rules.specs.NeverStuck.{is_stuck}
 use Rattle.run_rules.specs.Resolve.{signature_in}
-use Rattle.run_rules.specs.State.{Frame, Due, Constructor, Main, MainWith, Core, Next, Goes, Gets, Stops}
+use Rattle.run_rules.specs.State.{Frame, Due, Constructor, Main, MainWith, Core}
 
 -- there is an instruction at that place of a function
 abbrev pub IsThere : (ℕ → ℕ → Action) → ℕ → ℕ → Type 0
@@ -39,11 +39,6 @@ module _ (look : ℕ → ℕ → ℕ → Action) (table : ℕ → Callee) where
   BeginsWell (Host row signatures) = signatures ≡ map (signature_in no_names) (host_types row)
   BeginsWell Nothing = ⊤
 
-  -- where an action goes on there is an instruction, and each callee begins well
-  pub record IsConnected : Type 0 where
-    pub actions : (function block position : ℕ) → IsAt function block position → GoesOnFrom (look function) block position (look function block position)
-    pub callees : (address : ℕ) → BeginsWell (table address)
-
   -- each frame has come to an instruction
   abbrev pub AreAtPlaces : List Frame → Type 0
   AreAtPlaces [] = ⊤
@@ -73,12 +68,7 @@ module _ (look : ℕ → ℕ → ℕ → Action) (table : ℕ → Callee) where
   EndsInMain (d ∷ []) = IsTrueMain d
   EndsInMain (d ∷ e ∷ ds) = IsBefore d × EndsInMain (e ∷ ds)
 
-  -- some function is under way
-  abbrev pub HasFrame : List Frame → Type 0
-  HasFrame [] = ⊥
-  HasFrame (f ∷ fs) = ⊤
-
-  -- or due
+  -- some function is under way, or due
   abbrev pub HasWork : List Frame → List Due → Type 0
   HasWork [] [] = ⊥
   HasWork [] (d ∷ ds) = ⊤
@@ -89,9 +79,3 @@ module _ (look : ℕ → ℕ → ℕ → Action) (table : ℕ → Callee) where
     pub frames : AreAtPlaces c.frames
     pub due : EndsInMain c.due
     pub work : HasWork c.frames c.due
-
-  -- after an instruction
-  abbrev pub IsFineNext : Next → Type 0
-  IsFineNext (Goes c written) = IsFine c
-  IsFineNext (Gets to c) = IsFine c
-  IsFineNext (Stops end) = ⊤
