@@ -23,10 +23,10 @@ use Rattle.run_stack.specs.UnderWay.{UnderWay, IsRunning, changed, newest, on_ne
 use Rattle.run_traffic.specs.Input.{Waiting}
 use Rattle.typed_look.specs.Typings.{IsTypedLook}
 use Rattle.typed_runs.specs.Actions.{Typing}
-use Rattle.typed_runs.specs.States.{AreTaken, AreTypedFrames, IsTypedCore, IsTypedNext, IsTypedProgram, IsTypedState}
+use Rattle.typed_runs.specs.States.{AreTaken, AreTypedFrames, IsTypedCore, IsTypedProgram, IsTypedState}
 use Rattle.typed_runs.proofs.Access.{AreBytes}
 use Rattle.typed_runs.proofs.Acts.{act_typed}
-use Rattle.typed_runs.proofs.Calls.{parts_of, whole, parts_handed}
+use Rattle.typed_runs.proofs.Calls.{parts_of, whole, parts_handed, IsTypedNext}
 use Rattle.typed_runs.proofs.Leaves.{same_lengths}
 use Rattle.typed_runs.proofs.Steps.{entered_ready}
 use Rattle.run_acts.specs.declared.next.Next.{Next}

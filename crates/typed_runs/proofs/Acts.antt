@@ -26,9 +26,9 @@ use Rattle.run_rules.specs.Leaves.{Slot, is_pointer}
 use Rattle.run_rules.specs.State.{Frame, Core, Stops, on_top, goes}
 use Rattle.typed_runs.specs.Actions.{Typing, cast_from, cast_to, IsOrigin, IsPlace, IsEdge, IsTypedAction}
 use Rattle.typed_runs.specs.Kinds.{IsOf, AreAt, kinds_of_all}
-use Rattle.typed_runs.specs.States.{IsTypedMemory, AreStored, IsLater, IsTypedCallee, IsTypedCore, IsTypedNext}
+use Rattle.typed_runs.specs.States.{IsTypedMemory, AreStored, IsLater, IsTypedCallee, IsTypedCore}
 use Rattle.typed_runs.proofs.Access.{loaded_value_typed, stored_value_typed}
-use Rattle.typed_runs.proofs.Calls.{parts_of, parts_in, no_bytes, called_at_typed, returned_typed}
+use Rattle.typed_runs.proofs.Calls.{parts_of, parts_in, no_bytes, called_at_typed, returned_typed, IsTypedNext}
 use Rattle.typed_runs.proofs.Leaves.{block_more, leaves_more, are_set, read_typed, read_all_typed, assigned_typed, same_lengths}
 use Rattle.typed_runs.proofs.Memory.{IsKeptTyped, later_of, added_typed}
 use Rattle.typed_runs.proofs.Values.{binary_typed, compare_typed, cast_typed, select_typed, freeze_typed, displaced_typed}

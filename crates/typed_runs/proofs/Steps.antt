@@ -27,12 +27,12 @@ use Rattle.run_rules.specs.Step as steps
 use Rattle.run_rules.specs.Step.{Step, GoesOn, IsOver, carried, took, got, then_on, called_while_idle, counted, instruction, next_of, step, advanced}
 use Rattle.typed_runs.specs.Actions.{Typing}
 use Rattle.typed_runs.specs.Kinds.{IsOf, kinds_of_all}
-use Rattle.typed_runs.specs.States.{IsTypedProgram, IsTypedCallee, AreTaken, AreTypedFrames, AreTypedDue, IsTypedDue, IsTypedCore, IsTypedState, IsTypedNext, IsTypedStep}
+use Rattle.typed_runs.specs.States.{IsTypedProgram, IsTypedCallee, AreTaken, AreTypedFrames, AreTypedDue, IsTypedDue, IsTypedCore, IsTypedState, IsTypedStep}
 use Rattle.run_places.specs.Places.{IsTrueMain, IsFunctionOf, IsBefore, HasWork}
 use Rattle.run_places.proofs.Connected.{HasFrame}
 use Rattle.typed_runs.proofs.Access.{AreBytes}
 use Rattle.typed_runs.proofs.Acts.{act_typed}
-use Rattle.typed_runs.proofs.Calls.{AreParts, parts_of, whole, parts_handed, begun_typed}
+use Rattle.typed_runs.proofs.Calls.{AreParts, parts_of, whole, parts_handed, begun_typed, IsTypedNext}
 use Rattle.typed_runs.proofs.Hosts.{signature_exact}
 
 module _ (t : Typing) (look : ℕ → ℕ → ℕ → Action) (table : ℕ → Callee) (program : IsTypedProgram t look table) where

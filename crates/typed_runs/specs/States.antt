@@ -3,7 +3,6 @@ use Rattle.std.specs.Prelude.{◌≡◌, ℕ, ◌+◌, ◌*◌, ◌^◌, ◌<◌
 use Rattle.std.specs.List.{All, AllZip}
 use Rattle.ir_eval.specs.declared.value.Scalar.{Scalar}
 use Rattle.ir_memory.specs.declared.leaf.Leaf.{Leaf}
-use Rattle.ir_memory.specs.declared.leaf.Leaf.TheVariants as leaf
 use Rattle.ir_memory.specs.Given.{IsBlock}
 use Rattle.ir_memory.specs.Kept.{IsPlaced, AreKnown}
 use Rattle.ir_memory.specs.Memory.{Blocks, live_bytes, byte_limit, first_address, reach}
@@ -17,7 +16,7 @@ use Rattle.run_rules.specs.Calls.{Callee, Code, Host, Nothing}
 use Rattle.run_rules.specs.Leaves.{Slot}
 use Rattle.run_rules.specs.Look.{no_names}
 use Rattle.run_rules.specs.Resolve.{signature_in}
-use Rattle.run_rules.specs.State.{Frame, Due, Constructor, Main, MainWith, Core, State, Next, Goes, Gets, Stops, weights, weight_limit}
+use Rattle.run_rules.specs.State.{Frame, Due, Constructor, Main, MainWith, Core, State, weights, weight_limit}
 use Rattle.run_rules.specs.Step.{Step, GoesOn, IsOver}
 use Rattle.run_places.specs.Places.{IsTrueMain, IsBefore, HasWork}
 use Rattle.typed_runs.specs.Actions.{Typing, IsPlace, IsTypedAction}
@@ -105,12 +104,6 @@ module _ (t : Typing) (look : ℕ → ℕ → ℕ → Action) (table : ℕ → C
     pub input : All (λ b. b < 256) s.input
     pub output : All (λ b. b < 256) s.output
     pub next : s.core.memory.next ≤ opened_reach + s.steps * reach
-
-  -- after an instruction the core is typed; a byte of the input is wanted where an i32 belongs
-  abbrev pub IsTypedNext : Blocks → Next → Type 0
-  IsTypedNext m (Goes c written) = IsTypedCore c × IsLater m c.memory × All (λ b. b < 256) written
-  IsTypedNext m (Gets to c) = IsTypedCore c × IsLater m c.memory × AreTaken to (leaf.Int 32 ∷ []) c.frames
-  IsTypedNext m (Stops end) = ⊤
 
   -- a step leads to a typed state, or the run is over
   abbrev pub IsTypedStep : Step → Type 0
