@@ -5,8 +5,7 @@ use Rattle.std.proofs.lemmas.List.Sums.{sum_by-cons}
 use Rattle.ir_lexer.specs.Ahead.{Located}
 use Rattle.phrase_rows.specs.Row.{Row, PhraseShape, optional}
 use Rattle.phrase_rows.specs.Reads.{Reads}
-use Rattle.phrase_rows.specs.Size.{IsSized}
-use Rattle.phrase_rows.proofs.Sizes.{sized_none, sized_mapped, sized_both, sized_second, sized_before, sized_pair, sized_many, sized_labelled}
+use Rattle.phrase_rows.proofs.Sizes.{IsSized, sized_none, sized_mapped, sized_both, sized_second, sized_before, sized_pair, sized_many, sized_labelled}
 use Rattle.ir_terminals.specs.declared.limits.Limits.{Limits}
 use Rattle.ir_terminals.specs.declared.terminal.Terminal.TheVariants as terminal
 use Rattle.ir_terminals.specs.Role.{class}

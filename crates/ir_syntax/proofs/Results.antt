@@ -4,8 +4,7 @@ use Rattle.std.specs.Option.{is_none}
 use Rattle.std.specs.Bool.{MatchBool}
 use Rattle.std.proofs.lemmas.Bool.{ltb-true, ltb-false, not-true}
 use Rattle.phrase_rows.specs.Row.{Done, Bad}
-use Rattle.phrase_rows.specs.Answer.{IsAnswer}
-use Rattle.phrase_rows.proofs.Answer.{answered, answered_whole, first_bad_once, viable_through, viable_in_whole, not_viable_from}
+use Rattle.phrase_rows.proofs.Answer.{IsAnswer, answered, answered_whole, first_bad_once, viable_through, viable_in_whole, not_viable_from}
 use Rattle.phrase_rows.proofs.Values.{one_value}
 use Rattle.ir_lexer.specs.Ahead.{Located, AheadIs, ahead, tokens_in}
 use Rattle.ir_lexer.specs.Lexer.{at_start}

@@ -5,8 +5,7 @@ use Rattle.std.proofs.lemmas.List.{length-map}
 use Rattle.std.proofs.lemmas.List.Sums.{sum_by-cons}
 use Rattle.phrase_rows.specs.Row.{Row, PhraseShape, optional}
 use Rattle.phrase_rows.specs.Reads.{Reads}
-use Rattle.phrase_rows.specs.Size.{IsSized, IsSizedFrom}
-use Rattle.phrase_rows.proofs.Sizes.{sized_none, sized_mapped, sized_both, sized_pair, sized_second, sized_before, sized_alt, sized_nothing, sized_chain, sized_loop, sized_labelled, sized_many, labelled_from, fail_from, second_from, alt_from, mapped_onto}
+use Rattle.phrase_rows.proofs.Sizes.{IsSized, IsSizedFrom, sized_none, sized_mapped, sized_both, sized_pair, sized_second, sized_before, sized_alt, sized_nothing, sized_chain, sized_loop, sized_labelled, sized_many, labelled_from, fail_from, second_from, alt_from, mapped_onto}
 use Rattle.ir_lexer.specs.Ahead.{Located}
 use Rattle.ir_lexer.specs.declared.lexer.TheConstants.{LARGEST}
 use Rattle.ir_terminals.specs.declared.limits.Limits.{Limits}

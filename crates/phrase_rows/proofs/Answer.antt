@@ -5,7 +5,12 @@ use Rattle.std.proofs.lemmas.Bool.{cases_order}
 use Rattle.std.proofs.Math.Seq.{take-length}
 use Rattle.phrase_rows.specs.Row.{Reading, Done, Bad, PhraseShape, Row}
 use Rattle.phrase_rows.specs.Reads.{Front, Takes, tokens_behind, Reads}
-use Rattle.phrase_rows.specs.Answer.{IsFirstBad, IsAnswer, ended, answer}
+use Rattle.phrase_rows.specs.Answer.{IsFirstBad, ended, answer}
+
+-- the tokens are all there is and are whole with this value, or this is the first bad place
+abbrev pub IsAnswer : {T A : Type 0} → Row T A → Bool → List T → Result A ℕ → Type 0
+IsAnswer r ended ts (Ok a) = (ended ≡ true) × r.whole ts a
+IsAnswer r ended ts (Err i) = IsFirstBad r ended ts i
 
 -- tokens have exactly one answer: whole with one value, or one first bad place, and never both
 pub record HasOneAnswer {T A : Type 0} (r : Row T A) (ended : Bool) (ts : List T) : Type 0 where

@@ -1,9 +1,16 @@
--- How large the values of rows are.
+-- How large the values of rows are, counted in the tokens of their phrases.
 use Rattle.std.proofs.Common.{◌≡◌, ℕ, zero, suc, ◌≤◌, ◌+◌, List, [], ◌∷◌, length, true, inl, inr, refl, ap, arith, length-append, Option, Some, None}
 use Rattle.std.specs.List.{sum_by}
 use Rattle.std.proofs.lemmas.List.Sums.{sum_by-cons}
 use Rattle.phrase_rows.specs.Row.{PhraseShape, Row, among, nothing, fail, one, chain, mapped, joined_values, keep_second, keep_first, pair, alt, optional, many, Each, separated, loop, Steps, TokenMove, On, Ends, Stops, EndsWith, machine, labelled, deep}
-use Rattle.phrase_rows.specs.Size.{IsSized, IsSizedFrom}
+
+-- the value is no larger than the phrase has tokens
+pub record IsSized {T A : Type 0} (r : Row T A) (f : A → ℕ) : Type 0 where
+  pub size : (us : List T) (a : A) → r.whole us a → f a ≤ length us
+
+-- the value is larger than n by no more than the phrase has tokens
+pub record IsSizedFrom {T A : Type 0} (n : ℕ) (r : Row T A) (f : A → ℕ) : Type 0 where
+  pub size : (us : List T) (a : A) → r.whole us a → f a ≤ n + length us
 
 pub sized_nothing : {T A : Type 0} (a : A) (f : A → ℕ) → f a ≡ 0 → IsSized {T = T} (nothing a) f
 sized_nothing a f e = record { size = λ us b w. rw w.1 (rw e (omega arith)) }

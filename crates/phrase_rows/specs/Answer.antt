@@ -12,11 +12,6 @@ pub record IsFirstBad {T A : Type 0} (r : Row T A) (ended : Bool) (ts : List T) 
   pub after : (j : ℕ) → i < j → j ≤ length ts → Front r (take j ts) → ⊥
   pub at_end : ended ≡ true → i ≡ length ts → (a : A) → r.whole ts a → ⊥
 
--- the tokens are all there is and are whole with this value, or this is the first bad place
-abbrev pub IsAnswer : {T A : Type 0} → Row T A → Bool → List T → Result A ℕ → Type 0
-IsAnswer r ended ts (Ok a) = (ended ≡ true) × r.whole ts a
-IsAnswer r ended ts (Err i) = IsFirstBad r ended ts i
-
 -- what a reading of n tokens means for all of them
 abbrev pub ended : {T A : Type 0} → Bool → ℕ → Reading T A → Result A ℕ
 ended e n (Done a []) = cond e (Ok a) (Err n)

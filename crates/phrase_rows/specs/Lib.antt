@@ -1,4 +1,3 @@
 pub mod Row
 pub mod Reads
 pub mod Answer
-pub mod Size

@@ -3,7 +3,7 @@
 //!
 //! It stands on nothing and has nothing of any particular grammar. Its promise: a row that is made of the
 //! primitives is read as it is defined, so all tokens are whole with one value, or have one first bad place.
-//! Definitions: `specs/Row`, `specs/Reads`, `specs/Answer`, `specs/Size`; lemmas in `proofs`.
+//! Definitions: `specs/Row`, `specs/Reads`, `specs/Answer`; lemmas in `proofs`.
 //!
 //! ```
 //! -- A 0, digits 3 or 4 with a 2 between each two, and a 1: the value is the list of the digits.
