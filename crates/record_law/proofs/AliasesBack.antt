@@ -7,8 +7,8 @@ use Rattle.record_table.specs.Records.{alias, alias_type_of, alias_type_parts}
 use Rattle.record_table.specs.Listed.{IsType, IsName, IsLabel}
 use Rattle.record_law.specs.FittingEntries.{AliasTypeFits, AliasFits}
 use Rattle.std.specs.List.{AllByRecursion}
-use Rattle.record_table.specs.Lays.{Lays, IsEither}
-use Rattle.record_table.proofs.Layouts.{lays_indexed, lays_both, lays_mapped, lays_counted, lays_either, lays_as}
+use Rattle.record_table.specs.Lays.{Lays}
+use Rattle.record_table.proofs.Layouts.{IsEither, lays_indexed, lays_both, lays_mapped, lays_counted, lays_either, lays_as}
 use Rattle.record_table.proofs.InstructionsBack as lines
 use Rattle.record_law.proofs.GlobalsBack.{lays_linkage}
 

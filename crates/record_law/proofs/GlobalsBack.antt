@@ -14,8 +14,8 @@ use Rattle.record_table.specs.Listed.{IsName, IsLabel}
 use Rattle.record_table.specs.FittingConstants.{Fits}
 use Rattle.record_table.specs.FittingLines.{IfSome, IsAbsent}
 use Rattle.record_law.specs.FittingEntries.{VariableFits, DeclarationFits}
-use Rattle.record_table.specs.Lays.{Lays, IsGoodOption}
-use Rattle.record_table.proofs.Layouts.{lays_both, lays_chain, lays_mapped, lays_counted, lays_option, lays_as}
+use Rattle.record_table.specs.Lays.{Lays}
+use Rattle.record_table.proofs.Layouts.{IsGoodOption, lays_both, lays_chain, lays_mapped, lays_counted, lays_option, lays_as}
 use Rattle.record_table.proofs.InstructionsBack as lines
 use Rattle.record_table.proofs.EndingsBack as ends
 

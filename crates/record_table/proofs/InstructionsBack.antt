@@ -21,8 +21,8 @@ use Rattle.module_arena.specs.TypeTests.{is_void}
 use Rattle.record_table.specs.Listed.{AreSome, AreFlagsOf, IsType, IsBlock, IsLabel, IsAlignment}
 use Rattle.record_table.specs.FittingConstants.{ValueFits, OperandFits}
 use Rattle.record_table.specs.FittingLines.{IfSome, AreIndices, IsCallResult, AreArguments, FitsPlace, IncomingFits, OperationFits, IsResult}
-use Rattle.record_table.specs.Lays.{Lays, IsGoodOption}
-use Rattle.record_table.proofs.Layouts.{lays_indexed, lays_tested, lays_both, lays_chain, lays_mapped, lays_counted, lays_option, lays_some, lays_as}
+use Rattle.record_table.specs.Lays.{Lays}
+use Rattle.record_table.proofs.Layouts.{IsGoodOption, lays_indexed, lays_tested, lays_both, lays_chain, lays_mapped, lays_counted, lays_option, lays_some, lays_as}
 use Rattle.record_table.proofs.LinesBack as lines
 
 module _ (texts : Texts) (k : Numbering) (lays_label : (own : ℕ) → Lays (IsLabel texts own) (label texts own)) where

@@ -5,8 +5,18 @@ use Rattle.std.specs.List.{AllByRecursion}
 use mathlib.Core.Logic.{inl, inr}
 use Rattle.record_table.specs.Walk.{going, next}
 use Rattle.record_table.specs.Layout.{Layout, number, nothing, mapped, asking, ◌&◌, ◌&>◌, counted, counted_some, option, either, either_by, indexed, many, option_by}
-use Rattle.record_table.specs.Lays.{Lays, IsGoodOption, IsEither}
+use Rattle.record_table.specs.Lays.{Lays}
 use Rattle.record_table.specs.Listed.{IsListed, AreSome}
+
+-- none, or a good one
+abbrev pub IsGoodOption : {A : Type 0} → (A → Type 0) → Option A → Type 0
+IsGoodOption good None = Unit {0}
+IsGoodOption good (Some x) = good x
+
+-- a good one of either kind
+abbrev pub IsEither : {A B : Type 0} → (A → Type 0) → (B → Type 0) → A ⊎ B → Type 0
+IsEither ga gb (inl x) = ga x
+IsEither ga gb (inr y) = gb y
 
 pub lays_number : Lays (λ n. Unit {0}) number
 unfolding next
