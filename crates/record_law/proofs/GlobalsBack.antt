@@ -1,6 +1,7 @@
 -- What the record of a variable or of a function spells is read back.
 use Rattle.std.proofs.Common.{◌≡◌, ℕ, List, ◌++◌, length, Option, Some, None, refl, sym, ap, ◌∙◌}
 use Rattle.std.specs.Prelude.{⊤, zip}
+use Rattle.std.specs.List.{AllByRecursion}
 use Rattle.ir_tables.specs.declared.linkage.Linkage.{Linkage}
 use Rattle.ir_tables.specs.declared.linkage.Linkage.TheVariants.{External, Private, Internal, AvailableExternally, Linkonce, LinkonceOdr, Weak, WeakOdr, Common, Appending, ExternWeak}
 use Rattle.ir_tables.specs.Linkage.{linkage_of_code}
@@ -10,10 +11,10 @@ use Rattle.record_table.specs.Walk.{going, next}
 use Rattle.record_table.specs.Fields.{Texts, Numbering, name, label, linkage}
 use Rattle.record_table.specs.Bodies.{numbers_from}
 use Rattle.record_table.specs.Records.{variable, function, types_of, parameters_of}
-use Rattle.record_table.specs.Listed.{IsName, IsLabel}
+use Rattle.record_table.specs.Listed.{IsType, IsName, IsLabel}
 use Rattle.record_table.specs.FittingConstants.{Fits}
 use Rattle.record_table.specs.FittingLines.{IfSome, IsAbsent}
-use Rattle.record_law.specs.FittingEntries.{VariableFits, DeclarationFits}
+use Rattle.record_law.specs.FittingEntries.{VariableFits}
 use Rattle.record_table.specs.Lays.{Lays}
 use Rattle.record_table.proofs.Layouts.{IsGoodOption, lays_both, lays_chain, lays_mapped, lays_counted, lays_option, lays_as}
 use Rattle.record_table.proofs.InstructionsBack as lines
@@ -34,6 +35,13 @@ lays_linkage = record { back = back } where
   back Common rest g = refl
   back Appending rest g = refl
   back ExternWeak rest g = refl
+
+-- the parameters of a declaration have the numbers from 0
+abbrev pub DeclarationFits : Texts → Numbering → Function → Type 0
+DeclarationFits texts k f =
+    IsName texts f.name × IsType k f.returns × AllByRecursion (IsType k) (types_of f)
+    × (parameters_of (zip (types_of f) (numbers_from 0 (length (types_of f)))) ≡ f.parameters)
+    × IsAbsent f.body
 
 module _ (texts : Texts) (k : Numbering) (lays_label : (own : ℕ) → Lays (IsLabel texts own) (label texts own)) (lays_name : Lays (IsName texts) (name texts)) where
   if_some : (t : Tree) (c : Option Constant) → IfSome (λ c. Fits k c 64 t) c → IsGoodOption (λ c. Fits k c 64 t) c

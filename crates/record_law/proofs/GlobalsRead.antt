@@ -11,9 +11,8 @@ use Rattle.record_table.specs.Bodies.{numbers_from}
 use Rattle.record_table.specs.Records.{Sofar, variable, function, alias, variable_record, function_record, alias_record, record_in, module_from, types_of, parameters_of}
 use Rattle.record_table.specs.Spelling.{put, records_put}
 use Rattle.record_table.specs.Listed.{IsName, IsLabel, IsType}
-use Rattle.record_law.specs.FittingEntries.{DeclarationFits}
 use Rattle.record_table.specs.Lays.{Lays}
-use Rattle.record_law.proofs.GlobalsBack.{lays_variable, lays_function}
+use Rattle.record_law.proofs.GlobalsBack.{DeclarationFits, lays_variable, lays_function}
 use Rattle.record_law.proofs.AliasesBack.{lays_alias}
 use Rattle.record_law.specs.FittingModules.{declared, due, Globals, with_globals, EachFits, after_variable, after_function, after_alias, VariableFollows, FunctionFollows, AliasFollows}
 use Rattle.record_law.proofs.FunctionsBack.{declared_types}

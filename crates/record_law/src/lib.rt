@@ -1,8 +1,8 @@
 //! Laws of bitcode as records: what is written of a module is read back.
 //!
 //! It stands on the records of `record_table` and on the laws of `record_bodies` and `record_types`. It promises the laws that
-//! its calls name. Definitions: `specs/FittingEntries` says what variables, functions and aliases must be, `specs/FittingModules` what
-//! a module must be, `specs/Laws` what the laws are.
+//! its calls name. Definitions: `specs/FittingEntries` says what variables and aliases must be, `specs/FittingModules` what a module must
+//! be, `specs/Laws` what the laws are.
 //!
 //! ```
 //! -- of a module m that fits (`ModuleFits`)
