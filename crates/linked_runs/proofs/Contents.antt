@@ -23,7 +23,7 @@ use Rattle.run_rules.specs.Leaves.{slots_at}
 use Rattle.run_rules.specs.Look.{names_in}
 use Rattle.run_rules.specs.Plan.{contents_from, contents_of, Constructor, constructor_of}
 use Rattle.run_laws.proofs.SameConstants.{ConstantIn, ConstantsIn, same_constant}
-use Rattle.module_linker.specs.Carried.{merged, IsSymbol, carry, moved, moved_piece}
+use Rattle.module_linker.specs.Carried.{merged, IsSymbol, carry, moved}
 use Rattle.module_linker.specs.Known.{KnownTree, KnownName}
 use Rattle.linked_runs.proofs.Known.{InitialiserIn, IsKnown, AppendsLists, Fit}
 use Rattle.module_linker.specs.Merges.{Merges}
@@ -38,6 +38,10 @@ abbrev pub constructors_in : List Module → List ContentPiece → List Construc
 constructors_in ms ps = filter_map (λ (p : ContentPiece). constructor_of (constant_value (names_in ms p.part) p.ty p.value)) ps
 
 -- PIECES
+
+-- what a piece of a variable is in the result
+abbrev pub moved_piece : List Module → ContentPiece → ContentPiece
+moved_piece parts p = record { part = 0; ty = linked_type parts p.part p.ty; value = linked_constant parts p.part p.value }
 
 module _ (parts : List Module) where
   -- a piece's type and names are known

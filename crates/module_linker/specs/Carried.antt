@@ -1,4 +1,4 @@
--- For `linking_carries_symbols`: what the symbols, definitions and pieces of some parts are in the module that is made of them.
+-- For `linking_carries_symbols`: what the symbols and definitions of some parts are in the module that is made of them.
 use Rattle.std.specs.Prelude.{◌≡◌, true, List, [], ◌∷◌}
 use Rattle.module_arena.specs.Module.{Bytes, Module}
 use Rattle.linkage_rules.specs.Entries.{Entry, same_symbol}
@@ -7,10 +7,8 @@ use Rattle.linkage_rules.specs.declared.symbol.Symbol.TheVariants.{Shared, Local
 use Rattle.linkage_rules.specs.Lists.{has}
 use Rattle.linkage_rules.specs.Symbols.{symbols}
 use Rattle.linkage_rules.specs.Winner.{definitions}
-use Rattle.linked_contents.specs.Contents.{ContentPiece}
-use Rattle.module_linker.specs.Linked.{linked_constant, linked_definition, link_result}
+use Rattle.module_linker.specs.Linked.{linked_definition, link_result}
 use Rattle.module_linker.specs.Rename.{new_name_of}
-use Rattle.module_linker.specs.Structs.{linked_type}
 
 -- the parts of a program that is linked: one
 abbrev pub merged : List Module → List Module
@@ -32,7 +30,3 @@ moved_under parts s name e = record { part = 0; global = linked_definition parts
 -- what the definition of a symbol is in the result
 abbrev pub moved : List Module → Symbol → Entry → Entry
 moved parts s e = moved_under parts s (new_name_of parts s) e
-
--- what a piece of a variable is in the result
-abbrev pub moved_piece : List Module → ContentPiece → ContentPiece
-moved_piece parts p = record { part = 0; ty = linked_type parts p.part p.ty; value = linked_constant parts p.part p.value }
