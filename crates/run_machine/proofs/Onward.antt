@@ -18,11 +18,15 @@ use Rattle.run_acts.specs.declared.next.Stop.{Stop}
 use Rattle.run_acts.specs.Said.{end_of}
 use Rattle.run_passing.specs.Traffic as traffic
 use Rattle.run_passing.specs.Traffic.{CouldNotFlush, CouldNotGet, CouldNotPut, Got, IsFlushed, IsPut, number_got}
-use Rattle.run_machine.specs.Living.{Comes, EndsThere, IsEntered, Living, core_of_living, going, inside_seen}
-use Rattle.run_machine.specs.Seen.{Going}
+use Rattle.run_machine.specs.Living.{Comes, EndsThere, IsEntered, Living, core_of_living, going}
+use Rattle.run_machine.specs.Seen.{Going, the_machine}
 use Rattle.run_machine.proofs.Lived.{core_got}
 use Rattle.run_machine.proofs.Stepped.{IsQuiet, could_not_read, could_not_write, ended, output_told, put_stepped, taken_stepped, wanted}
 use Rattle.run_machine.proofs.Whole as whole
+
+-- as a machine that has answered nothing
+abbrev pub inside_seen : Living → Waiting → List ℕ → ℕ → Bool → Machine
+inside_seen l waiting unwritten steps is_over = the_machine (going l waiting unwritten steps is_over)
 
 -- ---- no input is touched
 

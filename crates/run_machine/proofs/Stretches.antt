@@ -25,14 +25,14 @@ use Rattle.run_acts.specs.Said as said
 use Rattle.run_acts.specs.Said.{end_of}
 use Rattle.run_acts.proofs.Staying.{ready_still}
 use Rattle.run_passing.specs.Traffic.{Finishes, IsFlushed, IsPut}
-use Rattle.run_machine.specs.Living.{Acts, Comes, IsLive, Living, core_of_living, inside_seen, living_of, may_want_in}
+use Rattle.run_machine.specs.Living.{Acts, Comes, IsLive, Living, core_of_living, living_of, may_want_in}
 use Rattle.run_machine.specs.Stretch.{ComesThen, LeavesOff, MayWalk, StaysAt, Walked, Walks}
 use Rattle.run_machine.specs.declared.stretch.Stretch.{Stretch}
 use Rattle.run_machine.specs.declared.stretch.StretchEnd.{StretchEnd}
 use Rattle.run_machine.specs.declared.stretch.StretchEnd.TheVariants as ends
 use Rattle.run_machine.proofs.EnteringDue.{comes_from, is_entered}
 use Rattle.run_machine.proofs.Lived.{act_live, may_act_here}
-use Rattle.run_machine.proofs.Onward.{stop_ended, stop_fails, wants, went_on}
+use Rattle.run_machine.proofs.Onward.{stop_ended, stop_fails, wants, went_on, inside_seen}
 
 -- ---- on the way
 

@@ -5,7 +5,6 @@ use Rattle.ir_memory.specs.declared.leaf.Leaf.TheVariants as leaf
 use Rattle.ir_memory.specs.Memory.{Blocks, no_blocks, reach}
 use Rattle.run_names.specs.Told.{alone}
 use Rattle.run_rules.specs.Clauses.{told}
-use Rattle.run_rules.specs.Machine as rules
 use Rattle.run_rules.specs.State.{Due, Core, State}
 use Rattle.run_rules.specs.Step.{GoesOn, entered, next_of}
 use Rattle.run_rules.specs.Wants.{may_want_memory}
@@ -20,7 +19,7 @@ use Rattle.run_acts.specs.Made.{AreReady}
 use Rattle.run_acts.specs.Said.{end_of}
 use Rattle.run_acts.specs.Said as said
 use Rattle.run_acts.specs.Acting.{look_in, table_in, typing_in}
-use Rattle.run_machine.specs.Seen.{Going, the_machine}
+use Rattle.run_machine.specs.Seen.{Going}
 use Rattle.run_machine.specs.declared.live.Turn.{Turn}
 use Rattle.run_machine.specs.declared.live.Turn.TheVariants.{Over, Came}
 use Rattle.typed_look.specs.Typings.{IsTypedLook}
@@ -137,7 +136,3 @@ going l waiting unwritten steps is_over = record {
   closed = waiting.closed;
   unwritten = unwritten;
 }
-
--- as a machine that has answered nothing
-abbrev pub inside_seen : Living → Waiting → List ℕ → ℕ → Bool → rules.Machine
-inside_seen l waiting unwritten steps is_over = the_machine (going l waiting unwritten steps is_over)
