@@ -1,5 +1,5 @@
 -- How answers are put together, in the order of the demands.
-use Rattle.std.proofs.Common.{◌≡◌, ℕ, zero, suc, ◌+◌, ◌≤◌, Bool, true, false, not, IsTrue, List, [], ◌∷◌, ◌++◌, length, drop, Some, None, Ok, Err, refl, sym, ap, ◌∙◌, subst, inl, inr, true≢false, arith}
+use Rattle.std.proofs.Common.{◌≡◌, ℕ, zero, suc, ◌+◌, ◌≤◌, Bool, true, false, not, IsTrue, List, [], ◌∷◌, ◌++◌, length, drop, Some, None, Result, Ok, Err, refl, sym, ap, ◌∙◌, subst, inl, inr, true≢false, arith}
 use Rattle.std.specs.Prelude.{find, flat_map, slice_get, cond}
 use Rattle.std.specs.Option.{option_map}
 use Rattle.std.proofs.lemmas.Option.{none-some, same_Some}
@@ -8,7 +8,7 @@ use Rattle.module_arena.specs.Valid.{Entity, Demand, AllHold, IsFirstOf}
 use Rattle.type_verify.specs.declared.fault.VerifyFault.{VerifyFault}
 use Rattle.type_verify.specs.declared.fault.VerifyFault.TheVariants as fault
 use Rattle.type_verify.specs.declared.judged.Check.{Check}
-use Rattle.type_verify.specs.Judged.{Judged, Leads, asks, failed_in}
+use Rattle.type_verify.specs.Judged.{Judged, asks, failed_in}
 
 -- ---- one entity
 
@@ -29,6 +29,10 @@ one_failed entity (c ∷ cs) rule e = by (one_failed entity cs rule) c.passes re
     by rest false p f = inl ((λ h. true≢false (sym h ∙ p)), refl, sym (same_Some c.rule rule f))
 
 -- ---- more than one
+
+-- an answer to what is left is an answer to all
+abbrev pub Leads : List Demand → List Demand → Type 0
+Leads rest all = (r : Result (Unit {0}) VerifyFault) → Judged rest r → Judged all r
 
 -- the front holds: what answers the rest answers both
 pub leads_past : (ds es : List Demand) → AllHold ds → Leads es (ds ++ es)

@@ -17,7 +17,16 @@ use Rattle.module_arena.specs.Constants.{Index, indexed}
 use Rattle.module_arena.specs.TypeTests.{opened, struct_of_body, field_type, is_integer_of}
 use Rattle.module_arena.proofs.HostTypesAgree.{field_known as one_known}
 use Rattle.module_arena.proofs.Grown.{below}
-use Rattle.type_verify.specs.Opened.{OpenedIds, array_of, struct_of, opened_body, opened_by, has_no_parts, IsOpened}
+use Rattle.type_verify.specs.Opened.{OpenedIds, array_of, struct_of, opened_body, has_no_parts, IsOpened, neither}
+
+-- what a type is, from the bodies of the structs
+abbrev pub opened_by : List (Option StructBody) → IrType → OpenedIds
+opened_by bs (type.Int width) = neither
+opened_by bs type.Ptr = neither
+opened_by bs type.Void = neither
+opened_by bs (type.Array length part) = array_of length part
+opened_by bs (type.Struct packed parts) = struct_of packed parts
+opened_by bs (type.Named id) = opened_body (slice_index_or bs id None)
 
 -- what a type of the table is
 abbrev pub opened_type : Types → ℕ → OpenedIds

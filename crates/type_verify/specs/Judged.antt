@@ -22,7 +22,3 @@ asks entity (c ∷ cs) = record { entity = entity; rule = c.rule; fact = Test c.
 -- the first rule that does not hold
 abbrev pub failed_in : List Check → Option ℕ
 failed_in checks = option_map (λ c. c.rule) (find (λ c. not c.passes) checks)
-
--- an answer to what is left is an answer to all
-abbrev pub Leads : List Demand → List Demand → Type 0
-Leads rest all = (r : Result (Unit {0}) VerifyFault) → Judged rest r → Judged all r

@@ -1,7 +1,5 @@
 -- For `TypeJudge::opened`: what a type is by the ids of its parts, where a struct's name stands for its body.
-use Rattle.std.specs.Prelude.{◌≡◌, ℕ, ◌<◌, Bool, true, false, List, All, length, slice_index_or, Option, Some, None}
-use Rattle.type_table.specs.declared.ir_type.IrType.{IrType}
-use Rattle.type_table.specs.declared.ir_type.IrType.TheVariants as type
+use Rattle.std.specs.Prelude.{◌≡◌, ℕ, ◌<◌, Bool, true, false, List, All, length, Option, Some, None}
 use Rattle.type_table.specs.declared.ir_type.StructBody.{StructBody}
 use Rattle.type_table.specs.declared.ir_type.StructBody.TheVariants.{Opaque, Plain, Packed}
 use Rattle.type_table.specs.Tree.{Tree, array, struct}
@@ -27,15 +25,6 @@ opened_body None = neither
 opened_body (Some Opaque) = neither
 opened_body (Some (Plain parts)) = struct_of false parts
 opened_body (Some (Packed parts)) = struct_of true parts
-
--- what a type is, from the bodies of the structs
-abbrev pub opened_by : List (Option StructBody) → IrType → OpenedIds
-opened_by bs (type.Int width) = neither
-opened_by bs type.Ptr = neither
-opened_by bs type.Void = neither
-opened_by bs (type.Array length part) = array_of length part
-opened_by bs (type.Struct packed parts) = struct_of packed parts
-opened_by bs (type.Named id) = opened_body (slice_index_or bs id None)
 
 -- neither an array nor a struct
 abbrev pub has_no_parts : Tree → Bool

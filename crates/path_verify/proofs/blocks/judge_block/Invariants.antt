@@ -4,7 +4,7 @@ use Rattle.module_arena.specs.Changes.{function_in}
 use Rattle.module_arena.specs.InstructionRules.{is_phi}
 use Rattle.module_arena.specs.Valid.{instructions_demands}
 use Rattle.module_arena.specs.View.{module_of}
-use Rattle.type_verify.specs.Judged.{Leads}
+use Rattle.type_verify.proofs.Judging.{Leads}
 use Rattle.use_verify.specs.Edges.{MayBeSourced}
 use Rattle.path_verify.specs.Ready.{block_in}
 use Rattle.path_verify.proofs.Ordered.{asked_from}
