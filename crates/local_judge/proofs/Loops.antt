@@ -6,8 +6,8 @@ use Rattle.name_rules.specs.declared.fault.ResolveFault.{ResolveFault}
 use Rattle.name_rules.specs.Demand.{Demand}
 use Rattle.name_rules.specs.FunctionDemands.{Called, called_with, called_after}
 use Rattle.name_rules.specs.Locals.{Announced}
-use Rattle.type_judge.specs.Judging.{IsJudged, Leads}
-use Rattle.type_judge.proofs.Parts.{leads_start}
+use Rattle.type_judge.specs.Judging.{IsJudged}
+use Rattle.type_judge.proofs.Parts.{Leads, leads_start}
 use Rattle.local_judge.specs.declared.called.CalledNames.{CalledNames}
 use Rattle.local_judge.specs.Calling.{IsCalled, Goes}
 use Rattle.local_judge.proofs.Steps.{judged_front, judged_rest}

@@ -11,8 +11,8 @@ use Rattle.name_rules.specs.Demand.{Demand, first_there, Tells}
 use Rattle.name_rules.specs.TypeDemands.{Known}
 use Rattle.name_rules.specs.Breaks.{item_demands, demands_behind, demands, known_in}
 use Rattle.struct_order.proofs.Gathered.{items_more}
-use Rattle.type_judge.specs.Judging.{IsJudged, Leads}
-use Rattle.type_judge.proofs.Parts.{judged_front, judged_rest}
+use Rattle.type_judge.specs.Judging.{IsJudged}
+use Rattle.type_judge.proofs.Parts.{Leads, judged_front, judged_rest}
 
 -- what the items from one on ask for
 abbrev pub left_from : Known → List Item → ℕ → List Demand

@@ -10,7 +10,7 @@ use Rattle.type_table.specs.declared.measure.Measure.{Measure}
 use Rattle.name_rules.specs.Demand.{Demand, nests, is_small, is_length}
 use Rattle.name_rules.specs.TypeDemands.{Known, measured, is_past, has_past, have_past, type_demands, types_demands}
 use Rattle.name_rules.proofs.Judging as parts
-use Rattle.type_judge.specs.Judging.{IsJudged, Leads}
+use Rattle.type_judge.specs.Judging.{IsJudged}
 
 abbrev Answer : Type 0
 Answer = Result (Unit {0}) ResolveFault
@@ -29,6 +29,10 @@ judged_stop d ds fault j = judged_front (d ∷ []) ds fault j
 
 pub judged_next : (d : Demand) (ds : List Demand) (r : Answer) → IsJudged (d ∷ []) (Ok tt) → IsJudged ds r → IsJudged (d ∷ ds) r
 judged_next d ds r fine j = judged_rest (d ∷ []) ds r fine j
+
+-- an answer to the first is one to the second
+pub record Leads (rest all : List Demand) : Type 0 where
+  pub on_ : (answer : Result (Unit {0}) ResolveFault) → IsJudged rest answer → IsJudged all answer
 
 -- nothing was judged yet
 pub leads_start : (all : List Demand) → Leads all all

@@ -10,10 +10,6 @@ use Rattle.ir_constants.specs.Tree.{TypedConstantTree}
 pub record IsJudged (demands : List Demand) (answer : Result (Unit {0}) ResolveFault) : Type 0 where
   pub told : Judged demands answer
 
--- an answer to the first is one to the second
-pub record Leads (rest all : List Demand) : Type 0 where
-  pub on_ : (answer : Result (Unit {0}) ResolveFault) → IsJudged rest answer → IsJudged all answer
-
 -- what a type asks for, and a constant that stands at it
 abbrev pub typed_demands : Known → TypedConstantTree → List Demand
 typed_demands known typed = type_demands known typed.0 ++ constant_demands known (type_in typed.0) typed.1

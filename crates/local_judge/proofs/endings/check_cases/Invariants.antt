@@ -3,7 +3,7 @@ use Rattle.std.specs.Prelude.{flat_map}
 use Rattle.ir_instructions.specs.View.{case_view}
 use Rattle.name_rules.specs.FunctionDemands.{case_demands}
 use Rattle.type_judge.specs.Gathered.{known_of}
-use Rattle.type_judge.specs.Judging.{Leads}
+use Rattle.type_judge.proofs.Parts.{Leads}
 use Rattle.local_judge.specs.Names.{locals_of}
 use Rattle.local_judge.proofs.endings.check_cases.Given as goal
 

@@ -3,7 +3,7 @@ use Rattle.std.specs.Prelude.{flat_map}
 use Rattle.ir_constants.specs.View.{typed_value_view}
 use Rattle.name_rules.specs.FunctionDemands.{operand_demands}
 use Rattle.type_judge.specs.Gathered.{known_of}
-use Rattle.type_judge.specs.Judging.{Leads}
+use Rattle.type_judge.proofs.Parts.{Leads}
 use Rattle.local_judge.specs.Names.{locals_of}
 use Rattle.local_judge.proofs.operands.check_operands.Given as goal
 

@@ -5,7 +5,7 @@ use Rattle.name_rules.specs.FunctionDemands.{incoming_demands}
 use Rattle.name_rules.specs.Written.{type_in}
 use Rattle.ir_constants.specs.View.{type_view}
 use Rattle.type_judge.specs.Gathered.{known_of}
-use Rattle.type_judge.specs.Judging.{Leads}
+use Rattle.type_judge.proofs.Parts.{Leads}
 use Rattle.local_judge.specs.Names.{locals_of}
 use Rattle.local_judge.proofs.operations.check_incomings.Given as goal
 

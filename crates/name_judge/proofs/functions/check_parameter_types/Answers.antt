@@ -4,8 +4,7 @@ use Rattle.std.proofs.lemmas.Result.{err_from_is_err_and}
 use Rattle.ir_syntax.specs.View.{parameter_view}
 use Rattle.name_rules.specs.Demand.{Demand}
 use Rattle.type_judge.specs.Gathered.{known_of}
-use Rattle.type_judge.specs.Judging.{Leads}
-use Rattle.type_judge.proofs.Parts.{leads_start, leads_next, leads_fails, leads_end}
+use Rattle.type_judge.proofs.Parts.{Leads, leads_start, leads_next, leads_fails, leads_end}
 use Rattle.name_judge.proofs.Parameters.{parameter_type_demands, parameters_are}
 use Rattle.name_judge.proofs.functions.check_parameter_types.Goals as goal
 

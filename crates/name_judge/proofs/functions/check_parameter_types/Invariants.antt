@@ -4,7 +4,7 @@ use Rattle.ir_syntax.specs.Functions.{parameter_types}
 use Rattle.ir_syntax.specs.View.{parameter_view}
 use Rattle.name_rules.specs.TypeDemands.{type_demands}
 use Rattle.type_judge.specs.Gathered.{known_of}
-use Rattle.type_judge.specs.Judging.{Leads}
+use Rattle.type_judge.proofs.Parts.{Leads}
 use Rattle.name_judge.proofs.Parameters.{parameter_type_demands}
 use Rattle.name_judge.proofs.functions.check_parameter_types.Given as goal
 

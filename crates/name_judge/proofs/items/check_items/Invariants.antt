@@ -3,7 +3,7 @@ use Rattle.std.specs.Prelude.{[]}
 use Rattle.ir_syntax.specs.View.{items_view}
 use Rattle.name_rules.specs.Breaks.{demands_behind}
 use Rattle.type_judge.specs.Gathered.{known_of}
-use Rattle.type_judge.specs.Judging.{Leads}
+use Rattle.type_judge.proofs.Parts.{Leads}
 use Rattle.name_judge.specs.Seen.{IsSeen}
 use Rattle.name_judge.proofs.InOrder.{left_from}
 use Rattle.name_judge.proofs.items.check_items.Given as goal

@@ -3,7 +3,8 @@ use Rattle.std.specs.Prelude.{flat_map}
 use Rattle.ir_constants.specs.Tree.{constants}
 use Rattle.ir_constants.specs.View.{typed_constant_view}
 use Rattle.name_rules.specs.TypeDemands.{constants_demands}
-use Rattle.type_judge.specs.Judging.{Leads, typed_demands}
+use Rattle.type_judge.specs.Judging.{typed_demands}
+use Rattle.type_judge.proofs.Parts.{Leads}
 use Rattle.type_judge.specs.Gathered.{known_of}
 use Rattle.type_judge.proofs.constants.+constants.Given as goal
 

@@ -1,6 +1,6 @@
 use Rattle.std.proofs.Common.{drop}
 use Rattle.name_rules.specs.FunctionDemands.{index_demands}
-use Rattle.type_judge.specs.Judging.{Leads}
+use Rattle.type_judge.proofs.Parts.{Leads}
 use Rattle.type_judge.proofs.integers.check_indices.Given as goal
 
 abbrev pub invariant-indices : goal.invariant-indices

@@ -3,7 +3,7 @@ use Rattle.std.specs.Prelude.{flat_map}
 use Rattle.ir_constants.specs.Tree.{types}
 use Rattle.ir_constants.specs.View.{type_view}
 use Rattle.name_rules.specs.TypeDemands.{type_demands, types_demands}
-use Rattle.type_judge.specs.Judging.{Leads}
+use Rattle.type_judge.proofs.Parts.{Leads}
 use Rattle.type_judge.specs.Gathered.{known_of}
 use Rattle.type_judge.proofs.types.+types.Given as goal
 
