@@ -9,7 +9,7 @@ use Rattle.ir_terminals.specs.declared.values.Local.TheVariants as locals
 use Rattle.ir_constants.specs.declared.constant.Simple.TheVariants as simple
 use Rattle.ir_constants.specs.declared.constant.Brackets as the_brackets
 use Rattle.ir_constants.specs.declared.constant.Brackets.TheVariants as brackets
-use Rattle.ir_constants.specs.Tree.{TypeTree, IntegerType, PointerType, VoidType, ArrayType, StructType, NamedType, TypeTrees, no_types, more_types, ConstantTree, IntegerConstant, SimpleConstant, AddressConstant, BytesConstant, ListConstant, Conversion, Arithmetic, ConstantTrees, TypedConstantTree, ValueTree, LocalValue, ConstantValue, TypedValueTree}
+use Rattle.ir_constants.specs.Tree.{TypeTree, IntegerType, PointerType, VoidType, ArrayType, StructType, NamedType, TypeTrees, no_types, more_types, ConstantTree, IntegerConstant, SimpleConstant, AddressConstant, BytesConstant, ListConstant, Conversion, Arithmetic, ConstantTrees, ValueTree, LocalValue, ConstantValue, TypedValueTree}
 use Rattle.ir_constants.specs.Tree as tree
 use Rattle.ir_instructions.specs.Tree as code
 use Rattle.type_table.specs.Tree.{Tree, int, ptr, void, array, struct, named, Trees, no_trees, more_trees}
@@ -92,11 +92,6 @@ abbrev mutual
   pub constant_trees : Constants → ConstantTrees
   constant_trees no_constants = tree.no_constants
   constant_trees (more_constants ty c cs) = tree.more_constants (type_tree ty) (constant_tree ty c) (constant_trees cs)
-
--- the same, as a list
-abbrev pub constant_list : Constants → List TypedConstantTree
-constant_list no_constants = []
-constant_list (more_constants ty c cs) = (type_tree ty, constant_tree ty c) ∷ constant_list cs
 
 -- a value at this type
 abbrev pub value_tree : Tree → Value → ValueTree

@@ -14,10 +14,6 @@ use Rattle.ir_syntax.specs.Tree.{BodyTree, OpaqueBody, PlainBody, PackedBody, Va
 abbrev pub nowhere : Place
 nowhere = record { line = 0; column = 0 }
 
--- what is left of a place
-abbrev pub no_place : Place → Place
-no_place place = nowhere
-
 -- an integer without its place
 abbrev pub unplaced_integer : Integer → Integer
 unplaced_integer i = record { negative = i.negative; magnitude = i.magnitude; place = nowhere }

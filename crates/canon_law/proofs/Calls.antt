@@ -20,9 +20,9 @@ use Rattle.canonical.specs.Phrase.{Phrase, none, mark, comma, ◌␣◌, ◌⌢�
 use Rattle.canonical.specs.Types.{type_phrase}
 use Rattle.canonical.specs.Constants.{value_phrase, operand}
 use Rattle.canonical.specs.Operations.{dotted, signature_phrase}
-use Rattle.canon_items.specs.Unplaced.{no_place, nowhere, unplaced_type, unplaced_value, unplaced_operand, unplaced_signature, unplaced_operation}
+use Rattle.canon_items.specs.Unplaced.{nowhere, unplaced_type, unplaced_value, unplaced_operand, unplaced_signature, unplaced_operation}
 use Rattle.canon_items.specs.Parts.{type_tree, value_tree, operand_tree, signature_tree, call_tree}
-use Rattle.canon_law.proofs.Printed.{IsPrinted, Starts}
+use Rattle.canon_law.proofs.Printed.{IsPrinted, Starts, no_place}
 use Rattle.canon_law.specs.Written.{IsTypeText, AreTypeListTexts, IsValueText, IsOperandText, AreOperandTexts}
 use Rattle.canon_law.proofs.Joined.{spaced, tight, left_none, right_none}
 use Rattle.canon_law.proofs.Rows.{printed_as, printed_labelled, printed_mapped, printed_chain, printed_pair, printed_second, printed_before, printed_left, printed_right, printed_some, printed_none, printed_nothing}

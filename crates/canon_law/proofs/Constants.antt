@@ -29,9 +29,9 @@ use Rattle.canonical.specs.Phrase.{Phrase, mark, comma, ◌␣◌, ◌⌢◌, li
 use Rattle.canonical.specs.Names as names
 use Rattle.canonical.specs.Types.{type_phrase}
 use Rattle.canonical.specs.Constants.{opcode, flags_phrase, address_flags_phrase, truth, integer_phrase, in_brackets, constant_phrase, constant_phrases}
-use Rattle.canon_items.specs.Unplaced.{no_place, nowhere, unplaced_type, unplaced_constant, unplaced_constants, unplaced_typed}
-use Rattle.canon_items.specs.Parts.{signed, type_tree, truth_tree, integer_tree, constant_tree, constant_trees, constant_list}
-use Rattle.canon_law.proofs.Printed.{IsPrinted, Starts}
+use Rattle.canon_items.specs.Unplaced.{nowhere, unplaced_type, unplaced_constant, unplaced_constants, unplaced_typed}
+use Rattle.canon_items.specs.Parts.{signed, type_tree, truth_tree, integer_tree, constant_tree, constant_trees}
+use Rattle.canon_law.proofs.Printed.{IsPrinted, Starts, no_place}
 use Rattle.module_arena.specs.Forms.{is_constant_cast, is_constant_binary, has_constants}
 use Rattle.canon_law.specs.Written.{IsTypeText, IsFlagSet, IsNumberText, IsConstantText, AreConstantTexts}
 use Rattle.canon_law.proofs.Joined.{spaced, tight}
@@ -128,6 +128,11 @@ printed_integer holder (named name) n h = number_constant holder 128 n h.0 h.1
 unplaced_list : (cs : List TypedConstantTree) → unplaced_constants (constants cs) ≡ constants (map unplaced_typed cs)
 unplaced_list [] = refl
 unplaced_list (c ∷ cs) = ap (λ (ds : ConstantTrees). tree.more_constants (unplaced_type c.0) (unplaced_constant c.1) ds) (unplaced_list cs)
+
+-- constants, each behind its type, as a list
+abbrev constant_list : Constants → List TypedConstantTree
+constant_list no_constants = []
+constant_list (more_constants ty c cs) = (type_tree ty, constant_tree ty c) ∷ constant_list cs
 
 constants_of_list : (cs : Constants) → constants (constant_list cs) ≡ constant_trees cs
 constants_of_list no_constants = refl

@@ -30,9 +30,9 @@ use Rattle.module_arena.specs.Module.{LocalName, Named, Numbered}
 use Rattle.name_rules.specs.Spelled.{decimal, is_identifier, quoted_byte, name_spelling}
 use Rattle.canonical.specs.Phrase as phrase
 use Rattle.canonical.specs.Names as names
-use Rattle.canon_items.specs.Unplaced.{nowhere, no_place, unplaced_integer, unplaced_name, unplaced_local}
+use Rattle.canon_items.specs.Unplaced.{nowhere, unplaced_integer, unplaced_name, unplaced_local}
 use Rattle.canon_items.specs.Parts.{natural, signed, name_tree, local_tree}
-use Rattle.canon_law.proofs.Printed.{IsPrinted}
+use Rattle.canon_law.proofs.Printed.{IsPrinted, no_place}
 use Rattle.canon_law.specs.Written.{AreBytes, IsNameText, IsLocalText}
 use Rattle.canon_law.proofs.Rows.{printed_one}
 use Rattle.canon_law.proofs.Numerals.{AreDigits, decimal_some, decimal_digits, decimal_back, digits_each, digits_are, digits_first, first_digit}

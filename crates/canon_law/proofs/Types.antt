@@ -15,9 +15,9 @@ use Rattle.canonical.specs.Phrase as phrase
 use Rattle.canonical.specs.Phrase.{Phrase, mark, ◌␣◌, ◌⌢◌, listed, enclosed}
 use Rattle.canonical.specs.Names as names
 use Rattle.canonical.specs.Types.{type_phrase, type_phrases, braced, in_braces}
-use Rattle.canon_items.specs.Unplaced.{no_place, nowhere, unplaced_type, unplaced_types}
+use Rattle.canon_items.specs.Unplaced.{nowhere, unplaced_type, unplaced_types}
 use Rattle.canon_items.specs.Parts.{natural, type_tree, type_trees, type_list}
-use Rattle.canon_law.proofs.Printed.{IsPrinted, Joins, Starts}
+use Rattle.canon_law.proofs.Printed.{IsPrinted, Joins, Starts, no_place}
 use Rattle.canon_law.specs.Texts.{is_value_type}
 use Rattle.canon_law.specs.Written.{Inside, IsTypeText, AreTypeTexts}
 use Rattle.canon_law.proofs.Joined.{spaced, tight, opened, left_none}

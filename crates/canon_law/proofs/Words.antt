@@ -15,8 +15,8 @@ use Rattle.ir_terminals.specs.Words.{word_terminal, words_by_role}
 use Rattle.ir_terminals.specs.declared.terminal.Terminal.{Terminal}
 use Rattle.ir_terminals.specs.declared.terminal.Terminal.TheVariants as terminals
 use Rattle.canonical.specs.Phrase as phrase
-use Rattle.canon_items.specs.Unplaced.{nowhere, no_place}
-use Rattle.canon_law.proofs.Printed.{IsPrinted}
+use Rattle.canon_items.specs.Unplaced.{nowhere}
+use Rattle.canon_law.proofs.Printed.{IsPrinted, no_place}
 use Rattle.canon_law.proofs.Rows.{printed_one}
 
 abbrev is_word : List ℕ → Bool
