@@ -23,19 +23,19 @@ IncomingTree = ValueTree × Local
 
 -- What an instruction does; flags are the sum of their codes.
 pub data OperationTree : Type 0 where
-  Binary : Opcode → (flags : ℕ) → (left : TypedValueTree) → (right : ValueTree) → OperationTree
-  Compare : (flags : ℕ) → Predicate → (left : TypedValueTree) → (right : ValueTree) → OperationTree
-  Cast : Opcode → (flags : ℕ) → TypedValueTree → (to : TypeTree) → OperationTree
+  Binary : (opcode : Opcode) → (flags : ℕ) → (left : TypedValueTree) → (right : ValueTree) → OperationTree
+  Compare : (flags : ℕ) → (predicate : Predicate) → (left : TypedValueTree) → (right : ValueTree) → OperationTree
+  Cast : (opcode : Opcode) → (flags : ℕ) → (value : TypedValueTree) → (to : TypeTree) → OperationTree
   Select : (condition : TypedValueTree) → (first second : TypedValueTree) → OperationTree
-  Freeze : TypedValueTree → OperationTree
-  Phi : TypeTree → List IncomingTree → OperationTree
-  Load : (flags : ℕ) → TypeTree → (address : TypedValueTree) → (alignment : Option Integer) → OperationTree
-  Store : (flags : ℕ) → TypedValueTree → (address : TypedValueTree) → (alignment : Option Integer) → OperationTree
-  Alloca : TypeTree → (count : Option TypedValueTree) → (alignment : Option Integer) → OperationTree
+  Freeze : (value : TypedValueTree) → OperationTree
+  Phi : (ty : TypeTree) → (incoming : List IncomingTree) → OperationTree
+  Load : (flags : ℕ) → (ty : TypeTree) → (address : TypedValueTree) → (alignment : Option Integer) → OperationTree
+  Store : (flags : ℕ) → (value : TypedValueTree) → (address : TypedValueTree) → (alignment : Option Integer) → OperationTree
+  Alloca : (ty : TypeTree) → (count : Option TypedValueTree) → (alignment : Option Integer) → OperationTree
   GetElementPtr : (flags : ℕ) → (source : TypeTree) → (operands : List TypedValueTree) → OperationTree
-  Call : CallTree → OperationTree
-  ExtractValue : TypedValueTree → (indices : List Integer) → OperationTree
-  InsertValue : TypedValueTree → (part : TypedValueTree) → (indices : List Integer) → OperationTree
+  Call : (call : CallTree) → OperationTree
+  ExtractValue : (aggregate : TypedValueTree) → (indices : List Integer) → OperationTree
+  InsertValue : (aggregate : TypedValueTree) → (part : TypedValueTree) → (indices : List Integer) → OperationTree
 
 -- an instruction, and what its result is called where that is written
 pub record InstructionTree : Type 0 where
@@ -49,10 +49,10 @@ CaseTree = TypedConstantTree × Local
 -- how a block ends
 pub data EndingTree : Type 0 where
   ReturnVoid : EndingTree
-  Return : TypedValueTree → EndingTree
-  Jump : Local → EndingTree
-  Branch : TypedValueTree → (then_to else_to : Local) → EndingTree
-  Switch : TypedValueTree → (otherwise : Local) → List CaseTree → EndingTree
+  Return : (value : TypedValueTree) → EndingTree
+  Jump : (target : Local) → EndingTree
+  Branch : (condition : TypedValueTree) → (then_to else_to : Local) → EndingTree
+  Switch : (value : TypedValueTree) → (otherwise : Local) → (cases : List CaseTree) → EndingTree
   Unreachable : EndingTree
 
 -- a block, with its label where it has one

@@ -12,8 +12,8 @@ use Rattle.ir_instructions.specs.Tree.{BlockTree}
 -- what a struct is
 pub data BodyTree : Type 0 where
   OpaqueBody : BodyTree
-  PlainBody : List TypeTree → BodyTree
-  PackedBody : List TypeTree → BodyTree
+  PlainBody : (fields : List TypeTree) → BodyTree
+  PackedBody : (fields : List TypeTree) → BodyTree
 
 -- a variable, with what the text writes of it
 pub record VariableTree : Type 0 where
@@ -26,7 +26,7 @@ pub record VariableTree : Type 0 where
 
 -- what an alias stands for: a variable, or a function by its return type, its parameters and whether `...` ends them
 pub data AliasTypeTree : Type 0 where
-  PlainAlias : TypeTree → AliasTypeTree
+  PlainAlias : (ty : TypeTree) → AliasTypeTree
   FunctionAlias : (returns : TypeTree) → (parameters : List TypeTree) → (variadic : Bool) → AliasTypeTree
 
 -- an alias, with what the text writes of it
@@ -48,13 +48,13 @@ pub record HeadTree : Type 0 where
 
 -- An item, with the place of its first token where no name has it.
 pub data ItemTree : Type 0 where
-  SourceFilename : Place → PlacedText → ItemTree
-  DataLayout : Place → PlacedText → ItemTree
-  TargetTriple : Place → PlacedText → ItemTree
-  Struct : PlacedName → BodyTree → ItemTree
-  Variable : VariableTree → ItemTree
-  Alias : AliasTree → ItemTree
-  Declaration : Place → HeadTree → (parameters : List TypeTree) → (variadic : Bool) → ItemTree
-  Definition : Place → HeadTree → (parameters : List ParameterTree) → (blocks : List BlockTree) → ItemTree
-  Attributes : Place → ItemTree
-  Metadata : Place → ItemTree
+  SourceFilename : (place : Place) → (text : PlacedText) → ItemTree
+  DataLayout : (place : Place) → (text : PlacedText) → ItemTree
+  TargetTriple : (place : Place) → (text : PlacedText) → ItemTree
+  Struct : (name : PlacedName) → (body : BodyTree) → ItemTree
+  Variable : (variable : VariableTree) → ItemTree
+  Alias : (alias : AliasTree) → ItemTree
+  Declaration : (place : Place) → (head : HeadTree) → (parameters : List TypeTree) → (variadic : Bool) → ItemTree
+  Definition : (place : Place) → (head : HeadTree) → (parameters : List ParameterTree) → (blocks : List BlockTree) → ItemTree
+  Attributes : (place : Place) → ItemTree
+  Metadata : (place : Place) → ItemTree
