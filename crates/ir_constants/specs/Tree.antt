@@ -13,12 +13,12 @@ use Rattle.ir_constants.specs.declared.constant.Brackets.{Brackets}
 mutual
   -- a type by itself
   pub data TypeTree : Type 0 where
-    IntegerType : Place → (width : ℕ) → TypeTree
-    PointerType : Place → TypeTree
-    VoidType : Place → TypeTree
-    ArrayType : Place → (count : Integer) → (element : TypeTree) → TypeTree
-    StructType : Place → (packed : Bool) → (fields : TypeTrees) → TypeTree
-    NamedType : PlacedName → TypeTree
+    IntegerType : (place : Place) → (width : ℕ) → TypeTree
+    PointerType : (place : Place) → TypeTree
+    VoidType : (place : Place) → TypeTree
+    ArrayType : (place : Place) → (count : Integer) → (element : TypeTree) → TypeTree
+    StructType : (place : Place) → (packed : Bool) → (fields : TypeTrees) → TypeTree
+    NamedType : (name : PlacedName) → TypeTree
 
   -- types, one after another
   pub data TypeTrees : Type 0 where
@@ -34,14 +34,14 @@ types (t ∷ ts) = more_types t (types ts)
 mutual
   -- a constant by itself
   pub data ConstantTree : Type 0 where
-    IntegerConstant : Integer → ConstantTree
-    SimpleConstant : Simple → Place → ConstantTree
-    AddressConstant : PlacedName → ConstantTree
-    BytesConstant : PlacedText → ConstantTree
-    ListConstant : Place → Brackets → (elements : ConstantTrees) → ConstantTree
-    ElementAddress : Place → (flags : ℕ) → (source : TypeTree) → (operands : ConstantTrees) → ConstantTree
-    Conversion : Place → Opcode → TypeTree → ConstantTree → (to : TypeTree) → ConstantTree
-    Arithmetic : Place → Opcode → (flags : ℕ) → TypeTree → ConstantTree → TypeTree → ConstantTree → ConstantTree
+    IntegerConstant : (number : Integer) → ConstantTree
+    SimpleConstant : (simple : Simple) → (place : Place) → ConstantTree
+    AddressConstant : (global : PlacedName) → ConstantTree
+    BytesConstant : (bytes : PlacedText) → ConstantTree
+    ListConstant : (place : Place) → (brackets : Brackets) → (elements : ConstantTrees) → ConstantTree
+    ElementAddress : (place : Place) → (flags : ℕ) → (source : TypeTree) → (operands : ConstantTrees) → ConstantTree
+    Conversion : (place : Place) → (opcode : Opcode) → (from : TypeTree) → (value : ConstantTree) → (to : TypeTree) → ConstantTree
+    Arithmetic : (place : Place) → (opcode : Opcode) → (flags : ℕ) → (left_type : TypeTree) → (left : ConstantTree) → (right_type : TypeTree) → (right : ConstantTree) → ConstantTree
 
   -- constants, each with its type
   pub data ConstantTrees : Type 0 where
@@ -59,8 +59,8 @@ constants (c ∷ cs) = more_constants c.0 c.1 (constants cs)
 
 -- what an instruction works on
 pub data ValueTree : Type 0 where
-  LocalValue : Local → ValueTree
-  ConstantValue : ConstantTree → ValueTree
+  LocalValue : (name : Local) → ValueTree
+  ConstantValue : (constant : ConstantTree) → ValueTree
 
 -- a value and its type
 abbrev pub TypedValueTree : Type 0
