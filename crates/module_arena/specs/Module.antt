@@ -77,18 +77,31 @@ pub record Signature : Type 0 where
 -- What an instruction does (LangRef, "Instruction Reference"), by its phrase: the parts in their order, with the types
 -- that are written. Flags are the sum of their codes.
 pub data Operation : Type 0 where
+  -- an operation on two operands, whose type is that of the left one
   BinaryOperation : (opcode : Opcode) → (flags : ℕ) → (left : Operand) → (right : Value) → Operation
+  -- icmp: whether the predicate holds of the two operands
   Compare : (flags : ℕ) → (predicate : Predicate) → (left : Operand) → (right : Value) → Operation
+  -- a cast of the value to that type
   Convert : (opcode : Opcode) → (flags : ℕ) → (value : Operand) → (to : Tree) → Operation
+  -- select: the first value where the condition is true, the second where it is false
   Select : (condition : Operand) → (first second : Operand) → Operation
+  -- freeze: the value, with some fixed one in place of each that is poison
   Freeze : (value : Operand) → Operation
+  -- phi: the value beside the block that control came from
   Phi : (ty : Tree) → (incoming : List Incoming) → Operation
+  -- load: the value of that type at the address; the alignment where it is written
   Load : (flags : ℕ) → (ty : Tree) → (address : Operand) → (alignment : Option ℕ) → Operation
+  -- store: the value is put at the address; the alignment where it is written
   Store : (flags : ℕ) → (value : Operand) → (address : Operand) → (alignment : Option ℕ) → Operation
+  -- alloca: memory for a value of that type, or for so many; the count and the alignment where they are written
   Alloca : (ty : Tree) → (count : Option Operand) → (alignment : Option ℕ) → Operation
+  -- getelementptr: the address of what the indices lead to, from the base on, by the source type
   GetElementPtr : (flags : ℕ) → (source : Tree) → (base : Operand) → (indices : List Operand) → Operation
+  -- call: the callee is called at that function type, with the arguments
   Call : (signature : Signature) → (callee : Value) → (arguments : List Operand) → Operation
+  -- extractvalue: the part of the aggregate that the indices lead to
   ExtractValue : (aggregate : Operand) → (indices : List ℕ) → Operation
+  -- insertvalue: the aggregate, with that part where the indices lead to
   InsertValue : (aggregate : Operand) → (part : Operand) → (indices : List ℕ) → Operation
 
 -- an instruction, and what its result is called where it has one
@@ -104,11 +117,17 @@ pub record Case : Type 0 where
 
 -- how a block ends (LangRef, "Terminator Instructions")
 pub data Ending : Type 0 where
+  -- ret void: the function is left, and gives nothing
   ReturnVoid : Ending
+  -- ret: the function is left, and gives the value
   Return : (value : Operand) → Ending
+  -- br: to that block
   Jump : (target : LocalName) → Ending
+  -- br: to the one block where the condition is true, to the other where it is false
   Branch : (condition : Operand) → (then_to else_to : LocalName) → Ending
+  -- switch: to the target of the case that has the value, and otherwise where none has it
   Switch : (value : Operand) → (otherwise : LocalName) → (cases : List Case) → Ending
+  -- unreachable: to come here is undefined
   Unreachable : Ending
 
 -- a block: a name, instructions, and exactly one end
