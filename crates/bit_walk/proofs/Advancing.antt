@@ -18,7 +18,7 @@ use Rattle.bit_walk.specs.Passing.{pass_item}
 use Rattle.bit_walk.specs.Left.{piece_at, Ahead, IsPlace, Steps}
 use Rattle.bit_walk.specs.Values.{operands_at, Leaves}
 use Rattle.bit_walk.specs.Walker.{Walker}
-use Rattle.bit_walk.proofs.On.{is_on}
+use Rattle.bit_walk.proofs.StaysInBits.{is_on}
 use Rattle.bit_walk.proofs.PassedOver.{passes, fails}
 use Rattle.bit_walk.proofs.Records.{operands_left}
 use Rattle.bit_walk.proofs.Ways.{next_is, no_fault, end_is}

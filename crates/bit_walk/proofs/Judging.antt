@@ -22,7 +22,7 @@ use Rattle.bit_tree.proofs.Faults.{fault_on, fault_here, to_stream_of, opening_s
 use Rattle.bit_tree.proofs.Reading.{ends_at}
 use Rattle.bit_walk.specs.Starts.{Opened, IsOn, IsKept}
 use Rattle.bit_walk.specs.Passing.{pass_item}
-use Rattle.bit_walk.proofs.On.{is_on}
+use Rattle.bit_walk.proofs.StaysInBits.{is_on}
 use Rattle.bit_walk.proofs.PassedOver.{passes, fails}
 
 -- a place that was come to from the opening, and the abbreviation that was read last

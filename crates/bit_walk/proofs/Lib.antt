@@ -1,7 +1,7 @@
 mod Advancing
 mod Definitions
 mod Judging
-mod On
+mod StaysInBits
 mod Literals
 mod Operands
 mod PassedOver

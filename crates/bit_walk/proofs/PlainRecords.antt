@@ -23,7 +23,7 @@ use Rattle.bit_walk.specs.Plain.{head_behind, head_at, place_past, found_of, IsW
 use Rattle.bit_walk.specs.Starts.{Opened}
 use Rattle.bit_walk.specs.Values.{repeated, IsRead, list_of}
 use Rattle.bit_walk.specs.Walker.{Walker}
-use Rattle.bit_walk.proofs.On.{is_on}
+use Rattle.bit_walk.proofs.StaysInBits.{is_on}
 use Rattle.bit_walk.proofs.Operands.{bound, found_parts, at_place, same_list, elements_repeated, repeated_next}
 
 -- so many values are passed where they are read

@@ -23,7 +23,7 @@ use Rattle.entry_copy.proofs.Starting.{own_types_fit}
 use Rattle.extract_core.specs.Extracted.{without_elements}
 use Rattle.entry_declare.specs.Emptied.{element_of}
 use Rattle.entry_declare.specs.Stages.{HasTypes}
-use Rattle.entry_declare.proofs.Still.{type_is_copied}
+use Rattle.entry_declare.proofs.StaysDeclared.{type_is_copied}
 
 -- it nests as deep and has as many parts, and no bytes
 emptied : (n : ℕ) (o : Option Shape) → IsWithinLimits (option_map (array_of n) o) → IsWithinLimits (option_map (array_of 0) o)

@@ -1,4 +1,4 @@
-pub mod Still
+pub mod StaysDeclared
 pub mod EmptyArrays
 pub mod Becoming
 pub mod Room

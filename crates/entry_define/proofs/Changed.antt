@@ -21,7 +21,7 @@ use Rattle.entry_copy.proofs.Starting.{still_copied}
 use Rattle.entry_copy.proofs.TypesCopied.{types_still}
 use Rattle.entry_declare.specs.Declaring.{KeepsNames}
 use Rattle.entry_declare.proofs.NewIds.{keeps_same, keeps_on}
-use Rattle.entry_declare.proofs.Still.{grown_keeps}
+use Rattle.entry_declare.proofs.StaysDeclared.{grown_keeps}
 use Rattle.entry_define.specs.Filling.{KeepsCopies}
 
 -- ---- a list of which one element changes

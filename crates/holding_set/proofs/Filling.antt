@@ -6,7 +6,7 @@ use Rattle.module_arena.specs.declared.entry.Function.{Function}
 use Rattle.module_arena.specs.Changes.{changed_at, with_body}
 use Rattle.module_arena.specs.Lists.{Lists}
 use Rattle.holding_set.specs.Holding.{AreUndefined, DefinesNext, NextSuits, Suits, defined_by}
-use Rattle.holding_set.proofs.Each.{at_each}
+use Rattle.holding_set.proofs.GivenInOrder.{at_each}
 
 -- ---- lists
 

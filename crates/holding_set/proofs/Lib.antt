@@ -1,2 +1,2 @@
-pub mod Each
+pub mod GivenInOrder
 pub mod Filling

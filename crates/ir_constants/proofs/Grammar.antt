@@ -9,7 +9,7 @@ use Rattle.phrase_rows.specs.Reads.{Reads}
 use Rattle.phrase_rows.proofs.Plain.{reads_one, reads_fail, reads_labelled, reads_mapped, reads_wider}
 use Rattle.phrase_rows.proofs.Chain.{reads_chain, reads_both, reads_second, reads_before, reads_pair}
 use Rattle.phrase_rows.proofs.Alt.{reads_alt}
-use Rattle.phrase_rows.proofs.Many.{reads_many, reads_separated}
+use Rattle.phrase_rows.proofs.Repeated.{reads_many, reads_separated}
 use Rattle.phrase_rows.proofs.Loop.{reads_loop}
 use Rattle.ir_terminals.specs.declared.limits.Limits.{Limits}
 use Rattle.ir_terminals.specs.declared.terminal.Terminal.{Terminal}

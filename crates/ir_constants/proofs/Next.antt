@@ -5,7 +5,7 @@ use Rattle.ir_base.specs.declared.place.Place.{Place}
 use Rattle.ir_lexer.specs.Ahead.{Located}
 use Rattle.phrase_rows.specs.Row.{Reading, Row, Done, begins, labelled, many, keep_second}
 use Rattle.phrase_rows.specs.Reads.{Reads}
-use Rattle.phrase_rows.proofs.Many.{with_front, many_next}
+use Rattle.phrase_rows.proofs.Repeated.{with_front, many_next}
 use Rattle.phrase_rows.proofs.Chain.{reads_second}
 use Rattle.phrase_rows.proofs.Values.{read_less, read_no_more}
 use Rattle.ir_terminals.specs.declared.limits.Limits.{Limits}

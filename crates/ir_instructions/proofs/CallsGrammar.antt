@@ -5,7 +5,7 @@ use Rattle.phrase_rows.specs.Reads.{Reads}
 use Rattle.phrase_rows.proofs.Plain.{reads_nothing, reads_fail, reads_mapped, reads_labelled}
 use Rattle.phrase_rows.proofs.Chain.{reads_chain, reads_second, reads_before, reads_pair}
 use Rattle.phrase_rows.proofs.Alt.{reads_alt, reads_optional}
-use Rattle.phrase_rows.proofs.Many.{reads_separated}
+use Rattle.phrase_rows.proofs.Repeated.{reads_separated}
 use Rattle.phrase_rows.proofs.Loop.{reads_loop}
 use Rattle.ir_terminals.specs.declared.limits.Limits.{Limits}
 use Rattle.ir_terminals.specs.declared.terminal.Terminal.TheVariants as terminal

@@ -6,7 +6,7 @@ use Rattle.phrase_rows.specs.Reads.{Reads}
 use Rattle.phrase_rows.proofs.Plain.{reads_one, reads_mapped, reads_labelled, reads_wider}
 use Rattle.phrase_rows.proofs.Chain.{reads_chain, reads_both, reads_second, reads_before, reads_pair}
 use Rattle.phrase_rows.proofs.Alt.{reads_alt, reads_optional}
-use Rattle.phrase_rows.proofs.Many.{reads_many}
+use Rattle.phrase_rows.proofs.Repeated.{reads_many}
 use Rattle.ir_terminals.specs.declared.limits.Limits.{Limits}
 use Rattle.ir_terminals.specs.declared.terminal.Terminal.TheVariants as terminal
 use Rattle.ir_terminals.specs.Role.{class}

@@ -7,7 +7,7 @@ use Rattle.ir_lexer.specs.Ahead.{Located}
 use Rattle.phrase_rows.specs.Row.{Row, Reading, Done, Bad, bind, apart, begins, mapped, alt, labelled, keep_second, loop, run_loop, many}
 use Rattle.phrase_rows.specs.Reads.{Reads}
 use Rattle.phrase_rows.proofs.Loop.{loop_step_at, loop_next}
-use Rattle.phrase_rows.proofs.Many.{with_front, many_next}
+use Rattle.phrase_rows.proofs.Repeated.{with_front, many_next}
 use Rattle.phrase_rows.proofs.Values.{read_less}
 use Rattle.ir_terminals.specs.declared.limits.Limits.{Limits}
 use Rattle.ir_terminals.specs.declared.terminal.Terminal.TheVariants as terminal

@@ -3,7 +3,7 @@ use Rattle.std.proofs.Common.{◌≡◌, ◌<◌, List, [], ◌∷◌, ◌++◌,
 use Rattle.ir_base.specs.declared.place.Place.{Place}
 use Rattle.ir_lexer.specs.Ahead.{Located}
 use Rattle.phrase_rows.specs.Row.{Done, begins, labelled, loop}
-use Rattle.phrase_rows.proofs.Many.{with_front, many_next}
+use Rattle.phrase_rows.proofs.Repeated.{with_front, many_next}
 use Rattle.phrase_rows.proofs.Loop.{loop_next}
 use Rattle.phrase_rows.proofs.Values.{read_less}
 use Rattle.ir_terminals.specs.declared.limits.Limits.{Limits}

@@ -17,7 +17,7 @@ use Rattle.type_build.proofs.Untargeted.{untargeted_more}
 use Rattle.entry_copy.specs.Tables.{Tables}
 use Rattle.link_stages.specs.Ground.{HaveTypes}
 use Rattle.link_entries.specs.Step.{IsDeclared}
-use Rattle.link_entries.proofs.Still.{have_grown, have_there}
+use Rattle.link_entries.proofs.StaysKnown.{have_grown, have_there}
 
 module _ (parts : List Lists) (tables : List Tables) (b c now : Lists) (grows : Grows b c) (have : HaveTypes parts b tables) (id : GlobalId) where
   pub variable_more : (d : the_variable.Variable) (v : Variable) → variable_in c d ≡ without_initialiser v → id ≡ global.Variable (length c.variables) → now ≡ with_variable c d

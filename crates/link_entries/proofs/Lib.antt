@@ -1,4 +1,4 @@
-pub mod Still
+pub mod StaysKnown
 pub mod DeclaredMore
 pub mod Written
 pub mod JoinedTypes

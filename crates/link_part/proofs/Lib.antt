@@ -2,4 +2,4 @@ pub mod PartStructs
 mod Bodies
 mod Given
 mod Grown
-mod Own
+mod StructBodies

@@ -21,7 +21,7 @@ use Rattle.entry_fates.specs.declared.fates.Fate.{Fate}
 use Rattle.entry_fates.specs.declared.fates.Fate.TheVariants.{Kept, Declared, LeftOut}
 use Rattle.entry_fates.specs.Fates.{parameters_as}
 use Rattle.entry_declare.specs.Stages.{HasTypes}
-use Rattle.entry_declare.proofs.Still.{type_is_copied}
+use Rattle.entry_declare.proofs.StaysDeclared.{type_is_copied}
 
 numbered_more : (n : ℕ) (ts : List Tree) (t : Tree) (k : ℕ) → k ≡ n + length ts → numbered n (ts ++ t ∷ []) ≡ numbered n ts ++ record { ty = t; name = Numbered k } ∷ []
 numbered_more n [] t k e = let here : n ≡ k = omega (arith, e) in ap (λ j. record { ty = t; name = Numbered j } ∷ []) here

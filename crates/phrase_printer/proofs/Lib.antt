@@ -2,5 +2,5 @@ pub mod Printing
 pub mod Numerals
 pub mod Quoting
 pub mod TypeParts
-pub mod Set
+pub mod FlagWords
 pub mod Parts

@@ -5,7 +5,7 @@ use Rattle.phrase_rows.specs.Reads.{Reads}
 use Rattle.phrase_rows.specs.Answer.{IsFirstBad, answer}
 use Rattle.phrase_rows.proofs.Plain.{reads_one}
 use Rattle.phrase_rows.proofs.Chain.{reads_second, reads_before}
-use Rattle.phrase_rows.proofs.Many.{reads_separated}
+use Rattle.phrase_rows.proofs.Repeated.{reads_separated}
 use Rattle.phrase_rows.proofs.Loop.{reads_loop}
 use Rattle.phrase_rows.proofs.Machine.{reads_machine}
 use Rattle.phrase_rows.proofs.Rules.{row_rules}

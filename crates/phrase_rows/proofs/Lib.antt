@@ -2,7 +2,7 @@ pub mod ListParts
 pub mod Plain
 pub mod Chain
 pub mod Alt
-pub mod Many
+pub mod Repeated
 pub mod Loop
 pub mod Machine
 pub mod Rules

@@ -2,6 +2,6 @@
 use Rattle.phrase_rows.proofs.Plain.{reads_nothing, reads_one, reads_mapped, reads_labelled}
 use Rattle.phrase_rows.proofs.Chain.{reads_both, reads_second}
 use Rattle.phrase_rows.proofs.Alt.{reads_alt, reads_optional}
-use Rattle.phrase_rows.proofs.Many.{reads_many, reads_separated}
+use Rattle.phrase_rows.proofs.Repeated.{reads_many, reads_separated}
 
 pub ruleset row_rules = (reads_nothing, reads_one, reads_mapped, reads_both, reads_second, reads_alt, reads_many, reads_labelled, reads_separated, reads_optional)

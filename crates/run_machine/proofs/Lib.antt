@@ -5,11 +5,11 @@ pub mod Blocks
 pub mod Words
 pub mod Rows
 pub mod Mains
-pub mod Near
+pub mod BehindVariables
 pub mod OpenedRun
 pub mod Whole
 pub mod Stepped
-pub mod Again
+pub mod OtherAnswers
 pub mod Gets
 pub mod Lived
 pub mod EnteringDue

@@ -34,7 +34,7 @@ use Rattle.run_constants.proofs.Standing.{ending_stands, instruction_stands}
 use Rattle.run_scopes.specs.Scopes.{block_of, function_of, instruction_of}
 use Rattle.run_scopes.proofs.Viewed.{blocks_all}
 use Rattle.run_suits.proofs.Asked.{EndingAsked, InstructionAsked, ending_asked, instruction_asked}
-use Rattle.run_suits.proofs.Had.{IsHad, all_had, ending_of, ending_operands_seen, operands_known, operands_seen, typed_operands}
+use Rattle.run_suits.proofs.TypedOperands.{IsHad, all_had, ending_of, ending_operands_seen, operands_known, operands_seen, typed_operands}
 use Rattle.run_suits.proofs.Listed.{back_of, front_of, item_of, part_of, part_passes, upto_below}
 use Rattle.run_suits.proofs.Values.{IsChecked}
 

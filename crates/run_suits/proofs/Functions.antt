@@ -24,7 +24,7 @@ use Rattle.run_scopes.specs.Scopes.{function_of}
 use Rattle.run_scopes.specs.Ways.{AllPhisSuit, PhiSuits}
 use Rattle.run_suits.specs.Laws.{FunctionsHaveValues}
 use Rattle.run_suits.proofs.Checked.{demanded, function_known, instruction_checked}
-use Rattle.run_suits.proofs.Had.{framed}
+use Rattle.run_suits.proofs.TypedOperands.{framed}
 use Rattle.run_suits.proofs.Listed.{all_of}
 use Rattle.run_suits.proofs.Values.{gives_value, phi_suits}
 

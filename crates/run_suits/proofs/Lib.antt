@@ -1,7 +1,7 @@
 pub mod Listed
 pub mod Paths
 pub mod Asked
-pub mod Had
+pub mod TypedOperands
 pub mod Values
 pub mod Checked
 pub mod Functions

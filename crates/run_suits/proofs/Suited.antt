@@ -34,7 +34,7 @@ use Rattle.run_operands.specs.Suits.{BlockSuits, EndSuits, HasCall, HasCase, IsR
 use Rattle.run_suits.specs.Laws.{FunctionsSuit}
 use Rattle.run_suits.proofs.Checked.{IsEnd, end_checked, instruction_checked}
 use Rattle.run_suits.proofs.Functions.{phis_are, values_are}
-use Rattle.run_suits.proofs.Had.{IsHad, case_of, framed, number_operand, value_stands, value_there}
+use Rattle.run_suits.proofs.TypedOperands.{IsHad, case_of, framed, number_operand, value_stands, value_there}
 use Rattle.run_suits.proofs.Listed.{all_of}
 use Rattle.run_suits.proofs.Values.{IsChecked, part_there, some_type}
 

@@ -24,7 +24,7 @@ use Rattle.run_scopes.specs.Places.{GivesValue, HasPart, Returns}
 use Rattle.run_scopes.specs.Scopes.{instruction_of}
 use Rattle.run_scopes.specs.Ways.{HasEntry, PhiSuits}
 use Rattle.run_suits.proofs.Asked.{InstructionAsked}
-use Rattle.run_suits.proofs.Had.{IsHad, entry_operand, framed, typed_operands}
+use Rattle.run_suits.proofs.TypedOperands.{IsHad, entry_operand, framed, typed_operands}
 use Rattle.run_suits.proofs.Paths.{has_path}
 
 pub some_type : (p : Tree → Bool) (o : Option Tree) → is_type p o ≡ true → is_some o ≡ true

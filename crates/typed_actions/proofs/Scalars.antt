@@ -19,7 +19,7 @@ use Rattle.run_rules.specs.Scope.{FunctionScope, value_in, scalar_of}
 use Rattle.typed_runs.specs.Actions.{Typing, cast_from, IsOrigin, AreOrigins, IsResult, IsPlace, IsTypedAction}
 use Rattle.typed_runs.specs.Kinds.{kinds_of}
 use Rattle.typed_look.proofs.Constants.{cast_suits}
-use Rattle.typed_look.proofs.Had.{one_origin_typed}
+use Rattle.typed_look.proofs.Origins.{one_origin_typed}
 use Rattle.typed_actions.specs.Asked.{HasLeaves}
 
 pub good_width : (w : ℕ) → (nat_le 1 w && nat_le w 128) ≡ true → IsWidth w

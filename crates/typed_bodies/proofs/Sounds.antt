@@ -20,7 +20,7 @@ use Rattle.run_rules.specs.Scope.{FunctionScope, scope_of}
 use Rattle.typed_runs.specs.Actions.{Typing}
 use Rattle.typed_runs.specs.Kinds.{IsOf}
 use Rattle.typed_look.specs.Typings.{frame_kinds}
-use Rattle.typed_look.proofs.Had.{value_typed}
+use Rattle.typed_look.proofs.Origins.{value_typed}
 use Rattle.typed_look.proofs.Operands.{AllHaveShapes}
 use Rattle.typed_types.proofs.Sounds.{constant_sound}
 use Rattle.typed_actions.specs.Asked.{CallSuits, HasLeaves, IsGoodOperand}

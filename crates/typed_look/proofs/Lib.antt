@@ -4,7 +4,7 @@ pub mod Operands
 pub mod Opened
 pub mod Lists
 pub mod Constants
-pub mod Had
+pub mod Origins
 pub mod Rows
 pub mod Callees
 pub mod Alone

@@ -3,7 +3,7 @@ use Rattle.type_table.specs.Types.{trees}
 use Rattle.module_arena.specs.View.{type_at}
 use Rattle.type_build.specs.Stands.{IsType}
 use Rattle.entry_fates.specs.Fates.{type_as}
-use Rattle.entry_declare.proofs.Still.{type_is_copied}
+use Rattle.entry_declare.proofs.StaysDeclared.{type_is_copied}
 use Rattle.entry_declare.proofs.emptied.variable_type.Goals as goal
 
 pub returns-else-emptied-clause-is : goal.returns-else-emptied-clause-is

@@ -10,7 +10,7 @@ use Rattle.extract_core.proofs.Entries.{all_get}
 use Rattle.entry_declare.specs.Declaring.{variables_through, IsDeclaring, KeepsNames}
 use Rattle.entry_declare.proofs.Declared.{with_variable_keeps, variable_called}
 use Rattle.entry_declare.proofs.NewIds.{keeps_on}
-use Rattle.entry_declare.proofs.Still.{grown_keeps, declaring_still, types_grown, types_there}
+use Rattle.entry_declare.proofs.StaysDeclared.{grown_keeps, declaring_still, types_grown, types_there}
 use Rattle.entry_declare.proofs.VariablesDeclared.{variable_called_so, variable_free, variable_few, variable_more, variable_is, variable_joined}
 use Rattle.entry_declare.proofs.variables.declare_there.Goals as goal
 

@@ -2,7 +2,7 @@ use Rattle.std.proofs.Common.{◌≡◌, ◌<◌, ℕ, Option, None, length, tak
 use Rattle.module_arena.specs.declared.entry.Variable.{Variable}
 use Rattle.module_arena.specs.Changes.{with_initialiser}
 use Rattle.module_arena.specs.Lists.{Lists}
-use Rattle.holding_set.proofs.Each.{length-each, each_later, given_next, none_next, all_given, at_each, at_given}
+use Rattle.holding_set.proofs.GivenInOrder.{length-each, each_later, given_next, none_next, all_given, at_each, at_given}
 use Rattle.holding_set.proofs.setting.set_initialisers.Goals as goal
 use Rattle.holding_set.proofs.setting.set_initialisers.Goals.{in-Some, in-None}
 

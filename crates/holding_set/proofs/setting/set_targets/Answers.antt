@@ -6,7 +6,7 @@ use Rattle.module_arena.specs.Known.{HasGlobal, counts}
 use Rattle.module_arena.specs.Changes.{with_target}
 use Rattle.module_arena.specs.Lists.{Lists}
 use Rattle.holding_set.specs.Holding.{targeted_by}
-use Rattle.holding_set.proofs.Each.{length-each, each_later, given_next, none_next, all_given, at_each, at_given}
+use Rattle.holding_set.proofs.GivenInOrder.{length-each, each_later, given_next, none_next, all_given, at_each, at_given}
 use Rattle.holding_set.proofs.setting.set_targets.Goals as goal
 use Rattle.holding_set.proofs.setting.set_targets.Goals.{in-Some, in-None}
 

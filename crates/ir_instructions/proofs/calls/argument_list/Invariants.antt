@@ -1,6 +1,6 @@
 use Rattle.std.proofs.Common.{◌≡◌, length, map}
 use Rattle.phrase_rows.specs.Row.{many, keep_second}
-use Rattle.phrase_rows.proofs.Many.{with_front}
+use Rattle.phrase_rows.proofs.Repeated.{with_front}
 use Rattle.ir_terminals.specs.declared.terminal.Terminal.TheVariants as terminal
 use Rattle.ir_terminals.specs.Position.{tokens_left}
 use Rattle.ir_terminals.specs.Role.{class}

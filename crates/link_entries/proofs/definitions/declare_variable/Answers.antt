@@ -6,7 +6,7 @@ use Rattle.type_build.specs.Declarations.{IsFree}
 use Rattle.link_entries.specs.Room.{HasGoodType, HasRoom}
 use Rattle.link_entries.specs.Step.{IsDeclared}
 use Rattle.link_entries.proofs.DeclaredMore.{variable_more}
-use Rattle.link_entries.proofs.Still.{room_grown}
+use Rattle.link_entries.proofs.StaysKnown.{room_grown}
 use Rattle.link_entries.proofs.Written.{defined_variable, variable_defined, variable_is, variable_known}
 use Rattle.link_entries.proofs.definitions.declare_variable.Goals as goal
 

@@ -5,7 +5,7 @@ use Rattle.module_linker.specs.Linked.{link_result}
 use Rattle.entry_copy.specs.Tables.{Tables, new_struct, with_types}
 use Rattle.item_build.specs.Partly.{IsDone, with_structs}
 use Rattle.item_build.proofs.Partly.{same_structs}
-use Rattle.link_part.proofs.Own.{done_next}
+use Rattle.link_part.proofs.StructBodies.{done_next}
 use Rattle.link_part.proofs.part.copy_part.Goals as goal
 
 pub copied-init : goal.copied-init

@@ -6,7 +6,7 @@ use Rattle.item_build.proofs.Partly.{same_structs}
 use Rattle.entry_copy.specs.Tables.{new_struct}
 use Rattle.struct_copy.proofs.StructsDefined.{has_body, struct_there}
 use Rattle.link_part.specs.Bodies.{GivesBody}
-use Rattle.link_part.proofs.Own.{done_none, gives, new_known}
+use Rattle.link_part.proofs.StructBodies.{done_none, gives, new_known}
 use Rattle.link_part.proofs.part.define_struct.Goals as goal
 
 pub struct_body-requires : goal.struct_body-requires

@@ -3,7 +3,7 @@ use Rattle.module_arena.specs.View.{module_of}
 use Rattle.module_arena.proofs.Renamed.{own}
 use Rattle.entry_copy.specs.Tables.{Tables}
 use Rattle.entry_fates.proofs.ByFates.{fates_sized}
-use Rattle.entry_declare.proofs.Still.{grown_keeps}
+use Rattle.entry_declare.proofs.StaysDeclared.{grown_keeps}
 use Rattle.module_extract.proofs.NewIds.{new_ids_stay}
 use Rattle.module_extract.proofs.Parts.{names_there, more_constants_ids}
 use Rattle.module_extract.proofs.extracting.fill_part.Goals as goal

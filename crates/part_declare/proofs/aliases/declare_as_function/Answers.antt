@@ -13,7 +13,7 @@ use Rattle.type_build.specs.Stands.{IsType}
 use Rattle.entry_declare.specs.Declaring.{IsDeclaring, KeepsNames}
 use Rattle.part_declare.specs.AliasesThere.{aliases_through}
 use Rattle.part_declare.proofs.DeclaredNext.{with_function_keeps, function_called}
-use Rattle.entry_declare.proofs.Still.{types_there, type_is_copied}
+use Rattle.entry_declare.proofs.StaysDeclared.{types_there, type_is_copied}
 use Rattle.part_declare.proofs.AliasesDeclared.{alias_called_so, alias_free, function_few, function_more, signature_known, function_joined}
 use Rattle.part_declare.proofs.FunctionsDeclared.{function_known}
 use Rattle.part_declare.proofs.aliases.declare_as_function.Goals as goal

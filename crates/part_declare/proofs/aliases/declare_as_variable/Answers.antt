@@ -13,7 +13,7 @@ use Rattle.extract_core.proofs.Entries.{some_target, known_target}
 use Rattle.entry_declare.specs.Declaring.{IsDeclaring, KeepsNames}
 use Rattle.part_declare.specs.AliasesThere.{aliases_through}
 use Rattle.entry_declare.proofs.Declared.{with_variable_keeps, variable_called}
-use Rattle.entry_declare.proofs.Still.{types_there, type_is_copied}
+use Rattle.entry_declare.proofs.StaysDeclared.{types_there, type_is_copied}
 use Rattle.part_declare.proofs.AliasesDeclared.{alias_called_so, alias_free, variable_few, variable_more, plain_known, variable_joined}
 use Rattle.entry_declare.proofs.VariablesDeclared.{variable_known}
 use Rattle.part_declare.proofs.aliases.declare_as_variable.Goals as goal

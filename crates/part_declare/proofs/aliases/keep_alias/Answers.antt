@@ -11,7 +11,7 @@ use Rattle.extract_core.proofs.Entries.{all_get}
 use Rattle.entry_declare.specs.Declaring.{IsDeclaring, KeepsNames}
 use Rattle.part_declare.specs.AliasesThere.{aliases_through}
 use Rattle.part_declare.proofs.DeclaredNext.{with_alias_keeps, alias_called}
-use Rattle.entry_declare.proofs.Still.{types_there}
+use Rattle.entry_declare.proofs.StaysDeclared.{types_there}
 use Rattle.part_declare.proofs.AliasesDeclared.{alias_called_so, alias_free, alias_few, alias_more, alias_known, kept_joined}
 use Rattle.part_declare.proofs.aliases.keep_alias.Goals as goal
 

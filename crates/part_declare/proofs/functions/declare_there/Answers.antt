@@ -11,7 +11,7 @@ use Rattle.extract_core.proofs.Entries.{all_get}
 use Rattle.entry_declare.specs.Declaring.{IsDeclaring, KeepsNames}
 use Rattle.part_declare.specs.FunctionsThere.{functions_through}
 use Rattle.part_declare.proofs.DeclaredNext.{with_function_keeps, function_called}
-use Rattle.entry_declare.proofs.Still.{types_there, type_is_copied}
+use Rattle.entry_declare.proofs.StaysDeclared.{types_there, type_is_copied}
 use Rattle.part_declare.proofs.FunctionsDeclared.{function_called_so, function_free, function_few, function_more, function_known, function_is, function_joined}
 use Rattle.part_declare.proofs.functions.declare_there.Goals as goal
 

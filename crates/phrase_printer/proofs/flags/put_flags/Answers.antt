@@ -1,6 +1,6 @@
 use Rattle.std.proofs.Common.{[], ◌∷◌}
 use Rattle.ir_tables.specs.declared.flag.Flag.TheVariants.{Nuw, Nsw, Exact, Disjoint, Nneg, Samesign, Inbounds, Nusw, Volatile}
-use Rattle.phrase_printer.proofs.Set.{flag_then, no_flag}
+use Rattle.phrase_printer.proofs.FlagWords.{flag_then, no_flag}
 use Rattle.phrase_printer.proofs.flags.put_flags.Goals as goal
 
 pub returns : goal.returns

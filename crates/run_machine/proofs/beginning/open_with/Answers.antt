@@ -8,7 +8,7 @@ use Rattle.ir_memory.specs.Memory.{no_blocks}
 use Rattle.run_rules.specs.Opening.{with_main, with_variables}
 use Rattle.run_rules.specs.Plan.{plan}
 use Rattle.run_machine.specs.Arguments.{KeepsBlocks, MakesMain}
-use Rattle.run_machine.proofs.Near.{placed_later}
+use Rattle.run_machine.proofs.BehindVariables.{placed_later}
 use Rattle.run_machine.proofs.OpenedRun.{all_placed, variables_full, words_full}
 use Rattle.run_machine.proofs.beginning.open_with.Goals as goal
 

@@ -1,4 +1,4 @@
-use Rattle.run_machine.proofs.Near.{near_where}
+use Rattle.run_machine.proofs.BehindVariables.{near_where}
 use Rattle.run_machine.proofs.beginning.place_all.Goals as goal
 
 pub returns-clause-near : goal.returns-clause-near

@@ -8,7 +8,7 @@ use Rattle.run_machine.specs.Living.{going}
 use Rattle.run_machine.specs.Seen.{Going, the_machine}
 use Rattle.run_machine.specs.Stretch.{LeavesOff, StaysAt}
 use Rattle.run_machine.specs.declared.stretch.StretchEnd.{StretchEnd}
-use Rattle.run_machine.proofs.Again.{told_err}
+use Rattle.run_machine.proofs.OtherAnswers.{told_err}
 use Rattle.run_machine.proofs.Onward.{from_going}
 use Rattle.run_machine.proofs.Stretches.{stretch_ends, stretch_fails, stretch_waits, stretch_wants}
 use Rattle.run_machine.proofs.inside.InsideStepping.go_on.Goals as goal

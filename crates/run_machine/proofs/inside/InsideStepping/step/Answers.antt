@@ -7,7 +7,7 @@ use Rattle.run_passing.specs.Traffic as traffic
 use Rattle.run_machine.specs.Living.{Comes, StaysIn, StaysLive, Turns, going}
 use Rattle.run_machine.specs.Seen.{Going, the_machine}
 use Rattle.run_machine.specs.declared.live.Turn.{Turn}
-use Rattle.run_machine.proofs.Again.{told_err}
+use Rattle.run_machine.proofs.OtherAnswers.{told_err}
 use Rattle.run_machine.proofs.Lived.{still_short}
 use Rattle.run_machine.proofs.Onward.{from_going, get_fails_seen, got_seen, over_fails, put_fails, stop_fails, wants, went_on}
 use Rattle.run_machine.proofs.inside.InsideStepping.step.Goals as goal

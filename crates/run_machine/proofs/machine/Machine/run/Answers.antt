@@ -6,7 +6,7 @@ use Rattle.run_rules.specs.declared.end.End.{End}
 use Rattle.run_rules.specs.declared.fault.RunFault.{RunFault}
 use Rattle.run_passing.specs.Told.{told_seen}
 use Rattle.run_machine.specs.Seen.{Answering, machine_seen, the_machine}
-use Rattle.run_machine.proofs.Again.{again_run, first_run, run_later, runs_end_so}
+use Rattle.run_machine.proofs.OtherAnswers.{again_run, first_run, run_later, runs_end_so}
 use Rattle.run_machine.proofs.machine.Machine.run.Goals as goal
 
 -- what was answered is answered again

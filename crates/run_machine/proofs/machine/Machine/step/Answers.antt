@@ -3,7 +3,7 @@ use Rattle.std.specs.Option.{option_map}
 use Rattle.run_rules.specs.Clauses.{Steps, outside}
 use Rattle.run_passing.specs.Told.{told_seen}
 use Rattle.run_machine.specs.Seen.{Answering, machine_seen, the_machine}
-use Rattle.run_machine.proofs.Again.{again_step, first_step, step_later, steps_end_so}
+use Rattle.run_machine.proofs.OtherAnswers.{again_step, first_step, step_later, steps_end_so}
 use Rattle.run_machine.proofs.machine.Machine.step.Goals as goal
 
 -- what was answered is answered again
