@@ -63,6 +63,7 @@ impl Model for FieldWidth {
 }
 
 impl FieldWidth {
+    /// The width of so many bits.
     pub fn new(bits: u32) -> Self
         requires { bits ≤ WIDEST_FIELD }
         ensures { result ≡ bits }
@@ -70,6 +71,7 @@ impl FieldWidth {
         FieldWidth { bits }
     }
 
+    /// The bits, at most 64.
     pub fn bits(self) -> u32
         ensures value { result ≡ self }
         ensures high { result ≤ WIDEST_FIELD }

@@ -47,6 +47,7 @@ fn name_of(alloc: Global, value: &[u8], at: u64) -> Result<Name, WordsFault>
 }
 
 impl GivenWords {
+    /// Nothing yet, of what is given to the tool.
     pub fn new(alloc: Global, tool: Tool) -> GivenWords
         ensures { result ≡ nothing_given tool }
     {

@@ -26,6 +26,7 @@ pub fn put_fault(out: &mut String, fault: BitFault) -> Result<(), AllocError> {
     write!(out, "{word} {bit}")
 }
 
+/// The word of what stopped the reading, and its bit where it is a fault.
 pub fn put_stop(out: &mut String, fault: StreamFault) -> Result<(), AllocError> {
     match fault {
         StreamFault::Bit(fault) => put_fault(out, fault),

@@ -15,6 +15,7 @@ pub struct WatchedSource<I> {
 }
 
 impl<I: Source> WatchedSource<I> {
+    /// The source, of which nothing was given: `piece` bytes at most a call, and 1 where that is 0.
     pub fn new(inner: I, piece: u64) -> Self {
         WatchedSource {
             inner,
@@ -56,6 +57,7 @@ pub struct WatchedFiles<F> {
 }
 
 impl<F: Files> WatchedFiles<F> {
+    /// The files, none of which was read or written yet.
     pub fn new(alloc: Global, inner: F) -> Self {
         WatchedFiles {
             inner,
