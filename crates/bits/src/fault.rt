@@ -3,6 +3,11 @@
 use thiserror::Error;
 
 /// Why a field is refused (LLVM Bitcode File Format).
+///
+/// ```
+/// BitFaultKind::Truncated // of a field of 32 bits where 24 are left
+/// BitFaultKind::VbrTooLong // of a number of 14 chunks of 6 bits, which have 70 bits of data
+/// ```
 #[derive(Clone, Copy, Debug, PartialEq, Eq, Error)]
 pub enum BitFaultKind {
     /// The stream does not begin with the bytes 42 43 C0 DE.

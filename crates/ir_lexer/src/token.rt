@@ -2,6 +2,11 @@
 use ir_base::Place;
 
 /// What a token is.
+///
+/// ```
+/// TokenKind::Label // of `entry:`
+/// TokenKind::GlobalName // of `@main`
+/// ```
 #[derive(Clone, Copy)]
 pub enum TokenKind {
     /// The name of a block, with the colon that follows it: `entry:`, `5:`, `"a b":`.
@@ -51,6 +56,10 @@ pub struct Token {
 }
 
 /// No token begins at the byte with this place.
+///
+/// ```
+/// BadByte { place: Place { line: 1, column: 1 } } // of a text that begins with `?`
+/// ```
 #[derive(Clone, Copy)]
 pub struct BadByte {
     pub place: Place,

@@ -5,6 +5,11 @@ use thiserror::Error;
 
 /// Why a call on memory is refused: it is undefined, live bytes would pass their limit, or the
 /// interpreter itself has no memory left.
+///
+/// ```
+/// MemoryFault::Undefined(UndefinedKind::BadFree) // of a block that is freed again
+/// MemoryFault::MemoryLimit // of a block of 268,435,457 bytes
+/// ```
 #[derive(Clone, Copy, PartialEq, Eq, Debug, Error)]
 pub enum MemoryFault {
     /// The call is undefined, for that reason.

@@ -1,6 +1,11 @@
 //! Conversions.
 
 /// What a conversion writes.
+///
+/// ```
+/// ConversionKind::Signed // of `%d` and of `%ld`
+/// ConversionKind::UpperHex // of `%X`
+/// ```
 #[derive(Clone, Copy)]
 pub enum ConversionKind {
     /// `d`, `i`: a signed number in decimal.
@@ -22,6 +27,11 @@ pub enum ConversionKind {
 }
 
 /// How many bits of its argument a conversion of a number takes.
+///
+/// ```
+/// Length::Word // of `%d`
+/// Length::Long // of `%ld`
+/// ```
 #[derive(Clone, Copy)]
 pub enum Length {
     /// 32 bits: no length is written.

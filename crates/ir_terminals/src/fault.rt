@@ -5,6 +5,10 @@ ghost use Rattle.ir_terminals.specs.declared.fault.Fault.TheVariants.{Memory};
 use std::alloc::{AllocError, AllocFailed};
 
 /// Memory ran out, or the cursor stands at the first token with which no such phrase begins or goes on.
+///
+/// ```
+/// Fault::Refused // of a comma, where the cursor stands at `)`
+/// ```
 #[derive(Clone, Copy, Debug)]
 pub enum Fault {
     /// Memory ran out.

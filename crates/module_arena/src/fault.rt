@@ -4,6 +4,10 @@ use std::alloc::{AllocError, AllocFailed};
 use thiserror::Error;
 
 /// What there may be too many of.
+///
+/// ```
+/// ArenaFault::TooMany { kind: CountKind::Variables, count: 262_145 } // of one variable too many
+/// ```
 #[derive(Clone, Copy, Debug)]
 pub enum CountKind {
     /// Structs that have names.

@@ -6,6 +6,11 @@ use ir_tables::UndefinedKind;
 use run_rules::End;
 
 /// How a call or an instruction ends a run. `End` has the other ends, too: those of opening, and that all steps are made.
+///
+/// ```
+/// Stop::Exit(3) // of a call of `exit` with 3
+/// Stop::Undefined(UndefinedKind::DivisionByZero) // of `udiv i32 %x, 0`
+/// ```
 #[derive(Clone, Copy)]
 pub enum Stop {
     /// The program ended with this status.
@@ -33,6 +38,11 @@ impl Stop {
 }
 
 /// What an instruction comes to. What it writes is handed on apart.
+///
+/// ```
+/// Next::Gets(4) // of a call of `getchar` whose result is the leaf 4 of the caller
+/// Next::Stops(Stop::Exit(3)) // of the `ret i32 3` of `main`, where nothing is due
+/// ```
 #[derive(Clone, Copy)]
 pub enum Next {
     /// The run goes on.

@@ -3,6 +3,11 @@ use std::alloc::{AllocError, AllocFailed};
 use thiserror::Error;
 
 /// Why a call did not come to an end of the run: a read or a write failed, or the interpreter has no memory left.
+///
+/// ```
+/// RunFault::ReadFault // where `getchar` waits for a byte, and the read of it fails
+/// RunFault::WriteFault // where the program's bytes are written, and that fails
+/// ```
 #[derive(Clone, Copy, PartialEq, Eq, Debug, Error)]
 pub enum RunFault {
     /// The input failed to be read.

@@ -3,6 +3,11 @@ use std::alloc::{AllocError, AllocFailed};
 use thiserror::Error;
 
 /// Why a change of the table was refused. A refused change leaves the table as it was.
+///
+/// ```
+/// TypeFault::TooLarge // of `[1099511627777 x i8]`, whose length passes 2^40
+/// TypeFault::SelfContaining // of the body `{ i32, %s }` for `%s`
+/// ```
 #[derive(Clone, Copy, Debug, Error)]
 pub enum TypeFault {
     /// A struct has that name already.
