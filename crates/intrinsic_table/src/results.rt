@@ -6,12 +6,12 @@ use ir_tables::Intrinsic;
 use std::alloc::{AllocError, Global};
 
 /// The greatest width of which all operands are asked for.
-const WIDEST: u8 = 4;
+const WIDEST_IN_FULL: u8 = 4;
 
 /// The results on all operands of the width, each behind a space.
 pub fn text_of_all(alloc: Global, which: Intrinsic, width: u8) -> Result<String, AllocError> {
     let mut text = String::new(alloc);
-    if width > WIDEST {
+    if width > WIDEST_IN_FULL {
         text.push_str(" too wide")?;
         return Ok(text);
     }
@@ -62,7 +62,7 @@ pub fn text_of_row(
 
 // How many numbers a small width has.
 fn numbers_of(width: u8) -> u128 {
-    1 << width.min(WIDEST)
+    1 << width.min(WIDEST_IN_FULL)
 }
 
 // The number at this place, and poison behind the last; 0 where there is no operand.
