@@ -6,6 +6,7 @@ ghost use Rattle.module_arena.specs.Known.{counts, KnowsConst};
 use crate::answer::{Answer, Refusal};
 use crate::known::{entry_id, struct_id, type_id, type_ids};
 use crate::line::{name, word};
+use ir_tables::WIDEST;
 use module_arena::{Arena, COUNT_LIMIT, Const};
 use std::alloc::Global;
 use type_table::{IrType, StructBody};
@@ -68,7 +69,7 @@ pub fn add(
     numbers: &[u64],
 ) -> Result<Answer, Refusal> {
     match (word(line, 0), numbers) {
-        ("int", [width]) if *width >= 1 && *width <= 128 => {
+        ("int", [width]) if *width >= 1 && *width <= WIDEST as u64 => {
             add_type(arena, IrType::Int(*width as u8))
         }
         ("ptr", []) => add_type(arena, IrType::Ptr),

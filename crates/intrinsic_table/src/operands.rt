@@ -8,7 +8,7 @@ ghost use Rattle.ir_intrinsics.specs.Operands.{IsOperand, second_width, third_wi
 use ir_eval::Scalar;
 use ir_eval::width::greatest;
 use ir_intrinsics::{Outcome, apply};
-use ir_tables::Intrinsic;
+use ir_tables::{Intrinsic, WIDEST};
 
 /// How many operands the intrinsic has.
 pub fn count_of(which: Intrinsic) -> usize {
@@ -44,7 +44,7 @@ pub fn applied(which: Intrinsic, width: u8, a: Scalar, b: Scalar, c: Scalar) -> 
 fn is_width(width: u8) -> bool
     ensures { IsTrue result → IsWidth width }
 {
-    1 <= width && width <= 128
+    1 <= width && width <= WIDEST
 }
 
 fn has_width(which: Intrinsic, width: u8) -> bool

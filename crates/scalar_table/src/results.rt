@@ -5,7 +5,7 @@ ghost use Rattle.ir_eval.specs.Operators.{is_binary};
 
 use crate::instruction::ScalarCall;
 use ir_eval::{Pointer, Scalar, binary, cast, compare};
-use ir_tables::{Opcode, UndefinedKind};
+use ir_tables::{Opcode, UndefinedKind, WIDEST};
 use std::alloc::{AllocError, Global};
 
 const WIDTH: u8 = 4;
@@ -67,7 +67,7 @@ fn result_of(instruction: ScalarCall, a: Scalar, b: Scalar) -> Option<Result<Sca
         ))),
         ScalarCall::Cast(op, flags, to) => match op {
             Opcode::Trunc if 1 <= to && to < WIDTH => Some(Ok(cast(op, flags, WIDTH, to, a))),
-            Opcode::ZExt | Opcode::SExt if WIDTH < to && to <= 128 => Some(Ok(cast(
+            Opcode::ZExt | Opcode::SExt if WIDTH < to && to <= WIDEST => Some(Ok(cast(
                 op, flags, WIDTH, to, a,
             ))),
             _ => None,

@@ -11,7 +11,7 @@ ghost use Rattle.ir_eval.specs.Operators.{is_binary};
 use crate::results::{is_binary, push};
 use ir_eval::width::greatest;
 use ir_eval::{Pointer, Scalar, binary, cast, compare, freeze, select};
-use ir_tables::{Flag, Flags, Opcode, Predicate, UndefinedKind};
+use ir_tables::{Flag, Flags, Opcode, Predicate, UndefinedKind, WIDEST};
 use std::alloc::{AllocError, Global};
 
 /// What stands on a line: the words of the instruction, and the words behind it.
@@ -97,7 +97,7 @@ fn pointer_of(block: Option<u64>, address: &str) -> Option<Scalar> {
 // The number as a width, where it is one.
 fn width_of(leaf: Scalar) -> Option<u8> {
     match leaf {
-        Scalar::Int(width) if 1 <= width && width <= 128 => Some(width as u8),
+        Scalar::Int(width) if 1 <= width && width <= WIDEST as u128 => Some(width as u8),
         _ => None,
     }
 }
@@ -105,7 +105,7 @@ fn width_of(leaf: Scalar) -> Option<u8> {
 fn is_width(width: u8) -> bool
     ensures { IsTrue result → IsWidth width }
 {
-    1 <= width && width <= 128
+    1 <= width && width <= WIDEST
 }
 
 fn is_integer(width: u8, leaf: Scalar) -> bool
