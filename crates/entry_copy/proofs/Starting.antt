@@ -14,9 +14,9 @@ use Rattle.module_arena.specs.declared.entry.GlobalId.{GlobalId}
 use Rattle.module_arena.specs.Known.{counts, HasGlobal}
 use Rattle.module_arena.specs.Lists.{Lists, name_at}
 use Rattle.module_arena.specs.Module.{Bytes, Constant}
-use Rattle.module_arena.specs.Renamed.{renamed_tree}
+use Rattle.module_arena.specs.Renamed.{renamed_tree, own}
 use Rattle.module_arena.specs.View.{type_at, constant_at, constants_of, grow}
-use Rattle.module_arena.proofs.Renamed.{own, tree_stays}
+use Rattle.module_arena.proofs.Renamed.{tree_stays}
 use Rattle.type_build.specs.Stands.{IsType, IsConstant}
 use Rattle.type_build.proofs.Declaring.{all_mapped}
 use Rattle.entry_copy.specs.Copies.{CopiesTypes, CopiesConstants, Copies, AllFit}

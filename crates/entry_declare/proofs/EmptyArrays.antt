@@ -13,9 +13,9 @@ use Rattle.type_table.specs.Types as types
 use Rattle.type_table.proofs.Added.{length-trees}
 use Rattle.type_table.proofs.Outlined.{type_known}
 use Rattle.module_arena.specs.Lists.{Lists}
-use Rattle.module_arena.specs.Renamed.{renamed_tree}
+use Rattle.module_arena.specs.Renamed.{renamed_tree, own}
 use Rattle.module_arena.specs.View.{type_at}
-use Rattle.module_arena.proofs.Renamed.{own, tree_stays}
+use Rattle.module_arena.proofs.Renamed.{tree_stays}
 use Rattle.type_build.specs.Stands.{IsType}
 use Rattle.type_build.proofs.Growing.{type_found}
 use Rattle.entry_copy.specs.Tables.{Tables, new_type}

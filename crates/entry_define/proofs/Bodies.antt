@@ -12,10 +12,10 @@ use Rattle.module_arena.specs.Changes.{defined, blocks_in, function_in}
 use Rattle.module_arena.specs.Known.{IsGood, KnowsFunction, KnowsBody}
 use Rattle.module_arena.specs.Lists.{Lists}
 use Rattle.module_arena.specs.Module.{LocalName, Parameter}
-use Rattle.module_arena.specs.Renamed.{renamed_block}
+use Rattle.module_arena.specs.Renamed.{renamed_block, own}
 use Rattle.module_arena.specs.UsedNames.{names_in_block, names_in_function}
 use Rattle.module_arena.specs.View.{module_of, local_view, parameter_view}
-use Rattle.module_arena.proofs.Renamed.{own, map_stays, block_stays}
+use Rattle.module_arena.proofs.Renamed.{map_stays, block_stays}
 use Rattle.entry_copy.specs.Copies.{HasNew, IsBody, blocks_of}
 use Rattle.entry_copy.specs.Tables.{Tables}
 use Rattle.extract_core.proofs.Entries.{all_get}

@@ -12,7 +12,7 @@ use Rattle.module_arena.specs.declared.entry.Variable as the_variable
 use Rattle.module_arena.specs.Changes.{changed_at, with_initialiser, with_target, with_body}
 use Rattle.module_arena.specs.Known.{counts}
 use Rattle.module_arena.specs.Lists.{Lists, global_name, name_at}
-use Rattle.module_arena.proofs.Renamed.{own}
+use Rattle.module_arena.specs.Renamed.{own}
 use Rattle.type_build.specs.Stands.{Grows}
 use Rattle.entry_copy.specs.Copies.{Copies}
 use Rattle.entry_copy.specs.Tables.{Tables}

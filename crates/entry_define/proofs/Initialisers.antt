@@ -17,7 +17,8 @@ use Rattle.module_arena.specs.Lists.{Lists}
 use Rattle.module_arena.specs.Module.{Constant, Aggregate, Square, no_constants, Variable, Module}
 use Rattle.module_arena.specs.UsedNames.{names_in_constant, names_in_variable}
 use Rattle.module_arena.specs.View.{constant_at, constants_at, constants_of}
-use Rattle.module_arena.proofs.Renamed.{own, constant_stays}
+use Rattle.module_arena.proofs.Renamed.{constant_stays}
+use Rattle.module_arena.specs.Renamed.{own}
 use Rattle.type_build.specs.Stands.{IsConstant}
 use Rattle.entry_copy.specs.Copies.{Copies, HasNew}
 use Rattle.entry_copy.specs.Tables.{Tables, new_constant}

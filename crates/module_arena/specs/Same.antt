@@ -1,5 +1,5 @@
 -- For `host_row_fits` and `Checked::seal`: when two names, types, constants or values are the same: equal as they are written.
-use Rattle.std.specs.Prelude.{Bool, true, false, ◌&&◌, ◌==◌, bytes_eq, List}
+use Rattle.std.specs.Prelude.{◌≡◌, ℕ, Bool, true, false, ◌&&◌, ◌==◌, bytes_eq, List, Some, slice_get}
 use Rattle.std.specs.Bool.{beq}
 use Rattle.std.specs.List.{list_any}
 use Rattle.ir_tables.specs.declared.opcode.Opcode.{Opcode}
@@ -21,6 +21,10 @@ same_local _ _ = false
 -- whether the name is in a list
 abbrev pub has_local : List LocalName → LocalName → Bool
 has_local names name = list_any (λ n. same_local n name) names
+
+-- no name stands at two places
+abbrev pub IsApart : List LocalName → Type 0
+IsApart names = (i j : ℕ) (name : LocalName) → slice_get names i ≡ Some name → slice_get names j ≡ Some name → i ≡ j
 
 abbrev mutual
   -- one type, struct by struct name

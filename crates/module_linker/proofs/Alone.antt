@@ -6,8 +6,8 @@ use Rattle.std.specs.List.{AllByRecursion, cons_option}
 use Rattle.std.proofs.lemmas.Bool.{cond-true, cond-false}
 use Rattle.type_table.specs.Tree.{Tree, array}
 use Rattle.module_arena.specs.Module.{Constant, Aggregate, Square, Constants, no_constants, more_constants, Block, Parameter, Variable, Module}
-use Rattle.module_arena.specs.Renamed.{renamed_tree, renamed_alias_type, renamed_constant, renamed_block}
-use Rattle.module_arena.proofs.Renamed.{own, map_stays, option_stays, tree_stays, alias_type_stays, constant_stays, block_stays}
+use Rattle.module_arena.specs.Renamed.{renamed_tree, renamed_alias_type, renamed_constant, renamed_block, own}
+use Rattle.module_arena.proofs.Renamed.{map_stays, option_stays, tree_stays, alias_type_stays, constant_stays, block_stays}
 use Rattle.linkage_rules.specs.Globals.{Global, OfVariable, OfFunction, OfAlias, name_of, linkage_of, is_written, globals, element_of, length_of}
 use Rattle.linkage_rules.specs.Linkages.{is_common, is_appending}
 use Rattle.linkage_rules.specs.Entries.{Entry}

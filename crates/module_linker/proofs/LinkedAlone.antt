@@ -9,8 +9,8 @@ use Rattle.std.proofs.lemmas.List.{map-append}
 use Rattle.ir_tables.specs.declared.linkage.Linkage.TheVariants.{External, ExternWeak}
 use Rattle.type_table.specs.Tree.{TreeBody, opaque_body, body_of}
 use Rattle.module_arena.specs.Module.{Bytes, Variable, Alias, Function, Module}
-use Rattle.module_arena.specs.Renamed.{renamed_body}
-use Rattle.module_arena.proofs.Renamed.{own, body_stays}
+use Rattle.module_arena.specs.Renamed.{renamed_body, own}
+use Rattle.module_arena.proofs.Renamed.{body_stays}
 use Rattle.linkage_rules.specs.Globals.{Global, OfVariable, OfFunction, OfAlias, name_of, linkage_of, is_written, is_alias, globals}
 use Rattle.linkage_rules.specs.Linkages.{is_local, is_extern_weak}
 use Rattle.linkage_rules.specs.Lists.{first}

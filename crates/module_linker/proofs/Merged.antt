@@ -18,7 +18,7 @@ use Rattle.linkage_rules.specs.declared.symbol.Symbol.TheVariants.{Shared, Local
 use Rattle.linkage_rules.specs.Symbols.{is_alias_symbol, variable_symbols, function_symbols, alias_symbols, symbols}
 use Rattle.linkage_rules.specs.Winner.{definitions, is_definition, home}
 use Rattle.linkage_rules.specs.Bind.{all_extern_weak}
-use Rattle.module_linker.specs.Rename.{new_name, with_given_names, shared_names, all_names, base_of, renaming}
+use Rattle.module_linker.specs.Rename.{new_name, with_given_names, given_after, shared_names, all_names, base_of, renaming}
 use Rattle.module_linker.specs.Structs.{new_struct}
 use Rattle.module_linker.specs.Linked.{linked_definition, declaration_of_type, linked_declaration, declared_linkage, linked_first, linked_by, linked}
 use Rattle.module_linker.proofs.Apart.{Apart, none_at}
@@ -81,13 +81,7 @@ not_captured n m (r ∷ rows) (suc k) a h =
 -- ROWS OF VARIABLES, OF FUNCTIONS AND OF ALIASES
 
 module _ (base : Bytes → Bytes) (everywhere : List Bytes) where
-  -- the names that are given after these symbols
-  abbrev pub given_after : List Bytes → List Symbol → List Bytes
-  given_after given [] = given
-  given_after given (Shared name ∷ ss) = given_after given ss
-  given_after given (Local part name ∷ ss) = given_after (new_name base everywhere given name ∷ given) ss
-
-  pub named_append : (given : List Bytes) (ss ts : List Symbol) → with_given_names base everywhere given (ss ++ ts) ≡ with_given_names base everywhere given ss ++ with_given_names base everywhere (given_after given ss) ts
+  pub named_append : (given : List Bytes) (ss ts : List Symbol) → with_given_names base everywhere given (ss ++ ts) ≡ with_given_names base everywhere given ss ++ with_given_names base everywhere (given_after base everywhere given ss) ts
   named_append given [] ts = refl
   named_append given (Shared n ∷ ss) ts = ap (λ l. (Shared n, n) ∷ l) (named_append given ss ts)
   named_append given (Local i n ∷ ss) ts = ap (λ l. (Local i n, new_name base everywhere given n) ∷ l) (named_append (new_name base everywhere given n ∷ given) ss ts)

@@ -10,13 +10,13 @@ use Rattle.linkage_rules.specs.Entries.{Entry, entries, same_symbol, symbol_of}
 use Rattle.linkage_rules.specs.declared.symbol.Symbol.{Symbol}
 use Rattle.linkage_rules.specs.Symbols.{is_alias_symbol, variable_symbols, function_symbols, alias_symbols, symbols}
 use Rattle.linkage_rules.specs.Winner.{is_definition, home}
-use Rattle.module_linker.specs.Rename.{renaming, all_names, base_of, shared_names}
+use Rattle.module_linker.specs.Rename.{renaming, all_names, base_of, shared_names, given_after}
 use Rattle.module_linker.specs.Linked.{linked, linked_globals, link_result}
 use Rattle.module_linker.proofs.Apart.{Apart}
 use Rattle.module_linker.proofs.Symbols.{GoTogether, AreOfKind, variables_plain, functions_plain, aliases_are, variable_kinds, function_kinds, symbols_have, home_is}
 use Rattle.module_linker.proofs.ByKind.{AliasesDefine, variables_alone, functions_alone, alias_symbols_alone}
 use Rattle.module_linker.proofs.Names.{keys_named}
-use Rattle.module_linker.proofs.Merged.{Row, as_row, rows_apart, given_after, variable_rows, function_rows, alias_rows, renaming_split, keys, names, linked_is_alias, linked_is_alias_none, entry_by, row_entry, linked_symbol, linked_kind}
+use Rattle.module_linker.proofs.Merged.{Row, as_row, rows_apart, variable_rows, function_rows, alias_rows, renaming_split, keys, names, linked_is_alias, linked_is_alias_none, entry_by, row_entry, linked_symbol, linked_kind}
 use Rattle.module_linker.proofs.Moved.{moved_defines}
 use Rattle.module_linker.proofs.Sorted.{IsVariable, IsFunction, by_kind, sorted}
 use Rattle.module_linker.proofs.Searches.{map_map, all_front, all_back, all_both}

@@ -35,6 +35,12 @@ module _ (base : Bytes → Bytes) (everywhere : List Bytes) where
   with_given_names given (Shared name ∷ ss) = (Shared name, name) ∷ with_given_names given ss
   with_given_names given (Local part name ∷ ss) = (Local part name, new_name given name) ∷ with_given_names (new_name given name ∷ given) ss
 
+  -- the names that are given after these symbols
+  abbrev pub given_after : List Bytes → List Symbol → List Bytes
+  given_after given [] = given
+  given_after given (Shared name ∷ ss) = given_after given ss
+  given_after given (Local part name ∷ ss) = given_after (new_name given name ∷ given) ss
+
 -- the names that all parts share
 abbrev pub shared_names : List Symbol → List Bytes
 shared_names [] = []

@@ -22,8 +22,8 @@ use Rattle.module_arena.specs.Known.{Counts, counts, HasGlobal, AreDistinct, IsG
 use Rattle.module_arena.specs.Lists.{Lists, global_name, name_at}
 use Rattle.module_arena.specs.Module.{Bytes, Variable, Alias, Module}
 use Rattle.module_arena.specs.View.{module_of, type_at, constants_of, variable_view, alias_type_view}
-use Rattle.module_arena.specs.Renamed.{renamed_alias_type}
-use Rattle.module_arena.proofs.Renamed.{own, alias_type_stays}
+use Rattle.module_arena.specs.Renamed.{renamed_alias_type, own}
+use Rattle.module_arena.proofs.Renamed.{alias_type_stays}
 use Rattle.type_build.specs.Declarations.{IsFree, AreFew, one_variable_more, one_alias_more, one_function_more}
 use Rattle.type_build.specs.Parameters.{AreParameters}
 use Rattle.type_build.specs.Stands.{IsType}

@@ -10,8 +10,8 @@ use Rattle.module_arena.specs.declared.entry.Parameter as the_parameter
 use Rattle.module_arena.specs.Lists.{Lists}
 use Rattle.module_arena.specs.Module.{Numbered, Parameter}
 use Rattle.module_arena.specs.View.{type_at, parameter_view}
-use Rattle.module_arena.specs.Renamed.{renamed_parameter}
-use Rattle.module_arena.proofs.Renamed.{own, map_stays, parameter_stays}
+use Rattle.module_arena.specs.Renamed.{renamed_parameter, own}
+use Rattle.module_arena.proofs.Renamed.{map_stays, parameter_stays}
 use Rattle.type_build.specs.Parameters.{AreParameters}
 use Rattle.entry_copy.specs.Tables.{Tables, new_type}
 use Rattle.extract_core.specs.Extracted.{numbered}

@@ -1,6 +1,6 @@
 -- Says how the code reads: the blocks of a function in the module, and what is known of a function before its blocks are judged.
 use Rattle.std.specs.Prelude.{◌≡◌, ℕ, List, All, length, map}
-use Rattle.module_arena.proofs.Numbered.{IsApart}
+use Rattle.module_arena.specs.Same.{IsApart}
 use Rattle.module_arena.specs.declared.entry.Block as the_block
 use Rattle.module_arena.specs.declared.entry.Function as the_function
 use Rattle.module_arena.specs.declared.instruction.Ending as the_ending

@@ -15,8 +15,7 @@ use Rattle.type_table.proofs.Judged.{All-right}
 use Rattle.module_arena.specs.Changes.{with_table}
 use Rattle.module_arena.specs.Lists.{Lists}
 use Rattle.module_arena.proofs.Found.{some-equal}
-use Rattle.module_arena.specs.Renamed.{renamed_tree}
-use Rattle.module_arena.proofs.Renamed.{own}
+use Rattle.module_arena.specs.Renamed.{renamed_tree, own}
 use Rattle.type_build.proofs.Declaring.{all_mapped}
 use Rattle.type_build.proofs.Staying.{names_same}
 use Rattle.item_build.specs.Partly.{body_at, IsPartly, AllFit, IsDone}

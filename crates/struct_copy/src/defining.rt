@@ -2,7 +2,7 @@
 ghost use Rattle.std.specs.Prelude.{◌≡◌, ◌<◌, ℕ, [], length, slice_get, Some, None, OnOk};
 ghost use Rattle.type_table.specs.Types.{structs, bodies, KnowsBody, no_types};
 ghost use Rattle.module_arena.specs.View.{module_of};
-ghost use Rattle.module_arena.proofs.Renamed.{own};
+ghost use Rattle.module_arena.specs.Renamed.{own};
 ghost use Rattle.type_build.specs.Holding.{entries};
 ghost use Rattle.item_build.specs.Named.{AreDone};
 ghost use Rattle.item_build.specs.Partly.{IsPartly, IsDone, with_structs};

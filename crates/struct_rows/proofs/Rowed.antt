@@ -15,9 +15,9 @@ use Rattle.linkage_rules.specs.declared.symbol.Symbol.{Symbol}
 use Rattle.linkage_rules.specs.declared.symbol.Symbol.TheVariants.{Shared, Local}
 use Rattle.linkage_rules.proofs.Shapes.{alike_self}
 use Rattle.module_arena.specs.Module.{Bytes, Module}
-use Rattle.module_linker.specs.Rename.{with_given_names, new_name}
+use Rattle.module_linker.specs.Rename.{with_given_names, new_name, given_after}
 use Rattle.module_linker.specs.Structs.{same_struct, shape_of}
-use Rattle.module_linker.proofs.Merged.{given_after, named_append}
+use Rattle.module_linker.proofs.Merged.{named_append}
 use Rattle.module_linker.proofs.StructRows.{key, key_exact, same_key}
 use Rattle.type_table.specs.Shape.{Shape}
 use Rattle.labelled_shapes.specs.Shapes.{AreApart, shapes_of}

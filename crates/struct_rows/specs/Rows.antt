@@ -5,9 +5,8 @@ use Rattle.linkage_rules.specs.Lists.{firsts}
 use Rattle.linkage_rules.specs.declared.symbol.Symbol.{Symbol}
 use Rattle.linkage_rules.specs.declared.symbol.Symbol.TheVariants.{Local}
 use Rattle.module_arena.specs.Module.{Bytes, Module}
-use Rattle.module_linker.specs.Rename.{with_given_names, new_name}
+use Rattle.module_linker.specs.Rename.{with_given_names, new_name, given_after}
 use Rattle.module_linker.specs.Structs.{shape_of, same_struct}
-use Rattle.module_linker.proofs.Merged.{given_after}
 use Rattle.type_table.specs.Shape.{Label, Shape, int_leaf, ptr_leaf, void_leaf, opaque_leaf, array_of, struct_of}
 use Rattle.type_table.specs.Tree.{TreeBody}
 use Rattle.labelled_shapes.specs.Shapes.{shapes_of}

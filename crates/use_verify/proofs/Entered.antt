@@ -9,7 +9,6 @@ use Rattle.std.proofs.lemmas.List.Elements.{All-head, All-tail}
 use Rattle.std.proofs.lemmas.Option.{slice_get-get_or, get_or_from_slice_get, same_Some}
 use Rattle.type_table.specs.Tree.{Tree}
 use Rattle.type_table.specs.Types.{trees}
-use Rattle.module_arena.proofs.Numbered.{IsApart}
 use Rattle.module_arena.proofs.SameNames.{same_is, same_self}
 use Rattle.module_arena.specs.Changes.{function_in}
 use Rattle.module_arena.specs.Flow.{FlowBlock, predecessors, flow_block}
@@ -18,7 +17,7 @@ use Rattle.module_arena.specs.Lists.{Lists, function_blocks}
 use Rattle.module_arena.specs.Mentions.{targets_of}
 use Rattle.module_arena.specs.Module.{Block, Constant, LocalName}
 use Rattle.module_arena.specs.Operations.{targets}
-use Rattle.module_arena.specs.Same.{same_local}
+use Rattle.module_arena.specs.Same.{same_local, IsApart}
 use Rattle.module_arena.specs.Valid.{BlockOf, Demand, entry_demands, ask}
 use Rattle.module_arena.specs.View.{block_name, block_view, body_view, case_view, constants_of, ending_view, local_view}
 use Rattle.module_arena.specs.declared.entry.Block as the_block

@@ -6,7 +6,7 @@ use Rattle.std.proofs.lemmas.List.{length-map, length-append}
 use Rattle.std.proofs.lemmas.Option.{slice_get-get_or, same_Some}
 use Rattle.type_table.specs.Tree.{Tree}
 use Rattle.type_table.specs.Types.{trees}
-use Rattle.module_arena.proofs.Numbered as numbered
+use Rattle.module_arena.specs.Same as same_names
 use Rattle.module_arena.proofs.SameNames.{same_is, same_self}
 use Rattle.module_arena.specs.Flow.{FlowBlock, end_of, flow_block}
 use Rattle.module_arena.specs.Functions.{body}
@@ -119,5 +119,5 @@ length_told f id b at = by (function_blocks f) id at
     by (c ∷ bs) (suc k) e = by bs k e
 
 -- no block has the name of another
-pub names_apart : (a : Lists) (f : the_function.Function) (g : Graph) → Reflects (flow_in a f) (names_of f) g → numbered.IsApart (blocks_named f)
-names_apart a f g r = subst numbered.IsApart (names_told a f) r.apart
+pub names_apart : (a : Lists) (f : the_function.Function) (g : Graph) → Reflects (flow_in a f) (names_of f) g → same_names.IsApart (blocks_named f)
+names_apart a f g r = subst same_names.IsApart (names_told a f) r.apart

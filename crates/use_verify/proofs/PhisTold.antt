@@ -11,7 +11,6 @@ use Rattle.std.proofs.lemmas.Option.{slice_get-get_or}
 use Rattle.type_table.proofs.UnderIds.{get_or-map}
 use Rattle.type_table.specs.Tree.{Tree}
 use Rattle.type_table.specs.Types.{trees}
-use Rattle.module_arena.proofs.Numbered.{IsApart}
 use Rattle.module_arena.specs.Flow.{FlowBlock, flow_block, predecessors}
 use Rattle.module_arena.specs.Functions.{body}
 use Rattle.module_arena.specs.InstructionRules.{count_local, entries_agree, is_phi, same_names}
@@ -21,7 +20,7 @@ use Rattle.module_arena.specs.Valid.{operation_phi_suits}
 use Rattle.module_arena.specs.Mentions.{bare_values_of, targets_of}
 use Rattle.module_arena.specs.Module.{Block, Constant, Incoming, LocalName}
 use Rattle.module_arena.specs.Operations.{targets}
-use Rattle.module_arena.specs.Same.{same_local, same_value}
+use Rattle.module_arena.specs.Same.{same_local, same_value, IsApart}
 use Rattle.module_arena.specs.View.{block_view, body_view, constants_of, incoming_view, local_view, value_view}
 use Rattle.module_arena.specs.declared.entry.Block as the_block
 use Rattle.module_arena.specs.declared.entry.Body as the_body

@@ -1,7 +1,7 @@
 //! Whether phis suit their places and their edges: rule 9.
 ghost use Rattle.std.specs.Prelude.{◌≡◌, ◌<◌, ◌^◌, ◌&&◌, [], ◌∷◌, ℕ, All, IfOk, List, OnOk, length, map, take, slice_index_or};
 ghost use Rattle.std.specs.List.{list_all};
-ghost use Rattle.module_arena.proofs.Numbered.{IsApart};
+ghost use Rattle.module_arena.specs.Same.{IsApart};
 ghost use Rattle.module_arena.specs.Changes.{function_in};
 ghost use Rattle.module_arena.specs.InstructionRules.{is_phi, is_phi_operation};
 ghost use Rattle.module_arena.specs.Lists.{Lists, function_blocks, value_names};

@@ -3,7 +3,7 @@ use Rattle.std.proofs.lemmas.Option.{same_Some}
 use Rattle.module_arena.specs.Changes.{function_in}
 use Rattle.module_arena.specs.Module.{Function}
 use Rattle.module_arena.specs.View.{module_of}
-use Rattle.module_arena.proofs.Renamed.{own}
+use Rattle.module_arena.specs.Renamed.{own}
 use Rattle.extract_core.proofs.Entries.{get_within}
 use Rattle.extract_core.proofs.Keeping.{function_at}
 use Rattle.entry_fates.specs.declared.fates.Fate.TheVariants.{Kept}

@@ -1,6 +1,6 @@
 use Rattle.std.proofs.Common.{◌≡◌, Some, slice_get, subst, ap, ◌∙◌}
 use Rattle.module_arena.specs.View.{module_of}
-use Rattle.module_arena.proofs.Renamed.{own}
+use Rattle.module_arena.specs.Renamed.{own}
 use Rattle.entry_copy.specs.Tables.{Tables}
 use Rattle.entry_fates.proofs.ByFates.{fates_sized}
 use Rattle.entry_declare.proofs.StaysDeclared.{grown_keeps}

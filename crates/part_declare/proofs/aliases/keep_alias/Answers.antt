@@ -5,7 +5,7 @@ use Rattle.module_arena.specs.Changes.{with_alias}
 use Rattle.module_arena.specs.Known.{KnowsAlias, alias_types}
 use Rattle.module_arena.specs.Lists.{Lists, global_name}
 use Rattle.module_arena.specs.View.{module_of}
-use Rattle.module_arena.proofs.Renamed.{own}
+use Rattle.module_arena.specs.Renamed.{own}
 use Rattle.type_build.specs.Declarations.{IsFree}
 use Rattle.extract_core.proofs.Entries.{all_get}
 use Rattle.entry_declare.specs.Declaring.{IsDeclaring, KeepsNames}

@@ -3,7 +3,7 @@ use Rattle.std.proofs.lemmas.List.Elements.{All-map}
 use Rattle.type_table.specs.Types.{trees}
 use Rattle.module_arena.specs.declared.entry.Parameter as the_parameter
 use Rattle.module_arena.specs.View.{parameter_view}
-use Rattle.module_arena.proofs.Renamed.{own}
+use Rattle.module_arena.specs.Renamed.{own}
 use Rattle.type_build.specs.Parameters.{AreParameters}
 use Rattle.entry_fates.specs.Fates.{parameters_as}
 use Rattle.part_declare.proofs.Numbering.{own_parameters, declared_parameters}

@@ -1,6 +1,6 @@
 use Rattle.std.proofs.Common.{[], sym, subst, ap, ◌∙◌}
 use Rattle.type_table.specs.Types.{structs, names}
-use Rattle.module_arena.proofs.Renamed.{own}
+use Rattle.module_arena.specs.Renamed.{own}
 use Rattle.item_build.proofs.Named.{partly_named}
 use Rattle.entry_copy.specs.Copies.{CopiesTypes}
 use Rattle.entry_copy.proofs.Starting.{no_types_copied, structs_keep_names}

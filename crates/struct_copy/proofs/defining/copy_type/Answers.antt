@@ -2,7 +2,7 @@ use Rattle.std.proofs.Common.{length, sym, subst, ap, ◌∙◌, arith}
 use Rattle.type_table.specs.Limits.{IsWithin}
 use Rattle.type_table.specs.Types.{Types, structs}
 use Rattle.module_arena.specs.View.{module_of}
-use Rattle.module_arena.proofs.Renamed.{own}
+use Rattle.module_arena.specs.Renamed.{own}
 use Rattle.type_build.proofs.Staying.{structs_stay, entries_stay}
 use Rattle.item_build.specs.Partly.{with_structs}
 use Rattle.item_build.proofs.Partly.{partly_grown}

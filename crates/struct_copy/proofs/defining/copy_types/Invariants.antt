@@ -1,7 +1,7 @@
 use Rattle.std.proofs.Common.{◌≡◌, ◌≤◌, length}
 use Rattle.type_table.specs.Types.{structs}
 use Rattle.module_arena.specs.View.{module_of}
-use Rattle.module_arena.proofs.Renamed.{own}
+use Rattle.module_arena.specs.Renamed.{own}
 use Rattle.type_build.specs.Holding.{entries}
 use Rattle.item_build.specs.Partly.{IsPartly, with_structs}
 use Rattle.entry_copy.specs.Copies.{CopiesTypes}

@@ -7,7 +7,8 @@ use Rattle.type_table.specs.Types.{Types, with_body, structs, bodies, trees, tre
 use Rattle.type_table.proofs.Defined.{names-defined, trees-defined}
 use Rattle.module_arena.specs.Changes.{with_table}
 use Rattle.module_arena.specs.Lists.{Lists}
-use Rattle.module_arena.proofs.Renamed.{own, body_stays}
+use Rattle.module_arena.proofs.Renamed.{body_stays}
+use Rattle.module_arena.specs.Renamed.{own}
 use Rattle.type_build.proofs.Staying.{structs_stay}
 use Rattle.item_build.specs.Partly.{IsPartly, IsDone, body_at}
 use Rattle.item_build.proofs.Partly.{body_is, partly_grown, new_structs}
