@@ -2,4 +2,5 @@ pub mod Uses
 pub mod Agreeing
 pub mod Edges
 pub mod Classes
+pub mod Asked
 pub mod Keys

@@ -3,8 +3,8 @@
 //!
 //! It stands on `ir_base`, `ir_tables`, `type_table`, `module_arena`, `path_rows`, `type_verify`, `constant_verify` and `indexmap`.
 //! It promises that an answer on an instruction, an end or a first block names the rule on it that does not hold. What is asked
-//! stands in `module_arena`, `specs/Valid`; what it is by ids, in `specs/Uses`, `specs/Edges` and `specs/Agreeing`; which constants
-//! are the same, in `specs/Classes`.
+//! stands in `module_arena`, `specs/Valid`; what it is by ids, in `specs/Uses`, `specs/Asked`, `specs/Edges` and `specs/Agreeing`;
+//! which constants are the same, in `specs/Classes`.
 //!
 //! ```
 //! judge_entry_block(alloc, function) // of `define void @f() { a: br label %a }`: rule 8 does not hold of `%a`

@@ -1,21 +1,20 @@
 //! Whether phis suit their places and their edges: rule 9.
-ghost use Rattle.std.specs.Prelude.{◌≡◌, ◌<◌, ◌^◌, ◌&&◌, [], ◌∷◌, ℕ, All, IfOk, List, OnOk, length, map, take, slice_index_or};
+ghost use Rattle.std.specs.Prelude.{◌≡◌, ◌<◌, ◌^◌, [], ℕ, All, IfOk, List, OnOk, length, map, take, slice_index_or};
 ghost use Rattle.std.specs.List.{list_all};
-ghost use Rattle.module_arena.specs.Same.{IsApart};
-ghost use Rattle.module_arena.specs.Changes.{function_in};
 ghost use Rattle.module_arena.specs.InstructionRules.{is_phi, is_phi_operation};
 ghost use Rattle.module_arena.specs.Lists.{Lists, function_blocks, value_names};
 ghost use Rattle.module_arena.specs.declared.entry.Function as the_function;
 ghost use Rattle.module_arena.specs.Mentions as mentions;
 ghost use Rattle.module_arena.specs.Mentions.{targets_of};
 ghost use Rattle.module_arena.specs.Module as modules;
-ghost use Rattle.module_arena.specs.Valid.{InstructionOf, operation_phi_suits, ask};
+ghost use Rattle.module_arena.specs.Same.{IsApart};
 ghost use Rattle.module_arena.specs.View.{constants_of};
 ghost use Rattle.path_rows.specs.Graph.{Graph};
 ghost use Rattle.path_rows.specs.Numbers.{names_of};
 ghost use Rattle.path_rows.specs.Reflects.{Reflects};
 ghost use Rattle.type_verify.specs.Judged.{Judged};
 ghost use Rattle.use_verify.specs.Uses.{HasUses, block_named, flow_in, instruction_in};
+ghost use Rattle.use_verify.specs.Asked.{phi_demands};
 ghost use Rattle.use_verify.specs.Classes.{AreClasses, HasClass};
 ghost use Rattle.use_verify.specs.Edges.{IsSourced, MayBeSourced, entries_suit_by, sources_from, suits_by};
 
@@ -208,7 +207,7 @@ impl PhiJudge {
         ensures judge { MayBeSourced function.now self.new }
         ensures judged { (a : Lists) (g : Graph) (block : modules.Block) → Reflects (flow_in a function.now) (names_of function.now) g → IsApart (names_of function.now)
             → AreClasses (constants_of a) classes.now → block.name ≡ block_named function.now site.block → behind_phis ≡ list_all is_phi (take site.before block.instructions)
-            → Judged (ask (InstructionOf site.number function.now.name) 9 (operation_phi_suits (function_in a function.now) block site.before (instruction_in a function.now instruction.now).operation) ∷ []) result }
+            → Judged (phi_demands a function.now block site instruction.now) result }
     {
         let number = site.number;
         let suits = self.phi_suits(
