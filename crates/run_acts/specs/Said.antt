@@ -3,17 +3,25 @@ use Rattle.std.specs.Prelude.{◌≡◌, ℕ, true, false, Bool, List, [], ◌�
 use Rattle.ir_eval.specs.declared.value.Pointer.{Pointer}
 use Rattle.ir_eval.specs.declared.value.Scalar.{Scalar}
 use Rattle.ir_memory.specs.Memory.{Blocks}
+use Rattle.module_arena.specs.View.{module_of}
+use Rattle.run_names.specs.Told.{alone}
 use Rattle.run_rules.specs.declared.end.End.{End}
 use Rattle.run_rules.specs.declared.end.End.TheVariants as ends
-use Rattle.run_rules.specs.Calls.{begun, entered, returned}
+use Rattle.run_rules.specs.Calls.{begun, called_at, entered, returned}
+use Rattle.run_rules.specs.Look.{table}
 use Rattle.run_rules.specs.State as rules
 use Rattle.run_rules.specs.State.{Frame, Due, Core}
 use Rattle.run_stack.specs.UnderWay.{UnderWay, newest, older}
 use Rattle.run_actions.specs.Carried.{core_of}
+use Rattle.run_flat.specs.declared.action.CallParts.{CallParts}
+use Rattle.run_flat.specs.Flat.{signature_of}
+use Rattle.run_body.specs.Bodies.{Decoded}
+use Rattle.run_program.specs.Loaded.{IsReady, Loaded}
 use Rattle.run_acts.specs.declared.next.Next.{Next}
 use Rattle.run_acts.specs.declared.next.Next.TheVariants.{Goes, Gets, Stops}
 use Rattle.run_acts.specs.declared.next.Stop.{Stop}
 use Rattle.run_acts.specs.declared.next.Stop.TheVariants as stops
+use Rattle.run_acts.specs.Made.{shapes_of}
 
 -- the end that is meant
 abbrev pub end_of : Stop → End
@@ -41,6 +49,12 @@ IsLast (d ∷ ds) is_last = is_last ≡ false
 -- the newest function returns a value with these leaves
 abbrev pub IsReturned : List Scalar → List Due → Next → UnderWay → UnderWay → Blocks → Blocks → Type 0
 IsReturned value due next old new m n = returned value (newest old.frames) (core_of (older old.frames) due m) ≡ next_of next (core_of new.frames due n) []
+
+-- the call of an address comes to what the definition says of it, whatever is due, by the body of the newest function
+abbrev pub CallsAt : Loaded → UnderWay → UnderWay → Blocks → Blocks → (callee : Scalar) → CallParts → (arguments : List Scalar) → (to : ℕ) → Next → (written : List ℕ) → Type 0
+CallsAt p old new m n callee parts arguments to next written =
+    (body : Decoded) (due : List Due) → IsReady p (newest old.frames).function body
+    → called_at (table (alone (module_of p.lists))) callee (signature_of body.pools p.lists parts) (shapes_of body.pools p.lists parts) arguments to (core_of old.frames due m) ≡ next_of next (core_of new.frames due n) written
 
 -- the frame has these allocas
 abbrev pub with_allocas : List Pointer → Frame → Frame

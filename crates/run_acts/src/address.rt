@@ -8,14 +8,14 @@ ghost use Rattle.run_flat.specs.Flat.{signature_of};
 ghost use Rattle.run_names.specs.declared.callee.CalleeRef.TheVariants as callees;
 ghost use Rattle.run_names.specs.Told.{HasCode, alone, callee_seen};
 ghost use Rattle.run_program.specs.Loaded.{IsReady, Keeps, Loaded};
-ghost use Rattle.run_rules.specs.Calls.{called, called_at};
+ghost use Rattle.run_rules.specs.Calls.{called};
 ghost use Rattle.run_rules.specs.Look.{host_of, look, table};
 ghost use Rattle.run_rules.specs.State.{Due};
 ghost use Rattle.run_stack.specs.UnderWay.{newest};
 ghost use Rattle.typed_look.specs.Typings.{IsTypedLook, typing_of};
 ghost use Rattle.typed_runs.specs.States.{IsRow, IsTypedCallee, IsTypedMemory};
 ghost use Rattle.run_acts.specs.Made.{MayCall, shapes_of, StaysReady};
-ghost use Rattle.run_acts.specs.Said.{next_of};
+ghost use Rattle.run_acts.specs.Said.{CallsAt, next_of};
 
 use crate::enter::enter;
 use crate::host::{HostCall, call_host};
@@ -123,9 +123,8 @@ pub fn call_address(
     requires none { written.old.items ≡ [] }
     requires memory { IsTypedMemory memory.old }
     requires next { HasFreeAddresses memory.old }
-    ensures called { IfOk result (λ next. (body : Decoded) (due : List Due) → IsReady program.old (newest stack.old.frames).function body
-        → called_at (table (alone (module_of program.old.lists))) call.now.callee (signature_of body.pools program.old.lists call.now.parts) (shapes_of body.pools program.old.lists call.now.parts)
-        call.now.arguments.now call.now.to (core_of stack.old.frames due memory.old) ≡ next_of next (core_of stack.new.frames due memory.new) written.new.items) }
+    ensures called { IfOk result (λ next. CallsAt program.old stack.old stack.new memory.old memory.new call.now.callee call.now.parts call.now.arguments.now
+        call.now.to next written.new.items) }
     ensures ready { OnOk result (StaysReady program.old stack.old program.new stack.new) }
     ensures keeps { Keeps program.old program.new }
 {
