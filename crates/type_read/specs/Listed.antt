@@ -12,8 +12,10 @@ use Rattle.record_table.specs.Fields.{Texts}
 use Rattle.record_table.specs.Walk.{going, told}
 use Rattle.record_table.specs.Faults.{Records, no_more, a_block, a_record}
 use Rattle.record_table.specs.Layout.{judged}
+use Rattle.record_table.specs.TypeRecords as records
 use Rattle.record_table.specs.TypeRecords.{Listed, TypeKind, OfVoid, definition, name_defined, names_in, kind_of_code, kinds, all_fit, are_distinct, called}
 use Rattle.record_read.specs.Entries.{IsBefore}
+use Rattle.record_read.specs.Faults.{Answers}
 use Rattle.record_read.specs.Reader.{Reader, also_asked}
 use Rattle.record_read.specs.declared.fault.BitcodeFault.{BitcodeFault}
 use Rattle.record_read.specs.declared.fault.BitcodeFault.TheVariants.{Memory}
@@ -136,6 +138,16 @@ pub record IsListed (a : Lists) (found : StructNames) (all : List Bytes) (listed
   pub called_so : names listed.types ≡ called all
   pub few : length all < STRUCT_LIMIT
   pub named : found.first_bad ≡ None → a.table ≡ listed.types
+
+-- of the block of types that the reader stands before, whose structs have these names, the answer is what its records say: the
+-- arena has its types, and the reader stands behind it
+abbrev pub ReadsTypes : Texts → StructNames → Reader → Lists → Result (Unit {0}) BitcodeFault → Reader → Lists → Type 0
+ReadsTypes t found old before answer new after =
+    (inside : Records) (others : List Piece)
+    → IsBefore old.left inside (ended ∷ others)
+    → AreNames t inside found
+    → IsNamedAs found (names_in t inside) before
+    → Answers (λ _ listed. IsListed after found (names_in t inside) listed × (new.left ≡ others) × (new.at ≡ listed.at)) (records.listed t old.at inside) answer
 
 -- no struct behind the first bad name is reached
 abbrev pub IsReached : Option ℕ → ℕ → Type 0

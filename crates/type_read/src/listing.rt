@@ -1,17 +1,14 @@
 //! The block of types, record by record.
 ghost use Rattle.std.specs.Prelude.{◌≡◌, ◌∷◌, ◌+◌, ◌-◌, ◌<◌, ℕ, List, false, length, OnOk};
-ghost use Rattle.bit_tree.specs.Pieces.{Piece, ended};
 ghost use Rattle.type_table.specs.Limits.{IsWithin};
 ghost use Rattle.type_table.specs.Types.{IsGood, IsKnown, IsKnownBody, with_body, with_type};
-ghost use Rattle.record_table.specs.Faults.{Records};
 ghost use Rattle.record_table.specs.Codes.{kind_view};
 ghost use Rattle.record_table.specs.Layout.{judged};
 ghost use Rattle.record_table.specs.TypeRecords as types;
-ghost use Rattle.record_read.specs.Entries.{IsBefore};
 ghost use Rattle.record_read.specs.Faults.{Answers};
 ghost use Rattle.record_read.specs.Fields.{texts_of};
 ghost use Rattle.type_read.specs.declared.structs.TheConstants.{STRUCT_LIMIT};
-ghost use Rattle.type_read.specs.Listed.{AddsType, AreNames, AreSoFar, IsBegun, IsListed, IsMore, IsNamedAs, IsOn, IsRefusedBy, IsUndefined, NamesNext, ReadsOne, later_names};
+ghost use Rattle.type_read.specs.Listed.{AddsType, AreSoFar, IsBegun, IsMore, IsOn, IsRefusedBy, IsUndefined, NamesNext, ReadsOne, ReadsTypes, later_names};
 ghost use Rattle.type_read.specs.Pending.{IsCounted, IsPending, Puts, held};
 
 use crate::definition::{StructDefinition, read_definition};
@@ -219,10 +216,7 @@ pub fn read_types(
     requires unspent { reader.old.spent ≡ false }
     requires begun { IsBegun (texts_of texts.now) reader.old.left names arena.old }
     ensures unspent { OnOk result (reader.new.spent ≡ false) }
-    ensures answers { (inside : Records) (others : List Piece) → IsBefore reader.old.left inside (ended ∷ others) → AreNames (texts_of texts.now) inside names
-        → IsNamedAs names (types.names_in (texts_of texts.now) inside) arena.old
-        → Answers (λ _ listed. IsListed arena.new names (types.names_in (texts_of texts.now) inside) listed × (reader.new.left ≡ others) × (reader.new.at ≡ listed.at))
-        (types.listed (texts_of texts.now) reader.old.at inside) result }
+    ensures answers { ReadsTypes (texts_of texts.now) names reader.old arena.old result reader.new arena.new }
 {
     let start = reader.at();
     let mut defined: u32 = 0;
