@@ -1,7 +1,8 @@
 -- For `read_variable`, `read_function` and `read_alias`: the record of an entry.
-use Rattle.std.specs.Prelude.{◌≡◌, ◌↔◌, ◌<◌, ◌-◌, ℕ, suc, Bool, true, false, List, length, All, Option, Some, None, IfSome, option_to_list}
+use Rattle.std.specs.Prelude.{◌≡◌, ◌↔◌, ◌<◌, ◌-◌, ℕ, suc, Bool, true, false, List, length, max, All, Option, Some, None, IfSome, Result, option_to_list}
 use Rattle.std.specs.Option.{option_map}
 use Rattle.module_arena.specs.declared.entry.GlobalId.{GlobalId}
+use Rattle.module_arena.specs.declared.entry.GlobalId.TheVariants as entry
 use Rattle.module_arena.specs.Known.{HasGlobal, counts}
 use Rattle.module_arena.specs.Lists.{Lists, global_name, name_at}
 use Rattle.module_arena.specs.Module as m
@@ -15,6 +16,7 @@ use Rattle.record_table.specs.Records as records
 use Rattle.record_table.specs.Walk.{Walk, going}
 use Rattle.record_read.specs.declared.fault.BitcodeFault.{BitcodeFault}
 use Rattle.record_read.specs.declared.fault.BitcodeFault.TheVariants as fault
+use Rattle.record_read.specs.Faults.{Answers}
 use Rattle.record_read.specs.Reader.{IsBroken, also_asked, is_broken}
 use Rattle.type_read.specs.Fields.{IsNameOf, is_good}
 use Rattle.arena_read.specs.declared.counts.LocalCounts.{LocalCounts}
@@ -85,6 +87,39 @@ pub record ReadsAlias (texts : Texts) (k : Numbering) (operands : List ℕ) (old
   pub is : IsDeclared old k → (g : GlobalId) × (target ≡ Some g) × (name_at new.growing.arena g ≡ (judged (records.alias texts k) operands).0.target)
   pub good : is_good (judged (records.alias texts k) operands).0.name ≡ true
   pub front : is_broken ((alias_front texts (length k.types)).read (going operands None)).1 ≡ false
+
+-- ---- what a call answers
+
+-- of the record of a variable in front, behind so many others, the answer is what its operands say
+abbrev pub AnswersVariable : Texts → ModuleReader → (number : ℕ) → (in_order : Bool) → Result (Option ℕ) BitcodeFault → ModuleReader → Type 0
+AnswersVariable texts old number in_order answer new =
+    (s : records.Sofar) (operands : List ℕ)
+    → IsInFront texts old s operands
+    → number ≡ length s.variables
+    → in_order ≡ records.may_follow s.last 6
+    → IsToldNew old.growing.arena (entry.Variable number) s (judged (records.variable s.texts s.k) operands).0.name
+    → Answers (ReadsVariable s.texts s.k operands old new) (records.variable_record s (judged (records.variable s.texts s.k) operands)) answer
+
+-- of the record of a function
+abbrev pub AnswersFunction : Texts → ModuleReader → (number : ℕ) → (in_order : Bool) → Result Bool BitcodeFault → ModuleReader → Type 0
+AnswersFunction texts old number in_order answer new =
+    (s : records.Sofar) (operands : List ℕ)
+    → IsInFront texts old s operands
+    → number ≡ length s.functions
+    → in_order ≡ records.may_follow s.last 7
+    → IsToldNew old.growing.arena (entry.Function number) s (judged (records.function s.texts s.k) operands).0.1.name
+    → Answers (ReadsFunction s.texts s.k operands old new) (records.function_record s (judged (records.function s.texts s.k) operands)) answer
+
+-- of the record of an alias, where variables or functions are so many others, whichever are more
+abbrev pub AnswersAlias : Texts → ModuleReader → (number others : ℕ) → (in_order : Bool) → Result (Option GlobalId) BitcodeFault → ModuleReader → Type 0
+AnswersAlias texts old number others in_order answer new =
+    (s : records.Sofar) (operands : List ℕ)
+    → IsInFront texts old s operands
+    → number ≡ length s.aliases
+    → others ≡ max (length s.variables) (length s.functions)
+    → in_order ≡ records.may_follow s.last 8
+    → IsToldNew old.growing.arena (entry.Alias number) s (judged (records.alias s.texts s.k) operands).0.name
+    → Answers (ReadsAlias s.texts s.k operands old new) (records.alias_record s (judged (records.alias s.texts s.k) operands)) answer
 
 -- ---- the end of a record
 

@@ -1,12 +1,8 @@
 //! The records of variables, functions and aliases.
-ghost use Rattle.std.specs.Prelude.{◌≡◌, ◌<◌, ◌+◌, ℕ, suc, List, length, max, nat_le, OnOk, None};
+ghost use Rattle.std.specs.Prelude.{◌≡◌, ◌<◌, ◌+◌, suc, nat_le, OnOk, None};
 ghost use Rattle.std.specs.Option.{option_map_or};
-ghost use Rattle.module_arena.specs.declared.entry.GlobalId.TheVariants as entry;
-ghost use Rattle.record_table.specs.Layout.{judged};
-ghost use Rattle.record_table.specs.Records as records;
-ghost use Rattle.record_read.specs.Faults.{Answers};
 ghost use Rattle.record_read.specs.Fields.{texts_of};
-ghost use Rattle.entry_read.specs.Entries.{IsInFront, IsToldNew, ReadsAlias, ReadsFunction, ReadsVariable};
+ghost use Rattle.entry_read.specs.Entries.{AnswersAlias, AnswersFunction, AnswersVariable};
 
 use crate::ending::end_record;
 use crate::holding::read_fields;
@@ -32,9 +28,7 @@ pub fn read_variable(
 ) -> Result<Option<ConstId>, BitcodeFault>
     requires { 0 < m.old.reader.at }
     ensures few { OnOk result (number < COUNT_LIMIT) }
-    ensures reads { (s : records.Sofar) (operands : List ℕ) → IsInFront (texts_of texts.now) m.old s operands → number ≡ length s.variables → in_order ≡ records.may_follow s.last 6
-        → (let read = judged (records.variable s.texts s.k) operands in IsToldNew m.old.growing.arena (entry.Variable number) s read.0.name
-        → Answers (ReadsVariable s.texts s.k operands m.old m.new) (records.variable_record s read) result) }
+    ensures reads { AnswersVariable (texts_of texts.now) m.old number in_order result m.new }
 {
     let fields = read_fields(m, texts)?;
     let own = GlobalId::Variable(VariableId::new(number));
@@ -52,9 +46,7 @@ pub fn read_function(
 ) -> Result<bool, BitcodeFault>
     requires { 0 < m.old.reader.at }
     ensures few { OnOk result (number < COUNT_LIMIT) }
-    ensures reads { (s : records.Sofar) (operands : List ℕ) → IsInFront (texts_of texts.now) m.old s operands → number ≡ length s.functions → in_order ≡ records.may_follow s.last 7
-        → (let read = judged (records.function s.texts s.k) operands in IsToldNew m.old.growing.arena (entry.Function number) s read.0.1.name
-        → Answers (ReadsFunction s.texts s.k operands m.old m.new) (records.function_record s read) result) }
+    ensures reads { AnswersFunction (texts_of texts.now) m.old number in_order result m.new }
 {
     let types = m.growing.type_count();
     let front = read_function_front(&mut m.reader, m.alloc, texts, types)?;
@@ -82,10 +74,7 @@ pub fn read_alias(
 ) -> Result<Option<GlobalId>, BitcodeFault>
     requires { 0 < m.old.reader.at }
     ensures few { OnOk result (number < COUNT_LIMIT) }
-    ensures reads { (s : records.Sofar) (operands : List ℕ) → IsInFront (texts_of texts.now) m.old s operands → number ≡ length s.aliases → others ≡ max (length s.variables) (length s.functions)
-        → in_order ≡ records.may_follow s.last 8
-        → (let read = judged (records.alias s.texts s.k) operands in IsToldNew m.old.growing.arena (entry.Alias number) s read.0.name
-        → Answers (ReadsAlias s.texts s.k operands m.old m.new) (records.alias_record s read) result) }
+    ensures reads { AnswersAlias (texts_of texts.now) m.old number others in_order result m.new }
 {
     let types = m.growing.type_count();
     let front = read_alias_front(&mut m.reader, m.alloc, texts, types)?;
