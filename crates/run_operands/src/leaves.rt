@@ -1,11 +1,10 @@
 //! The leaves of `select` and `freeze` in the pools of a body (LangRef, "select Instruction", "freeze Instruction").
 ghost use Rattle.std.specs.Prelude.{◌≡◌, IfOk, OnOk, map, zip};
 ghost use Rattle.run_rules.specs.Leaves.{is_pointer, slots};
-ghost use Rattle.run_rules.specs.Scope.{operand_in};
 ghost use Rattle.run_shapes.specs.Shapes.{shape_in};
-ghost use Rattle.run_scopes.specs.Scopes.{HasOperand, operand_of, scope_in};
+ghost use Rattle.run_scopes.specs.Scopes.{HasOperand};
 ghost use Rattle.run_flat.specs.Grown.{Adds, AreArms, AreParts};
-ghost use Rattle.run_operands.specs.Pairs.{arm_with, part_with};
+ghost use Rattle.run_operands.specs.Pairs.{arm_with, origins_in, part_with};
 ghost use Rattle.run_operands.specs.Suits.{HasStored};
 
 use ir_memory::Leaf;
@@ -43,9 +42,7 @@ pub fn put_arms(
     requires first { HasOperand scope.now first }
     requires second { HasOperand scope.now second }
     ensures grows { OnOk result (Adds pools.old pools.new) }
-    ensures arms { IfOk result (λ span. AreArms pools.new span (zip
-        (operand_in (scope_in scope.now.lists scope.now.function) (operand_of scope.now.lists scope.now.function first))
-        (operand_in (scope_in scope.now.lists scope.now.function) (operand_of scope.now.lists scope.now.function second)))) }
+    ensures arms { IfOk result (λ span. AreArms pools.new span (zip (origins_in scope.now first) (origins_in scope.now second))) }
 {
     let mut chosen = Vec::new(scope.alloc());
     push_value(scope, first.ty, first.value, &mut chosen)?;
@@ -87,8 +84,7 @@ pub fn put_parts(
     requires { HasStored scope.now operand }
     ensures grows { OnOk result (Adds pools.old pools.new) }
     ensures parts { IfOk result (λ span. AreParts pools.new span (zip
-        (map (λ s. is_pointer s.leaf) (slots (shape_in scope.now.lists.table operand.ty)))
-        (operand_in (scope_in scope.now.lists scope.now.function) (operand_of scope.now.lists scope.now.function operand)))) }
+        (map (λ s. is_pointer s.leaf) (slots (shape_in scope.now.lists.table operand.ty))) (origins_in scope.now operand))) }
 {
     let types = scope.types();
     // No type that lies in memory is larger than the limits of a table.

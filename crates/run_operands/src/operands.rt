@@ -6,6 +6,7 @@ ghost use Rattle.run_rules.specs.Scope.{operand_in, scalar_in, scalar_of};
 ghost use Rattle.run_scopes.specs.Places.{HasPart};
 ghost use Rattle.run_scopes.specs.Scopes.{HasOperand, HasScalar, HasValue, StandsAt, operand_of, scope_in, value_of};
 ghost use Rattle.run_flat.specs.Grown.{Adds, AreLeaves, IsLeaf};
+ghost use Rattle.run_operands.specs.Pairs.{origins_in};
 
 use crate::pooled::{put_leaf, put_leaves};
 use module_arena::{Operand, Value};
@@ -51,7 +52,7 @@ pub fn put_operand(
 ) -> Result<Span, AllocError>
     requires { HasOperand scope.now operand }
     ensures grows { OnOk result (Adds pools.old pools.new) }
-    ensures leaves { IfOk result (λ span. AreLeaves pools.new span (operand_in (scope_in scope.now.lists scope.now.function) (operand_of scope.now.lists scope.now.function operand))) }
+    ensures leaves { IfOk result (λ span. AreLeaves pools.new span (origins_in scope.now operand)) }
 {
     let mut leaves = Vec::new(scope.alloc());
     push_value(scope, operand.ty, operand.value, &mut leaves)?;
