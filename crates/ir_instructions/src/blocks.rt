@@ -47,12 +47,18 @@ fn is_block_next(cursor: &Cursor) -> bool
     cursor.is_class_next(Terminal::Label) || is_instruction_next(cursor) || is_ending_next(cursor)
 }
 
+/// For how many blocks there is room at first, behind one that was read: for it alone where no other is next.
+fn first_room(cursor: &Cursor) -> usize {
+    if is_block_next(cursor) { 4 } else { 1 }
+}
+
 /// `BLOCK+`
 fn block_list(cursor: &mut Cursor) -> Result<Vec<WrittenBlock>, Fault>
     ensures { Follows block_list_row (λ x. map block_view x.items) cursor.old result cursor.new }
 {
-    let mut blocks = Vec::new(cursor.alloc());
-    blocks.push(block(cursor)?)?;
+    let first = block(cursor)?;
+    let mut blocks = Vec::with_capacity(cursor.alloc(), first_room(cursor))?;
+    blocks.push(first)?;
     'list: while is_block_next(cursor) {
         blocks.push(block(cursor)?)?;
     }

@@ -148,11 +148,16 @@ pub fn is_instruction_next(cursor: &Cursor) -> bool
         || is_operation_next(cursor)
 }
 
+/// For how many instructions there is room at first: for none where none is next.
+fn first_room(cursor: &Cursor) -> usize {
+    if is_instruction_next(cursor) { 8 } else { 0 }
+}
+
 /// `INST*`
 pub fn instructions(cursor: &mut Cursor) -> Result<Vec<Instruction>, Fault>
     ensures { Follows instructions_row (λ x. map instruction_view x.items) cursor.old result cursor.new }
 {
-    let mut instructions = Vec::new(cursor.alloc());
+    let mut instructions = Vec::with_capacity(cursor.alloc(), first_room(cursor))?;
     'instructions: while is_instruction_next(cursor) {
         instructions.push(instruction(cursor)?)?;
     }

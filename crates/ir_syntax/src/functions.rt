@@ -81,12 +81,18 @@ fn one_more(
     })
 }
 
+/// For how many parameters there is room at first, behind one that was read: most functions have no more than two.
+fn first_room(cursor: &Cursor) -> usize {
+    if cursor.is_class_next(Terminal::Comma) { 2 } else { 1 }
+}
+
 /// `PARAM (, PARAM)* (, ...)?`
 fn some_parameters(cursor: &mut Cursor, may_end_in_dots: bool) -> Result<FormalParameters, Fault>
     ensures { Follows (some_parameters_row may_end_in_dots) parameters_view cursor.old result cursor.new }
 {
-    let mut parameters = Vec::new(cursor.alloc());
-    parameters.push(parameter(cursor)?)?;
+    let first = parameter(cursor)?;
+    let mut parameters = Vec::with_capacity(cursor.alloc(), first_room(cursor))?;
+    parameters.push(first)?;
     let mut all = FormalParameters {
         parameters,
         variadic: false,
