@@ -22,6 +22,7 @@ fn next_value(cursor: &mut Cursor) -> Result<WrittenValue, Fault>
 }
 
 /// `, TYPE VALUE`
+#[inline(always)]
 #[tactic(auto, unfolding(crate::specs::Operations::next_typed_value_core))]
 pub fn next_typed_value(cursor: &mut Cursor) -> Result<TypedValue, Fault>
     ensures { Follows next_typed_value_row typed_value_view cursor.old result cursor.new }
@@ -64,6 +65,7 @@ pub fn arms(cursor: &mut Cursor) -> Result<(TypedValue, TypedValue), Fault>
 }
 
 /// `, TYPE VALUE (, align INT)? (, MD)*`
+#[inline(always)]
 #[tactic(auto, unfolding(crate::specs::Operations::address_core))]
 pub fn address(cursor: &mut Cursor) -> Result<(TypedValue, Option<Integer>), Fault>
     ensures { Follows address_row (λ x. (typed_value_view x.0, x.1)) cursor.old result cursor.new }

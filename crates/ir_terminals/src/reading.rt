@@ -154,7 +154,8 @@ impl<'t> Cursor<'t> {
         Ok(PlacedName { name, place })
     }
 
-    /// Takes a local, named or unnamed.
+    /// Takes a local, named or unnamed. About every fourth token of a body is one, so that this is compiled into who takes it.
+    #[inline(always)]
     pub fn local(&mut self) -> Result<Local, Fault>
         ensures { Follows (λ _. local_row) (λ local. local) self.old result self.new }
     {
