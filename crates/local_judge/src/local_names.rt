@@ -1,7 +1,8 @@
 //! What the values, or the blocks, of a function are called.
 #![tactic(auto)]
 
-ghost use Rattle.std.specs.Prelude.{◌≡◌, ◌==◌, Bool, [], ◌∷◌, map, IfOk, OnOk};
+ghost use Rattle.std.specs.Prelude.{◌≡◌, ◌==◌, ◌^◌, Bool, [], ◌∷◌, map, None, IfOk, OnOk};
+ghost use Rattle.ir_terminals.specs.Digits.{below};
 ghost use Rattle.module_arena.specs.Module.{Named, Numbered};
 ghost use Rattle.name_rules.specs.Locals.{Locals, local_in, is_alike, is_there, known_as};
 ghost use Rattle.local_judge.specs.Names.{Brings, HoldsNames};
@@ -144,6 +145,17 @@ impl<'a> LocalNames<'a> {
         }
     }
 
+    /// Whether a number of 2^64 or more is among these. It stands apart from the numbers of 64 bits, which nearly all are.
+    #[cold]
+    #[inline(never)]
+    fn has_large(&self, alloc: Global, number: &Number) -> Result<bool, AllocError>
+        requires large { None ≡ below (2 ^ 64) number.now }
+        ensures { IfOk result (λ has. (block : Bool) → (all : Locals) → HoldsNames self.now block all → has ≡ is_there all block (Numbered number.now)) }
+    {
+        let digits = number.digits(alloc)?;
+        Ok(self.large.contains(&digits))
+    }
+
     /// Whether the name or the number is among these.
     pub(crate) fn has(&self, alloc: Global, written: &Local) -> Result<bool, AllocError>
         ensures { IfOk result (λ has. (block : Bool) → (all : Locals) → HoldsNames self.now block all → has ≡ is_there all block (local_in written.now)) }
@@ -154,8 +166,7 @@ impl<'a> LocalNames<'a> {
                 if let Some(small) = number.to_u64() {
                     return Ok(self.small.has(small));
                 }
-                let digits = number.digits(alloc)?;
-                Ok(self.large.contains(&digits))
+                self.has_large(alloc, number)
             }
         }
     }

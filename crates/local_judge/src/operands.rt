@@ -6,6 +6,7 @@ ghost use Rattle.ir_constants.specs.View.{type_view, value_view, typed_value_vie
 ghost use Rattle.type_table.specs.Tree.{ptr};
 ghost use Rattle.name_rules.specs.Demand.{place_of_local, is_local};
 ghost use Rattle.name_rules.specs.FunctionDemands.{value_demands, operand_demands};
+ghost use Rattle.name_rules.specs.Locals.{is_there, local_in};
 ghost use Rattle.name_rules.specs.Written.{type_in};
 ghost use Rattle.type_judge.specs.Gathered.{IsKnown, known_of};
 ghost use Rattle.type_judge.specs.Judging.{IsJudged};
@@ -29,6 +30,26 @@ fn place_of(written: &Local) -> Place
     }
 }
 
+/// Tells what no block, or no value, of the function is called, as it is spelled. It stands apart from what is there, so that that
+/// needs no room for it.
+#[cold]
+#[inline(never)]
+fn missing_local(
+    alloc: Global,
+    locals: &FunctionLocals,
+    block: bool,
+    written: &Local,
+) -> Result<(), ResolveFault>
+    requires missing { is_there (locals_of locals.now) block (local_in written.now) ≡ false }
+    ensures { IsJudged (is_local (locals_of locals.now) block written.now ∷ []) result }
+{
+    let spelled = spell_local(alloc, written)?;
+    Err(ResolveFault::UnknownName {
+        place: place_of(written),
+        spelled,
+    })
+}
+
 /// A block, or a value, of the function is called so; else it is told as it is spelled.
 pub(crate) fn check_local(
     alloc: Global,
@@ -42,11 +63,7 @@ pub(crate) fn check_local(
     if locals.has(alloc, block, written)? {
         return Ok(());
     }
-    let spelled = spell_local(alloc, written)?;
-    Err(ResolveFault::UnknownName {
-        place: place_of(written),
-        spelled,
-    })
+    missing_local(alloc, locals, block, written)
 }
 
 /// A value, where it stands at that type.
