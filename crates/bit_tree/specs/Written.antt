@@ -87,7 +87,7 @@ pub record MayEnter (w : Writer) (id width : ℕ) : Type 0 where
   pub shallow : length w.scope.around < MAX_OPEN
   pub ordinary : is_blockinfo w.scope ≡ false
 
--- the end of a block: it has no more words than its count tells
+-- the end of a block: it has no more words than its count can tell
 abbrev pub MayEnd : Writer → Type 0
 MayEnd w = length (ended w) / 32 < WORDS_LIMIT
 

@@ -5,7 +5,7 @@ use Rattle.bit_stream.specs.Writer.{begun}
 use Rattle.bit_tree.specs.Written.{Written, written, Allowed}
 use Rattle.written_size.specs.Plain.{IsWhole, AreShort, weight}
 
--- such blocks may be written, where all together have fewer words of 32 bits than a block may have
+-- such blocks may be written, where all together have no more words of 32 bits than a block may have
 abbrev pub WholesMayBeWritten : Type 0
 WholesMayBeWritten = (all : Written) → IsWhole all → length (written begun all).bits < 32 * WORDS_LIMIT → Allowed begun all
 

@@ -52,7 +52,7 @@ IsWhole (a_definition ops behind) = ⊥
 IsWhole (a_record code ns behind) = ⊥
 IsWhole (a_short_record id code ns behind) = ⊥
 
--- each block of bytes has fewer of them than there are bits in all the words that a block may have
+-- each block of bytes has fewer of them than WORDS_LIMIT words of 32 bits have bits
 unfoldable pub AreShort : Written → Type 0
 AreShort no_more = ⊤
 AreShort (a_block id width inside behind) = ((block : IsOfBytes width inside) → length block.bytes < 32 * WORDS_LIMIT) × AreShort behind
