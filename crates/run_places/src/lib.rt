@@ -2,7 +2,7 @@
 //!
 //! It stands on the runs of `run_rules`, and on the validity of `module_arena`. It promises that a well-formed, valid module never
 //! gets stuck.
-//! Definitions: `specs/Places`, `specs/Bodies`; what is promised is `NeverStuck` of `run_rules`.
+//! Definitions: `specs/Places`; what is promised is `NeverStuck` of `run_rules`.
 //!
 //! ```
 //! -- of `define void @f() { ret void }`
