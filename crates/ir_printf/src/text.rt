@@ -178,13 +178,27 @@ fn is_short(conversion: &Conversion) -> bool
     }
 }
 
+/// Adds what stands before the digits, or nothing where memory is wanted. Where nothing does, as before most numbers,
+/// no range is copied.
+#[inline(always)]
+fn put_front(front: &[u8], into: &mut Vec<u8>) -> Result<(), AllocError>
+    ensures ok { OnOk result (into.new.items ≡ into.old.items ++ front.now) }
+    ensures err { OnErr result (into.new.items ≡ into.old.items) }
+{
+    if front.is_empty() {
+        return Ok(());
+    }
+    into.extend_from_slice(front)?;
+    Ok(())
+}
+
 /// Adds a sign, and a number in decimal, or nothing where memory is wanted.
 fn put_decimal(front: &[u8], number: u64, into: &mut Vec<u8>) -> Result<(), AllocError>
     ensures ok { OnOk result (into.new.items ≡ into.old.items ++ (front.now ++ decimal number)) }
     ensures err { OnErr result (into.new.items ≡ into.old.items) }
 {
     let before = into.len();
-    into.extend_from_slice(front)?;
+    put_front(front, into)?;
     let mut buffer = Buffer::new();
     let digits = buffer.format(number).as_bytes();
     match into.extend_from_slice(digits) {
