@@ -20,12 +20,12 @@ pub fn origin(pools: &Pools, leaf: LeafAt) -> Origin
     }
 }
 
-/// The way at a place.
+/// The way at a place, where it lies in the pools.
 #[inline]
-pub(crate) fn way(pools: &Pools, place: u32) -> Edge
+pub(crate) fn way(pools: &Pools, place: u32) -> &Edge
     requires { IsEdgeIn pools.now place }
-    ensures there { slice_get pools.now.edges place ≡ Some result }
-    ensures means { way_of pools.now.moves result ≡ edge_at pools.now place }
+    ensures there { slice_get pools.now.edges place ≡ Some result.now }
+    ensures means { way_of pools.now.moves result.now ≡ edge_at pools.now place }
 {
-    *pools.edges.at(place)
+    pools.edges.at(place)
 }

@@ -20,7 +20,7 @@ pub fn act_on_jump(stack: &mut Stack, pools: &Pools, _action: &Action, edge: u32
     ensures { (a : Lists) → IsCarriedOut (action_of pools.now a _action.now) stack.old stack.new }
 {
     let only_way = way(pools, edge);
-    jump(stack, &only_way, pools.moves.items());
+    jump(stack, only_way, pools.moves.items());
 }
 
 /// A way to one of two blocks. The action serves the clauses.
@@ -39,10 +39,12 @@ pub fn act_on_branch(
     requires may { (count : ℕ) × MayAct count pools.now _action.now stack.old }
     ensures { (a : Lists) → Acts (action_of pools.now a _action.now) result stack.old stack.new }
 {
-    let chooses = origin(pools, condition);
     let then_way = way(pools, then_edge);
     let else_way = way(pools, else_edge);
-    branch(stack, &chooses, &then_way, &else_way, pools.moves.items())
+    let moves = pools.moves.items();
+    // Last, so that it is looked once at where the condition is had from.
+    let chooses = origin(pools, condition);
+    branch(stack, &chooses, then_way, else_way, moves)
 }
 
 /// A way to one of many blocks. The action serves the clauses.
@@ -64,7 +66,7 @@ pub fn act_on_switch(
     let number = origin(pools, value);
     let other_way = way(pools, otherwise);
     let listed = pools.cases.in_span(cases);
-    switch(stack, &number, &other_way, listed, pools.moves.items())
+    switch(stack, &number, other_way, listed, pools.moves.items())
 }
 
 /// An end that is not to be come to: why that is undefined. The action serves the clauses.

@@ -27,13 +27,13 @@ branch-stack-requires c =
     let p = a.pools.now in
     let s = a.stack.now in
     let may = subst (λ (x : Action). MayAct c.requires.may.0 p x s) c.requires.is c.requires.may.1 in
-    let k = branches_well c.requires.may.0 p s a.condition a.then_edge a.else_edge o.result d.result e.result o.ensures d.ensures.there d.ensures.means e.ensures.there e.ensures.means may in
-    let all = sym c.items.ensures in
+    let k = branches_well c.requires.may.0 p s a.condition a.then_edge a.else_edge o.result d.result.now e.result.now o.ensures d.ensures.there d.ensures.means e.ensures.there e.ensures.means may in
+    let all = sym c.items-moves.ensures in
     record {
       running = k.running;
       there = k.there;
-      then_way = subst (λ (moves : List Move). IsWay s moves d.result) all k.first_way;
-      else_way = subst (λ (moves : List Move). IsWay s moves e.result) all k.second_way;
+      then_way = subst (λ (moves : List Move). IsWay s moves d.result.now) all k.first_way;
+      else_way = subst (λ (moves : List Move). IsWay s moves e.result.now) all k.second_way;
     }
 
 pub returns : goal.returns
@@ -43,4 +43,4 @@ returns c = λ lists.
     let d = c.way-then_way in
     let e = c.way-else_way in
     subst (λ (x : actions.Action). Acts x c.branch-stack.result a.stack.now c.branch-stack.new.stack)
-    (branched_so a.pools.now lists a._action.now a.condition a.then_edge a.else_edge c.items.result.now o.result d.result e.result c.requires.is c.items.ensures o.ensures d.ensures.means e.ensures.means) c.branch-stack.ensures
+    (branched_so a.pools.now lists a._action.now a.condition a.then_edge a.else_edge c.items-moves.result.now o.result d.result.now e.result.now c.requires.is c.items-moves.ensures o.ensures d.ensures.means e.ensures.means) c.branch-stack.ensures

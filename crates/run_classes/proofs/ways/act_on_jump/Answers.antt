@@ -18,11 +18,11 @@ jump-requires c =
     let p = c.args.pools.now in
     let s = c.args.stack.now in
     let may = subst (λ (x : Action). MayAct c.requires.may.0 p x s) c.requires.is c.requires.may.1 in
-    record { running = may.running; way = subst (λ (moves : List Move). IsWay s moves e.result) (sym c.items.ensures) (jumps_well c.requires.may.0 p s c.args.edge e.result e.ensures.there e.ensures.means may) }
+    record { running = may.running; way = subst (λ (moves : List Move). IsWay s moves e.result.now) (sym c.items.ensures) (jumps_well c.requires.may.0 p s c.args.edge e.result.now e.ensures.there e.ensures.means may) }
 
 pub returns : goal.returns
 returns c = λ lists.
     let a = c.args in
     let e = c.way-only_way in
     subst (λ (x : actions.Action). IsCarriedOut x a.stack.now c.jump.new.stack)
-    (jumped_so a.pools.now lists a._action.now a.edge c.items.result.now e.result c.requires.is c.items.ensures e.ensures.means) c.jump.ensures
+    (jumped_so a.pools.now lists a._action.now a.edge c.items.result.now e.result.now c.requires.is c.items.ensures e.ensures.means) c.jump.ensures

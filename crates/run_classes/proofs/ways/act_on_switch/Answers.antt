@@ -27,12 +27,12 @@ switch-requires c =
     let p = a.pools.now in
     let s = a.stack.now in
     let may = subst (λ (x : Action). MayAct c.requires.may.0 p x s) c.requires.is c.requires.may.1 in
-    let k = switches_well c.requires.may.0 p s a.value a.otherwise a.cases o.result e.result o.ensures e.ensures.there e.ensures.means may in
+    let k = switches_well c.requires.may.0 p s a.value a.otherwise a.cases o.result e.result.now o.ensures e.ensures.there e.ensures.means may in
     let all = sym c.items.ensures in
     record {
       running = k.running;
       there = k.there;
-      other_way = subst (λ (moves : List Move). IsWay s moves e.result) all k.other_way;
+      other_way = subst (λ (moves : List Move). IsWay s moves e.result.now) all k.other_way;
       case_ways =
           subst (λ (moves : List Move). All (λ (x : SwitchWay). IsWay s moves x.edge) c.in_span-listed.result.now) all
           (subst (All (λ (x : SwitchWay). IsWay s p.moves x.edge)) (sym c.in_span-listed.ensures) k.case_ways);
@@ -44,4 +44,4 @@ returns c = λ lists.
     let o = c.origin-number in
     let e = c.way-other_way in
     subst (λ (x : actions.Action). Acts x c.switch.result a.stack.now c.switch.new.stack)
-    (switched_so a.pools.now lists a._action.now a.value a.otherwise a.cases c.items.result.now o.result e.result c.in_span-listed.result.now c.requires.is c.items.ensures o.ensures e.ensures.means c.in_span-listed.ensures) c.switch.ensures
+    (switched_so a.pools.now lists a._action.now a.value a.otherwise a.cases c.items.result.now o.result e.result.now c.in_span-listed.result.now c.requires.is c.items.ensures o.ensures e.ensures.means c.in_span-listed.ensures) c.switch.ensures
