@@ -23,6 +23,7 @@ pub fn read_at(leaves: &[Scalar], first: usize, origin: &Origin) -> Scalar
 }
 
 /// What the leaves are, behind those that are there already. Refused memory changes nothing.
+#[inline(always)]
 pub fn read_into(
     leaves: &[Scalar],
     first: usize,

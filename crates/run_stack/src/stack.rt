@@ -112,6 +112,7 @@ impl Stack {
     }
 
     /// Puts what the leaves are, in the newest frame, behind those that are there. Refused memory changes nothing.
+    #[inline(always)]
     pub fn read_all(&self, origins: &[Origin], into: &mut Vec<Scalar>) -> Result<(), AllocError>
         requires { All (IsIn (length (newest self.now.frames).leaves)) origins.now }
         ensures ok { OnOk result (into.new.items ≡ into.old.items ++ read_all (newest self.now.frames) (map origin_of origins.now)) }
