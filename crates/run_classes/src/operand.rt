@@ -1,12 +1,16 @@
 //! Operands from the pools of a body.
-ghost use Rattle.std.specs.Prelude.{◌≡◌, Some, slice_get};
+ghost use Rattle.std.specs.Prelude.{◌≡◌, Some, length, slice_get};
 ghost use Rattle.run_actions.specs.Edges.{way_of};
 ghost use Rattle.run_flat.specs.Flat.{IsEdgeIn, IsLeafIn, edge_at, leaf_of};
+ghost use Rattle.run_rules.specs.Frame.{read};
 ghost use Rattle.run_stack.specs.Origins.{origin_of};
+ghost use Rattle.run_stack.specs.UnderWay.{newest};
+ghost use Rattle.run_stack.specs.declared.origin.Origin.TheVariants.{Known};
+ghost use Rattle.run_classes.specs.May.{HasPlace};
 
 use run_actions::Edge;
 use run_flat::{LeafAt, Pools};
-use run_stack::Origin;
+use run_stack::{Origin, Stack};
 
 /// Where a leaf is had from: its place in a frame, or the leaf itself out of the pools.
 #[inline]
@@ -18,6 +22,19 @@ pub fn origin(pools: &Pools, leaf: LeafAt) -> Origin
         LeafAt::Held(place) => Origin::Held(place),
         LeafAt::Known(place) => Origin::Known(*pools.known.at(place)),
     }
+}
+
+/// An operand whose leaf is told already, whether the newest frame has it or the pools do. So an instruction with two
+/// operands looks once at where each of them is had from.
+#[inline(always)]
+pub(crate) fn told(stack: &Stack, pools: &Pools, leaf: LeafAt) -> Origin
+    requires there { HasPlace (length (newest stack.now.frames).leaves) leaf }
+    requires within { IsLeafIn pools.now leaf }
+    ensures { result ≡ Known (read (newest stack.now.frames) (leaf_of pools.now leaf)) }
+{
+    let operand = origin(pools, leaf);
+    let value = stack.read(&operand);
+    Origin::Known(value)
 }
 
 /// The way at a place, where it lies in the pools.

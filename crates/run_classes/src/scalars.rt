@@ -6,7 +6,7 @@ ghost use Rattle.run_flat.specs.declared.action.Action.TheVariants as flat;
 ghost use Rattle.run_flat.specs.Flat.{action_of};
 ghost use Rattle.run_classes.specs.May.{MayAct};
 
-use crate::operand::origin;
+use crate::operand::{origin, told};
 use ir_tables::{Flags, Opcode, Predicate, UndefinedKind};
 use run_actions::{compare, compute, convert};
 use run_flat::{Action, LeafAt, Pools};
@@ -31,8 +31,8 @@ pub fn act_on_binary(
     requires may { (count : ℕ) × MayAct count pools.now _action.now stack.old }
     ensures { (a : Lists) → Acts (action_of pools.now a _action.now) result stack.old stack.new }
 {
-    let first = origin(pools, left);
-    let second = origin(pools, right);
+    let first = told(stack, pools, left);
+    let second = told(stack, pools, right);
     compute(stack, to, opcode, flags, width, &first, &second)
 }
 
@@ -53,8 +53,8 @@ pub fn act_on_comparison(
     requires may { (count : ℕ) × MayAct count pools.now _action.now stack.old }
     ensures { (a : Lists) → IsCarriedOut (action_of pools.now a _action.now) stack.old stack.new }
 {
-    let first = origin(pools, left);
-    let second = origin(pools, right);
+    let first = told(stack, pools, left);
+    let second = told(stack, pools, right);
     compare(stack, to, predicate, samesign, width, &first, &second);
 }
 
