@@ -6,3 +6,4 @@ pub mod Fitting
 pub mod Refusals
 pub mod Alone
 mod Plain
+pub mod Fours

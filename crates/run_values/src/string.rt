@@ -1,5 +1,5 @@
 //! Strings in memory (C, "strings"): bytes up to a zero.
-ghost use Rattle.std.specs.Prelude.{◌≡◌, ◌≤◌, ◌++◌, ℕ, List, Ok, None, IfOk, IfErr, IfSome, OnOk, OnErr, length};
+ghost use Rattle.std.specs.Prelude.{◌≡◌, ◌+◌, ◌≤◌, ◌++◌, ℕ, List, Ok, None, IfOk, IfErr, IfSome, OnOk, OnErr, drop, length, true};
 ghost use Rattle.std.specs.List.{prefix_len};
 ghost use Rattle.ir_memory.specs.Given.{IsKnown};
 ghost use Rattle.run_rules.specs.Access.{string_at};
@@ -75,12 +75,38 @@ fn push_up_to(
     }
 }
 
-/// How many bytes stand before the first zero.
-fn inside_count(bytes: &[u8]) -> usize
+/// Whether four bytes stand in front of which none is zero.
+#[inline(always)]
+fn are_four_inside(bytes: &[u8]) -> bool
+    ensures { result ≡ true → (4 ≤ length bytes.now) × (prefix_len is_inside bytes.now ≡ 4 + prefix_len is_inside (drop 4 bytes.now)) }
+{
+    match bytes {
+        [first, second, third, fourth, ..] => {
+            *first != 0 && *second != 0 && *third != 0 && *fourth != 0
+        }
+        _ => false,
+    }
+}
+
+/// How many bytes stand before the first zero, gone through one by one.
+fn single_count(bytes: &[u8]) -> usize
     ensures count { result ≡ prefix_len is_inside bytes.now }
     ensures within { result ≤ length bytes.now }
 {
     bytes.iter().take_while(|byte| **byte != 0).count()
+}
+
+/// How many bytes stand before the first zero. They are gone through four at a time, and one by one at the end.
+#[tactic(auto, using(crate::proofs::Fours::four_more))]
+fn inside_count(bytes: &[u8]) -> usize
+    ensures count { result ≡ prefix_len is_inside bytes.now }
+    ensures within { result ≤ length bytes.now }
+{
+    let mut count = 0;
+    'fours: while are_four_inside(&bytes[count..]) {
+        count += 4;
+    }
+    count + single_count(&bytes[count..])
 }
 
 /// The string at a pointer, its bytes before the first zero, where it can be told as it lies in memory: in a block that may hold
