@@ -1,6 +1,6 @@
 -- A pattern that is written piece by piece.
 use Rattle.std.proofs.Common.{◌≡◌, ℕ, zero, suc, ◌+◌, ◌-◌, ◌<◌, ◌≤◌, ◌==◌, List, [], ◌∷◌, ◌++◌, drop, length, map, take, Result, Ok, Err, Option, Some, None, Bool, true, false, cond, not, refl, sym, ap, ap₂, ◌∙◌, subst, arith, append_assoc, add-one, true≢false}
-use Rattle.std.specs.Prelude.{if◌then◌else◌, slice_get, slice_range, ⊤}
+use Rattle.std.specs.Prelude.{IfSome, if◌then◌else◌, slice_get, slice_range, ⊤}
 use Rattle.std.proofs.lemmas.Option.{same_Some}
 use Rattle.std.specs.List.{prefix_len}
 use Rattle.std.proofs.lemmas.List.{drop_all, take_rest}
@@ -24,6 +24,7 @@ use Rattle.linkage_rules.specs.SameShape.{same_shape}
 use Rattle.run_rules.specs.Printing.{Rest, converted, shape_for, then_bytes, written_conversion, written_from, written_piece}
 use Rattle.run_values.specs.Answer.{IsRefusal, Loads}
 use Rattle.type_table.specs.Shape.{Shape, void_leaf}
+use Rattle.typed_runs.specs.Kinds.{IsOf}
 use Rattle.host_calls.specs.declared.pattern.PatternPlace.{PatternPlace}
 use Rattle.host_calls.specs.Pieces.{IsPiece, IsPlace, piece_from, rest_from}
 use Rattle.host_calls.specs.Printing.{AreOf, IsConversion, shape_from, takes_argument}
@@ -154,6 +155,21 @@ module _ (m : Blocks) (c : Conversion) where
   no_leaf _ size.Long = refl
   no_leaf _ l = refl
 
+  -- no argument is left
+  pub none_left : (rest : Rest) (which : ConversionKind) (to at : ℕ) (ks : List (Option Leaf)) (vs : List Scalar) → takes_argument which ≡ true → slice_get ks 0 ≡ None
+      → written_conversion m rest c which to at (map shape_from ks) vs ≡ Err kinds.BadFormat
+  none_left rest kind.Percent to at ks vs takes none = absurd (true≢false (sym takes))
+  none_left rest _ to at [] vs takes none = refl
+  none_left rest _ to at (k ∷ ks) vs takes none = cc
+
+  -- the first of these arguments is of its kind, where it is one leaf
+  pub first_typed : (ks : List (Option Leaf)) (vs : List Scalar) (k : Option Leaf) (v : Scalar) → AreOf (length m.list) ks vs → slice_get ks 0 ≡ Some k → slice_get vs 0 ≡ Some v → IfSome k (λ leaf. IsOf (length m.list) leaf v)
+  first_typed [] vs k v h at_k at_v = cc
+  first_typed (None ∷ ks) vs k v h at_k at_v = subst (λ o. IfSome o (λ leaf. IsOf (length m.list) leaf v)) (same_Some None k at_k) tt
+  first_typed (Some leaf ∷ ks) [] k v h at_k at_v = absurd h
+  first_typed (Some leaf ∷ ks) (w ∷ vs) k v h at_k at_v =
+      subst (λ o. IfSome o (λ leaf. IsOf (length m.list) leaf v)) (same_Some (Some leaf) k at_k) (subst (IsOf (length m.list) leaf) (same_Some w v at_v) h.0)
+
   -- the first of these arguments is written
   pub argument_at : (ks : List (Option Leaf)) (vs : List Scalar) (k : Option Leaf) (v : Scalar) (bytes : List ℕ) → takes_argument c.kind ≡ true → AreOf (length m.list) ks vs → slice_get ks 0 ≡ Some k → slice_get vs 0 ≡ Some v
       → Of (same_shape (shape_from k) (shape_for c.kind c.length)) (converted m c v) ≡ Ok bytes → IsConversion m c ks vs 1 bytes
@@ -192,12 +208,12 @@ module _ (m : Blocks) (pattern : List ℕ) (told : List (Option Leaf)) (vs : Lis
   piece_is rest p r e = ap (λ r. written_piece m pattern rest r p.at (map shape_from (drop p.taken told)) (drop p.taken vs)) e
 
   -- a conversion that was refused
-  pub conversion_refused : (rest : Rest) (p : PatternPlace) (c : Conversion) (to : ℕ) (fault : MemoryFault) → piece_at pattern p.at ≡ Ok (piece.Convert c to)
-      → ((rest : Rest) (to at : ℕ) → IsRefusal (written_conversion m rest c c.kind to at (map shape_from (take (length told - p.taken) (drop p.taken told))) (take (length vs - p.taken) (drop p.taken vs))) fault)
+  pub conversion_refused : (rest : Rest) (p : PatternPlace) (c : Conversion) (to : ℕ) (fault : MemoryFault) → piece_at pattern p.at ≡ Ok (piece.Convert c to) → (ks : List (Option Leaf)) → ks ≡ drop p.taken told
+      → ((rest : Rest) (to at : ℕ) → IsRefusal (written_conversion m rest c c.kind to at (map shape_from ks) (take (length vs - p.taken) (drop p.taken vs))) fault)
       → IsRefusal (piece_from m pattern told vs rest p) fault
-  conversion_refused rest p c to fault e h =
+  conversion_refused rest p c to fault e ks behind h =
       subst (λ r. IsRefusal r fault)
-      (sym (piece_is rest p (Ok (piece.Convert c to)) e ∙ ap₂ (λ ks us. written_conversion m rest c c.kind to p.at (map shape_from ks) us) (sym (take_rest told p.taken)) (sym (take_rest vs p.taken)))) (h rest to p.at)
+      (sym (piece_is rest p (Ok (piece.Convert c to)) e ∙ ap₂ (λ ks us. written_conversion m rest c c.kind to p.at (map shape_from ks) us) (sym behind) (sym (take_rest vs p.taken)))) (h rest to p.at)
 
   -- how far a pattern is written
   pub record IsUnderWay (p : PatternPlace) (old new : List ℕ) : Type 0 where

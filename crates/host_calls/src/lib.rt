@@ -5,7 +5,7 @@
 //! asked for, and how the run ends. Definitions: `specs/Made`, `Taken`, `Printing`; `Host`, `Printing` of `run_rules`.
 //!
 //! ```
-//! let kinds = [Some(Leaf::Int(32))];
+//! let kinds = ArgumentKinds::new(types, shapes); // of the one type `i32`
 //! call(alloc, HostRow::Putchar, &kinds, &[Scalar::Int(353)], &mut memory, &mut written)?
 //! // HostAnswer::Gives(Some(outcome)): outcome.first is Scalar::Int(97), and `a` was added to `written`
 //! ```
@@ -13,8 +13,10 @@
 
 mod argument;
 mod conversion;
+mod kinds;
 mod pattern;
 mod print;
 mod row;
 
+pub use kinds::ArgumentKinds;
 pub use row::call;

@@ -6,8 +6,9 @@ ghost use Rattle.host_calls.specs.Printing.{AreOf, IsConversion, shape_from};
 ghost use Rattle.host_calls.specs.Pieces.{IsPiece, IsPlace, piece_from};
 
 use crate::conversion::put_argument;
+use crate::kinds::ArgumentKinds;
 use ir_eval::Scalar;
-use ir_memory::{Leaf, Memory, MemoryFault};
+use ir_memory::{Memory, MemoryFault};
 use ir_printf::{Conversion, ConversionKind, PatternPiece, next_piece};
 use ir_tables::UndefinedKind;
 use std::alloc::{AllocError, Global};
@@ -16,7 +17,7 @@ use std::alloc::{AllocError, Global};
 #[derive(Clone, Copy)]
 pub(crate) struct Format<'f> {
     pub(crate) pattern: &'f [u8],
-    pub(crate) kinds: &'f [Option<Leaf>],
+    pub(crate) kinds: &'f ArgumentKinds<'f>,
     pub(crate) arguments: &'f [Scalar],
 }
 
@@ -46,7 +47,7 @@ fn put_conversion(
     alloc: Global,
     memory: &Memory,
     conversion: &Conversion,
-    kinds: &[Option<Leaf>],
+    kinds: &ArgumentKinds<'_>,
     arguments: &[Scalar],
     written: &mut Vec<u8>,
 ) -> Result<usize, MemoryFault>
@@ -65,7 +66,7 @@ fn put_conversion(
     let Some(argument) = arguments.first() else {
         return Err(MemoryFault::Undefined(UndefinedKind::BadFormat));
     };
-    put_argument(alloc, memory, conversion, *kind, *argument, written)?;
+    put_argument(alloc, memory, conversion, kind, *argument, written)?;
     Ok(1)
 }
 
@@ -93,9 +94,9 @@ fn put_piece(
             }))
         }
         Ok(PatternPiece::Convert(conversion, to)) => {
-            let kinds = &format.kinds[place.taken..];
+            let kinds = format.kinds.behind(place.taken);
             let arguments = &format.arguments[place.taken..];
-            let taken = put_conversion(alloc, memory, &conversion, kinds, arguments, written)?;
+            let taken = put_conversion(alloc, memory, &conversion, &kinds, arguments, written)?;
             Ok(Some(PatternPlace {
                 at: to,
                 taken: place.taken + taken,

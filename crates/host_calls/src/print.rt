@@ -4,9 +4,10 @@ ghost use Rattle.run_host.specs.Answers.{Writes};
 ghost use Rattle.run_rules.specs.Printing.{printed, prints, written_from};
 ghost use Rattle.host_calls.specs.Printing.{AreOf, ArePrinted, shape_from};
 
+use crate::kinds::ArgumentKinds;
 use crate::pattern::{Format, put_pieces};
 use ir_eval::Scalar;
-use ir_memory::{Leaf, Memory};
+use ir_memory::Memory;
 use ir_tables::UndefinedKind;
 use run_host::{HostAnswer, one_leaf, refused};
 use run_values::{plain_string, push_string};
@@ -41,7 +42,7 @@ fn print_format(
 pub(crate) fn print(
     alloc: Global,
     memory: &Memory,
-    kinds: &[Option<Leaf>],
+    kinds: &ArgumentKinds<'_>,
     arguments: &[Scalar],
     written: &mut Vec<u8>,
 ) -> Result<HostAnswer, AllocError>
@@ -51,10 +52,11 @@ pub(crate) fn print(
     let Some(Scalar::Ptr(string)) = arguments.first() else {
         return Ok(HostAnswer::Fails(UndefinedKind::PoisonArgument));
     };
+    let others = kinds.behind(1);
     if let Some(pattern) = plain_string(memory, *string) {
         let format = Format {
             pattern,
-            kinds: &kinds[1..],
+            kinds: &others,
             arguments: &arguments[1..],
         };
         return print_format(alloc, memory, &format, written);
@@ -65,7 +67,7 @@ pub(crate) fn print(
     }
     let format = Format {
         pattern: &pattern,
-        kinds: &kinds[1..],
+        kinds: &others,
         arguments: &arguments[1..],
     };
     print_format(alloc, memory, &format, written)

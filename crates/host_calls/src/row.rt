@@ -14,10 +14,11 @@ ghost use Rattle.host_calls.specs.Made.{EndsOrReads, IsHostCall};
 ghost use Rattle.host_calls.specs.Taken.{AreCopied, AreFilled, AreTaken, given, number_of};
 
 use crate::argument::{count_at, has_poison, number_at, pointer_at};
+use crate::kinds::ArgumentKinds;
 use crate::print::print;
 use ir_eval::Scalar;
 use ir_intrinsics::Outcome;
-use ir_memory::{Leaf, Memory};
+use ir_memory::Memory;
 use ir_tables::UndefinedKind;
 use module_arena::HostRow;
 use run_host::{
@@ -136,7 +137,7 @@ fn call_plain(
 pub fn call(
     alloc: Global,
     row: HostRow,
-    kinds: &[Option<Leaf>],
+    kinds: &ArgumentKinds<'_>,
     arguments: &[Scalar],
     memory: &mut Memory,
     written: &mut Vec<u8>,

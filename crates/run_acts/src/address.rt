@@ -21,7 +21,7 @@ use crate::enter::enter;
 use crate::host::{HostCall, call_host};
 use crate::next::{Next, fails};
 use ir_eval::Scalar;
-use ir_memory::{Leaf, Memory};
+use ir_memory::Memory;
 use ir_tables::UndefinedKind;
 use module_arena::{FunctionId, HostRow};
 use run_flat::CallParts;
@@ -75,7 +75,6 @@ fn call_row(
     memory: &mut Memory,
     row: HostRow,
     call: &FrameCall<'_>,
-    kinds: &mut Vec<Option<Leaf>>,
     written: &mut Vec<u8>,
 ) -> Result<Next, AllocError>
     requires row { IsRow row }
@@ -102,11 +101,11 @@ fn call_row(
         arguments: call.arguments,
         to: call.to,
     };
-    call_host(program.alloc(), types, stack, memory, &host, kinds, written)
+    call_host(program.alloc(), types, stack, memory, &host, written)
 }
 
 /// A call of a pointer, whose address alone counts, by the newest frame, which stands behind the call already (LangRef, "call
-/// Instruction"). What is written is put into `written`, in which nothing is. What `kinds` has is lost.
+/// Instruction"). What is written is put into `written`, in which nothing is.
 ///
 /// It is refused for want of memory alone. Where it is refused, or the run stops, frames and memory may be half changed: no instruction
 /// may follow.
@@ -115,7 +114,6 @@ pub fn call_address(
     stack: &mut Stack,
     memory: &mut Memory,
     call: &FrameCall<'_>,
-    kinds: &mut Vec<Option<Leaf>>,
     written: &mut Vec<u8>,
 ) -> Result<Next, AllocError>
     requires typed { IsTypedLook (alone (module_of program.old.lists)) }
@@ -133,7 +131,7 @@ pub fn call_address(
     };
     match program.callee(pointer.address) {
         CalleeRef::Code(id) => call_code(program, stack, id, call),
-        CalleeRef::Host(row) => call_row(program, stack, memory, row, call, kinds, written),
+        CalleeRef::Host(row) => call_row(program, stack, memory, row, call, written),
         CalleeRef::Nothing => Ok(fails(UndefinedKind::NoFunction)),
     }
 }

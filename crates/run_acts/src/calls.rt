@@ -54,14 +54,7 @@ pub(crate) fn act_on_call(
         arguments: &room.leaves,
         to,
     };
-    call_address(
-        program,
-        stack,
-        memory,
-        &call,
-        &mut room.kinds,
-        &mut room.written,
-    )
+    call_address(program, stack, memory, &call, &mut room.written)
 }
 
 /// A return of the newest frame's function; `is_last` tells that nothing is due. Only a value of more than one leaf wants memory.

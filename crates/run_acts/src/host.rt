@@ -2,7 +2,6 @@
 ghost use Rattle.std.specs.Prelude.{◌≡◌, ◌<◌, ℕ, [], All, IfOk, List, OnOk, length, map};
 ghost use Rattle.host_calls.specs.Made.{EndsOrReads};
 ghost use Rattle.ir_memory.specs.Memory.{Blocks, HasFreeAddresses};
-ghost use Rattle.module_arena.specs.declared.host.HostRow.TheVariants as HostRow;
 ghost use Rattle.run_actions.specs.Carried.{core_of};
 ghost use Rattle.run_host.specs.Answers.{answer_of, leaves_of};
 ghost use Rattle.run_program.specs.Loaded.{Loaded};
@@ -12,54 +11,20 @@ ghost use Rattle.run_rules.specs.Host.{host, outcome_leaves};
 ghost use Rattle.run_rules.specs.State.{Due};
 ghost use Rattle.run_shapes.specs.Shapes.{shape_in};
 ghost use Rattle.run_stack.specs.UnderWay.{changed, Fits, IsRunning, newest};
-ghost use Rattle.run_types.specs.Wanted.{leaf_of};
 ghost use Rattle.typed_runs.specs.States.{IsRow, IsTypedMemory};
 ghost use Rattle.run_acts.specs.Made.{MayCallHost, StaysReady, TakesResult};
 ghost use Rattle.run_acts.specs.Said.{next_of};
 
 use crate::next::{Next, Stop, fails};
+use host_calls::ArgumentKinds;
 use ir_eval::Scalar;
 use ir_intrinsics::Outcome;
-use ir_memory::{Leaf, Memory};
+use ir_memory::Memory;
 use module_arena::HostRow;
 use run_host::HostAnswer;
 use run_stack::Stack;
-use run_types::only_leaf;
 use std::alloc::{AllocError, Global};
 use type_table::{TypeId, TypeTable};
-
-/// What each argument is, where it is one leaf, is put into `kinds`.
-fn only_leaves(
-    types: &TypeTable,
-    shapes: &[TypeId],
-    kinds: &mut Vec<Option<Leaf>>,
-) -> Result<(), AllocError>
-    requires types { All (λ ty. ty < length types.now.types) shapes.now }
-    requires none { kinds.old.items ≡ [] }
-    ensures { OnOk result (kinds.new.items ≡ map (λ ty. leaf_of (shape_in types.now ty)) shapes.now) }
-{
-    'arguments: for ty in shapes {
-        kinds.push(only_leaf(types, *ty))?;
-    }
-    Ok(())
-}
-
-/// What `printf` asks of its arguments is put into `kinds`: what each is, where it is one leaf. Of another function it is not asked.
-fn leaves_asked(
-    types: &TypeTable,
-    row: HostRow,
-    shapes: &[TypeId],
-    kinds: &mut Vec<Option<Leaf>>,
-) -> Result<(), AllocError>
-    requires types { All (λ ty. ty < length types.now.types) shapes.now }
-    requires none { kinds.old.items ≡ [] }
-    ensures { OnOk result (row ≡ HostRow.Printf → kinds.new.items ≡ map leaf_of (map (shape_in types.now) shapes.now)) }
-{
-    match row {
-        HostRow::Printf => only_leaves(types, shapes, kinds),
-        _ => Ok(()),
-    }
-}
 
 /// The newest frame takes the leaf or the two of a result.
 fn give_leaves(stack: &mut Stack, to: u32, outcome: Outcome)
@@ -113,7 +78,7 @@ pub(crate) struct HostCall<'c> {
 }
 
 /// A call of a host function by one of its types, on behalf of the newest frame, which stands behind the call already. What is written
-/// is put into `written`, in which nothing is. What `kinds` has is lost.
+/// is put into `written`, in which nothing is.
 ///
 /// It is refused for want of memory alone.
 pub(crate) fn call_host(
@@ -122,7 +87,6 @@ pub(crate) fn call_host(
     stack: &mut Stack,
     memory: &mut Memory,
     call: &HostCall<'_>,
-    kinds: &mut Vec<Option<Leaf>>,
     written: &mut Vec<u8>,
 ) -> Result<Next, AllocError>
     requires row { IsRow call.now.row }
@@ -136,15 +100,7 @@ pub(crate) fn call_host(
         ≡ next_of next (core_of stack.new.frames due memory.new) written.new.items) }
     ensures ready { OnOk result ((p : Loaded) → StaysReady p stack.old p stack.new) }
 {
-    kinds.clear();
-    leaves_asked(types, call.row, call.shapes, kinds)?;
-    let answer = host_calls::call(
-        alloc,
-        call.row,
-        kinds.as_slice(),
-        call.arguments,
-        memory,
-        written,
-    )?;
+    let kinds = ArgumentKinds::new(types, call.shapes);
+    let answer = host_calls::call(alloc, call.row, &kinds, call.arguments, memory, written)?;
     Ok(take_answer(stack, call.to, answer))
 }

@@ -62,7 +62,6 @@ fn inside_of<'m>(
     let OpenRun { memory, due } = opened;
     let room = Buffers {
         leaves: Vec::new(alloc),
-        kinds: Vec::new(alloc),
         written: Vec::new(alloc),
     };
     let live = Live {

@@ -12,4 +12,4 @@ returns-in_err-taken-in-Ok-Convert-clause-why c =
     if_fault c.from_residual-in_err-taken-in-Ok-Convert.result _ _ c.from_residual-in_err-taken-in-Ok-Convert.ensures.0 c.from_residual-in_err-taken-in-Ok-Convert.ensures.1
     (λ rest.
     conversion_refused c.args.memory.now f.pattern.now f.kinds.now f.arguments.now rest c.args.place c.in-Ok-Convert.conversion c.in-Ok-Convert.to c.in_err-taken-in-Ok-Convert.field-0.0 at
-    c.in_err-taken-in-Ok-Convert.ensures.why)
+    c.behind-kinds.result c.behind-kinds.ensures c.in_err-taken-in-Ok-Convert.ensures.why)
