@@ -1,5 +1,5 @@
 -- An arena in the making that gets constants: what was in it stays what it is.
-use Rattle.std.proofs.Common.{◌≡◌, ◌<◌, ℕ, List, [], ◌∷◌, length, get_or, Result, Ok, Err, IfOk, OnOk, OnErr, refl, sym, ap, subst, ◌∙◌, arith}
+use Rattle.std.proofs.Common.{◌≡◌, ◌<◌, inl, inr, ℕ, List, [], ◌∷◌, length, get_or, Result, Ok, Err, IfOk, OnOk, OnErr, refl, sym, ap, subst, ◌∙◌, arith}
 use Rattle.std.proofs.lemmas.List.{get_or_append_left, get_or_at, length_push}
 use Rattle.type_table.specs.declared.ir_type.IrType.{IrType}
 use Rattle.type_table.specs.declared.ir_type.IrType.TheVariants as type
@@ -58,7 +58,7 @@ pub keep_added : (g h : Growing) (b : Lists) (c : Const) (id : ℕ) → h ≡ g 
 keep_added g h b c id same is place =
     subst (λ (x : Growing). AddsConstant x c (record h { arena = b }) id) same
     (subst (λ (a : Lists). AddsConstant h c (record h { arena = a }) id) (sym is)
-    (subst (λ n. AddsConstant h c (record h { arena = with_constant h.arena c }) n) (sym place) (record { grows = grows_added h c; is = added_is h.arena c })))
+    (subst (λ n. AddsConstant h c (record h { arena = with_constant h.arena c }) n) (sym place) (record { grows = grows_added h c; is = added_is h.arena c; added = inr refl })))
 
 -- the same, unless memory ran out
 pub keep_or : {E : Type 0} (r : Result ℕ E) (g h : Growing) (b : Lists) (c : Const) → h ≡ g → OnOk r (b ≡ with_constant h.arena c) → IfOk r (λ id. id ≡ length h.arena.constants) → IfOk r (λ id. AddsConstant g c (record h { arena = b }) id)
@@ -66,7 +66,7 @@ keep_or (Ok id) g h b c same is place = keep_added g h b c id same is place
 keep_or (Err e) g h b c same is place = tt
 
 pub keep_found : (g h : Growing) (c : Const) (id : ℕ) → h ≡ g → IsConstant h.arena id (constant_in h.arena c) → AddsConstant g c g id
-keep_found g h c id same is = subst (λ (x : Growing). AddsConstant x c x id) same (record { grows = grows_self h; is = is })
+keep_found g h c id same is = subst (λ (x : Growing). AddsConstant x c x id) same (record { grows = grows_self h; is = is; added = inl refl })
 
 -- what holds of each arena in the making does not depend on its constants
 pub still_growing : (g : Growing) (b : Lists) → IsGrowing g → b.table ≡ g.arena.table → IsGrowing (record g { arena = b })

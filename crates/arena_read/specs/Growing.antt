@@ -1,6 +1,6 @@
 -- For `over`, `pointer`, `bit` and `keep` of `GrowingArena`: an arena in the making, and what it keeps while constants
 -- are added.
-use Rattle.std.specs.Prelude.{◌≡◌, ℕ, ◌+◌, ◌<◌, length}
+use Rattle.std.specs.Prelude.{◌≡◌, ◌⊎◌, ℕ, ◌+◌, ◌<◌, List, [], ◌∷◌, ◌++◌, length}
 use Rattle.type_table.specs.declared.ir_type.IrType.TheVariants as type
 use Rattle.type_table.specs.Tree.{Tree, ptr, int}
 use Rattle.type_table.specs.Types.{tree, with_type}
@@ -40,7 +40,12 @@ pub record Grows (old new : Growing) : Type 0 where
   pub rest : new ≡ record old { arena = record old.arena { constants = new.arena.constants } }
   pub constants : (id : ℕ) → id < length old.arena.constants → IsConstant new.arena id (constant_at (constants_of old.arena) id)
 
--- the constant of that number is this one, added or there already
+-- the constants that were there, or these with that one behind
+abbrev pub AddsAtMost : Const → List Const → List Const → Type 0
+AddsAtMost c before now = (now ≡ before) ⊎ (now ≡ before ++ c ∷ [])
+
+-- the constant of that number is this one, added or there already, and no other is added
 pub record AddsConstant (old : Growing) (c : Const) (new : Growing) (id : ℕ) : Type 0 where
   pub grows : Grows old new
   pub is : IsConstant new.arena id (constant_in old.arena c)
+  pub added : AddsAtMost c old.arena.constants new.arena.constants
