@@ -237,7 +237,7 @@ fn inside<'b>(
 }
 
 /// What stands in front, and is passed over. The abbreviation of a definition is kept, and that of a record by one.
-#[tactic(auto, using(crate::proofs::On::id_is_on), unfolding(crate::specs::Passing::pass_item, bit_stream::specs::Entry::id_at, bit_stream::specs::Entry::defined_at))]
+#[tactic(auto, using(crate::proofs::StaysInBits::id_is_on), unfolding(crate::specs::Passing::pass_item, bit_stream::specs::Entry::id_at, bit_stream::specs::Entry::defined_at))]
 pub fn pass_item<'b>(
     cursor: &mut BitCursor<'b>,
     scope: &mut WalkScope<'b>,
