@@ -4,7 +4,7 @@ use Rattle.ir_tables.specs.declared.linkage.Linkage.TheVariants as linkage
 use Rattle.ir_tables.specs.declared.predicate.Predicate.TheVariants as predicate
 use Rattle.type_table.specs.Tree.{int, ptr, void, array, struct, named, no_trees, more_trees, opaque_body, fields}
 use Rattle.module_arena.specs.Module as m
-use Rattle.module_arena.specs.Module.{Module, Operand, Value, empty_module}
+use Rattle.module_arena.specs.Module.{Operand, Value, empty_module}
 use Rattle.name_rules.proofs.WorkedRows.{comes_to, Accepted}
 
 abbrev numbered : ℕ → Value

@@ -4,7 +4,7 @@ use Rattle.ir_constants.specs.Tree.{TypeTree, TypedValueTree}
 use Rattle.ir_instructions.specs.Tree.{SignatureTree, CallTree, IncomingTree, OperationTree, InstructionTree, CaseTree, EndingTree, BlockTree}
 use Rattle.ir_instructions.specs.Tree as tree
 use Rattle.type_table.specs.Tree.{Tree, ptr}
-use Rattle.module_arena.specs.Module.{LocalName, Operand, Incoming, Signature, Operation, Instruction, Case, Ending, Block}
+use Rattle.module_arena.specs.Module.{Incoming, Signature, Operation, Instruction, Case, Ending, Block}
 use Rattle.module_arena.specs.Module as m
 use Rattle.name_rules.specs.Locals.{local_in, called, next_behind, has_result, announced_block, announced_result, next_after}
 use Rattle.name_rules.specs.Written.{natural, type_in, constant_in, value_in, operand_in, alignment_in}
