@@ -12,7 +12,7 @@ use Rattle.ir_syntax.specs.Tree.{ItemTree}
 use Rattle.ir_syntax.specs.Items.{language}
 use Rattle.type_table.specs.Tree.{Tree, ptr}
 use Rattle.module_arena.specs.Module as m
-use Rattle.module_arena.specs.Module.{Bytes, LocalName, Operand, Value, Operation, Instruction, Case, Ending, Block}
+use Rattle.module_arena.specs.Module.{Bytes, LocalName, Operand, Value, Instruction, Ending, Block}
 use Rattle.module_arena.specs.Forms.{is_operation_of_phrase, has_result_of_phrase, is_instruction_of_phrase}
 use Rattle.module_arena.specs.Names.{locals_of_operation, locals_of_block, blocks_of_operation, blocks_of_block}
 use Rattle.module_arena.specs.TypeTests.{is_void as is_void_tree}

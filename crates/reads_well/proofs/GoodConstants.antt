@@ -16,7 +16,7 @@ use Rattle.ir_constants.specs.Tree.{ConstantTree, IntegerConstant, SimpleConstan
 use Rattle.ir_constants.specs.Forms.{AreFlagsOf, is_constant_cast, is_constant_binary, HasConstant, IsFormed, AreFormed}
 use Rattle.ir_syntax.specs.Tree.{ItemTree}
 use Rattle.type_table.specs.Tree.{Tree, int, ptr, void, array, struct, named, Trees}
-use Rattle.module_arena.specs.Module.{Bytes, Constant, Constants, Module}
+use Rattle.module_arena.specs.Module.{Bytes, Constant, Constants}
 use Rattle.module_arena.specs.Module as m
 use Rattle.module_arena.specs.Forms as forms
 use Rattle.module_arena.specs.Constants.{constants_in, constants_of}
