@@ -1,10 +1,9 @@
 //! Measures the structs of a text, and any type that names them.
-ghost use Rattle.std.specs.Prelude.{◌≡◌, ◌<◌, ◌≤◌, ◌^◌, [], ◌∷◌, ◌++◌, ℕ, List, Option, Some, None, map, length, slice_set, slice_index_or, is_some, IfOk, OnOk, true, option_map};
+ghost use Rattle.std.specs.Prelude.{◌≡◌, ◌<◌, ◌^◌, [], ◌∷◌, ◌++◌, ℕ, Option, Some, None, map, length, slice_index_or, is_some, IfOk, OnOk, true, option_map};
 ghost use Rattle.ir_constants.specs.Tree.{types};
 ghost use Rattle.ir_constants.specs.View.{type_view};
 ghost use Rattle.ir_syntax.specs.View.{body_view, item_view, items_view};
 ghost use Rattle.type_table.specs.Measures.{array_measure, opaque_measure, struct_measure};
-ghost use Rattle.type_table.specs.Tree.{opaque_body};
 ghost use Rattle.name_rules.specs.Measured.{tree_measured, all_measured, body_measured, look_in, struct_measures, names_of};
 ghost use Rattle.name_rules.specs.ModuleOf.{structs_in};
 ghost use Rattle.name_rules.specs.TypeDemands.{has_name};

@@ -1,5 +1,5 @@
 //! Puts numbers into an order in which each stands behind those that it mentions.
-ghost use Rattle.std.specs.Prelude.{◌≡◌, ◌<◌, ◌^◌, ℕ, length, All, IfOk, OnOk, MatchBool};
+ghost use Rattle.std.specs.Prelude.{◌<◌, ◌^◌, length, All, IfOk, OnOk, MatchBool};
 ghost use Rattle.struct_order.specs.Order.{IsSettling, Keeps, KeepsAll, IsOrder, AreSettled, HasUnsettled, AreWithin, mention_lists};
 
 use crate::likely::likely_order;
