@@ -1,15 +1,15 @@
 -- For `build_structs`, `declare_items`, `initialise_items` and `set_targets`: what the entries of a module are built
 -- from.
-use Rattle.std.specs.Prelude.{ℕ, ◌^◌, ◌<◌, ◌-◌, List, length, All, Option, Some, None}
-use Rattle.ir_constants.specs.Tree.{TypeTree, ConstantTree}
-use Rattle.ir_syntax.specs.Tree.{BodyTree, OpaqueBody, PlainBody, PackedBody, ParameterTree, HeadTree, ItemTree, Struct, Variable, Alias, Declaration, Definition}
+use Rattle.std.specs.Prelude.{All, Option, Some, None}
+use Rattle.ir_constants.specs.Tree.{ConstantTree}
+use Rattle.ir_syntax.specs.Tree.{BodyTree, OpaqueBody, PlainBody, PackedBody, ParameterTree, ItemTree, Struct, Variable, Alias, Declaration, Definition}
 use Rattle.type_table.specs.Tree.{Structs}
 use Rattle.module_arena.specs.Lists.{Lists}
 use Rattle.name_rules.specs.Written.{type_in}
 use Rattle.type_build.specs.Fitting.{CanBe}
 use Rattle.type_build.specs.Holding.{CanHold, HasEntry}
 use Rattle.type_build.specs.Declarations.{CanAlias}
-use Rattle.buildable.specs.Bodies.{CanType, IsShortAlignment, CanBody}
+use Rattle.buildable.specs.Bodies.{IsShortAlignment, CanBody}
 
 module _ (structs : Structs) where
   -- the fields of a struct are within the limits

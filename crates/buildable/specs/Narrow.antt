@@ -3,8 +3,8 @@
 use Rattle.std.specs.Prelude.{◌≡◌, ℕ, ◌≤◌, List, All, Option, Some, None}
 use Rattle.ir_tables.specs.declared.width.TheConstants.{WIDEST}
 use Rattle.ir_constants.specs.Tree.{TypeTree, IntegerType, PointerType, VoidType, ArrayType, StructType, NamedType, TypeTrees, no_types, more_types, ConstantTree, IntegerConstant, SimpleConstant, AddressConstant, BytesConstant, ListConstant, ElementAddress, Conversion, Arithmetic, ConstantTrees, no_constants, more_constants, TypedConstantTree, ValueTree, LocalValue, ConstantValue, TypedValueTree}
-use Rattle.ir_instructions.specs.Tree.{SignatureTree, CallTree, IncomingTree, OperationTree, Binary, Compare, Cast, Select, Freeze, Phi, Load, Store, Alloca, GetElementPtr, Call, ExtractValue, InsertValue, InstructionTree, CaseTree, EndingTree, ReturnVoid, Return, Jump, Branch, Switch, Unreachable, BlockTree}
-use Rattle.ir_syntax.specs.Tree.{BodyTree, OpaqueBody, PlainBody, PackedBody, VariableTree, AliasTypeTree, PlainAlias, FunctionAlias, AliasTree, ParameterTree, HeadTree, ItemTree, Struct, Variable, Alias, Declaration, Definition}
+use Rattle.ir_instructions.specs.Tree.{SignatureTree, IncomingTree, OperationTree, Binary, Compare, Cast, Select, Freeze, Phi, Load, Store, Alloca, GetElementPtr, Call, ExtractValue, InsertValue, InstructionTree, CaseTree, EndingTree, ReturnVoid, Return, Jump, Branch, Switch, Unreachable, BlockTree}
+use Rattle.ir_syntax.specs.Tree.{BodyTree, OpaqueBody, PlainBody, PackedBody, AliasTypeTree, PlainAlias, FunctionAlias, ParameterTree, ItemTree, Struct, Variable, Alias, Declaration, Definition}
 
 abbrev mutual
   -- each integer type in it has 1 to 128 bits
