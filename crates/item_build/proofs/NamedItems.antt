@@ -18,7 +18,7 @@ use Rattle.module_arena.specs.declared.entry.Alias as the_alias
 use Rattle.module_arena.specs.declared.entry.Function as the_function
 use Rattle.module_arena.specs.Lists as lists
 use Rattle.module_arena.specs.Lists.{Lists, name_at}
-use Rattle.module_arena.specs.Module.{Bytes, Module}
+use Rattle.module_arena.specs.Module.{Bytes}
 use Rattle.module_arena.specs.Module as m
 use Rattle.module_arena.specs.View.{module_of, variable_view, alias_view, function_view, constants_of}
 use Rattle.module_arena.specs.WellFormed as formed

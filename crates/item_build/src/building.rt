@@ -1,5 +1,5 @@
 //! Gives the structs of a text their bodies.
-ghost use Rattle.std.specs.Prelude.{◌≡◌, ◌<◌, ◌≤◌, ◌^◌, ◌-◌, None, IfOk, OnOk};
+ghost use Rattle.std.specs.Prelude.{◌≡◌, ◌<◌, ◌^◌, ◌-◌, None, IfOk, OnOk};
 ghost use Rattle.ir_syntax.specs.View.{item_view, items_view};
 ghost use Rattle.type_table.specs.Tree.{Structs};
 ghost use Rattle.type_table.specs.Types.{structs, no_types};

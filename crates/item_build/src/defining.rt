@@ -1,5 +1,5 @@
 //! Gives a struct its body.
-ghost use Rattle.std.specs.Prelude.{◌≡◌, ◌≤◌, ◌<◌, ◌^◌, ℕ, length, Some, IfOk, OnOk};
+ghost use Rattle.std.specs.Prelude.{◌≡◌, ℕ, Some, IfOk, OnOk};
 ghost use Rattle.ir_syntax.specs.View.{body_view};
 ghost use Rattle.type_table.specs.Tree.{Structs};
 ghost use Rattle.type_table.specs.Types.{structs, trees, tree_body, IsKnownBody};
