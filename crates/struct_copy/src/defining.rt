@@ -4,7 +4,6 @@ ghost use Rattle.type_table.specs.Types.{structs, bodies, KnowsBody, no_types};
 ghost use Rattle.module_arena.specs.View.{module_of};
 ghost use Rattle.module_arena.specs.Renamed.{own};
 ghost use Rattle.type_build.specs.Holding.{entries};
-ghost use Rattle.item_build.specs.Named.{AreDone};
 ghost use Rattle.item_build.specs.Partly.{IsPartly, IsDone, with_structs};
 ghost use Rattle.entry_copy.specs.Copies.{CopiesTypes};
 ghost use Rattle.entry_copy.specs.Tables.{tables_of, with_types};
