@@ -1,5 +1,5 @@
 -- For `declare_symbols`: the linked module while its entries are declared, none of which is defined yet.
-use Rattle.std.specs.Prelude.{ℕ, ◌+◌, List, [], ◌∷◌, ◌++◌, filter_map, map, None}
+use Rattle.std.specs.Prelude.{ℕ, ◌+◌, List, [], ◌∷◌, ◌++◌, filter_map, map}
 use Rattle.linkage_rules.specs.Globals.{Global, OfVariable, OfFunction, OfAlias}
 use Rattle.module_arena.specs.Changes.{more_variables, more_aliases, more_functions}
 use Rattle.module_arena.specs.Module.{Module}

@@ -1,8 +1,8 @@
 -- For `define_symbols`: the linked module while its declared entries get their definitions.
-use Rattle.std.specs.Prelude.{◌≡◌, ℕ, ◌+◌, List, ◌++◌, map, take, drop, slice_get, Option, Some, None}
+use Rattle.std.specs.Prelude.{ℕ, List, ◌++◌, map, take, drop, Option, Some, None}
 use Rattle.linkage_rules.specs.Globals.{Global, OfVariable, OfFunction, OfAlias}
 use Rattle.module_arena.specs.Changes.{initialised, targeted, defined}
-use Rattle.module_arena.specs.Module.{Bytes, Block, Constant, Module}
+use Rattle.module_arena.specs.Module.{Block, Constant, Module}
 use Rattle.module_arena.specs.declared.entry.GlobalId.{GlobalId}
 use Rattle.module_arena.specs.declared.entry.GlobalId.TheVariants as global
 use Rattle.module_linker.specs.Linked.{linked_globals}

@@ -1,5 +1,5 @@
 -- For `copy_ground`: the linked module before any entry of it is declared, and how far the parts are copied then.
-use Rattle.std.specs.Prelude.{◌≡◌, ℕ, List, length, slice_get, Some, None}
+use Rattle.std.specs.Prelude.{◌≡◌, ℕ, List, length, slice_get, Some}
 use Rattle.type_table.specs.Types.{structs}
 use Rattle.module_arena.specs.Lists.{Lists}
 use Rattle.module_arena.specs.Module.{Module}
