@@ -1,5 +1,5 @@
 //! Initialisers of variables that are defined.
-ghost use Rattle.std.specs.Prelude.{◌≡◌, ◌<◌, All, IfOk, OnOk};
+ghost use Rattle.std.specs.Prelude.{◌≡◌, All, IfOk, OnOk};
 ghost use Rattle.linkage_rules.specs.Globals.{initialiser_of};
 ghost use Rattle.linkage_rules.specs.Ids.{IsEntryId, modules, seen};
 ghost use Rattle.module_arena.specs.Module.{Bytes};
