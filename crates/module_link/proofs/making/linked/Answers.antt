@@ -1,4 +1,4 @@
-use Rattle.std.proofs.Common.{◌≡◌, List, ap, ◌∙◌, subst}
+use Rattle.std.proofs.Common.{List, ap, ◌∙◌, subst}
 use Rattle.linkage_rules.specs.Ids.{modules}
 use Rattle.module_arena.specs.Lists.{Lists}
 use Rattle.link_stages.specs.Copied.{AreCopied}
