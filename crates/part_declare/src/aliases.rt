@@ -1,8 +1,6 @@
 //! Aliases: those that are kept, and those that become variables or functions.
-ghost use Rattle.std.specs.Prelude.{◌≡◌, ◌<◌, length, slice_get, option_to_list, Some, false, All, IfOk};
-ghost use Rattle.std.specs.Option.{option_map_or};
+ghost use Rattle.std.specs.Prelude.{◌≡◌, ◌<◌, length, slice_get, Some, false, IfOk};
 ghost use Rattle.extract_core.specs.Extracted.{is_constant};
-ghost use Rattle.module_arena.specs.declared.entry.Alias as the_alias;
 ghost use Rattle.module_arena.specs.Known.{HasGlobal, counts};
 ghost use Rattle.module_arena.specs.Lists.{name_at};
 ghost use Rattle.module_arena.specs.View.{module_of};
