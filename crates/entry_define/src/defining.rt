@@ -1,5 +1,5 @@
 //! Bodies of functions that are kept.
-ghost use Rattle.std.specs.Prelude.{◌≡◌, ◌++◌, ◌+◌, ◌<◌, ◌≤◌, ℕ, List, length, slice_get, Some, None, IfOk, OnOk, ◌≢◌};
+ghost use Rattle.std.specs.Prelude.{◌≡◌, ◌++◌, ◌+◌, ◌<◌, ◌≤◌, ℕ, List, length, slice_get, Some, None, IfOk, OnOk};
 ghost use Rattle.module_arena.specs.Module as m;
 ghost use Rattle.module_arena.specs.View.{module_of};
 ghost use Rattle.module_arena.specs.declared.entry.Function as the_function;
