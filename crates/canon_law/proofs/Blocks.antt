@@ -4,7 +4,7 @@ use Rattle.ir_lexer.specs.Pieces.{Space, Line, Indented}
 use Rattle.ir_tables.specs.Opcode.{opcode_code}
 use Rattle.ir_tables.specs.declared.opcode.Opcode.{Opcode}
 use Rattle.ir_tables.specs.declared.opcode.Opcode.TheVariants as op
-use Rattle.phrase_rows.specs.Row.{among, keep_second, alt, mapped}
+use Rattle.phrase_rows.specs.Row.{among, alt, mapped}
 use Rattle.ir_terminals.specs.Role.{class}
 use Rattle.ir_terminals.specs.Tokens.{word}
 use Rattle.ir_terminals.specs.declared.terminal.Terminal.TheVariants as terminals
@@ -19,7 +19,7 @@ use Rattle.ir_instructions.specs.Endings.{target_core, target_row, target_shape,
 use Rattle.ir_instructions.specs.Blocks.{block_core, block_row, block_shape, blocks_row}
 use Rattle.module_arena.specs.Module.{LocalName, Operand, Operation, BinaryOperation, Compare, Convert, Select, Freeze, Phi, Load, Store, Alloca, GetElementPtr, Call, ExtractValue, InsertValue, Instruction, Case, Ending, ReturnVoid, Return, Jump, Branch, Switch, Unreachable, Block}
 use Rattle.canonical.specs.Phrase as phrase
-use Rattle.canonical.specs.Phrase.{Phrase, mark, comma, ◌␣◌, ◌⌢◌, ◌⨾◌, each}
+use Rattle.canonical.specs.Phrase.{Phrase, mark, comma, ◌␣◌, ◌⌢◌, each}
 use Rattle.canonical.specs.Names as names
 use Rattle.canonical.specs.Constants.{opcode, constant_phrase, operand}
 use Rattle.canonical.specs.Operations.{operation_phrase}

@@ -22,7 +22,7 @@ use Rattle.ir_syntax.specs.Functions.{parameter_core, parameter_row, parameter_s
 use Rattle.type_table.specs.Tree.{Tree}
 use Rattle.module_arena.specs.Module.{Block, Parameter, Function}
 use Rattle.canonical.specs.Phrase as phrase
-use Rattle.canonical.specs.Phrase.{Phrase, none, mark, comma, ◌␣◌, ◌⌢◌, listed, more, in_parentheses}
+use Rattle.canonical.specs.Phrase.{Phrase, none, mark, comma, ◌␣◌, listed, more, in_parentheses}
 use Rattle.canonical.specs.Types.{type_phrase}
 use Rattle.canonical.specs.Operations.{dotted}
 use Rattle.canonical.specs.Canonical.{linkage_phrase, head_phrase, parameter_phrase, body_of_blocks, function_phrase_by}
