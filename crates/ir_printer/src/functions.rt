@@ -1,9 +1,8 @@
 //! Functions (LangRef, "Functions").
-ghost use Rattle.std.specs.Prelude.{◌<◌, ◌≡◌, length, Some, None};
+ghost use Rattle.std.specs.Prelude.{◌≡◌, length, Some, None};
 ghost use Rattle.gathered.specs.Told.{state};
 ghost use Rattle.module_arena.specs.Known.{KnowsFunction};
 ghost use Rattle.module_arena.specs.declared.entry.Body.{Body};
-ghost use Rattle.module_arena.specs.Lists.{function_blocks};
 ghost use Rattle.canonical.specs.Canonical.{function_phrase};
 ghost use Rattle.phrase_printer.specs.Printing.{separator_of, Prints};
 ghost use Rattle.ir_printer.specs.Functions.{function_of, declared_phrase, defined_phrase};

@@ -1,5 +1,5 @@
 //! A sink that grows.
-ghost use Rattle.std.specs.Prelude.{◌≡◌, ◌<◌, ◌≤◌, ℕ, List, [], Some, length, take, Option, IfOk, OnOk, OnErr};
+ghost use Rattle.std.specs.Prelude.{◌≡◌, ◌<◌, ◌≤◌, [], Some, length, take, IfOk, OnOk, OnErr};
 ghost use Rattle.ir_base.specs.Outside.{Rose, Added};
 
 use ir_base::{Failed, Sink, Text};

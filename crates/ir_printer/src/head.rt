@@ -1,8 +1,7 @@
 //! The heads of functions (LangRef, "Functions").
-ghost use Rattle.std.specs.Prelude.{◌<◌, length, map, All};
+ghost use Rattle.std.specs.Prelude.{◌<◌, length, All};
 ghost use Rattle.gathered.specs.Told.{state};
 ghost use Rattle.ir_lexer.specs.Pieces.{Nothing};
-ghost use Rattle.module_arena.specs.declared.entry.Parameter as the_parameter;
 ghost use Rattle.module_arena.specs.View.{parameter_view};
 ghost use Rattle.type_table.specs.Types.{trees};
 ghost use Rattle.canonical.specs.Canonical.{parameter_phrase};

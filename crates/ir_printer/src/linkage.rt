@@ -1,5 +1,4 @@
 //! Linkages (LangRef, "Linkage Types").
-ghost use Rattle.std.specs.Prelude.{Bool, if◌then◌else◌};
 ghost use Rattle.gathered.specs.Told.{state};
 ghost use Rattle.ir_lexer.specs.Pieces.{Space};
 ghost use Rattle.ir_tables.specs.Linkage.{linkage_word};

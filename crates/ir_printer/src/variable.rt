@@ -1,5 +1,5 @@
 //! Variables (LangRef, "Global Variables").
-ghost use Rattle.std.specs.Prelude.{◌<◌, length, option_map, option_to_list, All, is_some, is_none};
+ghost use Rattle.std.specs.Prelude.{◌<◌, length, option_map, option_to_list, All};
 ghost use Rattle.gathered.specs.Told.{state};
 ghost use Rattle.ir_lexer.specs.Pieces.{Space};
 ghost use Rattle.type_table.specs.Types.{trees, tree};
