@@ -79,8 +79,9 @@ fn part_of(alloc: Global, checked: &Checked, selection: &SelectionWords) -> Resu
     }
 }
 
-// When the items of a text are given back, of which the words select a part: at the end, but where nearly all of it may be kept, so
-// that they never stand beside the whole and a part as large.
+// When the items of a text are given back, of which the words select a part: at the end, but where nearly all of it may be
+// kept, so that they never stand beside the whole and a part as large. It decides time and memory alone, so it has no
+// contract: the module is the same either way, as `module_alone` tells.
 fn items_back(selection: &SelectionWords) -> GivenBack {
     if selection.delete || selection.recursive {
         GivenBack::AtOnce
