@@ -1,5 +1,5 @@
 -- What is known of a run stays known further on in it.
-use Rattle.std.proofs.Common.{◌≡◌, ℕ, zero, suc, ◌+◌, ◌-◌, ◌≤◌, ◌<◌, List, [], ◌∷◌, length, take, drop, get_or, Bool, true, false, refl, arith, None, add_comm, ◌⊎◌, inl, inr, length-drop}
+use Rattle.std.proofs.Common.{◌≡◌, ℕ, zero, suc, ◌+◌, ◌-◌, ◌≤◌, ◌<◌, List, [], ◌∷◌, length, take, drop, get_or, Bool, true, false, refl, arith, None, add_comm, ◌⊎◌, inl, inr, length-drop, drop-cons}
 use Rattle.std.proofs.Math.Seq.{take-length}
 use Rattle.std.proofs.lemmas.List.{drop-drop}
 use Rattle.ir_lexer.specs.declared.class.Class.{Class}
@@ -7,7 +7,7 @@ use Rattle.ir_lexer.specs.declared.class.Class.TheVariants as c
 use Rattle.ir_lexer.specs.Class.{byte_class, in_word, in_name, is_colon, starts_with}
 use Rattle.ir_lexer.specs.Form.{run, longest, Done}
 use Rattle.ir_lexer.specs.Table.{Label, tail_of}
-use Rattle.ir_lexer.specs.Label.{KnownRun}
+use Rattle.ir_lexer.specs.Label.{KnownRun, ends_name}
 use Rattle.ir_lexer.proofs.Runs.{bool_cases, run_first, run_stops, run_none, run_within}
 use Rattle.ir_lexer.proofs.Lexed.{behind_none}
 
@@ -73,6 +73,24 @@ pub run_in_two : (word n : ℕ) (s : List ℕ) → word ≡ run in_word s → n 
 run_in_two word n s w e =
     let behind : n ≡ run in_name (drop word s) = rw all_behind at e in
     omega (arith, behind, run_drop in_name word s (omega (arith, w, run_within in_word in_name word_is_name s)))
+
+-- What may end a word tells that no name goes on, and that no colon stands there.
+ends_all : (x : Class) → ends_name x ≡ true → (in_name x ≡ false) × (is_colon x ≡ false)
+ends_all c.Mark h = (refl, refl)
+ends_all c.Semicolon h = (refl, refl)
+ends_all c.LineFeed h = (refl, refl)
+ends_all c.Blank h = (refl, refl)
+ends_all c.Other h = (refl, refl)
+ends_all _ h = absurd cc
+
+pub word_ended : (word : ℕ) (s : List ℕ) → word ≡ run in_word s → word < length s → ends_name (byte_class (get_or s word 0)) ≡ true → KnownRun word s
+word_ended word s w h e some =
+    let x = ends_all (byte_class (get_or s word 0)) e in
+    let none : run in_name (drop word s) ≡ 0 = rw (drop-cons s word 0) (run_stops in_name (get_or s word 0) (drop (suc word) s) x.0) in
+    record {
+      length_is = omega (arith, w, none, run_drop in_name word s (omega (arith, w, run_within in_word in_name word_is_name s)));
+      no_colon = rw (drop-cons s word 0) x.1;
+    }
 
 pub no_colon_behind : (n : ℕ) (s : List ℕ) (is : Bool) → is ≡ false → is ≡ starts_with is_colon (take (length s - n) (drop n s)) → starts_with is_colon (drop n s) ≡ false
 no_colon_behind n s is e b = let k : is ≡ starts_with is_colon (drop n s) = rw all_behind at b in cc

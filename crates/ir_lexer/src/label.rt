@@ -1,11 +1,11 @@
 //! Labels, and the look-ahead that they need.
-ghost use Rattle.std.specs.Prelude.{◌≡◌, ◌+◌, ◌<◌, ◌≤◌, length, drop, IfSome};
+ghost use Rattle.std.specs.Prelude.{◌≡◌, ◌+◌, ◌<◌, ◌≤◌, length, drop, true, IfSome};
 ghost use Rattle.ir_lexer.specs.Class.{in_word};
 ghost use Rattle.ir_lexer.specs.Form.{longest, run};
-ghost use Rattle.ir_lexer.specs.Label.{KnownRun};
+ghost use Rattle.ir_lexer.specs.Label.{KnownRun, ends_name};
 ghost use Rattle.ir_lexer.specs.Table.{Label, tail_of};
 
-use crate::class::ClassSet;
+use crate::class::{Class, ClassSet, class_of};
 use crate::run::{begins, run_of};
 
 /// The length of what makes a label of the byte before.
@@ -34,6 +34,28 @@ pub fn label_unless(known: usize, text: &[u8]) -> Option<usize>
     } else {
         label_of(&text[1..])
     }
+}
+
+/// Whether a byte of the class stands behind nearly every word and number, and neither goes on with it nor makes a label
+/// of it: a mark of one byte, what stands between tokens, or a byte that begins none.
+#[inline(always)]
+fn ends_name(class: Class) -> bool
+    ensures { result ≡ ends_name class }
+{
+    matches!(
+        class,
+        Class::Mark | Class::Semicolon | Class::LineFeed | Class::Blank | Class::Other
+    )
+}
+
+/// Whether the byte behind the word at the front, which has so many bytes, tells that no name goes on there and that it
+/// is no label.
+#[inline(always)]
+pub fn is_ended_word(word: usize, text: &[u8]) -> bool
+    requires { word ≡ run in_word text.now }
+    ensures { result ≡ true → KnownRun word text.now }
+{
+    word < text.len() && ends_name(class_of(text[word]))
 }
 
 /// The length of the run of bytes of a name at the front, of which the first so many are those of a word, or 0 where a

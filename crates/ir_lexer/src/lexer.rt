@@ -3,6 +3,7 @@ ghost use Rattle.std.specs.Prelude.{◌≡◌, ◌≤◌, length, take, IfSome};
 ghost use Rattle.ir_lexer.specs.Class.{in_word};
 ghost use Rattle.ir_lexer.specs.Form.{run};
 ghost use Rattle.ir_lexer.specs.Front.{next_token};
+ghost use Rattle.ir_lexer.specs.Label.{KnownRun};
 ghost use Rattle.ir_lexer.specs.Place.{place_of, place_after};
 ghost use Rattle.ir_lexer.specs.Table.{IsToken};
 ghost use Rattle.ir_lexer.specs.Lexer.{at_start, rest, token_spelling, Says, IsPlaced, Stays, answer, after, advanced, skipped, token_at, is_nil};
@@ -10,7 +11,7 @@ ghost use Rattle.ir_lexer.specs.Lexer.{at_start, rest, token_spelling, Says, IsP
 use crate::class::ClassSet;
 use crate::front::fitting_token_of;
 use crate::gap::gap_of;
-use crate::label::run_without_label;
+use crate::label::{is_ended_word, run_without_label};
 use crate::place::place_behind_token;
 use crate::run::{begins, run_of};
 use crate::token::{BadByte, Token, TokenKind};
@@ -102,27 +103,42 @@ impl<'t> Lexer<'t> {
         }
     }
 
-    /// How many bytes of a word stand here. Where bytes of names stand here, the end of their run is looked for once.
-    fn survey(&mut self) -> usize
-        ensures word { result ≡ run in_word (rest self.old) }
+    /// How many bytes of names stand here where no colon follows them, or 0. So many bytes of a word stand here. What
+    /// stands behind a word tells it nearly always; where it does not, the end of the run is looked for once.
+    fn run_known(&mut self, word: usize) -> usize
+        requires { word ≡ run in_word (rest self.old) }
+        ensures known { KnownRun result (rest self.old) }
+        ensures same { self.new ≡ self.old }
+    {
+        if is_ended_word(word, &self.text[self.at..]) {
+            return word;
+        }
+        self.scout(word);
+        self.known.saturating_sub(self.at)
+    }
+
+    /// How many bytes of a word stand here, and how many of names where no colon follows them, or 0.
+    fn survey(&mut self) -> (usize, usize)
+        ensures word { result.0 ≡ run in_word (rest self.old) }
+        ensures known { KnownRun result.1 (rest self.old) }
         ensures same { self.new ≡ self.old }
     {
         if !begins(ClassSet::InName, &self.text[self.at..]) {
-            return 0;
+            return (0, 0);
         }
         let word = self.word();
-        self.scout(word);
-        word
+        (word, self.run_known(word))
     }
 
-    /// The kind and the length of the token here, where so many bytes of a word stand.
-    fn front(&self, word: usize) -> Option<(TokenKind, usize)>
-        requires { word ≡ run in_word (rest self.now) }
+    /// The kind and the length of the token here, where so many bytes of a word stand, and so many of names where no
+    /// colon follows them.
+    fn front(&self, word: usize, known: usize) -> Option<(TokenKind, usize)>
+        requires word { word ≡ run in_word (rest self.now) }
+        requires known { KnownRun known (rest self.now) }
         ensures token { result ≡ next_token (rest self.now) }
         ensures in_rest { IfSome result (λ found. found.1 ≤ length (rest self.now)) }
         ensures spelled { IfSome result (λ found. IsToken found.0 (take found.1 (rest self.now))) }
     {
-        let known = self.known.saturating_sub(self.at);
         fitting_token_of(known, word, &self.text[self.at..])
     }
 
@@ -163,8 +179,8 @@ impl<'t> Lexer<'t> {
         if self.is_at_end() {
             return Ok(None);
         }
-        let word = self.survey();
-        match self.front(word) {
+        let (word, known) = self.survey();
+        match self.front(word, known) {
             Some((kind, count)) => Ok(Some(self.take(kind, count))),
             None => Err(BadByte {
                 place: self.place(),
