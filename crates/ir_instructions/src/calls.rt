@@ -6,6 +6,7 @@ ghost use Rattle.ir_instructions.specs.View.{signature_view, operation_view};
 ghost use Rattle.ir_terminals.specs.Follows.{Follows};
 
 use crate::attributes::{convention, function_attributes, parameter_attributes};
+use crate::boxed::boxed;
 use crate::metadata::attachments;
 use crate::operation::{Operation, SignatureTypes, WrittenCall};
 use ir_constants::{Type, TypedValue, WrittenValue, begins_type, type_of, value_of};
@@ -155,5 +156,5 @@ pub fn call(cursor: &mut Cursor) -> Result<Operation, Fault>
         callee,
         arguments,
     };
-    Ok(Operation::Call(Box::new(cursor.alloc(), call)?))
+    Ok(Operation::Call(boxed(cursor.alloc(), call)?))
 }

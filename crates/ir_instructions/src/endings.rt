@@ -8,6 +8,7 @@ ghost use Rattle.ir_instructions.specs.View.{case_view, ending_view};
 ghost use Rattle.ir_terminals.specs.Follows.{Follows};
 
 use crate::block::{Branch, Switch, WrittenCase, WrittenEnding};
+use crate::boxed::boxed;
 use crate::metadata::attachments;
 use ir_constants::{
     TypedValue, begins_type, typed_constant_of, typed_value_of, value_of, value_type_of,
@@ -39,7 +40,7 @@ fn returned(cursor: &mut Cursor) -> Result<WrittenEnding, Fault>
 {
     let ty = value_type_of(cursor)?;
     let value = value_of(cursor)?;
-    let value = Box::new(cursor.alloc(), TypedValue { ty, value })?;
+    let value = boxed(cursor.alloc(), TypedValue { ty, value })?;
     Ok(WrittenEnding::Return(value))
 }
 
@@ -78,7 +79,7 @@ fn condition(cursor: &mut Cursor) -> Result<WrittenEnding, Fault>
         then_to,
         else_to,
     };
-    Ok(WrittenEnding::Branch(Box::new(cursor.alloc(), branch)?))
+    Ok(WrittenEnding::Branch(boxed(cursor.alloc(), branch)?))
 }
 
 /// `label LOCAL`, or `TYPE VALUE , label LOCAL , label LOCAL`.
@@ -160,7 +161,7 @@ fn switch(cursor: &mut Cursor) -> Result<WrittenEnding, Fault>
         otherwise,
         cases,
     };
-    Ok(WrittenEnding::Switch(Box::new(cursor.alloc(), switch)?))
+    Ok(WrittenEnding::Switch(boxed(cursor.alloc(), switch)?))
 }
 
 /// `unreachable`

@@ -16,6 +16,7 @@
 mod attributes;
 mod block;
 mod blocks;
+mod boxed;
 mod calls;
 mod endings;
 mod footprint;

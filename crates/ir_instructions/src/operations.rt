@@ -3,6 +3,7 @@ ghost use Rattle.ir_instructions.specs.Operations.{binary_row, compare_row, cast
 ghost use Rattle.ir_instructions.specs.View.{operation_view};
 ghost use Rattle.ir_terminals.specs.Follows.{Follows};
 
+use crate::boxed::boxed;
 use crate::calls::call;
 use crate::listed::more_parts;
 use crate::metadata::attachments;
@@ -55,7 +56,7 @@ fn cast(cursor: &mut Cursor, opcode: Opcode) -> Result<Operation, Fault>
     let flags = flags_of(cursor, opcode)?;
     let value = typed_value_of(cursor)?;
     let to = cast_type(cursor)?;
-    let conversion = Box::new(cursor.alloc(), CastParts { value, to })?;
+    let conversion = boxed(cursor.alloc(), CastParts { value, to })?;
     Ok(Operation::Cast {
         opcode,
         flags,
@@ -75,7 +76,7 @@ fn select(cursor: &mut Cursor) -> Result<Operation, Fault>
         first,
         second,
     };
-    Ok(Operation::Select(Box::new(cursor.alloc(), choice)?))
+    Ok(Operation::Select(boxed(cursor.alloc(), choice)?))
 }
 
 /// `TYPE VALUE (, MD)*`
@@ -85,7 +86,7 @@ fn freeze(cursor: &mut Cursor) -> Result<Operation, Fault>
 {
     let value = typed_value_of(cursor)?;
     attachments(cursor)?;
-    Ok(Operation::Freeze(Box::new(cursor.alloc(), value)?))
+    Ok(Operation::Freeze(boxed(cursor.alloc(), value)?))
 }
 
 /// `TYPE [ VALUE , LOCAL ] (, [ VALUE , LOCAL ])* (, MD)*`
@@ -96,7 +97,7 @@ fn phi(cursor: &mut Cursor) -> Result<Operation, Fault>
     let ty = type_of(cursor)?;
     let first = incoming(cursor)?;
     let incoming = more_parts(cursor, first)?;
-    Ok(Operation::Phi(Box::new(cursor.alloc(), Phi { ty, incoming })?))
+    Ok(Operation::Phi(boxed(cursor.alloc(), Phi { ty, incoming })?))
 }
 
 /// `FLAG* TYPE , TYPE VALUE (, align INT)? (, MD)*`
@@ -112,7 +113,7 @@ fn load(cursor: &mut Cursor) -> Result<Operation, Fault>
         address,
         alignment,
     };
-    let load = Box::new(cursor.alloc(), load)?;
+    let load = boxed(cursor.alloc(), load)?;
     Ok(Operation::Load { flags, load })
 }
 
@@ -129,7 +130,7 @@ fn store(cursor: &mut Cursor) -> Result<Operation, Fault>
         address,
         alignment,
     };
-    let store = Box::new(cursor.alloc(), store)?;
+    let store = boxed(cursor.alloc(), store)?;
     Ok(Operation::Store { flags, store })
 }
 
@@ -145,7 +146,7 @@ fn alloca(cursor: &mut Cursor) -> Result<Operation, Fault>
         count,
         alignment,
     };
-    Ok(Operation::Alloca(Box::new(cursor.alloc(), alloca)?))
+    Ok(Operation::Alloca(boxed(cursor.alloc(), alloca)?))
 }
 
 /// `FLAG* TYPE , TYPE VALUE (, TYPE VALUE)* (, MD)*`
@@ -156,7 +157,7 @@ fn element_address(cursor: &mut Cursor) -> Result<Operation, Fault>
     let flags = flags_of(cursor, Opcode::GetElementPtr)?;
     let source = type_of(cursor)?;
     let operands = operand_list(cursor)?;
-    let address = Box::new(cursor.alloc(), Address { source, operands })?;
+    let address = boxed(cursor.alloc(), Address { source, operands })?;
     Ok(Operation::GetElementPtr { flags, address })
 }
 
@@ -167,7 +168,7 @@ fn extract(cursor: &mut Cursor) -> Result<Operation, Fault>
 {
     let value = typed_value_of(cursor)?;
     let indices = indices(cursor)?;
-    let extraction = Box::new(cursor.alloc(), Extraction { value, indices })?;
+    let extraction = boxed(cursor.alloc(), Extraction { value, indices })?;
     Ok(Operation::ExtractValue(extraction))
 }
 
@@ -184,7 +185,7 @@ fn insert(cursor: &mut Cursor) -> Result<Operation, Fault>
         part,
         indices,
     };
-    Ok(Operation::InsertValue(Box::new(cursor.alloc(), insertion)?))
+    Ok(Operation::InsertValue(boxed(cursor.alloc(), insertion)?))
 }
 
 /// What follows the opcode of an instruction that does not end a block.

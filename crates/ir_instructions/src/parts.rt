@@ -5,6 +5,7 @@ ghost use Rattle.ir_instructions.specs.Operations.{next_value_row, next_typed_va
 ghost use Rattle.ir_instructions.specs.View.{incoming_view, operands_view};
 ghost use Rattle.ir_terminals.specs.Follows.{Follows};
 
+use crate::boxed::boxed;
 use crate::listed::more_parts;
 use crate::metadata::attachments;
 use crate::operation::{Operands, WrittenIncoming};
@@ -39,7 +40,7 @@ pub fn operands(cursor: &mut Cursor) -> Result<Box<Operands>, Fault>
     let left = typed_value_of(cursor)?;
     let right = next_value(cursor)?;
     attachments(cursor)?;
-    Ok(Box::new(cursor.alloc(), Operands { left, right })?)
+    Ok(boxed(cursor.alloc(), Operands { left, right })?)
 }
 
 /// `to TYPE (, MD)*`
@@ -53,7 +54,8 @@ pub fn cast_type(cursor: &mut Cursor) -> Result<Type, Fault>
     Ok(to)
 }
 
-/// `, TYPE VALUE , TYPE VALUE (, MD)*`
+/// `, TYPE VALUE , TYPE VALUE (, MD)*`. It is called, so that two values are moved as a whole where they are joined.
+#[inline(never)]
 #[tactic(auto, unfolding(crate::specs::Operations::arms_core))]
 pub fn arms(cursor: &mut Cursor) -> Result<(TypedValue, TypedValue), Fault>
     ensures { Follows arms_row (λ x. (typed_value_view x.0, typed_value_view x.1)) cursor.old result cursor.new }

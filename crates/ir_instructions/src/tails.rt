@@ -3,6 +3,7 @@ ghost use Rattle.ir_instructions.specs.Tails.{alignment_behind_row, alignment_ro
 ghost use Rattle.ir_instructions.specs.View.{count_view};
 ghost use Rattle.ir_terminals.specs.Follows.{Follows};
 
+use crate::boxed::boxed;
 use crate::metadata::{attachment, attachments};
 use ir_constants::{TypedValue, begins_type, typed_value_of};
 use ir_terminals::{Cursor, Fault, Integer, Terminal};
@@ -44,7 +45,7 @@ fn count_behind(cursor: &mut Cursor) -> Result<CountAndAlignment, Fault>
     if begins_type(cursor) {
         let count = typed_value_of(cursor)?;
         let alignment = alignment(cursor)?;
-        let count = Some(Box::new(cursor.alloc(), count)?);
+        let count = Some(boxed(cursor.alloc(), count)?);
         return Ok((count, alignment));
     }
     let alignment = alignment_behind(cursor)?;
