@@ -1,10 +1,11 @@
 //! Reads constants.
-ghost use Rattle.std.specs.Prelude.{◌≡◌, map};
+ghost use Rattle.std.specs.Prelude.{◌≡◌, [], ◌∷◌, map};
 ghost use Rattle.phrase_rows.specs.Row.{begins};
-ghost use Rattle.ir_constants.specs.Constants.{simple_classes, simple_word, simple_row, elements_row, array_constant_row, struct_constant_row, packed_constant_row, holder_row, constant_at, typed_at, constant_row, typed_constant_row};
+ghost use Rattle.ir_constants.specs.Constants.{simple_classes, simple_word, simple_row, integer_constant_row, elements_row, array_constant_row, struct_constant_row, packed_constant_row, holder_row, constant_at, typed_at, constant_row, typed_constant_row};
 ghost use Rattle.ir_constants.specs.View.{constant_view, typed_constant_view};
 ghost use Rattle.ir_terminals.specs.Position.{tokens_left};
 ghost use Rattle.ir_terminals.specs.Role.{class};
+ghost use Rattle.ir_terminals.specs.Terminal.{code};
 ghost use Rattle.ir_terminals.specs.Follows.{Follows};
 
 use crate::constant::{Brackets, Constant, Simple, TypedConstant};
@@ -25,6 +26,13 @@ fn simple_word(terminal: Terminal) -> Option<Simple>
         Terminal::ZeroInitializer => Some(Simple::ZeroInitializer),
         _ => None,
     }
+}
+
+/// Whether an integer is next.
+pub fn is_integer_next(cursor: &Cursor) -> bool
+    ensures { result ≡ begins class (code Terminal.Integer ∷ []) (tokens_left cursor.now) }
+{
+    matches!(cursor.terminal(), Some(Terminal::Integer))
 }
 
 /// Whether a constant that is one word is next.
@@ -56,6 +64,13 @@ fn simple_constant(cursor: &mut Cursor) -> Result<Constant, Fault>
     };
     let place = cursor.take_class(terminal)?;
     Ok(Constant::Simple(simple, place))
+}
+
+/// `INT`: an integer that is a constant.
+pub fn integer_constant(cursor: &mut Cursor) -> Result<Constant, Fault>
+    ensures { Follows (λ _. integer_constant_row) constant_view cursor.old result cursor.new }
+{
+    Ok(Constant::Integer(cursor.integer()?))
 }
 
 /// `TYPE CONST`, the constant nested no more than so deep.
@@ -124,8 +139,9 @@ fn packed(cursor: &mut Cursor, depth: u8) -> Result<Constant, Fault>
     Ok(Constant::List(place, Brackets::Packed, elements))
 }
 
-/// A constant that holds constants, nested no more than so deep.
+/// A constant that holds constants, nested no more than so deep. It is called, so that the others pay nothing for it.
 #[cycle(constants)]
+#[inline(never)]
 #[tactic(auto, using(crate::proofs::Depth::holder_more, crate::proofs::Depth::holder_end))]
 fn holder(cursor: &mut Cursor, depth: u8) -> Result<Constant, Fault>
     ensures { Follows (λ limits. holder_row limits depth) constant_view cursor.old result cursor.new }
@@ -150,8 +166,8 @@ fn holder(cursor: &mut Cursor, depth: u8) -> Result<Constant, Fault>
 fn constant_at(cursor: &mut Cursor, depth: u8) -> Result<Constant, Fault>
     ensures { Follows (λ limits. constant_at limits depth) constant_view cursor.old result cursor.new }
 {
-    if cursor.is_class_next(Terminal::Integer) {
-        Ok(Constant::Integer(cursor.integer()?))
+    if is_integer_next(cursor) {
+        integer_constant(cursor)
     } else if cursor.is_class_next(Terminal::GlobalName) {
         Ok(Constant::Global(cursor.global_name()?))
     } else if cursor.is_class_next(Terminal::ByteString) {

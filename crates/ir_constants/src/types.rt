@@ -3,8 +3,8 @@ ghost use Rattle.std.specs.Prelude.{◌≡◌, [], ◌∷◌, map};
 ghost use Rattle.phrase_rows.specs.Row.{begins};
 ghost use Rattle.ir_terminals.specs.Position.{tokens_left};
 ghost use Rattle.ir_terminals.specs.Role.{class};
-ghost use Rattle.ir_terminals.specs.Terminal.{integer_type_class};
-ghost use Rattle.ir_constants.specs.Types.{type_shape, int_row, array_row, types_row, struct_row, packed_row, nest_row, nest_core, type_at, type_over, value_type_over, value_type_row, type_row, fields_row};
+ghost use Rattle.ir_terminals.specs.Terminal.{code, integer_type_class};
+ghost use Rattle.ir_constants.specs.Types.{type_shape, int_row, ptr_row, array_row, types_row, struct_row, packed_row, nest_row, nest_core, type_at, type_over, value_type_over, value_type_row, type_row, fields_row};
 ghost use Rattle.ir_constants.specs.View.{type_view};
 ghost use Rattle.ir_terminals.specs.Follows.{Follows};
 
@@ -18,6 +18,13 @@ fn is_integer_type_next(cursor: &Cursor) -> bool
     matches!(cursor.terminal(), Some(Terminal::IntegerType(_)))
 }
 
+/// Whether `ptr` is next.
+fn is_pointer_next(cursor: &Cursor) -> bool
+    ensures { result ≡ begins class (code Terminal.Ptr ∷ []) (tokens_left cursor.now) }
+{
+    matches!(cursor.terminal(), Some(Terminal::Ptr))
+}
+
 /// `iN`
 fn integer_type(cursor: &mut Cursor) -> Result<Type, Fault>
     ensures { Follows (λ _. int_row) type_view cursor.old result cursor.new }
@@ -27,6 +34,13 @@ fn integer_type(cursor: &mut Cursor) -> Result<Type, Fault>
     };
     let place = cursor.take_class(Terminal::IntegerType(width))?;
     Ok(Type::Integer(place, width))
+}
+
+/// `ptr`
+fn pointer_type(cursor: &mut Cursor) -> Result<Type, Fault>
+    ensures { Follows (λ _. ptr_row) type_view cursor.old result cursor.new }
+{
+    Ok(Type::Ptr(cursor.take_class(Terminal::Ptr)?))
 }
 
 /// `[ INT x TYPE ]`
@@ -114,8 +128,8 @@ fn value_type_at(cursor: &mut Cursor, depth: u8) -> Result<Type, Fault>
 {
     if is_integer_type_next(cursor) {
         integer_type(cursor)
-    } else if cursor.is_class_next(Terminal::Ptr) {
-        Ok(Type::Ptr(cursor.take_class(Terminal::Ptr)?))
+    } else if is_pointer_next(cursor) {
+        pointer_type(cursor)
     } else if cursor.is_class_next(Terminal::Local) {
         Ok(Type::Named(cursor.named_local()?))
     } else {
@@ -154,11 +168,20 @@ pub fn begins_type(cursor: &Cursor) -> bool
     )
 }
 
-/// `TYPE`: a type, nested no deeper than the cursor's limits allow.
+/// `TYPE`: a type, nested no deeper than the cursor's limits allow. Nearly all are `iN` or `ptr`, so that these are read
+/// where a type is asked for, and pay nothing for those that hold others.
+#[inline(always)]
+#[tactic(auto, using(crate::proofs::Leaves::integer_type_first, crate::proofs::Leaves::ptr_first))]
 pub fn type_of(cursor: &mut Cursor) -> Result<Type, Fault>
     ensures { Follows type_row type_view cursor.old result cursor.new }
 {
-    type_at(cursor, cursor.limits().nesting)
+    if is_integer_type_next(cursor) {
+        integer_type(cursor)
+    } else if is_pointer_next(cursor) {
+        pointer_type(cursor)
+    } else {
+        type_at(cursor, cursor.limits().nesting)
+    }
 }
 
 /// `TYPE`, behind a box.
