@@ -28,7 +28,7 @@ fn next_of(done: Result<(), UndefinedKind>) -> Next
 {
     match done {
         Ok(()) => Next::Goes,
-        Err(kind) => Next::Stops(Stop::Undefined(kind)),
+        Err(kind) => fails(kind),
     }
 }
 

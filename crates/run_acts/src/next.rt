@@ -53,8 +53,9 @@ pub enum Next {
     Stops(Stop),
 }
 
-/// The program is undefined.
-#[inline]
+/// The program is undefined. It stands apart, so that an instruction that goes on does not ask again whether it does.
+#[cold]
+#[inline(never)]
 pub(crate) fn fails(kind: UndefinedKind) -> Next
     ensures { result ≡ Next.Stops (Stop.Undefined kind) }
 {
