@@ -1,5 +1,6 @@
 //! Instructions whose result is one leaf.
 ghost use Rattle.std.specs.Prelude.{◌≡◌, ℕ};
+ghost use Rattle.ir_eval.specs.Operators.{is_division};
 ghost use Rattle.module_arena.specs.Lists.{Lists};
 ghost use Rattle.run_actions.specs.Carried.{Acts, IsCarriedOut};
 ghost use Rattle.run_flat.specs.declared.action.Action.TheVariants as flat;
@@ -11,6 +12,59 @@ use ir_tables::{Flags, Opcode, Predicate, UndefinedKind};
 use run_actions::{compare, compute, convert};
 use run_flat::{Action, LeafAt, Pools};
 use run_stack::Stack;
+
+/// Whether a binary instruction divides.
+#[inline]
+fn divides(opcode: Opcode) -> bool
+    ensures { result ≡ is_division opcode }
+{
+    matches!(
+        opcode,
+        Opcode::UDiv | Opcode::SDiv | Opcode::URem | Opcode::SRem
+    )
+}
+
+/// A binary instruction, whose operands are told first. The action serves the clauses.
+#[inline(always)]
+fn compute_told(
+    stack: &mut Stack,
+    pools: &Pools,
+    _action: &Action,
+    to: u32,
+    opcode: Opcode,
+    flags: Flags,
+    width: u8,
+    left: LeafAt,
+    right: LeafAt,
+) -> Result<(), UndefinedKind>
+    requires is { _action.now ≡ flat.Compute to opcode flags width left right }
+    requires may { (count : ℕ) × MayAct count pools.now _action.now stack.old }
+    ensures { (a : Lists) → Acts (action_of pools.now a _action.now) result stack.old stack.new }
+{
+    let first = told(stack, pools, left);
+    let second = told(stack, pools, right);
+    compute(stack, to, opcode, flags, width, &first, &second)
+}
+
+/// A division or a remainder. It stands apart, so that no other instruction makes room for what may be refused.
+#[inline(never)]
+fn act_on_division(
+    stack: &mut Stack,
+    pools: &Pools,
+    _action: &Action,
+    to: u32,
+    opcode: Opcode,
+    flags: Flags,
+    width: u8,
+    left: LeafAt,
+    right: LeafAt,
+) -> Result<(), UndefinedKind>
+    requires is { _action.now ≡ flat.Compute to opcode flags width left right }
+    requires may { (count : ℕ) × MayAct count pools.now _action.now stack.old }
+    ensures { (a : Lists) → Acts (action_of pools.now a _action.now) result stack.old stack.new }
+{
+    compute_told(stack, pools, _action, to, opcode, flags, width, left, right)
+}
 
 /// A binary instruction. The action serves the clauses.
 ///
@@ -31,9 +85,10 @@ pub fn act_on_binary(
     requires may { (count : ℕ) × MayAct count pools.now _action.now stack.old }
     ensures { (a : Lists) → Acts (action_of pools.now a _action.now) result stack.old stack.new }
 {
-    let first = told(stack, pools, left);
-    let second = told(stack, pools, right);
-    compute(stack, to, opcode, flags, width, &first, &second)
+    if divides(opcode) {
+        return act_on_division(stack, pools, _action, to, opcode, flags, width, left, right);
+    }
+    compute_told(stack, pools, _action, to, opcode, flags, width, left, right)
 }
 
 /// A comparison. The action serves the clauses.

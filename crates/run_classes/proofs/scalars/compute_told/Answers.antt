@@ -3,7 +3,7 @@ use Rattle.run_flat.specs.declared.action.Action.{Action}
 use Rattle.run_flat.specs.Flat.{IsWithin}
 use Rattle.run_classes.specs.May.{MayAct}
 use Rattle.run_classes.proofs.Single.{computed_told, computes_there, computes_told}
-use Rattle.run_classes.proofs.scalars.act_on_binary.Goals as goal
+use Rattle.run_classes.proofs.scalars.compute_told.Goals as goal
 
 pub told-first-requires : goal.told-first-requires
 told-first-requires c =
