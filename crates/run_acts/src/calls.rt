@@ -22,7 +22,7 @@ use run_stack::Stack;
 use std::alloc::AllocError;
 
 /// A call by the newest frame, which then stands behind it. It is refused for want of memory alone.
-#[inline(never)]
+#[inline(always)]
 pub(crate) fn act_on_call(
     program: &mut Program<'_>,
     stack: &mut Stack,
@@ -58,7 +58,7 @@ pub(crate) fn act_on_call(
 }
 
 /// A return of the newest frame's function; `is_last` tells that nothing is due. Only a value of more than one leaf wants memory.
-#[inline(never)]
+#[inline(always)]
 pub(crate) fn act_on_return(
     program: &Program<'_>,
     stack: &mut Stack,
