@@ -111,13 +111,27 @@ impl<'m> Live<'m> {
         if self.crosses() {
             return self.cross();
         }
-        let stretch = self.go_on(1);
+        let stretch = self.go_one();
         match stretch.end {
             StretchEnd::Stops(stop) => Ok(Next::Stops(stop)),
             StretchEnd::Wants => Err(AllocError),
             // One was carried out, since it neither calls nor returns.
             StretchEnd::Waits => Ok(Next::Goes),
         }
+    }
+
+    // Carries out one instruction of the newest frame, if it neither calls nor returns. It stands apart, so that the loop over instructions
+    // is made once where the run goes on.
+    #[inline(never)]
+    fn go_one(&mut self) -> Stretch
+        requires { (steps : ℕ) × IsLive steps self.old × (steps + 1 ≤ STEP_LIMIT) }
+        ensures few { result.count ≤ 1 }
+        ensures further { LeavesOff 1 result.count result.end self.new.program self.new.stack }
+        ensures walks { Walks result self.old self.new }
+        ensures live { (steps : ℕ) → IsLive steps self.old → StaysBehind steps result self.new }
+        ensures written { self.new.written ≡ self.old.written }
+    {
+        self.go_on(1)
     }
 
     // Whether the instruction that is due in the newest function calls or returns.

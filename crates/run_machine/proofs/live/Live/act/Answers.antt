@@ -50,34 +50,34 @@ returns-then-crosses-clause-kept c = subst (λ (x : Living). OnErr c.cross.resul
 -- the instruction ends the run
 pub returns-in-Stops-clause-acted : goal.returns-in-Stops-clause-acted
 returns-in-Stops-clause-acted c =
-    let s = c.go_on-stretch.result in
+    let s = c.go_one-stretch.result in
     let old = c.args.self.now in
-    let new = c.go_on-stretch.new.self in
+    let new = c.go_one-stretch.new.self in
     let written = c.clear.new.self.items in
-    let walks = walks_from s written old new (subst (λ (x : Living). Walks s (record x { written = written }) new) c.self.view_is c.go_on-stretch.ensures.walks) in
-    let few = subst (λ (e : StretchEnd). LeavesOff 1 s.count e new.program new.stack) c.in-Stops.is c.go_on-stretch.ensures.further in
+    let walks = walks_from s written old new (subst (λ (x : Living). Walks s (record x { written = written }) new) c.self.view_is c.go_one-stretch.ensures.walks) in
+    let few = subst (λ (e : StretchEnd). LeavesOff 1 s.count e new.program new.stack) c.in-Stops.is c.go_one-stretch.ensures.further in
     acts_stop old new s walks c.in-Stops.stop c.in-Stops.is few
 
 -- it goes on
 pub returns-in-Waits-clause-acted : goal.returns-in-Waits-clause-acted
 returns-in-Waits-clause-acted c =
-    let s = c.go_on-stretch.result in
+    let s = c.go_one-stretch.result in
     let old = c.args.self.now in
-    let new = c.go_on-stretch.new.self in
+    let new = c.go_one-stretch.new.self in
     let written = c.clear.new.self.items in
-    let walks = walks_from s written old new (subst (λ (x : Living). Walks s (record x { written = written }) new) c.self.view_is c.go_on-stretch.ensures.walks) in
+    let walks = walks_from s written old new (subst (λ (x : Living). Walks s (record x { written = written }) new) c.self.view_is c.go_one-stretch.ensures.walks) in
     let inner = subst (λ (x : Living). is_outer_here x.program x.stack ≡ false) c.self.view_is (sym c.if-crosses.ensures) in
-    let one = went_one old new s walks c.in-Waits.is c.go_on-stretch.ensures.few c.go_on-stretch.ensures.further c.requires.frames inner in
-    acts_one old new s walks c.in-Waits.is one (c.go_on-stretch.ensures.written ∙ c.clear.ensures.items)
+    let one = went_one old new s walks c.in-Waits.is c.go_one-stretch.ensures.few c.go_one-stretch.ensures.further c.requires.frames inner in
+    acts_one old new s walks c.in-Waits.is one (c.go_one-stretch.ensures.written ∙ c.clear.ensures.items)
 
 pub returns-in-Waits-clause-live : goal.returns-in-Waits-clause-live
 returns-in-Waits-clause-live c = λ steps h.
-    let s = c.go_on-stretch.result in
+    let s = c.go_one-stretch.result in
     let old = c.args.self.now in
-    let new = c.go_on-stretch.new.self in
+    let new = c.go_one-stretch.new.self in
     let written = c.clear.new.self.items in
-    let walks = walks_from s written old new (subst (λ (x : Living). Walks s (record x { written = written }) new) c.self.view_is c.go_on-stretch.ensures.walks) in
+    let walks = walks_from s written old new (subst (λ (x : Living). Walks s (record x { written = written }) new) c.self.view_is c.go_one-stretch.ensures.walks) in
     let inner = subst (λ (x : Living). is_outer_here x.program x.stack ≡ false) c.self.view_is (sym c.if-crosses.ensures) in
-    let one = went_one old new s walks c.in-Waits.is c.go_on-stretch.ensures.few c.go_on-stretch.ensures.further c.requires.frames inner in
+    let one = went_one old new s walks c.in-Waits.is c.go_one-stretch.ensures.few c.go_one-stretch.ensures.further c.requires.frames inner in
     let live = subst (λ (x : Living). IsLive steps (record x { written = written })) (sym c.self.view_is) (live_with steps written old h) in
-    live_one steps s.count s.end new c.in-Waits.is one (c.go_on-stretch.ensures.live steps live)
+    live_one steps s.count s.end new c.in-Waits.is one (c.go_one-stretch.ensures.live steps live)
