@@ -50,7 +50,7 @@ use Rattle.run_classes.proofs.Wide.{origins_there}
 use Rattle.run_acts.specs.Made.{AreReady, FitBelow, IsFunctionReady, MayCall, shapes_of, StaysReady}
 use Rattle.run_acts.specs.declared.next.Next.{Next}
 use Rattle.run_acts.specs.Said.{next_of}
-use Rattle.run_acts.specs.Acting.{ActsFor, CameTo, ComesTo, is_inner, is_outer, IsOuter, is_outer_here, look_in, MayActBy, MayActHere, MayActIn, table_in, typing_in, WantsHere}
+use Rattle.run_acts.specs.Acting.{ActsFor, CameTo, ComesTo, is_outer, IsOuter, is_outer_here, look_in, MayActBy, MayActHere, MayActIn, table_in, typing_in, WantsHere}
 
 -- ---- the newest frame
 
@@ -329,20 +329,17 @@ module _ (p : Loaded) (b : Decoded) (action : Action) (s : UnderWay) (m : Blocks
   wants_for wants = wants_is (look_in p.lists) s.frames may.here.running ∙ ap wants_memory (sym may.means) ∙ wants
 
 -- no run stands at a phi
-pub is_inner_else : (p : Loaded) (b : Decoded) (action : Action) (s : UnderWay) (m : Blocks) → MayActIn p b action s m → ((to : ℕ) (callee : LeafAt) (call : ℕ) → action ≡ Call to callee call → ⊥) → ((value : Span) → action ≡ Return value → ⊥) → is_inner action ≡ true
-is_inner_else p b (Call to callee call) s m may calls returns = absurd (calls to callee call refl)
-is_inner_else p b (Return value) s m may calls returns = absurd (returns value refl)
-is_inner_else p b Passed s m may calls returns = absurd (typed p b Passed s m may)
-is_inner_else p b _ s m may calls returns = refl
+pub never_passed : (count : ℕ) (p : Pools) (action : Action) (s : UnderWay) → MayAct count p action s → action ≡ Passed → ⊥
+never_passed count p action s may is = (subst (λ (x : Action). MayAct count p x s) is may).typed
 
 -- an action that calls or returns is due where one is
 pub outer_here : (p : Loaded) (b : Decoded) (action : Action) (s : UnderWay) (m : Blocks) → MayActIn p b action s m → is_outer (action_of b.pools p.lists action) ≡ true → IsOuter p s
 outer_here p b action s m may outer = ap is_outer (sym may.means) ∙ outer
 
 -- by what was matched
-pub outer_matched : (b : Decoded) (a : Lists) (action : Action) → ((to : ℕ) × (callee : LeafAt) × (call : ℕ) × (action ≡ Call to callee call)) ⊎ ((value : Span) × (action ≡ Return value)) → is_outer (action_of b.pools a action) ≡ true
-outer_matched b a action (inl h) = ap (λ (x : Action). is_outer (action_of b.pools a x)) h.3
-outer_matched b a action (inr h) = ap (λ (x : Action). is_outer (action_of b.pools a x)) h.1
+pub outer_matched : (p : Pools) (a : Lists) (action : Action) → ((to : ℕ) × (callee : LeafAt) × (call : ℕ) × (action ≡ Call to callee call)) ⊎ ((value : Span) × (action ≡ Return value)) → is_outer (action_of p a action) ≡ true
+outer_matched p a action (inl h) = ap (λ (x : Action). is_outer (action_of p a x)) h.3
+outer_matched p a action (inr h) = ap (λ (x : Action). is_outer (action_of p a x)) h.1
 
 -- and no other is
 pub none_outer : (p : Loaded) (b : Decoded) (action : Action) (s : UnderWay) (m : Blocks) → MayActIn p b action s m → IsOuter p s → ((to : ℕ) (callee : LeafAt) (call : ℕ) → action ≡ Call to callee call → ⊥) → ((value : Span) → action ≡ Return value → ⊥) → ⊥

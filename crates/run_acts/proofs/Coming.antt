@@ -1,5 +1,5 @@
 -- What an instruction comes to, by what it answers.
-use Rattle.std.proofs.Common.{◌≡◌, true, Result, Ok, Err, sym, ap, ◌∙◌, subst}
+use Rattle.std.proofs.Common.{◌≡◌, true, Option, Result, Ok, Err, sym, ap, ◌∙◌, subst}
 use Rattle.std.specs.declared.alloc.AllocError.{AllocError}
 use Rattle.std.specs.Prelude.{[], IfOk, OnErr}
 use Rattle.std.proofs.lemmas.Bool.{false≢true}
@@ -25,17 +25,10 @@ module _ (action : Action) (old new : UnderWay) where
   acts_come m (Ok done) next e h = λ table due. h.goes table due m ∙ ap (λ (x : Next). next_of x (core_of new.frames due m) []) (sym e)
   acts_come m (Err kind) next e h = λ table due. h.fails table due m ∙ ap (λ (x : Next). next_of x (core_of new.frames due m) []) (sym e)
 
-  pub accesses_come : (m n : Blocks) (r : Result (Unit {0}) MemoryFault) (next : Result Next AllocError) → AnswersMemory r next → Accesses action r old new m n → IfOk next (λ (x : Next). ComesTo action x old new m n)
-  accesses_come m n (Ok done) next e h = subst (λ (y : Result Next AllocError). IfOk y (λ (x : Next). ComesTo action x old new m n)) (sym e) (λ table due. h.goes table due)
-  accesses_come m n (Err (faults.Undefined kind)) next e h = subst (λ (y : Result Next AllocError). IfOk y (λ (x : Next). ComesTo action x old new m n)) (sym e) (λ table due. h table due)
-  accesses_come m n (Err faults.MemoryLimit) next e h = subst (λ (y : Result Next AllocError). IfOk y (λ (x : Next). ComesTo action x old new m n)) (sym e) (λ table due. h table due)
-  accesses_come m n (Err faults.Memory) (Ok next) e h = absurd (false≢true e)
-  accesses_come m n (Err faults.Memory) (Err refused) e h = tt
-
-  pub accesses_want : (m n : Blocks) (r : Result (Unit {0}) MemoryFault) (next : Result Next AllocError) → AnswersMemory r next → Accesses action r old new m n → OnErr next (wants_memory action ≡ true)
-  accesses_want m n (Ok done) next e h = subst (λ (y : Result Next AllocError). OnErr y (wants_memory action ≡ true)) (sym e) tt
-  accesses_want m n (Err (faults.Undefined kind)) next e h = subst (λ (y : Result Next AllocError). OnErr y (wants_memory action ≡ true)) (sym e) tt
-  accesses_want m n (Err faults.MemoryLimit) next e h = subst (λ (y : Result Next AllocError). OnErr y (wants_memory action ≡ true)) (sym e) tt
+  pub accesses_want : (m n : Blocks) (r : Result (Unit {0}) MemoryFault) (next : Result (Option Next) AllocError) → AnswersMemory r next → Accesses action r old new m n → OnErr next (wants_memory action ≡ true)
+  accesses_want m n (Ok done) next e h = subst (λ (y : Result (Option Next) AllocError). OnErr y (wants_memory action ≡ true)) (sym e) tt
+  accesses_want m n (Err (faults.Undefined kind)) next e h = subst (λ (y : Result (Option Next) AllocError). OnErr y (wants_memory action ≡ true)) (sym e) tt
+  accesses_want m n (Err faults.MemoryLimit) next e h = subst (λ (y : Result (Option Next) AllocError). OnErr y (wants_memory action ≡ true)) (sym e) tt
   accesses_want m n (Err faults.Memory) (Ok next) e h = absurd (false≢true e)
   accesses_want m n (Err faults.Memory) (Err refused) e h = h
 

@@ -1,7 +1,7 @@
 -- Where an instruction neither calls nor returns, the functions under way stay the same.
-use Rattle.std.proofs.Common.{◌≡◌, ℕ, zero, suc, ◌*◌, Bool, true, false, All, List, [], ◌∷◌, map, Result, Ok, Err, refl, sym, ap, ◌∙◌, subst}
+use Rattle.std.proofs.Common.{◌≡◌, ℕ, zero, suc, ◌*◌, Bool, true, false, All, List, [], ◌∷◌, map, Result, Ok, Err, refl, sym, ap, ◌∙◌, subst, Option, Some}
 use Rattle.std.specs.declared.alloc.AllocError.{AllocError}
-use Rattle.std.specs.Prelude.{⊤, OnOk, if◌then◌else◌}
+use Rattle.std.specs.Prelude.{⊤, IfOk, OnOk, if◌then◌else◌}
 use Rattle.std.proofs.lemmas.Bool.{false≢true}
 use Rattle.std.proofs.lemmas.List.Elements.{All-map}
 use Rattle.ir_eval.specs.declared.value.Scalar.{Scalar}
@@ -21,16 +21,35 @@ use Rattle.run_stack.specs.UnderWay.{UnderWay, IsRunning, newest, older}
 use Rattle.run_actions.specs.Carried.{acted, Acts, core_of, IsCarriedOut}
 use Rattle.run_accesses.specs.Done.{Accesses, IsDone}
 use Rattle.run_flat.specs.declared.action.Action.{Action}
-use Rattle.run_flat.specs.declared.action.Action.TheVariants.{Compute, Compare, Convert, Select, Freeze, Gather, Load, Store, Allocate, Displace, Jump, Branch, Switch, Unreachable}
+use Rattle.run_flat.specs.declared.action.Action.TheVariants.{Compute, Compare, Convert, Select, Freeze, Gather, Load, Store, Allocate, Displace, Call, Return, Jump, Branch, Switch, Unreachable, Passed}
 use Rattle.run_flat.specs.declared.pools.Pools.{Pools}
 use Rattle.run_flat.specs.Flat.{action_of}
 use Rattle.run_classes.specs.Ends.{FramesStay}
+use Rattle.run_classes.specs.Groups.{is_value}
 use Rattle.run_classes.proofs.Going.{All-unmap}
 use Rattle.run_program.specs.Loaded.{Loaded}
 use Rattle.run_acts.specs.declared.next.Next as code
 use Rattle.run_acts.specs.declared.next.Next.TheVariants as answer
+use Rattle.run_acts.specs.declared.next.Stop.TheVariants as stops
 use Rattle.run_acts.specs.Made.{AreReady, IsFunctionReady}
-use Rattle.run_acts.specs.Acting.{AnswersMemory, ComesTo, FunctionsStay, is_inner}
+use Rattle.run_acts.specs.Acting.{AnswersMemory, ComesInside, ComesTo, FunctionsStay}
+
+-- ---- actions
+
+-- it neither calls nor returns, and is one to which a run comes
+abbrev pub is_inner : Action → Bool
+is_inner (Call to callee call) = false
+is_inner (Return value) = false
+is_inner Passed = false
+is_inner _ = true
+
+pub value_is_inner : (action : Action) → is_value action ≡ true → is_inner action ≡ true
+value_is_inner (Select to condition arms) h = refl
+value_is_inner (Freeze to parts) h = refl
+value_is_inner (Gather to value) h = refl
+value_is_inner _ h = absurd (false≢true h)
+
+-- ---- the functions under way
 
 -- the functions of frames
 abbrev functions : List Frame → List ℕ
@@ -109,6 +128,20 @@ module _ (p : Pools) (a : Lists) (action : Action) (inner : is_inner action ≡ 
       let stays = inner_stays (newest old.frames) (core_of (older old.frames) [] m) (λ address. Nothing) p a action inner in
       subst (Stays (newest old.frames) (core_of (older old.frames) [] m)) (h (λ address. Nothing) []) stays
 
+  -- so it comes to what is said of one that stays in its function
+  pub comes_inside : (m n : Blocks) (next : code.Next) → ComesTo (action_of p a action) next old new m n → ComesInside (action_of p a action) (Some next) old new m n
+  comes_inside m n next h = (h, λ to is. asks_none to m n (subst (λ (x : code.Next). ComesTo (action_of p a action) x old new m n) is h))
+
+  pub accesses_come : (m n : Blocks) (r : Result (Unit {0}) MemoryFault) (next : Result (Option code.Next) AllocError) → AnswersMemory r next → Accesses (action_of p a action) r old new m n → IfOk next (λ (x : Option code.Next). ComesInside (action_of p a action) x old new m n)
+  accesses_come m n (Ok done) next e h =
+      subst (λ (y : Result (Option code.Next) AllocError). IfOk y (λ (x : Option code.Next). ComesInside (action_of p a action) x old new m n)) (sym e) (comes_inside m n answer.Goes (λ table due. h.goes table due))
+  accesses_come m n (Err (faults.Undefined kind)) next e h =
+      subst (λ (y : Result (Option code.Next) AllocError). IfOk y (λ (x : Option code.Next). ComesInside (action_of p a action) x old new m n)) (sym e) (comes_inside m n (answer.Stops (stops.Undefined kind)) (λ table due. h table due))
+  accesses_come m n (Err faults.MemoryLimit) next e h =
+      subst (λ (y : Result (Option code.Next) AllocError). IfOk y (λ (x : Option code.Next). ComesInside (action_of p a action) x old new m n)) (sym e) (comes_inside m n (answer.Stops stops.MemoryLimit) (λ table due. h table due))
+  accesses_come m n (Err faults.Memory) (Ok next) e h = absurd (false≢true e)
+  accesses_come m n (Err faults.Memory) (Err refused) e h = tt
+
   pub carried_stays : Blocks → IsCarriedOut (action_of p a action) old new → FunctionsStay old new
   carried_stays m h = record { functions = goes_stays m m (h.goes (λ address. Nothing) [] m); width = h.width }
 
@@ -124,10 +157,10 @@ module _ (p : Pools) (a : Lists) (action : Action) (inner : is_inner action ≡ 
   acts_stay m (Err kind) h = same_stays h.same
 
   -- or refused
-  pub accesses_stay : (m n : Blocks) (r : Result (Unit {0}) MemoryFault) (next : Result code.Next AllocError) → AnswersMemory r next → Accesses (action_of p a action) r old new m n → FramesStay r old new → OnOk next (FunctionsStay old new)
-  accesses_stay m n (Ok done) next e h same = subst (λ (x : Result code.Next AllocError). OnOk x (FunctionsStay old new)) (sym e) (done_stays m n h)
-  accesses_stay m n (Err (faults.Undefined kind)) next e h same = subst (λ (x : Result code.Next AllocError). OnOk x (FunctionsStay old new)) (sym e) (same_stays same)
-  accesses_stay m n (Err faults.MemoryLimit) next e h same = subst (λ (x : Result code.Next AllocError). OnOk x (FunctionsStay old new)) (sym e) (same_stays same)
+  pub accesses_stay : (m n : Blocks) (r : Result (Unit {0}) MemoryFault) (next : Result (Option code.Next) AllocError) → AnswersMemory r next → Accesses (action_of p a action) r old new m n → FramesStay r old new → OnOk next (FunctionsStay old new)
+  accesses_stay m n (Ok done) next e h same = subst (λ (x : Result (Option code.Next) AllocError). OnOk x (FunctionsStay old new)) (sym e) (done_stays m n h)
+  accesses_stay m n (Err (faults.Undefined kind)) next e h same = subst (λ (x : Result (Option code.Next) AllocError). OnOk x (FunctionsStay old new)) (sym e) (same_stays same)
+  accesses_stay m n (Err faults.MemoryLimit) next e h same = subst (λ (x : Result (Option code.Next) AllocError). OnOk x (FunctionsStay old new)) (sym e) (same_stays same)
   accesses_stay m n (Err faults.Memory) (Ok next) e h same = absurd (false≢true e)
   accesses_stay m n (Err faults.Memory) (Err refused) e h same = tt
 

@@ -17,7 +17,6 @@ use Rattle.run_rules.specs.Wants.{may_want_memory}
 use Rattle.run_stack.specs.UnderWay.{UnderWay, IsRunning, newest}
 use Rattle.run_actions.specs.Carried.{acted, core_of}
 use Rattle.run_flat.specs.declared.action.Action.{Action}
-use Rattle.run_flat.specs.declared.action.Action.TheVariants.{Call, Return, Passed}
 use Rattle.run_flat.specs.Flat.{action_of, IsWithin}
 use Rattle.run_body.specs.Bodies.{Decoded}
 use Rattle.run_program.specs.Loaded.{Loaded, IsBody, IsReady}
@@ -47,15 +46,6 @@ typing_in a = typing_of (alone (module_of a))
 -- each frame has leaves of its kinds and stands at an instruction
 abbrev pub AreFrames : Lists → ℕ → UnderWay → Type 0
 AreFrames a count s = AreTypedFrames (typing_in a) (look_in a) (table_in a) count s.frames
-
--- ---- actions
-
--- it neither calls nor returns, and is one to which a run comes
-abbrev pub is_inner : Action → Bool
-is_inner (Call to callee call) = false
-is_inner (Return value) = false
-is_inner Passed = false
-is_inner _ = true
 
 -- ---- what is asked
 
@@ -119,8 +109,12 @@ is_outer_here p s = is_outer (look_in p.lists (newest s.frames).function (newest
 abbrev pub IsOuter : Loaded → UnderWay → Type 0
 IsOuter p s = is_outer_here p s ≡ true
 
--- the same of an instruction that neither calls nor returns: it goes on or stops the run, and writes nothing; or it does, and nothing
--- is done
+-- what comes of an action that neither calls nor returns: it goes on or stops the run, and writes nothing; or it does, and nothing is done
+abbrev pub ComesInside : actions.Action → Option Next → UnderWay → UnderWay → Blocks → Blocks → Type 0
+ComesInside action None old new m n = (new ≡ old) × (n ≡ m) × (is_outer action ≡ true)
+ComesInside action (Some next) old new m n = ComesTo action next old new m n × ((to : ℕ) → ¬ (next ≡ Gets to))
+
+-- the same of the instruction that is due
 abbrev pub ActsInside : Loaded → Option Next → UnderWay → UnderWay → Blocks → Blocks → Type 0
 ActsInside p None old new m n = (new ≡ old) × (n ≡ m) × IsOuter p old
 ActsInside p (Some next) old new m n = ((due : List Due) → ActsFor p due next old new m n []) × ((to : ℕ) → ¬ (next ≡ Gets to))
@@ -135,8 +129,8 @@ AnswersWith (Ok done) next = next ≡ Goes
 AnswersWith (Err kind) next = next ≡ Stops (stops.Undefined kind)
 
 -- it goes on, is undefined, passes the limit on live bytes, or wants memory
-abbrev pub AnswersMemory : {E : Type 0} → Result (Unit {0}) MemoryFault → Result Next E → Type 0
-AnswersMemory (Ok done) next = next ≡ Ok Goes
-AnswersMemory (Err (faults.Undefined kind)) next = next ≡ Ok (Stops (stops.Undefined kind))
-AnswersMemory (Err faults.MemoryLimit) next = next ≡ Ok (Stops stops.MemoryLimit)
+abbrev pub AnswersMemory : {E : Type 0} → Result (Unit {0}) MemoryFault → Result (Option Next) E → Type 0
+AnswersMemory (Ok done) next = next ≡ Ok (Some Goes)
+AnswersMemory (Err (faults.Undefined kind)) next = next ≡ Ok (Some (Stops (stops.Undefined kind)))
+AnswersMemory (Err faults.MemoryLimit) next = next ≡ Ok (Some (Stops stops.MemoryLimit))
 AnswersMemory (Err faults.Memory) next = IsErr next

@@ -1,13 +1,12 @@
 //! Instructions that stay in their function.
 ghost use Rattle.std.specs.Prelude.{◌≡◌, ℕ, IfOk, OnErr, OnOk, length, true};
-ghost use Rattle.ir_memory.specs.Memory.{HasFreeAddresses};
+ghost use Rattle.ir_memory.specs.Memory.{Blocks, HasFreeAddresses};
 ghost use Rattle.module_arena.specs.Lists.{Lists};
 ghost use Rattle.run_rules.specs.Wants.{wants_memory};
-ghost use Rattle.run_actions.specs.Carried.{IsCarriedOut};
 ghost use Rattle.run_flat.specs.Flat.{action_of};
 ghost use Rattle.run_classes.specs.Groups.{is_value};
 ghost use Rattle.run_classes.specs.May.{MayAct};
-ghost use Rattle.run_acts.specs.Acting.{AnswersMemory, AnswersWith, ComesTo, FunctionsStay, is_inner};
+ghost use Rattle.run_acts.specs.Acting.{AnswersMemory, AnswersWith, ComesInside, FunctionsStay};
 
 use crate::next::{Next, Stop, fails};
 use ir_eval::Scalar;
@@ -34,13 +33,13 @@ fn next_of(done: Result<(), UndefinedKind>) -> Next
 
 /// What an instruction comes to that memory may refuse.
 #[inline]
-fn next_of_access(done: Result<(), MemoryFault>) -> Result<Next, AllocError>
+fn next_of_access(done: Result<(), MemoryFault>) -> Result<Option<Next>, AllocError>
     ensures { AnswersMemory done result }
 {
     match done {
-        Ok(()) => Ok(Next::Goes),
-        Err(MemoryFault::Undefined(kind)) => Ok(Next::Stops(Stop::Undefined(kind))),
-        Err(MemoryFault::MemoryLimit) => Ok(Next::Stops(Stop::MemoryLimit)),
+        Ok(()) => Ok(Some(Next::Goes)),
+        Err(MemoryFault::Undefined(kind)) => Ok(Some(Next::Stops(Stop::Undefined(kind)))),
+        Err(MemoryFault::MemoryLimit) => Ok(Some(Next::Stops(Stop::MemoryLimit))),
         Err(MemoryFault::Memory) => Err(AllocError),
     }
 }
@@ -53,16 +52,18 @@ fn act_on_many(
     pools: &Pools,
     action: &Action,
     room: &mut Vec<Scalar>,
-) -> Result<(), AllocError>
+) -> Result<Option<Next>, AllocError>
     requires group { is_value action.now ≡ true }
     requires may { (count : ℕ) × MayAct count pools.now action.now stack.old }
-    ensures ok { OnOk result ((a : Lists) → IsCarriedOut (action_of pools.now a action.now) stack.old stack.new) }
+    ensures comes { IfOk result (λ next. (m : Blocks) (a : Lists) → ComesInside (action_of pools.now a action.now) next stack.old stack.new m m) }
+    ensures stays { OnOk result (FunctionsStay stack.old stack.new) }
     ensures wants { OnErr result ((a : Lists) → wants_memory (action_of pools.now a action.now) ≡ true) }
 {
-    act_on_values(stack, pools, *action, room)
+    act_on_values(stack, pools, *action, room)?;
+    Ok(Some(Next::Goes))
 }
 
-/// An instruction of the newest frame that neither calls nor returns. What `room` has is lost.
+/// An instruction of the newest frame, if it neither calls nor returns. None where it does: then nothing is done. What `room` has is lost.
 ///
 /// It is refused for want of memory alone, by an instruction that may want it.
 #[inline(always)]
@@ -72,11 +73,10 @@ pub(crate) fn act_within(
     pools: &Pools,
     action: &Action,
     room: &mut Vec<Scalar>,
-) -> Result<Next, AllocError>
-    requires inner { is_inner action.now ≡ true }
+) -> Result<Option<Next>, AllocError>
     requires may { MayAct (length memory.old.list) pools.now action.now stack.old }
     requires next { HasFreeAddresses memory.old }
-    ensures comes { IfOk result (λ next. (a : Lists) → ComesTo (action_of pools.now a action.now) next stack.old stack.new memory.old memory.new) }
+    ensures comes { IfOk result (λ next. (a : Lists) → ComesInside (action_of pools.now a action.now) next stack.old stack.new memory.old memory.new) }
     ensures stays { OnOk result (FunctionsStay stack.old stack.new) }
     ensures wants { OnErr result ((a : Lists) → wants_memory (action_of pools.now a action.now) ≡ true) }
 {
@@ -111,7 +111,7 @@ pub(crate) fn act_within(
             sum,
         } => {
             act_on_address(stack, memory, pools, action, to, inbounds, base, terms, sum);
-            Ok(Next::Goes)
+            Ok(Some(Next::Goes))
         }
         Action::Compute {
             to,
@@ -120,9 +120,9 @@ pub(crate) fn act_within(
             width,
             left,
             right,
-        } => Ok(next_of(act_on_binary(
+        } => Ok(Some(next_of(act_on_binary(
             stack, pools, action, to, opcode, flags, width, left, right,
-        ))),
+        )))),
         Action::Compare {
             to,
             predicate,
@@ -134,7 +134,7 @@ pub(crate) fn act_within(
             act_on_comparison(
                 stack, pools, action, to, predicate, samesign, width, left, right,
             );
-            Ok(Next::Goes)
+            Ok(Some(Next::Goes))
         }
         Action::Convert {
             to,
@@ -147,27 +147,30 @@ pub(crate) fn act_within(
             act_on_cast(
                 stack, pools, action, to, opcode, flags, from_width, to_width, value,
             );
-            Ok(Next::Goes)
+            Ok(Some(Next::Goes))
         }
         Action::Jump { edge } => {
             act_on_jump(stack, pools, action, edge);
-            Ok(Next::Goes)
+            Ok(Some(Next::Goes))
         }
         Action::Branch {
             condition,
             then_edge,
             else_edge,
-        } => Ok(next_of(act_on_branch(stack, pools, action, condition, then_edge, else_edge))),
+        } => Ok(Some(next_of(act_on_branch(
+            stack, pools, action, condition, then_edge, else_edge,
+        )))),
         Action::Switch {
             value,
             otherwise,
             cases,
-        } => Ok(next_of(act_on_switch(stack, pools, action, value, otherwise, cases))),
-        Action::Unreachable => Ok(fails(act_on_unreachable(stack, pools, action))),
+        } => Ok(Some(next_of(act_on_switch(stack, pools, action, value, otherwise, cases)))),
+        Action::Unreachable => Ok(Some(fails(act_on_unreachable(stack, pools, action)))),
         Action::Select { .. } | Action::Freeze { .. } | Action::Gather { .. } => {
-            act_on_many(stack, pools, action, room)?;
-            Ok(Next::Goes)
+            act_on_many(stack, pools, action, room)
         }
-        Action::Call { .. } | Action::Return { .. } | Action::Passed => unreachable!(),
+        Action::Call { .. } | Action::Return { .. } => Ok(None),
+        // No run stands at a phi.
+        Action::Passed => unreachable!(),
     }
 }

@@ -82,11 +82,5 @@ pub fn act_inside(
 {
     let pools = decoded.pools();
     let flat = decoded.action(stack.block(), stack.position());
-    match *flat {
-        Action::Call { .. } | Action::Return { .. } => Ok(None),
-        _ => {
-            let next = act_within(stack, memory, pools, flat, room)?;
-            Ok(Some(next))
-        }
-    }
+    act_within(stack, memory, pools, flat, room)
 }

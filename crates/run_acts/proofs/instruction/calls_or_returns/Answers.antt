@@ -25,7 +25,7 @@ returns-in-Call c =
     may_act_in p s m c.requires.1 c.function.result c.function.ensures b.result.now b.ensures.ready b.ensures.body c.block.result c.position.result c.block.ensures c.position.ensures x.result.now x.ensures.action x.ensures.within
     x.ensures.fits
     in
-    sym (outer_here p b.result.now x.result.now s m may (outer_matched b.result.now p.lists x.result.now c.in-Call.is))
+    sym (outer_here p b.result.now x.result.now s m may (outer_matched b.result.now.pools p.lists x.result.now c.in-Call.is))
 
 -- ---- any other
 
