@@ -1,6 +1,6 @@
 -- What is asked of an instruction that stands at the newest frame of a typed run, class by class.
 use Rattle.std.proofs.Common.{◌≡◌, ℕ, ◌+◌, ◌^◌, ◌<◌, ◌≤◌, All, Bool, List, [], ◌∷◌, length, map, Some, Result, Ok, Err, refl, sym, ap, ◌∙◌, subst, inl, inr, ◌⊎◌, arith}
-use Rattle.std.specs.Prelude.{IfOk, OnErr, OnOk, ◌++◌, false, nat_lt, slice_get, true}
+use Rattle.std.specs.Prelude.{IfOk, OnErr, OnOk, false, nat_lt, slice_get, take, true}
 use Rattle.std.specs.List.{AllZip}
 use Rattle.std.proofs.lemmas.Bool.{false≢true}
 use Rattle.std.proofs.lemmas.List.{length-map}
@@ -388,10 +388,11 @@ if_ok (Err e) P Q f h = tt
 pub spanned_by : (q r : Pools) (span : Span) (leaves : List Origin) → q ≡ r → leaves ≡ spanned q.origins span → leaves ≡ spanned r.origins span
 spanned_by q r span leaves same here = here ∙ ap (λ (x : Pools). spanned x.origins span) same
 
--- leaves that were read into room that was cleared
-pub arguments_read : (s : UnderWay) (listed meant : List Origin) (cleared items leaves : List Scalar) → listed ≡ meant → cleared ≡ [] → items ≡ cleared ++ read_all (newest s.frames) (map origin_of listed) → leaves ≡ items → leaves ≡ read_all (newest s.frames) (map origin_of meant)
-arguments_read s listed meant cleared items leaves here none added same =
-    same ∙ added ∙ (λ i. none i ++ read_all (newest s.frames) (map origin_of (here i)))
+-- leaves that were read into the front of the room
+pub arguments_read : (s : UnderWay) (listed meant : List Origin) (items seen leaves : List Scalar) → listed ≡ meant → take (length listed) items ≡ map (operands.leaf_of s) listed → seen ≡ items → leaves ≡ take (length listed) seen
+    → leaves ≡ read_all (newest s.frames) (map origin_of meant)
+arguments_read s listed meant items seen leaves here front same first =
+    first ∙ ap (take (length listed)) same ∙ front ∙ sym (map-map (read (newest s.frames)) origin_of listed) ∙ ap (λ (xs : List Origin). read_all (newest s.frames) (map origin_of xs)) here
 
 pub ready_returned : {T E : Type 0} (r : Result T E) (p : Loaded) (old new : UnderWay) → OnOk r ((q : Loaded) → StaysReady q old q new) → OnOk r (StaysReady p old p new)
 ready_returned (Ok v) p old new h = h p

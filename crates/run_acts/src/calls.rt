@@ -13,7 +13,7 @@ ghost use Rattle.run_acts.specs.Acting.{CameTo, MayActIn};
 use crate::address::{FrameCall, call_address};
 use crate::leave::return_value;
 use crate::next::Next;
-use crate::room::Buffers;
+use crate::room::{Buffers, front, read_leaves};
 use ir_memory::Memory;
 use run_classes::origin;
 use run_flat::{LeafAt, Span};
@@ -45,13 +45,12 @@ pub(crate) fn act_on_call(
     let operand = origin(pools, callee);
     let address = stack.read(&operand);
     let listed = pools.origins.in_span(parts.arguments);
-    room.leaves.clear();
-    stack.read_all(listed, &mut room.leaves)?;
+    read_leaves(stack, listed, &mut room.leaves)?;
     stack.move_on();
     let call = FrameCall {
         callee: address,
         parts,
-        arguments: &room.leaves,
+        arguments: front(&room.leaves, listed),
         to,
     };
     call_address(program, stack, memory, &call, &mut room.written)
