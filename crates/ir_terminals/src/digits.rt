@@ -1,5 +1,5 @@
 //! Numbers that digits write, while they fit.
-ghost use Rattle.std.specs.Prelude.{◌≡◌, ◌<◌, ◌^◌, ◌&&◌, true, nat_le};
+ghost use Rattle.std.specs.Prelude.{◌≡◌, ◌-◌, ◌<◌, ◌^◌, ◌&&◌, true, nat_le};
 ghost use Rattle.std.specs.List.{list_all};
 ghost use Rattle.ir_terminals.specs.Digits.{are_digits, below, decimal, IsWritten};
 
@@ -15,8 +15,10 @@ pub(crate) fn decimal_128(digits: &[u8]) -> Option<u128>
     Some(number)
 }
 
-/// The number that the digits write, where it is below 2^64.
-pub(crate) fn decimal_64(digits: &[u8]) -> Option<u64>
+/// The number that the digits write, where it is below 2^64. It stands apart from those of few digits, which nearly all
+/// numbers of a text are.
+#[inline(never)]
+fn decimal_of_many(digits: &[u8]) -> Option<u64>
     ensures { result ≡ below (2 ^ 64) (decimal digits.now) }
 {
     let mut number: u64 = 0;
@@ -25,6 +27,29 @@ pub(crate) fn decimal_64(digits: &[u8]) -> Option<u64>
         number = number.checked_mul(10)?.checked_add(value)?;
     }
     Some(number)
+}
+
+/// What a digit stands for.
+#[inline(always)]
+fn value_of(digit: u8) -> u64
+    ensures { result ≡ digit - 48 }
+{
+    u64::from(digit.saturating_sub(b'0'))
+}
+
+/// The number that the digits write, where it is below 2^64.
+#[inline(always)]
+pub(crate) fn decimal_64(digits: &[u8]) -> Option<u64>
+    ensures { result ≡ below (2 ^ 64) (decimal digits.now) }
+{
+    match digits {
+        [one] => Some(value_of(*one)),
+        [tens, one] => Some(10 * value_of(*tens) + value_of(*one)),
+        [hundreds, tens, one] => {
+            Some(100 * value_of(*hundreds) + 10 * value_of(*tens) + value_of(*one))
+        }
+        _ => decimal_of_many(digits),
+    }
 }
 
 /// The same digits, of which some other than zero, without the zeros before them.

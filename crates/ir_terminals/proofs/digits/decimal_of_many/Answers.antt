@@ -1,6 +1,6 @@
 use Rattle.std.proofs.Common.{◌^◌, ◌∙◌, sym}
 use Rattle.ir_terminals.proofs.Decimals.{tens_too_large, sum_too_large}
-use Rattle.ir_terminals.proofs.digits.decimal_64.Goals as goal
+use Rattle.ir_terminals.proofs.digits.decimal_of_many.Goals as goal
 
 pub returns-in_err-checked_mul : goal.returns-in_err-checked_mul
 returns-in_err-checked_mul c =

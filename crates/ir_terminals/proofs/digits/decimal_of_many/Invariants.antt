@@ -1,6 +1,6 @@
 use Rattle.std.proofs.Common.{◌≡◌, ◌<◌, ◌^◌, drop}
 use Rattle.ir_terminals.specs.Digits.{decimal, decimal_after}
-use Rattle.ir_terminals.proofs.digits.decimal_64.Given as goal
+use Rattle.ir_terminals.proofs.digits.decimal_of_many.Given as goal
 
 -- the digits so far, and those behind them, write the number
 abbrev pub invariant-loop-digit : goal.invariant-loop-digit
