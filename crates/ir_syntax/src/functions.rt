@@ -83,7 +83,11 @@ fn one_more(
 
 /// For how many parameters there is room at first, behind one that was read: most functions have no more than two.
 fn first_room(cursor: &Cursor) -> usize {
-    if cursor.is_class_next(Terminal::Comma) { 2 } else { 1 }
+    if cursor.is_class_next(Terminal::Comma) {
+        2
+    } else {
+        1
+    }
 }
 
 /// `PARAM (, PARAM)* (, ...)?`
