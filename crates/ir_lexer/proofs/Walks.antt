@@ -11,7 +11,7 @@ use Rattle.ir_lexer.specs.Class.{byte_class, in_line, is_line_feed, is_blank, is
 use Rattle.ir_lexer.specs.declared.class.Class.TheVariants.{Semicolon, LineFeed, Blank}
 use Rattle.ir_lexer.specs.Form.{run}
 use Rattle.ir_lexer.specs.Quoted.{decode, zero_in, has_zero, with_byte, unescaped, decoded, at_end, is_whole}
-use Rattle.ir_lexer.specs.Gap.{gap_length}
+use Rattle.ir_lexer.specs.Gap.{gap_length, in_gap}
 use Rattle.ir_lexer.specs.Place.{next_place, place_after}
 use Rattle.ir_base.specs.declared.place.Place.{Place}
 use Rattle.ir_lexer.proofs.Runs.{bool_cases, run_none, run_first, run_stops, run_le}
@@ -68,6 +68,15 @@ gap_blank s n h e = rw (add-one, drop-cons s n 0, e) refl
 pub gap_off : (s : List ℕ) (n : ℕ) → n < length s → is_blank (byte_class (get_or s n 0)) ≡ false → is_semicolon (byte_class (get_or s n 0)) ≡ false → gap_length false (drop n s) ≡ 0
 unfolding gap_length
 gap_off s n h e f = rw (drop-cons s n 0, e, f) refl
+
+-- where the byte begins no gap
+pub gap_none : (s : List ℕ) (n : ℕ) → n < length s → in_gap (get_or s n 0) ≡ false → gap_length false (drop n s) ≡ 0
+gap_none s n h e = let k = no_gap (is_blank (byte_class (get_or s n 0))) (is_semicolon (byte_class (get_or s n 0))) e in gap_off s n h k.0 k.1
+  where
+    no_gap : (x y : Bool) → (x || y) ≡ false → (x ≡ false) × (y ≡ false)
+    no_gap false false e = (refl, refl)
+    no_gap false true e = absurd cc
+    no_gap true y e = absurd cc
 
 pub not_in_gap : (x : Class) → (x ≡ Semicolon → ⊥) → (x ≡ LineFeed → ⊥) → (x ≡ Blank → ⊥) → (is_blank x ≡ false) × (is_semicolon x ≡ false)
 not_in_gap Semicolon s l b = absurd (s refl)

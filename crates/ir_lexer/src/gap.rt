@@ -1,13 +1,21 @@
 //! Separators and comments.
-ghost use Rattle.std.specs.Prelude.{◌≡◌, ◌+◌, ◌^◌, ◌<◌, ◌≤◌, length, take, false};
+ghost use Rattle.std.specs.Prelude.{◌≡◌, ◌+◌, ◌^◌, ◌<◌, ◌≤◌, length, take, true, false};
 ghost use Rattle.ir_lexer.specs.Class.{byte_class};
-ghost use Rattle.ir_lexer.specs.Gap.{gap_length};
+ghost use Rattle.ir_lexer.specs.Gap.{gap_length, in_gap};
 ghost use Rattle.ir_lexer.specs.Place.{place_after};
 
 use crate::class::{Class, ClassSet, class_of};
 use crate::place::{next_place, place_in_line};
 use crate::run::run_of;
 use ir_base::Place;
+
+/// Whether a separator or a comment may begin with the byte. Each that does is a space, a byte below it, or `;`.
+#[inline(always)]
+fn may_begin_gap(byte: u8) -> bool
+    ensures { in_gap byte ≡ true → result ≡ true }
+{
+    byte <= b' ' || byte == b';'
+}
 
 /// The length of the separators and comments at the front, which begins at this place, and the place behind them.
 pub fn gap_of(place: Place, bytes: &[u8]) -> (usize, Place)
@@ -20,22 +28,28 @@ pub fn gap_of(place: Place, bytes: &[u8]) -> (usize, Place)
 {
     let mut n = 0;
     let mut here = place;
-    'gap: while n < bytes.len() {
-        match class_of(bytes[n]) {
-            Class::Blank => {
-                here = place_in_line(here, 1);
-                n += 1;
+    'gap: while n < bytes.len() && may_begin_gap(bytes[n]) {
+        // Nearly all that stands between tokens is a space.
+        if bytes[n] == b' ' {
+            here = place_in_line(here, 1);
+            n += 1;
+        } else {
+            match class_of(bytes[n]) {
+                Class::Blank => {
+                    here = place_in_line(here, 1);
+                    n += 1;
+                }
+                Class::LineFeed => {
+                    here = next_place(here, bytes[n]);
+                    n += 1;
+                }
+                Class::Semicolon => {
+                    let comment = run_of(ClassSet::InLine, &bytes[n..]);
+                    here = place_in_line(here, comment);
+                    n += comment;
+                }
+                _ => return (n, here),
             }
-            Class::LineFeed => {
-                here = next_place(here, bytes[n]);
-                n += 1;
-            }
-            Class::Semicolon => {
-                let comment = run_of(ClassSet::InLine, &bytes[n..]);
-                here = place_in_line(here, comment);
-                n += comment;
-            }
-            _ => return (n, here),
         }
     }
     (n, here)

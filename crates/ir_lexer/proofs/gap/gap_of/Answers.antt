@@ -1,31 +1,55 @@
-use Rattle.std.proofs.Common.{◌≡◌, ◌+◌, ◌≤◌, length, take, drop, get_or, true, false, refl, sym, ◌∙◌, arith, length-drop}
+use Rattle.std.proofs.Common.{◌≡◌, ◌+◌, ◌≤◌, length, take, drop, get_or, true, false, refl, sym, ◌∙◌, arith, length-drop, inl, inr}
+use Rattle.std.proofs.lemmas.Bool.Decides.{nat_tests}
 use Rattle.ir_lexer.specs.Class.{byte_class, in_line, is_blank}
 use Rattle.ir_lexer.specs.Form.{each, run}
-use Rattle.ir_lexer.specs.Gap.{gap_length}
+use Rattle.ir_lexer.specs.Gap.{gap_length, in_gap}
 use Rattle.ir_lexer.specs.Place.{next_place, place_after}
 use Rattle.ir_lexer.specs.declared.class.Class.TheVariants as class
+use Rattle.ir_lexer.proofs.ClassTable.{space_is_blank}
 use Rattle.ir_lexer.proofs.KnownRuns.{all_behind}
 use Rattle.ir_lexer.proofs.Lines.{front_in_line, one_in_line}
 use Rattle.ir_lexer.proofs.Placing.{behind_more, one_on}
-use Rattle.ir_lexer.proofs.Runs.{run_each, run_le}
-use Rattle.ir_lexer.proofs.Walks.{gap_blank, gap_comment, gap_off, gap_at_end, not_in_gap, run_on}
+use Rattle.ir_lexer.proofs.Runs.{bool_cases, run_each, run_le}
+use Rattle.ir_lexer.proofs.Walks.{gap_blank, gap_comment, gap_none, gap_off, gap_at_end, not_in_gap, run_on}
 use Rattle.ir_lexer.proofs.gap.gap_of.Goals as goal
 
 pub gap-init : goal.gap-init
 unfolding place_after
 gap-init c = record { within = omega arith; count = omega arith; line_in = omega arith; column_in = omega arith; first = c.requires.first; place = refl }
 
+pub gap-preserved-then-bytes-n-eq32 : goal.gap-preserved-then-bytes-n-eq32
+gap-preserved-then-bytes-n-eq32 c =
+    let l = c.gap in
+    let s = c.args.bytes.now in
+    let i = l.invariant in
+    let next = c.place_in_line-here.result in
+    let byte : get_or s l.n 0 ≡ 32 = grind (arith, nat_tests) in
+    let is : byte_class (get_or s l.n 0) ≡ class.Blank = rw byte space_is_blank in
+    let blank : is_blank (byte_class (get_or s l.n 0)) ≡ true = rw is refl in
+    let goes_on : in_line (byte_class (get_or s l.n 0)) ≡ true = rw is refl in
+    let fits : 1 ≤ length (drop l.n s) = omega (arith, c.gap-test.true, length-drop l.n s) in
+    let there = front_in_line l.here next (drop l.n s) 1 fits (one_in_line s l.n c.gap-test.true goes_on) c.place_in_line-here.ensures in
+    let k = behind_more c.args.place l.here next s l.n 1 c.requires.first (omega (arith, c.gap-test.true)) i.place there in
+    record {
+      within = omega (arith, c.gap-test.true);
+      count = omega (arith, i.count, gap_blank s l.n c.gap-test.true blank);
+      line_in = k.line_in;
+      column_in = k.column_in;
+      first = k.first;
+      place = k.place;
+    }
+
 pub gap-preserved-in-Blank : goal.gap-preserved-in-Blank
 gap-preserved-in-Blank c =
     let l = c.gap in
     let s = c.args.bytes.now in
     let i = l.invariant in
-    let next = c.place_in_line-here.result in
+    let next = c.place_in_line-here-in-Blank.result in
     let is : byte_class (get_or s l.n 0) ≡ class.Blank = sym c.class_of.ensures ∙ c.in-Blank.is in
     let blank : is_blank (byte_class (get_or s l.n 0)) ≡ true = rw is refl in
     let goes_on : in_line (byte_class (get_or s l.n 0)) ≡ true = rw is refl in
     let fits : 1 ≤ length (drop l.n s) = omega (arith, c.gap-test.true, length-drop l.n s) in
-    let there = front_in_line l.here next (drop l.n s) 1 fits (one_in_line s l.n c.gap-test.true goes_on) c.place_in_line-here.ensures in
+    let there = front_in_line l.here next (drop l.n s) 1 fits (one_in_line s l.n c.gap-test.true goes_on) c.place_in_line-here-in-Blank.ensures in
     let k = behind_more c.args.place l.here next s l.n 1 c.requires.first (omega (arith, c.gap-test.true)) i.place there in
     record {
       within = omega (arith, c.gap-test.true);
@@ -97,5 +121,15 @@ returns-in_default c =
     let off = gap_off s l.n c.gap-test.true (rw c.class_of.ensures at not_one.0) (rw c.class_of.ensures at not_one.1) in
     record { length = omega (arith, l.invariant.count, off); in_bytes = l.invariant.within; place = l.invariant.place }
 
-pub returns-clause-length : goal.returns-clause-length
-returns-clause-length c = omega (arith, c.gap.invariant.count, gap_at_end c.args.bytes.now c.gap.n c.gap-test.false)
+pub returns-after-gap-clause-length : goal.returns-after-gap-clause-length
+returns-after-gap-clause-length c = omega (arith, c.gap.invariant.count, gap_at_end c.args.bytes.now c.gap.n c.gap-test.false)
+
+pub returns-else-may_begin_gap-clause-length : goal.returns-else-may_begin_gap-clause-length
+returns-else-may_begin_gap-clause-length c =
+    let l = c.gap in
+    let s = c.args.bytes.now in
+    let none : in_gap (get_or s l.n 0) ≡ false = elim (bool_cases (in_gap (get_or s l.n 0))) [
+      | inl e ↦ absurd (let k = c.may_begin_gap.ensures e in let j = c.if-may_begin_gap.false in cc)
+      | inr e ↦ e
+    ] in
+    omega (arith, l.invariant.count, gap_none s l.n c.gap-test.true none)
