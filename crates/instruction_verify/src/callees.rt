@@ -41,6 +41,7 @@ fn called_takes_no_intrinsic(judge: &Judge<'_>, value: Value) -> bool
 }
 
 /// Whether what an instruction calls, where it calls, is an entry itself, or takes the address of no intrinsic.
+#[inline(always)]
 pub(crate) fn callee_takes_no_intrinsic(judge: &Judge<'_>, instruction: &Inst) -> bool
     requires { All (HasConstant judge.now) (bare_values_of instruction.now) }
     ensures { (values blocks : List LocalName) → result ≡ rules.callee_takes_no_intrinsic (module_of judge.now) (callee (instruction_in judge.now values blocks instruction.now).operation) }
@@ -63,6 +64,7 @@ fn called_types_suit(judge: &Judge<'_>, value: Value) -> bool
 }
 
 /// Whether the types suit that are written in what an instruction calls, where it calls.
+#[inline(always)]
 pub(crate) fn callee_types_suit(judge: &Judge<'_>, instruction: &Inst) -> bool
     requires { All (HasConstant judge.now) (bare_values_of instruction.now) }
     ensures { (values blocks : List LocalName) → result ≡ rules.callee_types_suit (module_of judge.now).structs (callee (instruction_in judge.now values blocks instruction.now).operation) }
@@ -74,6 +76,7 @@ pub(crate) fn callee_types_suit(judge: &Judge<'_>, instruction: &Inst) -> bool
 }
 
 /// Whether the alignment that an instruction states, where it states one, is a power of two of at most 65,536.
+#[inline(always)]
 pub(crate) fn instruction_alignment_suits(instruction: &Inst) -> bool
     ensures { (a : Lists) (values blocks : List LocalName) → result ≡ rules.operation_alignment_suits (instruction_in a values blocks instruction.now).operation }
 {

@@ -82,6 +82,7 @@ fn indices_fit(judge: &Judge<'_>, source: TypeId, indices: &[Operand]) -> bool
 }
 
 /// A base is `ptr`, and each index leads to a part.
+#[inline(always)]
 pub(crate) fn element_address_suits(judge: &Judge<'_>, instruction: &Inst) -> bool
     requires { HasInst judge.now instruction.now }
     ensures { (values blocks : List LocalName) → result ≡ rules.element_address_suits (structs judge.now.table) (instruction_in judge.now values blocks instruction.now).operation }

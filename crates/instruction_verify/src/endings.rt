@@ -1,5 +1,5 @@
 //! What ends of blocks are asked of the types that they work on, and of their constants.
-ghost use Rattle.std.specs.Prelude.{◌≡◌, ◌<◌, ◌&&◌, List, All, IfOk, flat_map, length, nat_eq};
+ghost use Rattle.std.specs.Prelude.{◌≡◌, ◌<◌, ◌&&◌, true, List, All, IfOk, flat_map, length, nat_eq};
 ghost use Rattle.std.specs.List.{list_all};
 ghost use Rattle.ir_tables.specs.Table.{is_distinct};
 ghost use Rattle.type_table.specs.Types.{tree};
@@ -112,6 +112,23 @@ fn ending_suits(
         }
         Ending::Jump(_) => Ok(true),
         Ending::Unreachable => Ok(true),
+    }
+}
+
+/// Whether an end other than a `switch` suits a function that returns that type; false of a `switch`.
+pub(crate) fn plain_ending_suits(judge: &Judge<'_>, returns: TypeId, ending: &Ending) -> bool
+    requires returns { returns < length judge.now.table.types }
+    requires known { All (HasOperand judge.now) (end_operands_of ending.now) }
+    ensures { (f : modules.Function) (values blocks : List LocalName) → f.returns ≡ tree judge.now.table returns → result ≡ true → rules.ending_suits f (ending_in judge.now values blocks ending.now) ≡ true }
+{
+    let types = judge.types();
+    match ending {
+        Ending::ReturnVoid => types.is_void(returns),
+        Ending::Return(operand) => types.same_type(operand.ty, returns),
+        Ending::Branch { condition, .. } => types.is_integer_of(condition.ty, 1),
+        Ending::Switch { .. } => false,
+        Ending::Jump(_) => true,
+        Ending::Unreachable => true,
     }
 }
 

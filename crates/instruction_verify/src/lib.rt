@@ -17,11 +17,13 @@ mod elements;
 mod endings;
 mod first;
 mod operands;
+mod passing;
 mod rules;
 mod types;
 mod written_types;
 
 pub use endings::judge_ending_types;
 pub use first::{judge_ending_first, judge_instruction_first};
+pub use passing::{ending_passes, instruction_passes};
 pub use types::judge_instruction_types;
 pub use written_types::part_at;

@@ -48,6 +48,7 @@ impl OperandFact {
 }
 
 /// What is known of a value where that type is written.
+#[inline(always)]
 fn value_fact(judge: &Judge<'_>, ty: TypeId, value: Value) -> OperandFact
     requires ty { ty < length judge.now.table.types }
     requires value { HasConstant judge.now value }
@@ -69,6 +70,7 @@ fn value_fact(judge: &Judge<'_>, ty: TypeId, value: Value) -> OperandFact
 }
 
 /// What is known of these operands.
+#[inline(always)]
 pub(crate) fn operands_fact(judge: &Judge<'_>, operands: &[Operand]) -> OperandFact
     requires { All (HasOperand judge.now) operands.now }
     ensures { (values blocks : List LocalName) → result ≡ operands_fact (module_of judge.now) (map (operand_in judge.now values blocks) operands.now) }
@@ -94,24 +96,18 @@ fn incoming_fact(judge: &Judge<'_>, ty: TypeId, incoming: &[Incoming]) -> Operan
 }
 
 /// What is known of an operand with a type, and of a value of the same type.
+#[inline(always)]
 fn pair_fact(judge: &Judge<'_>, left: Operand, right: Value) -> OperandFact
     requires left { HasOperand judge.now left }
     requires right { HasConstant judge.now right }
     ensures { (values blocks : List LocalName) → result ≡ operands_fact (module_of judge.now) (map (operand_in judge.now values blocks) (left ∷ record { ty = left.ty; value = right } ∷ [])) }
 {
-    operands_fact(
-        judge,
-        &[
-            left,
-            Operand {
-                ty: left.ty,
-                value: right,
-            },
-        ],
-    )
+    let second = value_fact(judge, left.ty, right);
+    value_fact(judge, left.ty, left.value).and(second)
 }
 
 /// What is known of the operands of an instruction.
+#[inline(always)]
 pub(crate) fn instruction_fact(judge: &Judge<'_>, instruction: &Inst) -> OperandFact
     requires { HasInst judge.now instruction.now }
     ensures { (values blocks : List LocalName) → result ≡ operands_fact (module_of judge.now) (operands (instruction_in judge.now values blocks instruction.now).operation) }
@@ -166,6 +162,7 @@ fn cases_fact(judge: &Judge<'_>, cases: &[Case]) -> OperandFact
 }
 
 /// What is known of the operands of the end of a block.
+#[inline(always)]
 pub(crate) fn ending_fact(judge: &Judge<'_>, ending: &Ending) -> OperandFact
     requires { All (HasOperand judge.now) (end_operands_of ending.now) }
     ensures { (values blocks : List LocalName) → result ≡ operands_fact (module_of judge.now) (ending_operands (ending_in judge.now values blocks ending.now)) }

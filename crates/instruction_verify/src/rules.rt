@@ -20,6 +20,7 @@ use type_verify::TypeJudge;
 
 /// Binary operands are integers; those of `icmp` are integers or, without `samesign`, `ptr`; a `select` has the condition i1 and arms
 /// of one type.
+#[inline(always)]
 pub(crate) fn arithmetic_suits(types: &TypeJudge<'_>, instruction: &Inst) -> bool
     requires { All (λ o. o.ty < length types.now.types) (operands_of instruction.now) }
     ensures { (a : Lists) (values blocks : List LocalName) → types.now ≡ a.table → result ≡ rules.arithmetic_suits (instruction_in a values blocks instruction.now).operation }
@@ -40,6 +41,7 @@ pub(crate) fn arithmetic_suits(types: &TypeJudge<'_>, instruction: &Inst) -> boo
 }
 
 /// A cast is between types that it is for.
+#[inline(always)]
 pub(crate) fn cast_suits(types: &TypeJudge<'_>, instruction: &Inst) -> bool
     requires operands { All (λ o. o.ty < length types.now.types) (operands_of instruction.now) }
     requires written { All (λ ty. ty < length types.now.types) (types_of instruction.now) }
@@ -65,6 +67,7 @@ fn count_suits(types: &TypeJudge<'_>, count: Option<Operand>) -> bool
 }
 
 /// The address of `load` and `store` is `ptr`, and the count of an `alloca` is an integer.
+#[inline(always)]
 pub(crate) fn address_suits(types: &TypeJudge<'_>, instruction: &Inst) -> bool
     requires { All (λ o. o.ty < length types.now.types) (operands_of instruction.now) }
     ensures { (a : Lists) (values blocks : List LocalName) → types.now ≡ a.table → result ≡ rules.address_suits (instruction_in a values blocks instruction.now).operation }
@@ -90,6 +93,7 @@ fn has_part_of(types: &TypeJudge<'_>, whole: TypeId, indices: &[u32], part: Type
 }
 
 /// The indices name a part, and an inserted value has its type.
+#[inline(always)]
 pub(crate) fn part_suits(types: &TypeJudge<'_>, instruction: &Inst) -> bool
     requires { All (λ o. o.ty < length types.now.types) (operands_of instruction.now) }
     ensures { (a : Lists) (values blocks : List LocalName) → types.now ≡ a.table → result ≡ rules.part_suits (structs types.now) (instruction_in a values blocks instruction.now).operation }

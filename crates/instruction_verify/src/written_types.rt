@@ -81,6 +81,7 @@ fn part_suits(types: &TypeJudge<'_>, ty: TypeId, indices: &[u32]) -> bool
 }
 
 /// Whether the types suit that an instruction gives or writes, but for those before its operands and in its callee.
+#[inline(always)]
 pub(crate) fn own_types_suit(types: &TypeJudge<'_>, instruction: &Inst) -> bool
     requires operands { All (λ o. o.ty < length types.now.types) (operands_of instruction.now) }
     requires written { All (λ ty. ty < length types.now.types) (types_of instruction.now) }
