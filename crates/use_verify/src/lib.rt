@@ -29,4 +29,4 @@ pub use classes::constant_classes;
 pub use first_block::judge_entry_block;
 pub use phis::{PhiJudge, is_phi};
 pub use site::Site;
-pub use uses::{judge_ending_uses, judge_uses};
+pub use uses::{ending_uses_pass, judge_ending_uses, judge_uses, uses_pass};
