@@ -84,6 +84,7 @@ fn pointer_fits(judge: &Judge<'_>, value: Value) -> bool
 }
 
 /// Whether a callee that is a constant fits `ptr`.
+#[inline(always)]
 pub(crate) fn callee_fits(judge: &Judge<'_>, callee: Option<Value>) -> bool
     requires { All (HasConstant (length judge.now.constants)) (option_to_list callee) }
     ensures { (vs bs : List LocalName) → result ≡ values.callee_fits (structs judge.now.table) (option_map (value_view (trees judge.now.table) (constants_of judge.now) vs bs) callee) }

@@ -50,6 +50,7 @@ fn arguments_suit(
 }
 
 /// Whether what is called is a pointer, the arguments have the types of the parameters, and a void call has no result.
+#[inline(never)]
 fn called_suits(judge: &Judge<'_>, value_types: &[LocalType], call: &Call) -> bool
     requires types { AreTypes judge.now.table value_types.now }
     requires known { HasUses judge.now (length value_types.now) (inst.Call call.now) }
@@ -70,6 +71,7 @@ fn called_suits(judge: &Judge<'_>, value_types: &[LocalType], call: &Call) -> bo
 
 /// Whether an instruction that calls has a pointer as callee, arguments of the types of the parameters, and no result where the
 /// called type returns none. The list has the type of each parameter and result of the function, by its number.
+#[inline(always)]
 pub(crate) fn call_suits(judge: &Judge<'_>, value_types: &[LocalType], instruction: &Inst) -> bool
     requires types { AreTypes judge.now.table value_types.now }
     requires known { HasUses judge.now (length value_types.now) instruction.now }

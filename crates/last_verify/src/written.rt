@@ -26,6 +26,7 @@ pub(crate) fn type_of(judge: &Judge<'_>, value_types: &[LocalType], id: ValueId)
 }
 
 /// Whether a parameter or result has the type.
+#[inline(always)]
 fn has_local_type(judge: &Judge<'_>, value_types: &[LocalType], ty: TypeId, id: ValueId) -> bool
     requires types { AreTypes judge.now.table value_types.now }
     requires ty { ty < length judge.now.table.types }
@@ -42,6 +43,7 @@ fn has_local_type(judge: &Judge<'_>, value_types: &[LocalType], ty: TypeId, id: 
 }
 
 /// Whether the value, where it is a local one, has the type.
+#[inline(always)]
 fn has_type(judge: &Judge<'_>, value_types: &[LocalType], ty: TypeId, value: Value) -> bool
     requires types { AreTypes judge.now.table value_types.now }
     requires ty { ty < length judge.now.table.types }
@@ -55,6 +57,7 @@ fn has_type(judge: &Judge<'_>, value_types: &[LocalType], ty: TypeId, value: Val
 }
 
 /// Whether all of these have the types that are written before them, each by its ids.
+#[inline(always)]
 fn all_have(judge: &Judge<'_>, value_types: &[LocalType], operands: &[Operand]) -> bool
     requires types { AreTypes judge.now.table value_types.now }
     requires known { All (HasOperand (length judge.now.table.types) (length judge.now.constants) (length value_types.now)) operands.now }
@@ -70,6 +73,7 @@ fn all_have(judge: &Judge<'_>, value_types: &[LocalType], operands: &[Operand]) 
 
 /// Whether local values among the operands have the types that are written before them, struct by struct name. The list has
 /// the type of each parameter and result of the function, by its number.
+#[inline(always)]
 pub(crate) fn have_types_written(
     judge: &Judge<'_>,
     value_types: &[LocalType],

@@ -1,0 +1,66 @@
+//! Whether an instruction, or the end of a block, passes the rules on types: one answer to them, with no room for a fault.
+ghost use Rattle.std.specs.Prelude.{◌≡◌, ◌<◌, ℕ, true, List, All, length};
+ghost use Rattle.type_table.specs.Types.{trees};
+ghost use Rattle.module_arena.specs.Changes.{function_in};
+ghost use Rattle.module_arena.specs.Known.{HasOperand};
+ghost use Rattle.module_arena.specs.Module as modules;
+ghost use Rattle.module_arena.specs.Module.{Bytes, LocalName};
+ghost use Rattle.module_arena.specs.Valid.{AllHold};
+ghost use Rattle.module_arena.specs.View.{constants_of, ending_view, inst_view, module_of};
+ghost use Rattle.path_rows.specs.Operands as gathered;
+ghost use Rattle.instruction_verify.specs.Parts.{ending_first_demands, ending_last_demands, first_demands, last_demands};
+ghost use Rattle.last_verify.specs.ValuesById.{AreLocalTypes, AreTypes};
+ghost use Rattle.last_verify.specs.CallsById.{HasUses};
+
+use crate::callees::callee_fits;
+use crate::calls::call_suits;
+use crate::local_type::LocalType;
+use crate::written::have_types_written;
+use constant_verify::Judge;
+use instruction_verify::{ending_passes, instruction_passes};
+use module_arena::{Ending, Function, Inst, Operand};
+use path_rows::callee_of;
+
+/// Whether the rules 5 to 7 and 11 to 18 hold of an instruction. The list of types has the type of each parameter and result of its
+/// function, by its number; the operands are those of the instruction, each with the type that its place writes. It tells no fault:
+/// where it is false, [`instruction_verify::judge_instruction_first`] and [`crate::judge_last`] do.
+pub fn types_pass(
+    judge: &Judge<'_>,
+    value_types: &[LocalType],
+    instruction: &Inst,
+    operands: &[Operand],
+) -> bool
+    requires types { AreTypes judge.now.table value_types.now }
+    requires known { HasUses judge.now (length value_types.now) instruction.now }
+    requires gathered { operands.now ≡ gathered.operands_of instruction.now }
+    ensures first { (values blocks : List LocalName) (function : Bytes) (number : ℕ) → result ≡ true → AllHold (first_demands (module_of judge.now) function number (inst_view (trees judge.now.table) (constants_of judge.now) values blocks instruction.now)) }
+    ensures last { (f : modules.Function) (values blocks : List LocalName) (number : ℕ) → AreLocalTypes judge.now f values value_types.now → result ≡ true → AllHold (last_demands (module_of judge.now) f number (inst_view (trees judge.now.table) (constants_of judge.now) values blocks instruction.now)) }
+{
+    let passes = instruction_passes(judge, instruction);
+    let typed = have_types_written(judge, value_types, operands);
+    let suits = call_suits(judge, value_types, instruction);
+    let direct = callee_fits(judge, callee_of(instruction));
+    (passes & typed) & (suits & direct)
+}
+
+/// Whether the rules 5, 6, 11, 17 and 18 hold of the end of a block. The list of types has the type of each parameter and result of the
+/// function, by its number; the operands are those of the end, each with the type that its place writes. It tells no fault, and is
+/// false of each `switch`: there [`instruction_verify::judge_ending_first`] and [`crate::judge_ending_last`] tell what does not hold.
+pub fn ending_types_pass(
+    judge: &Judge<'_>,
+    value_types: &[LocalType],
+    function: &Function,
+    ending: &Ending,
+    operands: &[Operand],
+) -> bool
+    requires returns { function.now.result < length judge.now.table.types }
+    requires types { AreTypes judge.now.table value_types.now }
+    requires known { All (HasOperand (length judge.now.table.types) (length judge.now.constants) (length value_types.now)) operands.now }
+    requires gathered { operands.now ≡ gathered.end_operands_of ending.now }
+    ensures first { (values blocks : List LocalName) (number : ℕ) → result ≡ true → AllHold (ending_first_demands (module_of judge.now) function.now.name number (ending_view (trees judge.now.table) (constants_of judge.now) values blocks ending.now)) }
+    ensures last { (values blocks : List LocalName) (number : ℕ) → AreLocalTypes judge.now (function_in judge.now function.now) values value_types.now → result ≡ true → AllHold (ending_last_demands (module_of judge.now) (function_in judge.now function.now) number (ending_view (trees judge.now.table) (constants_of judge.now) values blocks ending.now)) }
+{
+    let passes = ending_passes(judge, function, ending);
+    let typed = have_types_written(judge, value_types, operands);
+    passes & typed
+}
