@@ -2,6 +2,7 @@ pub mod Counted
 pub mod InModule
 pub mod Joined
 pub mod Listed
+pub mod NoPhi
 pub mod Ordered
 pub mod Ready
 pub mod Sized

@@ -10,7 +10,7 @@ use Rattle.last_verify.specs.ValuesById.{AreLocalTypes}
 use Rattle.path_verify.proofs.Joined.{first_fails, last_judges, paths_fail, phi_fails}
 use Rattle.path_verify.proofs.Listed.{classes_known, inst_within, uses_known}
 use Rattle.path_verify.proofs.Ready.{few_blocks, targets_known}
-use Rattle.path_verify.proofs.instructions.judge_instruction.Goals as goal
+use Rattle.path_verify.proofs.instructions.judge_instruction_in_order.Goals as goal
 
 pub judge_instruction_first-requires : goal.judge_instruction_first-requires
 judge_instruction_first-requires c =
@@ -73,8 +73,8 @@ returns-clause-judged c block named behind =
     let a = c.args.facts.now.judge.now in
     let f = c.args.facts.now.function.now in
     let ready = c.requires.ready in
-    let types : AreLocalTypes a (function_in a f) (names_of f) c.deref-2.result.now =
-    subst (λ (ts : List LocalType). AreLocalTypes a (function_in a f) (names_of f) ts) (sym c.deref-2.ensures.value) ready.types_told in
+    let types : AreLocalTypes a (function_in a f) (names_of f) c.deref.result.now =
+    subst (λ (ts : List LocalType). AreLocalTypes a (function_in a f) (names_of f) ts) (sym c.deref.ensures.value) ready.types_told in
     last_judges (module_of a) (function_in a f) block c.args.site.now.before c.args.site.now.number (instruction_in a f c.args.instruction.now) (block_named f c.args.site.now.block) named c.judge_last.result
     (c.in_ok-judge_instruction_first.ensures (names_of f) (blocks_named f))
     (c.in_ok-judge_phi.ensures.judged a c.args.facts.now.rows.graph block ready.reflects ready.apart ready.classes_told named behind)
