@@ -2,6 +2,7 @@ pub mod Held
 pub mod Named
 pub mod Told
 pub mod Entered
+pub mod GivenHeld
 mod Mapped
 mod Counted
 mod Edged

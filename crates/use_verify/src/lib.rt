@@ -19,6 +19,7 @@ mod agreeing;
 mod classes;
 mod counts;
 mod first_block;
+mod given;
 mod keys;
 mod phis;
 mod site;
@@ -27,6 +28,7 @@ mod uses;
 
 pub use classes::constant_classes;
 pub use first_block::judge_entry_block;
+pub use given::{ending_uses_given, uses_given};
 pub use phis::{PhiJudge, is_phi};
 pub use site::Site;
 pub use uses::{ending_uses_pass, judge_ending_uses, judge_uses, uses_pass};
