@@ -12,7 +12,7 @@ use Rattle.module_arena.specs.Mentions.{end_operands_of}
 use Rattle.module_arena.specs.Module as modules
 use Rattle.module_arena.specs.View.{block_view, constants_of}
 use Rattle.type_table.specs.Types.{trees}
-use Rattle.path_rows.specs.Numbers.{names_of}
+use Rattle.path_rows.specs.Numbers.{graph_of, names_of}
 use Rattle.path_rows.specs.Reflects.{Reflects}
 use Rattle.path_rows.specs.Table.{PassedRows}
 use Rattle.last_verify.specs.declared.local_type.LocalType.{LocalType}
@@ -35,6 +35,14 @@ KnowsInstruction a f i = KnowsInst (length a.table.types) (length a.constants) (
 -- so are the operands of an end
 abbrev pub KnowsEnding : Lists → the_function.Function → the_ending.Ending → Type 0
 KnowsEnding a f e = All (HasOperand (length a.table.types) (length a.constants) (length (value_names f))) (end_operands_of e)
+
+-- what is known of a function before its paths are: which type each of its values has
+pub record IsTold (a : Lists) (f : the_function.Function) (types : List LocalType) : Type 0 where
+  pub known : KnowsFunction (length a.table.types) (length a.constants) f
+  pub reflects : Reflects (flow_in a f) (names_of f) (graph_of f)
+  pub many_types : length types ≡ length (value_names f)
+  pub types_known : AreTypes a.table types
+  pub types_told : AreLocalTypes a (function_in a f) (names_of f) types
 
 -- what is known of a function, by the names of its values: where each is defined, which type it has, and which constants are the same
 pub record IsReady (a : Lists) (f : the_function.Function) (classes : List ℕ) (types : List LocalType) (rows : PassedRows) : Type 0 where
