@@ -1,5 +1,5 @@
 -- Adding a type or a constant leaves what each id stands for, and gives the next id to what was added.
-use Rattle.std.proofs.Common.{◌≡◌, ℕ, zero, suc, ◌+◌, ◌<◌, List, [], ◌∷◌, ◌++◌, length, slice_get, Some, Result, Ok, Err, OnOk, refl, sym, ap, ◌∙◌, subst, arith}
+use Rattle.std.proofs.Common.{◌≡◌, ℕ, zero, suc, ◌+◌, ◌<◌, List, [], ◌∷◌, ◌++◌, length, slice_get, Option, Some, None, IfSome, Result, Ok, Err, OnOk, refl, sym, ap, ◌∙◌, subst, arith}
 use Rattle.std.specs.List.{fold}
 use Rattle.std.proofs.lemmas.List.{length_push, get_or_append_left, get_or_at, append_assoc, append-nil}
 use Rattle.std.proofs.lemmas.Option.{get_or_from_slice_get, slice_get_within}
@@ -109,6 +109,10 @@ type_found a good id ty e =
       known = lt;
       tree = tree-is a.table good id lt ∙ ap (tree_of (names a.table) (trees a.table)) (get_or_from_slice_get a.table.types id ty Void e);
     }
+
+pub type_found_if : (a : Lists) → types.IsGood a.table → (found : Option ℕ) (ty : IrType) → IfSome found (λ id. slice_get a.table.types id ≡ Some ty) → IfSome found (λ id. IsType a id (tree_of (names a.table) (trees a.table) ty))
+type_found_if a good (Some id) ty e = type_found a good id ty e
+type_found_if a good None ty e = tt
 
 module _ (ts : List Tree) (count : ℕ) (ns : GlobalId → Bytes) (n : Counts) where
   more : (done : List Constant) (cs : List Const) → (rest : List Constant) × (fold (grow ts ns) done cs ≡ done ++ rest)

@@ -2,7 +2,8 @@
 ghost use Rattle.std.specs.Prelude.{◌≡◌, length, slice_get, Some, IfOk, IfSome, OnOk};
 ghost use Rattle.type_table.specs.Limits.{IsWithinLimits};
 ghost use Rattle.type_table.specs.Shape.{shape};
-ghost use Rattle.type_table.specs.Tree.{Structs};
+ghost use Rattle.type_table.specs.Tree.{Structs, int, ptr};
+ghost use Rattle.type_table.specs.declared.ir_type.IrType.TheVariants.{Int, Ptr};
 ghost use Rattle.type_table.specs.Types.{IsKnown, names, trees, structs, tree_of};
 ghost use Rattle.module_arena.specs.Lists.{no_lists};
 ghost use Rattle.module_arena.specs.Known.{counts, KnowsConst};
@@ -51,6 +52,52 @@ impl Builder {
         } else {
             None
         }
+    }
+
+    /// Where the integer type of that width was put, if it is there.
+    fn hinted_integer(&self, width: u8) -> Option<TypeId>
+        ensures { IfSome result (λ id. slice_get self.now.arena.table.types id ≡ Some (Int width)) }
+    {
+        let id = self.types.integer(width);
+        let table = self.arena.types();
+        if id.number() >= table.type_count() {
+            return None;
+        }
+        match table.get(id) {
+            IrType::Int(known) if *known == width => Some(id),
+            _ => None,
+        }
+    }
+
+    /// Where `ptr` was put, if it is there.
+    fn hinted_address(&self) -> Option<TypeId>
+        ensures { IfSome result (λ id. slice_get self.now.arena.table.types id ≡ Some Ptr) }
+    {
+        let id = self.types.address();
+        let table = self.arena.types();
+        if id.number() >= table.type_count() {
+            return None;
+        }
+        match table.get(id) {
+            IrType::Ptr => Some(id),
+            _ => None,
+        }
+    }
+
+    /// Where the integer type of that width is.
+    pub(crate) fn find_integer(&self, width: u8) -> Option<TypeId>
+        ensures { IfSome result (λ id. IsType self.now.arena id (int width)) }
+    {
+        let _good_types = self.arena.types().type_count();
+        self.hinted_integer(width)
+    }
+
+    /// Where `ptr` is.
+    pub(crate) fn find_address(&self) -> Option<TypeId>
+        ensures { IfSome result (λ id. IsType self.now.arena id ptr) }
+    {
+        let _good_types = self.arena.types().type_count();
+        self.hinted_address()
     }
 
     /// The id of the type, of which no equal one was found, and which is added.

@@ -1,5 +1,5 @@
 //! Types.
-ghost use Rattle.std.specs.Prelude.{◌≡◌, map, All, IfOk, OnOk};
+ghost use Rattle.std.specs.Prelude.{◌≡◌, map, All, IfOk, IfSome, OnOk};
 ghost use Rattle.ir_constants.specs.View.{type_view};
 ghost use Rattle.type_table.specs.Tree.{Structs, int, named};
 ghost use Rattle.type_table.specs.Types.{structs};
@@ -16,9 +16,34 @@ use std::alloc::{AllocError, Global};
 use type_table::{IrType, TypeId, TypeList};
 
 impl Builder {
-    /// The id of the type that the text writes.
-    #[cycle(types)]
+    /// Where the type that the text writes is, if it is `ptr` or an integer type.
+    fn find_plain(&self, ty: &Type) -> Option<TypeId>
+        ensures { IfSome result (λ id. IsType self.now.arena id (type_in (type_view ty.now))) }
+    {
+        match ty {
+            Type::Integer(_, width) => self.find_integer(*width),
+            Type::Ptr(_) => self.find_address(),
+            Type::Void(_) | Type::Array(_, _) | Type::Struct(_, _, _) | Type::Named(_) => None,
+        }
+    }
+
+    /// The id of the type that the text writes. One that is plain and there, as nearly all are, has a short way.
     pub fn add_type(&mut self, alloc: Global, ty: &Type) -> Result<TypeId, AllocError>
+        requires { CanBe (structs self.old.arena.table) (type_in (type_view ty.now)) }
+        ensures grows { OnOk result (Grows self.old.arena self.new.arena) }
+        ensures is { IfOk result (λ id. IsType self.new.arena id (type_in (type_view ty.now))) }
+        ensures within { (whole : Structs) → CanBe whole (type_in (type_view ty.now)) → AreWithin whole self.old.arena → OnOk result (AreWithin whole self.new.arena) }
+    {
+        if let Some(id) = self.find_plain(ty) {
+            return Ok(id);
+        }
+        self.add_written(alloc, ty)
+    }
+
+    /// The same of any type.
+    #[cycle(types)]
+    #[inline(never)]
+    fn add_written(&mut self, alloc: Global, ty: &Type) -> Result<TypeId, AllocError>
         requires { CanBe (structs self.old.arena.table) (type_in (type_view ty.now)) }
         ensures grows { OnOk result (Grows self.old.arena self.new.arena) }
         ensures is { IfOk result (λ id. IsType self.new.arena id (type_in (type_view ty.now))) }
@@ -30,7 +55,7 @@ impl Builder {
             Type::Void(_) => self.keep_type(alloc, IrType::Void),
             Type::Array(_, array) => {
                 let length = length_of(&array.count);
-                let element = self.add_type(alloc, &array.element)?;
+                let element = self.add_written(alloc, &array.element)?;
                 self.keep_type(alloc, IrType::Array(length, element))
             }
             Type::Struct(_, packed, fields) => {
@@ -73,7 +98,7 @@ impl Builder {
     {
         let mut ids = Vec::with_capacity(alloc, types.len())?;
         for ty in types {
-            let id = self.add_type(alloc, ty)?;
+            let id = self.add_written(alloc, ty)?;
             ids.push(id)?;
         }
         Ok(ItemList::from_vec(ids))
