@@ -1,16 +1,16 @@
 //! What is called how.
-ghost use Rattle.std.specs.Prelude.{◌≡◌, ◌<◌, ◌-◌, ◌^◌, IfOk, IsTrue, ◌↔◌};
+ghost use Rattle.std.specs.Prelude.{◌≡◌, ◌<◌, ◌-◌, ◌^◌, IsTrue, ◌↔◌};
 ghost use Rattle.ir_instructions.specs.View.{instruction_view};
 ghost use Rattle.module_arena.specs.View.{local_view};
-ghost use Rattle.name_rules.specs.Locals.{local_in, called, next_behind, has_result};
+ghost use Rattle.name_rules.specs.Locals.{local_in, next_behind, has_result};
 
 use ir_constants::Type;
 use ir_instructions::{Instruction, Operation};
 use ir_terminals::Local;
 use module_arena::LocalName;
-use std::alloc::{AllocError, Global};
 
 /// Whether the name is the one that is written.
+#[inline(always)]
 pub(crate) fn is_written(name: &LocalName, written: &Local) -> bool
     ensures { IsTrue result ↔ (local_view name.now ≡ local_in written.now) }
 {
@@ -23,21 +23,6 @@ pub(crate) fn is_written(name: &LocalName, written: &Local) -> bool
         }
         (LocalName::Named(_), Local::Numbered(_, _)) | (LocalName::Numbered(_), Local::Named(_)) =>
             false,
-    }
-}
-
-/// What a parameter, block or result is called where the next number is this one: by the name that is written, else by
-/// that number.
-pub(crate) fn called_so(
-    alloc: Global,
-    next: u32,
-    written: &Option<Local>,
-) -> Result<LocalName, AllocError>
-    ensures { IfOk result (λ name. local_view name ≡ called next written.now) }
-{
-    match written {
-        Some(Local::Named(placed)) => Ok(LocalName::Named(placed.name.to_name(alloc)?)),
-        Some(Local::Numbered(_, _)) | None => Ok(LocalName::Numbered(next)),
     }
 }
 

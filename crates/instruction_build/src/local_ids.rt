@@ -1,10 +1,11 @@
 //! Ids by name.
-ghost use Rattle.std.specs.Prelude.{◌≡◌, ◌<◌, ◌-◌, ◌^◌, ◌++◌, ◌∷◌, [], map, length, slice_get, Some, Contains, OnOk, IfOk};
+ghost use Rattle.std.specs.Prelude.{◌≡◌, ◌<◌, ◌-◌, ◌^◌, ◌++◌, ◌∷◌, [], map, length, slice_get, Some, Contains, OnOk, IfOk, IfSome};
+ghost use Rattle.module_arena.specs.Module.{Named, Numbered};
 ghost use Rattle.module_arena.specs.View.{local_view};
 ghost use Rattle.name_rules.specs.Locals.{local_in, called};
 
-use crate::called::{called_so, is_written};
-use ir_terminals::Local;
+use crate::called::is_written;
+use ir_terminals::{Local, PlacedName};
 use module_arena::LocalName;
 use name_table::NameTable;
 use std::alloc::{AllocError, Global};
@@ -41,7 +42,7 @@ impl<'a> LocalIds<'a> {
         ensures { self.new.names.items ≡ [] }
     {
         if self.names.len() > MOST_KEPT {
-            *self = LocalIds::new(alloc);
+            self.forget(alloc);
         } else {
             self.names.clear();
             self.named.clear();
@@ -49,19 +50,51 @@ impl<'a> LocalIds<'a> {
         }
     }
 
-    /// Notes where the name or number is.
-    fn note(&mut self, next: u32, written: &'a Option<Local>, id: u32) -> Result<(), AllocError>
+    /// Takes all names out, and lets the memory go.
+    #[cold]
+    #[inline(never)]
+    fn forget(&mut self, alloc: Global)
+        ensures { self.new.names.items ≡ [] }
+    {
+        *self = LocalIds::new(alloc);
+    }
+
+    /// Goes on with that number. Those that are left out are those of the others: of the blocks, or of the values.
+    #[inline(never)]
+    fn leave_out(&mut self, next: u32) -> Result<(), AllocError>
         ensures { self.new.names ≡ self.old.names }
     {
-        match written {
-            Some(Local::Named(placed)) => self.named.put(placed.name.bytes(), id)?,
-            Some(Local::Numbered(_, _)) | None => {
-                // The numbers that are left out are those of the others: of the blocks, or of the values.
-                self.numbered.resize(next as usize, 0)?;
-                self.numbered.push(id)?;
-            }
-        }
+        self.numbered.resize(next as usize, 0)?;
         Ok(())
+    }
+
+    /// Gives the next id to the next number.
+    fn add_number(&mut self, next: u32) -> Result<u32, AllocError>
+        requires { length self.old.names.items < 2 ^ 32 - 1 }
+        ensures id { IfOk result (λ id. id ≡ length self.old.names.items) }
+        ensures names { OnOk result (map local_view self.new.names.items ≡ map local_view self.old.names.items ++ Numbered next ∷ []) }
+    {
+        let id = self.names.len() as u32;
+        if self.numbered.len() != next as usize {
+            self.leave_out(next)?;
+        }
+        self.numbered.push(id)?;
+        self.names.push(LocalName::Numbered(next))?;
+        Ok(id)
+    }
+
+    /// Gives the next id to the name.
+    #[inline(never)]
+    fn add_name(&mut self, alloc: Global, written: &'a PlacedName) -> Result<u32, AllocError>
+        requires { length self.old.names.items < 2 ^ 32 - 1 }
+        ensures id { IfOk result (λ id. id ≡ length self.old.names.items) }
+        ensures names { OnOk result (map local_view self.new.names.items ≡ map local_view self.old.names.items ++ Named written.now.name ∷ []) }
+    {
+        let id = self.names.len() as u32;
+        let name = written.name.to_name(alloc)?;
+        self.named.put(written.name.bytes(), id)?;
+        self.names.push(LocalName::Named(name))?;
+        Ok(id)
     }
 
     /// Gives the next id to what is called so where the next number is this one.
@@ -75,17 +108,28 @@ impl<'a> LocalIds<'a> {
         ensures id { IfOk result (λ id. id ≡ length self.old.names.items) }
         ensures names { OnOk result (map local_view self.new.names.items ≡ map local_view self.old.names.items ++ called next written.now ∷ []) }
     {
-        let id = self.names.len() as u32;
-        let name = called_so(alloc, next, written)?;
-        self.note(next, written, id)?;
-        self.names.push(name)?;
-        Ok(id)
+        match written {
+            Some(Local::Named(placed)) => self.add_name(alloc, placed),
+            Some(Local::Numbered(_, _)) | None => self.add_number(next),
+        }
     }
 
-    /// Where the name may be.
-    fn hint(&self, written: &Local) -> Option<u32> {
+    /// The id, where it is one that is called so.
+    fn confirmed(&self, hint: Option<u32>, written: &Local) -> Option<u32>
+        ensures { IfSome result (λ id. slice_get (map local_view self.now.names.items) id ≡ Some (local_in written.now)) }
+    {
+        let id = hint?;
+        if (id as usize) < self.names.len() && is_written(&self.names[id as usize], written) {
+            Some(id)
+        } else {
+            None
+        }
+    }
+
+    /// Where the local may be, if it is a number.
+    fn hint_of_number(&self, written: &Local) -> Option<u32> {
         match written {
-            Local::Named(placed) => self.named.get(placed.name.bytes()),
+            Local::Named(_) => None,
             Local::Numbered(number, _) => {
                 let number = number.to_u64()?;
                 self.numbered.get(number as usize).copied()
@@ -93,7 +137,17 @@ impl<'a> LocalIds<'a> {
         }
     }
 
+    /// Where the local may be, if it is a name.
+    fn hint_of_name(&self, written: &Local) -> Option<u32> {
+        match written {
+            Local::Named(placed) => self.named.get(placed.name.bytes()),
+            Local::Numbered(_, _) => None,
+        }
+    }
+
     /// The first id that is called so.
+    #[cold]
+    #[inline(never)]
     fn search(&self, written: &Local) -> u32
         requires few { length self.now.names.items < 2 ^ 32 }
         requires there { Contains (map local_view self.now.names.items) (local_in written.now) }
@@ -107,17 +161,30 @@ impl<'a> LocalIds<'a> {
         unreachable!()
     }
 
-    /// An id that is called so.
+    /// An id that is called so: where the table of names has it, else the first.
+    #[inline(never)]
+    fn find_name(&self, written: &Local) -> u32
+        requires few { length self.now.names.items < 2 ^ 32 }
+        requires there { Contains (map local_view self.now.names.items) (local_in written.now) }
+        ensures { slice_get (map local_view self.now.names.items) result ≡ Some (local_in written.now) }
+    {
+        let hint = self.hint_of_name(written);
+        if let Some(id) = self.confirmed(hint, written) {
+            return id;
+        }
+        self.search(written)
+    }
+
+    /// An id that is called so. A number, which is nearly always where its hint is, pays for none of the room of names.
     pub fn find(&self, written: &Local) -> u32
         requires few { length self.now.names.items < 2 ^ 32 }
         requires there { Contains (map local_view self.now.names.items) (local_in written.now) }
         ensures { slice_get (map local_view self.now.names.items) result ≡ Some (local_in written.now) }
     {
-        match self.hint(written) {
-            Some(id)
-                if (id as usize) < self.names.len()
-                    && is_written(&self.names[id as usize], written) => { id }
-            Some(_) | None => self.search(written),
+        let hint = self.hint_of_number(written);
+        if let Some(id) = self.confirmed(hint, written) {
+            return id;
         }
+        self.find_name(written)
     }
 }
