@@ -36,6 +36,6 @@ pub(crate) fn build_body<'a>(
     gather(locals, alloc, parameters, blocks)?;
     let first = ValueId::new(parameters.len() as u32);
     let blocks = build_blocks(builder, alloc, locals, first, blocks)?;
-    let results = names_from(alloc, &locals.values.names, parameters.len())?;
+    let results = names_from(&mut locals.values.names, parameters.len())?;
     Ok(module_arena::Body { blocks, results })
 }

@@ -1,23 +1,18 @@
-//! Names of their own.
+//! Names that are taken out of a list.
 ghost use Rattle.std.specs.Prelude.{◌≡◌, ◌≤◌, drop, length, IfOk};
 
 use ir_base::ItemList;
-use module_arena::{LocalName, LocalNameList, copied_name};
-use std::alloc::{AllocError, Global};
+use module_arena::{LocalName, LocalNameList};
+use std::alloc::AllocError;
 
-/// The names from that one on.
+/// The names from that one on, which are taken out.
 pub(crate) fn names_from(
-    alloc: Global,
-    names: &[LocalName],
+    names: &mut Vec<LocalName>,
     first: usize,
 ) -> Result<LocalNameList, AllocError>
-    requires { first ≤ length names.now }
-    ensures { IfOk result (λ list. list ≡ drop first names.now) }
+    requires { first ≤ length names.old.items }
+    ensures { IfOk result (λ list. list ≡ drop first names.old.items) }
 {
-    let mut list = Vec::with_capacity(alloc, names.len() - first)?;
-    for name in &names[first..] {
-        let copy = copied_name(alloc, name)?;
-        list.push(copy)?;
-    }
-    Ok(ItemList::from_vec(list))
+    let behind = names.split_off(first)?;
+    Ok(ItemList::from_vec(behind))
 }

@@ -61,7 +61,7 @@ returns c =
     let body : the_body.Body = record { blocks = c.in_ok-blocks.blocks; results = c.in_ok-results.results } in
     let built = c.in_ok-blocks.ensures in
     let are = subst (λ n. AreBlocks (called_of locals.values.names.items) (called_of locals.blocks.names.items) a body.blocks (blocks_built (called_of locals.values.names.items) (called_of locals.blocks.names.items) 0 n bs)) first built.are in
-    let results = c.in_ok-results.ensures ∙ ap (drop (length c.args.parameters.now)) c.deref.ensures.value ∙ ap (λ n. drop n locals.values.names.items) (sym long) in
+    let results = c.in_ok-results.ensures ∙ ap (λ n. drop n locals.values.names.items) (sym long) in
     let in_order = built.in_order ∙ ap (λ n. upto n (sum_by block_results_count bs)) first in
     let values = locals.values.names.items in
     let labels = locals.blocks.names.items in
