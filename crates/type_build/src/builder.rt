@@ -7,6 +7,8 @@ ghost use Rattle.type_table.specs.declared.ir_type.IrType.TheVariants.{Int, Ptr}
 ghost use Rattle.type_table.specs.Types.{IsKnown, names, trees, structs, tree_of};
 ghost use Rattle.module_arena.specs.Lists.{no_lists};
 ghost use Rattle.module_arena.specs.Known.{counts, KnowsConst};
+ghost use Rattle.module_arena.specs.Module as m;
+ghost use Rattle.module_arena.specs.declared.constant.Const.TheVariants as the_const;
 ghost use Rattle.module_arena.specs.Changes.{constant_in};
 ghost use Rattle.type_build.specs.Fitting.{AreWithin};
 ghost use Rattle.type_build.specs.Stands.{IsType, IsConstant, Grows};
@@ -141,6 +143,46 @@ impl Builder {
         self.keep_new_type(alloc, ty)
     }
 
+    /// Where the integer is.
+    fn find_number(&self, number: u128) -> Option<ConstId>
+        ensures { IfSome result (λ id. slice_get self.now.arena.constants id ≡ Some (the_const.Integer number)) }
+    {
+        let id = self.constants.integer(number)?;
+        if id.number() >= self.arena.const_count() {
+            return None;
+        }
+        match self.arena.constant(id) {
+            Const::Integer(known) if *known == number => Some(id),
+            _ => None,
+        }
+    }
+
+    /// The id of the integer, of which no equal one was found, and which is added.
+    #[inline(never)]
+    fn keep_new_number(&mut self, number: u128) -> Result<ConstId, AllocError>
+        ensures grows { OnOk result (Grows self.old.arena self.new.arena) }
+        ensures is { IfOk result (λ id. IsConstant self.new.arena id (m.Integer number)) }
+    {
+        let _good = self.arena.variable_count();
+        let Ok(id) = self.arena.add_const(Const::Integer(number)) else {
+            return Err(AllocError);
+        };
+        self.constants.insert_integer(number, id)?;
+        Ok(id)
+    }
+
+    /// The id of the integer, which is added where it is not there.
+    pub(crate) fn keep_number(&mut self, number: u128) -> Result<ConstId, AllocError>
+        ensures grows { OnOk result (Grows self.old.arena self.new.arena) }
+        ensures is { IfOk result (λ id. IsConstant self.new.arena id (m.Integer number)) }
+    {
+        let _good = self.arena.variable_count();
+        if let Some(id) = self.find_number(number) {
+            return Ok(id);
+        }
+        self.keep_new_number(number)
+    }
+
     /// Where an equal constant is.
     fn find_constant(&self, constant: &Const) -> Option<ConstId>
         ensures { IfSome result (λ id. slice_get self.now.arena.constants id ≡ Some constant.now) }
@@ -153,8 +195,9 @@ impl Builder {
         }
     }
 
-    /// The id of the constant, which is added where no equal one is there.
-    pub fn keep_constant(&mut self, alloc: Global, constant: Const) -> Result<ConstId, AllocError>
+    /// The id of the constant, which is no integer, and which is added where no equal one is there.
+    #[inline(never)]
+    fn keep_other(&mut self, alloc: Global, constant: Const) -> Result<ConstId, AllocError>
         requires { KnowsConst (length self.old.arena.table.types) (counts self.old.arena) (length self.old.arena.constants) constant }
         ensures grows { OnOk result (Grows self.old.arena self.new.arena) }
         ensures is { IfOk result (λ id. IsConstant self.new.arena id (constant_in self.old.arena constant)) }
@@ -169,5 +212,17 @@ impl Builder {
         };
         self.constants.insert(key, id)?;
         Ok(id)
+    }
+
+    /// The id of the constant, which is added where no equal one is there.
+    pub fn keep_constant(&mut self, alloc: Global, constant: Const) -> Result<ConstId, AllocError>
+        requires { KnowsConst (length self.old.arena.table.types) (counts self.old.arena) (length self.old.arena.constants) constant }
+        ensures grows { OnOk result (Grows self.old.arena self.new.arena) }
+        ensures is { IfOk result (λ id. IsConstant self.new.arena id (constant_in self.old.arena constant)) }
+    {
+        match constant {
+            Const::Integer(number) => self.keep_number(number),
+            other => self.keep_other(alloc, other),
+        }
     }
 }

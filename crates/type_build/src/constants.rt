@@ -60,8 +60,7 @@ fn simple_const(ty: &Type, word: Simple) -> Const
 }
 
 impl Builder {
-    /// The id of the constant that the text writes, at the type that stands before it.
-    #[cycle(constants)]
+    /// The id of the constant that the text writes, at the type that stands before it. An integer has a short way.
     pub fn add_constant(
         &mut self,
         alloc: Global,
@@ -75,7 +74,28 @@ impl Builder {
             IsConstant self.new.arena id (constant_in (type_in (type_view ty.now)) (constant_view constant.now))) }
     {
         match constant {
-            Constant::Integer(integer) => self.add_number(alloc, ty, integer),
+            Constant::Integer(integer) => self.add_number(ty, integer),
+            _ => self.add_written_constant(alloc, constant, ty),
+        }
+    }
+
+    /// The same of any constant.
+    #[cycle(constants)]
+    #[inline(never)]
+    fn add_written_constant(
+        &mut self,
+        alloc: Global,
+        constant: &Constant,
+        ty: &Type,
+    ) -> Result<ConstId, AllocError>
+        requires ty { CanBe (structs self.old.arena.table) (type_in (type_view ty.now)) }
+        requires constant { CanHold (structs self.old.arena.table) (entries self.old.arena) (constant_view constant.now) }
+        ensures grows { OnOk result (Grows self.old.arena self.new.arena) }
+        ensures is { IfOk result (λ id.
+            IsConstant self.new.arena id (constant_in (type_in (type_view ty.now)) (constant_view constant.now))) }
+    {
+        match constant {
+            Constant::Integer(integer) => self.add_number(ty, integer),
             Constant::Simple(word, _) => self.keep_constant(alloc, simple_const(ty, *word)),
             Constant::Global(name) => self.add_address(alloc, name),
             Constant::Bytes(text) => {
@@ -104,12 +124,7 @@ impl Builder {
         }
     }
 
-    fn add_number(
-        &mut self,
-        alloc: Global,
-        ty: &Type,
-        integer: &Integer,
-    ) -> Result<ConstId, AllocError>
+    fn add_number(&mut self, ty: &Type, integer: &Integer) -> Result<ConstId, AllocError>
         requires ty { CanBe (structs self.old.arena.table) (type_in (type_view ty.now)) }
         requires magnitude { integer.now.magnitude < 2 ^ WIDEST }
         ensures grows { OnOk result (Grows self.old.arena self.new.arena) }
@@ -117,7 +132,7 @@ impl Builder {
             IsConstant self.new.arena id (m.Integer (modulo (bits_at (type_in (type_view ty.now))) integer.now))) }
     {
         let number = reduced(bits_of(ty), integer);
-        self.keep_constant(alloc, Const::Integer(number))
+        self.keep_number(number)
     }
 
     fn add_address(&mut self, alloc: Global, name: &PlacedName) -> Result<ConstId, AllocError>
@@ -179,7 +194,7 @@ impl Builder {
         ensures is { IfOk result (λ id. IsTyped self.new.arena id (typed_in (typed_constant_view typed.now))) }
     {
         let ty = self.add_type(alloc, &typed.ty)?;
-        let value = self.add_constant(alloc, &typed.value, &typed.ty)?;
+        let value = self.add_written_constant(alloc, &typed.value, &typed.ty)?;
         Ok(TypedConst { ty, value })
     }
 

@@ -24,24 +24,24 @@ use Rattle.type_build.proofs.Made.{constants_at-listed, elements_made, typed_is}
 use Rattle.type_build.proofs.Staying.{can_still_be, can_still_hold, can_still_hold_typed, elements_can_be_held, at_item}
 use Rattle.type_build.proofs.builder.Builder.+constants.Goals as goal
 
-pub add_constant-keep_address-requires-clause-source : goal.add_constant-keep_address-requires-clause-source
-add_constant-keep_address-requires-clause-source t c = (c.in_ok-operands-in-GetElementPtr.ensures.grows.types _ _ c.in_ok-source-in-GetElementPtr.ensures.is).known
+pub add_written_constant-keep_address-requires-clause-source : goal.add_written_constant-keep_address-requires-clause-source
+add_written_constant-keep_address-requires-clause-source t c = (c.in_ok-operands-in-GetElementPtr.ensures.grows.types _ _ c.in_ok-source-in-GetElementPtr.ensures.is).known
 
-pub add_constant-keep_constant-requires-in-Cast : goal.add_constant-keep_constant-requires-in-Cast
-add_constant-keep_constant-requires-in-Cast t c =
+pub add_written_constant-keep_constant-requires-in-Cast : goal.add_written_constant-keep_constant-requires-in-Cast
+add_written_constant-keep_constant-requires-in-Cast t c =
     let stays = typed_one_stays _ _ c.in_ok-to-in-Cast.ensures.grows c.in_ok-operand-in-Cast.operand _ c.in_ok-operand-in-Cast.ensures.is in
     knows_cast c.add_type-in-Cast.new.self.arena c.in-Cast.opcode c.in_ok-operand-in-Cast.operand c.in_ok-to-in-Cast.to (stays.ty.known, stays.value.known) c.in_ok-to-in-Cast.ensures.is.known
 
-pub add_constant-keep_pair-requires-clause-left : goal.add_constant-keep_pair-requires-clause-left
-add_constant-keep_pair-requires-clause-left t c =
+pub add_written_constant-keep_pair-requires-clause-left : goal.add_written_constant-keep_pair-requires-clause-left
+add_written_constant-keep_pair-requires-clause-left t c =
     let stays = typed_one_stays _ _ c.in_ok-right-in-Binary.ensures.grows c.in_ok-left-in-Binary.left _ c.in_ok-left-in-Binary.ensures.is in
     (stays.ty.known, stays.value.known)
 
-pub add_constant-returns-in_ok-elements-in-List-clause-grows : goal.add_constant-returns-in_ok-elements-in-List-clause-grows
-add_constant-returns-in_ok-elements-in-List-clause-grows t c = then_grows c.keep_constant-in-List.result _ _ _ c.in_ok-elements-in-List.ensures.grows c.keep_constant-in-List.ensures.grows
+pub add_written_constant-returns-in_ok-elements-in-List-clause-grows : goal.add_written_constant-returns-in_ok-elements-in-List-clause-grows
+add_written_constant-returns-in_ok-elements-in-List-clause-grows t c = then_grows c.keep_constant-in-List.result _ _ _ c.in_ok-elements-in-List.ensures.grows c.keep_constant-in-List.ensures.grows
 
-pub add_constant-returns-in_ok-elements-in-List-clause-is : goal.add_constant-returns-in_ok-elements-in-List-clause-is
-add_constant-returns-in_ok-elements-in-List-clause-is t c =
+pub add_written_constant-returns-in_ok-elements-in-List-clause-is : goal.add_written_constant-returns-in_ok-elements-in-List-clause-is
+add_written_constant-returns-in_ok-elements-in-List-clause-is t c =
     let a = c.add_typed_list.new.self.arena in
     let whole : constant_in (type_in (type_view c.args.ty.now)) (constant_view c.args.constant.now) ≡ m.Aggregate (brackets_in c.in-List.round) (constants_in (constants (map typed_constant_view c.in-List.elements.items))) = search (rules, the_lemmas) in
     let are = subst (λ (xs : _). AreTyped a c.in_ok-elements-in-List.elements (map (λ (x : TypedConstant). typed_in (typed_constant_view x)) xs)) c.deref.ensures.value c.in_ok-elements-in-List.ensures.are in
@@ -50,12 +50,12 @@ add_constant-returns-in_ok-elements-in-List-clause-is t c =
     ((λ j. m.Aggregate (c.brackets_of.ensures j) (made j)) ∙ sym whole)
     c.keep_constant-in-List.ensures.is
 
-pub add_constant-returns-in_ok-operands-in-GetElementPtr-clause-grows : goal.add_constant-returns-in_ok-operands-in-GetElementPtr-clause-grows
-add_constant-returns-in_ok-operands-in-GetElementPtr-clause-grows t c =
+pub add_written_constant-returns-in_ok-operands-in-GetElementPtr-clause-grows : goal.add_written_constant-returns-in_ok-operands-in-GetElementPtr-clause-grows
+add_written_constant-returns-in_ok-operands-in-GetElementPtr-clause-grows t c =
     then_grows c.keep_address.result _ _ _ (grows_on _ _ _ c.in_ok-source-in-GetElementPtr.ensures.grows c.in_ok-operands-in-GetElementPtr.ensures.grows) c.keep_address.ensures.grows
 
-pub add_constant-returns-in_ok-operands-in-GetElementPtr-clause-is : goal.add_constant-returns-in_ok-operands-in-GetElementPtr-clause-is
-add_constant-returns-in_ok-operands-in-GetElementPtr-clause-is t c =
+pub add_written_constant-returns-in_ok-operands-in-GetElementPtr-clause-is : goal.add_written_constant-returns-in_ok-operands-in-GetElementPtr-clause-is
+add_written_constant-returns-in_ok-operands-in-GetElementPtr-clause-is t c =
     let a = c.add_typed_list-in-GetElementPtr.new.self.arena in
     let whole : constant_in (type_in (type_view c.args.ty.now)) (constant_view c.args.constant.now) ≡ m.ElementAddress c.in-GetElementPtr.flags (type_in (type_view c.in-GetElementPtr.source.value)) (constants_in (constants (map typed_constant_view c.in-GetElementPtr.operands.items))) = search (rules, the_lemmas) in
     let source = (c.in_ok-operands-in-GetElementPtr.ensures.grows.types _ _ c.in_ok-source-in-GetElementPtr.ensures.is).tree ∙ ap (λ x. type_in (type_view x)) c.deref-in-GetElementPtr.ensures in
@@ -65,12 +65,12 @@ add_constant-returns-in_ok-operands-in-GetElementPtr-clause-is t c =
     ((λ j. m.ElementAddress c.in-GetElementPtr.flags (source j) (made j)) ∙ sym whole)
     c.keep_address.ensures.is
 
-pub add_constant-returns-in_ok-to-in-Cast-clause-grows : goal.add_constant-returns-in_ok-to-in-Cast-clause-grows
-add_constant-returns-in_ok-to-in-Cast-clause-grows t c =
+pub add_written_constant-returns-in_ok-to-in-Cast-clause-grows : goal.add_written_constant-returns-in_ok-to-in-Cast-clause-grows
+add_written_constant-returns-in_ok-to-in-Cast-clause-grows t c =
     then_grows c.keep_constant-in-Cast.result _ _ _ (grows_on _ _ _ c.in_ok-operand-in-Cast.ensures.grows c.in_ok-to-in-Cast.ensures.grows) c.keep_constant-in-Cast.ensures.grows
 
-pub add_constant-returns-in_ok-to-in-Cast-clause-is : goal.add_constant-returns-in_ok-to-in-Cast-clause-is
-add_constant-returns-in_ok-to-in-Cast-clause-is t c =
+pub add_written_constant-returns-in_ok-to-in-Cast-clause-is : goal.add_written_constant-returns-in_ok-to-in-Cast-clause-is
+add_written_constant-returns-in_ok-to-in-Cast-clause-is t c =
     let a = c.add_type-in-Cast.new.self.arena in
     let from = typed_in (typed_constant_view c.in-Cast.operand.value) in
     let whole : constant_in (type_in (type_view c.args.ty.now)) (constant_view c.args.constant.now) ≡ m.Cast c.in-Cast.opcode from.0 from.1 (type_in (type_view c.in-Cast.to.value)) = search (rules, the_lemmas) in
@@ -81,12 +81,12 @@ add_constant-returns-in_ok-to-in-Cast-clause-is t c =
     ((λ j. m.Cast c.in-Cast.opcode (operand j).0 (operand j).1 (to j)) ∙ sym whole)
     c.keep_constant-in-Cast.ensures.is
 
-pub add_constant-returns-in_ok-right-in-Binary-clause-grows : goal.add_constant-returns-in_ok-right-in-Binary-clause-grows
-add_constant-returns-in_ok-right-in-Binary-clause-grows t c =
+pub add_written_constant-returns-in_ok-right-in-Binary-clause-grows : goal.add_written_constant-returns-in_ok-right-in-Binary-clause-grows
+add_written_constant-returns-in_ok-right-in-Binary-clause-grows t c =
     then_grows c.keep_pair.result _ _ _ (grows_on _ _ _ c.in_ok-left-in-Binary.ensures.grows c.in_ok-right-in-Binary.ensures.grows) c.keep_pair.ensures.grows
 
-pub add_constant-returns-in_ok-right-in-Binary-clause-is : goal.add_constant-returns-in_ok-right-in-Binary-clause-is
-add_constant-returns-in_ok-right-in-Binary-clause-is t c =
+pub add_written_constant-returns-in_ok-right-in-Binary-clause-is : goal.add_written_constant-returns-in_ok-right-in-Binary-clause-is
+add_written_constant-returns-in_ok-right-in-Binary-clause-is t c =
     let a = c.add_typed-in-Binary-2.new.self.arena in
     let whole : constant_in (type_in (type_view c.args.ty.now)) (constant_view c.args.constant.now) ≡ pair_of c.in-Binary.opcode c.in-Binary.flags (typed_in (typed_constant_view c.in-Binary.left.value)) (typed_in (typed_constant_view c.in-Binary.right.value)) = search (rules, the_lemmas) in
     let stays = typed_one_stays _ _ c.in_ok-right-in-Binary.ensures.grows c.in_ok-left-in-Binary.left _ c.in_ok-left-in-Binary.ensures.is in
@@ -123,8 +123,8 @@ add_typed_list-returns-clause-are t c =
     subst (λ ids. AreTyped a ids (map (λ (x : TypedConstant). typed_in (typed_constant_view x)) c.args.list.now)) (sym c.from_vec.ensures)
     (subst (λ xs. AreTyped a c.loop-typed.ids.items (map (λ (x : TypedConstant). typed_in (typed_constant_view x)) xs)) (take_all c.loop-typed.typed-index c.args.list.now (omega arith)) c.loop-typed.invariant.so_far)
 
-pub add_constant-add_typed_list-requires : goal.add_constant-add_typed_list-requires
-add_constant-add_typed_list-requires t c =
+pub add_written_constant-add_typed_list-requires : goal.add_written_constant-add_typed_list-requires
+add_written_constant-add_typed_list-requires t c =
     let a = c.args.self.now.arena in
     let whole : constant_view c.args.constant.now ≡ ListConstant c.in-List.field-0 c.in-List.round (constants (map typed_constant_view c.in-List.elements.items)) = search (rules, the_lemmas) in
     let can = subst (CanHold (structs a.table) (entries a)) whole c.requires.constant in
@@ -137,8 +137,8 @@ element_address : (written : the_constant.Constant) (place : Place) (flags : ℕ
     → constant_view written ≡ ElementAddress place flags (type_view source.value) (constants (map typed_constant_view operands.items))
 element_address written place flags source operands is = search (rules, the_lemmas)
 
-pub add_constant-add_typed_list-requires-in-GetElementPtr : goal.add_constant-add_typed_list-requires-in-GetElementPtr
-add_constant-add_typed_list-requires-in-GetElementPtr t c =
+pub add_written_constant-add_typed_list-requires-in-GetElementPtr : goal.add_written_constant-add_typed_list-requires-in-GetElementPtr
+add_written_constant-add_typed_list-requires-in-GetElementPtr t c =
     let a = c.args.self.now.arena in
     let b = c.add_type.new.self.arena in
     let whole = element_address c.args.constant.now c.in-GetElementPtr.field-0 c.in-GetElementPtr.flags c.in-GetElementPtr.source c.in-GetElementPtr.operands c.in-GetElementPtr.is in
@@ -148,8 +148,8 @@ add_constant-add_typed_list-requires-in-GetElementPtr t c =
     let each = subst (All (λ (x : TypedConstant). CanHoldTyped (structs b.table) (entries b) (typed_constant_view x))) (sym c.deref-in-GetElementPtr-2.ensures.value) still in
     (search (rules, the_lemmas), each)
 
-pub add_constant-add_type-requires-in-Cast : goal.add_constant-add_type-requires-in-Cast
-add_constant-add_type-requires-in-Cast t c =
+pub add_written_constant-add_type-requires-in-Cast : goal.add_written_constant-add_type-requires-in-Cast
+add_written_constant-add_type-requires-in-Cast t c =
     let a = c.args.self.now.arena in
     let x = typed_constant_view c.in-Cast.operand.value in
     let whole : constant_view c.args.constant.now ≡ Conversion c.in-Cast.field-0 c.in-Cast.opcode x.0 x.1 (type_view c.in-Cast.to.value) = search (rules, the_lemmas) in
@@ -157,8 +157,8 @@ add_constant-add_type-requires-in-Cast t c =
     let still = can_still_be _ _ c.in_ok-operand-in-Cast.ensures.grows (type_in (type_view c.in-Cast.to.value)) can.1 in
     subst (λ (y : _). CanBe (structs c.add_typed.new.self.arena.table) (type_in (type_view y))) (sym c.deref-in-Cast-2.ensures) still
 
-pub add_constant-add_typed-requires-in-Binary-2 : goal.add_constant-add_typed-requires-in-Binary-2
-add_constant-add_typed-requires-in-Binary-2 t c =
+pub add_written_constant-add_typed-requires-in-Binary-2 : goal.add_written_constant-add_typed-requires-in-Binary-2
+add_written_constant-add_typed-requires-in-Binary-2 t c =
     let a = c.args.self.now.arena in
     let b = c.add_typed-in-Binary.new.self.arena in
     let x = typed_constant_view c.in-Binary.left.value in
@@ -169,8 +169,8 @@ add_constant-add_typed-requires-in-Binary-2 t c =
     let held = subst (λ (z : TypedConstant). CanHoldTyped (structs b.table) (entries b) (typed_constant_view z)) (sym c.deref-in-Binary-2.ensures) still in
     (search (rules, the_lemmas), held)
 
-pub add_typed-add_constant-requires : goal.add_typed-add_constant-requires
-add_typed-add_constant-requires t c =
+pub add_typed-add_written_constant-requires : goal.add_typed-add_written_constant-requires
+add_typed-add_written_constant-requires t c =
     let x = typed_constant_view c.args.typed.now in
     let ty = can_still_be _ _ c.in_ok-ty.ensures.grows (type_in x.0) c.requires.0 in
     let held = can_still_hold _ _ c.in_ok-ty.ensures.grows x.1 c.requires.1 in

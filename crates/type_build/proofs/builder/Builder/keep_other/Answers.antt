@@ -2,7 +2,7 @@ use Rattle.std.proofs.Common.{sym, subst}
 use Rattle.module_arena.specs.Changes.{with_constant, constant_in}
 use Rattle.type_build.specs.Stands.{IsConstant, Grows}
 use Rattle.type_build.proofs.Growing.{grows_by_constant, constant_here, constant_found}
-use Rattle.type_build.proofs.builder.Builder.keep_constant.Goals as goal
+use Rattle.type_build.proofs.builder.Builder.keep_other.Goals as goal
 
 pub returns-in-Some-clause-is : goal.returns-in-Some-clause-is
 returns-in-Some-clause-is c = constant_found c.args.self.now.arena c.variable_count-good.ensures.good c.in-Some.id c.args.constant c.in-Some.ensures
