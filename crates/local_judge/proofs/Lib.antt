@@ -1,6 +1,6 @@
 pub mod Steps
 pub mod Loops
+pub mod Marks
 pub mod Named
 pub mod Calls
 pub mod Sized
-pub mod Marks

@@ -1,7 +1,7 @@
 //! Gathers what the values and the blocks of a function are called, at whichever place.
 #![tactic(auto)]
 
-ghost use Rattle.std.specs.Prelude.{◌≡◌, [], ◌∷◌, map, flat_map, IfOk, OnOk};
+ghost use Rattle.std.specs.Prelude.{◌≡◌, map, flat_map, IfOk, OnOk};
 ghost use Rattle.ir_instructions.specs.View.{instruction_view, block_view};
 ghost use Rattle.ir_syntax.specs.View.{parameter_view};
 ghost use Rattle.name_rules.specs.Locals.{announced, announced_parameter, announced_result, announced_block, local_in, locals_from, is_there};
@@ -14,113 +14,86 @@ use ir_syntax::WrittenParameter;
 use ir_terminals::Local;
 use std::alloc::{AllocError, Global};
 
-/// Adds what is called so, and tells the number behind it. More than 64 bits count are more than memory holds.
-fn add_name<'a>(
-    names: &mut LocalNames<'a>,
-    alloc: Global,
-    next: u64,
-    block: bool,
-    written: &'a Option<Local>,
-) -> Result<u64, AllocError>
-    ensures { IfOk result (λ after. Announces names.old names.new next after ((block, written.now) ∷ [])) }
-{
-    names.put(alloc, next, block, written)?;
-    match written {
-        Some(Local::Named(_)) => Ok(next),
-        Some(Local::Numbered(_, _)) | None => next.checked_add(1).ok_or(AllocError),
-    }
-}
-
 /// Adds the result of an instruction, where it has one.
 fn add_result<'a>(
     names: &mut LocalNames<'a>,
     alloc: Global,
-    next: u64,
     instruction: &'a Instruction,
-) -> Result<u64, AllocError>
-    ensures { IfOk result (λ after. Announces names.old names.new next after (announced_result (instruction_view instruction.now))) }
+) -> Result<(), AllocError>
+    ensures { OnOk result (Announces names.old names.new (announced_result (instruction_view instruction.now))) }
 {
     if !has_result(instruction) {
-        return Ok(next);
+        return Ok(());
     }
-    add_name(names, alloc, next, false, &instruction.result)
+    names.put(alloc, false, &instruction.result)
 }
 
 /// Adds the results of instructions.
 fn add_results<'a>(
     names: &mut LocalNames<'a>,
     alloc: Global,
-    next: u64,
     instructions: &'a [Instruction],
-) -> Result<u64, AllocError>
-    ensures { IfOk result (λ after. Announces names.old names.new next after (flat_map announced_result (map instruction_view instructions.now))) }
+) -> Result<(), AllocError>
+    ensures { OnOk result (Announces names.old names.new (flat_map announced_result (map instruction_view instructions.now))) }
 {
-    let mut behind = next;
     'instructions: for instruction in instructions {
-        behind = add_result(names, alloc, behind, instruction)?;
+        add_result(names, alloc, instruction)?;
     }
-    Ok(behind)
+    Ok(())
 }
 
 /// Adds a block, and the results of its instructions.
 fn add_block<'a>(
     names: &mut LocalNames<'a>,
     alloc: Global,
-    next: u64,
     block: &'a WrittenBlock,
-) -> Result<u64, AllocError>
-    ensures { IfOk result (λ after. Announces names.old names.new next after (announced_block (block_view block.now))) }
+) -> Result<(), AllocError>
+    ensures { OnOk result (Announces names.old names.new (announced_block (block_view block.now))) }
 {
-    let behind = add_name(names, alloc, next, true, &block.label)?;
-    add_results(names, alloc, behind, &block.instructions)
+    names.put(alloc, true, &block.label)?;
+    add_results(names, alloc, &block.instructions)
 }
 
 /// Adds blocks, with their results.
 fn add_blocks<'a>(
     names: &mut LocalNames<'a>,
     alloc: Global,
-    next: u64,
     blocks: &'a [WrittenBlock],
-) -> Result<u64, AllocError>
-    ensures { IfOk result (λ after. Announces names.old names.new next after (flat_map announced_block (map block_view blocks.now))) }
+) -> Result<(), AllocError>
+    ensures { OnOk result (Announces names.old names.new (flat_map announced_block (map block_view blocks.now))) }
 {
-    let mut behind = next;
     'all_blocks: for block in blocks {
-        behind = add_block(names, alloc, behind, block)?;
+        add_block(names, alloc, block)?;
     }
-    Ok(behind)
+    Ok(())
 }
 
 /// Adds parameters.
 fn add_parameters<'a>(
     names: &mut LocalNames<'a>,
     alloc: Global,
-    next: u64,
     parameters: &'a [WrittenParameter],
-) -> Result<u64, AllocError>
-    ensures { IfOk result (λ after. Announces names.old names.new next after (map announced_parameter (map parameter_view parameters.now))) }
+) -> Result<(), AllocError>
+    ensures { OnOk result (Announces names.old names.new (map announced_parameter (map parameter_view parameters.now))) }
 {
-    let mut behind = next;
     'parameters: for parameter in parameters {
-        behind = add_name(names, alloc, behind, false, &parameter.name)?;
+        names.put(alloc, false, &parameter.name)?;
     }
-    Ok(behind)
+    Ok(())
 }
 
-/// What the blocks, or the values, of a function are called, whatever stood in the table before.
+/// What the values and the blocks of a function are called, whatever stood in the tables before.
 fn gather_names<'a>(
     names: &mut LocalNames<'a>,
     alloc: Global,
-    block: bool,
     parameters: &'a [WrittenParameter],
     blocks: &'a [WrittenBlock],
 ) -> Result<(), AllocError>
-    ensures { OnOk result (HoldsNames names.new block (locals_from 0 (announced (map parameter_view parameters.now) (map block_view blocks.now)))) }
+    ensures { OnOk result (HoldsNames names.new (locals_from 0 (announced (map parameter_view parameters.now) (map block_view blocks.now)))) }
 {
-    names.clear(block);
-    let behind = add_parameters(names, alloc, 0, parameters)?;
-    add_blocks(names, alloc, behind, blocks)?;
-    Ok(())
+    names.clear();
+    add_parameters(names, alloc, parameters)?;
+    add_blocks(names, alloc, blocks)
 }
 
 /// What the values and the blocks of a function are called.
@@ -129,8 +102,7 @@ pub(crate) struct FunctionLocals<'a> {
     /// The function, for the contracts to name.
     parameters: &'a [WrittenParameter],
     blocks: &'a [WrittenBlock],
-    values: LocalNames<'a>,
-    labels: LocalNames<'a>,
+    names: LocalNames<'a>,
 }
 
 impl<'a> FunctionLocals<'a> {
@@ -139,8 +111,7 @@ impl<'a> FunctionLocals<'a> {
         FunctionLocals {
             parameters: &[],
             blocks: &[],
-            values: LocalNames::new(alloc, false),
-            labels: LocalNames::new(alloc, true),
+            names: LocalNames::new(alloc),
         }
     }
 
@@ -154,8 +125,7 @@ impl<'a> FunctionLocals<'a> {
         ensures gathered { OnOk result (AreGathered self.new) }
         ensures function { OnOk result (locals_of self.new ≡ locals_from 0 (announced (map parameter_view parameters.now) (map block_view blocks.now))) }
     {
-        gather_names(&mut self.values, alloc, false, parameters, blocks)?;
-        gather_names(&mut self.labels, alloc, true, parameters, blocks)?;
+        gather_names(&mut self.names, alloc, parameters, blocks)?;
         self.parameters = parameters;
         self.blocks = blocks;
         Ok(())
@@ -171,10 +141,6 @@ impl<'a> FunctionLocals<'a> {
         requires { AreGathered self.now }
         ensures { IfOk result (λ has. has ≡ is_there (locals_of self.now) block (local_in written.now)) }
     {
-        if block {
-            self.labels.has(alloc, written)
-        } else {
-            self.values.has(alloc, written)
-        }
+        self.names.has(alloc, block, written)
     }
 }

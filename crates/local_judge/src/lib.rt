@@ -16,11 +16,11 @@ mod called;
 mod endings;
 mod functions;
 mod gathered;
+mod kind_names;
 mod local_names;
 mod operands;
 mod operations;
 mod results;
-mod small_numbers;
 mod tables;
 
 pub use functions::check_definition;

@@ -6,4 +6,4 @@ use Rattle.local_judge.specs.Names.{Announces}
 use Rattle.local_judge.proofs.gathered.add_blocks.Given as goal
 
 abbrev pub invariant-all_blocks : goal.invariant-all_blocks
-invariant-all_blocks l = Announces l.initial.names l.names l.next l.behind (flat_map announced_block (map block_view (take l.block-index l.blocks)))
+invariant-all_blocks l = Announces l.initial.names l.names (flat_map announced_block (map block_view (take l.block-index l.blocks)))

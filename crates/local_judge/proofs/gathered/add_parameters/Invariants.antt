@@ -6,4 +6,4 @@ use Rattle.local_judge.specs.Names.{Announces}
 use Rattle.local_judge.proofs.gathered.add_parameters.Given as goal
 
 abbrev pub invariant-parameters : goal.invariant-parameters
-invariant-parameters l = Announces l.initial.names l.names l.next l.behind (flat_map (λ p. announced_parameter p ∷ []) (map parameter_view (take l.parameter-index l.parameters)))
+invariant-parameters l = Announces l.initial.names l.names (flat_map (λ p. announced_parameter p ∷ []) (map parameter_view (take l.parameter-index l.parameters)))

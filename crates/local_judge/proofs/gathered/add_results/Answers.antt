@@ -7,12 +7,12 @@ use Rattle.local_judge.proofs.Named.{announces_none, announces_both}
 use Rattle.local_judge.proofs.gathered.add_results.Goals as goal
 
 pub instructions-init : goal.instructions-init
-instructions-init c = announces_none _ _
+instructions-init c = announces_none _
 
 pub instructions-preserved : goal.instructions-preserved
 instructions-preserved c =
     rw (flat_more announced_result instruction_view c.args.instructions.now c.instructions.instruction-index c.instruction-item.result (omega arith) c.instruction-item.is)
-    (announces_both _ _ _ _ _ _ _ _ c.instructions.invariant c.in_ok-behind.ensures)
+    (announces_both _ _ _ _ _ c.instructions.invariant c.in_ok-add_result.ensures)
 
 pub returns : goal.returns
 returns c = rw (sym (take_all c.instructions.instruction-index c.args.instructions.now (omega arith))) c.instructions.invariant

@@ -6,4 +6,4 @@ use Rattle.local_judge.specs.Names.{Announces}
 use Rattle.local_judge.proofs.gathered.add_results.Given as goal
 
 abbrev pub invariant-instructions : goal.invariant-instructions
-invariant-instructions l = Announces l.initial.names l.names l.next l.behind (flat_map announced_result (map instruction_view (take l.instruction-index l.instructions)))
+invariant-instructions l = Announces l.initial.names l.names (flat_map announced_result (map instruction_view (take l.instruction-index l.instructions)))

@@ -3,4 +3,4 @@ use Rattle.local_judge.proofs.gathered.FunctionLocals.gather.Goals as goal
 
 pub returns-clause-gathered : goal.returns-clause-gathered
 unfolding AreGathered
-returns-clause-gathered c = record { values = c.in_ok-gather_names.ensures; labels = c.in_ok-gather_names-2.ensures }
+returns-clause-gathered c = c.in_ok-gather_names.ensures

@@ -1,15 +1,10 @@
-use Rattle.std.proofs.Common.{ap, refl, sym, ◌∙◌, Some, bytes_eq, cond}
+use Rattle.std.proofs.Common.{refl}
 use Rattle.std.proofs.lemmas.Result.{on_ok_weaker}
-use Rattle.name_table.specs.Entries.{value_of}
-use Rattle.local_judge.proofs.Named.{named_brings}
+use Rattle.local_judge.proofs.Named.{label_brings, value_brings}
 use Rattle.local_judge.proofs.local_names.LocalNames.put_name.Goals as goal
 
-pub returns : goal.returns
-returns c =
-    let old = c.args.self.now in
-    let name = c.args.name.now in
-    on_ok_weaker c.put.result
-    (λ put.
-    named_brings _ _ name.name name.place c.args.block (sym c.is_alike.ensures ∙ c.if-not-is_alike.false) refl refl refl
-    (λ other. put other ∙ ap (λ key. cond (bytes_eq other key) (Some name.place) (value_of old.named other)) c.bytes.ensures.bytes))
-    c.put.ensures.put
+pub returns-then-block-clause-names : goal.returns-then-block-clause-names
+returns-then-block-clause-names c = on_ok_weaker c.put_name.result (λ put. label_brings _ _ _ _ c.if-block.true refl refl put) c.put_name.ensures
+
+pub returns-else-block-clause-names : goal.returns-else-block-clause-names
+returns-else-block-clause-names c = on_ok_weaker c.put_name-else-block.result (λ put. value_brings _ _ _ _ c.if-block.false refl refl put) c.put_name-else-block.ensures

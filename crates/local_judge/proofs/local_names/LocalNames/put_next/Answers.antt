@@ -1,7 +1,8 @@
-use Rattle.std.proofs.Common.{arith, refl, sym, ◌∙◌}
-use Rattle.std.proofs.lemmas.Result.{on_ok_weaker}
-use Rattle.local_judge.proofs.Named.{small_brings}
+use Rattle.std.proofs.Common.{arith, refl, sym}
+use Rattle.local_judge.proofs.Named.{mark_brings}
 use Rattle.local_judge.proofs.local_names.LocalNames.put_next.Goals as goal
 
-pub returns : goal.returns
-returns c = on_ok_weaker c.put_next.result (λ put. small_brings _ _ c.args.next c.args.block (sym c.is_alike.ensures ∙ c.if-not-is_alike.false) refl refl refl (omega arith) put) c.put_next.ensures
+pub returns-clause-names : goal.returns-clause-names
+returns-clause-names c =
+    let old = c.args.self.now in
+    mark_brings _ _ c.args.block (sym old.marks.ok.0) (omega arith) c.in_ok-push.ensures.items refl refl

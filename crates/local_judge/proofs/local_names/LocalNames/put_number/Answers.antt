@@ -1,9 +1,10 @@
-use Rattle.std.proofs.Common.{refl, sym, ◌∙◌}
-use Rattle.local_judge.proofs.Named.{large_brings}
-use Rattle.local_judge.proofs.Sized.{below_past}
+use Rattle.std.proofs.Common.{refl}
+use Rattle.std.proofs.lemmas.Result.{on_ok_weaker}
+use Rattle.local_judge.proofs.Named.{label_brings, value_brings}
 use Rattle.local_judge.proofs.local_names.LocalNames.put_number.Goals as goal
 
-pub returns : goal.returns
-returns c =
-    large_brings _ _ c.args.number.now c.in_ok-digits.digits c.args.block (sym c.is_alike.ensures ∙ c.if-not-is_alike.false) refl refl refl (below_past _ c.in_default.ensures) c.in_ok-digits.ensures
-    (λ q. c.in_ok-insert.ensures.updates.0 q)
+pub returns-then-block-clause-names : goal.returns-then-block-clause-names
+returns-then-block-clause-names c = on_ok_weaker c.put_number.result (λ put. label_brings _ _ _ _ c.if-block.true refl refl put) c.put_number.ensures
+
+pub returns-else-block-clause-names : goal.returns-else-block-clause-names
+returns-else-block-clause-names c = on_ok_weaker c.put_number-else-block.result (λ put. value_brings _ _ _ _ c.if-block.false refl refl put) c.put_number-else-block.ensures
