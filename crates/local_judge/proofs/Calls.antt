@@ -4,6 +4,7 @@ use Rattle.std.proofs.Common.{ap, sym, subst, ◌∙◌}
 use Rattle.std.proofs.lemmas.List.{append-nil}
 use Rattle.std.proofs.lemmas.Slice.Eq.{bytes_eq-Decides}
 use Rattle.ir_base.specs.declared.place.Place.{Place}
+use Rattle.ir_terminals.specs.declared.values.Local.{Local}
 use Rattle.ir_terminals.specs.declared.values.Local.TheVariants as locals
 use Rattle.ir_terminals.specs.declared.values.PlacedName.{PlacedName}
 use Rattle.ir_instructions.specs.Tree.{BlockTree}
@@ -18,8 +19,8 @@ use Rattle.name_rules.specs.Spelled.{decimal}
 use Rattle.name_rules.specs.TypeDemands.{Known}
 use Rattle.type_judge.specs.Judging.{IsJudged}
 use Rattle.local_judge.specs.declared.called.CalledNames.{CalledNames}
-use Rattle.local_judge.specs.Calling.{IsCalled, Goes}
-use Rattle.local_judge.proofs.Steps.{Answer, judged_front, judged_next, goes_rest}
+use Rattle.local_judge.specs.Calling.{IsCalled, is_in_turn, Goes}
+use Rattle.local_judge.proofs.Steps.{Answer, judged_front, judged_next, asked, goes_rest}
 use Rattle.local_judge.proofs.Named.{same_both}
 
 abbrev or_else : Option Place → Option Place → Option Place
@@ -67,6 +68,13 @@ number_called old new number place r j g = record {
   judged = λ b h. judged_next _ [] r (subst (λ n. IsJudged (ask (number == n) (faults.WrongNumber place n (decimal number)) ∷ []) (Ok tt)) h.next j) (g.judged b h);
   calls = g.calls;
 }
+
+-- no name, or the next number
+pub in_turn_called : (old new : CalledNames) (written : Option Local) (r : Answer) → is_in_turn old.next written ≡ true → Goes old new (λ b. []) (λ b. called_with b (false, None)) r
+    → Goes old new (λ b. call_demands b written) (λ b. called_with b (false, written)) r
+in_turn_called old new None r e g = g
+in_turn_called old new (Some (locals.Named name)) r e g = absurd cc
+in_turn_called old new (Some (locals.Numbered number place)) r e g = number_called old new number place r (asked (number == old.next) (faults.WrongNumber place old.next (decimal number)) e) g
 
 -- parameters one by one
 pub singles : (ps : List ParameterTree) → flat_map (λ p. announced_parameter p ∷ []) ps ≡ map announced_parameter ps

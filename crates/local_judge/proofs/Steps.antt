@@ -1,8 +1,8 @@
 -- Answers to the parts of what is asked, and the answer to the whole.
-use Rattle.std.specs.Prelude.{List, [], ◌∷◌, ◌++◌, Result, Ok, Err}
+use Rattle.std.specs.Prelude.{◌≡◌, refl, Bool, true, false, List, [], ◌∷◌, ◌++◌, Result, Ok, Err}
 use Rattle.name_rules.specs.declared.fault.ResolveFault.{ResolveFault}
 use Rattle.name_rules.specs.declared.fault.ResolveFault.TheVariants as faults
-use Rattle.name_rules.specs.Demand.{Demand}
+use Rattle.name_rules.specs.Demand.{Demand, ask}
 use Rattle.name_rules.specs.FunctionDemands.{Called}
 use Rattle.type_judge.specs.Judging.{IsJudged}
 use Rattle.type_judge.proofs.Parts as parts
@@ -23,6 +23,11 @@ judged_stop = parts.judged_stop
 
 pub judged_next : (d : Demand) (ds : List Demand) (r : Answer) → IsJudged (d ∷ []) (Ok tt) → IsJudged ds r → IsJudged (d ∷ ds) r
 judged_next = parts.judged_next
+
+-- one demand that holds
+pub asked : (holds : Bool) (fault : ResolveFault) → holds ≡ true → IsJudged (ask holds fault ∷ []) (Ok tt)
+asked true fault e = record { told = refl }
+asked false fault e = absurd cc
 
 -- a part that is refused refuses all that begins with it
 pub goes_front : (old mid new : CalledNames) (d e : Called → List Demand) (s t : Called → Called) (fault : ResolveFault) → Goes old mid d s (Err fault) → Goes old new (λ b. d b ++ e b) t (Err fault)

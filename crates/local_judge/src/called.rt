@@ -8,7 +8,7 @@ ghost use Rattle.name_rules.specs.Demand.{ask as asked, is_new};
 ghost use Rattle.name_rules.specs.FunctionDemands.{call_demands, called_with};
 ghost use Rattle.name_rules.specs.Spelled.{decimal};
 ghost use Rattle.type_judge.specs.Judging.{IsJudged};
-ghost use Rattle.local_judge.specs.Calling.{Goes};
+ghost use Rattle.local_judge.specs.Calling.{is_in_turn, Goes};
 
 use ir_base::Place;
 use ir_terminals::{Local, Number, PlacedName};
@@ -106,12 +106,20 @@ impl<'a> CalledNames<'a> {
         })
     }
 
-    /// Calls a parameter, a block or a result so, or by the next number where no name is written.
-    pub(crate) fn call(
-        &mut self,
-        alloc: Global,
-        written: &'a Option<Local>,
-    ) -> Result<(), ResolveFault>
+    /// Whether no name is written, or the next number.
+    fn is_in_turn(&self, written: &Option<Local>) -> bool
+        ensures { result ≡ is_in_turn self.now.next written.now }
+    {
+        match written {
+            None => true,
+            Some(Local::Named(_)) => false,
+            Some(Local::Numbered(number, _)) => self.is_next(number),
+        }
+    }
+
+    /// What `call` does, whatever is written.
+    #[inline(never)]
+    fn call_so(&mut self, alloc: Global, written: &'a Option<Local>) -> Result<(), ResolveFault>
         ensures { Goes self.old self.new (λ before. call_demands before written.now) (λ before. called_with before (false, written.now)) result }
     {
         match written {
@@ -122,5 +130,21 @@ impl<'a> CalledNames<'a> {
                 self.call_next()
             }
         }
+    }
+
+    /// Calls a parameter, a block or a result so, or by the next number where no name is written. Most come in turn: for
+    /// these the next number alone is raised.
+    #[inline(always)]
+    pub(crate) fn call(
+        &mut self,
+        alloc: Global,
+        written: &'a Option<Local>,
+    ) -> Result<(), ResolveFault>
+        ensures { Goes self.old self.new (λ before. call_demands before written.now) (λ before. called_with before (false, written.now)) result }
+    {
+        if self.is_in_turn(written) {
+            return self.call_next();
+        }
+        self.call_so(alloc, written)
     }
 }
