@@ -292,6 +292,11 @@ announces_both old mid new xs ys f g = record {
 pub announces_all : (old new : LocalNames) (all : List Announced) → HoldsNames old [] → next_of old ≡ 0 → Announces old new all → HoldsNames new (locals_from 0 all)
 announces_all old new all h e f = subst (λ n. HoldsNames new (locals_from n all)) e (f.brings.on_ [] h)
 
+-- a number that came in turn is there
+pub marked_there : (names : LocalNames) (all : Locals) (block : Bool) (number : ℕ) → HoldsNames names all → number < 2 ^ 64 → is_marked names.marks.items block number ≡ true → is_there all block (Numbered number) ≡ true
+marked_there names all true number h low marked = sym (h.labels.small number low) ∙ ap (λ (m : Bool). cond m true (contains nat_eq names.labels.small number)) marked
+marked_there names all false number h low marked = sym (h.values.small number low) ∙ ap (λ (m : Bool). cond m true (contains nat_eq names.values.small number)) marked
+
 -- what is found for every list is found for this one
 pub has_told : {E : Type 0} (names : LocalNames) (all : Locals) (block : Bool) (name : LocalName) (r : Result Bool E) → HoldsNames names all
     → IfOk r (λ has. (ls : Locals) → HoldsNames names ls → has ≡ is_there ls block name) → IfOk r (λ has. has ≡ is_there all block name)

@@ -1,7 +1,7 @@
 //! Gathers what the values and the blocks of a function are called, at whichever place.
 #![tactic(auto)]
 
-ghost use Rattle.std.specs.Prelude.{◌≡◌, map, flat_map, IfOk, OnOk};
+ghost use Rattle.std.specs.Prelude.{◌≡◌, true, map, flat_map, IfOk, OnOk};
 ghost use Rattle.ir_instructions.specs.View.{instruction_view, block_view};
 ghost use Rattle.ir_syntax.specs.View.{parameter_view};
 ghost use Rattle.name_rules.specs.Locals.{announced, announced_parameter, announced_result, announced_block, local_in, locals_from, is_there};
@@ -129,6 +129,15 @@ impl<'a> FunctionLocals<'a> {
         self.parameters = parameters;
         self.blocks = blocks;
         Ok(())
+    }
+
+    /// Whether a block, or a value, is called by that number, which came in turn, as nearly all do; where it is not told so, `has`
+    /// tells it.
+    pub(crate) fn is_in_turn(&self, block: bool, written: &Local) -> bool
+        requires { AreGathered self.now }
+        ensures { result ≡ true → is_there (locals_of self.now) block (local_in written.now) ≡ true }
+    {
+        self.names.is_in_turn(block, written)
     }
 
     /// Whether a block, or a value, is called so.

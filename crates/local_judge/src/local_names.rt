@@ -1,12 +1,12 @@
 //! What the values and the blocks of a function are called.
 #![tactic(auto)]
 
-ghost use Rattle.std.specs.Prelude.{◌≡◌, ◌==◌, ◌+◌, [], ◌∷◌, IfOk, OnOk};
+ghost use Rattle.std.specs.Prelude.{◌≡◌, ◌==◌, ◌+◌, true, [], ◌∷◌, IfOk, OnOk};
 ghost use Rattle.module_arena.specs.Module.{Named, Numbered};
 ghost use Rattle.name_rules.specs.Locals.{Locals, local_in, is_there};
 ghost use Rattle.local_judge.specs.Names.{next_of, HoldsNames, Brings, Announces};
 
-use crate::kind_names::KindNames;
+use crate::kind_names::{KindNames, is_marked};
 use ir_terminals::{Local, Number, PlacedName};
 use std::alloc::{AllocError, Global};
 
@@ -117,6 +117,26 @@ impl<'a> LocalNames<'a> {
             None => self.put_next(block),
             Some(Local::Named(name)) => self.put_name(block, name),
             Some(Local::Numbered(number, _)) => self.put_numbers(alloc, block, number),
+        }
+    }
+
+    /// Whether a look at the marks tells that the number is among these.
+    fn is_marked(&self, block: bool, number: &Number) -> bool
+        ensures { (all : Locals) → HoldsNames self.now all → result ≡ true → is_there all block (Numbered number.now) ≡ true }
+    {
+        match number.to_u64() {
+            Some(small) => is_marked(self.marks.as_slice(), block, small as usize),
+            None => false,
+        }
+    }
+
+    /// Whether a look at the marks tells that what is written is among these.
+    pub(crate) fn is_in_turn(&self, block: bool, written: &Local) -> bool
+        ensures { (all : Locals) → HoldsNames self.now all → result ≡ true → is_there all block (local_in written.now) ≡ true }
+    {
+        match written {
+            Local::Named(_) => false,
+            Local::Numbered(number, _) => self.is_marked(block, number),
         }
     }
 

@@ -50,8 +50,9 @@ fn missing_local(
     })
 }
 
-/// A block, or a value, of the function is called so; else it is told as it is spelled.
-pub(crate) fn check_local(
+/// What `check_local` asks, of any name.
+#[inline(never)]
+fn check_name(
     alloc: Global,
     locals: &FunctionLocals,
     block: bool,
@@ -64,6 +65,23 @@ pub(crate) fn check_local(
         return Ok(());
     }
     missing_local(alloc, locals, block, written)
+}
+
+/// A block, or a value, of the function is called so; else it is told as it is spelled. Most are numbers that came in turn.
+#[inline(always)]
+pub(crate) fn check_local(
+    alloc: Global,
+    locals: &FunctionLocals,
+    block: bool,
+    written: &Local,
+) -> Result<(), ResolveFault>
+    requires locals { AreGathered locals.now }
+    ensures { IsJudged (is_local (locals_of locals.now) block written.now ∷ []) result }
+{
+    if locals.is_in_turn(block, written) {
+        return Ok(());
+    }
+    check_name(alloc, locals, block, written)
 }
 
 /// A value, where it stands at that type.
