@@ -4,3 +4,4 @@ pub mod Marks
 pub mod Named
 pub mod Calls
 pub mod Sized
+pub mod ShortNumbers

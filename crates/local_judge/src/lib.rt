@@ -2,7 +2,7 @@
 //!
 //! It stands on the judges of types and constants of `type_judge` and on the rules of `name_rules`. It promises that an
 //! answer is Ok exactly where each demand holds, and else the refusal of the first that does not. Definitions:
-//! `specs/Names`, `specs/Calling`; the demands are those of `name_rules`, `specs/FunctionDemands`.
+//! `specs/Names`, `specs/Calling`, `specs/Literals`; the demands are those of `name_rules`, `specs/FunctionDemands`.
 //!
 //! ```
 //! // `definition` is the one item of the text `define i32 @f(i32 %x) { ret i32 %y }`.
@@ -17,6 +17,7 @@ mod endings;
 mod functions;
 mod gathered;
 mod kind_names;
+mod literals;
 mod local_names;
 mod operands;
 mod operations;

@@ -2,19 +2,21 @@
 #![tactic(auto, using(crate::proofs::Steps::judged_front, crate::proofs::Steps::judged_rest, crate::proofs::Steps::judged_stop, crate::proofs::Steps::judged_next))]
 
 ghost use Rattle.std.specs.Prelude.{◌≡◌, [], ◌∷◌, map, flat_map, false};
-ghost use Rattle.ir_constants.specs.View.{type_view, value_view, typed_value_view};
+ghost use Rattle.ir_constants.specs.View.{type_view, constant_view, value_view, typed_value_view};
 ghost use Rattle.type_table.specs.Tree.{ptr};
 ghost use Rattle.name_rules.specs.Demand.{place_of_local, is_local};
 ghost use Rattle.name_rules.specs.FunctionDemands.{value_demands, operand_demands};
 ghost use Rattle.name_rules.specs.Locals.{is_there, local_in};
+ghost use Rattle.name_rules.specs.TypeDemands.{constant_demands};
 ghost use Rattle.name_rules.specs.Written.{type_in};
 ghost use Rattle.type_judge.specs.Gathered.{IsKnown, known_of};
 ghost use Rattle.type_judge.specs.Judging.{IsJudged};
 ghost use Rattle.local_judge.specs.Names.{AreGathered, locals_of};
 
 use crate::gathered::FunctionLocals;
+use crate::literals::is_literal;
 use ir_base::Place;
-use ir_constants::{Type, TypedValue, WrittenValue};
+use ir_constants::{Constant, Type, TypedValue, WrittenValue};
 use ir_terminals::Local;
 use name_rules::{ResolveFault, spell_local};
 use std::alloc::Global;
@@ -84,6 +86,23 @@ pub(crate) fn check_local(
     check_name(alloc, locals, block, written)
 }
 
+/// A constant, where it stands at that type.
+#[inline(always)]
+fn check_literal(
+    alloc: Global,
+    known: &Known,
+    constant: &Constant,
+    ty: &Type,
+) -> Result<(), ResolveFault>
+    requires known { IsKnown known.now }
+    ensures { IsJudged (constant_demands (known_of known.now) (type_in (type_view ty.now)) (constant_view constant.now)) result }
+{
+    if is_literal(constant, ty) {
+        return Ok(());
+    }
+    check_constant(alloc, known, constant, ty)
+}
+
 /// A value, where it stands at that type.
 pub(crate) fn check_value(
     alloc: Global,
@@ -98,7 +117,7 @@ pub(crate) fn check_value(
 {
     match value {
         WrittenValue::Local(written) => check_local(alloc, locals, false, written),
-        WrittenValue::Constant(constant) => check_constant(alloc, known, constant, ty),
+        WrittenValue::Constant(constant) => check_literal(alloc, known, constant, ty),
     }
 }
 

@@ -1,0 +1,64 @@
+//! Integers that a look at 64 bits tells to fit, as nearly all do. What is not told so, `type_judge` judges.
+#![tactic(auto)]
+
+ghost use Rattle.std.specs.Prelude.{◌≡◌, ◌≤◌, ◌^◌, nat_lt, true};
+ghost use Rattle.ir_constants.specs.View.{type_view, constant_view};
+ghost use Rattle.name_rules.specs.Demand.{fits};
+ghost use Rattle.name_rules.specs.TypeDemands.{Known, constant_demands};
+ghost use Rattle.name_rules.specs.Written.{type_in, bits_at};
+ghost use Rattle.local_judge.specs.Literals.{short_of, Hold};
+
+use ir_constants::{Constant, Type};
+use ir_terminals::Integer;
+
+/// The magnitude, where the integer is not negative and below 2^64.
+fn short_of(written: &Integer) -> Option<u64>
+    ensures { result ≡ short_of written.now }
+{
+    if written.negative {
+        None
+    } else {
+        written.magnitude.to_u64()
+    }
+}
+
+/// Whether a number has at most so many bits, of which there are at most 64.
+fn is_within(bits: u8, number: u64) -> bool
+    requires { bits ≤ 64 }
+    ensures { result ≡ nat_lt number (2 ^ bits) }
+{
+    bits == 64 || number < 1u64 << bits
+}
+
+/// Whether a look tells that the integer fits so many bits.
+fn is_short(bits: u8, written: &Integer) -> bool
+    ensures { result ≡ true → fits bits written.now ≡ true }
+{
+    if bits > 64 {
+        return false;
+    }
+    match short_of(written) {
+        Some(number) => is_within(bits, number),
+        None => false,
+    }
+}
+
+/// Whether a look tells that the integer fits the type.
+fn is_short_at(ty: &Type, written: &Integer) -> bool
+    ensures { result ≡ true → fits (bits_at (type_in (type_view ty.now))) written.now ≡ true }
+{
+    match ty {
+        Type::Integer(_, width) => is_short(*width, written),
+        _ => false,
+    }
+}
+
+/// Whether a look tells that the constant may stand at that type.
+pub(crate) fn is_literal(constant: &Constant, ty: &Type) -> bool
+    ensures { (known : Known) → result ≡ true → Hold (constant_demands known (type_in (type_view ty.now)) (constant_view constant.now)) }
+{
+    match constant {
+        Constant::Integer(written) => is_short_at(ty, written),
+        _ => false,
+    }
+}
