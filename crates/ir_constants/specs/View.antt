@@ -23,7 +23,7 @@ type_step (open_type.Integer place width) = IntegerType place width
 type_step (open_type.Ptr place) = PointerType place
 type_step (open_type.Void place) = VoidType place
 type_step (open_type.Array place array) = ArrayType place array.value.0 array.value.1
-type_step (open_type.Struct place packed fields) = StructType place packed (types fields.items)
+type_step (open_type.Struct place packed fields) = StructType place packed (types fields.value.items)
 type_step (open_type.Named name) = NamedType name
 
 -- the parts of an array type, where its element is a tree already
@@ -40,8 +40,8 @@ constant_step (open_constant.Integer integer) = IntegerConstant integer
 constant_step (open_constant.Simple simple place) = SimpleConstant simple place
 constant_step (open_constant.Global name) = AddressConstant name
 constant_step (open_constant.Bytes text) = BytesConstant text
-constant_step (open_constant.List place brackets elements) = ListConstant place brackets (constants elements.items)
-constant_step (open_constant.GetElementPtr place flags source operands) = ElementAddress place flags (type_view source.value) (constants operands.items)
+constant_step (open_constant.List place brackets elements) = ListConstant place brackets (constants elements.value.items)
+constant_step (open_constant.GetElementPtr place flags source operands) = ElementAddress place flags (type_view source.value) (constants operands.value.items)
 constant_step (open_constant.Cast place opcode operand to) = Conversion place opcode operand.value.0 operand.value.1 (type_view to.value)
 constant_step (open_constant.Binary place opcode flags left right) = Arithmetic place opcode flags left.value.0 left.value.1 right.value.0 right.value.1
 

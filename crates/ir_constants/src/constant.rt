@@ -29,7 +29,8 @@ pub enum Simple {
 /// The brackets round a list of constants.
 ///
 /// ```
-/// Constant::List(place, Brackets::Braces, elements) // `{ i8 1, ptr null }`, whose elements these are
+/// // `{ i8 1, ptr null }`, whose elements these are
+/// Constant::List(place, Brackets::Braces, Box::new(alloc, elements)?)
 /// ```
 #[derive(Clone, Copy)]
 pub enum Brackets {
@@ -46,7 +47,8 @@ pub enum Brackets {
 /// ```
 /// Constant::Simple(Simple::Null, place) // `null`
 /// Constant::Global(name) // `@x`, where that is the name with its place
-/// Constant::List(place, Brackets::Square, elements) // `[i32 1, i32 2]`, whose elements are these
+/// // `[i32 1, i32 2]`, whose elements are these
+/// Constant::List(place, Brackets::Square, Box::new(alloc, elements)?)
 /// // `ptrtoint (ptr @x to i64)`, where the parts are `ptr @x` and `i64`
 /// Constant::Cast(place, Opcode::PtrToInt, Box::new(alloc, address)?, Box::new(alloc, word)?)
 /// ```
@@ -62,9 +64,9 @@ pub enum Constant {
     /// The bytes of `c"..."`.
     Bytes(PlacedText),
     /// A list of constants.
-    List(Place, Brackets, Vec<TypedConstant>),
+    List(Place, Brackets, Box<Vec<TypedConstant>>),
     /// `getelementptr`: its flags, its source type, and the base with the indices behind it.
-    GetElementPtr(Place, Flags, Box<Type>, Vec<TypedConstant>),
+    GetElementPtr(Place, Flags, Box<Type>, Box<Vec<TypedConstant>>),
     /// `ptrtoint`, `inttoptr` or `trunc`: what is cast, and the type to which it is.
     Cast(Place, Opcode, Box<TypedConstant>, Box<Type>),
     /// `add`, `sub` or `xor`.

@@ -112,6 +112,7 @@ fn square(cursor: &mut Cursor, depth: u8) -> Result<Constant, Fault>
     let place = cursor.take_class(Terminal::OpenBracket)?;
     let elements = elements(cursor, depth)?;
     cursor.take_class(Terminal::CloseBracket)?;
+    let elements = Box::new(cursor.alloc(), elements)?;
     Ok(Constant::List(place, Brackets::Square, elements))
 }
 
@@ -123,6 +124,7 @@ fn braces(cursor: &mut Cursor, depth: u8) -> Result<Constant, Fault>
     let place = cursor.take_class(Terminal::OpenBrace)?;
     let elements = elements(cursor, depth)?;
     cursor.take_class(Terminal::CloseBrace)?;
+    let elements = Box::new(cursor.alloc(), elements)?;
     Ok(Constant::List(place, Brackets::Braces, elements))
 }
 
@@ -136,6 +138,7 @@ fn packed(cursor: &mut Cursor, depth: u8) -> Result<Constant, Fault>
     let elements = elements(cursor, depth)?;
     cursor.take_class(Terminal::CloseBrace)?;
     cursor.take_class(Terminal::Greater)?;
+    let elements = Box::new(cursor.alloc(), elements)?;
     Ok(Constant::List(place, Brackets::Packed, elements))
 }
 

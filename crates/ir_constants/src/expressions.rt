@@ -74,6 +74,7 @@ fn element_address(cursor: &mut Cursor, depth: u8, place: Place) -> Result<Const
     cursor.take_class(Terminal::Comma)?;
     let operands = operands(cursor, depth)?;
     cursor.take_class(Terminal::CloseParenthesis)?;
+    let operands = Box::new(cursor.alloc(), operands)?;
     Ok(Constant::GetElementPtr(place, flags, source, operands))
 }
 

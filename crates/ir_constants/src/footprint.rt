@@ -4,14 +4,14 @@ use crate::ty::{ArrayType, Type};
 use crate::value::{TypedValue, WrittenValue};
 use std::mem::size_of;
 
-const _: () = prove!(size_of::<Type>() == 40);
+const _: () = prove!(size_of::<Type>() == 32);
 
-const _: () = prove!(size_of::<ArrayType>() == 72);
+const _: () = prove!(size_of::<ArrayType>() == 64);
 
-const _: () = prove!(size_of::<Constant>() == 48);
+const _: () = prove!(size_of::<Constant>() == 40);
 
-const _: () = prove!(size_of::<TypedConstant>() == 88);
+const _: () = prove!(size_of::<TypedConstant>() == 72);
 
-const _: () = prove!(size_of::<WrittenValue>() == 56);
+const _: () = prove!(size_of::<WrittenValue>() == 48);
 
-const _: () = prove!(size_of::<TypedValue>() == 96);
+const _: () = prove!(size_of::<TypedValue>() == 80);

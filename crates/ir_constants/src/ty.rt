@@ -9,7 +9,7 @@ use ir_terminals::{Integer, PlacedName};
 /// // `i32`, where a text begins with it
 /// Type::Integer(Place { line: 1, column: 1 }, 32)
 /// // `<{ i8, ptr }>` at a place, whose fields are `i8` and `ptr`
-/// Type::Struct(place, true, fields)
+/// Type::Struct(place, true, Box::new(alloc, fields)?)
 /// ```
 #[derive(Drop)]
 #[cycle(ty)]
@@ -22,8 +22,8 @@ pub enum Type {
     Void(Place),
     /// `[ INT x TYPE ]`
     Array(Place, Box<ArrayType>),
-    /// `{ TYPE,* }`, or packed `<{ TYPE,* }>`.
-    Struct(Place, bool, Vec<Type>),
+    /// `{ TYPE,* }`, or packed `<{ TYPE,* }>`. The list is behind a box, since few types have one.
+    Struct(Place, bool, Box<Vec<Type>>),
     /// `%name`
     Named(PlacedName),
 }

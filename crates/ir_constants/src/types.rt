@@ -85,6 +85,7 @@ fn structure(cursor: &mut Cursor, depth: u8) -> Result<Type, Fault>
     let place = cursor.take_class(Terminal::OpenBrace)?;
     let fields = fields(cursor, depth)?;
     cursor.take_class(Terminal::CloseBrace)?;
+    let fields = Box::new(cursor.alloc(), fields)?;
     Ok(Type::Struct(place, false, fields))
 }
 
@@ -98,6 +99,7 @@ fn packed(cursor: &mut Cursor, depth: u8) -> Result<Type, Fault>
     let fields = fields(cursor, depth)?;
     cursor.take_class(Terminal::CloseBrace)?;
     cursor.take_class(Terminal::Greater)?;
+    let fields = Box::new(cursor.alloc(), fields)?;
     Ok(Type::Struct(place, true, fields))
 }
 

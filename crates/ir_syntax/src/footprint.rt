@@ -4,12 +4,12 @@ use std::mem::size_of;
 
 const _: () = prove!(size_of::<Item>() == 64);
 
-const _: () = prove!(size_of::<WrittenVariable>() == 168);
+const _: () = prove!(size_of::<WrittenVariable>() == 152);
 
-const _: () = prove!(size_of::<WrittenAlias>() == 136);
+const _: () = prove!(size_of::<WrittenAlias>() == 128);
 
-const _: () = prove!(size_of::<WrittenParameter>() == 80);
+const _: () = prove!(size_of::<WrittenParameter>() == 72);
 
-const _: () = prove!(size_of::<Declaration>() == 104);
+const _: () = prove!(size_of::<Declaration>() == 96);
 
-const _: () = prove!(size_of::<Definition>() == 120);
+const _: () = prove!(size_of::<Definition>() == 112);

@@ -19,17 +19,17 @@ use Rattle.type_judge.specs.Judging.{typed_demands}
 typed_same : (x : the_typed.TypedConstant) → fold-TypedConstant ConstantTree TypedConstantTree constant_step typed_step x ≡ typed_constant_view x
 typed_same x = fold_out-TypedConstant ConstantTree TypedConstantTree constant_step typed_step x
 
-pub list_shape : (place : Place) (round : Brackets) (elements : Vec the_typed.TypedConstant) → constant_view (the_constant.List place round elements) ≡ ListConstant place round (constants (map typed_constant_view elements.items))
+pub list_shape : (place : Place) (round : Brackets) (elements : Box (Vec the_typed.TypedConstant)) → constant_view (the_constant.List place round elements) ≡ ListConstant place round (constants (map typed_constant_view elements.value.items))
 unfolding the_constant.roll-Constant denote.Hole.Carrier.roll
 list_shape place round elements =
     fold-roll-Constant ConstantTree TypedConstantTree constant_step typed_step (open_constant.List place round elements)
-    ∙ (λ j. ListConstant place round (constants (map (λ x. typed_same x j) elements.items)))
+    ∙ (λ j. ListConstant place round (constants (map (λ x. typed_same x j) elements.value.items)))
 
-pub address_shape : (place : Place) (flags : ℕ) (source : Box the_type.Type) (operands : Vec the_typed.TypedConstant) → constant_view (the_constant.GetElementPtr place flags source operands) ≡ ElementAddress place flags (type_view source.value) (constants (map typed_constant_view operands.items))
+pub address_shape : (place : Place) (flags : ℕ) (source : Box the_type.Type) (operands : Box (Vec the_typed.TypedConstant)) → constant_view (the_constant.GetElementPtr place flags source operands) ≡ ElementAddress place flags (type_view source.value) (constants (map typed_constant_view operands.value.items))
 unfolding the_constant.roll-Constant denote.Hole.Carrier.roll
 address_shape place flags source operands =
     fold-roll-Constant ConstantTree TypedConstantTree constant_step typed_step (open_constant.GetElementPtr place flags source operands)
-    ∙ (λ j. ElementAddress place flags (type_view source.value) (constants (map (λ x. typed_same x j) operands.items)))
+    ∙ (λ j. ElementAddress place flags (type_view source.value) (constants (map (λ x. typed_same x j) operands.value.items)))
 
 pub cast_shape : (place : Place) (opcode : Opcode) (operand : Box the_typed.TypedConstant) (to : Box the_type.Type) → constant_view (the_constant.Cast place opcode operand to) ≡ Conversion place opcode (type_view operand.value.ty) (constant_view operand.value.value) (type_view to.value)
 unfolding the_constant.roll-Constant denote.Hole.Carrier.roll

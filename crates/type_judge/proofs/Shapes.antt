@@ -14,6 +14,6 @@ pub array_shape : (place : Place) (array : Box the_array.ArrayType) → type_vie
 unfolding the_type.roll-Type denote.Hole.Carrier.roll
 array_shape place array = fold-roll-Type TypeTree ArrayParts type_step array_step (open_type.Array place array) ∙ ap (λ (p : ArrayParts). ArrayType place p.0 p.1) (fold_out-ArrayType TypeTree ArrayParts type_step array_step array.value)
 
-pub struct_shape : (place : Place) (packed : Bool) (fields : Vec the_type.Type) → type_view (the_type.Struct place packed fields) ≡ StructType place packed (types (map type_view fields.items))
+pub struct_shape : (place : Place) (packed : Bool) (fields : Box (Vec the_type.Type)) → type_view (the_type.Struct place packed fields) ≡ StructType place packed (types (map type_view fields.value.items))
 unfolding the_type.roll-Type denote.Hole.Carrier.roll
 struct_shape place packed fields = fold-roll-Type TypeTree ArrayParts type_step array_step (open_type.Struct place packed fields)

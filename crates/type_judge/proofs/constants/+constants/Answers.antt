@@ -1,5 +1,6 @@
 use Rattle.std.proofs.Common.{ap, sym, subst, ◌∙◌, arith, List, ◌++◌, map, Result, Ok, Err, append_assoc}
 use Rattle.std.proofs.lemmas.Result.{err_from_is_err_and}
+use Rattle.std.specs.Global.{Vec}
 use Rattle.ir_constants.specs.declared.ty.Type as the_type
 use Rattle.ir_constants.specs.declared.constant.TypedConstant as the_typed
 use Rattle.ir_constants.specs.Tree.{ConstantTree, constants}
@@ -19,7 +20,7 @@ check_constant-returns-in-List t c =
     let known = known_of c.args.known.now in
     let ty = type_in (type_view c.args.ty.now) in
     let shape = ap constant_view c.in-List.is ∙ list_shape c.in-List.field-0 c.in-List.field-1 c.in-List.elements in
-    let all = subst (λ (es : List the_typed.TypedConstant). IsJudged (constants_demands known (constants (map typed_constant_view es))) c.check_constants.result) c.deref.ensures.value c.check_constants.ensures in
+    let all = subst (λ (es : List the_typed.TypedConstant). IsJudged (constants_demands known (constants (map typed_constant_view es))) c.check_constants.result) (c.deref-in-List.ensures.value ∙ ap (λ (v : Vec the_typed.TypedConstant). v.items) c.deref.ensures) c.check_constants.ensures in
     subst (λ (k : ConstantTree). IsJudged (constant_demands known ty k) c.check_constants.result) (sym shape) all
 
 pub check_constant-returns-in_err-check_type-in-GetElementPtr : goal.check_constant-returns-in_err-check_type-in-GetElementPtr
@@ -37,7 +38,7 @@ check_constant-returns-in_ok-check_type-in-GetElementPtr t c =
     let ty = type_in (type_view c.args.ty.now) in
     let shape = ap constant_view c.in-GetElementPtr.is ∙ address_shape c.in-GetElementPtr.field-0 c.in-GetElementPtr.field-1 c.in-GetElementPtr.source c.in-GetElementPtr.operands in
     let source = subst (λ (s : the_type.Type). IsJudged (type_demands known (type_view s)) (Ok tt)) c.deref-in-GetElementPtr.ensures c.in_ok-check_type-in-GetElementPtr.ensures in
-    let all = subst (λ (es : List the_typed.TypedConstant). IsJudged (constants_demands known (constants (map typed_constant_view es))) c.check_constants-in-GetElementPtr.result) c.deref-in-GetElementPtr-2.ensures.value c.check_constants-in-GetElementPtr.ensures in
+    let all = subst (λ (es : List the_typed.TypedConstant). IsJudged (constants_demands known (constants (map typed_constant_view es))) c.check_constants-in-GetElementPtr.result) (c.deref-in-GetElementPtr-3.ensures.value ∙ ap (λ (v : Vec the_typed.TypedConstant). v.items) c.deref-in-GetElementPtr-2.ensures) c.check_constants-in-GetElementPtr.ensures in
     subst (λ (k : ConstantTree). IsJudged (constant_demands known ty k) c.check_constants-in-GetElementPtr.result) (sym shape) (judged_rest _ _ _ source all)
 
 pub check_constants-elements-init : goal.check_constants-elements-init

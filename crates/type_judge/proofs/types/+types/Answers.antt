@@ -1,5 +1,6 @@
 use Rattle.std.proofs.Common.{arith, ◌≡◌, ap, ◌∙◌, subst, List, [], ◌∷◌, map, Ok, Err}
 use Rattle.std.proofs.lemmas.Result.{err_from_is_err_and}
+use Rattle.std.specs.Global.{Vec}
 use Rattle.ir_constants.specs.declared.ty.Type as the_type
 use Rattle.ir_constants.specs.declared.ty.ArrayType as the_array
 use Rattle.ir_constants.specs.Tree.{ArrayType, StructType, types}
@@ -65,9 +66,9 @@ pub check_whole_type-returns-in_err-check_size-in-Struct : goal.check_whole_type
 check_whole_type-returns-in_err-check_size-in-Struct t c =
     let known = known_of c.args.known.now in
     let ty = type_view c.args.ty.now in
-    let fields = types (map type_view c.in-Struct.fields.items) in
+    let fields = types (map type_view c.in-Struct.fields.value.items) in
     let shape : ty ≡ StructType c.in-Struct.place c.in-Struct.field-1 fields = ap type_view c.in-Struct.is ∙ struct_shape c.in-Struct.place c.in-Struct.field-1 c.in-Struct.fields in
     let p = err_from_is_err_and c.from_residual-in_err-check_size-in-Struct.result c.from_residual-in_err-check_size-in-Struct.ensures.1 in
-    let size = subst (λ (fs : List the_type.Type). IsJudged (is_small c.in-Struct.place c.is_past.result (have_past known (types (map type_view fs))) ∷ []) (Err c.in_err-check_size-in-Struct.field-0.0)) c.deref-in-Struct.ensures.value c.in_err-check_size-in-Struct.ensures in
+    let size = subst (λ (fs : List the_type.Type). IsJudged (is_small c.in-Struct.place c.is_past.result (have_past known (types (map type_view fs))) ∷ []) (Err c.in_err-check_size-in-Struct.field-0.0)) (c.deref-in-Struct-2.ensures.value ∙ ap (λ (v : Vec the_type.Type). v.items) c.deref-in-Struct.ensures) c.in_err-check_size-in-Struct.ensures in
     struct_judged known ty c.in-Struct.place c.in-Struct.field-1 fields c.measure_of-in-Struct.result c.is_past.result shape c.measure_of-in-Struct.ensures c.is_past.ensures _
     (rw (p.1, p.2) (judged_next _ _ _ c.in_ok-check_nesting-in-Struct.ensures (judged_stop _ _ _ size)))

@@ -43,9 +43,9 @@ add_written_constant-returns-in_ok-elements-in-List-clause-grows t c = then_grow
 pub add_written_constant-returns-in_ok-elements-in-List-clause-is : goal.add_written_constant-returns-in_ok-elements-in-List-clause-is
 add_written_constant-returns-in_ok-elements-in-List-clause-is t c =
     let a = c.add_typed_list.new.self.arena in
-    let whole : constant_in (type_in (type_view c.args.ty.now)) (constant_view c.args.constant.now) ≡ m.Aggregate (brackets_in c.in-List.round) (constants_in (constants (map typed_constant_view c.in-List.elements.items))) = search (rules, the_lemmas) in
-    let are = subst (λ (xs : _). AreTyped a c.in_ok-elements-in-List.elements (map (λ (x : TypedConstant). typed_in (typed_constant_view x)) xs)) c.deref.ensures.value c.in_ok-elements-in-List.ensures.are in
-    let made = elements_made typed_constant_view a c.in_ok-elements-in-List.elements c.in-List.elements.items are in
+    let whole : constant_in (type_in (type_view c.args.ty.now)) (constant_view c.args.constant.now) ≡ m.Aggregate (brackets_in c.in-List.round) (constants_in (constants (map typed_constant_view c.in-List.elements.value.items))) = search (rules, the_lemmas) in
+    let are = subst (λ (xs : _). AreTyped a c.in_ok-elements-in-List.elements (map (λ (x : TypedConstant). typed_in (typed_constant_view x)) xs)) (c.deref-in-List.ensures.value ∙ ap (λ (v : Vec TypedConstant). v.items) c.deref.ensures) c.in_ok-elements-in-List.ensures.are in
+    let made = elements_made typed_constant_view a c.in_ok-elements-in-List.elements c.in-List.elements.value.items are in
     subst (λ (k : _). IfOk c.keep_constant-in-List.result (λ id. IsConstant c.keep_constant-in-List.new.self.arena id k))
     ((λ j. m.Aggregate (c.brackets_of.ensures j) (made j)) ∙ sym whole)
     c.keep_constant-in-List.ensures.is
@@ -57,10 +57,10 @@ add_written_constant-returns-in_ok-operands-in-GetElementPtr-clause-grows t c =
 pub add_written_constant-returns-in_ok-operands-in-GetElementPtr-clause-is : goal.add_written_constant-returns-in_ok-operands-in-GetElementPtr-clause-is
 add_written_constant-returns-in_ok-operands-in-GetElementPtr-clause-is t c =
     let a = c.add_typed_list-in-GetElementPtr.new.self.arena in
-    let whole : constant_in (type_in (type_view c.args.ty.now)) (constant_view c.args.constant.now) ≡ m.ElementAddress c.in-GetElementPtr.flags (type_in (type_view c.in-GetElementPtr.source.value)) (constants_in (constants (map typed_constant_view c.in-GetElementPtr.operands.items))) = search (rules, the_lemmas) in
+    let whole : constant_in (type_in (type_view c.args.ty.now)) (constant_view c.args.constant.now) ≡ m.ElementAddress c.in-GetElementPtr.flags (type_in (type_view c.in-GetElementPtr.source.value)) (constants_in (constants (map typed_constant_view c.in-GetElementPtr.operands.value.items))) = search (rules, the_lemmas) in
     let source = (c.in_ok-operands-in-GetElementPtr.ensures.grows.types _ _ c.in_ok-source-in-GetElementPtr.ensures.is).tree ∙ ap (λ x. type_in (type_view x)) c.deref-in-GetElementPtr.ensures in
-    let are = subst (λ (xs : _). AreTyped a c.in_ok-operands-in-GetElementPtr.operands (map (λ (x : TypedConstant). typed_in (typed_constant_view x)) xs)) c.deref-in-GetElementPtr-2.ensures.value c.in_ok-operands-in-GetElementPtr.ensures.are in
-    let made = sym (constants_at-listed a c.in_ok-operands-in-GetElementPtr.operands) ∙ elements_made typed_constant_view a c.in_ok-operands-in-GetElementPtr.operands c.in-GetElementPtr.operands.items are in
+    let are = subst (λ (xs : _). AreTyped a c.in_ok-operands-in-GetElementPtr.operands (map (λ (x : TypedConstant). typed_in (typed_constant_view x)) xs)) (c.deref-in-GetElementPtr-3.ensures.value ∙ ap (λ (v : Vec TypedConstant). v.items) c.deref-in-GetElementPtr-2.ensures) c.in_ok-operands-in-GetElementPtr.ensures.are in
+    let made = sym (constants_at-listed a c.in_ok-operands-in-GetElementPtr.operands) ∙ elements_made typed_constant_view a c.in_ok-operands-in-GetElementPtr.operands c.in-GetElementPtr.operands.value.items are in
     subst (λ (k : _). IfOk c.keep_address.result (λ id. IsConstant c.keep_address.new.self.arena id k))
     ((λ j. m.ElementAddress c.in-GetElementPtr.flags (source j) (made j)) ∙ sym whole)
     c.keep_address.ensures.is
@@ -126,15 +126,15 @@ add_typed_list-returns-clause-are t c =
 pub add_written_constant-add_typed_list-requires : goal.add_written_constant-add_typed_list-requires
 add_written_constant-add_typed_list-requires t c =
     let a = c.args.self.now.arena in
-    let whole : constant_view c.args.constant.now ≡ ListConstant c.in-List.field-0 c.in-List.round (constants (map typed_constant_view c.in-List.elements.items)) = search (rules, the_lemmas) in
+    let whole : constant_view c.args.constant.now ≡ ListConstant c.in-List.field-0 c.in-List.round (constants (map typed_constant_view c.in-List.elements.value.items)) = search (rules, the_lemmas) in
     let can = subst (CanHold (structs a.table) (entries a)) whole c.requires.constant in
-    let all = elements_can_be_held typed_constant_view (structs a.table) (entries a) c.in-List.elements.items can in
-    let each = subst (All (λ (x : TypedConstant). CanHoldTyped (structs a.table) (entries a) (typed_constant_view x))) (sym c.deref.ensures.value) all in
+    let all = elements_can_be_held typed_constant_view (structs a.table) (entries a) c.in-List.elements.value.items can in
+    let each = subst (All (λ (x : TypedConstant). CanHoldTyped (structs a.table) (entries a) (typed_constant_view x))) (sym (c.deref-in-List.ensures.value ∙ ap (λ (v : Vec TypedConstant). v.items) c.deref.ensures)) all in
     (search (rules, the_lemmas), each)
 
 -- what the address of an element is, as it is written
-element_address : (written : the_constant.Constant) (place : Place) (flags : ℕ) (source : Box the_type.Type Global) (operands : Vec TypedConstant) → written ≡ the_variants.GetElementPtr place flags source operands
-    → constant_view written ≡ ElementAddress place flags (type_view source.value) (constants (map typed_constant_view operands.items))
+element_address : (written : the_constant.Constant) (place : Place) (flags : ℕ) (source : Box the_type.Type Global) (operands : Box (Vec TypedConstant) Global) → written ≡ the_variants.GetElementPtr place flags source operands
+    → constant_view written ≡ ElementAddress place flags (type_view source.value) (constants (map typed_constant_view operands.value.items))
 element_address written place flags source operands is = search (rules, the_lemmas)
 
 pub add_written_constant-add_typed_list-requires-in-GetElementPtr : goal.add_written_constant-add_typed_list-requires-in-GetElementPtr
@@ -143,9 +143,9 @@ add_written_constant-add_typed_list-requires-in-GetElementPtr t c =
     let b = c.add_type.new.self.arena in
     let whole = element_address c.args.constant.now c.in-GetElementPtr.field-0 c.in-GetElementPtr.flags c.in-GetElementPtr.source c.in-GetElementPtr.operands c.in-GetElementPtr.is in
     let can = subst (CanHold (structs a.table) (entries a)) whole c.requires.constant in
-    let all = elements_can_be_held typed_constant_view (structs a.table) (entries a) c.in-GetElementPtr.operands.items can.1 in
-    let still = All-weaker (λ (x : TypedConstant). CanHoldTyped (structs a.table) (entries a) (typed_constant_view x)) (λ (x : TypedConstant). CanHoldTyped (structs b.table) (entries b) (typed_constant_view x)) (λ x h. can_still_hold_typed a b c.in_ok-source-in-GetElementPtr.ensures.grows (typed_constant_view x) h) c.in-GetElementPtr.operands.items all in
-    let each = subst (All (λ (x : TypedConstant). CanHoldTyped (structs b.table) (entries b) (typed_constant_view x))) (sym c.deref-in-GetElementPtr-2.ensures.value) still in
+    let all = elements_can_be_held typed_constant_view (structs a.table) (entries a) c.in-GetElementPtr.operands.value.items can.1 in
+    let still = All-weaker (λ (x : TypedConstant). CanHoldTyped (structs a.table) (entries a) (typed_constant_view x)) (λ (x : TypedConstant). CanHoldTyped (structs b.table) (entries b) (typed_constant_view x)) (λ x h. can_still_hold_typed a b c.in_ok-source-in-GetElementPtr.ensures.grows (typed_constant_view x) h) c.in-GetElementPtr.operands.value.items all in
+    let each = subst (All (λ (x : TypedConstant). CanHoldTyped (structs b.table) (entries b) (typed_constant_view x))) (sym (c.deref-in-GetElementPtr-3.ensures.value ∙ ap (λ (v : Vec TypedConstant). v.items) c.deref-in-GetElementPtr-2.ensures)) still in
     (search (rules, the_lemmas), each)
 
 pub add_written_constant-add_type-requires-in-Cast : goal.add_written_constant-add_type-requires-in-Cast

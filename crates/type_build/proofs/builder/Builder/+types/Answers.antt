@@ -1,5 +1,6 @@
 use Rattle.std.proofs.Common.{◌≡◌, ◌<◌, ◌^◌, [], map, All, sym, subst, ap, ◌∙◌, IfOk, arith, rules}
 use Rattle.std.proofs.lemmas.List.{take_all}
+use Rattle.std.specs.Global.{Vec}
 use Rattle.ir_constants.specs.declared.ty.Type as the_type
 use Rattle.ir_constants.specs.declared.ty.Type.TheFolds.{the_lemmas}
 use Rattle.ir_constants.specs.Tree.{types}
@@ -28,10 +29,10 @@ add_written-returns-in_ok-fields-in-Struct-clause-grows t c = then_grows c.keep_
 pub add_written-returns-in_ok-fields-in-Struct-clause-is : goal.add_written-returns-in_ok-fields-in-Struct-clause-is
 add_written-returns-in_ok-fields-in-Struct-clause-is t c =
     let a = c.add_types.new.self.arena in
-    let whole : type_in (type_view c.args.ty.now) ≡ struct c.in-Struct.packed (types_in (types (map type_view c.in-Struct.fields.items))) = search (rules, the_lemmas) in
-    let are = subst (λ (ts : _). AreTypes a c.in_ok-fields-in-Struct.fields (map (λ (x : the_type.Type). type_in (type_view x)) ts)) c.deref-in-Struct.ensures.value c.in_ok-fields-in-Struct.ensures.are in
+    let whole : type_in (type_view c.args.ty.now) ≡ struct c.in-Struct.packed (types_in (types (map type_view c.in-Struct.fields.value.items))) = search (rules, the_lemmas) in
+    let are = subst (λ (ts : _). AreTypes a c.in_ok-fields-in-Struct.fields (map (λ (x : the_type.Type). type_in (type_view x)) ts)) (c.deref-in-Struct-2.ensures.value ∙ ap (λ (v : Vec the_type.Type). v.items) c.deref-in-Struct.ensures) c.in_ok-fields-in-Struct.ensures.are in
     subst (λ (x : _). IfOk c.keep_type-in-Struct.result (λ id. IsType c.keep_type-in-Struct.new.self.arena id x))
-    (ap (struct c.in-Struct.packed) (fields_made type_view a c.in_ok-fields-in-Struct.fields c.in-Struct.fields.items are) ∙ sym whole)
+    (ap (struct c.in-Struct.packed) (fields_made type_view a c.in_ok-fields-in-Struct.fields c.in-Struct.fields.value.items are) ∙ sym whole)
     c.keep_type-in-Struct.ensures.is
 
 pub add_types-loop-ty-init : goal.add_types-loop-ty-init
@@ -81,19 +82,19 @@ add_written-keep_type-requires-in-Array-clause-fits t c =
 pub add_written-add_types-requires : goal.add_written-add_types-requires
 add_written-add_types-requires t c =
     let ss = structs c.args.self.now.arena.table in
-    let whole : type_in (type_view c.args.ty.now) ≡ struct c.in-Struct.packed (types_in (types (map type_view c.in-Struct.fields.items))) = search (rules, the_lemmas) in
+    let whole : type_in (type_view c.args.ty.now) ≡ struct c.in-Struct.packed (types_in (types (map type_view c.in-Struct.fields.value.items))) = search (rules, the_lemmas) in
     let can = subst (CanBe ss) whole c.requires in
-    let all = fields_can_be type_view ss c.in-Struct.fields.items can.1 in
-    let each = subst (All (λ (x : the_type.Type). CanBe ss (type_in (type_view x)))) (sym c.deref-in-Struct.ensures.value) all in
+    let all = fields_can_be type_view ss c.in-Struct.fields.value.items can.1 in
+    let each = subst (All (λ (x : the_type.Type). CanBe ss (type_in (type_view x)))) (sym (c.deref-in-Struct-2.ensures.value ∙ ap (λ (v : Vec the_type.Type). v.items) c.deref-in-Struct.ensures)) all in
     (search (rules, the_lemmas), each)
 
 pub add_written-keep_type-requires-in-Struct-clause-fits : goal.add_written-keep_type-requires-in-Struct-clause-fits
 add_written-keep_type-requires-in-Struct-clause-fits t c =
     let a = c.add_types.new.self.arena in
-    let whole : type_in (type_view c.args.ty.now) ≡ struct c.in-Struct.packed (types_in (types (map type_view c.in-Struct.fields.items))) = search (rules, the_lemmas) in
+    let whole : type_in (type_view c.args.ty.now) ≡ struct c.in-Struct.packed (types_in (types (map type_view c.in-Struct.fields.value.items))) = search (rules, the_lemmas) in
     let can = subst (CanBe (structs c.args.self.now.arena.table)) whole c.requires in
-    let are = subst (λ (ts : _). AreTypes a c.in_ok-fields-in-Struct.fields (map (λ (x : the_type.Type). type_in (type_view x)) ts)) c.deref-in-Struct.ensures.value c.in_ok-fields-in-Struct.ensures.are in
-    let made = fields_made type_view a c.in_ok-fields-in-Struct.fields c.in-Struct.fields.items are in
+    let are = subst (λ (ts : _). AreTypes a c.in_ok-fields-in-Struct.fields (map (λ (x : the_type.Type). type_in (type_view x)) ts)) (c.deref-in-Struct-2.ensures.value ∙ ap (λ (v : Vec the_type.Type). v.items) c.deref-in-Struct.ensures) c.in_ok-fields-in-Struct.ensures.are in
+    let made = fields_made type_view a c.in_ok-fields-in-Struct.fields c.in-Struct.fields.value.items are in
     let same = structs_stay _ _ c.in_ok-fields-in-Struct.ensures.grows in
     subst IsWithinLimits (sym (λ j. shape (same j) (struct c.in-Struct.packed (made j)))) can.0
 
@@ -131,12 +132,12 @@ add_written-returns-in_ok-element-in-Array-clause-within t c whole can old =
 pub add_written-returns-in_ok-fields-in-Struct-clause-within : goal.add_written-returns-in_ok-fields-in-Struct-clause-within
 add_written-returns-in_ok-fields-in-Struct-clause-within t c whole can old =
     let a = c.add_types.new.self.arena in
-    let is : type_in (type_view c.args.ty.now) ≡ struct c.in-Struct.packed (types_in (types (map type_view c.in-Struct.fields.items))) = search (rules, the_lemmas) in
+    let is : type_in (type_view c.args.ty.now) ≡ struct c.in-Struct.packed (types_in (types (map type_view c.in-Struct.fields.value.items))) = search (rules, the_lemmas) in
     let can_struct = subst (CanBe whole) is can in
-    let all = fields_can_be type_view whole c.in-Struct.fields.items can_struct.1 in
-    let each = subst (All (λ (x : the_type.Type). CanBe whole (type_in (type_view x)))) (sym c.deref-in-Struct.ensures.value) all in
-    let are = subst (λ (ts : _). AreTypes a c.in_ok-fields-in-Struct.fields (map (λ (x : the_type.Type). type_in (type_view x)) ts)) c.deref-in-Struct.ensures.value c.in_ok-fields-in-Struct.ensures.are in
-    let made = fields_made type_view a c.in_ok-fields-in-Struct.fields c.in-Struct.fields.items are in
+    let all = fields_can_be type_view whole c.in-Struct.fields.value.items can_struct.1 in
+    let each = subst (All (λ (x : the_type.Type). CanBe whole (type_in (type_view x)))) (sym (c.deref-in-Struct-2.ensures.value ∙ ap (λ (v : Vec the_type.Type). v.items) c.deref-in-Struct.ensures)) all in
+    let are = subst (λ (ts : _). AreTypes a c.in_ok-fields-in-Struct.fields (map (λ (x : the_type.Type). type_in (type_view x)) ts)) (c.deref-in-Struct-2.ensures.value ∙ ap (λ (v : Vec the_type.Type). v.items) c.deref-in-Struct.ensures) c.in_ok-fields-in-Struct.ensures.are in
+    let made = fields_made type_view a c.in_ok-fields-in-Struct.fields c.in-Struct.fields.value.items are in
     c.keep_type-in-Struct.ensures.within whole
     (subst IsWithinLimits (sym (λ j. shape whole (struct c.in-Struct.packed (made j)))) can_struct.0)
     (c.in_ok-fields-in-Struct.ensures.within whole each old)
