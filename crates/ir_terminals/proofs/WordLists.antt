@@ -1,5 +1,5 @@
 -- A word has one row at most, which its number leads to.
-use Rattle.std.proofs.Common.{◌≡◌, ℕ, zero, suc, ◌+◌, ◌<◌, ◌≤◌, ◌==◌, ◌&&◌, ◌^◌, Bool, true, false, cond, List, [], ◌∷◌, length, map, get_or, Option, Some, None, option_map, nat_lt, refl, sym, ap, ◌∙◌, arith, inl, inr, bytes_eq}
+use Rattle.std.proofs.Common.{◌≡◌, ℕ, zero, suc, ◌+◌, ◌-◌, ◌<◌, ◌≤◌, ◌==◌, ◌&&◌, ◌^◌, Bool, true, false, cond, List, [], ◌∷◌, length, take, drop, map, get_or, Option, Some, None, option_map, nat_lt, refl, sym, ap, ◌∙◌, arith, inl, inr, bytes_eq}
 use Rattle.std.proofs.Math.ListN.{get_or-map, length-map}
 use Rattle.std.proofs.lemmas.Bool.{ltb-true, and_parts}
 use Rattle.std.proofs.lemmas.Bool.Decides.{nat_tests}
@@ -8,10 +8,11 @@ use Rattle.std.proofs.lemmas.List.Folds.{list_all_at}
 use Rattle.std.proofs.lemmas.Map.Views.{exact_unsigned_eq}
 use Rattle.std.proofs.lemmas.Slice.Eq.{bytes_eq-Decides}
 use Rattle.std.specs.List.{list_all}
+use Rattle.ir_lexer.proofs.KnownRuns.{all_behind}
 use Rattle.ir_lexer.proofs.Runs.{bool_cases}
 use Rattle.ir_terminals.specs.Digits.{below}
 use Rattle.ir_terminals.specs.WordRows.{meaning_of, meanings_of, slot}
-use Rattle.ir_terminals.specs.Words.{Meaning, meaning_in, of_width, width_or, is_width, word_terminal, words_by_role}
+use Rattle.ir_terminals.specs.Words.{Meaning, meaning_in, of_width, width_in, width_or, is_width, word_terminal, words_by_role}
 use Rattle.ir_terminals.specs.declared.words.TheConstants.{ROWS}
 use Rattle.ir_terminals.specs.declared.words.Word.{Word}
 use Rattle.ir_terminals.specs.declared.terminal.Terminal.{Terminal}
@@ -128,3 +129,13 @@ empty_word = refl
 pub no_bytes : (s : List ℕ) → length s ≡ 0 → s ≡ []
 no_bytes [] h = refl
 no_bytes (b ∷ s) h = absurd (omega (arith, h))
+
+-- an `i` and the bytes behind it
+pub wide_word : (word : List ℕ) (o : Option Terminal) → 1 ≤ length word → get_or word 0 0 ≡ 105 → o ≡ option_map of_width (width_in (105 ∷ take (length word - 1) (drop 1 word))) → o ≡ option_map of_width (width_in word)
+wide_word [] o some is e = absurd (omega (arith, some))
+wide_word (b ∷ s) o some is e = let k : o ≡ option_map of_width (width_in (105 ∷ s)) = rw all_behind at e in rw is k
+
+-- what begins otherwise has no width
+pub no_width : (word : List ℕ) → 1 ≤ length word → (get_or word 0 0 == 105) ≡ false → None ≡ option_map of_width (width_in word)
+no_width [] some e = absurd (omega (arith, some))
+no_width (b ∷ s) some e = rw e refl

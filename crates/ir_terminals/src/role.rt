@@ -1,5 +1,5 @@
 //! What a token is, by its kind and its spelling.
-ghost use Rattle.std.specs.Prelude.{◌≡◌, option_map};
+ghost use Rattle.std.specs.Prelude.{◌≡◌, ◌∷◌, option_map};
 ghost use Rattle.ir_terminals.specs.Role.{marks, terminal};
 ghost use Rattle.ir_terminals.specs.Words.{meaning_in, of_width, width_in, width_or, word_terminal};
 ghost use Rattle.ir_terminals.specs.declared.terminal.Terminal.TheVariants.{Other};
@@ -20,18 +20,18 @@ fn width_terminal(width: Option<u64>) -> Terminal
     }
 }
 
-/// What the word is, if it is an `i` and digits.
-fn integer_type(word: &[u8]) -> Option<Terminal>
-    ensures { result ≡ option_map of_width (width_in word.now) }
+/// What an `i` is with these bytes behind it, if they are digits.
+fn integer_type(digits: &[u8]) -> Option<Terminal>
+    ensures { result ≡ option_map of_width (width_in (105 ∷ digits.now)) }
 {
-    match word {
+    match digits {
         // Nearly all that a text has are these.
-        b"i1" => Some(Terminal::IntegerType(1)),
-        b"i8" => Some(Terminal::IntegerType(8)),
-        b"i16" => Some(Terminal::IntegerType(16)),
-        b"i32" => Some(Terminal::IntegerType(32)),
-        b"i64" => Some(Terminal::IntegerType(64)),
-        [b'i', digits @ ..] if are_digits(digits) => Some(width_terminal(decimal_64(digits))),
+        b"1" => Some(Terminal::IntegerType(1)),
+        b"8" => Some(Terminal::IntegerType(8)),
+        b"16" => Some(Terminal::IntegerType(16)),
+        b"32" => Some(Terminal::IntegerType(32)),
+        b"64" => Some(Terminal::IntegerType(64)),
+        _ if are_digits(digits) => Some(width_terminal(decimal_64(digits))),
         _ => None,
     }
 }
@@ -40,11 +40,13 @@ fn integer_type(word: &[u8]) -> Option<Terminal>
 fn word_terminal(word: &[u8]) -> Terminal
     ensures { result ≡ word_terminal word.now }
 {
-    if let Some(terminal) = integer_type(word) {
-        return terminal;
-    }
-    if word.is_empty() {
+    let [first, behind @ ..] = word else {
         return Terminal::Other;
+    };
+    if *first == b'i' {
+        if let Some(terminal) = integer_type(behind) {
+            return terminal;
+        }
     }
     listed_terminal(word)
 }
