@@ -36,7 +36,7 @@ type_view = fold-Type TypeTree ArrayParts type_step array_step
 
 -- a constant, where those in it are trees already
 abbrev pub constant_step : open_constant.Constant-F ConstantTree TypedConstantTree → ConstantTree
-constant_step (open_constant.Integer integer) = IntegerConstant integer
+constant_step (open_constant.Integer negative place magnitude) = IntegerConstant (record { negative = negative; magnitude = magnitude; place = place })
 constant_step (open_constant.Simple simple place) = SimpleConstant simple place
 constant_step (open_constant.Global name) = AddressConstant name
 constant_step (open_constant.Bytes text) = BytesConstant text

@@ -3,7 +3,7 @@
 use crate::ty::Type;
 use ir_base::Place;
 use ir_tables::{Flags, Opcode};
-use ir_terminals::{Integer, PlacedName, PlacedText};
+use ir_terminals::{Number, PlacedName, PlacedText};
 
 /// A constant that is one word (LangRef, "Simple Constants", "Undefined Values" and "Poison Values").
 ///
@@ -55,8 +55,8 @@ pub enum Brackets {
 #[derive(Drop)]
 #[cycle(constants)]
 pub enum Constant {
-    /// An integer.
-    Integer(Integer),
+    /// An integer: whether it has a minus, the place of its first byte, and its magnitude.
+    Integer(bool, Place, Number),
     /// A constant that is one word.
     Simple(Simple, Place),
     /// The address of a variable or a function.

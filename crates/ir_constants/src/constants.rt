@@ -11,7 +11,7 @@ ghost use Rattle.ir_terminals.specs.Follows.{Follows};
 use crate::constant::{Brackets, Constant, Simple, TypedConstant};
 use crate::expressions::expression;
 use crate::types::{begins_type, type_of};
-use ir_terminals::{Cursor, Fault, Terminal};
+use ir_terminals::{Cursor, Fault, Integer, Terminal};
 
 /// The constant that a word is by itself.
 fn simple_word(terminal: Terminal) -> Option<Simple>
@@ -70,7 +70,12 @@ fn simple_constant(cursor: &mut Cursor) -> Result<Constant, Fault>
 pub fn integer_constant(cursor: &mut Cursor) -> Result<Constant, Fault>
     ensures { Follows (λ _. integer_constant_row) constant_view cursor.old result cursor.new }
 {
-    Ok(Constant::Integer(cursor.integer()?))
+    let Integer {
+        negative,
+        magnitude,
+        place,
+    } = cursor.integer()?;
+    Ok(Constant::Integer(negative, place, magnitude))
 }
 
 /// `TYPE CONST`, the constant nested no more than so deep.

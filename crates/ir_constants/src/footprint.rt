@@ -8,10 +8,10 @@ const _: () = prove!(size_of::<Type>() == 32);
 
 const _: () = prove!(size_of::<ArrayType>() == 64);
 
-const _: () = prove!(size_of::<Constant>() == 40);
+const _: () = prove!(size_of::<Constant>() == 32);
 
-const _: () = prove!(size_of::<TypedConstant>() == 72);
+const _: () = prove!(size_of::<TypedConstant>() == 64);
 
-const _: () = prove!(size_of::<WrittenValue>() == 48);
+const _: () = prove!(size_of::<WrittenValue>() == 40);
 
-const _: () = prove!(size_of::<TypedValue>() == 80);
+const _: () = prove!(size_of::<TypedValue>() == 72);

@@ -13,18 +13,18 @@ const _: () = prove!(size_of::<WrittenEnding>() == 40);
 
 const _: () = prove!(size_of::<WrittenBlock>() == 104);
 
-const _: () = prove!(size_of::<WrittenCase>() == 104);
+const _: () = prove!(size_of::<WrittenCase>() == 96);
 
-const _: () = prove!(size_of::<WrittenIncoming>() == 80);
+const _: () = prove!(size_of::<WrittenIncoming>() == 72);
 
-const _: () = prove!(size_of::<Operands>() == 128);
+const _: () = prove!(size_of::<Operands>() == 112);
 
-const _: () = prove!(size_of::<WrittenChoice>() == 240);
+const _: () = prove!(size_of::<WrittenChoice>() == 216);
 
-const _: () = prove!(size_of::<Load>() == 152);
+const _: () = prove!(size_of::<Load>() == 144);
 
-const _: () = prove!(size_of::<Store>() == 200);
+const _: () = prove!(size_of::<Store>() == 184);
 
 const _: () = prove!(size_of::<Alloca>() == 88);
 
-const _: () = prove!(size_of::<WrittenCall>() == 144);
+const _: () = prove!(size_of::<WrittenCall>() == 136);

@@ -4,7 +4,7 @@ use std::mem::size_of;
 
 const _: () = prove!(size_of::<Item>() == 64);
 
-const _: () = prove!(size_of::<WrittenVariable>() == 152);
+const _: () = prove!(size_of::<WrittenVariable>() == 144);
 
 const _: () = prove!(size_of::<WrittenAlias>() == 128);
 

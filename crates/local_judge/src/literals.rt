@@ -3,23 +3,18 @@
 
 ghost use Rattle.std.specs.Prelude.{◌≡◌, ◌≤◌, ◌^◌, nat_lt, true};
 ghost use Rattle.ir_constants.specs.View.{type_view, constant_view};
-ghost use Rattle.name_rules.specs.Demand.{fits};
 ghost use Rattle.name_rules.specs.TypeDemands.{Known, constant_demands};
 ghost use Rattle.name_rules.specs.Written.{type_in, bits_at};
-ghost use Rattle.local_judge.specs.Literals.{short_of, Hold};
+ghost use Rattle.local_judge.specs.Literals.{short_of, fits_in, Hold};
 
 use ir_constants::{Constant, Type};
-use ir_terminals::Integer;
+use ir_terminals::Number;
 
 /// The magnitude, where the integer is not negative and below 2^64.
-fn short_of(written: &Integer) -> Option<u64>
-    ensures { result ≡ short_of written.now }
+fn short_of(negative: bool, magnitude: &Number) -> Option<u64>
+    ensures { result ≡ short_of negative magnitude.now }
 {
-    if written.negative {
-        None
-    } else {
-        written.magnitude.to_u64()
-    }
+    if negative { None } else { magnitude.to_u64() }
 }
 
 /// Whether a number has at most so many bits, of which there are at most 64.
@@ -30,25 +25,25 @@ fn is_within(bits: u8, number: u64) -> bool
     bits == 64 || number < 1u64 << bits
 }
 
-/// Whether a look tells that the integer fits so many bits.
-fn is_short(bits: u8, written: &Integer) -> bool
-    ensures { result ≡ true → fits bits written.now ≡ true }
+/// Whether a look tells that the integer of that sign and magnitude fits so many bits.
+fn is_short(bits: u8, negative: bool, magnitude: &Number) -> bool
+    ensures { result ≡ true → fits_in bits negative magnitude.now ≡ true }
 {
     if bits > 64 {
         return false;
     }
-    match short_of(written) {
+    match short_of(negative, magnitude) {
         Some(number) => is_within(bits, number),
         None => false,
     }
 }
 
-/// Whether a look tells that the integer fits the type.
-fn is_short_at(ty: &Type, written: &Integer) -> bool
-    ensures { result ≡ true → fits (bits_at (type_in (type_view ty.now))) written.now ≡ true }
+/// Whether a look tells that the integer of that sign and magnitude fits the type.
+fn is_short_at(ty: &Type, negative: bool, magnitude: &Number) -> bool
+    ensures { result ≡ true → fits_in (bits_at (type_in (type_view ty.now))) negative magnitude.now ≡ true }
 {
     match ty {
-        Type::Integer(_, width) => is_short(*width, written),
+        Type::Integer(_, width) => is_short(*width, negative, magnitude),
         _ => false,
     }
 }
@@ -58,7 +53,7 @@ pub(crate) fn is_literal(constant: &Constant, ty: &Type) -> bool
     ensures { (known : Known) → result ≡ true → Hold (constant_demands known (type_in (type_view ty.now)) (constant_view constant.now)) }
 {
     match constant {
-        Constant::Integer(written) => is_short_at(ty, written),
+        Constant::Integer(negative, _, magnitude) => is_short_at(ty, *negative, magnitude),
         _ => false,
     }
 }

@@ -1,5 +1,5 @@
 -- For `add_typed` of `Builder`: constants with the types that are written before them, as lists.
-use Rattle.std.specs.Prelude.{◌≡◌, ℕ, List, [], ◌∷◌}
+use Rattle.std.specs.Prelude.{◌≡◌, ℕ, ◌-◌, ◌%◌, ◌^◌, Bool, if◌then◌else◌, List, [], ◌∷◌}
 use Rattle.ir_tables.specs.declared.opcode.Opcode.{Opcode}
 use Rattle.module_arena.specs.declared.constant.Const.{Const}
 use Rattle.module_arena.specs.declared.constant.Const.TheVariants as const
@@ -21,6 +21,12 @@ constants_listed (c ∷ cs) = more_constants c.0 c.1 (constants_listed cs)
 -- a constant of two others
 abbrev pub pair_of : Opcode → ℕ → Tree × Constant → Tree × Constant → Constant
 pair_of opcode flags left right = Constant.Binary opcode flags left.0 left.1 right.0 right.1
+
+-- an integer of that sign and magnitude, modulo 2^bits
+abbrev pub reduced_to : ℕ → Bool → ℕ → ℕ
+reduced_to bits negative magnitude =
+    if negative then (2 ^ bits - magnitude % 2 ^ bits) % 2 ^ bits
+    else magnitude % 2 ^ bits
 
 -- a constant that has no other in it
 abbrev pub IsSimple : Const → Constant → Type 0

@@ -4,18 +4,18 @@ ghost use Rattle.ir_constants.specs.View.{type_view, constant_view, typed_consta
 ghost use Rattle.type_table.specs.Types.{trees, structs};
 ghost use Rattle.module_arena.specs.Module as m;
 ghost use Rattle.module_arena.specs.View.{brackets_view, type_at};
-ghost use Rattle.name_rules.specs.Written.{type_in, constant_in, bits_at, modulo, simple_at, brackets_in};
+ghost use Rattle.name_rules.specs.Written.{type_in, constant_in, bits_at, simple_at, brackets_in};
 ghost use Rattle.type_build.specs.Fitting.{CanBe};
 ghost use Rattle.type_build.specs.Holding.{entries, HasEntry, CanHold, CanHoldTyped};
 ghost use Rattle.type_build.specs.Stands.{IsConstant, IsKnownTyped, AreKnown, typed_at, AreTyped, IsTyped, Grows};
-ghost use Rattle.type_build.specs.Typed.{typed_in, constants_listed, pair_of, IsSimple};
+ghost use Rattle.type_build.specs.Typed.{typed_in, constants_listed, pair_of, reduced_to, IsSimple};
 
 use crate::builder::Builder;
 use crate::integers::reduced;
 use ir_base::ItemList;
 use ir_constants::{Brackets, Constant, Simple, Type, TypedConstant};
 use ir_tables::{Flags, Opcode, WIDEST};
-use ir_terminals::{Integer, PlacedName};
+use ir_terminals::{Number, PlacedName};
 use module_arena::{Boxed, Const, ConstAddress, ConstId, ConstPair, TypedConst, TypedConstList};
 use std::alloc::{AllocError, Global};
 use type_table::TypeId;
@@ -74,7 +74,7 @@ impl Builder {
             IsConstant self.new.arena id (constant_in (type_in (type_view ty.now)) (constant_view constant.now))) }
     {
         match constant {
-            Constant::Integer(integer) => self.add_number(ty, integer),
+            Constant::Integer(negative, _, magnitude) => self.add_number(ty, *negative, magnitude),
             _ => self.add_written_constant(alloc, constant, ty),
         }
     }
@@ -95,7 +95,7 @@ impl Builder {
             IsConstant self.new.arena id (constant_in (type_in (type_view ty.now)) (constant_view constant.now))) }
     {
         match constant {
-            Constant::Integer(integer) => self.add_number(ty, integer),
+            Constant::Integer(negative, _, magnitude) => self.add_number(ty, *negative, magnitude),
             Constant::Simple(word, _) => self.keep_constant(alloc, simple_const(ty, *word)),
             Constant::Global(name) => self.add_address(alloc, name),
             Constant::Bytes(text) => {
@@ -124,14 +124,19 @@ impl Builder {
         }
     }
 
-    fn add_number(&mut self, ty: &Type, integer: &Integer) -> Result<ConstId, AllocError>
+    fn add_number(
+        &mut self,
+        ty: &Type,
+        negative: bool,
+        magnitude: &Number,
+    ) -> Result<ConstId, AllocError>
         requires ty { CanBe (structs self.old.arena.table) (type_in (type_view ty.now)) }
-        requires magnitude { integer.now.magnitude < 2 ^ WIDEST }
+        requires magnitude { magnitude.now < 2 ^ WIDEST }
         ensures grows { OnOk result (Grows self.old.arena self.new.arena) }
         ensures is { IfOk result (λ id.
-            IsConstant self.new.arena id (m.Integer (modulo (bits_at (type_in (type_view ty.now))) integer.now))) }
+            IsConstant self.new.arena id (m.Integer (reduced_to (bits_at (type_in (type_view ty.now))) negative magnitude.now))) }
     {
-        let number = reduced(bits_of(ty), integer);
+        let number = reduced(bits_of(ty), negative, magnitude);
         self.keep_number(number)
     }
 

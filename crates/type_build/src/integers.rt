@@ -1,10 +1,11 @@
 //! Integers, as a text writes them, at their places.
 ghost use Rattle.std.specs.Prelude.{◌≡◌, ◌<◌, ◌≤◌, ◌^◌};
 ghost use Rattle.module_arena.specs.declared.arena.TheConstants.{INDEX_LIMIT};
-ghost use Rattle.name_rules.specs.Written.{natural, modulo};
+ghost use Rattle.name_rules.specs.Written.{natural};
+ghost use Rattle.type_build.specs.Typed.{reduced_to};
 
 use ir_tables::WIDEST;
-use ir_terminals::Integer;
+use ir_terminals::{Integer, Number};
 
 /// What an integer that is not negative stands for, in 64 bits.
 pub(crate) fn length_of(written: &Integer) -> u64
@@ -25,15 +26,15 @@ pub fn index_of(written: &Integer) -> u32
     length_of(written) as u32
 }
 
-/// The integer modulo 2^bits.
-pub(crate) fn reduced(bits: u8, written: &Integer) -> u128
+/// The integer of that sign and magnitude, modulo 2^bits.
+pub(crate) fn reduced(bits: u8, negative: bool, number: &Number) -> u128
     requires bits { bits ≤ WIDEST }
-    requires magnitude { written.now.magnitude < 2 ^ WIDEST }
-    ensures { result ≡ modulo bits written.now }
+    requires magnitude { number.now < 2 ^ WIDEST }
+    ensures { result ≡ reduced_to bits negative number.now }
 {
-    let magnitude = written.magnitude.to_u128().unwrap();
+    let magnitude = number.to_u128().unwrap();
     if bits == WIDEST {
-        return if written.negative && magnitude > 0 {
+        return if negative && magnitude > 0 {
             u128::MAX - magnitude + 1
         } else {
             magnitude
@@ -41,7 +42,7 @@ pub(crate) fn reduced(bits: u8, written: &Integer) -> u128
     }
     let modulus = 1u128 << bits;
     let rest = magnitude % modulus;
-    if written.negative && rest > 0 {
+    if negative && rest > 0 {
         modulus - rest
     } else {
         rest

@@ -40,7 +40,9 @@ pub fn check_constant(
     ensures { IsJudged (constant_demands (known_of known.now) (type_in (type_view ty.now)) (constant_view constant.now)) result }
 {
     match constant {
-        Constant::Integer(written) => check_integer(bits_at(ty), written),
+        Constant::Integer(negative, place, magnitude) => {
+            check_integer(bits_at(ty), *negative, *place, magnitude)
+        }
         Constant::Simple(_, _) | Constant::Bytes(_) => Ok(()),
         Constant::Global(name) => check_global(alloc, known, name),
         Constant::List(_, _, elements) => check_constants(alloc, known, elements),

@@ -1,13 +1,14 @@
 //! Judges integers as they are written: constants, alignments, indices and lengths.
 #![tactic(auto, using(crate::proofs::Parts::judged_front, crate::proofs::Parts::judged_rest, crate::proofs::Parts::judged_stop, crate::proofs::Parts::judged_next))]
 
-ghost use Rattle.std.specs.Prelude.{◌≡◌, ◌≤◌, [], ◌∷◌, ◌&&◌, ◌||◌, not, nat_lt, nat_le, map, OnOk, Some, None};
+ghost use Rattle.std.specs.Prelude.{◌≡◌, ◌≤◌, ◌-◌, ◌^◌, [], ◌∷◌, ◌&&◌, ◌||◌, if◌then◌else◌, not, nat_lt, nat_le, map, OnOk, Some, None};
 ghost use Rattle.module_arena.specs.declared.arena.TheConstants.{INDEX_LIMIT};
-ghost use Rattle.name_rules.specs.Demand.{is_natural, fits, integer_fits, is_index, is_length};
+ghost use Rattle.name_rules.specs.Demand.{is_natural, integer_fits, is_index, is_length};
 ghost use Rattle.name_rules.specs.FunctionDemands.{index_demands, alignment_demands};
 ghost use Rattle.type_judge.specs.Judging.{IsJudged};
 
 use crate::asking::ask;
+use ir_base::Place;
 use ir_tables::WIDEST;
 use ir_terminals::{Integer, Number};
 use name_rules::ResolveFault;
@@ -32,31 +33,36 @@ fn is_natural(written: &Integer) -> bool
     is_at_most(&written.magnitude, 0)
 }
 
-/// Whether the integer is from -2^(bits-1) to 2^bits - 1, where there are from 1 to 128 bits.
-fn fits(bits: u8, written: &Integer) -> bool
+/// Whether the integer of that sign and magnitude is from -2^(bits-1) to 2^bits - 1, where there are from 1 to 128 bits.
+fn fits(bits: u8, negative: bool, number: &Number) -> bool
     requires { bits ≤ WIDEST }
-    ensures { result ≡ fits bits written.now }
+    ensures { result ≡ (if negative then nat_le number.now (2 ^ (bits - 1)) else nat_lt number.now (2 ^ bits)) }
 {
-    let Some(magnitude) = written.magnitude.to_u128() else {
+    let Some(magnitude) = number.to_u128() else {
         return false;
     };
-    if written.negative {
+    if negative {
         magnitude <= 1u128 << bits.saturating_sub(1)
     } else {
         bits == WIDEST || magnitude < 1u128 << bits
     }
 }
 
-/// A constant of so many bits.
-pub fn check_integer(bits: u8, written: &Integer) -> Result<(), ResolveFault>
-    ensures { IsJudged (integer_fits bits written.now ∷ []) result }
+/// A constant of so many bits, of that sign and magnitude.
+pub fn check_integer(
+    bits: u8,
+    negative: bool,
+    place: Place,
+    magnitude: &Number,
+) -> Result<(), ResolveFault>
+    ensures { IsJudged (integer_fits bits (record { negative = negative; magnitude = magnitude.now; place = place }) ∷ []) result }
 {
     if bits > WIDEST {
         return Err(ResolveFault::Memory);
     }
     ask(
-        fits(bits, written),
-        ResolveFault::ConstantRange(written.place),
+        fits(bits, negative, magnitude),
+        ResolveFault::ConstantRange(place),
     )
 }
 

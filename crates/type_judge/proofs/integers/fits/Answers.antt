@@ -27,10 +27,10 @@ not_lt a b h = by (nat_lt a b) refl
     by false e = refl
 
 pub returns-in_default : goal.returns-in_default
-returns-in_default c = by c.args.written.now.negative
+returns-in_default c = by c.args.negative
   where
-    large : 2 ^ 128 ≤ c.args.written.now.magnitude
-    large = past c.args.written.now.magnitude (sym c.in_default.ensures)
+    large : 2 ^ 128 ≤ c.args.number.now
+    large = past c.args.number.now (sym c.in_default.ensures)
 
     power : (k : ℕ) → k ≤ 128 → 2 ^ k ≤ 2 ^ 128
     power k h = pow-le-pow_right (omega arith) h
@@ -38,6 +38,6 @@ returns-in_default c = by c.args.written.now.negative
     less : (k : ℕ) → k ≤ 127 → 2 ^ k ≤ 2 ^ 127
     less k h = pow-le-pow_right (omega arith) h
 
-    by : (b : Bool) → false ≡ (if b then nat_le c.args.written.now.magnitude (2 ^ (c.args.bits - 1)) else nat_lt c.args.written.now.magnitude (2 ^ c.args.bits))
-    by true = let p = less (c.args.bits - 1) (omega (arith, c.requires)) in not_le c.args.written.now.magnitude (2 ^ (c.args.bits - 1)) (omega (arith, p, large))
-    by false = let p = power c.args.bits c.requires in not_lt c.args.written.now.magnitude (2 ^ c.args.bits) (omega (arith, p, large))
+    by : (b : Bool) → false ≡ (if b then nat_le c.args.number.now (2 ^ (c.args.bits - 1)) else nat_lt c.args.number.now (2 ^ c.args.bits))
+    by true = let p = less (c.args.bits - 1) (omega (arith, c.requires)) in not_le c.args.number.now (2 ^ (c.args.bits - 1)) (omega (arith, p, large))
+    by false = let p = power c.args.bits c.requires in not_lt c.args.number.now (2 ^ c.args.bits) (omega (arith, p, large))
