@@ -61,6 +61,7 @@ impl Outline {
     /// The summary, behind all entries.
     pub fn sum_up<S: Sink>(&mut self, sink: &mut S) -> Result<(), DumpFault>
         ensures told { Spilled (summary self.old.tally) (S.taken sink.old) self.old.text (S.taken sink.new) self.new.text result }
+        ensures rest { self.new ≡ record self.old { text = self.new.text } }
         ensures counted { Counted (S.faults sink.old) (S.faults sink.new) result }
     {
         self.tally.tell_summary(&mut self.text, sink)
