@@ -17,7 +17,7 @@ use Rattle.module_arena.specs.Known.{AreDistinct, IsGood, KnowsBody}
 use Rattle.module_arena.specs.Lists.{Lists, name_at, no_lists}
 use Rattle.module_arena.specs.Module as m
 use Rattle.module_arena.specs.View.{alias_view, body_view, constants_of, function_view, local_view, variable_view}
-use Rattle.record_table.specs.Faults.{Records, a_block, a_record, no_more, records as records_of}
+use Rattle.record_table.specs.Faults.{Records, a_block, a_record, no_more, records as records_of, types_id}
 use Rattle.record_table.specs.Fields.{Numbering, Texts}
 use Rattle.record_table.specs.Records as records
 use Rattle.record_table.specs.TypeRecords.{names_in}
@@ -226,7 +226,7 @@ pub record IsTypesBegun (texts : Texts) (left : List Piece) (known : ModuleAhead
 
 -- the same, if the block is of types and they may stand there
 abbrev pub MayBeTypes : ℕ → Texts → Sofar → List Piece → ModuleAhead → Type 0
-MayBeTypes id texts b left known = nat_eq id 17 ≡ true → records.may_follow b.last 5 ≡ true → IsTypesBegun texts left known
+MayBeTypes id texts b left known = nat_eq id types_id ≡ true → records.may_follow b.last 5 ≡ true → IsTypesBegun texts left known
 
 -- what is known ahead of the body that is the next, where something is
 abbrev pub IsNextCounts : Sofar → LocalCounts → Type 0

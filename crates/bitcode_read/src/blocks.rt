@@ -6,7 +6,7 @@ ghost use Rattle.type_table.specs.Types as tables;
 ghost use Rattle.module_arena.specs.declared.entry.Function.{Function};
 ghost use Rattle.module_arena.specs.Known.{AreDistinct, IsGood};
 ghost use Rattle.bit_stream.specs.declared.reader.TheConstants.{LARGEST_STREAM};
-ghost use Rattle.record_table.specs.Faults.{Records, records as records_of};
+ghost use Rattle.record_table.specs.Faults.{Records, body_id, records as records_of, types_id};
 ghost use Rattle.record_table.specs.Records as records;
 ghost use Rattle.record_read.specs.declared.fault.BitcodeFault.TheVariants as fault;
 ghost use Rattle.record_read.specs.Entries.{IsInBlock};
@@ -55,7 +55,7 @@ fn read_types_block(
     requires room { HasRoom sofar.old }
     ensures room { OnOk result (HasRoom sofar.new) }
     ensures reads { (tree : StreamTree) → Stream bytes.now tree → records.may_follow sofar.old.last 5 ≡ true
-        → ReadsBlock (texts_of texts.now) (first_module (records_of tree)) m.old sofar.old known.old 17 result m.new sofar.new known.new }
+        → ReadsBlock (texts_of texts.now) (first_module (records_of tree)) m.old sofar.old known.old types_id result m.new sofar.new known.new }
 {
     let gathered = mem::replace(&mut known.named, Arena::new(m.alloc));
     let mut arena = name_structs(m.alloc, gathered, known.structs)?;
@@ -104,7 +104,7 @@ fn read_next_body(
     requires room { HasRoom sofar.old }
     requires due { due_at sofar.old.defined.items (length sofar.old.bodies.items) 0 ≡ Some number }
     ensures room { OnOk result (HasRoom sofar.new) }
-    ensures reads { (all : Records) (known : the_ahead.ModuleAhead) → records.may_follow sofar.old.last 9 ≡ true → ReadsBlock (texts_of texts.now) all m.old sofar.old known 12 result m.new sofar.new known }
+    ensures reads { (all : Records) (known : the_ahead.ModuleAhead) → records.may_follow sofar.old.last 9 ≡ true → ReadsBlock (texts_of texts.now) all m.old sofar.old known body_id result m.new sofar.new known }
 {
     let parameters = parameters_of(m.growing.arena(), number)?;
     m.locals = counts_ahead(sofar);
@@ -138,7 +138,7 @@ fn read_body_block(
     requires begun { IsInBlock m.old.reader.left }
     requires room { HasRoom sofar.old }
     ensures room { OnOk result (HasRoom sofar.new) }
-    ensures reads { (all : Records) (known : the_ahead.ModuleAhead) → records.may_follow sofar.old.last 9 ≡ true → ReadsBlock (texts_of texts.now) all m.old sofar.old known 12 result m.new sofar.new known }
+    ensures reads { (all : Records) (known : the_ahead.ModuleAhead) → records.may_follow sofar.old.last 9 ≡ true → ReadsBlock (texts_of texts.now) all m.old sofar.old known body_id result m.new sofar.new known }
 {
     match number_at(&sofar.numbers, sofar.bodies.len()) {
         Some(number) => read_next_body(m, texts, sofar, number),
@@ -148,14 +148,14 @@ fn read_body_block(
 
 /// Whether types may stand behind what stands at that place.
 fn takes_types(id: u32, last: u8) -> bool
-    ensures { result ≡ (nat_eq id 17 && records.may_follow last 5) }
+    ensures { result ≡ (nat_eq id types_id && records.may_follow last 5) }
 {
     id == TYPES_BLOCK && ModulePart::Types.may_follow(last)
 }
 
 /// Whether a body may.
 fn takes_body(id: u32, last: u8) -> bool
-    ensures { result ≡ (nat_eq id 12 && records.may_follow last 9) }
+    ensures { result ≡ (nat_eq id body_id && records.may_follow last 9) }
 {
     id == BODY_BLOCK && ModulePart::Body.may_follow(last)
 }

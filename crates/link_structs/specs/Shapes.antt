@@ -1,6 +1,7 @@
 -- For `struct_number` of `ShapeWalk`: the shapes of a table's types and structs, and numbers of shapes.
 use Rattle.std.specs.Prelude.{◌≡◌, ℕ, Bool, List, [], ◌∷◌, Option, Some, None, slice_get, slice_index_or}
 use Rattle.std.specs.Option.{option_map}
+use Rattle.type_table.specs.declared.measure.TheConstants.{NESTING_LIMIT}
 use Rattle.type_table.specs.Shape.{Label, Shape, all_expanded, name_shape, named_shape, struct_of}
 use Rattle.type_table.specs.Tree.{TreeBody, body_of, named}
 use Rattle.type_table.specs.Types.{Types, bodies, names, structs, tree, tree_body, trees, trees_at}
@@ -34,4 +35,4 @@ struct_tree t id = tree_body (trees t) (slice_index_or (bodies t) id None)
 
 -- the shape of a struct with these fields, with a name or none, and with the names of the structs in it
 abbrev pub fields_shape : Types → Label → Bool → List ℕ → Option Shape
-fields_shape t l packed fields = option_map (struct_of l packed) (all_expanded (name_shape (λ m. Some m) (body_of (structs t)) 64) (trees_at (trees t) fields))
+fields_shape t l packed fields = option_map (struct_of l packed) (all_expanded (name_shape (λ m. Some m) (body_of (structs t)) NESTING_LIMIT) (trees_at (trees t) fields))

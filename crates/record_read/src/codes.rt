@@ -24,8 +24,11 @@ const FLAGS: [Flag; 9] = [
     Flag::Volatile,
 ];
 
+/// How many alignments have a code.
+const ALIGNMENT_COUNT: usize = 18;
+
 /// The alignments by their codes: none, and the powers of two up to 65,536.
-const ALIGNMENTS: [Option<u32>; 18] = [
+const ALIGNMENTS: [Option<u32>; ALIGNMENT_COUNT] = [
     None,
     Some(1),
     Some(2),
@@ -143,8 +146,8 @@ pub fn read_alignment(reader: &mut RecordReader<'_>) -> Option<u32>
     ensures { Reads fields.alignment reader.old reader.new result }
 {
     let number = reader.number();
-    reader.ask(7, number < 18);
-    if number < 18 {
+    reader.ask(7, number < ALIGNMENT_COUNT as u64);
+    if number < ALIGNMENT_COUNT as u64 {
         ALIGNMENTS[number as usize]
     } else {
         None

@@ -1,6 +1,6 @@
 -- For `write` and `read` of bitcode: constants as operands. Their types are known: a record writes a type only where the
 -- constants around do not give it.
-use Rattle.std.specs.Prelude.{ℕ, zero, suc, ◌+◌, ◌*◌, ◌/◌, ◌%◌, ◌^◌, nat_eq, nat_le, nat_lt, Bool, true, false, List, [], ◌∷◌, ◌++◌, length, find, Option, Some, None, if◌then◌else◌}
+use Rattle.std.specs.Prelude.{ℕ, zero, suc, ◌+◌, ◌-◌, ◌*◌, ◌/◌, ◌%◌, ◌^◌, nat_eq, nat_le, nat_lt, Bool, true, false, List, [], ◌∷◌, ◌++◌, length, find, Option, Some, None, if◌then◌else◌}
 use Rattle.ir_tables.specs.declared.opcode.Opcode.{Opcode}
 use Rattle.ir_tables.specs.declared.opcode.Opcode.TheVariants.{Add, Sub, Xor, Trunc, PtrToInt, IntToPtr, GetElementPtr}
 use Rattle.ir_tables.specs.Opcode.{opcode_code}
@@ -254,7 +254,7 @@ module _ (k : Numbering) where
   -- a value: 0 and the index of a local, or a constant
   unfoldable pub value_by : Tree → ℕ → Walk → Value × Walk
   value_by t zero w = let x = (local k).read w in (Local x.0, x.1)
-  value_by t (suc code) w = let c = by_code (Some (read_nested 63)) (suc code) t w in (Known c.0, c.1)
+  value_by t (suc code) w = let c = by_code (Some (read_nested (NESTING_LIMIT - 1))) (suc code) t w in (Known c.0, c.1)
 
   -- how a value of a type is spelled
   abbrev pub value_spell : Tree → Value → List ℕ

@@ -2,6 +2,7 @@
 -- and what every module keeps of the names, indices and limits in them.
 use Rattle.std.specs.Prelude.{◌≡◌, ℕ, zero, suc, ◌^◌, nat_lt, true, length, [], bytes_eq, ⊤}
 use Rattle.ir_tables.specs.declared.opcode.Opcode.TheVariants.{GetElementPtr}
+use Rattle.type_table.specs.declared.measure.TheConstants.{NESTING_LIMIT}
 use Rattle.type_table.specs.Tree.{Tree, int, ptr, void, array, struct, named}
 use Rattle.module_arena.specs.Module.{Value, Local, Known, Operand, Constant, Integer, Truth, Null, Undef, Poison, ZeroInitializer, Address, ByteString, Aggregate, ElementAddress, Cast, Binary, Constants, no_constants, more_constants}
 use Rattle.module_arena.specs.TypeTests.{is_pointer}
@@ -63,7 +64,7 @@ module _ (k : Numbering) where
   -- a value of that type. Of a local no record says its type
   abbrev pub ValueFits : Tree → Value → Type 0
   ValueFits t (Local name) = IsLocal k name
-  ValueFits t (Known c) = Fits c 64 t
+  ValueFits t (Known c) = Fits c NESTING_LIMIT t
 
   -- a type of the module, and a value of it
   abbrev pub OperandFits : Operand → Type 0

@@ -3,6 +3,7 @@
 use Rattle.std.specs.Prelude.{◌≡◌, ℕ, nat_lt, Bool, true, false, List, [], ◌∷◌, Option, Some, None, ⊤}
 use Rattle.std.specs.List.{AllByRecursion}
 use Rattle.ir_tables.specs.declared.opcode.Opcode.TheVariants as op
+use Rattle.type_table.specs.declared.measure.TheConstants.{NESTING_LIMIT}
 use Rattle.type_table.specs.Tree.{Tree, int, ptr}
 use Rattle.module_arena.specs.Module.{LocalName, Operand, Incoming, Operation, BinaryOperation, Compare, Convert, Select, Freeze, Phi, Load, Store, Alloca, GetElementPtr, Call, ExtractValue, InsertValue, Instruction, Case, Ending, ReturnVoid, Return, Jump, Branch, Switch, Unreachable}
 use Rattle.module_arena.specs.TypeTests.{is_void}
@@ -68,7 +69,7 @@ module _ (k : Numbering) where
 
   -- a constant of the type and a block
   abbrev pub CaseFits : Tree → Case → Type 0
-  CaseFits t c = (c.ty ≡ t) × Fits k c.value 64 t × IsBlock k c.target
+  CaseFits t c = (c.ty ≡ t) × Fits k c.value NESTING_LIMIT t × IsBlock k c.target
 
   -- an end
   abbrev pub EndingFits : Ending → Type 0

@@ -1,5 +1,6 @@
 -- For `write` and `read` of bitcode: the laws of constants and lines as operands.
 use Rattle.std.specs.Prelude.{◌≡◌, ℕ, List, ◌++◌, None}
+use Rattle.type_table.specs.declared.measure.TheConstants.{NESTING_LIMIT}
 use Rattle.type_table.specs.Tree.{Tree}
 use Rattle.module_arena.specs.Module.{Instruction, Ending}
 use Rattle.record_table.specs.Walk.{going}
@@ -13,7 +14,7 @@ use Rattle.record_table.specs.FittingLines.{InstructionFits, EndingFits}
 
 -- a constant that fits its type is read of what it spells
 abbrev pub ConstantsAreReadBack : Type 0
-ConstantsAreReadBack = (k : Numbering) (t : Tree) → Lays (λ c. Fits k c 64 t) (constant k t)
+ConstantsAreReadBack = (k : Numbering) (t : Tree) → Lays (λ c. Fits k c NESTING_LIMIT t) (constant k t)
 
 -- and so is a value
 abbrev pub ValuesAreReadBack : Type 0
