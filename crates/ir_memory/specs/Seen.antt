@@ -64,11 +64,15 @@ abbrev pub of_number : Leaf → Option ℕ → Scalar
 of_number (leaf.Int width) number = integer width number
 of_number leaf.Ptr number = pointer None number
 
+-- the block of that number is live
+abbrev pub IsLiveAt : List KeptBlock → ℕ → Type 0
+IsLiveAt kept index = (d : KeptBlock) → (slice_index_or kept index d).live ≡ true
+
 -- so many bytes from a place on are bytes of a live block
 pub record IsRoom (kept : List KeptBlock) (place : BlockPlace) (count : ℕ) : Type 0 where
   pub index : place.index < length kept
   pub within : (d : KeptBlock) → place.offset + count ≤ (slice_index_or kept place.index d).size
-  pub live : (d : KeptBlock) → (slice_index_or kept place.index d).live ≡ true
+  pub live : IsLiveAt kept place.index
 
 -- blocks are placed, each has as many bytes as its size, no piece stands from the next address on, and none where
 -- a block is not marked as mixed

@@ -1,10 +1,10 @@
 //! The checks of an access, in their order.
-ghost use Rattle.std.specs.Prelude.{◌≡◌, ℕ, ◌+◌, ◌%◌, ◌<◌, ◌≤◌, ◌&&◌, not, nat_eq, is_some, Bool, IfSome, IfOk, Ok, Some, length, true, slice_index_or};
+ghost use Rattle.std.specs.Prelude.{◌≡◌, ℕ, ◌+◌, ◌%◌, ◌<◌, ◌≤◌, ◌&&◌, not, nat_eq, is_some, Bool, IfSome, IfOk, Ok, Some, length, slice_index_or};
 ghost use Rattle.ir_eval.specs.declared.value.Scalar.TheVariants.{Ptr};
 ghost use Rattle.ir_memory.specs.Memory as of;
 ghost use Rattle.ir_memory.specs.Kept.{IsPlaced};
 ghost use Rattle.ir_memory.specs.Given.{IsKnown, IsAddress, IsAlignment};
-ghost use Rattle.ir_memory.specs.Seen.{at, all_seen, IsRoom, IsSound};
+ghost use Rattle.ir_memory.specs.Seen.{at, all_seen, IsLiveAt, IsRoom, IsSound};
 ghost use Rattle.ir_memory.specs.declared.kept.KeptBlock.{KeptBlock as Kept};
 ghost use Rattle.ir_memory.specs.MemoryBlock.{is_constant};
 ghost use Rattle.ir_memory.specs.Find.{AreStarts, HasOnly, IsOnly, place_there};
@@ -44,7 +44,7 @@ pub fn started(
     requires known { IsAddress (all_seen (at _pieces.now) kept.now) pointer }
     requires placed { (next : ℕ) × IsPlaced of.first_address (all_seen (at _pieces.now) kept.now) next }
     ensures value { result ≡ of.started (all_seen (at _pieces.now) kept.now) pointer kind }
-    ensures live { IfSome result (λ i. (d : Kept) → (slice_index_or kept.now i d).live ≡ true) }
+    ensures live { IfSome result (IsLiveAt kept.now) }
     ensures within { IfSome result (λ i. i < length kept.now) }
 {
     let Scalar::Ptr(pointer) = pointer else {
@@ -120,7 +120,7 @@ pub fn access(
     ensures value { (next : ℕ) → of.access (record { list = all_seen (at _pieces.now) kept.now; next = next; sealed = sealed }) asked.count asked.align asked.writes address ≡ place_there result }
     ensures within { IfOk result (λ p. p.index < length kept.now) }
     ensures holds { IfOk result (λ p. (d : Kept) → p.offset + asked.count ≤ (slice_index_or kept.now p.index d).size) }
-    ensures live { IfOk result (λ p. (d : Kept) → (slice_index_or kept.now p.index d).live ≡ true) }
+    ensures live { IfOk result (λ p. IsLiveAt kept.now p.index) }
 {
     let Scalar::Ptr(pointer) = address else {
         return Err(UndefinedKind::PoisonAddress);

@@ -1,5 +1,5 @@
 //! All blocks of a run.
-ghost use Rattle.std.specs.Prelude.{◌≡◌, ◌≢◌, ℕ, ◌+◌, ◌*◌, ◌<◌, ◌≤◌, ◌^◌, ◌↔◌, IfOk, IfSome, OnOk, OnErr, drop, length, true, false, IsOk, slice_index, slice_index_or, slice_set, Some, Ok, Err};
+ghost use Rattle.std.specs.Prelude.{◌≡◌, ◌≢◌, ℕ, ◌+◌, ◌*◌, ◌<◌, ◌≤◌, ◌^◌, ◌↔◌, IfOk, IfSome, OnOk, OnErr, drop, length, true, false, IsOk, slice_index, slice_set, Some, Ok, Err};
 ghost use Rattle.ir_eval.specs.declared.value.Scalar.TheVariants as scalar;
 ghost use Rattle.ir_memory.specs.declared.leaf.Leaf.TheVariants as leaves;
 ghost use Rattle.ir_memory.specs.Memory as of;
@@ -8,8 +8,7 @@ ghost use Rattle.ir_memory.specs.Kept.{IsPlaced, AreKnown};
 ghost use Rattle.ir_memory.specs.MemoryBlock as block;
 ghost use Rattle.ir_memory.specs.Given.{IsKnown, IsAddress, IsAlignment, IsLeaf, Fits, HasKnown, CanEnd};
 ghost use Rattle.ir_memory.specs.Answer.{Answers, NeedsNone, IsInteger, Keeps};
-ghost use Rattle.ir_memory.specs.Seen.{at, all_seen, IsRoom, IsSound};
-ghost use Rattle.ir_memory.specs.declared.kept.KeptBlock.{KeptBlock as Kept};
+ghost use Rattle.ir_memory.specs.Seen.{at, all_seen, IsLiveAt, IsRoom, IsSound};
 ghost use Rattle.ir_memory.specs.Cell.{size, leaf_cells};
 ghost use Rattle.ir_memory.specs.Plain.{LoadsBytes};
 
@@ -439,7 +438,7 @@ fn write_leaf(
 /// Ends a live block: its bytes and the pieces in it are given up.
 fn end(kept: &mut BlockTable, pieces: &mut Pieces, index: usize)
     requires index { index < length kept.old }
-    requires live { (d : Kept) → (slice_index_or kept.old index d).live ≡ true }
+    requires live { IsLiveAt kept.old index }
     requires sound { (next : ℕ) × IsSound (at pieces.old) kept.old next }
     ensures value { all_seen (at pieces.new) kept.new ≡ slice_set (all_seen (at pieces.old) kept.old) index block.gone }
     ensures sound { (next : ℕ) → IsSound (at pieces.old) kept.old next → IsSound (at pieces.new) kept.new next }

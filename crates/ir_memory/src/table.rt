@@ -1,9 +1,8 @@
 //! All blocks by their numbers.
-ghost use Rattle.std.specs.Prelude.{◌≡◌, ◌≢◌, ℕ, ◌+◌, ◌<◌, ◌++◌, ◌∷◌, [], length, slice_index_or, slice_set, true, MatchOption, OnOk, OnErr};
+ghost use Rattle.std.specs.Prelude.{◌≡◌, ◌≢◌, ℕ, ◌+◌, ◌<◌, ◌++◌, ◌∷◌, [], length, slice_index_or, slice_set, MatchOption, OnOk, OnErr};
 ghost use Rattle.ir_memory.specs.Numbered.{IsPaged, kept_in};
-ghost use Rattle.ir_memory.specs.Seen.{ended_block};
+ghost use Rattle.ir_memory.specs.Seen.{IsLiveAt, ended_block};
 ghost use Rattle.ir_memory.specs.Lending.{LendsBlock};
-ghost use Rattle.ir_memory.specs.declared.kept.KeptBlock.{KeptBlock as Kept};
 ghost use Rattle.std.specs.Borrow.{sem};
 
 use crate::kept::KeptBlock;
@@ -119,7 +118,7 @@ impl BlockTable {
     #[inline(always)]
     pub fn get_mut(&mut self, index: usize) -> &mut KeptBlock
         requires index { index < length self.old }
-        requires live { (d : Kept) → (slice_index_or self.old index d).live ≡ true }
+        requires live { IsLiveAt self.old index }
         ensures* writes_back { sem 𝓛 (LendsBlock self.entry index result) }
         ensures value { result.now ≡ slice_index_or self.old index result.now }
     {
