@@ -17,6 +17,7 @@ use Rattle.name_rules.specs.Locals.{local_in, next_after, announced_parameter}
 use Rattle.name_rules.specs.ModuleOf.{parameters_in}
 use Rattle.name_rules.specs.Bodies.{blocks_in}
 use Rattle.name_rules.specs.Written.{natural, type_in}
+use Rattle.type_build.specs.Declarations.{IsShort}
 use Rattle.type_build.specs.Fitting.{CanBe}
 use Rattle.type_build.specs.Holding.{CanHold, CanHoldTyped}
 use Rattle.buildable.specs.Narrow.{StoresNothing}
@@ -44,11 +45,6 @@ labels_of parameters blocks = map (λ (b : m.Block). b.name) (body_of parameters
 -- at most 32 bits
 abbrev pub IsShortInteger : Integer → Type 0
 IsShortInteger written = natural written < INDEX_LIMIT
-
--- an alignment has at most 32 bits
-abbrev pub IsShortAlignment : Option Integer → Type 0
-IsShortAlignment None = Unit {0}
-IsShortAlignment (Some written) = IsShortInteger written
 
 module _ (structs : Structs) (entries : Lists) where
   -- the type is within the limits
@@ -91,9 +87,9 @@ module _ (structs : Structs) (entries : Lists) where
     CanOperation (Select condition first second) = CanOperand condition × CanOperand first × CanOperand second
     CanOperation (Freeze value) = CanOperand value
     CanOperation (Phi ty incoming) = CanType ty × All CanIncoming incoming
-    CanOperation (Load flags ty address alignment) = CanType ty × CanOperand address × IsShortAlignment alignment
-    CanOperation (Store flags value address alignment) = CanOperand value × CanOperand address × IsShortAlignment alignment
-    CanOperation (Alloca ty count alignment) = CanType ty × CanCount count × IsShortAlignment alignment
+    CanOperation (Load flags ty address alignment) = CanType ty × CanOperand address × IsShort alignment
+    CanOperation (Store flags value address alignment) = CanOperand value × CanOperand address × IsShort alignment
+    CanOperation (Alloca ty count alignment) = CanType ty × CanCount count × IsShort alignment
     CanOperation (GetElementPtr flags source operands) = CanType source × (0 < length operands) × All CanOperand operands
     CanOperation (Call call) = CanType call.returns × CanSignature call.signature × CanValue call.callee × All CanOperand call.arguments
     CanOperation (ExtractValue aggregate indices) = CanOperand aggregate × All IsShortInteger indices

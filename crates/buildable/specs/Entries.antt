@@ -8,8 +8,8 @@ use Rattle.module_arena.specs.Lists.{Lists}
 use Rattle.name_rules.specs.Written.{type_in}
 use Rattle.type_build.specs.Fitting.{CanBe}
 use Rattle.type_build.specs.Holding.{CanHold, HasEntry}
-use Rattle.type_build.specs.Declarations.{CanAlias}
-use Rattle.buildable.specs.Bodies.{IsShortAlignment, CanBody}
+use Rattle.type_build.specs.Declarations.{CanAlias, IsShort}
+use Rattle.buildable.specs.Bodies.{CanBody}
 
 module _ (structs : Structs) where
   -- the fields of a struct are within the limits
@@ -21,7 +21,7 @@ module _ (structs : Structs) where
   -- the types with which an item is declared are
   abbrev pub CanDeclare : ItemTree → Type 0
   CanDeclare (Struct name body) = CanStruct body
-  CanDeclare (Variable variable) = CanBe structs (type_in variable.ty) × IsShortAlignment variable.alignment
+  CanDeclare (Variable variable) = CanBe structs (type_in variable.ty) × IsShort variable.alignment
   CanDeclare (Alias alias) = CanAlias structs alias.ty
   CanDeclare (Declaration place head parameters variadic) = CanBe structs (type_in head.returns) × All (λ t. CanBe structs (type_in t)) parameters
   CanDeclare (Definition place head parameters blocks) = CanBe structs (type_in head.returns) × All (λ (p : ParameterTree). CanBe structs (type_in p.0)) parameters

@@ -23,8 +23,9 @@ use Rattle.name_rules.specs.TypeDemands.{type_demands}
 use Rattle.name_rules.specs.FunctionDemands.{alignment_demands, index_demands, value_demands, operand_demands, block_demand, incoming_demands, signature_demands, count_demands, operation_demands}
 use Rattle.name_rules.specs.Breaks.{known_in}
 use Rattle.name_rules.proofs.Judging.{held, both_hold}
+use Rattle.type_build.specs.Declarations.{IsShort}
 use Rattle.buildable.specs.Narrow.{IsNarrowValue, IsNarrowOperand, IsNarrowSignature, IsNarrowCount, IsNarrowIncoming, IsNarrowOperation}
-use Rattle.buildable.specs.Bodies.{IsShortInteger, IsShortAlignment, CanSignature, CanValue, CanOperand, CanTarget, CanIncoming, CanCount, CanOperation}
+use Rattle.buildable.specs.Bodies.{IsShortInteger, CanSignature, CanValue, CanOperand, CanTarget, CanIncoming, CanCount, CanOperation}
 use Rattle.builds_well.proofs.Given.{IsGiven, AreLocals, all_asked}
 use Rattle.builds_well.proofs.Types.{bits_narrow, can_type, can_types}
 use Rattle.builds_well.proofs.Constants.{can_hold}
@@ -41,7 +42,7 @@ short written h = by written.negative
     by true = omega arith
     by false = magnitude
 
-pub short_alignment : (written : Option Integer) → first_refusal (alignment_demands written) ≡ None → IsShortAlignment written
+pub short_alignment : (written : Option Integer) → first_refusal (alignment_demands written) ≡ None → IsShort written
 short_alignment None e = tt
 short_alignment (Some written) e = short written (held (is_natural written && nat_lt written.magnitude (2 ^ 32)) (faults.ConstantRange written.place) [] e).0
 

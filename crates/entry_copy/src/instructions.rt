@@ -4,10 +4,10 @@ ghost use Rattle.module_arena.specs.Accesses.{is_access};
 ghost use Rattle.entry_copy.specs.Moved.{moved_choice, moved_insertion, moved_call, moved_inst};
 
 use crate::Copier;
-use crate::moved::{Moved, moved_list, same_items};
+use crate::moved::{Moved, moved_list};
 use crate::types::moved_signature;
 use crate::values::{moved_count, moved_operand, moved_value};
-use module_arena::{Boxed, Call, Choice, Insertion, Inst};
+use module_arena::{Boxed, Call, Choice, Insertion, Inst, same_items};
 use std::alloc::{AllocError, Global};
 
 fn moved_choice(

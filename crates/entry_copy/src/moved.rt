@@ -42,16 +42,6 @@ pub(crate) fn moved_list<T: Moved>(
     Ok(ItemList::from_vec(moved_items(alloc, copier, list.as_slice())?))
 }
 
-/// The same plain items.
-pub(crate) fn same_items<T: Copy>(
-    alloc: Global,
-    items: &ItemList<T>,
-) -> Result<ItemList<T>, AllocError>
-    ensures { IfOk result (λ copy. copy ≡ items.now) }
-{
-    Ok(ItemList::from_vec(Vec::from_slice(alloc, items.as_slice())?))
-}
-
 /// The same names.
 pub(crate) fn same_names(
     alloc: Global,

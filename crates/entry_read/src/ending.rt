@@ -1,7 +1,6 @@
 //! What the record of an entry is asked as a whole.
 ghost use Rattle.std.specs.Prelude.{◌≡◌, ◌↔◌, ◌<◌, ℕ, List, Some, true, OnOk};
 ghost use Rattle.module_arena.specs.Lists.{global_name};
-ghost use Rattle.module_arena.specs.SameConst.{same_global};
 ghost use Rattle.record_table.specs.Records as records;
 ghost use Rattle.record_table.specs.Faults.{also};
 ghost use Rattle.record_table.specs.Walk.{told};
@@ -11,26 +10,9 @@ ghost use Rattle.entry_read.specs.Entries.{AsksName, AsksNew, EndsRecord, IsTold
 
 use arena_read::ModuleReader;
 use ir_base::Name;
-use module_arena::{Arena, GlobalId};
+use module_arena::{Arena, GlobalId, is_same_global};
 use record_read::BitcodeFault;
 use record_table::MODULE_BLOCK;
-
-/// Whether two ids are one.
-fn is_same(global: GlobalId, other: GlobalId) -> bool
-    ensures { result ≡ same_global global other }
-{
-    match global {
-        GlobalId::Variable(id) => {
-            matches!(other, GlobalId::Variable(found) if found.number() == id.number())
-        }
-        GlobalId::Function(id) => {
-            matches!(other, GlobalId::Function(found) if found.number() == id.number())
-        }
-        GlobalId::Alias(id) => {
-            matches!(other, GlobalId::Alias(found) if found.number() == id.number())
-        }
-    }
-}
 
 /// Whether no entry but that one has the name.
 fn is_new(arena: &Arena, name: &Name, own: GlobalId) -> bool
@@ -38,7 +20,7 @@ fn is_new(arena: &Arena, name: &Name, own: GlobalId) -> bool
 {
     let found = arena.lookup(name);
     match found {
-        Some(id) => is_same(id, own),
+        Some(id) => is_same_global(id, own),
         None => true,
     }
 }

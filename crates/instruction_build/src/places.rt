@@ -9,7 +9,6 @@ ghost use Rattle.instruction_build.specs.Parts.{value_names, block_names};
 ghost use Rattle.instruction_build.specs.Made.{Makes, TakesOperation, count_in};
 
 use crate::locals::Locals;
-use crate::numbers::alignment_of;
 use crate::signatures::build_signature;
 use crate::targets::build_incoming_list;
 use crate::values::{build_callee, build_operand, build_operands};
@@ -17,7 +16,7 @@ use ir_instructions::{Address, Alloca, Load, Phi, Store, WrittenCall};
 use ir_tables::Flags;
 use module_arena::{Boxed, Inst, ValueId};
 use std::alloc::{AllocError, Global};
-use type_build::Builder;
+use type_build::{Builder, alignment_of};
 
 /// `phi`
 pub(crate) fn build_phi(

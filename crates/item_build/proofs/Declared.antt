@@ -4,7 +4,6 @@ use Rattle.std.specs.Prelude.{filter_map}
 use Rattle.std.proofs.lemmas.List.{map-append}
 use Rattle.std.proofs.lemmas.List.Sums.{get_or-le-sum_by}
 use Rattle.std.proofs.lemmas.Option.{get_or_from_slice_get, slice_get_within}
-use Rattle.ir_terminals.specs.declared.values.Integer.{Integer}
 use Rattle.ir_syntax.specs.Counts.{counted, item_count}
 use Rattle.ir_syntax.specs.Tree.{ItemTree, SourceFilename, DataLayout, TargetTriple, Struct, Variable, Alias, Declaration, Definition, Attributes, Metadata}
 use Rattle.type_table.specs.Types.{structs, trees}
@@ -15,9 +14,8 @@ use Rattle.module_arena.specs.View.{module_of, variable_view, alias_view, functi
 use Rattle.module_arena.specs.WellFormed as formed
 use Rattle.name_rules.specs.ModuleOf.{variable_of, variable_in, alias_of, alias_in, declared, defined, function_in}
 use Rattle.type_build.specs.Holding.{entries}
-use Rattle.type_build.specs.Declarations.{without_initialiser, without_target, AreUntargeted, IsShort}
+use Rattle.type_build.specs.Declarations.{without_initialiser, without_target, AreUntargeted}
 use Rattle.type_build.specs.Parameters.{without_body}
-use Rattle.buildable.specs.Bodies.{IsShortAlignment}
 use Rattle.item_build.specs.Declaring.{declared_in, with_entries, with_declared, AreNamed}
 use Rattle.item_build.proofs.Walked.{gives_one, gives_none, get_between}
 use Rattle.type_build.proofs.Made.{map_twice}
@@ -74,10 +72,6 @@ nothing_targeted a empty = λ id x le is. let no = sym (ap (λ (w : Lists). slic
 pub structs_kept : (a b : Lists) (vs : List m.Variable) (xs : List m.Alias) (fs : List m.Function) → module_of b ≡ with_entries (module_of a) vs xs fs → structs b.table ≡ structs a.table
 unfolding module_of
 structs_kept a b vs xs fs same = ap (λ (w : Module). w.structs) same
-
-pub is_short : (o : Option Integer) → IsShortAlignment o → IsShort o
-is_short None h = tt
-is_short (Some written) h = h
 
 -- an item counts no more than all do
 pub count_within : (first : List ItemTree) (x : ItemTree) (rest : List ItemTree) → item_count x ≤ counted (first ++ x ∷ rest)

@@ -12,7 +12,11 @@ use Rattle.linkage_rules.specs.Addresses.{commons}
 use Rattle.linkage_rules.specs.Winner.{is_definition}
 use Rattle.linkage_rules.proofs.Steps.{filter_more}
 use Rattle.linked_symbols.proofs.Joined.{kept, skipped}
-use Rattle.link_entries.specs.Definitions.{entries_defined, is_common}
+use Rattle.link_entries.specs.Definitions.{entries_defined}
+
+-- a common definition
+abbrev is_common : Entry → Bool
+is_common e = is_definition e && linkages.is_common (linkage_of e.global)
 
 module _ (parts : List Lists) (ids : List EntryId) (k : ℕ) (x : EntryId) (at : slice_get ids k ≡ Some x) where
   abbrev e : Entry

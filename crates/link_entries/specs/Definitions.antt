@@ -1,23 +1,17 @@
 -- For `declare_symbols`, and how the code reads: what is declared of a symbol, by the ids of its entries.
-use Rattle.std.specs.Prelude.{◌&&◌, Bool, List, map, if◌then◌else◌}
+use Rattle.std.specs.Prelude.{List, map, if◌then◌else◌}
 use Rattle.std.specs.List.{list_all}
 use Rattle.ir_tables.specs.declared.linkage.Linkage.{Linkage}
 use Rattle.ir_tables.specs.declared.linkage.Linkage.TheVariants.{External, ExternWeak}
 use Rattle.type_table.specs.Tree.{Tree}
 use Rattle.module_arena.specs.Lists.{Lists}
 use Rattle.module_arena.specs.Module.{Bytes}
-use Rattle.linkage_rules.specs.Entries.{Entry}
 use Rattle.linkage_rules.specs.Globals.{Global, linkage_of, type_of}
 use Rattle.linkage_rules.specs.Ids.{modules, seen}
 use Rattle.linkage_rules.specs.Linkages as linkages
-use Rattle.linkage_rules.specs.Winner.{is_definition}
 use Rattle.linkage_rules.specs.declared.entry.EntryId.{EntryId}
 pub use Rattle.link_stages.specs.Definitions.{definition_of, entries_defined}
 use Rattle.module_linker.specs.Linked.{joined_type, linked_declaration}
-
--- a common definition
-abbrev pub is_common : Entry → Bool
-is_common e = is_definition e && linkages.is_common (linkage_of e.global)
 
 -- the type in the linked module of a variable that is defined there
 abbrev pub joined_of : List Lists → EntryId → List EntryId → Tree

@@ -7,12 +7,12 @@ ghost use Rattle.linkage_rules.specs.Addresses as addresses;
 ghost use Rattle.module_linker.specs.Linked as linking;
 ghost use Rattle.type_build.specs.Stands.{Grows, IsType};
 ghost use Rattle.link_stages.specs.Ground.{HaveTypes};
-ghost use Rattle.link_entries.specs.Definitions.{entries_defined, is_common, joined_of};
+ghost use Rattle.link_entries.specs.Definitions.{entries_defined, joined_of};
 
 use entry_copy::{Copier, copier_of};
 use ir_tables::Linkage;
-use linkage_rules::{EntryId, SymbolKind, arena_of, element_of, head_of, is_definition};
-use linked_symbols::{greatest_common, greatest_stated, joined_length};
+use linkage_rules::{EntryId, SymbolKind, arena_of, element_of, head_of};
+use linked_symbols::{greatest_common, greatest_stated, is_common, joined_length};
 use module_arena::{Checked, VariableId};
 use std::alloc::{AllocError, Global};
 use type_build::Builder;
@@ -52,14 +52,6 @@ pub(crate) fn joined_type(
             Ok(copier.new_type(variable.ty))
         }
     }
-}
-
-/// Whether an entry is a common definition.
-fn is_common(parts: &[Checked], id: EntryId) -> bool
-    requires { IsEntryId parts.now id }
-    ensures { result ≡ is_common (seen (modules parts.now) id) }
-{
-    is_definition(parts, id) && matches!(head_of(parts, id).linkage, Linkage::Common)
 }
 
 /// How many of some entries are common definitions.

@@ -25,5 +25,5 @@ pub use absent::are_extern_weak;
 pub use bound::Bound;
 pub use meaning::symbol_behind;
 pub use names::{Meanings, bind_names};
-pub use room::{Room, greatest_common, greatest_stated, joined_length, room_of};
+pub use room::{Room, greatest_common, greatest_stated, is_common, joined_length, room_of};
 pub use standing::{Placed, PlacedList, Places, place_symbols};

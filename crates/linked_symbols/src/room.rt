@@ -70,8 +70,8 @@ fn stated_in(parts: &[Checked], id: EntryId) -> Option<u32>
     }
 }
 
-/// Whether an entry is a common definition.
-fn is_common(parts: &[Checked], id: EntryId) -> bool
+/// Whether an entry is a common definition (LangRef, "Linkage Types").
+pub fn is_common(parts: &[Checked], id: EntryId) -> bool
     requires { IsEntryId parts.now id }
     ensures { result ≡ (winner.is_definition (seen (modules parts.now) id) && is_common (linkage_of (seen (modules parts.now) id).global)) }
 {

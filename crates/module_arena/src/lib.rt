@@ -40,7 +40,7 @@ pub use arena::{Arena, COUNT_LIMIT, INDEX_LIMIT, LEAF_LIMIT};
 pub use boxed::Boxed;
 pub use checked::Checked;
 pub use constant::{Brackets, Const, ConstAddress, ConstPair, TypedConst, TypedConstList};
-pub use copy::copied_name;
+pub use copy::{copied_name, same_items};
 pub use entity::Entity;
 pub use entry::{
     Alias, AliasType, Block, BlockList, Body, Function, GlobalId, InstList, LARGEST_PRODUCT,
@@ -54,3 +54,4 @@ pub use instruction::{
     Operand, OperandList, Signature, Value,
 };
 pub use laws::alignments_are_powers_of_two;
+pub use same::is_same_global;

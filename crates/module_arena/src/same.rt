@@ -32,7 +32,7 @@ fn global_number(global: GlobalId) -> u32
 }
 
 /// Whether two ids are one.
-fn is_same_global(global: GlobalId, other: GlobalId) -> bool
+pub fn is_same_global(global: GlobalId, other: GlobalId) -> bool
     ensures { result ≡ same_global global other }
 {
     match global {

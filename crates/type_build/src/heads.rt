@@ -15,8 +15,8 @@ pub(crate) fn linkage_of(written: Option<Linkage>) -> Linkage
     written.unwrap_or(Linkage::External)
 }
 
-/// The alignment, where one is written.
-pub(crate) fn alignment_of(written: &Option<Integer>) -> Option<u32>
+/// The alignment in bytes, where one is written.
+pub fn alignment_of(written: &Option<Integer>) -> Option<u32>
     requires { IsShort written.now }
     ensures { result ≡ alignment_in written.now }
 {

@@ -28,6 +28,7 @@ mod wanting;
 pub use aliases::{declare_alias, set_target};
 pub use builder::Builder;
 pub use functions::{declare_definition, declare_function};
+pub use heads::alignment_of;
 pub use integers::index_of;
 pub use variables::{declare_variable, initialise};
 pub use wanting::{entry_out_of_memory, type_out_of_memory};

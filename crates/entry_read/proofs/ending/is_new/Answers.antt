@@ -25,8 +25,8 @@ itself (global.Alias a) = (Decides-eqb a a).1 refl
 
 pub returns-in-Some : goal.returns-in-Some
 returns-in-Some c = (
-  (λ yes g is. sym (same c.in-Some.id g (sym c.in-Some.is ∙ (c.lookup-found.ensures g).1 is)) ∙ sound c.in-Some.id c.args.own (sym c.is_same.ensures ∙ yes)),
-  (λ all. c.is_same.ensures ∙ (ap (λ g. same_global c.in-Some.id g) (sym (all c.in-Some.id ((c.lookup-found.ensures c.in-Some.id).0 c.in-Some.is))) ∙ itself c.in-Some.id)),
+  (λ yes g is. sym (same c.in-Some.id g (sym c.in-Some.is ∙ (c.lookup-found.ensures g).1 is)) ∙ sound c.in-Some.id c.args.own (sym c.is_same_global.ensures ∙ yes)),
+  (λ all. c.is_same_global.ensures ∙ (ap (λ g. same_global c.in-Some.id g) (sym (all c.in-Some.id ((c.lookup-found.ensures c.in-Some.id).0 c.in-Some.is))) ∙ itself c.in-Some.id)),
 )
 
 pub returns-in-None : goal.returns-in-None
