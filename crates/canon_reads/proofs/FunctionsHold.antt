@@ -6,7 +6,7 @@ use Rattle.std.proofs.Common.{ap, sym, subst, ◌∙◌, append_assoc, append-ni
 use Rattle.std.proofs.lemmas.Bool.{or_left, or_right, or_cases}
 use Rattle.std.proofs.lemmas.List.Folds.{list_any-append}
 use Rattle.ir_tables.specs.Table.{is_distinct}
-use Rattle.module_arena.specs.Module.{LocalName, Named, Numbered, Instruction, Block, Parameter, Module}
+use Rattle.module_arena.specs.Module.{LocalName, Instruction, Block, Parameter, Module}
 use Rattle.module_arena.specs.Same.{same_local, has_local}
 use Rattle.module_arena.specs.Functions.{result_name}
 use Rattle.module_arena.specs.Names.{block_results, is_numbered_from}
@@ -14,7 +14,7 @@ use Rattle.module_arena.specs.WellFormed.{is_good_type, are_good_structs}
 use Rattle.canon_items.specs.Parts.{local_tree, instruction_tree, block_tree}
 use Rattle.canon_items.specs.Items.{parameter_tree}
 use Rattle.canon_module.proofs.Back.{local_back}
-use Rattle.name_rules.specs.Locals.{Locals, Announced, local_in, next_behind, called, announced, announced_parameter, announced_result, announced_block, locals_from, is_same, is_alike, is_there}
+use Rattle.name_rules.specs.Locals.{Locals, Announced, local_in, next_behind, called, announced, announced_parameter, announced_result, announced_block, locals_from, is_alike, is_there}
 use Rattle.name_rules.specs.FunctionDemands.{Called, none_called, called_with, called_after, instructions_demands, blocks_demands, parameters_demands, definition_demands}
 use Rattle.canon_reads.proofs.Asked.{Held, held_none, held_both}
 use Rattle.canon_reads.proofs.Good.{first_of_all, others_of_all}
@@ -28,27 +28,21 @@ use Rattle.canon_reads.proofs.CalledHold.{IsFresh, call_holds, fresh_behind, aft
 -- whether it is announced under that name
 abbrev is_named : Bool → LocalName → Announced → Bool
 is_named b name (k, None) = false
-is_named b name (k, Some w) = is_same (local_in w) name && is_alike k b
+is_named b name (k, Some w) = same_local (local_in w) name && is_alike k b
 
 there : (b : Bool) (name : LocalName) (next : ℕ) (all : List Announced) → list_any (is_named b name) all ≡ true → is_there (locals_from next all) b name ≡ true
 there b name next [] e = absurd cc
-there b name next ((k, None) ∷ all) e = or_right (is_same (called next None) name && is_alike k b) (is_there (locals_from (suc next) all) b name) (there b name (suc next) all e)
+there b name next ((k, None) ∷ all) e = or_right (same_local (called next None) name && is_alike k b) (is_there (locals_from (suc next) all) b name) (there b name (suc next) all e)
 there b name next ((k, Some w) ∷ all) e =
-    or_right (is_same (called next (Some w)) name && is_alike k b) _
-    (elim (or_cases (is_same (local_in w) name && is_alike k b) (list_any (is_named b name) all) e) [
-      | inl h ↦ or_left (is_same (local_in w) name && is_alike k b) (is_there (locals_from (next_behind next (Some w)) all) b name) h
-      | inr h ↦ or_right (is_same (local_in w) name && is_alike k b) (is_there (locals_from (next_behind next (Some w)) all) b name) (there b name (next_behind next (Some w)) all h)
+    or_right (same_local (called next (Some w)) name && is_alike k b) _
+    (elim (or_cases (same_local (local_in w) name && is_alike k b) (list_any (is_named b name) all) e) [
+      | inl h ↦ or_left (same_local (local_in w) name && is_alike k b) (is_there (locals_from (next_behind next (Some w)) all) b name) h
+      | inr h ↦ or_right (same_local (local_in w) name && is_alike k b) (is_there (locals_from (next_behind next (Some w)) all) b name) (there b name (next_behind next (Some w)) all h)
     ])
-
-same_same : (a b : LocalName) → is_same a b ≡ same_local a b
-same_same (Named a) (Named b) = refl
-same_same (Numbered a) (Numbered b) = refl
-same_same (Named a) (Numbered b) = refl
-same_same (Numbered a) (Named b) = refl
 
 -- a name among these is announced
 named_one : (b : Bool) (name n : LocalName) → is_alike b b ≡ true → same_local n name ≡ true → is_named b name (b, Some (local_tree n)) ≡ true
-named_one b name n alike e = λ i. ((ap (λ k. is_same k name) (local_back n) ∙ same_same n name ∙ e) i) && alike i
+named_one b name n alike e = λ i. ((ap (λ k. same_local k name) (local_back n) ∙ e) i) && alike i
 
 any_left : {X : Type 0} (p : X → Bool) (xs ys : List X) → list_any p xs ≡ true → list_any p (xs ++ ys) ≡ true
 any_left p xs ys e = list_any-append p xs ys ∙ or_left (list_any p xs) (list_any p ys) e

@@ -3,7 +3,8 @@ use Rattle.std.proofs.Common.{◌≡◌, ℕ, zero, suc, ◌+◌, ◌-◌, ◌*�
 use Rattle.std.proofs.Math.Nat.{pow-le-pow_right, div-eq_of_lt, mod-eq_of_lt, pow-succ'}
 use Rattle.ir_memory.specs.declared.cell.Cell.{Cell}
 use Rattle.ir_eval.specs.declared.value.Pointer.{Pointer}
-use Rattle.ir_memory.specs.Cell.{byte_at, byte_of, joined, number_of, is_piece, are_pieces}
+use Rattle.masked_bytes.specs.Masked.{joined}
+use Rattle.ir_memory.specs.Cell.{byte_at, byte_of, number_of, is_piece, are_pieces}
 
 pub byte_high : (number place : ℕ) → number < 2 ^ 128 → 16 ≤ place → 0 ≡ byte_at number place
 byte_high number place fits high =

@@ -20,7 +20,7 @@ use Rattle.ir_memory.specs.declared.kept.KeptBlock.{KeptBlock}
 use Rattle.ir_memory.specs.declared.access.BlockPlace.{BlockPlace}
 use Rattle.ir_memory.specs.declared.leaf.Leaf.{Leaf}
 use Rattle.ir_memory.specs.declared.leaf.Leaf.TheVariants as leaf
-use Rattle.ir_memory.specs.Cell.{bytes, pieces, read, number_of, joined, byte_of, pointer_of, pointer, integer}
+use Rattle.ir_memory.specs.Cell.{bytes, pieces, read, number_of, byte_of, pointer_of, pointer, integer}
 use Rattle.ir_memory.specs.MemoryBlock.{written}
 use Rattle.ir_memory.specs.Memory.{changed, cells_at, cells_of}
 use Rattle.ir_memory.specs.Seen.{over, plain, cells, seen, all_seen, IsRoom, IsSound, with_copied, of_number}
@@ -191,9 +191,9 @@ module _ (p q : ℕ → Option PointerPiece) (kept : List KeptBlock) (next : ℕ
 -- what a load gives where no piece stands
 number-plain : (bs : List (Option ℕ)) → number_of (map plain bs) ≡ masked.number_of bs
 number-plain [] = refl
-number-plain (x ∷ xs) = ap (λ r. joined (byte_of (plain x)) r) (number-plain xs) ∙ both x (masked.number_of xs)
+number-plain (x ∷ xs) = ap (λ r. masked.joined (byte_of (plain x)) r) (number-plain xs) ∙ both x (masked.number_of xs)
   where
-    both : (b r : Option ℕ) → joined (byte_of (plain b)) r ≡ masked.joined b r
+    both : (b r : Option ℕ) → masked.joined (byte_of (plain b)) r ≡ masked.joined b r
     both None r = refl
     both (Some b) None = refl
     both (Some b) (Some r) = refl

@@ -1,10 +1,11 @@
 -- For all calls of `Memory`: one byte of memory, and the leaves of values as cells. Memory is little endian, and a
 -- pointer has 8 bytes.
-use Rattle.std.specs.Prelude.{ℕ, ◌+◌, ◌*◌, ◌/◌, ◌%◌, ◌^◌, Bool, true, false, ◌&&◌, nat_eq, List, [], ◌∷◌, map, replicate, Option, Some, None, if◌then◌else◌}
+use Rattle.std.specs.Prelude.{ℕ, ◌+◌, ◌/◌, ◌%◌, ◌^◌, Bool, true, false, ◌&&◌, nat_eq, List, [], ◌∷◌, map, replicate, Option, Some, None, if◌then◌else◌}
 use Rattle.std.specs.List.{range_with_len}
 use Rattle.ir_eval.specs.declared.value.Pointer.{Pointer}
 use Rattle.ir_eval.specs.declared.value.Scalar.{Scalar}
 use Rattle.ir_eval.specs.declared.value.Scalar.TheVariants as scalar
+use Rattle.masked_bytes.specs.Masked.{joined}
 use Rattle.ir_memory.specs.declared.leaf.Leaf.{Leaf}
 use Rattle.ir_memory.specs.declared.leaf.Leaf.TheVariants as leaf
 use Rattle.ir_memory.specs.declared.cell.Cell.{Cell}
@@ -38,12 +39,6 @@ abbrev pub byte_of : Cell → Option ℕ
 byte_of (cell.Byte b) = Some b
 byte_of cell.Poison = None
 byte_of (cell.Piece p k) = Some (byte_at p.address k)
-
--- a byte before a number, where neither is poison
-abbrev pub joined : Option ℕ → Option ℕ → Option ℕ
-joined None rest = None
-joined (Some b) None = None
-joined (Some b) (Some rest) = Some (b + 256 * rest)
 
 -- the number that cells spell, where none is poison
 abbrev pub number_of : List Cell → Option ℕ

@@ -11,6 +11,7 @@ use Rattle.ir_constants.specs.Tree.{TypeTree}
 use Rattle.ir_constants.specs.Types.{type_shape, type_row}
 use Rattle.ir_instructions.specs.Tree.{BlockTree}
 use Rattle.ir_instructions.specs.Dropped.{comma_shape, attachment_row, parameter_attribute_shape, parameter_attributes_row, function_attribute_shape, function_attributes_row, convention_row}
+use Rattle.ir_instructions.specs.Calls.{arguments_shape}
 use Rattle.ir_instructions.specs.Blocks.{blocks_row}
 use Rattle.ir_syntax.specs.Tree.{ParameterTree, HeadTree, ItemTree, Declaration, Definition}
 use Rattle.ir_syntax.specs.Heads.{optional_linkage_row, global_word_shape, global_words_row}
@@ -62,9 +63,9 @@ some_parameters_row dots limits = chain (parameter_row limits) more_parameters_s
 abbrev pub parameter_list_row : Bool → Limits → Row Located ParametersTree
 parameter_list_row dots limits = alt class (mapped (λ d. ([], d)) (dots_row dots)) (alt class (some_parameters_row dots limits) (nothing ([], false)))
 
--- how parameters begin
+-- parameters begin as arguments do
 abbrev pub parameters_shape : PhraseShape
-parameters_shape = record { first = code terminal.OpenParenthesis ∷ []; more = []; empty = false }
+parameters_shape = arguments_shape
 
 -- ( PARAM,* )
 unfoldable pub parameters_core : Bool → Limits → Row Located ParametersTree

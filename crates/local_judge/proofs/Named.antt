@@ -12,7 +12,8 @@ use Rattle.ir_terminals.specs.declared.values.PlacedName.{PlacedName}
 use Rattle.ir_terminals.specs.Digits.{decimal, IsWritten}
 use Rattle.module_arena.specs.Module.{Bytes, LocalName, Named, Numbered}
 use Rattle.name_table.specs.Entries.{value_of}
-use Rattle.name_rules.specs.Locals.{Locals, Announced, is_same, is_alike, is_there, known_as, next_behind, locals_from, next_after}
+use Rattle.module_arena.specs.Same.{same_local}
+use Rattle.name_rules.specs.Locals.{Locals, Announced, is_alike, is_there, known_as, next_behind, locals_from, next_after}
 use Rattle.name_rules.specs.Spelled.{decimal as spelled_decimal}
 use Rattle.name_rules.proofs.Told.{written_is_told}
 use Rattle.local_judge.specs.declared.local_names.LocalNames.{LocalNames}
@@ -98,7 +99,7 @@ same_digits a b ds es w v = by (bytes_eq ds es) refl (a == b) refl
 
 -- one name more among all
 there_more : (all more : Locals) (block : Bool) (q : LocalName) → is_there (all ++ more) block q ≡ (is_there all block q || is_there more block q)
-there_more all more block q = list_any-append (λ local. is_same local.0 q && is_alike local.1 block) all more
+there_more all more block q = list_any-append (λ local. same_local local.0 q && is_alike local.1 block) all more
 
 some_there : (x : Bool) (place : Place) (o : Option Place) → is_some (cond x (Some place) o) ≡ cond x true (is_some o)
 some_there true place o = refl
@@ -182,7 +183,7 @@ other_kind marks names b block x all e h = record {
 }
   where
     apart : (q : LocalName) → is_there all block q ≡ is_there (all ++ (x, b) ∷ []) block q
-    apart q = of_other (is_there all block q) (is_same x q) (is_alike b block) e ∙ sym (there_more all ((x, b) ∷ []) block q)
+    apart q = of_other (is_there all block q) (same_local x q) (is_alike b block) e ∙ sym (there_more all ((x, b) ∷ []) block q)
 
 -- one block more, or one value more
 pub label_brings : (old new : LocalNames) (b : Bool) (x : LocalName) → b ≡ true → new.marks.items ≡ old.marks.items → new.values ≡ old.values → KindBrings old.labels new.labels x → Brings old new ((x, b) ∷ [])
@@ -256,7 +257,7 @@ brings_twice old new x f = record { on_ = λ all h. let g = f.on_ all h in recor
     kind : (all : Locals) (names : KindNames) (block : Bool) → HoldsKind new.marks.items names block (all ++ x ∷ []) → HoldsKind new.marks.items names block (all ++ x ∷ x ∷ [])
     kind all names block g =
         let same : (q : LocalName) → is_there (all ++ x ∷ []) block q ≡ is_there (all ++ x ∷ x ∷ []) block q = λ q.
-        there_more all (x ∷ []) block q ∙ twice (is_there all block q) (is_same x.0 q && is_alike x.1 block) ∙ sym (there_more all (x ∷ x ∷ []) block q) in
+        there_more all (x ∷ []) block q ∙ twice (is_there all block q) (same_local x.0 q && is_alike x.1 block) ∙ sym (there_more all (x ∷ x ∷ []) block q) in
         record {
           named = λ q. g.named q ∙ same (Named q);
           small = λ n less. g.small n less ∙ same (Numbered n);

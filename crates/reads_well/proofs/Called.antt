@@ -15,7 +15,7 @@ use Rattle.module_arena.specs.Names.{is_local_name, is_numbered_from}
 use Rattle.module_arena.specs.Same.{same_local, has_local}
 use Rattle.name_rules.specs.declared.fault.ResolveFault.TheVariants as faults
 use Rattle.name_rules.specs.Spelled.{decimal}
-use Rattle.name_rules.specs.Locals.{Announced, Locals, local_in, called, next_behind, next_after, known_as, locals_from, is_same, is_alike, is_there}
+use Rattle.name_rules.specs.Locals.{Announced, Locals, local_in, called, next_behind, next_after, known_as, locals_from, is_alike, is_there}
 use Rattle.name_rules.specs.Demand.{first_refusal, is_first, place_of_name}
 use Rattle.name_rules.specs.FunctionDemands.{Called, names_with, called_with, called_after, call_demands}
 use Rattle.name_rules.proofs.Judging.{held}
@@ -167,14 +167,8 @@ written_called before (locals.Named w) e = refl
 written_called before (locals.Numbered number place) e =
     ap Numbered (eqb-true number before.next (held (number == before.next) (faults.WrongNumber place before.next (decimal number)) [] e).0)
 
-same_alike : (a b : LocalName) → is_same a b ≡ same_local a b
-same_alike (Named a) (Named b) = refl
-same_alike (Named a) (Numbered b) = refl
-same_alike (Numbered a) (Named b) = refl
-same_alike (Numbered a) (Numbered b) = refl
-
 abbrev fits : Bool → LocalName → LocalName × Bool → Bool
-fits block name local = is_same local.0 name && is_alike local.1 block
+fits block name local = same_local local.0 name && is_alike local.1 block
 
 two_tests : (a b c : Bool) → (a && b || ((a && b) || c)) ≡ ((a && b) || c)
 two_tests true true c = refl
@@ -182,30 +176,30 @@ two_tests true false c = refl
 two_tests false b c = refl
 
 one_there : (before : Called) (a : Announced) (block : Bool) (name : LocalName) (rest : Locals) → first_refusal (call_demands before a.1) ≡ None
-    → list_any (fits block name) (map (λ n. (n, a.0)) (known_as before.next a.1) ++ rest) ≡ ((is_same (called before.next a.1) name && is_alike a.0 block) || list_any (fits block name) rest)
+    → list_any (fits block name) (map (λ n. (n, a.0)) (known_as before.next a.1) ++ rest) ≡ ((same_local (called before.next a.1) name && is_alike a.0 block) || list_any (fits block name) rest)
 one_there before a block name rest h = by a.1 h
   where
     by : (written : Option Local) → first_refusal (call_demands before written) ≡ None
-        → list_any (fits block name) (map (λ n. (n, a.0)) (known_as before.next written) ++ rest) ≡ ((is_same (called before.next written) name && is_alike a.0 block) || list_any (fits block name) rest)
+        → list_any (fits block name) (map (λ n. (n, a.0)) (known_as before.next written) ++ rest) ≡ ((same_local (called before.next written) name && is_alike a.0 block) || list_any (fits block name) rest)
     by None g = refl
     by (Some written) g =
-        ap (λ l. (is_same (called before.next (Some written)) name && is_alike a.0 block) || ((is_same l name && is_alike a.0 block) || list_any (fits block name) rest)) (written_called before written g)
-        ∙ two_tests (is_same (called before.next (Some written)) name) (is_alike a.0 block) (list_any (fits block name) rest)
+        ap (λ l. (same_local (called before.next (Some written)) name && is_alike a.0 block) || ((same_local l name && is_alike a.0 block) || list_any (fits block name) rest)) (written_called before written g)
+        ∙ two_tests (same_local (called before.next (Some written)) name) (is_alike a.0 block) (list_any (fits block name) rest)
 
 pub kind_there : (before : Called) (all : List Announced) (block : Bool) (name : LocalName) → AreCalled before all → is_there (locals_from before.next all) block name ≡ true → has_local (of_kind block before.next all) name ≡ true
 kind_there before [] block name h e = e
 kind_there before (a ∷ more) block name h e =
-    by (is_alike a.0 block) (is_same (called before.next a.1) name) refl (same_alike (called before.next a.1) name) (sym (one_there before a block name (locals_from (next_behind before.next a.1) more) h.0) ∙ e)
+    by (is_alike a.0 block) (same_local (called before.next a.1) name) refl (sym (one_there before a block name (locals_from (next_behind before.next a.1) more) h.0) ∙ e)
     (λ g. kind_there (called_with before a) more block name h.1 g)
   where
     inside : List LocalName
     inside = of_kind block (next_behind before.next a.1) more
 
-    by : (k s : Bool) → is_same (called before.next a.1) name ≡ s → is_same (called before.next a.1) name ≡ same_local (called before.next a.1) name
+    by : (k s : Bool) → same_local (called before.next a.1) name ≡ s
         → ((s && k) || list_any (fits block name) (locals_from (next_behind before.next a.1) more)) ≡ true
         → (list_any (fits block name) (locals_from (next_behind before.next a.1) more) ≡ true → has_local (of_kind block (next_behind before.next a.1) more) name ≡ true)
         → has_local (cond k (called before.next a.1 ∷ of_kind block (next_behind before.next a.1) more) (of_kind block (next_behind before.next a.1) more)) name ≡ true
-    by true true q same g rest = or_left (same_local (called before.next a.1) name) _ (sym same ∙ q)
-    by true false q same g rest = or_right (same_local (called before.next a.1) name) _ (rest g)
-    by false true q same g rest = rest g
-    by false false q same g rest = rest g
+    by true true q g rest = or_left (same_local (called before.next a.1) name) _ q
+    by true false q g rest = or_right (same_local (called before.next a.1) name) _ (rest g)
+    by false true q g rest = rest g
+    by false false q g rest = rest g
