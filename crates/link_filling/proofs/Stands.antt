@@ -6,7 +6,7 @@ use Rattle.linkage_rules.specs.declared.entry.EntryId.{EntryId}
 use Rattle.module_arena.specs.Lists.{Lists}
 use Rattle.link_filling.specs.Standing.{AreLast, AreStanding}
 use Rattle.link_filling.specs.declared.origins.SymbolOrigin.{SymbolOrigin}
-use Rattle.link_filling.specs.declared.standing.Standing.{Standing}
+use Rattle.link_filling.specs.declared.standing.StandingParts.{StandingParts}
 
 -- ---- a list of which one place is set
 
@@ -82,7 +82,7 @@ module _ (origins : List SymbolOrigin) (last : List ℕ) (n : ℕ) (x : SymbolOr
 
 -- ---- the parts that stand
 
-module _ (n : ℕ) (parts : List Lists) (origins : List SymbolOrigin) (s : Standing) (h : AreStanding n parts origins s) where
+module _ (n : ℕ) (parts : List Lists) (origins : List SymbolOrigin) (s : StandingParts) (h : AreStanding n parts origins s) where
   -- what stands for some symbols stands for those behind them
   pub standing_on : (k : ℕ) → n ≤ k → AreStanding k parts origins s
   standing_on k le = record { parts_there = λ m x home behind. h.parts_there m x home (omega (arith, le, behind)); last = h.last }
@@ -92,7 +92,7 @@ module _ (n : ℕ) (parts : List Lists) (origins : List SymbolOrigin) (s : Stand
   part_stands x home a at is there = h.parts_there n x home (omega arith) at is ∙ there
 
   -- where a part is let go whose last symbol that was, the others stay
-  pub part_gone : (t : Standing) (part : ℕ) → slice_get s.last.items part ≡ Some n → t.parts.items ≡ set s.parts.items part None → t.last.items ≡ s.last.items → AreStanding (n + 1) parts origins t
+  pub part_gone : (t : StandingParts) (part : ℕ) → slice_get s.last.items part ≡ Some n → t.parts.items ≡ set s.parts.items part None → t.last.items ≡ s.last.items → AreStanding (n + 1) parts origins t
   part_gone t part until changed same = record {
     parts_there = λ m x home behind at is. by m x home behind at is (others_stay s.parts.items part home.part None);
     last = subst (AreLast (length origins) origins) (sym same) h.last;

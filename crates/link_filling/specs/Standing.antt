@@ -10,7 +10,7 @@ use Rattle.link_stages.specs.Declared.{ids_of}
 use Rattle.link_filling.specs.Filling.{IsFilling}
 use Rattle.link_filling.specs.Origins.{IsOrigin}
 use Rattle.link_filling.specs.declared.origins.SymbolOrigin.{SymbolOrigin}
-use Rattle.link_filling.specs.declared.standing.Standing.{Standing}
+use Rattle.link_filling.specs.declared.standing.StandingParts.{StandingParts}
 
 -- the symbol with that number has that origin
 abbrev pub HasOrigin : List SymbolOrigin → ℕ → SymbolOrigin → Type 0
@@ -41,7 +41,7 @@ StandFrom number parts origins standing =
     → number ≤ m → HasOrigin origins m x → IsDefinedAt x home → StandsAs parts standing home.part
 
 -- These stand of the parts, and it is known how long each is needed.
-pub record AreStanding (number : ℕ) (parts : List Lists) (origins : List SymbolOrigin) (s : Standing) : Type 0 where
+pub record AreStanding (number : ℕ) (parts : List Lists) (origins : List SymbolOrigin) (s : StandingParts) : Type 0 where
   pub parts_there : StandFrom number parts origins s.parts.items
   pub last : AreLast (length origins) origins s.last.items
 

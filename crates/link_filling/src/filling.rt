@@ -18,7 +18,7 @@ ghost use Rattle.link_filling.specs.Standing.{is_variable, ArePlainFrom, IsNext,
 use crate::bodies::define;
 use crate::initialisers::initialise;
 use crate::origins::{SymbolOrigin, origin_at, origins_of};
-use crate::standing::Standing;
+use crate::standing::StandingParts;
 use crate::targets::target;
 use entry_copy::{Copier, copier_of};
 use linkage_rules::{Bindings, EntryId, arena_of};
@@ -162,7 +162,7 @@ fn define_rest(
     requires filling { IsFilling parts.items first into.old.arena copiers.now }
     ensures { OnOk result (IsFilling parts.items (length new.now) into.new.arena copiers.now) }
 {
-    let mut standing = Standing::new(alloc, parts, origins)?;
+    let mut standing = StandingParts::new(alloc, parts, origins)?;
     'numbers: for number in first..new.len() {
         let id = id_at(new, number);
         let origin = origin_at(origins, number);

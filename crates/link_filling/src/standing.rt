@@ -12,7 +12,7 @@ use std::alloc::{AllocError, Global};
 
 /// The parts that are still needed, each until the last symbol that is defined in it has its definition.
 #[derive(Drop)]
-pub(crate) struct Standing {
+pub(crate) struct StandingParts {
     parts: Vec<Option<Checked>>,
     /// For each part the number of that symbol; any number where none is defined in it.
     last: Vec<usize>,
@@ -62,18 +62,18 @@ fn last_numbers(
     Ok(last)
 }
 
-impl Standing {
+impl StandingParts {
     /// All parts, of whose symbols this is kept.
     pub(crate) fn new(
         alloc: Global,
         parts: Vec<Checked>,
         origins: &[SymbolOrigin],
-    ) -> Result<Standing, AllocError>
+    ) -> Result<StandingParts, AllocError>
         ensures { IfOk result (AreStanding 0 parts.items origins.now) }
     {
         let last = last_numbers(alloc, parts.len(), origins)?;
         let parts = all_parts(alloc, parts)?;
-        Ok(Standing { parts, last })
+        Ok(StandingParts { parts, last })
     }
 
     /// The arena of a part that stands.

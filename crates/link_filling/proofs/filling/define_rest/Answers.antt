@@ -4,7 +4,7 @@ use Rattle.std.proofs.lemmas.Option.{slice_get-map}
 use Rattle.module_arena.specs.Lists.{Lists}
 use Rattle.link_filling.specs.Filling.{IsFilling}
 use Rattle.link_filling.specs.Standing.{AreStanding, IsNext}
-use Rattle.link_filling.specs.declared.standing.Standing.{Standing}
+use Rattle.link_filling.specs.declared.standing.StandingParts.{StandingParts}
 use Rattle.link_filling.proofs.Defining.{home_known, left_declared, table_within}
 use Rattle.link_filling.proofs.Kept.{home_kept}
 use Rattle.link_filling.proofs.Stands.{part_stands, same_part, standing_on}
@@ -96,7 +96,7 @@ numbers-preserved c =
           let left : c.match-origin.standing ≡ w.let_go_behind.new.self = cc in
           record {
             filling = subst (λ (b : Lists). IsFilling parts (n + 1) b c.args.copiers.now) (sym made) (w.in_ok-define_in-in-Some.ensures parts c.args.copiers.now n next);
-            standing = subst (λ (s : Standing). AreStanding (n + 1) parts c.args.origins.now s) (sym left) (w.let_go_behind.ensures parts c.args.origins.now c.numbers.invariant.standing);
+            standing = subst (λ (s : StandingParts). AreStanding (n + 1) parts c.args.origins.now s) (sym left) (w.let_go_behind.ensures parts c.args.origins.now c.numbers.invariant.standing);
           }
       | in-None w ↦
           let made : c.match-origin.into.arena ≡ c.numbers.into.arena = cc in
@@ -104,7 +104,7 @@ numbers-preserved c =
           record {
             filling = subst (λ (b : Lists). IsFilling parts (n + 1) b c.args.copiers.now) (sym made)
                 (left_declared parts o.resolved_as o.resolved n o.symbol o.at c.numbers.into.arena c.args.copiers.now c.numbers.invariant.filling id is (home_kept parts n x o None w.in-None.is));
-            standing = subst (λ (s : Standing). AreStanding (n + 1) parts c.args.origins.now s) (sym left) (standing_on n parts c.args.origins.now c.numbers.standing c.numbers.invariant.standing (n + 1) (omega arith));
+            standing = subst (λ (s : StandingParts). AreStanding (n + 1) parts c.args.origins.now s) (sym left) (standing_on n parts c.args.origins.now c.numbers.standing c.numbers.invariant.standing (n + 1) (omega arith));
           }
     ]
 

@@ -1,6 +1,6 @@
 use Rattle.std.proofs.Common.{◌+◌, arith}
 use Rattle.link_filling.proofs.Stands.{part_gone, standing_on}
-use Rattle.link_filling.proofs.standing.Standing.let_go_behind.Goals as goal
+use Rattle.link_filling.proofs.standing.StandingParts.let_go_behind.Goals as goal
 
 pub returns-then-not-is_last : goal.returns-then-not-is_last
 returns-then-not-is_last c = λ parts origins h. standing_on c.args.number parts origins c.args.self.now h (c.args.number + 1) (omega arith)

@@ -1,5 +1,5 @@
 use Rattle.std.proofs.Common.{slice_get, ap}
-use Rattle.link_filling.proofs.standing.Standing.new.Goals as goal
+use Rattle.link_filling.proofs.standing.StandingParts.new.Goals as goal
 
 pub returns : goal.returns
 returns c = record {
