@@ -107,7 +107,7 @@ AnswersFunction texts old number in_order answer new =
     → IsInFront texts old s operands
     → number ≡ length s.functions
     → in_order ≡ records.may_follow s.last 7
-    → IsToldNew old.growing.arena (entry.Function number) s (judged (records.function s.texts s.k) operands).0.1.name
+    → IsToldNew old.growing.arena (entry.Function number) s (records.function_named (judged (records.function s.texts s.k) operands))
     → Answers (ReadsFunction s.texts s.k operands old new) (records.function_record s (judged (records.function s.texts s.k) operands)) answer
 
 -- of the record of an alias, where variables or functions are so many others, whichever are more

@@ -49,6 +49,10 @@ function texts k = mapped
     (λ (d, f). (f.name, (f.linkage, (d, (f.returns, (f.variadic, types_of f))))))
     (name texts & linkage & truth & ty k & truth & counted (ty k))
 
+-- what a record calls its function
+abbrev pub function_named : (Bool × Function) × Option ℕ → Bytes
+function_named ((defined, f), broken) = f.name
+
 -- a plain type, or the parts of a function type
 abbrev pub alias_type_of : Tree ⊎ (Tree × (Bool × List Tree)) → AliasType
 alias_type_of (inl t) = PlainType t

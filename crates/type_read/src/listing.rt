@@ -141,7 +141,7 @@ fn read_struct_record(
     requires counted { IsCounted pending.old number (reader.old.at - 1) }
     ensures reads { ReadsOne reader.old result reader.new }
     ensures answers { (all : List (List ℕ)) (s : types.Listed) (operands : List ℕ) → IsOn (held arena.old pending.old) names all reader.old operands s → number ≡ length s.names → s.texts ≡ texts_of texts.now
-        → (later : List (List ℕ)) → AreSoFar names all s ((judged (types.definition s.texts (length s.types.types)) operands).0.1 ∷ later)
+        → (later : List (List ℕ)) → AreSoFar names all s (types.name_defined (judged (types.definition s.texts (length s.types.types)) operands) ∷ later)
         → Puts (λ _. number + 1) arena.old pending.old names all later s (types.struct_record s (judged (types.definition s.texts (length s.types.types)) operands)) result arena.new pending.new }
 {
     let count = arena.types().type_count();
