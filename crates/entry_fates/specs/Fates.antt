@@ -4,11 +4,12 @@ use Rattle.std.specs.List.{cons_option}
 use Rattle.ir_tables.specs.declared.linkage.Linkage.{Linkage}
 use Rattle.ir_tables.specs.declared.linkage.Linkage.TheVariants.{Appending}
 use Rattle.type_table.specs.Tree.{Tree}
+use Rattle.module_arena.specs.Functions.{numbered_parameters}
 use Rattle.module_arena.specs.Lists.{Lists}
 use Rattle.module_arena.specs.Module.{Parameter, Variable, Alias, Function, Module}
 use Rattle.extract_core.specs.declared.selection.Selection.{Selection}
 use Rattle.extract_core.specs.Selected.{is_among, keeps_variable, keeps_function, keeps_alias}
-use Rattle.extract_core.specs.Extracted.{kept_names, kept_linkage, declared_linkage, without_elements, declared_variable, declared_function, numbered, alias_as_variable, alias_as_function}
+use Rattle.extract_core.specs.Extracted.{kept_names, kept_linkage, declared_linkage, without_elements, declared_variable, declared_function, alias_as_variable, alias_as_function}
 use Rattle.entry_fates.specs.declared.fates.Fate.{Fate}
 use Rattle.entry_fates.specs.declared.fates.Fate.TheVariants.{Kept, Declared, LeftOut}
 use Rattle.entry_fates.specs.declared.fates.Fates.{Fates}
@@ -103,7 +104,7 @@ type_as false t = t
 -- the parameters of a function
 abbrev pub parameters_as : Fate → List Parameter → List Parameter
 parameters_as Kept ps = ps
-parameters_as fate ps = numbered 0 (map (λ p. p.ty) ps)
+parameters_as fate ps = numbered_parameters 0 (map (λ p. p.ty) ps)
 
 -- ---- the module
 

@@ -1,10 +1,11 @@
 -- For `choose`: the module of the kept definitions, and of declarations for what they name.
-use Rattle.std.specs.Prelude.{ℕ, suc, Bool, not, ◌&&◌, bytes_eq, List, [], ◌∷◌, ◌++◌, map, filter, filter_map, flat_map, Option, Some, None, if◌then◌else◌}
+use Rattle.std.specs.Prelude.{Bool, not, ◌&&◌, bytes_eq, List, ◌++◌, map, filter, filter_map, flat_map, Option, Some, None, if◌then◌else◌}
 use Rattle.std.specs.List.{list_any}
 use Rattle.ir_tables.specs.declared.linkage.Linkage.{Linkage}
 use Rattle.ir_tables.specs.declared.linkage.Linkage.TheVariants.{External, Private, Internal, Appending, ExternWeak}
 use Rattle.type_table.specs.Tree.{Tree, array}
-use Rattle.module_arena.specs.Module.{Bytes, Numbered, Aggregate, Square, no_constants, Parameter, Variable, AliasType, PlainType, FunctionType, Alias, Function, Module}
+use Rattle.module_arena.specs.Functions.{numbered_parameters}
+use Rattle.module_arena.specs.Module.{Bytes, Aggregate, Square, no_constants, Variable, AliasType, PlainType, FunctionType, Alias, Function, Module}
 use Rattle.module_arena.specs.UsedNames.{names_in_variable, names_in_function}
 use Rattle.extract_core.specs.declared.selection.Selection.{Selection}
 use Rattle.extract_core.specs.Selected.{is_among, keeps_variable, keeps_function, keeps_alias}
@@ -34,14 +35,9 @@ abbrev pub declared_variable : Linkage → Variable → Variable
 declared_variable Appending v = record v { ty = without_elements v.ty; initialiser = Some (Aggregate Square no_constants) }
 declared_variable linkage v = record v { linkage = declared_linkage linkage; initialiser = None }
 
--- parameters of these types with the numbers from n on as names
-abbrev pub numbered : ℕ → List Tree → List Parameter
-numbered n [] = []
-numbered n (t ∷ ts) = record { ty = t; name = Numbered n } ∷ numbered (suc n) ts
-
 -- the parameters of a declaration have the numbers from 0 as names
 abbrev pub declared_function : Function → Function
-declared_function f = record f { linkage = declared_linkage f.linkage; parameters = numbered 0 (map (λ p. p.ty) f.parameters); body = None }
+declared_function f = record f { linkage = declared_linkage f.linkage; parameters = numbered_parameters 0 (map (λ p. p.ty) f.parameters); body = None }
 
 -- the variable of that name is never written
 abbrev pub is_constant : Module → Bytes → Bool
@@ -60,7 +56,7 @@ alias_as_function name (FunctionType signature) = Some (record {
   name = name;
   linkage = External;
   returns = signature.returns;
-  parameters = numbered 0 signature.parameters;
+  parameters = numbered_parameters 0 signature.parameters;
   variadic = signature.variadic;
   body = None;
 })

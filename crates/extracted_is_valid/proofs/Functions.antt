@@ -11,10 +11,10 @@ use Rattle.module_arena.specs.Module.{Parameter, Variable, AliasType, PlainType,
 use Rattle.module_arena.specs.TypeTests.{is_passable}
 use Rattle.module_arena.specs.declared.host.HostRow.{HostRow}
 use Rattle.module_arena.specs.HostRows.{host_row, host_types, same_signature, is_declared_as}
-use Rattle.module_arena.specs.Functions.{blocks}
+use Rattle.module_arena.specs.Functions.{blocks, numbered_parameters}
 use Rattle.module_arena.specs.EntryRules.{linkage_suits, is_common, is_appending, is_lasting, is_llvm_name, function_name_suits, return_suits, alias_types_suit}
 use Rattle.module_arena.specs.Valid.{AllHold, alias_demands, function_demands}
-use Rattle.extract_core.specs.Extracted.{kept_linkage, declared_linkage, numbered, declared_function, alias_as_function}
+use Rattle.extract_core.specs.Extracted.{kept_linkage, declared_linkage, declared_function, alias_as_function}
 use Rattle.extracted_is_valid.proofs.Bodies.{NoMore, with_entries, body_same}
 
 -- LINKAGES
@@ -103,11 +103,11 @@ declared_suits WeakOdr = (refl, refl, refl)
 abbrev type_of : Parameter → Tree
 type_of p = p.ty
 
-types_numbered : (k : ℕ) (ts : List Tree) → map type_of (numbered k ts) ≡ ts
+types_numbered : (k : ℕ) (ts : List Tree) → map type_of (numbered_parameters k ts) ≡ ts
 types_numbered k [] = refl
 types_numbered k (t ∷ ts) = ap (λ l. t ∷ l) (types_numbered (suc k) ts)
 
-pub passable_from : (test : Tree → Bool) (k : ℕ) (ts : List Tree) → list_all (λ (p : Parameter). test p.ty) (numbered k ts) ≡ list_all test ts
+pub passable_from : (test : Tree → Bool) (k : ℕ) (ts : List Tree) → list_all (λ (p : Parameter). test p.ty) (numbered_parameters k ts) ≡ list_all test ts
 passable_from test k [] = refl
 passable_from test k (t ∷ ts) = ap (λ b. test t && b) (passable_from test (suc k) ts)
 
@@ -115,7 +115,7 @@ passable_types : (test : Tree → Bool) (ps : List Parameter) → list_all test 
 passable_types test [] = refl
 passable_types test (p ∷ ps) = ap (λ b. test p.ty && b) (passable_types test ps)
 
-pub passable_numbered : (test : Tree → Bool) (ps : List Parameter) → list_all (λ (p : Parameter). test p.ty) (numbered 0 (map type_of ps)) ≡ list_all (λ (p : Parameter). test p.ty) ps
+pub passable_numbered : (test : Tree → Bool) (ps : List Parameter) → list_all (λ (p : Parameter). test p.ty) (numbered_parameters 0 (map type_of ps)) ≡ list_all (λ (p : Parameter). test p.ty) ps
 passable_numbered test ps = passable_from test 0 (map type_of ps) ∙ passable_types test ps
 
 row_kept : (f : Function) (row : HostRow) → is_declared_as row f ≡ true → is_declared_as row (declared_function f) ≡ true

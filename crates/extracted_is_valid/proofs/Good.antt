@@ -7,7 +7,7 @@ use Rattle.std.proofs.lemmas.Option.{same_Some}
 use Rattle.ir_tables.specs.declared.linkage.Linkage.TheVariants.{External}
 use Rattle.type_table.specs.Tree.{Tree}
 use Rattle.module_arena.specs.Module.{Bytes, Numbered, Parameter, Variable, AliasType, PlainType, FunctionType, Alias, Function, Module}
-use Rattle.module_arena.specs.Functions.{variable_names, alias_names, function_names}
+use Rattle.module_arena.specs.Functions.{variable_names, alias_names, function_names, numbered_parameters}
 use Rattle.module_arena.specs.EntryRules.{is_lasting, is_lasting_variable, is_lasting_function, target_suits}
 use Rattle.module_arena.specs.Valid.{AllHold, IsValid, alias_demands}
 use Rattle.module_arena.specs.WellFormed.{IsWellFormed, is_good_type, is_good_function, is_good_alias, types_of_alias, has_entry}
@@ -15,13 +15,13 @@ use Rattle.extracted_is_valid.proofs.Lists.{all_units, all_tests, all_tested, al
 use Rattle.extracted_is_valid.proofs.Numbers.{numbers, declared_names}
 use Rattle.extract_core.specs.declared.selection.Selection.{Selection}
 use Rattle.extract_core.specs.Selected.{is_among, keeps_function, keeps_alias}
-use Rattle.extract_core.specs.Extracted.{kept_names, kept_linkage, numbered, declared_function, extracted_function, extracted_alias, alias_as_function, declared_aliases, Extracted}
+use Rattle.extract_core.specs.Extracted.{kept_names, kept_linkage, declared_function, extracted_function, extracted_alias, alias_as_function, declared_aliases, Extracted}
 use Rattle.extracted_is_valid.proofs.Functions.{passable_numbered, passable_from}
 use Rattle.extracted_is_valid.proofs.Kept.{all_filtered, any_key, any_front, any_back, any_follow, either}
 use Rattle.extracted_is_valid.proofs.Stays.{turned, aliases_hold, target_stays}
 use Rattle.extracted_is_valid.proofs.Gathered.{both_all, made_all}
 
-names_numbered : (k : ℕ) (ts : List Tree) → map (λ (p : Parameter). p.name) (numbered k ts) ≡ numbers k ts
+names_numbered : (k : ℕ) (ts : List Tree) → map (λ (p : Parameter). p.name) (numbered_parameters k ts) ≡ numbers k ts
 names_numbered k [] = refl
 names_numbered k (t ∷ ts) = ap (λ l. Numbered k ∷ l) (names_numbered (suc k) ts)
 
@@ -42,7 +42,7 @@ module _ (m : Module) (s : Selection) (good : IsWellFormed m) (valid : IsValid m
       by_type : (t : AliasType) → list_all (is_good_type m.structs) (types_of_alias t) ≡ true → alias_as_function a.name t ≡ Some g → is_good_function n g ≡ true
       by_type (PlainType t) k e = cc
       by_type (FunctionType signature) k e =
-          let x : Function = record { name = a.name; linkage = External; returns = signature.returns; parameters = numbered 0 signature.parameters; variadic = signature.variadic; body = None } in
+          let x : Function = record { name = a.name; linkage = External; returns = signature.returns; parameters = numbered_parameters 0 signature.parameters; variadic = signature.variadic; body = None } in
           let one = and_parts (is_good_type m.structs signature.returns) _ k in
           subst (λ (y : Function). is_good_function n y ≡ true) (same_Some x g e)
           (and_from _ _ one.0 (and_from _ _ (passable_from (is_good_type m.structs) 0 signature.parameters ∙ one.1)

@@ -1,8 +1,8 @@
 -- For `Checked::seal`: what a function has: blocks, values with their types, edges, and how large it is.
-use Rattle.std.specs.Prelude.{ℕ, ◌+◌, ◌*◌, Bool, nat_lt, List, [], ◌++◌, map, length, find, flat_map, sum_by, count_by, Option, Some, None, is_some, option_to_list}
+use Rattle.std.specs.Prelude.{ℕ, suc, ◌+◌, ◌*◌, Bool, nat_lt, List, [], ◌∷◌, ◌++◌, map, length, find, flat_map, sum_by, count_by, Option, Some, None, is_some, option_to_list}
 use Rattle.type_table.specs.Tree.{Tree, Structs}
 use Rattle.module_arena.specs.declared.entry.TheConstants.{LARGEST_PRODUCT}
-use Rattle.module_arena.specs.Module.{Bytes, LocalName, Instruction, Block, Parameter, Function, Module}
+use Rattle.module_arena.specs.Module.{Bytes, LocalName, Numbered, Instruction, Block, Parameter, Function, Module}
 use Rattle.module_arena.specs.Same.{same_local}
 use Rattle.module_arena.specs.Operations.{result_type}
 
@@ -18,6 +18,11 @@ blocks f = body f.body
 -- the name of the result, where there is one
 abbrev pub result_name : Instruction → List LocalName
 result_name i = option_to_list i.result
+
+-- parameters of these types with the numbers from n on as names
+abbrev pub numbered_parameters : ℕ → List Tree → List Parameter
+numbered_parameters n [] = []
+numbered_parameters n (t ∷ ts) = record { ty = t; name = Numbered n } ∷ numbered_parameters (suc n) ts
 
 -- a parameter or result: its name and, where there is one, its type
 abbrev pub Definition : Type 0

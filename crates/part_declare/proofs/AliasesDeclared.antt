@@ -17,7 +17,7 @@ use Rattle.module_arena.specs.declared.entry.GlobalId.TheVariants as global
 use Rattle.module_arena.specs.declared.entry.Parameter as the_parameter
 use Rattle.module_arena.specs.declared.entry.Variable as the_variable
 use Rattle.module_arena.specs.Changes.{with_variable, with_alias, with_function, variable_in, alias_in, function_in, more_variables, more_aliases, more_functions}
-use Rattle.module_arena.specs.Functions.{alias_names}
+use Rattle.module_arena.specs.Functions.{alias_names, numbered_parameters}
 use Rattle.module_arena.specs.Known.{Counts, counts, HasGlobal, AreDistinct, IsGood, KnowsAlias, alias_types}
 use Rattle.module_arena.specs.Lists.{Lists, global_name, name_at}
 use Rattle.module_arena.specs.Module.{Bytes, Variable, Alias, Module}
@@ -30,7 +30,7 @@ use Rattle.type_build.specs.Stands.{IsType}
 use Rattle.type_build.proofs.Untargeted.{untargeted_more}
 use Rattle.entry_copy.specs.Copies.{IsAliasType}
 use Rattle.entry_copy.proofs.ConstantsCopied.{name_is as name_here}
-use Rattle.extract_core.specs.Extracted.{kept_linkage, is_constant, numbered, alias_as_variable, alias_as_function}
+use Rattle.extract_core.specs.Extracted.{kept_linkage, is_constant, alias_as_variable, alias_as_function}
 use Rattle.extract_core.proofs.Among.{any_key}
 use Rattle.extract_core.proofs.Entries.{at_one, nowhere, name_is, all_get}
 use Rattle.extract_core.proofs.Keeping.{alias_at}
@@ -208,17 +208,17 @@ module _ (a b : Lists) (m : Module) (id : ℕ) (x : the_alias.Alias) (at : slice
       first ∙ (λ i. with_declared m (option_to_list (as_variable i)) [] (option_to_list (as_function i))) ∙ ap (λ y. with_alias_as M m Declared y) (same w e)
 
   pub function_joined : (name : Bytes) (returns new : ℕ) (ps : List ℕ) (variadic : Bool) (copy : List the_parameter.Parameter) → name ≡ x.name → x.ty ≡ alias_type.Function returns ps variadic
-      → IsType b new (type_at (trees a.table) returns) → AreParameters b copy (numbered 0 (map (type_at (trees a.table)) ps))
+      → IsType b new (type_at (trees a.table) returns) → AreParameters b copy (numbered_parameters 0 (map (type_at (trees a.table)) ps))
       → (w : Alias) → slice_get M.aliases id ≡ Some w
       → more_functions m (function_in b (record { name = name; linkage = External; result = new; parameters = copy; variadic = variadic; body = None })) ≡ with_alias_as M m Declared w
   function_joined name returns new ps variadic copy called plain is are w e =
       let tree = is.tree in
       let parameters = are.parameters in
       let as_variable : None ≡ alias_as_variable M seen.name seen.target seen.ty = ap (λ y. alias_as_variable M seen.name seen.target (alias_type_view (trees a.table) y)) (sym plain) in
-      let as_function : Some (record { name = x.name; linkage = External; returns = type_at (trees a.table) returns; parameters = numbered 0 (map (type_at (trees a.table)) ps); variadic = variadic; body = None }) ≡ alias_as_function seen.name seen.ty
+      let as_function : Some (record { name = x.name; linkage = External; returns = type_at (trees a.table) returns; parameters = numbered_parameters 0 (map (type_at (trees a.table)) ps); variadic = variadic; body = None }) ≡ alias_as_function seen.name seen.ty
       = ap (λ y. alias_as_function seen.name (alias_type_view (trees a.table) y)) (sym plain) in
       let first : more_functions m (function_in b (record { name = name; linkage = External; result = new; parameters = copy; variadic = variadic; body = None }))
-      ≡ with_declared m (option_to_list None) [] (option_to_list (Some (record { name = x.name; linkage = External; returns = type_at (trees a.table) returns; parameters = numbered 0 (map (type_at (trees a.table)) ps); variadic = variadic; body = None }))) =
+      ≡ with_declared m (option_to_list None) [] (option_to_list (Some (record { name = x.name; linkage = External; returns = type_at (trees a.table) returns; parameters = numbered_parameters 0 (map (type_at (trees a.table)) ps); variadic = variadic; body = None }))) =
       λ i. record m {
         variables = sym (append-nil m.variables) i;
         aliases = sym (append-nil m.aliases) i;

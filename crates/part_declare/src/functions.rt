@@ -1,7 +1,6 @@
 //! Functions, declared as what they become.
 ghost use Rattle.std.specs.Prelude.{◌≡◌, ◌++◌, ◌+◌, ◌<◌, map, length, slice_get, option_to_list, All, Some, IfOk, OnOk, ◌≢◌};
-ghost use Rattle.extract_core.specs.Extracted.{numbered};
-ghost use Rattle.module_arena.specs.Functions.{function_names};
+ghost use Rattle.module_arena.specs.Functions.{function_names, numbered_parameters};
 ghost use Rattle.module_arena.specs.Lists.{Lists, global_name};
 ghost use Rattle.module_arena.specs.Module as m;
 ghost use Rattle.module_arena.specs.Module.{Bytes};
@@ -28,7 +27,7 @@ pub(crate) fn numbered_parameters(
     types: &TypeList,
 ) -> Result<ParameterList, AllocError>
     ensures { (a b : Lists) → HasTypes a b copier.now → All (λ id. id < length a.table.types) types.now
-        → IfOk result (λ copy. AreParameters b copy (numbered 0 (map (type_at (trees a.table)) types.now))) }
+        → IfOk result (λ copy. AreParameters b copy (numbered_parameters 0 (map (type_at (trees a.table)) types.now))) }
 {
     let mut parameters = ItemList::new(alloc);
     'parameters: for place in 0..types.len() {

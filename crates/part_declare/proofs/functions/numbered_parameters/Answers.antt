@@ -1,8 +1,8 @@
 use Rattle.std.proofs.Common.{◌≡◌, [], length, map, sym, subst, arith}
 use Rattle.type_table.specs.Types.{trees}
+use Rattle.module_arena.specs.Functions.{numbered_parameters}
 use Rattle.module_arena.specs.View.{type_at}
 use Rattle.type_build.specs.Parameters.{AreParameters}
-use Rattle.extract_core.specs.Extracted.{numbered}
 use Rattle.extract_core.proofs.Adding.{take_whole}
 use Rattle.part_declare.proofs.Numbering.{numbered_step, no_parameters}
 use Rattle.part_declare.proofs.functions.numbered_parameters.Goals as goal
@@ -25,4 +25,4 @@ returns c = λ a b h known.
     let k = c.parameters.place in
     let upto = c.parameters.invariant.upto in
     let end : k ≡ length types = omega (arith, upto, c.parameters-test.false, c.len-place-end.ensures) in
-    subst (λ l. AreParameters b c.parameters.parameters (numbered 0 (map (type_at (trees a.table)) l))) (take_whole types k end) (c.parameters.invariant.are a b h known)
+    subst (λ l. AreParameters b c.parameters.parameters (numbered_parameters 0 (map (type_at (trees a.table)) l))) (take_whole types k end) (c.parameters.invariant.are a b h known)
