@@ -18,6 +18,7 @@ use Rattle.module_arena.specs.declared.constant.Const as the_const
 use Rattle.module_arena.specs.declared.constant.Const.TheVariants as const
 use Rattle.module_arena.specs.declared.constant.TypedConst.{TypedConst}
 use Rattle.module_arena.specs.declared.entry.Variable as the_variable
+use Rattle.module_arena.specs.Constants.{constants_listed}
 use Rattle.module_arena.proofs.ConstantsTold.{const_known, constant_here}
 use Rattle.linkage_rules.specs.declared.entry.EntryId.{EntryId}
 use Rattle.linkage_rules.specs.declared.symbol.SymbolKind.TheVariants as kind
@@ -30,7 +31,6 @@ use Rattle.linked_contents.specs.Contents.{ContentPiece, elements_in, elements_o
 use Rattle.module_linker.specs.Linked.{linked_constant, linked_pieces}
 use Rattle.module_linker.specs.Structs.{linked_type}
 use Rattle.type_build.specs.Stands.{AreTyped, IsConstant, IsKnownTyped, typed_at}
-use Rattle.type_build.specs.Typed.{constants_listed}
 use Rattle.type_build.proofs.Made.{constants_at-listed}
 use Rattle.entry_copy.specs.Moved.{moved_typed}
 use Rattle.entry_copy.specs.Tables.{Tables}

@@ -15,6 +15,11 @@ use Rattle.module_arena.specs.TypeTests.{is_integer, is_integer_of, is_pointer, 
 abbrev pub Typed : Type 0
 Typed = Tree × Constant
 
+-- these constants with their types, one behind the other
+abbrev pub constants_listed : List (Tree × Constant) → Constants
+constants_listed [] = no_constants
+constants_listed (c ∷ cs) = more_constants c.0 c.1 (constants_listed cs)
+
 abbrev mutual
   -- the constant and all constants within it, at any depth, from left to right
   pub constants_in : Tree → Constant → List Typed

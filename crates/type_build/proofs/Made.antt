@@ -4,13 +4,14 @@ use Rattle.ir_constants.specs.Tree.{TypeTree, types, TypedConstantTree, constant
 use Rattle.type_table.specs.Tree.{Tree, more_trees, Trees, no_trees}
 use Rattle.type_table.specs.Types.{trees, trees_at}
 use Rattle.module_arena.specs.declared.constant.TypedConst.{TypedConst}
+use Rattle.module_arena.specs.Constants.{constants_listed}
 use Rattle.module_arena.specs.Lists.{Lists}
 use Rattle.module_arena.specs.Module.{Constant}
 use Rattle.module_arena.specs.Module.Constants.{more_constants}
 use Rattle.module_arena.specs.View.{type_at, constant_at, constants_at, constants_of}
 use Rattle.name_rules.specs.Written.{type_in, types_in, constants_in}
 use Rattle.type_build.specs.Stands.{AreTypes, typed_at, AreTyped, IsTyped}
-use Rattle.type_build.specs.Typed.{typed_in, constants_listed}
+use Rattle.type_build.specs.Typed.{typed_in}
 
 -- these types, one behind the other
 abbrev pub trees_listed : List Tree → Trees

@@ -1,22 +1,16 @@
--- For `add_typed` of `Builder`: constants with the types that are written before them, as lists.
-use Rattle.std.specs.Prelude.{◌≡◌, ℕ, ◌-◌, ◌%◌, ◌^◌, Bool, if◌then◌else◌, List, [], ◌∷◌}
+-- For `add_typed` of `Builder`: constants with the types that are written before them.
+use Rattle.std.specs.Prelude.{◌≡◌, ℕ, ◌-◌, ◌%◌, ◌^◌, Bool, if◌then◌else◌}
 use Rattle.ir_tables.specs.declared.opcode.Opcode.{Opcode}
 use Rattle.module_arena.specs.declared.constant.Const.{Const}
 use Rattle.module_arena.specs.declared.constant.Const.TheVariants as const
 use Rattle.ir_constants.specs.Tree.{TypedConstantTree}
 use Rattle.type_table.specs.Tree.{Tree}
-use Rattle.module_arena.specs.Module.{Constant, Constants}
-use Rattle.module_arena.specs.Module.Constants.{no_constants, more_constants}
+use Rattle.module_arena.specs.Module.{Constant}
 use Rattle.name_rules.specs.Written.{type_in, constant_in}
 
 -- a constant that is written, and its type
 abbrev pub typed_in : TypedConstantTree → Tree × Constant
 typed_in written = (type_in written.0, constant_in (type_in written.0) written.1)
-
--- these constants with their types, one behind the other
-abbrev pub constants_listed : List (Tree × Constant) → Constants
-constants_listed [] = no_constants
-constants_listed (c ∷ cs) = more_constants c.0 c.1 (constants_listed cs)
 
 -- a constant of two others
 abbrev pub pair_of : Opcode → ℕ → Tree × Constant → Tree × Constant → Constant

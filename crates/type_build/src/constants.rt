@@ -2,13 +2,14 @@
 ghost use Rattle.std.specs.Prelude.{◌≡◌, ◌<◌, ◌^◌, map, length, All, IfOk, OnOk};
 ghost use Rattle.ir_constants.specs.View.{type_view, constant_view, typed_constant_view};
 ghost use Rattle.type_table.specs.Types.{trees, structs};
+ghost use Rattle.module_arena.specs.Constants.{constants_listed};
 ghost use Rattle.module_arena.specs.Module as m;
 ghost use Rattle.module_arena.specs.View.{brackets_view, type_at};
 ghost use Rattle.name_rules.specs.Written.{type_in, constant_in, bits_at, simple_at, brackets_in};
 ghost use Rattle.type_build.specs.Fitting.{CanBe};
 ghost use Rattle.type_build.specs.Holding.{entries, HasEntry, CanHold, CanHoldTyped};
 ghost use Rattle.type_build.specs.Stands.{IsConstant, IsKnownTyped, AreKnown, typed_at, AreTyped, IsTyped, Grows};
-ghost use Rattle.type_build.specs.Typed.{typed_in, constants_listed, pair_of, reduced_to, IsSimple};
+ghost use Rattle.type_build.specs.Typed.{typed_in, pair_of, reduced_to, IsSimple};
 
 use crate::builder::Builder;
 use crate::integers::reduced;
