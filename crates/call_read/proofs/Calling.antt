@@ -17,6 +17,7 @@ use Rattle.module_arena.specs.Lists.{Lists}
 use Rattle.module_arena.specs.Mentions.{result_of}
 use Rattle.module_arena.specs.Module as m
 use Rattle.module_arena.specs.TypeTests.{is_void}
+use Rattle.module_arena.proofs.Replaced.{one_all}
 use Rattle.record_table.specs.Constants.{value}
 use Rattle.record_table.specs.Fields.{Numbering, Texts, truth, ty}
 use Rattle.record_table.specs.Layout.{counted}
@@ -37,7 +38,6 @@ use Rattle.operand_read.proofs.Joined.{HasAny, HasBoth, also, and_then, behind, 
 use Rattle.line_read.specs.Kept.{HasInst, operation_in}
 use Rattle.line_read.proofs.Fields.{plain_in}
 use Rattle.line_read.proofs.Found.{mapped_two}
-use Rattle.line_read.proofs.Lists.{one_all}
 use Rattle.call_read.specs.declared.line.ReadLine.{ReadLine}
 use Rattle.call_read.specs.Calls.{IsNameOf, NamesResult, ReadsLine, ReadsBoth, ReadsReturned, ids_of, kept_call, operation_read}
 use Rattle.call_read.proofs.Heads.{name_stays, takes_walk}

@@ -16,6 +16,7 @@ use Rattle.module_arena.proofs.Found.{some-equal}
 use Rattle.std.specs.Prelude.{is_some}
 use Rattle.std.specs.Option.{option_map}
 use Rattle.std.proofs.lemmas.List.Elements.{All-nil}
+use Rattle.module_arena.proofs.Replaced.{one_all}
 use Rattle.record_table.specs.Walk.{Walk, next, ask, stop}
 use Rattle.record_table.specs.Layout.{number, found_or}
 use Rattle.record_table.specs.declared.form.ConstantForm as the_form
@@ -35,10 +36,6 @@ use Rattle.arena_read.proofs.Steps.{goes_reader, goes_two, kept_keeps, kept_read
 use Rattle.constant_read.specs.Made.{HasTyped, HasAll, KeepsMade, AreIndices, inner_of, nested_form, typed_of, cast_of, pair_of, address_of}
 
 -- ---- the parts are there
-
-one_all : {A : Type 0} (P : A → Type 0) (x : A) → P x → All P (x ∷ [])
-one_all P x h zero d lt = h
-one_all P x h (suc k) d lt = absurd (omega arith)
 
 two_all : {A : Type 0} (P : A → Type 0) (x y : A) → P x → P y → All P (x ∷ y ∷ [])
 two_all P x y h i zero d lt = h

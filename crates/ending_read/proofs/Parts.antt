@@ -13,6 +13,7 @@ use Rattle.module_arena.specs.declared.instruction.Operand.{Operand}
 use Rattle.module_arena.specs.declared.instruction.Value.TheVariants as the_value
 use Rattle.module_arena.specs.Lists.{Lists}
 use Rattle.module_arena.specs.Module as m
+use Rattle.module_arena.proofs.Replaced.{one_all}
 use Rattle.record_table.specs.Constants.{read_constant, value}
 use Rattle.record_table.specs.Fields.{Numbering, block, ty}
 use Rattle.record_table.specs.Layout.{Layout, ◌&◌, counted, either, either_by, number, option}
@@ -34,9 +35,6 @@ use Rattle.operand_read.specs.Found.{Finds, HasBlock, HasOperand, HasRoom, HasTy
 use Rattle.operand_read.proofs.Joined.{HasBoth, also, behind, both_in, none_found, put, put_so, starting}
 use Rattle.operand_read.proofs.Leaves.{const_found, given_found, type_is}
 use Rattle.ending_read.specs.Ends.{HasCase, HasEnding, HaveCases, ReadsEnding, case_in, cases_in, condition, ending_in, kept_branch, kept_case, kept_return, kept_switch}
-
-one_all : {A : Type 0} (P : A → Type 0) (x : A) → P x → All P (x ∷ [])
-one_all P x h = All-cons P x [] h (All-nil P)
 
 map_all : {A B : Type 0} (P : B → Type 0) (Q : A → Type 0) (f : A → B) (xs : List A) → ((x : A) → Q x → P (f x)) → All Q xs → All P (map f xs)
 map_all P Q f [] h all k d lt = absurd (omega arith)

@@ -18,6 +18,7 @@ use Rattle.module_arena.specs.Known.{AreDistinct}
 use Rattle.module_arena.specs.Lists.{Lists, global_name}
 use Rattle.module_arena.specs.Module as m
 use Rattle.module_arena.specs.Module.{Bytes}
+use Rattle.module_arena.proofs.Found.{slice_get-here, slice_get-beyond}
 use Rattle.record_table.specs.Faults.{Records, no_more, a_block, a_record}
 use Rattle.record_table.specs.Fields.{Texts}
 use Rattle.record_table.specs.Records.{Sofar, is_new}
@@ -133,14 +134,6 @@ get_front [] ys i x is = absurd (none-some x is)
 get_front (y ∷ xs) ys zero x is = is
 get_front (y ∷ xs) ys (suc i) x is = get_front xs ys i x is
 
-get_last : {A : Type 0} (xs : List A) (x : A) → slice_get (xs ++ x ∷ []) (length xs) ≡ Some x
-get_last [] x = refl
-get_last (y ∷ xs) x = get_last xs x
-
-get_past : {A : Type 0} (xs : List A) → slice_get xs (length xs) ≡ None
-get_past [] = refl
-get_past (x ∷ xs) = get_past xs
-
 named_front : {A : Type 0} (name : A → Bytes) (xs ys : List A) (i : ℕ) (k : Bytes) → option_map name (slice_get xs i) ≡ Some k → option_map name (slice_get (xs ++ ys) i) ≡ Some k
 named_front {A} name xs ys i k is = by (slice_get xs i) refl is
   where
@@ -185,7 +178,7 @@ module _ (texts : Texts) (types : ℕ) (final : Lists) where
     v_entry = variable_entry (front_of (variable_front texts types) operands).0
 
     v_none : global_name a (global.Variable (length a.variables)) ≡ None
-    v_none = ap (option_map (λ (v : the_variable.Variable). v.name)) (get_past a.variables)
+    v_none = ap (option_map (λ (v : the_variable.Variable). v.name)) (slice_get-beyond a.variables)
 
     pub variable_told : Declares texts types final names a (a_record 5 operands behind)
         → (is_new s v_entry.name ≡ true) ↔ ((g : GlobalId) → global_name final g ≡ Some v_entry.name → g ≡ global.Variable (length a.variables))
@@ -193,7 +186,7 @@ module _ (texts : Texts) (types : ℕ) (final : Lists) where
         subst (λ (x : Lists). (is_new s v_entry.name ≡ true) ↔ ((g : GlobalId) → global_name x g ≡ Some v_entry.name → g ≡ global.Variable (length a.variables))) (sym r.stays) (told_last a s f v_entry.name (global.Variable (length a.variables)) v_none)
     variable_told (inr on) =
         told_next a s f v_entry.name final (global.Variable (length a.variables)) distinct (λ g k is. entries_stay names (with_variable a v_entry) behind on g k (more_variable a v_entry g k is)) v_none
-        (entries_stay names (with_variable a v_entry) behind on (global.Variable (length a.variables)) v_entry.name (ap (option_map (λ (x : the_variable.Variable). x.name)) (get_last a.variables v_entry)))
+        (entries_stay names (with_variable a v_entry) behind on (global.Variable (length a.variables)) v_entry.name (ap (option_map (λ (x : the_variable.Variable). x.name)) (slice_get-here a.variables v_entry)))
 
     abbrev f_defined : Bool
     f_defined = (front_of (function_front texts types) operands).0.1.1.0
@@ -202,7 +195,7 @@ module _ (texts : Texts) (types : ℕ) (final : Lists) where
     f_entry = function_entry (names_for f_defined names) (front_of (function_front texts types) operands).0
 
     f_none : global_name a (global.Function (length a.functions)) ≡ None
-    f_none = ap (option_map (λ (h : the_function.Function). h.name)) (get_past a.functions)
+    f_none = ap (option_map (λ (h : the_function.Function). h.name)) (slice_get-beyond a.functions)
 
     pub function_told : Declares texts types final names a (a_record 6 operands behind)
         → (is_new s f_entry.name ≡ true) ↔ ((g : GlobalId) → global_name final g ≡ Some f_entry.name → g ≡ global.Function (length a.functions))
@@ -210,13 +203,13 @@ module _ (texts : Texts) (types : ℕ) (final : Lists) where
         subst (λ (x : Lists). (is_new s f_entry.name ≡ true) ↔ ((g : GlobalId) → global_name x g ≡ Some f_entry.name → g ≡ global.Function (length a.functions))) (sym r.stays) (told_last a s f f_entry.name (global.Function (length a.functions)) f_none)
     function_told (inr on) =
         told_next a s f f_entry.name final (global.Function (length a.functions)) distinct (λ g k is. entries_stay (names_behind f_defined names) (with_function a f_entry) behind on g k (more_function a f_entry g k is)) f_none
-        (entries_stay (names_behind f_defined names) (with_function a f_entry) behind on (global.Function (length a.functions)) f_entry.name (ap (option_map (λ (x : the_function.Function). x.name)) (get_last a.functions f_entry)))
+        (entries_stay (names_behind f_defined names) (with_function a f_entry) behind on (global.Function (length a.functions)) f_entry.name (ap (option_map (λ (x : the_function.Function). x.name)) (slice_get-here a.functions f_entry)))
 
     abbrev x_entry : the_alias.Alias
     x_entry = alias_entry (front_of (alias_front texts types) operands).0
 
     x_none : global_name a (global.Alias (length a.aliases)) ≡ None
-    x_none = ap (option_map (λ (h : the_alias.Alias). h.name)) (get_past a.aliases)
+    x_none = ap (option_map (λ (h : the_alias.Alias). h.name)) (slice_get-beyond a.aliases)
 
     pub alias_told : Declares texts types final names a (a_record 7 operands behind)
         → (is_new s x_entry.name ≡ true) ↔ ((g : GlobalId) → global_name final g ≡ Some x_entry.name → g ≡ global.Alias (length a.aliases))
@@ -224,7 +217,7 @@ module _ (texts : Texts) (types : ℕ) (final : Lists) where
         subst (λ (x : Lists). (is_new s x_entry.name ≡ true) ↔ ((g : GlobalId) → global_name x g ≡ Some x_entry.name → g ≡ global.Alias (length a.aliases))) (sym r.stays) (told_last a s f x_entry.name (global.Alias (length a.aliases)) x_none)
     alias_told (inr on) =
         told_next a s f x_entry.name final (global.Alias (length a.aliases)) distinct (λ g k is. entries_stay names (with_alias a x_entry) behind on g k (more_alias a x_entry g k is)) x_none
-        (entries_stay names (with_alias a x_entry) behind on (global.Alias (length a.aliases)) x_entry.name (ap (option_map (λ (x : the_alias.Alias). x.name)) (get_last a.aliases x_entry)))
+        (entries_stay names (with_alias a x_entry) behind on (global.Alias (length a.aliases)) x_entry.name (ap (option_map (λ (x : the_alias.Alias). x.name)) (slice_get-here a.aliases x_entry)))
 
 -- ---- names that are none
 

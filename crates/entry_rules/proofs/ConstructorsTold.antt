@@ -5,7 +5,6 @@ use Rattle.type_table.specs.Tree.{Tree, int, ptr, void, array, struct, named, Tr
 use Rattle.type_table.specs.Types.{Types, IsGood, trees, trees_at, names, tree, tree_of}
 use Rattle.type_table.specs.declared.ir_type.IrType.{IrType}
 use Rattle.type_table.specs.declared.ir_type.IrType.TheVariants as type
-use Rattle.type_verify.proofs.TypesTold.{tree_here}
 use Rattle.module_arena.specs.Changes.{constant_in}
 use Rattle.module_arena.specs.Constants.{Typed}
 use Rattle.module_arena.specs.EntryRules.{constructor_type, is_constructor, are_constructors, is_function_or_null, lists_constructors}
@@ -28,6 +27,7 @@ use Rattle.module_arena.specs.declared.constant.Const as the_const
 use Rattle.module_arena.specs.declared.constant.Const.TheVariants as const
 use Rattle.module_arena.specs.declared.constant.TypedConst.{TypedConst}
 use Rattle.module_arena.specs.declared.entry.GlobalId.{GlobalId}
+use Rattle.module_arena.proofs.HostTypesAgree.{tree_here}
 use Rattle.constant_verify.specs.ConstantParts.{typed_at, typed_list}
 use Rattle.constant_verify.proofs.PartsTold.{typed_listed}
 use Rattle.entry_rules.specs.Constructors.{are_constructor_parts, are_constructor_types, is_braces, is_constructor_at, is_number}

@@ -17,15 +17,13 @@ use Rattle.module_arena.specs.Known.{HasValue, HasOperand}
 use Rattle.module_arena.specs.Lists.{Lists}
 use Rattle.module_arena.specs.Module as m
 use Rattle.module_arena.specs.View.{constants_of, value_name, operand_view, incoming_view}
+use Rattle.module_arena.proofs.Replaced.{one_all as one}
 use Rattle.type_build.specs.Stands.{IsType}
 use Rattle.instruction_build.specs.Meant.{IsValue, IsOperand}
 use Rattle.instruction_build.specs.Parts.{Each, IsIncoming, IsSignature}
 use Rattle.instruction_build.proofs.Lists.{each_known, each_seen}
 use Rattle.instruction_build.proofs.Standing.{operand_known, operand_seen}
 use Rattle.instruction_build.specs.Made.{Makes}
-
-pub one : {X : Type 0} (P : X → Type 0) (x : X) → P x → All P (x ∷ [])
-one P x p = All-cons P x [] p (All-nil P)
 
 pub two : {X : Type 0} (P : X → Type 0) (x y : X) → P x → P y → All P (x ∷ y ∷ [])
 two P x y p q = All-cons P x (y ∷ []) p (one P y q)

@@ -10,11 +10,12 @@ use Rattle.module_arena.specs.Known.{HasOperand}
 use Rattle.module_arena.specs.Lists.{Lists}
 use Rattle.module_arena.specs.Module as m
 use Rattle.module_arena.specs.View.{constants_of, case_view}
+use Rattle.module_arena.proofs.Replaced.{one_all}
 use Rattle.instruction_build.specs.Meant.{IsOperand, IsEnding}
 use Rattle.instruction_build.specs.Parts.{Each, IsTarget, IsCase}
 use Rattle.instruction_build.proofs.Lists.{each_known, each_seen}
 use Rattle.instruction_build.proofs.Standing.{operand_known, operand_seen}
-use Rattle.instruction_build.proofs.Assembled.{one, two}
+use Rattle.instruction_build.proofs.Assembled.{two}
 
 module _ (values blocks : List m.LocalName) (a : Lists) where
   abbrev O : the_operand.Operand → Type 0
@@ -32,17 +33,17 @@ module _ (values blocks : List m.LocalName) (a : Lists) where
   pub ends_return : (operand : the_operand.Operand) (e : m.Operand) → IsOperand values blocks a operand e → IsEnding values blocks a (ending.Return operand) (m.Return e)
   ends_return operand e h =
       let view = operand_seen values blocks a operand e h in
-      record { operands_known = one O operand (operand_known values blocks a operand e h); targets_known = All-nil B; ending = λ j. m.Return (view j) }
+      record { operands_known = one_all O operand (operand_known values blocks a operand e h); targets_known = All-nil B; ending = λ j. m.Return (view j) }
 
   pub ends_jump : (target : ℕ) (name : m.LocalName) → IsTarget blocks target name → IsEnding values blocks a (ending.Jump target) (m.Jump name)
-  ends_jump target name h = record { operands_known = All-nil O; targets_known = one B target h.known; ending = λ j. m.Jump (h.name j) }
+  ends_jump target name h = record { operands_known = All-nil O; targets_known = one_all B target h.known; ending = λ j. m.Jump (h.name j) }
 
   pub ends_branch : (condition : the_operand.Operand) (e : m.Operand) (then_to : ℕ) (x : m.LocalName) (else_to : ℕ) (y : m.LocalName) → IsOperand values blocks a condition e → IsTarget blocks then_to x → IsTarget blocks else_to y
       → IsEnding values blocks a (ending.Branch condition then_to else_to) (m.Branch e x y)
   ends_branch condition e then_to x else_to y h k l =
       let view = operand_seen values blocks a condition e h in
       record {
-        operands_known = one O condition (operand_known values blocks a condition e h);
+        operands_known = one_all O condition (operand_known values blocks a condition e h);
         targets_known = two B then_to else_to k.known l.known;
         ending = λ j. m.Branch (view j) (k.name j) (l.name j);
       }

@@ -6,6 +6,7 @@ use Rattle.type_table.specs.Layout.{has_layout, have_layouts, size}
 use Rattle.type_table.specs.Limits.{IsWithinLimits, Fits, array_length}
 use Rattle.type_table.specs.Shape.{Shape, int_leaf, ptr_leaf, void_leaf, opaque_leaf, array_of, struct_of, Shapes, no_shapes, more_shapes, Label, with_first, expanded, all_expanded, body_shape, name_shape, shape, nesting, deepest, parts, all_parts}
 use Rattle.type_table.specs.Tree.{Tree, int, ptr, void, array, struct, named, Trees, no_trees, more_trees, TreeBody, opaque_body, fields, Structs, body_of}
+use Rattle.module_arena.proofs.Found.{some-equal as some_shape}
 
 -- each name stands for what it does in the whole, or for nothing that is known
 abbrev pub AreLess : Structs → Structs → Type 0
@@ -67,9 +68,6 @@ Lesser x o = (y : Shape) × (o ≡ Some y) × IsLess x y
 
 abbrev AllLesser : Shapes → Option Shapes → Type 0
 AllLesser xs o = (ys : Shapes) × (o ≡ Some ys) × AllLess xs ys
-
-some_shape : {A : Type 0} {x y : A} → Some x ≡ Some y → x ≡ y
-some_shape e = cc
 
 module _ (part whole : List ℕ → Option Shape) (less : (n : List ℕ) (x : Shape) → whole n ≡ Some x → Lesser x (part n)) where
   array_lesser : (n : ℕ) (o p : Option Shape) → ((z : Shape) → o ≡ Some z → Lesser z p) → (x : Shape) → option_map (array_of n) o ≡ Some x → Lesser x (option_map (array_of n) p)

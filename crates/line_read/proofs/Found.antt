@@ -15,6 +15,7 @@ use Rattle.module_arena.specs.declared.instruction.Operand.{Operand}
 use Rattle.module_arena.specs.declared.instruction.Value.{Value}
 use Rattle.module_arena.specs.Lists.{Lists}
 use Rattle.module_arena.specs.Module as m
+use Rattle.module_arena.proofs.Replaced.{one_all}
 use Rattle.record_table.specs.Constants.{value}
 use Rattle.record_table.specs.Fields.{Numbering, block, flags, index, predicate, ty}
 use Rattle.record_table.specs.Layout.{counted_some}
@@ -34,7 +35,7 @@ use Rattle.operand_read.proofs.Leaves.{type_found, type_is}
 use Rattle.line_read.specs.Kept.{GivesInst, HasInst, HasIncoming, HasIndices, HaveIncoming, all_incoming_in, incoming_in, indices_in, kept_binary, kept_choice, kept_comparison, kept_conversion, kept_extraction, kept_incoming, kept_insertion, kept_phi, operation_in}
 use Rattle.line_read.specs.Operations.{computation, conversion, operation}
 use Rattle.line_read.proofs.Fields.{plain_in}
-use Rattle.line_read.proofs.Lists.{map_all, map_same, one_all}
+use Rattle.line_read.proofs.Lists.{map_all, map_same}
 
 -- what is made twice over
 pub mapped_two : {A B C : Type 0} (f : B → C) (g : A → B) (x : Option A) → option_map f (option_map g x) ≡ option_map (λ y. f (g y)) x

@@ -1,10 +1,6 @@
 -- What holds of the parts of an instruction, each in a list.
 use Rattle.std.proofs.Common.{◌≡◌, zero, suc, List, [], ◌∷◌, map, All, refl, ap, arith}
 
-pub one_all : {A : Type 0} (P : A → Type 0) (x : A) → P x → All P (x ∷ [])
-one_all P x h zero d lt = h
-one_all P x h (suc k) d lt = absurd (omega arith)
-
 pub map_all : {A B : Type 0} (P : B → Type 0) (Q : A → Type 0) (f : A → B) (xs : List A) → ((x : A) → Q x → P (f x)) → All Q xs → All P (map f xs)
 map_all P Q f [] h all k d lt = absurd (omega arith)
 map_all P Q f (x ∷ xs) h all zero d lt = h x (all 0 x (omega arith))

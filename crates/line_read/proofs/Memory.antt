@@ -8,6 +8,7 @@ use Rattle.type_table.specs.Tree.{ptr}
 use Rattle.module_arena.specs.declared.instruction.Operand.{Operand}
 use Rattle.module_arena.specs.Lists.{Lists}
 use Rattle.module_arena.specs.Module as m
+use Rattle.module_arena.proofs.Replaced.{one_all}
 use Rattle.record_table.specs.Fields.{alignment, flags, ty}
 use Rattle.record_table.specs.Layout.{counted, option}
 use Rattle.record_table.specs.Lines.{typed_value}
@@ -18,7 +19,6 @@ use Rattle.operand_read.proofs.Joined.{HasAny, also, put_so}
 use Rattle.line_read.specs.Kept.{DoesInst, GivesInst, kept_alloca, kept_load, kept_steps, kept_store, operation_in}
 use Rattle.line_read.specs.Operations.{operation}
 use Rattle.line_read.proofs.Fields.{plain_in}
-use Rattle.line_read.proofs.Lists.{one_all}
 
 pub load_found : (defined : ℕ) (a b c d e : ModuleReader) (bits : ℕ) (t : Option ℕ) (x : Option Operand) (align : Option ℕ) → Finds HasAny plain_in (λ k. (flags op.Load).read) a b (Some bits) → Finds HasType type_in (λ k. (ty k).read) b c t
     → Finds HasOperand operand_in (λ k. operand_at k ptr) c d x → Finds HasAny plain_in (λ k. alignment.read) d e (Some align)

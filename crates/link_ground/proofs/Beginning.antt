@@ -11,11 +11,11 @@ use Rattle.type_table.specs.Types.{IsGood, names, trees, tree_struct}
 use Rattle.module_arena.specs.Lists.{Lists}
 use Rattle.module_arena.specs.Module.{Bytes, Module}
 use Rattle.module_arena.specs.View.{module_of}
+use Rattle.module_arena.proofs.ModuleSet.{map_map}
 use Rattle.linkage_rules.specs.Ids.{modules}
 use Rattle.linkage_rules.specs.declared.symbol.Symbol.{Symbol}
 use Rattle.module_linker.specs.Linked.{link_result}
 use Rattle.module_linker.specs.Structs.{struct_map, new_struct, linked_struct}
-use Rattle.module_linker.proofs.Searches.{map_map}
 use Rattle.type_build.proofs.Staying.{names_same}
 use Rattle.item_build.specs.Named.{named_table}
 use Rattle.item_build.proofs.Named.{partly_named}

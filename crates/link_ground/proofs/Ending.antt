@@ -11,6 +11,7 @@ use Rattle.module_arena.specs.Lists.{Lists}
 use Rattle.module_arena.specs.Module.{Bytes, Module, empty_module}
 use Rattle.module_arena.specs.View.{module_of}
 use Rattle.module_arena.specs.WellFormed.{IsWellFormed}
+use Rattle.module_arena.proofs.ModuleSet.{map_map}
 use Rattle.linkage_rules.specs.Entries.{part_at, symbol_name}
 use Rattle.linkage_rules.specs.Ids.{modules}
 use Rattle.linkage_rules.specs.declared.symbol.Symbol.{Symbol}
@@ -21,7 +22,7 @@ use Rattle.module_linker.specs.Structs.{struct_symbols, same_struct, struct_map,
 use Rattle.module_linker.proofs.Agreed.{all_from_at}
 use Rattle.module_linker.proofs.Apart.{Apart, apart_firsts, lookup_at}
 use Rattle.module_linker.proofs.Parts.{structs_by}
-use Rattle.module_linker.proofs.Searches.{at_all, map_map}
+use Rattle.module_linker.proofs.Searches.{at_all}
 use Rattle.module_linker.proofs.StructRows.{Key, same_key, key_self, key_exact, key, first_keys, first_structs, struct_keys, index_at, struct_names}
 use Rattle.module_linker.proofs.Symbols.{all_firsts}
 use Rattle.type_build.proofs.Staying.{names_same}

@@ -1,7 +1,6 @@
 -- The texts of the module that lists stand for.
 use Rattle.std.proofs.Common.{◌≡◌, refl}
-use Rattle.module_arena.specs.Lists.{Lists, no_lists}
-use Rattle.module_arena.specs.Module.{empty_module}
+use Rattle.module_arena.specs.Lists.{Lists}
 use Rattle.module_arena.specs.View.{module_of}
 
 pub source_is : (a : Lists) → (module_of a).source ≡ a.source
@@ -15,7 +14,3 @@ layout_is a = refl
 pub triple_is : (a : Lists) → (module_of a).triple ≡ a.triple
 unfolding module_of
 triple_is a = refl
-
-pub empty_is : module_of no_lists ≡ empty_module
-unfolding module_of
-empty_is = refl

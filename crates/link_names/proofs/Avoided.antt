@@ -4,6 +4,7 @@ use Rattle.std.specs.Prelude.{slice_get}
 use Rattle.std.proofs.lemmas.List.Folds.{list_any-append}
 use Rattle.module_arena.specs.Lists.{Lists}
 use Rattle.module_arena.specs.Module.{Bytes, Module}
+use Rattle.module_arena.proofs.ModuleSet.{map_map}
 use Rattle.linkage_rules.specs.declared.entry.EntryId.{EntryId}
 use Rattle.linkage_rules.specs.declared.symbol.Symbol.{Symbol}
 use Rattle.linkage_rules.specs.declared.symbol.Symbol.TheVariants.{Shared, Local}
@@ -14,7 +15,6 @@ use Rattle.linkage_rules.specs.Ids.{modules, seen}
 use Rattle.linkage_rules.specs.Lists.{has}
 use Rattle.linkage_rules.proofs.Steps.{map_step, take_more}
 use Rattle.module_linker.specs.Rename.{all_names, shared_names}
-use Rattle.module_linker.proofs.Searches.{map_map}
 use Rattle.link_names.specs.Naming.{HasMore, HasOneMore}
 
 turned : (a b c : Bool) → (b || (a || c)) ≡ ((a || b) || c)

@@ -11,11 +11,11 @@ use Rattle.type_table.proofs.UnderIds.{index_of-at, body_of-place}
 use Rattle.module_arena.specs.Lists.{Lists}
 use Rattle.module_arena.specs.Module.{Bytes, Module}
 use Rattle.module_arena.specs.Renamed.{renamed_body}
+use Rattle.module_arena.proofs.ModuleSet.{map_map}
 use Rattle.linkage_rules.specs.Entries.{structs_at}
 use Rattle.module_linker.specs.Linked.{link_result}
 use Rattle.module_linker.specs.Structs.{struct_map, new_struct, linked_struct}
 use Rattle.module_linker.proofs.Apart.{Apart}
-use Rattle.module_linker.proofs.Searches.{map_map}
 use Rattle.module_linker.proofs.StructRows.{index_at, struct_names}
 use Rattle.item_build.specs.Partly.{IsDone, body_at}
 use Rattle.item_build.proofs.Partly.{body_is}

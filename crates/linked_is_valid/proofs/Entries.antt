@@ -1,5 +1,5 @@
 -- What variables, functions and aliases are asked for holds of them under new names, and of declarations made of them.
-use Rattle.std.proofs.Common.{◌≡◌, ℕ, Bool, true, false, not, ◌&&◌, ◌||◌, List, [], ◌∷◌, map, Option, Some, None, refl, ap, ap₂, ◌∙◌, subst, option_map, is_some, is_none, option_to_list}
+use Rattle.std.proofs.Common.{◌≡◌, ℕ, Bool, true, false, not, ◌&&◌, ◌||◌, List, [], ◌∷◌, map, Option, Some, None, refl, ap, ap₂, ◌∙◌, subst, option_map, is_some, option_to_list}
 use Rattle.std.specs.Prelude.{slice_get}
 use Rattle.std.specs.Option.{option_map_or}
 use Rattle.std.specs.List.{list_all, AllByRecursion}
@@ -13,6 +13,7 @@ use Rattle.module_arena.specs.Functions.{blocks}
 use Rattle.module_arena.specs.EntryRules.{linkage_suits, is_common, is_appending, is_zero, is_llvm_name, variable_name_suits, takes_no_intrinsic, variable_type_suits, function_types_suit, alias_types_suit, is_lasting, target_suits, alignment_suits}
 use Rattle.module_arena.specs.WellFormed.{is_good_type, is_good_alias, types_of_alias, IsWellFormed}
 use Rattle.module_arena.specs.Valid.{AllHold, variable_demands, alias_demands, function_demands}
+use Rattle.module_arena.proofs.HostTypesAgree.{is_none-map}
 use Rattle.linked_is_valid.proofs.Types.{KnownTree, void_free_same, memory_same, passable_same}
 use Rattle.linked_is_valid.proofs.Constants.{KnownConstant, fits_kept, constant_types_kept}
 use Rattle.linked_is_valid.proofs.Operations.{IsRenamed}
@@ -68,10 +69,6 @@ module _ (names globals : Bytes → Bytes) where
 pub some_same : {A B : Type 0} (f : A → B) (o : Option A) → is_some (option_map f o) ≡ is_some o
 some_same f None = refl
 some_same f (Some x) = refl
-
-none_same : {A B : Type 0} (f : A → B) (o : Option A) → is_none (option_map f o) ≡ is_none o
-none_same f None = refl
-none_same f (Some x) = refl
 
 -- a test that a name passes which does not begin `llvm.`
 pub other_name : (b c : Bool) → b ≡ false → (not b || c) ≡ true
@@ -136,7 +133,7 @@ module _ (m n : Module) (names globals : Bytes → Bytes) (renames : Renames m n
     function_types_same name =
         let known = function_known m good k f at in
         λ i. parameters_passable f.parameters known.parameters i
-        && (return_suits_same m.structs n.structs names globals renames.structs f.returns known.returns i && (not f.variadic || none_same (map (renamed_block names globals)) f.body i))
+        && (return_suits_same m.structs n.structs names globals renames.structs f.returns known.returns i && (not f.variadic || is_none-map (map (renamed_block names globals)) f.body i))
 
     -- a function under a name that does not begin `llvm.`
     pub function_holds : (name : Bytes) → is_llvm_name name ≡ false → AllHold (function_demands m f) → AllHold (function_demands n (renamed_function names globals name f))

@@ -30,8 +30,9 @@ use Rattle.module_linker.specs.Linked.{linked, linked_globals, link_result}
 use Rattle.module_linker.proofs.Merged.{Row, names, linked_name}
 use Rattle.module_linker.proofs.Result.{globals_merged}
 use Rattle.type_table.specs.Tree.{Structs}
+use Rattle.module_arena.proofs.ModuleSet.{map_map}
 use Rattle.linked_is_valid.specs.Laws.{AreLinkable}
-use Rattle.linked_is_valid.proofs.Lists.{map_map, all_follow, all_tests, all_tested, all_of_map, all_in_front, all_behind}
+use Rattle.linked_is_valid.proofs.Lists.{all_follow, all_tests, all_tested, all_of_map, all_in_front, all_behind}
 use Rattle.linked_is_valid.proofs.Linking.{names_of, apart_parts, apart_together, cross_back, cross_front, Cross}
 use Rattle.linked_is_valid.proofs.Renaming.{together}
 use Rattle.linked_is_valid.proofs.Callees.{local_symbol, shared_symbol}

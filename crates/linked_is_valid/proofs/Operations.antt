@@ -15,7 +15,8 @@ use Rattle.module_arena.specs.Operations.{result_type, incoming_operand, operand
 use Rattle.module_arena.specs.Functions.{body, blocks, result_name, Definition, parameter_definition, result_definitions, definitions, definition_type, local_type}
 use Rattle.module_arena.specs.Flow.{FlowBlock, Flow, flow_block, flow_of}
 use Rattle.module_arena.specs.WellFormed.{types_of_operation}
-use Rattle.linked_is_valid.proofs.Lists.{map_map, option_list}
+use Rattle.module_arena.proofs.ModuleSet.{map_map}
+use Rattle.module_arena.proofs.ValueNames.{option-map}
 use Rattle.linked_is_valid.proofs.Types.{KnownTree, KnownPart, KeepsStructs, void_same, part_at_same, part_at_known}
 use Rattle.linked_is_valid.proofs.Constants.{KnownConstant}
 
@@ -67,7 +68,7 @@ module _ (names globals : Bytes → Bytes) where
   operands_renamed (Phi ty incoming) = incoming_operands ty incoming
   operands_renamed (Load flags ty address alignment) = refl
   operands_renamed (Store flags value address alignment) = refl
-  operands_renamed (Alloca ty count alignment) = option_list (renamed_operand names globals) count
+  operands_renamed (Alloca ty count alignment) = option-map (renamed_operand names globals) count
   operands_renamed (GetElementPtr flags source base indices) = refl
   operands_renamed (Call signature value arguments) = refl
   operands_renamed (ExtractValue aggregate indices) = refl

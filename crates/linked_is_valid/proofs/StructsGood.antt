@@ -10,6 +10,7 @@ use Rattle.type_table.specs.Tree.{named, TreeBody, opaque_body, fields, Structs,
 use Rattle.module_arena.specs.Module.{Bytes, Module, empty_module}
 use Rattle.module_arena.specs.Renamed.{renamed_body}
 use Rattle.module_arena.specs.WellFormed.{is_good_type, is_good_body, are_good_structs}
+use Rattle.module_arena.proofs.ModuleSet.{map_map}
 use Rattle.linkage_rules.specs.Entries.{part_at, structs_at}
 use Rattle.linkage_rules.specs.declared.symbol.Symbol.{Symbol}
 use Rattle.linkage_rules.specs.declared.symbol.Symbol.TheVariants.{Local}
@@ -23,7 +24,7 @@ use Rattle.module_linker.specs.Linked.{link_result}
 use Rattle.module_linker.proofs.StructRows.{Key, same_key, key_self, key_exact, key, first_keys, first_structs, struct_keys}
 use Rattle.module_linker.proofs.Searches.{at_all}
 use Rattle.linked_is_valid.specs.Laws.{AreLinkable}
-use Rattle.linked_is_valid.proofs.Lists.{map_map, all_follow, all_tests, all_tested, all_of_map}
+use Rattle.linked_is_valid.proofs.Lists.{all_follow, all_tests, all_tested, all_of_map}
 use Rattle.linked_is_valid.proofs.Types.{has_struct}
 use Rattle.linked_is_valid.proofs.Known.{body_has}
 use Rattle.linked_is_valid.proofs.Good.{types_good, good_type_kept}

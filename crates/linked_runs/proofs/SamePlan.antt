@@ -3,6 +3,7 @@ use Rattle.std.proofs.Common.{◌≡◌, Bool, true, false, List, [], map, Optio
 use Rattle.std.specs.Option.{option_map_or}
 use Rattle.ir_eval.specs.declared.value.Pointer.{Pointer}
 use Rattle.module_arena.specs.Module.{Bytes, Module}
+use Rattle.module_arena.proofs.ModuleSet.{map_map}
 use Rattle.linkage_rules.specs.Bind.{behind_from}
 use Rattle.linked_contents.specs.Contents.{pieces_by}
 use Rattle.linkage_rules.specs.Entries.{Entry, same_symbol, symbol_name}
@@ -20,7 +21,7 @@ use Rattle.module_linker.specs.Rename.{new_name_of}
 use Rattle.linked_runs.proofs.Known.{Fit}
 use Rattle.module_linker.specs.Merges.{Merges}
 use Rattle.linked_runs.proofs.Contents.{pieces_known, pieces_same, contents_same, constructors_in, constructors_moved}
-use Rattle.module_linker.proofs.Searches.{map_map, map_all}
+use Rattle.module_linker.proofs.Searches.{map_all}
 use Rattle.linked_runs.proofs.Missing.{first_missing_same}
 use Rattle.linked_runs.proofs.Places.{under, rooms_are, rooms_same, pointer_same}
 use Rattle.linked_runs.proofs.SameCode.{signature_moved, by_symbol}

@@ -55,7 +55,7 @@ by_parts ns done (type.Named id) (host.Int v) plain = refl
 by_parts ns done (type.Named id) host.Ptr plain = refl
 by_parts ns done (type.Named id) host.Void plain = refl
 
-tree_here : (t : Types) (ty : ℕ) (x : IrType) → IsGood t → slice_get t.types ty ≡ Some x → tree t ty ≡ tree_of (names t) (trees t) x
+pub tree_here : (t : Types) (ty : ℕ) (x : IrType) → IsGood t → slice_get t.types ty ≡ Some x → tree t ty ≡ tree_of (names t) (trees t) x
 tree_here t ty x good at = tree-is t good ty (slice_get_within t.types ty x at) ∙ ap (tree_of (names t) (trees t)) (get_or_from_slice_get t.types ty x type.Void at)
 
 pub host_type_is : (t : Types) (ty : ℕ) (x : IrType) (wanted : HostType) → IsGood t → is_plain wanted ≡ true → slice_get t.types ty ≡ Some x → same_type (tree t ty) (host_tree wanted) ≡ is_of x wanted
@@ -146,7 +146,7 @@ module _ {A B : Type 0} (f : A → Tree) (g : B → Tree) where
 
 -- ---- a function that is declared
 
-is_none-map : {A B : Type 0} (f : A → B) (o : Option A) → is_none (option_map f o) ≡ is_none o
+pub is_none-map : {A B : Type 0} (f : A → B) (o : Option A) → is_none (option_map f o) ≡ is_none o
 is_none-map f None = refl
 is_none-map f (Some x) = refl
 

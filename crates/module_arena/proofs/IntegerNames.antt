@@ -15,7 +15,7 @@ use Rattle.module_arena.specs.HostRows.{HostRow, Integer, counted, width_named, 
 use Rattle.module_arena.proofs.Found.{some-equal, none≢some}
 
 -- what a search through numbers in a row finds
-found_among : (q : ℕ → Bool) (first count w : ℕ) → find q (counted first count) ≡ Some w → (first ≤ w) × (w < first + count) × (q w ≡ true)
+pub found_among : (q : ℕ → Bool) (first count w : ℕ) → find q (counted first count) ≡ Some w → (first ≤ w) × (w < first + count) × (q w ≡ true)
 unfolding counted
 found_among q first zero w e = absurd (none≢some e)
 found_among q first (suc count) w e = by (q first) refl (found_among q (first + 1) count w) e

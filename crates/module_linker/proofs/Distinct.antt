@@ -7,13 +7,13 @@ use Rattle.ir_tables.specs.Table.{is_distinct}
 use Rattle.module_arena.specs.Functions.{variable_names, alias_names, function_names}
 use Rattle.module_arena.specs.Module.{Bytes, Module}
 use Rattle.module_arena.specs.WellFormed.{IsWellFormed, global_names, struct_names}
+use Rattle.module_arena.proofs.ModuleSet.{map_map}
 use Rattle.linkage_rules.specs.Globals.{OfVariable, OfFunction, OfAlias, name_of}
 use Rattle.module_linker.proofs.Agreed.{AreDistinct}
 use Rattle.module_linker.proofs.Symbols.{any_append, any_halves}
 use Rattle.module_linker.proofs.Apart.{Apart}
 use Rattle.linkage_rules.proofs.Lists.{other_way}
 use Rattle.linkage_rules.specs.SymbolLaws.{name_self, name_exact}
-use Rattle.module_linker.proofs.Searches.{map_map}
 
 abbrev Names : Type 0
 Names = List Bytes

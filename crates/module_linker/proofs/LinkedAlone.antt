@@ -11,6 +11,7 @@ use Rattle.type_table.specs.Tree.{TreeBody, opaque_body, body_of}
 use Rattle.module_arena.specs.Module.{Bytes, Variable, Alias, Function, Module}
 use Rattle.module_arena.specs.Renamed.{renamed_body, own}
 use Rattle.module_arena.proofs.Renamed.{body_stays}
+use Rattle.module_arena.proofs.ModuleSet.{map_map}
 use Rattle.linkage_rules.specs.Globals.{Global, OfVariable, OfFunction, OfAlias, name_of, linkage_of, is_written, is_alias, globals}
 use Rattle.linkage_rules.specs.Linkages.{is_local, is_extern_weak}
 use Rattle.linkage_rules.specs.Lists.{first}
@@ -27,7 +28,7 @@ use Rattle.module_linker.proofs.ByKind.{AliasesDefine, AreVariables, AreFunction
 use Rattle.module_linker.proofs.StructRows.{value_at, index_at}
 use Rattle.module_linker.proofs.OwnNames.{self_named, own_renaming, own_global, own_structs, own_struct}
 use Rattle.module_linker.proofs.Alone.{StaysAlone, definition_own, declaration_own}
-use Rattle.module_linker.proofs.Searches.{map_map, at_all}
+use Rattle.module_linker.proofs.Searches.{at_all}
 use Rattle.module_linker.proofs.Unchanged.{IsUnchanged}
 
 -- LISTS

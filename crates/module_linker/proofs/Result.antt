@@ -4,6 +4,7 @@ use Rattle.std.specs.List.{AllByRecursion}
 use Rattle.std.proofs.lemmas.Bool.{both_ways}
 use Rattle.std.proofs.lemmas.List.{map-append}
 use Rattle.module_arena.specs.Module.{Module}
+use Rattle.module_arena.proofs.ModuleSet.{map_map}
 use Rattle.linkage_rules.specs.Globals.{Global, is_variable, is_alias, globals}
 use Rattle.linkage_rules.specs.Lists.{has}
 use Rattle.linkage_rules.specs.Entries.{Entry, entries, same_symbol, symbol_of}
@@ -19,7 +20,7 @@ use Rattle.module_linker.proofs.Names.{keys_named}
 use Rattle.module_linker.proofs.Merged.{Row, as_row, rows_apart, variable_rows, function_rows, alias_rows, renaming_split, keys, names, linked_is_alias, linked_is_alias_none, entry_by, row_entry, linked_symbol, linked_kind}
 use Rattle.module_linker.proofs.Moved.{moved_defines}
 use Rattle.module_linker.proofs.Sorted.{IsVariable, IsFunction, by_kind, sorted}
-use Rattle.module_linker.proofs.Searches.{map_map, all_front, all_back, all_both}
+use Rattle.module_linker.proofs.Searches.{all_front, all_back, all_both}
 use Rattle.module_linker.specs.Carried.{merged}
 
 -- LISTS

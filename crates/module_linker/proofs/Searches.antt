@@ -15,10 +15,6 @@ pub map_all : {A B : Type 0} (f g : A → B) (P : A → Type 0) (xs : List A) �
 map_all f g P [] h a = refl
 map_all f g P (x ∷ xs) h a = ap₂ (λ y ys. y ∷ ys) (h x a.0) (map_all f g P xs h a.1)
 
-pub map_map : {A B C : Type 0} (f : B → C) (g : A → B) (xs : List A) → map f (map g xs) ≡ map (λ x. f (g x)) xs
-map_map f g [] = refl
-map_map f g (x ∷ xs) = ap (λ l. f (g x) ∷ l) (map_map f g xs)
-
 module _ {A B : Type 0} (f : A → B) (p : B → Bool) (q : A → Bool) where
   -- a test of what is written anew is one of what it was
   abbrev Kept : List A → Type 0

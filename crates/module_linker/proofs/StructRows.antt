@@ -8,6 +8,7 @@ use Rattle.std.proofs.lemmas.Option.{same_Some, slice_get-map}
 use Rattle.type_table.specs.Tree.{opaque_body, Structs, index_of, body_of}
 use Rattle.type_table.specs.Shape.{Shape}
 use Rattle.module_arena.specs.Module.{Bytes, Module}
+use Rattle.module_arena.proofs.ModuleSet.{map_map}
 use Rattle.linkage_rules.specs.Lists.{firsts, has}
 use Rattle.linkage_rules.specs.SameShape.{alike}
 use Rattle.linkage_rules.specs.declared.symbol.Symbol.{Symbol}
@@ -24,7 +25,7 @@ use Rattle.module_linker.proofs.Symbols.{all_firsts}
 use Rattle.module_linker.proofs.Names.{keys_named, names_apart, shared_has}
 use Rattle.module_linker.proofs.Merged.{Row}
 use Rattle.module_linker.proofs.ByKind.{any_key}
-use Rattle.module_linker.proofs.Searches.{at_all, map_map}
+use Rattle.module_linker.proofs.Searches.{at_all}
 
 -- LISTS
 

@@ -1,5 +1,5 @@
 -- The index of an entry, among the variables, the functions and the aliases.
-use Rattle.std.proofs.Common.{◌≡◌, ℕ, ◌+◌, ◌-◌, ◌<◌, false, List, [], ◌∷◌, ◌++◌, Some, length, get_or, slice_get, map, inl, inr, refl, sym, ap, ◌∙◌, arith}
+use Rattle.std.proofs.Common.{◌≡◌, ℕ, ◌+◌, ◌-◌, ◌<◌, false, List, [], ◌++◌, Some, length, get_or, slice_get, map, inl, inr, refl, sym, ap, ◌∙◌, arith}
 use Rattle.std.specs.Option.{option_map}
 use Rattle.std.specs.Prelude.{bytes_eq}
 use Rattle.std.proofs.lemmas.Bool.{false_from_ne_true, cases_lt}
@@ -14,14 +14,10 @@ use Rattle.module_arena.specs.declared.entry.Alias as the_alias
 use Rattle.module_arena.specs.Known.{AreDistinct, HasGlobal, counts}
 use Rattle.module_arena.specs.Lists.{Lists, global_name, name_at}
 use Rattle.module_arena.specs.View.{module_of}
+use Rattle.module_arena.proofs.ModuleSet.{map_map}
 use Rattle.record_table.specs.Layout.{place}
 use Rattle.operand_write.specs.Numbered.{indices}
 use Rattle.operand_write.proofs.Places.{place_first}
-
--- names of one list behind those of another
-mapped_map : {X Y Z : Type 0} (f : Y → Z) (g : X → Y) (xs : List X) → map f (map g xs) ≡ map (λ x. f (g x)) xs
-mapped_map f g [] = refl
-mapped_map f g (x ∷ xs) = ap (λ l. f (g x) ∷ l) (mapped_map f g xs)
 
 -- an element that is there has its name
 present : {X : Type 0} (name : X → List ℕ) (xs : List X) (id : ℕ) → id < length xs → option_map name (slice_get xs id) ≡ Some (get_or (map name xs) id [])
@@ -110,7 +106,7 @@ module _ (a : Lists) where
 
   names_are : (indices a).globals ≡ all_names
   unfolding module_of
-  names_are = simp mapped_map
+  names_are = simp map_map
 
   -- an entry stands at its index
   pub global_place : AreDistinct a → (g : GlobalId) → HasGlobal (counts a) g → place bytes_eq (indices a).globals (name_at a g) ≡ number g

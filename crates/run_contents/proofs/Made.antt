@@ -9,6 +9,7 @@ use Rattle.ir_memory.specs.declared.kind.BlockKind.{BlockKind}
 use Rattle.ir_memory.specs.declared.kind.BlockKind.TheVariants as kind
 use Rattle.ir_memory.specs.MemoryBlock.{MemoryBlock, new_block}
 use Rattle.ir_memory.specs.Memory.{Blocks, added, byte_limit, live_bytes, round_up}
+use Rattle.module_arena.proofs.Found.{slice_get-here}
 use Rattle.run_rules.specs.declared.end.End.{End}
 use Rattle.run_rules.specs.declared.end.End.TheVariants.{MemoryLimit}
 use Rattle.run_rules.specs.Access.{and_then, has_room}
@@ -80,10 +81,6 @@ front_same [] ys j lt = absurd (omega (arith, lt))
 front_same (x ∷ xs) ys zero lt = refl
 front_same (x ∷ xs) ys (suc j) lt = front_same xs ys j (omega (arith, lt))
 
-back_is : {A : Type 0} (xs : List A) (y : A) → slice_get (xs ++ y ∷ []) (length xs) ≡ Some y
-back_is [] y = refl
-back_is (x ∷ xs) y = back_is xs y
-
 pub variables_made : (vs : List plans.Variable) (m n : Blocks) → with_variables vs m ≡ Ok n → AreMade vs m n
 variables_made [] m n e =
     let same : m ≡ n = cc in
@@ -99,7 +96,7 @@ variables_made (v ∷ vs) m n e = go (made v.size v.align (kind.Variable v.const
         let here : length m.list + 0 ≡ length m.list = omega arith in
         let same : v ≡ w = cc in
         let begins : round_up m.next v.align ≡ start = cc in
-        ap (slice_get n.list) here ∙ h.old (length m.list) (omega (arith, longer)) ∙ ap (λ l. slice_get l (length m.list)) list ∙ back_is m.list block
+        ap (slice_get n.list) here ∙ h.old (length m.list) (omega (arith, longer)) ∙ ap (λ l. slice_get l (length m.list)) list ∙ slice_get-here m.list block
         ∙ (λ j. Some (new_block (begins j) (same j).size (kind.Variable (same j).constant)))
     by o is h longer list (suc k) start w at from =
         let here : length m.list + suc k ≡ length o.list + k = omega (arith, longer) in

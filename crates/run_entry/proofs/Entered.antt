@@ -26,6 +26,7 @@ use Rattle.module_arena.specs.Valid.{IsValid}
 use Rattle.module_arena.specs.Module as modules
 use Rattle.module_arena.specs.View.{module_of, parameter_view}
 use Rattle.module_arena.specs.WellFormed.{IsWellFormed}
+use Rattle.module_arena.proofs.ModuleSet.{map_map}
 use Rattle.linkage_rules.specs.Bind.{behind, behind_from}
 use Rattle.linkage_rules.specs.declared.symbol.Symbol.{Symbol}
 use Rattle.linkage_rules.specs.declared.symbol.Symbol.TheVariants.{Shared, Local}
@@ -48,7 +49,6 @@ use Rattle.run_entry.specs.Mains as Told
 use Rattle.run_names.proofs.Apart.{none_passes}
 use Rattle.run_names.proofs.Asked.{variable_name, function_name, target_there, target_plain}
 use Rattle.run_names.proofs.Listed.{all_from_places, all_get, get_within, mapped_within}
-use Rattle.run_names.proofs.Put.{mapped_twice}
 use Rattle.run_names.proofs.OneModule.{entry, entries_have, names_apart, name_of_symbol, one_named, variable_in, function_in, alias_in}
 use Rattle.run_names.proofs.Meant.{pointer_behind, IsTarget, target_is, behind_alias}
 use Rattle.run_names.proofs.Arena.{variable_named, function_named, alias_named, variable_seen, function_seen, alias_seen, variable_there, function_there, alias_there, variable_home, variable_behind, function_home, function_behind}
@@ -264,7 +264,7 @@ module _ (a : Lists) (well_formed : IsWellFormed (module_of a)) (valid : IsValid
       typed : main_of (signature_in (names_in parts 0) (signature_of (function_seen a f))) (function_address n) ≡ main_at (function_address n) (words_of a.table f)
       typed =
           ap (λ l. main_of (record { returns = shape_of (names_in parts 0) (tree a.table f.result); parameters = map (shape_of (names_in parts 0)) l; variadic = f.variadic }) (function_address n))
-          (mapped_twice (λ (p : modules.Parameter). p.ty) (parameter_view (trees a.table)) f.parameters)
+          (map_map (λ (p : modules.Parameter). p.ty) (parameter_view (trees a.table)) f.parameters)
           ∙ typed_so (names_in parts 0) a (function_address n) (tree a.table f.result) f.parameters f.variadic
 
       go : (b : Bool)

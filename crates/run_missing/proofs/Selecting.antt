@@ -19,6 +19,7 @@ use Rattle.module_arena.specs.UsedNames.{names_in_function, names_in_variable}
 use Rattle.module_arena.specs.Valid.{IsValid}
 use Rattle.module_arena.specs.View.{module_of}
 use Rattle.module_arena.specs.WellFormed.{IsWellFormed}
+use Rattle.module_arena.proofs.ModuleSet.{map_map}
 use Rattle.run_names.specs.Spots as spots
 use Rattle.run_names.specs.Standings as standings
 use Rattle.run_names.proofs.Apart.{same_filter}
@@ -26,7 +27,7 @@ use Rattle.run_names.proofs.Arena.{alias_seen, function_defined, function_seen, 
 use Rattle.run_names.proofs.Listed.{all_from_places}
 use Rattle.run_names.proofs.Meant.{target_is}
 use Rattle.run_names.proofs.OneModule.{entry, function_in, names_apart, variable_in}
-use Rattle.run_names.proofs.Put.{mapped_twice, same_maps}
+use Rattle.run_names.proofs.Put.{same_maps}
 use Rattle.run_missing.specs.Used.{AreDefinitions, AreUsed, is_function_defined, is_variable_defined, used_names}
 use Rattle.run_missing.proofs.Picked.{among_picked, named}
 
@@ -98,17 +99,17 @@ module _ (a : Lists) (well_formed : IsWellFormed (module_of a)) (valid : IsValid
       variables =
           h.variables
           ∙ same_maps spots.is_defined (λ v. is_variable_defined (variable_seen a v)) a.variables (all_from_places (λ (v : the_variable.Variable). spots.is_defined v ≡ is_variable_defined (variable_seen a v)) a.variables (λ k v at. sym (variable_defined a v)))
-          ∙ sym (mapped_twice is_variable_defined (variable_seen a) a.variables) ∙ ap (map is_variable_defined) (sym (variables_are a))
+          ∙ sym (map_map is_variable_defined (variable_seen a) a.variables) ∙ ap (map is_variable_defined) (sym (variables_are a))
           ∙ sym (same_maps (keeps_variable m s) is_variable_defined m.variables (variables_kept m well_formed valid))
 
       functions : flags.functions ≡ map (keeps_function m s) m.functions
       functions =
           h.functions
           ∙ same_maps standings.has_code (λ f. is_function_defined (function_seen a f)) a.functions (all_from_places (λ (f : the_function.Function). standings.has_code f ≡ is_function_defined (function_seen a f)) a.functions (λ k f at. sym (function_defined a f)))
-          ∙ sym (mapped_twice is_function_defined (function_seen a) a.functions) ∙ ap (map is_function_defined) (sym (functions_are a))
+          ∙ sym (map_map is_function_defined (function_seen a) a.functions) ∙ ap (map is_function_defined) (sym (functions_are a))
           ∙ sym (same_maps (keeps_function m s) is_function_defined m.functions (functions_kept m well_formed valid))
 
       aliases : flags.aliases ≡ map (keeps_alias m s) m.aliases
       aliases =
-          h.aliases ∙ sym (mapped_twice (λ (x : Alias). true) (alias_seen a) a.aliases) ∙ ap (map (λ (x : Alias). true)) (sym aliases_are)
+          h.aliases ∙ sym (map_map (λ (x : Alias). true) (alias_seen a) a.aliases) ∙ ap (map (λ (x : Alias). true)) (sym aliases_are)
           ∙ sym (same_maps (keeps_alias m s) (λ (x : Alias). true) m.aliases (aliases_kept m well_formed valid))

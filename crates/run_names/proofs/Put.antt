@@ -217,7 +217,3 @@ all_kept_have P p (x ∷ xs) h = go (p x) refl (all_kept_have P p xs h.1)
 
 pub same_maps : {A B : Type 0} (f g : A → B) (xs : List A) → AllByRecursion (λ x. f x ≡ g x) xs → map f xs ≡ map g xs
 same_maps f g xs h = map_same f g xs h
-
-pub mapped_twice : {A B C : Type 0} (g : B → C) (f : A → B) (xs : List A) → map g (map f xs) ≡ map (λ x. g (f x)) xs
-mapped_twice g f [] = refl
-mapped_twice g f (x ∷ xs) = ap (λ l. g (f x) ∷ l) (mapped_twice g f xs)

@@ -16,6 +16,7 @@ use Rattle.module_arena.specs.Module.{Module}
 use Rattle.module_arena.specs.Valid.{IsValid}
 use Rattle.module_arena.specs.View.{module_of}
 use Rattle.module_arena.specs.WellFormed.{IsWellFormed}
+use Rattle.module_arena.proofs.ModuleSet.{map_map}
 use Rattle.linkage_rules.specs.declared.symbol.Symbol.{Symbol}
 use Rattle.linkage_rules.specs.Entries.{Entry, entries, same_symbol, symbol_in, symbol_of}
 use Rattle.linkage_rules.specs.Globals.{OfVariable, is_constant}
@@ -35,7 +36,7 @@ use Rattle.run_names.proofs.Arena.{variable_seen, variables_are, variable_home, 
 use Rattle.run_names.proofs.Arena as arena
 use Rattle.run_names.proofs.Lies.{front_apart}
 use Rattle.run_names.proofs.Roomed.{entry_of, row_of, rooms_are}
-use Rattle.run_names.proofs.Put.{Row, AreUnlike, spots_from, spots_need, spots_have, spots_mapped, spots_start, needed, found_starts, row_place, kept_at, all_kept_have, same_maps, mapped_twice}
+use Rattle.run_names.proofs.Put.{Row, AreUnlike, spots_from, spots_need, spots_have, spots_mapped, spots_start, needed, found_starts, row_place, kept_at, all_kept_have, same_maps}
 
 module _ (a : Lists) (well_formed : IsWellFormed (module_of a)) (valid : IsValid (module_of a)) where
   abbrev m : Module
@@ -97,7 +98,7 @@ module _ (a : Lists) (well_formed : IsWellFormed (module_of a)) (valid : IsValid
 
   plan_needs : map (plans.variable_of parts) (rooms parts) ≡ map (needed a) kept
   plan_needs =
-      ap (map (plans.variable_of parts)) (rooms_are a well_formed valid) ∙ mapped_twice (plans.variable_of parts) its_row kept
+      ap (map (plans.variable_of parts)) (rooms_are a well_formed valid) ∙ map_map (plans.variable_of parts) its_row kept
       ∙ same_maps (λ v. plans.variable_of parts (its_row v)) (needed a) kept
       (followed (λ v. home parts (symbol_of (its_entry v)) ≡ Some (its_entry v)) (λ v. plans.variable_of parts (its_row v) ≡ needed a v) kept
       (λ v h. (λ j. record { size = (needed a v).size; align = (needed a v).align; constant = option_map_or (λ (e : Entry). is_constant e.global) (h j) false })) home_kept)
@@ -105,11 +106,11 @@ module _ (a : Lists) (well_formed : IsWellFormed (module_of a)) (valid : IsValid
   row_starts : map {B = ℕ} (λ (row : Row). unwrap_or (address parts row.0) 0) (rooms parts) ≡ map {B = ℕ} (λ (r : Symbol × ℕ). r.1) (placed_from 65536 (map its_row kept))
   row_starts =
       ap (map {B = ℕ} (λ (row : Row). unwrap_or (address parts row.0) 0)) (rooms_are a well_formed valid)
-      ∙ mapped_twice {C = ℕ} (λ (row : Row). unwrap_or (address parts row.0) 0) its_row kept
+      ∙ map_map {C = ℕ} (λ (row : Row). unwrap_or (address parts row.0) 0) its_row kept
       ∙ same_maps (λ v. unwrap_or (address parts (its_row v).0) 0) (λ v. unwrap_or (lookup (same_symbol (its_row v).0) (placed_from 65536 (map its_row kept) ++ addressed_from 0 (function_symbols parts))) 0) kept
       (followed (λ v. bind.behind parts (symbol_of (its_entry v)) ≡ symbol_of (its_entry v)) (λ v. unwrap_or (address parts (its_row v).0) 0 ≡ unwrap_or (lookup (same_symbol (its_row v).0) (placed_from 65536 (map its_row kept) ++ addressed_from 0 (function_symbols parts))) 0) kept
       (λ v h. ap₂ (λ s rows. unwrap_or (lookup (same_symbol s) (placed_from 65536 rows ++ addressed_from 0 (function_symbols parts))) 0) h (rooms_are a well_formed valid)) behind_kept)
-      ∙ sym (mapped_twice {C = ℕ} (λ (row : Row). unwrap_or (lookup (same_symbol row.0) (placed_from 65536 (map its_row kept) ++ addressed_from 0 (function_symbols parts))) 0) its_row kept)
+      ∙ sym (map_map {C = ℕ} (λ (row : Row). unwrap_or (lookup (same_symbol row.0) (placed_from 65536 (map its_row kept) ++ addressed_from 0 (function_symbols parts))) 0) its_row kept)
       ∙ found_starts 65536 (map its_row kept) (addressed_from 0 (function_symbols parts)) rows_unlike
 
   its_symbol : (k n next : ℕ) (v : Variable) → n ≡ 0 + k → slice_get a.variables k ≡ Some v → variable_symbol a n ≡ symbol_of (its_entry v)
@@ -131,7 +132,7 @@ module _ (a : Lists) (well_formed : IsWellFormed (module_of a)) (valid : IsValid
     symbols =
         ap (map (λ (s : Spot). variable_symbol a s.variable)) (sym is)
         ∙ spots_mapped a (λ (s : Spot). variable_symbol a s.variable) (λ v. symbol_of (its_entry v)) 0 65536 a.variables (λ k n next v e at. its_symbol k n next v e at)
-        ∙ sym (mapped_twice (λ (row : Row). row.0) its_row kept) ∙ ap (map (λ (row : Row). row.0)) (sym (rooms_are a well_formed valid));
+        ∙ sym (map_map (λ (row : Row). row.0) its_row kept) ∙ ap (map (λ (row : Row). row.0)) (sym (rooms_are a well_formed valid));
     starts = ap (map {B = ℕ} (λ (s : Spot). s.start)) (sym is) ∙ spots_start a its_row (λ v. refl) 0 65536 a.variables ∙ sym row_starts;
     defined = λ k s at. at_place (λ (s : Spot). defines a s.variable ≡ true) spots k s (subst (AllByRecursion (λ (s : Spot). defines a s.variable ≡ true)) is its_defines) at;
     within = within;

@@ -7,6 +7,7 @@ use Rattle.std.proofs.lemmas.List.Elements.{All-head, All-push, All-tail}
 use Rattle.std.proofs.lemmas.List.Quantifiers.{all_pairs_push}
 use Rattle.std.proofs.lemmas.Option.{slice_get-get_or, slice_get-map, slice_get_within}
 use Rattle.module_arena.specs.Lists.{Lists}
+use Rattle.module_arena.proofs.Found.{slice_get-here}
 use Rattle.run_rules.specs.Action.{Signature}
 use Rattle.run_flat.specs.declared.leaf.Span.{Span}
 use Rattle.run_flat.specs.Spans.{IsBetween, IsLonger}
@@ -45,11 +46,6 @@ typed_as ps ws k w e = slice_get-map (type_in ps) ws k ∙ ap (option_map (type_
 
 pub shaped_as : (a : Lists) (ts : List FunctionType) (k : ℕ) (t : FunctionType) → slice_get ts k ≡ Some t → slice_get (map (shaped a) ts) k ≡ Some (shaped a t)
 shaped_as a ts k t e = slice_get-map (shaped a) ts k ∙ ap (option_map (shaped a)) e
-
--- what is behind others
-last_got : {A : Type 0} (xs : List A) (x : A) → slice_get (xs ++ x ∷ []) (length xs) ≡ Some x
-last_got [] x = refl
-last_got (y ∷ xs) x = last_got xs x
 
 -- one function type more, which none is yet
 met_more : (a : Lists) (qs : List ℕ) (ws : List WrittenSignature) (w : WrittenSignature) → AreMet a qs ws → IsWritten a qs w
@@ -110,7 +106,7 @@ module _ (m : Met) (a : Lists) (ps : List ℕ) (ws : List WrittenSignature) (is 
     -- it has the next number
     pub number_more : (us : List WrittenSignature) (n : ℕ) → us ≡ ws ++ one ∷ [] → n ≡ length ws → slice_get (map (shaped a) (map (type_in qs) us)) n ≡ Some (written_as m.lists returns parameters variadic)
     number_more us n e here =
-        shaped_as a (map (type_in qs) us) n (type_in qs one) (typed_as qs us n one ((λ i. slice_get (e i) (here i)) ∙ last_got ws one)) ∙ ap Some one_seen
+        shaped_as a (map (type_in qs) us) n (type_in qs one) (typed_as qs us n one ((λ i. slice_get (e i) (here i)) ∙ slice_get-here ws one)) ∙ ap Some one_seen
 
     -- and it was not met before
     pub met_with : (us : List WrittenSignature) → us ≡ ws ++ one ∷ [] → returns < length m.lists.table.types → All (λ (ty : ℕ). ty < length m.lists.table.types) parameters

@@ -10,6 +10,7 @@ use Rattle.linkage_rules.proofs.Shapes.{shape_self}
 use Rattle.type_table.specs.Shape.{Shape, void_leaf}
 use Rattle.type_table.specs.Limits.{IsWithin}
 use Rattle.type_table.specs.Types.{Types, shape, IsGood}
+use Rattle.module_arena.proofs.SameValues.{beq_self}
 use Rattle.run_rules.specs.Action.{Signature}
 use Rattle.run_rules.specs.Calls.{same_shape_list, same_signature}
 use Rattle.run_shapes.specs.Shapes.{shape_in}
@@ -67,21 +68,11 @@ list_self : (ss : List Shape) → same_shape_list ss ss ≡ true
 list_self [] = refl
 list_self (s ∷ ss) = and_from _ _ (shape_self s) (list_self ss)
 
-truth_self : (b : Bool) → beq b b ≡ true
-truth_self true = refl
-truth_self false = refl
-
 pub truth_from : (a b : Bool) → a ≡ b → beq a b ≡ true
-truth_from a b e = sym (ap (beq a) e) ∙ truth_self a
-
-pub truths_same : (a b : Bool) → beq a b ≡ true → a ≡ b
-truths_same true true e = refl
-truths_same false false e = refl
-truths_same true false e = cc
-truths_same false true e = cc
+truth_from a b e = sym (ap (beq a) e) ∙ beq_self a
 
 pub signature_self : (s : Signature) → same_signature s s ≡ true
-signature_self s = and_from _ _ (shape_self s.returns) (and_from _ _ (list_self s.parameters) (truth_self s.variadic))
+signature_self s = and_from _ _ (shape_self s.returns) (and_from _ _ (list_self s.parameters) (beq_self s.variadic))
 
 -- the test by whether they are equal
 pub same_if : (s t : Signature) → s ≡ t → true ≡ same_signature s t

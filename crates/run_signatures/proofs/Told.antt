@@ -7,13 +7,14 @@ use Rattle.std.proofs.lemmas.Option.{get_or_from_slice_get, same_Some, slice_get
 use Rattle.module_arena.specs.Lists.{Lists}
 use Rattle.type_table.specs.Limits.{IsWithin}
 use Rattle.type_table.specs.Types.{Types, shape, IsGood}
+use Rattle.module_arena.proofs.SameValues.{beq_is}
 use Rattle.run_rules.specs.Action.{Signature}
 use Rattle.run_flat.specs.Spans.{spanned}
 use Rattle.run_shapes.specs.Shapes.{shape_in}
 use Rattle.run_signatures.specs.declared.written.WrittenSignature.{WrittenSignature}
 use Rattle.run_signatures.specs.Met.{AreMet, IsWritten, Met, known, shaped, type_in, written_as}
 use Rattle.run_signatures.proofs.Kept.{lists_are, seen_as}
-use Rattle.run_signatures.proofs.Same.{shape_from, shape_to, truth_from, truths_same}
+use Rattle.run_signatures.proofs.Same.{shape_from, shape_to, truth_from}
 
 module _ (m : Met) (a : Lists) (ps : List ℕ) (ws : List WrittenSignature) (is : record { lists = a; types = map (type_in ps) ws } ≡ m) (met : AreMet a ps ws) (n : ℕ) (w : WrittenSignature) (there : slice_get ws n ≡ Some w) where
   -- its ids are of the arena
@@ -51,7 +52,7 @@ module _ (m : Met) (a : Lists) (ps : List ℕ) (ws : List WrittenSignature) (is 
             let types = and_parts b d both.0 in
             let returns_same : shape_in a.table w.returns ≡ shape_in a.table returns = sym (ap (λ (x : Types). shape_in x w.returns) same) ∙ shape_to t w.returns returns (h.0 types.0) ∙ ap (λ (x : Types). shape_in x returns) same in
             let parameters_same : map (shape_in a.table) (spanned ps w.parameters) ≡ map (shape_in a.table) parameters = sym (λ j. map (shape_in (same j)) (these j)) ∙ k.0 types.1 ∙ ap (λ (x : Types). map (shape_in x) parameters) same in
-            let variadic_same : w.variadic ≡ variadic = truths_same w.variadic variadic both.1 in
+            let variadic_same : w.variadic ≡ variadic = beq_is w.variadic variadic both.1 in
             let alike : shaped a (type_in ps w) ≡ written_as a returns parameters variadic = λ i. record { returns = returns_same i; parameters = parameters_same i; variadic = variadic_same i } in
             there_seen ∙ ap Some (alike ∙ given_is)
 

@@ -12,12 +12,12 @@ use Rattle.module_arena.specs.Lists.{Lists}
 use Rattle.module_arena.specs.Module.{Bytes, Module, empty_module}
 use Rattle.module_arena.specs.View.{module_of}
 use Rattle.module_linker.specs.Structs.{structs_from}
-use Rattle.module_linker.proofs.Searches.{map_map}
 use Rattle.type_table.specs.Limits.{IsWithin}
 use Rattle.type_table.specs.Shape.{Label, Shape, opaque_leaf, struct_of, body_shape, all_expanded, named_shape}
 use Rattle.type_table.specs.Tree.{TreeBody, opaque_body, fields, named}
 use Rattle.type_table.specs.Types.{Types, IsGood, bodies, names, structs, tree_body, tree_struct, trees}
 use Rattle.type_table.proofs.Rooms.{unmapped}
+use Rattle.module_arena.proofs.ModuleSet.{map_map}
 use Rattle.link_structs.specs.Shapes.{IsNumber, struct_shape}
 use Rattle.link_structs.proofs.Shaped.{look, struct_is}
 use Rattle.struct_rows.specs.Numbers.{so_far}

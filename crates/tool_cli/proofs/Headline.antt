@@ -17,8 +17,10 @@ use Rattle.linkage_rules.specs.Conflicts.{FoundConflict, first_conflict}
 use Rattle.module_arena.specs.EntityView.{entity_view}
 use Rattle.module_arena.specs.Functions.{first_too_large}
 use Rattle.module_arena.specs.Module.{Module}
-use Rattle.module_arena.specs.Valid.{AllHold, Demand, Entity, IsFirstOf, IsValid, demands}
+use Rattle.module_arena.specs.Valid.{IsValid, demands}
 use Rattle.module_arena.specs.WellFormed.{IsWellFormed}
+use Rattle.module_arena.proofs.FirstFailure.{none_fails}
+use Rattle.module_arena.proofs.Found.{none≢some}
 use Rattle.module_linker.specs.Counts.{Count, too_many}
 use Rattle.name_rules.specs.Breaks.{first_break}
 use Rattle.name_rules.specs.Laws.{ReadsOnce}
@@ -49,9 +51,6 @@ use Rattle.tool_cli.proofs.Begins.{canon_begins, spelling_begins}
 use Rattle.tool_cli.proofs.Outcomes.{same_command}
 use Rattle.tool_cli.proofs.Spelled.{spells_once}
 
-none_some : {A : Type 0} {x : A} → None ≡ Some x → ⊥
-none_some e = absurd cc
-
 -- ---- parts
 
 -- what follows where two inputs are both bitcode, and where they are both texts
@@ -59,17 +58,11 @@ two_by : (bitcode : Bool) (P Q R S T : Type 0) → (P → R → T) → (Q → S 
 two_by true P Q R S T of_bitcode of_text p r = of_bitcode p r
 two_by false P Q R S T of_bitcode of_text q s = of_text q s
 
--- among demands that all hold none is the first that does not
-not_first : (ds : List Demand) (entity : Entity) (rule : ℕ) → AllHold ds → IsFirstOf ds entity rule → ⊥
-not_first [] entity rule all first = absurd first
-not_first (d ∷ ds) entity rule all (inl broken) = broken.0 all.0
-not_first (d ∷ ds) entity rule all (inr later) = not_first ds entity rule all.1 later.1
-
 -- a module that is accepted is not refused
 unjudged : (m : Module) (fault : VerifyFault) → first_too_large m ≡ None → IsValid m → IsVerdict m fault → ⊥
 unjudged m verdicts.Memory sized valid refused = absurd refused
-unjudged m (verdicts.FunctionTooLarge name size) sized valid refused = none_some (sym (ap (option_map told_of) sized) ∙ refused)
-unjudged m (verdicts.Invalid rule entity) sized valid refused = not_first (demands m) (entity_view entity) rule valid refused.1
+unjudged m (verdicts.FunctionTooLarge name size) sized valid refused = none≢some (sym (ap (option_map told_of) sized) ∙ refused)
+unjudged m (verdicts.Invalid rule entity) sized valid refused = none_fails (demands m) (entity_view entity) rule valid refused.1
 
 -- nor is its text
 pub unrefused_text : (name text : List ℕ) (m : Module) (ended : Ended) → first_too_large m ≡ None → IsValid m → Reads text m → IsTextRefused name text ended → ⊥
@@ -78,18 +71,18 @@ unrefused_text name text m ended sized valid reads (inl none) =
     items_not_bad text reads.items bad.0 reads.has_items bad.1
 unrefused_text name text m ended sized valid reads (inr (inl none)) =
     let same = one_items text reads.items none.items reads.has_items none.has_items in
-    none_some (sym reads.resolves.unbroken ∙ ap first_break (sym same) ∙ none.breaks)
+    none≢some (sym reads.resolves.unbroken ∙ ap first_break (sym same) ∙ none.breaks)
 unrefused_text name text m ended sized valid reads (inr (inr bad)) =
     let same : bad.meant ≡ m = bad.resolves.joined ∙ ap module_of_items (one_items text reads.items bad.items reads.has_items bad.has_items) ∙ sym reads.resolves.joined in
     unjudged m bad.fault sized valid (subst (λ (n : Module). IsVerdict n bad.fault) same bad.refused)
 
 -- bytes that spell a module are not refused as bitcode
 spells_something : (bytes : List ℕ) (m : Module) (fault : BitcodeFault) → Spells bytes m → IsBitcodeFault bytes fault → ⊥
-spells_something bytes m (bitcode_faults.Bit bit) spells refused = none_some (sym (tree_no_fault bytes spells.tree spells.is_tree) ∙ refused)
+spells_something bytes m (bitcode_faults.Bit bit) spells refused = none≢some (sym (tree_no_fault bytes spells.tree spells.is_tree) ∙ refused)
 spells_something bytes m bitcode_faults.Memory spells refused = absurd refused
 spells_something bytes m fault spells refused =
     let same = one_tree bytes refused.tree spells.tree refused.is_tree spells.is_tree in
-    none_some (sym (ap record_fault same ∙ ap fault_in spells.stands) ∙ refused.is_told)
+    none≢some (sym (ap record_fault same ∙ ap fault_in spells.stands) ∙ refused.is_told)
 
 -- nor where that is accepted
 pub unrefused_bitcode : (name bytes : List ℕ) (m : Module) (ended : Ended) → first_too_large m ≡ None → IsValid m → Spells bytes m → IsBitcodeRefused name bytes ended → ⊥

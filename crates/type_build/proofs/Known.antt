@@ -1,8 +1,8 @@
 -- The ids in a constant are known where its parts are.
-use Rattle.std.proofs.Common.{◌≡◌, ℕ, ◌<◌, List, [], ◌∷◌, map, length, slice_get, All, Some, ◌∙◌, arith}
+use Rattle.std.proofs.Common.{◌≡◌, ℕ, ◌<◌, List, [], map, length, slice_get, Some, ◌∙◌, arith}
 use Rattle.std.specs.Option.{option_map}
 use Rattle.std.proofs.lemmas.List.{length-map}
-use Rattle.std.proofs.lemmas.List.Elements.{All-cons, All-nil}
+use Rattle.std.proofs.lemmas.List.Elements.{All-nil}
 use Rattle.std.proofs.lemmas.Option.{get_or_from_slice_get, slice_get_within, slice_get-map}
 use Rattle.ir_tables.specs.declared.opcode.Opcode.{Opcode}
 use Rattle.module_arena.specs.declared.constant.Const.TheVariants as const
@@ -14,10 +14,8 @@ use Rattle.module_arena.specs.declared.entry.Alias as the_alias
 use Rattle.module_arena.specs.declared.entry.Function as the_function
 use Rattle.module_arena.specs.Lists.{Lists, global_name, name_at}
 use Rattle.module_arena.specs.Known.{counts, HasGlobal, KnowsConst}
+use Rattle.module_arena.proofs.Replaced.{one_all}
 use Rattle.type_build.specs.Stands.{IsKnownTyped}
-
-pub one_all : {X : Type 0} (P : X → Type 0) (x : X) → P x → All P (x ∷ [])
-one_all P x p = All-cons P x [] p (All-nil P)
 
 module _ {X : Type 0} (name : X → List ℕ) (xs : List X) (id : ℕ) (n : List ℕ) (e : option_map name (slice_get xs id) ≡ Some n) where
   there : slice_get (map name xs) id ≡ Some n

@@ -2,4 +2,3 @@ pub mod ClassesTold
 pub mod Flags
 pub mod Judging
 pub mod OpenedTold
-pub mod TypesTold

@@ -1,5 +1,5 @@
 -- A row of the host table that is found by a name is one of its rows: an intrinsic over integers at a width that it has.
-use Rattle.std.proofs.Common.{◌≡◌, ℕ, zero, suc, ◌+◌, ◌<◌, ◌≤◌, Bool, true, false, ◌&&◌, cond, List, [], ◌∷◌, ◌++◌, Option, Some, None, bytes_eq, nat_eq, refl, ap, subst, arith, sym, ◌∙◌}
+use Rattle.std.proofs.Common.{◌≡◌, ℕ, Bool, true, false, ◌&&◌, cond, List, [], ◌∷◌, ◌++◌, Option, Some, None, bytes_eq, nat_eq, refl, subst, arith}
 use Rattle.std.specs.Prelude.{find}
 use Rattle.std.specs.Fmt.{decimal}
 use Rattle.std.specs.List.{starts_with, AllByRecursion}
@@ -13,17 +13,8 @@ use Rattle.module_arena.specs.declared.host.HostRow.{HostRow}
 use Rattle.module_arena.specs.declared.host.HostRow.TheVariants.{Integer}
 use Rattle.module_arena.specs.HostRows.{counted, width_named, row_at, row_among, first_row, fixed_name, host_rows, host_row}
 use Rattle.module_arena.specs.Module.{Bytes}
+use Rattle.module_arena.proofs.IntegerNames.{found_among}
 use Rattle.typed_runs.specs.States.{IsRow}
-
--- what a search through numbers in a row finds
-found_among : (q : ℕ → Bool) (first count w : ℕ) → find q (counted first count) ≡ Some w → (first ≤ w) × (w < first + count) × (q w ≡ true)
-unfolding counted
-found_among q first zero w e = none_some w e
-found_among q first (suc count) w e = by (q first) refl (found_among q (first + 1) count w) e
-  where
-    by : (b : Bool) → q first ≡ b → (find q (counted (first + 1) count) ≡ Some w → (first + 1 ≤ w) × (w < first + 1 + count) × (q w ≡ true)) → cond b (Some first) (find q (counted (first + 1) count)) ≡ Some w → (first ≤ w) × (w < first + suc count) × (q w ≡ true)
-    by true is rest e = let same : first ≡ w = same_Some first w e in (omega (arith, same), omega (arith, same), ap q (sym same) ∙ is)
-    by false is rest e = let r = rest e in (omega (arith, r.0), omega (arith, r.1), r.2)
 
 -- the name at a width
 abbrev passes : Bytes → Intrinsic → ℕ → Bool

@@ -28,6 +28,7 @@ use Rattle.ir_intrinsics.specs.Results.{apply_of}
 use Rattle.linkage_rules.specs.SameShape.{same_shape}
 use Rattle.linkage_rules.proofs.Shapes.{shape_exact}
 use Rattle.type_table.specs.Shape.{Shape, int_leaf, ptr_leaf}
+use Rattle.module_arena.proofs.SameValues.{beq_is}
 use Rattle.run_rules.specs.Action.{Signature}
 use Rattle.run_rules.specs.Calls.{same_signature, same_shape_list}
 use Rattle.run_rules.specs.Answer.{Answer, Gives, Reads, Halts, changes, undefined}
@@ -59,12 +60,6 @@ shapes_same (s ∷ ss) (u ∷ us) e =
     let p = and_parts (same_shape s u) (same_shape_list ss us) e in
     ap (λ x. x ∷ ss) (shape_exact s u p.0) ∙ ap (λ (xs : List Shape). u ∷ xs) (shapes_same ss us p.1)
 
-truths_same : (a b : Bool) → beq a b ≡ true → a ≡ b
-truths_same true true e = refl
-truths_same false false e = refl
-truths_same true false e = absurd (true≢false (sym e))
-truths_same false true e = absurd (true≢false (sym e))
-
 pub signature_exact : (a b : Signature) → same_signature a b ≡ true → a ≡ b
 signature_exact a b e =
     let p = and_parts (same_shape a.returns b.returns) (same_shape_list a.parameters b.parameters && beq a.variadic b.variadic) e in
@@ -72,7 +67,7 @@ signature_exact a b e =
     λ i. record {
       returns = shape_exact a.returns b.returns p.0 i;
       parameters = shapes_same a.parameters b.parameters q.0 i;
-      variadic = truths_same a.variadic b.variadic q.1 i;
+      variadic = beq_is a.variadic b.variadic q.1 i;
     }
 
 -- ---- arguments that are not poison

@@ -1,7 +1,7 @@
 use Rattle.std.proofs.Common.{ap, sym, ◌∙◌}
 use Rattle.module_arena.specs.TypeTests.{is_pointer}
 use Rattle.type_table.specs.Types.{names, trees}
-use Rattle.run_entry.proofs.Trees.{tree_here}
+use Rattle.module_arena.proofs.HostTypesAgree.{tree_here}
 use Rattle.run_entry.proofs.main_function.is_pointer.Goals as goal
 
 pub returns : goal.returns

@@ -1,6 +1,6 @@
 use Rattle.std.proofs.Common.{◌≡◌, subst}
 use Rattle.type_table.specs.Types.{Types, names, trees, tree_of, tree}
-use Rattle.type_verify.proofs.TypesTold.{tree_here}
+use Rattle.module_arena.proofs.HostTypesAgree.{tree_here}
 use Rattle.type_verify.proofs.types.TypeJudge.get.Goals as goal
 
 pub returns : goal.returns
