@@ -17,6 +17,7 @@ use Rattle.linked_symbols.specs.Places.{clamped}
 use Rattle.module_linker.specs.Counts as linking
 use Rattle.module_linker.specs.Counts.{appended_bytes, appended_count, count_of_aliases, first_past, limit}
 use Rattle.module_linker.specs.Structs.{struct_map}
+use Rattle.module_linker.proofs.LinkedAlone.{alone_or}
 use Rattle.link_counts.specs.declared.counting.SymbolCounts.{SymbolCounts}
 use Rattle.link_counts.specs.declared.limits.Count.{Count}
 use Rattle.link_counts.specs.Told.{appended_at, appended_of, count_of_bytes, entry, entry_counts, first_appended, past, told}
@@ -67,10 +68,6 @@ entries_first kind n m rest lim is small = go (nat_lt 262144 n) refl
         ap (λ c. option_map cut (first (cond c (entry kind n ∷ counts_past rest) (counts_past rest)))) (ap (λ l. nat_lt l n) lim ∙ e)
         ∙ sym (ap (λ c. option_or (option_map told (cond c (Some (own kind m)) None)) (first_past limit rest)) (passes false e))
 
-or_none : {A : Type 0} (o : Option A) → option_or o None ≡ o
-or_none None = refl
-or_none (Some x) = refl
-
 exact : (n : ℕ) → n < 2 ^ 64 → n ≡ clamped n
 exact n few = sym (min-eq_left (omega (arith, few)))
 
@@ -85,7 +82,7 @@ entries_told structs counts small few_structs few_variables few_functions =
     ∙ sym (entries_first Structs structs structs (entry Variables counts.variables ∷ entry Functions counts.functions ∷ entry Aliases number ∷ []) refl (exact structs few_structs) small
     ∙ ap (option_or (option_map told p_structs)) (entries_first Variables counts.variables counts.variables (entry Functions counts.functions ∷ entry Aliases number ∷ []) refl (exact counts.variables few_variables) small
     ∙ ap (option_or (option_map told p_variables)) (entries_first Functions counts.functions counts.functions (entry Aliases number ∷ []) refl (exact counts.functions few_functions) small
-    ∙ ap (option_or (option_map told p_functions)) (entries_first Aliases number (clamped number) [] refl refl small ∙ or_none (option_map told p_aliases)))))
+    ∙ ap (option_or (option_map told p_functions)) (entries_first Aliases number (clamped number) [] refl refl small ∙ alone_or (option_map told p_aliases)))))
   where
     number : ℕ
     number = count_of_aliases counts.variables counts.functions counts.aliases

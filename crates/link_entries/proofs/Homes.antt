@@ -1,12 +1,11 @@
 -- A symbol is written as its home says, or else as in its first entry, which is no alias.
-use Rattle.std.proofs.Common.{◌≡◌, ℕ, ◌<◌, Bool, true, false, not, cond, List, [], ◌∷◌, map, length, slice_get, Option, Some, None, refl, sym, subst, ap, ◌∙◌, filter, arith}
+use Rattle.std.proofs.Common.{◌≡◌, ℕ, ◌<◌, Bool, true, false, cond, List, [], ◌∷◌, map, length, slice_get, Option, Some, None, refl, sym, subst, ap, ◌∙◌, filter, arith}
 use Rattle.std.specs.List.{list_all, AllByRecursion}
 use Rattle.std.specs.Prelude.{if◌then◌else◌}
 use Rattle.std.specs.Option.{option_map}
 use Rattle.std.proofs.lemmas.Bool.{and_parts, both_ways, false≢true}
 use Rattle.std.proofs.lemmas.Option.{same_Some}
-use Rattle.ir_tables.specs.declared.linkage.Linkage.{Linkage}
-use Rattle.ir_tables.specs.declared.linkage.Linkage.TheVariants.{External, Private, Internal, Common, Appending, ExternWeak, AvailableExternally, Linkonce, LinkonceOdr, Weak, WeakOdr}
+use Rattle.ir_tables.specs.declared.linkage.Linkage.TheVariants.{External, ExternWeak}
 use Rattle.module_arena.specs.EntryRules.{is_lasting, target_suits, alias_suits}
 use Rattle.module_arena.specs.Lists.{Lists}
 use Rattle.module_arena.specs.Module.{Bytes, Alias, Module}
@@ -17,7 +16,7 @@ use Rattle.linkage_rules.specs.Entries.{Entry, entries, entries_of, part_at, sam
 use Rattle.linkage_rules.specs.Globals.{Global, OfVariable, OfFunction, OfAlias, globals, is_alias, linkage_of}
 use Rattle.linkage_rules.specs.Grouped.{group_in, home_in}
 use Rattle.linkage_rules.specs.Ids.{IsEntryId, modules, seen}
-use Rattle.linkage_rules.specs.Linkages.{is_available_externally, is_extern_weak}
+use Rattle.linkage_rules.specs.Linkages.{is_extern_weak}
 use Rattle.linkage_rules.specs.Lists.{first}
 use Rattle.linkage_rules.specs.Resolved.{Resolved}
 use Rattle.linkage_rules.specs.SymbolLaws.{symbol_self, symbol_exact}
@@ -37,23 +36,11 @@ use Rattle.module_linker.proofs.Carrying.{together}
 use Rattle.module_linker.proofs.Merged.{keys}
 use Rattle.module_linker.proofs.Parts.{entries_by, globals_all}
 use Rattle.module_linker.proofs.Symbols.{all_filter}
+use Rattle.module_linker.proofs.Targets.{lasting_stays}
 use Rattle.link_stages.specs.Parts.{CanLink, IsResolved}
 use Rattle.link_entries.specs.Definitions.{definition_of, declaration_of, linkage_among}
 
 -- ---- an alias is a definition
-
-lasting : (l : Linkage) → is_lasting l ≡ true → not (is_available_externally l) ≡ true
-lasting AvailableExternally h = cc
-lasting External h = refl
-lasting Private h = refl
-lasting Internal h = refl
-lasting Common h = refl
-lasting Appending h = refl
-lasting ExternWeak h = refl
-lasting Linkonce h = refl
-lasting LinkonceOdr h = refl
-lasting Weak h = refl
-lasting WeakOdr h = refl
 
 abbrev AliasDefines : ℕ → Global → Type 0
 AliasDefines i g = is_alias g ≡ true → is_definition (record { part = i; global = g }) ≡ true
@@ -67,7 +54,7 @@ in_part m valid i =
     globals_all (AliasDefines i) m
     (always (λ v. AliasDefines i (OfVariable v)) m.variables (λ v h. absurd (false≢true h)))
     (always (λ f. AliasDefines i (OfFunction f)) m.functions (λ f h. absurd (false≢true h)))
-    (all_follow (λ (a : Alias). alias_suits m a ≡ true) (λ a. AliasDefines i (OfAlias a)) m.aliases (λ a suits h. lasting a.linkage (and_parts (is_lasting a.linkage) (target_suits m a.ty a.target) suits).0) (aliases_suit m valid))
+    (all_follow (λ (a : Alias). alias_suits m a ≡ true) (λ a. AliasDefines i (OfAlias a)) m.aliases (λ a suits h. lasting_stays a.linkage (and_parts (is_lasting a.linkage) (target_suits m a.ty a.target) suits).0) (aliases_suit m valid))
 
 aliases_define : (ms : List Module) → AllByRecursion IsValid ms → AllByRecursion (λ e. is_alias e.global ≡ true → is_definition e ≡ true) (entries ms)
 aliases_define ms valid = entries_by IsValid AliasDefines ms valid (λ i v. in_part (part_at ms i) v i)

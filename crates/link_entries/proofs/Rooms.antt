@@ -35,6 +35,7 @@ use Rattle.module_linker.proofs.Merged.{keys, names, linked_name}
 use Rattle.module_linker.specs.Carried.{IsSymbol}
 use Rattle.type_build.specs.Declarations.{IsFree, AreFew}
 use Rattle.entry_copy.specs.Tables.{Tables}
+use Rattle.module_linker.proofs.Agreed.{nothing_mapped}
 use Rattle.link_stages.specs.Declared.{bare, with_global, with_globals, ids_from}
 use Rattle.link_stages.specs.Ground.{HaveTypes, ground}
 use Rattle.link_stages.specs.Parts.{CanLink}
@@ -340,15 +341,11 @@ module _ (ms : List Module) (ss : List Symbol) (ns : List Bytes) (are : ss ≡ s
 
 -- ---- before the first entry
 
-none_listed : {A B : Type 0} (f : A → B) (xs : List A) → map f xs ≡ [] → xs ≡ []
-none_listed f [] h = refl
-none_listed f (x ∷ xs) h = cc
-
 pub none_declared : (parts : List Lists) (tables : List Tables) (b : Lists) → HaveTypes parts b tables → module_of b ≡ ground (modules parts) → IsDeclaring parts 0 b tables
 none_declared parts tables b types is = record {
   types = types;
   joined = is;
   untargeted = λ id x le e.
-      let none : b.aliases ≡ [] = none_listed (alias_view (trees b.table) (name_at b)) b.aliases (sym (aliases_in b) ∙ ap (λ (m : Module). m.aliases) is) in
+      let none : b.aliases ≡ [] = nothing_mapped (alias_view (trees b.table) (name_at b)) b.aliases (sym (aliases_in b) ∙ ap (λ (m : Module). m.aliases) is) in
       absurd (none-some x (ap (λ xs. slice_get xs id) (sym none) ∙ e));
 }

@@ -25,6 +25,7 @@ use Rattle.linkage_rules.specs.declared.symbol.Symbol.{Symbol}
 use Rattle.linkage_rules.proofs.Seen.{has_entry, known_global, name_seen, seen_is, seen_part}
 use Rattle.module_linker.proofs.Apart.{Apart, none_at}
 use Rattle.entry_copy.proofs.ConstantsCopied.{name_is}
+use Rattle.module_linker.proofs.Agreed.{filter_at}
 use Rattle.link_ids.specs.Filing.{KnownIds, new_id_of, same_entry, IsFiledUnder}
 
 -- ---- lists
@@ -55,17 +56,6 @@ kept_passes {A = A} test (y ∷ ys) j x at = go (test y) refl at (kept_passes te
     go : (b : Bool) → test y ≡ b → slice_get (cond b (y ∷ filter test ys) (filter test ys)) j ≡ Some x → ((i : ℕ) (z : A) → slice_get (filter test ys) i ≡ Some z → test z ≡ true) → test x ≡ true
     go true t e more = first j t e more
     go false f e more = more j x e
-
-kept_at : {A : Type 0} (test : A → Bool) (xs : List A) (k : ℕ) (x : A) → slice_get xs k ≡ Some x → test x ≡ true → (j : ℕ) × (slice_get (filter test xs) j ≡ Some x)
-kept_at test [] k x at t = cc
-kept_at test (y ∷ ys) zero x at t =
-    let same : y ≡ x = same_Some y x at in
-    (0, ap (λ l. slice_get l 0) (cond-true (test y) (y ∷ filter test ys) (filter test ys) (subst (λ z. test z ≡ true) (sym same) t)) ∙ ap Some same)
-kept_at test (y ∷ ys) (suc k) x at t = go (test y) refl (kept_at test ys k x at t)
-  where
-    go : (b : Bool) → test y ≡ b → (j : ℕ) × (slice_get (filter test ys) j ≡ Some x) → (j : ℕ) × (slice_get (filter test (y ∷ ys)) j ≡ Some x)
-    go true e later = (suc later.0, ap (λ l. slice_get l (suc later.0)) (cond-true (test y) (y ∷ filter test ys) (filter test ys) e) ∙ later.1)
-    go false e later = (later.0, ap (λ l. slice_get l later.0) (cond-false (test y) (y ∷ filter test ys) (filter test ys) e) ∙ later.1)
 
 in_front : {A : Type 0} (xs ys : List A) (k : ℕ) (x : A) → slice_get xs k ≡ Some x → (n : ℕ) × (slice_get (xs ++ ys) n ≡ Some x)
 in_front [] ys k x at = cc
@@ -160,7 +150,7 @@ module _ (parts : List Lists) (rows : Rows) (groups : AreGroups parts rows) wher
       let ms = modules parts in
       let s = key_in ms id in
       let all = own_place parts id known in
-      let own = kept_at (λ x. same_symbol s (symbol_of x)) (entries ms) all.0 (seen ms id) all.1 (symbol_self s) in
+      let own = filter_at (λ x. same_symbol s (symbol_of x)) (entries ms) all.0 (seen ms id) all.1 (symbol_self s) in
       let filed : option_map (seen ms) (slice_get (group_in rows s) own.0) ≡ Some (seen ms id) = sym (slice_get-map (seen ms) (group_in rows s) own.0) ∙ ap (λ l. slice_get l own.0) (groups.groups s) ∙ own.1 in
       let e = unmapped (seen ms) (slice_get (group_in rows s) own.0) (seen ms id) filed in
       any_passes_from_place (same_entry id) (group_in rows s) own.0 e.0 e.1

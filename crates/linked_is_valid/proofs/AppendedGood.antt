@@ -31,7 +31,7 @@ use Rattle.module_linker.specs.Linked.{linked_pieces, linked_definition, link_re
 use Rattle.module_linker.proofs.Bound.{symbol_at}
 use Rattle.module_linker.proofs.Searches.{at_all}
 use Rattle.linked_is_valid.specs.Laws.{AreLinkable, LinkedIsWellFormed}
-use Rattle.linked_is_valid.proofs.Lists.{all_tests, all_tested}
+use Rattle.linked_is_valid.proofs.Lists.{all_tested}
 use Rattle.linked_is_valid.proofs.Types.{KnownTree, nameless_same, shape_same}
 use Rattle.linked_is_valid.proofs.Known.{AllGood, GoodParts, good_variable, variable_constants, variable_type_known, all_at}
 use Rattle.linked_is_valid.proofs.Good.{good_type_kept, constant_good}
@@ -46,6 +46,7 @@ use Rattle.linked_is_valid.proofs.Few.{passed}
 use Rattle.linked_is_valid.proofs.GoodRows.{AppendedGood, linked_is_well_formed}
 use Rattle.type_table.specs.Shape as shapes
 use Rattle.module_arena.specs.EntryRules as rules
+use Rattle.module_linker.proofs.Parts.{all_true}
 
 -- CONSTANTS BEHIND EACH OTHER
 
@@ -89,7 +90,7 @@ module _ (parts : List Module) (fine : AreLinkable parts) (t : Tree) where
           let old : AllGood part ((a.variable.ty, Aggregate Square cs) ∷ []) = subst (λ (o : Option Constant). AllGood part (map {B = Typed} (λ c. (a.variable.ty, c)) (option_to_list o))) eq (variable_constants part (good_at parts fine x.part) a.has.0 a.variable a.has.1) in
           let new = constant_good part (link_result parts) (new_struct parts x.part) (new_global parts x.part) (part_renames parts fine x.part) (a.variable.ty, Aggregate Square cs) old.0 in
           let both = and_parts (nat_le (greatest_depth (renamed_constants (new_struct parts x.part) (new_global parts x.part) cs) + 1) 64) _ new in
-          let tests : GoodParts (link_result parts) (constants_in (linked_type parts x.part a.variable.ty) (Aggregate Square (renamed_constants (new_struct parts x.part) (new_global parts x.part) cs))) = all_tests (is_good_part (link_result parts)) (constants_in (linked_type parts x.part a.variable.ty) (Aggregate Square (renamed_constants (new_struct parts x.part) (new_global parts x.part) cs))) both.1 in
+          let tests : GoodParts (link_result parts) (constants_in (linked_type parts x.part a.variable.ty) (Aggregate Square (renamed_constants (new_struct parts x.part) (new_global parts x.part) cs))) = all_true (is_good_part (link_result parts)) (constants_in (linked_type parts x.part a.variable.ty) (Aggregate Square (renamed_constants (new_struct parts x.part) (new_global parts x.part) cs))) both.1 in
           subst (GoodList (link_result parts)) (sym (ap (λ l. linked_pieces parts (l ++ ps)) inside ∙ linked_after parts x.part cs ps))
           (good_after (link_result parts) (renamed_constants (new_struct parts x.part) (new_global parts x.part) cs) (linked_pieces parts ps)
           (record { shallow = both.0; good = tests.1 }) rest)

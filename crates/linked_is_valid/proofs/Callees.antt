@@ -1,5 +1,5 @@
 -- What is no intrinsic in a part is none in the linked module, under its new name.
-use Rattle.std.proofs.Common.{◌≡◌, ℕ, zero, suc, ◌+◌, Bool, true, false, ◌&&◌, ◌⊎◌, inl, inr, List, [], ◌∷◌, ◌++◌, map, Some, refl, sym, ap, ap₂, ◌∙◌, subst, option_map, bytes_eq, nat_eq, arith}
+use Rattle.std.proofs.Common.{◌≡◌, ℕ, zero, suc, ◌+◌, Bool, true, false, ◌&&◌, ◌⊎◌, inl, inr, List, [], ◌∷◌, map, Some, refl, sym, ap, ap₂, ◌∙◌, subst, option_map, bytes_eq, nat_eq, arith}
 use Rattle.std.specs.Prelude.{slice_get, slice_index_or, if◌then◌else◌}
 use Rattle.std.specs.List.{list_any}
 use Rattle.std.proofs.lemmas.Bool.{and_from, and_parts, and_left, and_right, and_cases, or_left, or_right, or_cases, cases_Bool, both_ways, false_from_ne_true, cond-true, cond-false, eqb-true}
@@ -27,6 +27,7 @@ use Rattle.module_linker.proofs.Bound.{here}
 use Rattle.module_linker.proofs.Searches.{at_all}
 use Rattle.type_table.proofs.Rooms.{unmapped}
 use Rattle.module_linker.specs.Structs.{new_struct}
+use Rattle.module_linker.proofs.Agreed.{any_left, any_right}
 use Rattle.linked_is_valid.proofs.Good.{Renames}
 use Rattle.linked_is_valid.proofs.Structs.{linked_structs, linked_struct_there}
 use Rattle.linked_is_valid.proofs.LlvmNames.{local_plain}
@@ -41,18 +42,6 @@ use Rattle.linked_is_valid.proofs.Renaming.{EntryOf, find_entry, good_at, entrie
 abbrev stands : ℕ → (Global → Bool) → Entry → Bool
 stands i q e = nat_eq i e.part && q e.global
 
-pub any_front : {A : Type 0} (test : A → Bool) (xs ys : List A) → list_any test xs ≡ true → list_any test (xs ++ ys) ≡ true
-any_front test [] ys h = cc
-any_front test (x ∷ xs) ys h = go (or_cases (test x) _ h) (any_front test xs ys)
-  where
-    go : (test x ≡ true) ⊎ (list_any test xs ≡ true) → (list_any test xs ≡ true → list_any test (xs ++ ys) ≡ true) → list_any test (x ∷ xs ++ ys) ≡ true
-    go (inl k) more = or_left _ _ k
-    go (inr k) more = or_right (test x) _ (more k)
-
-pub any_back : {A : Type 0} (test : A → Bool) (xs ys : List A) → list_any test ys ≡ true → list_any test (xs ++ ys) ≡ true
-any_back test [] ys h = h
-any_back test (x ∷ xs) ys h = or_right (test x) _ (any_back test xs ys h)
-
 in_part : (i : ℕ) (q : Global → Bool) (gs : List Global) → list_any q gs ≡ true → list_any (stands i q) (map (λ g. let e : Entry = record { part = i; global = g } in e) gs) ≡ true
 in_part i q [] h = cc
 in_part i q (g ∷ gs) h = go (or_cases (q g) _ h) (in_part i q gs)
@@ -65,10 +54,10 @@ entry_there : (j : ℕ) (ms : List Module) (i : ℕ) (q : Global → Bool) → l
 entry_there j [] i q h = cc
 entry_there j (m ∷ ms) zero q h =
     let same : j + 0 ≡ j = omega arith in
-    subst (λ n. list_any (stands n q) (entries_from j (m ∷ ms)) ≡ true) (sym same) (any_front (stands j q) _ (entries_from (suc j) ms) (in_part j q (globals m) h))
+    subst (λ n. list_any (stands n q) (entries_from j (m ∷ ms)) ≡ true) (sym same) (any_left (stands j q) _ (entries_from (suc j) ms) (in_part j q (globals m) h))
 entry_there j (m ∷ ms) (suc i) q h =
     let same : j + suc i ≡ suc j + i = omega arith in
-    subst (λ n. list_any (stands n q) (entries_from j (m ∷ ms)) ≡ true) (sym same) (any_back (stands (suc j + i) q) _ (entries_from (suc j) ms) (entry_there (suc j) ms i q h))
+    subst (λ n. list_any (stands n q) (entries_from j (m ∷ ms)) ≡ true) (sym same) (any_right (stands (suc j + i) q) _ (entries_from (suc j) ms) (entry_there (suc j) ms i q h))
 
 -- where an entry of a part passes, one of all entries does
 pub entry_where : (parts : List Module) (i : ℕ) (q : Global → Bool) → list_any q (globals (part_at parts i)) ≡ true → (k : ℕ) × (e : Entry) × (slice_get (entries parts) k ≡ Some e) × ((e.part ≡ i) × (q e.global ≡ true))

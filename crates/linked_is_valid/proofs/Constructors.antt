@@ -25,12 +25,14 @@ use Rattle.module_linker.specs.Linked.{linked_alias, linked_definition, linked_b
 use Rattle.module_linker.proofs.Merged.{linked_name, linked_kind, linked_is_alias_none}
 use Rattle.module_linker.proofs.Bound.{here}
 use Rattle.module_linker.proofs.Searches.{at_all}
+use Rattle.module_linker.proofs.Agreed.{any_left, any_right}
+use Rattle.module_linker.proofs.ByKind.{any_key}
 use Rattle.linked_is_valid.proofs.Types.{sameness_kept, width_same, pointer_same}
 use Rattle.linked_is_valid.proofs.PartEntries.{EntryHolds}
-use Rattle.linked_is_valid.proofs.Linking.{entry_named, function_there, any_key}
+use Rattle.linked_is_valid.proofs.Linking.{entry_named, function_there}
 use Rattle.linked_is_valid.specs.Laws.{AreLinkable}
 use Rattle.linked_is_valid.proofs.Renaming.{entries_hold, together, row_of_name, linked_at}
-use Rattle.linked_is_valid.proofs.Callees.{entry_where, any_front, any_back}
+use Rattle.linked_is_valid.proofs.Callees.{entry_where}
 use Rattle.linked_is_valid.proofs.Strong.{one_entry}
 use Rattle.linked_is_valid.proofs.Targets.{own_symbol, targets_kept}
 
@@ -62,20 +64,20 @@ is_variable_of name (OfAlias a) = false
 
 functions_among : (m : Module) (name : Bytes) (q : Global → Bool) → ((f : Function) → bytes_eq name f.name ≡ true → q (OfFunction f) ≡ true) → has_function m name ≡ true → list_any q (globals m) ≡ true
 functions_among m name q f h =
-    any_front q (map OfVariable m.variables ++ map OfFunction m.functions) (map OfAlias m.aliases)
-    (any_back q (map OfVariable m.variables) (map OfFunction m.functions) (any_key OfFunction q m.functions ∙ any_follow (λ (g : Function). bytes_eq name g.name) (λ g. q (OfFunction g)) m.functions f (sym (any_key (λ (g : Function). g.name) (bytes_eq name) m.functions) ∙ h)))
+    any_left q (map OfVariable m.variables ++ map OfFunction m.functions) (map OfAlias m.aliases)
+    (any_right q (map OfVariable m.variables) (map OfFunction m.functions) (any_key OfFunction q m.functions ∙ any_follow (λ (g : Function). bytes_eq name g.name) (λ g. q (OfFunction g)) m.functions f (sym (any_key (λ (g : Function). g.name) (bytes_eq name) m.functions) ∙ h)))
 
 calls_among : (m : Module) (name : Bytes) → (has_function m name || has_alias_of_function m name) ≡ true → list_any (calls_function m name) (globals m) ≡ true
 calls_among m name h = go (or_cases (has_function m name) _ h)
   where
     go : (has_function m name ≡ true) ⊎ (has_alias_of_function m name ≡ true) → list_any (calls_function m name) (globals m) ≡ true
     go (inl t) = functions_among m name (calls_function m name) (λ f e. e) t
-    go (inr t) = any_back (calls_function m name) (map OfVariable m.variables ++ map OfFunction m.functions) (map OfAlias m.aliases) (any_key OfAlias (calls_function m name) m.aliases ∙ t)
+    go (inr t) = any_right (calls_function m name) (map OfVariable m.variables ++ map OfFunction m.functions) (map OfAlias m.aliases) (any_key OfAlias (calls_function m name) m.aliases ∙ t)
 
 variables_among : (m : Module) (name : Bytes) → list_any (is_lasting_variable name) m.variables ≡ true → list_any (is_variable_of name) (globals m) ≡ true
 variables_among m name h =
-    any_front (is_variable_of name) (map OfVariable m.variables ++ map OfFunction m.functions) (map OfAlias m.aliases)
-    (any_front (is_variable_of name) (map OfVariable m.variables) (map OfFunction m.functions)
+    any_left (is_variable_of name) (map OfVariable m.variables ++ map OfFunction m.functions) (map OfAlias m.aliases)
+    (any_left (is_variable_of name) (map OfVariable m.variables) (map OfFunction m.functions)
     (any_key OfVariable (is_variable_of name) m.variables ∙ any_follow (is_lasting_variable name) (λ (v : Variable). bytes_eq v.name name) m.variables (λ v e. (and_parts (bytes_eq v.name name) _ e).0) h))
 
 lasting_is_function : (m : Module) (name : Bytes) → list_any (is_lasting_function name) m.functions ≡ true → has_function m name ≡ true

@@ -1,5 +1,5 @@
 -- What variables, functions and aliases are asked for holds of them under new names, and of declarations made of them.
-use Rattle.std.proofs.Common.{◌≡◌, ℕ, Bool, true, false, not, ◌&&◌, ◌||◌, List, [], ◌∷◌, map, Option, Some, None, refl, ap, ap₂, ◌∙◌, subst, option_map, is_some, option_to_list}
+use Rattle.std.proofs.Common.{◌≡◌, ℕ, Bool, true, false, not, ◌&&◌, ◌||◌, List, [], ◌∷◌, map, Option, Some, None, refl, ap, ap₂, ◌∙◌, subst, option_map, option_to_list}
 use Rattle.std.specs.Prelude.{slice_get}
 use Rattle.std.specs.Option.{option_map_or}
 use Rattle.std.specs.List.{list_all, AllByRecursion}
@@ -14,6 +14,7 @@ use Rattle.module_arena.specs.EntryRules.{linkage_suits, is_common, is_appending
 use Rattle.module_arena.specs.WellFormed.{is_good_type, is_good_alias, types_of_alias, IsWellFormed}
 use Rattle.module_arena.specs.Valid.{AllHold, variable_demands, alias_demands, function_demands}
 use Rattle.module_arena.proofs.HostTypesAgree.{is_none-map}
+use Rattle.module_linker.proofs.Moved.{kept_some}
 use Rattle.linked_is_valid.proofs.Types.{KnownTree, void_free_same, memory_same, passable_same}
 use Rattle.linked_is_valid.proofs.Constants.{KnownConstant, fits_kept, constant_types_kept}
 use Rattle.linked_is_valid.proofs.Operations.{IsRenamed}
@@ -66,10 +67,6 @@ module _ (names globals : Bytes → Bytes) where
   zero_same (Some (Cast opcode from value to)) = refl
   zero_same (Some (Binary opcode flags a left b right)) = refl
 
-pub some_same : {A B : Type 0} (f : A → B) (o : Option A) → is_some (option_map f o) ≡ is_some o
-some_same f None = refl
-some_same f (Some x) = refl
-
 -- a test that a name passes which does not begin `llvm.`
 pub other_name : (b c : Bool) → b ≡ false → (not b || c) ≡ true
 other_name b c h = or_left (not b) c (not_from_false b h)
@@ -103,7 +100,7 @@ module _ (m n : Module) (names globals : Bytes → Bytes) (renames : Renames m n
     -- a variable that is not appending, under a name that does not begin `llvm.`
     pub variable_holds : (name : Bytes) (alignment : Option ℕ) → is_appending v.linkage ≡ false → is_llvm_name name ≡ false → alignment_suits alignment ≡ true → AllHold (variable_demands m v) → AllHold (variable_demands n (renamed_variable names globals name alignment v))
     variable_holds name alignment plain unlike aligned h = (
-      ap (λ b. linkage_suits b v.linkage) (some_same (renamed_constant names globals) v.initialiser) ∙ h.0,
+      ap (λ b. linkage_suits b v.linkage) (kept_some (renamed_constant names globals) v.initialiser) ∙ h.0,
       (
         ap (λ b. not (is_common v.linkage) || (not v.constant && b)) (zero_same names globals v.initialiser) ∙ h.1.0,
         (
@@ -138,7 +135,7 @@ module _ (m n : Module) (names globals : Bytes → Bytes) (renames : Renames m n
     -- a function under a name that does not begin `llvm.`
     pub function_holds : (name : Bytes) → is_llvm_name name ≡ false → AllHold (function_demands m f) → AllHold (function_demands n (renamed_function names globals name f))
     function_holds name unlike h = (
-      ap (λ b. linkage_suits b f.linkage) (some_same (map (renamed_block names globals)) f.body) ∙ h.0,
+      ap (λ b. linkage_suits b f.linkage) (kept_some (map (renamed_block names globals)) f.body) ∙ h.0,
       (
         h.1.0,
         (

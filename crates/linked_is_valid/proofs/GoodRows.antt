@@ -31,7 +31,7 @@ use Rattle.linked_is_valid.proofs.Renaming.{good_at, entries_hold, together}
 use Rattle.linked_is_valid.proofs.Callees.{part_renames}
 use Rattle.linked_is_valid.proofs.Commons.{commons_aligned}
 use Rattle.linked_is_valid.proofs.Targets.{targets_kept}
-use Rattle.linked_is_valid.proofs.LinkedRows.{undefined_first, first_is, joined_aligned, lasting_here}
+use Rattle.linked_is_valid.proofs.LinkedRows.{undefined_first, first_is, joined_aligned}
 use Rattle.linked_is_valid.proofs.LinkedIsValid.{appended_hold}
 use Rattle.linked_is_valid.proofs.NamesGood.{all_digits_good, struct_names_good, global_names_good}
 use Rattle.module_linker.specs.Counts.{too_many}
@@ -39,6 +39,7 @@ use Rattle.linked_is_valid.proofs.Few.{few_entries}
 use Rattle.linked_is_valid.proofs.StructsGood.{structs_good}
 use Rattle.linked_is_valid.proofs.LinkedGood.{EntryGood, entry_good, variable_good, defined_good, alias_good, declared_variable_good, declared_function_good}
 use Rattle.module_arena.specs.EntryRules as rules
+use Rattle.module_linker.proofs.Targets.{lasting_stays}
 
 -- an array that is appended is well formed; left open
 abbrev pub AppendedGood : List Module → Type 0
@@ -78,7 +79,7 @@ module _ (parts : List Module) (fine : AreLinkable parts) (appended : AppendedGo
     declared_good undefined (OfVariable v) eq holds good = declared_variable_good parts fine e.part (declared_linkage parts s) new v good
     declared_good undefined (OfFunction f) eq holds good = declared_function_good parts fine e.part (declared_linkage parts s) new f good
     declared_good undefined (OfAlias a) eq holds good =
-        absurd (both_ways _ undefined (ap is_definition_of eq ∙ lasting_here a.linkage (and_parts (rules.is_lasting a.linkage) _ holds.1.1.1.1.1.0).0))
+        absurd (both_ways _ undefined (ap is_definition_of eq ∙ lasting_stays a.linkage (and_parts (rules.is_lasting a.linkage) _ holds.1.1.1.1.1.0).0))
       where
         is_definition_of : Global → Bool
         is_definition_of g = is_written g && not (is_available_externally (linkage_of g))

@@ -17,7 +17,9 @@ use Rattle.module_arena.specs.EntryRules.{is_only_called}
 use Rattle.module_arena.specs.Forms.{is_not_empty, is_instruction_of_phrase, is_constant_of_phrase}
 use Rattle.module_arena.specs.Names.{has_good_names}
 use Rattle.module_arena.specs.WellFormed.{is_good_type, are_good_types, is_good_body, are_good_structs, types_of_operation, known_in, known_of_operands, known_of_operation, known_of_block, known_of_variable, module_constants, is_in_range, type_in_constant, has_entry, names_an_entry, is_good_part, is_good_constant, depth, is_good_variable, are_good_operands, is_good_block, is_good_function, IsWellFormed}
-use Rattle.linked_is_valid.proofs.Lists.{all_follow, all_in_front, all_behind, all_tests}
+use Rattle.module_linker.proofs.Parts.{all_true}
+use Rattle.module_linker.proofs.Searches.{all_front as all_in_front, all_back as all_behind}
+use Rattle.linked_is_valid.proofs.Lists.{all_follow}
 use Rattle.linked_is_valid.proofs.Types.{has_struct, KnownTree, AllKnown, KnownBody}
 use Rattle.linked_is_valid.proofs.Constants.{KnownConstant, KnownConstants}
 use Rattle.linked_is_valid.proofs.Operations.{KnownValue, KnownOperand, KnownCallee, KnownOperation, KnownBlock, KnownFunction}
@@ -43,7 +45,7 @@ module _ (structs : Structs) where
         (type_known t both.0, types_known ts both.1)
 
   pub all_types_known : (ts : List Tree) → list_all (is_good_type structs) ts ≡ true → AllByRecursion (KnownTree structs) ts
-  all_types_known ts h = all_follow _ _ ts (λ t e. type_known t e) (all_tests (is_good_type structs) ts h)
+  all_types_known ts h = all_follow _ _ ts (λ t e. type_known t e) (all_true (is_good_type structs) ts h)
 
   pub tree_body_known : (body : TreeBody) → is_good_body structs body ≡ true → KnownBody structs body
   tree_body_known opaque_body h = tt
@@ -62,7 +64,7 @@ pub structs_closed : (structs : Structs) → are_good_structs structs ≡ true �
 structs_closed structs h name there =
     body_has (KnownBody structs) structs name tt
     (all_follow (λ s. (is_good_body structs s.1 && is_good_type structs (named s.0)) ≡ true) (λ s. KnownBody structs s.1) structs
-    (λ s e. tree_body_known structs s.1 (and_parts (is_good_body structs s.1) _ e).0) (all_tests (λ s. is_good_body structs s.1 && is_good_type structs (named s.0)) structs h))
+    (λ s e. tree_body_known structs s.1 (and_parts (is_good_body structs s.1) _ e).0) (all_true (λ s. is_good_body structs s.1 && is_good_type structs (named s.0)) structs h))
 
 -- CONSTANTS
 
@@ -126,7 +128,7 @@ module _ (m : Module) where
   addresses_there (t, Binary opcode flags a left b right) h = tt
 
   pub good_parts : (t : Tree) (c : Constant) → is_good_constant m (t, c) ≡ true → GoodParts (constants_in t c)
-  good_parts t c h = all_tests (is_good_part m) (constants_in t c) (and_parts (nat_le (depth c) 64) _ h).1
+  good_parts t c h = all_true (is_good_part m) (constants_in t c) (and_parts (nat_le (depth c) 64) _ h).1
 
   abbrev pub AllGood : List Typed → Type 0
   AllGood xs = AllByRecursion (λ x. is_good_constant m x ≡ true) xs
@@ -248,7 +250,7 @@ test_at p (y ∷ xs) (suc k) x e h = test_at p xs k x e (and_parts (p y) _ h).1
 
 module _ (m : Module) (good : IsWellFormed m) where
   all_constants : AllGood m (module_constants m)
-  all_constants = all_tests (is_good_constant m) (module_constants m) good.constants
+  all_constants = all_true (is_good_constant m) (module_constants m) good.constants
 
   module _ (k : ℕ) (f : Function) (at : slice_get m.functions k ≡ Some f) where
     pub body_constants : AllGood m (flat_map known_of_block (blocks f))
@@ -265,7 +267,7 @@ module _ (m : Module) (good : IsWellFormed m) where
         let four = and_parts (has_good_names f) _ three.1 in
         record {
           returns = type_known m.structs f.returns one.0;
-          parameters = all_follow _ _ f.parameters (λ p e. type_known m.structs p.ty e) (all_tests (λ p. is_good_type m.structs p.ty) f.parameters two.0);
+          parameters = all_follow _ _ f.parameters (λ p e. type_known m.structs p.ty e) (all_true (λ p. is_good_type m.structs p.ty) f.parameters two.0);
           blocks = blocks_known m (blocks f) four.1 body_constants;
         }
 

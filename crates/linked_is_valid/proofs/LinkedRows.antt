@@ -42,6 +42,7 @@ use Rattle.linked_is_valid.specs.Laws.{AreLinkable}
 use Rattle.linked_is_valid.proofs.Renaming.{good_at, valid_at, together}
 use Rattle.linked_is_valid.proofs.Callees.{part_renames, new_plain, shared_symbol}
 use Rattle.module_arena.specs.EntryRules as rules
+use Rattle.module_linker.proofs.Targets.{lasting_stays}
 
 -- the alignment that several commons come to is one
 abbrev pub CommonsAligned : List Module → Type 0
@@ -96,19 +97,6 @@ appending_written false Linkonce h k = cc
 appending_written false LinkonceOdr h k = cc
 appending_written false Weak h k = cc
 appending_written false WeakOdr h k = cc
-
-pub lasting_here : (l : Linkage) → rules.is_lasting l ≡ true → not (is_available_externally l) ≡ true
-lasting_here External h = refl
-lasting_here Private h = refl
-lasting_here Internal h = refl
-lasting_here Appending h = cc
-lasting_here Common h = cc
-lasting_here ExternWeak h = cc
-lasting_here AvailableExternally h = cc
-lasting_here Linkonce h = cc
-lasting_here LinkonceOdr h = cc
-lasting_here Weak h = cc
-lasting_here WeakOdr h = cc
 
 declared_suits : (b : Bool) → rules.linkage_suits false (if b then ExternWeak else External) ≡ true
 declared_suits true = refl
@@ -222,7 +210,7 @@ module _ (parts : List Module) (fine : AreLinkable parts) (aligned : CommonsAlig
           let types : signature_of g ≡ renamed_signature (new_struct parts e.part) (signature_of f) = ap (λ (ts : List Tree). let t : Signature = record { returns = linked_type parts e.part f.returns; parameters = ts; variadic = f.variadic } in t) (declared_types parts e.part 0 f.parameters) in
           function_declared part result (new_struct parts e.part) (new_global parts e.part) (part_renames parts fine e.part) (good_at parts fine e.part) has.0 f g has.1
           (record { name = shared_new parts place s new e at is local ∙ ap name_of eq; types = types; body = refl }) (declared_suits (all_extern_weak parts s)) holds
-      declared_row (OfAlias a) eq has holds = absurd (written_here (OfAlias a) eq refl (lasting_here a.linkage (and_parts (rules.is_lasting a.linkage) _ holds.1.1.1.1.1.0).0))
+      declared_row (OfAlias a) eq has holds = absurd (written_here (OfAlias a) eq refl (lasting_stays a.linkage (and_parts (rules.is_lasting a.linkage) _ holds.1.1.1.1.1.0).0))
 
   -- ROWS
 

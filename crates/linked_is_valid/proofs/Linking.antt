@@ -1,28 +1,23 @@
 -- What is written in a part may be written in the linked module, under new names.
 use Rattle.std.proofs.Common.{◌≡◌, ℕ, zero, suc, Bool, true, false, not, ◌||◌, ◌⊎◌, inl, inr, List, [], ◌∷◌, ◌++◌, map, Some, refl, sym, ap, ◌∙◌, subst, filter_map, option_map, bytes_eq}
 use Rattle.std.specs.Prelude.{slice_get}
-use Rattle.std.specs.List.{list_any, list_all, AllByRecursion}
+use Rattle.std.specs.List.{list_any, AllByRecursion}
 use Rattle.std.proofs.lemmas.Bool.{and_parts, or_left, or_right, or_parts, or_from, or_cases, both_ways, not-true}
 use Rattle.std.proofs.lemmas.Option.{same_Some, slice_get-map}
 use Rattle.std.proofs.lemmas.List.Folds.{list_any-append}
 use Rattle.ir_tables.specs.Table.{is_distinct}
 use Rattle.module_arena.specs.Module.{Bytes, Variable, Alias, Function, Module}
 use Rattle.module_arena.specs.Functions.{variable_names, alias_names, function_names}
-use Rattle.module_arena.specs.Names.{is_name}
-use Rattle.module_arena.specs.WellFormed.{IsWellFormed, has_entry, global_names}
+use Rattle.module_arena.specs.WellFormed.{has_entry}
 use Rattle.linkage_rules.specs.Globals.{Global, OfVariable, OfFunction, OfAlias, name_of, globals}
 use Rattle.module_linker.proofs.Apart.{Apart, none_at}
 use Rattle.linkage_rules.proofs.Lists.{other_way}
 use Rattle.linkage_rules.specs.SymbolLaws.{name_self, name_exact}
-use Rattle.module_linker.proofs.Agreed.{AreDistinct}
 use Rattle.module_linker.specs.Linked.{variable_if, function_if, alias_if}
 use Rattle.module_linker.proofs.Merged.{Row}
+use Rattle.module_linker.proofs.ByKind.{any_key}
 
 -- NAMES WITHOUT REPEATS
-
-pub any_key : {A B : Type 0} (key : A → B) (test : B → Bool) (xs : List A) → list_any test (map key xs) ≡ list_any (λ x. test (key x)) xs
-any_key key test [] = refl
-any_key key test (x ∷ xs) = ap (λ b. test (key x) || b) (any_key key test xs)
 
 abbrev pub Cross : List Bytes → List Bytes → Type 0
 Cross xs ys = AllByRecursion (λ x. list_any (bytes_eq x) ys ≡ false) xs
@@ -69,24 +64,11 @@ pub cross_front : (xs ys zs : List Bytes) → Cross xs zs → Cross ys zs → Cr
 cross_front [] ys zs a b = b
 cross_front (x ∷ xs) ys zs a b = (a.0, cross_front xs ys zs a.1 b)
 
--- variables, aliases, functions, as variables, functions, aliases
-reordered : (vs as_ fs : List Bytes) → Apart bytes_eq (vs ++ (as_ ++ fs)) → Apart bytes_eq ((vs ++ fs) ++ as_)
-reordered vs as_ fs a =
-    let one = apart_parts vs (as_ ++ fs) a in
-    let two = apart_parts as_ fs one.1.0 in
-    let three = cross_parts vs as_ fs one.1.1 in
-    apart_together (vs ++ fs) as_ (apart_together vs fs one.0 two.1.0 three.1) two.0 (cross_front vs fs as_ three.0 (cross_back as_ fs two.1.1))
-
 pub names_of : (vs : List Variable) (fs : List Function) (as_ : List Alias) → map name_of ((map OfVariable vs ++ map OfFunction fs) ++ map OfAlias as_) ≡ (map (λ (v : Variable). v.name) vs ++ map (λ (f : Function). f.name) fs) ++ map (λ (a : Alias). a.name) as_
 names_of [] [] [] = refl
 names_of [] [] (a ∷ as_) = ap (λ l. a.name ∷ l) (names_of [] [] as_)
 names_of [] (f ∷ fs) as_ = ap (λ l. f.name ∷ l) (names_of [] fs as_)
 names_of (v ∷ vs) fs as_ = ap (λ l. v.name ∷ l) (names_of vs fs as_)
-
-pub good_distinct : (m : Module) → IsWellFormed m → AreDistinct m
-good_distinct m good =
-    subst (Apart bytes_eq) (sym (names_of m.variables m.functions m.aliases))
-    (reordered (variable_names m) (alias_names m) (function_names m) (distinct_apart (global_names m) (and_parts (list_all is_name (global_names m)) _ good.global_names).1))
 
 -- an entry of that name, one way and the other
 either_order : (a b c : Bool) → (a || (b || c)) ≡ ((a || c) || b)

@@ -32,12 +32,13 @@ use Rattle.module_linker.proofs.Result.{globals_merged}
 use Rattle.type_table.specs.Tree.{Structs}
 use Rattle.module_arena.proofs.ModuleSet.{map_map}
 use Rattle.linked_is_valid.specs.Laws.{AreLinkable}
-use Rattle.linked_is_valid.proofs.Lists.{all_follow, all_tests, all_tested, all_of_map, all_in_front, all_behind}
+use Rattle.linked_is_valid.proofs.Lists.{all_follow, all_tested, all_of_map}
 use Rattle.linked_is_valid.proofs.Linking.{names_of, apart_parts, apart_together, cross_back, cross_front, Cross}
 use Rattle.linked_is_valid.proofs.Renaming.{together}
 use Rattle.linked_is_valid.proofs.Callees.{local_symbol, shared_symbol}
 use Rattle.module_linker.proofs.StructRows as rows
-use Rattle.module_linker.proofs.Searches.{at_all}
+use Rattle.module_linker.proofs.Searches.{at_all, all_front, all_back}
+use Rattle.module_linker.proofs.Parts.{all_true}
 
 -- GOOD NAMES
 
@@ -131,11 +132,11 @@ module _ (parts : List Module) (fine : AreLinkable parts) (digits : (n : ℕ) �
   entry_names : (i : ℕ) (ms : List Module) → AllByRecursion IsWellFormed ms → AllByRecursion (λ e. is_name (name_of e.global) ≡ true) (entries_from i ms)
   entry_names i [] a = tt
   entry_names i (m ∷ ms) a =
-      let good = all_tests is_name (global_names m) (and_parts (list_all is_name (global_names m)) _ a.0.global_names).0 in
-      let vs = all_in_front _ (variable_names m) (alias_names m ++ function_names m) good in
-      let rest = all_behind _ (variable_names m) (alias_names m ++ function_names m) good in
-      let as_ = all_in_front _ (alias_names m) (function_names m) rest in
-      let fs = all_behind _ (alias_names m) (function_names m) rest in
+      let good = all_true is_name (global_names m) (and_parts (list_all is_name (global_names m)) _ a.0.global_names).0 in
+      let vs = all_front _ (variable_names m) (alias_names m ++ function_names m) good in
+      let rest = all_back _ (variable_names m) (alias_names m ++ function_names m) good in
+      let as_ = all_front _ (alias_names m) (function_names m) rest in
+      let fs = all_back _ (alias_names m) (function_names m) rest in
       all_joined _ (map (λ g. let e : Entry = record { part = i; global = g } in e) (globals m)) (entries_from (suc i) ms)
       (placed (globals m) (subst (AllByRecursion (λ n. is_name n ≡ true)) (sym (names_of m.variables m.functions m.aliases)) (all_joined _ (variable_names m ++ function_names m) (alias_names m) (all_joined _ (variable_names m) (function_names m) vs fs) as_)))
       (entry_names (suc i) ms a.1)
@@ -174,9 +175,9 @@ module _ (parts : List Module) (fine : AreLinkable parts) (digits : (n : ℕ) �
       let m = link_result parts in
       let good : AllByRecursion (λ n. is_name n ≡ true) ((variable_names m ++ function_names m) ++ alias_names m) =
       subst (AllByRecursion (λ n. is_name n ≡ true)) (sym merged_names) (all_of_map (λ n. is_name n ≡ true) (λ r. r.1) (renaming parts) (named_good base_of base_of_good digits (all_names parts) (shared_names (symbols parts)) (symbols parts) symbols_good)) in
-      let both = all_in_front _ (variable_names m ++ function_names m) (alias_names m) good in
+      let both = all_front _ (variable_names m ++ function_names m) (alias_names m) good in
       and_from _ _
       (all_tested is_name (global_names m)
-      (all_joined _ (variable_names m) (alias_names m ++ function_names m) (all_in_front _ (variable_names m) (function_names m) both)
-      (all_joined _ (alias_names m) (function_names m) (all_behind _ (variable_names m ++ function_names m) (alias_names m) good) (all_behind _ (variable_names m) (function_names m) both))))
+      (all_joined _ (variable_names m) (alias_names m ++ function_names m) (all_front _ (variable_names m) (function_names m) both)
+      (all_joined _ (alias_names m) (function_names m) (all_back _ (variable_names m ++ function_names m) (alias_names m) good) (all_back _ (variable_names m) (function_names m) both))))
       (apart_distinct (global_names m) (in_order (variable_names m) (function_names m) (alias_names m) (subst (Apart bytes_eq) (sym merged_names) (names parts))))

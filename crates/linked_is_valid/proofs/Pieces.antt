@@ -1,7 +1,7 @@
 -- Lists of constants behind each other, as those of an appended array in the linked module.
 use Rattle.std.proofs.Common.{◌≡◌, ℕ, ◌+◌, ◌-◌, ◌<◌, Bool, true, false, List, [], ◌∷◌, ◌++◌, Option, Some, None, refl, sym, ap, ap₂, ◌∙◌, subst, option_map, flat_map, nat_lt, arith, eqb-true, ltb-true, lt-ltb}
 use Rattle.std.specs.List.{list_any, list_all}
-use Rattle.std.proofs.lemmas.Bool.{and_from, and_parts, or_from, or_parts}
+use Rattle.std.proofs.lemmas.Bool.{and_from, and_parts}
 use Rattle.std.proofs.lemmas.Option.{same_Some}
 use Rattle.std.proofs.lemmas.List.{append_assoc}
 use Rattle.std.proofs.lemmas.List.Concat.{flat_map-append}
@@ -18,6 +18,7 @@ use Rattle.linked_contents.specs.Contents.{ContentPiece, pieces_of_constants}
 use Rattle.module_linker.specs.Rename.{new_global}
 use Rattle.module_linker.specs.Structs.{new_struct}
 use Rattle.module_linker.specs.Linked.{linked_pieces}
+use Rattle.module_linker.proofs.Symbols.{any_append}
 
 abbrev pub after : Constants → Constants → Constants
 after no_constants ds = ds
@@ -26,12 +27,6 @@ after (more_constants t c cs) ds = more_constants t c (after cs ds)
 pub linked_after : (parts : List Module) (i : ℕ) (cs : Constants) (ps : List ContentPiece) → linked_pieces parts (pieces_of_constants i cs ++ ps) ≡ after (renamed_constants (new_struct parts i) (new_global parts i) cs) (linked_pieces parts ps)
 linked_after parts i no_constants ps = refl
 linked_after parts i (more_constants t c cs) ps = ap (more_constants (renamed_tree (new_struct parts i) t) (renamed_constant (new_struct parts i) (new_global parts i) c)) (linked_after parts i cs ps)
-
-any_append : {A : Type 0} (p : A → Bool) (xs ys : List A) → list_any p xs ≡ false → list_any p ys ≡ false → list_any p (xs ++ ys) ≡ false
-any_append p [] ys h k = k
-any_append p (x ∷ xs) ys h k =
-    let both = or_parts (p x) (list_any p xs) h in
-    or_from (p x) _ both.0 (any_append p xs ys both.1 k)
 
 all_append : {A : Type 0} (p : A → Bool) (xs ys : List A) → list_all p xs ≡ true → list_all p ys ≡ true → list_all p (xs ++ ys) ≡ true
 all_append p [] ys h k = k

@@ -19,10 +19,11 @@ use Rattle.module_linker.specs.Rename.{renaming, new_global}
 use Rattle.module_linker.specs.Linked.{linked, linked_globals, link_result}
 use Rattle.module_linker.proofs.Merged.{linked_name}
 use Rattle.module_linker.proofs.Bound.{NameRow, name_row}
+use Rattle.module_linker.proofs.Distinct.{are_distinct}
 use Rattle.linked_is_valid.specs.Laws.{AreLinkable}
 use Rattle.linked_is_valid.proofs.Lists.{all_follow}
 use Rattle.linked_is_valid.proofs.PartEntries.{HasAt, EntryHolds, entry_holds, entries_at, at_part, empty_good, empty_valid, local_defined}
-use Rattle.linked_is_valid.proofs.Linking.{good_distinct, entry_named, variable_there, function_there, alias_there}
+use Rattle.linked_is_valid.proofs.Linking.{entry_named, variable_there, function_there, alias_there}
 
 -- an entry of a part, by its place
 pub record EntryOf (parts : List Module) (i : ℕ) (name : Bytes) : Type 0 where
@@ -52,7 +53,7 @@ module _ (parts : List Module) (fine : AreLinkable parts) where
 
   pub together : GoTogether parts
   together =
-      go_together parts (all_follow _ _ parts (λ m good. good_distinct m good) fine.good) fine.agree
+      go_together parts (all_follow _ _ parts (λ m good. are_distinct m good) fine.good) fine.agree
       (all_follow _ _ (entries parts) (λ e h. local_defined (part_at parts e.part) e h) entries_hold)
 
   module _ (i : ℕ) where

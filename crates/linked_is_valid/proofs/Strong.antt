@@ -25,10 +25,10 @@ use Rattle.module_linker.proofs.Symbols.{best_has}
 use Rattle.module_linker.proofs.Agreed.{AreDistinct, filter_at, all_from_at, entries_apart, one_place}
 use Rattle.module_linker.proofs.Conflicting.{contains_at, none_unless_told}
 use Rattle.linked_is_valid.proofs.Lists.{all_follow}
-use Rattle.linked_is_valid.proofs.Linking.{good_distinct}
 use Rattle.linked_is_valid.specs.Laws.{AreLinkable}
 use Rattle.linked_is_valid.proofs.Callees.{local_symbol, shared_symbol}
 use Rattle.module_arena.specs.EntryRules as rules
+use Rattle.module_linker.proofs.Distinct.{are_distinct}
 
 -- THE BEST OF SOME
 
@@ -127,7 +127,7 @@ unlike_agree_back true b p q = cc
 
 module _ (parts : List Module) (fine : AreLinkable parts) where
   pub distinct : AllByRecursion AreDistinct parts
-  distinct = all_follow _ _ parts (λ m good. good_distinct m good) fine.good
+  distinct = all_follow _ _ parts (λ m good. are_distinct m good) fine.good
 
   -- entries of one part and name are one
   pub one_entry : (a b : ℕ) (d e : Entry) → slice_get (entries parts) a ≡ Some d → slice_get (entries parts) b ≡ Some e → d.part ≡ e.part → name_of d.global ≡ name_of e.global → d ≡ e

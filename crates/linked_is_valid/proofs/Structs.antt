@@ -11,7 +11,7 @@ use Rattle.type_table.specs.Shape.{Label, Shape, int_leaf, ptr_leaf, void_leaf, 
 use Rattle.type_table.proofs.Rooms.{unmapped, unjoined, name_shape-zero, name_shape-suc}
 use Rattle.module_arena.specs.Module.{Bytes, Module}
 use Rattle.module_arena.specs.Renamed.{renamed_tree, renamed_trees, renamed_body}
-use Rattle.module_arena.specs.WellFormed.{is_within_limits, is_good_type, is_good_body, are_good_structs}
+use Rattle.module_arena.specs.WellFormed.{is_good_type, is_good_body, are_good_structs}
 use Rattle.linkage_rules.specs.Lists.{has}
 use Rattle.linkage_rules.specs.SameShape.{alike}
 use Rattle.linkage_rules.specs.Entries.{part_at, structs_at, same_symbol, symbol_name}
@@ -22,9 +22,10 @@ use Rattle.module_linker.specs.Rename.{name_or}
 use Rattle.module_linker.specs.Structs.{structs_from, struct_symbols, part_of, shape_of, struct_map, new_struct, linked_struct}
 use Rattle.module_linker.specs.Linked.{link_result}
 use Rattle.module_linker.proofs.StructRows.{struct_row, new_name_is, same_shapes_are, body_is}
+use Rattle.module_linker.proofs.Moved.{kept_some}
+use Rattle.module_linker.proofs.KnownTypes.{within_some}
 use Rattle.linked_is_valid.proofs.Types.{has_struct, KeepsStructs}
 use Rattle.linked_is_valid.proofs.Known.{structs_closed}
-use Rattle.linked_is_valid.proofs.Entries.{some_same}
 
 abbrev pub kept : Bytes → Label
 kept name = Some name
@@ -83,8 +84,8 @@ module _ (look there : Bytes → Option Shape) (same : (name : Bytes) → is_som
     tree_some (int w) = refl
     tree_some ptr = refl
     tree_some void = refl
-    tree_some (array n t) = some_same (array_of n) (expanded look t) ∙ tree_some t ∙ sym (some_same (array_of n) (expanded there t))
-    tree_some (struct packed ts) = some_same (struct_of None packed) (all_expanded look ts) ∙ trees_some ts ∙ sym (some_same (struct_of None packed) (all_expanded there ts))
+    tree_some (array n t) = kept_some (array_of n) (expanded look t) ∙ tree_some t ∙ sym (kept_some (array_of n) (expanded there t))
+    tree_some (struct packed ts) = kept_some (struct_of None packed) (all_expanded look ts) ∙ trees_some ts ∙ sym (kept_some (struct_of None packed) (all_expanded there ts))
     tree_some (named name) = same name
 
     trees_some : (ts : Trees) → is_some (all_expanded look ts) ≡ is_some (all_expanded there ts)
@@ -93,7 +94,7 @@ module _ (look there : Bytes → Option Shape) (same : (name : Bytes) → is_som
 
   body_some : (l k : Label) (body : TreeBody) → is_some (body_shape look l body) ≡ is_some (body_shape there k body)
   body_some l k opaque_body = refl
-  body_some l k (fields packed ts) = some_same (struct_of l packed) (all_expanded look ts) ∙ trees_some ts ∙ sym (some_same (struct_of k packed) (all_expanded there ts))
+  body_some l k (fields packed ts) = kept_some (struct_of l packed) (all_expanded look ts) ∙ trees_some ts ∙ sym (kept_some (struct_of k packed) (all_expanded there ts))
 
 name_some : (bodies : Bytes → TreeBody) (room : ℕ) (name : Bytes) → is_some (name_shape kept bodies room name) ≡ is_some (name_shape unnamed bodies room name)
 name_some bodies zero name = ap is_some (name_shape-zero kept bodies name) ∙ sym (ap is_some (name_shape-zero unnamed bodies name))
@@ -208,10 +209,6 @@ struct_among i zero (m ∷ ms) name h =
 struct_among i (suc k) (m ∷ ms) name h =
     has_append_right (map (λ s. Local i s.0) m.structs) (structs_from (suc i) ms) (Local (i + suc k) name)
     (subst (λ j. has same_symbol (structs_from (suc i) ms) (Local j name) ≡ true) (omega arith) (struct_among (suc i) k ms name h))
-
-within_some : (o : Option Shape) → is_within_limits o ≡ true → is_some o ≡ true
-within_some None h = cc
-within_some (Some s) h = refl
 
 some_value : {A : Type 0} (o : Option A) → is_some o ≡ true → (x : A) × (o ≡ Some x)
 some_value None h = cc

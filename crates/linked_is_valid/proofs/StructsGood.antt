@@ -23,8 +23,9 @@ use Rattle.module_linker.specs.Structs.{structs_from, struct_symbols, same_struc
 use Rattle.module_linker.specs.Linked.{link_result}
 use Rattle.module_linker.proofs.StructRows.{Key, same_key, key_self, key_exact, key, first_keys, first_structs, struct_keys}
 use Rattle.module_linker.proofs.Searches.{at_all}
+use Rattle.module_linker.proofs.Parts.{all_true}
 use Rattle.linked_is_valid.specs.Laws.{AreLinkable}
-use Rattle.linked_is_valid.proofs.Lists.{all_follow, all_tests, all_tested, all_of_map}
+use Rattle.linked_is_valid.proofs.Lists.{all_follow, all_tested, all_of_map}
 use Rattle.linked_is_valid.proofs.Types.{has_struct}
 use Rattle.linked_is_valid.proofs.Known.{body_has}
 use Rattle.linked_is_valid.proofs.Good.{types_good, good_type_kept}
@@ -97,7 +98,7 @@ module _ (parts : List Module) (fine : AreLinkable parts) where
       let good = (good_at parts fine i).structs in
       let old = struct_good (structs_at parts i) (structs_at parts i) of_part.name good of_part.there in
       let new_name : new_struct parts i of_part.name ≡ r.1 = ap (λ (s : Symbol). name_or of_part.name (lookup (same_struct parts s) (struct_map parts))) (sym of_part.is) ∙ ap (name_or of_part.name) (own_name k r.0 r.1 at) in
-      let body = body_has (λ b. is_good_body (structs_at parts i) b ≡ true) (structs_at parts i) of_part.name refl (all_follow _ _ (structs_at parts i) (λ s e. (and_parts (is_good_body (structs_at parts i) s.1) _ e).0) (all_tests _ (structs_at parts i) good)) in
+      let body = body_has (λ b. is_good_body (structs_at parts i) b ≡ true) (structs_at parts i) of_part.name refl (all_follow _ _ (structs_at parts i) (λ s e. (and_parts (is_good_body (structs_at parts i) s.1) _ e).0) (all_true _ (structs_at parts i) good)) in
       subst (λ (s : Symbol). IsGoodRow (linked_struct parts (s, r.1))) (sym of_part.is)
       (and_from _ _ (body_good i (body_of (structs_at parts i) of_part.name) body)
       (subst (λ n. is_good_type (link_result parts).structs (named n) ≡ true) new_name (good_type_kept (part_at parts i) (link_result parts) (new_struct parts i) _ (part_renames parts fine i) (named of_part.name) old)))

@@ -23,14 +23,15 @@ use Rattle.module_linker.specs.Rename.{new_global}
 use Rattle.module_linker.specs.Structs.{new_struct}
 use Rattle.module_linker.specs.Linked.{linked_constant, linked_block, linked_definition, linked_by, linked, linked_globals, variable_if, function_if, link_result}
 use Rattle.type_table.proofs.Rooms.{unmapped}
+use Rattle.module_linker.proofs.Agreed.{any_left, any_right}
+use Rattle.module_linker.proofs.ByKind.{any_key}
 use Rattle.linked_is_valid.proofs.PartEntries.{HasAt, EntryHolds, entries_at}
 use Rattle.linked_is_valid.proofs.Known.{test_at}
 use Rattle.linked_is_valid.specs.Laws.{AreLinkable}
 use Rattle.linked_is_valid.proofs.Renaming.{good_at, entries_hold, row_of_name, linked_at}
-use Rattle.linked_is_valid.proofs.Callees.{entry_where, local_symbol, shared_symbol, any_front, any_back}
+use Rattle.linked_is_valid.proofs.Callees.{entry_where, local_symbol, shared_symbol}
 use Rattle.linked_is_valid.proofs.Strong.{one_entry, lasting_home}
 use Rattle.linked_is_valid.proofs.LinkedRows.{TargetsKept}
-use Rattle.linked_is_valid.proofs.Linking.{any_key}
 
 -- a definition of that name, variable or function, that is external, private or internal
 abbrev lasts : Bool → Bytes → Global → Bool
@@ -40,13 +41,13 @@ lasts _ name _ = false
 
 variable_lasts : (m : Module) (name : Bytes) → list_any (is_lasting_variable name) m.variables ≡ true → list_any (lasts true name) (globals m) ≡ true
 variable_lasts m name h =
-    any_front (lasts true name) (map OfVariable m.variables ++ map OfFunction m.functions) (map OfAlias m.aliases)
-    (any_front (lasts true name) (map OfVariable m.variables) (map OfFunction m.functions) (any_key OfVariable (lasts true name) m.variables ∙ h))
+    any_left (lasts true name) (map OfVariable m.variables ++ map OfFunction m.functions) (map OfAlias m.aliases)
+    (any_left (lasts true name) (map OfVariable m.variables) (map OfFunction m.functions) (any_key OfVariable (lasts true name) m.variables ∙ h))
 
 function_lasts : (m : Module) (name : Bytes) → list_any (is_lasting_function name) m.functions ≡ true → list_any (lasts false name) (globals m) ≡ true
 function_lasts m name h =
-    any_front (lasts false name) (map OfVariable m.variables ++ map OfFunction m.functions) (map OfAlias m.aliases)
-    (any_back (lasts false name) (map OfVariable m.variables) (map OfFunction m.functions) (any_key OfFunction (lasts false name) m.functions ∙ h))
+    any_left (lasts false name) (map OfVariable m.variables ++ map OfFunction m.functions) (map OfAlias m.aliases)
+    (any_right (lasts false name) (map OfVariable m.variables) (map OfFunction m.functions) (any_key OfFunction (lasts false name) m.functions ∙ h))
 
 -- such a thing in the linked module
 variable_lasts_there : (name : Bytes) (gs : List Global) (k : ℕ) (g : Global) → slice_get gs k ≡ Some g → lasts true name g ≡ true → list_any (is_lasting_variable name) (filter_map variable_if gs) ≡ true

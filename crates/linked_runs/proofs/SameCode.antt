@@ -30,8 +30,9 @@ use Rattle.module_linker.specs.Known.{KnownTree, KnownName}
 use Rattle.linked_runs.proofs.Known.{IsKnown, Fit}
 use Rattle.module_linker.specs.Merges.{Merges}
 use Rattle.module_linker.proofs.Searches.{at_all}
+use Rattle.module_linker.proofs.Merged.{definition_linkage}
 use Rattle.linked_runs.proofs.Places.{behind_is, functions_are}
-use Rattle.linked_runs.proofs.SameNames.{definition_linkage, meaning_path, agree}
+use Rattle.linked_runs.proofs.SameNames.{meaning_path, agree}
 
 -- a function as it stands in the result
 abbrev pub moved_function : List Module → Bytes → Defined → Defined

@@ -7,10 +7,9 @@ use Rattle.module_arena.specs.Module.{Bytes, Module}
 use Rattle.linkage_rules.specs.Bind.{Bound, Definition, Appended, Host, Null, Unresolved, bound_to, undefined, behind, own_meaning, meaning}
 use Rattle.linkage_rules.specs.Entries.{Entry, symbol_in}
 use Rattle.linkage_rules.specs.declared.symbol.Symbol.{Symbol}
-use Rattle.linkage_rules.specs.Globals.{Global, OfVariable, OfFunction, OfAlias, linkage_of}
+use Rattle.linkage_rules.specs.Globals.{linkage_of}
 use Rattle.linkage_rules.specs.Linkages.{is_appending}
 use Rattle.linkage_rules.specs.Winner.{home}
-use Rattle.module_linker.specs.Linked.{linked_definition}
 use Rattle.module_linker.specs.Rename.{new_global}
 use Rattle.module_linker.specs.Structs.{new_struct}
 use Rattle.run_rules.specs.Look.{pointer_to, leaf_of, address_in, names_in}
@@ -20,12 +19,6 @@ use Rattle.module_linker.specs.Known.{KnownTree, KnownName}
 use Rattle.linked_runs.proofs.Known.{Fit}
 use Rattle.module_linker.specs.Merges.{Merges}
 use Rattle.linked_runs.proofs.Places.{behind_is, pointer_same, bounds_same}
-
--- a definition keeps its linkage
-pub definition_linkage : (parts : List Module) (m : Bytes) (e : Entry) (es : List Entry) (g : Global) → linkage_of (linked_definition parts m e es g) ≡ linkage_of g
-definition_linkage parts m e es (OfVariable v) = refl
-definition_linkage parts m e es (OfFunction f) = refl
-definition_linkage parts m e es (OfAlias a) = refl
 
 defined_leaf : (parts : List Module) (s t : Symbol) (e : Entry) (b : Bool) → leaf_of parts s (if b then Appended t else Definition e) ≡ Ptr (pointer_to parts s)
 defined_leaf parts s t e true = refl

@@ -106,7 +106,7 @@ name_some bodies (suc room) name =
     ∙ body_some (name_shape kept bodies room) (name_shape unnamed bodies room) (name_some bodies room) (kept name) (unnamed name) (bodies name)
     ∙ sym (ap is_some (name_shape-suc unnamed bodies room name))
 
-within_some : (o : Option Shape) → is_within_limits o ≡ true → is_some o ≡ true
+pub within_some : (o : Option Shape) → is_within_limits o ≡ true → is_some o ≡ true
 within_some None h = h
 within_some (Some s) h = refl
 

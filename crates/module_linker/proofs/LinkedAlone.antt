@@ -59,7 +59,7 @@ aliases_back [] [] (a ∷ others) = ap (λ l. a ∷ l) (aliases_back [] [] other
 aliases_back [] (f ∷ fs) others = aliases_back [] fs others
 aliases_back (v ∷ vs) fs others = aliases_back vs fs others
 
-alone_or : {A : Type 0} (o : Option A) → option_or o None ≡ o
+pub alone_or : {A : Type 0} (o : Option A) → option_or o None ≡ o
 alone_or None = refl
 alone_or (Some x) = refl
 

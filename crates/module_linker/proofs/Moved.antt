@@ -12,7 +12,7 @@ use Rattle.module_linker.specs.Linked.{joined_initialiser, linked_definition, li
 use Rattle.module_linker.proofs.Merged.{definition_linkage, declares}
 use Rattle.module_linker.specs.Carried.{moved_under}
 
-kept_some : {A B : Type 0} (f : A → B) (o : Option A) → is_some (option_map f o) ≡ is_some o
+pub kept_some : {A B : Type 0} (f : A → B) (o : Option A) → is_some (option_map f o) ≡ is_some o
 kept_some f None = refl
 kept_some f (Some a) = refl
 

@@ -18,7 +18,7 @@ use Rattle.module_linker.proofs.Symbols.{GoTogether, local_home}
 use Rattle.linkage_rules.specs.SymbolLaws.{name_exact, name_self, symbol_self}
 use Rattle.module_linker.proofs.Agreed.{any_left, any_right}
 
-lasting_stays : (l : Linkage) → is_lasting l ≡ true → not (is_available_externally l) ≡ true
+pub lasting_stays : (l : Linkage) → is_lasting l ≡ true → not (is_available_externally l) ≡ true
 lasting_stays External h = refl
 lasting_stays Private h = refl
 lasting_stays Internal h = refl
