@@ -13,7 +13,7 @@ use Rattle.type_table.specs.Tree.{Tree, void, no_trees, body_of}
 use Rattle.type_table.specs.Types.{Types, IsGood, Knows, KnowsBody, bodies, names, structs, trees, trees_at, tree_of, tree_body, tree}
 use Rattle.type_table.proofs.Outlined.{tree-is, type_known}
 use Rattle.type_table.proofs.UnderIds.{body_of-place, index_of-at}
-use Rattle.module_arena.proofs.Grown.{below}
+use Rattle.type_table.proofs.Added.{All-below}
 use Rattle.record_table.specs.Constants.{Parts, alike, these, no_parts, has_parts, how_many, first_part, parts_of, body_parts}
 use Rattle.arena_read.specs.Kept.{tree_at}
 use Rattle.arena_read.specs.ListParts.{IsMadeOf, PartIds, alike_of, these_of, nothing, body_ids, nth_part, parts_at}
@@ -56,7 +56,7 @@ module _ (t : Types) (good : IsGood t) (ty : ℕ) (x : IrType) (at : slice_get t
   pub made_of_struct : (packed : Bool) (parts : List ℕ) → x ≡ type.Struct packed parts → IsMadeOf t (these_of packed parts) (parts_at t (Some ty))
   made_of_struct packed parts is =
       let lt = slice_get_within t.types ty x at in
-      (ap (parts_of (structs t)) (tree_by (type.Struct packed parts) is), below ty (length t.types) parts (omega (arith, lt)) (knows (type.Struct packed parts) is))
+      (ap (parts_of (structs t)) (tree_by (type.Struct packed parts) is), All-below ty (length t.types) parts (omega (arith, lt)) (knows (type.Struct packed parts) is))
 
   pub named_within : (id : ℕ) → x ≡ type.Named id → id < length t.structs
   named_within id is = knows (type.Named id) is

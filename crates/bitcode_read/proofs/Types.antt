@@ -8,7 +8,7 @@ use Rattle.type_table.specs.declared.ir_type.IrType.TheVariants as type
 use Rattle.type_table.specs.Tree.{Tree}
 use Rattle.type_table.specs.Types.{Types, KnowsBody, bodies, structs, trees, tree_of, names, with_type}
 use Rattle.type_table.specs.Types as tables
-use Rattle.type_table.proofs.Added.{length-trees, structs-with, trees-with}
+use Rattle.type_table.proofs.Added.{length-trees, structs-with, trees-with, AllKnown-push}
 use Rattle.module_arena.specs.declared.entry.Alias as the_alias
 use Rattle.module_arena.specs.declared.entry.Function as the_function
 use Rattle.module_arena.specs.declared.entry.GlobalId.{GlobalId}
@@ -32,7 +32,7 @@ use Rattle.head_read.specs.declared.ahead.ModuleAhead.{ModuleAhead}
 use Rattle.entries_ahead.specs.Bodies.{Foresees, names_given}
 use Rattle.entries_ahead.specs.Entries.{Declares}
 use Rattle.reads_formed.proofs.Texts.{HoldsTexts}
-use Rattle.reads_formed.proofs.Trees.{body_wider, known_more}
+use Rattle.reads_formed.proofs.Trees.{body_wider}
 use Rattle.type_read.specs.declared.structs.StructNames.{StructNames}
 use Rattle.type_read.specs.Listed.{AreGathered, AreNames, IsListed}
 use Rattle.bitcode_read.specs.declared.sofar.Sofar.{Sofar}
@@ -63,7 +63,7 @@ listed_first t =
 ptr_good : (t : Types) → tables.IsGood t → tables.IsGood (with_type t type.Ptr)
 ptr_good t good = record {
   few = good.few;
-  known = known_more 0 (length t.structs) t.types type.Ptr good.known tt;
+  known = AllKnown-push 0 (length t.structs) t.types type.Ptr good.known tt;
   known_bodies = subst (λ n. All (KnowsBody n) (bodies t)) (sym (length_push t.types type.Ptr)) (All-weaker (KnowsBody (length t.types)) (KnowsBody (length t.types + 1)) (λ b. body_wider (length t.types) b) (bodies t) good.known_bodies);
   distinct = good.distinct;
 }

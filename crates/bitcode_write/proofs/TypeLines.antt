@@ -6,10 +6,10 @@ use Rattle.std.proofs.lemmas.Option.{get_or_from_slice_get, slice_get_within}
 use Rattle.type_table.specs.declared.ir_type.IrType.{IrType}
 use Rattle.type_table.specs.declared.ir_type.IrType.TheVariants.{Int, Ptr, Void, Array, Struct, Named}
 use Rattle.type_table.specs.declared.ir_type.StructBody.{StructBody}
-use Rattle.type_table.specs.Tree.{Tree, TreeBody, opaque_body, void, index_of}
+use Rattle.type_table.specs.Tree.{Tree, opaque_body, void, index_of}
 use Rattle.type_table.specs.Types.{Types, IsGood, IsKnown, Knows, names, bodies, trees, tree, tree_of, trees_at, tree_body, tree_struct, structs}
 use Rattle.type_table.proofs.Outlined.{tree-is, type_known}
-use Rattle.type_table.proofs.UnderIds.{index_of-at, get_or-map}
+use Rattle.type_table.proofs.UnderIds.{index_of-at, get_or-map, tree_names}
 use Rattle.module_arena.specs.Lists.{Lists}
 use Rattle.module_arena.specs.Same.{same_type}
 use Rattle.module_arena.specs.View.{module_of}
@@ -39,16 +39,12 @@ known_here t good ty x at =
     let lt = slice_get_within t.types ty x at in
     weaker ty (length t.types) (length t.structs) x (omega (arith, lt)) (subst (λ (y : IrType). Knows ty (length t.structs) y) (get_or_from_slice_get t.types ty x Void at) (type_known t good ty lt))
 
-named_alike : (done : List Tree) (ss : List (List ℕ × Option StructBody)) → map (λ (s : List ℕ × TreeBody). s.0) (map (tree_struct done) ss) ≡ map (λ (s : List ℕ × Option StructBody). s.0) ss
-named_alike done [] = refl
-named_alike done (s ∷ ss) = ap (λ (ns : List (List ℕ)). s.0 ∷ ns) (named_alike done ss)
-
 -- a struct by its number
 pub named_place : (a : Lists) → IsGood a.table → (id : ℕ) → id < length a.table.structs → id ∷ [] ≡ type_operands a (Named id)
 unfolding module_of
 named_place a good id lt =
     let few : id < length (names a.table) = omega (arith, lt, length-map a.table.structs (λ (s : List ℕ × Option StructBody). s.0)) in
-    ap (λ (n : ℕ). n ∷ []) (sym (ap (λ (ns : List (List ℕ)). index_of ns (get_or (names a.table) id [])) (named_alike (trees a.table) a.table.structs) ∙ index_of-at (names a.table) id good.distinct few))
+    ap (λ (n : ℕ). n ∷ []) (sym (ap (λ (ns : List (List ℕ)). index_of ns (get_or (names a.table) id [])) (tree_names (trees a.table) a.table.structs) ∙ index_of-at (names a.table) id good.distinct few))
 
 pub same_kind : (all : List Tree) (own ns : List (List ℕ)) (done : List Tree) (x : IrType) → kind_of x ≡ kind_of (by_ids all own (tree_of ns done x))
 same_kind all own ns done (Int w) = refl

@@ -22,6 +22,7 @@ use Rattle.std.proofs.lemmas.List.{map-append}
 use Rattle.std.proofs.Common.{take, slice_get}
 use Rattle.type_table.proofs.Steps.{take_next}
 use Rattle.type_table.specs.Types.{structs as structs_of}
+use Rattle.type_table.proofs.ShapeMeasures.{and_assoc}
 use Rattle.module_arena.specs.Lists.{Lists}
 use Rattle.module_arena.specs.View.{module_of}
 
@@ -221,10 +222,6 @@ module _ (structs : Structs) where
       pairs true true true true false = refl
 
 -- ---- all of it
-
-and_assoc : (x y z : Bool) → ((x && y) && z) ≡ (x && (y && z))
-and_assoc true y z = refl
-and_assoc false y z = refl
 
 module _ (m : Module) where
   gathered : (f : ConstFact) (ps : List Typed) → fold both_constant_facts f (map (part_fact m) ps) ≡ record {

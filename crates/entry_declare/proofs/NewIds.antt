@@ -1,9 +1,10 @@
 -- New ids stand for entries of the old names, and go on to do so.
 use Rattle.std.proofs.Common.{◌≡◌, ℕ, ◌+◌, take, subst, List, [], ◌∷◌, ◌++◌, length, slice_get, Option, Some, None, sym}
+use Rattle.type_table.proofs.Steps.{take_next}
 use Rattle.module_arena.specs.declared.entry.GlobalId.{GlobalId}
 use Rattle.module_arena.specs.Lists.{Lists}
 use Rattle.module_arena.specs.Module.{Bytes}
-use Rattle.extract_core.proofs.Adding.{take_more, take_whole}
+use Rattle.extract_core.proofs.Adding.{take_whole}
 use Rattle.entry_fates.specs.declared.fates.Fate.{Fate}
 use Rattle.entry_fates.specs.declared.fates.Fate.TheVariants.{Kept, Declared, LeftOut}
 use Rattle.entry_declare.specs.Declaring.{KeepsNames, HasNewId, AreNewIds}
@@ -46,8 +47,8 @@ pub ids_pushed : (mid new : Lists) (names : List Bytes) (fates : List Fate) (k :
     → AreNewIds new (take (k + 1) names) (take (k + 1) fates) more
 ids_pushed mid new names fates k name fate ids more id keeps called is old has pushed =
     subst (λ l. AreNewIds new (take (k + 1) names) (take (k + 1) fates) l) (sym pushed)
-    (subst (λ ns. AreNewIds new ns (take (k + 1) fates) (ids ++ id ∷ [])) (sym (take_more names k name called))
-    (subst (λ fs. AreNewIds new (take k names ++ name ∷ []) fs (ids ++ id ∷ [])) (sym (take_more fates k fate is))
+    (subst (λ ns. AreNewIds new ns (take (k + 1) fates) (ids ++ id ∷ [])) (sym (take_next names k name called))
+    (subst (λ fs. AreNewIds new (take k names ++ name ∷ []) fs (ids ++ id ∷ [])) (sym (take_next fates k fate is))
     (ids_more new (take k names) (take k fates) ids name fate id (ids_stay mid new keeps (take k names) (take k fates) ids old) has)))
 
 -- all of them

@@ -13,6 +13,7 @@ use Rattle.module_arena.specs.Known.{IsGood as IsGoodArena}
 use Rattle.module_arena.specs.Mentions.{typed_in}
 use Rattle.module_arena.proofs.ConstantsTold.{const_known, const_weaker}
 use Rattle.std.proofs.lemmas.Option.{slice_get_within}
+use Rattle.type_table.proofs.ShapeMeasures.{and_true}
 use Rattle.module_arena.specs.Lists.{Lists}
 use Rattle.module_arena.specs.Module.{Constant, Constants, Module}
 use Rattle.module_arena.specs.Module.Brackets.{Braces}
@@ -57,10 +58,6 @@ pointer_type void = refl
 pointer_type (array n t) = refl
 pointer_type (struct p ts) = refl
 pointer_type (named x) = refl
-
-and_true : (b : Bool) → b ≡ (b && true)
-and_true true = refl
-and_true false = refl
 
 and_false : (x : Bool) {y : Bool} → false ≡ y → false ≡ (x && y)
 and_false true e = e

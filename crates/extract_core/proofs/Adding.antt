@@ -1,8 +1,9 @@
 -- Names that are added one after another.
-use Rattle.std.proofs.Common.{◌≡◌, ℕ, zero, suc, ◌+◌, ◌<◌, Bool, true, false, ◌||◌, ◌⊎◌, inl, inr, List, [], ◌∷◌, ◌++◌, map, flat_map, length, take, Some, refl, sym, ap, ◌∙◌, subst, bytes_eq, slice_get, get_or, arith, append_assoc, append-nil, if◌then◌else◌}
-use Rattle.std.proofs.lemmas.Option.{same_Some, slice_get-get_or}
+use Rattle.std.proofs.Common.{◌≡◌, ℕ, ◌+◌, ◌<◌, Bool, true, false, ◌||◌, ◌⊎◌, inl, inr, List, [], ◌∷◌, ◌++◌, map, flat_map, length, take, Some, refl, sym, ap, ◌∙◌, subst, bytes_eq, slice_get, get_or, append_assoc, append-nil, if◌then◌else◌}
+use Rattle.std.proofs.lemmas.Option.{slice_get-get_or}
 use Rattle.std.proofs.lemmas.List.Concat.{flat_map-append}
 use Rattle.std.proofs.lemmas.List.Folds.{list_any-append}
+use Rattle.type_table.proofs.Steps.{take_next}
 use Rattle.module_arena.specs.Module.{Bytes}
 use Rattle.extract_core.specs.Calls.{Adds, AreNames}
 use Rattle.extract_core.specs.Selected.{is_among}
@@ -56,14 +57,6 @@ adds_as old xs ys new e a = subst (λ zs. Adds old zs new) e a
 
 -- ---- along a list
 
-pub take_more : {A : Type 0} (xs : List A) (k : ℕ) (x : A) → slice_get xs k ≡ Some x → take (k + 1) xs ≡ take k xs ++ x ∷ []
-take_more {A = A} xs k x h = let e : k + 1 ≡ suc k = omega arith in ap (λ n. take n xs) e ∙ go xs k h
-  where
-    go : (ys : List A) (j : ℕ) → slice_get ys j ≡ Some x → take (suc j) ys ≡ take j ys ++ x ∷ []
-    go [] j e = cc
-    go (y ∷ ys) zero e = ap (λ z. z ∷ []) (same_Some y x e)
-    go (y ∷ ys) (suc j) e = ap (λ l. y ∷ l) (go ys j e)
-
 pub take_whole : {A : Type 0} (xs : List A) (k : ℕ) → k ≡ length xs → take k xs ≡ xs
 take_whole {A = A} xs k e = ap (λ n. take n xs) e ∙ go xs
   where
@@ -72,7 +65,7 @@ take_whole {A = A} xs k e = ap (λ n. take n xs) e ∙ go xs
     go (y ∷ ys) = ap (λ l. y ∷ l) (go ys)
 
 pub gathered_more : {A B : Type 0} (g : A → List B) (xs : List A) (k : ℕ) (x : A) → slice_get xs k ≡ Some x → flat_map g (take (k + 1) xs) ≡ flat_map g (take k xs) ++ g x
-gathered_more g xs k x h = ap (flat_map g) (take_more xs k x h) ∙ flat_map-append g (take k xs) (x ∷ []) ∙ ap (λ l. flat_map g (take k xs) ++ l) (append-nil (g x))
+gathered_more g xs k x h = ap (flat_map g) (take_next xs k x h) ∙ flat_map-append g (take k xs) (x ∷ []) ∙ ap (λ l. flat_map g (take k xs) ++ l) (append-nil (g x))
 
 pub adds_more : {A : Type 0} (g : A → List Bytes) (xs : List A) (k : ℕ) (x : A) (old mid new : List Bytes) → slice_get xs k ≡ Some x → Adds old (flat_map g (take k xs)) mid → Adds mid (g x) new → Adds old (flat_map g (take (k + 1) xs)) new
 adds_more g xs k x old mid new h a b = adds_as old _ _ new (sym (gathered_more g xs k x h)) (adds_both old (flat_map g (take k xs)) mid (g x) new a b)

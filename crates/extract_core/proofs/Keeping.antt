@@ -4,6 +4,7 @@ use Rattle.std.specs.Option.{option_map, option_map_or}
 use Rattle.std.proofs.lemmas.Option.{slice_get-map}
 use Rattle.std.proofs.lemmas.List.{map-append}
 use Rattle.type_table.specs.Types.{trees}
+use Rattle.type_table.proofs.Steps.{take_next}
 use Rattle.module_arena.specs.declared.entry.Alias as the_alias
 use Rattle.module_arena.specs.declared.entry.Function as the_function
 use Rattle.module_arena.specs.declared.entry.GlobalId.TheVariants as global
@@ -15,7 +16,7 @@ use Rattle.extract_core.specs.declared.selection.Selection.{Selection}
 use Rattle.extract_core.specs.Calls.{AreNames}
 use Rattle.extract_core.specs.Entries.{target_or_own}
 use Rattle.extract_core.specs.Selected.{is_among, chosen, keeps, keeps_variable, keeps_function, keeps_alias}
-use Rattle.extract_core.proofs.Adding.{take_more, take_whole}
+use Rattle.extract_core.proofs.Adding.{take_whole}
 use Rattle.extract_core.proofs.Entries.{some_mapped}
 
 -- ---- lists
@@ -27,7 +28,7 @@ length_mapped f (x ∷ xs) = ap suc (length_mapped f xs)
 -- one more flag
 pub flags_more : {A : Type 0} (f : A → Bool) (xs : List A) (k : ℕ) (x : A) (old new : List Bool) (b : Bool) → slice_get xs k ≡ Some x → old ≡ map f (take k xs) → new ≡ old ++ b ∷ [] → b ≡ f x → new ≡ map f (take (k + 1) xs)
 flags_more f xs k x old new b at so_far pushed is =
-    pushed ∙ ap₂ (λ l c. l ++ c ∷ []) so_far is ∙ sym (ap (map f) (take_more xs k x at) ∙ map-append f (take k xs) (x ∷ []))
+    pushed ∙ ap₂ (λ l c. l ++ c ∷ []) so_far is ∙ sym (ap (map f) (take_next xs k x at) ∙ map-append f (take k xs) (x ∷ []))
 
 pub flags_whole : {A : Type 0} (f : A → Bool) (xs : List A) (k : ℕ) (flags : List Bool) → k ≡ length xs → flags ≡ map f (take k xs) → flags ≡ map f xs
 flags_whole f xs k flags e h = h ∙ ap (map f) (take_whole xs k e)

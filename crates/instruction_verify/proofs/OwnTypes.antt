@@ -4,15 +4,12 @@ use Rattle.std.specs.List.{list_all}
 use Rattle.std.proofs.lemmas.List.Folds.{list_all-map}
 use Rattle.type_table.specs.Tree.{Tree, Structs}
 use Rattle.type_table.specs.Types.{Types, tree, trees, structs}
+use Rattle.type_table.proofs.ShapeMeasures.{and_true}
 use Rattle.module_arena.specs.EntryRules.{return_suits}
 use Rattle.module_arena.specs.InstructionRules.{result_suits}
 use Rattle.module_arena.specs.Lists.{Lists}
 use Rattle.module_arena.specs.TypeTests.{is_passable, is_void}
 use Rattle.module_arena.specs.View.{type_at}
-
-pub and_true : (b : Bool) → b ≡ (b && true)
-and_true true = refl
-and_true false = refl
 
 -- a call whose result has the type that it returns, where it returns a value
 returned_once : (void passable parameters : Bool) → ((void || passable) && parameters) ≡ (cond void true passable && ((void || passable) && parameters))

@@ -14,8 +14,9 @@ use Rattle.type_table.specs.Contains.{ContainsItself}
 use Rattle.type_table.specs.Limits.{HasFault, IsTooDeep, IsTooLarge, IsWithinLimits, all_shapes}
 use Rattle.type_table.specs.Shape.{Shape, shape}
 use Rattle.type_table.specs.Tree.{Tree, int, ptr, void, array, struct, named, Trees, no_trees, more_trees, TreeBody, opaque_body, Structs, body_of, index_of}
-use Rattle.type_table.specs.Types.{Types, with_body, names, bodies, trees, tree_struct, tree_body, structs}
+use Rattle.type_table.specs.Types.{Types, with_body, names, bodies, trees, tree_body, structs}
 use Rattle.type_table.proofs.Defined.{names-defined, bodies-defined, trees-defined}
+use Rattle.type_table.proofs.UnderIds.{tree_bodies}
 use Rattle.module_arena.specs.Changes.{with_table}
 use Rattle.module_arena.specs.Lists.{Lists}
 use Rattle.module_arena.specs.Module.{Module}
@@ -30,18 +31,14 @@ use Rattle.item_build.specs.Partly.{names_of, body_at, IsPartly, AllFit, IsDone,
 use Rattle.item_build.proofs.Lessened.{within_less, AreLess}
 use Rattle.item_build.proofs.Ended.{ended}
 
-bodies_listed : (ts : List Tree) (xs : List (List ℕ × Option StructBody)) → map (λ (s : List ℕ × TreeBody). s.1) (map (tree_struct ts) xs) ≡ map (tree_body ts) (map (λ (s : List ℕ × Option StructBody). s.1) xs)
-bodies_listed ts [] = refl
-bodies_listed ts (x ∷ xs) = ap (λ ys. tree_body ts x.1 ∷ ys) (bodies_listed ts xs)
-
 -- what a struct of the table is
 pub body_is : (t : Types) (k : ℕ) (body : Option StructBody) → slice_get (bodies t) k ≡ Some body → body_at (structs t) k ≡ tree_body (trees t) body
 body_is t k body is =
-    ap (λ bs. get_or bs k opaque_body) (bodies_listed (trees t) t.structs)
+    ap (λ bs. get_or bs k opaque_body) (tree_bodies (trees t) t.structs)
     ∙ get_or_from_slice_get (map (tree_body (trees t)) (bodies t)) k (tree_body (trees t) body) opaque_body (slice_get-map (tree_body (trees t)) (bodies t) k ∙ ap (option_map (tree_body (trees t))) is)
 
 body_past : (t : Types) (k : ℕ) → slice_get (bodies t) k ≡ None → body_at (structs t) k ≡ opaque_body
-body_past t k none = ap (λ bs. get_or bs k opaque_body) (bodies_listed (trees t) t.structs) ∙ by (bodies t) k none
+body_past t k none = ap (λ bs. get_or bs k opaque_body) (tree_bodies (trees t) t.structs) ∙ by (bodies t) k none
   where
     by : (xs : List (Option StructBody)) (k : ℕ) → slice_get xs k ≡ None → get_or (map (tree_body (trees t)) xs) k opaque_body ≡ opaque_body
     by [] k e = refl

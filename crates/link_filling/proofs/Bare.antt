@@ -2,8 +2,9 @@
 use Rattle.std.proofs.Common.{◌≡◌, ℕ, ◌<◌, map, length, slice_get, Option, Some, None, refl, sym, ap, ◌∙◌, arith}
 use Rattle.std.specs.Option.{option_map}
 use Rattle.std.proofs.lemmas.List.{length-map}
-use Rattle.std.proofs.lemmas.Option.{same_Some, slice_get-map, slice_get_within}
+use Rattle.std.proofs.lemmas.Option.{slice_get-map, slice_get_within}
 use Rattle.type_table.specs.Types.{trees}
+use Rattle.type_table.proofs.Rooms.{unmapped}
 use Rattle.module_arena.specs.Changes.{alias_in, function_in, variable_in}
 use Rattle.module_arena.specs.Lists.{Lists}
 use Rattle.module_arena.specs.Module.{Alias, Function, Variable}
@@ -15,10 +16,6 @@ use Rattle.module_arena.specs.declared.entry.Variable as the_variable
 use Rattle.linkage_rules.specs.Globals.{OfAlias, OfFunction, OfVariable}
 use Rattle.type_build.specs.Parameters.{without_body}
 use Rattle.link_filling.specs.Filling.{IsBare}
-
-mapped : {X Y : Type 0} (view : X → Y) (o : Option X) (y : Y) → option_map view o ≡ Some y → (x : X) × (o ≡ Some x) × (view x ≡ y)
-mapped view None y e = cc
-mapped view (Some x) y e = (x, refl, same_Some (view x) y e)
 
 unmapped_none : {A B : Type 0} (f : A → B) (o : Option A) → option_map f o ≡ None → o ≡ None
 unmapped_none f None e = refl
@@ -52,12 +49,12 @@ module _ (b : Lists) (n : ℕ) where
   -- a variable without an initialiser
   pub variable_bare : (w : Variable) → IsBare b (global.Variable n) (OfVariable w) → (v : the_variable.Variable) × (slice_get b.variables n ≡ Some v) × (v.initialiser ≡ None)
   variable_bare w h =
-      let v = mapped (variable_in b) (slice_get b.variables n) _ (sym variables_at ∙ as_variable (slice_get (module_of b).variables n) _ h) in
+      let v = unmapped (variable_in b) (slice_get b.variables n) _ (sym variables_at ∙ as_variable (slice_get (module_of b).variables n) _ h) in
       (v.0, v.1, unmapped_none (constant_at (constants_of b)) v.0.initialiser (ap (λ (x : Variable). x.initialiser) v.2))
 
   -- a function without a body
   pub function_bare : (w : Function) → IsBare b (global.Function n) (OfFunction w) → (f : the_function.Function) × (slice_get b.functions n ≡ Some f) × (function_in b f ≡ without_body w)
-  function_bare w h = mapped (function_in b) (slice_get b.functions n) _ (sym functions_at ∙ as_function (slice_get (module_of b).functions n) _ h)
+  function_bare w h = unmapped (function_in b) (slice_get b.functions n) _ (sym functions_at ∙ as_function (slice_get (module_of b).functions n) _ h)
 
   pub no_body : (f : the_function.Function) (w : Function) → function_in b f ≡ without_body w → f.body ≡ None
   no_body f w e = unmapped_none (body_view (trees b.table) (constants_of b) (map (λ (p : the_parameter.Parameter). local_view p.name) f.parameters)) f.body (ap (λ (x : Function). x.body) e)

@@ -5,6 +5,7 @@ use Rattle.std.proofs.lemmas.List.Elements.{All-push, All-nil}
 use Rattle.std.proofs.lemmas.Option.{slice_get_within}
 use Rattle.type_table.specs.Tree.{Tree}
 use Rattle.type_table.specs.Types.{trees}
+use Rattle.type_table.proofs.Steps.{take_next}
 use Rattle.module_arena.specs.Functions.{numbered_parameters}
 use Rattle.module_arena.specs.declared.entry.LocalName.TheVariants as local
 use Rattle.module_arena.specs.declared.entry.Parameter as the_parameter
@@ -15,7 +16,6 @@ use Rattle.module_arena.specs.Renamed.{renamed_parameter, own}
 use Rattle.module_arena.proofs.Renamed.{map_stays, parameter_stays}
 use Rattle.type_build.specs.Parameters.{AreParameters}
 use Rattle.entry_copy.specs.Tables.{Tables, new_type}
-use Rattle.extract_core.proofs.Adding.{take_more}
 use Rattle.extract_core.proofs.Entries.{all_get}
 use Rattle.entry_fates.specs.declared.fates.Fate.{Fate}
 use Rattle.entry_fates.specs.declared.fates.Fate.TheVariants.{Kept, Declared, LeftOut}
@@ -39,7 +39,7 @@ module _ (a b : Lists) (t : Tables) (h : HasTypes a b t) (types : List ℕ) (kno
       omega (arith, lt, mapped, taken)
 
   whole : numbered_parameters 0 (map T (take (k + 1) types)) ≡ numbered_parameters 0 (map T (take k types)) ++ record { ty = T ty; name = Numbered k } ∷ []
-  whole = ap (λ l. numbered_parameters 0 (map T l)) (take_more types k ty at) ∙ ap (numbered_parameters 0) (map-append T (take k types) (ty ∷ [])) ∙ numbered_more 0 (map T (take k types)) (T ty) k as_many
+  whole = ap (λ l. numbered_parameters 0 (map T l)) (take_next types k ty at) ∙ ap (numbered_parameters 0) (map-append T (take k types) (ty ∷ [])) ∙ numbered_more 0 (map T (take k types)) (T ty) k as_many
 
   pub numbered_step : (ps more : List the_parameter.Parameter) (new number : ℕ) → new ≡ new_type t ty → number ≡ k → more ≡ ps ++ record { ty = new; name = local.Numbered number } ∷ []
       → AreParameters b ps (numbered_parameters 0 (map T (take k types))) → AreParameters b more (numbered_parameters 0 (map T (take (k + 1) types)))

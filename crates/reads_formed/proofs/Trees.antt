@@ -12,16 +12,13 @@ use Rattle.type_table.specs.Limits.{all_shapes}
 use Rattle.type_table.specs.Shape as shapes
 use Rattle.type_table.specs.Tree.{Tree, void, named, Structs}
 use Rattle.type_table.specs.Types.{Types, names, trees, trees_at, tree_of, tree_body, tree_struct, grow, structs, Knows, AllKnown, KnowsBody}
+use Rattle.type_table.proofs.Added.{length-trees}
 use Rattle.module_arena.specs.WellFormed.{is_within_limits, is_good_type, are_good_types, is_good_body, are_good_structs}
 use Rattle.record_table.specs.TypeRecords.{all_fit}
 use Rattle.reads_formed.proofs.Tests.{both_of, each_passes, front_of, last_of, map_each, rest_of}
 use Rattle.reads_formed.proofs.Unbroken.{at_place}
 
 -- ---- types that are known
-
-pub known_more : (count known : ℕ) (types : List IrType) (ty : IrType) → AllKnown count known types → Knows (count + length types) known ty → AllKnown count known (types ++ ty ∷ [])
-known_more count known [] ty all here = (subst (λ n. Knows n known ty) (omega arith) here, tt)
-known_more count known (t ∷ types) ty all here = (all.0, known_more (count + 1) known types ty all.1 (subst (λ n. Knows n known ty) (omega arith) here))
 
 pub body_wider : (count : ℕ) (o : Option StructBody) → KnowsBody count o → KnowsBody (count + 1) o
 body_wider count None h = tt
@@ -42,17 +39,6 @@ IsGood ss t = is_good_type ss t ≡ true
 front_kept : (P : Tree → Type 0) (ns : List (List ℕ)) (types : List IrType) (done : List Tree) → AllByRecursion P (fold (grow ns) done types) → AllByRecursion P done
 front_kept P ns [] done h = h
 front_kept P ns (ty ∷ types) done h = front_of P done (tree_of ns done ty ∷ []) (front_kept P ns types (grow ns done ty) h)
-
--- so many are added
-many_grown : (ns : List (List ℕ)) (types : List IrType) (done : List Tree) → length (fold (grow ns) done types) ≡ length done + length types
-many_grown ns [] done = omega arith
-many_grown ns (ty ∷ types) done =
-    let e = many_grown ns types (grow ns done ty) in
-    let f = length-append done (tree_of ns done ty ∷ []) in
-    omega (arith, e, f)
-
-pub many_trees : (t : Types) → length (trees t) ≡ length t.types
-many_trees t = let e = many_grown (names t) t.types [] in omega (arith, e)
 
 module _ (ss : Structs) where
   -- a struct of that number is there by its name
@@ -117,8 +103,8 @@ module _ (t : Types) (made : IsMade t) where
   body_good : (o : Option StructBody) → KnowsBody (length t.types) o → is_good_body (structs t) (tree_body (trees t) o) ≡ true
   body_good None h = refl
   body_good (Some Opaque) h = refl
-  body_good (Some (Plain parts)) h = parts_good (structs t) (trees t) parts trees_good (λ k d lt. subst (λ n. get_or parts k d < n) (sym (many_trees t)) (h k d lt))
-  body_good (Some (Packed parts)) h = parts_good (structs t) (trees t) parts trees_good (λ k d lt. subst (λ n. get_or parts k d < n) (sym (many_trees t)) (h k d lt))
+  body_good (Some (Plain parts)) h = parts_good (structs t) (trees t) parts trees_good (λ k d lt. subst (λ n. get_or parts k d < n) (sym (length-trees t)) (h k d lt))
+  body_good (Some (Packed parts)) h = parts_good (structs t) (trees t) parts trees_good (λ k d lt. subst (λ n. get_or parts k d < n) (sym (length-trees t)) (h k d lt))
 
   -- the structs of the table from some on, the names of which are there
   rest_good : (all : List (List ℕ × Option StructBody)) → AllByRecursion (λ s. KnowsBody (length t.types) s.1) all → AllByRecursion (IsWithin (structs t)) (map named (map (λ s. s.0) all))

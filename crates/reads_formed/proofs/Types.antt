@@ -8,6 +8,7 @@ use Rattle.ir_tables.specs.Table.{is_distinct}
 use Rattle.type_table.specs.declared.ir_type.StructBody.{StructBody}
 use Rattle.type_table.specs.Types.{Types, with_type, with_body, names, structs, trees, tree_struct, Knows, KnowsBody}
 use Rattle.type_table.specs.Types as tables
+use Rattle.type_table.proofs.Added.{AllKnown-push}
 use Rattle.module_arena.specs.Module.{Bytes}
 use Rattle.module_arena.specs.Names as arena
 use Rattle.module_arena.specs.WellFormed.{is_good_type, are_good_names}
@@ -19,7 +20,7 @@ use Rattle.reads_formed.proofs.Good.{AreGoodTypes, AreTexts}
 use Rattle.reads_formed.proofs.TypeRecords.{definition_read, name_ahead, type_read}
 use Rattle.reads_formed.proofs.Tests.{all_pass, both_of, distinct_with, each_set, each_too, other_way}
 use Rattle.reads_formed.proofs.Texts.{HoldsTexts, name_again, texts_hold}
-use Rattle.reads_formed.proofs.Trees.{IsMade, body_wider, known_more, names_are, table_good, trees_good}
+use Rattle.reads_formed.proofs.Trees.{IsMade, body_wider, names_are, table_good, trees_good}
 use Rattle.reads_formed.proofs.Unbroken.{also_held, judged_read, unless_ok}
 
 -- ---- names
@@ -106,7 +107,7 @@ module _ (t : Texts) (holds : HoldsTexts t) (all : List Bytes) where
           good = h.good;
           distinct = h.distinct;
           few = h.few;
-          known = known_more 0 known s.types.types x.0 h.known (subst (λ n. Knows n known x.0) (omega arith) knows);
+          known = AllKnown-push 0 known s.types.types x.0 h.known (subst (λ n. Knows n known x.0) (omega arith) knows);
           bodies = each_too (λ b. KnowsBody count b.1) (λ b. KnowsBody (length after.types) b.1) s.types.structs (λ b k. subst (λ n. KnowsBody n b.1) (sym long) (body_wider count b.1 k)) h.bodies;
         };
         fit = seven.0;

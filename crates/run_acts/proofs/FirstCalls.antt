@@ -24,6 +24,7 @@ use Rattle.module_arena.specs.Module.{Module}
 use Rattle.module_arena.specs.View.{module_of}
 use Rattle.type_table.specs.Shape.{void_leaf}
 use Rattle.type_table.specs.Types.{Types}
+use Rattle.type_table.proofs.ShapeMeasures.{and_assoc}
 use Rattle.run_names.specs.declared.callee.CalleeRef.{CalleeRef}
 use Rattle.run_names.specs.declared.callee.CalleeRef.TheVariants as callees
 use Rattle.run_names.specs.Told.{HasCode, alone, callee_seen}
@@ -57,10 +58,6 @@ use Rattle.run_acts.proofs.AsCallee.{fails_by_type, head_callee, parameters_fit}
 
 -- ---- constructors
 
-and_flat : (a b c : Bool) → ((a && b) && c) ≡ (a && (b && c))
-and_flat true b c = refl
-and_flat false b c = refl
-
 none_alike : (t : Types) (ps : List Parameter) → eqb (length ps) 0 ≡ same_shape_list (map (shape_in t) (map (λ (p : Parameter). p.ty) ps)) []
 none_alike t [] = refl
 none_alike t (p ∷ ps) = eqb-suc-zero (length ps)
@@ -72,7 +69,7 @@ not_is false = refl
 -- a function type that gives nothing and takes nothing, by its parts
 pub constructor_told : (t : Types) (result : ℕ) (parameters : List Parameter) (variadic a b : Bool) → a ≡ same_shape (shape_in t result) void_leaf → b ≡ eqb (length parameters) 0
     → ((a && b) && not variadic) ≡ same_signature (written_as t result (map (λ (p : Parameter). p.ty) parameters) variadic) constructor_type
-constructor_told t result parameters variadic a b e f = and_flat a b (not variadic) ∙ (λ i. e i && ((f ∙ none_alike t parameters) i && not_is variadic i))
+constructor_told t result parameters variadic a b e f = and_assoc a b (not variadic) ∙ (λ i. e i && ((f ∙ none_alike t parameters) i && not_is variadic i))
 
 no_integer : (which : Intrinsic) (width : ℕ) → list_any (same_signature constructor_type) (map (signature_in no_names) (host_types (Integer which width))) ≡ false
 no_integer integer.SaddWithOverflow width = refl

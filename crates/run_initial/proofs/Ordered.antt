@@ -1,12 +1,11 @@
 -- The leaves of a value lie one behind the other.
 use Rattle.std.proofs.Common.{◌≡◌, ℕ, zero, suc, ◌+◌, ◌*◌, ◌/◌, ◌≤◌, List, [], ◌∷◌, ◌++◌, map, zip, Bool, subst, arith}
 use Rattle.std.specs.List.{AllZip}
-use Rattle.std.specs.Int.{next_multiple_of}
 use Rattle.ir_eval.specs.declared.value.Scalar.{Scalar}
 use Rattle.ir_memory.specs.Cell as cell
 use Rattle.type_table.specs.Layout.{align, end_after, int_align, field_start, size}
 use Rattle.type_table.specs.Shape.{Shape, int_leaf, ptr_leaf, void_leaf, opaque_leaf, array_of, struct_of, Shapes, no_shapes, more_shapes}
-use Rattle.type_table.proofs.Caps.{field_start-le}
+use Rattle.type_table.proofs.Caps.{field_start-le, next_multiple_of-le}
 use Rattle.run_rules.specs.Leaves.{Slot, field_slots, repeated, slots_at}
 use Rattle.run_rules.specs.Plan.{Contents}
 use Rattle.run_slots.proofs.Slotted.{struct_holds}
@@ -55,13 +54,10 @@ repeated_follow (suc n) element at step h =
     follow_both at (at + step) (at + suc n * step) (element at) (repeated n element (at + step) step) (h at)
     (subst (λ (k : ℕ). Follow (at + step) k (repeated n element (at + step) step)) whole (repeated_follow n element (at + step) step h))
 
-rounded : (x y : ℕ) → x ≤ next_multiple_of x y
-rounded x y = omega arith
-
 mutual
   -- the leaves of a value
   pub slots_follow : (s : Shape) (at : ℕ) → Follow at (at + size s) (slots_at s at)
-  slots_follow (int_leaf w) at = let up = rounded ((w + 7) / 8) (int_align w) in (omega arith, omega (arith, up), omega (arith, up))
+  slots_follow (int_leaf w) at = let up = next_multiple_of-le ((w + 7) / 8) (int_align w) in (omega arith, omega (arith, up), omega (arith, up))
   slots_follow ptr_leaf at = (omega arith, omega arith, omega arith)
   slots_follow void_leaf at = omega arith
   slots_follow (opaque_leaf label) at = omega arith

@@ -33,10 +33,6 @@ or_false : (b : Bool) → (b || false) ≡ b
 or_false true = refl
 or_false false = refl
 
-pub and_flat : (a b c : Bool) → ((a && b) && c) ≡ (a && (b && c))
-and_flat true b c = refl
-and_flat false b c = refl
-
 -- a test is whether it is true
 pub is_it_true : (b : Bool) → b ≡ beq b true
 is_it_true true = refl

@@ -9,6 +9,7 @@ use Rattle.std.proofs.lemmas.List.{append-nil}
 use Rattle.std.proofs.lemmas.Map.Keys.{IsDistinct-push}
 use Rattle.std.proofs.lemmas.Map.Steps.{length-le_from_distinct_below}
 use Rattle.std.specs.Global.{Vec}
+use Rattle.type_table.proofs.Flags.{set_within}
 use Rattle.struct_order.specs.Order.{mentioned, HasNumber, stands_in, AreWithin}
 use Rattle.struct_order.proofs.Placed.{stands_more, marks_more, index_of_number}
 use Rattle.struct_ends.specs.Reach.{LeadsTo, AreMarks, HasGrown, IsSearched, AreReached}
@@ -162,18 +163,12 @@ searched_next lists start next old new numbers here e was grown = record {
     done place h false q number k =
         let no : (place ≡ next) → ⊥ = (λ w. let r = eq-eqb place next w in absurd cc) in
         let before : place < next = omega (arith, h, no) in
-        let inside : place < length old = omega (arith, before, here) in
-        stays old grown.extra new number grown.longer (was.done place before inside number (subst (λ m. HasNumber number (mentioned lists m)) (same place inside) k))
-
--- a mark stands at a place
-inside : (marks : List Bool) (q : ℕ) → get_or marks q false ≡ true → q < length marks
-inside [] q e = absurd cc
-inside (x ∷ xs) zero e = omega arith
-inside (x ∷ xs) (suc q) e = let k = inside xs q e in omega (arith, k)
+        let set_within : place < length old = omega (arith, before, here) in
+        stays old grown.extra new number grown.longer (was.done place before set_within number (subst (λ m. HasNumber number (mentioned lists m)) (same place set_within) k))
 
 -- each number in the queue has a list
 pub in_queue : (marks : List Bool) (queue : List ℕ) (place : ℕ) → AreMarks marks queue → place < length queue → get_or queue place 0 < length marks
-in_queue marks queue place are h = inside marks (get_or queue place 0) (are.each (get_or queue place 0) ∙ is_there queue place h)
+in_queue marks queue place are h = set_within marks (get_or queue place 0) (are.each (get_or queue place 0) ∙ is_there queue place h)
   where
     is_there : (queue : List ℕ) (i : ℕ) → i < length queue → stands_in queue (get_or queue i 0) ≡ true
     is_there [] i h = absurd (omega (arith, h))
@@ -193,7 +188,7 @@ all_reached lists start next marks queue past are was = record {
 }
   where
     few : length queue ≤ length marks
-    few = length-le_from_distinct_below queue (length marks) are.distinct (λ q e. inside marks q (are.each q ∙ e))
+    few = length-le_from_distinct_below queue (length marks) are.distinct (λ q e. set_within marks q (are.each q ∙ e))
 
     place_of : (queue : List ℕ) (number : ℕ) → stands_in queue number ≡ true → (i : ℕ) × (i < length queue) × (get_or queue i 0 ≡ number)
     place_of [] number e = absurd cc

@@ -1,10 +1,10 @@
 -- What an arena can take it can still take when it has grown.
-use Rattle.std.proofs.Common.{◌≡◌, ℕ, ◌<◌, length, get_or, ◌≤◌, List, [], ◌∷◌, map, All, Option, sym, subst, ap, arith, refl}
+use Rattle.std.proofs.Common.{◌≡◌, ℕ, ◌<◌, length, get_or, ◌≤◌, List, [], ◌∷◌, map, All, sym, subst, ap, arith, refl}
 use Rattle.std.proofs.lemmas.List.Elements.{All-cons, All-nil}
 use Rattle.ir_constants.specs.Tree.{TypeTree, types, ConstantTree, TypedConstantTree, constants}
 use Rattle.type_table.specs.Tree.{Tree, int, ptr, void, array, struct, named, TreeBody, Structs}
-use Rattle.type_table.specs.Types.{Types, structs, names, trees, tree_struct}
-use Rattle.type_table.specs.declared.ir_type.StructBody.{StructBody}
+use Rattle.type_table.specs.Types.{Types, structs, names, trees}
+use Rattle.type_table.proofs.UnderIds.{tree_names}
 use Rattle.module_arena.specs.declared.entry.GlobalId.{GlobalId}
 use Rattle.module_arena.specs.declared.entry.GlobalId.TheVariants as global
 use Rattle.module_arena.specs.Lists.{Lists, no_lists, global_name}
@@ -60,10 +60,5 @@ bits_fit ss (array n t) h = omega arith
 bits_fit ss (struct packed ts) h = omega arith
 bits_fit ss (named name) h = omega arith
 
--- the names of the structs, as trees and as ids
-names_kept : (ts : List Tree) (xs : List (List ℕ × Option StructBody)) → map (λ (s : List ℕ × TreeBody). s.0) (map (tree_struct ts) xs) ≡ map (λ (s : List ℕ × Option StructBody). s.0) xs
-names_kept ts [] = refl
-names_kept ts (x ∷ xs) = ap (λ ys. x.0 ∷ ys) (names_kept ts xs)
-
 pub names_same : (t : Types) → map (λ (s : List ℕ × TreeBody). s.0) (structs t) ≡ names t
-names_same t = names_kept (trees t) t.structs
+names_same t = tree_names (trees t) t.structs

@@ -16,6 +16,7 @@ use Rattle.module_arena.specs.Lists.{Lists}
 use Rattle.module_arena.specs.Module.{Bytes}
 use Rattle.module_arena.specs.WellFormed.{is_within_limits}
 use Rattle.std.proofs.lemmas.Slice.Eq.{bytes_eq-Decides}
+use Rattle.type_table.proofs.Added.{AllKnown-push}
 use Rattle.record_table.specs.Fields.{is_name}
 use Rattle.record_table.specs.TypeRecords.{Listed, all_fit, are_distinct, called, stand_in, stand_ins}
 use Rattle.record_read.specs.Reader.{Reader}
@@ -118,16 +119,6 @@ called_apart all few = by_test (list_all is_name all && are_distinct all) refl
 
 -- ---- the same limits
 
-known_push : (count known : ℕ) (types : List IrType) (ty : IrType) → AllKnown count known types → Knows (count + length types) known ty → AllKnown count known (types ++ ty ∷ [])
-known_push count known [] ty all k = (subst (λ n. Knows n known ty) (none count) k, tt)
-  where
-    none : (n : ℕ) → n + 0 ≡ n
-    none n = omega arith
-known_push count known (x ∷ types) ty all k = (all.0, known_push (count + 1) known types ty all.1 (subst (λ n. Knows n known ty) (one count (length types)) k))
-  where
-    one : (n m : ℕ) → n + suc m ≡ n + 1 + m
-    one n m = omega arith
-
 module _ (a : Lists) (found : StructNames) (all : List Bytes) (s : Listed) (is : IsListed a found all s) (good : IsGood a.table) where
   apart_there : AllPairs (λ x y. x ≢ y) (names s.types)
   apart_there = subst (AllPairs (λ x y. x ≢ y)) (sym is.called_so) (called_apart all is.few)
@@ -142,7 +133,7 @@ module _ (a : Lists) (found : StructNames) (all : List Bytes) (s : Listed) (is :
   pub type_fits : (ty : IrType) → Knows (length a.table.types) (length a.table.structs) ty → all_fit (with_type a.table ty) ≡ all_fit (with_type s.types ty)
   type_fits ty k =
       ap (list_all is_within_limits) (same_shapes (with_type a.table ty) (with_type s.types ty) (ap (λ (l : List IrType). l ++ ty ∷ []) is.types) is.bodies_are
-      (known_push 0 (length a.table.structs) a.table.types ty good.known (subst (λ n. Knows n (length a.table.structs) ty) (from_zero (length a.table.types)) k)) good.distinct apart_there)
+      (AllKnown-push 0 (length a.table.structs) a.table.types ty good.known (subst (λ n. Knows n (length a.table.structs) ty) (from_zero (length a.table.types)) k)) good.distinct apart_there)
 
   -- and so does one body more
   pub body_fits : (id : ℕ) (body : StructBody) → all_fit (with_body a.table id body) ≡ all_fit (with_body s.types id body)

@@ -19,12 +19,12 @@ use Rattle.type_table.specs.Types.{Types, with_type, names, bodies, trees, trees
 use Rattle.type_table.proofs.Judged.{some_deep, none_deep, some_large, none_contains_itself, small_if, Any-left, Any-map, tree_too_large, tree_of-length, agree, as_names, types_measured}
 use Rattle.type_table.proofs.UnderIds.{tree_of-measure}
 
-AllKnown-push : (count known : ℕ) (types : List IrType) (ty : IrType) → AllKnown count known types → Knows (count + length types) known ty → AllKnown count known (types ++ ty ∷ [])
+pub AllKnown-push : (count known : ℕ) (types : List IrType) (ty : IrType) → AllKnown count known types → Knows (count + length types) known ty → AllKnown count known (types ++ ty ∷ [])
 AllKnown-push count known [] ty all here = (subst (λ n. Knows n known ty) (omega arith) here, tt)
 AllKnown-push count known (t ∷ types) ty all here =
     (all.0, AllKnown-push (count + 1) known types ty all.1 (subst (λ n. Knows n known ty) (omega arith) here))
 
-All-below : (m n : ℕ) (ids : List ℕ) → m ≤ n → All (λ id. id < m) ids → All (λ id. id < n) ids
+pub All-below : (m n : ℕ) (ids : List ℕ) → m ≤ n → All (λ id. id < m) ids → All (λ id. id < n) ids
 All-below m n ids le all k d lt = let h = all k d lt in omega (arith, h)
 
 KnowsBody-more : (m n : ℕ) (body : Option StructBody) → m ≤ n → KnowsBody m body → KnowsBody n body

@@ -14,7 +14,7 @@ use Rattle.type_table.proofs.Added.{kept_with}
 use Rattle.type_table.proofs.Named.{kept_named, get_or-push_default}
 
 -- a flag that is set stands for a struct
-set_within : (flags : List Bool) (id : ℕ) → get_or flags id false ≡ true → id < length flags
+pub set_within : (flags : List Bool) (id : ℕ) → get_or flags id false ≡ true → id < length flags
 set_within flags id e = by (cases_lt id (length flags))
   where
     by : (id < length flags) ⊎ (length flags ≤ id) → id < length flags

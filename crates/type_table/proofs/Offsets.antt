@@ -42,7 +42,7 @@ offset_from-here packed acc types ids field lt =
     ∙ ap (offset_from packed acc (get_or types (get_or ids field 0) opaque_measure ∷ measures_at types (drop (field + 1) ids))) left
 
 -- what is laid out ends no earlier than any part of it
-end_after-le : (packed : Bool) (at : ℕ) (ss : Shapes) → at ≤ end_after packed at ss
+pub end_after-le : (packed : Bool) (at : ℕ) (ss : Shapes) → at ≤ end_after packed at ss
 end_after-le packed at no_shapes = omega arith
 end_after-le packed at (more_shapes s ss) =
     let start = field_start-le packed at (align s) in

@@ -45,11 +45,11 @@ index_of-absent (m ∷ ns) n missing = by (index_of-absent ns n (λ h. missing (
     by rest false e = ap suc rest
 
 -- the names and bodies of structs
-tree_names : (done : List Tree) (es : List (List ℕ × Option StructBody)) → map (λ (s : List ℕ × TreeBody). s.0) (map (tree_struct done) es) ≡ map (λ (s : List ℕ × Option StructBody). s.0) es
+pub tree_names : (done : List Tree) (es : List (List ℕ × Option StructBody)) → map (λ (s : List ℕ × TreeBody). s.0) (map (tree_struct done) es) ≡ map (λ (s : List ℕ × Option StructBody). s.0) es
 tree_names done [] = refl
 tree_names done (e ∷ es) = ap (λ l. e.0 ∷ l) (tree_names done es)
 
-tree_bodies : (done : List Tree) (es : List (List ℕ × Option StructBody)) → map (λ (s : List ℕ × TreeBody). s.1) (map (tree_struct done) es) ≡ map (tree_body done) (map (λ (s : List ℕ × Option StructBody). s.1) es)
+pub tree_bodies : (done : List Tree) (es : List (List ℕ × Option StructBody)) → map (λ (s : List ℕ × TreeBody). s.1) (map (tree_struct done) es) ≡ map (tree_body done) (map (λ (s : List ℕ × Option StructBody). s.1) es)
 tree_bodies done [] = refl
 tree_bodies done (e ∷ es) = ap (λ l. tree_body done e.1 ∷ l) (tree_bodies done es)
 

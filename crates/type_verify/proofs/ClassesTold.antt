@@ -14,7 +14,6 @@ use Rattle.std.proofs.lemmas.List.{length-map}
 use Rattle.std.proofs.lemmas.Option.{none-some}
 use Rattle.std.proofs.lemmas.Map.Keys.{apart_from_distinct}
 use Rattle.std.proofs.lemmas.Bool.Decides.{same_from_decides}
-use Rattle.module_arena.proofs.Grown.{below}
 use Rattle.type_table.specs.declared.ir_type.StructBody.{StructBody}
 use Rattle.indexmap.specs.IndexSet.{insert_key}
 use Rattle.type_table.specs.declared.ir_type.IrType.{IrType}
@@ -23,6 +22,7 @@ use Rattle.type_table.specs.Keys.{ids_eq, type_eq, types_decide}
 use Rattle.type_table.specs.Tree.{Tree, void}
 use Rattle.type_table.specs.Types.{Types, IsGood, Knows, names, trees, trees_at, tree_of, tree}
 use Rattle.type_table.proofs.Outlined.{tree-is, type_known}
+use Rattle.type_table.proofs.Added.{All-below}
 use Rattle.module_arena.specs.Same.{same_type, same_types}
 use Rattle.type_verify.specs.Classes.{AreClasses, AreSlots, key_of}
 
@@ -101,7 +101,7 @@ Knows-grown m n known (type.Int w) le k = k
 Knows-grown m n known type.Ptr le k = tt
 Knows-grown m n known type.Void le k = tt
 Knows-grown m n known (type.Array length part) le k = omega (arith, k)
-Knows-grown m n known (type.Struct packed parts) le k = below m n parts le k
+Knows-grown m n known (type.Struct packed parts) le k = All-below m n parts le k
 Knows-grown m n known (type.Named id) le k = k
 
 -- ---- keys in their places

@@ -13,10 +13,10 @@ use Rattle.type_table.specs.Types.{Types, IsGood, Knows, KnowsBody, bodies, name
 use Rattle.type_table.proofs.Outlined.{tree-is, type_known}
 use Rattle.type_table.proofs.UnderIds.{body_of-place, index_of-at}
 use Rattle.std.specs.Prelude.{IfSome}
+use Rattle.type_table.proofs.Added.{All-below}
 use Rattle.module_arena.specs.Constants.{Index, indexed}
 use Rattle.module_arena.specs.TypeTests.{opened, struct_of_body, field_type, is_integer_of}
 use Rattle.module_arena.proofs.HostTypesAgree.{field_known as one_known}
-use Rattle.module_arena.proofs.Grown.{below}
 use Rattle.type_verify.specs.Opened.{OpenedIds, array_of, struct_of, opened_body, has_no_parts, IsOpened, neither}
 
 -- what a type is, from the bodies of the structs
@@ -48,7 +48,7 @@ by_type t good ty (type.Int w) lt known = refl
 by_type t good ty type.Ptr lt known = refl
 by_type t good ty type.Void lt known = refl
 by_type t good ty (type.Array n part) lt known = (refl, omega (arith, known, lt))
-by_type t good ty (type.Struct packed parts) lt known = (refl, below ty (length t.types) parts (omega (arith, lt)) known)
+by_type t good ty (type.Struct packed parts) lt known = (refl, All-below ty (length t.types) parts (omega (arith, lt)) known)
 by_type t good ty (type.Named id) lt known =
     let name = get_or (names t) id [] in
     let many = length-map t.structs (λ (s : List ℕ × Option StructBody). s.0) in

@@ -7,6 +7,7 @@ use Rattle.type_table.specs.Layout.{has_layout, have_layouts, layout, align, gre
 use Rattle.type_table.specs.Shape.{Shape, int_leaf, ptr_leaf, void_leaf, opaque_leaf, array_of, struct_of, Shapes, no_shapes, more_shapes, shape}
 use Rattle.type_table.specs.Tree.{Tree, Structs}
 use Rattle.type_table.proofs.Caps.{field_start-le}
+use Rattle.type_table.proofs.Offsets.{end_after-le}
 use Rattle.module_arena.specs.TypeTests.{lies_in_memory}
 use Rattle.module_arena.specs.WellFormed.{is_good_type, are_good_structs}
 use Rattle.run_rules.specs.Leaves.{element, field}
@@ -52,13 +53,6 @@ element_laid void_leaf k h = tt
 element_laid (opaque_leaf label) k h = tt
 element_laid (array_of n s) k h = h
 element_laid (struct_of label packed ss) k h = field_laid ss k h.1
-
-end_after-le : (packed : Bool) (at : ℕ) (ss : Shapes) → at ≤ end_after packed at ss
-end_after-le packed at no_shapes = omega arith
-end_after-le packed at (more_shapes s ss) =
-    let start = field_start-le packed at (align s) in
-    let rest = end_after-le packed (field_start packed at (align s) + size s) ss in
-    omega (arith, start, rest)
 
 -- a field begins before the fields end
 field_before : (packed : Bool) (at : ℕ) (ss : Shapes) (k : ℕ) → unwrap_or (field_offset packed at ss k) 0 ≤ end_after packed at ss

@@ -1,11 +1,12 @@
 -- The keys of two constants are the same exactly where the constants are.
-use Rattle.std.proofs.Common.{◌≡◌, ℕ, ◌<◌, ◌==◌, Bool, true, false, ◌&&◌, List, [], ◌∷◌, ◌++◌, map, length, get_or, Some, All, refl, sym, ap, ◌∙◌, arith, bytes_eq}
+use Rattle.std.proofs.Common.{◌≡◌, ℕ, ◌<◌, ◌==◌, true, ◌&&◌, List, [], ◌∷◌, ◌++◌, map, length, get_or, Some, All, refl, sym, ap, ◌∙◌, arith, bytes_eq}
 use Rattle.std.specs.Cmp.Lexicographic.{bytes_decides}
 use Rattle.std.proofs.lemmas.List.{get_or_append_left, length-map}
 use Rattle.std.proofs.lemmas.List.Elements.{All-head, All-tail}
 use Rattle.std.proofs.lemmas.Option.{slice_get-map, slice_get-get_or}
 use Rattle.std.proofs.lemmas.Bool.Decides.{same_from_decides}
 use Rattle.type_table.specs.Types.{trees, tree}
+use Rattle.type_table.proofs.ShapeMeasures.{and_assoc}
 use Rattle.module_arena.specs.declared.constant.Brackets as the_brackets
 use Rattle.module_arena.specs.declared.constant.Brackets.TheVariants as brackets
 use Rattle.module_arena.specs.declared.constant.Const.{Const}
@@ -27,10 +28,6 @@ use Rattle.module_arena.specs.SameConstLaws.{same_const_decides}
 use Rattle.module_arena.specs.View.{brackets_view, constant_at, constants_at, constants_of}
 use Rattle.type_verify.specs.Classes.{AreClasses as AreTypeClasses}
 use Rattle.use_verify.specs.Keys.{typed_key, key_of}
-
-and_assoc : (x y z : Bool) → ((x && y) && z) ≡ (x && (y && z))
-and_assoc true y z = refl
-and_assoc false y z = refl
 
 brackets_agree : (round other : the_brackets.Brackets) → (brackets_code round == brackets_code other) ≡ same_brackets (brackets_view round) (brackets_view other)
 brackets_agree brackets.Square brackets.Square = refl

@@ -1,6 +1,7 @@
 use Rattle.std.proofs.Common.{◌<◌, ◌∷◌, ◌&&◌, All, length, subst, sym, ap, ◌∙◌}
 use Rattle.std.specs.List.{list_all}
 use Rattle.type_table.specs.Types.{tree, structs}
+use Rattle.type_table.proofs.ShapeMeasures.{and_true}
 use Rattle.module_arena.specs.EntryRules.{return_suits}
 use Rattle.module_arena.specs.InstructionRules.{result_suits}
 use Rattle.module_arena.specs.Mentions.{types_of}
@@ -10,7 +11,7 @@ use Rattle.module_arena.specs.declared.instruction.Choice.{Choice}
 use Rattle.module_arena.specs.declared.instruction.Insertion.{Insertion}
 use Rattle.instruction_verify.specs.ArenaOperands.{instruction_in}
 use Rattle.instruction_verify.specs.Parts.{own_types_suit}
-use Rattle.instruction_verify.proofs.OwnTypes.{and_true, call_suits, gives, type_moves}
+use Rattle.instruction_verify.proofs.OwnTypes.{call_suits, gives, type_moves}
 use Rattle.instruction_verify.proofs.written_types.own_types_suit.Goals as goal
 
 pub returns-in-Binary : goal.returns-in-Binary
