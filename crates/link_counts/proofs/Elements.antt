@@ -1,11 +1,10 @@
 -- How large the elements of an appended array are.
-use Rattle.std.proofs.Common.{◌≡◌, ℕ, ◌<◌, Bool, true, false, cond, List, length, Option, Some, None, refl, sym, ap, ◌∙◌, subst}
+use Rattle.std.proofs.Common.{◌≡◌, ℕ, ◌<◌, true, List, length, Option, Some, None, refl, ap, ◌∙◌, subst}
 use Rattle.std.specs.Prelude.{slice_get, is_some, option_and_then}
 use Rattle.std.specs.Option.{option_map_or}
 use Rattle.std.proofs.lemmas.Bool.{both_ways, cases_Bool}
-use Rattle.std.proofs.lemmas.Option.{same_Some}
 use Rattle.type_table.specs.declared.layout.Layout.{Layout}
-use Rattle.type_table.specs.Layout.{layout, has_layout, size, align, leaves}
+use Rattle.type_table.specs.Layout.{layout, size}
 use Rattle.type_table.specs.Shape.{Shape}
 use Rattle.type_table.specs.Types.{shape, tree, structs}
 use Rattle.type_table.specs.Shape as shapes
@@ -18,16 +17,8 @@ use Rattle.linkage_rules.specs.declared.symbol.SymbolKind.TheVariants as kind
 use Rattle.linkage_rules.specs.Globals.{element_of, type_of}
 use Rattle.linkage_rules.specs.Ids.{modules, seen}
 use Rattle.linkage_rules.specs.Winner.{is_definition, shape_in, size_in}
-use Rattle.linkage_rules.proofs.ValidParts.{element_shape, variable_lies}
+use Rattle.linkage_rules.proofs.ValidParts.{element_shape, variable_lies, layout_size}
 use Rattle.linked_symbols.proofs.VariableExtents.{element_laid}
-
-layout_size : (o : Option Shape) (l : Layout) → option_and_then layout o ≡ Some l → l.size ≡ option_map_or size o 0
-layout_size None l h = cc
-layout_size (Some s) l h = go (has_layout s) h
-  where
-    go : (b : Bool) → cond b (Some (record { size = size s; align = align s; leaves = leaves s })) None ≡ Some l → l.size ≡ size s
-    go true e = ap (λ (x : Layout). x.size) (sym (same_Some (record { size = size s; align = align s; leaves = leaves s }) l e))
-    go false e = cc
 
 some_unless : (o : Option Layout) → (o ≡ None → ⊥) → is_some o ≡ true
 some_unless None h = absurd (h refl)

@@ -5,7 +5,7 @@ use Rattle.std.specs.List.{list_any}
 use Rattle.std.specs.Option.{option_map}
 use Rattle.std.proofs.lemmas.Bool.{and_from, and_parts, both_ways, cases_lt, cond-true, cond-false, eqb-true}
 use Rattle.std.proofs.lemmas.Cmp.{nat_eq_equiv}
-use Rattle.std.proofs.lemmas.Option.{same_Some, slice_get-map, slice_get_within, get_or_from_slice_get}
+use Rattle.std.proofs.lemmas.Option.{same_Some, slice_get-map}
 use Rattle.std.proofs.lemmas.Map.Keys.{any_passes_from_place}
 use Rattle.type_table.proofs.Rooms.{unmapped}
 use Rattle.module_arena.specs.Known.{AreDistinct, HasGlobal, counts}
@@ -25,13 +25,11 @@ use Rattle.linkage_rules.specs.declared.symbol.Symbol.{Symbol}
 use Rattle.linkage_rules.proofs.Seen.{has_entry, known_global, name_seen, seen_is, seen_part}
 use Rattle.module_linker.proofs.Apart.{Apart, none_at}
 use Rattle.entry_copy.proofs.ConstantsCopied.{name_is}
+use Rattle.linkage_rules.proofs.Steps.{all_get}
 use Rattle.module_linker.proofs.Agreed.{filter_at}
 use Rattle.link_ids.specs.Filing.{KnownIds, new_id_of, same_entry, IsFiledUnder}
 
 -- ---- lists
-
-pub all_at : {A : Type 0} (P : A → Type 0) (xs : List A) (k : ℕ) (x : A) → All P xs → slice_get xs k ≡ Some x → P x
-all_at P xs k x all at = subst P (get_or_from_slice_get xs k x x at) (all k x (slice_get_within xs k x at))
 
 -- where one passes
 abbrev Passing : {A : Type 0} → (A → Bool) → List A → Type 0
@@ -128,7 +126,7 @@ same_where_seen parts distinct d e hd he same =
     let at : slice_get parts e.part ≡ Some a = ap (slice_get parts) (sym part) ∙ hd.1 in
     let named = called_so parts d a hd.1 hd.2 in
     let other = called_so parts e a at (known_global parts e a he at) ∙ ap (λ (x : Entry). Some (name_of x.global)) (sym same) in
-    let one : global_id d ≡ global_id e = all_at AreDistinct parts d.part a distinct hd.1 (name_of (seen (modules parts) d).global) (global_id d) (global_id e) named other in
+    let one : global_id d ≡ global_id e = all_get AreDistinct parts d.part a distinct hd.1 (name_of (seen (modules parts) d).global) (global_id d) (global_id e) named other in
     and_from (nat_eq d.part e.part) _ (subst (λ n. nat_eq d.part n ≡ true) part (nat_eq_equiv.refl d.part)) (subst (λ g. same_global (global_id d) g ≡ true) one (global_self (global_id d)))
 
 same_key : (ms : List Module) (d e : EntryId) → same_entry d e ≡ true → key_in ms d ≡ key_in ms e
@@ -154,7 +152,7 @@ module _ (parts : List Lists) (rows : Rows) (groups : AreGroups parts rows) wher
       let filed : option_map (seen ms) (slice_get (group_in rows s) own.0) ≡ Some (seen ms id) = sym (slice_get-map (seen ms) (group_in rows s) own.0) ∙ ap (λ l. slice_get l own.0) (groups.groups s) ∙ own.1 in
       let e = unmapped (seen ms) (slice_get (group_in rows s) own.0) (seen ms id) filed in
       any_passes_from_place (same_entry id) (group_in rows s) own.0 e.0 e.1
-      (same_where_seen parts distinct id e.0 known (all_at (IsEntryId parts) (group_in rows s) own.0 e.0 (groups.known s) e.1) (sym e.2))
+      (same_where_seen parts distinct id e.0 known (all_get (IsEntryId parts) (group_in rows s) own.0 e.0 (groups.known s) e.1) (sym e.2))
 
 -- ---- symbol after symbol
 

@@ -53,7 +53,7 @@ all_tabled P zero first e = tt
 all_tabled P (suc count) first e =
     (subst P (omega arith) (e 0 (omega arith)), all_tabled P count (first + 1) (λ k lt. subst P (omega arith) (e (suc k) (omega (arith, lt)))))
 
-all_mapped : {A B : Type 0} (P : B → Type 0) (f : A → B) (xs : List A) → AllByRecursion (λ x. P (f x)) xs → AllByRecursion P (map f xs)
+pub all_mapped : {A B : Type 0} (P : B → Type 0) (f : A → B) (xs : List A) → AllByRecursion (λ x. P (f x)) xs → AllByRecursion P (map f xs)
 all_mapped P f [] a = tt
 all_mapped P f (x ∷ xs) a = (a.0, all_mapped P f xs a.1)
 

@@ -45,7 +45,7 @@ index_is (y ∷ xs) (suc k) x d h = index_is xs k x d h
 
 -- SIZES
 
-layout_size : (o : Option Shape) (l : Layout) → option_and_then layout o ≡ Some l → l.size ≡ option_map_or size o 0
+pub layout_size : (o : Option Shape) (l : Layout) → option_and_then layout o ≡ Some l → l.size ≡ option_map_or size o 0
 layout_size None l h = cc
 layout_size (Some s) l h = go (has_layout s) h
   where
@@ -53,7 +53,7 @@ layout_size (Some s) l h = go (has_layout s) h
     go true e = ap (λ (x : Layout). x.size) (sym (same_Some (record { size = size s; align = align s; leaves = leaves s }) l e))
     go false e = cc
 
-same_appending : (l : Linkage) → is_appending l ≡ rules.is_appending l
+pub same_appending : (l : Linkage) → is_appending l ≡ rules.is_appending l
 same_appending External = refl
 same_appending Private = refl
 same_appending Internal = refl

@@ -23,12 +23,11 @@ use Rattle.linked_contents.specs.Contents.{elements_in}
 use Rattle.linkage_rules.specs.Addresses.{joined_length, greatest_stated}
 use Rattle.linkage_rules.specs.SymbolLaws.{symbol_exact}
 use Rattle.module_linker.proofs.Symbols.{home_is}
-use Rattle.linkage_rules.proofs.Entries.{all_passing}
+use Rattle.linkage_rules.proofs.Entries.{all_passing, all_follow}
 use Rattle.module_linker.proofs.Agreed.{all_from_at}
 use Rattle.module_linker.proofs.Searches.{at_all}
 use Rattle.module_linker.specs.Structs.{new_struct, linked_type}
 use Rattle.module_linker.specs.Linked.{linked_pieces, joined_type, joined_alignment, joined_initialiser, linked_definition, link_result}
-use Rattle.linked_is_valid.proofs.Lists.{all_follow}
 use Rattle.linked_is_valid.proofs.Types.{nameless_same, memory_same}
 use Rattle.linked_is_valid.proofs.Known.{variable_type_known}
 use Rattle.linked_is_valid.proofs.Pieces.{AreElements, nameless_equal}

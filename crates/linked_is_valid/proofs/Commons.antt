@@ -14,8 +14,9 @@ use Rattle.linkage_rules.specs.Lists.{greatest, greatest_from}
 use Rattle.linkage_rules.specs.Entries.{entries, part_at, same_symbol, symbol_of, entries_of}
 use Rattle.linkage_rules.specs.Winner.{is_definition, definitions, shape_in}
 use Rattle.linkage_rules.specs.Addresses.{align_in, alignment_in, commons}
-use Rattle.module_linker.proofs.Symbols.{all_filter, all_map}
-use Rattle.linked_is_valid.proofs.Lists.{all_follow}
+use Rattle.linkage_rules.proofs.Entries.{all_follow}
+use Rattle.linkage_rules.proofs.Gathered.{all_mapped}
+use Rattle.module_linker.proofs.Symbols.{all_filter}
 use Rattle.linked_is_valid.proofs.PartEntries.{EntryHolds}
 use Rattle.linked_is_valid.specs.Laws.{AreLinkable}
 use Rattle.linked_is_valid.proofs.Renaming.{entries_hold}
@@ -88,5 +89,5 @@ module _ (parts : List Module) (fine : AreLinkable parts) where
   pub commons_aligned : CommonsAligned parts
   commons_aligned s =
       greatest_aligned (map (alignment_in parts) (commons (definitions parts s)))
-      (all_map IsAligned (alignment_in parts) (commons (definitions parts s))
+      (all_mapped IsAligned (alignment_in parts) (commons (definitions parts s))
       (all_filter _ (λ e. is_common (linkage_of e.global)) (definitions parts s) (all_filter _ is_definition (entries_of parts s) (all_filter _ (λ e. same_symbol s (symbol_of e)) (entries parts) entries_aligned))))

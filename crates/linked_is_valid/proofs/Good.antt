@@ -20,13 +20,15 @@ use Rattle.module_arena.specs.EntryRules.{is_only_called}
 use Rattle.module_arena.specs.Forms.{are_flags_of, is_not_empty, is_operation_of_phrase, has_result_of_phrase, is_instruction_of_phrase, has_constants, is_constant_of_phrase}
 use Rattle.module_arena.specs.Names.{has_good_names}
 use Rattle.module_arena.specs.WellFormed.{is_within_limits, is_good_type, are_good_types, types_of_operation, known_in, known_of_operands, known_of_operation, known_of_block, is_in_range, type_in_constant, has_entry, names_an_entry, is_good_part, depth, greatest_depth, is_good_constant, are_good_operands, is_good_block, is_good_function}
-use Rattle.linked_is_valid.proofs.Lists.{all_follow, all_of_map, all_tested}
+use Rattle.linked_is_valid.proofs.Lists.{all_tested}
 use Rattle.linked_is_valid.proofs.Types.{has_struct, KeepsStructs, void_same, shape_same}
 use Rattle.linked_is_valid.proofs.Constants.{renamed_typed, within_renamed}
 use Rattle.linked_is_valid.proofs.Operations.{operands_renamed, callee_renamed, ending_renamed, types_renamed, IsRenamed, blocks_renamed}
 use Rattle.linked_is_valid.proofs.Known.{type_known, AllGood}
 use Rattle.linked_is_valid.proofs.GoodNames.{good_names_same}
 use Rattle.ir_tables.specs.declared.opcode.Opcode.TheVariants as op
+use Rattle.linkage_rules.proofs.Entries.{all_follow}
+use Rattle.linkage_rules.proofs.Gathered.{all_mapped}
 use Rattle.module_linker.proofs.Parts.{all_true}
 
 -- what is written in one module may be written in the other, under new names: structs and entries are there, and what is no
@@ -244,10 +246,10 @@ module _ (m n : Module) (names globals : Bytes → Bytes) (renames : Renames m n
       and_from _ _ (ap (λ d. nat_le d 64) (depth_same names globals c) ∙ both.0)
       (ap (list_all (is_good_part n)) (within_renamed names globals t c)
       ∙ all_tested (is_good_part n) (map (renamed_typed names globals) (constants_in t c))
-      (all_of_map (λ x. is_good_part n x ≡ true) (renamed_typed names globals) (constants_in t c) (all_follow _ _ (constants_in t c) part_good (all_true (is_good_part m) (constants_in t c) both.1))))
+      (all_mapped (λ x. is_good_part n x ≡ true) (renamed_typed names globals) (constants_in t c) (all_follow _ _ (constants_in t c) part_good (all_true (is_good_part m) (constants_in t c) both.1))))
 
   pub constants_good : (xs : List Typed) → AllGood m xs → AllGood n (map (renamed_typed names globals) xs)
-  constants_good xs a = all_of_map (λ x. is_good_constant n x ≡ true) (renamed_typed names globals) xs (all_follow _ _ xs constant_good a)
+  constants_good xs a = all_mapped (λ x. is_good_constant n x ≡ true) (renamed_typed names globals) xs (all_follow _ _ xs constant_good a)
 
   operands_good : (os : List Operand) → are_good_operands m os ≡ true → are_good_operands n (map (renamed_operand names globals) os) ≡ true
   operands_good [] h = refl

@@ -23,7 +23,7 @@ use Rattle.module_linker.proofs.Merged.{Row}
 use Rattle.module_linker.proofs.Bound.{has_first}
 use Rattle.module_linker.proofs.Searches.{at_all}
 use Rattle.linked_is_valid.specs.Laws.{AreLinkable}
-use Rattle.linked_is_valid.proofs.Lists.{all_follow, all_tested}
+use Rattle.linked_is_valid.proofs.Lists.{all_tested}
 use Rattle.linked_is_valid.proofs.Known.{AllGood}
 use Rattle.linked_is_valid.proofs.Entries.{renamed_variable}
 use Rattle.linked_is_valid.proofs.PartEntries.{HasAt, EntryHolds, entries_at}
@@ -39,6 +39,7 @@ use Rattle.linked_is_valid.proofs.Few.{few_entries}
 use Rattle.linked_is_valid.proofs.StructsGood.{structs_good}
 use Rattle.linked_is_valid.proofs.LinkedGood.{EntryGood, entry_good, variable_good, defined_good, alias_good, declared_variable_good, declared_function_good}
 use Rattle.module_arena.specs.EntryRules as rules
+use Rattle.linkage_rules.proofs.Entries.{all_follow}
 use Rattle.module_linker.proofs.Targets.{lasting_stays}
 
 -- an array that is appended is well formed; left open

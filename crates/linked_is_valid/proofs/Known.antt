@@ -17,9 +17,9 @@ use Rattle.module_arena.specs.EntryRules.{is_only_called}
 use Rattle.module_arena.specs.Forms.{is_not_empty, is_instruction_of_phrase, is_constant_of_phrase}
 use Rattle.module_arena.specs.Names.{has_good_names}
 use Rattle.module_arena.specs.WellFormed.{is_good_type, are_good_types, is_good_body, are_good_structs, types_of_operation, known_in, known_of_operands, known_of_operation, known_of_block, known_of_variable, module_constants, is_in_range, type_in_constant, has_entry, names_an_entry, is_good_part, is_good_constant, depth, is_good_variable, are_good_operands, is_good_block, is_good_function, IsWellFormed}
+use Rattle.linkage_rules.proofs.Entries.{all_follow}
 use Rattle.module_linker.proofs.Parts.{all_true}
 use Rattle.module_linker.proofs.Searches.{all_front as all_in_front, all_back as all_behind}
-use Rattle.linked_is_valid.proofs.Lists.{all_follow}
 use Rattle.linked_is_valid.proofs.Types.{has_struct, KnownTree, AllKnown, KnownBody}
 use Rattle.linked_is_valid.proofs.Constants.{KnownConstant, KnownConstants}
 use Rattle.linked_is_valid.proofs.Operations.{KnownValue, KnownOperand, KnownCallee, KnownOperation, KnownBlock, KnownFunction}

@@ -19,7 +19,6 @@ use Rattle.linked_contents.specs.Contents.{ContentPiece, elements_in, elements_o
 use Rattle.module_linker.specs.Rename.{new_global}
 use Rattle.module_linker.specs.Structs.{new_struct}
 use Rattle.module_linker.specs.Linked.{linked_pieces, link_result}
-use Rattle.linked_is_valid.proofs.Lists.{all_follow}
 use Rattle.linked_is_valid.proofs.Pieces.{linked_after, constructors_after}
 use Rattle.linked_is_valid.specs.Laws.{AreLinkable, LinkedIsValid}
 use Rattle.linked_is_valid.proofs.Callees.{local_symbol, shared_symbol}
@@ -30,6 +29,7 @@ use Rattle.linked_is_valid.proofs.Appended.{IsAppended, when_true, in_entry}
 use Rattle.linked_is_valid.proofs.AppendedRows.{appending_shared, own, first, Named, each_named, elements, appended_variable, array_row}
 use Rattle.linked_is_valid.proofs.LinkedRows.{AppendedHolds, shared_new, linked_is_valid}
 use Rattle.module_arena.specs.EntryRules as rules
+use Rattle.linkage_rules.proofs.Entries.{all_follow}
 
 -- the elements are of one type, which is that of constructors or that of pointers
 two_types : (t : Tree) → same_type t rules.constructor_type ≡ true → same_type t ptr ≡ true → ⊥

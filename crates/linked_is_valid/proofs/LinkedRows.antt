@@ -34,7 +34,6 @@ use Rattle.module_linker.proofs.Names.{shared_stays}
 use Rattle.module_linker.proofs.Merged.{Row}
 use Rattle.module_linker.proofs.Bound.{has_first}
 use Rattle.module_linker.proofs.Searches.{at_all}
-use Rattle.linked_is_valid.proofs.Lists.{all_follow}
 use Rattle.linked_is_valid.proofs.Entries.{renamed_variable, variable_holds, function_holds, alias_holds}
 use Rattle.linked_is_valid.proofs.Declarations.{variable_declared, function_declared}
 use Rattle.linked_is_valid.proofs.PartEntries.{HasAt, EntryHolds, entry_holds, entries_at, variable_plain, function_plain, alias_plain}
@@ -42,6 +41,7 @@ use Rattle.linked_is_valid.specs.Laws.{AreLinkable}
 use Rattle.linked_is_valid.proofs.Renaming.{good_at, valid_at, together}
 use Rattle.linked_is_valid.proofs.Callees.{part_renames, new_plain, shared_symbol}
 use Rattle.module_arena.specs.EntryRules as rules
+use Rattle.linkage_rules.proofs.Entries.{all_follow}
 use Rattle.module_linker.proofs.Targets.{lasting_stays}
 
 -- the alignment that several commons come to is one

@@ -6,7 +6,7 @@ use Rattle.std.specs.Int.Digits.{digits_of}
 use Rattle.std.proofs.lemmas.Int.Digits.{all_below_base_digits_of}
 use Rattle.std.proofs.lemmas.Bool.{and_from, and_parts, cases_Bool, cond-true, cond-false, not_from_false}
 use Rattle.std.proofs.lemmas.Option.{slice_get-map}
-use Rattle.linkage_rules.proofs.Gathered.{all_joined}
+use Rattle.linkage_rules.proofs.Gathered.{all_joined, all_mapped}
 use Rattle.ir_tables.specs.Table.{is_distinct}
 use Rattle.type_table.proofs.Rooms.{unmapped}
 use Rattle.module_arena.specs.Module.{Bytes, Module}
@@ -31,8 +31,9 @@ use Rattle.module_linker.proofs.Merged.{Row, names, linked_name}
 use Rattle.module_linker.proofs.Result.{globals_merged}
 use Rattle.type_table.specs.Tree.{Structs}
 use Rattle.module_arena.proofs.ModuleSet.{map_map}
+use Rattle.linkage_rules.proofs.Entries.{all_follow}
 use Rattle.linked_is_valid.specs.Laws.{AreLinkable}
-use Rattle.linked_is_valid.proofs.Lists.{all_follow, all_tested, all_of_map}
+use Rattle.linked_is_valid.proofs.Lists.{all_tested}
 use Rattle.linked_is_valid.proofs.Linking.{names_of, apart_parts, apart_together, cross_back, cross_front, Cross}
 use Rattle.linked_is_valid.proofs.Renaming.{together}
 use Rattle.linked_is_valid.proofs.Callees.{local_symbol, shared_symbol}
@@ -123,7 +124,7 @@ module _ (parts : List Module) (fine : AreLinkable parts) (digits : (n : ℕ) �
       let same : struct_names (link_result parts) ≡ map (λ r. r.1) (struct_map parts) = map_map (λ s. s.0) (linked_struct parts) (struct_map parts) in
       ap are_good_names same
       ∙ and_from _ _
-      (all_tested is_name _ (all_of_map (λ n. is_name n ≡ true) (λ r. r.1) (struct_map parts)
+      (all_tested is_name _ (all_mapped (λ n. is_name n ≡ true) (λ r. r.1) (struct_map parts)
       (named_good (λ name. name) (λ name h. h) digits (map symbol_name (struct_symbols parts)) [] _ (all_firsts _ (same_struct parts) (struct_symbols parts) (struct_symbols_good 0 parts fine.good)))))
       (apart_distinct _ (rows.struct_names parts))
 
@@ -174,7 +175,7 @@ module _ (parts : List Module) (fine : AreLinkable parts) (digits : (n : ℕ) �
   global_names_good =
       let m = link_result parts in
       let good : AllByRecursion (λ n. is_name n ≡ true) ((variable_names m ++ function_names m) ++ alias_names m) =
-      subst (AllByRecursion (λ n. is_name n ≡ true)) (sym merged_names) (all_of_map (λ n. is_name n ≡ true) (λ r. r.1) (renaming parts) (named_good base_of base_of_good digits (all_names parts) (shared_names (symbols parts)) (symbols parts) symbols_good)) in
+      subst (AllByRecursion (λ n. is_name n ≡ true)) (sym merged_names) (all_mapped (λ n. is_name n ≡ true) (λ r. r.1) (renaming parts) (named_good base_of base_of_good digits (all_names parts) (shared_names (symbols parts)) (symbols parts) symbols_good)) in
       let both = all_front _ (variable_names m ++ function_names m) (alias_names m) good in
       and_from _ _
       (all_tested is_name (global_names m)

@@ -4,7 +4,7 @@ use Rattle.std.specs.Prelude.{slice_get, slice_index_or}
 use Rattle.std.specs.List.{AllByRecursion}
 use Rattle.std.specs.Option.{option_map_or}
 use Rattle.std.proofs.lemmas.Bool.{and_from, and_parts, and_right, both_ways, false_from_ne_true, not-true}
-use Rattle.linkage_rules.proofs.Gathered.{all_joined}
+use Rattle.linkage_rules.proofs.Gathered.{all_joined, all_mapped}
 use Rattle.ir_tables.specs.declared.linkage.Linkage.{Linkage}
 use Rattle.ir_tables.specs.declared.linkage.Linkage.TheVariants.{External, Private, Internal, Common, Appending, ExternWeak, AvailableExternally, Linkonce, LinkonceOdr, Weak, WeakOdr}
 use Rattle.module_arena.specs.Module.{Variable, Alias, Function, Module, empty_module}
@@ -18,7 +18,7 @@ use Rattle.linkage_rules.specs.Globals.{Global, OfVariable, OfFunction, OfAlias,
 use Rattle.linkage_rules.specs.Linkages.{is_local, is_available_externally}
 use Rattle.linkage_rules.specs.Entries.{Entry, entries_from, entries, part_at}
 use Rattle.linkage_rules.specs.Winner.{is_definition}
-use Rattle.linked_is_valid.proofs.Lists.{all_follow, all_of_map}
+use Rattle.linkage_rules.proofs.Entries.{all_follow}
 
 -- where a module has it
 abbrev pub HasAt : Module → Global → Type 0
@@ -44,14 +44,14 @@ slots (x ∷ xs) = ((0, refl), all_follow (λ y. (k : ℕ) × (slice_get xs k �
 globals_at : (m : Module) → AllByRecursion (HasAt m) (globals m)
 globals_at m =
     all_joined (HasAt m) (map OfVariable m.variables ++ map OfFunction m.functions) (map OfAlias m.aliases)
-    (all_joined (HasAt m) (map OfVariable m.variables) (map OfFunction m.functions) (all_of_map (HasAt m) OfVariable m.variables (slots m.variables)) (all_of_map (HasAt m) OfFunction m.functions (slots m.functions)))
-    (all_of_map (HasAt m) OfAlias m.aliases (slots m.aliases))
+    (all_joined (HasAt m) (map OfVariable m.variables) (map OfFunction m.functions) (all_mapped (HasAt m) OfVariable m.variables (slots m.variables)) (all_mapped (HasAt m) OfFunction m.functions (slots m.functions)))
+    (all_mapped (HasAt m) OfAlias m.aliases (slots m.aliases))
 
 entries_from_at : (i : ℕ) (ms : List Module) (look : ℕ → Module) → ((k : ℕ) → look (i + k) ≡ slice_index_or ms k empty_module) → AllByRecursion (λ e. HasAt (look e.part) e.global) (entries_from i ms)
 entries_from_at i [] look same = tt
 entries_from_at i (m ∷ ms) look same =
     all_joined (λ e. HasAt (look e.part) e.global) (map (λ g. let e : Entry = record { part = i; global = g } in e) (globals m)) (entries_from (suc i) ms)
-    (all_of_map (λ e. HasAt (look e.part) e.global) (λ g. let e : Entry = record { part = i; global = g } in e) (globals m)
+    (all_mapped (λ e. HasAt (look e.part) e.global) (λ g. let e : Entry = record { part = i; global = g } in e) (globals m)
     (subst (λ (n : Module). AllByRecursion (HasAt n) (globals m)) (sym (ap look zero_more ∙ same 0)) (globals_at m)))
     (entries_from_at (suc i) ms look (λ k. ap look (moved k) ∙ same (suc k)))
   where

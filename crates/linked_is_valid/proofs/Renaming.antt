@@ -12,6 +12,7 @@ use Rattle.linkage_rules.specs.Globals.{Global, OfVariable, OfFunction, OfAlias,
 use Rattle.linkage_rules.specs.Entries.{Entry, entries, part_at, symbol_in}
 use Rattle.linkage_rules.specs.declared.symbol.Symbol.{Symbol}
 use Rattle.linkage_rules.specs.Winner.{home}
+use Rattle.linkage_rules.proofs.Entries.{all_follow}
 use Rattle.module_linker.proofs.Symbols.{GoTogether}
 use Rattle.module_linker.proofs.Agreed.{go_together}
 use Rattle.module_linker.proofs.Declared.{is_declared}
@@ -21,7 +22,6 @@ use Rattle.module_linker.proofs.Merged.{linked_name}
 use Rattle.module_linker.proofs.Bound.{NameRow, name_row}
 use Rattle.module_linker.proofs.Distinct.{are_distinct}
 use Rattle.linked_is_valid.specs.Laws.{AreLinkable}
-use Rattle.linked_is_valid.proofs.Lists.{all_follow}
 use Rattle.linked_is_valid.proofs.PartEntries.{HasAt, EntryHolds, entry_holds, entries_at, at_part, empty_good, empty_valid, local_defined}
 use Rattle.linked_is_valid.proofs.Linking.{entry_named, variable_there, function_there, alias_there}
 

@@ -12,6 +12,7 @@ use Rattle.linkage_rules.specs.declared.symbol.Symbol.{Symbol}
 use Rattle.linkage_rules.specs.Globals.{Global, OfVariable, OfFunction, OfAlias, is_written}
 use Rattle.linkage_rules.specs.Lists.{first}
 use Rattle.linkage_rules.specs.Winner.{definitions, home}
+use Rattle.linkage_rules.proofs.Gathered.{all_mapped}
 use Rattle.module_linker.specs.Linked.{declared_linkage, linked_block, linked_parameter, linked_definition, linked_declaration, linked_first, linked_by, linked, linked_globals, function_if, link_result}
 use Rattle.module_linker.specs.Rename.{new_global, renaming}
 use Rattle.module_linker.specs.Structs.{new_struct, linked_type}
@@ -19,7 +20,7 @@ use Rattle.module_linker.proofs.Agreed.{all_from_at}
 use Rattle.module_linker.proofs.Merged.{declares}
 use Rattle.module_linker.proofs.Parts.{entries_by, globals_all}
 use Rattle.module_linker.proofs.Searches.{all_units}
-use Rattle.module_linker.proofs.Symbols.{home_is, all_map}
+use Rattle.module_linker.proofs.Symbols.{home_is}
 use Rattle.linked_is_valid.specs.Laws.{LinkedIsSmall}
 
 none_found : {A : Type 0} (p : A → Bool) (xs : List A) → find p xs ≡ None → AllByRecursion (λ x. p x ≡ false) xs
@@ -124,7 +125,7 @@ functions_small (OfAlias x ∷ gs) a = functions_small gs a.1
 pub link_is_small : LinkedIsSmall
 link_is_small parts small =
     found_none is_too_large (link_result parts).functions
-    (functions_small (linked_globals parts) (all_map IsSmall (linked parts) (renaming parts) (all_from_at _ (renaming parts) (λ k row at. linked_small parts all row))))
+    (functions_small (linked_globals parts) (all_mapped IsSmall (linked parts) (renaming parts) (all_from_at _ (renaming parts) (λ k row at. linked_small parts all row))))
   where
     all : AllByRecursion (λ e. IsSmall e.global) (entries parts)
     all =

@@ -20,11 +20,10 @@ use Rattle.linkage_rules.specs.declared.conflict.ConflictKind.TheVariants.{TwoSt
 use Rattle.linkage_rules.specs.Conflicts.{clash}
 use Rattle.linkage_rules.specs.SameShape.{agree}
 use Rattle.linkage_rules.specs.SymbolLaws.{name_self, symbol_self, symbol_exact}
-use Rattle.linkage_rules.proofs.Entries.{all_passing}
+use Rattle.linkage_rules.proofs.Entries.{all_passing, all_follow}
 use Rattle.module_linker.proofs.Symbols.{best_has}
 use Rattle.module_linker.proofs.Agreed.{AreDistinct, filter_at, all_from_at, entries_apart, one_place}
 use Rattle.module_linker.proofs.Conflicting.{contains_at, none_unless_told}
-use Rattle.linked_is_valid.proofs.Lists.{all_follow}
 use Rattle.linked_is_valid.specs.Laws.{AreLinkable}
 use Rattle.linked_is_valid.proofs.Callees.{local_symbol, shared_symbol}
 use Rattle.module_arena.specs.EntryRules as rules

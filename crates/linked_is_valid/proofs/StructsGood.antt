@@ -5,7 +5,7 @@ use Rattle.std.specs.List.{AllByRecursion}
 use Rattle.std.specs.Map.{lookup}
 use Rattle.std.proofs.lemmas.Bool.{and_from, and_parts, or_left, or_right}
 use Rattle.std.proofs.lemmas.Option.{slice_get-map}
-use Rattle.linkage_rules.proofs.Gathered.{all_joined}
+use Rattle.linkage_rules.proofs.Gathered.{all_joined, all_mapped}
 use Rattle.type_table.specs.Tree.{named, TreeBody, opaque_body, fields, Structs, body_of}
 use Rattle.module_arena.specs.Module.{Bytes, Module, empty_module}
 use Rattle.module_arena.specs.Renamed.{renamed_body}
@@ -16,6 +16,7 @@ use Rattle.linkage_rules.specs.declared.symbol.Symbol.{Symbol}
 use Rattle.linkage_rules.specs.declared.symbol.Symbol.TheVariants.{Local}
 use Rattle.module_linker.proofs.Apart.{Apart, apart_firsts, lookup_at}
 use Rattle.linkage_rules.specs.SymbolLaws.{name_self}
+use Rattle.linkage_rules.proofs.Entries.{all_follow}
 use Rattle.module_linker.proofs.Symbols.{all_firsts}
 use Rattle.module_linker.proofs.Agreed.{all_from_at}
 use Rattle.module_linker.specs.Rename.{name_or}
@@ -25,7 +26,7 @@ use Rattle.module_linker.proofs.StructRows.{Key, same_key, key_self, key_exact, 
 use Rattle.module_linker.proofs.Searches.{at_all}
 use Rattle.module_linker.proofs.Parts.{all_true}
 use Rattle.linked_is_valid.specs.Laws.{AreLinkable}
-use Rattle.linked_is_valid.proofs.Lists.{all_follow, all_tested, all_of_map}
+use Rattle.linked_is_valid.proofs.Lists.{all_tested}
 use Rattle.linked_is_valid.proofs.Types.{has_struct}
 use Rattle.linked_is_valid.proofs.Known.{body_has}
 use Rattle.linked_is_valid.proofs.Good.{types_good, good_type_kept}
@@ -104,4 +105,4 @@ module _ (parts : List Module) (fine : AreLinkable parts) where
       (subst (λ n. is_good_type (link_result parts).structs (named n) ≡ true) new_name (good_type_kept (part_at parts i) (link_result parts) (new_struct parts i) _ (part_renames parts fine i) (named of_part.name) old)))
 
   pub structs_good : are_good_structs (link_result parts).structs ≡ true
-  structs_good = all_tested _ (link_result parts).structs (all_of_map IsGoodRow (linked_struct parts) (struct_map parts) (all_from_at (λ r. IsGoodRow (linked_struct parts r)) (struct_map parts) row_good))
+  structs_good = all_tested _ (link_result parts).structs (all_mapped IsGoodRow (linked_struct parts) (struct_map parts) (all_from_at (λ r. IsGoodRow (linked_struct parts r)) (struct_map parts) row_good))

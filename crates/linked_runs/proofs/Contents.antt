@@ -14,7 +14,8 @@ use Rattle.linkage_rules.specs.Globals.{Global, OfVariable, OfFunction, OfAlias,
 use Rattle.linkage_rules.specs.Linkages.{is_appending}
 use Rattle.linkage_rules.specs.Addresses.{joined_length}
 use Rattle.linkage_rules.specs.Winner.{definitions, is_definition, home}
-use Rattle.module_linker.proofs.Symbols.{home_is, all_filter, all_append}
+use Rattle.linkage_rules.proofs.Gathered.{all_joined}
+use Rattle.module_linker.proofs.Symbols.{home_is, all_filter}
 use Rattle.module_linker.specs.Linked.{linked_constant, linked_pieces, joined_alignment}
 use Rattle.module_linker.specs.Rename.{new_global, new_name_of}
 use Rattle.module_linker.specs.Structs.{new_struct, linked_type}
@@ -31,7 +32,7 @@ use Rattle.linked_runs.proofs.SameNames.{agree}
 
 pub all_flat : {A B : Type 0} (P : B → Type 0) (f : A → List B) (xs : List A) → AllByRecursion (λ x. AllByRecursion P (f x)) xs → AllByRecursion P (flat_map f xs)
 all_flat P f [] a = tt
-all_flat P f (x ∷ xs) a = all_append P (f x) (flat_map f xs) a.0 (all_flat P f xs a.1)
+all_flat P f (x ∷ xs) a = all_joined P (f x) (flat_map f xs) a.0 (all_flat P f xs a.1)
 
 -- the constructors that pieces of these parts are
 abbrev pub constructors_in : List Module → List ContentPiece → List Constructor
@@ -86,7 +87,7 @@ module _ (parts : List Module) where
 
   all_elements_known : (es : List Entry) → AllByRecursion (λ e. IsKnown parts e.part e.global) es → AllByRecursion KnownPiece (flat_map elements_in es)
   all_elements_known [] a = tt
-  all_elements_known (e ∷ es) a = all_append KnownPiece (elements_in e) (flat_map elements_in es) (entry_elements_known e.part e.global a.0) (all_elements_known es a.1)
+  all_elements_known (e ∷ es) a = all_joined KnownPiece (elements_in e) (flat_map elements_in es) (entry_elements_known e.part e.global a.0) (all_elements_known es a.1)
 
   pub definitions_known : Fit parts → (s : Symbol) → AllByRecursion (λ e. IsKnown parts e.part e.global) (definitions parts s)
   definitions_known fit s = all_filter _ is_definition _ (all_filter _ (λ e. same_symbol s (symbol_of e)) (entries parts) fit.known)

@@ -6,7 +6,7 @@ use Rattle.type_table.specs.Tree.{Tree, ptr}
 use Rattle.module_arena.specs.Module.{Bytes, Constant, Integer, Truth, Null, Undef, Poison, ZeroInitializer, Address, ByteString, Aggregate, ElementAddress, Cast, Binary, Constants, no_constants, more_constants, Value, Local, Known, Operand, Incoming, Operation, BinaryOperation, Compare, Convert, Select, Freeze, Phi, Load, Store, Alloca, GetElementPtr, Call, ExtractValue, InsertValue, Instruction, Case, Ending, ReturnVoid, Return, Jump, Branch, Switch, Unreachable, Block, Module}
 use Rattle.module_arena.specs.UsedNames.{names_in_constant, names_in_constants, names_in_value, names_in_operand, names_in_incoming, names_in_operation, names_in_instruction, names_in_case, names_in_ending, names_in_block}
 use Rattle.linkage_rules.specs.Globals.{Global, OfVariable, OfFunction, OfAlias}
-use Rattle.module_linker.proofs.Symbols.{all_append}
+use Rattle.linkage_rules.proofs.Gathered.{all_joined as all_append}
 use Rattle.run_rules.specs.Plan.{names_used}
 use Rattle.run_laws.proofs.SameConstants.{ConstantIn, ConstantsIn}
 use Rattle.run_laws.proofs.SameOperations.{ValueIn, OperandIn, OperandsIn, CountIn, IncomingIn, OperationIn}

@@ -14,9 +14,10 @@ use Rattle.linkage_rules.specs.Globals.{Global, OfVariable, OfFunction, OfAlias}
 use Rattle.linkage_rules.specs.Addresses.{Room, room, rooms, placed_from, function_address, addressed_from, place, address}
 use Rattle.linkage_rules.specs.Symbols.{variable_symbols, function_symbols, alias_symbols, symbols}
 use Rattle.linkage_rules.specs.Winner.{home}
-use Rattle.module_linker.proofs.Symbols.{home_is, all_among, all_append, variables_plain, variable_kinds}
+use Rattle.module_linker.proofs.Symbols.{home_is, all_among, variables_plain, variable_kinds}
 use Rattle.linkage_rules.proofs.Entries.{all_follow}
 use Rattle.linkage_rules.specs.SymbolLaws.{symbol_self}
+use Rattle.linkage_rules.proofs.Gathered.{all_joined}
 use Rattle.run_rules.specs.Look.{pointer_to, variable_bounds, bounds_in}
 use Rattle.module_linker.specs.Carried.{merged, IsSymbol, carry}
 use Rattle.linked_runs.proofs.Known.{IsKnown, Fit}
@@ -83,7 +84,7 @@ module _ (parts : List Module) where
   rooms_are = rows_all (room parts) (IsSymbol parts) (variable_symbols parts) variables_are
 
   places_are : AllByRecursion (λ (row : Symbol × ℕ). IsSymbol parts row.0) (place parts)
-  places_are = all_append _ (placed_from 65536 (rooms parts)) (addressed_from 0 (function_symbols parts)) (placed_all _ 65536 (rooms parts) rooms_are) (addressed_all _ 0 (function_symbols parts) functions_are)
+  places_are = all_joined _ (placed_from 65536 (rooms parts)) (addressed_from 0 (function_symbols parts)) (placed_all _ 65536 (rooms parts) rooms_are) (addressed_all _ 0 (function_symbols parts) functions_are)
 
 module _ (parts : List Module) (fit : Fit parts) (merges : Merges parts) where
   pub rooms_same : rooms (merged parts) ≡ map (under (carry parts)) (rooms parts)

@@ -26,18 +26,10 @@ use Rattle.linkage_rules.specs.Winner.{size_in}
 use Rattle.linkage_rules.proofs.ElementTypes.{tree_at}
 use Rattle.linkage_rules.proofs.Seen.{get_within, variable_seen, function_seen, alias_seen}
 use Rattle.linkage_rules.proofs.Steps.{all_get}
-use Rattle.linkage_rules.proofs.ValidParts.{structs_are}
+use Rattle.linkage_rules.proofs.ValidParts.{structs_are, layout_size}
 use Rattle.linked_symbols.specs.Extents.{array_length, extent_in}
 
 -- LAYOUTS
-
-layout_size : (o : Option Shape) (l : Layout) → option_and_then layout o ≡ Some l → l.size ≡ option_map_or size o 0
-layout_size None l h = cc
-layout_size (Some s) l h = go (has_layout s) h
-  where
-    go : (b : Bool) → cond b (Some (record { size = size s; align = align s; leaves = leaves s })) None ≡ Some l → l.size ≡ size s
-    go true e = ap (λ (x : Layout). x.size) (sym (same_Some (record { size = size s; align = align s; leaves = leaves s }) l e))
-    go false e = cc
 
 layout_align : (o : Option Shape) (l : Layout) → option_and_then layout o ≡ Some l → l.align ≡ option_map_or align o 1
 layout_align None l h = cc

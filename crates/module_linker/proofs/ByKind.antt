@@ -12,8 +12,9 @@ use Rattle.linkage_rules.specs.Symbols.{is_alias_symbol, plain_entries, variable
 use Rattle.linkage_rules.specs.Winner.{is_definition, best, home}
 use Rattle.module_linker.proofs.Apart.{Apart, all_left, filter_at}
 use Rattle.linkage_rules.specs.SymbolLaws.{symbol_self, symbol_exact}
-use Rattle.module_linker.proofs.Symbols.{any_map_filter, all_map, all_append}
+use Rattle.module_linker.proofs.Symbols.{any_map_filter}
 use Rattle.linkage_rules.proofs.Entries.{all_passing, all_follow}
+use Rattle.linkage_rules.proofs.Gathered.{all_joined, all_mapped}
 use Rattle.module_linker.proofs.Agreed.{all_from_at}
 use Rattle.module_linker.proofs.Searches.{at_all}
 
@@ -115,7 +116,7 @@ module _ (parts : List Module) (apart : Apart same_symbol (map symbol_of (entrie
     alone_aliases =
         ap (λ es. filter (is_alias_symbol parts) (map symbol_of es)) first_aliases
         ∙ all_kept (is_alias_symbol parts) (map symbol_of (filter (λ e. is_alias e.global) (entries parts)))
-        (all_map (λ s. is_alias_symbol parts s ≡ true) symbol_of (filter (λ e. is_alias e.global) (entries parts))
+        (all_mapped (λ s. is_alias_symbol parts s ≡ true) symbol_of (filter (λ e. is_alias e.global) (entries parts))
         (all_follow _ _ (filter (λ e. is_alias e.global) (entries parts)) (λ e h. h.0 ∙ h.1)
         (all_passing (λ e. is_alias_symbol parts (symbol_of e) ≡ is_alias e.global) (λ e. is_alias e.global) (entries parts) aliases_alone)))
 
@@ -123,7 +124,7 @@ module _ (parts : List Module) (apart : Apart same_symbol (map symbol_of (entrie
       picked : (filter (λ e. not (is_alias e.global)) (entries parts) ≡ xs ++ ys) × (filter (λ e. is_alias e.global) (entries parts) ≡ zs)
       picked =
           let both = pick_back (λ (e : Entry). is_alias e.global) (xs ++ ys) zs
-          (all_append (λ e. is_alias e.global ≡ false) xs ys (all_follow _ _ xs (λ e h. h.1) variables) (all_follow _ _ ys (λ e h. h.1) functions)) aliases in
+          (all_joined (λ e. is_alias e.global ≡ false) xs ys (all_follow _ _ xs (λ e h. h.1) variables) (all_follow _ _ ys (λ e h. h.1) functions)) aliases in
           (ap (filter (λ e. not (is_alias e.global))) split ∙ both.0, ap (filter (λ e. is_alias e.global)) split ∙ both.1)
 
       sorted : (filter (λ e. is_variable e.global) (xs ++ ys) ≡ xs) × (filter (λ e. not (is_variable e.global)) (xs ++ ys) ≡ ys)

@@ -18,8 +18,9 @@ use Rattle.linkage_rules.specs.declared.conflict.ConflictKind.TheVariants.{TwoSt
 use Rattle.linkage_rules.specs.Conflicts.{clash, Conflict, FoundConflict, found_conflict, conflicts_of_kind, conflict_kinds, conflicts_of, conflicts, first_conflict}
 use Rattle.module_linker.proofs.Apart.{Apart, at_has}
 use Rattle.linkage_rules.specs.SymbolLaws.{name_self, name_exact, symbol_self, symbol_exact}
-use Rattle.module_linker.proofs.Symbols.{all_filter, all_append, all_map}
+use Rattle.module_linker.proofs.Symbols.{all_filter}
 use Rattle.linkage_rules.proofs.Entries.{all_follow, all_passing}
+use Rattle.linkage_rules.proofs.Gathered.{all_joined, all_mapped}
 use Rattle.module_linker.proofs.Agreed.{AreDistinct, is_symbol, pair_at, pairs_behind, nothing_from, nothing_mapped, none_passes, first_none}
 
 -- each stands in an earlier part than those behind it
@@ -62,7 +63,7 @@ front_ascends i n (g ∷ gs) rest a later up = go (of_name n (entry i g)) refl (
 
 later_than : (i j : ℕ) (ms : List Module) → i < j → AllByRecursion (λ (d : Entry). i < d.part) (entries_from j ms)
 later_than i j [] below = tt
-later_than i j (m ∷ ms) below = all_append (λ (d : Entry). i < d.part) (map (entry j) (globals m)) (entries_from (suc j) ms) (here (globals m)) (later_than i (suc j) ms (omega (arith, below)))
+later_than i j (m ∷ ms) below = all_joined (λ (d : Entry). i < d.part) (map (entry j) (globals m)) (entries_from (suc j) ms) (here (globals m)) (later_than i (suc j) ms (omega (arith, below)))
   where
     here : (gs : List Global) → AllByRecursion (λ (d : Entry). i < d.part) (map (entry j) gs)
     here [] = tt
@@ -81,7 +82,7 @@ mentions_ascend parts n a = ascends_from 0 n parts a
 -- what holds of each element and each later one holds of all pairs
 pub pairs_all : (P : Entry × Entry → Type 0) (es : List Entry) → ((a b : ℕ) (d e : Entry) → a < b → slice_get es a ≡ Some d → slice_get es b ≡ Some e → P (d, e)) → AllByRecursion P (pairs es)
 pairs_all P [] f = tt
-pairs_all P (x ∷ es) f = all_append P (map {B = Entry × Entry} (λ y. (x, y)) es) (pairs es) (firsts_of es (λ k y h. f 0 (suc k) x y (omega arith) refl h)) (pairs_all P es (λ a b d e below h i. f (suc a) (suc b) d e (omega (arith, below)) h i))
+pairs_all P (x ∷ es) f = all_joined P (map {B = Entry × Entry} (λ y. (x, y)) es) (pairs es) (firsts_of es (λ k y h. f 0 (suc k) x y (omega arith) refl h)) (pairs_all P es (λ a b d e below h i. f (suc a) (suc b) d e (omega (arith, below)) h i))
   where
     firsts_of : (ys : List Entry) → ((k : ℕ) (y : Entry) → slice_get ys k ≡ Some y → P (x, y)) → AllByRecursion P (map {B = Entry × Entry} (λ y. (x, y)) ys)
     firsts_of [] g = tt
@@ -108,7 +109,7 @@ contains_at (x ∷ es) (suc k) e h = let c = contains_at es k e h in (suc c.0, o
 
 all_flat : {A B : Type 0} (P : B → Type 0) (f : A → List B) (xs : List A) → ((x : A) → AllByRecursion P (f x)) → AllByRecursion P (flat_map f xs)
 all_flat P f [] h = tt
-all_flat P f (x ∷ xs) h = all_append P (f x) (flat_map f xs) (h x) (all_flat P f xs h)
+all_flat P f (x ∷ xs) h = all_joined P (f x) (flat_map f xs) (h x) (all_flat P f xs h)
 
 abbrev IsTold : List Module → FoundConflict → Type 0
 IsTold parts c = Conflict parts c.kind c.name c.one c.other
@@ -116,7 +117,7 @@ IsTold parts c = Conflict parts c.kind c.name c.one c.other
 module _ (parts : List Module) (distinct : AllByRecursion AreDistinct parts) where
   of_kind : (n : Bytes) (kind : ConflictKind) → AllByRecursion (IsTold parts) (conflicts_of_kind parts n kind)
   of_kind n kind =
-      all_map (IsTold parts) (found_conflict kind n) (filter (λ pair. clash parts kind pair.0 pair.1) (pairs (mentions parts n)))
+      all_mapped (IsTold parts) (found_conflict kind n) (filter (λ pair. clash parts kind pair.0 pair.1) (pairs (mentions parts n)))
       (all_follow _ _ _ (λ pair h. record { one = pair.0; other = pair.1; one_is = h.0.0; other_is = h.0.1; one_part = refl; other_part = refl; in_order = h.0.2; clashes = h.1 })
       (all_passing (λ pair. Contains (mentions parts n) pair.0 × Contains (mentions parts n) pair.1 × (pair.0.part < pair.1.part)) (λ pair. clash parts kind pair.0 pair.1) (pairs (mentions parts n))
       (pairs_all _ (mentions parts n) (λ a b d e below h i. (contains_at (mentions parts n) a d h, contains_at (mentions parts n) b e i, ascending_at (mentions parts n) (mentions_ascend parts n distinct) a b d e below h i)))))

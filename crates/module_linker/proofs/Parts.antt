@@ -8,7 +8,7 @@ use Rattle.module_arena.specs.Module.{Bytes, Module, empty_module}
 use Rattle.linkage_rules.specs.Entries.{Entry, entries_from, entries, part_at, symbol_name}
 use Rattle.linkage_rules.specs.declared.symbol.Symbol.TheVariants.{Local}
 use Rattle.linkage_rules.specs.Globals.{Global, OfVariable, OfFunction, OfAlias, globals}
-use Rattle.module_linker.proofs.Symbols.{all_append, all_map}
+use Rattle.linkage_rules.proofs.Gathered.{all_joined, all_mapped}
 use Rattle.module_linker.proofs.StructRows.{value_at}
 use Rattle.module_linker.specs.Structs.{structs_from, struct_symbols, part_of}
 use Rattle.module_linker.proofs.Searches.{at_all}
@@ -42,8 +42,8 @@ entries_all : (P : ℕ → Global → Type 0) (ms : List Module) (j : ℕ) → (
 entries_all P [] j f = tt
 entries_all P (m ∷ ms) j f =
     let here : j + 0 ≡ j = omega arith in
-    all_append _ (map (entry j) (globals m)) (entries_from (suc j) ms)
-    (all_map _ (entry j) (globals m) (subst (λ n. AllByRecursion (P n) (globals m)) here (f 0 m refl)))
+    all_joined _ (map (entry j) (globals m)) (entries_from (suc j) ms)
+    (all_mapped _ (entry j) (globals m) (subst (λ n. AllByRecursion (P n) (globals m)) here (f 0 m refl)))
     (entries_all P ms (suc j) (λ i n h. let next : j + suc i ≡ suc j + i = omega arith in subst (λ k. AllByRecursion (P k) (globals n)) next (f (suc i) n h)))
 
 pub entries_by : (Q : Module → Type 0) (P : ℕ → Global → Type 0) (parts : List Module) → AllByRecursion Q parts → ((i : ℕ) → Q (part_at parts i) → AllByRecursion (P i) (globals (part_at parts i))) → AllByRecursion (λ e. P e.part e.global) (entries parts)
@@ -55,8 +55,8 @@ entries_by Q P parts all f =
 
 pub globals_all : (P : Global → Type 0) (m : Module) → AllByRecursion (λ v. P (OfVariable v)) m.variables → AllByRecursion (λ f. P (OfFunction f)) m.functions → AllByRecursion (λ a. P (OfAlias a)) m.aliases → AllByRecursion P (globals m)
 globals_all P m vs fs as_ =
-    all_append P (map OfVariable m.variables ++ map OfFunction m.functions) (map OfAlias m.aliases)
-    (all_append P (map OfVariable m.variables) (map OfFunction m.functions) (all_map P OfVariable m.variables vs) (all_map P OfFunction m.functions fs)) (all_map P OfAlias m.aliases as_)
+    all_joined P (map OfVariable m.variables ++ map OfFunction m.functions) (map OfAlias m.aliases)
+    (all_joined P (map OfVariable m.variables) (map OfFunction m.functions) (all_mapped P OfVariable m.variables vs) (all_mapped P OfFunction m.functions fs)) (all_mapped P OfAlias m.aliases as_)
 
 -- STRUCTS
 
@@ -64,8 +64,8 @@ structs_all : (P : ℕ → Bytes → Type 0) (ms : List Module) (j : ℕ) → ((
 structs_all P [] j f = tt
 structs_all P (m ∷ ms) j f =
     let here : j + 0 ≡ j = omega arith in
-    all_append _ (map (λ (s : Bytes × TreeBody). Local j s.0) m.structs) (structs_from (suc j) ms)
-    (all_map _ (λ (s : Bytes × TreeBody). Local j s.0) m.structs (subst (λ n. AllByRecursion (λ (s : Bytes × TreeBody). P n s.0) m.structs) here (f 0 m refl)))
+    all_joined _ (map (λ (s : Bytes × TreeBody). Local j s.0) m.structs) (structs_from (suc j) ms)
+    (all_mapped _ (λ (s : Bytes × TreeBody). Local j s.0) m.structs (subst (λ n. AllByRecursion (λ (s : Bytes × TreeBody). P n s.0) m.structs) here (f 0 m refl)))
     (structs_all P ms (suc j) (λ i n h. let next : j + suc i ≡ suc j + i = omega arith in subst (λ k. AllByRecursion (λ (s : Bytes × TreeBody). P k s.0) n.structs) next (f (suc i) n h)))
 
 pub structs_by : (Q : Module → Type 0) (P : ℕ → Bytes → Type 0) (parts : List Module) → AllByRecursion Q parts → ((i : ℕ) → Q (part_at parts i) → AllByRecursion (λ s. P i s.0) (part_at parts i).structs) → AllByRecursion (λ s. P (part_of s) (symbol_name s)) (struct_symbols parts)

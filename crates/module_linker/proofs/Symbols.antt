@@ -17,6 +17,7 @@ use Rattle.module_linker.proofs.Apart.{Apart, apart_filter, apart_firsts}
 use Rattle.linkage_rules.proofs.Lists.{other_way}
 use Rattle.linkage_rules.specs.SymbolLaws.{symbol_self, symbol_exact}
 use Rattle.linkage_rules.proofs.Entries.{map_filter, firsts_map, all_passing, all_follow}
+use Rattle.linkage_rules.proofs.Gathered.{all_joined, all_mapped}
 
 -- LISTS
 
@@ -82,14 +83,6 @@ pub all_firsts : {A : Type 0} (P : A → Type 0) (same : A → A → Bool) (es :
 all_firsts P same [] a = tt
 all_firsts P same (e ∷ es) a = (a.0, all_filter P (λ d. not (same e d)) (firsts same es) (all_firsts P same es a.1))
 
-pub all_map : {A B : Type 0} (P : B → Type 0) (f : A → B) (xs : List A) → AllByRecursion (λ x. P (f x)) xs → AllByRecursion P (map f xs)
-all_map P f [] a = tt
-all_map P f (x ∷ xs) a = (a.0, all_map P f xs a.1)
-
-pub all_append : {A : Type 0} (P : A → Type 0) (xs ys : List A) → AllByRecursion P xs → AllByRecursion P ys → AllByRecursion P (xs ++ ys)
-all_append P [] ys a b = b
-all_append P (x ∷ xs) ys a b = (a.0, all_append P xs ys a.1 b)
-
 -- each element is one of the list's
 pub all_among : {A : Type 0} (same : A → A → Bool) (self : (x : A) → same x x ≡ true) (all xs : List A) → ((x : A) → has same xs x ≡ true → has same all x ≡ true) → AllByRecursion (λ x. has same all x ≡ true) xs
 all_among same self all [] f = tt
@@ -110,10 +103,10 @@ plain_are parts = all_follow _ _ (plain_entries parts) (λ e h. not-true (is_ali
     all_units (e ∷ es) = (tt, all_units es)
 
 pub variables_plain : (parts : List Module) → AllByRecursion (λ s. is_alias_symbol parts s ≡ false) (variable_symbols parts)
-variables_plain parts = all_map _ symbol_of _ (all_filter _ (λ e. is_variable e.global) (plain_entries parts) (plain_are parts))
+variables_plain parts = all_mapped _ symbol_of _ (all_filter _ (λ e. is_variable e.global) (plain_entries parts) (plain_are parts))
 
 pub functions_plain : (parts : List Module) → AllByRecursion (λ s. is_alias_symbol parts s ≡ false) (function_symbols parts)
-functions_plain parts = all_map _ symbol_of _ (all_filter _ (λ e. not (is_variable e.global)) (plain_entries parts) (plain_are parts))
+functions_plain parts = all_mapped _ symbol_of _ (all_filter _ (λ e. not (is_variable e.global)) (plain_entries parts) (plain_are parts))
 
 pub aliases_are : (parts : List Module) → AllByRecursion (λ s. is_alias_symbol parts s ≡ true) (alias_symbols parts)
 aliases_are parts = all_follow _ _ (alias_symbols parts) (λ s h. h.1) (all_passing (λ s. Unit {0}) (is_alias_symbol parts) (map symbol_of (alias_entries parts)) (all_units (map symbol_of (alias_entries parts))))
@@ -128,7 +121,7 @@ symbols_apart parts =
     (apart_split same_symbol symbol_self symbol_exact symbol_of (λ e. is_variable e.global) (plain_entries parts)
     (subst (Apart same_symbol) (sym (map_filter symbol_of (λ s. not (is_alias_symbol parts s)) (first_entries parts))) (apart_filter same_symbol symbol_self symbol_exact (λ s. not (is_alias_symbol parts s)) (map symbol_of (first_entries parts)) (apart_keys (entries parts)))))
     (apart_filter same_symbol symbol_self symbol_exact (is_alias_symbol parts) (map symbol_of (alias_entries parts)) (apart_keys (filter (λ e. is_alias e.global) (entries parts))))
-    (all_append _ (variable_symbols parts) (function_symbols parts) (variables_plain parts) (functions_plain parts))
+    (all_joined _ (variable_symbols parts) (function_symbols parts) (variables_plain parts) (functions_plain parts))
     (aliases_are parts)
 
 -- the entries of a symbol are of that kind
@@ -157,9 +150,9 @@ symbols_have parts =
     let all = own_keys (entries parts) (entries parts) (λ s h. h) in
     let own = all_filter _ (λ e. not (is_alias_symbol parts (symbol_of e))) (first_entries parts) (all_firsts _ (λ d e. same_symbol (symbol_of d) (symbol_of e)) (entries parts) all) in
     let aliases = all_firsts _ (λ d e. same_symbol (symbol_of d) (symbol_of e)) (filter (λ e. is_alias e.global) (entries parts)) (all_filter _ (λ e. is_alias e.global) (entries parts) all) in
-    all_append _ (variable_symbols parts ++ function_symbols parts) (alias_symbols parts)
-    (all_append _ (variable_symbols parts) (function_symbols parts) (all_map _ symbol_of _ (all_filter _ (λ e. is_variable e.global) (plain_entries parts) own)) (all_map _ symbol_of _ (all_filter _ (λ e. not (is_variable e.global)) (plain_entries parts) own)))
-    (all_filter _ (is_alias_symbol parts) (map symbol_of (alias_entries parts)) (all_map _ symbol_of _ aliases))
+    all_joined _ (variable_symbols parts ++ function_symbols parts) (alias_symbols parts)
+    (all_joined _ (variable_symbols parts) (function_symbols parts) (all_mapped _ symbol_of _ (all_filter _ (λ e. is_variable e.global) (plain_entries parts) own)) (all_mapped _ symbol_of _ (all_filter _ (λ e. not (is_variable e.global)) (plain_entries parts) own)))
+    (all_filter _ (is_alias_symbol parts) (map symbol_of (alias_entries parts)) (all_mapped _ symbol_of _ aliases))
   where
     own_keys : (all es : List Entry) → ((s : Symbol) → has same_symbol (map symbol_of es) s ≡ true → has same_symbol (map symbol_of all) s ≡ true) → AllByRecursion (λ e. has same_symbol (map symbol_of all) (symbol_of e) ≡ true) es
     own_keys all [] f = tt

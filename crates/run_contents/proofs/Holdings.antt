@@ -24,6 +24,7 @@ use Rattle.module_arena.proofs.Parts.{valid_variable}
 use Rattle.linkage_rules.specs.Entries.{Entry, symbol_of}
 use Rattle.linkage_rules.specs.Linkages.{is_appending}
 use Rattle.linkage_rules.specs.Winner.{definitions, home, is_definition}
+use Rattle.linkage_rules.proofs.ValidParts.{same_appending}
 use Rattle.linked_contents.specs.Contents.{ContentPiece, elements_in, elements_of, whole, pieces_by, pieces_of_constants}
 use Rattle.run_constants.proofs.LeafKinds.{shape_is}
 use Rattle.run_constants.proofs.Sounds.{back_all, front_all, list_sound}
@@ -31,7 +32,6 @@ use Rattle.run_constants.proofs.Standing.{initialiser_stands}
 use Rattle.run_constants.specs.Sound.{IsSound, constant_of, names_of}
 use Rattle.run_names.proofs.Apart.{own_entries}
 use Rattle.run_names.proofs.Arena.{variable_defined, variable_home, variable_seen, variable_there}
-use Rattle.run_names.proofs.Meant.{same_appending}
 use Rattle.run_names.proofs.OneModule.{module_apart, variable_in}
 use Rattle.run_names.proofs.Roomed.{entry_of}
 use Rattle.run_names.specs.Spots.{is_defined, size_of}

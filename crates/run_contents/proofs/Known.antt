@@ -23,9 +23,9 @@ use Rattle.module_arena.specs.Valid.{IsValid}
 use Rattle.module_arena.specs.View.{module_of}
 use Rattle.module_arena.specs.WellFormed.{IsWellFormed}
 use Rattle.module_arena.proofs.ConstantsTold.{constant_here}
+use Rattle.linkage_rules.proofs.Steps.{all_get}
 use Rattle.run_constants.specs.Sound.{IsPart, constant_of, names_of}
 use Rattle.run_names.proofs.Bounded as bounded
-use Rattle.run_names.proofs.Listed.{all_get}
 use Rattle.run_names.specs.Spots.{defines, is_defined, size_of}
 use Rattle.run_rules.specs.Opening.{with_variables}
 use Rattle.run_rules.specs.Plan as plans

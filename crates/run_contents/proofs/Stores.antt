@@ -14,7 +14,8 @@ use Rattle.module_arena.specs.Module.{Module}
 use Rattle.module_arena.specs.Valid.{IsValid}
 use Rattle.module_arena.specs.View.{module_of}
 use Rattle.module_arena.specs.WellFormed.{IsWellFormed}
-use Rattle.run_names.proofs.Listed.{drop_more, mapped_at}
+use Rattle.linkage_rules.proofs.Steps.{drop_more}
+use Rattle.run_names.proofs.Listed.{mapped_at}
 use Rattle.run_names.proofs.Put.{Row}
 use Rattle.run_names.specs.declared.spot.Spot.{Spot}
 use Rattle.run_names.specs.Spots.{AreSpots, size_of}

@@ -37,6 +37,8 @@ use Rattle.linkage_rules.specs.Addresses.{function_address}
 use Rattle.linkage_rules.specs.SameShape.{same_shape}
 use Rattle.linkage_rules.specs.SymbolLaws.{symbol_exact}
 use Rattle.linkage_rules.specs.Winner.{best, home, is_definition}
+use Rattle.linkage_rules.proofs.Steps.{all_get}
+use Rattle.linkage_rules.proofs.Seen.{get_within}
 use Rattle.run_rules.specs.Calls.{same_shape_list}
 use Rattle.run_rules.specs.Constant.{Names, shape_of}
 use Rattle.run_rules.specs.Look.{Defined, defined, defined_by, names_in, pointer_to}
@@ -48,7 +50,7 @@ use Rattle.run_entry.specs.Mains.{function_among, main_by_number, shared_functio
 use Rattle.run_entry.specs.Mains as Told
 use Rattle.run_names.proofs.Apart.{none_passes}
 use Rattle.run_names.proofs.Asked.{variable_name, function_name, target_there, target_plain}
-use Rattle.run_names.proofs.Listed.{all_from_places, all_get, get_within, mapped_within}
+use Rattle.run_names.proofs.Listed.{all_from_places, mapped_within}
 use Rattle.run_names.proofs.OneModule.{entry, entries_have, names_apart, name_of_symbol, one_named, variable_in, function_in, alias_in}
 use Rattle.run_names.proofs.Meant.{pointer_behind, IsTarget, target_is, behind_alias}
 use Rattle.run_names.proofs.Arena.{variable_named, function_named, alias_named, variable_seen, function_seen, alias_seen, variable_there, function_there, alias_there, variable_home, variable_behind, function_home, function_behind}

@@ -11,7 +11,7 @@ use Rattle.ir_memory.specs.Memory.{Blocks, added, no_blocks, round_up}
 use Rattle.linkage_rules.specs.Addresses.{rooms}
 use Rattle.module_arena.specs.Lists.{Lists}
 use Rattle.module_arena.specs.View.{module_of}
-use Rattle.run_names.proofs.Listed.{get_within}
+use Rattle.linkage_rules.proofs.Seen.{get_within}
 use Rattle.run_names.specs.declared.spot.Spot.{Spot}
 use Rattle.run_names.specs.Spots.{AreSpots, needs}
 use Rattle.run_names.specs.Told.{alone}

@@ -37,8 +37,7 @@ use Rattle.run_constants.proofs.Sounds.{all_parts, list_sound}
 use Rattle.run_constants.specs.Sound.{IsSound, constant_of, constants_with_types}
 use Rattle.run_names.proofs.Apart.{none_passes, own_entries}
 use Rattle.run_names.proofs.Arena.{alias_named, alias_seen, alias_there, function_named, function_seen, function_there, variable_defined, variable_home, variable_named, variable_seen, variable_there}
-use Rattle.run_names.proofs.Listed.{all_get, mapped_within}
-use Rattle.run_names.proofs.Meant.{same_appending}
+use Rattle.run_names.proofs.Listed.{mapped_within}
 use Rattle.run_names.proofs.OneModule.{entries_have, entry, module_apart, name_of_symbol, variable_in}
 use Rattle.run_names.specs.Spots.{is_defined}
 use Rattle.run_rules.specs.Plan.{constructors_symbol}
@@ -46,6 +45,8 @@ use Rattle.run_contents.proofs.Holdings.{sound}
 use Rattle.run_machine.specs.Constructors.{AreElements, elements_of, piece_of}
 use Rattle.type_table.specs.Tree.{Tree}
 use Rattle.type_table.specs.Types.{tree}
+use Rattle.linkage_rules.proofs.Steps.{all_get}
+use Rattle.linkage_rules.proofs.ValidParts.{same_appending}
 
 -- the name of the list
 abbrev pub list_name : Bytes

@@ -10,9 +10,11 @@ use Rattle.module_arena.specs.declared.entry.GlobalId.TheVariants as global
 use Rattle.module_arena.specs.Lists.{Lists, name_at}
 use Rattle.module_arena.specs.Module.{Bytes, Function, Variable}
 use Rattle.module_arena.specs.View.{module_of}
+use Rattle.linkage_rules.proofs.Steps.{take_more, drop_more}
+use Rattle.linkage_rules.proofs.Seen.{get_within}
 use Rattle.run_names.proofs.Arena.{function_seen, function_there, variable_seen, variable_there}
 use Rattle.run_names.proofs.Asked.{function_name, variable_name}
-use Rattle.run_names.proofs.Listed.{drop_more, get_within, mapped_at, take_more}
+use Rattle.run_names.proofs.Listed.{mapped_at}
 
 module _ (p : Bytes → Bool) (xs : List Bytes) (k : ℕ) where
   -- one more that is passed over

@@ -26,6 +26,8 @@ use Rattle.linkage_rules.specs.Entries.{Entry, entries, symbol_of}
 use Rattle.linkage_rules.specs.Globals.{OfAlias, OfFunction, is_alias}
 use Rattle.linkage_rules.specs.Linkages.{is_extern_weak}
 use Rattle.linkage_rules.specs.Addresses.{function_address}
+use Rattle.linkage_rules.proofs.Steps.{all_get}
+use Rattle.linkage_rules.proofs.Seen.{get_within}
 use Rattle.run_rules.specs.Calls as calls
 use Rattle.run_rules.specs.Look.{address_in, callee_numbered, function_number, pointer_to, table}
 use Rattle.run_names.specs.declared.standing.Standing.{Standing}
@@ -33,7 +35,7 @@ use Rattle.run_names.specs.declared.standing.Standing.TheVariants as standing
 use Rattle.run_names.specs.Spots.{AreAddresses}
 use Rattle.run_names.specs.Standings.{AreStandings, elsewhere, function_stands, has_code}
 use Rattle.run_names.specs.Told.{callee_seen}
-use Rattle.run_names.proofs.Listed.{all_at, all_get, get_within, index_is}
+use Rattle.run_names.proofs.Listed.{all_at, index_is}
 use Rattle.run_names.proofs.OneModule.{entry, alias_in, names_apart, one_named}
 use Rattle.run_names.proofs.Meant.{IsTarget, target_is, alias_address}
 use Rattle.run_names.proofs.Arena.{alias_seen, alias_there, callee_of, function_callee, function_leaf, function_seen, leaf_by, no_callee}

@@ -24,6 +24,7 @@ use Rattle.module_arena.specs.TypeTests.{type_layout}
 use Rattle.module_arena.specs.Valid.{IsValid}
 use Rattle.module_arena.specs.View.{module_of, constant_at, constants_of}
 use Rattle.module_arena.proofs.Parts.{valid_variable}
+use Rattle.linkage_rules.proofs.ValidParts.{layout_size}
 use Rattle.run_names.specs.declared.spot.Spot.{Spot}
 use Rattle.run_names.specs.Spots.{defines, is_defined, size_of, align_of, spot_of, spot_at}
 use Rattle.run_names.proofs.Listed.{all_at, some_passes}
@@ -95,14 +96,6 @@ laid_small (Some s) l h e = go (has_layout s) refl e
     go : (b : Bool) → has_layout s ≡ b → cond b (Some (record { size = size s; align = align s; leaves = leaves s })) None ≡ Some l → l.size ≤ 2 ^ 40
     go true q k = subst (λ (x : Layout). x.size ≤ 2 ^ 40) (same_Some (record { size = size s; align = align s; leaves = leaves s }) l k) (h.size_fits q)
     go false q k = cc
-
-layout_size : (o : Option Shape) (l : Layout) → option_and_then layout o ≡ Some l → l.size ≡ option_map_or size o 0
-layout_size None l h = cc
-layout_size (Some s) l h = go (has_layout s) h
-  where
-    go : (b : Bool) → cond b (Some (record { size = size s; align = align s; leaves = leaves s })) None ≡ Some l → l.size ≡ size s
-    go true e = ap (λ (x : Layout). x.size) (sym (same_Some (record { size = size s; align = align s; leaves = leaves s }) l e))
-    go false e = cc
 
 layout_align : (o : Option Shape) (l : Layout) → option_and_then layout o ≡ Some l → l.align ≡ option_map_or align o 1
 layout_align None l h = cc

@@ -1,12 +1,11 @@
 -- Places in lists.
-use Rattle.std.proofs.Common.{◌≡◌, ℕ, zero, suc, ◌+◌, ◌<◌, ◌≤◌, List, [], ◌∷◌, ◌++◌, map, filter, length, take, drop, cond, All, Bool, true, false, ◌&&◌, ◌||◌, Some, None, refl, sym, ap, ◌∙◌, subst, arith}
+use Rattle.std.proofs.Common.{◌≡◌, ℕ, zero, suc, ◌+◌, ◌<◌, ◌≤◌, List, [], ◌∷◌, ◌++◌, map, filter, length, take, cond, Bool, true, false, ◌&&◌, ◌||◌, Some, None, refl, sym, ap, ◌∙◌, subst, arith}
 use Rattle.std.specs.Prelude.{slice_get, slice_index_or}
 use Rattle.std.specs.List.{AllByRecursion, list_any, list_all}
 use Rattle.std.specs.Option.{option_map}
 use Rattle.std.proofs.lemmas.Bool.{and_parts}
-use Rattle.std.proofs.lemmas.List.{map-append}
-use Rattle.std.proofs.lemmas.List.Elements.{recursion_from_All}
 use Rattle.std.proofs.lemmas.Option.{same_Some}
+use Rattle.linkage_rules.proofs.Steps.{take_more}
 
 pub all_from_places : {X : Type 0} (P : X → Type 0) (xs : List X) → ((k : ℕ) (x : X) → slice_get xs k ≡ Some x → P x) → AllByRecursion P xs
 all_from_places P [] h = tt
@@ -59,33 +58,6 @@ pub index_is : {A : Type 0} (xs : List A) (k : ℕ) (x d : A) → slice_get xs k
 index_is [] k x d h = cc
 index_is (y ∷ xs) zero x d h = same_Some y x h
 index_is (y ∷ xs) (suc k) x d h = index_is xs k x d h
-
-taken : {A : Type 0} (xs : List A) (k : ℕ) (x : A) → slice_get xs k ≡ Some x → take (suc k) xs ≡ take k xs ++ x ∷ []
-taken [] k x h = cc
-taken (y ∷ xs) zero x h = ap (λ z. z ∷ []) (same_Some y x h)
-taken (y ∷ xs) (suc k) x h = ap (λ l. y ∷ l) (taken xs k x h)
-
-dropped : {A : Type 0} (xs : List A) (k : ℕ) (x : A) → slice_get xs k ≡ Some x → drop k xs ≡ x ∷ drop (suc k) xs
-dropped [] k x h = cc
-dropped (y ∷ xs) zero x h = ap (λ z. z ∷ xs) (same_Some y x h)
-dropped (y ∷ xs) (suc k) x h = dropped xs k x h
-
-pub take_more : {A : Type 0} (xs : List A) (k : ℕ) (x : A) → slice_get xs k ≡ Some x → take (k + 1) xs ≡ take k xs ++ x ∷ []
-take_more xs k x h = let e : k + 1 ≡ suc k = omega arith in ap (λ n. take n xs) e ∙ taken xs k x h
-
-pub drop_more : {A : Type 0} (xs : List A) (k : ℕ) (x : A) → slice_get xs k ≡ Some x → drop k xs ≡ x ∷ drop (k + 1) xs
-drop_more xs k x h = let e : suc k ≡ k + 1 = omega arith in dropped xs k x h ∙ ap (λ n. x ∷ drop n xs) e
-
-pub all_get : {A : Type 0} (P : A → Type 0) (xs : List A) (k : ℕ) (x : A) → All P xs → slice_get xs k ≡ Some x → P x
-all_get P xs k x h e = at_place P xs k x (recursion_from_All P xs h) e
-
-pub get_within : {A : Type 0} (xs : List A) (k : ℕ) → k < length xs → (x : A) × (slice_get xs k ≡ Some x)
-get_within [] k h = absurd (omega (arith, h))
-get_within (x ∷ xs) zero h = (x, refl)
-get_within (x ∷ xs) (suc k) h = get_within xs k (omega (arith, h))
-
-pub map_step : {A B : Type 0} (f : A → B) (xs : List A) (k : ℕ) (x : A) → slice_get xs k ≡ Some x → map f (take (k + 1) xs) ≡ map f (take k xs) ++ f x ∷ []
-map_step f xs k x h = ap (map f) (take_more xs k x h) ∙ map-append f (take k xs) (x ∷ [])
 
 -- what holds of all and of one more
 pub last_or : {A : Type 0} (P : A → Type 0) (xs : List A) (y : A) → ((k : ℕ) (x : A) → slice_get xs k ≡ Some x → P x) → P y → (k : ℕ) (x : A) → slice_get (xs ++ y ∷ []) k ≡ Some x → P x

@@ -10,7 +10,7 @@ use Rattle.ir_eval.specs.declared.value.Scalar.{Scalar}
 use Rattle.ir_eval.specs.declared.value.Scalar.TheVariants.{Ptr, Poison}
 use Rattle.ir_eval.specs.Cast.{pointer_at}
 use Rattle.ir_tables.specs.declared.linkage.Linkage.{Linkage}
-use Rattle.ir_tables.specs.declared.linkage.Linkage.TheVariants.{Private, Internal, External, ExternWeak, Appending}
+use Rattle.ir_tables.specs.declared.linkage.Linkage.TheVariants.{Private, Internal, External, ExternWeak}
 use Rattle.module_arena.specs.EntryRules as rules
 use Rattle.module_arena.specs.declared.host.HostRow.{HostRow}
 use Rattle.module_arena.specs.HostRows.{host_row}
@@ -28,16 +28,13 @@ use Rattle.linkage_rules.specs.Lists.{first}
 use Rattle.linkage_rules.specs.Addresses.{place, rooms}
 use Rattle.linkage_rules.specs.SymbolLaws.{name_exact}
 use Rattle.linkage_rules.specs.Winner.{home, is_definition}
+use Rattle.linkage_rules.proofs.ValidParts.{same_appending}
 use Rattle.run_rules.specs.Look.{address_in, leaf_of, pointer_to}
 use Rattle.run_names.proofs.Apart.{AreApart, own_entries, own_home}
 use Rattle.run_names.proofs.Listed.{Passes, some_passes}
 use Rattle.run_names.proofs.OneModule.{entry, module_apart, entries_have, variable_in, function_in, alias_in, lasting_counts, symbol_in_is}
 
 -- ---- linkages
-
-pub same_appending : (l : Linkage) → is_appending l ≡ rules.is_appending l
-same_appending Appending = refl
-same_appending _ = refl
 
 -- what is local is defined
 local_defined : (b : Bool) (l : Linkage) → rules.linkage_suits b l ≡ true → is_local l ≡ true → (b && not (is_available_externally l)) ≡ true

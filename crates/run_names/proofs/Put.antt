@@ -14,7 +14,7 @@ use Rattle.linkage_rules.specs.declared.symbol.Symbol.{Symbol}
 use Rattle.linkage_rules.specs.Entries.{same_symbol}
 use Rattle.linkage_rules.specs.Addresses.{Room, placed_from}
 use Rattle.linkage_rules.specs.SymbolLaws.{symbol_self, symbol_exact}
-use Rattle.run_names.proofs.Listed.{drop_more}
+use Rattle.linkage_rules.proofs.Steps.{drop_more}
 use Rattle.run_rules.specs.Plan as plans
 use Rattle.run_names.specs.declared.spot.Spot.{Spot}
 use Rattle.run_names.specs.Spots.{is_defined, needs, spot_of, spot_at, size_of, align_of}

@@ -29,11 +29,12 @@ use Rattle.linkage_rules.specs.Lists.{greatest}
 use Rattle.linkage_rules.specs.Addresses.{Room, room, rooms, joined_length, greatest_stated, greatest_common, alignment_in, align_in, size_by, alignment_by}
 use Rattle.linkage_rules.specs.Symbols.{variable_symbols}
 use Rattle.linkage_rules.specs.Winner.{definitions, home, is_definition, size_in}
+use Rattle.linkage_rules.proofs.ValidParts.{same_appending}
 use Rattle.run_names.specs.Spots.{is_defined, size_of, align_of}
 use Rattle.run_names.proofs.Apart.{AreApart, own_entries, own_home}
 use Rattle.run_names.proofs.Listed.{all_from_places}
 use Rattle.run_names.proofs.OneModule.{entry, module_apart, variable_in, variable_entries, variable_symbols_are}
-use Rattle.run_names.proofs.Meant.{same_appending, aliases_defined}
+use Rattle.run_names.proofs.Meant.{aliases_defined}
 use Rattle.run_names.proofs.Arena.{variable_seen, variables_are, variable_there, structs_are, variable_defined}
 
 -- ---- the room of one definition

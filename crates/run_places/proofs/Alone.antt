@@ -20,10 +20,11 @@ use Rattle.linkage_rules.specs.Globals.{Global, OfVariable, OfFunction, OfAlias,
 use Rattle.linkage_rules.specs.Linkages.{is_local, is_available_externally}
 use Rattle.linkage_rules.specs.Winner.{is_definition}
 use Rattle.linkage_rules.proofs.Entries.{all_follow}
-use Rattle.run_places.proofs.Together.{all_map, all_append, AreOfKind, GoTogether}
+use Rattle.run_places.proofs.Together.{all_append, AreOfKind, GoTogether}
 use Rattle.linkage_rules.specs.SymbolLaws.{name_self, symbol_exact}
 use Rattle.run_rules.specs.NeverStuck.{NeverStuck}
 use Rattle.linkage_rules.specs.Entries.{symbol_name}
+use Rattle.linkage_rules.proofs.Gathered.{all_mapped}
 use Rattle.run_places.proofs.Options.{none_some}
 use Rattle.run_places.proofs.Parts.{AreValid, all_from_places}
 use Rattle.run_places.proofs.Valid as valid_parts
@@ -107,12 +108,12 @@ module _ (m : Module) (well_formed : IsWellFormed m) (valid : IsValid m) where
   all_in : AllByRecursion (λ (e : Entry). IsIn e.global) (entries parts)
   all_in =
       all_append (λ (e : Entry). IsIn e.global) (map (λ g. record { part = 0; global = g }) (globals m)) []
-      (all_map (λ (e : Entry). IsIn e.global) (λ g. record { part = 0; global = g }) (globals m)
+      (all_mapped (λ (e : Entry). IsIn e.global) (λ g. record { part = 0; global = g }) (globals m)
       (all_append IsIn (map OfVariable m.variables ++ map OfFunction m.functions) (map OfAlias m.aliases)
       (all_append IsIn (map OfVariable m.variables) (map OfFunction m.functions)
-      (all_map IsIn OfVariable m.variables (all_from_places (λ v. (i : ℕ) × (slice_get m.variables i ≡ Some v)) m.variables (λ k x e. (k, e))))
-      (all_map IsIn OfFunction m.functions (all_from_places (λ f. (i : ℕ) × (slice_get m.functions i ≡ Some f)) m.functions (λ k x e. (k, e)))))
-      (all_map IsIn OfAlias m.aliases (all_from_places (λ a. (i : ℕ) × (slice_get m.aliases i ≡ Some a)) m.aliases (λ k x e. (k, e)))))) tt
+      (all_mapped IsIn OfVariable m.variables (all_from_places (λ v. (i : ℕ) × (slice_get m.variables i ≡ Some v)) m.variables (λ k x e. (k, e))))
+      (all_mapped IsIn OfFunction m.functions (all_from_places (λ f. (i : ℕ) × (slice_get m.functions i ≡ Some f)) m.functions (λ k x e. (k, e)))))
+      (all_mapped IsIn OfAlias m.aliases (all_from_places (λ a. (i : ℕ) × (slice_get m.aliases i ≡ Some a)) m.aliases (λ k x e. (k, e)))))) tt
 
   local_is_defined : (g : Global) → IsIn g → is_local (linkage_of g) ≡ true → (is_written g && not (is_available_externally (linkage_of g))) ≡ true
   local_is_defined (OfVariable v) is h = local_defined (is_some v.initialiser) v.linkage (valid_variable m is.0 v valid is.1).0 h

@@ -18,7 +18,7 @@ use Rattle.module_arena.proofs.Parts.{valid_function}
 use Rattle.linkage_rules.specs.Linkages.{is_appending}
 use Rattle.linkage_rules.specs.Globals.{Global, OfVariable, OfFunction, OfAlias, globals, linkage_of, is_variable, is_alias}
 use Rattle.linkage_rules.proofs.Entries.{all_follow, firsts_map}
-use Rattle.run_places.proofs.Together.{all_map, all_append, all_filter, all_firsts, home_is, AreOfKind, GoTogether}
+use Rattle.run_places.proofs.Together.{all_append, all_filter, all_firsts, home_is, AreOfKind, GoTogether}
 use Rattle.linkage_rules.proofs.Lists.{has_firsts}
 use Rattle.linkage_rules.specs.SymbolLaws.{symbol_self, symbol_exact}
 use Rattle.linkage_rules.specs.Bind.{Appended, Definition, behind, behind_from, target_of, own_meaning, bound_to, meaning}
@@ -30,6 +30,7 @@ use Rattle.run_places.proofs.Search.{IsFound, found_at}
 use Rattle.run_places.proofs.Options.{none_some}
 use Rattle.run_places.proofs.Parts.{AreValid, all_from_places}
 use Rattle.linkage_rules.specs.Addresses.{Room, room, rooms, place, placed_from, addressed_from, function_address}
+use Rattle.linkage_rules.proofs.Gathered.{all_mapped}
 use Rattle.run_rules.specs.Look.{function_number, code_of, callee_by, callee_numbered, defined_by, table}
 
 -- ---- lists
@@ -103,12 +104,12 @@ pub functions_all : (Q : Function → Type 0) → ((m : Module) (n : ℕ) (f : F
 functions_all Q h i [] v = tt
 functions_all Q h i (m ∷ ms) v =
     all_append (λ (e : Entry). OnFunction Q e.global) (map (λ g. record { part = i; global = g }) (globals m)) (entries_from (suc i) ms)
-    (all_map (λ (e : Entry). OnFunction Q e.global) (λ g. record { part = i; global = g }) (globals m)
+    (all_mapped (λ (e : Entry). OnFunction Q e.global) (λ g. record { part = i; global = g }) (globals m)
     (all_append (OnFunction Q) (map OfVariable m.variables ++ map OfFunction m.functions) (map OfAlias m.aliases)
     (all_append (OnFunction Q) (map OfVariable m.variables) (map OfFunction m.functions)
-    (all_map (OnFunction Q) OfVariable m.variables (all_from_places (λ x. ⊤) m.variables (λ k x e. tt)))
-    (all_map (OnFunction Q) OfFunction m.functions (all_from_places Q m.functions (λ k f e. h m k f (v 0 m refl).1 e))))
-    (all_map (OnFunction Q) OfAlias m.aliases (all_from_places (λ x. ⊤) m.aliases (λ k x e. tt)))))
+    (all_mapped (OnFunction Q) OfVariable m.variables (all_from_places (λ x. ⊤) m.variables (λ k x e. tt)))
+    (all_mapped (OnFunction Q) OfFunction m.functions (all_from_places Q m.functions (λ k f e. h m k f (v 0 m refl).1 e))))
+    (all_mapped (OnFunction Q) OfAlias m.aliases (all_from_places (λ x. ⊤) m.aliases (λ k x e. tt)))))
     (functions_all Q h (suc i) ms (λ k x e. v (suc k) x e))
 
 same_appending : (l : Linkage) → entry_rules.is_appending l ≡ is_appending l

@@ -20,7 +20,8 @@ use Rattle.linkage_rules.specs.Globals.{Global, OfVariable, OfFunction, OfAlias,
 use Rattle.linkage_rules.specs.Linkages.{is_appending, is_available_externally}
 use Rattle.linkage_rules.specs.Symbols.{function_symbols}
 use Rattle.linkage_rules.specs.Winner.{home, is_definition}
-use Rattle.run_places.proofs.Together.{all_map, all_append, home_is}
+use Rattle.linkage_rules.proofs.Gathered.{all_mapped}
+use Rattle.run_places.proofs.Together.{all_append, home_is}
 use Rattle.run_rules.specs.Action.{Action}
 use Rattle.run_rules.specs.Calls.{Nothing}
 use Rattle.run_rules.specs.Look.{Defined, names_in, defined_by, defined, function_at, look_in, look, function_number, code_of, host_of, callee_by, callee_numbered, table}
@@ -56,15 +57,15 @@ module_good : (m : Module) → IsWellFormed m → IsValid m → AllByRecursion I
 module_good m w v =
     all_append IsGoodGlobal (map OfVariable m.variables ++ map OfFunction m.functions) (map OfAlias m.aliases)
     (all_append IsGoodGlobal (map OfVariable m.variables) (map OfFunction m.functions)
-    (all_map IsGoodGlobal OfVariable m.variables (all_from_places (λ x. ⊤) m.variables (λ k x e. tt)))
-    (all_map IsGoodGlobal OfFunction m.functions (all_from_places (λ f. is_some f.body ≡ true → IsLaidOut (blocks_of f)) m.functions (λ k f e d. subst IsLaidOut (same_blocks f.body) (laid_out m w v k f e d)))))
-    (all_map IsGoodGlobal OfAlias m.aliases (all_from_places (λ x. ⊤) m.aliases (λ k x e. tt)))
+    (all_mapped IsGoodGlobal OfVariable m.variables (all_from_places (λ x. ⊤) m.variables (λ k x e. tt)))
+    (all_mapped IsGoodGlobal OfFunction m.functions (all_from_places (λ f. is_some f.body ≡ true → IsLaidOut (blocks_of f)) m.functions (λ k f e d. subst IsLaidOut (same_blocks f.body) (laid_out m w v k f e d)))))
+    (all_mapped IsGoodGlobal OfAlias m.aliases (all_from_places (λ x. ⊤) m.aliases (λ k x e. tt)))
 
 entries_good : (i : ℕ) (ms : List Module) → AreValid ms → AllByRecursion (λ (e : Entry). IsGoodGlobal e.global) (entries_from i ms)
 entries_good i [] h = tt
 entries_good i (m ∷ ms) h =
     all_append (λ (e : Entry). IsGoodGlobal e.global) (map (λ g. record { part = i; global = g }) (globals m)) (entries_from (suc i) ms)
-    (all_map (λ (e : Entry). IsGoodGlobal e.global) (λ g. record { part = i; global = g }) (globals m) (module_good m (h 0 m refl).0 (h 0 m refl).1))
+    (all_mapped (λ (e : Entry). IsGoodGlobal e.global) (λ g. record { part = i; global = g }) (globals m) (module_good m (h 0 m refl).0 (h 0 m refl).1))
     (entries_good (suc i) ms (λ k x e. h (suc k) x e))
 
 module _ (parts : List Module) (valid : AreValid parts) where

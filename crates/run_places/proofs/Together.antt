@@ -1,5 +1,5 @@
 -- What holds of all entries of some parts holds of homes; and when the entries of parts go together.
-use Rattle.std.proofs.Common.{◌≡◌, Bool, true, false, not, cond, ◌⊎◌, inl, inr, List, [], ◌∷◌, ◌++◌, map, Option, Some, None, refl, sym, subst, filter}
+use Rattle.std.proofs.Common.{◌≡◌, Bool, true, false, not, cond, ◌⊎◌, inl, inr, List, [], ◌∷◌, ◌++◌, Option, Some, None, refl, sym, subst, filter}
 use Rattle.std.specs.List.{AllByRecursion}
 use Rattle.std.proofs.lemmas.Bool.{cases_cond}
 use Rattle.std.proofs.lemmas.Option.{same_Some}
@@ -23,10 +23,6 @@ all_filter P p (e ∷ es) a = go (p e) refl (all_filter P p es a.1)
 pub all_firsts : {A : Type 0} (P : A → Type 0) (same : A → A → Bool) (es : List A) → AllByRecursion P es → AllByRecursion P (firsts same es)
 all_firsts P same [] a = tt
 all_firsts P same (e ∷ es) a = (a.0, all_filter P (λ d. not (same e d)) (firsts same es) (all_firsts P same es a.1))
-
-pub all_map : {A B : Type 0} (P : B → Type 0) (f : A → B) (xs : List A) → AllByRecursion (λ x. P (f x)) xs → AllByRecursion P (map f xs)
-all_map P f [] a = tt
-all_map P f (x ∷ xs) a = (a.0, all_map P f xs a.1)
 
 pub all_append : {A : Type 0} (P : A → Type 0) (xs ys : List A) → AllByRecursion P xs → AllByRecursion P ys → AllByRecursion P (xs ++ ys)
 all_append P [] ys a b = b

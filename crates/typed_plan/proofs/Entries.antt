@@ -5,8 +5,9 @@ use Rattle.std.specs.List.{AllByRecursion}
 use Rattle.module_arena.specs.Module.{Variable, Function, Alias, Module}
 use Rattle.linkage_rules.specs.Entries.{Entry, entries}
 use Rattle.linkage_rules.specs.Globals.{Global, OfVariable, OfFunction, OfAlias, globals}
+use Rattle.linkage_rules.proofs.Gathered.{all_mapped}
 use Rattle.run_places.proofs.Parts.{all_from_places}
-use Rattle.run_places.proofs.Together.{all_map, all_append}
+use Rattle.run_places.proofs.Together.{all_append}
 
 -- the entry of a global of the first part
 abbrev pub first_part : Global → Entry
@@ -19,9 +20,9 @@ pub entries_all : (P : Entry → Type 0) (m : Module) → ((k : ℕ) (v : Variab
 entries_all P m variable function alias =
     let Q : Global → Type 0 = λ g. P (first_part g) in
     all_append P (map first_part (globals m)) []
-    (all_map P first_part (globals m)
+    (all_mapped P first_part (globals m)
     (all_append Q (map OfVariable m.variables ++ map OfFunction m.functions) (map OfAlias m.aliases)
     (all_append Q (map OfVariable m.variables) (map OfFunction m.functions)
-    (all_map Q OfVariable m.variables (all_from_places (λ v. Q (OfVariable v)) m.variables variable))
-    (all_map Q OfFunction m.functions (all_from_places (λ f. Q (OfFunction f)) m.functions function)))
-    (all_map Q OfAlias m.aliases (all_from_places (λ a. Q (OfAlias a)) m.aliases alias)))) tt
+    (all_mapped Q OfVariable m.variables (all_from_places (λ v. Q (OfVariable v)) m.variables variable))
+    (all_mapped Q OfFunction m.functions (all_from_places (λ f. Q (OfFunction f)) m.functions function)))
+    (all_mapped Q OfAlias m.aliases (all_from_places (λ a. Q (OfAlias a)) m.aliases alias)))) tt

@@ -1,7 +1,7 @@
 use Rattle.std.proofs.Common.{◌<◌, length, true, refl, arith}
 use Rattle.extract_core.proofs.Keeping.{flags_more}
 use Rattle.module_arena.specs.declared.entry.Alias.{Alias}
-use Rattle.run_names.proofs.Listed.{get_within}
+use Rattle.linkage_rules.proofs.Seen.{get_within}
 use Rattle.run_missing.proofs.defined.defined_aliases.Goals as goal
 
 pub aliases-preserved : goal.aliases-preserved

@@ -7,11 +7,13 @@ use Rattle.module_arena.specs.declared.entry.Variable.{Variable}
 use Rattle.module_arena.specs.Known.{counts}
 use Rattle.module_arena.specs.Lists.{Lists}
 use Rattle.module_arena.specs.View.{module_of}
+use Rattle.linkage_rules.proofs.Seen.{get_within}
+use Rattle.linkage_rules.proofs.Steps.{map_step}
 use Rattle.run_rules.specs.Look.{address_in}
 use Rattle.run_names.specs.declared.spot.Spot.{Spot}
 use Rattle.run_names.specs.Spots.{absent_leaf, defines, is_defined}
 use Rattle.run_names.proofs.Bounded.{few_variables}
-use Rattle.run_names.proofs.Listed.{get_within, kept_few, kept_more, kept_same, map_step, mapped_within}
+use Rattle.run_names.proofs.Listed.{kept_few, kept_more, kept_same, mapped_within}
 use Rattle.run_names.proofs.Spotted.{absent_address, spot_address, spot_there}
 use Rattle.run_names.proofs.spot.addresses_of.Goals.{then-is_defined+in_ok-push, else-is_defined+in_ok-push-2}
 use Rattle.run_names.proofs.spot.addresses_of.Goals as goal

@@ -5,8 +5,8 @@ use Rattle.type_table.specs.Limits.{IsWithin}
 use Rattle.type_table.specs.Types.{shape}
 use Rattle.module_arena.specs.Known.{KnowsVariable}
 use Rattle.module_arena.specs.Lists.{Lists}
+use Rattle.linkage_rules.proofs.Steps.{all_get}
 use Rattle.run_names.proofs.Bounded.{lies_in_memory, alignment_bounded, size_small, its_alignment, spot_told, rounded_within}
-use Rattle.run_names.proofs.Listed.{all_get}
 use Rattle.run_names.proofs.spot.spot_of.Goals as goal
 
 pub unwrap-layout-requires : goal.unwrap-layout-requires

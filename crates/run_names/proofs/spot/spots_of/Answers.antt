@@ -3,10 +3,11 @@ use Rattle.std.specs.Prelude.{slice_get}
 use Rattle.std.specs.Option.{option_map_or}
 use Rattle.module_arena.specs.Known.{counts}
 use Rattle.module_arena.specs.Lists.{Lists}
+use Rattle.linkage_rules.proofs.Seen.{get_within}
 use Rattle.run_names.specs.declared.spot.Spot.{Spot}
 use Rattle.run_names.specs.Spots.{defines, is_defined, spot_at, spot_of}
 use Rattle.run_names.proofs.Bounded.{few_variables}
-use Rattle.run_names.proofs.Listed.{get_within, last_or}
+use Rattle.run_names.proofs.Listed.{last_or}
 use Rattle.run_names.proofs.Put.{all_put, pass_put, spot_is, step_put}
 use Rattle.run_names.proofs.Spotted.{are_spots}
 use Rattle.run_names.proofs.spot.spots_of.Goals.{then-is_defined+in_ok-push, else-is_defined}

@@ -1,8 +1,8 @@
 use Rattle.std.proofs.Common.{◌≡◌, ◌++◌, [], ◌∷◌, Some, map, sym, ap, ap₂, ◌∙◌, subst}
 use Rattle.std.specs.Prelude.{slice_get}
 use Rattle.module_arena.specs.Lists.{Lists}
+use Rattle.linkage_rules.proofs.Steps.{map_step}
 use Rattle.run_names.specs.Standings.{function_stands}
-use Rattle.run_names.proofs.Listed.{map_step}
 use Rattle.run_names.proofs.standing.standings.Goals as goal
 
 pub functions-preserved : goal.functions-preserved
