@@ -30,13 +30,14 @@ use Rattle.run_flat.specs.Spans.{IsBetween, IsSpanIn, spanned}
 use Rattle.run_flat.proofs.Growth.{adds_then, calls_grow, grows_then, leaf_stays, span_stays, spanned_same, types_add}
 use Rattle.run_flat.proofs.Spanned.{between_in, spanned_more}
 use Rattle.run_scopes.specs.Scopes.{Framed, operand_of, scope_in, to_of, value_of}
+use Rattle.run_scopes.proofs.Shaped.{shapes_same}
 use Rattle.run_signatures.specs.Met.{Met, known, written_as}
 use Rattle.run_signatures.specs.Numbers.{AreNumbered, IsNumbered, Numbers}
 use Rattle.run_signatures.proofs.Numbered.{call_numbered, calls_numbered, numbers_none}
 use Rattle.run_operands.specs.Suits.{HasCall}
 use Rattle.run_decode.specs.Calls.{IsCallOf}
 use Rattle.run_decode.specs.Operations.{Meant}
-use Rattle.run_decode.proofs.Meant.{mapped_twice, shapes_same}
+use Rattle.run_decode.proofs.Meant.{mapped_twice}
 
 -- ---- types of operands
 

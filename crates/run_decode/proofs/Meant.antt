@@ -10,8 +10,6 @@ use Rattle.module_arena.specs.declared.instruction.Inst.TheVariants as inst
 use Rattle.module_arena.specs.declared.instruction.Insertion.{Insertion}
 use Rattle.module_arena.specs.declared.instruction.Operand.{Operand}
 use Rattle.module_arena.specs.declared.instruction.Value.{Value}
-use Rattle.module_arena.specs.Lists.{Lists}
-use Rattle.module_arena.specs.View.{module_of}
 use Rattle.type_table.specs.Layout.{align, size}
 use Rattle.type_table.specs.Shape.{Shape}
 use Rattle.type_table.specs.Types.{tree}
@@ -30,12 +28,8 @@ use Rattle.run_flat.specs.declared.pools.Pools.{Pools}
 use Rattle.run_flat.specs.Grown.{Adds, AreArms, AreLeaves, AreParts, AreSlots, AreTerms, IsLeaf}
 use Rattle.run_flat.proofs.Growth.{leaf_stays, leaves_stay, slots_stay}
 use Rattle.run_scopes.specs.Scopes.{Framed, operand_of, scope_in, to_of, value_of}
+use Rattle.run_scopes.proofs.Shaped.{shapes_same}
 use Rattle.run_decode.specs.Operations.{Meant, count_in}
-
--- the shape of a type by its id
-pub shapes_same : (a : Lists) (ty : ℕ) → shape_in a.table ty ≡ shape_of (names_of a) (tree a.table ty)
-unfolding module_of
-shapes_same a ty = refl
 
 -- what is mapped twice
 pub mapped_twice : {A B C : Type 0} (f : B → C) (g : A → B) (xs : List A) → map (λ (x : A). f (g x)) xs ≡ map f (map g xs)

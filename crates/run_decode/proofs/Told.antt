@@ -1,5 +1,5 @@
 -- What holds of an instruction by its phrase, and of an answer.
-use Rattle.std.proofs.Common.{◌≡◌, ℕ, Option, Result, Ok, Err, OnOk, sym, subst}
+use Rattle.std.proofs.Common.{◌≡◌, ℕ, Option, sym, subst}
 use Rattle.module_arena.specs.declared.instruction.Inst.{Inst}
 use Rattle.module_arena.specs.declared.instruction.Inst.TheVariants as inst
 use Rattle.module_arena.specs.declared.instruction.Operand.{Operand}
@@ -10,8 +10,3 @@ by_load P i flags to ty address alignment is h = subst P (sym is) (h flags)
 
 pub by_store : (P : Inst → Type 0) (i : Inst) (flags : ℕ) (stored address : Operand) (alignment : Option ℕ) → i ≡ inst.Store flags stored address alignment → ((any : ℕ) → P (inst.Store any stored address alignment)) → P i
 by_store P i flags stored address alignment is h = subst P (sym is) (h flags)
-
--- where it is no refusal
-pub on_also : {A E : Type 0} (r : Result A E) (P Q : Type 0) → OnOk r P → (P → Q) → OnOk r Q
-on_also (Ok x) P Q h more = more h
-on_also (Err e) P Q h more = tt

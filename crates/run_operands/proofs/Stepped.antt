@@ -4,17 +4,12 @@ use Rattle.std.proofs.Math.Seq.{drop-cons}
 use Rattle.std.proofs.lemmas.List.{drop_all, map-append}
 use Rattle.ir_eval.specs.declared.value.Scalar.TheVariants as scalar
 use Rattle.module_arena.specs.declared.instruction.Operand.{Operand}
-use Rattle.module_arena.specs.Lists.{Lists}
-use Rattle.module_arena.specs.View.{module_of}
-use Rattle.run_constants.specs.Sound.{names_of}
-use Rattle.run_rules.specs.Constant.{shape_of}
 use Rattle.type_table.specs.Layout.{size}
-use Rattle.type_table.specs.Types.{tree}
 use Rattle.type_table.specs.Shape.{Shape, int_leaf, ptr_leaf, void_leaf, opaque_leaf, array_of, struct_of}
 use Rattle.run_rules.specs.Action as actions
 use Rattle.run_rules.specs.Displace.{TermIndex, inner_term, inner_terms, number_in, terms_of}
 use Rattle.run_rules.specs.Leaves.{element}
-use Rattle.run_shapes.specs.Shapes.{elements_of, is_struct, offset_in, shape_in}
+use Rattle.run_shapes.specs.Shapes.{elements_of, is_struct, offset_in}
 use Rattle.run_operands.specs.declared.steps.Step.{Step}
 use Rattle.run_operands.specs.Steps.{term_of}
 
@@ -67,7 +62,3 @@ at_end idx os k s source old now le h =
     ∙ ap (λ (l : List Operand). map term_of now ++ inner_terms s (map idx l)) (sym (drop_all k os le))
     ∙ h
     ∙ ap (λ (l : List actions.Term). map term_of old ++ l) (whole_first source (map idx os))
-
-pub shapes_same : (a : Lists) (ty : ℕ) → shape_in a.table ty ≡ shape_of (names_of a) (tree a.table ty)
-unfolding module_of
-shapes_same a ty = refl

@@ -12,7 +12,7 @@ begins_append : (place : ℕ) (xs ys : List Typed) → begins_from place (xs ++ 
 begins_append place [] ys = refl
 begins_append place (x ∷ xs) ys = ap (λ (l : List ℕ). place ∷ l) (begins_append (place + leaves x.1) xs ys)
 
-end_append : (place : ℕ) (xs ys : List Typed) → end_from place (xs ++ ys) ≡ end_from (end_from place xs) ys
+pub end_append : (place : ℕ) (xs ys : List Typed) → end_from place (xs ++ ys) ≡ end_from (end_from place xs) ys
 end_append place [] ys = refl
 end_append place (x ∷ xs) ys = end_append (place + leaves x.1) xs ys
 

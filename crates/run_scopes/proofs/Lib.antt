@@ -1,9 +1,9 @@
-mod Added
-mod Answered
+pub mod Added
+pub mod Answered
 mod Bounded
 pub mod Gained
 pub mod Located
 mod Parted
-mod Shaped
+pub mod Shaped
 pub mod Viewed
 mod Wayed

@@ -33,7 +33,7 @@ void_is : (t : Tree) → is_void t ≡ true → t ≡ void
 void_is void h = refl
 void_is _ h = absurd (true≢false (sym h))
 
-small_laid : (o : Option Layout) → is_small_layout o ≡ true → is_some o ≡ true
+pub small_laid : (o : Option Layout) → is_small_layout o ≡ true → is_some o ≡ true
 small_laid None h = absurd (true≢false (sym h))
 small_laid (Some l) h = refl
 
@@ -64,15 +64,15 @@ no_leaves a ty h none = elim h.returned [
 
 -- ---- results
 
-one_result : (name : ℕ → LocalName) (r : ℕ) (o : Option ℕ) → option_to_list o ≡ r ∷ [] → Some (name r) ≡ option_map name o
+pub one_result : (name : ℕ → LocalName) (r : ℕ) (o : Option ℕ) → option_to_list o ≡ r ∷ [] → Some (name r) ≡ option_map name o
 one_result name r None e = absurd cc
 one_result name r (Some s) e = let same : r ≡ s = cc in ap (λ (n : ℕ). Some (name n)) same
 
-no_result : (name : ℕ → LocalName) (o : Option ℕ) → option_to_list o ≡ [] → None ≡ option_map name o
+pub no_result : (name : ℕ → LocalName) (o : Option ℕ) → option_to_list o ≡ [] → None ≡ option_map name o
 no_result name None e = refl
 no_result name (Some s) e = absurd cc
 
-own_result : (name : ℕ → LocalName) (o p : Option ℕ) → option_to_list o ≡ option_to_list p → option_map name p ≡ option_map name o
+pub own_result : (name : ℕ → LocalName) (o p : Option ℕ) → option_to_list o ≡ option_to_list p → option_map name p ≡ option_map name o
 own_result name None None e = refl
 own_result name None (Some p) e = absurd cc
 own_result name (Some o) None e = absurd cc

@@ -8,7 +8,6 @@ use Rattle.std.proofs.lemmas.List.Elements.{All-from_recursion, All-tail, recurs
 use Rattle.ir_tables.specs.declared.flag.Flag.TheVariants.{Samesign}
 use Rattle.ir_tables.specs.Flags.{has_flag}
 use Rattle.ir_tables.specs.Table.{is_distinct}
-use Rattle.type_table.specs.declared.layout.Layout.{Layout}
 use Rattle.type_table.specs.Layout as layouts
 use Rattle.type_table.specs.Tree.{Tree, int, ptr, Structs}
 use Rattle.type_table.specs.Types.{shape, structs, tree}
@@ -24,12 +23,13 @@ use Rattle.module_arena.specs.Constants.{Index, indices_fit, leads_to_part, writ
 use Rattle.module_arena.specs.Lists.{Lists, function_blocks, value_names}
 use Rattle.module_arena.specs.Module as m
 use Rattle.module_arena.specs.Same.{same_type}
-use Rattle.module_arena.specs.TypeTests.{is_integer, is_integer_of, is_passable, is_pointer, is_small_layout}
+use Rattle.module_arena.specs.TypeTests.{is_integer, is_integer_of, is_passable, is_pointer}
 use Rattle.module_arena.specs.ValueRules.{case_numbers, index_of_operand, is_case_of}
 use Rattle.module_arena.proofs.SameValues.{type_is}
 use Rattle.run_constants.specs.Sound.{is_scalar}
 use Rattle.run_constants.proofs.LeafKinds.{cast_scalars, integer_scalar, pointer_scalar}
 use Rattle.run_scopes.specs.Scopes.{Framed, HasOperand, HasScalar, operand_of}
+use Rattle.run_scopes.proofs.Shaped.{small_laid}
 use Rattle.run_operands.specs.Suits.{BlockSuits, EndSuits, HasCall, HasCase, IsResult, Lies, Suits}
 use Rattle.run_suits.specs.Laws.{FunctionsSuit}
 use Rattle.run_suits.proofs.Checked.{IsEnd, end_checked, instruction_checked}
@@ -49,10 +49,6 @@ compared_scalar (int w) b h = refl
 compared_scalar ptr b h = refl
 compared_scalar _ true h = absurd (true≢false (sym h))
 compared_scalar _ false h = absurd (true≢false (sym h))
-
-small_laid : (o : Option Layout) → is_small_layout o ≡ true → is_some o ≡ true
-small_laid None h = absurd (true≢false (sym h))
-small_laid (Some l) h = refl
 
 -- indices are integers
 indices_integers : (ss : Structs) (source : Tree) (is : List Index) → indices_fit ss source is ≡ true → list_all (λ (i : Index). is_integer i.ty) is ≡ true

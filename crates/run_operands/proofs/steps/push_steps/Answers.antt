@@ -10,8 +10,8 @@ use Rattle.run_rules.specs.Scope.{scalar_in}
 use Rattle.run_shapes.specs.Shapes.{shape_in}
 use Rattle.run_operands.specs.declared.steps.Step.{Step}
 use Rattle.run_scopes.specs.Scopes.{operand_of, scope_in}
+use Rattle.run_scopes.proofs.Shaped.{shapes_same}
 use Rattle.run_operands.specs.Steps.{IsPlace, shape_at}
-use Rattle.run_operands.proofs.Stepped.{shapes_same}
 use Rattle.run_operands.proofs.Stepped.{at_end, one_further}
 use Rattle.run_operands.proofs.steps.push_steps.Goals as goal
 

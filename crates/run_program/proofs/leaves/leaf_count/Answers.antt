@@ -10,7 +10,8 @@ use Rattle.run_rules.specs.Scope.{leaf_count, results_of}
 use Rattle.run_scopes.specs.Places.{GivesValue, end_from}
 use Rattle.run_scopes.specs.Scopes.{block_of, function_of, typed_of, typed_parameter}
 use Rattle.run_scopes.proofs.Viewed.{blocks_are, typed_is}
-use Rattle.run_program.proofs.Counted.{counted_both, if_also}
+use Rattle.run_scopes.proofs.Answered.{if_also}
+use Rattle.run_program.proofs.Counted.{counted_both}
 use Rattle.run_program.proofs.leaves.leaf_count.Goals as goal
 
 pub with_blocks-requires : goal.with_blocks-requires

@@ -4,7 +4,8 @@ use Rattle.run_constants.specs.Sound.{names_of}
 use Rattle.run_rules.specs.Scope.{result_of}
 use Rattle.run_scopes.specs.Places.{end_from}
 use Rattle.run_scopes.specs.Scopes.{instruction_of}
-use Rattle.run_program.proofs.Counted.{if_also, with_result}
+use Rattle.run_scopes.proofs.Answered.{if_also}
+use Rattle.run_program.proofs.Counted.{with_result}
 use Rattle.run_program.proofs.leaves.with_result.Goals as goal
 
 pub returns-in-Some : goal.returns-in-Some
