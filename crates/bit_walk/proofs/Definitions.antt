@@ -1,5 +1,5 @@
 -- Abbreviations by the bits where their definitions start.
-use Rattle.std.proofs.Common.{◌≡◌, ℕ, zero, suc, ◌*◌, ◌<◌, Bool, true, false, cond, List, [], ◌∷◌, ◌++◌, length, drop, Option, Some, None, Ok, map, refl, sym, ap, ◌∙◌, arith}
+use Rattle.std.proofs.Common.{◌≡◌, ℕ, zero, suc, ◌*◌, ◌<◌, Bool, true, false, cond, List, [], ◌∷◌, length, drop, Option, Some, None, Ok, map, refl, sym, ap, ◌∙◌, arith}
 use Rattle.std.specs.Prelude.{unwrap_or, option_map, slice_get}
 use Rattle.std.specs.Ordering.{nat_cmp, match_ordering}
 use Rattle.std.specs.declared.cmp.Ordering.{Ordering}
@@ -31,10 +31,6 @@ pub abbreviation_here : (bits : List Bool) (c d : Cursor) (t : AdmittedAbbreviat
 abbreviation_here bits c d t start on h same =
     let here : at_bit bits c.at ≡ c = λ i. record { at = c.at; rest = sym on i } in
     rw (same, here, h) refl
-
-pub map_more : {A B : Type 0} (f : A → B) (xs : List A) (x : A) → map f (xs ++ x ∷ []) ≡ map f xs ++ f x ∷ []
-map_more f [] x = refl
-map_more f (y ∷ xs) x = ap (λ (l : List _). f y ∷ l) (map_more f xs x)
 
 -- the table of what BLOCKINFO gave
 

@@ -5,12 +5,13 @@ use Rattle.std.specs.Ordering.{nat_cmp}
 use Rattle.std.specs.Map.{remove_entry}
 use Rattle.std.specs.BTreeMap.{is_at, insert_entry}
 use Rattle.std.proofs.lemmas.Bool.{lt-ltb, le-ltb}
+use Rattle.std.proofs.lemmas.List.{map_push}
 use Rattle.bit_stream.specs.Abbreviation.{AdmittedAbbreviation}
 use Rattle.bit_stream.specs.Scope.{given_to, given_here, abbreviation_of}
 use Rattle.bit_stream.specs.Entry.{given_for}
 use Rattle.given_starts.specs.Given.{starts_of, with_start}
 use Rattle.bit_walk.specs.Starts.{abbreviation_at, StartFrame, frame_at, row_at, Opened, opened_at, with_scope}
-use Rattle.bit_walk.proofs.Definitions.{map_more, given_at, remove_at, insert_at, get_at, length_at}
+use Rattle.bit_walk.proofs.Definitions.{given_at, remove_at, insert_at, get_at, length_at}
 
 -- how many abbreviations were given to a block id
 pub given_count : (o : Opened) (bits : List Bool) (block : StartFrame) (around : List StartFrame) (rows : List (ℕ × List ℕ)) (id : ℕ) → opened_at bits block around rows ≡ o → length (starts_of rows id) ≡ length (given_to o.scope.given id)
@@ -22,7 +23,7 @@ pub give_is : (o : Opened) (bits : List Bool) (block : StartFrame) (around : Lis
 give_is o bits block around rows later id start is more =
     let t = abbreviation_at bits start in
     let list : map (abbreviation_at bits) (starts_of rows id ++ start ∷ []) ≡ given_to (map (row_at bits) rows) id ++ t ∷ [] =
-    map_more (abbreviation_at bits) (starts_of rows id) start ∙ ap (λ (l : List AdmittedAbbreviation). l ++ t ∷ []) (sym (given_at bits rows id)) in
+    map_push (abbreviation_at bits) (starts_of rows id) start ∙ ap (λ (l : List AdmittedAbbreviation). l ++ t ∷ []) (sym (given_at bits rows id)) in
     let others = remove_at bits (is_at (nat_cmp id)) rows in
     let table : map (row_at bits) later ≡ insert_entry nat_cmp (remove_entry (is_at (nat_cmp id)) (map (row_at bits) rows)) id (given_to (map (row_at bits) rows) id ++ t ∷ []) =
     ap (map (row_at bits)) more ∙ (insert_at bits (remove_entry (is_at (nat_cmp id)) rows) id (starts_of rows id ++ start ∷ []) ∙ (λ i. insert_entry nat_cmp (others i) id (list i))) in

@@ -1,11 +1,11 @@
 -- Entries by their names.
 use Rattle.std.proofs.Common.{◌≡◌, ◌↔◌, ℕ, zero, suc, ◌<◌, Bool, true, false, ◌&&◌, ◌||◌, List, [], ◌∷◌, map, find, length, Option, Some, None, refl, sym, ap, ◌∙◌, subst, bytes_eq, is_some, slice_get, arith, if◌then◌else◌}
-use Rattle.std.specs.Prelude.{IsSome, All, option_to_list, slice_index_or}
+use Rattle.std.specs.Prelude.{IsSome, All, option_to_list}
 use Rattle.std.specs.List.{AllByRecursion, list_any, list_all}
 use Rattle.std.proofs.lemmas.Bool.{and_parts, both_ways}
 use Rattle.std.proofs.lemmas.List.Elements.{recursion_from_All}
 use Rattle.std.specs.Option.{option_map, option_map_or}
-use Rattle.std.proofs.lemmas.Option.{same_Some, slice_get_within, slice_get-map}
+use Rattle.std.proofs.lemmas.Option.{same_Some, slice_get_within, slice_get-map, get_or_from_slice_get}
 use Rattle.module_arena.specs.declared.entry.Alias as the_alias
 use Rattle.module_arena.specs.declared.entry.Function as the_function
 use Rattle.module_arena.specs.declared.entry.GlobalId.{GlobalId}
@@ -170,11 +170,6 @@ all_get P xs k x h e = go xs k (recursion_from_All P xs h) e
     go (y ∷ ys) zero a e = subst P (same_Some y x e) a.0
     go (y ∷ ys) (suc j) a e = go ys j a.1 e
 
-index_is : {A : Type 0} (xs : List A) (k : ℕ) (x d : A) → slice_get xs k ≡ Some x → slice_index_or xs k d ≡ x
-index_is [] k x d h = cc
-index_is (y ∷ xs) zero x d h = same_Some y x h
-index_is (y ∷ xs) (suc k) x d h = index_is xs k x d h
-
 pub get_within : {A : Type 0} (xs : List A) (k : ℕ) → k < length xs → (x : A) × (slice_get xs k ≡ Some x)
 get_within [] k h = absurd (omega (arith, h))
 get_within (x ∷ xs) zero h = (x, refl)
@@ -182,9 +177,9 @@ get_within (x ∷ xs) (suc k) h = get_within xs k (omega (arith, h))
 
 -- the entry with an id has the name that its id has
 named : (a : Lists) (g : GlobalId) → HasGlobal (counts a) g → global_name a g ≡ Some (name_at a g)
-named a (global.Variable k) h = let x = get_within a.variables k h in ap (option_map (λ v. v.name)) x.1 ∙ ap Some (sym (index_is (map (λ v. v.name) a.variables) k x.0.name [] (slice_get-map (λ v. v.name) a.variables k ∙ ap (option_map (λ v. v.name)) x.1)))
-named a (global.Function k) h = let x = get_within a.functions k h in ap (option_map (λ v. v.name)) x.1 ∙ ap Some (sym (index_is (map (λ v. v.name) a.functions) k x.0.name [] (slice_get-map (λ v. v.name) a.functions k ∙ ap (option_map (λ v. v.name)) x.1)))
-named a (global.Alias k) h = let x = get_within a.aliases k h in ap (option_map (λ v. v.name)) x.1 ∙ ap Some (sym (index_is (map (λ v. v.name) a.aliases) k x.0.name [] (slice_get-map (λ v. v.name) a.aliases k ∙ ap (option_map (λ v. v.name)) x.1)))
+named a (global.Variable k) h = let x = get_within a.variables k h in ap (option_map (λ v. v.name)) x.1 ∙ ap Some (sym (get_or_from_slice_get (map (λ v. v.name) a.variables) k x.0.name [] (slice_get-map (λ v. v.name) a.variables k ∙ ap (option_map (λ v. v.name)) x.1)))
+named a (global.Function k) h = let x = get_within a.functions k h in ap (option_map (λ v. v.name)) x.1 ∙ ap Some (sym (get_or_from_slice_get (map (λ v. v.name) a.functions) k x.0.name [] (slice_get-map (λ v. v.name) a.functions k ∙ ap (option_map (λ v. v.name)) x.1)))
+named a (global.Alias k) h = let x = get_within a.aliases k h in ap (option_map (λ v. v.name)) x.1 ∙ ap Some (sym (get_or_from_slice_get (map (λ v. v.name) a.aliases) k x.0.name [] (slice_get-map (λ v. v.name) a.aliases k ∙ ap (option_map (λ v. v.name)) x.1)))
 
 -- ---- what an alias is of
 
@@ -211,9 +206,9 @@ find_mapped {A = A} {B = B} f test (x ∷ xs) = go (test (f x)) (find_mapped f t
     go false e = e
 
 pub name_is : (a : Lists) (g : GlobalId) (name : Bytes) → global_name a g ≡ Some name → name_at a g ≡ name
-name_is a (global.Variable n) name h = index_is (map (λ v. v.name) a.variables) n name [] (slice_get-map (λ v. v.name) a.variables n ∙ h)
-name_is a (global.Function n) name h = index_is (map (λ f. f.name) a.functions) n name [] (slice_get-map (λ f. f.name) a.functions n ∙ h)
-name_is a (global.Alias n) name h = index_is (map (λ x. x.name) a.aliases) n name [] (slice_get-map (λ x. x.name) a.aliases n ∙ h)
+name_is a (global.Variable n) name h = get_or_from_slice_get (map (λ v. v.name) a.variables) n name [] (slice_get-map (λ v. v.name) a.variables n ∙ h)
+name_is a (global.Function n) name h = get_or_from_slice_get (map (λ f. f.name) a.functions) n name [] (slice_get-map (λ f. f.name) a.functions n ∙ h)
+name_is a (global.Alias n) name h = get_or_from_slice_get (map (λ x. x.name) a.aliases) n name [] (slice_get-map (λ x. x.name) a.aliases n ∙ h)
 
 module _ (a : Lists) (name : Bytes) (o : Option GlobalId) (looks : Looks a name o) where
   target_name : the_alias.Alias → Bytes

@@ -1,6 +1,7 @@
 -- Pieces that can follow one another have exactly their spellings as tokens.
 use Rattle.std.proofs.Common.{◌&&◌, ◌≡◌, ℕ, suc, ◌+◌, List, [], ◌∷◌, ◌++◌, length, Bool, true, false, inl, inr, refl, ap, ◌∙◌, arith, cond, Option, Some, None, append_assoc, length-append}
 use Rattle.std.proofs.Math.Seq.{take-append_seam, drop-append_seam}
+use Rattle.std.proofs.lemmas.Bool.{and_right}
 use Rattle.ir_lexer.specs.declared.class.Class.{Class}
 use Rattle.ir_lexer.specs.declared.class.Class.TheVariants as c
 use Rattle.ir_lexer.specs.declared.token.TokenKind.{TokenKind}
@@ -176,10 +177,6 @@ stays : (r : TokenRow) (cut : Bool) (n : ℕ) → (kind_of r ≡ k.Word → cut 
 stays Word cut n h = rw (h refl) refl
 stays _ cut n h = refl
 
-and_false : (a b : Bool) → b ≡ false → (a && b) ≡ false
-and_false true b h = h
-and_false false b h = refl
-
 no_quote_behind : (r : TokenRow) (dots : Bool) (t rest : List ℕ) → kind_of r ≡ k.Word → Spells (tail_of r) t → with_none (barred (kind_of r) dots) rest ≡ true → starts_with is_quote (t ++ rest) ≡ false
 no_quote_behind Word dots [] rest w h f = (stop is_quote [] rest (stop is_colon (is_quote ∷ []) rest (stop in_name (is_colon ∷ is_quote ∷ []) rest f).1).1).0
 no_quote_behind Word dots (y ∷ t) rest w h f = elim (bool_cases (is_quote (byte_class y))) [ inl e ↦ absurd (word_no_quote (byte_class y) e (each_first in_word y t h).0) | inr e ↦ e ]
@@ -196,7 +193,7 @@ follows t rest i f = go t.kind t.spelling rest i f
         let follow : with_none (barred (kind_of t.row) (is_dot x)) rest ≡ true = rw (← t.kind_is) at f in
         let n = row_next x t.row s rest t.spelled.0 t.spelled.1 follow in
         let cut = is_c x && starts_with is_quote (s ++ rest) in
-        rw (← t.kind_is, n) (stays t.row cut (suc (length s)) (λ w. and_false (is_c x) (starts_with is_quote (s ++ rest)) (no_quote_behind t.row (is_dot x) s rest w t.spelled.1 follow)))
+        rw (← t.kind_is, n) (stays t.row cut (suc (length s)) (λ w. and_right (is_c x) (starts_with is_quote (s ++ rest)) (no_quote_behind t.row (is_dot x) s rest w t.spelled.1 follow)))
 
 separator_is : (s : Separator) → IsGap (separator_bytes s)
 unfolding byte_class

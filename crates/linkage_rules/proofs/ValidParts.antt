@@ -1,9 +1,9 @@
 -- What the validity of a part gives its entries.
-use Rattle.std.proofs.Common.{◌≡◌, ℕ, zero, suc, ◌<◌, length, Bool, true, false, cond, List, [], ◌∷◌, Option, Some, None, refl, sym, ap, ap₂, ◌∙◌, subst}
-use Rattle.std.specs.Prelude.{slice_get, slice_index_or, is_some, option_and_then, IsTrue, ◌↔◌}
+use Rattle.std.proofs.Common.{◌≡◌, ℕ, ◌<◌, length, Bool, true, false, cond, List, Option, Some, None, refl, sym, ap, ap₂, ◌∙◌, subst}
+use Rattle.std.specs.Prelude.{slice_get, is_some, option_and_then, IsTrue, ◌↔◌}
 use Rattle.std.specs.Option.{option_map, option_map_or}
 use Rattle.std.proofs.lemmas.Bool.{and_parts, both_ways, not-true}
-use Rattle.std.proofs.lemmas.Option.{slice_get-map, same_Some}
+use Rattle.std.proofs.lemmas.Option.{slice_get-map, same_Some, get_or_from_slice_get}
 use Rattle.ir_tables.specs.declared.linkage.Linkage.{Linkage}
 use Rattle.ir_tables.specs.declared.linkage.Linkage.TheVariants.{External, Private, Internal, AvailableExternally, Linkonce, LinkonceOdr, Weak, WeakOdr, Common, Appending, ExternWeak}
 use Rattle.type_table.specs.declared.layout.Layout.{Layout}
@@ -37,11 +37,6 @@ use Rattle.linkage_rules.proofs.Seen.{variable_seen, function_seen, alias_seen, 
 use Rattle.linkage_rules.proofs.Shapes.{alike_self, alike_exact}
 
 -- LISTS
-
-pub index_is : {A : Type 0} (xs : List A) (k : ℕ) (x d : A) → slice_get xs k ≡ Some x → slice_index_or xs k d ≡ x
-index_is [] k x d h = cc
-index_is (y ∷ xs) zero x d h = same_Some y x h
-index_is (y ∷ xs) (suc k) x d h = index_is xs k x d h
 
 -- SIZES
 
@@ -106,7 +101,7 @@ module _ (a : Lists) where
 module _ (parts : List Lists) (id : EntryId) (a : Lists) (there : slice_get parts id.part ≡ Some a) where
   pub structs_are : structs_at (modules parts) id.part ≡ structs a.table
   structs_are =
-      ap (λ (m : Module). m.structs) (index_is (modules parts) id.part (module_of a) empty_module (slice_get-map module_of parts id.part ∙ ap (option_map module_of) there))
+      ap (λ (m : Module). m.structs) (get_or_from_slice_get (modules parts) id.part (module_of a) empty_module (slice_get-map module_of parts id.part ∙ ap (option_map module_of) there))
       ∙ module_structs a
 
   -- DEFINITIONS

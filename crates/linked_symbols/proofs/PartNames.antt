@@ -4,7 +4,7 @@ use Rattle.std.specs.Prelude.{is_some, IfSome, slice_get, slice_index_or, option
 use Rattle.std.specs.List.{list_any}
 use Rattle.std.specs.Map.{lookup}
 use Rattle.std.specs.Option.{option_map}
-use Rattle.std.proofs.lemmas.Option.{slice_get-map, same_Some}
+use Rattle.std.proofs.lemmas.Option.{slice_get-map, same_Some, get_or_from_slice_get}
 use Rattle.indexmap.specs.IndexMap.{insert_entry}
 use Rattle.module_arena.specs.Lists.{Lists}
 use Rattle.module_arena.specs.Module.{Bytes, Module, empty_module}
@@ -21,7 +21,6 @@ use Rattle.linkage_rules.specs.SymbolLaws.{name_self, name_exact}
 use Rattle.linkage_rules.proofs.Filed.{found_inserted}
 use Rattle.linkage_rules.proofs.Gathered.{entries_of_part}
 use Rattle.linkage_rules.proofs.Steps.{take_more, take_whole}
-use Rattle.linkage_rules.proofs.ValidParts.{index_is}
 
 -- ONE PART
 
@@ -91,7 +90,7 @@ names_done parts part a ids k names there all end done = record {
       ∙ sym (any_mapped (λ (e : Entry). bytes_eq name (name_of e.global)) (seen (modules parts)) (ids_of part a))
       ∙ ap (list_any (λ (e : Entry). bytes_eq name (name_of e.global))) (entries_of_part parts part a there)
       ∙ any_mapped (λ (e : Entry). bytes_eq name (name_of e.global)) (placed part) (globals (module_of a))
-      ∙ ap (λ m. list_any (λ g. bytes_eq name (name_of g)) (globals m)) (sym (index_is (modules parts) part (module_of a) empty_module (slice_get-map module_of parts part ∙ ap (option_map module_of) there)));
+      ∙ ap (λ m. list_any (λ g. bytes_eq name (name_of g)) (globals m)) (sym (get_or_from_slice_get (modules parts) part (module_of a) empty_module (slice_get-map module_of parts part ∙ ap (option_map module_of) there)));
 }
   where
     h : AreNamesOf (modules parts) part (ids_of part a) names

@@ -4,7 +4,7 @@ use Rattle.std.specs.Prelude.{slice_get, IsSome, option_to_list, length}
 use Rattle.std.specs.List.{list_any, list_all}
 use Rattle.std.specs.Option.{option_map, option_map_or}
 use Rattle.std.proofs.lemmas.Bool.{and_parts, both_ways}
-use Rattle.std.proofs.lemmas.Option.{slice_get-map, same_Some}
+use Rattle.std.proofs.lemmas.Option.{slice_get-map, same_Some, get_or_from_slice_get}
 use Rattle.type_table.specs.Types.{trees}
 use Rattle.ir_tables.specs.Table.{is_distinct}
 use Rattle.module_arena.specs.declared.entry.Alias.{Alias}
@@ -23,7 +23,6 @@ use Rattle.linkage_rules.specs.Globals.{target_name}
 use Rattle.linkage_rules.specs.Ids.{modules, seen}
 use Rattle.linkage_rules.proofs.Seen.{alias_seen}
 use Rattle.linkage_rules.proofs.Steps.{all_get}
-use Rattle.linkage_rules.proofs.ValidParts.{index_is}
 
 -- no name is empty
 none_empty : (names : List Bytes) → list_all is_name names ≡ true → list_any (bytes_eq []) names ≡ false
@@ -48,9 +47,9 @@ target_there a w n x h none =
     (and_parts _ _ (all_at (is_good_alias (module_of a)) (module_of a).aliases n _ w.aliases (alias_in a n x h))).1
 
 name_is : (a : Lists) (g : GlobalId) (name : Bytes) → global_name a g ≡ Some name → name_at a g ≡ name
-name_is a (global.Variable n) name h = index_is (map (λ v. v.name) a.variables) n name [] (slice_get-map (λ v. v.name) a.variables n ∙ h)
-name_is a (global.Function n) name h = index_is (map (λ f. f.name) a.functions) n name [] (slice_get-map (λ f. f.name) a.functions n ∙ h)
-name_is a (global.Alias n) name h = index_is (map (λ x. x.name) a.aliases) n name [] (slice_get-map (λ x. x.name) a.aliases n ∙ h)
+name_is a (global.Variable n) name h = get_or_from_slice_get (map (λ v. v.name) a.variables) n name [] (slice_get-map (λ v. v.name) a.variables n ∙ h)
+name_is a (global.Function n) name h = get_or_from_slice_get (map (λ f. f.name) a.functions) n name [] (slice_get-map (λ f. f.name) a.functions n ∙ h)
+name_is a (global.Alias n) name h = get_or_from_slice_get (map (λ x. x.name) a.aliases) n name [] (slice_get-map (λ x. x.name) a.aliases n ∙ h)
 
 -- the name of its target
 pub target_named : (parts : List Lists) (id : EntryId) (a : Lists) (x : Alias) (g : GlobalId) (name : Bytes) → slice_get parts id.part ≡ Some a → id.kind ≡ kind.Alias → slice_get a.aliases id.number ≡ Some x → x.target ≡ Some g

@@ -4,7 +4,7 @@ use Rattle.std.specs.Prelude.{slice_get, slice_index_or, filter_map, if◌then�
 use Rattle.std.specs.Option.{option_or}
 use Rattle.std.specs.List.{list_any, list_all, AllByRecursion}
 use Rattle.std.proofs.lemmas.Bool.{or_from, or_parts, and_from, cond-true, cond-false, both_ways, false_from_ne_true}
-use Rattle.std.proofs.lemmas.Option.{slice_get-map}
+use Rattle.std.proofs.lemmas.Option.{slice_get-map, get_or_from_slice_get}
 use Rattle.std.proofs.lemmas.List.{map-append}
 use Rattle.ir_tables.specs.declared.linkage.Linkage.TheVariants.{External, ExternWeak}
 use Rattle.type_table.specs.Tree.{TreeBody, opaque_body, body_of}
@@ -25,7 +25,7 @@ use Rattle.module_linker.specs.Linked.{declared_linkage, linked_definition, link
 use Rattle.module_linker.proofs.Apart.{Apart, filter_at}
 use Rattle.linkage_rules.specs.SymbolLaws.{symbol_self, symbol_exact, name_self}
 use Rattle.module_linker.proofs.ByKind.{AliasesDefine, AreVariables, AreFunctions, AreAliases, variables_alone, functions_alone, alias_symbols_alone}
-use Rattle.module_linker.proofs.StructRows.{value_at, index_at}
+use Rattle.module_linker.proofs.StructRows.{index_at}
 use Rattle.module_linker.proofs.OwnNames.{self_named, own_renaming, own_global, own_structs, own_struct}
 use Rattle.module_linker.proofs.Alone.{StaysAlone, definition_own, declaration_own}
 use Rattle.module_linker.proofs.Searches.{at_all}
@@ -219,7 +219,7 @@ module _ (m : Module) (s : StaysAlone m) where
       each k t at =
           let body : body_of m.structs t.0 ≡ t.1 =
           ap (λ j. slice_index_or (map (λ x. x.1) m.structs) j opaque_body) (index_at (map (λ x. x.0) m.structs) k t.0 s.distinct_structs (slice_get-map (λ x. x.0) m.structs k ∙ ap (option_map (λ x. x.0)) at))
-          ∙ value_at (map (λ x. x.1) m.structs) k t.1 opaque_body (slice_get-map (λ x. x.1) m.structs k ∙ ap (option_map (λ x. x.1)) at) in
+          ∙ get_or_from_slice_get (map (λ x. x.1) m.structs) k t.1 opaque_body (slice_get-map (λ x. x.1) m.structs k ∙ ap (option_map (λ x. x.1)) at) in
           let renamed = ap₂ (λ f b. renamed_body f b) structs_own body ∙ body_stays t.1 in
           λ i. (t.0, renamed i)
 

@@ -3,13 +3,13 @@ use Rattle.std.proofs.Common.{◌≡◌, ℕ, suc, ◌+◌, Bool, true, List, []
 use Rattle.std.specs.Prelude.{slice_get}
 use Rattle.std.specs.List.{list_all, AllByRecursion}
 use Rattle.std.proofs.lemmas.Bool.{and_parts, and_from}
+use Rattle.std.proofs.lemmas.Option.{get_or_from_slice_get}
 use Rattle.type_table.specs.Tree.{TreeBody}
 use Rattle.module_arena.specs.Module.{Bytes, Module, empty_module}
 use Rattle.linkage_rules.specs.Entries.{Entry, entries_from, entries, part_at, symbol_name}
 use Rattle.linkage_rules.specs.declared.symbol.Symbol.TheVariants.{Local}
 use Rattle.linkage_rules.specs.Globals.{Global, OfVariable, OfFunction, OfAlias, globals}
 use Rattle.linkage_rules.proofs.Gathered.{all_joined, all_mapped}
-use Rattle.module_linker.proofs.StructRows.{value_at}
 use Rattle.module_linker.specs.Structs.{structs_from, struct_symbols, part_of}
 use Rattle.module_linker.proofs.Searches.{at_all}
 
@@ -36,7 +36,7 @@ abbrev entry : ℕ → Global → Entry
 entry i g = record { part = i; global = g }
 
 part_is : (ms : List Module) (i : ℕ) (m : Module) → slice_get ms i ≡ Some m → part_at ms i ≡ m
-part_is ms i m h = value_at ms i m empty_module h
+part_is ms i m h = get_or_from_slice_get ms i m empty_module h
 
 entries_all : (P : ℕ → Global → Type 0) (ms : List Module) (j : ℕ) → ((i : ℕ) (m : Module) → slice_get ms i ≡ Some m → AllByRecursion (P (j + i)) (globals m)) → AllByRecursion (λ e. P e.part e.global) (entries_from j ms)
 entries_all P [] j f = tt

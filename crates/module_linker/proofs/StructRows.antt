@@ -4,7 +4,7 @@ use Rattle.std.specs.Prelude.{slice_get, slice_index_or}
 use Rattle.std.specs.List.{list_any, AllByRecursion}
 use Rattle.std.specs.Map.{lookup}
 use Rattle.std.proofs.lemmas.Bool.{or_left, or_right, or_from, or_parts, and_from, and_parts, both_ways, cond-true, cond-false, false_from_ne_true}
-use Rattle.std.proofs.lemmas.Option.{same_Some, slice_get-map}
+use Rattle.std.proofs.lemmas.Option.{same_Some, slice_get-map, get_or_from_slice_get}
 use Rattle.type_table.specs.Tree.{opaque_body, Structs, index_of, body_of}
 use Rattle.type_table.specs.Shape.{Shape}
 use Rattle.module_arena.specs.Module.{Bytes, Module}
@@ -28,11 +28,6 @@ use Rattle.module_linker.proofs.ByKind.{any_key}
 use Rattle.module_linker.proofs.Searches.{at_all}
 
 -- LISTS
-
-pub value_at : {A : Type 0} (xs : List A) (k : ℕ) (x d : A) → slice_get xs k ≡ Some x → slice_index_or xs k d ≡ x
-value_at [] k x d h = cc
-value_at (y ∷ xs) zero x d h = same_Some y x h
-value_at (y ∷ xs) (suc k) x d h = value_at xs k x d h
 
 pub index_at : (names : List Bytes) (k : ℕ) (name : Bytes) → Apart bytes_eq names → slice_get names k ≡ Some name → index_of names name ≡ k
 index_at [] k name a h = cc
@@ -147,5 +142,5 @@ module _ (parts : List Module) where
         ap (λ k. slice_index_or (map (λ s. s.1) (map (linked_struct parts) (struct_map parts))) k opaque_body)
         (index_at (map (λ s. s.0) (map (linked_struct parts) (struct_map parts))) struct_row.place struct_row.row.1 (subst (Apart bytes_eq) (sym (map_map (λ s. s.0) (linked_struct parts) (struct_map parts))) struct_names)
         (ap (λ l. slice_get l struct_row.place) (map_map (λ s. s.0) (linked_struct parts) (struct_map parts)) ∙ slice_get-map (λ r. r.1) (struct_map parts) struct_row.place ∙ ap (option_map (λ r. r.1)) struct_row.at))
-        ∙ value_at _ struct_row.place _ opaque_body
+        ∙ get_or_from_slice_get _ struct_row.place _ opaque_body
         (ap (λ l. slice_get l struct_row.place) (map_map (λ s. s.1) (linked_struct parts) (struct_map parts)) ∙ slice_get-map (λ r. (linked_struct parts r).1) (struct_map parts) struct_row.place ∙ ap (option_map (λ r. (linked_struct parts r).1)) struct_row.at)

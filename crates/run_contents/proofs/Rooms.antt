@@ -5,7 +5,7 @@ use Rattle.std.specs.List.{AllByRecursion, cons_option}
 use Rattle.std.specs.Option.{option_map, option_map_or}
 use Rattle.std.proofs.lemmas.Bool.{cond-true}
 use Rattle.std.proofs.lemmas.List.{length-map}
-use Rattle.std.proofs.lemmas.Option.{same_Some, slice_get-map}
+use Rattle.std.proofs.lemmas.Option.{same_Some, slice_get-map, get_or_from_slice_get}
 use Rattle.module_arena.specs.declared.entry.Variable.{Variable}
 use Rattle.module_arena.specs.Lists.{Lists}
 use Rattle.module_arena.specs.Module.{Module}
@@ -26,7 +26,7 @@ use Rattle.run_names.proofs.Apart.{AreApart, same_entry}
 use Rattle.run_names.proofs.Arena as arena
 use Rattle.run_names.proofs.Arena.{variable_behind, variable_seen, variables_are}
 use Rattle.run_names.proofs.Lies.{front_apart}
-use Rattle.run_names.proofs.Listed.{index_is, mapped_at}
+use Rattle.run_names.proofs.Listed.{mapped_at}
 use Rattle.run_names.proofs.OneModule.{alias_entries, entry, function_entries, module_apart, parted, variable_entries}
 use Rattle.run_names.proofs.Put.{AreUnlike, Row, row_place}
 use Rattle.run_names.proofs.Roomed.{entry_of, room_is, room_of, row_of, rooms_are}
@@ -108,7 +108,7 @@ module _ (a : Lists) (well_formed : IsWellFormed (module_of a)) (valid : IsValid
 
   its_name : (s : Spot) (v : Variable) → slice_get a.variables s.variable ≡ Some v → variable_symbol a s.variable ≡ symbol_of (its_entry v)
   its_name s v at =
-      ap (symbol_in parts 0) (index_is (map (λ (v : Variable). v.name) a.variables) s.variable v.name [] (slice_get-map (λ (v : Variable). v.name) a.variables s.variable ∙ ap (option_map (λ (v : Variable). v.name)) at))
+      ap (symbol_in parts 0) (get_or_from_slice_get (map (λ (v : Variable). v.name) a.variables) s.variable v.name [] (slice_get-map (λ (v : Variable). v.name) a.variables s.variable ∙ ap (option_map (λ (v : Variable). v.name)) at))
       ∙ arena.variable_symbol a well_formed valid s.variable v at
 
   module _ (spots : List Spot) (are : AreSpots a spots) (k : ℕ) (s : Spot) (there : slice_get spots k ≡ Some s) where

@@ -1,7 +1,7 @@
 -- Each way in which a run opens.
 use Rattle.std.proofs.Common.{◌≡◌, ℕ, ◌+◌, ◌<◌, take, length, get_or, List, [], ◌∷◌, ◌++◌, map, Option, Some, None, Result, Ok, Err, refl, sym, ap, ◌∙◌}
 use Rattle.std.proofs.lemmas.List.{map_more}
-use Rattle.std.proofs.lemmas.Option.{slice_get-map}
+use Rattle.std.proofs.lemmas.Option.{slice_get-map, get_or_from_slice_get}
 use Rattle.ir_memory.specs.Memory.{Blocks, no_blocks}
 use Rattle.module_arena.specs.declared.entry.Alias.{Alias}
 use Rattle.module_arena.specs.declared.entry.Function.{Function}
@@ -13,7 +13,6 @@ use Rattle.module_arena.specs.View.{module_of}
 use Rattle.run_acts.specs.Dues.{due_of}
 use Rattle.run_acts.specs.declared.due.DueCall.{DueCall}
 use Rattle.run_acts.specs.declared.due.DueCall.TheVariants as calls
-use Rattle.run_names.proofs.Listed.{index_is}
 use Rattle.run_names.specs.Told.{alone}
 use Rattle.run_rules.specs.declared.end.End.{End}
 use Rattle.run_rules.specs.declared.end.End.TheVariants.{MemoryLimit, NoMain, Unresolved}
@@ -67,9 +66,9 @@ name_missing p words name is = ap (λ (o : Option (List ℕ)). opened_from p o w
 
 -- the name of an entry
 pub name_is : (a : Lists) (g : GlobalId) (name : List ℕ) → global_name a g ≡ Some name → name_at a g ≡ name
-name_is a (global.Variable id) name h = index_is (map (λ (v : Variable). v.name) a.variables) id name [] (slice_get-map (λ (v : Variable). v.name) a.variables id ∙ h)
-name_is a (global.Function id) name h = index_is (map (λ (f : Function). f.name) a.functions) id name [] (slice_get-map (λ (f : Function). f.name) a.functions id ∙ h)
-name_is a (global.Alias id) name h = index_is (map (λ (x : Alias). x.name) a.aliases) id name [] (slice_get-map (λ (x : Alias). x.name) a.aliases id ∙ h)
+name_is a (global.Variable id) name h = get_or_from_slice_get (map (λ (v : Variable). v.name) a.variables) id name [] (slice_get-map (λ (v : Variable). v.name) a.variables id ∙ h)
+name_is a (global.Function id) name h = get_or_from_slice_get (map (λ (f : Function). f.name) a.functions) id name [] (slice_get-map (λ (f : Function). f.name) a.functions id ∙ h)
+name_is a (global.Alias id) name h = get_or_from_slice_get (map (λ (x : Alias). x.name) a.aliases) id name [] (slice_get-map (λ (x : Alias). x.name) a.aliases id ∙ h)
 
 -- ---- what is due
 

@@ -4,7 +4,7 @@ use Rattle.std.specs.Prelude.{slice_get, option_to_list, if◌then◌else◌}
 use Rattle.std.specs.List.{list_any, list_all}
 use Rattle.std.specs.Option.{option_map, option_map_or}
 use Rattle.std.proofs.lemmas.Bool.{and_parts, both_ways}
-use Rattle.std.proofs.lemmas.Option.{same_Some, slice_get-map, slice_get-get_or}
+use Rattle.std.proofs.lemmas.Option.{same_Some, slice_get-map, slice_get-get_or, get_or_from_slice_get}
 use Rattle.ir_eval.specs.declared.value.Scalar.{Scalar}
 use Rattle.ir_eval.specs.declared.value.Scalar.TheVariants.{Ptr}
 use Rattle.ir_tables.specs.Table.{is_distinct}
@@ -35,7 +35,7 @@ use Rattle.run_names.specs.declared.standing.Standing.TheVariants as standing
 use Rattle.run_names.specs.Spots.{AreAddresses}
 use Rattle.run_names.specs.Standings.{AreStandings, elsewhere, function_stands, has_code}
 use Rattle.run_names.specs.Told.{callee_seen}
-use Rattle.run_names.proofs.Listed.{all_at, index_is}
+use Rattle.run_names.proofs.Listed.{all_at}
 use Rattle.run_names.proofs.OneModule.{entry, alias_in, names_apart, one_named}
 use Rattle.run_names.proofs.Meant.{IsTarget, target_is, alias_address}
 use Rattle.run_names.proofs.Arena.{alias_seen, alias_there, callee_of, function_callee, function_leaf, function_seen, leaf_by, no_callee}
@@ -72,13 +72,13 @@ none_empty ((b ∷ bs) ∷ names) h = none_empty names (and_parts (is_name (b �
 
 module _ (a : Lists) where
   pub variable_name : (n : ℕ) (v : Variable) → slice_get a.variables n ≡ Some v → name_at a (global.Variable n) ≡ v.name
-  variable_name n v at = index_is (map (λ (v : Variable). v.name) a.variables) n v.name [] (slice_get-map (λ (v : Variable). v.name) a.variables n ∙ ap (option_map (λ (v : Variable). v.name)) at)
+  variable_name n v at = get_or_from_slice_get (map (λ (v : Variable). v.name) a.variables) n v.name [] (slice_get-map (λ (v : Variable). v.name) a.variables n ∙ ap (option_map (λ (v : Variable). v.name)) at)
 
   pub function_name : (n : ℕ) (f : Function) → slice_get a.functions n ≡ Some f → name_at a (global.Function n) ≡ f.name
-  function_name n f at = index_is (map (λ (f : Function). f.name) a.functions) n f.name [] (slice_get-map (λ (f : Function). f.name) a.functions n ∙ ap (option_map (λ (f : Function). f.name)) at)
+  function_name n f at = get_or_from_slice_get (map (λ (f : Function). f.name) a.functions) n f.name [] (slice_get-map (λ (f : Function). f.name) a.functions n ∙ ap (option_map (λ (f : Function). f.name)) at)
 
   pub alias_name : (n : ℕ) (x : Alias) → slice_get a.aliases n ≡ Some x → name_at a (global.Alias n) ≡ x.name
-  alias_name n x at = index_is (map (λ (x : Alias). x.name) a.aliases) n x.name [] (slice_get-map (λ (x : Alias). x.name) a.aliases n ∙ ap (option_map (λ (x : Alias). x.name)) at)
+  alias_name n x at = get_or_from_slice_get (map (λ (x : Alias). x.name) a.aliases) n x.name [] (slice_get-map (λ (x : Alias). x.name) a.aliases n ∙ ap (option_map (λ (x : Alias). x.name)) at)
 
 module _ (a : Lists) (well_formed : IsWellFormed (module_of a)) (valid : IsValid (module_of a)) where
   abbrev m : Module

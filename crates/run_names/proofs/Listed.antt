@@ -1,6 +1,6 @@
 -- Places in lists.
 use Rattle.std.proofs.Common.{◌≡◌, ℕ, zero, suc, ◌+◌, ◌<◌, ◌≤◌, List, [], ◌∷◌, ◌++◌, map, filter, length, take, cond, Bool, true, false, ◌&&◌, ◌||◌, Some, None, refl, sym, ap, ◌∙◌, subst, arith}
-use Rattle.std.specs.Prelude.{slice_get, slice_index_or}
+use Rattle.std.specs.Prelude.{slice_get}
 use Rattle.std.specs.List.{AllByRecursion, list_any, list_all}
 use Rattle.std.specs.Option.{option_map}
 use Rattle.std.proofs.lemmas.Bool.{and_parts}
@@ -53,11 +53,6 @@ some_passes p (x ∷ xs) h = go (p x) refl h (some_passes p xs)
     go : (b : Bool) → p x ≡ b → (b || list_any p xs) ≡ true → (list_any p xs ≡ true → Passes p xs) → Passes p (x ∷ xs)
     go true e k more = record { place = 0; one = x; at = refl; passes = e }
     go false e k more = let r = more k in record { place = suc r.place; one = r.one; at = r.at; passes = r.passes }
-
-pub index_is : {A : Type 0} (xs : List A) (k : ℕ) (x d : A) → slice_get xs k ≡ Some x → slice_index_or xs k d ≡ x
-index_is [] k x d h = cc
-index_is (y ∷ xs) zero x d h = same_Some y x h
-index_is (y ∷ xs) (suc k) x d h = index_is xs k x d h
 
 -- what holds of all and of one more
 pub last_or : {A : Type 0} (P : A → Type 0) (xs : List A) (y : A) → ((k : ℕ) (x : A) → slice_get xs k ≡ Some x → P x) → P y → (k : ℕ) (x : A) → slice_get (xs ++ y ∷ []) k ≡ Some x → P x

@@ -5,7 +5,7 @@ use Rattle.std.specs.List.{AllByRecursion}
 use Rattle.std.specs.Map.{lookup}
 use Rattle.std.specs.Option.{option_map, option_map_or}
 use Rattle.std.proofs.lemmas.Bool.{cond-true, cond-false}
-use Rattle.std.proofs.lemmas.Option.{same_Some, slice_get-map}
+use Rattle.std.proofs.lemmas.Option.{same_Some, slice_get-map, get_or_from_slice_get}
 use Rattle.ir_eval.specs.declared.value.Pointer.{Pointer}
 use Rattle.ir_eval.specs.declared.value.Scalar.{Scalar}
 use Rattle.ir_eval.specs.declared.value.Scalar.TheVariants.{Ptr}
@@ -29,7 +29,7 @@ use Rattle.run_rules.specs.Plan as plans
 use Rattle.run_names.specs.declared.spot.Spot.{Spot}
 use Rattle.run_names.specs.Spots.{AreSpots, absent_leaf, bounds_of, defines, is_defined, needs, spot_of, variable_symbol}
 use Rattle.run_names.proofs.Apart.{AreApart, same_entry}
-use Rattle.run_names.proofs.Listed.{all_from_places, at_place, index_is}
+use Rattle.run_names.proofs.Listed.{all_from_places, at_place}
 use Rattle.run_names.proofs.OneModule.{entry, module_apart, parted, variable_entries, function_entries, alias_entries}
 use Rattle.run_names.proofs.Meant.{pointer_behind}
 use Rattle.run_names.proofs.Arena.{variable_seen, variables_are, variable_home, variable_behind, variable_address}
@@ -117,7 +117,7 @@ module _ (a : Lists) (well_formed : IsWellFormed (module_of a)) (valid : IsValid
   its_symbol k n next v e at =
       let same : k ≡ n = omega (arith, e) in
       let at_n : slice_get a.variables n ≡ Some v = subst (λ (i : ℕ). slice_get a.variables i ≡ Some v) same at in
-      ap (symbol_in parts 0) (index_is (map (λ (v : Variable). v.name) a.variables) n v.name [] (slice_get-map (λ (v : Variable). v.name) a.variables n ∙ ap (option_map (λ (v : Variable). v.name)) at_n))
+      ap (symbol_in parts 0) (get_or_from_slice_get (map (λ (v : Variable). v.name) a.variables) n v.name [] (slice_get-map (λ (v : Variable). v.name) a.variables n ∙ ap (option_map (λ (v : Variable). v.name)) at_n))
       ∙ arena.variable_symbol a well_formed valid n v at_n
 
   its_defines : AllByRecursion (λ (s : Spot). defines a s.variable ≡ true) (spots_from a 0 65536 a.variables)

@@ -5,6 +5,7 @@ use Rattle.std.proofs.lemmas.Grind.{common_steps}
 use Rattle.std.specs.Prelude.{IfSome}
 use Rattle.std.specs.Bool.{MatchBool}
 use Rattle.std.specs.List.{IsAmong}
+use Rattle.std.proofs.lemmas.Bool.{false_from_ne_true}
 use Rattle.ir_base.specs.Outside.{Lost, LostUpTo}
 use Rattle.ir_base.specs.Files.{Named, IsMissing, IsOver, ReadsFrom}
 use Rattle.command_line.specs.Options.{is_dash}
@@ -216,13 +217,9 @@ stdin_on names i name text contents before mid now left_before left_mid left_now
     stdin_step names (drop i names) (drop (i + 1) names) name before mid now left_before left_mid left_now (i, (h, e)) (next_name names i name h e)
     (emptied_by (is_dash name) contents left_mid left_now name text read.content) same left lost stdin
 
-not_dash : (dash : Bool) → (dash ≡ true → ⊥) → dash ≡ false
-not_dash true never = absurd (never refl)
-not_dash false never = refl
-
 pub unread_on : {A : Type 0} (names : List (List ℕ)) (i : ℕ) (name : List ℕ) (before mid now : A) (left_before left_mid : Option (List ℕ)) → i < length names → name ≡ get_or names i name → (is_dash name ≡ false → now ≡ mid) → Stdin names (drop i names) before mid left_before left_mid → has_stdin names ≡ false → now ≡ before
 unread_on names i name before mid now left_before left_mid h e same stdin none =
-    same (not_dash (is_dash name) (λ dash. let has = sym (stdin_among names name (i, (h, e)) dash) ∙ none in absurd (let x = has in cc)))
+    same (false_from_ne_true (is_dash name) (λ dash. let has = sym (stdin_among names name (i, (h, e)) dash) ∙ none in absurd (let x = has in cc)))
     ∙ unread_so_far names (drop i names) before mid left_before left_mid stdin none
 
 pub over_one : (names : List (List ℕ)) (name : List ℕ) (contents : Option Named) (left : Option (List ℕ)) (p q : Type 0) (ended : Ended) → IsAmong names name → (ended ≡ InputTooLarge name LARGEST_TOGETHER) ⊎ (ended ≡ Memory) → RefusesOne (found_input contents left p q) names ended

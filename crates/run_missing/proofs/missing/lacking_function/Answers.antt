@@ -1,13 +1,12 @@
 use Rattle.std.proofs.Common.{◌≡◌, ◌<◌, ◌≤◌, Some, false, true, length, map, ap, sym, ◌∙◌, arith}
 use Rattle.std.proofs.lemmas.List.{length-map}
-use Rattle.std.proofs.lemmas.Option.{slice_get_within}
+use Rattle.std.proofs.lemmas.Option.{slice_get_within, get_or_from_slice_get}
 use Rattle.extract_core.proofs.Keeping.{functions_length}
 use Rattle.extract_core.specs.Selected.{is_among}
 use Rattle.module_arena.specs.declared.entry.GlobalId.TheVariants as global
 use Rattle.module_arena.specs.Lists.{Lists, name_at}
 use Rattle.module_arena.specs.Module.{Function}
 use Rattle.module_arena.specs.View.{module_of}
-use Rattle.run_names.proofs.Listed.{index_is}
 use Rattle.run_missing.specs.Used.{is_lacking, used_names}
 use Rattle.run_missing.proofs.Searched.{first_at, none_at_all, passed, function_name_at, function_used}
 use Rattle.run_missing.proofs.missing.lacking_function.Goals as goal
@@ -22,7 +21,7 @@ pub is_lacking-requires-clause-used : goal.is_lacking-requires-clause-used
 is_lacking-requires-clause-used c =
     let a = c.args.names.now in
     let there : c.functions.number < length a.functions = omega (arith, c.function_count-number-end.ensures, ap (λ (b : Lists). length b.functions) (c.arena-arena.ensures.arena ∙ c.program.ensures)) in
-    index_is c.args.used.now c.functions.number (is_among (used_names (module_of a)) (name_at a (global.Function c.functions.number))) false (function_used a (used_names (module_of a)) c.args.used.now c.functions.number c.requires there)
+    get_or_from_slice_get c.args.used.now c.functions.number (is_among (used_names (module_of a)) (name_at a (global.Function c.functions.number))) false (function_used a (used_names (module_of a)) c.args.used.now c.functions.number c.requires there)
     ∙ ap (λ g. is_among (used_names (module_of a)) (name_at a g)) (sym c.function.ensures)
 
 pub returns-then-is_lacking-clause-first : goal.returns-then-is_lacking-clause-first

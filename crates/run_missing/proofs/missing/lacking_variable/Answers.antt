@@ -1,13 +1,12 @@
 use Rattle.std.proofs.Common.{◌≡◌, ◌<◌, ◌≤◌, Some, false, true, length, map, ap, sym, ◌∙◌, arith}
 use Rattle.std.proofs.lemmas.List.{length-map}
-use Rattle.std.proofs.lemmas.Option.{slice_get_within}
+use Rattle.std.proofs.lemmas.Option.{slice_get_within, get_or_from_slice_get}
 use Rattle.extract_core.proofs.Keeping.{variables_length}
 use Rattle.extract_core.specs.Selected.{is_among}
 use Rattle.module_arena.specs.declared.entry.GlobalId.TheVariants as global
 use Rattle.module_arena.specs.Lists.{Lists, name_at}
 use Rattle.module_arena.specs.Module.{Variable}
 use Rattle.module_arena.specs.View.{module_of}
-use Rattle.run_names.proofs.Listed.{index_is}
 use Rattle.run_missing.specs.Used.{is_lacking, used_names}
 use Rattle.run_missing.proofs.Searched.{first_at, none_at_all, passed, variable_name_at, variable_used}
 use Rattle.run_missing.proofs.missing.lacking_variable.Goals as goal
@@ -22,7 +21,7 @@ pub is_lacking-requires-clause-used : goal.is_lacking-requires-clause-used
 is_lacking-requires-clause-used c =
     let a = c.args.names.now in
     let there : c.variables.number < length a.variables = omega (arith, c.variable_count-number-end.ensures.count, ap (λ (b : Lists). length b.variables) (c.arena-arena.ensures.arena ∙ c.program.ensures)) in
-    index_is c.args.used.now c.variables.number (is_among (used_names (module_of a)) (name_at a (global.Variable c.variables.number))) false (variable_used a (used_names (module_of a)) c.args.used.now c.variables.number c.requires there)
+    get_or_from_slice_get c.args.used.now c.variables.number (is_among (used_names (module_of a)) (name_at a (global.Variable c.variables.number))) false (variable_used a (used_names (module_of a)) c.args.used.now c.variables.number c.requires there)
     ∙ ap (λ g. is_among (used_names (module_of a)) (name_at a g)) (sym c.variable.ensures)
 
 pub returns-then-is_lacking-clause-first : goal.returns-then-is_lacking-clause-first
