@@ -4,7 +4,6 @@ use Rattle.std.specs.Prelude.{flat_map, filter_map, option_to_list}
 use Rattle.std.proofs.lemmas.List.{length-map, append-nil, length-append}
 use Rattle.std.proofs.lemmas.List.Elements.{filter_map-append}
 use Rattle.ir_terminals.specs.declared.values.Local.{Local}
-use Rattle.ir_terminals.specs.declared.values.Local.TheVariants as locals
 use Rattle.ir_instructions.specs.Tree.{InstructionTree}
 use Rattle.module_arena.specs.declared.entry.LocalName as the_local
 use Rattle.module_arena.specs.Module as m
@@ -14,6 +13,7 @@ use Rattle.name_rules.specs.Bodies.{instruction_in, instructions_in}
 use Rattle.name_rules.specs.Locals.{Announced, called, next_behind, next_after, announced_parameter, announced_result, has_result}
 use Rattle.name_rules.specs.ModuleOf.{parameters_in}
 use Rattle.ir_syntax.specs.Tree.{ParameterTree}
+use Rattle.type_build.proofs.Parameters.{behind_le as behind_one}
 
 after_more : (n : ℕ) (xs ys : List Announced) → next_after n (xs ++ ys) ≡ next_after (next_after n xs) ys
 after_more n [] ys = refl
@@ -48,11 +48,6 @@ results_more n xs x =
     ap (filter_map result_of) (instructions_more n xs x)
     ∙ filter_map-append result_of (instructions_in n xs) (i ∷ [])
     ∙ ap (λ rest. filter_map result_of (instructions_in n xs) ++ rest) (one i.result i refl)
-
-behind_one : (next : ℕ) (written : Option Local) → next_behind next written ≤ next + 1
-behind_one n None = omega arith
-behind_one n (Some (locals.Named name)) = omega arith
-behind_one n (Some (locals.Numbered number place)) = omega arith
 
 behind_either : (b : Bool) (next : ℕ) (written : Option Local) → next_after next (cond b ((false, written) ∷ []) []) ≤ next + 1
 behind_either true next written = behind_one next written

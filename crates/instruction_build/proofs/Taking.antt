@@ -1,6 +1,6 @@
 -- What an arena can take it can still take when it has grown.
-use Rattle.std.proofs.Common.{◌≡◌, ℕ, ◌<◌, List, [], ◌∷◌, map, length, get_or, All, sym, subst, arith}
-use Rattle.std.proofs.lemmas.List.Elements.{All-cons, All-head, All-tail, All-weaker}
+use Rattle.std.proofs.Common.{◌≡◌, ℕ, ◌<◌, List, map, length, get_or, All, sym, subst}
+use Rattle.std.proofs.lemmas.List.Elements.{All-weaker}
 use Rattle.ir_constants.specs.Tree.{ValueTree, TypedValueTree}
 use Rattle.ir_instructions.specs.Tree.{IncomingTree, CaseTree}
 use Rattle.type_table.specs.Tree.{Structs}
@@ -11,13 +11,10 @@ use Rattle.type_build.specs.Fitting.{CanBe}
 use Rattle.type_build.specs.Holding.{entries}
 use Rattle.type_build.specs.Stands.{Grows}
 use Rattle.type_build.proofs.Staying.{structs_stay, entries_stay, at_item}
+use Rattle.type_build.proofs.Declaring.{all_mapped}
 use Rattle.buildable.specs.Bodies.{CanValue, CanOperand, CanIncoming, CanCase}
 use Rattle.instruction_build.specs.declared.locals.Locals.{Locals}
 use Rattle.instruction_build.specs.Parts.{value_names, block_names, TakesValue, TakesOperand, TakesIncoming, TakesCase}
-
-all_mapped : {X Y : Type 0} (f : X → Y) (P : Y → Type 0) (xs : List X) → All P (map f xs) → All (λ x. P (f x)) xs
-all_mapped f P [] all = λ k d lt. absurd (omega arith)
-all_mapped f P (x ∷ xs) all = All-cons (λ y. P (f y)) x xs (All-head P (f x) (map f xs) all) (all_mapped f P xs (All-tail P (f x) (map f xs) all))
 
 -- the item of a list, all of whose items are so as they are seen
 pub at_mapped : {X Y : Type 0} (f : X → Y) (P : Y → Type 0) (xs : List X) (i : ℕ) (x : X) → i < length xs → x ≡ get_or xs i x → All P (map f xs) → P (f x)

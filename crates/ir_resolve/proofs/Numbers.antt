@@ -3,8 +3,6 @@ use Rattle.std.proofs.Common.{◌≡◌, ℕ, ◌+◌, ◌≤◌, Bool, true, fa
 use Rattle.std.specs.List.{cons_option}
 use Rattle.std.proofs.lemmas.List.{length-map, length-append, append-nil, map-append}
 use Rattle.std.proofs.lemmas.Grind.{flat_map-append}
-use Rattle.ir_terminals.specs.declared.values.Local.{Local}
-use Rattle.ir_terminals.specs.declared.values.Local.TheVariants as locals
 use Rattle.ir_instructions.specs.Tree.{InstructionTree, BlockTree}
 use Rattle.ir_syntax.specs.Counts.{block_count}
 use Rattle.ir_syntax.specs.Tree.{ParameterTree}
@@ -15,6 +13,7 @@ use Rattle.module_arena.specs.View.{local_view}
 use Rattle.name_rules.specs.Bodies.{instruction_in, instructions_in, block_in, blocks_in}
 use Rattle.name_rules.specs.Locals.{Announced, next_behind, next_after, announced_parameter, announced_result, announced_block, has_result}
 use Rattle.name_rules.specs.ModuleOf.{parameters_in}
+use Rattle.type_build.proofs.Parameters.{behind_le}
 use Rattle.buildable.specs.Bodies.{result_names}
 
 after_more : (n : ℕ) (xs ys : List Announced) → next_after n (xs ++ ys) ≡ next_after (next_after n xs) ys
@@ -53,14 +52,9 @@ labels_more n bs b = ap (map label) (blocks_more n bs b) ∙ map-append label (b
 
 -- ---- how many there can be
 
-behind_one : (n : ℕ) (written : Option Local) → next_behind n written ≤ n + 1
-behind_one n None = omega arith
-behind_one n (Some (locals.Named name)) = omega arith
-behind_one n (Some (locals.Numbered number place)) = omega arith
-
 all_behind : (n : ℕ) (xs : List Announced) → next_after n xs ≤ n + length xs
 all_behind n [] = omega arith
-all_behind n (x ∷ xs) = let one = behind_one n x.1 in let rest = all_behind (next_behind n x.1) xs in omega (arith, one, rest)
+all_behind n (x ∷ xs) = let one = behind_le n x.1 in let rest = all_behind (next_behind n x.1) xs in omega (arith, one, rest)
 
 announced_one : (b : Bool) (a : Announced) (rest : List Announced) → length (cond b (a ∷ []) [] ++ rest) ≤ length rest + 1
 announced_one true a rest = omega arith

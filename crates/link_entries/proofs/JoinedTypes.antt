@@ -1,14 +1,13 @@
 -- The type and the alignment of a variable that is defined: of an appended one, of a common one, and of any other.
-use Rattle.std.proofs.Common.{◌≡◌, ℕ, ◌<◌, ◌≤◌, ◌^◌, true, false, List, length, Option, Some, None, refl, sym, subst, ap, ◌∙◌, arith}
+use Rattle.std.proofs.Common.{◌≡◌, ℕ, ◌<◌, ◌≤◌, ◌^◌, true, false, List, length, Option, refl, sym, subst, ap, ◌∙◌, arith}
 use Rattle.std.specs.Prelude.{nat_le, ◌&&◌, if◌then◌else◌}
-use Rattle.std.specs.Option.{option_map}
 use Rattle.std.proofs.Math.Nat.{min-eq_left}
 use Rattle.std.proofs.lemmas.Bool.{and_parts, cond-true, cond-false}
 use Rattle.ir_tables.specs.declared.linkage.Linkage.{Linkage}
 use Rattle.ir_tables.specs.declared.linkage.Linkage.TheVariants.{External, Private, Internal, Common, Appending, ExternWeak, AvailableExternally, Linkonce, LinkonceOdr, Weak, WeakOdr}
 use Rattle.type_table.specs.declared.ir_type.IrType.TheVariants.{Array}
 use Rattle.type_table.specs.Limits.{IsWithinLimits}
-use Rattle.type_table.specs.Shape.{Shape, array_of, shape}
+use Rattle.type_table.specs.Shape.{shape}
 use Rattle.type_table.specs.Tree.{Tree, Structs, array}
 use Rattle.type_table.specs.Types.{names, trees, structs, tree_of, IsKnown}
 use Rattle.module_arena.specs.Lists.{Lists}
@@ -27,6 +26,7 @@ use Rattle.linked_symbols.specs.Places.{clamped}
 use Rattle.module_linker.specs.Linked.{joined_alignment}
 use Rattle.module_linker.specs.Structs.{linked_type}
 use Rattle.type_build.specs.Stands.{IsType}
+use Rattle.type_build.proofs.Leaves.{array_is_short}
 use Rattle.entry_copy.specs.Tables.{Tables, new_type}
 use Rattle.link_stages.specs.Ground.{HasTypes}
 use Rattle.link_entries.specs.Definitions.{entries_defined, joined_of}
@@ -80,13 +80,6 @@ module _ (ms : List Module) (e : Entry) (es : List Entry) where
 
 -- ---- arrays within the limits
 
-short : (n : ℕ) (o : Option Shape) → IsWithinLimits (option_map (array_of n) o) → n ≤ 2 ^ 40
-short n None within = absurd within
-short n (Some s) within = within.length_fits
-
-array_short : (ss : Structs) (n : ℕ) (t : Tree) → IsWithinLimits (shape ss (array n t)) → n ≤ 2 ^ 40
-array_short ss n t within = short n (shape ss t) within
-
 array_within : (ss : Structs) (n : ℕ) (t : Tree) → is_good_type ss (array n t) ≡ true → IsWithinLimits (shape ss (array n t))
 array_within ss n t good = (within_limits_decides (shape ss (array n t))).0 (and_parts (is_good_type ss t) (is_within_limits (shape ss (array n t))) good).1
 
@@ -126,7 +119,7 @@ module _ (parts : List Lists) (home : EntryId) (ids : List EntryId) (a b : Lists
     within = array_within (structs b.table) whole inner (subst (λ x. is_good_type (structs b.table) x ≡ true) array_is good)
 
     same_length : n ≡ whole
-    same_length = long ∙ exact whole (array_short (structs b.table) whole inner within)
+    same_length = long ∙ exact whole (array_is_short (structs b.table) whole inner within)
 
     pub appended_known : IsKnown b.table (Array n (new_type t element))
     appended_known = there.known

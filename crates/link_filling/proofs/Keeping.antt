@@ -1,5 +1,5 @@
 -- What is copied to an arena stays so where types and constants are added, and where an entry is defined.
-use Rattle.std.proofs.Common.{◌≡◌, ℕ, zero, suc, ◌+◌, ◌≤◌, List, [], ◌∷◌, map, length, set, get_or, slice_get, Option, Some, None, refl, sym, ap, ◌∙◌, subst, arith}
+use Rattle.std.proofs.Common.{◌≡◌, ℕ, zero, suc, ◌≤◌, List, [], ◌∷◌, map, length, set, get_or, slice_get, Option, Some, None, refl, sym, ap, ◌∙◌, subst, arith}
 use Rattle.std.specs.Option.{option_map, option_map_or}
 use Rattle.std.proofs.lemmas.List.{length-map}
 use Rattle.std.proofs.lemmas.Option.{same_Some, slice_get-map}
@@ -32,20 +32,6 @@ changed_image {X = X} name f keeps xs i = by (slice_get xs i) refl
     by : (o : Option X) → slice_get xs i ≡ o → map name (option_map_or (λ x. set xs i (f x)) o xs) ≡ map name xs
     by None e = refl
     by (Some x) e = set_image name xs i x (f x) e (keeps x)
-
--- those behind it stay
-set_behind : {X : Type 0} (xs : List X) (i k : ℕ) (y : X) → i + 1 ≤ k → slice_get (set xs i y) k ≡ slice_get xs k
-set_behind [] i k y le = refl
-set_behind (x ∷ xs) i zero y le = absurd (omega (arith, le))
-set_behind (x ∷ xs) zero (suc k) y le = refl
-set_behind (x ∷ xs) (suc i) (suc k) y le = set_behind xs i k y (omega (arith, le))
-
-changed_behind : {X : Type 0} (f : X → X) (xs : List X) (i k : ℕ) → i + 1 ≤ k → slice_get (changed_at xs i f) k ≡ slice_get xs k
-changed_behind {X = X} f xs i k le = by (slice_get xs i)
-  where
-    by : (o : Option X) → slice_get (option_map_or (λ x. set xs i (f x)) o xs) k ≡ slice_get xs k
-    by None = refl
-    by (Some x) = set_behind xs i k (f x) le
 
 -- ---- arenas whose entries have the same names, and whose types and constants are the same
 
@@ -150,6 +136,3 @@ targeted_keeps b c id g e =
 
 pub untargeted_still : (b c : Lists) (first more : ℕ) → first ≤ more → c.aliases ≡ b.aliases → AreUntargeted first b → AreUntargeted more c
 untargeted_still b c first more le same h id x at is = h id x (omega (arith, le, at)) (ap (λ l. slice_get l id) (sym same) ∙ is)
-
-pub untargeted_behind : (b c : Lists) (id : ℕ) (g : GlobalId) → c ≡ with_target b id g → AreUntargeted id b → AreUntargeted (id + 1) c
-untargeted_behind b c id g e h = subst (AreUntargeted (id + 1)) (sym e) (λ k x le is. h k x (omega (arith, le)) (sym (changed_behind (λ (y : the_alias.Alias). record y { target = Some g }) b.aliases id k le) ∙ is))

@@ -4,11 +4,12 @@ use Rattle.module_arena.specs.Changes.{alias_in}
 use Rattle.module_arena.specs.View.{module_of}
 use Rattle.module_linker.specs.Linked.{linked_alias}
 use Rattle.module_arena.specs.declared.entry.GlobalId.TheVariants as global
+use Rattle.type_build.proofs.Untargeted.{untargeted_set}
 use Rattle.linked_symbols.proofs.Targets.{some_target}
 use Rattle.link_filling.specs.Filling.{IsBare}
 use Rattle.link_filling.proofs.Aliases.{alias_written, new_known, new_there, target_written}
 use Rattle.link_filling.proofs.Bare.{alias_there}
-use Rattle.link_filling.proofs.Keeping.{targeted_keeps, untargeted_behind}
+use Rattle.link_filling.proofs.Keeping.{targeted_keeps}
 use Rattle.link_filling.proofs.targets.target.Goals as goal
 
 pub unwrap-target-requires : goal.unwrap-target-requires
@@ -65,4 +66,4 @@ pub returns-clause-keeps : goal.returns-clause-keeps
 returns-clause-keeps c = targeted_keeps c.args.into.now.arena c.set_target.new.self c.args.id c.unwrap-new.result c.set_target.ensures.set
 
 pub returns-clause-untargeted : goal.returns-clause-untargeted
-returns-clause-untargeted c = untargeted_behind c.args.into.now.arena c.set_target.new.self c.args.id c.unwrap-new.result c.set_target.ensures.set c.requires.untargeted
+returns-clause-untargeted c = untargeted_set c.args.into.now.arena c.set_target.new.self c.args.id c.unwrap-new.result c.set_target.ensures.set c.requires.untargeted
