@@ -7,7 +7,7 @@ use Rattle.module_linker.specs.Rename.{dotted, least, fresh}
 use Rattle.module_linker.proofs.Names.{fresh_free}
 use Rattle.link_names.specs.Naming.{SameNames, AllTaken}
 
-first_or_later : (a b : ℕ) → a ≤ b → (b ≡ a) ⊎ (suc a ≤ b)
+pub first_or_later : (a b : ℕ) → a ≤ b → (b ≡ a) ⊎ (suc a ≤ b)
 first_or_later a b h = elim (cases_lt a b) [ inl below ↦ inr below | inr above ↦ inl (omega (arith, h, above)) ]
 
 earlier_or_here : (a b : ℕ) → a < b + 1 → (a < b) ⊎ (a ≡ b)

@@ -15,7 +15,7 @@ use Rattle.link_names.specs.Naming.{GivesName, HasMore, TakenNames, SameNames, i
 use Rattle.link_names.proofs.FirstFree.{fresh_same}
 
 -- equal names in front of equal names
-joined_same : (xs ys vs ws : List Bytes) → SameNames xs ys → SameNames vs ws → SameNames (xs ++ vs) (ys ++ ws)
+pub joined_same : (xs ys vs ws : List Bytes) → SameNames xs ys → SameNames vs ws → SameNames (xs ++ vs) (ys ++ ws)
 joined_same xs ys vs ws front behind name =
     list_any-append (bytes_eq name) xs vs ∙ ap₂ (λ a b. a || b) (front name) (behind name) ∙ sym (list_any-append (bytes_eq name) ys ws)
 

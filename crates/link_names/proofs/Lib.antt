@@ -1,5 +1,5 @@
-mod FirstFree
+pub mod FirstFree
 mod Hints
 mod Numbers
-mod Avoided
-mod Given
+pub mod Avoided
+pub mod Given

@@ -1,5 +1,5 @@
 -- A row's number tells what its struct is called in the linked module.
-use Rattle.std.proofs.Common.{◌≡◌, ℕ, zero, suc, true, false, All, List, [], ◌∷◌, ◌++◌, length, map, take, Some, refl, sym, ap, ◌∙◌, subst, append-nil, option_map, bytes_eq, arith}
+use Rattle.std.proofs.Common.{◌≡◌, ℕ, zero, suc, true, false, All, List, [], ◌∷◌, length, map, take, Some, refl, sym, ap, ◌∙◌, subst, option_map, bytes_eq, arith}
 use Rattle.std.specs.Prelude.{slice_get}
 use Rattle.std.specs.Map.{lookup}
 use Rattle.std.proofs.lemmas.Bool.{cond-true, cond-false}
@@ -20,7 +20,7 @@ use Rattle.module_linker.specs.Structs.{same_struct, struct_map, struct_symbols,
 use Rattle.module_linker.proofs.Apart.{Apart, apart_firsts, none_at}
 use Rattle.module_linker.proofs.StructRows.{Key, first_keys, key, key_exact, key_self, same_key, struct_keys}
 use Rattle.labelled_shapes.specs.Shapes.{shapes_of}
-use Rattle.link_names.specs.Naming.{HasMore, TakenNames, SameNames}
+use Rattle.link_names.specs.Naming.{TakenNames, SameNames}
 use Rattle.struct_rows.specs.Numbers.{AreNewStructs, IsNewStruct, all_struct_names, new_struct_names, so_far}
 use Rattle.struct_rows.specs.Rows.{AreRows, AreShapesOf, HasRow, HaveRows, first_of_each, names_given}
 use Rattle.struct_rows.specs.declared.rows.GrowingRows.{GrowingRows}
@@ -90,10 +90,6 @@ added_none ps rows numbers none h = record {
   where
     no_list : (i : ℕ) (list : List ℕ) → slice_get [] i ≡ Some list → ⊥
     no_list i list e = cc
-
--- names behind none are the same names
-pub same_behind_none : (old names now : List Bytes) → old ≡ [] → HasMore old names now → SameNames now names
-same_behind_none old names now none more name = more name ∙ ap (λ (l : List Bytes). has bytes_eq (names ++ l) name) none ∙ ap (λ (l : List Bytes). has bytes_eq l name) (append-nil names)
 
 module _ (ps : List Lists) (part : ℕ) (rows : GrowingRows) (numbers : List (List ℕ)) (end : part ≡ length ps) (h : AreAdded ps part rows numbers) where
   many : part ≡ length (modules ps)

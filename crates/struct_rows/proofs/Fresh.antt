@@ -1,15 +1,13 @@
 -- New names depend on which names are taken alone, in whatever order these are kept.
-use Rattle.std.proofs.Common.{◌≡◌, ◌⊎◌, inl, inr, ℕ, zero, suc, ◌<◌, ◌≤◌, Bool, true, false, cond, ◌||◌, List, ◌++◌, length, refl, sym, ap, ap₂, ◌∙◌, bytes_eq, arith}
-use Rattle.std.proofs.lemmas.Bool.{both_ways, cases_lt, cases_order}
-use Rattle.std.proofs.lemmas.List.Folds.{list_any-append}
+use Rattle.std.proofs.Common.{◌≡◌, ◌⊎◌, inl, inr, ℕ, zero, suc, ◌<◌, ◌≤◌, Bool, true, false, cond, List, ◌++◌, length, refl, ap, ap₂, ◌∙◌, bytes_eq, arith}
+use Rattle.std.proofs.lemmas.Bool.{both_ways, cases_order}
 use Rattle.module_arena.specs.Module.{Bytes}
 use Rattle.linkage_rules.specs.Lists.{has}
 use Rattle.module_linker.specs.Rename.{dotted, least, fresh, new_name}
 use Rattle.module_linker.proofs.Names.{fresh_free}
 use Rattle.link_names.specs.Naming.{SameNames, AllTaken}
-
-first_or_later : (a b : ℕ) → a ≤ b → (b ≡ a) ⊎ (suc a ≤ b)
-first_or_later a b h = elim (cases_lt a b) [ inl below ↦ inr below | inr above ↦ inl (omega (arith, h, above)) ]
+use Rattle.link_names.proofs.FirstFree.{first_or_later, fresh_same}
+use Rattle.link_names.proofs.Given.{joined_same}
 
 module _ (names : List Bytes) (base : Bytes) where
   -- the least number is none before the first
@@ -45,17 +43,6 @@ module _ (names : List Bytes) (base : Bytes) where
       same (inl is) = is
       same (inr (inl less)) = absurd (both_ways _ (fresh_free names base) (before (least (length names) names base 1) from less))
       same (inr (inr more)) = absurd (both_ways _ free (least_taken (length names) 1 n first more))
-
--- equal names give one fresh name
-fresh_same : (xs ys : List Bytes) (base : Bytes) → SameNames xs ys → fresh xs base ≡ fresh ys base
-fresh_same xs ys base same =
-    sym (first_free_is ys base (least (length xs) xs base 1) (least_above xs base (length xs) 1)
-    (λ n first below. sym (same (dotted base n)) ∙ least_taken xs base (length xs) 1 n first below)
-    (sym (same (fresh xs base)) ∙ fresh_free xs base))
-
-joined_same : (xs ys vs ws : List Bytes) → SameNames xs ys → SameNames vs ws → SameNames (xs ++ vs) (ys ++ ws)
-joined_same xs ys vs ws front behind name =
-    list_any-append (bytes_eq name) xs vs ∙ ap₂ (λ a b. a || b) (front name) (behind name) ∙ sym (list_any-append (bytes_eq name) ys ws)
 
 -- and one new name
 pub new_name_same : (base : Bytes → Bytes) (xs ys vs ws : List Bytes) (name : Bytes) → SameNames xs ys → SameNames vs ws → new_name base vs xs name ≡ new_name base ws ys name

@@ -8,7 +8,8 @@ use Rattle.module_arena.specs.View.{module_of}
 use Rattle.module_linker.specs.Structs.{structs_from}
 use Rattle.type_table.specs.Types.{Types, names}
 use Rattle.link_names.specs.Naming.{HasMore}
-use Rattle.struct_rows.proofs.Avoiding.{nothing_more, part_more}
+use Rattle.link_names.proofs.Avoided.{nothing_more}
+use Rattle.struct_rows.proofs.Avoiding.{part_more}
 use Rattle.struct_rows.proofs.avoided.avoid_all.Goals as goal
 
 pub parts-init : goal.parts-init

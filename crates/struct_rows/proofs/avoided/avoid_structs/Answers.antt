@@ -4,7 +4,8 @@ use Rattle.linkage_rules.proofs.Steps.{take_whole}
 use Rattle.module_arena.specs.Module.{Bytes}
 use Rattle.type_table.specs.Types.{names}
 use Rattle.link_names.specs.Naming.{HasMore}
-use Rattle.struct_rows.proofs.Avoiding.{nothing_more, one_more}
+use Rattle.link_names.proofs.Avoided.{nothing_more}
+use Rattle.struct_rows.proofs.Avoiding.{one_more}
 use Rattle.struct_rows.proofs.avoided.avoid_structs.Goals as goal
 
 pub structs-init : goal.structs-init

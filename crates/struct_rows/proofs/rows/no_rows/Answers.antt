@@ -1,8 +1,9 @@
 use Rattle.std.proofs.Common.{ap, ◌∙◌}
 use Rattle.linkage_rules.specs.Ids.{modules}
 use Rattle.link_names.specs.Naming.{TakenNames}
+use Rattle.link_names.proofs.Given.{same_behind_none}
 use Rattle.struct_rows.specs.Numbers.{all_struct_names}
-use Rattle.struct_rows.proofs.Ending.{rows_none, same_behind_none}
+use Rattle.struct_rows.proofs.Ending.{rows_none}
 use Rattle.struct_rows.proofs.rows.no_rows.Goals as goal
 
 pub returns : goal.returns
