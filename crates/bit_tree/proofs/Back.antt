@@ -26,7 +26,7 @@ aligned_whole : (bits : List Bool) → length (aligned bits) % 32 ≡ 0
 aligned_whole bits = omega (arith, length-append bits (pad_bits (length bits)), pad_size (length bits))
 
 -- behind a block whole words were written
-block_whole : (w : Writer) (id width : ℕ) (x : Writer) → x.around ≡ (enter w id width).around → length (end_block x).bits % 32 ≡ 0
+pub block_whole : (w : Writer) (id width : ℕ) (x : Writer) → x.around ≡ (enter w id width).around → length (end_block x).bits % 32 ≡ 0
 block_whole w id width x stack =
     let outer = aligned (w.bits ++ id_bits w 1 ++ chunks 8 id ++ chunks 4 width) in
     let less : length x.around - 1 ≡ length w.around = omega (arith, ap length stack, length-append w.around (outer ∷ [])) in

@@ -1,15 +1,12 @@
 -- The bytes of a stream of whole words.
-use Rattle.std.proofs.Common.{◌≡◌, ℕ, zero, suc, ◌+◌, ◌-◌, ◌*◌, ◌/◌, ◌%◌, ◌<◌, ◌≤◌, ◌^◌, Bool, false, List, [], ◌∷◌, ◌++◌, length, take, drop, get_or, replicate, refl, sym, ap, ◌∙◌, arith}
-use Rattle.std.proofs.lemmas.List.{take_at, drop_at, get_or_at, length-append, length-replicate, append-nil, take_all}
+use Rattle.std.proofs.Common.{◌≡◌, ℕ, zero, suc, ◌-◌, ◌*◌, ◌/◌, ◌%◌, ◌<◌, ◌≤◌, Bool, false, List, [], ◌∷◌, ◌++◌, length, take, drop, get_or, replicate, refl, sym, ap, ◌∙◌, arith}
+use Rattle.std.proofs.lemmas.List.{take_at, drop_at, append-nil, take_all}
 use Rattle.std.proofs.Math.Nat.{mod-eq_of_lt}
 use Rattle.bits.specs.Bits.{value, bits_of, stream_bits}
 use Rattle.bits.specs.Reading.{bytes_of}
-use Rattle.bits.specs.Writing.{pad_bits, byte_pad}
+use Rattle.bits.specs.Writing.{byte_pad}
 use Rattle.bits.proofs.BitsLaws.{length-stream_bits, length-bits_of, value-bits_of}
-use Rattle.bit_stream.specs.Spelling.{chunks, aligned}
-use Rattle.bit_stream.specs.Writer.{Writer, enter, end_block, ended, id_bits}
 use Rattle.bit_tree.specs.Written.{AreBytesOf}
-use Rattle.std.specs.List.{slice_index_or}
 
 bytes_are : (n : ℕ) (bs : List ℕ) → n ≤ length bs → ((i : ℕ) → get_or bs i 0 < 256) → bytes_of n (stream_bits bs) ≡ take n bs
 unfolding bytes_of stream_bits
@@ -26,20 +23,3 @@ bytes_back bits text whole small is =
     let same : stream_bits text ≡ bits = is ∙ ap (λ (n : ℕ). bits ++ replicate n false) none ∙ append-nil bits in
     let count : length bits / 8 ≡ length text = omega (arith, length-stream_bits text, ap length same) in
     sym (ap (bytes_of (length bits / 8)) (sym same) ∙ ap (λ (n : ℕ). bytes_of n (stream_bits text)) count ∙ bytes_are (length text) text (omega arith) small ∙ take_all (length text) text (omega arith))
-
-pad_whole : (n : ℕ) → (n + (32 - n % 32) % 32) % 32 ≡ 0
-pad_whole n = omega arith
-
-aligned_whole : (bits : List Bool) → length (aligned bits) % 32 ≡ 0
-aligned_whole bits = omega (arith, length-append bits (pad_bits (length bits)), length-replicate ((32 - length bits % 32) % 32) false, pad_whole (length bits))
-
--- behind a block whole words were written
-pub block_whole : (w : Writer) (id width : ℕ) (x : Writer) → x.around ≡ (enter w id width).around → length (end_block x).bits % 32 ≡ 0
-block_whole w id width x stack =
-    let outer = aligned (w.bits ++ id_bits w 1 ++ chunks 8 id ++ chunks 4 width) in
-    let less : length x.around - 1 ≡ length w.around = omega (arith, ap length stack, length-append w.around (outer ∷ [])) in
-    let first : slice_index_or x.around (length x.around - 1) [] ≡ outer = rw (less, stack) (get_or_at w.around outer [] [] (length w.around) refl) in
-    let count = bits_of 32 (length (ended x) / 32 % 2 ^ 32) in
-    let size : length (outer ++ count ++ ended x) ≡ length outer + 32 + length (ended x) = omega (arith, length-append (outer ++ count) (ended x), length-append outer count, length-bits_of 32 (length (ended x) / 32 % 2 ^ 32)) in
-    let whole : length (outer ++ count ++ ended x) % 32 ≡ 0 = omega (arith, size, aligned_whole (w.bits ++ id_bits w 1 ++ chunks 8 id ++ chunks 4 width), aligned_whole (x.bits ++ id_bits x 0)) in
-    ap (λ (l : List Bool). length (l ++ count ++ ended x) % 32) first ∙ whole

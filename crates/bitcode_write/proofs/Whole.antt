@@ -4,9 +4,10 @@ use Rattle.module_arena.specs.Module.{Module}
 use Rattle.bits.specs.Reading.{bytes_of}
 use Rattle.bit_stream.specs.Writer.{Writer, begun, enter}
 use Rattle.bit_tree.specs.Written.{Written, no_more, written, AreBytesOf}
+use Rattle.bit_tree.proofs.Back.{block_whole}
 use Rattle.record_table.specs.Records.{producer}
 use Rattle.record_table.specs.Spelling.{put_block, put_bytes, put_module, texts_in, string_table, written_module, spelling}
-use Rattle.bitcode_write.proofs.Finished.{bytes_back, block_whole}
+use Rattle.bitcode_write.proofs.Finished.{bytes_back}
 use Rattle.bitcode_write.proofs.Lined.{around_kept}
 
 three_blocks : (w : Writer) (i j k : ℕ) (x y z : Written) → written (written (written w (put_block i x no_more)) (put_block j y no_more)) (put_block k z no_more) ≡ written w (put_block i x (put_block j y (put_block k z no_more)))

@@ -1,35 +1,16 @@
 -- The bytes of a spelling are those of the writer that was told to write the module.
-use Rattle.std.proofs.Common.{◌≡◌, ℕ, zero, suc, ◌+◌, ◌-◌, ◌*◌, ◌/◌, ◌%◌, ◌^◌, ◌<◌, Bool, false, List, [], ◌∷◌, ◌++◌, length, take, drop, replicate, refl, sym, ap, ◌∙◌, arith}
-use Rattle.std.specs.List.{slice_index_or}
-use Rattle.std.proofs.lemmas.List.{length-append, length-replicate, length-take, length-drop, append-nil, get_or_at, take-append-drop}
+use Rattle.std.proofs.Common.{◌≡◌, ℕ, zero, suc, ◌-◌, ◌*◌, ◌/◌, ◌%◌, ◌^◌, ◌<◌, Bool, false, List, [], ◌∷◌, ◌++◌, length, take, drop, replicate, refl, sym, ap, ◌∙◌, arith}
+use Rattle.std.proofs.lemmas.List.{length-take, length-drop, append-nil, take-append-drop}
 use Rattle.bits.specs.Bits.{value, bits_of, stream_bits}
 use Rattle.bits.specs.Reading.{bytes_of}
-use Rattle.bits.specs.Writing.{pad_bits}
-use Rattle.bits.proofs.BitsLaws.{length-bits_of, bits_of-value}
-use Rattle.bit_stream.specs.Spelling.{chunks, aligned}
-use Rattle.bit_stream.specs.Writer.{Writer, begun, enter, end_block, ended, id_bits}
+use Rattle.bits.proofs.BitsLaws.{bits_of-value}
+use Rattle.bit_stream.specs.Writer.{Writer, begun, enter}
 use Rattle.bit_tree.specs.Written.{Written, no_more, written, AreBytesOf}
 use Rattle.module_arena.specs.Module.{Module}
+use Rattle.bit_tree.proofs.Back.{block_whole}
 use Rattle.record_table.specs.Records.{producer}
 use Rattle.record_table.specs.Spelling.{put_block, put_bytes, put_module, written_module, spelling, string_table, texts_in}
 use Rattle.written_size.proofs.Grows.{around_kept}
-
-pad_whole : (n : ℕ) → (n + (32 - n % 32) % 32) % 32 ≡ 0
-pad_whole n = omega arith
-
-aligned_whole : (bits : List Bool) → length (aligned bits) % 32 ≡ 0
-aligned_whole bits = omega (arith, length-append bits (pad_bits (length bits)), length-replicate ((32 - length bits % 32) % 32) false, pad_whole (length bits))
-
--- behind a block whole words were written
-block_whole : (w : Writer) (id width : ℕ) (x : Writer) → x.around ≡ (enter w id width).around → length (end_block x).bits % 32 ≡ 0
-block_whole w id width x stack =
-    let outer = aligned (w.bits ++ id_bits w 1 ++ chunks 8 id ++ chunks 4 width) in
-    let less : length x.around - 1 ≡ length w.around = omega (arith, ap length stack, length-append w.around (outer ∷ [])) in
-    let first : slice_index_or x.around (length x.around - 1) [] ≡ outer = rw (less, stack) (get_or_at w.around outer [] [] (length w.around) refl) in
-    let count = bits_of 32 (length (ended x) / 32 % 2 ^ 32) in
-    let sum : length (outer ++ count ++ ended x) ≡ length outer + 32 + length (ended x) = omega (arith, length-append (outer ++ count) (ended x), length-append outer count, length-bits_of 32 (length (ended x) / 32 % 2 ^ 32)) in
-    let whole : length (outer ++ count ++ ended x) % 32 ≡ 0 = omega (arith, sum, aligned_whole (w.bits ++ id_bits w 1 ++ chunks 8 id ++ chunks 4 width), aligned_whole (x.bits ++ id_bits x 0)) in
-    ap (λ (l : List Bool). length (l ++ count ++ ended x) % 32) first ∙ whole
 
 last_whole : (w : Writer) (id : ℕ) (inside : Written) → length (written w (put_block id inside no_more)).bits % 32 ≡ 0
 unfolding written
