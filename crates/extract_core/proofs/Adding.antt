@@ -9,11 +9,11 @@ use Rattle.extract_core.specs.Calls.{Adds, AreNames}
 use Rattle.extract_core.specs.Selected.{is_among}
 use Rattle.extract_core.proofs.Among.{same_test, among_front, among_cases, name_exact}
 
-or_nothing : (b : Bool) → b ≡ (b || false)
+pub or_nothing : (b : Bool) → b ≡ (b || false)
 or_nothing true = refl
 or_nothing false = refl
 
-or_regroup : (a b c : Bool) → ((a || b) || c) ≡ (a || (b || c))
+pub or_regroup : (a b c : Bool) → ((a || b) || c) ≡ (a || (b || c))
 or_regroup true b c = refl
 or_regroup false b c = refl
 

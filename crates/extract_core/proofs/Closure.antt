@@ -129,7 +129,7 @@ each_named test m = go m.functions 0 (λ k. let e : 0 + k ≡ k = omega arith in
       go fs (suc i) (λ k. let e : suc i + k ≡ i + suc k = omega arith in ap (slice_get m.functions) e ∙ at (suc k)),
     )
 
-all_follow : {A : Type 0} (P Q : A → Type 0) (xs : List A) → ((x : A) → P x → Q x) → AllByRecursion P xs → AllByRecursion Q xs
+pub all_follow : {A : Type 0} (P Q : A → Type 0) (xs : List A) → ((x : A) → P x → Q x) → AllByRecursion P xs → AllByRecursion Q xs
 all_follow P Q [] f a = tt
 all_follow P Q (x ∷ xs) f a = (f x a.0, all_follow P Q xs f a.1)
 

@@ -24,11 +24,12 @@ use Rattle.module_arena.specs.WellFormed.{IsWellFormed, has_entry, is_good_type,
 use Rattle.extract_core.specs.declared.selection.Selection.{Selection}
 use Rattle.extract_core.specs.Selected.{is_among, keeps_variable, keeps_function, keeps_alias}
 use Rattle.extract_core.specs.Extracted.{kept_names, kept_linkage, without_elements, declared_variable, declared_function, extracted_variable, extracted_function, extracted_alias, alias_as_variable, alias_as_function, declared_aliases, Extracted}
-use Rattle.extract_core.proofs.Among.{name_self, name_exact}
+use Rattle.extract_core.proofs.Among.{name_self, name_exact, any_key}
+use Rattle.extract_core.proofs.Closure.{all_follow}
 use Rattle.extracted_is_valid.proofs.Gathered.{all_parts, all_both, all_gathered, gathered_all, made_all, both_all, gathered, any_split, any_filtered}
 use Rattle.extracted_is_valid.proofs.GoodVariables.{without_good}
-use Rattle.extracted_is_valid.proofs.Kept.{made_any, any_key, any_front, any_back, either}
-use Rattle.extracted_is_valid.proofs.Lists.{all_units, all_follow, all_tests, all_of_append}
+use Rattle.extracted_is_valid.proofs.Kept.{made_any, any_front, any_back, either}
+use Rattle.extracted_is_valid.proofs.Lists.{all_units, all_tests, all_of_append}
 
 module _ (m : Module) (s : Selection) where
   abbrev n : Module

@@ -16,13 +16,13 @@ use Rattle.module_arena.specs.UsedNames.{names_in_constant, names_in_constants}
 use Rattle.module_arena.specs.EntryRules.{has_function, has_alias_of_function, is_lasting, is_lasting_variable, is_lasting_function, target_suits, constructor_type, is_function_or_null, is_constructor, are_constructors, lists_constructors}
 use Rattle.module_arena.specs.Valid.{AllHold, IsValid, alias_demands}
 use Rattle.module_arena.specs.WellFormed.{IsWellFormed, global_names}
-use Rattle.extract_core.proofs.Among.{name_self, name_exact}
+use Rattle.extract_core.proofs.Among.{name_self, name_exact, any_key}
 use Rattle.extracted_is_valid.proofs.Lists.{all_units}
 use Rattle.extracted_is_valid.proofs.Distinct.{distinct_apart, apart_parts}
 use Rattle.extract_core.specs.declared.selection.Selection.{Selection}
 use Rattle.extract_core.specs.Selected.{is_among, keeps_function, keeps_alias}
 use Rattle.extract_core.specs.Extracted.{kept_names, kept_linkage, declared_function, extracted_function, extracted_alias, alias_as_function, declared_aliases, Extracted}
-use Rattle.extracted_is_valid.proofs.Kept.{all_filtered, made_any, any_key, any_front, any_back, any_follow, never}
+use Rattle.extracted_is_valid.proofs.Kept.{all_filtered, made_any, any_front, any_back, any_follow, never}
 use Rattle.extracted_is_valid.proofs.Stays.{turned, aliases_hold, target_stays}
 use Rattle.extracted_is_valid.proofs.Gathered.{any_filtered, any_split}
 

@@ -9,11 +9,11 @@ use Rattle.module_arena.specs.WellFormed.{IsWellFormed}
 use Rattle.module_arena.proofs.Parts.{front_holds, rest_holds, both_hold}
 use Rattle.std.proofs.lemmas.Bool.{and_parts}
 use Rattle.std.proofs.lemmas.Option.{same_Some}
-use Rattle.extracted_is_valid.proofs.Lists.{all_follow}
 use Rattle.extracted_is_valid.specs.Laws.{ExtractedIsValid}
 use Rattle.extract_core.specs.declared.selection.Selection.{Selection}
 use Rattle.extract_core.specs.Selected.{is_among, keeps_variable, keeps_function, keeps_alias}
 use Rattle.extract_core.specs.Extracted.{kept_names, kept_linkage, declared_variable, declared_function, extracted_variable, extracted_function, extracted_alias, alias_as_variable, alias_as_function, declared_aliases, Extracted}
+use Rattle.extract_core.proofs.Closure.{all_follow}
 use Rattle.extracted_is_valid.proofs.Functions.{function_kept, function_declared, alias_function}
 use Rattle.extracted_is_valid.proofs.Variables.{variable_kept, variable_declared, alias_variable, alias_kept}
 use Rattle.extracted_is_valid.proofs.Kept.{all_filtered, made_hold, any_front, either}

@@ -4,8 +4,8 @@ use Rattle.std.specs.List.{cons_option, list_any, list_all, AllByRecursion}
 use Rattle.std.proofs.lemmas.Bool.{and_from, and_parts, or_left, or_right, or_cases, cases_Bool}
 use Rattle.module_arena.specs.Module.{Bytes}
 use Rattle.extract_core.specs.Selected.{is_among}
+use Rattle.extract_core.proofs.Closure.{all_follow}
 use Rattle.extracted_is_valid.proofs.Kept.{any_front, any_back}
-use Rattle.extracted_is_valid.proofs.Lists.{all_follow}
 
 pub all_parts : {A : Type 0} (p : A → Bool) (xs ys : List A) → list_all p (xs ++ ys) ≡ true → (list_all p xs ≡ true) × (list_all p ys ≡ true)
 all_parts p [] ys h = (refl, h)

@@ -16,8 +16,9 @@ use Rattle.extracted_is_valid.proofs.Numbers.{numbers, declared_names}
 use Rattle.extract_core.specs.declared.selection.Selection.{Selection}
 use Rattle.extract_core.specs.Selected.{is_among, keeps_function, keeps_alias}
 use Rattle.extract_core.specs.Extracted.{kept_names, kept_linkage, declared_function, extracted_function, extracted_alias, alias_as_function, declared_aliases, Extracted}
+use Rattle.extract_core.proofs.Among.{any_key}
 use Rattle.extracted_is_valid.proofs.Functions.{passable_numbered, passable_from}
-use Rattle.extracted_is_valid.proofs.Kept.{all_filtered, any_key, any_front, any_back, any_follow, either}
+use Rattle.extracted_is_valid.proofs.Kept.{all_filtered, any_front, any_back, any_follow, either}
 use Rattle.extracted_is_valid.proofs.Stays.{turned, aliases_hold, target_stays}
 use Rattle.extracted_is_valid.proofs.Gathered.{both_all, made_all}
 

@@ -1,5 +1,5 @@
 -- What is kept or declared of a module's functions: no intrinsic more, and each function that is named.
-use Rattle.std.proofs.Common.{◌≡◌, Bool, true, false, ◌||◌, ◌⊎◌, inl, inr, List, [], ◌∷◌, ◌++◌, map, filter, filter_map, flat_map, Option, Some, None, refl, sym, ap, ◌∙◌, subst, cond, if◌then◌else◌}
+use Rattle.std.proofs.Common.{◌≡◌, Bool, true, false, ◌||◌, ◌⊎◌, inl, inr, List, [], ◌∷◌, ◌++◌, filter, filter_map, flat_map, Option, Some, None, refl, sym, ◌∙◌, subst, cond, if◌then◌else◌}
 use Rattle.std.specs.List.{cons_option, list_any, AllByRecursion}
 use Rattle.std.proofs.lemmas.Bool.{or_left, or_right, or_cases}
 use Rattle.std.proofs.lemmas.Option.{same_Some}
@@ -55,10 +55,6 @@ from_made {Y = Y} P f p q each (x ∷ xs) a h = go (f x) refl h (from_made P f p
     go : (o : Option Y) → f x ≡ o → list_any q (cons_option o (filter_map f xs)) ≡ true → (list_any q (filter_map f xs) ≡ true → list_any p xs ≡ true) → list_any p (x ∷ xs) ≡ true
     go None e h more = or_right (p x) _ (more h)
     go (Some y) e h more = split y e (or_cases (q y) _ h) more
-
-pub any_key : {A B : Type 0} (key : A → B) (test : B → Bool) (xs : List A) → list_any test (map key xs) ≡ list_any (λ x. test (key x)) xs
-any_key key test [] = refl
-any_key key test (x ∷ xs) = ap (λ b. test (key x) || b) (any_key key test xs)
 
 pub any_front : {A : Type 0} (test : A → Bool) (xs ys : List A) → list_any test xs ≡ true → list_any test (xs ++ ys) ≡ true
 any_front test xs ys h = list_any-append test xs ys ∙ or_left _ _ h

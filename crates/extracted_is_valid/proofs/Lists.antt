@@ -8,10 +8,6 @@ pub all_units : {A : Type 0} (xs : List A) → AllByRecursion (λ x. ⊤) xs
 all_units [] = tt
 all_units (x ∷ xs) = (tt, all_units xs)
 
-pub all_follow : {A : Type 0} (P Q : A → Type 0) (xs : List A) → ((x : A) → P x → Q x) → AllByRecursion P xs → AllByRecursion Q xs
-all_follow P Q [] f a = tt
-all_follow P Q (x ∷ xs) f a = (f x a.0, all_follow P Q xs f a.1)
-
 pub all_of_append : {A : Type 0} (P : A → Type 0) (xs ys : List A) → AllByRecursion P xs → AllByRecursion P ys → AllByRecursion P (xs ++ ys)
 all_of_append P [] ys a b = b
 all_of_append P (x ∷ xs) ys a b = (a.0, all_of_append P xs ys a.1 b)

@@ -10,7 +10,7 @@ use Rattle.module_arena.specs.EntryRules.{is_llvm_name, has_function, is_only_ca
 use Rattle.module_arena.specs.Valid.{AllHold, IsValid, module_demands, variable_demands, alias_demands, function_demands}
 use Rattle.module_arena.specs.WellFormed.{IsWellFormed}
 use Rattle.module_arena.proofs.Parts.{front_holds, rest_holds}
-use Rattle.extract_core.proofs.Among.{name_self, name_exact}
+use Rattle.extract_core.proofs.Among.{name_self, name_exact, any_key}
 use Rattle.extracted_is_valid.proofs.Lists.{all_units}
 use Rattle.extracted_is_valid.proofs.Plain.{alias_plain}
 use Rattle.extract_core.specs.declared.selection.Selection.{Selection}
@@ -18,7 +18,7 @@ use Rattle.extract_core.specs.Selected.{is_among, keeps, keeps_variable, keeps_f
 use Rattle.extract_core.specs.Extracted.{kept_names, kept_linkage, declared_variable, declared_function, extracted_variable, extracted_function, alias_as_variable, alias_as_function, declared_aliases, Extracted}
 use Rattle.extracted_is_valid.proofs.Bodies.{NoMore}
 use Rattle.extracted_is_valid.proofs.Functions.{kept_lasting}
-use Rattle.extracted_is_valid.proofs.Kept.{all_held, all_filtered, made_any, from_made, any_key, any_front, never, either}
+use Rattle.extracted_is_valid.proofs.Kept.{all_held, all_filtered, made_any, from_made, any_front, never, either}
 
 pub turned : (a b : Bytes) → bytes_eq a b ≡ true → bytes_eq b a ≡ true
 turned a b e = subst (λ z. bytes_eq b z ≡ true) (sym (name_exact a b e)) (name_self b)

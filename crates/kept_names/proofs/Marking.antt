@@ -6,15 +6,7 @@ use Rattle.module_arena.specs.Module.{Bytes, Constant}
 use Rattle.module_arena.specs.UsedNames.{names_in_constant}
 use Rattle.kept_names.specs.Marks.{Marks, MarksAll, marked_names, in_const}
 use Rattle.extract_core.specs.Selected.{is_among}
-use Rattle.extract_core.proofs.Adding.{gathered_more, take_whole}
-
-pub or_nothing : (b : Bool) → b ≡ (b || false)
-or_nothing true = refl
-or_nothing false = refl
-
-or_regroup : (a b c : Bool) → ((a || b) || c) ≡ (a || (b || c))
-or_regroup true b c = refl
-or_regroup false b c = refl
+use Rattle.extract_core.proofs.Adding.{gathered_more, take_whole, or_nothing, or_regroup}
 
 marks_both : (cs : List Constant) (old mid new : List Bool) (xs ys : List Bytes) → Marks cs old xs mid → Marks cs mid ys new → Marks cs old (xs ++ ys) new
 marks_both cs old mid new xs ys a b = record {

@@ -22,7 +22,7 @@ use Rattle.module_arena.proofs.ModuleOf.{length-constants_of}
 use Rattle.extract_core.specs.Calls.{Adds}
 use Rattle.kept_names.specs.Marks.{IsAmongEach, Marks, MarksAll, in_const, in_parts, marked_names, own_names}
 use Rattle.extract_core.specs.Selected.{is_among}
-use Rattle.kept_names.proofs.Marking.{or_nothing}
+use Rattle.extract_core.proofs.Adding.{take_whole, or_nothing}
 
 -- ---- the names in a constant
 
@@ -110,20 +110,13 @@ pub record Sweeping (a : Lists) (start : List Bytes) (first : List Bool) (next :
   pub within : next ≤ length a.constants
   pub among : (name : Bytes) → (is_among names name || is_among (marked_names (take next (constants_of a)) marks) name) ≡ (is_among start name || is_among (marked_names (constants_of a) first) name)
 
-take_all : {A : Type 0} (xs : List A) (k : ℕ) → k ≡ length xs → take k xs ≡ xs
-take_all {A = A} xs k e = ap (λ n. take n xs) e ∙ go xs
-  where
-    go : (ys : List A) → take (length ys) ys ≡ ys
-    go [] = refl
-    go (y ∷ ys) = ap (λ l. y ∷ l) (go ys)
-
 pub sweeping_none : (a : Lists) (start : List Bytes) (first : List Bool) (next : ℕ) → length first ≡ length a.constants → next ≡ length first → Sweeping a start first next start first
 sweeping_none a start first next sized end =
     let long = length-constants_of a in
     record {
       sized = sized;
       within = omega (arith, sized, end);
-      among = λ name. ap (λ l. is_among start name || is_among (marked_names l first) name) (take_all (constants_of a) next (omega (arith, long, sized, end)));
+      among = λ name. ap (λ l. is_among start name || is_among (marked_names l first) name) (take_whole (constants_of a) next (omega (arith, long, sized, end)));
     }
 
 module _ (a : Lists) (good : IsGood a) (start : List Bytes) (first : List Bool) where
