@@ -1,15 +1,14 @@
 -- Which blocks lead to a block, by numbers and by names.
-use Rattle.std.proofs.Common.{◌≡◌, ℕ, zero, suc, ◌<◌, Bool, true, false, not, ◌||◌, eqb, List, [], ◌∷◌, ◌++◌, map, length, get_or, slice_get, All, Option, Some, None, refl, sym, ap, ◌∙◌, subst, inl, inr, arith}
+use Rattle.std.proofs.Common.{◌≡◌, ℕ, zero, suc, ◌<◌, Bool, true, false, not, ◌||◌, eqb, List, [], ◌∷◌, ◌++◌, map, length, slice_get, All, Option, Some, None, refl, sym, ap, ◌∙◌, subst, arith}
 use Rattle.std.specs.Prelude.{cond, filter, flat_map, unwrap_or, MatchOption, ⊤}
 use Rattle.std.specs.List.{list_any}
 use Rattle.std.specs.Option.{option_map, option_map_or}
-use Rattle.std.proofs.lemmas.Bool.{cases_eq, eq-eqb, ne_eqb}
+use Rattle.std.proofs.lemmas.Bool.{eq-eqb, ne_eqb}
 use Rattle.std.proofs.lemmas.List.{length-append, length-map}
 use Rattle.std.proofs.lemmas.List.Elements.{All-head, All-tail}
-use Rattle.std.proofs.lemmas.Option.{slice_get-get_or, get_or_from_slice_get, same_Some}
+use Rattle.std.proofs.lemmas.Option.{same_Some}
 use Rattle.type_table.specs.Tree.{Tree}
 use Rattle.type_table.specs.Types.{trees}
-use Rattle.module_arena.proofs.SameNames.{same_is, same_self}
 use Rattle.module_arena.specs.Changes.{function_in}
 use Rattle.module_arena.specs.Flow.{FlowBlock, predecessors, flow_block}
 use Rattle.module_arena.specs.Functions.{blocks, body}
@@ -27,20 +26,8 @@ use Rattle.module_arena.specs.declared.entry.Parameter as the_parameter
 use Rattle.module_arena.specs.declared.instruction.Case as the_case
 use Rattle.module_arena.specs.declared.instruction.Ending.{Ending}
 use Rattle.module_arena.specs.declared.instruction.Ending.TheVariants as ending
+use Rattle.path_rows.proofs.Named.{same_at}
 use Rattle.use_verify.specs.Uses.{blocks_named, flow_in}
-
--- ---- names by their numbers
-
--- names at two numbers are the same exactly where the numbers are
-pub same_at : (names : List LocalName) (d : LocalName) (a b : ℕ) (y : LocalName) → IsApart names → a < length names → slice_get names b ≡ Some y → same_local (get_or names a d) y ≡ eqb a b
-same_at names d a b y apart l at = elim (cases_eq a b) [
-  | inl z ↦ ap (λ (x : LocalName). same_local x y) (ap (λ k. get_or names k d) z ∙ get_or_from_slice_get names b y d at) ∙ same_self y ∙ sym (eq-eqb a b z)
-  | inr n ↦ by (same_local (get_or names a d) y) refl n ∙ sym (ne_eqb a b n)
-]
-  where
-    by : (t : Bool) → same_local (get_or names a d) y ≡ t → (a ≡ b → ⊥) → same_local (get_or names a d) y ≡ false
-    by false e n = e
-    by true e n = absurd (n (apart a b y (slice_get-get_or names a d l ∙ ap Some (same_is (get_or names a d) y e)) at))
 
 -- ---- no predecessors
 

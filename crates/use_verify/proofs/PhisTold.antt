@@ -32,8 +32,9 @@ use Rattle.module_arena.specs.declared.instruction.Inst.TheVariants as inst
 use Rattle.module_arena.specs.declared.instruction.Value as the_value
 use Rattle.module_arena.specs.declared.instruction.Value.TheVariants as value
 use Rattle.path_rows.specs.Numbers.{names_of}
+use Rattle.path_rows.proofs.Named.{same_at}
 use Rattle.use_verify.specs.Uses.{HasLocal, HasUses, block_named, blocks_named, flow_in, instruction_in}
-use Rattle.use_verify.proofs.Entered.{same_at, targets_same}
+use Rattle.use_verify.proofs.Entered.{targets_same}
 use Rattle.use_verify.proofs.Named.{so_many_names}
 use Rattle.use_verify.specs.Classes.{AreClasses, HasClass}
 use Rattle.use_verify.specs.Agreeing.{agree_by, entries_agree_by, same_by}
