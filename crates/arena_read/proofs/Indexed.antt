@@ -20,13 +20,13 @@ use Rattle.arena_read.specs.Kept.{ReadsType, TakesOnly}
 use Rattle.arena_read.proofs.Lasting.{next_still, ask_still, vain_broken}
 
 -- a front of a list has the items of the list
-get_take : {A : Type 0} (xs : List A) (n i : ℕ) (d : A) → i < n → i < length xs → get_or (take n xs) i d ≡ get_or xs i d
+pub get_take : {A : Type 0} (xs : List A) (n i : ℕ) (d : A) → i < n → i < length xs → get_or (take n xs) i d ≡ get_or xs i d
 get_take [] n i d lt there = absurd (omega arith)
 get_take (x ∷ xs) zero i d lt there = absurd (omega arith)
 get_take (x ∷ xs) (suc n) zero d lt there = refl
 get_take (x ∷ xs) (suc n) (suc i) d lt there = get_take xs n i d (omega arith) (omega arith)
 
-length_take : {A : Type 0} (xs : List A) (n : ℕ) → n ≤ length xs → length (take n xs) ≡ n
+pub length_take : {A : Type 0} (xs : List A) (n : ℕ) → n ≤ length xs → length (take n xs) ≡ n
 length_take xs zero le = refl
 length_take [] (suc n) le = absurd (omega arith)
 length_take (x ∷ xs) (suc n) le = ap suc (length_take xs n (omega arith))

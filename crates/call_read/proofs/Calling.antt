@@ -52,11 +52,6 @@ truth_found a r x h = record {
   kept = λ k n declared unbroken later w. ap (λ (b : Bool). Some b) h.value;
 }
 
--- a type that is known is one of the table
-pub known_some : (a : ModuleReader) (x : Option ℕ) → IsKnownType a x → IfSome x (λ id. id < length a.growing.arena.table.types)
-known_some a None h = tt
-known_some a (Some id) h = h
-
 -- the type that is returned
 pub returned_found : (a b : ModuleReader) (x : Option ℕ) → ReadsReturned a b x → Finds HasType type_in (λ k. (return_type k).read) a b x
 returned_found a b x r = record {

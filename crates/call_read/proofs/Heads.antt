@@ -1,5 +1,5 @@
 -- The front of a call: what its records say, from what was read of them.
-use Rattle.std.proofs.Common.{◌≡◌, ◌<◌, ◌≤◌, ◌+◌, ℕ, zero, suc, Bool, true, false, cond, List, [], ◌∷◌, Option, Some, None, length, get_or, take, refl, sym, ap, subst, ◌∙◌, arith}
+use Rattle.std.proofs.Common.{◌≡◌, ◌<◌, ◌≤◌, ◌+◌, ℕ, zero, suc, Bool, true, false, cond, List, Option, Some, None, length, get_or, refl, sym, ap, subst, ◌∙◌, arith}
 use Rattle.std.specs.Prelude.{nat_lt}
 use Rattle.std.proofs.lemmas.Bool.{lt-ltb, le-ltb}
 use Rattle.type_table.specs.Tree.{Tree, void}
@@ -20,6 +20,7 @@ use Rattle.arena_read.specs.declared.module_reader.ModuleReader.{ModuleReader}
 use Rattle.arena_read.specs.Kept.{TakesOnly}
 use Rattle.arena_read.specs.Numbered.{Numbers}
 use Rattle.arena_read.proofs.Lasting.{ask_still, many_still, next_still, stop_broken, stop_still}
+use Rattle.arena_read.proofs.Indexed.{get_take, length_take}
 use Rattle.call_read.specs.Calls.{IsNameOf, NamesResult, ReadsReturned}
 
 -- operands were taken
@@ -32,17 +33,6 @@ takes_walk a r w is lasts =
     }
 
 -- ---- the type that is returned
-
-get_take : {A : Type 0} (xs : List A) (n i : ℕ) (d : A) → i < n → i < length xs → get_or (take n xs) i d ≡ get_or xs i d
-get_take [] n i d lt there = absurd (omega arith)
-get_take (x ∷ xs) zero i d lt there = absurd (omega arith)
-get_take (x ∷ xs) (suc n) zero d lt there = refl
-get_take (x ∷ xs) (suc n) (suc i) d lt there = get_take xs n i d (omega arith) (omega arith)
-
-length_take : {A : Type 0} (xs : List A) (n : ℕ) → n ≤ length xs → length (take n xs) ≡ n
-length_take xs zero le = refl
-length_take [] (suc n) le = absurd (omega arith)
-length_take (x ∷ xs) (suc n) le = ap suc (length_take xs n (omega arith))
 
 returned_at : (k : Numbering) (n : ℕ) (w : Walk) → n < length k.types → known_type k n w ≡ (get_or k.types n void, w)
 unfolding known_type

@@ -1,5 +1,5 @@
 -- The layouts of functions and aliases take the same operands as their fronts by the indices of types.
-use Rattle.std.proofs.Common.{◌≡◌, ◌<◌, ◌≤◌, ℕ, zero, suc, List, [], ◌∷◌, length, take, refl, sym, ap, ◌∙◌, arith}
+use Rattle.std.proofs.Common.{◌≡◌, ◌<◌, ℕ, zero, suc, length, refl, sym, ap, ◌∙◌, arith}
 use Rattle.type_table.specs.Types.{trees}
 use Rattle.type_table.proofs.Added.{length-trees}
 use Rattle.record_table.specs.Fields as fields
@@ -10,19 +10,14 @@ use Rattle.record_table.specs.TypeRecords.{earlier}
 use Rattle.record_table.specs.Walk.{Walk, going, stopped, next}
 use Rattle.arena_read.specs.declared.module_reader.ModuleReader.{ModuleReader}
 use Rattle.arena_read.specs.Numbered.{Numbers}
+use Rattle.arena_read.proofs.Indexed.{length_take}
 use Rattle.head_read.specs.Fronts.{alias_type_front, function_front, function_type}
-
--- a front of a list that long
-length_taken : {A : Type 0} (xs : List A) (n : ℕ) → n ≤ length xs → length (take n xs) ≡ n
-length_taken xs zero le = refl
-length_taken [] (suc n) le = absurd (omega arith)
-length_taken (x ∷ xs) (suc n) le = ap suc (length_taken xs n (omega arith))
 
 -- so many types are listed
 pub many_types : (m : ModuleReader) (k : Numbering) → Numbers m k → m.growing.types < length m.growing.arena.table.types → m.growing.types ≡ length k.types
 many_types m k h there =
     let long = length-trees m.growing.arena.table in
-    sym (ap length h.types ∙ length_taken (trees m.growing.arena.table) m.growing.types (omega arith))
+    sym (ap length h.types ∙ length_take (trees m.growing.arena.table) m.growing.types (omega arith))
 
 module _ (k : Numbering) where
   abbrev count : ℕ

@@ -10,10 +10,11 @@ use Rattle.record_table.specs.Constants.{value}
 use Rattle.record_table.specs.Lines.{arguments}
 use Rattle.record_read.specs.Fields.{texts_of}
 use Rattle.arena_read.specs.Kept.{IsKnownType, tree_at}
+use Rattle.arena_read.proofs.TypesTold.{known_within}
 use Rattle.operand_read.specs.Found.{Finds, HasOperands, HasValue, both, operands_in, value_in}
 use Rattle.line_read.specs.Kept.{HasInst, operation_in}
 use Rattle.call_read.specs.Calls.{kept_call, operation_read}
-use Rattle.call_read.proofs.Calling.{call_found, known_some, truth_found}
+use Rattle.call_read.proofs.Calling.{call_found, truth_found}
 use Rattle.call_read.proofs.Lines.{call_line}
 use Rattle.call_read.proofs.ParameterTypes.{still_all}
 use Rattle.call_read.proofs.call.read_call.Goals as goal
@@ -22,7 +23,7 @@ pub is_void-void-requires : goal.is_void-void-requires
 is_void-void-requires c =
     let m1 = c.read_returned-returns.new.m in
     subst (λ (o : Option ℕ). IfSome o (λ id. id < length c.table.result.now.types)) (sym c.same.ensures)
-    (subst (λ (t : Types). IfSome c.read_returned-returns.result (λ id. id < length t.types)) (sym c.table.ensures) (known_some m1 c.read_returned-returns.result c.read_returned-returns.ensures.known))
+    (subst (λ (t : Types). IfSome c.read_returned-returns.result (λ id. id < length t.types)) (sym c.table.ensures) (known_within m1 c.read_returned-returns.result c.read_returned-returns.ensures.known))
 
 pub read_arguments-requires : goal.read_arguments-requires
 read_arguments-requires c =
