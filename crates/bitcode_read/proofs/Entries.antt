@@ -14,6 +14,7 @@ use Rattle.record_table.specs.Layout.{judged}
 use Rattle.record_table.specs.Records as records
 use Rattle.record_table.specs.Records.{is_new, may_follow}
 use Rattle.record_table.specs.Walk.{Walk, going, stopped, told}
+use Rattle.body_labels.proofs.Kept.{also_held}
 use Rattle.record_read.specs.Reader.{is_broken}
 use Rattle.type_read.specs.Fields.{is_good}
 use Rattle.arena_read.specs.declared.counts.GlobalCounts.{GlobalCounts}
@@ -27,7 +28,6 @@ use Rattle.entries_ahead.specs.Bodies.{names_given}
 use Rattle.entries_ahead.proofs.Told.{alias_told, bad_new, function_told, variable_told}
 use Rattle.entry_read.specs.Entries.{IsInFront, IsToldNew, Passes, ReadsAlias, ReadsFunction, ReadsVariable}
 use Rattle.reads_formed.proofs.Sofar.{is_placed}
-use Rattle.reads_formed.proofs.Unbroken.{also_held}
 use Rattle.bitcode_read.specs.declared.sofar.Sofar.{Sofar}
 use Rattle.bitcode_read.specs.Sofar.{AreDeclared, AreGood, IsEarly, IsLate, IsPast, IsSofar}
 use Rattle.bitcode_read.proofs.Functions.{functions_long}

@@ -78,11 +78,11 @@ module _ (texts : Texts) (h : HasSoundLabels texts) where
 
 -- ---- a record that is answered breaks no rule
 
-unless_ok : {A : Type 0} (id at : ℕ) (o : Option ℕ) (x t : A) → unless_broken id at o x ≡ Ok t → (o ≡ None) × (x ≡ t)
+pub unless_ok : {A : Type 0} (id at : ℕ) (o : Option ℕ) (x t : A) → unless_broken id at o x ≡ Ok t → (o ≡ None) × (x ≡ t)
 unless_ok id at None x t e = (refl, cc)
 unless_ok id at (Some rule) x t e = absurd (cc)
 
-also_held : (rule : ℕ) (b : Bool) (o : Option ℕ) → also rule b o ≡ None → (b ≡ true) × (o ≡ None)
+pub also_held : (rule : ℕ) (b : Bool) (o : Option ℕ) → also rule b o ≡ None → (b ≡ true) × (o ≡ None)
 also_held rule true o h = (refl, h)
 also_held rule false None h = absurd (cc)
 also_held rule false (Some r) h = absurd (cc)

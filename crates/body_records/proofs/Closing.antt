@@ -3,6 +3,7 @@ use Rattle.std.proofs.Common.{◌≡◌, ◌≤◌, ◌-◌, ℕ, suc, min, Bool
 use Rattle.std.specs.Prelude.{Result, Ok, Err, OnOk}
 use Rattle.record_table.specs.Walk.{Walk, going, stopped, least, told}
 use Rattle.record_table.specs.Faults.{Answer, also, unless_broken}
+use Rattle.body_labels.proofs.Kept.{also_held}
 use Rattle.record_read.specs.declared.fault.BitcodeFault.{BitcodeFault}
 use Rattle.record_read.specs.declared.fault.BitcodeFault.TheVariants as fault
 use Rattle.record_read.specs.Faults.{Answers, Finishes}
@@ -60,11 +61,6 @@ in_vain false (Some r) h = ap (λ n. Some n) (least_is r h)
 -- where a rule up to 4 is broken, rule 4 tells nothing more
 pub vain_both : (b c : Bool) (w : Walk) → IsBrokenBy 4 w → also 4 b (told w) ≡ also 4 c (told w)
 vain_both b c w h = in_vain b (told w) (told_low w h) ∙ sym (in_vain c (told w) (told_low w h))
-
-pub also_held : (rule : ℕ) (b : Bool) (o : Option ℕ) → also rule b o ≡ None → (b ≡ true) × (o ≡ None)
-also_held rule true o h = (refl, h)
-also_held rule false None h = absurd (cc)
-also_held rule false (Some r) h = absurd (cc)
 
 pub finished : {A : Type 0} (means : Unit {0} → A → Type 0) (id at : ℕ) (r : Reader) (rules : Option ℕ) (value : A) (result : Result (Unit {0}) BitcodeFault)
     → r.at ≡ suc at → told r.walk ≡ rules → Finishes id r result → (rules ≡ None → means tt value) → Answers means (unless_broken id at rules value) result

@@ -1,6 +1,5 @@
 -- The names of the parameters, put in front of all else.
 use Rattle.std.proofs.Common.{◌≡◌, ◌⊎◌, ◌+◌, ℕ, suc, Bool, true, false, List, ◌++◌, Option, Some, None, length, inl, inr, refl, sym, ap, subst, ◌∙◌, add-zero}
-use Rattle.std.proofs.lemmas.Bool.{false≢true}
 use Rattle.module_arena.specs.Module as m
 use Rattle.record_table.specs.Bodies as bodies
 use Rattle.record_table.specs.Faults.{also}
@@ -8,7 +7,7 @@ use Rattle.record_table.specs.Fields.{Numbering}
 use Rattle.record_table.specs.Layout.{judged}
 use Rattle.record_table.specs.Walk.{going, told}
 use Rattle.body_labels.specs.Laws.{HasSoundLabels, opened, results_in, results_of}
-use Rattle.body_labels.proofs.Kept.{names_many}
+use Rattle.body_labels.proofs.Kept.{names_many, due_parameters}
 use Rattle.body_labels.proofs.Sound.{inline_sound, table_sound}
 use Rattle.record_read.specs.declared.texts.Texts as the_texts
 use Rattle.record_read.specs.declared.texts.Texts.TheVariants.{Inline, Table}
@@ -26,12 +25,6 @@ use Rattle.body_records.proofs.Blocked.{passes_here, tame_first}
 texts_sound : (x : the_texts.Texts) → HasSoundLabels (texts_of x)
 texts_sound Inline = inline_sound
 texts_sound (Table table) = table_sound table
-
-pub due_first : (d : bodies.BodyDue) → bodies.is_parameters d ≡ true → d ≡ bodies.Parameters
-due_first bodies.Parameters e = refl
-due_first bodies.FirstBlock e = absurd (false≢true e)
-due_first bodies.Line e = absurd (false≢true e)
-due_first bodies.NextBlock e = absurd (false≢true e)
 
 module _ (x : the_texts.Texts) (count : ℕ) (a : ModuleReader) (q : Reader) (before : Begun) (named : BodyNames) (all_new : Bool) (s : bodies.Begun) (operands : List ℕ)
     (front : a.reader.walk ≡ going operands None) (follows : Follows count before s) (reads : ReadsNames x count a.reader before.names all_new q named) where
@@ -66,7 +59,7 @@ module _ (x : the_texts.Texts) (count : ℕ) (a : ModuleReader) (q : Reader) (be
     made = record before { due = due.FirstBlock; next = count; names = named }
 
     line : s.due ≡ bodies.Parameters
-    line = due_first s.due may
+    line = due_parameters s.due may
 
     none_broken : is_broken q.walk ≡ false
     none_broken = told_unbroken q.walk (parameters_rules ∙ unbroken)

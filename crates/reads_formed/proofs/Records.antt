@@ -15,11 +15,12 @@ use Rattle.record_table.specs.Fields.{Texts, name}
 use Rattle.record_table.specs.Layout.{judged}
 use Rattle.record_table.specs.Records.{Sofar, alias, alias_record, block_in, body_block, first_due, function, function_record, give_body, is_new, is_version, may_follow, names_of, record_at_place, record_in, text_record, types_block, variable, variable_record, version, version_record}
 use Rattle.record_table.specs.TypeRecords.{listed}
+use Rattle.body_labels.proofs.Kept.{also_held}
 use Rattle.reads_formed.proofs.Good.{AreTexts}
 use Rattle.reads_formed.proofs.Tests.{both_of, distinct_with}
 use Rattle.reads_formed.proofs.Texts.{texts_hold}
 use Rattle.reads_formed.proofs.Types.{new_name, types_are_good}
-use Rattle.reads_formed.proofs.Unbroken.{also_held, judged_read}
+use Rattle.reads_formed.proofs.Unbroken.{judged_read}
 use Rattle.reads_formed.proofs.Bodies.{body_good}
 use Rattle.reads_formed.proofs.Entries.{IsAlias, IsFunction, IsVariable, alias_read, body_given, function_read, variable_read}
 use Rattle.reads_formed.proofs.Lists.{all_front, each_given, many_kept, names_kept, none_both, none_named}

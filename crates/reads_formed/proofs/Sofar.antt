@@ -9,7 +9,8 @@ use Rattle.module_arena.specs.WellFormed.{are_good_names, are_good_structs, is_g
 use Rattle.record_table.specs.Fields.{Numbering, Texts}
 use Rattle.record_table.specs.Faults.{Records, also}
 use Rattle.record_table.specs.Records.{Sofar, may_follow, names_of, record_at_place}
-use Rattle.reads_formed.proofs.Unbroken.{OfSome, also_held, unless_ok}
+use Rattle.body_labels.proofs.Kept.{unless_ok, also_held}
+use Rattle.reads_formed.proofs.Unbroken.{OfSome}
 use Rattle.reads_formed.proofs.Good.{IsOf}
 use Rattle.reads_formed.proofs.Entries.{IsAlias, IsFunction, IsVariable}
 

@@ -16,12 +16,13 @@ use Rattle.record_table.specs.Layout.{judged}
 use Rattle.record_table.specs.Fields.{Texts, is_name}
 use Rattle.record_table.specs.Faults.{Answer, ◌>>=◌, Records, no_more, a_block, a_record, BadRecord, UnknownRecord, is_block_id, also}
 use Rattle.record_table.specs.TypeRecords.{Listed, TypeKind, all_fit, are_distinct, at_first, called, definition, ir_type, kind_of_code, kinds, listed, listed_by, listed_from, names_in, stand_ins, struct_record, type_record}
+use Rattle.body_labels.proofs.Kept.{unless_ok, also_held}
 use Rattle.reads_formed.proofs.Good.{AreGoodTypes, AreTexts}
 use Rattle.reads_formed.proofs.TypeRecords.{definition_read, name_ahead, type_read}
 use Rattle.reads_formed.proofs.Tests.{all_pass, both_of, distinct_with, each_set, each_too, other_way}
 use Rattle.reads_formed.proofs.Texts.{HoldsTexts, name_again, texts_hold}
 use Rattle.reads_formed.proofs.Trees.{IsMade, body_wider, names_are, table_good, trees_good}
-use Rattle.reads_formed.proofs.Unbroken.{also_held, judged_read, unless_ok}
+use Rattle.reads_formed.proofs.Unbroken.{judged_read}
 
 -- ---- names
 

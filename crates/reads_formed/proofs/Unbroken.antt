@@ -1,10 +1,8 @@
 -- What holds of values that are read where no rule is broken: one fact for each layout.
 use Rattle.std.proofs.Common.{◌≡◌, ◌<◌, ℕ, zero, suc, Bool, true, false, List, [], ◌∷◌, Option, Some, None, length, get_or, nat_lt, refl, ap, arith, ◌⊎◌, inl, inr}
-use Rattle.std.specs.Prelude.{Ok}
 use Rattle.std.specs.List.{AllByRecursion}
 use Rattle.std.proofs.lemmas.Bool.{ltb-true}
 use Rattle.module_arena.specs.Forms.{is_not_empty}
-use Rattle.record_table.specs.Faults.{also, unless_broken}
 use Rattle.record_table.specs.Walk.{Walk, going, stopped, ask, break, stop, next, count_left, told}
 use Rattle.record_table.specs.Layout.{Layout, number, nothing, many, is_positive, option_by, option, either_by, either, indexed, coded, found_or, judged}
 
@@ -252,12 +250,3 @@ told_fine (stopped (Some r)) s e = cc
 -- what a record stands for that breaks no rule
 pub judged_read : {A : Type 0} (P : A → Type 0) (l : Layout A) → IsRead P l.read → (operands : List ℕ) → (judged l operands).1 ≡ None → P (judged l operands).0
 judged_read P l is operands e = (is.back (going operands None) (told_fine (l.read (going operands None)).1 (is.sound (going operands None) tt) e)).1
-
-pub unless_ok : {A : Type 0} (id at : ℕ) (o : Option ℕ) (x t : A) → unless_broken id at o x ≡ Ok t → (o ≡ None) × (x ≡ t)
-unless_ok id at None x t e = (refl, cc)
-unless_ok id at (Some rule) x t e = absurd (cc)
-
-pub also_held : (rule : ℕ) (b : Bool) (o : Option ℕ) → also rule b o ≡ None → (b ≡ true) × (o ≡ None)
-also_held rule true o h = (refl, h)
-also_held rule false None h = absurd (cc)
-also_held rule false (Some r) h = absurd (cc)

@@ -15,10 +15,11 @@ use Rattle.record_table.specs.Layout.{judged, to_end}
 use Rattle.record_table.specs.Fields as fields
 use Rattle.record_table.specs.StringTable.{read_only}
 use Rattle.record_table.specs.Records.{Sofar, StandFor, ReadTable, at_first, block_in, ended, first_due, is_ours, module_behind, module_block, module_from, module_of, names_of, nothing_behind, producer_from, read, record_in, table, table_ended}
+use Rattle.body_labels.proofs.Kept.{unless_ok}
 use Rattle.reads_formed.proofs.Good.{AreTexts}
 use Rattle.reads_formed.proofs.Tests.{all_pass, both_of, each_map, each_too}
 use Rattle.reads_formed.proofs.Texts.{bytes_read}
-use Rattle.reads_formed.proofs.Unbroken.{OfSome, judged_read, unless_ok}
+use Rattle.reads_formed.proofs.Unbroken.{OfSome, judged_read}
 use Rattle.reads_formed.proofs.Good.{IsOf}
 use Rattle.reads_formed.proofs.Blocks.{all_flat}
 use Rattle.reads_formed.proofs.Entries.{IsAlias, IsFunction, IsVariable}
