@@ -18,10 +18,10 @@ use Rattle.name_rules.specs.Locals.{Locals, Announced, announced, announced_para
 use Rattle.name_rules.specs.Spelled.{decimal}
 use Rattle.name_rules.specs.TypeDemands.{Known}
 use Rattle.type_judge.specs.Judging.{IsJudged}
+use Rattle.type_judge.proofs.NamesGathered.{same_both}
 use Rattle.local_judge.specs.declared.called.CalledNames.{CalledNames}
 use Rattle.local_judge.specs.Calling.{IsCalled, is_in_turn, Goes}
 use Rattle.local_judge.proofs.Steps.{Answer, judged_front, judged_next, asked, goes_rest}
-use Rattle.local_judge.proofs.Named.{same_both}
 
 abbrev or_else : Option Place → Option Place → Option Place
 or_else (Some p) o = Some p

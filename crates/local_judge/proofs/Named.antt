@@ -16,6 +16,7 @@ use Rattle.module_arena.specs.Same.{same_local}
 use Rattle.name_rules.specs.Locals.{Locals, Announced, is_alike, is_there, known_as, next_behind, locals_from, next_after}
 use Rattle.name_rules.specs.Spelled.{decimal as spelled_decimal}
 use Rattle.name_rules.proofs.Told.{written_is_told}
+use Rattle.type_judge.proofs.NamesGathered.{same_both}
 use Rattle.local_judge.specs.declared.local_names.LocalNames.{LocalNames}
 use Rattle.local_judge.specs.declared.kind_names.KindNames.{KindNames}
 use Rattle.local_judge.specs.Names.{is_marked, AreNone, HoldsKind, HoldsNames, KindBrings, Brings, Announces, next_of}
@@ -61,15 +62,6 @@ twice : (a x : Bool) → (a || (x || false)) ≡ (a || (x || (x || false)))
 twice true x = refl
 twice false true = refl
 twice false false = refl
-
-pub same_both : (a b : Bytes) → bytes_eq a b ≡ bytes_eq b a
-same_both a b = by (bytes_eq a b) refl (bytes_eq b a) refl
-  where
-    by : (x : Bool) → bytes_eq a b ≡ x → (y : Bool) → bytes_eq b a ≡ y → x ≡ y
-    by true e true q = refl
-    by false e false q = refl
-    by true e false q = let r = (bytes_eq-Decides b a).1 (sym ((bytes_eq-Decides a b).0 e)) in absurd cc
-    by false e true q = let r = (bytes_eq-Decides a b).1 (sym ((bytes_eq-Decides b a).0 q)) in absurd cc
 
 pub more_apart : (a b : ℕ) → b < a → (a == b) ≡ false
 more_apart a b h = by (a == b) refl

@@ -7,6 +7,7 @@ use Rattle.ir_terminals.specs.declared.values.PlacedName.{PlacedName}
 use Rattle.module_arena.specs.Module.{Bytes}
 use Rattle.name_table.specs.Entries.{value_of}
 use Rattle.name_rules.specs.Demand.{place_of_name}
+use Rattle.type_judge.proofs.NamesGathered.{same_both}
 use Rattle.name_judge.specs.Seen.{AreFirst}
 
 -- the first, or the second where there is none
@@ -22,15 +23,6 @@ place-append (b ∷ before) name other = by (bytes_eq b.name other) (place-appen
         → cond x (Some b.place) (place_of_name (before ++ name ∷ []) other) ≡ first_place (cond x (Some b.place) (place_of_name before other)) (cond (bytes_eq name.name other) (Some name.place) None)
     by true e = refl
     by false e = e
-
-same_both : (a b : Bytes) → bytes_eq a b ≡ bytes_eq b a
-same_both a b = by (bytes_eq a b) refl (bytes_eq b a) refl
-  where
-    by : (x : Bool) → bytes_eq a b ≡ x → (y : Bool) → bytes_eq b a ≡ y → x ≡ y
-    by true e true q = refl
-    by false e false q = refl
-    by true e false q = let r = (bytes_eq-Decides b a).1 (sym ((bytes_eq-Decides a b).0 e)) in absurd cc
-    by false e true q = let r = (bytes_eq-Decides a b).1 (sym ((bytes_eq-Decides b a).0 q)) in absurd cc
 
 -- a new name with its place
 pub first_more : (old new : List (Bytes × Place)) (before : List PlacedName) (name : PlacedName) → value_of old name.name ≡ None

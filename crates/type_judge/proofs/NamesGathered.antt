@@ -13,7 +13,7 @@ use Rattle.name_rules.specs.Breaks.{global_name}
 use Rattle.name_rules.specs.TypeDemands.{has_name}
 use Rattle.type_judge.specs.Gathered.{AreNames, global_names}
 
-same_both : (a b : Bytes) → bytes_eq a b ≡ bytes_eq b a
+pub same_both : (a b : Bytes) → bytes_eq a b ≡ bytes_eq b a
 same_both a b = by (bytes_eq a b) refl (bytes_eq b a) refl
   where
     by : (x : Bool) → bytes_eq a b ≡ x → (y : Bool) → bytes_eq b a ≡ y → x ≡ y
