@@ -26,7 +26,7 @@ false_or_true false P f g = g refl
 some_is : {i j : ℕ} → Some i ≡ Some j → i ≡ j
 some_is e = cc
 
-is_some_count : (count : ℕ) → 1 ≤ count → nat_eq count 0 ≡ false
+pub is_some_count : (count : ℕ) → 1 ≤ count → nat_eq count 0 ≡ false
 is_some_count zero some = absurd (omega (arith, some))
 is_some_count (suc count) some = eqb-suc-zero count
 

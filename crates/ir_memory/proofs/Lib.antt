@@ -5,7 +5,7 @@ pub mod Bytes
 pub mod Known
 pub mod Fills
 pub mod ReadBack
-mod Changed
+pub mod Changed
 mod Writes
 mod Places
 mod Answering

@@ -1,6 +1,6 @@
 -- What is asked of an instruction that stands at the newest frame of a typed run, class by class.
 use Rattle.std.proofs.Common.{◌≡◌, ℕ, ◌+◌, ◌^◌, ◌<◌, ◌≤◌, All, Bool, List, [], ◌∷◌, length, map, Some, Result, Ok, Err, refl, sym, ap, ◌∙◌, subst, inl, inr, ◌⊎◌, arith}
-use Rattle.std.specs.Prelude.{IfOk, OnErr, OnOk, false, nat_lt, slice_get, take, true}
+use Rattle.std.specs.Prelude.{IfOk, OnOk, false, nat_lt, slice_get, take, true}
 use Rattle.std.specs.List.{AllZip}
 use Rattle.std.proofs.lemmas.Bool.{false≢true}
 use Rattle.std.proofs.lemmas.List.{length-map}
@@ -397,11 +397,6 @@ arguments_read s listed meant items seen leaves here front same first =
 pub ready_returned : {T E : Type 0} (r : Result T E) (p : Loaded) (old new : UnderWay) → OnOk r ((q : Loaded) → StaysReady q old q new) → OnOk r (StaysReady p old p new)
 ready_returned (Ok v) p old new h = h p
 ready_returned (Err e) p old new h = tt
-
--- a refusal that always may be
-pub wanted : {T E : Type 0} (r : Result T E) (P : Type 0) → P → OnErr r P
-wanted (Ok v) P h = tt
-wanted (Err e) P h = h
 
 -- nothing was written
 pub written_none : (p : Loaded) (action : actions.Action) (due : List Due) (next : Next) (old new : UnderWay) (m n : Blocks) (written : List ℕ) → written ≡ [] → CameTo p action due next old new m n [] → CameTo p action due next old new m n written

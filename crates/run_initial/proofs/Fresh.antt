@@ -18,6 +18,7 @@ use Rattle.ir_memory.specs.declared.leaf.Leaf.TheVariants as leaf
 use Rattle.ir_memory.specs.MemoryBlock.{MemoryBlock, holds, written}
 use Rattle.ir_memory.specs.Cell.{byte_at, size, leaf_cells}
 use Rattle.ir_memory.specs.Memory.{Blocks, access, changed, block_found, has_constant, has_ended, home, is_over, number_where, place_at, place_in, put_at, stored}
+use Rattle.ir_memory.proofs.Finds.{is_some_count}
 use Rattle.run_rules.specs.Access.{and_then, behind, stored_slots}
 use Rattle.run_rules.specs.Plan.{Contents}
 use Rattle.typed_runs.specs.Kinds.{IsOf}
@@ -52,13 +53,6 @@ abbrev judged : Bool → Bool → Bool → Bool → Bool → Option BlockPlace �
 judged none over outside fixed crooked place =
     if none then Ok None else (if over then Err EndedBlock else (if outside then Err OutsideBlock else (if fixed then Err WriteToConstant else (if crooked then Err Misaligned else Ok place))))
 
-not_none : (n : ℕ) → 1 ≤ n → nat_eq n 0 ≡ false
-not_none n h = go (nat_eq n 0) refl
-  where
-    go : (b : Bool) → nat_eq n 0 ≡ b → nat_eq n 0 ≡ false
-    go true e = let none = eqb-true n 0 e in absurd (omega (arith, h, none))
-    go false e = e
-
 module _ (m : Blocks) (q : Pointer) (i : ℕ) (b : MemoryBlock) (of_block : q.block ≡ Some i) (there : slice_get m.list i ≡ Some b) (live : b.live ≡ true) (unsealed : m.sealed ≡ false) where
   within : (count : ℕ) → b.start ≤ q.address → q.address + count ≤ b.start + b.size → (b.live && holds b q.address count) ≡ true
   within count low high =
@@ -72,7 +66,7 @@ module _ (m : Blocks) (q : Pointer) (i : ℕ) (b : MemoryBlock) (of_block : q.bl
   access_is : (count : ℕ) → 1 ≤ count → b.start ≤ q.address → q.address + count ≤ b.start + b.size → access m count 1 true (scalar.Ptr q) ≡ Ok (Some (record { index = i; offset = q.address - b.start }))
   access_is count some low high =
       let here = home_is count low high in
-      let none : nat_eq count 0 ≡ false = not_none count some in
+      let none : nat_eq count 0 ≡ false = is_some_count count some in
       let over : has_ended m.list q.block ≡ false = ap (has_ended m.list) of_block ∙ ap is_over there ∙ ap not live in
       let outside : is_none (home m.list q count) ≡ false = ap is_none here in
       let fixed : (true && m.sealed && has_constant m.list (home m.list q count)) ≡ false = ap (λ (x : Bool). true && x && has_constant m.list (home m.list q count)) unsealed in

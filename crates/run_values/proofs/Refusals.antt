@@ -1,6 +1,6 @@
 -- What a refused call answers, from what the call that was refused answered.
 use Rattle.std.proofs.Common.{◌≡◌, Result, Ok, Err, sym, subst}
-use Rattle.std.specs.Prelude.{IfErr, OnErr}
+use Rattle.std.specs.Prelude.{IfErr}
 use Rattle.std.specs.Result.{IsErr, IsErrAnd}
 use Rattle.ir_tables.specs.declared.undefined_kind.UndefinedKind.{UndefinedKind}
 use Rattle.ir_memory.specs.declared.fault.MemoryFault.{MemoryFault}
@@ -8,11 +8,6 @@ use Rattle.ir_memory.specs.declared.fault.MemoryFault.TheVariants.{Undefined, Me
 use Rattle.ir_memory.specs.Answer.{Answers}
 use Rattle.ir_memory.specs.Memory.{Blocks}
 use Rattle.run_values.specs.Answer.{Stores}
-
--- a fact that holds anyway holds where a call was refused
-pub on_err : {T E : Type 0} (r : Result T E) (P : Type 0) → P → OnErr r P
-on_err (Ok x) P h = tt
-on_err (Err e) P h = h
 
 -- what holds of the fault that was told
 pub if_fault : {T : Type 0} (r : Result T MemoryFault) (fault : MemoryFault) (Q : MemoryFault → Type 0) → IsErr r → IsErrAnd r (λ t. t ≡ fault) → Q fault → IfErr r Q

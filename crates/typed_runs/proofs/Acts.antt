@@ -15,6 +15,7 @@ use Rattle.ir_memory.specs.declared.leaf.Leaf.{Leaf}
 use Rattle.ir_memory.specs.declared.leaf.Leaf.TheVariants as leaf
 use Rattle.ir_memory.specs.Given.{IsBlock, IsAlignment, IsLeaf}
 use Rattle.ir_memory.specs.Memory.{Blocks, added, bounds_at}
+use Rattle.ir_memory.proofs.Known.{IsBlock-more}
 use Rattle.run_rules.specs.declared.end.End.TheVariants as ends
 use Rattle.run_rules.specs.Access.{loaded_value, stored_value, has_room, next_block}
 use Rattle.run_rules.specs.Act.{act, computed, loads, stores, allocates, allocates_many, added_alloca, branches, switches, case_of}
@@ -29,7 +30,7 @@ use Rattle.typed_runs.specs.Kinds.{IsOf, AreAt, kinds_of_all}
 use Rattle.typed_runs.specs.States.{IsTypedMemory, AreStored, IsLater, IsTypedCallee, IsTypedCore}
 use Rattle.typed_runs.proofs.Access.{loaded_value_typed, stored_value_typed}
 use Rattle.typed_runs.proofs.Calls.{parts_of, parts_in, no_bytes, called_at_typed, returned_typed, IsTypedNext}
-use Rattle.typed_runs.proofs.Leaves.{block_more, leaves_more, are_set, read_typed, read_all_typed, assigned_typed, same_lengths}
+use Rattle.typed_runs.proofs.Leaves.{leaves_more, are_set, read_typed, read_all_typed, assigned_typed, same_lengths}
 use Rattle.typed_runs.proofs.Memory.{IsKeptTyped, later_of, added_typed}
 use Rattle.typed_runs.proofs.Values.{binary_typed, compare_typed, cast_typed, select_typed, freeze_typed, displaced_typed}
 
@@ -106,7 +107,7 @@ module _ (t : Typing) (look : ℕ → ℕ → ℕ → Action) (table : ℕ → C
   stores_typed (Ok m) is place =
       let le : count ≤ length m.list = omega (arith, is.1.0) in
       goes_on f.block (f.position + 1) f.leaves f.allocas m [] (leaves_more count (length m.list) kinds f.leaves le h.frames.0.leaves)
-      (λ k d lt. block_more count (length m.list) _ le (h.frames.0.allocas k d lt)) place is.0 (later_of c.memory m is.1)
+      (λ k d lt. IsBlock-more count (length m.list) _ le (h.frames.0.allocas k d lt)) place is.0 (later_of c.memory m is.1)
   stores_typed (Err e) is place = tt
 
   allocates_typed : (to size align : ℕ) → IsAlignment align → AreAt kinds to (leaf.Ptr ∷ []) → IsPlace t look f.function f.block (f.position + 1) → IsTypedNext t look table c.memory (allocates to size align f c)
@@ -119,7 +120,7 @@ module _ (t : Typing) (look : ℕ → ℕ → ℕ → Action) (table : ℕ → C
           let a = added_typed size align Stack c.memory is e h.memory in
           goes_on f.block (f.position + 1) (with_leaves f.leaves to (scalar.Ptr (next_block align c.memory) ∷ [])) (next_block align c.memory ∷ f.allocas) m []
           (are_set (length m.list) kinds f.leaves to (leaf.Ptr ∷ []) (scalar.Ptr (next_block align c.memory) ∷ []) (leaves_more count (length m.list) kinds f.leaves a.1.blocks h.frames.0.leaves) at (a.2, tt))
-          (All-cons (λ p. IsBlock (length m.list) p.block) (next_block align c.memory) f.allocas a.2 (λ k d lt. block_more count (length m.list) _ a.1.blocks (h.frames.0.allocas k d lt)))
+          (All-cons (λ p. IsBlock (length m.list) p.block) (next_block align c.memory) f.allocas a.2 (λ k d lt. IsBlock-more count (length m.list) _ a.1.blocks (h.frames.0.allocas k d lt)))
           place a.0 a.1
 
   many : (to size align width : ℕ) (v : Scalar) → IsAlignment align → AreAt kinds to (leaf.Ptr ∷ []) → IsPlace t look f.function f.block (f.position + 1) → IsTypedNext t look table c.memory (allocates_many to size align v f c)

@@ -13,6 +13,7 @@ use Rattle.ir_memory.specs.declared.kind.BlockKind.{BlockKind}
 use Rattle.ir_memory.specs.declared.kind.BlockKind.TheVariants as kind
 use Rattle.ir_memory.specs.Given.{IsAlignment, IsBlock}
 use Rattle.ir_memory.specs.Memory.{Blocks, no_blocks, added, live_bytes, reach}
+use Rattle.ir_memory.proofs.Known.{IsBlock-more}
 use Rattle.run_rules.specs.declared.end.End.TheVariants as ends
 use Rattle.run_rules.specs.Access.{and_then, has_room, next_block, stored_slots, or_as_before}
 use Rattle.run_rules.specs.Action.{Action}
@@ -29,7 +30,6 @@ use Rattle.typed_runs.specs.Plans.{IsTypedMain, IsTypedPlan, AreWords}
 use Rattle.typed_runs.specs.States.{IsTypedMemory, AreStored, IsTypedDue, AreTypedDue, IsTypedCore, IsTypedState}
 use Rattle.run_places.specs.Places.{IsTrueMain, HasWork}
 use Rattle.typed_runs.proofs.Access.{stored_slots_typed, as_before_typed, stored_more}
-use Rattle.typed_runs.proofs.Leaves.{block_more}
 use Rattle.typed_runs.proofs.Lives.{strings_live}
 use Rattle.typed_runs.proofs.Memory.{IsKeptTyped, nothing_done, then_done, added_typed}
 
@@ -118,7 +118,7 @@ strings_typed (s ∷ ss) m is h = first (with_string s m) (string_typed s m (All
     second x k (Err e) l = tt
     second x k (Ok y) l = (
       opened_more 1 (length ss) (length (s ∷ ss)) m x.0 y.0 (omega arith) k.0 l.0,
-      All-cons (λ p. IsBlock (length y.0.list) p.block) x.1 y.1 (block_more (length x.0.list) (length y.0.list) x.1.block (omega (arith, l.0.more)) k.1) l.1,
+      All-cons (λ p. IsBlock (length y.0.list) p.block) x.1 y.1 (IsBlock-more (length x.0.list) (length y.0.list) x.1.block (omega (arith, l.0.more)) k.1) l.1,
     )
 
     first : (r : Result (Blocks × Pointer) End) → IfOk r (IsBlockWith m) → ((n : Blocks) → IsTypedMemory n → IfOk (with_strings ss n) (AreStrings n (length ss)))

@@ -1,7 +1,7 @@
 use Rattle.std.proofs.Common.{◌≡◌, ap}
 use Rattle.ir_memory.specs.Memory.{copied}
+use Rattle.ir_memory.proofs.Changed.{on_err}
 use Rattle.run_rules.specs.Answer.{changes}
-use Rattle.run_values.proofs.Refusals.{on_err}
 use Rattle.run_host.specs.Answers.{leaves_of}
 use Rattle.run_host.proofs.Refusals.{refusal_told, stays, unchanged}
 use Rattle.run_host.proofs.range.copy.Goals as goal

@@ -4,9 +4,9 @@ use Rattle.std.proofs.lemmas.Option.{slice_get-get_or}
 use Rattle.ir_eval.specs.declared.value.Scalar.{Scalar}
 use Rattle.ir_eval.specs.declared.value.Scalar.TheVariants.{Ptr}
 use Rattle.ir_memory.specs.Memory.{loaded}
+use Rattle.ir_memory.proofs.Changed.{on_err}
 use Rattle.run_rules.specs.Access.{behind}
 use Rattle.run_values.proofs.Leaves.{IsPartLoaded, none_loaded, one_loaded}
-use Rattle.run_values.proofs.Refusals.{on_err}
 use Rattle.run_values.proofs.load.push_leaves.Goals as goal
 
 pub slots-init : goal.slots-init

@@ -1,10 +1,11 @@
 use Rattle.std.proofs.Common.{◌≡◌, ℕ, ◌+◌, ◌++◌, List, length, Ok, ap, sym, ◌∙◌, subst, arith}
 use Rattle.ir_memory.specs.Given.{IsBlock}
+use Rattle.ir_memory.proofs.Changed.{on_err}
 use Rattle.run_rules.specs.Access.{behind}
 use Rattle.run_values.specs.Answer.{IsRefusal}
 use Rattle.run_values.specs.Strings.{StringTold, string_then}
 use Rattle.run_values.proofs.Bytes.{IsPartRead, none_read, one_read, zero_read, no_byte, all_read}
-use Rattle.run_values.proofs.Refusals.{if_fault, on_err}
+use Rattle.run_values.proofs.Refusals.{if_fault}
 use Rattle.run_values.proofs.string.push_bytes.Goals as goal
 
 pub bytes-init : goal.bytes-init

@@ -1,5 +1,5 @@
 use Rattle.std.proofs.Common.{◌≡◌, ℕ, List, [], ◌++◌, sym, ◌∙◌, append-nil}
-use Rattle.run_values.proofs.Refusals.{on_err}
+use Rattle.ir_memory.proofs.Changed.{on_err}
 use Rattle.run_values.proofs.string.push_whole.Goals as goal
 
 pub returns-in_err-extend_from_slice-clause-err : goal.returns-in_err-extend_from_slice-clause-err
