@@ -1,15 +1,11 @@
 -- What a sink has taken, call by call.
-use Rattle.std.proofs.Common.{◌≡◌, ℕ, suc, ◌+◌, ◌≤◌, List, [], ◌∷◌, ◌++◌, length, take, Option, Some, None, refl, ap, arith, append_assoc}
+use Rattle.std.proofs.Common.{◌≡◌, ℕ, suc, ◌+◌, ◌≤◌, List, [], ◌∷◌, ◌++◌, length, take, Option, Some, None, refl, ap, arith}
 use Rattle.std.proofs.lemmas.List.{append-nil, take-append-le}
 use Rattle.ir_base.specs.Outside.{Added}
 
 pub added_none : (before : Option (List ℕ)) → Added before before []
 added_none None = refl
 added_none (Some old) = rw append-nil refl
-
-pub added_both : (before between now : Option (List ℕ)) (a b : List ℕ) → Added before between a → Added between now b → Added before now (a ++ b)
-added_both None between now a b h k = rw h at k
-added_both (Some old) between now a b h k = rw (h, append_assoc) at k
 
 -- a front of what is added behind others is a front of the whole
 pub front_is : (w x rest : List ℕ) (count : ℕ) → count ≤ length x → w ++ take count x ≡ take (length w + count) ((w ++ x) ++ rest)

@@ -4,13 +4,14 @@ use Rattle.std.specs.Prelude.{codes}
 use Rattle.std.specs.List.{flat_map}
 use Rattle.std.proofs.lemmas.List.{append-nil}
 use Rattle.ir_base.specs.Outside.{Added, Wrote}
+use Rattle.ir_base.proofs.Pieces.{added_more}
 use Rattle.bit_dump.specs.declared.fault.DumpFault.{DumpFault}
 use Rattle.bit_dump.specs.declared.fault.DumpFault.TheVariants.{Bit, WriteFault, Memory}
 use Rattle.bit_dump.specs.declared.counts.StreamCounts.{StreamCounts}
 use Rattle.bit_dump.specs.Tally.{Tally}
 use Rattle.bit_dump.specs.Text.{row_line, counts_line, summary}
 use Rattle.bit_dump.specs.Telling.{TookFront, WroteFirst, Spilled}
-use Rattle.bit_dump.proofs.Sinks.{added_none, added_both, front_is}
+use Rattle.bit_dump.proofs.Sinks.{added_none, front_is}
 use Rattle.bit_dump.proofs.Telling.{longer}
 
 -- nothing was written
@@ -37,14 +38,14 @@ pub front_behind : (before between now : Option (List ℕ)) (all rest more whole
 front_behind before between now all rest more whole h is k =
     let text : whole ≡ h.written ++ (rest ++ more) = is ∙ (ap (λ (l : List ℕ). l ++ more) (sym h.is) ∙ append_assoc h.written rest more) in
     let front = front_is h.written (rest ++ more) [] k.count k.within in
-    let both = added_both before between now h.written (take k.count (rest ++ more)) h.added k.added in
+    let both = added_more before between now h.written (take k.count (rest ++ more)) h.added k.added in
     record { count = length h.written + k.count; within = rw text (omega (arith, k.within, length-append h.written (rest ++ more))); added = rw (text, ← append-nil (h.written ++ (rest ++ more)), ← front) both }
 
 -- one text and then another
 pub both_spilled : (before between now : Option (List ℕ)) (old rest new a b : List ℕ) (r : Result (Unit {0}) DumpFault) → WroteFirst before between (old ++ a) rest → Spilled b between rest now new r → Spilled (a ++ b) before old now new r
 both_spilled before between now old rest new a b (Ok done) h k = record {
   written = h.written ++ k.written;
-  added = added_both before between now h.written k.written h.added k.added;
+  added = added_more before between now h.written k.written h.added k.added;
   is = append_assoc h.written k.written new ∙ (ap (λ (l : List ℕ). h.written ++ l) k.is ∙ (sym (append_assoc h.written rest b) ∙ (ap (λ (l : List ℕ). l ++ b) h.is ∙ append_assoc old a b)));
 }
 both_spilled before between now old rest new a b (Err (Bit fault)) h k = k
@@ -59,7 +60,7 @@ spilled_longer before now old new later a b Memory h = longer before now (old ++
 
 -- and the last of it
 pub last_added : (before between now : Option (List ℕ)) (all rest : List ℕ) → WroteFirst before between all rest → Added between now rest → Added before now all
-last_added before between now all rest h k = rw (← h.is) (added_both before between now h.written rest h.added k)
+last_added before between now all rest h k = rw (← h.is) (added_more before between now h.written rest h.added k)
 
 pub last_failed : (before between now : Option (List ℕ)) (all rest : List ℕ) (faults_before faults_now : ℕ) → WroteFirst before between all rest → Wrote between now faults_before faults_now rest → TookFront before now all
 last_failed before between now all rest faults_before faults_now h k =

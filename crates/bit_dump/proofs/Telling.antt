@@ -2,6 +2,7 @@
 use Rattle.std.proofs.Common.{◌≡◌, ℕ, ◌+◌, ◌≤◌, Bool, List, [], ◌∷◌, ◌++◌, length, take, Option, Result, Ok, Err, OnOk, sym, ap, ◌∙◌, inr, arith, append_assoc, length-append}
 use Rattle.std.proofs.lemmas.List.{append-nil, take-append-le}
 use Rattle.ir_base.specs.Outside.{Added, Wrote}
+use Rattle.ir_base.proofs.Pieces.{added_more}
 use Rattle.bit_tree.specs.Stream.{StreamTree, Stream}
 use Rattle.bit_tree.specs.Pieces.{Piece, flat}
 use Rattle.bit_dump.specs.Text.{dump_text, summary}
@@ -11,7 +12,7 @@ use Rattle.bit_dump.specs.declared.fault.DumpFault.{DumpFault}
 use Rattle.bit_dump.specs.declared.fault.DumpFault.TheVariants.{Bit, WriteFault, Memory}
 use Rattle.bit_dump.specs.Dumped.{WroteFront, Dumped}
 use Rattle.bit_dump.proofs.Told.{after_front, grown, grows, more_front, head_front, operands_grow, record_told, summed_is}
-use Rattle.bit_dump.proofs.Sinks.{added_none, added_both, front_is}
+use Rattle.bit_dump.proofs.Sinks.{added_none, front_is}
 
 -- one step more, which a text in front does not change
 pub told_more : (before now : Option (List ℕ)) (all o later : Outline) (step : Outline → Outline) → ((w : List ℕ) → step (front w o) ≡ front w (step o)) → later ≡ step o → Tells before now all o → Tells before now (step all) later
@@ -37,7 +38,7 @@ whole_is h = ap (λ (x : Outline). x.whole) (sym h.is)
 pub flushes : (before now later : Option (List ℕ)) (all o : Outline) → Tells before now all o → Added now later o.text → Tells before later all (emptied o)
 flushes before now later all o h added = record {
   written = h.written ++ o.text;
-  added = added_both before now later h.written o.text h.added added;
+  added = added_more before now later h.written o.text h.added added;
   is = rw append-nil h.is;
 }
 
@@ -67,7 +68,7 @@ pub fails : (before now later : Option (List ℕ)) (all o : Outline) (faults_bef
 fails before now later all o faults_before faults_now h wrote =
     let text : all.text ≡ h.written ++ o.text = ap (λ (x : Outline). x.text) (sym h.is) in
     let front = front_is h.written o.text [] wrote.count wrote.within in
-    let both = added_both before now later h.written (take wrote.count o.text) h.added wrote.added in
+    let both = added_more before now later h.written (take wrote.count o.text) h.added wrote.added in
     record { count = length h.written + wrote.count; within = rw text (omega (arith, wrote.within, length-append h.written o.text)); added = rw (text, ← append-nil (h.written ++ o.text), ← front) both }
 
 -- what was tried for a step is tried for a longer one where it failed
@@ -161,12 +162,12 @@ closes bytes whole before now later o left result h none k = by_result result k 
   took : (count : ℕ) → count ≤ length (summed o).text → Added now later (take count (summed o).text) → WroteFront bytes whole before later
   took count within added =
       let front = front_is h.tells.written (summed o).text [] count within in
-      let both = added_both before now later h.tells.written (take count (summed o).text) h.tells.added added in
+      let both = added_more before now later h.tells.written (take count (summed o).text) h.tells.added added in
       let all : dump_text h.tree whole ≡ (h.tells.written ++ (summed o).text) ++ [] = text ∙ sym (append-nil (h.tells.written ++ (summed o).text)) in
       record { tree = h.tree; stream = h.stream; count = length h.tells.written + count; added = rw (all, ← front) both }
 
   by_result : (result : Result (Unit {0}) DumpFault) → Finished now later (summed o).text result → Dumped bytes whole before later result
-  by_result (Ok done) k = (h.tree, h.stream, rw text (added_both before now later h.tells.written (summed o).text h.tells.added k))
+  by_result (Ok done) k = (h.tree, h.stream, rw text (added_more before now later h.tells.written (summed o).text h.tells.added k))
   by_result (Err (Bit fault)) k = absurd k
   by_result (Err WriteFault) k = took k.count k.within k.added
   by_result (Err Memory) k = inr (took k.count k.within k.added)

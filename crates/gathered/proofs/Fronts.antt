@@ -1,24 +1,21 @@
 -- Fronts of what was put.
-use Rattle.std.proofs.Common.{◌≡◌, ℕ, suc, ◌+◌, ◌≤◌, false, List, [], ◌∷◌, ◌++◌, length, take, Option, Some, None, option_map, refl, sym, ap, ◌∙◌, append-nil, append_assoc, arith}
+use Rattle.std.proofs.Common.{◌≡◌, ℕ, suc, ◌+◌, ◌≤◌, false, List, [], ◌∷◌, ◌++◌, length, take, Option, refl, sym, ap, ◌∙◌, append-nil, arith}
 use Rattle.std.proofs.lemmas.List.{take-append-le, length-append}
 use Rattle.std.proofs.lemmas.Bool.{MatchBool-at_false}
 use Rattle.ir_base.specs.Outside.{Added}
+use Rattle.ir_base.proofs.Pieces.{added_more}
 use Rattle.gathered.specs.Told.{GatherState, AddedFront, Gathers, Says}
 
 take_behind : (a b : List ℕ) (count : ℕ) → take (length a + count) (a ++ b) ≡ a ++ take count b
 take_behind [] b count = let e : 0 + count ≡ count = omega arith in rw e refl
 take_behind (x ∷ a) b count = let e : suc (length a) + count ≡ suc (length a + count) = omega arith in rw e (ap (λ (ys : List ℕ). x ∷ ys) (take_behind a b count))
 
-added_both : (before mid now : Option (List ℕ)) (a b : List ℕ) → Added before mid a → Added mid now b → Added before now (a ++ b)
-added_both None mid now a b h k = k ∙ ap (option_map (λ (old : List ℕ). old ++ b)) h
-added_both (Some c) mid now a b h k = k ∙ ap (option_map (λ (old : List ℕ). old ++ b)) h ∙ ap Some (append_assoc c a b)
-
 -- a front of what stands behind what was written
 front_behind : (start mid now : Option (List ℕ)) (written rest : List ℕ) (count : ℕ) → count ≤ length rest → Added start mid written → Added mid now (take count rest) → AddedFront start now (written ++ rest)
 front_behind start mid now written rest count within h k = record {
   count = length written + count;
   within = omega (arith, within, length-append written rest);
-  added = rw (take_behind written rest count) (added_both start mid now written (take count rest) h k);
+  added = rw (take_behind written rest count) (added_more start mid now written (take count rest) h k);
 }
 
 -- a front is a front of more
@@ -34,7 +31,7 @@ pub gathers_written : (start : Option (List ℕ)) (before now : GatherState) (te
 gathers_written start before now text added none g = record {
   written = text;
   is = sym (ap (λ (t : List ℕ). text ++ t) none ∙ append-nil text);
-  added = rw g.is (added_both start before.taken now.taken g.written before.pending.held g.added added);
+  added = rw g.is (added_more start before.taken now.taken g.written before.pending.held g.added added);
 }
 
 -- nothing was held, and these bytes are written
@@ -42,7 +39,7 @@ pub gathers_through : (start : Option (List ℕ)) (before now : GatherState) (te
 gathers_through start before now text bytes none still added g = record {
   written = text ++ bytes;
   is = sym (ap (λ (t : List ℕ). (text ++ bytes) ++ t) still ∙ append-nil (text ++ bytes));
-  added = added_both start before.taken now.taken text bytes (rw (g.is ∙ ap (λ (t : List ℕ). g.written ++ t) none ∙ append-nil g.written) g.added) added;
+  added = added_more start before.taken now.taken text bytes (rw (g.is ∙ ap (λ (t : List ℕ). g.written ++ t) none ∙ append-nil g.written) g.added) added;
 }
 
 -- a front of what was held is written

@@ -1,7 +1,7 @@
 -- What is known of a run stays known further on in it.
-use Rattle.std.proofs.Common.{◌≡◌, ℕ, zero, suc, ◌+◌, ◌-◌, ◌≤◌, ◌<◌, List, [], ◌∷◌, length, take, drop, get_or, Bool, true, false, refl, arith, None, add_comm, ◌⊎◌, inl, inr, length-drop, drop-cons}
-use Rattle.std.proofs.Math.Seq.{take-length}
+use Rattle.std.proofs.Common.{◌≡◌, ℕ, zero, suc, ◌+◌, ◌-◌, ◌≤◌, ◌<◌, List, [], ◌∷◌, length, take, drop, get_or, Bool, true, false, refl, arith, None, add_comm, ◌⊎◌, inl, inr, drop-cons}
 use Rattle.std.proofs.lemmas.List.{drop-drop}
+use Rattle.ir_base.proofs.Pieces.{rest_whole}
 use Rattle.ir_lexer.specs.declared.class.Class.{Class}
 use Rattle.ir_lexer.specs.declared.class.Class.TheVariants as c
 use Rattle.ir_lexer.specs.Class.{byte_class, in_word, in_name, is_colon, starts_with}
@@ -49,10 +49,6 @@ known_further n at until text h =
     let P : ℕ → List ℕ → Type 0 = λ k s. KnownRun k s in
     rw (← less, ← drop-drop n at text) (known_on n (until - at) (drop at text) h)
 
--- all that stands behind so many bytes
-pub all_behind : (n : ℕ) (s : List ℕ) → take (length s - n) (drop n s) ≡ drop n s
-all_behind n s = rw (← length-drop n s) (take-length (drop n s))
-
 word_is_name : (x : Class) → in_word x ≡ true → in_name x ≡ true
 word_is_name c.Digit h = refl
 word_is_name c.Letter h = refl
@@ -71,7 +67,7 @@ no_word (b ∷ s) h = elim (bool_cases (in_word (byte_class b))) [
 -- the bytes of a word at the front, and those of a name behind them
 pub run_in_two : (word n : ℕ) (s : List ℕ) → word ≡ run in_word s → n ≡ run in_name (take (length s - word) (drop word s)) → run in_name s ≡ word + n
 run_in_two word n s w e =
-    let behind : n ≡ run in_name (drop word s) = rw all_behind at e in
+    let behind : n ≡ run in_name (drop word s) = rw rest_whole at e in
     omega (arith, behind, run_drop in_name word s (omega (arith, w, run_within in_word in_name word_is_name s)))
 
 -- What may end a word tells that no name goes on, and that no colon stands there.
@@ -93,11 +89,11 @@ word_ended word s w h e some =
     }
 
 pub no_colon_behind : (n : ℕ) (s : List ℕ) (is : Bool) → is ≡ false → is ≡ starts_with is_colon (take (length s - n) (drop n s)) → starts_with is_colon (drop n s) ≡ false
-no_colon_behind n s is e b = let k : is ≡ starts_with is_colon (drop n s) = rw all_behind at b in cc
+no_colon_behind n s is e b = let k : is ≡ starts_with is_colon (drop n s) = rw rest_whole at b in cc
 
 -- a word behind its first byte
 pub word_behind : (word : ℕ) (s : List ℕ) (x : Class) → 0 < length s → x ≡ byte_class (get_or s 0 0) → in_word x ≡ true → word ≡ run in_word s → word ≡ run in_word (take (length s - 1) (drop 1 s)) + 1
 word_behind word [] x some is h w = absurd (omega arith)
 word_behind word (b ∷ s) x some is h w =
     let first : in_word (byte_class b) ≡ true = rw is at h in
-    rw all_behind (omega (arith, w, run_first in_word b s first))
+    rw rest_whole (omega (arith, w, run_first in_word b s first))

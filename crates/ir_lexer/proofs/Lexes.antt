@@ -1,10 +1,10 @@
 -- Where a lexer stands.
 use Rattle.std.proofs.Common.{◌≡◌, ℕ, ◌-◌, ◌<◌, ◌≤◌, List, [], ◌∷◌, length, take, drop, get_or, true, Option, Some, None, IfSome, refl, sym, arith}
+use Rattle.ir_base.proofs.Pieces.{rest_whole}
 use Rattle.ir_lexer.specs.declared.token.TokenKind.{TokenKind}
 use Rattle.ir_lexer.specs.Class.{byte_class}
 use Rattle.ir_lexer.specs.Front.{next_token, token_from}
 use Rattle.ir_lexer.specs.declared.class.Class.{Class}
-use Rattle.ir_lexer.proofs.KnownRuns.{all_behind}
 use Rattle.ir_lexer.specs.Lexer.{is_nil}
 use Rattle.ir_lexer.specs.Table.{IsToken}
 use Rattle.ir_lexer.proofs.First.{next_is}
@@ -26,4 +26,4 @@ front_spelled s (Some (kind, n)) h = (next_is s kind n (sym h)).token
 pub next_by : (s : List ℕ) (x : Class) (o : Option (TokenKind × ℕ)) → 0 < length s → x ≡ byte_class (get_or s 0 0) → o ≡ token_from x (take (length s - 1) (drop 1 s)) → o ≡ next_token s
 unfolding next_token
 next_by [] x o some is e = absurd (omega arith)
-next_by (b ∷ s) x o some is e = let k : o ≡ token_from x s = rw all_behind at e in rw (← is) k
+next_by (b ∷ s) x o some is e = let k : o ≡ token_from x s = rw rest_whole at e in rw (← is) k

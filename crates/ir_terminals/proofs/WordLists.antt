@@ -8,7 +8,7 @@ use Rattle.std.proofs.lemmas.List.Folds.{list_all_at}
 use Rattle.std.proofs.lemmas.Map.Views.{exact_unsigned_eq}
 use Rattle.std.proofs.lemmas.Slice.Eq.{bytes_eq-Decides}
 use Rattle.std.specs.List.{list_all}
-use Rattle.ir_lexer.proofs.KnownRuns.{all_behind}
+use Rattle.ir_base.proofs.Pieces.{rest_whole}
 use Rattle.ir_lexer.proofs.Runs.{bool_cases}
 use Rattle.ir_terminals.specs.Digits.{below}
 use Rattle.ir_terminals.specs.WordRows.{meaning_of, meanings_of, slot}
@@ -133,7 +133,7 @@ no_bytes (b ∷ s) h = absurd (omega (arith, h))
 -- an `i` and the bytes behind it
 pub wide_word : (word : List ℕ) (o : Option Terminal) → 1 ≤ length word → get_or word 0 0 ≡ 105 → o ≡ option_map of_width (width_in (105 ∷ take (length word - 1) (drop 1 word))) → o ≡ option_map of_width (width_in word)
 wide_word [] o some is e = absurd (omega (arith, some))
-wide_word (b ∷ s) o some is e = let k : o ≡ option_map of_width (width_in (105 ∷ s)) = rw all_behind at e in rw is k
+wide_word (b ∷ s) o some is e = let k : o ≡ option_map of_width (width_in (105 ∷ s)) = rw rest_whole at e in rw is k
 
 -- what begins otherwise has no width
 pub no_width : (word : List ℕ) → 1 ≤ length word → (get_or word 0 0 == 105) ≡ false → None ≡ option_map of_width (width_in word)

@@ -20,14 +20,6 @@ pub added_none : (t : Option (List ℕ)) → Added t t []
 added_none None = refl
 added_none (Some xs) = ap (λ (ys : List ℕ). Some ys) (sym (append-nil xs))
 
-pub lost_more : (l m n : Option (List ℕ)) (a b : List ℕ) → Lost l m a → Lost m n b → Lost l n (a ++ b)
-lost_more l m None a b h k = rw (h, k) refl
-lost_more l m (Some xs) a b h k = rw (h, k) (ap (λ (ys : List ℕ). Some ys) (sym (append_assoc a b xs)))
-
-pub added_more : (l m n : Option (List ℕ)) (a b : List ℕ) → Added l m a → Added m n b → Added l n (a ++ b)
-added_more None m n a b h k = rw (k, h) refl
-added_more (Some xs) m n a b h k = rw (k, h) (ap (λ (ys : List ℕ). Some ys) (append_assoc xs a b))
-
 -- STEPS, ONE BY ONE
 
 then_then : (f g : State → Step) (x : Step) → then_on (λ s. then_on g (f s)) x ≡ then_on g (then_on f x)

@@ -3,6 +3,7 @@ use Rattle.std.proofs.Common.{◌≡◌, ℕ, suc, ◌+◌, ◌-◌, ◌<◌, �
 use Rattle.std.proofs.lemmas.Bool.{false≢true, lt-ltb, le-ltb}
 use Rattle.std.proofs.lemmas.List.{append-nil, length-append}
 use Rattle.ir_base.specs.Outside.{Rose, Added}
+use Rattle.ir_base.proofs.Pieces.{added_more, lost_more}
 use Rattle.run_rules.specs.Clauses.{Outside, Traffic, Moves, IsRest, IsFront, Stepped, Ended, CouldNotRead, CouldNotWrite, WantedMemory, StepFails, output_of, told}
 use Rattle.run_rules.specs.declared.fault.RunFault.{RunFault}
 use Rattle.run_rules.specs.declared.fault.RunFault.TheVariants.{ReadFault, WriteFault, Memory}
@@ -15,7 +16,7 @@ use Rattle.run_rules.specs.Look.{look}
 use Rattle.run_rules.specs.Wants.{may_want_memory}
 use Rattle.run_laws.specs.Laws.{IsWithin, StepsMakeUpARun, WritesFirst}
 use Rattle.run_laws.proofs.Grows.{step_ends_later, used_up_later}
-use Rattle.run_laws.proofs.Reached.{lost_none, added_none, lost_more, added_more, stays_closed, at_end_more, steps_more, told_stays, advanced_told}
+use Rattle.run_laws.proofs.Reached.{lost_none, added_none, stays_closed, at_end_more, steps_more, told_stays, advanced_told}
 use Rattle.run_laws.proofs.BeforeReads.{adds_one, left_alone, reads_well_more, written_more, writes_before}
 
 -- ---- on the way

@@ -1,12 +1,12 @@
 use Rattle.std.proofs.Common.{◌≡◌, ◌+◌, ◌≤◌, length, take, drop, get_or, true, false, refl, sym, ◌∙◌, arith, length-drop, inl, inr}
 use Rattle.std.proofs.lemmas.Bool.Decides.{nat_tests}
+use Rattle.ir_base.proofs.Pieces.{rest_whole}
 use Rattle.ir_lexer.specs.Class.{byte_class, in_line, is_blank}
 use Rattle.ir_lexer.specs.Form.{each, run}
 use Rattle.ir_lexer.specs.Gap.{gap_length, in_gap}
 use Rattle.ir_lexer.specs.Place.{next_place, place_after}
 use Rattle.ir_lexer.specs.declared.class.Class.TheVariants as class
 use Rattle.ir_lexer.proofs.ClassTable.{space_is_blank}
-use Rattle.ir_lexer.proofs.KnownRuns.{all_behind}
 use Rattle.ir_lexer.proofs.Lines.{front_in_line, one_in_line}
 use Rattle.ir_lexer.proofs.Placing.{behind_more, one_on}
 use Rattle.ir_lexer.proofs.Runs.{bool_cases, run_each, run_le}
@@ -86,7 +86,7 @@ gap-smaller c =
     let s = c.args.bytes.now in
     let is : byte_class (get_or s l.n 0) ≡ class.Semicolon = sym c.class_of.ensures ∙ c.in-Semicolon.is in
     let goes_on : in_line (byte_class (get_or s l.n 0)) ≡ true = rw is refl in
-    let count : c.run_of-comment.result ≡ run in_line (drop l.n s) = rw (all_behind l.n s) at c.run_of-comment.ensures.count in
+    let count : c.run_of-comment.result ≡ run in_line (drop l.n s) = rw (rest_whole l.n s) at c.run_of-comment.ensures.count in
     omega (arith, c.gap-test.true, count, run_on in_line s l.n c.gap-test.true goes_on)
 
 pub gap-preserved : goal.gap-preserved
@@ -97,7 +97,7 @@ gap-preserved c =
     let n = c.run_of-comment.result in
     let next = c.place_in_line-here-in-Semicolon.result in
     let is : byte_class (get_or s l.n 0) ≡ class.Semicolon = sym c.class_of.ensures ∙ c.in-Semicolon.is in
-    let count : n ≡ run in_line (drop l.n s) = rw (all_behind l.n s) at c.run_of-comment.ensures.count in
+    let count : n ≡ run in_line (drop l.n s) = rw (rest_whole l.n s) at c.run_of-comment.ensures.count in
     let goes_on : each in_line (take n (drop l.n s)) ≡ true = rw count (run_each in_line (drop l.n s)) in
     let fits : n ≤ length (drop l.n s) = omega (arith, count, run_le in_line (drop l.n s)) in
     let there = front_in_line l.here next (drop l.n s) n fits goes_on c.place_in_line-here-in-Semicolon.ensures in

@@ -1,6 +1,6 @@
 use Rattle.std.proofs.Common.{◌-◌, ◌+◌, ◌≤◌, length, take, drop, arith, length-drop}
 use Rattle.std.proofs.lemmas.List.{length-take-le}
-use Rattle.ir_lexer.proofs.KnownRuns.{all_behind}
+use Rattle.ir_base.proofs.Pieces.{rest_whole}
 use Rattle.ir_lexer.proofs.Placing.{room}
 use Rattle.ir_lexer.proofs.lexer.Lexer.skip.Goals as goal
 
@@ -11,7 +11,7 @@ gap_of-gap-requires-clause-line c =
     let i = c.self.invariant in
     let size = length-drop r.at s in
     let has = room s r.at (length (drop r.at s)) r.place i.2 (omega (arith, i.0, size)) i.1 in
-    rw (all_behind r.at s) has.line
+    rw (rest_whole r.at s) has.line
 
 pub gap_of-gap-requires-clause-column :
     goal.gap_of-gap-requires-clause-column
@@ -21,7 +21,7 @@ gap_of-gap-requires-clause-column c =
     let i = c.self.invariant in
     let size = length-drop r.at s in
     let has = room s r.at (length (drop r.at s)) r.place i.2 (omega (arith, i.0, size)) i.1 in
-    rw (all_behind r.at s) has.column
+    rw (rest_whole r.at s) has.column
 
 pub gap_of-gap-requires-clause-first : goal.gap_of-gap-requires-clause-first
 gap_of-gap-requires-clause-first c =
