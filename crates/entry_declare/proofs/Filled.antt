@@ -9,7 +9,7 @@ use Rattle.entry_fates.specs.declared.fates.Fate.{Fate}
 use Rattle.entry_fates.specs.Fates.{made}
 
 -- the first ones are one more
-made_more : {A B : Type 0} (become : Fate → A → Option B) (fates : List Fate) (xs : List A) (k : ℕ) (f : Fate) (x : A) → slice_get fates k ≡ Some f → slice_get xs k ≡ Some x
+pub made_more : {A B : Type 0} (become : Fate → A → Option B) (fates : List Fate) (xs : List A) (k : ℕ) (f : Fate) (x : A) → slice_get fates k ≡ Some f → slice_get xs k ≡ Some x
     → made become (take (suc k) fates) (take (suc k) xs) ≡ made become (take k fates) (take k xs) ++ cons_option (become f x) []
 made_more become [] xs k f x at is = cc
 made_more become (g ∷ fates) [] k f x at is = cc
@@ -21,7 +21,7 @@ made_more {B = B} become (g ∷ fates) (y ∷ xs) (suc k) f x at is = go (become
     go None h = h
     go (Some z) h = ap (λ l. z ∷ l) h
 
-one_listed : {B : Type 0} (o : Option B) → cons_option o [] ≡ option_to_list o
+pub one_listed : {B : Type 0} (o : Option B) → cons_option o [] ≡ option_to_list o
 one_listed None = refl
 one_listed (Some y) = refl
 

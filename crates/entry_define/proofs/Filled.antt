@@ -13,6 +13,7 @@ use Rattle.extract_core.proofs.Adding.{take_whole}
 use Rattle.entry_fates.specs.declared.fates.Fate.{Fate}
 use Rattle.entry_fates.specs.Fates.{made, variable_as, function_as, alias_as}
 use Rattle.entry_declare.specs.Stages.{with_variables}
+use Rattle.entry_declare.proofs.Filled.{made_more, one_listed}
 use Rattle.part_declare.specs.FunctionsThere.{with_functions}
 use Rattle.entry_define.specs.Filling.{initialised_by, initialised_as, defined_by, defined_as, targeted_as, behind_made, with_aliases}
 
@@ -41,19 +42,6 @@ made_next become [] xs k f x at is = cc
 made_next become (g ∷ fates) [] k f x at is = cc
 made_next become (g ∷ fates) (y ∷ xs) zero f x at is = λ i. cons_option (become (same_Some g f at i) (same_Some y x is i)) (made become fates xs)
 made_next become (g ∷ fates) (y ∷ xs) (suc k) f x at is = made_next become fates xs k f x at is
-
--- and the first ones are one more
-pub made_more : {A B : Type 0} (become : Fate → A → Option B) (fates : List Fate) (xs : List A) (k : ℕ) (f : Fate) (x : A) → slice_get fates k ≡ Some f → slice_get xs k ≡ Some x
-    → made become (take (suc k) fates) (take (suc k) xs) ≡ made become (take k fates) (take k xs) ++ cons_option (become f x) []
-made_more become [] xs k f x at is = cc
-made_more become (g ∷ fates) [] k f x at is = cc
-made_more become (g ∷ fates) (y ∷ xs) zero f x at is = λ i. cons_option (become (same_Some g f at i) (same_Some y x is i)) []
-made_more {B = B} become (g ∷ fates) (y ∷ xs) (suc k) f x at is = go (become g y) (made_more become fates xs k f x at is)
-  where
-    go : (o : Option B) → made become (take (suc k) fates) (take (suc k) xs) ≡ made become (take k fates) (take k xs) ++ cons_option (become f x) []
-        → cons_option o (made become (take (suc k) fates) (take (suc k) xs)) ≡ cons_option o (made become (take k fates) (take k xs)) ++ cons_option (become f x) []
-    go None h = h
-    go (Some z) h = ap (λ l. z ∷ l) h
 
 -- a declared variable that gets its initialiser is whole, and one that has none is so already
 pub initialiser_given : (v : Variable) (c : Constant) → v.initialiser ≡ Some c → record (without_initialiser v) { initialiser = Some c } ≡ v
@@ -118,10 +106,6 @@ module _ (m : Module) (done : List Alias) where
       (done_next done (without_target x) (λ (y : Alias). record y { target = x.target }) (map without_target behind) ∙ sym (append_assoc done (x ∷ []) (map without_target behind)))
 
 -- ---- the step of a loop
-
-one_listed : {B : Type 0} (o : Option B) → cons_option o [] ≡ option_to_list o
-one_listed None = refl
-one_listed (Some y) = refl
 
 -- the first ones are one more, as a list behind them
 pub made_front : {A B : Type 0} (become : Fate → A → Option B) (fates : List Fate) (xs : List A) (k : ℕ) (f : Fate) (x : A) → slice_get fates k ≡ Some f → slice_get xs k ≡ Some x
