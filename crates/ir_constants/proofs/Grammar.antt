@@ -15,9 +15,10 @@ use Rattle.ir_terminals.specs.declared.limits.Limits.{Limits}
 use Rattle.ir_terminals.specs.declared.terminal.Terminal.{Terminal}
 use Rattle.ir_terminals.specs.declared.terminal.Terminal.TheVariants as terminal
 use Rattle.ir_terminals.specs.Role.{class}
-use Rattle.ir_terminals.specs.Terminal.{code, integer_type_class}
-use Rattle.ir_terminals.specs.Tokens.{word, integer_row, local_row}
-use Rattle.ir_terminals.specs.Values.{place_of_token, width_of_type, opcode_in}
+use Rattle.ir_terminals.specs.Terminal.{integer_type_class}
+use Rattle.ir_terminals.specs.Tokens.{local_row}
+use Rattle.ir_terminals.specs.Values.{width_of_type, opcode_in}
+use Rattle.ir_terminals.proofs.RowsRead.{reads_word, reads_integer}
 use Rattle.ir_constants.specs.Placed.{token_with_place, placed_by}
 use Rattle.ir_constants.specs.Tree.{TypeTree, TypedConstantTree, ConstantTree, LocalValue}
 use Rattle.ir_constants.specs.Flags.{flag_shape, flag_step, flags_shape, flags_core, flags_row}
@@ -25,14 +26,8 @@ use Rattle.ir_constants.specs.Types.{nest_shape, value_type_shape, type_shape, i
 use Rattle.ir_constants.specs.Constants.{integer_constant_row, address_row, bytes_row, simple_classes, simple_word, simple_row, expression_classes, holder_shape, constant_shape, expression_shape, typed_core, elements_core, elements_row, array_constant_row, struct_constant_row, packed_constant_row, operands_shape, operands_core, operands_row, element_address_row, conversion_row, arithmetic_row, expression_by, expression_core, expression_row, holder_step, constant_core, holder_core, holder_row, constant_at, typed_at, constant_row, typed_constant_row}
 use Rattle.ir_constants.specs.Values.{value_shape, value_core, value_row, typed_value_core, typed_value_row}
 
-pub reads_word : (wanted : Terminal) → Reads class (word wanted) (word wanted).shape
-reads_word wanted = reads_one class (code wanted ∷ []) place_of_token
-
 pub reads_placed : {A : Type 0} (classes : List ℕ) (meaning : Terminal → Option A) → Reads class (token_with_place classes meaning) (token_with_place classes meaning).shape
 reads_placed classes meaning = reads_one class classes (placed_by meaning)
-
-reads_integer : Reads class integer_row integer_row.shape
-reads_integer = reads_one class _ _
 
 reads_flag_step : (opcode : Opcode) (flags : ℕ) → Reads class (flag_step opcode flags) flag_shape
 reads_flag_step opcode flags = reads_one class _ _

@@ -13,10 +13,11 @@ use Rattle.ir_terminals.specs.declared.terminal.Terminal.TheVariants as terminal
 use Rattle.ir_terminals.specs.Role.{class}
 use Rattle.ir_terminals.specs.Terminal.{code}
 use Rattle.ir_terminals.specs.Tokens.{word}
+use Rattle.ir_terminals.proofs.RowsRead.{reads_word}
 use Rattle.ir_constants.specs.Tree.{TypeTree, TypedConstantTree}
 use Rattle.ir_constants.specs.Types.{type_shape, type_core, nest_row, type_at}
 use Rattle.ir_constants.specs.Constants.{typed_core, constant_at, typed_at}
-use Rattle.ir_constants.proofs.Grammar.{reads_word, reads_type_at, reads_typed_at}
+use Rattle.ir_constants.proofs.Grammar.{reads_type_at, reads_typed_at}
 
 module _ {X A : Type 0} (view : X → A) (t : Row Located A) (h : Reads class (labelled type_shape t) type_shape) where
   -- what was read and what is left are the whole list, also with one more

@@ -11,8 +11,9 @@ use Rattle.ir_terminals.specs.declared.limits.Limits.{Limits}
 use Rattle.ir_terminals.specs.declared.terminal.Terminal.TheVariants as terminal
 use Rattle.ir_terminals.specs.Role.{class}
 use Rattle.ir_terminals.specs.Tokens.{word}
+use Rattle.ir_terminals.proofs.RowsRead.{reads_word}
 use Rattle.ir_constants.specs.Types.{type_shape, list_shape}
-use Rattle.ir_constants.proofs.Grammar.{reads_word, reads_type, reads_value}
+use Rattle.ir_constants.proofs.Grammar.{reads_type, reads_value}
 use Rattle.ir_instructions.specs.Tree.{SignatureTree}
 use Rattle.ir_instructions.specs.Dropped.{comma_shape}
 use Rattle.ir_instructions.specs.Calls.{signature_step, some_types_row, signature_types_row, signature_shape, signature_core, signature_row, argument_core, argument_row, argument_list_core, argument_list_row, arguments_shape, arguments_core, arguments_row, result_type_shape, result_type_core, call_end_shape, call_end_core, called_shape, called_core, call_shape, call_core, call_row}

@@ -10,8 +10,7 @@ use Rattle.ir_terminals.specs.declared.terminal.Terminal.{Terminal}
 use Rattle.ir_terminals.specs.declared.terminal.Terminal.TheVariants as terminal
 use Rattle.ir_terminals.specs.Role.{class}
 use Rattle.ir_terminals.specs.Tokens.{word}
-use Rattle.ir_terminals.proofs.RowsRead.{reads_matched}
-use Rattle.ir_constants.proofs.Grammar.{reads_word}
+use Rattle.ir_terminals.proofs.RowsRead.{reads_matched, reads_word}
 use Rattle.ir_instructions.specs.Dropped.{dropped, attachment_row, attachments_core, attachments_row, comma_shape, commas_shape, parameter_word_row, parameter_alignment_row, parameter_list_row, parameter_attribute_shape, parameter_attribute_row, parameter_attributes_core, parameter_attributes_shape, parameter_attributes_row, function_word_row, function_string_row, function_alignment_row, section_row, function_list_row, unwind_table_row, function_attribute_shape, function_attribute_core, function_attribute_row, function_attributes_core, function_attributes_shape, function_attributes_row, convention_row}
 
 reads_dropped_word : (wanted : Terminal) → Reads class (dropped (word wanted)) (word wanted).shape

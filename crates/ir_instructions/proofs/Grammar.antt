@@ -12,9 +12,9 @@ use Rattle.ir_terminals.specs.declared.terminal.Terminal.TheVariants as terminal
 use Rattle.ir_terminals.specs.Role.{class}
 use Rattle.ir_terminals.specs.Terminal.{code}
 use Rattle.ir_terminals.specs.Values.{opcode_of}
-use Rattle.ir_terminals.specs.Tokens.{label_row}
+use Rattle.ir_terminals.proofs.RowsRead.{reads_word, reads_label, reads_local}
 use Rattle.ir_constants.specs.Types.{type_shape}
-use Rattle.ir_constants.proofs.Grammar.{reads_word, reads_value_type, reads_value, reads_typed_value, reads_typed_constant}
+use Rattle.ir_constants.proofs.Grammar.{reads_value_type, reads_value, reads_typed_value, reads_typed_constant}
 use Rattle.ir_instructions.specs.Instructions.{result_classes, operation_classes, marked_call_row, operation_over_shape, operation_over_core, assigned_row, bare_row, instruction_shape, instruction_core, instruction_row, instructions_row}
 use Rattle.ir_instructions.specs.Operations.{tail_shape}
 use Rattle.ir_instructions.specs.Endings.{target_shape, target_core, target_row, next_target_core, next_target_row, returned_row, return_value_core, return_value_row, return_shape, return_core, return_row, condition_row, branch_target_shape, branch_target_core, branch_target_row, branch_shape, branch_core, branch_row, case_core, case_row, case_list_row, cases_shape, cases_core, cases_row, switch_targets_core, switch_targets_row, switch_shape, switch_core, switch_row, unreachable_shape, unreachable_core, unreachable_row, ending_shape, ending_core, ending_row}
@@ -22,7 +22,7 @@ use Rattle.ir_instructions.specs.Blocks.{block_shape, block_core, block_row, blo
 use Rattle.ir_instructions.specs.Dropped.{attachment_row, attachments_row, comma_shape, commas_shape, parameter_attributes_shape, parameter_attributes_row, function_attributes_shape, function_attributes_row, convention_row}
 use Rattle.ir_instructions.proofs.DroppedGrammar as dropped
 use Rattle.ir_instructions.proofs.CallsGrammar.{reads_call}
-use Rattle.ir_instructions.proofs.OperationsGrammar.{reads_local, reads_operation_behind}
+use Rattle.ir_instructions.proofs.OperationsGrammar.{reads_operation_behind}
 
 pub reads_attachments : Reads class attachments_row commas_shape
 reads_attachments = dropped.reads_attachments
@@ -167,9 +167,6 @@ reads_ending_core limits =
 
 pub reads_ending : (limits : Limits) → Reads class (ending_row limits) ending_shape
 reads_ending limits = reads_labelled (reads_ending_core limits)
-
-reads_label : Reads class label_row label_row.shape
-reads_label = reads_one class _ _
 
 reads_block_core : (limits : Limits) → Reads class (block_core limits) block_shape
 unfolding block_core

@@ -3,27 +3,22 @@ use Rattle.std.proofs.Common.{[], ◌∷◌, refl}
 use Rattle.ir_tables.specs.declared.opcode.Opcode.{Opcode}
 use Rattle.ir_tables.specs.declared.opcode.Opcode.TheVariants as op
 use Rattle.phrase_rows.specs.Reads.{Reads}
-use Rattle.phrase_rows.proofs.Plain.{reads_one, reads_fail, reads_mapped, reads_labelled, reads_wider}
+use Rattle.phrase_rows.proofs.Plain.{reads_fail, reads_mapped, reads_labelled, reads_wider}
 use Rattle.phrase_rows.proofs.Chain.{reads_chain, reads_second, reads_before, reads_pair}
 use Rattle.ir_terminals.specs.declared.limits.Limits.{Limits}
 use Rattle.ir_terminals.specs.declared.terminal.Terminal.TheVariants as terminal
 use Rattle.ir_terminals.specs.Role.{class}
 use Rattle.ir_terminals.specs.Terminal.{code}
-use Rattle.ir_terminals.specs.Tokens.{integer_row, local_row, predicate_row}
+use Rattle.ir_terminals.specs.Tokens.{integer_row}
+use Rattle.ir_terminals.proofs.RowsRead.{reads_word, reads_integer, reads_local, reads_predicate}
 use Rattle.ir_constants.specs.Types.{type_shape}
 use Rattle.ir_constants.specs.Values.{typed_value_core}
-use Rattle.ir_constants.proofs.Grammar.{reads_word, reads_flags, reads_type, reads_value, reads_typed_value}
+use Rattle.ir_constants.proofs.Grammar.{reads_flags, reads_type, reads_value, reads_typed_value}
 use Rattle.ir_instructions.specs.Dropped.{comma_shape}
 use Rattle.ir_instructions.specs.Operations.{tail_shape, next_value_core, next_value_row, next_typed_value_core, next_typed_value_row, operands_shape, operands_core, operands_row, cast_type_shape, cast_type_core, cast_type_row, arms_core, arms_row, address_core, address_row, from_block_core, from_block_row, incoming_shape, incoming_core, incoming_row, operand_list_core, operand_list_row, indices_core, indices_row, operation_shape, binary_core, binary_row, compare_core, compare_row, cast_core, cast_row, select_core, select_row, freeze_core, freeze_row, phi_core, phi_row, load_core, load_row, store_core, store_row, alloca_core, alloca_row, element_address_core, element_address_row, extract_core, extract_row, insert_core, insert_row, call_operation_row, operation_core, operation_behind}
 use Rattle.ir_instructions.proofs.DroppedGrammar.{reads_attachments}
-use Rattle.ir_instructions.proofs.TailsGrammar.{reads_integer, reads_alignment, reads_count, reads_listed}
+use Rattle.ir_instructions.proofs.TailsGrammar.{reads_alignment, reads_count, reads_listed}
 use Rattle.ir_instructions.proofs.CallsGrammar.{reads_call_core}
-
-pub reads_local : Reads class local_row local_row.shape
-reads_local = reads_one class _ _
-
-reads_predicate : Reads class predicate_row predicate_row.shape
-reads_predicate = reads_one class _ _
 
 reads_next_value_core : (limits : Limits) → Reads class (next_value_core limits) comma_shape
 unfolding next_value_core

@@ -3,7 +3,7 @@ use Rattle.std.proofs.Common.{◌≡◌, ℕ, List, [], ◌∷◌, refl, true, f
 use Rattle.ir_lexer.specs.Ahead.{Located}
 use Rattle.phrase_rows.specs.Row.{Row, apart, keep_second, labelled}
 use Rattle.phrase_rows.specs.Reads.{Reads}
-use Rattle.phrase_rows.proofs.Plain.{reads_nothing, reads_one, reads_mapped, reads_labelled, reads_wider}
+use Rattle.phrase_rows.proofs.Plain.{reads_nothing, reads_mapped, reads_labelled, reads_wider}
 use Rattle.phrase_rows.proofs.Chain.{reads_second, reads_before, reads_pair}
 use Rattle.phrase_rows.proofs.Alt.{reads_alt}
 use Rattle.phrase_rows.proofs.Loop.{reads_loop}
@@ -11,14 +11,12 @@ use Rattle.ir_terminals.specs.declared.limits.Limits.{Limits}
 use Rattle.ir_terminals.specs.declared.terminal.Terminal.TheVariants as terminal
 use Rattle.ir_terminals.specs.Role.{class}
 use Rattle.ir_terminals.specs.Terminal.{code}
-use Rattle.ir_terminals.specs.Tokens.{word, integer_row}
-use Rattle.ir_constants.proofs.Grammar.{reads_word, reads_typed_value}
+use Rattle.ir_terminals.specs.Tokens.{word}
+use Rattle.ir_terminals.proofs.RowsRead.{reads_word, reads_integer}
+use Rattle.ir_constants.proofs.Grammar.{reads_typed_value}
 use Rattle.ir_instructions.specs.Dropped.{comma_shape, commas_shape}
 use Rattle.ir_instructions.specs.Tails.{alignment_behind_row, alignment_core, alignment_row, count_behind_row, count_core, count_row, ListedParts, listed_step, listed_core, listed_row, part_shape, part_begins_row}
 use Rattle.ir_instructions.proofs.DroppedGrammar.{reads_attachment, reads_attachments}
-
-pub reads_integer : Reads class integer_row integer_row.shape
-reads_integer = reads_one class _ _
 
 reads_alignment_behind : Reads class alignment_behind_row alignment_behind_row.shape
 reads_alignment_behind =

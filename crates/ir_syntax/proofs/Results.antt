@@ -6,11 +6,9 @@ use Rattle.std.proofs.lemmas.Bool.{ltb-true, ltb-false, not-true}
 use Rattle.phrase_rows.specs.Row.{Done, Bad}
 use Rattle.phrase_rows.proofs.Answer.{IsAnswer, answered, answered_whole, first_bad_once, viable_through, viable_in_whole, not_viable_from}
 use Rattle.phrase_rows.proofs.Values.{one_value}
-use Rattle.ir_lexer.specs.Ahead.{Located, AheadIs, ahead, tokens_in}
-use Rattle.ir_lexer.specs.Lexer.{at_start}
+use Rattle.ir_lexer.specs.Ahead.{Located, tokens_in}
 use Rattle.ir_lexer.specs.Tokens.{Tokens}
 use Rattle.ir_lexer.proofs.TokenLists.{list_or_bad_not_both}
-use Rattle.ir_lexer.proofs.AheadSteps.{ahead_is}
 use Rattle.ir_terminals.specs.Position.{Position, tokens_left, text_tokens, is_cut_off, first_terminal, is_bad_next}
 use Rattle.ir_terminals.specs.declared.terminal.Terminal.{Terminal}
 use Rattle.ir_terminals.specs.Role.{class}
@@ -18,14 +16,12 @@ use Rattle.ir_terminals.specs.declared.limits.Limits.{Limits}
 use Rattle.ir_terminals.specs.Follows.{Moves}
 use Rattle.ir_terminals.specs.declared.fault.Fault.{Fault}
 use Rattle.ir_terminals.specs.declared.fault.Fault.TheVariants as faults
+use Rattle.ir_terminals.proofs.Fronts.{whole_text}
 use Rattle.ir_syntax.specs.Tree.{ItemTree}
 use Rattle.ir_syntax.specs.Items.{IsViable, items_row, language}
 use Rattle.ir_syntax.specs.Answers.{text_answer, Answers, passed, is_end, HasItems, FirstBad}
 use Rattle.ir_syntax.specs.Refusal.{through}
 use Rattle.ir_syntax.proofs.Grammar.{reads_items}
-
-what_is_ahead : (text : List ℕ) → AheadIs text (ahead (at_start text))
-what_is_ahead text = ahead_is (at_start text)
 
 is_answer : (limits : Limits) (text : List ℕ) (x : Result (List ItemTree) ℕ) → text_answer limits text ≡ x → IsAnswer (items_row limits) (not (is_cut_off text)) (text_tokens text) x
 is_answer limits text x e =
@@ -36,11 +32,11 @@ is_answer limits text x e =
 pub answer_items : (text : List ℕ) (items : List ItemTree) → text_answer language text ≡ Ok items → HasItems text items
 answer_items text items e =
     let a = is_answer language text (Ok items) e in
-    record { are_tokens = (what_is_ahead text).0 (not-true (is_cut_off text) a.0); are_items = a.1 }
+    record { are_tokens = (whole_text text).0 (not-true (is_cut_off text) a.0); are_items = a.1 }
 
 not_cut : (text : List ℕ) (b : Bool) → is_cut_off text ≡ b → Tokens text (tokens_in (text_tokens text)) → b ≡ false
 not_cut text false e h = refl
-not_cut text true e h = absurd (list_or_bad_not_both text _ _ h ((what_is_ahead text).1 e))
+not_cut text true e h = absurd (list_or_bad_not_both text _ _ h ((whole_text text).1 e))
 
 -- the text's items are its answer
 pub items_answer : (text : List ℕ) (items : List ItemTree) → HasItems text items → text_answer language text ≡ Ok items

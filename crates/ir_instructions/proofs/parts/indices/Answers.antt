@@ -1,4 +1,4 @@
-use Rattle.ir_instructions.proofs.TailsGrammar.{reads_integer}
+use Rattle.ir_terminals.proofs.RowsRead.{reads_integer}
 use Rattle.ir_instructions.proofs.parts.indices.Goals as goal
 
 pub more_parts-requires-clause-reads : goal.more_parts-requires-clause-reads
