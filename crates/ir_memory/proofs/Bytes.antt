@@ -1,9 +1,10 @@
 -- Bytes of numbers.
-use Rattle.std.proofs.Common.{◌≡◌, ℕ, zero, suc, ◌+◌, ◌-◌, ◌*◌, ◌/◌, ◌%◌, ◌^◌, ◌<◌, ◌≤◌, List, [], ◌∷◌, length, drop, get_or, refl, sym, ap, ◌∙◌, arith, Some, None, Option, ◌&&◌, drop-cons, add-one, lit≤, pow-add}
-use Rattle.std.proofs.Math.Nat.{pow-le-pow_right, div-eq_of_lt, mod-eq_of_lt, pow-succ'}
+use Rattle.std.proofs.Common.{◌≡◌, ℕ, zero, suc, ◌+◌, ◌-◌, ◌*◌, ◌/◌, ◌%◌, ◌^◌, ◌<◌, ◌≤◌, List, [], ◌∷◌, length, drop, get_or, refl, sym, ap, ◌∙◌, arith, Some, None, Option, ◌&&◌, drop-cons, add-one, lit≤}
+use Rattle.std.proofs.Math.Nat.{pow-le-pow_right, div-eq_of_lt, mod-eq_of_lt}
 use Rattle.ir_memory.specs.declared.cell.Cell.{Cell}
 use Rattle.ir_eval.specs.declared.value.Pointer.{Pointer}
 use Rattle.masked_bytes.specs.Masked.{joined}
+use Rattle.masked_bytes.proofs.Numbers.{shift}
 use Rattle.ir_memory.specs.Cell.{byte_at, byte_of, number_of, is_piece, are_pieces}
 
 pub byte_high : (number place : ℕ) → number < 2 ^ 128 → 16 ≤ place → 0 ≡ byte_at number place
@@ -11,15 +12,6 @@ byte_high number place fits high =
     let more : 256 ^ 16 ≤ 256 ^ place = pow-le-pow_right (lit≤ tt) high in
     let less : number < 256 ^ place = omega (arith, more, fits) in
     rw (div-eq_of_lt less) refl
-
--- a shift by bits is a shift by bytes
-pub shift : (place : ℕ) → 2 ^ (8 * place) ≡ 256 ^ place
-shift zero = refl
-shift (suc place) =
-    let e : 8 * suc place ≡ 8 + 8 * place = omega arith in
-    let f = pow-add 2 8 (8 * place) in
-    let g : 256 ^ suc place ≡ 256 * 256 ^ place = pow-succ' 256 place in
-    rw (e, f, g) (ap (λ n. 256 * n) (shift place))
 
 -- a number of whole bytes is cut nowhere
 pub whole_bytes : (number width : ℕ) → number < 256 ^ ((width + 7) / 8) → width % 8 ≡ 0 → number ≡ number % 2 ^ width
@@ -37,13 +29,6 @@ are_pieces-more p k cs i d h = rw (drop-cons cs i d h) (ap (λ n. is_piece p k (
 
 pub number_of-more : (cs : List Cell) (i : ℕ) (d : Cell) → i < length cs → number_of (drop i cs) ≡ joined (byte_of (get_or cs i d)) (number_of (drop (i + 1) cs))
 number_of-more cs i d h = rw (drop-cons cs i d h) (ap (λ n. joined (byte_of (get_or cs i d)) (number_of (drop n cs))) (sym (add-one i)))
-
-pub below_more : (n b k m : ℕ) → n < 256 ^ k → b < 256 → m ≡ k + 1 → n * 256 + b < 256 ^ m
-below_more n b k m h l e = rw (e, add-one k, pow-succ' 256 k) (omega arith)
-
-pub below_all : (n k : ℕ) → n < 256 ^ k → k ≤ 16 → n < 2 ^ 128
-below_all n k h l =
-    let more : 256 ^ k ≤ 256 ^ 16 = pow-le-pow_right (lit≤ tt) l in omega (arith, more, h)
 
 -- a poison cell spoils all
 pub number_of-none : (cs : List Cell) (i : ℕ) → number_of (drop i cs) ≡ None → number_of cs ≡ None
@@ -65,6 +50,3 @@ number_of-step cs left b number d some within e f =
 pub number_of-spoiled : (cs : List Cell) (left : ℕ) (d : Cell) → 1 ≤ left → left ≤ length cs → None ≡ byte_of (get_or cs (left - 1) d) → number_of cs ≡ None
 number_of-spoiled cs left d some within e =
     number_of-none cs (left - 1) (number_of-more cs (left - 1) d (omega arith) ∙ ap (λ r. joined r (number_of (drop (left - 1 + 1) cs))) (sym e))
-
-pub times_fits : (n k : ℕ) → n < 256 ^ k → k + 1 ≤ 16 → n * 256 + 255 < 2 ^ 128
-times_fits n k h l = below_all (n * 256 + 255) (k + 1) (below_more n 255 k (k + 1) h (lit≤ tt) refl) l

@@ -11,6 +11,7 @@ use Rattle.ir_eval.specs.declared.value.Pointer.{Pointer}
 use Rattle.ir_eval.specs.declared.value.Scalar.TheVariants as scalar
 use Rattle.pointer_pieces.specs.declared.piece.PointerPiece.{PointerPiece}
 use Rattle.masked_bytes.specs.Masked as masked
+use Rattle.masked_bytes.proofs.Numbers.{shift}
 use Rattle.ir_memory.specs.declared.access.BlockPlace.{BlockPlace}
 use Rattle.ir_memory.specs.declared.cell.Cell.TheVariants as cell
 use Rattle.ir_memory.specs.declared.kept.KeptBlock.{KeptBlock}
@@ -21,7 +22,6 @@ use Rattle.ir_memory.specs.Memory.{Blocks, access, cells_at, changed, loaded, pu
 use Rattle.ir_memory.specs.Find.{IsOnly}
 use Rattle.ir_memory.specs.Kept.{IsKept, IsKnownCell}
 use Rattle.ir_memory.specs.Seen.{plain, seen, all_seen, of_number, IsRoom, IsSound}
-use Rattle.ir_memory.proofs.Bytes.{shift}
 use Rattle.ir_memory.proofs.Finds.{false_or_true, judged}
 use Rattle.ir_memory.proofs.Known.{IsKept-written}
 use Rattle.ir_memory.proofs.Places.{access-kept, live-there, read-placed-kept}

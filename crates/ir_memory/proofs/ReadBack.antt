@@ -10,6 +10,7 @@ use Rattle.ir_eval.specs.declared.value.Pointer.{Pointer}
 use Rattle.ir_eval.specs.declared.value.Scalar.{Scalar}
 use Rattle.ir_eval.specs.declared.value.Scalar.TheVariants as scalar
 use Rattle.ir_tables.specs.declared.undefined_kind.UndefinedKind.TheVariants.{EndedBlock, OutsideBlock, WriteToConstant, Misaligned}
+use Rattle.masked_bytes.proofs.Numbers.{shift}
 use Rattle.ir_memory.specs.declared.leaf.Leaf.{Leaf}
 use Rattle.ir_memory.specs.declared.leaf.Leaf.TheVariants as leaf
 use Rattle.ir_memory.specs.declared.cell.Cell.{Cell}
@@ -19,7 +20,6 @@ use Rattle.ir_memory.specs.Given.{IsLeaf, Fits}
 use Rattle.ir_memory.specs.Cell.{size, leaf_cells, byte_at, bytes, pieces, read, integer, pointer, number_of, same_block, are_pieces}
 use Rattle.ir_memory.specs.MemoryBlock.{MemoryBlock, written, holds}
 use Rattle.ir_memory.specs.Memory.{Blocks, changed, access, has_ended, is_over, home, block_found, number_where, place_at, place_in}
-use Rattle.ir_memory.proofs.Bytes.{shift}
 use Rattle.ir_memory.proofs.Known.{length-changed}
 
 eqb_same : (n : ℕ) → nat_eq n n ≡ true

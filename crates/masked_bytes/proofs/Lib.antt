@@ -1,6 +1,6 @@
 mod Marks
 pub mod Placed
-mod Numbers
+pub mod Numbers
 mod Puts
 mod Steps
 mod WordLists

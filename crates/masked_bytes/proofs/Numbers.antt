@@ -4,7 +4,7 @@ use Rattle.std.proofs.Math.Nat.{pow-le-pow_right, pow-succ'}
 use Rattle.masked_bytes.specs.Masked.{digit, joined, number_of, number_of_bytes}
 
 -- a shift by bits is a shift by bytes
-shift : (place : ℕ) → 2 ^ (8 * place) ≡ 256 ^ place
+pub shift : (place : ℕ) → 2 ^ (8 * place) ≡ 256 ^ place
 shift zero = refl
 shift (suc place) =
     let e : 8 * suc place ≡ 8 + 8 * place = omega arith in

@@ -1,5 +1,6 @@
 use Rattle.std.proofs.Common.{arith, sym}
-use Rattle.ir_memory.proofs.Bytes.{number_of-step, number_of-spoiled, below_more, times_fits}
+use Rattle.masked_bytes.proofs.Numbers.{below_more, times_fits}
+use Rattle.ir_memory.proofs.Bytes.{number_of-step, number_of-spoiled}
 use Rattle.ir_memory.proofs.cell.number_of.Goals as goal
 
 pub returns-in_err-byte : goal.returns-in_err-byte
