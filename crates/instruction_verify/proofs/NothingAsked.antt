@@ -1,6 +1,5 @@
 -- Instructions that a rule asks nothing of.
 use Rattle.std.proofs.Common.{◌≡◌, ℕ, true, ◌&&◌, List, Option, Some, None, refl, ap, option_to_list}
-use Rattle.std.specs.Prelude.{is_some}
 use Rattle.std.specs.List.{list_all}
 use Rattle.std.specs.Option.{option_map}
 use Rattle.ir_tables.specs.declared.opcode.Opcode.{Opcode}
@@ -95,10 +94,6 @@ module _ (a : Lists) (values blocks : List LocalName) where
   no_element s (inst.Call call) o = refl
   no_element s (inst.ExtractValue result aggregate indices) o = refl
   no_element s (inst.InsertValue result insertion) o = refl
-
-pub some-map : {A B : Type 0} (f : A → B) (o : Option A) → is_some o ≡ is_some (option_map f o)
-some-map f None = refl
-some-map f (Some x) = refl
 
 -- the count of an alloca
 pub count_in : (a : Lists) (values blocks : List LocalName) (t : Types) → t ≡ a.table → (count : Option Operand)

@@ -1,8 +1,6 @@
 -- Arguments beside parameters, and what does not call.
-use Rattle.std.proofs.Common.{◌≡◌, ℕ, ◌<◌, ◌≤◌, Bool, true, false, not, ◌&&◌, ◌||◌, ◌==◌, List, [], ◌∷◌, map, length, Option, Some, None, refl, sym, ap, ◌∙◌, arith}
+use Rattle.std.proofs.Common.{◌≡◌, ℕ, ◌<◌, ◌≤◌, Bool, true, false, not, ◌&&◌, ◌||◌, ◌==◌, List, [], ◌∷◌, map, length, Option, refl, sym, ap, ◌∙◌, arith}
 use Rattle.std.proofs.Math.Dec.{eqb-suc-suc, eqb-suc-zero}
-use Rattle.std.specs.Prelude.{is_none}
-use Rattle.std.specs.Option.{option_map}
 use Rattle.type_table.specs.Tree.{Tree, Structs}
 use Rattle.type_table.specs.Types.{Types, tree, trees}
 use Rattle.module_arena.specs.declared.instruction.Call.{Call}
@@ -53,11 +51,6 @@ module _ (t : Types) (cs : List Constant) (vs bs : List LocalName) where
 pub turned : (s r : Bool) → s ≡ not r → r ≡ not s
 turned s true e = ap not (sym e)
 turned s false e = ap not (sym e)
-
--- a result is there in the module where it is there in the arena
-pub none_mapped : {X Y : Type 0} (g : X → Y) (o : Option X) → is_none o ≡ is_none (option_map g o)
-none_mapped g None = refl
-none_mapped g (Some x) = refl
 
 -- what does not call is asked nothing
 pub no_call : (s : Structs) (f : Function) (r : Option LocalName) (ts : List Tree) (cs : List Constant) (vs bs : List LocalName) (i : the_inst.Inst)

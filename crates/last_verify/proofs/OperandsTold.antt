@@ -11,7 +11,7 @@ use Rattle.module_arena.specs.Known.{HasOperand, HasValue}
 use Rattle.module_arena.specs.Lists.{Lists}
 use Rattle.module_arena.specs.Module.{LocalName, Function, Operand}
 use Rattle.module_arena.specs.Same.{same_type}
-use Rattle.module_arena.specs.TypeTests.{is_integer_of, is_pointer, is_type}
+use Rattle.module_arena.specs.TypeTests.{is_integer_of, is_type}
 use Rattle.module_arena.specs.ValueRules as values
 use Rattle.module_arena.specs.View.{constants_of, operand_view, value_view}
 use Rattle.last_verify.specs.ValuesById.{AreLocalTypes, fits_here, has_own_type, has_type, value_of}
@@ -57,12 +57,3 @@ is_truth void = refl
 is_truth (array n t) = refl
 is_truth (struct p ts) = refl
 is_truth (named x) = refl
-
--- a type is `ptr`
-pub is_address : (t : Tree) → is_pointer t ≡ same_type t ptr
-is_address (int w) = refl
-is_address ptr = refl
-is_address void = refl
-is_address (array n t) = refl
-is_address (struct p ts) = refl
-is_address (named x) = refl

@@ -6,7 +6,8 @@ use Rattle.module_arena.specs.Known.{HasOperand, HasValue}
 use Rattle.module_arena.specs.TypeTests.{is_void}
 use Rattle.module_arena.specs.ValueRules.{arguments_suit}
 use Rattle.module_arena.specs.View.{constants_of, operand_view, type_at, value_name}
-use Rattle.last_verify.proofs.CallsTold.{none_mapped, turned}
+use Rattle.entry_rules.proofs.EntriesFound.{none-map}
+use Rattle.last_verify.proofs.CallsTold.{turned}
 use Rattle.last_verify.proofs.calls.called_suits.Goals as goal
 
 pub is_pointer_value-points-requires-clause-value : goal.is_pointer_value-points-requires-clause-value
@@ -46,5 +47,5 @@ returns c f vs bs told =
     ∙ (λ j. arguments_suit s.variadic (map (type_at (trees c.types-types.result.now)) (c.as_slice.ensures j)) (map (operand_view (trees c.types-types.result.now) cs vs bs) (c.as_slice-2.ensures j)))
     ∙ ap (λ (t : Types). arguments_suit s.variadic (map (type_at (trees t)) s.parameters) (map (operand_view (trees t) cs vs bs) call.arguments)) c.types-types.ensures in
     let void = c.is_void.ensures ∙ ap (λ (t : Types). is_void (tree t s.returns)) c.types-types.ensures in
-    let kept = turned _ c.is_none.result c.is_none.ensures ∙ none_mapped (value_name (trees a.table) cs vs bs) call.result in
+    let kept = turned _ c.is_none.result c.is_none.ensures ∙ none-map (value_name (trees a.table) cs vs bs) call.result in
     λ j. points j && (passed j && (not (void j) || kept j))

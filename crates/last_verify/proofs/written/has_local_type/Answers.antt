@@ -3,7 +3,8 @@ use Rattle.type_table.specs.Tree.{Tree}
 use Rattle.type_table.specs.Types.{Types, tree}
 use Rattle.module_arena.specs.Same.{same_type}
 use Rattle.module_arena.specs.TypeTests.{is_integer_of, is_pointer, is_type}
-use Rattle.last_verify.proofs.OperandsTold.{is_address, is_truth}
+use Rattle.entry_rules.proofs.ConstructorsTold.{pointer_type}
+use Rattle.last_verify.proofs.OperandsTold.{is_truth}
 use Rattle.last_verify.proofs.written.has_local_type.Goals as goal
 
 pub returns-in-Written : goal.returns-in-Written
@@ -26,5 +27,5 @@ returns-in-Pointer c =
     let t = c.args.judge.now.table in
     c.is_pointer.ensures
     ∙ ap (λ (u : Types). is_pointer (tree u c.args.ty)) c.types-types.ensures
-    ∙ is_address (tree t c.args.ty)
+    ∙ pointer_type (tree t c.args.ty)
     ∙ ap (λ (o : Option Tree). is_type (same_type (tree t c.args.ty)) o) c.in-Pointer.ensures.ty
