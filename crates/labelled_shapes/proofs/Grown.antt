@@ -74,13 +74,13 @@ at_end : (done rest : List Shape) (s : Shape) → slice_get (done ++ s ∷ rest)
 at_end [] rest s = refl
 at_end (d ∷ done) rest s = at_end done rest s
 
-still_at : (done rest : List Shape) (n : ℕ) (s : Shape) → slice_get done n ≡ Some s → slice_get (done ++ rest) n ≡ Some s
+pub still_at : (done rest : List Shape) (n : ℕ) (s : Shape) → slice_get done n ≡ Some s → slice_get (done ++ rest) n ≡ Some s
 still_at [] rest n s h = cc
 still_at (d ∷ done) rest zero s h = h
 still_at (d ∷ done) rest (suc n) s h = still_at done rest n s h
 
 -- what stands among some and one more
-split_at : {A : Type 0} (xs : List A) (x y : A) (n : ℕ) → slice_get (xs ++ x ∷ []) n ≡ Some y → (slice_get xs n ≡ Some y) ⊎ ((n ≡ length xs) × (x ≡ y))
+pub split_at : {A : Type 0} (xs : List A) (x y : A) (n : ℕ) → slice_get (xs ++ x ∷ []) n ≡ Some y → (slice_get xs n ≡ Some y) ⊎ ((n ≡ length xs) × (x ≡ y))
 split_at [] x y zero h = inr (refl, same_Some x y h)
 split_at [] x y (suc n) h = cc
 split_at (z ∷ xs) x y zero h = inl h

@@ -8,6 +8,7 @@ use Rattle.std.proofs.lemmas.List.Elements.{All-from_recursion}
 use Rattle.type_table.specs.Shape.{Label, Shape, void_leaf, array_of, struct_of, with_first, all_expanded}
 use Rattle.type_table.specs.Types.{Types, trees, trees_at}
 use Rattle.labelled_shapes.specs.Shapes.{shapes_at}
+use Rattle.labelled_shapes.proofs.Grown.{still_at}
 use Rattle.link_structs.specs.Shapes.{AreKept, IsNumber, AreNumbers, struct_shape, type_shape}
 use Rattle.link_structs.specs.Walked.{AreOf, Remembers, IsWalked, Finds, FindsAll, Keeps}
 use Rattle.link_structs.specs.declared.walk.ShapeWalk.{ShapeWalk}
@@ -96,11 +97,6 @@ module _ (t : Types) (all : List Shape) where
   struct_found l packed numbers parts h = ap (option_map (struct_of l packed)) (fields_found numbers parts h)
 
 -- ---- one shape is kept
-
-still_at : (done rest : List Shape) (n : ℕ) (s : Shape) → slice_get done n ≡ Some s → slice_get (done ++ rest) n ≡ Some s
-still_at [] rest n s h = cc
-still_at (d ∷ done) rest zero s h = h
-still_at (d ∷ done) rest (suc n) s h = still_at done rest n s h
 
 kept_by : (before now : List Shape) (s : Shape) → (now ≡ before) ⊎ (now ≡ before ++ s ∷ []) → AreKept before now
 kept_by before now s (inl e) = λ number x h. ap (λ l. slice_get l number) e ∙ h

@@ -18,13 +18,14 @@ use Rattle.type_table.specs.Tree.{TreeBody}
 use Rattle.type_table.specs.Types.{Types, names}
 use Rattle.type_table.specs.Shape.{Shape}
 use Rattle.labelled_shapes.specs.Shapes.{AreApart, shapes_of}
+use Rattle.labelled_shapes.proofs.Grown.{split_at}
 use Rattle.link_structs.specs.Shapes.{struct_shape}
 use Rattle.link_structs.specs.Walked.{Finds, Remembers}
 use Rattle.link_structs.specs.declared.walk.ShapeWalk.{ShapeWalk}
 use Rattle.struct_rows.specs.Numbers.{so_far}
 use Rattle.struct_rows.specs.Rows.{AddsPart, AreRows, HasName, HasRow, HaveRows, IsNamedAs, IsShapeOf}
 use Rattle.struct_rows.specs.declared.rows.GrowingRows.{GrowingRows}
-use Rattle.struct_rows.proofs.Parts.{at_more, name_at, part_symbols, rows_stay, shape_is, so_far_more, struct_count_is, symbol_at}
+use Rattle.struct_rows.proofs.Parts.{name_at, part_symbols, rows_stay, shape_is, so_far_more, struct_count_is, symbol_at}
 use Rattle.struct_rows.proofs.Rowed.{row_added, row_is, row_stays, rows_kept}
 
 -- ---- one part
@@ -100,7 +101,7 @@ module _ (ps : List Lists) (part : ℕ) (a : Lists) (at : slice_get ps part ≡ 
       rows = subst (λ (d : List Symbol). AreRows ms d now) one_further (row_added ms (up_to ms part number) found now part name shape mid is apart same_shapes keys is_new is_old);
       remembers = subst (λ (l : List Shape). Remembers a.table walk l) (sym same_shapes) finds.walked.remembers;
       one_each = let many = length-append numbers (row ∷ []) in let so = h.one_each in omega (arith, many, so);
-      each = λ id r s e f. each_row id r s e (at_more numbers row r id f);
+      each = λ id r s e f. each_row id r s e (split_at numbers row r id f);
     }
 
   -- all of them
@@ -133,7 +134,7 @@ pub added_more : (ps : List Lists) (part : ℕ) (a : Lists) (before now : Growin
 added_more ps part a before now numbers list at sound h adds = record {
   rows = adds.rows;
   one_each = let many = length-append numbers (list ∷ []) in let so = h.one_each in omega (arith, many, so);
-  each = λ i l e. each_part i l (at_more numbers list l i e);
+  each = λ i l e. each_part i l (split_at numbers list l i e);
   sound = subst (All IsSound) (sym (take_more ps part a at)) (All-push IsSound (take part ps) a h.sound sound);
 }
   where

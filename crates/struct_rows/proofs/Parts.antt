@@ -1,5 +1,5 @@
 -- The structs of a part: their symbols, their shapes, and the rows of all parts so far.
-use Rattle.std.proofs.Common.{◌≡◌, ◌⊎◌, inl, inr, ℕ, zero, suc, ◌+◌, ◌<◌, ◌≤◌, List, [], ◌∷◌, ◌++◌, length, map, take, get_or, Some, None, refl, sym, ap, ◌∙◌, append-nil, append_assoc, option_map, arith}
+use Rattle.std.proofs.Common.{◌≡◌, ℕ, zero, suc, ◌+◌, ◌<◌, ◌≤◌, List, [], ◌∷◌, ◌++◌, length, map, take, get_or, Some, None, refl, sym, ap, ◌∙◌, append-nil, append_assoc, option_map, arith}
 use Rattle.std.specs.Prelude.{slice_get}
 use Rattle.std.proofs.lemmas.List.{length-map}
 use Rattle.std.proofs.lemmas.Option.{get_or_from_slice_get, same_Some, slice_get-map, slice_get_within}
@@ -30,17 +30,6 @@ taken_length : {A : Type 0} (xs : List A) (k : ℕ) → k ≤ length xs → leng
 taken_length xs zero h = refl
 taken_length [] (suc k) h = absurd (omega (arith, h))
 taken_length (x ∷ xs) (suc k) h = ap suc (taken_length xs k (omega (arith, h)))
-
--- what stands at a place where there is one more at the end
-pub at_more : {A : Type 0} (xs : List A) (x y : A) (id : ℕ) → slice_get (xs ++ x ∷ []) id ≡ Some y → (slice_get xs id ≡ Some y) ⊎ ((id ≡ length xs) × (x ≡ y))
-at_more [] x y zero h = inr (refl, same_Some x y h)
-at_more [] x y (suc id) h = cc
-at_more (z ∷ xs) x y zero h = inl h
-at_more (z ∷ xs) x y (suc id) h = later (at_more xs x y id h)
-  where
-    later : (slice_get xs id ≡ Some y) ⊎ ((id ≡ length xs) × (x ≡ y)) → (slice_get xs id ≡ Some y) ⊎ ((suc id ≡ suc (length xs)) × (x ≡ y))
-    later (inl e) = inl e
-    later (inr e) = inr (ap suc e.0, e.1)
 
 -- ---- a part's structs
 
