@@ -1,5 +1,5 @@
 -- Where the leaves of lists in brackets lie, and of values that are filled alike.
-use Rattle.std.proofs.Common.{◌≡◌, ℕ, zero, suc, ◌+◌, ◌-◌, ◌*◌, ◌≤◌, List, [], ◌∷◌, ◌++◌, length, map, zip, Bool, true, false, ◌&&◌, ◌==◌, nat_lt, Option, Some, None, is_some, refl, sym, ap, ◌∙◌, subst, true≢false, eqb-true, suc-ne-zero, arith, unwrap_or}
+use Rattle.std.proofs.Common.{◌≡◌, ℕ, zero, suc, ◌+◌, ◌-◌, ◌*◌, ◌≤◌, List, [], ◌∷◌, ◌++◌, length, map, zip, Bool, true, false, ◌&&◌, nat_lt, Option, Some, None, is_some, refl, sym, ap, ◌∙◌, subst, true≢false, eqb-true, suc-ne-zero, arith, unwrap_or}
 use Rattle.std.specs.List.{AllZip}
 use Rattle.std.proofs.lemmas.Bool.{and_parts}
 use Rattle.std.proofs.lemmas.List.{length-map}
@@ -9,19 +9,18 @@ use Rattle.ir_memory.specs.declared.leaf.Leaf.{Leaf}
 use Rattle.ir_memory.specs.declared.leaf.Leaf.TheVariants as leaf
 use Rattle.type_table.specs.Layout.{align, end_after, has_layout, have_layouts, field_start, size}
 use Rattle.type_table.specs.Shape.{Shape, int_leaf, ptr_leaf, void_leaf, opaque_leaf, array_of, struct_of, Shapes, no_shapes, more_shapes, expanded, all_expanded, name_shape, shape}
-use Rattle.type_table.specs.Tree.{Tree, int, ptr, void, array, struct, named, Trees, no_trees, more_trees, body_of}
+use Rattle.type_table.specs.Tree.{Tree, int, array, struct, Trees, no_trees, more_trees, body_of}
 use Rattle.type_table.proofs.Rooms.{unjoined, unmapped}
-use Rattle.module_arena.specs.Constants.{is_bytes_of, expected, parts_fit, each, these, fits}
+use Rattle.module_arena.specs.Constants.{expected, parts_fit, each, these, fits}
 use Rattle.module_arena.specs.Module.{Brackets, Constant, Undef, Poison, ZeroInitializer, ByteString, Constants, no_constants, more_constants}
 use Rattle.module_arena.specs.Module.Brackets.{Square, Braces, Packed}
 use Rattle.module_arena.specs.Same.{same_type}
-use Rattle.module_arena.specs.TypeTests.{is_integer_of, opened}
+use Rattle.module_arena.specs.TypeTests.{opened}
 use Rattle.module_arena.proofs.SameValues.{type_is}
 use Rattle.run_rules.specs.Constant.{Names, shape_of, constant_value, constant_values}
 use Rattle.run_rules.specs.Leaves.{Slot, repeated, slots, slots_at, field_slots}
 use Rattle.run_rules.specs.Plan.{Contents}
 use Rattle.run_slots.proofs.Slotted.{struct_holds}
-use Rattle.typed_look.proofs.Constants.{integer_of_is}
 use Rattle.typed_look.proofs.Lists.{HaveTypes}
 use Rattle.typed_look.proofs.Opened.{opened_shape}
 use Rattle.typed_runs.specs.Kinds.{IsOf, kinds_of}
@@ -127,17 +126,6 @@ bytes_zipped : (bytes : List ℕ) (at : ℕ) → zip (repeated (length bytes) (s
 unfolding repeated
 bytes_zipped [] at = refl
 bytes_zipped (b ∷ bytes) at = ap (λ (l : Contents). (record { offset = at; leaf = leaf.Int 8 }, scalar.Int b) ∷ l) (bytes_zipped bytes (at + 1))
-
--- a byte string is an array of so many i8
-pub bytes_type : (count : ℕ) (t : Tree) → is_bytes_of count t ≡ true → t ≡ array count (int 8)
-bytes_type count (array n u) h =
-    let p = and_parts (n == count) (is_integer_of 8 u) h in
-    ap (λ (m : ℕ). array m u) (eqb-true n count p.0) ∙ ap (array count) (integer_of_is 8 u p.1)
-bytes_type count (int w) h = absurd (true≢false (sym h))
-bytes_type count ptr h = absurd (true≢false (sym h))
-bytes_type count void h = absurd (true≢false (sym h))
-bytes_type count (struct packed ts) h = absurd (true≢false (sym h))
-bytes_type count (named name) h = absurd (true≢false (sym h))
 
 pub bytes_size : (names : Names) (t : Tree) (count : ℕ) → t ≡ array count (int 8) → size (shape_of names t) ≡ count
 bytes_size names t count is = ap (λ (u : Tree). size (shape_of names u)) is ∙ (let one : count * 1 ≡ count = omega arith in one)

@@ -109,7 +109,7 @@ bytes_zip count (b ∷ bytes) at step h =
     let p = and_parts (nat_lt b 256) (list_all (λ b. nat_lt b 256) bytes) h in
     (ltb-true b 256 p.0, bytes_zip count bytes (at + step) step p.1)
 
-bytes_of : (count : ℕ) (t : Tree) → is_bytes_of count t ≡ true → t ≡ array count (int 8)
+pub bytes_of : (count : ℕ) (t : Tree) → is_bytes_of count t ≡ true → t ≡ array count (int 8)
 bytes_of count (array n u) h =
     let p = and_parts (n == count) (is_integer_of 8 u) h in
     ap (λ (m : ℕ). array m u) (eqb-true n count p.0) ∙ ap (array count) (integer_of_is 8 u p.1)

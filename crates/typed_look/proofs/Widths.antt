@@ -29,7 +29,7 @@ mutual
       length-append (slots_at s (at + field_start packed end (align s))) (field_slots ss packed at (field_start packed end (align s) + size s))
       ∙ (let one = slots_length s (at + field_start packed end (align s)) in let more = fields_length ss packed at (field_start packed end (align s) + size s) in omega (arith, one, more))
 
-mapped_length : {X Y : Type 0} (g : X → Y) (xs : List X) → length (map g xs) ≡ length xs
+pub mapped_length : {X Y : Type 0} (g : X → Y) (xs : List X) → length (map g xs) ≡ length xs
 mapped_length g [] = refl
 mapped_length g (x ∷ xs) = ap suc (mapped_length g xs)
 

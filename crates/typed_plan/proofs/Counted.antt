@@ -11,13 +11,10 @@ use Rattle.linkage_rules.specs.Globals.{OfVariable, OfFunction, OfAlias, globals
 use Rattle.linkage_rules.specs.Lists.{firsts}
 use Rattle.linkage_rules.specs.Addresses.{Room, room, rooms}
 use Rattle.linkage_rules.specs.Symbols.{is_alias_symbol, first_entries, plain_entries, variable_symbols}
+use Rattle.typed_look.proofs.Widths.{mapped_length}
 use Rattle.typed_plan.proofs.Entries.{first_part}
 
 -- ---- lists
-
-pub mapped_long : {X Y : Type 0} (g : X → Y) (xs : List X) → length (map g xs) ≡ length xs
-mapped_long g [] = refl
-mapped_long g (x ∷ xs) = ap suc (mapped_long g xs)
 
 made_long : {X Y : Type 0} (g : X → Option Y) (xs : List X) → length (filter_map g xs) ≤ length xs
 made_long g [] = omega arith
@@ -101,14 +98,14 @@ module _ (m : Module) where
       let variables = at_most_all is_variable (map OfVariable m.variables) in
       let aliases = at_most_all is_variable (map OfAlias m.aliases) in
       let functions = count_mapped OfFunction is_variable m.functions ∙ no_function m.functions in
-      let long_variables = mapped_long OfVariable m.variables in
-      let long_aliases = mapped_long OfAlias m.aliases in
+      let long_variables = mapped_length OfVariable m.variables in
+      let long_aliases = mapped_length OfAlias m.aliases in
       omega (arith, first, second, third, fourth, variables, aliases, functions, long_variables, long_aliases)
 
   rooms_few : length (rooms parts) ≤ length m.variables + length m.aliases
   rooms_few =
       let made = made_long (λ (s : Symbol). option_map {U = Symbol × Room} (λ r. (s, r)) (room parts s)) (variable_symbols parts) in
-      let symbols = mapped_long symbol_of (filter of_variable (plain_entries parts)) in
+      let symbols = mapped_length symbol_of (filter of_variable (plain_entries parts)) in
       let plain = fewer_kept of_variable (λ (e : Entry). not (is_alias_symbol parts (symbol_of e))) (first_entries parts) in
       let first = fewer_firsts of_variable (λ (d e : Entry). same_symbol (symbol_of d) (symbol_of e)) (entries parts) in
       let all = entries_few in

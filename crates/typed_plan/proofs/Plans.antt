@@ -13,9 +13,10 @@ use Rattle.run_rules.specs.Look.{pointer_to}
 use Rattle.run_rules.specs.Plan.{Variable, Contents, variable_of, contents_of}
 use Rattle.typed_runs.specs.States.{AreStored}
 use Rattle.typed_look.specs.Typings.{typing_of}
+use Rattle.typed_look.proofs.Widths.{mapped_length}
 use Rattle.typed_plan.specs.Laws.{PlansAreTyped}
 use Rattle.typed_plan.proofs.Aligned.{rooms_aligned}
-use Rattle.typed_plan.proofs.Counted.{mapped_long, few_rooms}
+use Rattle.typed_plan.proofs.Counted.{few_rooms}
 use Rattle.typed_plan.proofs.Mains.{main_is_typed}
 use Rattle.typed_plan.proofs.Stored.{symbol_stored}
 
@@ -32,7 +33,7 @@ module _ (m : Module) (well_formed : IsWellFormed m) (valid : IsValid m) where
   rows_stored (row ∷ rows) = (symbol_stored m well_formed valid row.0, rows_stored rows)
 
   same_count : length (map (variable_of parts) (rooms parts)) ≡ length (rooms parts)
-  same_count = mapped_long (variable_of parts) (rooms parts)
+  same_count = mapped_length (variable_of parts) (rooms parts)
 
   some_rooms : length (map (variable_of parts) (rooms parts)) ≤ 2 ^ 18
   some_rooms = let few = few_rooms m well_formed.few in let same = same_count in omega (arith, few, same)

@@ -16,13 +16,14 @@ use Rattle.run_constants.specs.Sound.{IsPart, constant_of, constants_with_types,
 use Rattle.run_rules.specs.Constant.{constant_values, shape_of}
 use Rattle.run_rules.specs.Leaves.{Slot, slots_at}
 use Rattle.run_rules.specs.Plan.{Contents}
+use Rattle.typed_look.proofs.Constants.{bytes_of}
 use Rattle.run_shapes.specs.Shapes.{shape_in}
 use Rattle.run_shapes.proofs.Outlines.{laid_is}
 use Rattle.run_initial.specs.Constants.{bytes_at, parts_at, shapes_with, value_at}
 use Rattle.run_constants.specs.declared.filled.Fill.TheVariants as fill
 use Rattle.run_initial.specs.declared.leaf.Target.{Target}
 use Rattle.run_initial.specs.Fresh.{filled, is_packed, put}
-use Rattle.run_initial.proofs.Lists.{bytes_is, bytes_size, bytes_type, list_made, parts_are, poison_is, undef_is, zero_is}
+use Rattle.run_initial.proofs.Lists.{bytes_is, bytes_size, list_made, parts_are, poison_is, undef_is, zero_is}
 use Rattle.run_initial.proofs.Parts.{its_align, its_size, it_ends, lies, next, none_left, others_end, others_laid, room, some_align}
 use Rattle.run_initial.proofs.Puts.{kept_on, part_end, part_more, part_refused, parts_next, refused_on, reworded}
 use Rattle.run_initial.proofs.Sounds.{blocks, list_shape, values_typed}
@@ -94,7 +95,7 @@ put_constant-put_bytes-requires t c =
     let ty = c.args.constant.ty in
     let bytes = c.in-ByteString.bytes in
     let s = sound_as a c.args.constant.value c.constant_at-known.result.now (const.ByteString bytes) c.constant_at-known.ensures.here c.in-ByteString.is (tree a.table ty) c.requires.part.sound in
-    let long = bytes_size (names_of a) (tree a.table ty) (length bytes) (bytes_type (length bytes) (tree a.table ty) s.fits) in
+    let long = bytes_size (names_of a) (tree a.table ty) (length bytes) (bytes_of (length bytes) (tree a.table ty) s.fits) in
     let same = ap size (shape_is a ty) in
     let read = ap length c.bytes.ensures in
     let ends = c.requires.ends in
@@ -109,7 +110,7 @@ put_constant-returns-in-ByteString-clause-put t c =
     let s = sound_as a c.args.constant.value c.constant_at-known.result.now (const.ByteString bytes) c.constant_at-known.ensures.here c.in-ByteString.is (tree a.table ty) c.requires.part.sound in
     reworded c.put_bytes.result c.args.target.block (bytes_at at c.bytes.result.now) (value_at (names_of a) (tree a.table ty) (constant_of a c.args.constant.value) at) c.args.memory.now c.put_bytes.new.memory c.put_bytes.ensures.put
     (ap (bytes_at at) c.bytes.ensures
-    ∙ bytes_is (names_of a) (tree a.table ty) bytes at (bytes_type (length bytes) (tree a.table ty) s.fits)
+    ∙ bytes_is (names_of a) (tree a.table ty) bytes at (bytes_of (length bytes) (tree a.table ty) s.fits)
     ∙ ap (λ (v : Constant). value_at (names_of a) (tree a.table ty) v at) (sym (as_form a c.args.constant.value c.constant_at-known.result.now (const.ByteString bytes) c.constant_at-known.ensures.here c.in-ByteString.is)))
 
 -- ---- lists
