@@ -1,19 +1,7 @@
 -- Operands that are appended one behind the other.
 use Rattle.std.proofs.Common.{◌≡◌, ℕ, ◌+◌, ◌<◌, ◌≤◌, List, [], ◌∷◌, ◌++◌, length, drop, get_or, append_assoc, refl, sym, ap, ◌∙◌}
 use Rattle.std.proofs.lemmas.List.{at_drop_more, at_drop_all, append-nil}
-
--- two, three and more lists behind one
-pub two : (o x y m n : List ℕ) → m ≡ o ++ x → n ≡ m ++ y → n ≡ o ++ (x ++ y)
-two o x y m n e f = f ∙ ap (λ (l : List ℕ). l ++ y) e ∙ append_assoc o x y
-
-pub three : (o x y z m n p : List ℕ) → m ≡ o ++ x → n ≡ m ++ y → p ≡ n ++ z → p ≡ o ++ (x ++ (y ++ z))
-three o x y z m n p e f g = two o x (y ++ z) m p e (two m y z n p f g)
-
-pub four : (o x y z w m n p q : List ℕ) → m ≡ o ++ x → n ≡ m ++ y → p ≡ n ++ z → q ≡ p ++ w → q ≡ o ++ (x ++ (y ++ (z ++ w)))
-four o x y z w m n p q e f g h = two o x (y ++ (z ++ w)) m q e (three m y z w n p q f g h)
-
-pub five : (o x y z w v m n p q r : List ℕ) → m ≡ o ++ x → n ≡ m ++ y → p ≡ n ++ z → q ≡ p ++ w → r ≡ q ++ v → r ≡ o ++ (x ++ (y ++ (z ++ (w ++ v))))
-five o x y z w v m n p q r e f g h i = two o x (y ++ (z ++ (w ++ v))) m r e (four m y z w v n p q r f g h i)
+use Rattle.operand_write.proofs.Chain.{two, five}
 
 pub six : (o x y z w v u m n p q r s : List ℕ) → m ≡ o ++ x → n ≡ m ++ y → p ≡ n ++ z → q ≡ p ++ w → r ≡ q ++ v → s ≡ r ++ u → s ≡ o ++ (x ++ (y ++ (z ++ (w ++ (v ++ u)))))
 six o x y z w v u m n p q r s e f g h i j = two o x (y ++ (z ++ (w ++ (v ++ u)))) m s e (five m y z w v u n p q r s f g h i j)

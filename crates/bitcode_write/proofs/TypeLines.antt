@@ -1,5 +1,5 @@
 -- Types and structs of an arena as records.
-use Rattle.std.proofs.Common.{◌≡◌, ℕ, suc, ◌+◌, ◌<◌, ◌≤◌, Bool, true, false, List, [], ◌∷◌, ◌++◌, length, map, flat_map, get_or, Option, Some, None, All, OnOk, Result, Ok, Err, slice_get, refl, sym, ap, ◌∙◌, subst, arith}
+use Rattle.std.proofs.Common.{◌≡◌, ℕ, suc, ◌+◌, ◌<◌, ◌≤◌, Bool, true, false, List, [], ◌∷◌, length, map, flat_map, get_or, Option, Some, None, All, slice_get, refl, sym, ap, ◌∙◌, subst, arith}
 use Rattle.std.specs.List.{slice_index_or}
 use Rattle.std.proofs.lemmas.List.{length-map, append-nil}
 use Rattle.std.proofs.lemmas.Option.{get_or_from_slice_get, slice_get_within}
@@ -17,11 +17,6 @@ use Rattle.record_table.specs.Layout.{place}
 use Rattle.record_table.specs.Spelling.{by_ids, places}
 use Rattle.record_table.specs.TypeRecords.{kind_of}
 use Rattle.bitcode_write.specs.Entries.{type_operands}
-
--- the same list in other words
-pub reworded : {E : Type 0} (r : Result (Unit {0}) E) (o x y n : List ℕ) → OnOk r (n ≡ o ++ x) → x ≡ y → OnOk r (n ≡ o ++ y)
-reworded (Ok u) o x y n e same = e ∙ ap (λ (l : List ℕ). o ++ l) same
-reworded (Err e) o x y n h same = tt
 
 pub tree_here : (t : Types) → IsGood t → (ty : ℕ) (x : IrType) → slice_get t.types ty ≡ Some x → tree t ty ≡ tree_of (names t) (trees t) x
 tree_here t good ty x at = tree-is t good ty (slice_get_within t.types ty x at) ∙ ap (tree_of (names t) (trees t)) (get_or_from_slice_get t.types ty x Void at)

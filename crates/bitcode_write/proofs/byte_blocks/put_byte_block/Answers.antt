@@ -3,11 +3,11 @@ use Rattle.bit_stream.specs.Scope.{abbreviation_of}
 use Rattle.bit_stream.specs.Spelling.{record_fits}
 use Rattle.bit_stream.specs.Writer.{Writer, abbreviated, define, in_force}
 use Rattle.bitcode_write.proofs.ByteBlock.{admitted, fitting, found, none_in_force, whole}
-use Rattle.bitcode_write.proofs.Chain.{four}
 use Rattle.bitcode_write.proofs.Lined.{wrote_ok}
 use Rattle.record_table.specs.Spelling.{of_bytes, put}
 use Rattle.bit_stream.specs.Abbreviation.{AdmittedAbbreviation}
 use Rattle.bit_stream.specs.declared.abbreviation.AbbrevOp.{AbbrevOp}
+use Rattle.operand_write.proofs.Chain.{four}
 use Rattle.bitcode_write.proofs.byte_blocks.put_byte_block.Goals as goal
 
 pub define_abbreviation-requires-clause-admitted : goal.define_abbreviation-requires-clause-admitted

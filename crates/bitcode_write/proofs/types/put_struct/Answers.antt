@@ -1,7 +1,7 @@
 use Rattle.std.proofs.Common.{All, List, Some, [], ap, length, refl, slice_get, subst, sym, ℕ, ◌++◌, ◌<◌, ◌∙◌, ◌∷◌, ◌≡◌}
 use Rattle.std.proofs.lemmas.Option.{get_or_from_slice_get, slice_get_within}
 use Rattle.std.specs.Option.{option_copied}
-use Rattle.bitcode_write.proofs.Chain.{from_empty, two}
+use Rattle.bitcode_write.proofs.Chain.{from_empty}
 use Rattle.bitcode_write.proofs.Lined.{lines_as}
 use Rattle.bitcode_write.proofs.TypeLines.{struct_at}
 use Rattle.bitcode_write.specs.Entries.{body_operands, define_in}
@@ -11,6 +11,7 @@ use Rattle.operand_write.specs.Numbered.{texts}
 use Rattle.type_table.specs.Tree.{TreeBody}
 use Rattle.type_table.specs.Types.{IsGood, Types, bodies, names}
 use Rattle.type_table.specs.Types.{KnowsBody as KnowsOne}
+use Rattle.operand_write.proofs.Chain.{two}
 use Rattle.bitcode_write.proofs.types.put_struct.Goals as goal
 
 pub struct_body-requires : goal.struct_body-requires
