@@ -1,18 +1,19 @@
 -- The names of parameters as a loop reads them.
-use Rattle.std.proofs.Common.{◌≡◌, ◌⊎◌, ◌<◌, ◌+◌, ◌-◌, ℕ, zero, suc, true, false, List, [], ◌∷◌, ◌++◌, Option, Some, None, map, inl, inr, refl, sym, ap, subst, ◌∙◌, arith, append_assoc, append-nil}
+use Rattle.std.proofs.Common.{◌≡◌, ◌⊎◌, ◌<◌, ◌+◌, ◌-◌, ℕ, zero, suc, true, false, List, [], ◌∷◌, ◌++◌, Option, Some, None, map, refl, sym, ap, subst, ◌∙◌, arith, append_assoc, append-nil}
 use Rattle.std.specs.Prelude.{is_some}
 use Rattle.std.proofs.lemmas.List.{map-append}
 use Rattle.module_arena.specs.declared.entry.LocalName as the_local
 use Rattle.module_arena.specs.Module.{LocalName}
 use Rattle.module_arena.specs.View.{local_view}
 use Rattle.record_table.specs.Bodies.{labels_by, parameters}
-use Rattle.record_table.specs.Fields.{Texts, after, label}
+use Rattle.record_table.specs.Fields.{after, label}
 use Rattle.record_table.specs.Layout.{judged}
 use Rattle.record_table.specs.Walk.{Walk, going, stopped, told}
 use Rattle.record_read.specs.declared.texts.Texts as the_texts
 use Rattle.record_read.specs.Fields.{IsLocal, texts_of}
 use Rattle.record_read.specs.Reader.{Reader, ReadsAs, IsBroken, is_stopped}
 use Rattle.body_names.proofs.Tame.{label_broken}
+use Rattle.body_names.proofs.Running.{step_by, over_by}
 use Rattle.body_ahead.specs.Ahead.{AreNamesOf}
 
 told_broken : (w : Walk) → IsBroken w → told w ≡ None → ⊥
@@ -28,19 +29,6 @@ unfolding labels_by
 names_broken x zero own w h = h
 names_broken x (suc n) own (stopped broken) h = h
 names_broken x (suc n) own (going rest broken) h = let v = (label (texts_of x) own).read (going rest broken) in names_broken x n (after own v.0) v.1 (label_broken x own (going rest broken) h)
-
-step_by : (t : Texts) (own n i : ℕ) (w : Walk) → n ≡ suc i → is_stopped w ≡ false
-    → labels_by t own n w ≡ (let x = (label t own).read w in let xs = labels_by t (after own x.0) i x.1 in (x.0 ∷ xs.0, xs.1))
-unfolding labels_by
-step_by t own n i (going rest broken) is on = ap (λ j. labels_by t own j (going rest broken)) is
-step_by t own n i (stopped broken) is on = absurd (cc)
-
-over_by : (t : Texts) (own n : ℕ) (w : Walk) → (n ≡ 0) ⊎ (is_stopped w ≡ true) → labels_by t own n w ≡ ([], w)
-unfolding labels_by
-over_by t own n w (inl none) = ap (λ j. labels_by t own j w) none
-over_by t own zero w (inr on) = refl
-over_by t own (suc n) (going rest broken) (inr on) = absurd (cc)
-over_by t own (suc n) (stopped broken) (inr on) = refl
 
 -- these names so far, and others to come
 pub record IsNaming (x : the_texts.Texts) (first now : Reader) (count place own : ℕ) (names : List the_local.LocalName) : Type 0 where

@@ -38,13 +38,13 @@ after_append own (x ∷ xs) ys = after_append (after own x) xs ys
 
 -- ---- one more name
 
-step_by : (t : Texts) (own n i : ℕ) (w : Walk) → n ≡ suc i → is_stopped w ≡ false
+pub step_by : (t : Texts) (own n i : ℕ) (w : Walk) → n ≡ suc i → is_stopped w ≡ false
     → labels_by t own n w ≡ (let x = (label t own).read w in let xs = labels_by t (after own x.0) i x.1 in (x.0 ∷ xs.0, xs.1))
 unfolding labels_by
 step_by t own n i (going rest broken) is on = ap (λ j. labels_by t own j (going rest broken)) is
 step_by t own n i (stopped broken) is on = absurd (cc)
 
-over_by : (t : Texts) (own n : ℕ) (w : Walk) → (n ≡ 0) ⊎ (is_stopped w ≡ true) → labels_by t own n w ≡ ([], w)
+pub over_by : (t : Texts) (own n : ℕ) (w : Walk) → (n ≡ 0) ⊎ (is_stopped w ≡ true) → labels_by t own n w ≡ ([], w)
 unfolding labels_by
 over_by t own n w (inl none) = ap (λ j. labels_by t own j w) none
 over_by t own zero w (inr on) = refl
