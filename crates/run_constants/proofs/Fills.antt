@@ -1,12 +1,12 @@
 -- Values of which each leaf is filled alike.
-use Rattle.std.proofs.Common.{◌≡◌, ℕ, zero, suc, ◌+◌, ◌-◌, ◌<◌, ◌≤◌, Bool, List, [], ◌∷◌, ◌++◌, length, drop, get_or, map, append_assoc, append-nil, refl, sym, ap, ◌∙◌, arith}
-use Rattle.std.proofs.lemmas.List.{at_drop_more, at_drop_all, length-append}
+use Rattle.std.proofs.Common.{◌≡◌, ℕ, zero, suc, ◌+◌, ◌-◌, ◌<◌, ◌≤◌, Bool, List, [], ◌∷◌, ◌++◌, length, drop, map, append_assoc, append-nil, refl, sym, ap, ◌∙◌, arith}
+use Rattle.std.proofs.lemmas.List.{at_drop_all, length-append}
 use Rattle.ir_eval.specs.declared.value.Scalar.{Scalar}
 use Rattle.type_table.specs.Layout.{align, field_start, size}
 use Rattle.type_table.specs.Shape.{Shape, int_leaf, ptr_leaf, void_leaf, opaque_leaf, array_of, struct_of, Shapes, no_shapes, more_shapes}
 use Rattle.type_table.specs.Types.{Types}
 use Rattle.run_rules.specs.Leaves.{Slot, field_slots, repeated, slots, slots_at}
-use Rattle.run_shapes.specs.Shapes.{shape_in, shapes_in}
+use Rattle.run_shapes.specs.Shapes.{shapes_in}
 use Rattle.run_constants.specs.declared.filled.Fill.{Fill}
 use Rattle.run_constants.specs.Filled.{all_filled, copies, filled, leaf_in}
 
@@ -91,10 +91,6 @@ copies_of_none n place xs now next whole before added same =
     added ∙ ap (λ (l : List Scalar). now ++ l) (none ∙ sym (copies_none (n - place) xs none)) ∙ before
 
 -- ---- fields
-
-pub fields_from : (t : Types) (ids : List ℕ) (k ty : ℕ) → k < length ids → ty ≡ get_or ids k ty → shapes_in t (drop k ids) ≡ more_shapes (shape_in t ty) (shapes_in t (drop (k + 1) ids))
-fields_from t ids k ty lt is =
-    at_drop_more (shapes_in t) ids k ty lt ∙ ap (λ (id : ℕ). more_shapes (shape_in t id) (shapes_in t (drop (k + 1) ids))) (sym is)
 
 pub fields_more : (fill : Fill) (s : Shape) (ss us : Shapes) (now next whole : List Scalar) → us ≡ more_shapes s ss → now ++ all_filled fill us ≡ whole → next ≡ now ++ filled fill s → next ++ all_filled fill ss ≡ whole
 fields_more fill s ss us now next whole is before added =

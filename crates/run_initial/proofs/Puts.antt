@@ -1,5 +1,5 @@
 -- What is stored part by part.
-use Rattle.std.proofs.Common.{◌≡◌, ℕ, zero, suc, ◌+◌, ◌-◌, ◌*◌, ◌<◌, ◌≤◌, List, [], ◌∷◌, ◌++◌, length, drop, get_or, Bool, true, false, not, cond, Result, Ok, Err, refl, sym, ap, ◌∙◌, subst, arith}
+use Rattle.std.proofs.Common.{◌≡◌, ℕ, suc, ◌+◌, ◌-◌, ◌*◌, ◌<◌, ◌≤◌, List, [], ◌∷◌, ◌++◌, length, drop, get_or, Bool, true, false, not, cond, Result, Ok, Err, refl, sym, ap, ◌∙◌, subst, arith}
 use Rattle.std.specs.Prelude.{IsOk, IfErr, OnOk, is_ok}
 use Rattle.std.specs.Result.{IsErr, IsErrAnd}
 use Rattle.std.proofs.lemmas.Bool.{false≢true}
@@ -22,6 +22,7 @@ use Rattle.run_rules.specs.Constant.{Names, shape_of}
 use Rattle.run_rules.specs.Leaves.{Slot, field_slots, repeated, slots_at}
 use Rattle.run_rules.specs.Plan.{Contents}
 use Rattle.run_values.specs.Answer.{Stores}
+use Rattle.run_slots.proofs.Slotted.{repeated_next, repeated_zero}
 use Rattle.run_initial.specs.Constants.{bytes_at, parts_at, value_at}
 use Rattle.run_constants.specs.declared.filled.Fill.{Fill}
 use Rattle.run_constants.specs.Filled.{leaf_in}
@@ -136,16 +137,6 @@ stored_then all new r (Err x) e h = tt
 
 -- ---- elements and fields that are filled alike
 
-repeated_next : (k n : ℕ) (element : ℕ → List Slot) (at step : ℕ) → k ≡ suc n → repeated k element at step ≡ element at ++ repeated n element (at + step) step
-unfolding repeated
-repeated_next zero n element at step e = absurd (omega (arith, e))
-repeated_next (suc k) n element at step e = let same : k ≡ n = omega (arith, e) in ap (λ (m : ℕ). element at ++ repeated m element (at + step) step) same
-
-repeated_none : (n : ℕ) (element : ℕ → List Slot) (at step : ℕ) → n ≡ 0 → repeated n element at step ≡ []
-unfolding repeated
-repeated_none zero element at step e = refl
-repeated_none (suc n) element at step e = absurd (omega (arith, e))
-
 module _ (fill : Fill) where
   filled_both : (ss us : List Slot) → filled fill (ss ++ us) ≡ filled fill ss ++ filled fill us
   filled_both ss us = map-append (λ (s : Slot). (s, leaf_in fill s.leaf)) ss us
@@ -159,7 +150,7 @@ module _ (fill : Fill) where
       ∙ filled_both (element (at + place * step)) (repeated (n - (place + 1)) element (at + (place + 1) * step) step)
 
   pub elements_none : (n place at step : ℕ) (element : ℕ → List Slot) → n ≤ place → filled fill (repeated (n - place) element at step) ≡ []
-  elements_none n place at step element le = let none : n - place ≡ 0 = omega (arith, le) in ap (filled fill) (repeated_none (n - place) element at step none)
+  elements_none n place at step element le = let none : n - place ≡ 0 = omega (arith, le) in ap (filled fill) (repeated_zero (n - place) element at step none)
 
   pub fields_next : (s : Shape) (ss us : Shapes) (packed : Bool) (at end start : ℕ) → us ≡ more_shapes s ss → start ≡ field_start packed end (align s)
       → filled fill (field_slots us packed at end) ≡ filled fill (slots_at s (at + start)) ++ filled fill (field_slots ss packed at (start + size s))

@@ -21,7 +21,7 @@ unfolding repeated
 none_repeated zero element at step h = refl
 none_repeated (suc n) element at step h = λ i. h at i ++ none_repeated n element (at + step) step h i
 
-repeated_zero : (n : ℕ) (element : ℕ → List Slot) (at step : ℕ) → n ≡ 0 → repeated n element at step ≡ []
+pub repeated_zero : (n : ℕ) (element : ℕ → List Slot) (at step : ℕ) → n ≡ 0 → repeated n element at step ≡ []
 unfolding repeated
 repeated_zero zero element at step e = refl
 repeated_zero (suc n) element at step e = absurd (omega (arith, e))
@@ -46,7 +46,7 @@ mutual
 
 -- ---- elements
 
-repeated_next : (k n : ℕ) (element : ℕ → List Slot) (at step : ℕ) → k ≡ suc n → repeated k element at step ≡ element at ++ repeated n element (at + step) step
+pub repeated_next : (k n : ℕ) (element : ℕ → List Slot) (at step : ℕ) → k ≡ suc n → repeated k element at step ≡ element at ++ repeated n element (at + step) step
 unfolding repeated
 repeated_next zero n element at step e = absurd (omega (arith, e))
 repeated_next (suc k) n element at step e = let same : k ≡ n = omega (arith, e) in ap (λ (m : ℕ). element at ++ repeated m element (at + step) step) same

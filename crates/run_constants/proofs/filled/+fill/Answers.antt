@@ -6,9 +6,10 @@ use Rattle.run_shapes.specs.Shapes.{shape_in, shapes_in}
 use Rattle.run_shapes.proofs.Outlines.{found_all}
 use Rattle.run_slots.proofs.Made.{array_is, struct_is}
 use Rattle.run_slots.proofs.Nesting.{all_less, nests_within, struct_nests}
+use Rattle.run_slots.proofs.Slotted.{fields_from}
 use Rattle.run_constants.specs.Filled.{filled}
 use Rattle.run_constants.proofs.Appended.{none_pushed, reworded}
-use Rattle.run_constants.proofs.Fills.{copies_end, copies_more, copies_of_none, copies_start, fields_end, fields_from, fields_more}
+use Rattle.run_constants.proofs.Fills.{copies_end, copies_more, copies_of_none, copies_start, fields_end, fields_more}
 use Rattle.run_constants.proofs.filled.+fill.Goals as goal
 
 pub push_filled-returns-in-Int : goal.push_filled-returns-in-Int
