@@ -1,5 +1,5 @@
 -- The bytes that a stream begins with.
-use Rattle.std.proofs.Common.{◌≡◌, ℕ, ◌*◌, ◌≤◌, false, List, length, take, drop, Result, Ok, Err, refl, sym, ap, ◌∙◌, arith, inl, inr}
+use Rattle.std.proofs.Common.{◌≡◌, ℕ, ◌≤◌, false, List, length, take, drop, Result, Ok, Err, refl, sym, ap, ◌∙◌, arith, inl, inr}
 use Rattle.std.proofs.lemmas.Bool.{cases_lt, lt-ltb, le-ltb}
 use Rattle.std.specs.Prelude.{◌==◌}
 use Rattle.bits.specs.Bits.{value, stream_bits}
@@ -13,18 +13,15 @@ use Rattle.bit_stream.specs.Reader.{begins}
 abbrev start : List ℕ → Cursor
 start bytes = record { at = 0; rest = stream_bits bytes }
 
-size_is : (bytes : List ℕ) → length (stream_bits bytes) ≡ 8 * length bytes
-size_is bytes = length-stream_bits bytes
-
 pub no_word : (bytes : List ℕ) (e : BitFault) → fixed 32 (start bytes) ≡ Err e → begins bytes ≡ false
 no_word bytes e h = elim (cases_lt (length bytes) 4) [
   | inl short ↦ rw (lt-ltb (length bytes) 4 short) refl
-  | inr long ↦ let read = field_whole 32 (start bytes) (omega (arith, size_is bytes)) in absurd (cc)
+  | inr long ↦ let read = field_whole 32 (start bytes) (omega (arith, length-stream_bits bytes)) in absurd (cc)
 ]
 
 pub word_long : (bytes : List ℕ) (n : ℕ) (d : Cursor) → fixed 32 (start bytes) ≡ Ok (n, d) → 4 ≤ length bytes
 word_long bytes n d h = elim (cases_lt (length bytes) 4) [
-  | inl short ↦ let read = field_short 32 (start bytes) (omega (arith, size_is bytes)) in absurd (cc)
+  | inl short ↦ let read = field_short 32 (start bytes) (omega (arith, length-stream_bits bytes)) in absurd (cc)
   | inr long ↦ long
 ]
 
@@ -34,7 +31,7 @@ second {A} {B} a c b d h = let one : A × B = (a, b) in let two : A × B = (c, d
 pub word_there : (bytes : List ℕ) (n : ℕ) (d : Cursor) → fixed 32 (start bytes) ≡ Ok (n, d) → (value (take 32 (stream_bits bytes)) ≡ n) × (record { at = 32; rest = drop 32 (stream_bits bytes) } ≡ d)
 word_there bytes n d h =
     let long = word_long bytes n d h in
-    let read = field_whole 32 (start bytes) (omega (arith, size_is bytes)) in
+    let read = field_whole 32 (start bytes) (omega (arith, length-stream_bits bytes)) in
     second _ n _ d (sym read ∙ h)
 
 pub begins_is : (bytes : List ℕ) (n : ℕ) (d : Cursor) → fixed 32 (start bytes) ≡ Ok (n, d) → begins bytes ≡ (n == 0xdec0_4342)

@@ -38,7 +38,7 @@ unfolding vbr
 vbr_read bs at w v taken h = rw (← h, drop-drop) refl
 
 -- the bytes from a byte's first bit on
-bytes_are : (n : ℕ) (bs : List ℕ) → n ≤ length bs → ((i : ℕ) → get_or bs i 0 < 256) → bytes_of n (stream_bits bs) ≡ take n bs
+pub bytes_are : (n : ℕ) (bs : List ℕ) → n ≤ length bs → ((i : ℕ) → get_or bs i 0 < 256) → bytes_of n (stream_bits bs) ≡ take n bs
 unfolding bytes_of stream_bits
 bytes_are zero bs h small = refl
 bytes_are (suc n) [] h small = absurd (omega arith)
