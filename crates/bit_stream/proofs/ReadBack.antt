@@ -138,7 +138,7 @@ unabbreviated_reads code ns small operands at rest =
 
 -- entries
 
-item_inside : (s : Scope) (c d : Cursor) (id : ℕ) → is_top s ≡ false → fixed s.block.width c ≡ Ok (id, d) → item s c ≡ inside id c.at s d
+pub item_inside : (s : Scope) (c d : Cursor) (id : ℕ) → is_top s ≡ false → fixed s.block.width c ≡ Ok (id, d) → item s c ≡ inside id c.at s d
 unfolding item
 item_inside s c d id top h = rw (top, h) refl
 
@@ -195,7 +195,7 @@ with_tail_is NoTail ns bits sound = sym (append-nil bits)
 with_tail_is (Elements s) ns bits sound = append_assoc bits (chunks 6 (length ns)) (all_bits s ns)
 with_tail_is Bytes ns bits sound = absurd (cc)
 
-no_items : (ns : List ℕ) → length ns ≡ 0 → ns ≡ []
+pub no_items : (ns : List ℕ) → length ns ≡ 0 → ns ≡ []
 no_items [] h = refl
 no_items (n ∷ ns) h = absurd (omega arith)
 

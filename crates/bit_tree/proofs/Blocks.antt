@@ -15,11 +15,11 @@ use Rattle.bit_stream.specs.Entry.{StreamItem, item, plain, is_top, is_blockinfo
 use Rattle.bit_stream.specs.Spelling.{chunks, aligned, abbreviation_for}
 use Rattle.bit_stream.specs.Writer.{Writer, id_bits, enter, ended, end_block, define, in_force, put_record, abbreviated}
 use Rattle.bit_tree.specs.Stream.{StreamTree, block, values, Stands, Holds, none, of_block}
-use Rattle.bit_stream.proofs.ReadBack.{fixed_reads, vbr_reads}
+use Rattle.bit_stream.proofs.ReadBack.{fixed_reads, vbr_reads, item_inside}
 use Rattle.bit_tree.specs.Written.{Written, no_more, a_block, a_definition, a_record, a_short_record, written, tree_of, with_definition, with_values, MayEnter, MayEnd, Allowed}
 use Rattle.bit_tree.proofs.Places.{align_from, pad_size}
 use Rattle.bit_tree.proofs.Alike.{Alike, SameBlocks, same_blocks, same_on, alike_blockinfo, alike_entered, left_is, alike_left}
-use Rattle.bit_tree.proofs.Step.{Ready, After, Stepped, item_inside, id_small, id_read, define_step, put_step, abbreviated_step}
+use Rattle.bit_tree.proofs.Step.{Ready, After, Stepped, id_small, id_read, define_step, put_step, abbreviated_step}
 
 -- a reader behind what was written
 pub record Arrives (s v : Scope) (c d : Cursor) (tree : StreamTree) : Type 0 where

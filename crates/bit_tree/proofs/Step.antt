@@ -13,11 +13,11 @@ use Rattle.bit_stream.specs.Abbreviation.{AdmittedAbbreviation, is_blob}
 use Rattle.bit_stream.specs.Definition.{defined_abbreviation}
 use Rattle.bit_stream.specs.Record.{ReadRecord, names_block, unabbreviated, abbreviated as read_abbreviated}
 use Rattle.bit_stream.specs.Scope.{Scope, abbreviation_of}
-use Rattle.bit_stream.specs.Entry.{StreamItem, item, plain, is_top, is_blockinfo, inside, define as read_definition, define_for, record_by, by_abbreviation, recorded, id_at, has_blob_by, defined_at}
+use Rattle.bit_stream.specs.Entry.{StreamItem, plain, is_top, is_blockinfo, inside, define as read_definition, define_for, record_by, by_abbreviation, recorded, id_at, has_blob_by, defined_at}
 use Rattle.bit_stream.specs.Spelling.{definition_bits, abbreviation_for, record_bits, record_fits}
 use Rattle.bit_stream.specs.Writer.{Writer, id_bits, with_abbreviation, define, in_force, naming, after_record, put_record, abbreviated}
 use Rattle.bit_tree.specs.Stream.{StreamTree, definition, values, next_id, Stands, Holds, of_definition, of_record}
-use Rattle.bit_stream.proofs.ReadBack.{fixed_reads}
+use Rattle.bit_stream.proofs.ReadBack.{fixed_reads, item_inside}
 use Rattle.bit_tree.specs.Written.{operands_by, blob_by, with_definition, with_values, MayDefine, MayPut, MayAbbreviate, NamesFirst}
 use Rattle.bit_tree.proofs.Values.{Sound, values_bits, written_is, unabbreviated_reads, abbreviated_reads}
 use Rattle.bit_tree.proofs.Defined.{admitted}
@@ -45,10 +45,6 @@ pub record Stepped (w new : Writer) (node : StreamTree → StreamTree) : Type 0 
   pub ready : Ready new.scope
   pub reads : (s : Scope) → Alike s w.scope → (at : ℕ) (rest : List Bool) → at % 32 ≡ length w.bits % 32
       → After s new.scope (record { at = at; rest = more ++ rest }) (record { at = at + length more; rest = rest }) node
-
-pub item_inside : (s : Scope) (c d : Cursor) (id : ℕ) → is_top s ≡ false → fixed s.block.width c ≡ Ok (id, d) → item s c ≡ inside id c.at s d
-unfolding item
-item_inside s c d id top h = rw (top, h) refl
 
 definition_way : {s u : Scope} {c d g : Cursor} {i : StreamItem} {t : AdmittedAbbreviation} (n : ℕ) (behind : StreamTree) → Stands s c None i d → defined_at s c ≡ Ok (t, d) → next_id s ≡ n → Holds i.scope d behind u g → Holds s c (definition n t behind) u g
 definition_way n behind first def is h = rw (← is) (of_definition first def h)

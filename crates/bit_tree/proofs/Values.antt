@@ -14,8 +14,9 @@ use Rattle.bit_stream.specs.Abbreviation.{AdmittedAbbreviation}
 use Rattle.bit_stream.specs.Record.{code_by, operand, elements, each, counted, tail_by, names_block, ReadRecord, unabbreviated, abbreviated}
 use Rattle.bit_stream.specs.Spelling.{chunks, fits, value_bits, all_fit, all_bits, record_bits, each_fit, each_bits, tail_fits, with_tail, record_fits, with_record}
 use Rattle.bit_stream.specs.Law.{ReadsAs, AreOperands, is_sound}
-use Rattle.bit_stream.proofs.ReadBack.{vbr_reads, value_reads, then_reads, all_take, all_drop}
+use Rattle.bit_stream.proofs.ReadBack.{vbr_reads, value_reads, then_reads, all_take, all_drop, no_items}
 use Rattle.bits.specs.Writing.{pad_bits}
+use Rattle.bit_stream.proofs.Spelled.{any_chunks}
 use Rattle.bit_tree.specs.Written.{front_of, back_of, operands_by, blob_by}
 use Rattle.bit_tree.proofs.Places.{ReadsFrom, anywhere, then_from, done_from, blob_bits, blob_reads}
 
@@ -92,17 +93,13 @@ counted_reads : (b : Bool) (s : ValueSpelling) (ns front : List ℕ) → is_soun
 unfolding counted
 counted_reads b s ns front sound fit operands fine = then_reads (vbr 6) (λ count d. elements b s count front d) _ _ (length ns) (front ++ ns) (vbr_reads 6 (length ns) (omega arith) operands.few) (elements_reads b s ns front sound fit operands.small fine)
 
-any_fit : (w : ℕ) (ns : List ℕ) → all_fit (Chunks w) ns ≡ true
-any_fit w [] = refl
-any_fit w (n ∷ ns) = any_fit w ns
-
 pub unabbreviated_reads : (b : Bool) (code : ℕ) (ns : List ℕ) → code < 2 ^ 32 → AreOperands ns → Fine (names_block b code) [] ns → ReadsAs (unabbreviated b) (record_bits code ns) (record { code = code; operands = ns; blob = [] })
 unfolding unabbreviated record_bits value_bits
 unabbreviated_reads b code ns small operands fine =
     let all = chunks 6 (length ns) ++ all_bits (Chunks 6) ns in
     let way = then_reads (code_by (Chunks 6)) (λ code d. counted (names_block b code) (Chunks 6) [] d >>= λ all e. Ok (record { code = code; operands = all; blob = [] }, e)) (chunks 6 code) all code (record { code = code; operands = ns; blob = [] })
     (code_reads (Chunks 6) code refl refl small)
-    (λ at rest. rw (counted_reads (names_block b code) (Chunks 6) ns [] refl (any_fit 6 ns) operands fine at rest) refl) in
+    (λ at rest. rw (counted_reads (names_block b code) (Chunks 6) ns [] refl (any_chunks 6 ns) operands fine at rest) refl) in
     let whole : (chunks 6 code ++ chunks 6 (length ns)) ++ all_bits (Chunks 6) ns ≡ chunks 6 code ++ all = append_assoc (chunks 6 code) (chunks 6 (length ns)) (all_bits (Chunks 6) ns) in
     rw whole way
 
@@ -111,10 +108,6 @@ abbrev pub tail_bits : ℕ → Tail → List ℕ → List Bool
 tail_bits n NoTail ns = []
 tail_bits n (Elements s) ns = chunks 6 (length ns) ++ all_bits s ns
 tail_bits n Bytes ns = blob_bits n ns
-
-no_items : (ns : List ℕ) → length ns ≡ 0 → ns ≡ []
-no_items [] h = refl
-no_items (n ∷ ns) h = absurd (omega arith)
 
 abbrev ends_with : Tail → List ℕ → List ℕ → List ℕ × List ℕ
 ends_with NoTail front ns = (front ++ ns, [])
