@@ -1,5 +1,5 @@
 -- The name in front of a record.
-use Rattle.std.proofs.Common.{◌≡◌, ◌&&◌, Bool, true, false, Option, Some, None, refl, sym, ap, ◌∙◌}
+use Rattle.std.proofs.Common.{◌≡◌, true, Option, Some, None, sym, ap, ◌∙◌}
 use Rattle.std.proofs.lemmas.Bool.{and_from}
 use Rattle.module_arena.specs.Module.{Bytes}
 use Rattle.record_table.specs.Fields.{Texts, is_name}
@@ -7,17 +7,8 @@ use Rattle.record_read.specs.Reader.{Reader, is_broken}
 use Rattle.record_read.specs.Fields.{ReadsText, IsNamed, are_bytes}
 use Rattle.record_read.proofs.Sized.{named_reads}
 use Rattle.type_read.specs.Fields.{is_good}
+use Rattle.type_read.proofs.Names.{no_name, no_bytes}
 use Rattle.head_read.specs.Fronts.{ReadsFrontName}
-
-no_name : (x : Bytes) → is_name x ≡ false → is_good x ≡ false
-no_name x h = ap (λ b. b && are_bytes x) h
-
-no_bytes : (x : Bytes) → are_bytes x ≡ false → is_good x ≡ false
-no_bytes x h = by_case (is_name x) (are_bytes x) h
-  where
-    by_case : (a b : Bool) → b ≡ false → (a && b) ≡ false
-    by_case true b e = e
-    by_case false b e = refl
 
 pub name_some : (t : Texts) (old mid now : Reader) (text : Option Bytes) (name : Bytes) → ReadsText t.middle old mid text → IsNamed text mid (Some name) now → are_bytes name ≡ true → ReadsFrontName t old now (Some name)
 name_some t old mid now None name h n bytes = absurd (cc (n.0))

@@ -11,10 +11,10 @@ use Rattle.record_read.proofs.Sized.{named_reads}
 use Rattle.type_read.specs.Fields.{IsBodyOf, IsDefinition, ReadsName, is_good}
 use Rattle.type_read.specs.declared.definition.StructDefinition.{StructDefinition}
 
-no_name : (x : Bytes) → is_name x ≡ false → is_good x ≡ false
+pub no_name : (x : Bytes) → is_name x ≡ false → is_good x ≡ false
 no_name x h = ap (λ b. b && are_bytes x) h
 
-no_bytes : (x : Bytes) → are_bytes x ≡ false → is_good x ≡ false
+pub no_bytes : (x : Bytes) → are_bytes x ≡ false → is_good x ≡ false
 no_bytes x h = by_case (is_name x) (are_bytes x) h
   where
     by_case : (a b : Bool) → b ≡ false → (a && b) ≡ false
