@@ -1,5 +1,5 @@
 -- The records of variables, functions and aliases, against what was read so far.
-use Rattle.std.proofs.Common.{◌≡◌, ◌⊎◌, ◌≤◌, ◌+◌, ℕ, suc, max, Bool, true, false, List, [], ◌∷◌, ◌++◌, length, map, drop, All, Option, Some, None, nat_le, nat_lt, inl, inr, refl, sym, ap, subst, ◌∙◌, arith}
+use Rattle.std.proofs.Common.{◌≡◌, ◌⊎◌, ◌≤◌, ◌+◌, ℕ, suc, max, Bool, true, false, List, [], ◌∷◌, ◌++◌, length, map, drop, All, Option, None, nat_le, nat_lt, inl, inr, refl, sym, ap, subst, ◌∙◌, arith}
 use Rattle.std.specs.Prelude.{Ok}
 use Rattle.std.proofs.lemmas.List.{map-append}
 use Rattle.std.proofs.lemmas.List.Elements.{All-push}
@@ -13,9 +13,8 @@ use Rattle.record_table.specs.Fields.{Texts}
 use Rattle.record_table.specs.Layout.{judged}
 use Rattle.record_table.specs.Records as records
 use Rattle.record_table.specs.Records.{is_new, may_follow}
-use Rattle.record_table.specs.Walk.{Walk, going, stopped, told}
+use Rattle.record_table.specs.Walk.{going}
 use Rattle.body_labels.proofs.Kept.{also_held}
-use Rattle.record_read.specs.Reader.{is_broken}
 use Rattle.type_read.specs.Fields.{is_good}
 use Rattle.arena_read.specs.declared.counts.GlobalCounts.{GlobalCounts}
 use Rattle.arena_read.specs.declared.counts.LocalCounts.{LocalCounts}
@@ -28,6 +27,7 @@ use Rattle.entries_ahead.specs.Bodies.{names_given}
 use Rattle.entries_ahead.proofs.Told.{alias_told, bad_new, function_told, variable_told}
 use Rattle.entry_read.specs.Entries.{IsInFront, IsToldNew, Passes, ReadsAlias, ReadsFunction, ReadsVariable}
 use Rattle.reads_formed.proofs.Sofar.{is_placed}
+use Rattle.entry_read.proofs.Ended.{told_unbroken}
 use Rattle.bitcode_read.specs.declared.sofar.Sofar.{Sofar}
 use Rattle.bitcode_read.specs.Sofar.{AreDeclared, AreGood, IsEarly, IsLate, IsPast, IsSofar}
 use Rattle.bitcode_read.proofs.Functions.{functions_long}
@@ -40,14 +40,6 @@ good_new s n g bad = bad_new s n (record { variables = g.variables; functions = 
 
 good_push : {A : Type 0} (name : A → Bytes) (xs : List A) (x : A) → All (λ n. is_good n ≡ true) (map name xs) → is_good (name x) ≡ true → All (λ n. is_good n ≡ true) (map name (xs ++ x ∷ []))
 good_push name xs x all good = subst (λ (ns : List Bytes). All (λ n. is_good n ≡ true) ns) (sym (map-append name xs (x ∷ []))) (All-push (λ n. is_good n ≡ true) (map name xs) (name x) all good)
-
-told_unbroken : (w : Walk) → told w ≡ None → is_broken w ≡ false
-told_unbroken (going [] None) h = refl
-told_unbroken (going [] (Some r)) h = absurd (cc)
-told_unbroken (going (n ∷ rest) None) h = absurd (cc)
-told_unbroken (going (n ∷ rest) (Some r)) h = absurd (cc)
-told_unbroken (stopped None) h = refl
-told_unbroken (stopped (Some r)) h = absurd (cc)
 
 -- ---- in front of the record
 
