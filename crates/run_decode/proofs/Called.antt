@@ -1,10 +1,10 @@
 -- A call in pools: its function type under its number, the types and the leaves of its arguments.
 use Rattle.std.proofs.Common.{◌≡◌, ℕ, suc, ◌+◌, ◌<◌, Bool, List, [], ◌∷◌, ◌++◌, All, append_assoc, Result, Ok, Err, IfOk, Some, length, take, get_or, map, flat_map, refl, sym, ap, ◌∙◌, subst, arith}
 use Rattle.std.specs.Prelude.{slice_get}
-use Rattle.std.proofs.Math.Seq.{get_or-append_seam, take-suc}
-use Rattle.std.proofs.lemmas.List.{length-append, map-append}
+use Rattle.std.proofs.Math.Seq.{take-suc}
+use Rattle.std.proofs.lemmas.List.{map-append}
 use Rattle.std.proofs.lemmas.List.Elements.{All-append, All-cons, All-map, All-push}
-use Rattle.std.proofs.lemmas.Option.{get_or_from_slice_get, slice_get-get_or}
+use Rattle.std.proofs.lemmas.Option.{get_or_from_slice_get}
 use Rattle.module_arena.specs.declared.instruction.Call.{Call}
 use Rattle.module_arena.specs.declared.instruction.Inst.TheVariants as inst
 use Rattle.module_arena.specs.declared.instruction.Operand.{Operand}
@@ -35,9 +35,10 @@ use Rattle.run_signatures.specs.Met.{Met, known, written_as}
 use Rattle.run_signatures.specs.Numbers.{AreNumbered, IsNumbered, Numbers}
 use Rattle.run_signatures.proofs.Numbered.{call_numbered, calls_numbered, numbers_none}
 use Rattle.run_operands.specs.Suits.{HasCall}
+use Rattle.run_operands.proofs.Stands.{pushed_at}
+use Rattle.run_operands.proofs.Ended.{mapped_twice}
 use Rattle.run_decode.specs.Calls.{IsCallOf}
 use Rattle.run_decode.specs.Operations.{Meant}
-use Rattle.run_decode.proofs.Meant.{mapped_twice}
 
 -- ---- types of operands
 
@@ -63,12 +64,6 @@ types_put (Ok s) old new gained first here e h = spanned_more old gained new s e
 types_put (Err x) old new gained first here e h = tt
 
 -- ---- the parts of a call
-
--- an item at the end
-pushed_at : {A : Type 0} (xs : List A) (x : A) (k : ℕ) → k ≡ length xs → slice_get (xs ++ x ∷ []) k ≡ Some x
-pushed_at xs x k e =
-    let many = length-append xs (x ∷ []) in
-    ap (slice_get (xs ++ x ∷ [])) e ∙ slice_get-get_or (xs ++ x ∷ []) (length xs) x (omega (arith, many)) ∙ ap Some (get_or-append_seam xs x [] x)
 
 -- types, then the types of arguments, then their leaves, and then the call
 module _ (s : Framed) (c : Call) (has : HasCall s c) (p : Pools) (types : List ℕ) (q r : Pools) (calls : List CallParts) (one : CallParts)

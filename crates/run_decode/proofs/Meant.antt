@@ -1,5 +1,5 @@
 -- What each phrase comes to, by what its operands have come to.
-use Rattle.std.proofs.Common.{◌≡◌, ℕ, Bool, List, [], ◌∷◌, Option, Some, map, refl, ap, ◌∙◌}
+use Rattle.std.proofs.Common.{◌≡◌, ℕ, Bool, List, Option, Some, map, ap, ◌∙◌}
 use Rattle.std.specs.Prelude.{zip, unwrap_or}
 use Rattle.ir_tables.specs.declared.flag.Flag.TheVariants.{Inbounds, Samesign}
 use Rattle.ir_tables.specs.declared.opcode.Opcode.{Opcode}
@@ -29,12 +29,8 @@ use Rattle.run_flat.specs.Grown.{Adds, AreArms, AreLeaves, AreParts, AreSlots, A
 use Rattle.run_flat.proofs.Growth.{leaf_stays, leaves_stay, slots_stay}
 use Rattle.run_scopes.specs.Scopes.{Framed, operand_of, scope_in, to_of, value_of}
 use Rattle.run_scopes.proofs.Shaped.{shapes_same}
+use Rattle.run_operands.proofs.Ended.{mapped_twice}
 use Rattle.run_decode.specs.Operations.{Meant, count_in}
-
--- what is mapped twice
-pub mapped_twice : {A B C : Type 0} (f : B → C) (g : A → B) (xs : List A) → map (λ (x : A). f (g x)) xs ≡ map f (map g xs)
-mapped_twice f g [] = refl
-mapped_twice f g (x ∷ xs) = λ i. f (g x) ∷ mapped_twice f g xs i
 
 module _ (s : Framed) where
   -- the operands that are meant

@@ -38,10 +38,10 @@ use Rattle.run_scopes.specs.Scopes.{Framed, block_of, instruction_of, label_of, 
 use Rattle.run_scopes.proofs.Viewed.{blocks_all}
 use Rattle.run_operands.specs.Endings.{ending_from}
 use Rattle.run_operands.specs.Suits.{AllSuit, BlockSuits}
+use Rattle.run_operands.proofs.Ended.{mapped_twice}
 use Rattle.run_suits.specs.Laws.{FunctionsSuit}
 use Rattle.run_decode.specs.Operations.{action_from}
 use Rattle.run_decode.specs.Rows.{AddsActions, AreRows, IsRow, actions_in}
-use Rattle.run_decode.proofs.Meant.{mapped_twice}
 
 -- what holds whatever is answered
 pub on_any : {A E P : Type 0} (r : Result A E) → P → OnOk r P

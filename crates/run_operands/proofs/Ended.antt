@@ -16,7 +16,7 @@ use Rattle.run_scopes.specs.Scopes.{Framed, label_of, operand_of, scope_in}
 use Rattle.run_operands.specs.Endings.{EndMeant, case_from, case_of}
 
 -- what is mapped twice
-mapped_twice : {A B C : Type 0} (f : B → C) (g : A → B) (xs : List A) → map (λ (x : A). f (g x)) xs ≡ map f (map g xs)
+pub mapped_twice : {A B C : Type 0} (f : B → C) (g : A → B) (xs : List A) → map (λ (x : A). f (g x)) xs ≡ map f (map g xs)
 mapped_twice f g [] = refl
 mapped_twice f g (x ∷ xs) = λ i. f (g x) ∷ mapped_twice f g xs i
 

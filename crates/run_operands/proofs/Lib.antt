@@ -1,6 +1,6 @@
-mod Stands
+pub mod Stands
 mod Stepped
 mod Summed
 mod Paired
 mod Placed
-mod Ended
+pub mod Ended
