@@ -16,6 +16,7 @@ use Rattle.ir_lexer.specs.declared.quoted.Escape.TheVariants.{Plain}
 use Rattle.ir_lexer.specs.declared.token.TokenKind.TheVariants as kind
 use Rattle.ir_lexer.proofs.Rows.{name_digit}
 use Rattle.ir_lexer.proofs.Runs.{each_first}
+use Rattle.ir_lexer.proofs.Lexed.{start_name}
 use Rattle.ir_terminals.specs.Role.{terminal}
 use Rattle.ir_terminals.specs.Terminal.{code}
 use Rattle.ir_terminals.specs.Tokens.{label_row, quoted_row, byte_string_row}
@@ -34,10 +35,6 @@ use Rattle.canon_law.proofs.Rows.{printed_one}
 use Rattle.canon_law.proofs.Numerals.{AreDigits, decimal_some, decimal_digits, decimal_back, digits_each, digits_first}
 use Rattle.canon_law.proofs.Quotes.{decode_back, no_quotes, between}
 use Rattle.canon_law.proofs.Tokens.{NameSpelling, Bare, InQuotes, spelling_of, starts_unquoted, upto}
-
-starts_in : (c : Class) → starts_name c ≡ true → in_name c ≡ true
-starts_in Digit h = refl
-starts_in c h = h
 
 in_unquoted : (c : Class) → in_name c ≡ true → is_quote c ≡ false
 in_unquoted LetterC h = refl
@@ -70,7 +67,7 @@ unfolding byte_class
 quoted_label name t b = record { row = table.QuotedLabel; kind_is = refl; spelled = (refl, upto is_name _ name (58 ∷ []) b t (refl, refl)) }
 
 label_token : (name s : List ℕ) → NameSpelling name s → IsToken kind.Label (s ++ 58 ∷ [])
-label_token name _ (Bare x rest e h k) = record { row = table.Label; kind_is = refl; spelled = (starts_in (byte_class x) h, upto_colon rest k) }
+label_token name _ (Bare x rest e h k) = record { row = table.Label; kind_is = refl; spelled = (start_name (byte_class x) h, upto_colon rest k) }
 label_token name _ (InQuotes t b) = subst (λ (s : List ℕ). IsToken kind.Label s) (sym (quoted_end name)) (quoted_label name t b)
 
 second_unquoted : (rest : List ℕ) → each in_name rest ≡ true → starts_with is_quote (rest ++ 58 ∷ []) ≡ false

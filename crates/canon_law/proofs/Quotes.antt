@@ -5,10 +5,10 @@ use Rattle.std.proofs.lemmas.Bool.{and_parts, not-true, cases_Bool}
 use Rattle.ir_lexer.specs.Class.{byte_class, no_quote}
 use Rattle.ir_lexer.specs.Form.{each, run}
 use Rattle.ir_lexer.specs.Names.{behind_quote, between_quotes}
-use Rattle.ir_lexer.specs.declared.class.Class.{Class}
 use Rattle.ir_lexer.proofs.Runs.{each_first, run_stops, run_first}
 use Rattle.ir_lexer.specs.Quoted.{digit_value, unescaped, decode, with_byte}
 use Rattle.ir_lexer.specs.declared.quoted.Escape.TheVariants.{Plain}
+use Rattle.ir_lexer.proofs.Lines.{each_both}
 use Rattle.canon_law.specs.Written.{AreBytes}
 use Rattle.name_rules.specs.Spelled.{hexadecimal, is_plain, quoted_byte}
 use Rattle.canon_law.proofs.Numerals.{Below, below, all_below, tested_below}
@@ -58,10 +58,6 @@ unfolding decode
 decode_back [] h = refl
 decode_back (b ∷ bytes) (h, hs) = decode_byte b (flat_map quoted_byte bytes) h ∙ ap (with_byte b) (decode_back bytes hs)
 
-each_append : (p : Class → Bool) (a b : List ℕ) → each p a ≡ true → each p b ≡ true → each p (a ++ b) ≡ true
-each_append p [] b h k = k
-each_append p (x ∷ a) b h k = let w = each_first p x a h in rw w.0 (each_append p a b w.1 k)
-
 no_quote_by : (b : ℕ) (plain : Bool) → is_plain b ≡ plain → b < 256 → each no_quote (cond plain (b ∷ []) (92 ∷ hexadecimal (b / 16) ∷ hexadecimal (b % 16) ∷ [])) ≡ true
 unfolding byte_class
 no_quote_by b true p h = rw (plain_byte b h p).0 refl
@@ -70,7 +66,7 @@ no_quote_by b false p h = rw (hex (b / 16) (omega arith)).2 (rw (hex (b % 16) (o
 -- and has no quote
 pub no_quotes : (bytes : List ℕ) → AreBytes bytes → each no_quote (flat_map quoted_byte bytes) ≡ true
 no_quotes [] h = refl
-no_quotes (b ∷ bytes) (h, hs) = each_append no_quote (quoted_byte b) (flat_map quoted_byte bytes) (elim (cases_Bool (is_plain b)) [ inl e ↦ rw e (no_quote_by b true e h) | inr e ↦ rw e (no_quote_by b false e h) ]) (no_quotes bytes hs)
+no_quotes (b ∷ bytes) (h, hs) = each_both no_quote (quoted_byte b) (flat_map quoted_byte bytes) (elim (cases_Bool (is_plain b)) [ inl e ↦ rw e (no_quote_by b true e h) | inr e ↦ rw e (no_quote_by b false e h) ]) (no_quotes bytes hs)
 
 behind : (pre rest : List ℕ) → each no_quote pre ≡ true → behind_quote (pre ++ 34 ∷ rest) ≡ rest
 unfolding byte_class

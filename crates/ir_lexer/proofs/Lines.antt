@@ -64,7 +64,7 @@ each_keeps : (p : Class → Bool) (s : List ℕ) → each p s ≡ true → p c.L
 each_keeps p [] h n = refl
 each_keeps p (b ∷ s) h n = let f = each_first p b s h in rw (keeps p (byte_class b) f.0 n) (each_keeps p s f.1 n)
 
-each_both : (p : Class → Bool) (a s : List ℕ) → each p a ≡ true → each p s ≡ true → each p (a ++ s) ≡ true
+pub each_both : (p : Class → Bool) (a s : List ℕ) → each p a ≡ true → each p s ≡ true → each p (a ++ s) ≡ true
 each_both p [] s g h = h
 each_both p (b ∷ a) s g h = let f = each_first p b a g in rw f.0 (each_both p a s f.1 h)
 
