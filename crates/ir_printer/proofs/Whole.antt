@@ -1,7 +1,8 @@
 -- What was put from nothing on.
-use Rattle.std.proofs.Common.{◌≡◌, ◌⊎◌, inl, inr, ℕ, ◌≤◌, List, [], true, false, Option, Some, None, refl, sym, append-nil, ap, arith}
+use Rattle.std.proofs.Common.{◌≡◌, ◌⊎◌, inl, inr, ℕ, ◌≤◌, List, [], true, false, Option, Some, None, refl, sym, append-nil, ap}
 use Rattle.ir_base.specs.Outside.{Added, Rose}
 use Rattle.gathered.specs.Told.{state, Says}
+use Rattle.phrase_printer.proofs.Printing.{rose_further, rose_later}
 
 -- nothing is added
 none_added : (start : Option (List ℕ)) → Added start start []
@@ -15,19 +16,11 @@ at_first start faults = record { written = []; is = refl; added = none_added sta
 never : false ≡ true → ⊥
 never e = cc
 
-further : (a b c : ℕ) → b ≤ c → Rose a b → Rose a c
-further a b c le (inl less) = inl (omega (arith, le, less))
-further a b c le (inr most) = inr (omega (arith, le, most))
-
-earlier : (a b c : ℕ) → a ≤ b → Rose b c → Rose a c
-earlier a b c le (inl less) = inl (omega (arith, le, less))
-earlier a b c le (inr most) = inr most
-
 -- a write failed on the way or at the end
 pub rose_somewhere : (a b c : ℕ) (failed : _) → a ≤ b → b ≤ c → (failed ≡ true → (false ≡ true) ⊎ Rose a b) → (failed ≡ true) ⊎ Rose b c → Rose a c
-rose_somewhere a b c failed on_the_way at_the_end cause (inr rose) = earlier a b c on_the_way rose
+rose_somewhere a b c failed on_the_way at_the_end cause (inr rose) = rose_later a b c on_the_way rose
 rose_somewhere a b c failed on_the_way at_the_end cause (inl is) = by_way (cause is)
   where
     by_way : (false ≡ true) ⊎ Rose a b → Rose a c
     by_way (inl e) = absurd (never e)
-    by_way (inr rose) = further a b c at_the_end rose
+    by_way (inr rose) = rose_further a b c at_the_end rose

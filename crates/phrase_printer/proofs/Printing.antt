@@ -8,11 +8,11 @@ use Rattle.canonical.specs.Phrase.{Phrase, token, mark, comma, listed}
 use Rattle.canonical.specs.Types.{in_braces}
 use Rattle.phrase_printer.specs.Printing.{Prints, separator_before, comma_before, brace, opening, closing}
 
-rose_further : (a b c : ℕ) → b ≤ c → Rose a b → Rose a c
+pub rose_further : (a b c : ℕ) → b ≤ c → Rose a b → Rose a c
 rose_further a b c le (inl less) = inl (omega (arith, le, less))
 rose_further a b c le (inr most) = inr (omega (arith, le, most))
 
-rose_later : (a b c : ℕ) → a ≤ b → Rose b c → Rose a c
+pub rose_later : (a b c : ℕ) → a ≤ b → Rose b c → Rose a c
 rose_later a b c le (inl less) = inl (omega (arith, le, less))
 rose_later a b c le (inr most) = inr most
 
