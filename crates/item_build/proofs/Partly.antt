@@ -142,7 +142,7 @@ partly_grown whole a b grows within partly = record {
   within = within;
 }
 
-set_cases : {X : Type 0} (xs : List X) (i : ℕ) (x : X) (k : ℕ) (y : X) → slice_get (set xs i x) k ≡ Some y → ((k ≡ i) × (y ≡ x)) ⊎ (slice_get xs k ≡ Some y)
+pub set_cases : {X : Type 0} (xs : List X) (i : ℕ) (x : X) (k : ℕ) (y : X) → slice_get (set xs i x) k ≡ Some y → ((k ≡ i) × (y ≡ x)) ⊎ (slice_get xs k ≡ Some y)
 set_cases [] i x k y e = inr e
 set_cases (z ∷ zs) zero x zero y e = inl (refl, some-equal (sym e))
 set_cases (z ∷ zs) zero x (suc k) y e = inr e

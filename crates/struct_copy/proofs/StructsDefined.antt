@@ -1,5 +1,5 @@
 -- One struct gets its body.
-use Rattle.std.proofs.Common.{◌≡◌, ◌⊎◌, inl, inr, ℕ, zero, suc, ◌<◌, ◌≤◌, List, [], ◌∷◌, map, length, set, slice_get, All, Option, Some, None, refl, sym, ap, ◌∙◌, subst, arith}
+use Rattle.std.proofs.Common.{◌≡◌, inl, inr, ℕ, zero, suc, ◌<◌, ◌≤◌, List, [], ◌∷◌, map, length, set, slice_get, All, Option, Some, None, refl, sym, ap, ◌∙◌, subst, arith}
 use Rattle.std.proofs.lemmas.List.{length-map, map-append}
 use Rattle.std.proofs.lemmas.List.Elements.{All-weaker}
 use Rattle.type_table.specs.declared.fault.TypeFault.{TypeFault}
@@ -14,14 +14,13 @@ use Rattle.type_table.proofs.Defined.{bodies-defined, trees-defined}
 use Rattle.type_table.proofs.Judged.{All-right}
 use Rattle.module_arena.specs.Changes.{with_table}
 use Rattle.module_arena.specs.Lists.{Lists}
-use Rattle.module_arena.proofs.Found.{some-equal}
 use Rattle.module_arena.specs.Renamed.{renamed_tree, own}
 use Rattle.type_build.proofs.Declaring.{all_mapped}
 use Rattle.type_build.proofs.Staying.{names_same}
 use Rattle.item_build.specs.Partly.{body_at, IsPartly, AllFit, IsDone}
 use Rattle.item_build.proofs.Lessened.{within_less}
 use Rattle.item_build.proofs.Partly as partly
-use Rattle.item_build.proofs.Partly.{body_is, are_less, partly_defined}
+use Rattle.item_build.proofs.Partly.{body_is, are_less, partly_defined, set_cases}
 use Rattle.entry_copy.specs.Copies as copies
 
 -- the types that fit in the whole fit in the part
@@ -74,13 +73,6 @@ set_at : {X : Type 0} (xs : List X) (i : ℕ) (x : X) → i < length xs → slic
 set_at [] i x lt = absurd (omega (arith, lt))
 set_at (y ∷ ys) zero x lt = refl
 set_at (y ∷ ys) (suc i) x lt = set_at ys i x (omega (arith, lt))
-
-set_cases : {X : Type 0} (xs : List X) (i : ℕ) (x : X) (k : ℕ) (y : X) → slice_get (set xs i x) k ≡ Some y → ((k ≡ i) × (y ≡ x)) ⊎ (slice_get xs k ≡ Some y)
-set_cases [] i x k y e = inr e
-set_cases (z ∷ zs) zero x zero y e = inl (refl, some-equal (sym e))
-set_cases (z ∷ zs) zero x (suc k) y e = inr e
-set_cases (z ∷ zs) (suc i) x zero y e = inr e
-set_cases (z ∷ zs) (suc i) x (suc k) y e = elim (set_cases zs i x k y e) [ inl h ↦ inl (ap suc h.0, h.1) | inr h ↦ inr h ]
 
 -- the struct with that number gets its body
 module _ (whole : Structs) (b : Lists) (is : IsPartly whole b) (id : ℕ) (lt : id < length whole) (body : StructBody) (here : tree_body (trees b.table) (Some body) ≡ body_at whole id) where
