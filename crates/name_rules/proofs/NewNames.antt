@@ -16,7 +16,7 @@ use Rattle.name_rules.proofs.Judging.{both_hold}
 use Rattle.name_rules.proofs.Distinct.{AreNew, names, new_distinct}
 
 -- nothing was there
-none_there : (place : Place) (earlier : Option Place) → first_refusal (is_first place earlier) ≡ None → earlier ≡ None
+pub none_there : (place : Place) (earlier : Option Place) → first_refusal (is_first place earlier) ≡ None → earlier ≡ None
 none_there place None e = refl
 none_there place (Some p) e = absurd cc
 

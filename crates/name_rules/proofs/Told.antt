@@ -13,7 +13,7 @@ smaller : (n : ℕ) → 10 ≤ n → n / 10 < n
 smaller n h = omega (arith, h)
 
 -- one digit more in front of these
-step : (room n : ℕ) (digits : List ℕ) → digits_before (suc room) n digits ≡ elim (nat_lt n 10) as (λ _. List ℕ) [ true ↦ (48 + n) ∷ digits | false ↦ digits_before room (n / 10) ((48 + n % 10) ∷ digits) ]
+pub step : (room n : ℕ) (digits : List ℕ) → digits_before (suc room) n digits ≡ elim (nat_lt n 10) as (λ _. List ℕ) [ true ↦ (48 + n) ∷ digits | false ↦ digits_before room (n / 10) ((48 + n % 10) ∷ digits) ]
 unfolding digits_before
 step room n digits = refl
 

@@ -5,11 +5,7 @@ use Rattle.std.proofs.lemmas.Bool.{ltb-true, ltb-false}
 use Rattle.std.proofs.lemmas.Nat.{one_shl}
 use Rattle.std.proofs.lemmas.Fmt.{PrependsLastDigit, decimal_from_prepends_wide, decimal_by_steps_wide}
 use Rattle.name_rules.specs.Spelled.{digits_before, decimal}
-
--- one digit more in front of these
-step : (room n : ℕ) (digits : List ℕ) → digits_before (suc room) n digits ≡ elim (nat_lt n 10) as (λ _. List ℕ) [ true ↦ (48 + n) ∷ digits | false ↦ digits_before room (n / 10) ((48 + n % 10) ∷ digits) ]
-unfolding digits_before
-step room n digits = refl
+use Rattle.name_rules.proofs.Told.{step}
 
 by_test : (room n : ℕ) (digits : List ℕ) (b : Bool) → nat_lt n 10 ≡ b → digits_before (suc room) n digits ≡ elim b as (λ _. List ℕ) [ true ↦ (48 + n) ∷ digits | false ↦ digits_before room (n / 10) ((48 + n % 10) ∷ digits) ]
 by_test room n digits b e = step room n digits ∙ ap (λ t. elim t as (λ _. List ℕ) [ true ↦ (48 + n) ∷ digits | false ↦ digits_before room (n / 10) ((48 + n % 10) ∷ digits) ]) e

@@ -16,9 +16,10 @@ use Rattle.module_arena.specs.Same.{same_local, has_local}
 use Rattle.name_rules.specs.declared.fault.ResolveFault.TheVariants as faults
 use Rattle.name_rules.specs.Spelled.{decimal}
 use Rattle.name_rules.specs.Locals.{Announced, Locals, local_in, called, next_behind, next_after, known_as, locals_from, is_alike, is_there}
-use Rattle.name_rules.specs.Demand.{first_refusal, is_first, place_of_name}
+use Rattle.name_rules.specs.Demand.{first_refusal, place_of_name}
 use Rattle.name_rules.specs.FunctionDemands.{Called, names_with, called_with, called_after, call_demands}
 use Rattle.name_rules.proofs.Judging.{held}
+use Rattle.name_rules.proofs.NewNames.{none_there}
 use Rattle.reads_well.proofs.Spellings.{IsLocalWell}
 
 -- what these are called, from the next number on
@@ -99,10 +100,6 @@ place_added (b ∷ before) added = by (bytes_eq b.name added.name) (place_added 
     by true rest = (b.place, refl)
     by false rest = rest
 
-new_place : (place : Place) (o : Option Place) → first_refusal (is_first place o) ≡ None → o ≡ None
-new_place place None e = refl
-new_place place (Some p) e = absurd cc
-
 none_some : (o : Option Place) (r : Place) → o ≡ None → o ≡ Some r → ⊥
 none_some o r e f = absurd cc
 
@@ -130,7 +127,7 @@ none_named before (a ∷ more) name r e h =
   where
     by : (written : Option Local) → first_refusal (call_demands before written) ≡ None → same_local (Named name) (called before.next written) ≡ false
     by None g = refl
-    by (Some (locals.Named w)) g = other_name before.names name r w e (new_place w.place (place_of_name before.names w.name) g)
+    by (Some (locals.Named w)) g = other_name before.names name r w e (none_there w.place (place_of_name before.names w.name) g)
     by (Some (locals.Numbered number place)) g = refl
 
 lower : (k n : ℕ) → k < n → (k == n) ≡ false
