@@ -10,6 +10,7 @@ use Rattle.command_line.specs.declared.command.OutputName.{OutputName}
 use Rattle.command_line.specs.Commands.{IsReadAs}
 use Rattle.command_line.specs.Options.{is_dash}
 use Rattle.run_rules.specs.Clauses.{Outside, outside}
+use Rattle.run_machine.proofs.Mains.{false_if, true_if}
 use Rattle.tool_ends.specs.declared.ended.Ended.{Ended}
 use Rattle.tool_ends.specs.declared.ended.Ended.TheVariants.{CannotRead, CannotWrite, Memory}
 use Rattle.tool_cli.specs.Causes.{GaveUp, Stopped, IsUnread, IsStdinOrMemory, RefusesOne}
@@ -48,10 +49,6 @@ by_stdin stdin false never e = refl
 pub stdin_unheard : (command : Command) → has_stdin (inputs_of command) ≡ true → hears command ≡ false
 stdin_unheard command one = by_stdin (has_stdin (inputs_of command)) (hears command) (hears_no_stdin command) one
 
-pub unheard_dash : (dash : Bool) → not dash ≡ false → dash ≡ true
-unheard_dash true e = refl
-unheard_dash false e = absurd (true≢false e)
-
 -- ---- the end
 
 -- what is said of the input that was run is said of the command
@@ -71,7 +68,7 @@ pub lli_output_fault : (command : Command) (name : List ℕ) (bound : ℕ) (word
 lli_output_fault command name bound words texts bytes before after ended is one ran = ran_output_fault name bound words bytes before after ended ran
 
 pub lli_unread : {A : Type 0} (command : Command) (name : List ℕ) (bound : ℕ) (words : List (List ℕ)) (before now : A) → command ≡ Lli name bound words → (is_dash name ≡ true → now ≡ before) → hears command ≡ false → now ≡ before
-lli_unread command name bound words before now is unread quiet = unread (unheard_dash (is_dash name) (sym (ap hears is) ∙ quiet))
+lli_unread command name bound words before now is unread quiet = unread (true_if (is_dash name) (sym (ap hears is) ∙ quiet))
 
 pub lli_not_begun : (P : Type 0) (command : Command) (name : List ℕ) (bound : ℕ) (words : List (List ℕ)) (ended : Ended) → command ≡ Lli name bound words → (IsBeforeRun name ended → P) → IsUnbegun command ended → P
 lli_not_begun P command name bound words ended is early unbegun = early (subst (λ (c : Command). IsUnbegun c ended) is unbegun)
@@ -93,10 +90,6 @@ end_over command texts stdin before after w ended left work ran =
 
 -- ---- the causes of its end
 
-not_true : (b : Bool) → not b ≡ true → b ≡ false
-not_true true e = absurd (true≢false (sym e))
-not_true false e = refl
-
 pub unread_cause : (command : Command) (texts : List (List ℕ)) (before after : Outside) (ended : Ended) → IsOfRun ended (hears command) → IsRanBy command texts before after ended → (name : List ℕ) → ended ≡ CannotRead name → (hears command ≡ true) × ((name ≡ codes "-") × Rose before.read_faults after.read_faults)
 unread_cause command texts before after ended of ran = λ name e.
     let told : IsOfRun (CannotRead name) (hears command) = subst (λ (x : Ended). IsOfRun x (hears command)) e of in
@@ -104,7 +97,7 @@ unread_cause command texts before after ended of ran = λ name e.
   where
     rose : (command : Command) (texts : List (List ℕ)) → hears command ≡ true → IsRanBy command texts before after ended → (name : List ℕ) → ended ≡ CannotRead name → Rose before.read_faults after.read_faults
     rose (Lli input bound words) [] own ran name e = absurd ran
-    rose (Lli input bound words) (bytes ∷ []) own ran name e = ran_unread input bound words bytes before after ended (not_true (is_dash input) own) ran name e
+    rose (Lli input bound words) (bytes ∷ []) own ran name e = ran_unread input bound words bytes before after ended (false_if (is_dash input) own) ran name e
     rose (Lli input bound words) (bytes ∷ other ∷ texts) own ran name e = absurd ran
     rose command texts own ran name e = absurd (true≢false (sym own))
 
@@ -124,7 +117,7 @@ Heard before after ended =
 pub heard : (command : Command) (texts : List (List ℕ)) (before after : Outside) (ended : Ended) → IsRanBy command texts before after ended → hears command ≡ true → Heard before after ended
 heard (Lli input bound words) [] before after ended ran own = absurd ran
 heard (Lli input bound words) (bytes ∷ []) before after ended ran own =
-    let file = not_true (is_dash input) own in
+    let file = false_if (is_dash input) own in
     (ran_lost input bound words bytes before after ended file ran, ran_input input bound words bytes before after ended file ran)
 heard (Lli input bound words) (bytes ∷ other ∷ texts) before after ended ran own = absurd ran
 heard command texts before after ended ran own = absurd (true≢false (sym own))
