@@ -49,7 +49,7 @@ pub all_from_places : {X : Type 0} (P : X → Type 0) (xs : List X) → ((k : �
 all_from_places P [] h = tt
 all_from_places P (x ∷ xs) h = (h 0 x refl, all_from_places P xs (λ k y e. h (suc k) y e))
 
-same_blocks : (o : Option (List Block)) → body o ≡ unwrap_or o []
+pub same_blocks : (o : Option (List Block)) → body o ≡ unwrap_or o []
 same_blocks None = refl
 same_blocks (Some bs) = refl
 

@@ -1,5 +1,5 @@
 -- The blocks of a function of a valid module.
-use Rattle.std.proofs.Common.{◌≡◌, ℕ, List, [], ◌∷◌, ◌++◌, flat_map, refl, sym, ap, ◌∙◌, subst, true, false, ◌&&◌, Option, Some, None, is_some, true≢false, unwrap_or}
+use Rattle.std.proofs.Common.{◌≡◌, ℕ, List, [], ◌∷◌, ◌++◌, flat_map, refl, sym, ap, ◌∙◌, subst, true, false, ◌&&◌, Option, Some, None, is_some, true≢false}
 use Rattle.std.specs.Prelude.{slice_get}
 use Rattle.std.specs.List.{AllByRecursion, list_all}
 use Rattle.std.specs.Option.{option_map_or}
@@ -11,7 +11,7 @@ use Rattle.ir_memory.specs.declared.leaf.Leaf.{Leaf}
 use Rattle.ir_memory.specs.declared.leaf.Leaf.TheVariants as leaf
 use Rattle.type_table.specs.Tree.{Tree, ptr, void}
 use Rattle.module_arena.specs.Forms.{is_not_empty, has_result_of_phrase}
-use Rattle.module_arena.specs.Functions.{body, blocks}
+use Rattle.module_arena.specs.Functions.{blocks}
 use Rattle.module_arena.specs.Module.{Bytes, LocalName, Operation, Instruction, Block, Function, Module}
 use Rattle.module_arena.specs.Names.{has_good_names, local_names, is_local_name, is_numbered_from, is_numbered_as_declared, knows_its_names, parameter_names, block_results}
 use Rattle.module_arena.specs.Operations.{operands, ending_operands, callee}
@@ -20,7 +20,7 @@ use Rattle.module_arena.specs.TypeTests.{is_void}
 use Rattle.module_arena.specs.Valid.{IsValid, AllHold, blocks_demands}
 use Rattle.module_arena.specs.WellFormed.{IsWellFormed, is_good_type, known_in, known_of_operands, known_of_operation, known_of_block, known_of_variable, is_good_constant, are_good_operands, is_good_block, is_good_function}
 use Rattle.module_arena.proofs.Parts.{valid_function, valid_blocks, valid_block}
-use Rattle.run_places.proofs.Parts.{all_from_places}
+use Rattle.run_places.proofs.Parts.{all_from_places, same_blocks}
 use Rattle.run_places.proofs.Search.{all_at}
 use Rattle.run_rules.specs.Action.{Action}
 use Rattle.run_rules.specs.Constant.{Names, shape_of}
@@ -36,10 +36,6 @@ use Rattle.typed_bodies.proofs.Asks.{IsDemanded, IsGoodInstruction, instruction_
 use Rattle.typed_bodies.proofs.Lists.{front_all, back_all, all_of_part}
 use Rattle.typed_bodies.proofs.Results.{result_placed}
 use Rattle.typed_bodies.proofs.Sounds.{operands_good, callee_good, call_suited}
-
-same_blocks : (o : Option (List Block)) → body o ≡ unwrap_or o []
-same_blocks None = refl
-same_blocks (Some bs) = refl
 
 -- what has no name has no leaves
 nothing_given : (names : Names) (ks : List Leaf) (ty : Tree) → is_void ty ≡ true → AreAt ks 0 (kinds_of (shape_of names ty))

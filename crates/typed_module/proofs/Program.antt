@@ -1,18 +1,17 @@
 -- Each action of a valid module is typed.
-use Rattle.std.proofs.Common.{◌≡◌, ℕ, zero, suc, ◌+◌, List, [], ◌∷◌, length, refl, sym, ap, ◌∙◌, subst, Bool, true, false, nat_eq, Option, Some, None, true≢false, unwrap_or}
+use Rattle.std.proofs.Common.{◌≡◌, ℕ, zero, suc, ◌+◌, List, [], ◌∷◌, length, refl, sym, ap, ◌∙◌, subst, Bool, true, false, nat_eq, Option, Some, None, true≢false}
 use Rattle.std.specs.Prelude.{slice_get, if◌then◌else◌}
 use Rattle.std.specs.List.{AllByRecursion}
 use Rattle.std.specs.Option.{option_map_or}
 use Rattle.std.proofs.lemmas.Option.{same_Some}
 use Rattle.run_places.proofs.Options.{none_some}
-use Rattle.module_arena.specs.Functions.{body}
 use Rattle.module_arena.specs.Module.{Operation, Instruction, Block, Function, Module}
 use Rattle.module_arena.specs.Valid.{IsValid}
 use Rattle.module_arena.specs.WellFormed.{IsWellFormed}
 use Rattle.linkage_rules.proofs.Entries.{all_follow}
 use Rattle.run_places.specs.Places.{IsThere, GoesOnFrom}
 use Rattle.run_places.proofs.Alone.{is_valid}
-use Rattle.run_places.proofs.Parts.{connected}
+use Rattle.run_places.proofs.Parts.{connected, same_blocks}
 use Rattle.run_rules.specs.Action.{Action}
 use Rattle.run_rules.specs.Constant.{Names, shape_of}
 use Rattle.run_rules.specs.Look.{Defined, address_in, bounds_in, names_in, function_at, ending_at, action_at, look_in, look}
@@ -32,10 +31,6 @@ use Rattle.typed_plan.proofs.Addresses.{address_typed}
 use Rattle.typed_plan.proofs.Plans.{plans_are_typed}
 use Rattle.typed_module.specs.Laws.{ValidIsTyped}
 use Rattle.typed_module.proofs.Functions.{function_here}
-
-same_blocks : (o : Option (List Block)) → body o ≡ unwrap_or o []
-same_blocks None = refl
-same_blocks (Some bs) = refl
 
 all_there : {X : Type 0} (P : X → Type 0) (xs : List X) (k : ℕ) (x : X) → AllByRecursion P xs → slice_get xs k ≡ Some x → P x
 all_there P [] k x h e = none_some x e
