@@ -33,7 +33,7 @@ ones : {A : Type 0} (xs : List A) → sum_by (λ x. 1) xs ≡ length xs
 ones [] = refl
 ones (x ∷ xs) = omega (arith, ones xs, sum_by-cons (λ x. 1) x xs)
 
-instructions_sized : (limits : Limits) → IsSized (instructions_row limits) length
+pub instructions_sized : (limits : Limits) → IsSized (instructions_row limits) length
 instructions_sized limits =
     record { size = λ us xs w. (let k = (sized_many class (sized_some (instruction_row limits) instruction_shape (reads_instruction limits) refl)).size us xs w in omega (arith, k, ones xs)) }
 

@@ -15,10 +15,10 @@ use Rattle.ir_terminals.specs.Position.{text_tokens}
 use Rattle.ir_terminals.specs.Role.{class}
 use Rattle.ir_terminals.specs.Tokens.{word, label_row}
 use Rattle.ir_terminals.proofs.RowsRead.{reads_word}
-use Rattle.ir_instructions.proofs.Grammar.{reads_instruction, reads_ending}
+use Rattle.ir_instructions.proofs.Grammar.{reads_ending}
 use Rattle.ir_instructions.specs.Dropped.{comma_shape, function_attributes_row}
-use Rattle.ir_instructions.specs.Instructions.{instructions_row}
 use Rattle.ir_instructions.specs.Blocks.{block_shape, block_core, block_list_row, blocks_row}
+use Rattle.ir_instructions.proofs.Sizes.{instructions_sized}
 use Rattle.ir_syntax.specs.Tree.{ItemTree, ParameterTree}
 use Rattle.ir_syntax.specs.Counts.{block_count, item_count, counted, most_counted}
 use Rattle.ir_syntax.specs.Functions.{ParametersTree, parameter_row, dots_row, parameter_step, more_parameters_row, more_parameters_shape, some_parameters_row, parameter_list_row, parameter_types, parameters_shape, parameters_core, parameters_row, head_row, metadata_row, declared_shape, declared_core, declaration_row, body_shape, body_core, defined_core, definition_row}
@@ -78,19 +78,12 @@ sized_parameters_core dots limits =
 sized_parameters : (dots : Bool) (limits : Limits) → IsSized (parameters_row dots limits) parameters_size
 sized_parameters dots limits = sized_labelled parameters_shape (sized_parameters_core dots limits)
 
-sum_ones : {A : Type 0} (xs : List A) → sum_by (λ a. 1) xs ≡ length xs
-sum_ones [] = refl
-sum_ones (x ∷ xs) = omega (arith, sum_by-cons (λ a. 1) x xs, sum_ones xs)
-
-sized_instructions : (limits : Limits) → IsSized (instructions_row limits) length
-sized_instructions limits = record { size = λ us a w. (let k = (sized_many class (one_at_least (reads_instruction limits) refl)).size us a w in omega (arith, k, sum_ones a)) }
-
 sized_block_core : (limits : Limits) → IsSized (block_core limits) block_count
 unfolding block_core
 sized_block_core limits =
     sized_mapped _ block_count
     (sized_pair (λ v. 1 + length v.1.0) (sized_none (optional class label_row))
-    (sized_pair (λ v. 1 + length v.0) (sized_instructions limits) (one_at_least (reads_ending limits) refl) (λ a b. omega arith))
+    (sized_pair (λ v. 1 + length v.0) (instructions_sized limits) (one_at_least (reads_ending limits) refl) (λ a b. omega arith))
     (λ a b. omega arith)) (λ v. omega arith)
 
 sized_block_list : (limits : Limits) → IsSized (block_list_row limits) (sum_by block_count)
