@@ -1,16 +1,12 @@
 -- What is declared in front stays.
-use Rattle.std.proofs.Common.{◌≡◌, ℕ, zero, suc, List, [], ◌∷◌, ◌++◌, Some, slice_get, inl, inr, ap, ◌∙◌}
+use Rattle.std.proofs.Common.{◌≡◌, ℕ, List, Some, slice_get, inl, inr, ap, ◌∙◌}
 use Rattle.module_arena.specs.declared.entry.Function as the_function
 use Rattle.module_arena.specs.declared.entry.LocalName as the_local
 use Rattle.module_arena.specs.Lists.{Lists}
 use Rattle.record_table.specs.Faults.{Records, a_block, a_record, no_more}
 use Rattle.record_table.specs.Fields.{Texts}
 use Rattle.entries_ahead.specs.Entries.{Declares, DeclaresOne, Declaring, a_function, a_variable, an_alias, declaring, nothing}
-
-get_front : {A : Type 0} (xs ys : List A) (i : ℕ) (x : A) → slice_get xs i ≡ Some x → slice_get (xs ++ ys) i ≡ Some x
-get_front [] ys i x is = absurd (cc)
-get_front (y ∷ xs) ys zero x is = is
-get_front (y ∷ xs) ys (suc i) x is = get_front xs ys i x is
+use Rattle.entries_ahead.proofs.Told.{get_front}
 
 module _ (texts : Texts) (types : ℕ) (final : Lists) where
   pub function_stays : (names : List (List the_local.LocalName)) (a : Lists) (rest : Records) → Declares texts types final names a rest → (i : ℕ) (f : the_function.Function) → slice_get a.functions i ≡ Some f → slice_get final.functions i ≡ Some f
