@@ -313,7 +313,7 @@ inner_is k (suc depth) some = ap (λ n. Some (constants.read_nested k n)) (one_l
 
 -- ---- operands in front
 
-goes_walk : (a : ModuleReader) (r : Reader) (w : Walk) → r ≡ record a.reader { walk = w } → (IsBroken a.reader.walk → IsBroken w) → Goes a (record a { reader = r })
+pub goes_walk : (a : ModuleReader) (r : Reader) (w : Walk) → r ≡ record a.reader { walk = w } → (IsBroken a.reader.walk → IsBroken w) → Goes a (record a { reader = r })
 goes_walk a r w is lasts =
     let at : r.walk ≡ w = ap (λ (q : Reader). q.walk) is in
     goes_reader a (record a { reader = r }) r refl (is ∙ ap (λ v. record a.reader { walk = v }) (sym at)) (λ broken. subst IsBroken (sym at) (lasts broken))

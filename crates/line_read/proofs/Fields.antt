@@ -1,5 +1,5 @@
 -- Flags, predicates, alignments and indices, as they are found.
-use Rattle.std.proofs.Common.{◌≡◌, ◌⊎◌, ◌<◌, ◌^◌, ℕ, zero, suc, Bool, true, false, not, nat_eq, nat_lt, List, [], ◌∷◌, Option, Some, None, inl, inr, refl, sym, ap, subst, ◌∙◌, arith}
+use Rattle.std.proofs.Common.{◌≡◌, ◌⊎◌, ◌<◌, ◌^◌, ℕ, zero, suc, Bool, true, false, not, nat_eq, nat_lt, List, [], ◌∷◌, Option, Some, None, inl, inr, refl, sym, ap, ◌∙◌, arith}
 use Rattle.std.proofs.lemmas.Bool.{ltb-true, ne_eqb}
 use Rattle.ir_tables.specs.declared.opcode.Opcode.{Opcode}
 use Rattle.ir_tables.specs.declared.predicate.Predicate.{Predicate}
@@ -12,8 +12,8 @@ use Rattle.arena_read.specs.declared.module_reader.ModuleReader.{ModuleReader}
 use Rattle.arena_read.specs.Kept.{Goes}
 use Rattle.arena_read.proofs.Lasting.{next_still, ask_still}
 use Rattle.arena_read.proofs.LeavesRead.{goes_asked}
-use Rattle.arena_read.proofs.Steps.{goes_reader, goes_two}
-use Rattle.constant_read.proofs.Making.{goes_flags, goes_number}
+use Rattle.arena_read.proofs.Steps.{goes_two}
+use Rattle.constant_read.proofs.Making.{goes_flags, goes_number, goes_walk}
 use Rattle.operand_read.specs.Found.{Finds}
 use Rattle.operand_read.proofs.Joined.{HasAny}
 use Rattle.line_read.specs.Kept.{HasIndex, index_in}
@@ -30,11 +30,6 @@ found_so l a r x g at is = record {
   walk = λ k n. ap (λ (q : Reader). q.walk) at;
   kept = λ k n declared unbroken later w. ap (λ y. Some y) (is unbroken);
 }
-
-goes_walk : (a : ModuleReader) (r : Reader) (w : Walk) → r ≡ record a.reader { walk = w } → (IsBroken a.reader.walk → IsBroken w) → Goes a (record a { reader = r })
-goes_walk a r w is lasts =
-    let at : r.walk ≡ w = ap (λ (q : Reader). q.walk) is in
-    goes_reader a (record a { reader = r }) r refl (is ∙ ap (λ v. record a.reader { walk = v }) (sym at)) (λ broken. subst IsBroken (sym at) (lasts broken))
 
 pub flags_found : (o : Opcode) (a : ModuleReader) (r : Reader) (bits : ℕ) → IsBroken r.walk ⊎ (bits ≡ ((flags o).read a.reader.walk).0) → r ≡ record a.reader { walk = ((flags o).read a.reader.walk).1 }
     → Finds HasAny plain_in (λ k. (flags o).read) a (record a { reader = r }) (Some bits)
