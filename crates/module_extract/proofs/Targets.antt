@@ -1,5 +1,5 @@
 -- The target of a kept alias is kept, so that it has a new id.
-use Rattle.std.proofs.Common.{◌≡◌, ℕ, zero, suc, ◌<◌, Bool, true, false, List, [], ◌∷◌, map, length, get_or, slice_get, Option, Some, None, refl, sym, ap, ◌∙◌, subst, bytes_eq, is_some, arith}
+use Rattle.std.proofs.Common.{◌≡◌, ℕ, zero, suc, Bool, true, false, List, [], ◌∷◌, map, slice_get, Option, Some, None, refl, sym, ap, ◌∙◌, subst, bytes_eq, is_some}
 use Rattle.std.specs.Prelude.{IsSome, ◌&&◌}
 use Rattle.std.specs.List.{list_any, AllByRecursion}
 use Rattle.std.specs.Option.{option_map, option_map_or}
@@ -13,13 +13,14 @@ use Rattle.module_arena.specs.declared.entry.GlobalId.{GlobalId}
 use Rattle.module_arena.specs.declared.entry.GlobalId.TheVariants as global
 use Rattle.module_arena.specs.EntryRules.{is_lasting, is_lasting_variable, is_lasting_function, target_suits}
 use Rattle.module_arena.specs.Functions.{variable_names, function_names}
-use Rattle.module_arena.specs.Known.{counts, HasGlobal, IsGood, AreDistinct}
+use Rattle.module_arena.specs.Known.{IsGood, AreDistinct}
 use Rattle.module_arena.specs.Lists.{Lists, global_name, name_at}
 use Rattle.module_arena.specs.Module.{Bytes, Variable, AliasType, PlainType, FunctionType, Alias, Function, Module}
 use Rattle.module_arena.specs.Valid.{AllHold, IsValid, alias_demands}
 use Rattle.module_arena.specs.View.{module_of, constants_of, variable_view, alias_view, function_view}
 use Rattle.module_arena.specs.WellFormed.{IsWellFormed}
 use Rattle.entry_copy.specs.Tables.{Tables, new_global}
+use Rattle.entry_copy.proofs.ConstantsCopied.{name_is}
 use Rattle.extract_core.specs.declared.selection.Selection.{Selection}
 use Rattle.extract_core.specs.Selected.{keeps, keeps_variable, keeps_function, keeps_alias}
 use Rattle.extract_core.proofs.Among.{name_exact, any_where}
@@ -48,17 +49,6 @@ module _ {X Y : Type 0} (view : X → Y) (name : Y → Bytes) (own : X → Bytes
   called_at [] k y e = cc
   called_at (x ∷ xs) zero y e = ap Some (sym (same x) ∙ ap name (same_Some (view x) y e))
   called_at (x ∷ xs) (suc k) y e = called_at xs k y e
-
-own_there : {X : Type 0} (own : X → Bytes) (xs : List X) (k : ℕ) → k < length xs → option_map own (slice_get xs k) ≡ Some (get_or (map own xs) k [])
-own_there own [] k lt = absurd (omega (arith, lt))
-own_there own (x ∷ xs) zero lt = refl
-own_there own (x ∷ xs) (suc k) lt = own_there own xs k (omega (arith, lt))
-
--- an entry that is there has a name
-called : (a : Lists) (g : GlobalId) → HasGlobal (counts a) g → global_name a g ≡ Some (name_at a g)
-called a (global.Variable k) lt = own_there (λ (v : the_variable.Variable). v.name) a.variables k lt
-called a (global.Function k) lt = own_there (λ (f : the_function.Function). f.name) a.functions k lt
-called a (global.Alias k) lt = own_there (λ (x : the_alias.Alias). x.name) a.aliases k lt
 
 not_out : (b c : Bool) → b ≡ true → fate_of b c ≡ LeftOut → ⊥
 not_out true c h e = cc
@@ -128,4 +118,4 @@ module _ (a : Lists) (s : Selection) (good : IsWellFormed (module_of a)) (valid 
       by (Some g) e =
           let lt = known_target a is_good k x g at e in
           let name : seen.target ≡ name_at a g = ap (λ o. option_map_or (name_at a) o []) e in
-          (g, e, target_there seen.ty seen.target (is_kept (keeps_alias m s seen) _ fate) (suits k seen here) g (called a g lt ∙ ap Some (sym name)))
+          (g, e, target_there seen.ty seen.target (is_kept (keeps_alias m s seen) _ fate) (suits k seen here) g (name_is a g lt ∙ ap Some (sym name)))
