@@ -76,7 +76,7 @@ pub record AreMade (vs : List plans.Variable) (m n : Blocks) : Type 0 where
   pub old : (j : ℕ) → j < length m.list → slice_get n.list j ≡ slice_get m.list j
   pub new : (k start : ℕ) (v : plans.Variable) → slice_get vs k ≡ Some v → slice_get (starts_from m.next vs) k ≡ Some start → slice_get n.list (length m.list + k) ≡ Some (new_block start v.size (kind.Variable v.constant))
 
-front_same : {A : Type 0} (xs ys : List A) (j : ℕ) → j < length xs → slice_get (xs ++ ys) j ≡ slice_get xs j
+pub front_same : {A : Type 0} (xs ys : List A) (j : ℕ) → j < length xs → slice_get (xs ++ ys) j ≡ slice_get xs j
 front_same [] ys j lt = absurd (omega (arith, lt))
 front_same (x ∷ xs) ys zero lt = refl
 front_same (x ∷ xs) ys (suc j) lt = front_same xs ys j (omega (arith, lt))

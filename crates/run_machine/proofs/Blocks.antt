@@ -1,5 +1,5 @@
 -- A block that is added, and what is put into it, leave the other blocks as they are.
-use Rattle.std.proofs.Common.{◌≡◌, ℕ, zero, suc, ◌+◌, ◌<◌, ◌≤◌, List, [], ◌∷◌, ◌++◌, get_or, length, Bool, true, false, Option, Some, None, Result, Ok, Err, refl, sym, ap, ◌∙◌, subst, arith}
+use Rattle.std.proofs.Common.{◌≡◌, ℕ, ◌+◌, ◌<◌, ◌≤◌, List, [], ◌∷◌, ◌++◌, get_or, length, Bool, true, false, Option, Some, None, Result, Ok, Err, refl, sym, ap, ◌∙◌, subst, arith}
 use Rattle.std.specs.Prelude.{All, IfOk, slice_get, if◌then◌else◌}
 use Rattle.std.proofs.lemmas.Bool.{leb-true}
 use Rattle.std.proofs.lemmas.List.{length-append}
@@ -18,12 +18,8 @@ use Rattle.run_rules.specs.Opening.{made}
 use Rattle.run_rules.specs.Plan.{Contents}
 use Rattle.run_initial.specs.Fresh.{Puts, to_store}
 use Rattle.run_contents.proofs.OtherBlocks.{KeepsOthers, stored_others}
+use Rattle.run_contents.proofs.Made.{front_same}
 use Rattle.run_machine.specs.Arguments.{KeepsBlocks}
-
-front_same : {A : Type 0} (xs ys : List A) (j : ℕ) → j < length xs → slice_get (xs ++ ys) j ≡ slice_get xs j
-front_same [] ys j lt = absurd (omega (arith, lt))
-front_same (x ∷ xs) ys zero lt = refl
-front_same (x ∷ xs) ys (suc j) lt = front_same xs ys j (omega (arith, lt))
 
 module _ (size align : ℕ) (kind : BlockKind) (m n : Blocks) (e : made size align kind m ≡ Ok n) where
   pub made_is : n ≡ added size align kind m
