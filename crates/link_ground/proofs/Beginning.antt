@@ -1,9 +1,9 @@
 -- Before the first part is copied, and before the next one is.
-use Rattle.std.proofs.Common.{◌≡◌, ℕ, zero, suc, ◌^◌, ◌<◌, List, [], ◌∷◌, map, length, get_or, All, Option, Some, None, option_map, refl, sym, ap, ◌∙◌, subst, arith}
+use Rattle.std.proofs.Common.{◌≡◌, ℕ, ◌^◌, ◌<◌, List, [], ◌∷◌, map, length, get_or, All, Option, Some, None, option_map, refl, sym, ap, ◌∙◌, subst, arith}
 use Rattle.std.specs.Prelude.{slice_get}
 use Rattle.std.proofs.lemmas.List.{length-map}
 use Rattle.std.proofs.lemmas.List.Elements.{All-nil}
-use Rattle.std.proofs.lemmas.Option.{same_Some, slice_get_within, slice_get-get_or, slice_get-map}
+use Rattle.std.proofs.lemmas.Option.{slice_get_within, slice_get-get_or, slice_get-map}
 use Rattle.type_table.specs.declared.ir_type.StructBody.{StructBody}
 use Rattle.type_table.specs.Limits.{IsWithin}
 use Rattle.type_table.specs.Tree.{TreeBody, opaque_body}
@@ -28,15 +28,10 @@ use Rattle.link_part.specs.Bodies.{IsMaking}
 use Rattle.link_part.specs.Named.{IsNewStruct, KnowsStructs}
 use Rattle.link_part.proofs.PartStructs.{module_structs}
 use Rattle.struct_rows.specs.Numbers.{AreNewStructs, AreOfPart}
+use Rattle.struct_rows.proofs.Ending.{under_map}
 use Rattle.link_ground.specs.Making.{IsMade, StructsAre}
 use Rattle.link_ground.proofs.Whole.{structs_fit, few_rows}
 use Rattle.link_ground.proofs.PartTypes.{types_fit}
-
--- what a list with something done to each has at a place
-under_map : {A B : Type 0} (f : A → B) (xs : List A) (k : ℕ) (y : B) → slice_get (map f xs) k ≡ Some y → (x : A) × (slice_get xs k ≡ Some x) × (f x ≡ y)
-under_map f [] k y h = cc
-under_map f (x ∷ xs) zero y h = (x, refl, same_Some (f x) y h)
-under_map f (x ∷ xs) (suc k) y h = under_map f xs k y h
 
 -- ---- before the first part
 

@@ -27,7 +27,7 @@ use Rattle.struct_rows.specs.declared.rows.GrowingRows.{GrowingRows}
 use Rattle.struct_rows.proofs.Adding.{AreAdded}
 
 -- what a list with something done to each has at a place
-under_map : {A B : Type 0} (f : A → B) (xs : List A) (k : ℕ) (y : B) → slice_get (map f xs) k ≡ Some y → (x : A) × (slice_get xs k ≡ Some x) × (f x ≡ y)
+pub under_map : {A B : Type 0} (f : A → B) (xs : List A) (k : ℕ) (y : B) → slice_get (map f xs) k ≡ Some y → (x : A) × (slice_get xs k ≡ Some x) × (f x ≡ y)
 under_map f [] k y h = cc
 under_map f (x ∷ xs) zero y h = (x, refl, same_Some (f x) y h)
 under_map f (x ∷ xs) (suc k) y h = under_map f xs k y h

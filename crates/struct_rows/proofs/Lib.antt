@@ -4,4 +4,4 @@ mod Rowed
 mod Parts
 mod Avoiding
 mod Adding
-mod Ending
+pub mod Ending
