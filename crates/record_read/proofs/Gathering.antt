@@ -52,7 +52,7 @@ pub none_taken : (before mid : Reader) → Takes before None mid → (mid ≡ be
 none_taken before mid h = none_by before.walk before mid h
 
 -- no rule that is asked changes how many operands are left
-asked_left : (rule : ℕ) (b : Bool) (w : Walk) → count_left (ask rule b w) ≡ count_left w
+pub asked_left : (rule : ℕ) (b : Bool) (w : Walk) → count_left (ask rule b w) ≡ count_left w
 asked_left rule true w = refl
 asked_left rule false (going rest broken) = refl
 asked_left rule false (stopped broken) = refl

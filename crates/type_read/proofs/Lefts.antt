@@ -1,12 +1,7 @@
 -- How many operands are left behind one that was taken.
-use Rattle.std.proofs.Common.{◌≡◌, ℕ, Bool, true, false, [], ◌∷◌, Some, refl, ap}
-use Rattle.record_table.specs.Walk.{Walk, going, stopped, ask, count_left}
+use Rattle.std.proofs.Common.{◌≡◌, ℕ, false, [], ◌∷◌, Some, ap}
+use Rattle.record_table.specs.Walk.{Walk, going, stopped}
 use Rattle.record_read.specs.Reader.{Reader, Takes, TakesBy, is_stopped}
-
-pub asked_left : (rule : ℕ) (b : Bool) (w : Walk) → count_left (ask rule b w) ≡ count_left w
-asked_left rule true w = refl
-asked_left rule false (going rest broken) = refl
-asked_left rule false (stopped broken) = refl
 
 goes_by : (w : Walk) (before mid : Reader) (n : ℕ) → TakesBy w before (Some n) mid → is_stopped mid.walk ≡ false
 goes_by (going [] broken) before mid n h = absurd h

@@ -1,9 +1,9 @@
 use Rattle.std.proofs.Common.{◌+◌, ◌∙◌, nat_lt, refl, sym, ap, arith}
 use Rattle.record_table.specs.Walk.{count_left}
 use Rattle.record_read.specs.Reader.{Reader}
-use Rattle.record_read.proofs.Gathering.{taken}
+use Rattle.record_read.proofs.Gathering.{taken, asked_left}
 use Rattle.type_read.proofs.Gathered.{starts_gathered, one_gathered, asked_below, rest_gathered}
-use Rattle.type_read.proofs.Lefts.{asked_left, goes_on}
+use Rattle.type_read.proofs.Lefts.{goes_on}
 use Rattle.type_read.proofs.records.read_parts.Goals as goal
 
 pub parts-init : goal.parts-init
