@@ -26,7 +26,7 @@ use Rattle.type_table.proofs.ShapeMeasures.{and_assoc}
 use Rattle.module_arena.specs.Lists.{Lists}
 use Rattle.module_arena.specs.View.{module_of}
 
-and_true : (b : Bool) → (b && true) ≡ b
+pub and_true : (b : Bool) → (b && true) ≡ b
 and_true true = refl
 and_true false = refl
 

@@ -1,9 +1,9 @@
 -- What is known of some operands, one after the other.
-use Rattle.std.proofs.Common.{◌≡◌, ℕ, ◌+◌, ◌<◌, Bool, true, false, ◌&&◌, List, [], ◌∷◌, ◌++◌, map, take, length, get_or, slice_get, Some, refl, sym, ap, ◌∙◌}
+use Rattle.std.proofs.Common.{◌≡◌, ℕ, ◌+◌, ◌<◌, Bool, true, ◌&&◌, List, [], ◌∷◌, ◌++◌, map, take, length, get_or, slice_get, Some, sym, ap, ◌∙◌}
 use Rattle.std.proofs.lemmas.List.Folds.{list_all-append}
 use Rattle.std.proofs.lemmas.Option.{slice_get-get_or}
 use Rattle.type_table.specs.Types.{tree, structs}
-use Rattle.constant_verify.proofs.ConstantsKnown.{own_structs}
+use Rattle.constant_verify.proofs.ConstantsKnown.{own_structs, and_true}
 use Rattle.constant_verify.proofs.WholeTold.{mapped_next}
 use Rattle.module_arena.specs.Constants.{fits}
 use Rattle.module_arena.specs.EntryRules.{constant_types_suit, takes_no_intrinsic}
@@ -16,10 +16,6 @@ use Rattle.module_arena.specs.View.{constant_at, constants_of, module_of}
 use Rattle.module_arena.specs.declared.instruction.Value.TheVariants as value
 use Rattle.instruction_verify.specs.ArenaOperands.{all_pass, both_operand_facts, operand_fact, operand_in, operands_fact}
 use Rattle.instruction_verify.specs.declared.operands.OperandFact.{OperandFact}
-
-and_true : (b : Bool) → (b && true) ≡ b
-and_true true = refl
-and_true false = refl
 
 pub both_pass : (f : OperandFact) → both_operand_facts f all_pass ≡ f
 both_pass f = λ j. record {
